@@ -1,0 +1,246 @@
+//! Keys of aggregations and of variables.
+
+ghost use Rattle.std.specs.Prelude.{◌≡◌, ◌↔◌, ◌<◌, ◌++◌, ◌∷◌, [], length, OnOk, OnErr, IsTrue, slice_set};
+ghost use Rattle.std.proofs.Common.{refl, ap};
+ghost use Rattle.std.specs.Cmp.{partial_equiv_from_equiv, po};
+ghost use Rattle.std.specs.List.{flat_map};
+ghost use Rattle.std.specs.Ordering.{as_partial_cmp};
+ghost use Rattle.d_values.specs.Keys.{part_cmp, key_cmp, same_part, same_key, part_writes, DecidesByFirstDifference};
+ghost use Rattle.d_values.specs.KeyLaws.{same_part_decides, same_part_equiv, part_cmp_total, part_cmp_ties, same_key_decides, same_key_equiv, key_cmp_total, key_cmp_ties};
+
+use crate::text::Text;
+use std::alloc::{AllocError, Global};
+use std::cmp::Ordering;
+use std::hash::{Hash, Hasher};
+use std::marker::Model;
+
+/// One part of a key. Integers are kept as signed 64-bit numbers.
+#[derive(Drop, Debug)]
+pub enum KeyPart {
+    Number(i64),
+    Name(Text),
+}
+
+impl KeyPart {
+    // Becomes this text, in the room of the text that it was.
+    fn set_name(&mut self, alloc: Global, bytes: &[u8]) -> Result<(), AllocError>
+        ensures ok { OnOk result (self.new ≡ KeyPart.Name bytes.now) }
+        ensures err { OnErr result (self.new ≡ self.old) }
+    {
+        match self {
+            KeyPart::Number(_) => {
+                let text = Text::from_slice(alloc, bytes)?;
+                *self = KeyPart::Name(text);
+                Ok(())
+            }
+            KeyPart::Name(text) => text.assign(bytes),
+        }
+    }
+}
+
+impl Clone for KeyPart {
+    ghost is_clone = { λ x y. y ≡ x };
+
+    fn clone(&self) -> Result<KeyPart, AllocError> {
+        match self {
+            KeyPart::Number(n) => Ok(KeyPart::Number(*n)),
+            KeyPart::Name(text) => {
+                let text = text.clone()?;
+                Ok(KeyPart::Name(text))
+            }
+        }
+    }
+}
+
+impl PartialEq for KeyPart {
+    ghost eq = { same_part };
+
+    ghost laws = { partial_equiv_from_equiv same_part_equiv };
+
+    fn eq(&self, other: &KeyPart) -> bool {
+        match self {
+            KeyPart::Number(x) => match other {
+                KeyPart::Number(y) => x == y,
+                KeyPart::Name(_) => false,
+            },
+            KeyPart::Name(x) => match other {
+                KeyPart::Number(_) => false,
+                KeyPart::Name(y) => x == y,
+            },
+        }
+    }
+}
+
+impl Eq for KeyPart {
+    ghost laws = { same_part_equiv };
+}
+
+impl PartialOrd for KeyPart {
+    ghost partial_cmp = { as_partial_cmp part_cmp };
+
+    ghost laws = { po part_cmp_total part_cmp_ties };
+
+    fn partial_cmp(&self, other: &KeyPart) -> Option<Ordering> {
+        Some(self.cmp(other))
+    }
+}
+
+impl Ord for KeyPart {
+    ghost cmp = { part_cmp };
+
+    ghost total = { part_cmp_total };
+
+    ghost matches_partial_cmp = { λ x y. refl };
+
+    ghost matches_eq = { part_cmp_ties };
+
+    fn cmp(&self, other: &KeyPart) -> Ordering {
+        match self {
+            KeyPart::Number(x) => match other {
+                KeyPart::Number(y) => x.cmp(y),
+                KeyPart::Name(_) => Ordering::Less,
+            },
+            KeyPart::Name(x) => match other {
+                KeyPart::Number(_) => Ordering::Greater,
+                KeyPart::Name(y) => x.cmp(y),
+            },
+        }
+    }
+}
+
+impl Hash for KeyPart {
+    ghost hash_input = { part_writes };
+
+    ghost respects_eq = { λ x y same. ap part_writes ((same_part_decides x y).0 same) };
+
+    fn hash<H: Hasher>(&self, state: &mut H) {
+        match self {
+            KeyPart::Number(n) => n.hash(state),
+            KeyPart::Name(text) => text.hash(state),
+        }
+    }
+}
+
+/// The key of an entry: its parts from left to right.
+#[derive(Drop, Debug)]
+pub struct Key {
+    parts: Vec<KeyPart>,
+}
+
+impl Model for Key {
+    ghost use Rattle.std.specs.Prelude.{List};
+    ghost use Rattle.d_values.specs.declared.key.KeyPart.{KeyPart};
+
+    ghost Value = { List KeyPart };
+
+    ghost view = { λ k. k.parts.items };
+}
+
+impl Key {
+    /// The key of no parts, which a scalar has.
+    pub fn new(alloc: Global) -> Key
+        ensures { result ≡ [] }
+    {
+        Key {
+            parts: Vec::new(alloc),
+        }
+    }
+
+    /// The parts, from left to right.
+    pub fn parts(&self) -> &[KeyPart]
+        ensures { result.now ≡ self.now }
+    {
+        &self.parts
+    }
+
+    /// Adds a part at the right.
+    pub fn push(&mut self, part: KeyPart) -> Result<(), AllocError>
+        ensures ok { OnOk result (self.new ≡ self.old ++ part ∷ []) }
+        ensures err { OnErr result (self.new ≡ self.old) }
+    {
+        self.parts.push(part)?;
+        Ok(())
+    }
+
+    /// Puts an integer in the place of a part.
+    pub fn set_number(&mut self, place: usize, number: i64)
+        requires { place < length self.old }
+        ensures { self.new ≡ slice_set self.old place (KeyPart.Number number) }
+    {
+        self.parts[place] = KeyPart::Number(number);
+    }
+
+    /// Puts a text in the place of a part, in the room of the text that stood there.
+    pub fn set_name(&mut self, place: usize, bytes: &[u8]) -> Result<(), AllocError>
+        requires { place < length self.old }
+        ensures ok { OnOk result (self.new ≡ slice_set self.old place (KeyPart.Name bytes.now)) }
+        ensures err { OnErr result (self.new ≡ self.old) }
+    {
+        let alloc = *self.parts.allocator();
+        self.parts[place].set_name(alloc, bytes)
+    }
+}
+
+impl Clone for Key {
+    ghost is_clone = { λ k l. l ≡ k };
+
+    fn clone(&self) -> Result<Key, AllocError> {
+        let parts = Vec::from_clones(*self.parts.allocator(), &self.parts)?;
+        Ok(Key { parts })
+    }
+}
+
+impl PartialEq for Key {
+    ghost eq = { same_key };
+
+    ghost laws = { partial_equiv_from_equiv same_key_equiv };
+
+    fn eq(&self, other: &Key) -> bool
+        ensures value { result ≡ same_key self.now other.now }
+        ensures meant { IsTrue result ↔ (self.now ≡ other.now) }
+    {
+        self.parts() == other.parts()
+    }
+}
+
+impl Eq for Key {
+    ghost laws = { same_key_equiv };
+}
+
+impl PartialOrd for Key {
+    ghost partial_cmp = { as_partial_cmp key_cmp };
+
+    ghost laws = { po key_cmp_total key_cmp_ties };
+
+    fn partial_cmp(&self, other: &Key) -> Option<Ordering> {
+        Some(self.cmp(other))
+    }
+}
+
+impl Ord for Key {
+    ghost cmp = { key_cmp };
+
+    ghost total = { key_cmp_total };
+
+    ghost matches_partial_cmp = { λ x y. refl };
+
+    ghost matches_eq = { key_cmp_ties };
+
+    fn cmp(&self, other: &Key) -> Ordering
+        ensures value { result ≡ key_cmp self.now other.now }
+        ensures equal { result ≡ Ordering.Equal ↔ (self.now ≡ other.now) }
+        ensures decided { DecidesByFirstDifference self.now other.now result }
+    {
+        self.parts().cmp(other.parts())
+    }
+}
+
+impl Hash for Key {
+    ghost hash_input = { flat_map part_writes };
+
+    ghost respects_eq = { λ x y same. ap (flat_map part_writes) ((same_key_decides x y).0 same) };
+
+    fn hash<H: Hasher>(&self, state: &mut H) {
+        KeyPart::hash_slice(&self.parts, state);
+    }
+}

@@ -1,0 +1,34 @@
+//! Values of expressions.
+
+ghost use Rattle.std.specs.Prelude.{◌≡◌};
+
+use crate::text::Text;
+use std::alloc::AllocError;
+
+/// Whether a value or a key's part is an integer or a text.
+#[derive(Clone, Copy, Debug, PartialEq, Eq)]
+pub enum Kind {
+    Number,
+    Text,
+}
+
+/// The value of an expression. An integer is the 64-bit extension of its typed value.
+#[derive(Drop, Debug, PartialEq, Eq)]
+pub enum Value {
+    Int(u64),
+    Text(Text),
+}
+
+impl Clone for Value {
+    ghost is_clone = { λ v w. w ≡ v };
+
+    fn clone(&self) -> Result<Value, AllocError> {
+        match self {
+            Value::Int(n) => Ok(Value::Int(*n)),
+            Value::Text(text) => {
+                let text = text.clone()?;
+                Ok(Value::Text(text))
+            }
+        }
+    }
+}
