@@ -1,0 +1,43 @@
+# dreplay: what a user needs. All of it wants the Rattle toolchain's command `rt` on PATH.
+#
+#   make            builds dreplay and runs the example of examples/counts
+#   make build      builds it: the program is crates/dreplay/out/dreplay
+#   make test       the gate: every proof from nothing, then every case over both built programs
+#   make cases      the cases alone, over the program that `make build` leaves
+#   make install    puts it into PREFIX/bin (/usr/local/bin, if PREFIX is not given)
+#   make bench      measures it beside mawk
+#   make clean      removes what was built and proved
+
+PREFIX ?= /usr/local
+PROGRAM := crates/dreplay/out/dreplay
+EXAMPLE := examples/counts
+
+.PHONY: example build test cases install bench clean
+
+example: build
+	@echo
+	@echo '$$ cat $(EXAMPLE)/script.d'
+	@cat $(EXAMPLE)/script.d
+	@echo '$$ dreplay < $(EXAMPLE)/bundle'
+	@$(PROGRAM) < $(EXAMPLE)/bundle
+	@echo
+	@echo '$(EXAMPLE)/README.md says how to read it.'
+
+# The compiler builds nothing that it has not proved: the first time takes minutes, after that only what changed.
+build:
+	@cd crates/dreplay && rt run < stdin > /dev/null
+
+test:
+	@tests/gate
+
+cases: build
+	@tests/run --program $(PROGRAM)
+
+install: build
+	install -D -m 755 $(PROGRAM) '$(DESTDIR)$(PREFIX)/bin/dreplay'
+
+bench: build
+	@bench/run
+
+clean:
+	rm -rf crates/*/out
