@@ -1,0 +1,5 @@
+pub mod Gives
+pub mod Column
+pub mod Row
+pub mod Left
+pub mod Trace
