@@ -1,0 +1,317 @@
+-- What is read is what the text has.
+use Rattle.std.proofs.Common.{◌≡◌, eqb, ◌&&◌, ◌||◌, ℕ, zero, suc, ◌+◌, Bool, true, false, cond, List, [], ◌∷◌, ◌++◌, length, Option, Some, None, Result, Ok, Err, refl, sym, ap, subst, ◌∙◌, arith, append_assoc, inl, inr}
+use Rattle.std.proofs.lemmas.Bool.Decides.{nat_tests}
+use Rattle.std.proofs.lemmas.Bool.{eqb-true}
+use Rattle.std.specs.Char.{is_ascii_digit}
+use Rattle.d_lexer.specs.declared.token.Mark.{Mark}
+use Rattle.d_lexer.specs.declared.token.Suffix.{Suffix}
+use Rattle.d_lexer.specs.declared.token.Token.{Token}
+use Rattle.d_lexer.specs.declared.token.TokenKind.{TokenKind}
+use Rattle.d_lexer.specs.declared.token.TokenKind.TheVariants as kind
+use Rattle.d_lexer.specs.declared.place.Place.{Place}
+use Rattle.d_lexer.specs.declared.place.Place.TheVariants.{Head, Declaration, Predicate, Body}
+use Rattle.d_lexer.specs.declared.position.Position.{Position}
+use Rattle.d_lexer.specs.declared.front.Front.{Front}
+use Rattle.d_lexer.specs.declared.front.Front.TheVariants as front
+use Rattle.d_lexer.specs.declared.front.Front.TheVariants.{Gap}
+use Rattle.d_lexer.specs.declared.fault.Flaw.{Flaw}
+use Rattle.d_lexer.specs.declared.fault.Flaw.TheVariants as f
+use Rattle.d_lexer.specs.declared.fault.LexFault.{LexFault}
+use Rattle.d_lexer.specs.Bytes.{next_is, is_blank, is_word_start, is_word_byte, is_run_byte, is_inside, is_plain, begins_comment, escape_of, is_declaring}
+use Rattle.d_lexer.specs.Numbers.{number_of}
+use Rattle.d_lexer.specs.Marks.{mark_of}
+use Rattle.d_lexer.specs.Places.{moved, passed, is_head, is_first, is_hash, after}
+use Rattle.d_lexer.specs.Faults.{on_line}
+use Rattle.d_lexer.specs.OptionLine.{is_option}
+use Rattle.d_lexer.specs.Tokens
+use Rattle.d_lexer.specs.Tokens.{StopsAt, Fills, HasNoEnd, IsPiece, blank, comment, first_line, option_line, Past, here, past, IsRunOf, SpellsText, IsMark, SpellsInside, SpellsHead, Spells, begins, IsStray, StopsText, BreaksText, IsFault, stray, open_comment, text, number, End, Clean, Bad, EndsAs, Lexes}
+use Rattle.d_lexer.specs.Scan.{run_len, run_of, tail, put, skip_one, put_escape, text_from, one_longer, comment_from, mark_at, mark_front, number_front, comment_front, head_kind, aggregation_front, text_front, inside_at, head_at, token_at, front_at, Scanned, scan_by, scan}
+use Rattle.d_lexer.proofs.Base.{Split, cond_is, run_splits, run_is}
+use Rattle.d_lexer.proofs.Marks.{MarkIs, mark_sound}
+
+abbrev pub FrontIs : Place → Position → ℕ → List ℕ → Result Front Flaw → Type 0
+FrontIs p pos b z (Ok (Gap m)) = Split (λ own rest. IsPiece p pos (b ∷ own) rest) m z
+FrontIs p pos b z (Ok (front.Token t m)) = Split (λ own rest. Spells p (b ∷ own) rest t) m z
+FrontIs p pos b z (Err g) = IsFault p pos (b ∷ z) g
+
+-- ---- comments
+
+next_byte : (c : ℕ) (z : List ℕ) → next_is c z ≡ true → z ≡ c ∷ tail z
+next_byte c [] e = absurd cc
+next_byte c (b ∷ z) e = let s : b ≡ c = eqb-true b c e in rw s refl
+
+and_is : (a b : Bool) → (a && b) ≡ true → (a ≡ true) × (b ≡ true)
+and_is true b e = (refl, e)
+and_is false b e = absurd cc
+
+and_false : (a : Bool) → (a && false) ≡ false
+and_false true = refl
+and_false false = refl
+
+abbrev CommentIs : List ℕ → Option ℕ → Type 0
+CommentIs z None = HasNoEnd z
+CommentIs z (Some n) = Split (λ own rest. (body : List ℕ) × (own ≡ body ++ 42 ∷ (47 ∷ [])) × HasNoEnd body) n z
+
+star_goes : (b : ℕ) (body z : List ℕ) → (eqb b 42 && next_is 47 (body ++ z)) ≡ false → (eqb b 42 && next_is 47 body) ≡ false
+star_goes b [] z e = and_false (eqb b 42)
+star_goes b (c ∷ body) z e = e
+
+comment_more : (b : ℕ) (z : List ℕ) → (eqb b 42 && next_is 47 z) ≡ false → (o : Option ℕ) → CommentIs z o → CommentIs (b ∷ z) (one_longer o)
+comment_more b z e None h = (e, h)
+comment_more b z e (Some n) s =
+    let body : List ℕ = s.holds.0 in
+    let whole : z ≡ body ++ (42 ∷ (47 ∷ s.rest)) = s.is ∙ ap (λ (xs : List ℕ). xs ++ s.rest) s.holds.1 ∙ append_assoc body (42 ∷ (47 ∷ [])) s.rest in
+    let e2 : (eqb b 42 && next_is 47 (body ++ (42 ∷ (47 ∷ s.rest)))) ≡ false = rw (← whole) e in
+    record {
+      own = b ∷ s.own;
+      rest = s.rest;
+      is = ap (λ (xs : List ℕ). b ∷ xs) s.is;
+      size = ap suc s.size;
+      holds = (b ∷ body, ap (λ (xs : List ℕ). b ∷ xs) s.holds.1, (star_goes b body (42 ∷ (47 ∷ s.rest)) e2, s.holds.2));
+    }
+
+comment_sound : (z : List ℕ) → CommentIs z (comment_from z)
+unfolding comment_from
+comment_sound [] = tt
+comment_sound (b ∷ z) =
+    cond_is (CommentIs (b ∷ z)) (eqb b 42 && next_is 47 z) (Some 2) (one_longer (comment_from z))
+    (λ e. let h = and_is (eqb b 42) (next_is 47 z) e in
+    let b_is : b ≡ 42 = eqb-true b 42 h.0 in
+    let z_is : z ≡ 47 ∷ tail z = next_byte 47 z h.1 in
+    record { own = b ∷ (47 ∷ []); rest = tail z; is = ap (λ (xs : List ℕ). b ∷ xs) z_is; size = refl; holds = ([], rw b_is refl, tt) })
+    (λ e. comment_more b z e (comment_from z) (comment_sound z))
+
+-- ---- text constants
+
+abbrev TextIs : List ℕ → Result (List ℕ × ℕ) Flaw → Type 0
+TextIs z (Err g) = BreaksText z g
+TextIs z (Ok t) = Split (λ own rest. (body : List ℕ) × (own ≡ body ++ 34 ∷ []) × SpellsText body t.0) t.1 z
+
+text_plain : (b : ℕ) (z : List ℕ) → is_plain b ≡ true → (r : Result (List ℕ × ℕ) Flaw) → TextIs z r → TextIs (b ∷ z) (put b r)
+text_plain b z e (Err g) h = (b ∷ h.0, b ∷ h.1, h.2, ap (λ (xs : List ℕ). b ∷ xs) h.3, (b ∷ [], h.0, refl, inl (e, refl), h.4), h.5)
+text_plain b z e (Ok t) s =
+    record {
+      own = b ∷ s.own;
+      rest = s.rest;
+      is = ap (λ (xs : List ℕ). b ∷ xs) s.is;
+      size = ap suc s.size;
+      holds = (b ∷ s.holds.0, ap (λ (xs : List ℕ). b ∷ xs) s.holds.1, (b ∷ [], s.holds.0, refl, inl (e, refl), s.holds.2));
+    }
+
+text_escaped : (c x : ℕ) (z : List ℕ) → escape_of c ≡ Some x → (r : Result (List ℕ × ℕ) Flaw) → TextIs z r → TextIs (92 ∷ (c ∷ z)) (skip_one (put x r))
+text_escaped c x z e (Err g) h = (92 ∷ (c ∷ h.0), x ∷ h.1, h.2, ap (λ (xs : List ℕ). 92 ∷ (c ∷ xs)) h.3, (92 ∷ (c ∷ []), h.0, refl, inr (c, e, refl), h.4), h.5)
+text_escaped c x z e (Ok t) s =
+    record {
+      own = 92 ∷ (c ∷ s.own);
+      rest = s.rest;
+      is = ap (λ (xs : List ℕ). 92 ∷ (c ∷ xs)) s.is;
+      size = ap (λ (n : ℕ). suc (suc n)) s.size;
+      holds = (92 ∷ (c ∷ s.holds.0), ap (λ (xs : List ℕ). 92 ∷ (c ∷ xs)) s.holds.1, (92 ∷ (c ∷ []), s.holds.0, refl, inr (c, e, refl), s.holds.2));
+    }
+
+text_escape : (c : ℕ) (z : List ℕ) (r : Result (List ℕ × ℕ) Flaw) → TextIs z r → (o : Option ℕ) → escape_of c ≡ o → TextIs (92 ∷ (c ∷ z)) (skip_one (put_escape o r))
+text_escape c z r h None e = ([], [], 92 ∷ (c ∷ z), refl, refl, (c, z, refl, e))
+text_escape c z r h (Some x) e = text_escaped c x z e r h
+
+text_step : (b : ℕ) (z : List ℕ) → TextIs z (text_from false z) → TextIs (92 ∷ z) (skip_one (text_from true z)) → TextIs (b ∷ z) (text_from false (b ∷ z))
+unfolding text_from
+text_step b z plain escape =
+    cond_is (TextIs (b ∷ z)) (eqb b 34) (Ok ([], 1)) _
+    (λ e. let s : b ≡ 34 = eqb-true b 34 e in record { own = b ∷ []; rest = z; is = refl; size = refl; holds = ([], rw s refl, refl) })
+    (λ e1. cond_is (TextIs (b ∷ z)) (eqb b 10) (Err f.Unclosed) _
+    (λ e. let s : b ≡ 10 = eqb-true b 10 e in ([], [], b ∷ z, refl, refl, inr (inl (z, rw s refl))))
+    (λ e2. cond_is (TextIs (b ∷ z)) (eqb b 0) (Err f.BadByte) _
+    (λ e. let s : b ≡ 0 = eqb-true b 0 e in ([], [], b ∷ z, refl, refl, (z, rw s refl)))
+    (λ e3. cond_is (TextIs (b ∷ z)) (eqb b 92) (skip_one (text_from true z)) (put b (text_from false z))
+    (λ e. let s : b ≡ 92 = eqb-true b 92 e in rw s escape)
+    (λ e4. let is : is_plain b ≡ true = rw (e1, e2, e3, e4) refl in text_plain b z is (text_from false z) plain))))
+
+text_sound : (z : List ℕ) → TextIs z (text_from false z)
+unfolding text_from
+text_sound [] = ([], [], [], refl, refl, inl refl)
+text_sound (b ∷ []) = text_step b [] (text_sound []) ([], [], 92 ∷ [], refl, refl, inr (inr refl))
+text_sound (b ∷ c ∷ z) = text_step b (c ∷ z) (text_sound (c ∷ z)) (text_escape c z (text_from false z) (text_sound z) (escape_of c) refl)
+
+-- ---- tokens
+
+inside_spells : (p : Place) (own rest : List ℕ) (t : TokenKind) → is_head p ≡ false → SpellsInside p own rest t → Spells p own rest t
+inside_spells Head own rest t e h = absurd cc
+inside_spells Declaration own rest t e h = h
+inside_spells Predicate own rest t e h = h
+inside_spells Body own rest t e h = h
+
+inside_begins : (p : Place) (b : ℕ) → is_head p ≡ false → (is_word_start b || is_ascii_digit b || eqb b 64 || eqb b 34) ≡ false → begins p b ≡ false
+inside_begins Head b e h = absurd cc
+inside_begins Declaration b e h = h
+inside_begins Predicate b e h = h
+inside_begins Body b e h = h
+
+-- what is known of a byte that begins neither a piece nor a line
+pub record IsTokenByte (p : Place) (pos : Position) (b : ℕ) (z : List ℕ) : Type 0 where
+  pub no_blank : is_blank b ≡ false
+  pub no_comment : begins_comment (b ∷ z) ≡ false
+  pub no_first : is_first pos b z ≡ false
+  pub no_hash : is_hash p pos b ≡ false
+
+mark_front_sound : (p : Place) (pos : Position) (b : ℕ) (z : List ℕ) → IsTokenByte p pos b z → begins p b ≡ false → ((own rest : List ℕ) (k : Mark) → IsMark p own rest k → Spells p own rest (kind.Mark k)) →
+    (o : Option (Mark × ℕ)) → MarkIs p b z o → FrontIs p pos b z (mark_front o)
+mark_front_sound p pos b z h e spells None none = stray b z refl (record { no_blank = h.no_blank; no_comment = h.no_comment; no_first = h.no_first; no_hash = h.no_hash; no_token = e; no_mark = none })
+mark_front_sound p pos b z h e spells (Some k) s =
+    record {
+      own = s.own;
+      rest = s.rest;
+      is = s.is;
+      size = s.size;
+      holds = spells (b ∷ s.own) s.rest k.0 (record { is = s.holds.0; longest = s.holds.1; no_comment = rw (← s.is) h.no_comment });
+    }
+
+run_of_is : (test : ℕ → Bool) (z : List ℕ) (s : Split (Fills test) (run_len test z) z) → run_of test z ≡ s.own
+run_of_is test z s = subst (λ (xs : List ℕ). run_of test xs ≡ s.own) (sym s.is) (run_is test s.own s.rest s.holds)
+
+number_sound : (p : Place) (pos : Position) (b : ℕ) (z : List ℕ) → is_head p ≡ false → is_ascii_digit b ≡ true → (s : Split (Fills is_word_byte) (run_len is_word_byte z) z) →
+    (o : Option (ℕ × Suffix)) → number_of (b ∷ run_of is_word_byte z) ≡ o → FrontIs p pos b z (number_front o (run_len is_word_byte z))
+number_sound p pos b z inside e s None n =
+    let run : run_of is_word_byte z ≡ s.own = run_of_is is_word_byte z s in
+    number (b ∷ s.own) s.rest inside (ap (λ (xs : List ℕ). b ∷ xs) s.is) (e, s.holds) (rw (← run) n)
+number_sound p pos b z inside e s (Some v) n =
+    let run : run_of is_word_byte z ≡ s.own = run_of_is is_word_byte z s in
+    record { own = s.own; rest = s.rest; is = s.is; size = s.size; holds = inside_spells p (b ∷ s.own) s.rest (kind.Number v.0 v.1) inside (rw (← run) n, (e, s.holds)) }
+
+agg_sound : (p : Place) (pos : Position) (z : List ℕ) → is_head p ≡ false → FrontIs p pos 64 z (aggregation_front z)
+agg_sound p pos [] inside = record { own = []; rest = []; is = refl; size = refl; holds = inside_spells p (64 ∷ []) [] (kind.AggregationName (95 ∷ [])) inside (inl (refl, refl, tt)) }
+agg_sound p pos (b ∷ z) inside =
+    cond_is (FrontIs p pos 64 (b ∷ z)) (is_word_start b) (Ok (front.Token (kind.AggregationName (b ∷ run_of is_word_byte z)) (suc (run_len is_word_byte z)))) (Ok (front.Token (kind.AggregationName (95 ∷ [])) 0))
+    (λ e. let s = run_splits is_word_byte z in
+    let run : run_of is_word_byte z ≡ s.own = run_of_is is_word_byte z s in
+    record {
+      own = b ∷ s.own;
+      rest = s.rest;
+      is = ap (λ (xs : List ℕ). b ∷ xs) s.is;
+      size = ap suc s.size;
+      holds = rw run (inside_spells p (64 ∷ (b ∷ s.own)) s.rest (kind.AggregationName (b ∷ s.own)) inside (inr (refl, (e, s.holds))));
+    })
+    (λ e. record { own = []; rest = b ∷ z; is = refl; size = refl; holds = inside_spells p (64 ∷ []) (b ∷ z) (kind.AggregationName (95 ∷ [])) inside (inl (refl, refl, e)) })
+
+text_front_sound : (p : Place) (pos : Position) (z : List ℕ) → is_head p ≡ false → (r : Result (List ℕ × ℕ) Flaw) → TextIs z r → FrontIs p pos 34 z (text_front r)
+text_front_sound p pos z inside (Err g) h = text z inside refl h
+text_front_sound p pos z inside (Ok t) s =
+    record { own = s.own; rest = s.rest; is = s.is; size = s.size; holds = inside_spells p (34 ∷ s.own) s.rest (kind.TextConstant t.0) inside (s.holds.0, ap (λ (xs : List ℕ). 34 ∷ xs) s.holds.1, s.holds.2) }
+
+inside_sound : (p : Place) (pos : Position) (b : ℕ) (z : List ℕ) → is_head p ≡ false → IsTokenByte p pos b z → FrontIs p pos b z (inside_at p b z)
+unfolding inside_at
+inside_sound p pos b z inside h =
+    cond_is (FrontIs p pos b z) (is_word_start b) _ _
+    (λ e. let s = run_splits is_word_byte z in
+    record { own = s.own; rest = s.rest; is = s.is; size = s.size; holds = rw (run_of_is is_word_byte z s) (inside_spells p (b ∷ s.own) s.rest (kind.Word (b ∷ s.own)) inside (refl, (e, s.holds))) })
+    (λ e1. cond_is (FrontIs p pos b z) (is_ascii_digit b) _ _
+    (λ e. number_sound p pos b z inside e (run_splits is_word_byte z) (number_of (b ∷ run_of is_word_byte z)) refl)
+    (λ e2. cond_is (FrontIs p pos b z) (eqb b 64) _ _
+    (λ e. let s : b ≡ 64 = eqb-true b 64 e in rw s (agg_sound p pos z inside))
+    (λ e3. cond_is (FrontIs p pos b z) (eqb b 34) _ _
+    (λ e. let s : b ≡ 34 = eqb-true b 34 e in rw s (text_front_sound p pos z inside (text_from false z) (text_sound z)))
+    (λ e4. let none : (is_word_start b || is_ascii_digit b || eqb b 64 || eqb b 34) ≡ false = rw (e1, e2, e3, e4) refl in
+    mark_front_sound p pos b z h (inside_begins p b inside none) (λ own rest k m. inside_spells p own rest (kind.Mark k) inside m) (mark_at p b z) (mark_sound p b z)))))
+
+head_kind_sound : (own rest : List ℕ) → IsRunOf is_run_byte is_run_byte own rest → Spells Head own rest (head_kind own)
+head_kind_sound own rest h = cond_is (λ (t : TokenKind). Spells Head own rest t) (is_declaring own) (kind.Word own) (kind.DescriptionRun own) (λ e. (refl, e, h)) (λ e. (refl, e, h))
+
+head_sound : (pos : Position) (b : ℕ) (z : List ℕ) → IsTokenByte Head pos b z → FrontIs Head pos b z (head_at b z)
+unfolding head_at
+head_sound pos b z h =
+    cond_is (FrontIs Head pos b z) (is_run_byte b) _ _
+    (λ e. let s = run_splits is_run_byte z in
+    record { own = s.own; rest = s.rest; is = s.is; size = s.size; holds = rw (run_of_is is_run_byte z s) (head_kind_sound (b ∷ s.own) s.rest (e, s.holds)) })
+    (λ e. mark_front_sound Head pos b z h e (λ own rest k m. m) (mark_at Head b z) (mark_sound Head b z))
+
+token_sound : (p : Place) (pos : Position) (b : ℕ) (z : List ℕ) → IsTokenByte p pos b z → FrontIs p pos b z (token_at p b z)
+unfolding token_at
+token_sound Head pos b z h = head_sound pos b z h
+token_sound Declaration pos b z h = inside_sound Declaration pos b z refl h
+token_sound Predicate pos b z h = inside_sound Predicate pos b z refl h
+token_sound Body pos b z h = inside_sound Body pos b z refl h
+
+-- ---- what is at the front
+
+comment_front_sound : (p : Place) (pos : Position) (z : List ℕ) (o : Option ℕ) → CommentIs z o → FrontIs p pos 47 (42 ∷ z) (comment_front o)
+comment_front_sound p pos z None h = open_comment z refl h
+comment_front_sound p pos z (Some n) s =
+    record {
+      own = 42 ∷ s.own;
+      rest = s.rest;
+      is = ap (λ (xs : List ℕ). 42 ∷ xs) s.is;
+      size = ap suc s.size;
+      holds = comment s.holds.0 (ap (λ (xs : List ℕ). 47 ∷ (42 ∷ xs)) s.holds.1) s.holds.2;
+    }
+
+first_hash : (pos : Position) (b : ℕ) (z : List ℕ) → is_first pos b z ≡ true → b ≡ 35
+first_hash pos b z e = grind (arith, nat_tests)
+
+line_hash : (p : Place) (pos : Position) (b : ℕ) → is_hash p pos b ≡ true → b ≡ 35
+line_hash p pos b e = grind (arith, nat_tests)
+
+option_sound : (p : Place) (pos : Position) (z : List ℕ) → is_first pos 35 z ≡ false → is_hash p pos 35 ≡ true → (s : Split (Fills is_inside) (run_len is_inside z) z) →
+    FrontIs p pos 35 z (cond (is_option (35 ∷ run_of is_inside z)) (Ok (Gap (run_len is_inside z))) (Err f.OptionLine))
+option_sound p pos z no_first is s =
+    let first : is_first pos 35 (s.own ++ s.rest) ≡ false = rw (← s.is) no_first in
+    cond_is (FrontIs p pos 35 z) (is_option (35 ∷ run_of is_inside z)) _ _
+    (λ e. record { own = s.own; rest = s.rest; is = s.is; size = s.size; holds = option_line s.own refl first is (rw (← run_of_is is_inside z s) e) s.holds })
+    (λ e. Tokens.option_line s.own s.rest (ap (λ (xs : List ℕ). 35 ∷ xs) s.is) first is (rw (← run_of_is is_inside z s) e) s.holds)
+
+pub front_sound : (p : Place) (pos : Position) (b : ℕ) (z : List ℕ) → FrontIs p pos b z (front_at p pos b z)
+unfolding front_at
+front_sound p pos b z =
+    cond_is (FrontIs p pos b z) (is_blank b) _ _
+    (λ e. record { own = []; rest = z; is = refl; size = refl; holds = blank b refl e })
+    (λ e1. cond_is (FrontIs p pos b z) (begins_comment (b ∷ z)) _ _
+    (λ e. let h = and_is (eqb b 47) (next_is 42 z) e in
+    let b_is : b ≡ 47 = eqb-true b 47 h.0 in
+    let z_is : z ≡ 42 ∷ tail z = next_byte 42 z h.1 in
+    subst (λ (xs : List ℕ). FrontIs p pos b xs (comment_front (comment_from (tail z)))) (sym z_is) (rw b_is (comment_front_sound p pos (tail z) (comment_from (tail z)) (comment_sound (tail z)))))
+    (λ e2. cond_is (FrontIs p pos b z) (is_first pos b z) _ _
+    (λ e. let s = run_splits is_inside z in
+    let b_is : b ≡ 35 = first_hash pos b z e in
+    let first : is_first pos 35 (s.own ++ s.rest) ≡ true = rw (← s.is) (subst (λ (x : ℕ). is_first pos x z ≡ true) b_is e) in
+    record { own = s.own; rest = s.rest; is = s.is; size = s.size; holds = first_line s.own (ap (λ (x : ℕ). x ∷ s.own) b_is) first s.holds })
+    (λ e3. cond_is (FrontIs p pos b z) (is_hash p pos b) _ _
+    (λ e. let b_is : b ≡ 35 = line_hash p pos b e in
+    let g : is_first pos 35 z ≡ false = subst (λ (x : ℕ). is_first pos x z ≡ false) b_is e3 in
+    let i : is_hash p pos 35 ≡ true = subst (λ (x : ℕ). is_hash p pos x ≡ true) b_is e in
+    rw b_is (option_sound p pos z g i (run_splits is_inside z)))
+    (λ e4. token_sound p pos b z (record { no_blank = e1; no_comment = e2; no_first = e3; no_hash = e4 })))))
+
+-- ---- all of the text
+
+past_gap : (p : Place) (pos : Position) (bytes own rest : List ℕ) (ts : List Token) (end : End) → bytes ≡ own ++ rest → IsPiece p pos own rest → Lexes p (moved pos own) rest ts end → Lexes p pos bytes ts end
+past_gap p pos bytes own rest [] end is h l = past own rest is h l
+past_gap p pos bytes own rest (t ∷ ts) end is h l = past own rest is h l
+
+abbrev IsRight : Place → Position → List ℕ → Scanned → Type 0
+IsRight p pos bytes s = Lexes p pos bytes s.0 s.1
+
+by_front : (p : Place) (pos : Position) (b : ℕ) (z : List ℕ) →
+    ((n : ℕ) (q : Place) (own rest : List ℕ) → z ≡ own ++ rest → n ≡ length own → IsRight q (moved (passed pos b) own) rest (scan n q (passed pos b) z)) →
+    (r : Result Front Flaw) → FrontIs p pos b z r → IsRight p pos (b ∷ z) (scan_by (λ n q. scan n q (passed pos b) z) p pos r)
+by_front p pos b z go (Err g) h = here (g, h, refl)
+by_front p pos b z go (Ok (Gap n)) s =
+    let then = scan n p (passed pos b) z in
+    past_gap p pos (b ∷ z) (b ∷ s.own) s.rest then.0 then.1 (ap (λ (xs : List ℕ). b ∷ xs) s.is) s.holds (go n p s.own s.rest s.is s.size)
+by_front p pos b z go (Ok (front.Token t n)) s =
+    here (b ∷ s.own, s.rest, ap (λ (xs : List ℕ). b ∷ xs) s.is, s.holds, refl, ap (λ (k : ℕ). pos.at + suc k) s.size, refl, go n (after p t) s.own s.rest s.is s.size)
+
+-- what scan answers when n bytes are to be passed is right for what is behind these
+pub scan_sound : (bytes own rest : List ℕ) (n : ℕ) (p : Place) (pos : Position) → bytes ≡ own ++ rest → n ≡ length own → IsRight p (moved pos own) rest (scan n p pos bytes)
+unfolding scan
+scan_sound [] [] rest n p pos is size = here (sym is)
+scan_sound [] (c ∷ own) rest n p pos is size = absurd cc
+scan_sound (b ∷ z) [] rest zero p pos is size =
+    subst (λ (xs : List ℕ). IsRight p pos xs (scan 0 p pos (b ∷ z))) is
+    (by_front p pos b z (λ n q own2 rest2 e f. scan_sound z own2 rest2 n q (passed pos b) e f) (front_at p pos b z) (front_sound p pos b z))
+scan_sound (b ∷ z) [] rest (suc n) p pos is size = absurd (omega arith)
+scan_sound (b ∷ z) (c ∷ own) rest zero p pos is size = absurd (omega arith)
+scan_sound (b ∷ z) (c ∷ own) rest (suc n) p pos is size =
+    let same : b ≡ c = cc in
+    let more : z ≡ own ++ rest = cc in
+    subst (λ (x : ℕ). IsRight p (moved (passed pos x) own) rest (scan n p (passed pos b) z)) same (scan_sound z own rest n p (passed pos b) more (omega arith))
+
+pub whole_sound : (p : Place) (pos : Position) (bytes : List ℕ) → IsRight p pos bytes (scan 0 p pos bytes)
+whole_sound p pos bytes = scan_sound bytes [] bytes 0 p pos refl refl

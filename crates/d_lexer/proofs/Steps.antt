@@ -1,0 +1,48 @@
+-- What the loops keep.
+use Rattle.std.proofs.Common.{◌≡◌, ℕ, suc, ◌+◌, ◌≤◌, Bool, true, false, cond, List, [], ◌∷◌, ◌++◌, length, take, take_while, Option, Some, None, Result, Ok, Err, refl, ap, ◌∙◌, arith, append_assoc}
+use Rattle.d_lexer.specs.Scan.{run_len, one_longer, put, skip_one}
+use Rattle.d_lexer.specs.declared.fault.Flaw.{Flaw}
+use Rattle.std.specs.List.{prefix_len}
+
+take_more : (n b : ℕ) (z : List ℕ) → length (take (1 + n) (b ∷ z)) ≡ suc (length (take n z))
+take_more n b z = let e : 1 + n ≡ suc n = omega arith in rw e refl
+
+pub length_run : (test : ℕ → Bool) (z : List ℕ) → length (take_while test z) ≡ run_len test z
+length_run test [] = refl
+length_run test (b ∷ z) = by (test b) (length_run test z) where
+  by : (c : Bool) → length (take_while test z) ≡ run_len test z → length (take (cond c (1 + prefix_len test z) 0) (b ∷ z)) ≡ cond c (suc (run_len test z)) 0
+  by true more = take_more (prefix_len test z) b z ∙ ap suc more
+  by false more = refl
+
+pub run_within : (test : ℕ → Bool) (z : List ℕ) → run_len test z ≤ length z
+run_within test [] = omega arith
+run_within test (b ∷ z) = by (test b) (run_within test z) where
+  by : (c : Bool) → run_len test z ≤ length z → cond c (suc (run_len test z)) 0 ≤ suc (length z)
+  by true more = omega arith
+  by false more = omega arith
+
+-- so many more
+abbrev pub longer : ℕ → Option ℕ → Option ℕ
+longer n None = None
+longer n (Some m) = Some (n + m)
+
+pub longer_one : (n : ℕ) (o : Option ℕ) → longer (n + 1) o ≡ longer n (one_longer o)
+longer_one n None = refl
+longer_one n (Some m) = let e : (n + 1) + m ≡ n + suc m = omega arith in rw e refl
+
+-- the same behind good bytes of a text constant
+abbrev pub behind_text : List ℕ → ℕ → Result (List ℕ × ℕ) Flaw → Result (List ℕ × ℕ) Flaw
+behind_text w n (Err g) = Err g
+behind_text w n (Ok t) = Ok (w ++ t.0, n + t.1)
+
+pub behind_none : (r : Result (List ℕ × ℕ) Flaw) → behind_text [] 0 r ≡ r
+behind_none (Err g) = refl
+behind_none (Ok t) = let k : 0 + t.1 ≡ t.1 = omega arith in rw k refl
+
+pub behind_plain : (w : List ℕ) (n x : ℕ) (r : Result (List ℕ × ℕ) Flaw) → behind_text (w ++ x ∷ []) (n + 1) r ≡ behind_text w n (put x r)
+behind_plain w n x (Err g) = refl
+behind_plain w n x (Ok t) = let k : (n + 1) + t.1 ≡ n + suc t.1 = omega arith in rw (append_assoc w (x ∷ []) t.0, k) refl
+
+pub behind_escape : (w : List ℕ) (n x : ℕ) (r : Result (List ℕ × ℕ) Flaw) → behind_text (w ++ x ∷ []) (n + 2) r ≡ behind_text w n (skip_one (put x r))
+behind_escape w n x (Err g) = refl
+behind_escape w n x (Ok t) = let k : (n + 2) + t.1 ≡ n + suc (suc t.1) = omega arith in rw (append_assoc w (x ∷ []) t.0, k) refl

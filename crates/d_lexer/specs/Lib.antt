@@ -1,0 +1,9 @@
+pub mod Bytes
+pub mod Numbers
+pub mod Marks
+pub mod Places
+pub mod Faults
+pub mod OptionLine
+pub mod Tokens
+pub mod Scan
+pub mod Lexing

@@ -1,0 +1,60 @@
+-- Marks.
+use Rattle.std.specs.Prelude.{ℕ, Bool, ◌&&◌, if◌then◌else◌, ◌==◌, List, [], ◌∷◌, Option, Some, None}
+use Rattle.d_lexer.specs.declared.token.Mark.{Mark}
+use Rattle.d_lexer.specs.declared.token.Mark.TheVariants as m
+use Rattle.d_lexer.specs.declared.place.Place.{Place}
+use Rattle.d_lexer.specs.declared.place.Place.TheVariants.{Head, Declaration, Predicate, Body}
+
+abbrev pub mark_in : List (ℕ × Mark) → ℕ → Option Mark
+mark_in [] b = None
+mark_in (e ∷ es) b = if b == e.0 then Some e.1 else mark_in es b
+
+-- + - * / % & | ^ ~ < > ! ? : = ( ) [ ] { } , ;
+abbrev pub singles : List (ℕ × Mark)
+singles =
+    (43, m.Plus) ∷ (45, m.Minus) ∷ (42, m.Star) ∷ (47, m.Slash) ∷ (37, m.Percent) ∷ (38, m.And) ∷ (124, m.Or) ∷ (94, m.Xor) ∷ (126, m.Tilde) ∷ (60, m.Less) ∷ (62, m.Greater) ∷ (33, m.Not)
+    ∷ (63, m.Question) ∷ (58, m.Colon) ∷ (61, m.Assign) ∷ (40, m.OpenParenthesis) ∷ (41, m.CloseParenthesis) ∷ (91, m.OpenBracket) ∷ (93, m.CloseBracket) ∷ (123, m.OpenBrace) ∷ (125, m.CloseBrace) ∷ (44, m.Comma) ∷ (59, m.Semicolon) ∷ []
+
+-- , / { } ;
+abbrev pub of_head : List (ℕ × Mark)
+of_head = (44, m.Comma) ∷ (47, m.Slash) ∷ (123, m.OpenBrace) ∷ (125, m.CloseBrace) ∷ (59, m.Semicolon) ∷ []
+
+-- ++ -- << >> && || ^^
+abbrev pub doubles : List (ℕ × Mark)
+doubles = (43, m.Increment) ∷ (45, m.Decrement) ∷ (60, m.ShiftLeft) ∷ (62, m.ShiftRight) ∷ (38, m.AndAnd) ∷ (124, m.OrOr) ∷ (94, m.XorXor) ∷ []
+
+-- with = behind: <= >= == != += -= *= /= %= &= |= ^=
+abbrev pub settings : List (ℕ × Mark)
+settings =
+    (60, m.LessEqual) ∷ (62, m.GreaterEqual) ∷ (61, m.Equal) ∷ (33, m.NotEqual) ∷ (43, m.AddAssign) ∷ (45, m.SubtractAssign) ∷ (42, m.MultiplyAssign) ∷ (47, m.DivideAssign) ∷ (37, m.RemainderAssign) ∷ (38, m.AndAssign) ∷ (124, m.OrAssign) ∷ (94, m.XorAssign) ∷ []
+
+-- doubled, with = behind: <<= >>=
+abbrev pub shifts : List (ℕ × Mark)
+shifts = (60, m.ShiftLeftAssign) ∷ (62, m.ShiftRightAssign) ∷ []
+
+-- with > behind: ->
+abbrev pub arrows : List (ℕ × Mark)
+arrows = (45, m.Arrow) ∷ []
+
+-- In a predicate a slash is the closing one until the next token says that it is not.
+abbrev pub mark_one : Place → ℕ → Option Mark
+mark_one Head a = mark_in of_head a
+mark_one Declaration a = mark_in singles a
+mark_one Predicate a = if a == 47 then Some m.ClosingSlash else mark_in singles a
+mark_one Body a = mark_in singles a
+
+abbrev pub mark_two : Place → ℕ → ℕ → Option Mark
+mark_two Head a b = None
+mark_two p a b = if b == 61 then mark_in settings a else (if a == b then mark_in doubles a else (if b == 62 then mark_in arrows a else None))
+
+abbrev pub mark_three : Place → ℕ → ℕ → ℕ → Option Mark
+mark_three Head a b c = None
+mark_three p a b c = if c == 61 && a == b then mark_in shifts a else None
+
+-- the mark of these bytes in this place
+unfoldable pub mark_of : Place → List ℕ → Option Mark
+mark_of p [] = None
+mark_of p (a ∷ []) = mark_one p a
+mark_of p (a ∷ b ∷ []) = mark_two p a b
+mark_of p (a ∷ b ∷ c ∷ []) = mark_three p a b c
+mark_of p (a ∷ b ∷ c ∷ d ∷ z) = None

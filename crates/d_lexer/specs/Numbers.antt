@@ -1,0 +1,61 @@
+-- Numbers.
+use Rattle.std.specs.Prelude.{ℕ, ◌+◌, ◌*◌, ◌-◌, ◌^◌, Bool, ◌&&◌, ◌||◌, if◌then◌else◌, ◌==◌, nat_le, nat_lt, List, [], ◌∷◌, Option, Some, None, option_and_then}
+use Rattle.std.specs.Char.{is_ascii_digit}
+use Rattle.d_lexer.specs.declared.token.Suffix.{Suffix}
+use Rattle.d_lexer.specs.declared.token.Suffix.TheVariants.{Absent, Unsigned, Long, UnsignedLong}
+
+-- the value of a digit of the base
+abbrev pub digit_of : ℕ → ℕ → Option ℕ
+digit_of base d =
+    if is_ascii_digit d then (if nat_lt (d - 48) base then Some (d - 48) else None)
+    else (if base == 16 && nat_le 97 d && nat_le d 102 then Some (d - 87)
+    else (if base == 16 && nat_le 65 d && nat_le d 70 then Some (d - 55) else None))
+
+-- what follows the digits
+abbrev pub is_u : ℕ → Bool
+is_u b = b == 117 || b == 85
+
+abbrev pub is_l : ℕ → Bool
+is_l b = b == 108 || b == 76
+
+unfoldable pub suffix_of : List ℕ → Option Suffix
+suffix_of [] = Some Absent
+suffix_of (a ∷ []) = if is_u a then Some Unsigned else (if is_l a then Some Long else None)
+suffix_of (a ∷ b ∷ []) = if is_u a && is_l b then Some UnsignedLong else (if is_l a && is_l b then Some Long else None)
+suffix_of (a ∷ b ∷ c ∷ []) = if is_u a && is_l b && is_l c then Some UnsignedLong else None
+suffix_of (a ∷ b ∷ c ∷ d ∷ z) = None
+
+-- one digit more, below 2 ^ 64
+abbrev pub one_more : ℕ → ℕ → ℕ → Option ℕ
+one_more base n k = if nat_lt (n * base + k) (2 ^ 64) then Some (n * base + k) else None
+
+abbrev pub with_suffix : ℕ → Option Suffix → Option (ℕ × Suffix)
+with_suffix n None = None
+with_suffix n (Some s) = Some (n, s)
+
+-- the digits of the base, and behind them a suffix
+abbrev pub number_by : (go : ℕ → Option (ℕ × Suffix)) → ℕ → ℕ → List ℕ → Option ℕ → Option (ℕ × Suffix)
+number_by go base n bytes None = with_suffix n (suffix_of bytes)
+number_by go base n bytes (Some k) = option_and_then go (one_more base n k)
+
+unfoldable pub number_from : ℕ → ℕ → List ℕ → Option (ℕ × Suffix)
+number_from base n [] = Some (n, Absent)
+number_from base n (d ∷ ds) = number_by (λ k. number_from base k ds) base n (d ∷ ds) (digit_of base d)
+
+abbrev pub hex_by : List ℕ → Option ℕ → Option (ℕ × Suffix)
+hex_by z None = None
+hex_by z (Some k) = number_from 16 0 z
+
+abbrev pub hex_from : List ℕ → Option (ℕ × Suffix)
+hex_from [] = None
+hex_from (d ∷ ds) = hex_by (d ∷ ds) (digit_of 16 d)
+
+-- behind a first 0
+abbrev pub zero_from : List ℕ → Option (ℕ × Suffix)
+zero_from [] = Some (0, Absent)
+zero_from (c ∷ ds) = if c == 120 || c == 88 then hex_from ds else number_from 8 0 (c ∷ ds)
+
+-- the number that a run of letters and digits spells
+unfoldable pub number_of : List ℕ → Option (ℕ × Suffix)
+number_of [] = None
+number_of (b ∷ ds) = if b == 48 then zero_from ds else number_from 10 (b - 48) ds

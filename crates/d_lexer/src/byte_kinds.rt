@@ -1,0 +1,116 @@
+//! Kinds of bytes, runs and comments.
+
+ghost use Rattle.std.specs.Prelude.{◌≡◌, ◌+◌, ◌≤◌, length, take_while, MatchOption};
+ghost use Rattle.d_lexer.specs.Bytes as spec;
+ghost use Rattle.d_lexer.specs.Scan as scan;
+
+pub(crate) fn is_blank(b: u8) -> bool
+    ensures { result ≡ spec.is_blank b }
+{
+    b == b' ' || (9 <= b && b <= 13)
+}
+
+pub(crate) fn is_word_start(b: u8) -> bool
+    ensures { result ≡ spec.is_word_start b }
+{
+    b.is_ascii_alphabetic() || b == b'_'
+}
+
+pub(crate) fn is_word_byte(b: u8) -> bool
+    ensures { result ≡ spec.is_word_byte b }
+{
+    b.is_ascii_alphanumeric() || b == b'_'
+}
+
+pub(crate) fn is_run_byte(b: u8) -> bool
+    ensures { result ≡ spec.is_run_byte b }
+{
+    is_word_byte(b) || b == b'.' || b == b'-' || b == b'+' || b == b':' || b == b'*' || b == b'?'
+}
+
+#[tactic(auto, using(crate::proofs::Steps::length_run, crate::proofs::Steps::run_within))]
+pub(crate) fn word_len(bytes: &[u8]) -> usize
+    ensures is { result ≡ scan.run_len spec.is_word_byte bytes.now }
+    ensures within { result ≤ length bytes.now }
+{
+    word_len_count(bytes)
+}
+
+fn word_len_count(bytes: &[u8]) -> usize
+    ensures { result ≡ length (take_while spec.is_word_byte bytes.now) }
+{
+    bytes.iter().take_while(|b| is_word_byte(**b)).count()
+}
+
+#[tactic(auto, using(crate::proofs::Steps::length_run, crate::proofs::Steps::run_within))]
+pub(crate) fn run_len(bytes: &[u8]) -> usize
+    ensures is { result ≡ scan.run_len spec.is_run_byte bytes.now }
+    ensures within { result ≤ length bytes.now }
+{
+    run_len_count(bytes)
+}
+
+fn run_len_count(bytes: &[u8]) -> usize
+    ensures { result ≡ length (take_while spec.is_run_byte bytes.now) }
+{
+    bytes.iter().take_while(|b| is_run_byte(**b)).count()
+}
+
+#[tactic(auto, using(crate::proofs::Steps::length_run, crate::proofs::Steps::run_within))]
+pub(crate) fn line_len(bytes: &[u8]) -> usize
+    ensures is { result ≡ scan.run_len spec.is_inside bytes.now }
+    ensures within { result ≤ length bytes.now }
+{
+    line_len_count(bytes)
+}
+
+fn line_len_count(bytes: &[u8]) -> usize
+    ensures { result ≡ length (take_while spec.is_inside bytes.now) }
+{
+    bytes.iter().take_while(|b| **b != b'\n').count()
+}
+
+#[tactic(auto, unfolding(crate::specs::Scan::comment_from), using(crate::proofs::Steps::longer_one))]
+pub(crate) fn comment_len(bytes: &[u8]) -> Option<usize>
+    ensures is { result ≡ scan.comment_from bytes.now }
+    ensures small { MatchOption result (0 ≤ 0) (λ n. n ≤ length bytes.now + 1) }
+{
+    let mut rest = bytes;
+    let mut n: usize = 0;
+    while let [b, after @ ..] = rest {
+        if *b == b'*' && next_is(b'/', after) {
+            return Some(n + 2);
+        }
+        n += 1;
+        rest = after;
+    }
+    None
+}
+
+pub(crate) fn next_is(c: u8, bytes: &[u8]) -> bool
+    ensures { result ≡ spec.next_is c bytes.now }
+{
+    match bytes {
+        [b, ..] => *b == c,
+        [] => false,
+    }
+}
+
+pub(crate) fn escape_of(e: u8) -> Option<u8>
+    ensures { result ≡ spec.escape_of e }
+{
+    match e {
+        b'a' => Some(7),
+        b'b' => Some(8),
+        b'f' => Some(12),
+        b'n' => Some(b'\n'),
+        b'r' => Some(b'\r'),
+        b't' => Some(b'\t'),
+        b'v' => Some(11),
+        b'\\' => Some(b'\\'),
+        b'"' => Some(b'"'),
+        b'\'' => Some(b'\''),
+        b'?' => Some(b'?'),
+        _ => None,
+    }
+}

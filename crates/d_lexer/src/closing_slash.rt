@@ -1,0 +1,52 @@
+//! The closing slash of a predicate.
+
+ghost use Rattle.std.specs.Prelude.{◌≡◌};
+ghost use Rattle.d_lexer.specs.Lexing as spec;
+
+use crate::token::{Mark, Token, TokenKind};
+
+fn is_brace(token: &Token) -> bool
+    ensures { result ≡ spec.is_brace token.now.kind }
+{
+    match token.kind {
+        TokenKind::Mark(mark) => match mark {
+            Mark::OpenBrace => true,
+            _ => false,
+        },
+        _ => false,
+    }
+}
+
+fn is_closing(token: &Token) -> bool
+    ensures { result ≡ spec.is_closing token.now.kind }
+{
+    match token.kind {
+        TokenKind::Mark(mark) => match mark {
+            Mark::ClosingSlash => true,
+            _ => false,
+        },
+        _ => false,
+    }
+}
+
+// The test says whether an opening brace comes next.
+fn settle_one(token: &mut Token, brace: bool)
+    ensures { token.new ≡ spec.settled token.old brace }
+{
+    if !brace && is_closing(token) {
+        token.kind = TokenKind::Mark(Mark::Slash);
+    }
+}
+
+/// A slash of a predicate, read as the closing one, stays that only before an opening brace.
+pub(crate) fn settle(tokens: &mut [Token])
+    ensures { tokens.new ≡ spec.settle tokens.old }
+{
+    let mut brace = false;
+    for i in (0..tokens.len()).rev() {
+        let token = &mut tokens[i];
+        let next = is_brace(token);
+        settle_one(token, brace);
+        brace = next;
+    }
+}

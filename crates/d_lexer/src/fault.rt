@@ -1,0 +1,77 @@
+//! Why a script has no tokens.
+
+ghost use Rattle.std.specs.Prelude.{◌≡◌};
+ghost use Rattle.d_lexer.specs.Faults as spec;
+ghost use Rattle.d_lexer.specs.declared.fault.Stop.TheVariants.{Memory};
+
+use std::alloc::{AllocError, AllocFailed};
+use thiserror::Error;
+
+/// Why a script has no tokens. A line is that on which the refused token, comment, option line or byte begins.
+#[derive(Clone, Copy, Debug, PartialEq, Eq, Error)]
+pub enum LexFault {
+    #[error("the script is over {limit} bytes long", limit = MOST_BYTES)]
+    TooLong,
+    #[error("line {line}: no token begins with this byte here, or a text constant holds a zero byte")]
+    BadByte { line: usize },
+    #[error("line {line}: a comment or a text constant has no end")]
+    Unclosed { line: usize },
+    #[error("line {line}: not a number, or one over 2^64-1")]
+    Constant { line: usize },
+    #[error("line {line}: an unknown escape in a text constant")]
+    Escape { line: usize },
+    #[error("line {line}: the one option line is `#pragma D option quiet`")]
+    OptionLine { line: usize },
+    #[error("out of memory")]
+    Memory,
+}
+
+/// The most bytes that a script may have.
+pub const MOST_BYTES: usize = 65536;
+
+/// What is wrong at a place, whose line is told later.
+#[derive(Clone, Copy, Debug)]
+pub enum Flaw {
+    BadByte,
+    Unclosed,
+    Constant,
+    Escape,
+    OptionLine,
+}
+
+impl Flaw {
+    pub(crate) fn on_line(self, line: usize) -> LexFault
+        ensures { result ≡ spec.on_line self line }
+    {
+        match self {
+            Flaw::BadByte => LexFault::BadByte { line },
+            Flaw::Unclosed => LexFault::Unclosed { line },
+            Flaw::Constant => LexFault::Constant { line },
+            Flaw::Escape => LexFault::Escape { line },
+            Flaw::OptionLine => LexFault::OptionLine { line },
+        }
+    }
+}
+
+/// Why a step read nothing.
+#[derive(Clone, Copy, Debug)]
+pub enum Stop {
+    Memory,
+    Flawed(Flaw),
+}
+
+impl From<AllocError> for Stop {
+    ghost from_gives = { λ _ e. e ≡ Memory };
+
+    fn from(_e: AllocError) -> Stop {
+        Stop::Memory
+    }
+}
+
+impl<T: Drop> From<AllocFailed<T>> for Stop {
+    ghost from_gives = { λ _ e. e ≡ Memory };
+
+    fn from(_e: AllocFailed<T>) -> Stop {
+        Stop::Memory
+    }
+}

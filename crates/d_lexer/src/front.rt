@@ -1,0 +1,174 @@
+//! What is at the front of the bytes.
+
+ghost use Rattle.std.specs.Prelude.{◌≡◌, ◌≤◌, ◌<◌, length, take, [], ◌∷◌, IfOk, true, false};
+ghost use Rattle.std.specs.Char.{is_ascii_digit};
+ghost use Rattle.d_lexer.specs.Places as spec;
+ghost use Rattle.d_lexer.specs.Scan as scan;
+
+use crate::byte_kinds::{
+    comment_len, is_blank, is_run_byte, is_word_start, line_len, next_is, word_len,
+};
+use crate::fault::{Flaw, Stop};
+use crate::mark_table::mark_at;
+use crate::number::number_of;
+use crate::option_line::is_option;
+use crate::place::Place;
+use crate::position::Position;
+use crate::text_constant::text;
+use crate::token::TokenKind;
+use crate::words::{aggregation_front, run_front, word_front};
+use std::alloc::Global;
+
+/// Bytes that part tokens, or a token; and how many bytes more than one it has.
+#[derive(Debug, Drop)]
+pub enum Front {
+    Gap(usize),
+    Token(TokenKind, usize),
+}
+
+fn number_front(b: u8, rest: &[u8]) -> Result<Front, Stop>
+    requires { is_ascii_digit b ≡ true }
+    ensures { scan.Gives result (scan.run_number b rest.now) }
+{
+    let n = word_len(rest);
+    match number_of(b, &rest[..n]) {
+        Some((value, suffix)) => Ok(Front::Token(TokenKind::Number { value, suffix }, n)),
+        None => Err(Stop::Flawed(Flaw::Constant)),
+    }
+}
+
+fn text_front(alloc: Global, rest: &[u8]) -> Result<Front, Stop>
+    ensures { scan.Gives result (scan.text_front (scan.text_from false rest.now)) }
+{
+    let (value, n) = text(alloc, rest)?;
+    Ok(Front::Token(TokenKind::TextConstant(value), n))
+}
+
+fn mark_front(place: Place, b: u8, rest: &[u8]) -> Result<Front, Stop>
+    ensures { scan.Gives result (scan.mark_front (scan.mark_at place b rest.now)) }
+{
+    match mark_at(place, b, rest) {
+        Some((mark, n)) => Ok(Front::Token(TokenKind::Mark(mark), n)),
+        None => Err(Stop::Flawed(Flaw::BadByte)),
+    }
+}
+
+#[tactic(auto, unfolding(crate::specs::Scan::inside_at))]
+fn inside_at(alloc: Global, place: Place, b: u8, rest: &[u8]) -> Result<Front, Stop>
+    ensures { scan.Gives result (scan.inside_at place b rest.now) }
+{
+    if is_word_start(b) {
+        word_front(alloc, b, rest)
+    } else if b.is_ascii_digit() {
+        number_front(b, rest)
+    } else if b == b'@' {
+        aggregation_front(alloc, rest)
+    } else if b == b'"' {
+        text_front(alloc, rest)
+    } else {
+        mark_front(place, b, rest)
+    }
+}
+
+#[tactic(auto, unfolding(crate::specs::Scan::head_at))]
+fn head_at(alloc: Global, b: u8, rest: &[u8]) -> Result<Front, Stop>
+    ensures { scan.Gives result (scan.head_at b rest.now) }
+{
+    if is_run_byte(b) {
+        run_front(alloc, b, rest)
+    } else {
+        mark_front(Place::Head, b, rest)
+    }
+}
+
+#[tactic(auto, unfolding(crate::specs::Scan::token_at))]
+fn token_at(alloc: Global, place: Place, b: u8, rest: &[u8]) -> Result<Front, Stop>
+    ensures { scan.Gives result (scan.token_at place b rest.now) }
+{
+    match place {
+        Place::Head => head_at(alloc, b, rest),
+        Place::Declaration => inside_at(alloc, Place::Declaration, b, rest),
+        Place::Predicate => inside_at(alloc, Place::Predicate, b, rest),
+        Place::Body => inside_at(alloc, Place::Body, b, rest),
+    }
+}
+
+fn comment_front(rest: &[u8]) -> Result<Front, Stop>
+    requires { length rest.now ≤ 65536 }
+    ensures { scan.Gives result (scan.comment_front (scan.comment_from rest.now)) }
+{
+    match comment_len(rest) {
+        Some(n) => Ok(Front::Gap(n + 1)),
+        None => Err(Stop::Flawed(Flaw::Unclosed)),
+    }
+}
+
+fn option_front(b: u8, rest: &[u8]) -> Result<Front, Stop>
+    ensures { scan.Gives result (scan.option_front b rest.now) }
+{
+    let n = line_len(rest);
+    if is_option(b, &rest[..n]) {
+        Ok(Front::Gap(n))
+    } else {
+        Err(Stop::Flawed(Flaw::OptionLine))
+    }
+}
+
+fn tail(bytes: &[u8]) -> &[u8]
+    ensures { result.now ≡ scan.tail bytes.now }
+{
+    match bytes {
+        [_, rest @ ..] => rest,
+        [] => bytes,
+    }
+}
+
+fn is_first(pos: Position, b: u8, rest: &[u8]) -> bool
+    ensures { result ≡ spec.is_first pos b rest.now }
+{
+    pos.at == 0 && b == b'#' && next_is(b'!', rest)
+}
+
+fn is_hash(place: Place, pos: Position, b: u8) -> bool
+    ensures { result ≡ spec.is_hash place pos b }
+{
+    match place {
+        Place::Head => pos.fresh && b == b'#',
+        Place::Declaration => false,
+        Place::Predicate => false,
+        Place::Body => false,
+    }
+}
+
+#[tactic(auto, unfolding(crate::specs::Scan::front_at))]
+fn front_at(alloc: Global, place: Place, pos: Position, b: u8, rest: &[u8]) -> Result<Front, Stop>
+    requires { length rest.now ≤ 65536 }
+    ensures { scan.Gives result (scan.front_at place pos b rest.now) }
+{
+    if is_blank(b) {
+        Ok(Front::Gap(0))
+    } else if b == b'/' && next_is(b'*', rest) {
+        comment_front(tail(rest))
+    } else if is_first(pos, b, rest) {
+        Ok(Front::Gap(line_len(rest)))
+    } else if is_hash(place, pos, b) {
+        option_front(b, rest)
+    } else {
+        token_at(alloc, place, b, rest)
+    }
+}
+
+/// What is at the front, which is no longer than the bytes.
+pub(crate) fn look(
+    alloc: Global,
+    place: Place,
+    pos: Position,
+    b: u8,
+    rest: &[u8],
+) -> Result<Front, Stop>
+    requires { length rest.now ≤ 65536 }
+    ensures is { scan.Gives result (scan.front_at place pos b rest.now) }
+    ensures fits { IfOk result (λ f. scan.Fits f (length rest.now)) }
+{
+    front_at(alloc, place, pos, b, rest)
+}

@@ -1,0 +1,99 @@
+//! Option lines.
+
+ghost use Rattle.std.specs.Prelude.{◌≡◌, ◌≤◌, length, [], ◌∷◌};
+ghost use Rattle.d_lexer.specs.OptionLine as spec;
+ghost use Rattle.d_lexer.specs.OptionLine.{Finds};
+
+fn is_space(b: u8) -> bool
+    ensures { result ≡ spec.is_space b }
+{
+    b == b' ' || b == b'\t'
+}
+
+#[tactic(auto, unfolding(crate::specs::OptionLine::behind))]
+fn behind<'a>(word: &[u8], bytes: &'a [u8]) -> Option<&'a [u8]>
+    ensures { Finds (λ r. r.now) result (spec.behind word.now bytes.now) }
+{
+    let mut left = word;
+    let mut rest = bytes;
+    while let [w, more @ ..] = left {
+        let [b, after @ ..] = rest else {
+            return None;
+        };
+        if *b != *w {
+            return None;
+        }
+        left = more;
+        rest = after;
+    }
+    Some(rest)
+}
+
+#[tactic(auto, unfolding(crate::specs::OptionLine::skip_spaces))]
+fn skip_spaces(bytes: &[u8]) -> &[u8]
+    ensures { result.now ≡ spec.skip_spaces bytes.now }
+{
+    let mut rest = bytes;
+    while let [b, after @ ..] = rest {
+        if !is_space(*b) {
+            return rest;
+        }
+        rest = after;
+    }
+    rest
+}
+
+#[tactic(auto, unfolding(crate::specs::OptionLine::spaces))]
+fn spaces(bytes: &[u8]) -> Option<&[u8]>
+    ensures { Finds (λ r. r.now) result (spec.spaces bytes.now) }
+{
+    match bytes {
+        [b, after @ ..] => {
+            if is_space(*b) {
+                Some(skip_spaces(after))
+            } else {
+                None
+            }
+        }
+        [] => None,
+    }
+}
+
+#[tactic(auto, unfolding(crate::specs::OptionLine::is_trail))]
+fn is_trail(bytes: &[u8]) -> bool
+    ensures { result ≡ spec.is_trail bytes.now }
+{
+    let mut rest = bytes;
+    while let [b, after @ ..] = rest {
+        if !is_space(*b) && *b != b'\r' {
+            return false;
+        }
+        rest = after;
+    }
+    true
+}
+
+fn words(b: u8, bytes: &[u8]) -> Option<&[u8]>
+    ensures { Finds (λ r. r.now) result (spec.words b bytes.now) }
+{
+    if b != b'#' {
+        return None;
+    }
+    let rest = behind(b"pragma", bytes)?;
+    let rest = spaces(rest)?;
+    let rest = behind(b"D", rest)?;
+    let rest = spaces(rest)?;
+    let rest = behind(b"option", rest)?;
+    let rest = spaces(rest)?;
+    behind(b"quiet", rest)
+}
+
+#[tactic(auto, unfolding(crate::specs::OptionLine::is_option))]
+pub(crate) fn is_option(b: u8, bytes: &[u8]) -> bool
+    ensures { result ≡ spec.is_option (b ∷ bytes.now) }
+{
+    match words(b, bytes) {
+        Some(rest) => is_trail(rest),
+        None => false,
+    }
+}

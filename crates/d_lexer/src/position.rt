@@ -1,0 +1,54 @@
+//! Where in the bytes.
+
+ghost use Rattle.std.specs.Prelude.{◌≡◌, ◌+◌, ◌<◌, ◌≤◌, length};
+ghost use Rattle.d_lexer.specs.Places as spec;
+
+/// How many bytes came before, the line, and whether the line has held only spaces and tabs so far.
+#[derive(Clone, Copy, Debug)]
+pub struct Position {
+    pub at: usize,
+    pub line: usize,
+    pub fresh: bool,
+}
+
+impl Position {
+    pub(crate) fn start() -> Position
+        ensures { result ≡ spec.start }
+    {
+        Position {
+            at: 0,
+            line: 1,
+            fresh: true,
+        }
+    }
+
+    pub(crate) fn pass(self, b: u8) -> Position
+        requires at { self.at < 65536 }
+        requires line { self.line ≤ 65536 }
+        ensures is { result ≡ spec.passed self b }
+        ensures at { result.at ≡ self.at + 1 }
+        ensures line { result.line ≤ self.line + 1 }
+    {
+        Position {
+            at: self.at + 1,
+            line: if b == b'\n' { self.line + 1 } else { self.line },
+            fresh: b == b'\n' || (self.fresh && (b == b' ' || b == b'\t')),
+        }
+    }
+
+    pub(crate) fn pass_all(self, bytes: &[u8]) -> Position
+        requires at { self.at + length bytes.now ≤ 65536 }
+        requires line { self.line ≤ self.at + 1 }
+        ensures is { result ≡ spec.moved self bytes.now }
+        ensures at { result.at ≡ self.at + length bytes.now }
+        ensures line { result.line ≤ result.at + 1 }
+    {
+        let mut here = self;
+        let mut rest = bytes;
+        while let [b, after @ ..] = rest {
+            here = here.pass(*b);
+            rest = after;
+        }
+        here
+    }
+}

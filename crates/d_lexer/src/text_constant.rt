@@ -1,0 +1,46 @@
+//! Text constants.
+
+ghost use Rattle.std.specs.Prelude.{◌≡◌, ◌≤◌, length, false};
+ghost use Rattle.d_lexer.specs.Scan as scan;
+
+use crate::byte_kinds::escape_of;
+use crate::byte_string::ByteString;
+use crate::fault::{Flaw, Stop};
+use std::alloc::Global;
+
+/// What a text constant holds, and how many bytes it has behind its first quote.
+#[tactic(auto, unfolding(crate::specs::Scan::text_from), using(crate::proofs::Steps::behind_none, crate::proofs::Steps::behind_plain, crate::proofs::Steps::behind_escape))]
+pub(crate) fn text(alloc: Global, bytes: &[u8]) -> Result<(ByteString, usize), Stop>
+    ensures { scan.Gives result (scan.text_from false bytes.now) }
+{
+    let mut value = Vec::new(alloc);
+    let mut rest = bytes;
+    let mut n: usize = 0;
+    while let [b, after @ ..] = rest {
+        if *b == b'"' {
+            return Ok((ByteString::from_vec(value), n + 1));
+        }
+        if *b == b'\n' {
+            return Err(Stop::Flawed(Flaw::Unclosed));
+        }
+        if *b == 0 {
+            return Err(Stop::Flawed(Flaw::BadByte));
+        }
+        if *b == b'\\' {
+            let [e, behind @ ..] = after else {
+                return Err(Stop::Flawed(Flaw::Unclosed));
+            };
+            let Some(x) = escape_of(*e) else {
+                return Err(Stop::Flawed(Flaw::Escape));
+            };
+            value.push(x)?;
+            n += 2;
+            rest = behind;
+        } else {
+            value.push(*b)?;
+            n += 1;
+            rest = after;
+        }
+    }
+    Err(Stop::Flawed(Flaw::Unclosed))
+}
