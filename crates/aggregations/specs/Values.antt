@@ -1,0 +1,18 @@
+-- The value of an aggregation, from the arguments in their order.
+use Rattle.std.specs.Prelude.{◌≡◌, ℕ, List, length, ℤ, pos, Option, Some}
+use Rattle.aggregations.specs.declared.function.AggFn.{AggFn}
+use Rattle.aggregations.specs.declared.function.AggFn.TheVariants.{Count}
+use Rattle.aggregations.specs.declared.partial.Partial.{Partial}
+use Rattle.aggregations.specs.declared.partial.Partial.TheVariants.{Counted}
+
+-- p is what the function makes of the arguments
+abbrev pub IsValue : AggFn → Partial → List ℤ → Type 0
+IsValue Count (Counted n) args = n ≡ length args
+
+-- the counts that p holds
+abbrev pub count_in : Partial → ℕ
+count_in (Counted n) = n
+
+-- the number that p shows
+abbrev pub single_of : Partial → Option ℤ
+single_of (Counted n) = Some (pos n)

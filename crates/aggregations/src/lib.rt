@@ -1,0 +1,11 @@
+//! Aggregations: for each of them and each key, a value made from the arguments that came.
+#![tactic(auto)]
+
+mod entries;
+mod function;
+mod partial;
+mod table;
+
+pub use function::AggFn;
+pub use partial::Partial;
+pub use table::AggTable;
