@@ -1,0 +1,85 @@
+//! A reader or a writer that moves one byte a call and fails at a chosen call: for tests of what
+//! stands on streams.
+ghost use Rattle.std.specs.Prelude.{◌≡◌, ◌+◌, ◌≤◌, IfOk, IsErr, OnOk};
+ghost use Rattle.std.specs.Io.{ReadsAtMost, WritesAtMost};
+ghost use Rattle.std.specs.Io.KnownBytes.{ReadConsumes, WriteAppends};
+ghost use Rattle.report.specs.Faulty.{faulty_inner, faulty_good_calls};
+
+use std::io;
+use std::io::{ErrorKind, Read, Write};
+
+/// A std reader or writer of which a call moves one byte at most, and each call after the first
+/// `good_calls` is an error that moves none.
+#[derive(Drop)]
+pub struct Faulty<T> {
+    inner: T,
+    good_calls: u64,
+}
+
+impl<T> Faulty<T> {
+    /// Limits the reader or writer to this many good calls.
+    pub fn new(inner: T, good_calls: u64) -> Faulty<T>
+        ensures inner { faulty_inner result ≡ inner }
+        ensures good_calls { faulty_good_calls result ≡ good_calls }
+    {
+        Faulty { inner, good_calls }
+    }
+
+    /// The reader or writer itself.
+    pub fn into_inner(self) -> T
+        ensures { result ≡ faulty_inner self }
+    {
+        self.inner
+    }
+
+    // Counts a call, which is an error where no good one is left.
+    fn begin(&mut self) -> io::Result<()>
+        ensures counted { OnOk result (faulty_good_calls self.new + 1 ≡ faulty_good_calls self.old) }
+        ensures fails { faulty_good_calls self.old ≡ 0 → IsErr result }
+        ensures inner { faulty_inner self.new ≡ faulty_inner self.old }
+    {
+        if self.good_calls == 0 {
+            return Err(io::Error::from(ErrorKind::Other));
+        }
+        self.good_calls -= 1;
+        Ok(())
+    }
+}
+
+impl<R: Read> Read for Faulty<R> {
+    ghost remaining = { λ f. R.remaining (faulty_inner f) };
+
+    fn read(&mut self, buf: &mut [u8]) -> io::Result<usize>
+        ensures bound { ReadsAtMost result buf.new }
+        ensures bytes { ReadConsumes (R.remaining (faulty_inner self.old))
+            (R.remaining (faulty_inner self.new)) result buf.new }
+        ensures one { IfOk result (λ n. n ≤ 1) }
+        ensures counted { OnOk result (faulty_good_calls self.new + 1 ≡ faulty_good_calls self.old) }
+        ensures fails { faulty_good_calls self.old ≡ 0 → IsErr result }
+    {
+        self.begin()?;
+        let room = buf.len().min(1);
+        self.inner.read(&mut buf[..room])
+    }
+}
+
+impl<W: Write> Write for Faulty<W> {
+    ghost contents = { λ f. W.contents (faulty_inner f) };
+
+    fn write(&mut self, buf: &[u8]) -> io::Result<usize>
+        ensures bound { WritesAtMost result buf.now }
+        ensures bytes { WriteAppends (W.contents (faulty_inner self.old))
+            (W.contents (faulty_inner self.new)) result buf.now }
+        ensures one { IfOk result (λ n. n ≤ 1) }
+        ensures counted { OnOk result (faulty_good_calls self.new + 1 ≡ faulty_good_calls self.old) }
+        ensures fails { faulty_good_calls self.old ≡ 0 → IsErr result }
+    {
+        self.begin()?;
+        let room = buf.len().min(1);
+        self.inner.write(&buf[..room])
+    }
+
+    fn flush(&mut self) -> io::Result<()> {
+        self.inner.flush()
+    }
+}

@@ -1,0 +1,90 @@
+//! A std reader or writer as a stream that counts its calls and notes a failure.
+ghost use Rattle.std.specs.Prelude.{◌≡◌, ◌+◌, ◌<◌, IsFalse, true, false};
+ghost use Rattle.report.specs.Watched.{watched_inner, watched_calls, watched_has_failed, watched_has_ended};
+
+use crate::stream::{Failed, Feed, Sink};
+use std::io::{Read, Write};
+
+/// A std writer as a `Sink`, or a std reader as a `Feed`. Every error of it is a failure, an
+/// interrupted call too. So is a write that takes nothing of a piece that isn't empty, and a call
+/// after `u64::MAX` good ones.
+#[derive(Drop)]
+pub struct Watched<T> {
+    inner: T,
+    good_calls: u64,
+    has_failed: bool,
+    has_ended: bool,
+}
+
+impl<T> Watched<T> {
+    /// Watches a reader or a writer from here on.
+    pub fn new(inner: T) -> Watched<T>
+        ensures inner { watched_inner result ≡ inner }
+        ensures calls { watched_calls result ≡ 0 }
+        ensures failed { IsFalse (watched_has_failed result) }
+        ensures ended { IsFalse (watched_has_ended result) }
+    {
+        Watched {
+            inner,
+            good_calls: 0,
+            has_failed: false,
+            has_ended: false,
+        }
+    }
+
+    /// The reader or writer itself.
+    pub fn into_inner(self) -> T
+        ensures { result ≡ watched_inner self }
+    {
+        self.inner
+    }
+
+    // Notes that a call failed.
+    fn fail(&mut self) -> Failed
+        ensures { self.new ≡ record self.old { has_failed = true; has_ended = false } }
+    {
+        self.has_failed = true;
+        self.has_ended = false;
+        Failed
+    }
+}
+
+impl<W: Write> Sink for Watched<W> {
+    ghost contents = { λ w. W.contents (watched_inner w) };
+
+    ghost calls = { watched_calls };
+
+    ghost has_failed = { watched_has_failed };
+
+    fn put(&mut self, piece: &[u8]) -> Result<usize, Failed> {
+        if self.good_calls < u64::MAX
+            && let Ok(taken) = self.inner.write(piece)
+            && (taken > 0 || piece.is_empty())
+        {
+            self.good_calls += 1;
+            return Ok(taken);
+        }
+        Err(self.fail())
+    }
+}
+
+impl<R: Read> Feed for Watched<R> {
+    ghost remaining = { λ r. R.remaining (watched_inner r) };
+
+    ghost calls = { watched_calls };
+
+    ghost has_failed = { watched_has_failed };
+
+    ghost has_ended = { watched_has_ended };
+
+    fn get(&mut self, buffer: &mut [u8]) -> Result<usize, Failed> {
+        if self.good_calls < u64::MAX
+            && let Ok(given) = self.inner.read(buffer)
+        {
+            self.good_calls += 1;
+            self.has_ended = given == 0 && !buffer.is_empty();
+            return Ok(given);
+        }
+        Err(self.fail())
+    }
+}

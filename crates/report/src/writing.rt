@@ -1,0 +1,32 @@
+//! Writing all bytes to a sink, in as many calls as it asks for.
+ghost use Rattle.std.specs.Prelude.{◌↔◌, ◌+◌, ◌≤◌, length, OnOk, OnErr, IsErr, IsTrue, IsFalse};
+ghost use Rattle.std.specs.Io.KnownBytes.{Appends};
+ghost use Rattle.report.specs.Stream.{AppendsBeginning};
+
+use crate::stream::Sink;
+use thiserror::Error;
+
+/// The sink failed before it had all bytes.
+#[derive(Clone, Copy, Debug, PartialEq, Eq, Error)]
+#[error("write failed")]
+pub struct WriteFault;
+
+/// Writes the bytes, each once and in order, and takes no memory. A fault comes exactly where the
+/// sink fails; what went out is then a beginning of the bytes, and not all of them.
+pub fn emit<S: Sink>(sink: &mut S, bytes: &[u8]) -> Result<(), WriteFault>
+    requires { IsFalse (S.has_failed sink.old) }
+    ensures fault { IsErr result ↔ IsTrue (S.has_failed sink.new) }
+    ensures whole { OnOk result (Appends (S.contents sink.old) (S.contents sink.new) bytes.now) }
+    ensures beginning { OnErr result
+        (AppendsBeginning (S.contents sink.old) (S.contents sink.new) bytes.now) }
+    ensures calls { S.calls sink.new ≤ S.calls sink.old + length bytes.now }
+{
+    let mut rest = bytes;
+    while !rest.is_empty() {
+        let Ok(taken) = sink.put(rest) else {
+            return Err(WriteFault);
+        };
+        rest = &rest[taken..];
+    }
+    Ok(())
+}
