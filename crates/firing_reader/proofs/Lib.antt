@@ -2,5 +2,8 @@ pub mod Numerals
 pub mod FieldTexts
 pub mod Left
 pub mod Rows
+pub mod Fields
+pub mod RowFaults
 pub mod Kept
+pub mod FirstFault
 pub mod Threads

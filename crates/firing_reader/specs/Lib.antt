@@ -2,4 +2,6 @@ pub mod Gives
 pub mod Column
 pub mod Row
 pub mod Left
+pub mod Firings
 pub mod Trace
+pub mod Faults

@@ -1,5 +1,5 @@
 -- What bytes read as: the firings of a trace, or its first fault.
-use Rattle.std.specs.Prelude.{◌≤◌, ℕ, ◌+◌, ◌-◌, ◌==◌, ◌&&◌, Bool, nat_lt, List, [], ◌∷◌, length, slice_get, codes, map, ℤ, Result, Ok, Err, if◌then◌else◌}
+use Rattle.std.specs.Prelude.{All, ◌≤◌, ℕ, ◌+◌, ◌-◌, ◌==◌, ◌&&◌, Bool, nat_lt, List, [], ◌∷◌, length, slice_get, codes, map, Result, Ok, Err, if◌then◌else◌}
 use Rattle.std.specs.List.Sorted.{IsStrictlyIncreasing}
 use Rattle.std.specs.Option.{option_map_or}
 use Rattle.std.specs.Str.{bytes_eq}
@@ -8,13 +8,8 @@ use Rattle.firing_reader.specs.declared.fault.TraceFault.{TraceFault}
 use Rattle.firing_reader.specs.declared.fault.TraceFault.TheVariants.{Header, Order, TooMany}
 use Rattle.firing_reader.specs.declared.firing.Firing.{Firing}
 use Rattle.firing_reader.specs.Column.{field}
+use Rattle.firing_reader.specs.Firings.{IsFiring, number_of}
 use Rattle.firing_reader.specs.Row.{◌>>=◌, row_of}
-
-abbrev pub number_of : Firing → ℕ
-number_of f = f.number
-
-abbrev pub thread_of : Firing → ℤ
-thread_of f = f.thread
 
 -- the number of the last of these firings, or 0 before the first
 abbrev pub last_number : List Firing → ℕ
@@ -65,3 +60,4 @@ trace_of bytes = trace_in (records default_config (strip_bom bytes))
 pub record IsTrace (fs : List Firing) : Type 0 where
   pub rises : IsStrictlyIncreasing (map number_of fs)
   pub few : length fs ≤ 1_000_000
+  pub firings : All IsFiring fs

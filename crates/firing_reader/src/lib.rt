@@ -5,6 +5,7 @@ mod columns;
 mod fault;
 mod firing;
 mod header;
+pub mod laws;
 mod reading;
 mod records;
 mod row;

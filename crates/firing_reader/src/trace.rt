@@ -4,8 +4,9 @@ ghost use Rattle.std.specs.Prelude.{◌≡◌, ◌↔◌, ℤ, true, IfOk, OnOk,
 ghost use Rattle.std.specs.Ordering.{int_cmp};
 ghost use Rattle.std.specs.List.Sorted.{IsStrictlySortedBy};
 ghost use Rattle.std.specs.BTreeSet.{Updates};
+ghost use Rattle.firing_reader.specs.Firings.{thread_of};
 ghost use Rattle.firing_reader.specs.Gives.{Gives};
-ghost use Rattle.firing_reader.specs.Trace.{IsTrace, thread_of, trace_of};
+ghost use Rattle.firing_reader.specs.Trace.{IsTrace, trace_of};
 
 use crate::fault::TraceFault;
 use crate::firing::Firing;
