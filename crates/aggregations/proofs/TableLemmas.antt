@@ -16,8 +16,8 @@ use Rattle.d_values.specs.Keys.{same_key}
 use Rattle.aggregations.specs.declared.function.AggFn.{AggFn}
 use Rattle.aggregations.specs.declared.partial.Partial.{Partial}
 use Rattle.aggregations.specs.Values.{count_in}
-use Rattle.aggregations.specs.Table.{Contribution, Aggregation, contribution, arguments_of, is_for, functions_of, count_held, AreEntries, StandsFor}
-use Rattle.aggregations.specs.Entries.{TakesArgument, count_of}
+use Rattle.aggregations.specs.Table.{Contribution, Aggregation, contribution, arguments_of, is_for, functions_of, count_of, count_held, AreEntries, StandsFor}
+use Rattle.aggregations.specs.Entries.{TakesArgument}
 use Rattle.aggregations.proofs.EntryLemmas.{arguments_of-push, entries_more, AreEntries-same}
 
 -- a table with one aggregation replaced by what it is after one more argument

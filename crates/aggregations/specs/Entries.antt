@@ -1,26 +1,18 @@
 -- One aggregation, by look-ups.
-use Rattle.std.specs.Prelude.{◌≡◌, ◌≢◌, ℕ, false, List, [], ◌∷◌, ◌++◌, ℤ, Option, None, Some, sum_by}
+use Rattle.std.specs.Prelude.{◌≡◌, ◌≢◌, false, List, [], ◌∷◌, ◌++◌, ℤ, Option, None, Some}
 use Rattle.std.specs.List.{IsDistinct}
-use Rattle.std.specs.Map.{lookup, keys_of, values_of}
+use Rattle.std.specs.Map.{keys_of}
 use Rattle.d_values.specs.declared.key.KeyPart.{KeyPart}
 use Rattle.d_values.specs.Keys.{same_key}
 use Rattle.aggregations.specs.declared.function.AggFn.{AggFn}
 use Rattle.aggregations.specs.declared.partial.Partial.{Partial}
-use Rattle.aggregations.specs.Values.{IsValue, count_in}
-use Rattle.aggregations.specs.Table.{Aggregation}
-
--- what an aggregation has at the key
-abbrev pub entry_at : Aggregation → List KeyPart → Option Partial
-entry_at a key = lookup (same_key key) a.entries
+use Rattle.aggregations.specs.Values.{IsValue}
+use Rattle.aggregations.specs.Table.{Aggregation, entry_at}
 
 -- an entry is there exactly where there are arguments, and its value is theirs
 abbrev pub IsEntry : AggFn → Option Partial → List ℤ → Type 0
 IsEntry function None args = args ≡ []
 IsEntry function (Some value) args = (args ≢ []) × IsValue function value args
-
--- the sum of the counts in the entries
-abbrev pub count_of : Aggregation → ℕ
-count_of a = sum_by count_in (values_of a.entries)
 
 -- the argument went to the key's entry, and all else stayed
 pub record TakesArgument (old new : Aggregation) (key : List KeyPart) (arg : ℤ) : Type 0 where

@@ -1,6 +1,6 @@
 -- What a table of aggregations stands for: a list of contributions.
-use Rattle.std.specs.Prelude.{◌≡◌, ◌≢◌, ℕ, Bool, ◌==◌, ◌&&◌, List, [], ℤ, Some, AllPairs, Contains, filter, map, slice_get, sum_by}
-use Rattle.std.specs.Map.{keys_of, values_of}
+use Rattle.std.specs.Prelude.{◌≡◌, ◌≢◌, ℕ, Bool, ◌==◌, ◌&&◌, List, [], ℤ, Option, Some, AllPairs, Contains, filter, map, slice_get, sum_by}
+use Rattle.std.specs.Map.{keys_of, values_of, lookup}
 use Rattle.d_values.specs.declared.key.KeyPart.{KeyPart}
 use Rattle.d_values.specs.Keys.{same_key}
 use Rattle.aggregations.specs.declared.function.AggFn.{AggFn}
@@ -13,6 +13,7 @@ pub record Contribution : Type 0 where
   pub key : List KeyPart
   pub arg : ℤ
 
+-- a contribution by its parts
 abbrev pub contribution : ℕ → List KeyPart → ℤ → Contribution
 contribution agg key arg = record { agg = agg; key = key; arg = arg }
 
@@ -21,12 +22,21 @@ pub record Aggregation : Type 0 where
   pub function : AggFn
   pub entries : List (List KeyPart × Partial)
 
+-- what an aggregation has at the key
+abbrev pub entry_at : Aggregation → List KeyPart → Option Partial
+entry_at a key = lookup (same_key key) a.entries
+
+-- the functions of a table's aggregations
 abbrev pub functions_of : List Aggregation → List AggFn
 functions_of table = map (λ a. a.function) table
 
--- what the table holds: the sum of the counts in its entries
+-- the sum of the counts in the entries of an aggregation
+abbrev pub count_of : Aggregation → ℕ
+count_of a = sum_by count_in (values_of a.entries)
+
+-- what a table holds: the sum of the counts in all its entries
 abbrev pub count_held : List Aggregation → ℕ
-count_held table = sum_by (λ a. sum_by count_in (values_of a.entries)) table
+count_held table = sum_by count_of table
 
 -- the contribution is for this key of this aggregation
 abbrev pub is_for : ℕ → List KeyPart → Contribution → Bool

@@ -5,7 +5,8 @@ ghost use Rattle.std.specs.List.{IsDistinct};
 ghost use Rattle.std.specs.Map.{keys_of};
 ghost use Rattle.std.specs.Map.Iter.{deref_pair};
 ghost use Rattle.d_values.specs.Keys.{same_key};
-ghost use Rattle.aggregations.specs.Entries.{count_of, entry_at, TakesArgument};
+ghost use Rattle.aggregations.specs.Table.{count_of, entry_at};
+ghost use Rattle.aggregations.specs.Entries.{TakesArgument};
 
 use crate::function::AggFn;
 use crate::partial::Partial;
@@ -52,6 +53,7 @@ impl Entries {
         ensures ok { OnOk result (TakesArgument self.old self.new key.now arg) }
         ensures count { count_of self.new ≤ count_of self.old + 1 }
         ensures err { OnErr result (self.new ≡ self.old) }
+        ensures refused { OnErr result (entry_at self.old key.now ≡ None) }
     {
         if !self.note(key, arg) {
             let partial = Partial::of_one(self.function, arg);

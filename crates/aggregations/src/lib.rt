@@ -9,3 +9,6 @@ mod table;
 pub use function::AggFn;
 pub use partial::Partial;
 pub use table::AggTable;
+
+#[cfg(test)]
+mod tests;

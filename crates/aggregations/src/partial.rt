@@ -18,7 +18,6 @@ impl Partial {
         ensures value { IsValue function result (arg ∷ []) }
         ensures count { count_in result ≤ 1 }
     {
-        let _ = arg;
         match function {
             AggFn::Count => Partial::Counted(1),
         }
@@ -30,7 +29,6 @@ impl Partial {
         ensures value { (args : List ℤ) → IsValue function self.old args → IsValue function self.new (args ++ arg ∷ []) }
         ensures count { count_in self.new ≤ count_in self.old + 1 }
     {
-        let _ = (function, arg);
         match self {
             Partial::Counted(n) => *n += 1,
         }

@@ -1,10 +1,10 @@
 //! Tables of aggregations.
 
-ghost use Rattle.std.specs.Prelude.{◌≡◌, ◌+◌, ◌<◌, ◌≤◌, ◌^◌, ◌∷◌, ◌++◌, [], List, Some, All, IfOk, OnOk, OnErr, length, map, slice_get};
+ghost use Rattle.std.specs.Prelude.{◌≡◌, ◌+◌, ◌<◌, ◌≤◌, ◌^◌, ◌∷◌, ◌++◌, [], List, Some, None, All, IfOk, OnOk, OnErr, length, map, slice_get};
 ghost use Rattle.std.specs.List.Sorted.{IsPermutation};
 ghost use Rattle.std.specs.Map.Iter.{deref_pair};
 ghost use Rattle.aggregations.specs.Values.{count_in};
-ghost use Rattle.aggregations.specs.Table.{Contribution, Aggregation, functions_of, count_held, contribution, AreEntries, StandsFor};
+ghost use Rattle.aggregations.specs.Table.{Contribution, Aggregation, functions_of, count_held, contribution, entry_at, AreEntries, StandsFor};
 
 use crate::entries::Entries;
 use crate::function::AggFn;
@@ -46,14 +46,14 @@ impl AggTable {
 
     /// How many aggregations there are.
     pub fn len(&self) -> usize
-        ensures { result ≡ length self.now }
+        ensures { result ≡ length (functions_of self.now) }
     {
         self.aggregations.len()
     }
 
     /// The function of an aggregation.
     pub fn function(&self, agg: usize) -> AggFn
-        requires { agg < length self.now }
+        requires { agg < length (functions_of self.now) }
         ensures { slice_get (functions_of self.now) agg ≡ Some result }
     {
         self.aggregations[agg].function()
@@ -61,21 +61,28 @@ impl AggTable {
 
     /// Takes one argument for a key of an aggregation. The key is cloned only where it has no entry yet.
     pub fn add(&mut self, agg: usize, key: &Key, arg: i64) -> Result<(), AllocError>
-        requires agg { agg < length self.old }
+        requires agg { agg < length (functions_of self.old) }
         requires room { count_held self.old < 2 ^ 52 }
         ensures functions { functions_of self.new ≡ functions_of self.old }
-        ensures ok { OnOk result ((contributions : List Contribution) → StandsFor self.old contributions → StandsFor self.new (contributions ++ contribution agg key.now arg ∷ [])) }
+        ensures ok { OnOk result ((contributions : List Contribution) → StandsFor self.old contributions
+            → StandsFor self.new (contributions ++ contribution agg key.now arg ∷ [])) }
         ensures held { count_held self.new ≤ count_held self.old + 1 }
         ensures err { OnErr result (self.new ≡ self.old) }
+
+        // Memory is refused only to a key that has no entry yet.
+        ensures refused { OnErr result ((a : Aggregation) → slice_get self.old agg ≡ Some a → entry_at a key.now ≡ None) }
     {
         self.aggregations[agg].add(key, arg)
     }
 
     /// The entries of an aggregation, each once, in no promised order.
     pub fn entries(&self, alloc: Global, agg: usize) -> Result<Vec<(&Key, &Partial)>, AllocError>
-        requires { agg < length self.now }
-        ensures exact { IfOk result (λ es. (a : Aggregation) → slice_get self.now agg ≡ Some a → IsPermutation a.entries (map deref_pair es.items)) }
-        ensures stands { IfOk result (λ es. (contributions : List Contribution) (function : AggFn) → slice_get (functions_of self.now) agg ≡ Some function → StandsFor self.now contributions → AreEntries function agg contributions (map deref_pair es.items)) }
+        requires { agg < length (functions_of self.now) }
+        ensures exact { IfOk result (λ es. (a : Aggregation) → slice_get self.now agg ≡ Some a
+            → IsPermutation a.entries (map deref_pair es.items)) }
+        ensures stands { IfOk result (λ es. (contributions : List Contribution) (function : AggFn)
+            → StandsFor self.now contributions → slice_get (functions_of self.now) agg ≡ Some function
+            → AreEntries function agg contributions (map deref_pair es.items)) }
         ensures counts { IfOk result (λ es. All (λ e. count_in e.1.now ≤ 2 ^ 52) es.items) }
     {
         self.aggregations[agg].list(alloc)

@@ -8,3 +8,6 @@ mod value;
 pub use key::{Key, KeyPart};
 pub use text::Text;
 pub use value::{Kind, Value};
+
+#[cfg(test)]
+mod tests;

@@ -1,4 +1,5 @@
-use Rattle.std.proofs.Common.{◌<◌, length, rules, ap, ◌∙◌, subst, sym}
+use Rattle.std.proofs.Common.{◌<◌, length, ap, ◌∙◌, subst, sym}
+use Rattle.std.proofs.lemmas.List.{length-map}
 use Rattle.std.proofs.Math.Seq.{map-set_same}
 use Rattle.std.proofs.lemmas.Int.{to_z-of_z}
 use Rattle.std.proofs.lemmas.Result.{on_ok_weaker}
@@ -16,7 +17,7 @@ returns-clause-functions c =
 pub returns-clause-ok : goal.returns-clause-ok
 returns-clause-ok c =
     let items = c.self.inside.aggregations.items in
-    let within : c.args.agg < length items = search rules in
+    let within : c.args.agg < length items = subst (λ n. c.args.agg < n) (length-map c.args.self.now (λ a. a.function) ∙ ap length (sym c.self.view_is)) c.requires.agg in
     let arg = c.ranges.arg in
     let takes = simp to_z-of_z at c.add.ensures.ok in
     on_ok_weaker c.add.result (λ t contributions stands.
