@@ -17,16 +17,17 @@ use Rattle.d_lexer.specs.declared.front.Front.TheVariants.{Gap}
 use Rattle.d_lexer.specs.declared.fault.Flaw.{Flaw}
 use Rattle.d_lexer.specs.declared.fault.Flaw.TheVariants as f
 use Rattle.d_lexer.specs.declared.fault.LexFault.{LexFault}
-use Rattle.d_lexer.specs.Bytes.{next_is, is_blank, is_word_start, is_word_byte, is_run_byte, is_inside, is_plain, begins_comment, escape_of, is_declaring}
-use Rattle.d_lexer.specs.Numbers.{number_of}
+use Rattle.d_lexer.specs.Bytes.{is_blank, is_word_start, is_word_byte, is_run_byte, is_inside, is_plain, begins_comment, escape_of, is_declaring}
+use Rattle.d_lexer.specs.Numbers.{IsNoNumber, number_of}
 use Rattle.d_lexer.specs.Marks.{mark_of}
 use Rattle.d_lexer.specs.Places.{moved, passed, is_head, is_first, is_hash, after}
 use Rattle.d_lexer.specs.Faults.{on_line}
 use Rattle.d_lexer.specs.OptionLine.{is_option}
-use Rattle.d_lexer.specs.Tokens
-use Rattle.d_lexer.specs.Tokens.{StopsAt, Fills, HasNoEnd, IsPiece, blank, comment, first_line, Past, here, past, IsRunOf, SpellsText, SpellsAgg, IsMark, SpellsInside, SpellsHead, Spells, begins, IsStray, StopsText, BreaksText, IsFault, stray, open_comment, text, number, option_line, End, Clean, Bad, EndsAs, Lexes}
+use Rattle.d_lexer.specs.Tokens.{StopsAt, Fills, HasNoEnd, IsPiece, blank, comment, first_line, Past, here, past, IsRunOf, SpellsText, SpellsAgg, IsMark, SpellsInside, SpellsHead, Spells, begins, StopsText, IsFault, stray, open_comment, text, number, option_line, other_option, End, Clean, Bad, EndsAs, Lexes}
 use Rattle.d_lexer.specs.Scan.{put, skip_one, text_from, comment_from, mark_at, mark_front, number_front, head_kind, aggregation_front, text_front, inside_at, head_at, token_at, front_at, Scanned, with_first, scan}
 use Rattle.d_lexer.proofs.Base.{run_fills, run_is, scan_skip}
+use Rattle.d_lexer.proofs.Numbers.{number_reads, none_reads}
+use Rattle.d_lexer.proofs.OptionLines.{option_reads, no_option_reads}
 use Rattle.d_lexer.proofs.Marks.{MarkIs, mark_sound, mark_complete, mark_free, is_free}
 
 -- the bytes begin with this one, and this is read there
@@ -73,7 +74,7 @@ piece_reads : (p : Place) (pos : Position) (own rest : List ℕ) → IsPiece p p
 piece_reads p pos own rest (blank b is e) = record { first = b; others = []; is = is; read = front_blank p pos b rest e }
 piece_reads p pos own rest (comment body is h) = record { first = 47; others = 42 ∷ (body ++ 42 ∷ (47 ∷ [])); is = is; read = front_comment p pos body rest h }
 piece_reads p pos own rest (first_line w is e h) = record { first = 35; others = w; is = is; read = front_first p pos w rest e h }
-piece_reads p pos own rest (Tokens.IsPiece.option_line w is e1 e2 e3 h) = record { first = 35; others = w; is = is; read = front_option p pos w rest true e1 e2 (rw (← is) e3) h }
+piece_reads p pos own rest (option_line w is e1 e2 e3 h) = record { first = 35; others = w; is = is; read = front_option p pos w rest true e1 e2 (option_reads (35 ∷ w) (rw (← is) e3)) h }
 
 -- ---- tokens
 
@@ -273,9 +274,13 @@ module _ (p : Place) (pos : Position) (i : is_head p ≡ false) where
       let m = word_bytes b h.0 in
       reads p pos b z rest (b ∷ z) (kind.Word w) refl (front_inside p pos b (z ++ rest) i m.0 m.1 m.2 ∙ inside_word p b z rest h.0 h.1 ∙ ap (λ (x : List ℕ). Ok (front.Token (kind.Word x) (length z))) (sym e))
 
-  number_reads : (own rest : List ℕ) (o : Option (ℕ × Suffix)) → number_of own ≡ o → IsRunOf is_ascii_digit is_word_byte own rest → Reads p pos own rest (λ n. number_front o n)
-  number_reads [] rest o e h = absurd h
-  number_reads (b ∷ z) rest o e h =
+  none_run : (own rest : List ℕ) → IsRunOf is_ascii_digit is_word_byte own rest → IsNoNumber own → number_of own ≡ None
+  none_run [] rest h none = absurd h
+  none_run (b ∷ z) rest h none = none_reads b z h.0 none
+
+  number_run : (own rest : List ℕ) (o : Option (ℕ × Suffix)) → number_of own ≡ o → IsRunOf is_ascii_digit is_word_byte own rest → Reads p pos own rest (λ n. number_front o n)
+  number_run [] rest o e h = absurd h
+  number_run (b ∷ z) rest o e h =
       let m = digit_bytes b h.0 in
       record { first = b; others = z; is = refl; read = front_inside p pos b (z ++ rest) i m.0 m.1 m.2 ∙ inside_number p b z rest o h.0 h.1 e }
 
@@ -297,7 +302,7 @@ module _ (p : Place) (pos : Position) (i : is_head p ≡ false) where
   inside_reads own rest (kind.DescriptionRun w) h = absurd h
   inside_reads own rest (kind.Word w) h = word_reads own rest w h.0 h.1
   inside_reads own rest (kind.AggregationName w) h = agg_reads own rest w h
-  inside_reads own rest (kind.Number n s) h = number_reads own rest (Some (n, s)) h.0 h.1
+  inside_reads own rest (kind.Number n s) h = number_run own rest (Some (n, s)) (number_reads own n s h.0) h.1
   inside_reads own rest (kind.TextConstant w) h = text_reads own rest w h.0 h.1 h.2
   inside_reads own rest (kind.Mark k) h = mark_reads p pos own rest k h
 
@@ -339,8 +344,8 @@ fault_fails p pos bytes g (open_comment z is h) = record { first = 47; others = 
 fault_fails p pos bytes g (text z i is h) =
     let read : text_from false z ≡ Err g = ap (text_from false) h.3 ∙ text_goes h.1 h.0 h.2 h.4 ∙ ap (behind_text h.1 (length h.0)) (text_stops g h.2 h.5) in
     record { first = 34; others = z; is = is; read = front_inside p pos 34 z i refl refl refl ∙ inside_text p z ∙ ap text_front read }
-fault_fails p pos bytes g (number own rest i is h e) = number_fails p pos bytes own rest is (number_reads p pos i own rest None e h)
-fault_fails p pos bytes g (Tokens.IsFault.option_line w rest is e1 e2 e3 h) = record { first = 35; others = w ++ rest; is = is; read = front_option p pos w rest false e1 e2 e3 h }
+fault_fails p pos bytes g (number own rest i is h e) = number_fails p pos bytes own rest is (number_run p pos i own rest None (none_run p pos i own rest h e) h)
+fault_fails p pos bytes g (other_option w rest is e1 e2 e3 h) = record { first = 35; others = w ++ rest; is = is; read = front_option p pos w rest false e1 e2 (no_option_reads (35 ∷ w) e3) h }
 
 -- ---- all of the text
 

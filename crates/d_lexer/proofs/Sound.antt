@@ -16,17 +16,15 @@ use Rattle.d_lexer.specs.declared.front.Front.TheVariants as front
 use Rattle.d_lexer.specs.declared.front.Front.TheVariants.{Gap}
 use Rattle.d_lexer.specs.declared.fault.Flaw.{Flaw}
 use Rattle.d_lexer.specs.declared.fault.Flaw.TheVariants as f
-use Rattle.d_lexer.specs.declared.fault.LexFault.{LexFault}
 use Rattle.d_lexer.specs.Bytes.{next_is, is_blank, is_word_start, is_word_byte, is_run_byte, is_inside, is_plain, begins_comment, escape_of, is_declaring}
 use Rattle.d_lexer.specs.Numbers.{number_of}
-use Rattle.d_lexer.specs.Marks.{mark_of}
 use Rattle.d_lexer.specs.Places.{moved, passed, is_head, is_first, is_hash, after}
-use Rattle.d_lexer.specs.Faults.{on_line}
 use Rattle.d_lexer.specs.OptionLine.{is_option}
-use Rattle.d_lexer.specs.Tokens
-use Rattle.d_lexer.specs.Tokens.{StopsAt, Fills, HasNoEnd, IsPiece, blank, comment, first_line, option_line, Past, here, past, IsRunOf, SpellsText, IsMark, SpellsInside, SpellsHead, Spells, begins, IsStray, StopsText, BreaksText, IsFault, stray, open_comment, text, number, End, Clean, Bad, EndsAs, Lexes}
+use Rattle.d_lexer.specs.Tokens.{Fills, HasNoEnd, IsPiece, blank, comment, first_line, option_line, here, past, IsRunOf, SpellsText, IsMark, SpellsInside, Spells, begins, BreaksText, IsFault, stray, open_comment, text, number, other_option, End, Lexes}
 use Rattle.d_lexer.specs.Scan.{run_len, run_of, tail, put, skip_one, put_escape, text_from, one_longer, comment_from, mark_at, mark_front, number_front, comment_front, head_kind, aggregation_front, text_front, inside_at, head_at, token_at, front_at, Scanned, scan_by, scan}
 use Rattle.d_lexer.proofs.Base.{Split, cond_is, run_splits, run_is}
+use Rattle.d_lexer.proofs.Numbers.{number_is, none_is}
+use Rattle.d_lexer.proofs.OptionLines.{option_is, no_option_is}
 use Rattle.d_lexer.proofs.Marks.{MarkIs, mark_sound}
 
 abbrev pub FrontIs : Place → Position → ℕ → List ℕ → Result Front Flaw → Type 0
@@ -172,10 +170,10 @@ number_sound : (p : Place) (pos : Position) (b : ℕ) (z : List ℕ) → is_head
     (o : Option (ℕ × Suffix)) → number_of (b ∷ run_of is_word_byte z) ≡ o → FrontIs p pos b z (number_front o (run_len is_word_byte z))
 number_sound p pos b z inside e s None n =
     let run : run_of is_word_byte z ≡ s.own = run_of_is is_word_byte z s in
-    number (b ∷ s.own) s.rest inside (ap (λ (xs : List ℕ). b ∷ xs) s.is) (e, s.holds) (rw (← run) n)
+    number (b ∷ s.own) s.rest inside (ap (λ (xs : List ℕ). b ∷ xs) s.is) (e, s.holds) (none_is b s.own e (rw (← run) n))
 number_sound p pos b z inside e s (Some v) n =
     let run : run_of is_word_byte z ≡ s.own = run_of_is is_word_byte z s in
-    record { own = s.own; rest = s.rest; is = s.is; size = s.size; holds = inside_spells p (b ∷ s.own) s.rest (kind.Number v.0 v.1) inside (rw (← run) n, (e, s.holds)) }
+    record { own = s.own; rest = s.rest; is = s.is; size = s.size; holds = inside_spells p (b ∷ s.own) s.rest (kind.Number v.0 v.1) inside (number_is b s.own v.0 v.1 e (rw (← run) n), (e, s.holds)) }
 
 agg_sound : (p : Place) (pos : Position) (z : List ℕ) → is_head p ≡ false → FrontIs p pos 64 z (aggregation_front z)
 agg_sound p pos [] inside = record { own = []; rest = []; is = refl; size = refl; holds = inside_spells p (64 ∷ []) [] (kind.AggregationName (95 ∷ [])) inside (inl (refl, refl, tt)) }
@@ -254,8 +252,8 @@ option_sound : (p : Place) (pos : Position) (z : List ℕ) → is_first pos 35 z
 option_sound p pos z no_first is s =
     let first : is_first pos 35 (s.own ++ s.rest) ≡ false = rw (← s.is) no_first in
     cond_is (FrontIs p pos 35 z) (is_option (35 ∷ run_of is_inside z)) _ _
-    (λ e. record { own = s.own; rest = s.rest; is = s.is; size = s.size; holds = option_line s.own refl first is (rw (← run_of_is is_inside z s) e) s.holds })
-    (λ e. Tokens.option_line s.own s.rest (ap (λ (xs : List ℕ). 35 ∷ xs) s.is) first is (rw (← run_of_is is_inside z s) e) s.holds)
+    (λ e. record { own = s.own; rest = s.rest; is = s.is; size = s.size; holds = option_line s.own refl first is (option_is (35 ∷ s.own) (rw (← run_of_is is_inside z s) e)) s.holds })
+    (λ e. other_option s.own s.rest (ap (λ (xs : List ℕ). 35 ∷ xs) s.is) first is (no_option_is (35 ∷ s.own) (rw (← run_of_is is_inside z s) e)) s.holds)
 
 pub front_sound : (p : Place) (pos : Position) (b : ℕ) (z : List ℕ) → FrontIs p pos b z (front_at p pos b z)
 unfolding front_at

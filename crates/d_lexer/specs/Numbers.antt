@@ -1,17 +1,17 @@
--- Numbers.
-use Rattle.std.specs.Prelude.{ℕ, ◌+◌, ◌*◌, ◌-◌, ◌^◌, Bool, ◌&&◌, ◌||◌, if◌then◌else◌, ◌==◌, nat_le, nat_lt, List, [], ◌∷◌, Option, Some, None, option_and_then}
+-- Numbers: what a run of letters and digits stands for.
+use Rattle.std.specs.Prelude.{◌≡◌, ◌≢◌, ℕ, ◌+◌, ◌*◌, ◌-◌, ◌^◌, ◌<◌, Bool, true, ◌&&◌, ◌||◌, if◌then◌else◌, ◌==◌, nat_le, nat_lt, List, [], ◌∷◌, ◌++◌, length, Option, Some, None, option_and_then}
 use Rattle.std.specs.Char.{is_ascii_digit}
 use Rattle.d_lexer.specs.declared.token.Suffix.{Suffix}
 use Rattle.d_lexer.specs.declared.token.Suffix.TheVariants.{Absent, Unsigned, Long, UnsignedLong}
 
--- the value of a digit of the base
+-- what a digit of the base stands for
 abbrev pub digit_of : ℕ → ℕ → Option ℕ
 digit_of base d =
     if is_ascii_digit d then (if nat_lt (d - 48) base then Some (d - 48) else None)
     else (if base == 16 && nat_le 97 d && nat_le d 102 then Some (d - 87)
     else (if base == 16 && nat_le 65 d && nat_le d 70 then Some (d - 55) else None))
 
--- what follows the digits
+-- the letters behind the digits: u, l, ul, ll or ull, each in either case
 abbrev pub is_u : ℕ → Bool
 is_u b = b == 117 || b == 85
 
@@ -24,6 +24,39 @@ suffix_of (a ∷ []) = if is_u a then Some Unsigned else (if is_l a then Some Lo
 suffix_of (a ∷ b ∷ []) = if is_u a && is_l b then Some UnsignedLong else (if is_l a && is_l b then Some Long else None)
 suffix_of (a ∷ b ∷ c ∷ []) = if is_u a && is_l b && is_l c then Some UnsignedLong else None
 suffix_of (a ∷ b ∷ c ∷ d ∷ z) = None
+
+-- ---- the relation
+
+-- the digits of the base stand for the number: each for its value times a power of the base
+abbrev pub StandFor : ℕ → List ℕ → ℕ → Type 0
+StandFor base [] n = n ≡ 0
+StandFor base (d ∷ ds) n = (k : ℕ) × (m : ℕ) × (digit_of base d ≡ Some k) × StandFor base ds m × (n ≡ k * base ^ length ds + m)
+
+abbrev pub is_x : ℕ → Bool
+is_x b = b == 120 || b == 88
+
+-- how the base is told: 0x and hexadecimal digits, 0 and perhaps octal digits, or decimal digits that begin with another
+pub data IsBase (base : ℕ) (before digits : List ℕ) : Type 0 where
+  hexadecimal : (x d : ℕ) (ds : List ℕ) → base ≡ 16 → before ≡ 48 ∷ (x ∷ []) → is_x x ≡ true → digits ≡ d ∷ ds → IsBase base before digits
+  octal : (ds : List ℕ) → base ≡ 8 → before ≡ [] → digits ≡ 48 ∷ ds → IsBase base before digits
+  decimal : (d : ℕ) (ds : List ℕ) → base ≡ 10 → before ≡ [] → digits ≡ d ∷ ds → d ≢ 48 → IsBase base before digits
+
+-- the bytes are digits that stand for n, below 2 ^ 64, and a suffix
+pub record IsNumber (own : List ℕ) (n : ℕ) (s : Suffix) : Type 0 where
+  pub base : ℕ
+  pub before : List ℕ
+  pub digits : List ℕ
+  pub behind : List ℕ
+  pub is : own ≡ before ++ (digits ++ behind)
+  pub told : IsBase base before digits
+  pub value : StandFor base digits n
+  pub fits : n < 2 ^ 64
+  pub suffix : suffix_of behind ≡ Some s
+
+abbrev pub IsNoNumber : List ℕ → Type 0
+IsNoNumber own = (n : ℕ) (s : Suffix) → IsNumber own n s → ⊥
+
+-- ---- the same, digit by digit
 
 -- one digit more, below 2 ^ 64
 abbrev pub one_more : ℕ → ℕ → ℕ → Option ℕ
@@ -53,7 +86,7 @@ hex_from (d ∷ ds) = hex_by (d ∷ ds) (digit_of 16 d)
 -- behind a first 0
 abbrev pub zero_from : List ℕ → Option (ℕ × Suffix)
 zero_from [] = Some (0, Absent)
-zero_from (c ∷ ds) = if c == 120 || c == 88 then hex_from ds else number_from 8 0 (c ∷ ds)
+zero_from (c ∷ ds) = if is_x c then hex_from ds else number_from 8 0 (c ∷ ds)
 
 -- the number that a run of letters and digits spells
 unfoldable pub number_of : List ℕ → Option (ℕ × Suffix)

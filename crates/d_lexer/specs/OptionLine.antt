@@ -1,15 +1,41 @@
 -- Option lines.
-use Rattle.std.specs.Prelude.{◌≡◌, ℕ, Bool, true, false, ◌&&◌, ◌||◌, if◌then◌else◌, ◌==◌, List, [], ◌∷◌, Option, Some, None}
+use Rattle.std.specs.Prelude.{◌≡◌, ℕ, Bool, true, false, ◌&&◌, ◌||◌, if◌then◌else◌, ◌==◌, List, [], ◌∷◌, ◌++◌, Option, Some, None, codes}
+use Rattle.std.specs.List.{AllByRecursion}
+
+abbrev pub is_space : ℕ → Bool
+is_space b = b == 32 || b == 9
+
+-- a space, a tab or a carriage return
+abbrev pub is_trailing : ℕ → Bool
+is_trailing b = is_space b || b == 13
+
+-- ---- the relation
+
+-- a space or a tab at least, and nothing else
+abbrev pub AreSpaces : List ℕ → Type 0
+AreSpaces [] = ⊥
+AreSpaces (b ∷ bs) = AllByRecursion (λ c. is_space c ≡ true) (b ∷ bs)
+
+-- these words with spaces before each, and then perhaps spaces and carriage returns
+abbrev pub AreWords : List (List ℕ) → List ℕ → Type 0
+AreWords [] z = AllByRecursion (λ c. is_trailing c ≡ true) z
+AreWords (w ∷ ws) z = (own : List ℕ) × (rest : List ℕ) × AreSpaces own × (z ≡ own ++ (w ++ rest)) × AreWords ws rest
+
+-- the words behind #pragma
+abbrev pub option_words : List (List ℕ)
+option_words = codes "D" ∷ codes "option" ∷ codes "quiet" ∷ []
+
+-- a line's bytes from its # on
+abbrev pub IsOptionLine : List ℕ → Type 0
+IsOptionLine own = (rest : List ℕ) × (own ≡ codes "#pragma" ++ rest) × AreWords option_words rest
+
+-- ---- the same, from left to right
 
 -- what is left behind a word
 unfoldable pub behind : List ℕ → List ℕ → Option (List ℕ)
 behind [] bytes = Some bytes
 behind (w ∷ ws) [] = None
 behind (w ∷ ws) (b ∷ bytes) = if b == w then behind ws bytes else None
-
--- a space or a tab at the front, and any that follow
-abbrev pub is_space : ℕ → Bool
-is_space b = b == 32 || b == 9
 
 unfoldable pub skip_spaces : List ℕ → List ℕ
 skip_spaces [] = []
@@ -21,7 +47,7 @@ spaces (b ∷ bytes) = if is_space b then Some (skip_spaces bytes) else None
 
 unfoldable pub is_trail : List ℕ → Bool
 is_trail [] = true
-is_trail (b ∷ bytes) = (is_space b || b == 13) && is_trail bytes
+is_trail (b ∷ bytes) = is_trailing b && is_trail bytes
 
 abbrev pub and_then : Option (List ℕ) → (List ℕ → Option (List ℕ)) → Option (List ℕ)
 and_then None k = None
@@ -31,16 +57,15 @@ abbrev pub ends : Option (List ℕ) → Bool
 ends None = false
 ends (Some z) = is_trail z
 
--- #pragma D option quiet
-abbrev pub words : ℕ → List ℕ → Option (List ℕ)
-words b bytes = if b == 35 then
-    and_then (behind (112 ∷ 114 ∷ 97 ∷ 103 ∷ 109 ∷ 97 ∷ []) bytes) (λ z0. and_then (spaces z0) (λ z1. and_then (behind (68 ∷ []) z1) (λ z2. and_then (spaces z2)
-    (λ z3. and_then (behind (111 ∷ 112 ∷ 116 ∷ 105 ∷ 111 ∷ 110 ∷ []) z3) (λ z4. and_then (spaces z4) (λ z5. behind (113 ∷ 117 ∷ 105 ∷ 101 ∷ 116 ∷ []) z5))))))
-    else None
+abbrev pub next_word : List ℕ → List ℕ → Option (List ℕ)
+next_word w z = and_then (spaces z) (behind w)
+
+abbrev pub after_words : List (List ℕ) → List ℕ → Option (List ℕ)
+after_words [] z = Some z
+after_words (w ∷ ws) z = and_then (next_word w z) (after_words ws)
 
 unfoldable pub is_option : List ℕ → Bool
-is_option [] = false
-is_option (b ∷ bytes) = ends (words b bytes)
+is_option own = ends (and_then (behind (codes "#pragma") own) (after_words option_words))
 
 -- what a search answers, seen without where it lies
 abbrev pub Finds : {X : Type 0} → (X → List ℕ) → Option X → Option (List ℕ) → Type 0

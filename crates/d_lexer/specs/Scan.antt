@@ -160,15 +160,15 @@ token_at Declaration b z = inside_at Declaration b z
 token_at Predicate b z = inside_at Predicate b z
 token_at Body b z = inside_at Body b z
 
-abbrev pub option_front : ℕ → List ℕ → Result Front Flaw
-option_front b z = if is_option (b ∷ run_of is_inside z) then Ok (Gap (run_len is_inside z)) else Err OptionLine
+abbrev pub option_front : List ℕ → Result Front Flaw
+option_front z = if is_option (35 ∷ run_of is_inside z) then Ok (Gap (run_len is_inside z)) else Err OptionLine
 
 unfoldable pub front_at : Place → Position → ℕ → List ℕ → Result Front Flaw
 front_at p pos b z =
     if is_blank b then Ok (Gap 0)
     else (if begins_comment (b ∷ z) then comment_front (comment_from (tail z))
     else (if is_first pos b z then Ok (Gap (run_len is_inside z))
-    else (if is_hash p pos b then option_front b z
+    else (if is_hash p pos b then option_front z
     else token_at p b z)))
 
 -- the tokens, and how they end

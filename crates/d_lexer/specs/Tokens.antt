@@ -13,11 +13,11 @@ use Rattle.d_lexer.specs.declared.fault.Flaw.{Flaw}
 use Rattle.d_lexer.specs.declared.fault.Flaw.TheVariants as f
 use Rattle.d_lexer.specs.declared.fault.LexFault.{LexFault}
 use Rattle.d_lexer.specs.Bytes.{next_is, is_blank, is_word_start, is_word_byte, is_run_byte, is_inside, is_plain, begins_comment, escape_of, is_declaring}
-use Rattle.d_lexer.specs.Numbers.{number_of}
+use Rattle.d_lexer.specs.Numbers.{IsNumber, IsNoNumber}
 use Rattle.d_lexer.specs.Marks.{mark_of}
 use Rattle.d_lexer.specs.Places.{moved, is_head, is_first, is_hash, after}
 use Rattle.d_lexer.specs.Faults.{on_line}
-use Rattle.d_lexer.specs.OptionLine.{is_option}
+use Rattle.d_lexer.specs.OptionLine.{IsOptionLine}
 
 -- ---- what parts tokens
 
@@ -40,7 +40,7 @@ pub data IsPiece (p : Place) (pos : Position) : (own rest : List ℕ) → Type 0
   blank : {own rest : List ℕ} (b : ℕ) → own ≡ b ∷ [] → is_blank b ≡ true → IsPiece p pos own rest
   comment : {own rest : List ℕ} (body : List ℕ) → own ≡ 47 ∷ (42 ∷ (body ++ 42 ∷ (47 ∷ []))) → HasNoEnd body → IsPiece p pos own rest
   first_line : {own rest : List ℕ} (w : List ℕ) → own ≡ 35 ∷ w → is_first pos 35 (w ++ rest) ≡ true → Fills is_inside w rest → IsPiece p pos own rest
-  option_line : {own rest : List ℕ} (w : List ℕ) → own ≡ 35 ∷ w → is_first pos 35 (w ++ rest) ≡ false → is_hash p pos 35 ≡ true → is_option own ≡ true → Fills is_inside w rest → IsPiece p pos own rest
+  option_line : {own rest : List ℕ} (w : List ℕ) → own ≡ 35 ∷ w → is_first pos 35 (w ++ rest) ≡ false → is_hash p pos 35 ≡ true → IsOptionLine own → Fills is_inside w rest → IsPiece p pos own rest
 
 -- Pieces, and what stands behind them is as Then says.
 pub data Past (p : Place) (Then : Position → List ℕ → Type 0) : Position → List ℕ → Type 0 where
@@ -76,7 +76,7 @@ abbrev pub SpellsInside : Place → (own rest : List ℕ) → TokenKind → Type
 SpellsInside p own rest (kind.DescriptionRun w) = ⊥
 SpellsInside p own rest (kind.Word w) = (w ≡ own) × IsRunOf is_word_start is_word_byte own rest
 SpellsInside p own rest (kind.AggregationName w) = SpellsAgg own rest w
-SpellsInside p own rest (kind.Number n s) = (number_of own ≡ Some (n, s)) × IsRunOf is_ascii_digit is_word_byte own rest
+SpellsInside p own rest (kind.Number n s) = IsNumber own n s × IsRunOf is_ascii_digit is_word_byte own rest
 SpellsInside p own rest (kind.TextConstant w) = (body : List ℕ) × (own ≡ 34 ∷ (body ++ 34 ∷ [])) × SpellsText body w
 SpellsInside p own rest (kind.Mark k) = IsMark p own rest k
 
@@ -124,8 +124,8 @@ pub data IsFault (p : Place) (pos : Position) : List ℕ → Flaw → Type 0 whe
   stray : {bytes : List ℕ} (b : ℕ) (z : List ℕ) → bytes ≡ b ∷ z → IsStray p pos b z → IsFault p pos bytes f.BadByte
   open_comment : {bytes : List ℕ} (z : List ℕ) → bytes ≡ 47 ∷ (42 ∷ z) → HasNoEnd z → IsFault p pos bytes f.Unclosed
   text : {bytes : List ℕ} {g : Flaw} (z : List ℕ) → is_head p ≡ false → bytes ≡ 34 ∷ z → BreaksText z g → IsFault p pos bytes g
-  number : {bytes : List ℕ} (own rest : List ℕ) → is_head p ≡ false → bytes ≡ own ++ rest → IsRunOf is_ascii_digit is_word_byte own rest → number_of own ≡ None → IsFault p pos bytes f.Constant
-  option_line : {bytes : List ℕ} (w rest : List ℕ) → bytes ≡ 35 ∷ (w ++ rest) → is_first pos 35 (w ++ rest) ≡ false → is_hash p pos 35 ≡ true → is_option (35 ∷ w) ≡ false → Fills is_inside w rest → IsFault p pos bytes f.OptionLine
+  number : {bytes : List ℕ} (own rest : List ℕ) → is_head p ≡ false → bytes ≡ own ++ rest → IsRunOf is_ascii_digit is_word_byte own rest → IsNoNumber own → IsFault p pos bytes f.Constant
+  other_option : {bytes : List ℕ} (w rest : List ℕ) → bytes ≡ 35 ∷ (w ++ rest) → is_first pos 35 (w ++ rest) ≡ false → is_hash p pos 35 ≡ true → (IsOptionLine (35 ∷ w) → ⊥) → Fills is_inside w rest → IsFault p pos bytes f.OptionLine
 
 -- ---- all of the text
 

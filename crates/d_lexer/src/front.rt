@@ -103,11 +103,11 @@ fn comment_front(rest: &[u8]) -> Result<Front, Stop>
     }
 }
 
-fn option_front(b: u8, rest: &[u8]) -> Result<Front, Stop>
-    ensures { scan.Gives result (scan.option_front b rest.now) }
+fn option_front(rest: &[u8]) -> Result<Front, Stop>
+    ensures { scan.Gives result (scan.option_front rest.now) }
 {
     let n = line_len(rest);
-    if is_option(b, &rest[..n]) {
+    if is_option(&rest[..n]) {
         Ok(Front::Gap(n))
     } else {
         Err(Stop::Flawed(Flaw::OptionLine))
@@ -152,7 +152,7 @@ fn front_at(alloc: Global, place: Place, pos: Position, b: u8, rest: &[u8]) -> R
     } else if is_first(pos, b, rest) {
         Ok(Front::Gap(line_len(rest)))
     } else if is_hash(place, pos, b) {
-        option_front(b, rest)
+        option_front(rest)
     } else {
         token_at(alloc, place, b, rest)
     }

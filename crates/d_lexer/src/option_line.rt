@@ -1,6 +1,6 @@
 //! Option lines.
 
-ghost use Rattle.std.specs.Prelude.{◌≡◌, ◌≤◌, length, [], ◌∷◌};
+ghost use Rattle.std.specs.Prelude.{◌≡◌, ◌++◌, codes};
 ghost use Rattle.d_lexer.specs.OptionLine as spec;
 ghost use Rattle.d_lexer.specs.OptionLine.{Finds};
 
@@ -73,26 +73,28 @@ fn is_trail(bytes: &[u8]) -> bool
     true
 }
 
-fn words(b: u8, bytes: &[u8]) -> Option<&[u8]>
-    ensures { Finds (λ r. r.now) result (spec.words b bytes.now) }
+fn next_word<'a>(word: &[u8], bytes: &'a [u8]) -> Option<&'a [u8]>
+    ensures { Finds (λ r. r.now) result (spec.next_word word.now bytes.now) }
 {
-    if b != b'#' {
-        return None;
-    }
-    let rest = behind(b"pragma", bytes)?;
-    let rest = spaces(rest)?;
-    let rest = behind(b"D", rest)?;
-    let rest = spaces(rest)?;
-    let rest = behind(b"option", rest)?;
-    let rest = spaces(rest)?;
-    behind(b"quiet", rest)
+    behind(word, spaces(bytes)?)
 }
 
-#[tactic(auto, unfolding(crate::specs::OptionLine::is_option))]
-pub(crate) fn is_option(b: u8, bytes: &[u8]) -> bool
-    ensures { result ≡ spec.is_option (b ∷ bytes.now) }
+#[tactic(auto, unfolding(crate::specs::OptionLine::behind))]
+fn after_words(bytes: &[u8]) -> Option<&[u8]>
+    ensures { Finds (λ r. r.now) result (spec.and_then (spec.behind (codes "#pragma") (codes "#" ++ bytes.now)) (spec.after_words spec.option_words)) }
 {
-    match words(b, bytes) {
+    let rest = behind(b"pragma", bytes)?;
+    let rest = next_word(b"D", rest)?;
+    let rest = next_word(b"option", rest)?;
+    next_word(b"quiet", rest)
+}
+
+/// Whether a line is `#pragma D option quiet`, told by the bytes behind its `#`.
+#[tactic(auto, unfolding(crate::specs::OptionLine::is_option))]
+pub(crate) fn is_option(bytes: &[u8]) -> bool
+    ensures { result ≡ spec.is_option (codes "#" ++ bytes.now) }
+{
+    match after_words(bytes) {
         Some(rest) => is_trail(rest),
         None => false,
     }

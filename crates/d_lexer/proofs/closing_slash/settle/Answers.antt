@@ -1,4 +1,4 @@
-use Rattle.std.proofs.Common.{◌≡◌, ◌-◌, ◌≤◌, suc, arith, length}
+use Rattle.std.proofs.Common.{◌-◌, arith}
 use Rattle.d_lexer.proofs.Settling.{settle_all, settle_back}
 use Rattle.d_lexer.proofs.closing_slash.settle.Goals as goal
 

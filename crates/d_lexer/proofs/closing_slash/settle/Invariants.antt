@@ -1,4 +1,4 @@
-use Rattle.std.proofs.Common.{◌≡◌, ◌≤◌, length}
+use Rattle.std.proofs.Common.{◌≡◌}
 use Rattle.d_lexer.specs.Lexing.{settle}
 use Rattle.d_lexer.proofs.Settling.{settle_first}
 use Rattle.d_lexer.proofs.closing_slash.settle.Given as goal

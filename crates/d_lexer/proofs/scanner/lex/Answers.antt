@@ -1,4 +1,4 @@
-use Rattle.std.proofs.Common.{Global, Vec, ◌<◌, ◌≤◌, length, arith}
+use Rattle.std.proofs.Common.{Global, Vec, arith}
 use Rattle.d_lexer.specs.declared.token.Token.{Token}
 use Rattle.d_lexer.proofs.Public.{ok_of, err_of, lexed_of, refused_of, few_of, in_bounds}
 use Rattle.d_lexer.proofs.scanner.lex.Goals as goal

@@ -1,0 +1,289 @@
+-- A run is read as a number exactly where it is one.
+use Rattle.std.proofs.Common.{◌≡◌, ◌≢◌, eqb, ◌||◌, ◌&&◌, ℕ, suc, ◌+◌, ◌*◌, ◌-◌, ◌^◌, ◌<◌, ◌≤◌, Bool, true, false, cond, List, [], ◌∷◌, ◌++◌, length, Option, Some, None, refl, sym, ap, subst, ◌∙◌, arith, lit<, nat_lt}
+use Rattle.std.proofs.Math.Nat.{pow-zero, pow-suc, add-mul, mul_assoc, mul_comm, one-le-pow, le-mul_of_pos_right}
+use Rattle.std.proofs.lemmas.Bool.{eqb-true}
+use Rattle.std.proofs.lemmas.Bool.Decides.{nat_tests}
+use Rattle.std.specs.Prelude.{option_and_then, nat_le}
+use Rattle.std.specs.Char.{is_ascii_digit}
+use Rattle.d_lexer.specs.declared.token.Suffix.{Suffix}
+use Rattle.d_lexer.specs.declared.token.Suffix.TheVariants.{Absent, Unsigned, Long, UnsignedLong}
+use Rattle.d_lexer.specs.Numbers.{digit_of, is_u, is_l, suffix_of, is_x, StandFor, IsBase, hexadecimal, octal, decimal, IsNumber, IsNoNumber, with_suffix, number_by, number_from, hex_by, zero_from, number_of}
+use Rattle.d_lexer.proofs.Base.{cond_is}
+
+-- one digit more, behind a first part
+horner : (a base k p m : ℕ) → (a * base + k) * p + m ≡ a * (p * base) + (k * p + m)
+horner a base k p m =
+    let e : (a * base + k) * p ≡ a * base * p + k * p = add-mul (a * base) k p in
+    let f : a * base * p ≡ a * (p * base) = mul_assoc a base p ∙ ap (λ (x : ℕ). a * x) (mul_comm base p) in
+    omega (arith, e, f)
+
+-- ---- what is read is a number
+
+-- the digits behind a first part acc, and the suffix
+record ReadAs (base acc : ℕ) (z : List ℕ) (n : ℕ) (s : Suffix) : Type 0 where
+  digits : List ℕ
+  behind : List ℕ
+  own : ℕ
+  is : z ≡ digits ++ behind
+  value : StandFor base digits own
+  whole : n ≡ acc * base ^ length digits + own
+  fits : n < 2 ^ 64
+  suffix : suffix_of behind ≡ Some s
+
+one_power : (base acc : ℕ) → acc ≡ acc * base ^ 0 + 0
+one_power base acc = rw (pow-zero base) (omega arith)
+
+no_first : (x y : ℕ) → 0 * x + y ≡ y
+no_first x y = omega arith
+
+abbrev pair : ℕ → Suffix → ℕ × Suffix
+pair n s = (n, s)
+
+same_parts : (a b : ℕ) (t s : Suffix) → Some (pair a t) ≡ Some (pair b s) → (a ≡ b) × (t ≡ s)
+same_parts a b t s e = let both : pair a t ≡ pair b s = cc in (ap (λ (x : ℕ × Suffix). x.0) both, ap (λ (x : ℕ × Suffix). x.1) both)
+
+read_none : (base acc : ℕ) (z : List ℕ) (n : ℕ) (s : Suffix) → acc < 2 ^ 64 → with_suffix acc (suffix_of z) ≡ Some (n, s) → ReadAs base acc z n s
+read_none base acc z n s low e = by (suffix_of z) refl e where
+  by : (o : Option Suffix) → suffix_of z ≡ o → with_suffix acc o ≡ Some (n, s) → ReadAs base acc z n s
+  by None o_is e = absurd cc
+  by (Some t) o_is e =
+      let same = same_parts acc n t s e in
+      let n_is : acc ≡ n = same.0 in
+      record { digits = []; behind = z; own = 0; is = refl; value = refl; whole = sym n_is ∙ one_power base acc; fits = rw (← n_is) low; suffix = o_is ∙ ap (λ (x : Suffix). Some x) same.1 }
+
+read_more : (base acc d k : ℕ) (ds : List ℕ) (n : ℕ) (s : Suffix) → digit_of base d ≡ Some k → ReadAs base (acc * base + k) ds n s → ReadAs base acc (d ∷ ds) n s
+read_more base acc d k ds n s dk r =
+    let p = base ^ length r.digits in
+    let e : base ^ suc (length r.digits) ≡ p * base = pow-suc base (length r.digits) in
+    record {
+      digits = d ∷ r.digits;
+      behind = r.behind;
+      own = k * p + r.own;
+      is = ap (λ (xs : List ℕ). d ∷ xs) r.is;
+      value = (k, r.own, dk, r.value, refl);
+      whole = r.whole ∙ horner acc base k p r.own ∙ ap (λ (x : ℕ). acc * x + (k * p + r.own)) (sym e);
+      fits = r.fits;
+      suffix = r.suffix;
+    }
+
+read_by : (base acc d : ℕ) (ds : List ℕ) (n : ℕ) (s : Suffix) → acc < 2 ^ 64 → ((k : ℕ) → k < 2 ^ 64 → number_from base k ds ≡ Some (n, s) → ReadAs base k ds n s) →
+    (o : Option ℕ) → digit_of base d ≡ o → number_by (λ k. number_from base k ds) base acc (d ∷ ds) o ≡ Some (n, s) → ReadAs base acc (d ∷ ds) n s
+read_by base acc d ds n s low go None dk e = read_none base acc (d ∷ ds) n s low e
+read_by base acc d ds n s low go (Some k) dk e =
+    cond_is (λ (o : Option ℕ). option_and_then (λ k. number_from base k ds) o ≡ Some (n, s) → ReadAs base acc (d ∷ ds) n s) (nat_lt (acc * base + k) (2 ^ 64)) (Some (acc * base + k)) None
+    (λ below f. read_more base acc d k ds n s dk (go (acc * base + k) (grind (arith, nat_tests)) f))
+    (λ _ f. absurd cc)
+    e
+
+read_is : (base acc : ℕ) (z : List ℕ) (n : ℕ) (s : Suffix) → acc < 2 ^ 64 → number_from base acc z ≡ Some (n, s) → ReadAs base acc z n s
+unfolding number_from suffix_of
+read_is base acc [] n s low e = read_none base acc [] n s low e
+read_is base acc (d ∷ ds) n s low e = read_by base acc d ds n s low (λ k h f. read_is base k ds n s h f) (digit_of base d) refl e
+
+-- ---- no digit begins a suffix
+
+suffix_letter : (a : ℕ) (z : List ℕ) (s : Suffix) → suffix_of (a ∷ z) ≡ Some s → (is_u a || is_l a) ≡ true
+unfolding suffix_of
+suffix_letter a [] s e = by (is_u a) (is_l a) e where
+  by : (u l : Bool) → cond u (Some Unsigned) (cond l (Some Long) None) ≡ Some s → (u || l) ≡ true
+  by true l e = refl
+  by false true e = refl
+  by false false e = absurd cc
+suffix_letter a (b ∷ []) s e = by (is_u a) (is_l a) (is_l b) e where
+  by : (u l k : Bool) → cond (u && k) (Some UnsignedLong) (cond (l && k) (Some Long) None) ≡ Some s → (u || l) ≡ true
+  by true l k e = refl
+  by false true k e = refl
+  by false false k e = absurd cc
+suffix_letter a (b ∷ c ∷ []) s e = by (is_u a) (is_l a) (is_l b) (is_l c) e where
+  by : (u l k j : Bool) → cond (u && k && j) (Some UnsignedLong) None ≡ Some s → (u || l) ≡ true
+  by true l k j e = refl
+  by false l k j e = absurd cc
+suffix_letter a (b ∷ c ∷ d ∷ z) s e = absurd cc
+
+no_digit : (base a : ℕ) → (is_u a || is_l a) ≡ true → digit_of base a ≡ None
+no_digit base a h =
+    let e1 : is_ascii_digit a ≡ false = grind (arith, nat_tests) in
+    let e2 : (eqb base 16 && nat_le 97 a && nat_le a 102) ≡ false = grind (arith, nat_tests) in
+    let e3 : (eqb base 16 && nat_le 65 a && nat_le a 70) ≡ false = grind (arith, nat_tests) in
+    rw (e1, e2, e3) refl
+
+some_none : (o : Option ℕ) (k : ℕ) → o ≡ Some k → o ≡ None → ⊥
+some_none o k e f = cc
+
+-- ---- whole runs
+
+hex_is : (x d k : ℕ) (z : List ℕ) (n : ℕ) (s : Suffix) → is_x x ≡ true → digit_of 16 d ≡ Some k → ReadAs 16 0 (d ∷ z) n s → IsNumber (48 ∷ (x ∷ (d ∷ z))) n s
+hex_is x d k z n s is dk r = by r.digits r.is r.value r.whole where
+  by : (digits : List ℕ) → (d ∷ z) ≡ digits ++ r.behind → StandFor 16 digits r.own → n ≡ 0 * 16 ^ length digits + r.own → IsNumber (48 ∷ (x ∷ (d ∷ z))) n s
+  by [] cut value whole = absurd (some_none (digit_of 16 d) k dk (no_digit 16 d (suffix_letter d z s (ap suffix_of cut ∙ r.suffix))))
+  by (e ∷ digits) cut value whole =
+      let n_is : n ≡ r.own = whole ∙ no_first (16 ^ length (e ∷ digits)) r.own in
+      record {
+        base = 16;
+        before = 48 ∷ (x ∷ []);
+        digits = e ∷ digits;
+        behind = r.behind;
+        is = ap (λ (xs : List ℕ). 48 ∷ (x ∷ xs)) cut;
+        told = hexadecimal x e digits refl refl is refl;
+        value = subst (StandFor 16 (e ∷ digits)) (sym n_is) value;
+        fits = r.fits;
+        suffix = r.suffix;
+      }
+
+octal_is : (z : List ℕ) (n : ℕ) (s : Suffix) → ReadAs 8 0 z n s → IsNumber (48 ∷ z) n s
+octal_is z n s r =
+    record {
+      base = 8;
+      before = [];
+      digits = 48 ∷ r.digits;
+      behind = r.behind;
+      is = ap (λ (xs : List ℕ). 48 ∷ xs) r.is;
+      told = octal r.digits refl refl refl;
+      value = (0, r.own, refl, r.value, r.whole);
+      fits = r.fits;
+      suffix = r.suffix;
+    }
+
+decimal_is : (d : ℕ) (z : List ℕ) (n : ℕ) (s : Suffix) → d ≢ 48 → digit_of 10 d ≡ Some (d - 48) → ReadAs 10 (d - 48) z n s → IsNumber (d ∷ z) n s
+decimal_is d z n s other dk r =
+    record {
+      base = 10;
+      before = [];
+      digits = d ∷ r.digits;
+      behind = r.behind;
+      is = ap (λ (xs : List ℕ). d ∷ xs) r.is;
+      told = decimal d r.digits refl refl refl other;
+      value = (d - 48, r.own, dk, r.value, r.whole);
+      fits = r.fits;
+      suffix = r.suffix;
+    }
+
+hex_by_is : (x d : ℕ) (z : List ℕ) (n : ℕ) (s : Suffix) → is_x x ≡ true → (o : Option ℕ) → digit_of 16 d ≡ o → hex_by (d ∷ z) o ≡ Some (n, s) → IsNumber (48 ∷ (x ∷ (d ∷ z))) n s
+hex_by_is x d z n s is None dk e = absurd cc
+hex_by_is x d z n s is (Some k) dk e = hex_is x d k z n s is dk (read_is 16 0 (d ∷ z) n s (lit< tt) e)
+
+zero_is : (z : List ℕ) (n : ℕ) (s : Suffix) → zero_from z ≡ Some (n, s) → IsNumber (48 ∷ z) n s
+unfolding number_from
+zero_is [] n s e = octal_is [] n s (read_is 8 0 [] n s (lit< tt) e)
+zero_is (c ∷ []) n s e =
+    cond_is (λ (o : Option (ℕ × Suffix)). o ≡ Some (n, s) → IsNumber (48 ∷ (c ∷ [])) n s) (is_x c) None (number_from 8 0 (c ∷ []))
+    (λ _ f. absurd cc)
+    (λ _ f. octal_is (c ∷ []) n s (read_is 8 0 (c ∷ []) n s (lit< tt) f))
+    e
+zero_is (c ∷ d ∷ z) n s e =
+    cond_is (λ (o : Option (ℕ × Suffix)). o ≡ Some (n, s) → IsNumber (48 ∷ (c ∷ (d ∷ z))) n s) (is_x c) (hex_by (d ∷ z) (digit_of 16 d)) (number_from 8 0 (c ∷ (d ∷ z)))
+    (λ is f. hex_by_is c d z n s is (digit_of 16 d) refl f)
+    (λ _ f. octal_is (c ∷ (d ∷ z)) n s (read_is 8 0 (c ∷ (d ∷ z)) n s (lit< tt) f))
+    e
+
+-- what is read of a run that begins with a digit is its number
+pub number_is : (b : ℕ) (z : List ℕ) (n : ℕ) (s : Suffix) → is_ascii_digit b ≡ true → number_of (b ∷ z) ≡ Some (n, s) → IsNumber (b ∷ z) n s
+unfolding number_of
+number_is b z n s digit e =
+    cond_is (λ (o : Option (ℕ × Suffix)). o ≡ Some (n, s) → IsNumber (b ∷ z) n s) (eqb b 48) (zero_from z) (number_from 10 (b - 48) z)
+    (λ same f. let b_is : b ≡ 48 = eqb-true b 48 same in rw b_is (zero_is z n s f))
+    (λ other f.
+    let low : b - 48 < 2 ^ 64 = grind (arith, nat_tests) in
+    let below : nat_lt (b - 48) 10 ≡ true = grind (arith, nat_tests) in
+    let not_zero : b ≢ 48 = λ (is : b ≡ 48). grind (arith, nat_tests) in
+    decimal_is b z n s not_zero (rw (digit, below) refl) (read_is 10 (b - 48) z n s low f))
+    e
+
+-- ---- a number is read
+
+-- the first part is no more than the whole
+first_part : (base acc k p m n : ℕ) → 0 < p → n ≡ acc * (p * base) + (k * p + m) → n < 2 ^ 64 → acc * base + k < 2 ^ 64
+first_part base acc k p m n positive n_is low =
+    let whole = horner acc base k p m in
+    let le : acc * base + k ≤ (acc * base + k) * p = le-mul_of_pos_right (acc * base + k) positive in
+    omega (arith, le, whole)
+
+stands_read : (base acc : ℕ) (digits behind : List ℕ) (m n : ℕ) (s : Suffix) → 0 < base → StandFor base digits m → suffix_of behind ≡ Some s → n ≡ acc * base ^ length digits + m → n < 2 ^ 64 →
+    number_from base acc (digits ++ behind) ≡ Some (n, s)
+unfolding number_from suffix_of
+stands_read base acc [] [] m n s positive value tail n_is low =
+    let e : acc ≡ n = one_power base acc ∙ ap (λ (x : ℕ). acc * base ^ 0 + x) (sym value) ∙ sym n_is in
+    let f : Absent ≡ s = cc in
+    rw (e, f) refl
+stands_read base acc [] (b ∷ z) m n s positive value tail n_is low =
+    let e : acc ≡ n = one_power base acc ∙ ap (λ (x : ℕ). acc * base ^ 0 + x) (sym value) ∙ sym n_is in
+    let none : digit_of base b ≡ None = no_digit base b (suffix_letter b z s tail) in
+    rw none (rw (tail, e) refl)
+stands_read base acc (d ∷ digits) behind m n s positive value tail n_is low =
+    let k : ℕ = value.0 in
+    let p = base ^ length digits in
+    let whole : n ≡ acc * (p * base) + (k * p + value.1) = n_is ∙ ap (λ (x : ℕ). acc * x + m) (pow-suc base (length digits)) ∙ ap (λ (x : ℕ). acc * (p * base) + x) value.4 in
+    let part : acc * base + k < 2 ^ 64 = first_part base acc k p value.1 n (one-le-pow (length digits) base positive) whole low in
+    let below : nat_lt (acc * base + k) (2 ^ 64) ≡ true = grind (arith, nat_tests) in
+    let dk = value.2 in
+    let more : number_from base (acc * base + k) (digits ++ behind) ≡ Some (n, s) = stands_read base (acc * base + k) digits behind value.1 n s positive value.3 tail (whole ∙ sym (horner acc base k p value.1)) low in
+    rw (dk, below) more
+
+-- a digit of a base up to ten is an ASCII digit less 48
+plain_digit : (base d k : ℕ) → eqb base 16 ≡ false → digit_of base d ≡ Some k → (is_ascii_digit d ≡ true) × (k ≡ d - 48)
+plain_digit base d k small e = by (is_ascii_digit d) (nat_lt (d - 48) base) e refl where
+  letters : (x y : Bool) → cond (eqb base 16 && x && y) (Some (d - 87)) None ≡ Some k → ⊥
+  letters x y f = let g : cond (eqb base 16 && x && y) (Some (d - 87)) None ≡ None = rw small refl in some_none _ k f g
+
+  by : (c low : Bool) → cond c (cond low (Some (d - 48)) None) (cond (eqb base 16 && nat_le 97 d && nat_le d 102) (Some (d - 87)) (cond (eqb base 16 && nat_le 65 d && nat_le d 70) (Some (d - 55)) None)) ≡ Some k → is_ascii_digit d ≡ c → (is_ascii_digit d ≡ true) × (k ≡ d - 48)
+  by true true f is = (is, cc)
+  by true false f is = absurd cc
+  by false low f is = absurd (some_none _ k f (rw small refl))
+
+octal_first : (c : ℕ) (z : List ℕ) → is_x c ≡ false → zero_from (c ∷ z) ≡ number_from 8 0 (c ∷ z)
+octal_first c z e = rw e refl
+
+zero_octal : (ds behind : List ℕ) (m : ℕ) (s : Suffix) → StandFor 8 ds m → suffix_of behind ≡ Some s → zero_from (ds ++ behind) ≡ number_from 8 0 (ds ++ behind)
+unfolding number_from
+zero_octal [] [] m s value tail = refl
+zero_octal [] (b ∷ z) m s value tail = let letter = suffix_letter b z s tail in octal_first b z (grind (arith, nat_tests))
+zero_octal (d ∷ ds) behind m s value tail = let digit = (plain_digit 8 d value.0 refl value.2).0 in octal_first d (ds ++ behind) (grind (arith, nat_tests))
+
+hex_first : (x d k : ℕ) (z : List ℕ) → is_x x ≡ true → digit_of 16 d ≡ Some k → number_of (48 ∷ (x ∷ (d ∷ z))) ≡ number_from 16 0 (d ∷ z)
+unfolding number_of
+hex_first x d k z is dk = rw (is, dk) refl
+
+zero_first : (z : List ℕ) → number_of (48 ∷ z) ≡ zero_from z
+unfolding number_of
+zero_first z = refl
+
+decimal_first : (d : ℕ) (z : List ℕ) → eqb d 48 ≡ false → number_of (d ∷ z) ≡ number_from 10 (d - 48) z
+unfolding number_of
+decimal_first d z e = rw e refl
+
+behind_zero : (x n : ℕ) → n ≡ 0 * x + n
+behind_zero x n = sym (no_first x n)
+
+-- a number is what is read
+pub number_reads : (own : List ℕ) (n : ℕ) (s : Suffix) → IsNumber own n s → number_of own ≡ Some (n, s)
+number_reads own n s h = by h.base h.before h.digits h.told h.is h.value where
+  by : (base : ℕ) (before digits : List ℕ) → IsBase base before digits → own ≡ before ++ (digits ++ h.behind) → StandFor base digits n → number_of own ≡ Some (n, s)
+  by base before digits (hexadecimal x d ds b_is before_is x_is digits_is) is value =
+      let v : StandFor 16 (d ∷ ds) n = subst (λ (xs : List ℕ). StandFor 16 xs n) digits_is (subst (λ (b : ℕ). StandFor b digits n) b_is value) in
+      let own_is : own ≡ 48 ∷ (x ∷ (d ∷ (ds ++ h.behind))) = rw (digits_is, before_is) at is in
+      let dk = v.2 in
+      ap number_of own_is ∙ hex_first x d v.0 (ds ++ h.behind) x_is dk
+      ∙ stands_read 16 0 (d ∷ ds) h.behind n n s (lit< tt) v h.suffix (behind_zero (16 ^ length (d ∷ ds)) n) h.fits
+  by base before digits (octal ds b_is before_is digits_is) is value =
+      let v : StandFor 8 (48 ∷ ds) n = subst (λ (xs : List ℕ). StandFor 8 xs n) digits_is (subst (λ (b : ℕ). StandFor b digits n) b_is value) in
+      let own_is : own ≡ 48 ∷ (ds ++ h.behind) = rw (digits_is, before_is) at is in
+      let no_more : v.0 ≡ 0 = let e = v.2 in cc in
+      ap number_of own_is ∙ zero_first (ds ++ h.behind) ∙ zero_octal ds h.behind v.1 s v.3 h.suffix
+      ∙ stands_read 8 0 ds h.behind v.1 n s (lit< tt) v.3 h.suffix (v.4 ∙ ap (λ (k : ℕ). k * 8 ^ length ds + v.1) no_more) h.fits
+  by base before digits (decimal d ds b_is before_is digits_is other) is value =
+      let v : StandFor 10 (d ∷ ds) n = subst (λ (xs : List ℕ). StandFor 10 xs n) digits_is (subst (λ (b : ℕ). StandFor b digits n) b_is value) in
+      let own_is : own ≡ d ∷ (ds ++ h.behind) = rw (digits_is, before_is) at is in
+      let digit = plain_digit 10 d v.0 refl v.2 in
+      let not_zero : eqb d 48 ≡ false = grind (arith, nat_tests) in
+      ap number_of own_is ∙ decimal_first d (ds ++ h.behind) not_zero
+      ∙ stands_read 10 (d - 48) ds h.behind v.1 n s (lit< tt) v.3 h.suffix (v.4 ∙ ap (λ (k : ℕ). k * 10 ^ length ds + v.1) digit.1) h.fits
+
+-- a run that is no number is read as none
+pub none_is : (b : ℕ) (z : List ℕ) → is_ascii_digit b ≡ true → number_of (b ∷ z) ≡ None → IsNoNumber (b ∷ z)
+none_is b z digit e n s h = let f = number_reads (b ∷ z) n s h in cc
+
+pub none_reads : (b : ℕ) (z : List ℕ) → is_ascii_digit b ≡ true → IsNoNumber (b ∷ z) → number_of (b ∷ z) ≡ None
+none_reads b z digit none = by (number_of (b ∷ z)) refl where
+  by : (o : Option (ℕ × Suffix)) → number_of (b ∷ z) ≡ o → o ≡ None
+  by None e = refl
+  by (Some x) e = absurd (none x.0 x.1 (number_is b z x.0 x.1 digit e))
