@@ -1,15 +1,16 @@
-//! A reader or a writer that moves one byte a call and fails at a chosen call: for tests of what
+//! A reader or a writer that moves one byte a call and fails at one chosen call: for tests of what
 //! stands on streams.
-ghost use Rattle.std.specs.Prelude.{◌≡◌, ◌+◌, ◌≤◌, IfOk, IsErr, OnOk};
+ghost use Rattle.std.specs.Prelude.{◌≡◌, ◌+◌, ◌≤◌, IfOk, IsErrAnd, OnOk};
 ghost use Rattle.std.specs.Io.{ReadsAtMost, WritesAtMost};
+ghost use Rattle.std.specs.IoError.{error_kind};
 ghost use Rattle.std.specs.Io.KnownBytes.{ReadConsumes, WriteAppends};
 ghost use Rattle.report.specs.Faulty.{faulty_inner, faulty_good_calls};
 
 use std::io;
 use std::io::{ErrorKind, Read, Write};
 
-/// A std reader or writer of which a call moves one byte at most, and each call after the first
-/// `good_calls` is an error that moves none.
+/// A std reader or writer of which a call moves one byte at most. The call behind the first
+/// `good_calls` is interrupted and moves none, as if a signal had come; later calls go well again.
 #[derive(Drop)]
 pub struct Faulty<T> {
     inner: T,
@@ -17,7 +18,7 @@ pub struct Faulty<T> {
 }
 
 impl<T> Faulty<T> {
-    /// Limits the reader or writer to this many good calls.
+    /// Lets this many calls of the reader or writer go well before one is interrupted.
     pub fn new(inner: T, good_calls: u64) -> Faulty<T>
         ensures inner { faulty_inner result ≡ inner }
         ensures good_calls { faulty_good_calls result ≡ good_calls }
@@ -32,16 +33,17 @@ impl<T> Faulty<T> {
         self.inner
     }
 
-    // Counts a call, which is an error where no good one is left.
+    // Counts a call, which is interrupted where no good one is left.
     fn begin(&mut self) -> io::Result<()>
         ensures counted { OnOk result (faulty_good_calls self.new + 1 ≡ faulty_good_calls self.old) }
-        ensures fails { faulty_good_calls self.old ≡ 0 → IsErr result }
+        ensures fails { faulty_good_calls self.old ≡ 0 → IsErrAnd result (λ e. error_kind e ≡ ErrorKind.Interrupted) }
         ensures inner { faulty_inner self.new ≡ faulty_inner self.old }
     {
-        if self.good_calls == 0 {
-            return Err(io::Error::from(ErrorKind::Other));
-        }
-        self.good_calls -= 1;
+        let Some(left) = self.good_calls.checked_sub(1) else {
+            self.good_calls = u64::MAX;
+            return Err(io::Error::from(ErrorKind::Interrupted));
+        };
+        self.good_calls = left;
         Ok(())
     }
 }
@@ -55,7 +57,7 @@ impl<R: Read> Read for Faulty<R> {
             (R.remaining (faulty_inner self.new)) result buf.new }
         ensures one { IfOk result (λ n. n ≤ 1) }
         ensures counted { OnOk result (faulty_good_calls self.new + 1 ≡ faulty_good_calls self.old) }
-        ensures fails { faulty_good_calls self.old ≡ 0 → IsErr result }
+        ensures fails { faulty_good_calls self.old ≡ 0 → IsErrAnd result (λ e. error_kind e ≡ ErrorKind.Interrupted) }
     {
         self.begin()?;
         let room = buf.len().min(1);
@@ -72,7 +74,7 @@ impl<W: Write> Write for Faulty<W> {
             (W.contents (faulty_inner self.new)) result buf.now }
         ensures one { IfOk result (λ n. n ≤ 1) }
         ensures counted { OnOk result (faulty_good_calls self.new + 1 ≡ faulty_good_calls self.old) }
-        ensures fails { faulty_good_calls self.old ≡ 0 → IsErr result }
+        ensures fails { faulty_good_calls self.old ≡ 0 → IsErrAnd result (λ e. error_kind e ≡ ErrorKind.Interrupted) }
     {
         self.begin()?;
         let room = buf.len().min(1);

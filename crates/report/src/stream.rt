@@ -30,7 +30,7 @@ pub trait Sink {
     fn put(&mut self, piece: &[u8]) -> Result<usize, Failed>
         requires { IsFalse (has_failed self.old) }
         ensures bound { WritesAtMost result piece.now }
-        ensures some { IfOk result (λ n. 0 < length piece.now → 0 < n) }
+        ensures progress { IfOk result (λ n. 0 < length piece.now → 0 < n) }
         ensures bytes { WriteAppends (contents self.old) (contents self.new) result piece.now }
         ensures counted { calls self.new ≡ calls self.old + 1 }
         ensures failed { IsTrue (has_failed self.new) ↔ IsErr result };

@@ -8,7 +8,7 @@ pub loop-rest-preserved : goal.loop-rest-preserved
 loop-rest-preserved g c =
     let (k, within, rest, written, few, unfailed) = c.loop-rest.invariant in
     let n = c.in-Ok.taken in
-    let some : 0 < n = c.in-Ok.ensures.some (search rules) in
+    let some : 0 < n = c.in-Ok.ensures.progress (search rules) in
     let bytes = c.args.bytes.now in
     let both = Appends-trans _ _ _ _ _ written c.in-Ok.ensures.bytes in
     let joined = ap (λ l. take k bytes ++ take n l) rest ∙ sym (take-add k n bytes) in
