@@ -36,7 +36,8 @@ impl<T> Faulty<T> {
     // Counts a call, which is interrupted where no good one is left.
     fn begin(&mut self) -> io::Result<()>
         ensures counted { OnOk result (faulty_good_calls self.new + 1 ≡ faulty_good_calls self.old) }
-        ensures fails { faulty_good_calls self.old ≡ 0 → IsErrAnd result (λ e. error_kind e ≡ ErrorKind.Interrupted) }
+        ensures fails { faulty_good_calls self.old ≡ 0 →
+            IsErrAnd result (λ e. error_kind e ≡ ErrorKind.Interrupted) }
         ensures inner { faulty_inner self.new ≡ faulty_inner self.old }
     {
         let Some(left) = self.good_calls.checked_sub(1) else {
@@ -57,7 +58,8 @@ impl<R: Read> Read for Faulty<R> {
             (R.remaining (faulty_inner self.new)) result buf.new }
         ensures one { IfOk result (λ n. n ≤ 1) }
         ensures counted { OnOk result (faulty_good_calls self.new + 1 ≡ faulty_good_calls self.old) }
-        ensures fails { faulty_good_calls self.old ≡ 0 → IsErrAnd result (λ e. error_kind e ≡ ErrorKind.Interrupted) }
+        ensures fails { faulty_good_calls self.old ≡ 0 →
+            IsErrAnd result (λ e. error_kind e ≡ ErrorKind.Interrupted) }
     {
         self.begin()?;
         let room = buf.len().min(1);
@@ -74,7 +76,8 @@ impl<W: Write> Write for Faulty<W> {
             (W.contents (faulty_inner self.new)) result buf.now }
         ensures one { IfOk result (λ n. n ≤ 1) }
         ensures counted { OnOk result (faulty_good_calls self.new + 1 ≡ faulty_good_calls self.old) }
-        ensures fails { faulty_good_calls self.old ≡ 0 → IsErrAnd result (λ e. error_kind e ≡ ErrorKind.Interrupted) }
+        ensures fails { faulty_good_calls self.old ≡ 0 →
+            IsErrAnd result (λ e. error_kind e ≡ ErrorKind.Interrupted) }
     {
         self.begin()?;
         let room = buf.len().min(1);
