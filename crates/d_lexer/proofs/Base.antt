@@ -1,5 +1,6 @@
 -- Lists cut in two, and tests.
-use Rattle.std.proofs.Common.{◌≡◌, ℕ, suc, Bool, true, false, cond, List, [], ◌∷◌, ◌++◌, length, take, drop, refl, ap}
+use Rattle.std.proofs.Common.{◌≡◌, ℕ, suc, Bool, true, false, cond, List, [], ◌∷◌, ◌++◌, length, take, take_while, drop, refl, sym, ap, subst, ◌∙◌}
+use Rattle.std.proofs.lemmas.List.Sums.{take_while-cons}
 use Rattle.d_lexer.specs.declared.place.Place.{Place}
 use Rattle.d_lexer.specs.declared.position.Position.{Position}
 use Rattle.d_lexer.specs.Places.{moved, passed}
@@ -26,10 +27,16 @@ pub drop_own : (own rest : List ℕ) → drop (length own) (own ++ rest) ≡ res
 drop_own [] rest = refl
 drop_own (b ∷ own) rest = drop_own own rest
 
+run_cons : (test : ℕ → Bool) (b : ℕ) (z : List ℕ) → run_len test (b ∷ z) ≡ cond (test b) (suc (run_len test z)) 0
+run_cons test b z = ap (λ (xs : List ℕ). length xs) (take_while-cons test b z) ∙ by (test b) where
+  by : (c : Bool) → length (cond c (b ∷ take_while test z) []) ≡ cond c (suc (run_len test z)) 0
+  by true = refl
+  by false = refl
+
 pub run_fills : (test : ℕ → Bool) (own rest : List ℕ) → Fills test own rest → run_len test (own ++ rest) ≡ length own
 run_fills test [] [] h = refl
-run_fills test [] (b ∷ rest) h = let s = h.stops in rw s refl
-run_fills test (b ∷ own) rest h = let s = h.all.0 in rw s (ap suc (run_fills test own rest (record { all = h.all.1; stops = h.stops })))
+run_fills test [] (b ∷ rest) h = let s = h.stops in run_cons test b rest ∙ rw s refl
+run_fills test (b ∷ own) rest h = let s = h.all.0 in run_cons test b (own ++ rest) ∙ rw s (ap suc (run_fills test own rest (record { all = h.all.1; stops = h.stops })))
 
 pub run_is : (test : ℕ → Bool) (own rest : List ℕ) → Fills test own rest → run_of test (own ++ rest) ≡ own
 run_is test own rest h = rw (run_fills test own rest h) (take_own own rest)
@@ -40,9 +47,10 @@ run_more test b z e s = record { own = b ∷ s.own; rest = s.rest; is = ap (λ (
 pub run_splits : (test : ℕ → Bool) (z : List ℕ) → Split (Fills test) (run_len test z) z
 run_splits test [] = record { own = []; rest = []; is = refl; size = refl; holds = record { all = tt; stops = tt } }
 run_splits test (b ∷ z) =
-    cond_is (λ (n : ℕ). Split (Fills test) n (b ∷ z)) (test b) (suc (run_len test z)) 0
+    subst (λ (n : ℕ). Split (Fills test) n (b ∷ z)) (sym (run_cons test b z))
+    (cond_is (λ (n : ℕ). Split (Fills test) n (b ∷ z)) (test b) (suc (run_len test z)) 0
     (λ e. run_more test b z e (run_splits test z))
-    (λ e. record { own = []; rest = b ∷ z; is = refl; size = refl; holds = record { all = tt; stops = e } })
+    (λ e. record { own = []; rest = b ∷ z; is = refl; size = refl; holds = record { all = tt; stops = e } }))
 
 -- ---- passing bytes
 

@@ -4,8 +4,8 @@ use Rattle.std.proofs.lemmas.Bool.{eqb-true}
 use Rattle.d_lexer.specs.declared.token.Mark.{Mark}
 use Rattle.d_lexer.specs.declared.place.Place.{Place}
 use Rattle.d_lexer.specs.declared.place.Place.TheVariants.{Head, Declaration, Predicate, Body}
-use Rattle.d_lexer.specs.Bytes.{is_blank}
-use Rattle.d_lexer.specs.Marks.{mark_in, mark_of, singles, of_head, doubles, settings, shifts, arrows}
+use Rattle.d_lexer.specs.Bytes.{entry_of, is_blank}
+use Rattle.d_lexer.specs.Marks.{mark_of, singles, of_head, doubles, settings, shifts, arrows}
 use Rattle.d_lexer.specs.Tokens.{IsMark, begins}
 use Rattle.d_lexer.specs.Scan.{mark_at, sized}
 use Rattle.d_lexer.proofs.Base.{Split, cond_is}
@@ -22,36 +22,36 @@ and_is : (a b : Bool) → (a && b) ≡ true → (a ≡ true) × (b ≡ true)
 and_is true b e = (refl, e)
 and_is false b e = absurd cc
 
-in_free : (p : Place) (table : List (ℕ × Mark)) (b : ℕ) (k : Mark) → all_free p table ≡ true → mark_in table b ≡ Some k → is_free p b ≡ true
+in_free : (p : Place) (table : List (ℕ × Mark)) (b : ℕ) (k : Mark) → all_free p table ≡ true → entry_of table b ≡ Some k → is_free p b ≡ true
 in_free p [] b k h e = absurd cc
 in_free p (x ∷ table) b k h e =
     let both = and_is (is_free p x.0) (all_free p table) h in
-    cond_is (λ (o : Option Mark). o ≡ Some k → is_free p b ≡ true) (eqb b x.0) (Some x.1) (mark_in table b)
+    cond_is (λ (o : Option Mark). o ≡ Some k → is_free p b ≡ true) (eqb b x.0) (Some x.1) (entry_of table b)
     (λ same _. let s : b ≡ x.0 = eqb-true b x.0 same in rw s both.0)
     (λ other found. in_free p table b k both.1 found)
     e
 
 two_free : (p : Place) (a b : ℕ) (k : Mark) → all_free p settings ≡ true → all_free p doubles ≡ true → all_free p arrows ≡ true →
-    cond (eqb b 61) (mark_in settings a) (cond (eqb a b) (mark_in doubles a) (cond (eqb b 62) (mark_in arrows a) None)) ≡ Some k → is_free p a ≡ true
+    cond (eqb b 61) (entry_of settings a) (cond (eqb a b) (entry_of doubles a) (cond (eqb b 62) (entry_of arrows a) None)) ≡ Some k → is_free p a ≡ true
 two_free p a b k h1 h2 h3 e =
     let P : Option Mark → Type 0 = λ o. o ≡ Some k → is_free p a ≡ true in
-    cond_is P (eqb b 61) (mark_in settings a) (cond (eqb a b) (mark_in doubles a) (cond (eqb b 62) (mark_in arrows a) None))
+    cond_is P (eqb b 61) (entry_of settings a) (cond (eqb a b) (entry_of doubles a) (cond (eqb b 62) (entry_of arrows a) None))
     (λ _ f. in_free p settings a k h1 f)
-    (λ _ f. cond_is P (eqb a b) (mark_in doubles a) (cond (eqb b 62) (mark_in arrows a) None)
+    (λ _ f. cond_is P (eqb a b) (entry_of doubles a) (cond (eqb b 62) (entry_of arrows a) None)
     (λ _ g. in_free p doubles a k h2 g)
-    (λ _ g. cond_is P (eqb b 62) (mark_in arrows a) None (λ _ h. in_free p arrows a k h3 h) (λ _ h. absurd cc) g)
+    (λ _ g. cond_is P (eqb b 62) (entry_of arrows a) None (λ _ h. in_free p arrows a k h3 h) (λ _ h. absurd cc) g)
     f)
     e
 
-three_free : (p : Place) (a b c : ℕ) (k : Mark) → all_free p shifts ≡ true → cond (eqb c 61 && eqb a b) (mark_in shifts a) None ≡ Some k → is_free p a ≡ true
-three_free p a b c k h e = cond_is (λ (o : Option Mark). o ≡ Some k → is_free p a ≡ true) (eqb c 61 && eqb a b) (mark_in shifts a) None (λ _ f. in_free p shifts a k h f) (λ _ f. absurd cc) e
+three_free : (p : Place) (a b c : ℕ) (k : Mark) → all_free p shifts ≡ true → cond (eqb c 61 && eqb a b) (entry_of shifts a) None ≡ Some k → is_free p a ≡ true
+three_free p a b c k h e = cond_is (λ (o : Option Mark). o ≡ Some k → is_free p a ≡ true) (eqb c 61 && eqb a b) (entry_of shifts a) None (λ _ f. in_free p shifts a k h f) (λ _ f. absurd cc) e
 
 pub mark_free : (p : Place) (a : ℕ) (w : List ℕ) (k : Mark) → mark_of p (a ∷ w) ≡ Some k → is_free p a ≡ true
 unfolding mark_of
 mark_free Head a [] k e = in_free Head of_head a k refl e
 mark_free Declaration a [] k e = in_free Declaration singles a k refl e
 mark_free Predicate a [] k e =
-    cond_is (λ (o : Option Mark). o ≡ Some k → is_free Predicate a ≡ true) (eqb a 47) _ (mark_in singles a)
+    cond_is (λ (o : Option Mark). o ≡ Some k → is_free Predicate a ≡ true) (eqb a 47) _ (entry_of singles a)
     (λ same _. let s : a ≡ 47 = eqb-true a 47 same in rw s refl) (λ _ f. in_free Predicate singles a k refl f) e
 mark_free Body a [] k e = in_free Body singles a k refl e
 mark_free Head a (b ∷ []) k e = absurd cc

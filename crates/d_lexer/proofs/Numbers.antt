@@ -1,5 +1,5 @@
 -- A run is read as a number exactly where it is one.
-use Rattle.std.proofs.Common.{◌≡◌, ◌≢◌, eqb, ◌||◌, ◌&&◌, ℕ, suc, ◌+◌, ◌*◌, ◌-◌, ◌^◌, ◌<◌, ◌≤◌, Bool, true, false, cond, List, [], ◌∷◌, ◌++◌, length, Option, Some, None, refl, sym, ap, subst, ◌∙◌, arith, lit<, nat_lt}
+use Rattle.std.proofs.Common.{◌≡◌, ◌≢◌, eqb, ◌||◌, ◌&&◌, ℕ, suc, ◌+◌, ◌*◌, ◌-◌, ◌^◌, ◌<◌, ◌≤◌, Bool, true, false, cond, List, [], ◌∷◌, ◌++◌, length, Option, Some, None, refl, sym, ap, subst, ◌∙◌, arith, lit<, lit≤, nat_lt}
 use Rattle.std.proofs.Math.Nat.{pow-zero, pow-suc, add-mul, mul_assoc, mul_comm, one-le-pow, le-mul_of_pos_right}
 use Rattle.std.proofs.lemmas.Bool.{eqb-true}
 use Rattle.std.proofs.lemmas.Bool.Decides.{nat_tests}
@@ -7,7 +7,7 @@ use Rattle.std.specs.Prelude.{option_and_then, nat_le}
 use Rattle.std.specs.Char.{is_ascii_digit}
 use Rattle.d_lexer.specs.declared.token.Suffix.{Suffix}
 use Rattle.d_lexer.specs.declared.token.Suffix.TheVariants.{Absent, Unsigned, Long, UnsignedLong}
-use Rattle.d_lexer.specs.Numbers.{digit_of, is_u, is_l, suffix_of, is_x, StandFor, IsBase, hexadecimal, octal, decimal, IsNumber, IsNoNumber, with_suffix, number_by, number_from, hex_by, zero_from, number_of}
+use Rattle.d_lexer.specs.Numbers.{digit_of, below, is_u, is_l, suffix_of, is_x, StandFor, IsBase, hexadecimal, octal, decimal, IsNumber, IsNoNumber, with_suffix, number_by, number_from, hex_by, zero_from, number_of}
 use Rattle.d_lexer.proofs.Base.{cond_is}
 
 -- one digit more, behind a first part
@@ -102,9 +102,9 @@ suffix_letter a (b ∷ c ∷ d ∷ z) s e = absurd cc
 
 no_digit : (base a : ℕ) → (is_u a || is_l a) ≡ true → digit_of base a ≡ None
 no_digit base a h =
-    let e1 : is_ascii_digit a ≡ false = grind (arith, nat_tests) in
-    let e2 : (eqb base 16 && nat_le 97 a && nat_le a 102) ≡ false = grind (arith, nat_tests) in
-    let e3 : (eqb base 16 && nat_le 65 a && nat_le a 70) ≡ false = grind (arith, nat_tests) in
+    let e1 : (nat_le 48 a && nat_le a 57) ≡ false = grind (arith, nat_tests) in
+    let e2 : (nat_le 97 a && nat_le a 102) ≡ false = grind (arith, nat_tests) in
+    let e3 : (nat_le 65 a && nat_le a 70) ≡ false = grind (arith, nat_tests) in
     rw (e1, e2, e3) refl
 
 some_none : (o : Option ℕ) (k : ℕ) → o ≡ Some k → o ≡ None → ⊥
@@ -176,6 +176,12 @@ zero_is (c ∷ d ∷ z) n s e =
     (λ _ f. octal_is (c ∷ (d ∷ z)) n s (read_is 8 0 (c ∷ (d ∷ z)) n s (lit< tt) f))
     e
 
+ten_digit : (b : ℕ) → is_ascii_digit b ≡ true → digit_of 10 b ≡ Some (b - 48)
+ten_digit b digit =
+    let e1 : (nat_le 48 b && nat_le b 57) ≡ true = grind (arith, nat_tests) in
+    let e2 : nat_lt (b - 48) 10 ≡ true = grind (arith, nat_tests) in
+    rw (e1, e2) refl
+
 -- what is read of a run that begins with a digit is its number
 pub number_is : (b : ℕ) (z : List ℕ) (n : ℕ) (s : Suffix) → is_ascii_digit b ≡ true → number_of (b ∷ z) ≡ Some (n, s) → IsNumber (b ∷ z) n s
 unfolding number_of
@@ -186,7 +192,7 @@ number_is b z n s digit e =
     let low : b - 48 < 2 ^ 64 = grind (arith, nat_tests) in
     let below : nat_lt (b - 48) 10 ≡ true = grind (arith, nat_tests) in
     let not_zero : b ≢ 48 = λ (is : b ≡ 48). grind (arith, nat_tests) in
-    decimal_is b z n s not_zero (rw (digit, below) refl) (read_is 10 (b - 48) z n s low f))
+    decimal_is b z n s not_zero (ten_digit b digit) (read_is 10 (b - 48) z n s low f))
     e
 
 -- ---- a number is read
@@ -220,15 +226,20 @@ stands_read base acc (d ∷ digits) behind m n s positive value tail n_is low =
     rw (dk, below) more
 
 -- a digit of a base up to ten is an ASCII digit less 48
-plain_digit : (base d k : ℕ) → eqb base 16 ≡ false → digit_of base d ≡ Some k → (is_ascii_digit d ≡ true) × (k ≡ d - 48)
-plain_digit base d k small e = by (is_ascii_digit d) (nat_lt (d - 48) base) e refl where
-  letters : (x y : Bool) → cond (eqb base 16 && x && y) (Some (d - 87)) None ≡ Some k → ⊥
-  letters x y f = let g : cond (eqb base 16 && x && y) (Some (d - 87)) None ≡ None = rw small refl in some_none _ k f g
+plain_digit : (base d k : ℕ) → base ≤ 10 → digit_of base d ≡ Some k → (is_ascii_digit d ≡ true) × (k ≡ d - 48)
+plain_digit base d k small e = by (nat_le 48 d && nat_le d 57) (nat_le 97 d && nat_le d 102) (nat_le 65 d && nat_le d 70) refl refl refl e where
+  high : (v : ℕ) → 10 ≤ v → below base (Some v) ≡ Some k → ⊥
+  high v ten f = cond_is (λ (o : Option ℕ). o ≡ Some k → ⊥) (nat_lt v base) (Some v) None (λ low _. absurd (grind (arith, nat_tests))) (λ _ g. cc) f
 
-  by : (c low : Bool) → cond c (cond low (Some (d - 48)) None) (cond (eqb base 16 && nat_le 97 d && nat_le d 102) (Some (d - 87)) (cond (eqb base 16 && nat_le 65 d && nat_le d 70) (Some (d - 55)) None)) ≡ Some k → is_ascii_digit d ≡ c → (is_ascii_digit d ≡ true) × (k ≡ d - 48)
-  by true true f is = (is, cc)
-  by true false f is = absurd cc
-  by false low f is = absurd (some_none _ k f (rw small refl))
+  low_digit : (v : ℕ) → below base (Some v) ≡ Some k → k ≡ v
+  low_digit v f = cond_is (λ (o : Option ℕ). o ≡ Some k → k ≡ v) (nat_lt v base) (Some v) None (λ _ g. cc) (λ _ g. absurd cc) f
+
+  by : (x y z : Bool) → (nat_le 48 d && nat_le d 57) ≡ x → (nat_le 97 d && nat_le d 102) ≡ y → (nat_le 65 d && nat_le d 70) ≡ z →
+      below base (cond x (Some (d - 48)) (cond y (Some (d - 87)) (cond z (Some (d - 55)) None))) ≡ Some k → (is_ascii_digit d ≡ true) × (k ≡ d - 48)
+  by true y z ex ey ez f = (grind (arith, nat_tests), low_digit (d - 48) f)
+  by false true z ex ey ez f = absurd (high (d - 87) (grind (arith, nat_tests)) f)
+  by false false true ex ey ez f = absurd (high (d - 55) (grind (arith, nat_tests)) f)
+  by false false false ex ey ez f = absurd cc
 
 octal_first : (c : ℕ) (z : List ℕ) → is_x c ≡ false → zero_from (c ∷ z) ≡ number_from 8 0 (c ∷ z)
 octal_first c z e = rw e refl
@@ -237,7 +248,7 @@ zero_octal : (ds behind : List ℕ) (m : ℕ) (s : Suffix) → StandFor 8 ds m �
 unfolding number_from
 zero_octal [] [] m s value tail = refl
 zero_octal [] (b ∷ z) m s value tail = let letter = suffix_letter b z s tail in octal_first b z (grind (arith, nat_tests))
-zero_octal (d ∷ ds) behind m s value tail = let digit = (plain_digit 8 d value.0 refl value.2).0 in octal_first d (ds ++ behind) (grind (arith, nat_tests))
+zero_octal (d ∷ ds) behind m s value tail = let digit = (plain_digit 8 d value.0 (lit≤ tt) value.2).0 in octal_first d (ds ++ behind) (grind (arith, nat_tests))
 
 hex_first : (x d k : ℕ) (z : List ℕ) → is_x x ≡ true → digit_of 16 d ≡ Some k → number_of (48 ∷ (x ∷ (d ∷ z))) ≡ number_from 16 0 (d ∷ z)
 unfolding number_of
@@ -273,7 +284,7 @@ number_reads own n s h = by h.base h.before h.digits h.told h.is h.value where
   by base before digits (decimal d ds b_is before_is digits_is other) is value =
       let v : StandFor 10 (d ∷ ds) n = subst (λ (xs : List ℕ). StandFor 10 xs n) digits_is (subst (λ (b : ℕ). StandFor b digits n) b_is value) in
       let own_is : own ≡ d ∷ (ds ++ h.behind) = rw (digits_is, before_is) at is in
-      let digit = plain_digit 10 d v.0 refl v.2 in
+      let digit = plain_digit 10 d v.0 (lit≤ tt) v.2 in
       let not_zero : eqb d 48 ≡ false = grind (arith, nat_tests) in
       ap number_of own_is ∙ decimal_first d (ds ++ h.behind) not_zero
       ∙ stands_read 10 (d - 48) ds h.behind v.1 n s (lit< tt) v.3 h.suffix (v.4 ∙ ap (λ (k : ℕ). k * 10 ^ length ds + v.1) digit.1) h.fits

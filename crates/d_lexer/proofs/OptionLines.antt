@@ -1,9 +1,9 @@
 -- A line is read as an option line exactly where it is one.
-use Rattle.std.proofs.Common.{◌≡◌, eqb, ◌&&◌, ℕ, Bool, true, false, List, [], ◌∷◌, ◌++◌, Option, Some, None, refl, ap, ◌∙◌}
+use Rattle.std.proofs.Common.{◌≡◌, eqb, ◌&&◌, ℕ, Bool, true, false, List, [], ◌∷◌, ◌++◌, Option, Some, None, Bor, ◌≢◌, MatchOption, refl, ap, ◌∙◌}
 use Rattle.std.proofs.lemmas.Bool.{eqb-true, eq-eqb}
 use Rattle.std.specs.List.{AllByRecursion}
 use Rattle.std.specs.Prelude.{codes}
-use Rattle.d_lexer.specs.OptionLine.{is_space, is_trailing, AreSpaces, AreWords, option_words, IsOptionLine, behind, skip_spaces, spaces, is_trail, and_then, ends, next_word, after_words, is_option}
+use Rattle.d_lexer.specs.OptionLine.{is_space, is_trailing, AreSpaces, AreWords, option_words, IsOptionLine, Finds, behind, skip_spaces, spaces, is_trail, and_then, ends, next_word, after_words, is_option}
 use Rattle.d_lexer.proofs.Base.{cond_is}
 
 both_true : (a b : Bool) → (a && b) ≡ true → (a ≡ true) × (b ≡ true)
@@ -44,7 +44,6 @@ spaces_is (b ∷ z) r e =
     e
 
 trail_is : (z : List ℕ) → is_trail z ≡ true → AllByRecursion (λ c. is_trailing c ≡ true) z
-unfolding is_trail
 trail_is [] e = tt
 trail_is (b ∷ z) e = let h = both_true (is_trailing b) (is_trail z) e in (h.0, trail_is z h.1)
 
@@ -99,7 +98,6 @@ spaces_own [] w r h word = absurd h
 spaces_own (c ∷ own) w r h word = let s = h.0 in rw (s, skip_own own w r h.1 word) refl
 
 trail_own : (z : List ℕ) → AllByRecursion (λ c. is_trailing c ≡ true) z → is_trail z ≡ true
-unfolding is_trail
 trail_own [] h = refl
 trail_own (b ∷ z) h = rw (h.0, trail_own z h.1) refl
 
@@ -126,3 +124,11 @@ no_option_reads own none = by (is_option own) refl where
   by : (c : Bool) → is_option own ≡ c → c ≡ false
   by true e = absurd (none (option_is own e))
   by false e = refl
+
+-- what is left behind a prefix
+pub behind_found : (w z : List ℕ) (r : Option (Bor (List ℕ))) → MatchOption r ((rest : List ℕ) → z ≢ w ++ rest) (λ x. z ≡ w ++ x.now) → Finds (λ x. x.now) r (behind w z)
+behind_found w z (Some x) h = ap (behind w) h ∙ behind_own w x.now
+behind_found w z None h = by (behind w z) refl where
+  by : (o : Option (List ℕ)) → behind w z ≡ o → o ≡ None
+  by None e = refl
+  by (Some rest) e = absurd (h rest (behind_is w z rest e))

@@ -4,23 +4,6 @@ use Rattle.d_lexer.specs.Scan.{run_len, one_longer, put, skip_one}
 use Rattle.d_lexer.specs.declared.fault.Flaw.{Flaw}
 use Rattle.std.specs.List.{prefix_len}
 
-take_more : (n b : ℕ) (z : List ℕ) → length (take (1 + n) (b ∷ z)) ≡ suc (length (take n z))
-take_more n b z = let e : 1 + n ≡ suc n = omega arith in rw e refl
-
-pub length_run : (test : ℕ → Bool) (z : List ℕ) → length (take_while test z) ≡ run_len test z
-length_run test [] = refl
-length_run test (b ∷ z) = by (test b) (length_run test z) where
-  by : (c : Bool) → length (take_while test z) ≡ run_len test z → length (take (cond c (1 + prefix_len test z) 0) (b ∷ z)) ≡ cond c (suc (run_len test z)) 0
-  by true more = take_more (prefix_len test z) b z ∙ ap suc more
-  by false more = refl
-
-pub run_within : (test : ℕ → Bool) (z : List ℕ) → run_len test z ≤ length z
-run_within test [] = omega arith
-run_within test (b ∷ z) = by (test b) (run_within test z) where
-  by : (c : Bool) → run_len test z ≤ length z → cond c (suc (run_len test z)) 0 ≤ suc (length z)
-  by true more = omega arith
-  by false more = omega arith
-
 -- so many more
 abbrev pub longer : ℕ → Option ℕ → Option ℕ
 longer n None = None

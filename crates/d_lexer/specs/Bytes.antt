@@ -1,5 +1,6 @@
 -- Kinds of bytes.
-use Rattle.std.specs.Prelude.{ℕ, Bool, true, false, not, ◌&&◌, ◌||◌, if◌then◌else◌, ◌==◌, nat_le, List, [], ◌∷◌, Option, Some, None}
+use Rattle.std.specs.Prelude.{ℕ, Bool, true, false, not, ◌&&◌, ◌||◌, if◌then◌else◌, ◌==◌, nat_le, List, [], ◌∷◌, Option, Some, None, codes}
+use Rattle.std.specs.Str.{bytes_eq}
 use Rattle.std.specs.Char.{is_ascii_alphabetic, is_ascii_alphanumeric}
 
 abbrev pub is_blank : ℕ → Bool
@@ -28,21 +29,23 @@ abbrev pub begins_comment : List ℕ → Bool
 begins_comment [] = false
 begins_comment (b ∷ z) = b == 47 && next_is 42 z
 
--- what a letter after a backslash stands for
+-- what a table holds for a byte
+abbrev pub entry_of : {X : Type 0} → List (ℕ × X) → ℕ → Option X
+entry_of [] b = None
+entry_of (e ∷ es) b = if b == e.0 then Some e.1 else entry_of es b
+
+-- what may stand behind a backslash: a b f n r t v \ " ' ?
+abbrev pub escapes : List (ℕ × ℕ)
+escapes = (97, 7) ∷ (98, 8) ∷ (102, 12) ∷ (110, 10) ∷ (114, 13) ∷ (116, 9) ∷ (118, 11) ∷ (92, 92) ∷ (34, 34) ∷ (39, 39) ∷ (63, 63) ∷ []
+
+-- the byte that an escape stands for
 abbrev pub escape_of : ℕ → Option ℕ
-escape_of e =
-    if e == 97 then Some 7 else (if e == 98 then Some 8 else (if e == 102 then Some 12 else (if e == 110 then Some 10 else (if e == 114 then Some 13 else (if e == 116 then Some 9
-    else (if e == 118 then Some 11 else (if e == 92 then Some 92 else (if e == 34 then Some 34 else (if e == 39 then Some 39 else (if e == 63 then Some 63 else None))))))))))
+escape_of e = entry_of escapes e
 
 -- a byte that stands for itself in a text constant
 abbrev pub is_plain : ℕ → Bool
 is_plain b = not (b == 34 || b == 92 || b == 10 || b == 0)
 
--- self, this
-abbrev pub is_same : List ℕ → List ℕ → Bool
-is_same [] [] = true
-is_same (a ∷ x) (b ∷ y) = a == b && is_same x y
-is_same x y = false
-
+-- the words that begin a declaration
 abbrev pub is_declaring : List ℕ → Bool
-is_declaring w = is_same w (115 ∷ 101 ∷ 108 ∷ 102 ∷ []) || is_same w (116 ∷ 104 ∷ 105 ∷ 115 ∷ [])
+is_declaring w = bytes_eq w (codes "self") || bytes_eq w (codes "this")

@@ -1,13 +1,10 @@
 -- Marks.
 use Rattle.std.specs.Prelude.{ℕ, ◌&&◌, if◌then◌else◌, ◌==◌, List, [], ◌∷◌, Option, Some, None}
+use Rattle.d_lexer.specs.Bytes.{entry_of}
 use Rattle.d_lexer.specs.declared.token.Mark.{Mark}
 use Rattle.d_lexer.specs.declared.token.Mark.TheVariants as m
 use Rattle.d_lexer.specs.declared.place.Place.{Place}
 use Rattle.d_lexer.specs.declared.place.Place.TheVariants.{Head, Declaration, Predicate, Body}
-
-abbrev pub mark_in : List (ℕ × Mark) → ℕ → Option Mark
-mark_in [] b = None
-mark_in (e ∷ es) b = if b == e.0 then Some e.1 else mark_in es b
 
 -- + - * / % & | ^ ~ < > ! ? : = ( ) [ ] { } , ;
 abbrev pub singles : List (ℕ × Mark)
@@ -38,18 +35,18 @@ arrows = (45, m.Arrow) ∷ []
 
 -- In a predicate a slash is the closing one until the next token says that it is not.
 abbrev pub mark_one : Place → ℕ → Option Mark
-mark_one Head a = mark_in of_head a
-mark_one Declaration a = mark_in singles a
-mark_one Predicate a = if a == 47 then Some m.ClosingSlash else mark_in singles a
-mark_one Body a = mark_in singles a
+mark_one Head a = entry_of of_head a
+mark_one Declaration a = entry_of singles a
+mark_one Predicate a = if a == 47 then Some m.ClosingSlash else entry_of singles a
+mark_one Body a = entry_of singles a
 
 abbrev pub mark_two : Place → ℕ → ℕ → Option Mark
 mark_two Head a b = None
-mark_two p a b = if b == 61 then mark_in settings a else (if a == b then mark_in doubles a else (if b == 62 then mark_in arrows a else None))
+mark_two p a b = if b == 61 then entry_of settings a else (if a == b then entry_of doubles a else (if b == 62 then entry_of arrows a else None))
 
 abbrev pub mark_three : Place → ℕ → ℕ → ℕ → Option Mark
 mark_three Head a b c = None
-mark_three p a b c = if c == 61 && a == b then mark_in shifts a else None
+mark_three p a b c = if c == 61 && a == b then entry_of shifts a else None
 
 -- the mark of these bytes in this place
 unfoldable pub mark_of : Place → List ℕ → Option Mark

@@ -1,15 +1,19 @@
 -- Numbers: what a run of letters and digits stands for.
 use Rattle.std.specs.Prelude.{◌≡◌, ◌≢◌, ℕ, ◌+◌, ◌*◌, ◌-◌, ◌^◌, ◌<◌, Bool, true, ◌&&◌, ◌||◌, if◌then◌else◌, ◌==◌, nat_le, nat_lt, List, [], ◌∷◌, ◌++◌, length, Option, Some, None, option_and_then}
-use Rattle.std.specs.Char.{is_ascii_digit}
 use Rattle.d_lexer.specs.declared.token.Suffix.{Suffix}
 use Rattle.d_lexer.specs.declared.token.Suffix.TheVariants.{Absent, Unsigned, Long, UnsignedLong}
 
--- what a digit of the base stands for
+-- what a digit stands for: 0 to 9, then a to f in either case
+abbrev pub digit_value : ℕ → Option ℕ
+digit_value d = if nat_le 48 d && nat_le d 57 then Some (d - 48) else (if nat_le 97 d && nat_le d 102 then Some (d - 87) else (if nat_le 65 d && nat_le d 70 then Some (d - 55) else None))
+
+abbrev pub below : ℕ → Option ℕ → Option ℕ
+below base None = None
+below base (Some k) = if nat_lt k base then Some k else None
+
+-- the same, where it is a digit of the base
 abbrev pub digit_of : ℕ → ℕ → Option ℕ
-digit_of base d =
-    if is_ascii_digit d then (if nat_lt (d - 48) base then Some (d - 48) else None)
-    else (if base == 16 && nat_le 97 d && nat_le d 102 then Some (d - 87)
-    else (if base == 16 && nat_le 65 d && nat_le d 70 then Some (d - 55) else None))
+digit_of base d = below base (digit_value d)
 
 -- the letters behind the digits: u, l, ul, ll or ull, each in either case
 abbrev pub is_u : ℕ → Bool

@@ -1,6 +1,6 @@
 -- Option lines.
 use Rattle.std.specs.Prelude.{◌≡◌, ℕ, Bool, true, false, ◌&&◌, ◌||◌, if◌then◌else◌, ◌==◌, List, [], ◌∷◌, ◌++◌, Option, Some, None, codes}
-use Rattle.std.specs.List.{AllByRecursion}
+use Rattle.std.specs.List.{AllByRecursion, list_all}
 
 abbrev pub is_space : ℕ → Bool
 is_space b = b == 32 || b == 9
@@ -45,9 +45,8 @@ unfoldable pub spaces : List ℕ → Option (List ℕ)
 spaces [] = None
 spaces (b ∷ bytes) = if is_space b then Some (skip_spaces bytes) else None
 
-unfoldable pub is_trail : List ℕ → Bool
-is_trail [] = true
-is_trail (b ∷ bytes) = is_trailing b && is_trail bytes
+abbrev pub is_trail : List ℕ → Bool
+is_trail bytes = list_all is_trailing bytes
 
 abbrev pub and_then : Option (List ℕ) → (List ℕ → Option (List ℕ)) → Option (List ℕ)
 and_then None k = None

@@ -1,5 +1,5 @@
 -- The tokens from left to right.
-use Rattle.std.specs.Prelude.{◌≡◌, ℕ, zero, suc, ◌+◌, ◌≤◌, Bool, true, false, ◌&&◌, if◌then◌else◌, ◌==◌, List, [], ◌∷◌, take, Option, Some, None, Result, Ok, Err}
+use Rattle.std.specs.Prelude.{◌≡◌, ℕ, zero, suc, ◌+◌, ◌≤◌, Bool, true, false, ◌&&◌, if◌then◌else◌, ◌==◌, List, [], ◌∷◌, length, take, take_while, Option, Some, None, Result, Ok, Err}
 use Rattle.std.specs.Char.{is_ascii_digit}
 use Rattle.d_lexer.specs.declared.token.Mark.{Mark}
 use Rattle.d_lexer.specs.declared.token.Suffix.{Suffix}
@@ -44,9 +44,9 @@ abbrev pub ◌>>=◌ : {A B : Type 0} → Result A Flaw → (A → Result B Flaw
 
 -- ---- parts
 
+-- how many bytes at the front pass
 abbrev pub run_len : (ℕ → Bool) → List ℕ → ℕ
-run_len test [] = 0
-run_len test (b ∷ z) = if test b then suc (run_len test z) else 0
+run_len test z = length (take_while test z)
 
 abbrev pub run_of : (ℕ → Bool) → List ℕ → List ℕ
 run_of test z = take (run_len test z) z

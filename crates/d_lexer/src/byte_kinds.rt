@@ -28,48 +28,31 @@ pub(crate) fn is_run_byte(b: u8) -> bool
     is_word_byte(b) || b == b'.' || b == b'-' || b == b'+' || b == b':' || b == b'*' || b == b'?'
 }
 
-#[tactic(auto, using(crate::proofs::Steps::length_run, crate::proofs::Steps::run_within))]
+/// How many bytes at the front go on a word.
 pub(crate) fn word_len(bytes: &[u8]) -> usize
     ensures is { result ≡ scan.run_len spec.is_word_byte bytes.now }
     ensures within { result ≤ length bytes.now }
 {
-    word_len_count(bytes)
-}
-
-fn word_len_count(bytes: &[u8]) -> usize
-    ensures { result ≡ length (take_while spec.is_word_byte bytes.now) }
-{
     bytes.iter().take_while(|b| is_word_byte(**b)).count()
 }
 
-#[tactic(auto, using(crate::proofs::Steps::length_run, crate::proofs::Steps::run_within))]
+/// How many bytes at the front go on a description run.
 pub(crate) fn run_len(bytes: &[u8]) -> usize
     ensures is { result ≡ scan.run_len spec.is_run_byte bytes.now }
     ensures within { result ≤ length bytes.now }
 {
-    run_len_count(bytes)
-}
-
-fn run_len_count(bytes: &[u8]) -> usize
-    ensures { result ≡ length (take_while spec.is_run_byte bytes.now) }
-{
     bytes.iter().take_while(|b| is_run_byte(**b)).count()
 }
 
-#[tactic(auto, using(crate::proofs::Steps::length_run, crate::proofs::Steps::run_within))]
+/// How many bytes the line has, without its line feed.
 pub(crate) fn line_len(bytes: &[u8]) -> usize
     ensures is { result ≡ scan.run_len spec.is_inside bytes.now }
     ensures within { result ≤ length bytes.now }
 {
-    line_len_count(bytes)
-}
-
-fn line_len_count(bytes: &[u8]) -> usize
-    ensures { result ≡ length (take_while spec.is_inside bytes.now) }
-{
     bytes.iter().take_while(|b| **b != b'\n').count()
 }
 
+/// How many bytes a comment has behind its `/*`; none where it has no end.
 #[tactic(auto, unfolding(crate::specs::Scan::comment_from), using(crate::proofs::Steps::longer_one))]
 pub(crate) fn comment_len(bytes: &[u8]) -> Option<usize>
     ensures is { result ≡ scan.comment_from bytes.now }

@@ -8,25 +8,13 @@ use crate::token::{Mark, Token, TokenKind};
 fn is_brace(token: &Token) -> bool
     ensures { result ≡ spec.is_brace token.now.kind }
 {
-    match token.kind {
-        TokenKind::Mark(mark) => match mark {
-            Mark::OpenBrace => true,
-            _ => false,
-        },
-        _ => false,
-    }
+    matches!(token.kind, TokenKind::Mark(Mark::OpenBrace))
 }
 
 fn is_closing(token: &Token) -> bool
     ensures { result ≡ spec.is_closing token.now.kind }
 {
-    match token.kind {
-        TokenKind::Mark(mark) => match mark {
-            Mark::ClosingSlash => true,
-            _ => false,
-        },
-        _ => false,
-    }
+    matches!(token.kind, TokenKind::Mark(Mark::ClosingSlash))
 }
 
 // The test says whether an opening brace comes next.

@@ -10,17 +10,17 @@ use thiserror::Error;
 /// Why a script has no tokens. A line is that on which the refused token, comment, option line or byte begins.
 #[derive(Clone, Copy, Debug, PartialEq, Eq, Error)]
 pub enum LexFault {
-    #[error("the script is over {limit} bytes long", limit = MOST_BYTES)]
+    #[error("the script has more than {most} bytes", most = MOST_BYTES)]
     TooLong,
-    #[error("line {line}: no token begins with this byte here, or a text constant holds a zero byte")]
+    #[error("line {line}: a byte that no token has here")]
     BadByte { line: usize },
-    #[error("line {line}: a comment or a text constant has no end")]
+    #[error("line {line}: a comment or a text constant without an end")]
     Unclosed { line: usize },
-    #[error("line {line}: not a number, or one over 2^64-1")]
+    #[error("line {line}: not an integer constant below 2^64")]
     Constant { line: usize },
     #[error("line {line}: an unknown escape in a text constant")]
     Escape { line: usize },
-    #[error("line {line}: the one option line is `#pragma D option quiet`")]
+    #[error("line {line}: an option line other than `#pragma D option quiet`")]
     OptionLine { line: usize },
     #[error("out of memory")]
     Memory,

@@ -87,9 +87,7 @@ fn token_at(alloc: Global, place: Place, b: u8, rest: &[u8]) -> Result<Front, St
 {
     match place {
         Place::Head => head_at(alloc, b, rest),
-        Place::Declaration => inside_at(alloc, Place::Declaration, b, rest),
-        Place::Predicate => inside_at(alloc, Place::Predicate, b, rest),
-        Place::Body => inside_at(alloc, Place::Body, b, rest),
+        inside => inside_at(alloc, inside, b, rest),
     }
 }
 
@@ -132,12 +130,7 @@ fn is_first(pos: Position, b: u8, rest: &[u8]) -> bool
 fn is_hash(place: Place, pos: Position, b: u8) -> bool
     ensures { result ≡ spec.is_hash place pos b }
 {
-    match place {
-        Place::Head => pos.fresh && b == b'#',
-        Place::Declaration => false,
-        Place::Predicate => false,
-        Place::Body => false,
-    }
+    matches!(place, Place::Head) && pos.fresh && b == b'#'
 }
 
 #[tactic(auto, unfolding(crate::specs::Scan::front_at))]

@@ -13,6 +13,8 @@ mod option_line;
 mod place;
 mod position;
 mod scanner;
+#[cfg(test)]
+mod tests;
 mod text_constant;
 mod token;
 mod words;

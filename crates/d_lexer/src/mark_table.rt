@@ -1,6 +1,7 @@
 //! Marks.
 
 ghost use Rattle.std.specs.Prelude.{◌≡◌, ◌≤◌, length, [], ◌∷◌};
+ghost use Rattle.d_lexer.specs.Bytes.{entry_of};
 ghost use Rattle.d_lexer.specs.Marks as spec;
 ghost use Rattle.d_lexer.specs.Scan as scan;
 ghost use Rattle.d_lexer.specs.declared.place.Place.TheVariants.{Body};
@@ -9,7 +10,7 @@ use crate::place::Place;
 use crate::token::Mark;
 
 fn single(a: u8) -> Option<Mark>
-    ensures { result ≡ spec.mark_in spec.singles a }
+    ensures { result ≡ entry_of spec.singles a }
 {
     match a {
         b'+' => Some(Mark::Plus),
@@ -40,7 +41,7 @@ fn single(a: u8) -> Option<Mark>
 }
 
 fn of_head(a: u8) -> Option<Mark>
-    ensures { result ≡ spec.mark_in spec.of_head a }
+    ensures { result ≡ entry_of spec.of_head a }
 {
     match a {
         b',' => Some(Mark::Comma),
@@ -53,7 +54,7 @@ fn of_head(a: u8) -> Option<Mark>
 }
 
 fn double(a: u8) -> Option<Mark>
-    ensures { result ≡ spec.mark_in spec.doubles a }
+    ensures { result ≡ entry_of spec.doubles a }
 {
     match a {
         b'+' => Some(Mark::Increment),
@@ -68,7 +69,7 @@ fn double(a: u8) -> Option<Mark>
 }
 
 fn setting(a: u8) -> Option<Mark>
-    ensures { result ≡ spec.mark_in spec.settings a }
+    ensures { result ≡ entry_of spec.settings a }
 {
     match a {
         b'<' => Some(Mark::LessEqual),
@@ -92,15 +93,8 @@ fn mark_one(place: Place, a: u8) -> Option<Mark>
 {
     match place {
         Place::Head => of_head(a),
-        Place::Declaration => single(a),
-        Place::Predicate => {
-            if a == b'/' {
-                Some(Mark::ClosingSlash)
-            } else {
-                single(a)
-            }
-        }
-        Place::Body => single(a),
+        Place::Predicate if a == b'/' => Some(Mark::ClosingSlash),
+        _ => single(a),
     }
 }
 
@@ -137,9 +131,7 @@ fn mark_two(place: Place, a: u8, b: u8) -> Option<Mark>
 {
     match place {
         Place::Head => None,
-        Place::Declaration => two(a, b),
-        Place::Predicate => two(a, b),
-        Place::Body => two(a, b),
+        _ => two(a, b),
     }
 }
 
@@ -148,9 +140,7 @@ fn mark_three(place: Place, a: u8, b: u8, c: u8) -> Option<Mark>
 {
     match place {
         Place::Head => None,
-        Place::Declaration => three(a, b, c),
-        Place::Predicate => three(a, b, c),
-        Place::Body => three(a, b, c),
+        _ => three(a, b, c),
     }
 }
 

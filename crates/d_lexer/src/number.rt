@@ -9,28 +9,13 @@ use crate::token::Suffix;
 fn digit_of(base: u64, d: u8) -> Option<u64>
     ensures { result ≡ spec.digit_of base d }
 {
-    if d.is_ascii_digit() {
-        let value = u64::from(d - b'0');
-        if value < base { Some(value) } else { None }
-    } else if base == 16 && b'a' <= d && d <= b'f' {
-        Some(u64::from(d - 87))
-    } else if base == 16 && b'A' <= d && d <= b'F' {
-        Some(u64::from(d - 55))
-    } else {
-        None
-    }
-}
-
-fn is_u(b: u8) -> bool
-    ensures { result ≡ spec.is_u b }
-{
-    b == b'u' || b == b'U'
-}
-
-fn is_l(b: u8) -> bool
-    ensures { result ≡ spec.is_l b }
-{
-    b == b'l' || b == b'L'
+    let value = match d {
+        b'0'..=b'9' => u64::from(d - b'0'),
+        b'a'..=b'f' => u64::from(d - b'a' + 10),
+        b'A'..=b'F' => u64::from(d - b'A' + 10),
+        _ => return None,
+    };
+    if value < base { Some(value) } else { None }
 }
 
 #[tactic(auto, unfolding(crate::specs::Numbers::suffix_of))]
@@ -39,31 +24,11 @@ fn suffix_of(bytes: &[u8]) -> Option<Suffix>
 {
     match bytes {
         [] => Some(Suffix::Absent),
-        [a] => {
-            if is_u(*a) {
-                Some(Suffix::Unsigned)
-            } else if is_l(*a) {
-                Some(Suffix::Long)
-            } else {
-                None
-            }
-        }
-        [a, b] => {
-            if is_u(*a) && is_l(*b) {
-                Some(Suffix::UnsignedLong)
-            } else if is_l(*a) && is_l(*b) {
-                Some(Suffix::Long)
-            } else {
-                None
-            }
-        }
-        [a, b, c] => {
-            if is_u(*a) && is_l(*b) && is_l(*c) {
-                Some(Suffix::UnsignedLong)
-            } else {
-                None
-            }
-        }
+        [b'u' | b'U'] => Some(Suffix::Unsigned),
+        [b'l' | b'L'] | [b'l' | b'L', b'l' | b'L'] => Some(Suffix::Long),
+        [b'u' | b'U', b'l' | b'L'] | [b'u' | b'U', b'l' | b'L', b'l' | b'L'] => Some(
+            Suffix::UnsignedLong,
+        ),
         _ => None,
     }
 }
@@ -74,15 +39,6 @@ fn one_more(base: u64, n: u64, k: u64) -> Option<u64>
     n.checked_mul(base)?.checked_add(k)
 }
 
-fn with_suffix(n: u64, suffix: Option<Suffix>) -> Option<(u64, Suffix)>
-    ensures { result ≡ spec.with_suffix n suffix }
-{
-    match suffix {
-        Some(s) => Some((n, s)),
-        None => None,
-    }
-}
-
 #[tactic(auto, unfolding(crate::specs::Numbers::number_from))]
 fn number_from(base: u64, first: u64, bytes: &[u8]) -> Option<(u64, Suffix)>
     ensures { result ≡ spec.number_from base first bytes.now }
@@ -91,7 +47,7 @@ fn number_from(base: u64, first: u64, bytes: &[u8]) -> Option<(u64, Suffix)>
     let mut rest = bytes;
     while let [d, after @ ..] = rest {
         match digit_of(base, *d) {
-            None => return with_suffix(n, suffix_of(rest)),
+            None => return Some((n, suffix_of(rest)?)),
             Some(k) => n = one_more(base, n, k)?,
         }
         rest = after;
@@ -102,13 +58,11 @@ fn number_from(base: u64, first: u64, bytes: &[u8]) -> Option<(u64, Suffix)>
 fn hex_from(bytes: &[u8]) -> Option<(u64, Suffix)>
     ensures { result ≡ spec.hex_from bytes.now }
 {
-    match bytes {
-        [] => None,
-        [d, ..] => match digit_of(16, *d) {
-            None => None,
-            Some(_) => number_from(16, 0, bytes),
-        },
-    }
+    let [d, ..] = bytes else {
+        return None;
+    };
+    let _ = digit_of(16, *d)?;
+    number_from(16, 0, bytes)
 }
 
 fn zero_from(bytes: &[u8]) -> Option<(u64, Suffix)>
@@ -116,13 +70,8 @@ fn zero_from(bytes: &[u8]) -> Option<(u64, Suffix)>
 {
     match bytes {
         [] => Some((0, Suffix::Absent)),
-        [c, rest @ ..] => {
-            if *c == b'x' || *c == b'X' {
-                hex_from(rest)
-            } else {
-                number_from(8, 0, bytes)
-            }
-        }
+        [b'x' | b'X', rest @ ..] => hex_from(rest),
+        _ => number_from(8, 0, bytes),
     }
 }
 

@@ -10,23 +10,10 @@ fn is_space(b: u8) -> bool
     b == b' ' || b == b'\t'
 }
 
-#[tactic(auto, unfolding(crate::specs::OptionLine::behind))]
 fn behind<'a>(word: &[u8], bytes: &'a [u8]) -> Option<&'a [u8]>
     ensures { Finds (λ r. r.now) result (spec.behind word.now bytes.now) }
 {
-    let mut left = word;
-    let mut rest = bytes;
-    while let [w, more @ ..] = left {
-        let [b, after @ ..] = rest else {
-            return None;
-        };
-        if *b != *w {
-            return None;
-        }
-        left = more;
-        rest = after;
-    }
-    Some(rest)
+    bytes.strip_prefix(word)
 }
 
 #[tactic(auto, unfolding(crate::specs::OptionLine::skip_spaces))]
@@ -59,18 +46,10 @@ fn spaces(bytes: &[u8]) -> Option<&[u8]>
     }
 }
 
-#[tactic(auto, unfolding(crate::specs::OptionLine::is_trail))]
 fn is_trail(bytes: &[u8]) -> bool
     ensures { result ≡ spec.is_trail bytes.now }
 {
-    let mut rest = bytes;
-    while let [b, after @ ..] = rest {
-        if !is_space(*b) && *b != b'\r' {
-            return false;
-        }
-        rest = after;
-    }
-    true
+    bytes.iter().all(|b| is_space(*b) || *b == b'\r')
 }
 
 fn next_word<'a>(word: &[u8], bytes: &'a [u8]) -> Option<&'a [u8]>

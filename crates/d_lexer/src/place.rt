@@ -23,12 +23,9 @@ impl Place {
     pub(crate) fn after(self, kind: &TokenKind) -> Place
         ensures { result ≡ spec.after self kind.now }
     {
-        match kind {
-            TokenKind::Mark(mark) => self.after_mark(*mark),
-            TokenKind::Word(_) => match self {
-                Place::Head => Place::Declaration,
-                other => other,
-            },
+        match (self, kind) {
+            (_, TokenKind::Mark(mark)) => self.after_mark(*mark),
+            (Place::Head, TokenKind::Word(_)) => Place::Declaration,
             _ => self,
         }
     }
@@ -36,17 +33,11 @@ impl Place {
     fn after_mark(self, mark: Mark) -> Place
         ensures { result ≡ spec.after_mark self mark }
     {
-        match mark {
-            Mark::OpenBrace => Place::Body,
-            Mark::CloseBrace => Place::Head,
-            Mark::Slash => match self {
-                Place::Head => Place::Predicate,
-                other => other,
-            },
-            Mark::Semicolon => match self {
-                Place::Declaration => Place::Head,
-                other => other,
-            },
+        match (self, mark) {
+            (_, Mark::OpenBrace) => Place::Body,
+            (_, Mark::CloseBrace) => Place::Head,
+            (Place::Head, Mark::Slash) => Place::Predicate,
+            (Place::Declaration, Mark::Semicolon) => Place::Head,
             _ => self,
         }
     }

@@ -61,28 +61,10 @@ pub(crate) fn aggregation_front(alloc: Global, rest: &[u8]) -> Result<Front, Sto
     }
 }
 
-fn is_same(x: &[u8], y: &[u8]) -> bool
-    ensures { result ≡ spec.is_same x.now y.now }
-{
-    let mut a = x;
-    let mut b = y;
-    while let [c, more @ ..] = a {
-        let [d, after @ ..] = b else {
-            return false;
-        };
-        if *c != *d {
-            return false;
-        }
-        a = more;
-        b = after;
-    }
-    b.is_empty()
-}
-
 fn is_declaring(run: &[u8]) -> bool
     ensures { result ≡ spec.is_declaring run.now }
 {
-    is_same(run, b"self") || is_same(run, b"this")
+    run == b"self".as_slice() || run == b"this".as_slice()
 }
 
 /// A description run that begins with this byte; `self` and `this` are words.
