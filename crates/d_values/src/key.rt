@@ -150,7 +150,7 @@ impl Key {
     pub fn parts(&self) -> &[KeyPart]
         ensures { result.now ≡ self.now }
     {
-        &self.parts
+        self.parts.as_slice()
     }
 
     /// Adds a part at the right.
