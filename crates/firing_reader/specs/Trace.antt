@@ -8,7 +8,7 @@ use Rattle.firing_reader.specs.declared.fault.TraceFault.{TraceFault}
 use Rattle.firing_reader.specs.declared.fault.TraceFault.TheVariants.{Header, Order, TooMany}
 use Rattle.firing_reader.specs.declared.firing.Firing.{Firing}
 use Rattle.firing_reader.specs.Column.{field}
-use Rattle.firing_reader.specs.Firings.{IsFiring, number_of}
+pub use Rattle.firing_reader.specs.Firings.{IsFiring, number_of, thread_of}
 use Rattle.firing_reader.specs.Row.{◌>>=◌, row_of}
 
 -- the number of the last of these firings, or 0 before the first
