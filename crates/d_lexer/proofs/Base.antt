@@ -1,5 +1,5 @@
 -- Lists cut in two, and tests.
-use Rattle.std.proofs.Common.{◌≡◌, ℕ, suc, Bool, true, false, cond, List, [], ◌∷◌, ◌++◌, length, take, take_while, drop, refl, sym, ap, subst, ◌∙◌}
+use Rattle.std.proofs.Common.{◌≡◌, ◌&&◌, ℕ, suc, Bool, true, false, cond, List, [], ◌∷◌, ◌++◌, length, take, take_while, drop, refl, sym, ap, subst, ◌∙◌}
 use Rattle.std.proofs.lemmas.List.Sums.{take_while-cons}
 use Rattle.d_lexer.specs.declared.place.Place.{Place}
 use Rattle.d_lexer.specs.declared.position.Position.{Position}
@@ -19,13 +19,13 @@ pub cond_is : {A : Type 0} (P : A → Type 0) (c : Bool) (x y : A) → (c ≡ tr
 cond_is P true x y f g = f refl
 cond_is P false x y f g = g refl
 
+pub both_true : (a b : Bool) → (a && b) ≡ true → (a ≡ true) × (b ≡ true)
+both_true true b e = (refl, e)
+both_true false b e = absurd cc
+
 pub take_own : (own rest : List ℕ) → take (length own) (own ++ rest) ≡ own
 take_own [] rest = refl
 take_own (b ∷ own) rest = ap (λ (xs : List ℕ). b ∷ xs) (take_own own rest)
-
-pub drop_own : (own rest : List ℕ) → drop (length own) (own ++ rest) ≡ rest
-drop_own [] rest = refl
-drop_own (b ∷ own) rest = drop_own own rest
 
 run_cons : (test : ℕ → Bool) (b : ℕ) (z : List ℕ) → run_len test (b ∷ z) ≡ cond (test b) (suc (run_len test z)) 0
 run_cons test b z = ap (λ (xs : List ℕ). length xs) (take_while-cons test b z) ∙ by (test b) where

@@ -26,6 +26,7 @@ use Rattle.d_lexer.specs.OptionLine.{is_option}
 use Rattle.d_lexer.specs.Tokens.{StopsAt, Fills, HasNoEnd, IsPiece, blank, comment, first_line, Past, here, past, IsRunOf, SpellsText, SpellsAgg, IsMark, SpellsInside, SpellsHead, Spells, begins, StopsText, IsFault, stray, open_comment, text, number, option_line, other_option, End, Clean, Bad, EndsAs, Lexes}
 use Rattle.d_lexer.specs.Scan.{put, skip_one, text_from, comment_from, mark_at, mark_front, number_front, head_kind, aggregation_front, text_front, inside_at, head_at, token_at, front_at, Scanned, with_first, scan}
 use Rattle.d_lexer.proofs.Base.{run_fills, run_is, scan_skip}
+use Rattle.d_lexer.proofs.Steps.{behind_text, behind_none}
 use Rattle.d_lexer.proofs.Numbers.{number_reads, none_reads}
 use Rattle.d_lexer.proofs.OptionLines.{option_reads, no_option_reads}
 use Rattle.d_lexer.proofs.Marks.{MarkIs, mark_sound, mark_complete, mark_free, is_free}
@@ -147,11 +148,6 @@ text_escape : (e x : ℕ) (z : List ℕ) → escape_of e ≡ Some x → text_fro
 unfolding text_from
 text_escape e x z h = rw h refl
 
--- the same holds behind good bytes
-abbrev behind_text : List ℕ → ℕ → Result (List ℕ × ℕ) Flaw → Result (List ℕ × ℕ) Flaw
-behind_text w n (Err g) = Err g
-behind_text w n (Ok t) = Ok (w ++ t.0, n + t.1)
-
 put_behind : (x n m : ℕ) (w : List ℕ) (r : Result (List ℕ × ℕ) Flaw) → m ≡ suc n → put x (behind_text w n r) ≡ behind_text (x ∷ w) m r
 put_behind x n m w (Err g) e = refl
 put_behind x n m w (Ok t) e = let k : suc (n + t.1) ≡ m + t.1 = omega arith in rw k refl
@@ -160,12 +156,8 @@ put_behind2 : (x n m : ℕ) (w : List ℕ) (r : Result (List ℕ × ℕ) Flaw) �
 put_behind2 x n m w (Err g) e = refl
 put_behind2 x n m w (Ok t) e = let k : suc (suc (n + t.1)) ≡ m + t.1 = omega arith in rw k refl
 
-behind_none : (r : Result (List ℕ × ℕ) Flaw) → r ≡ behind_text [] 0 r
-behind_none (Err g) = refl
-behind_none (Ok t) = let k : 0 + t.1 ≡ t.1 = omega arith in rw k refl
-
 text_goes : (w body rest : List ℕ) → SpellsText body w → text_from false (body ++ rest) ≡ behind_text w (length body) (text_from false rest)
-text_goes [] body rest h = rw h (behind_none (text_from false rest))
+text_goes [] body rest h = rw h (sym (behind_none (text_from false rest)))
 text_goes (x ∷ w) body rest h =
     let further = text_goes w h.1 rest h.4 in
     elim h.3 [
@@ -188,12 +180,6 @@ text_stops f.Constant rest h = absurd h
 text_stops f.OptionLine rest h = absurd h
 
 -- ---- all tokens
-
-spells_inside : (p : Place) (own rest : List ℕ) (t : TokenKind) → is_head p ≡ false → Spells p own rest t → SpellsInside p own rest t
-spells_inside Head own rest t e h = absurd cc
-spells_inside Declaration own rest t e h = h
-spells_inside Predicate own rest t e h = h
-spells_inside Body own rest t e h = h
 
 reads : (p : Place) (pos : Position) (b : ℕ) (z rest own : List ℕ) (t : TokenKind) → own ≡ b ∷ z → front_at p pos b (z ++ rest) ≡ Ok (front.Token t (length z)) → Reads p pos own rest (λ n. Ok (front.Token t n))
 reads p pos b z rest own t is read = record { first = b; others = z; is = is; read = read }
@@ -306,7 +292,7 @@ module _ (p : Place) (pos : Position) (i : is_head p ≡ false) where
   inside_reads own rest (kind.TextConstant w) h = text_reads own rest w h.0 h.1 h.2
   inside_reads own rest (kind.Mark k) h = mark_reads p pos own rest k h
 
-token_reads : (p : Place) (pos : Position) (own rest : List ℕ) (t : TokenKind) → Spells p own rest t → Reads p pos own rest (λ n. Ok (front.Token t n))
+pub token_reads : (p : Place) (pos : Position) (own rest : List ℕ) (t : TokenKind) → Spells p own rest t → Reads p pos own rest (λ n. Ok (front.Token t n))
 token_reads Head pos own rest t h = head_reads pos own rest t h
 token_reads Declaration pos own rest t h = inside_reads Declaration pos refl own rest t h
 token_reads Predicate pos own rest t h = inside_reads Predicate pos refl own rest t h
@@ -332,7 +318,7 @@ comment_fails p pos z h = rw (comment_open z h) refl
 number_fails : (p : Place) (pos : Position) (bytes own rest : List ℕ) → bytes ≡ own ++ rest → Reads p pos own rest (λ n. number_front None n) → Fails p pos bytes f.Constant
 number_fails p pos bytes own rest is r = record { first = r.first; others = r.others ++ rest; is = is ∙ ap (λ (xs : List ℕ). xs ++ rest) r.is; read = r.read }
 
-fault_fails : (p : Place) (pos : Position) (bytes : List ℕ) (g : Flaw) → IsFault p pos bytes g → Fails p pos bytes g
+pub fault_fails : (p : Place) (pos : Position) (bytes : List ℕ) (g : Flaw) → IsFault p pos bytes g → Fails p pos bytes g
 fault_fails p pos bytes g (stray b z is h) =
     record {
       first = b;

@@ -8,7 +8,7 @@ use Rattle.d_lexer.specs.Bytes.{entry_of, is_blank}
 use Rattle.d_lexer.specs.Marks.{mark_of, singles, of_head, doubles, settings, shifts, arrows}
 use Rattle.d_lexer.specs.Tokens.{IsMark, begins}
 use Rattle.d_lexer.specs.Scan.{mark_at, sized}
-use Rattle.d_lexer.proofs.Base.{Split, cond_is}
+use Rattle.d_lexer.proofs.Base.{both_true, Split, cond_is}
 
 -- a byte with which a mark may begin
 abbrev pub is_free : Place → ℕ → Bool
@@ -18,14 +18,10 @@ abbrev all_free : Place → List (ℕ × Mark) → Bool
 all_free p [] = true
 all_free p (e ∷ es) = is_free p e.0 && all_free p es
 
-and_is : (a b : Bool) → (a && b) ≡ true → (a ≡ true) × (b ≡ true)
-and_is true b e = (refl, e)
-and_is false b e = absurd cc
-
 in_free : (p : Place) (table : List (ℕ × Mark)) (b : ℕ) (k : Mark) → all_free p table ≡ true → entry_of table b ≡ Some k → is_free p b ≡ true
 in_free p [] b k h e = absurd cc
 in_free p (x ∷ table) b k h e =
-    let both = and_is (is_free p x.0) (all_free p table) h in
+    let both = both_true (is_free p x.0) (all_free p table) h in
     cond_is (λ (o : Option Mark). o ≡ Some k → is_free p b ≡ true) (eqb b x.0) (Some x.1) (entry_of table b)
     (λ same _. let s : b ≡ x.0 = eqb-true b x.0 same in rw s both.0)
     (λ other found. in_free p table b k both.1 found)

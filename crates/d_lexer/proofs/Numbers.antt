@@ -190,7 +190,6 @@ number_is b z n s digit e =
     (λ same f. let b_is : b ≡ 48 = eqb-true b 48 same in rw b_is (zero_is z n s f))
     (λ other f.
     let low : b - 48 < 2 ^ 64 = grind (arith, nat_tests) in
-    let below : nat_lt (b - 48) 10 ≡ true = grind (arith, nat_tests) in
     let not_zero : b ≢ 48 = λ (is : b ≡ 48). grind (arith, nat_tests) in
     decimal_is b z n s not_zero (ten_digit b digit) (read_is 10 (b - 48) z n s low f))
     e

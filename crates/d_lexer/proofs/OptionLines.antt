@@ -4,11 +4,7 @@ use Rattle.std.proofs.lemmas.Bool.{eqb-true, eq-eqb}
 use Rattle.std.specs.List.{AllByRecursion}
 use Rattle.std.specs.Prelude.{codes}
 use Rattle.d_lexer.specs.OptionLine.{is_space, is_trailing, AreSpaces, AreWords, option_words, IsOptionLine, Finds, behind, skip_spaces, spaces, is_trail, and_then, ends, next_word, after_words, is_option}
-use Rattle.d_lexer.proofs.Base.{cond_is}
-
-both_true : (a b : Bool) → (a && b) ≡ true → (a ≡ true) × (b ≡ true)
-both_true true b e = (refl, e)
-both_true false b e = absurd cc
+use Rattle.d_lexer.proofs.Base.{both_true, cond_is}
 
 -- ---- what is read is an option line
 

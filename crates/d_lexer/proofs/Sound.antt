@@ -22,7 +22,7 @@ use Rattle.d_lexer.specs.Places.{moved, passed, is_head, is_first, is_hash, afte
 use Rattle.d_lexer.specs.OptionLine.{is_option}
 use Rattle.d_lexer.specs.Tokens.{Fills, HasNoEnd, IsPiece, blank, comment, first_line, option_line, here, past, IsRunOf, SpellsText, IsMark, SpellsInside, Spells, begins, BreaksText, IsFault, stray, open_comment, text, number, other_option, End, Lexes}
 use Rattle.d_lexer.specs.Scan.{run_len, run_of, tail, put, skip_one, put_escape, text_from, one_longer, comment_from, mark_at, mark_front, number_front, comment_front, head_kind, aggregation_front, text_front, inside_at, head_at, token_at, front_at, Scanned, scan_by, scan}
-use Rattle.d_lexer.proofs.Base.{Split, cond_is, run_splits, run_is}
+use Rattle.d_lexer.proofs.Base.{both_true, Split, cond_is, run_splits, run_is}
 use Rattle.d_lexer.proofs.Numbers.{number_is, none_is}
 use Rattle.d_lexer.proofs.OptionLines.{option_is, no_option_is}
 use Rattle.d_lexer.proofs.Marks.{MarkIs, mark_sound}
@@ -37,10 +37,6 @@ FrontIs p pos b z (Err g) = IsFault p pos (b ∷ z) g
 next_byte : (c : ℕ) (z : List ℕ) → next_is c z ≡ true → z ≡ c ∷ tail z
 next_byte c [] e = absurd cc
 next_byte c (b ∷ z) e = let s : b ≡ c = eqb-true b c e in rw s refl
-
-and_is : (a b : Bool) → (a && b) ≡ true → (a ≡ true) × (b ≡ true)
-and_is true b e = (refl, e)
-and_is false b e = absurd cc
 
 and_false : (a : Bool) → (a && false) ≡ false
 and_false true = refl
@@ -73,7 +69,7 @@ unfolding comment_from
 comment_sound [] = tt
 comment_sound (b ∷ z) =
     cond_is (CommentIs (b ∷ z)) (eqb b 42 && next_is 47 z) (Some 2) (one_longer (comment_from z))
-    (λ e. let h = and_is (eqb b 42) (next_is 47 z) e in
+    (λ e. let h = both_true (eqb b 42) (next_is 47 z) e in
     let b_is : b ≡ 42 = eqb-true b 42 h.0 in
     let z_is : z ≡ 47 ∷ tail z = next_byte 47 z h.1 in
     record { own = b ∷ (47 ∷ []); rest = tail z; is = ap (λ (xs : List ℕ). b ∷ xs) z_is; size = refl; holds = ([], rw b_is refl, tt) })
@@ -261,7 +257,7 @@ front_sound p pos b z =
     cond_is (FrontIs p pos b z) (is_blank b) _ _
     (λ e. record { own = []; rest = z; is = refl; size = refl; holds = blank b refl e })
     (λ e1. cond_is (FrontIs p pos b z) (begins_comment (b ∷ z)) _ _
-    (λ e. let h = and_is (eqb b 47) (next_is 42 z) e in
+    (λ e. let h = both_true (eqb b 47) (next_is 42 z) e in
     let b_is : b ≡ 47 = eqb-true b 47 h.0 in
     let z_is : z ≡ 42 ∷ tail z = next_byte 42 z h.1 in
     subst (λ (xs : List ℕ). FrontIs p pos b xs (comment_front (comment_from (tail z)))) (sym z_is) (rw b_is (comment_front_sound p pos (tail z) (comment_from (tail z)) (comment_sound (tail z)))))

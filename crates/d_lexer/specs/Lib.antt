@@ -7,3 +7,5 @@ pub mod OptionLine
 pub mod Tokens
 pub mod Scan
 pub mod Lexing
+pub mod Spans
+pub mod Spelling

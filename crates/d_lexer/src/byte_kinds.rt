@@ -1,4 +1,4 @@
-//! Kinds of bytes, runs and comments.
+//! Kinds of bytes, and how many of a kind there are at the front.
 
 ghost use Rattle.std.specs.Prelude.{◌≡◌, ◌+◌, ◌≤◌, length, take_while, MatchOption};
 ghost use Rattle.d_lexer.specs.Bytes as spec;
@@ -79,6 +79,7 @@ pub(crate) fn next_is(c: u8, bytes: &[u8]) -> bool
     }
 }
 
+/// The byte that a backslash and this one stand for.
 pub(crate) fn escape_of(e: u8) -> Option<u8>
     ensures { result ≡ spec.escape_of e }
 {

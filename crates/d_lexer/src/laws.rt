@@ -1,7 +1,15 @@
 //! What holds of every script's tokens and first fault.
 
-ghost use Rattle.std.specs.Prelude.{◌≡◌, ℕ, List};
+ghost use Rattle.std.specs.Prelude.{◌≡◌, ◌≢◌, ℕ, List};
+ghost use Rattle.std.specs.List.{AllByRecursion};
 ghost use Rattle.d_lexer.specs.Lexing.{AreTokens, IsFirstFault, HasOne};
+ghost use Rattle.d_lexer.specs.Marks.{mark_of};
+ghost use Rattle.d_lexer.specs.Spelling.{spelling};
+ghost use Rattle.d_lexer.specs.declared.place.Place.{Place};
+ghost use Rattle.d_lexer.specs.declared.place.Place.TheVariants.{Body};
+ghost use Rattle.d_lexer.specs.declared.token.Mark.{Mark};
+ghost use Rattle.d_lexer.specs.declared.token.Mark.TheVariants as marks;
+ghost use Rattle.d_lexer.specs.Spans.{AreInOrder, Stands, TellsItsLine};
 ghost use Rattle.d_lexer.specs.declared.fault.LexFault.{LexFault};
 ghost use Rattle.d_lexer.specs.declared.token.Token.{Token};
 
@@ -23,4 +31,29 @@ pub fn not_both()
 /// Each script has tokens or a first fault.
 pub fn has_one()
     ensures { (bytes : List ℕ) → HasOne bytes }
+{}
+
+/// Each token has the bytes from its start to its stop, and its line is one more than the line feeds before it.
+pub fn tokens_stand()
+    ensures { (bytes : List ℕ) (ts : List Token) → AreTokens bytes ts → AllByRecursion (Stands bytes) ts }
+{}
+
+/// No token is empty or begins before the one in front of it stops.
+pub fn tokens_in_order()
+    ensures { (bytes : List ℕ) (ts : List Token) → AreTokens bytes ts → AreInOrder 0 ts }
+{}
+
+/// The first fault tells the line on which what is refused begins.
+pub fn fault_told()
+    ensures { (bytes : List ℕ) (fault : LexFault) → IsFirstFault bytes fault → TellsItsLine bytes fault }
+{}
+
+/// What is read as a mark is its spelling.
+pub fn marks_are_spelled()
+    ensures { (p : Place) (own : List ℕ) (k : Mark) → mark_of p own ≡ Some k → own ≡ spelling k }
+{}
+
+/// Each mark's spelling is that mark in a body; a closing slash stands in a predicate alone.
+pub fn spellings_are_marks()
+    ensures { (k : Mark) → k ≢ marks.ClosingSlash → mark_of Body (spelling k) ≡ Some k }
 {}

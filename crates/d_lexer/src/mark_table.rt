@@ -1,4 +1,4 @@
-//! Marks.
+//! Marks, the longest first. A table for each length is looked up by the first byte.
 
 ghost use Rattle.std.specs.Prelude.{◌≡◌, ◌≤◌, length, [], ◌∷◌};
 ghost use Rattle.d_lexer.specs.Bytes.{entry_of};
@@ -174,6 +174,7 @@ fn three_at(place: Place, a: u8, b: u8, c: u8) -> Option<(Mark, usize)>
     }
 }
 
+/// The longest mark at the front, and how many bytes more than one it has.
 #[tactic(auto, unfolding(crate::specs::Scan::mark_at))]
 pub(crate) fn mark_at(place: Place, a: u8, rest: &[u8]) -> Option<(Mark, usize)>
     ensures { result ≡ scan.mark_at place a rest.now }

@@ -1,4 +1,4 @@
-//! Numbers.
+//! Numbers: `0x` and hexadecimal digits, `0` and octal digits, or decimal digits, then a suffix.
 
 ghost use Rattle.std.specs.Prelude.{◌≡◌, ◌≤◌, ◌<◌, length, [], ◌∷◌, true};
 ghost use Rattle.std.specs.Char.{is_ascii_digit};
@@ -26,9 +26,8 @@ fn suffix_of(bytes: &[u8]) -> Option<Suffix>
         [] => Some(Suffix::Absent),
         [b'u' | b'U'] => Some(Suffix::Unsigned),
         [b'l' | b'L'] | [b'l' | b'L', b'l' | b'L'] => Some(Suffix::Long),
-        [b'u' | b'U', b'l' | b'L'] | [b'u' | b'U', b'l' | b'L', b'l' | b'L'] => Some(
-            Suffix::UnsignedLong,
-        ),
+        [b'u' | b'U', b'l' | b'L'] => Some(Suffix::UnsignedLong),
+        [b'u' | b'U', b'l' | b'L', b'l' | b'L'] => Some(Suffix::UnsignedLong),
         _ => None,
     }
 }
@@ -75,6 +74,8 @@ fn zero_from(bytes: &[u8]) -> Option<(u64, Suffix)>
     }
 }
 
+/// The value and the suffix that a run of letters and digits spells, given by its first digit and the rest; none where
+/// the run is no number, or one over 2^64-1.
 #[tactic(auto, unfolding(crate::specs::Numbers::number_of))]
 pub(crate) fn number_of(b: u8, rest: &[u8]) -> Option<(u64, Suffix)>
     requires { is_ascii_digit b ≡ true }

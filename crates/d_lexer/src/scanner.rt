@@ -21,10 +21,7 @@ fn put(tokens: &mut Vec<Token>, token: Token) -> Result<(), LexFault>
     ensures ok { IfOk result (λ _. tokens.new.items ≡ tokens.old.items ++ token ∷ []) }
     ensures err { IfErr result (λ e. e ≡ LexFault.Memory) }
 {
-    match tokens.push(token) {
-        Ok(_) => Ok(()),
-        Err(_) => Err(LexFault::Memory),
-    }
+    tokens.push(token).map_err(|_| LexFault::Memory)
 }
 
 // Reads what is at the front: where the script goes on, and how many bytes more than one were read.
