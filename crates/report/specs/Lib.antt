@@ -1,3 +1,6 @@
 pub mod Faulty
+pub mod Layout
+pub mod Listing
+pub mod Output
 pub mod Stream
 pub mod Watched

@@ -1,13 +1,17 @@
-//! What a run shows, and the way of its bytes out: streams that tell what went through them.
+//! What a run shows, and the way of its bytes out: the layout of aggregations, and streams that tell what went through them.
 #![tactic(auto)]
 
 pub mod faulty;
+mod layout;
+mod listing;
 pub mod reading;
+mod rendering;
 pub mod stream;
 pub mod watched;
 pub mod writing;
 
 pub use reading::{ReadFault, read_to_end};
+pub use rendering::render;
 pub use stream::{Failed, Feed, Sink};
 pub use watched::Watched;
 pub use writing::{WriteFault, emit};

@@ -1,0 +1,10 @@
+pub mod Bundle
+pub mod Counting
+pub mod Probe
+pub mod Refusals
+pub mod Patterns
+pub mod Meaning
+pub mod Run
+pub mod Answer
+pub mod Plans
+pub mod Consuming

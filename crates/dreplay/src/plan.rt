@@ -1,0 +1,39 @@
+//! How a run is carried out, and what it gave.
+
+/// How a run is carried out. The answer is the same for each plan.
+#[derive(Debug, Drop, PartialEq, Eq)]
+pub struct Plan {
+    /// How many workers there are, from 1 to 16.
+    pub workers: u32,
+    pub groups: GroupPlan,
+    pub engine: EngineKind,
+}
+
+/// How the threads of a trace are grouped.
+#[derive(Debug, Drop, PartialEq, Eq)]
+pub enum GroupPlan {
+    /// The i-th thread goes to group `i` modulo this number, which is from 1 to 4096.
+    Dealt(u32),
+    /// These threads in each group.
+    Lists(Vec<Vec<i32>>),
+}
+
+/// What evaluates a script.
+#[derive(Clone, Copy, Debug, PartialEq, Eq)]
+pub enum EngineKind {
+    /// The typed tree.
+    Tree,
+    /// Compiled code.
+    Dif,
+}
+
+/// What a run gave.
+#[derive(Debug, Drop)]
+pub struct Replayed {
+    /// All that the script shows.
+    pub bytes: Vec<u8>,
+    /// The groups that each worker took.
+    pub by_worker: Vec<Vec<u32>>,
+    /// For each group the numbers of the firings that were run.
+    pub ran: Vec<Vec<u64>>,
+}

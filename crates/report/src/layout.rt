@@ -1,0 +1,71 @@
+//! The bytes of an entry.
+
+ghost use Rattle.std.specs.Prelude.{◌≡◌, ◌≤◌, ◌++◌, ◌∷◌, [], ◌-◌, ℤ, IfOk, OnOk, length, replicate};
+ghost use Rattle.report.specs.Layout.{spaces, at_left, at_right, number_bytes, part_bytes, entry_bytes};
+ghost use Rattle.std.specs.List.{flat_map};
+
+use d_values::{Key, KeyPart};
+use itoa::Buffer;
+use std::alloc::AllocError;
+
+const NAME_WIDTH: usize = 50;
+
+const NUMBER_WIDTH: usize = 16;
+
+// The widest column.
+const BLANKS: [u8; NAME_WIDTH] = [b' '; NAME_WIDTH];
+
+fn put_spaces(out: &mut Vec<u8>, count: usize) -> Result<(), AllocError>
+    requires { count ≤ 50 }
+    ensures { OnOk result (out.new.items ≡ out.old.items ++ spaces count) }
+{
+    out.extend_from_slice(&BLANKS[..count])
+}
+
+fn put_name(out: &mut Vec<u8>, text: &[u8]) -> Result<(), AllocError>
+    ensures { OnOk result (out.new.items ≡ out.old.items ++ 32 ∷ 32 ∷ at_left 50 text.now) }
+{
+    out.extend_from_slice(b"  ")?;
+    out.extend_from_slice(text)?;
+    put_spaces(out, NAME_WIDTH.saturating_sub(text.len()))
+}
+
+fn put_number(out: &mut Vec<u8>, number: i64) -> Result<(), AllocError>
+    ensures { OnOk result (out.new.items ≡ out.old.items ++ number_bytes number) }
+{
+    let mut buffer = Buffer::new();
+    let digits = buffer.format(number).as_bytes();
+    out.push(b' ')?;
+    put_spaces(out, NUMBER_WIDTH.saturating_sub(digits.len()))?;
+    out.extend_from_slice(digits)?;
+    Ok(())
+}
+
+fn put_part(out: &mut Vec<u8>, part: &KeyPart) -> Result<(), AllocError>
+    ensures { OnOk result (out.new.items ≡ out.old.items ++ part_bytes part.now) }
+{
+    match part {
+        KeyPart::Number(number) => put_number(out, *number),
+        KeyPart::Name(text) => put_name(out, text.as_bytes()),
+    }
+}
+
+// Puts the parts of a key one behind the other.
+fn put_key(out: &mut Vec<u8>, key: &Key) -> Result<(), AllocError>
+    ensures { OnOk result (out.new.items ≡ out.old.items ++ flat_map part_bytes key.now) }
+{
+    for part in key.parts() {
+        put_part(out, part)?;
+    }
+    Ok(())
+}
+
+/// Puts an entry: the parts of its key, its value, and a line feed.
+pub fn put_entry(out: &mut Vec<u8>, key: &Key, value: i64) -> Result<(), AllocError>
+    ensures { OnOk result (out.new.items ≡ out.old.items ++ entry_bytes key.now value) }
+{
+    put_key(out, key)?;
+    put_number(out, value)?;
+    out.push(b'\n')?;
+    Ok(())
+}
