@@ -23,7 +23,7 @@ use Rattle.d_lexer.specs.Marks.{mark_of}
 use Rattle.d_lexer.specs.Places.{moved, passed, is_head, is_first, is_hash, after}
 use Rattle.d_lexer.specs.Faults.{on_line}
 use Rattle.d_lexer.specs.OptionLine.{is_option}
-use Rattle.d_lexer.specs.Tokens.{StopsAt, Fills, HasNoEnd, IsPiece, blank, comment, first_line, Past, here, past, IsRunOf, SpellsText, SpellsAgg, IsMark, SpellsInside, SpellsHead, Spells, begins, StopsText, IsFault, stray, open_comment, text, number, option_line, other_option, End, Clean, Bad, EndsAs, Lexes}
+use Rattle.d_lexer.specs.Tokens.{StopsAt, Fills, HasNoEnd, IsPiece, blank, comment, first_line, Past, here, past, IsRunOf, SpellsText, SpellsAggregation, IsMark, SpellsInside, SpellsHead, Spells, begins, StopsText, IsFault, stray, open_comment, text, number, option_line, other_option, End, Clean, Bad, EndsAs, Lexes}
 use Rattle.d_lexer.specs.Scan.{put, skip_one, text_from, comment_from, mark_at, mark_front, number_front, head_kind, aggregation_front, text_front, inside_at, head_at, token_at, front_at, Scanned, with_first, scan}
 use Rattle.d_lexer.proofs.Base.{run_fills, run_is, scan_skip}
 use Rattle.d_lexer.proofs.Steps.{behind_text, behind_none}
@@ -270,7 +270,7 @@ module _ (p : Place) (pos : Position) (i : is_head p ≡ false) where
       let m = digit_bytes b h.0 in
       record { first = b; others = z; is = refl; read = front_inside p pos b (z ++ rest) i m.0 m.1 m.2 ∙ inside_number p b z rest o h.0 h.1 e }
 
-  agg_reads : (own rest w : List ℕ) → SpellsAgg own rest w → Reads p pos own rest (λ n. Ok (front.Token (kind.AggregationName w) n))
+  agg_reads : (own rest w : List ℕ) → SpellsAggregation own rest w → Reads p pos own rest (λ n. Ok (front.Token (kind.AggregationName w) n))
   agg_reads own rest w h = elim h [
     | inl a ↦ reads p pos 64 [] rest own (kind.AggregationName w) a.0 (front_inside p pos 64 rest i refl refl refl ∙ inside_agg p rest ∙ agg_alone rest a.2 ∙ ap (λ (x : List ℕ). Ok (front.Token (kind.AggregationName x) 0)) (sym a.1))
     | inr a ↦ reads p pos 64 w rest own (kind.AggregationName w) a.0 (front_inside p pos 64 (w ++ rest) i refl refl refl ∙ inside_agg p (w ++ rest) ∙ agg_word w rest a.1)

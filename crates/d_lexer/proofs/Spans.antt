@@ -1,6 +1,5 @@
 -- Tokens and faults stand where the bytes say.
-use Rattle.std.proofs.Common.{◌≡◌, eqb, ◌&&◌, ◌||◌, ℕ, suc, ◌+◌, ◌<◌, ◌≤◌, Bool, true, false, cond, List, [], ◌∷◌, ◌++◌, length, refl, sym, ap, subst, ◌∙◌, arith, add_assoc, append_assoc, length-append}
-use Rattle.std.proofs.lemmas.List.{append-nil}
+use Rattle.std.proofs.Common.{◌≡◌, eqb, ℕ, suc, ◌+◌, ◌<◌, ◌≤◌, Bool, true, false, cond, List, [], ◌∷◌, ◌++◌, length, refl, sym, ap, ◌∙◌, arith, add_assoc, append_assoc, length-append}
 use Rattle.std.proofs.lemmas.List.Sums.{sum_by-append}
 use Rattle.std.specs.Prelude.{count_by}
 use Rattle.std.specs.List.{AllByRecursion}
@@ -11,7 +10,7 @@ use Rattle.d_lexer.specs.declared.position.Position.{Position}
 use Rattle.d_lexer.specs.declared.fault.LexFault.{LexFault}
 use Rattle.d_lexer.specs.Places.{start, passed, moved, after}
 use Rattle.d_lexer.specs.Faults.{on_line}
-use Rattle.d_lexer.specs.Tokens.{IsPiece, Past, here, past, Spells, End, Clean, Bad, EndsAs, Lexes}
+use Rattle.d_lexer.specs.Tokens.{Past, here, past, Spells, End, Clean, Bad, EndsAs, Lexes}
 use Rattle.d_lexer.specs.Lexing.{settle, settled, opens_body, AreTokens, IsFirstFault}
 use Rattle.d_lexer.specs.Spans.{line_behind, Stands, AreInOrder, TellsItsLine}
 use Rattle.d_lexer.proofs.Complete.{token_reads, fault_fails}

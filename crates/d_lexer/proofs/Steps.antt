@@ -1,8 +1,7 @@
 -- What the loops keep.
-use Rattle.std.proofs.Common.{◌≡◌, ℕ, suc, ◌+◌, ◌≤◌, Bool, true, false, cond, List, [], ◌∷◌, ◌++◌, length, take, take_while, Option, Some, None, Result, Ok, Err, refl, ap, ◌∙◌, arith, append_assoc}
-use Rattle.d_lexer.specs.Scan.{run_len, one_longer, put, skip_one}
+use Rattle.std.proofs.Common.{◌≡◌, ℕ, suc, ◌+◌, List, [], ◌∷◌, ◌++◌, Option, Some, None, Result, Ok, Err, refl, arith, append_assoc}
+use Rattle.d_lexer.specs.Scan.{one_longer, put, skip_one}
 use Rattle.d_lexer.specs.declared.fault.Flaw.{Flaw}
-use Rattle.std.specs.List.{prefix_len}
 
 -- so many more
 abbrev pub longer : ℕ → Option ℕ → Option ℕ

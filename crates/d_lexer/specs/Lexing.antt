@@ -1,6 +1,5 @@
 -- The tokens of a script, and why it has none.
 use Rattle.std.specs.Prelude.{◌≡◌, ℕ, ◌<◌, ◌≤◌, ◌⊎◌, Bool, true, false, List, [], ◌∷◌, ◌++◌, length, Result, Ok, Err}
-use Rattle.d_lexer.specs.declared.token.Mark.{Mark}
 use Rattle.d_lexer.specs.declared.token.Mark.TheVariants as m
 use Rattle.d_lexer.specs.declared.token.Token.{Token}
 use Rattle.d_lexer.specs.declared.token.TokenKind.{TokenKind}
@@ -15,39 +14,32 @@ use Rattle.d_lexer.specs.Scan.{Scanned}
 
 -- ---- the closing slash of a predicate
 
-abbrev pub mark_is_brace : Mark → Bool
-mark_is_brace m.OpenBrace = true
-mark_is_brace k = false
-
+-- the token is an opening brace
 abbrev pub is_brace : TokenKind → Bool
-is_brace (kind.Mark k) = mark_is_brace k
+is_brace (kind.Mark m.OpenBrace) = true
 is_brace t = false
 
+-- the first of the tokens is
 abbrev pub opens_body : List Token → Bool
 opens_body [] = false
 opens_body (t ∷ ts) = is_brace t.kind
 
-abbrev pub mark_is_closing : Mark → Bool
-mark_is_closing m.ClosingSlash = true
-mark_is_closing k = false
-
+-- the token is a slash that was read as the closing one
 abbrev pub is_closing : TokenKind → Bool
-is_closing (kind.Mark k) = mark_is_closing k
+is_closing (kind.Mark m.ClosingSlash) = true
 is_closing t = false
 
-abbrev pub open_mark : Mark → Mark
-open_mark m.ClosingSlash = m.Slash
-open_mark k = k
-
+-- such a slash made a division
 abbrev pub open_kind : TokenKind → TokenKind
-open_kind (kind.Mark k) = kind.Mark (open_mark k)
+open_kind (kind.Mark m.ClosingSlash) = kind.Mark m.Slash
 open_kind t = t
 
 -- a slash of a predicate is the closing one exactly where the next token is an opening brace
 abbrev pub settled : Token → Bool → Token
 settled t true = t
-settled t false = record { kind = open_kind t.kind; start = t.start; stop = t.stop; line = t.line }
+settled t false = record t { kind = open_kind t.kind }
 
+-- all of them settled
 abbrev pub settle : List Token → List Token
 settle [] = []
 settle (t ∷ ts) = settled t (opens_body ts) ∷ settle ts
@@ -89,10 +81,12 @@ abbrev pub Steps : List Token → List Token → Result (Place × ℕ) LexFault 
 Steps old new (Ok r) s go = joined new (go r.1 r.0) ≡ joined old s
 Steps old new (Err e) s go = Stops e s.1
 
+-- all the bytes read, or a stop
 abbrev pub Answers : {X : Type 0} → (X → List Token) → Result X LexFault → Scanned → Type 0
 Answers view (Ok ts) s = s ≡ (view ts, Clean)
 Answers view (Err e) s = Stops e s.1
 
+-- the same with the slashes settled
 abbrev pub Lexed : {X : Type 0} → (X → List Token) → Result X LexFault → Scanned → Type 0
 Lexed view (Ok x) s = (settle s.0 ≡ view x) × (s.1 ≡ Clean)
 Lexed view (Err e) s = Stops e s.1

@@ -33,17 +33,19 @@ shifts = (60, m.ShiftLeftAssign) ∷ (62, m.ShiftRightAssign) ∷ []
 abbrev pub arrows : List (ℕ × Mark)
 arrows = (45, m.Arrow) ∷ []
 
--- In a predicate a slash is the closing one until the next token says that it is not.
+-- a mark of one byte; in a predicate a slash is the closing one until the next token says that it is not
 abbrev pub mark_one : Place → ℕ → Option Mark
 mark_one Head a = entry_of of_head a
 mark_one Declaration a = entry_of singles a
 mark_one Predicate a = if a == 47 then Some m.ClosingSlash else entry_of singles a
 mark_one Body a = entry_of singles a
 
+-- a mark of two bytes; the head has none
 abbrev pub mark_two : Place → ℕ → ℕ → Option Mark
 mark_two Head a b = None
 mark_two p a b = if b == 61 then entry_of settings a else (if a == b then entry_of doubles a else (if b == 62 then entry_of arrows a else None))
 
+-- a mark of three bytes
 abbrev pub mark_three : Place → ℕ → ℕ → ℕ → Option Mark
 mark_three Head a b c = None
 mark_three p a b c = if c == 61 && a == b then entry_of shifts a else None

@@ -7,6 +7,7 @@ use Rattle.d_lexer.specs.declared.token.Suffix.TheVariants.{Absent, Unsigned, Lo
 abbrev pub digit_value : ℕ → Option ℕ
 digit_value d = if nat_le 48 d && nat_le d 57 then Some (d - 48) else (if nat_le 97 d && nat_le d 102 then Some (d - 87) else (if nat_le 65 d && nat_le d 70 then Some (d - 55) else None))
 
+-- a value that is below the base
 abbrev pub below : ℕ → Option ℕ → Option ℕ
 below base None = None
 below base (Some k) = if nat_lt k base then Some k else None
@@ -15,13 +16,14 @@ below base (Some k) = if nat_lt k base then Some k else None
 abbrev pub digit_of : ℕ → ℕ → Option ℕ
 digit_of base d = below base (digit_value d)
 
--- the letters behind the digits: u, l, ul, ll or ull, each in either case
+-- the letters of suffixes, in either case
 abbrev pub is_u : ℕ → Bool
 is_u b = b == 117 || b == 85
 
 abbrev pub is_l : ℕ → Bool
 is_l b = b == 108 || b == 76
 
+-- the suffix that the letters spell
 unfoldable pub suffix_of : List ℕ → Option Suffix
 suffix_of [] = Some Absent
 suffix_of (a ∷ []) = if is_u a then Some Unsigned else (if is_l a then Some Long else None)
@@ -36,6 +38,7 @@ abbrev pub StandFor : ℕ → List ℕ → ℕ → Type 0
 StandFor base [] n = n ≡ 0
 StandFor base (d ∷ ds) n = (k : ℕ) × (m : ℕ) × (digit_of base d ≡ Some k) × StandFor base ds m × (n ≡ k * base ^ length ds + m)
 
+-- x in either case
 abbrev pub is_x : ℕ → Bool
 is_x b = b == 120 || b == 88
 
@@ -57,6 +60,7 @@ pub record IsNumber (own : List ℕ) (n : ℕ) (s : Suffix) : Type 0 where
   pub fits : n < 2 ^ 64
   pub suffix : suffix_of behind ≡ Some s
 
+-- the bytes stand for no number
 abbrev pub IsNoNumber : List ℕ → Type 0
 IsNoNumber own = (n : ℕ) (s : Suffix) → IsNumber own n s → ⊥
 
@@ -66,6 +70,7 @@ IsNoNumber own = (n : ℕ) (s : Suffix) → IsNumber own n s → ⊥
 abbrev pub one_more : ℕ → ℕ → ℕ → Option ℕ
 one_more base n k = if nat_lt (n * base + k) (2 ^ 64) then Some (n * base + k) else None
 
+-- the number, where what is behind its digits is a suffix
 abbrev pub with_suffix : ℕ → Option Suffix → Option (ℕ × Suffix)
 with_suffix n None = None
 with_suffix n (Some s) = Some (n, s)
@@ -75,14 +80,17 @@ abbrev pub number_by : (go : ℕ → Option (ℕ × Suffix)) → ℕ → ℕ →
 number_by go base n bytes None = with_suffix n (suffix_of bytes)
 number_by go base n bytes (Some k) = option_and_then go (one_more base n k)
 
+-- the number whose first digits are n
 unfoldable pub number_from : ℕ → ℕ → List ℕ → Option (ℕ × Suffix)
 number_from base n [] = Some (n, Absent)
 number_from base n (d ∷ ds) = number_by (λ k. number_from base k ds) base n (d ∷ ds) (digit_of base d)
 
+-- hexadecimal digits, where the first byte is one
 abbrev pub hex_by : List ℕ → Option ℕ → Option (ℕ × Suffix)
 hex_by z None = None
 hex_by z (Some k) = number_from 16 0 z
 
+-- behind 0x
 abbrev pub hex_from : List ℕ → Option (ℕ × Suffix)
 hex_from [] = None
 hex_from (d ∷ ds) = hex_by (d ∷ ds) (digit_of 16 d)

@@ -7,7 +7,7 @@ use Rattle.d_lexer.specs.declared.token.TokenKind.TheVariants as kind
 use Rattle.d_lexer.specs.declared.place.Place.{Place}
 use Rattle.d_lexer.specs.declared.place.Place.TheVariants.{Head, Declaration, Predicate, Body}
 use Rattle.d_lexer.specs.declared.position.Position.{Position}
-use Rattle.d_lexer.specs.Bytes.{next_is}
+use Rattle.d_lexer.specs.Bytes.{line_feed, hash, is_space, next_is}
 
 -- ---- positions
 
@@ -17,7 +17,7 @@ start = record { at = 0; line = 1; fresh = true }
 
 -- a line feed ends the line; spaces and tabs leave it fresh
 abbrev pub passed : Position → ℕ → Position
-passed pos b = record { at = pos.at + 1; line = if b == 10 then pos.line + 1 else pos.line; fresh = b == 10 || (pos.fresh && (b == 32 || b == 9)) }
+passed pos b = record { at = pos.at + 1; line = if b == line_feed then pos.line + 1 else pos.line; fresh = b == line_feed || (pos.fresh && is_space b) }
 
 -- the position behind the bytes
 abbrev pub moved : Position → List ℕ → Position
@@ -26,20 +26,22 @@ moved pos (b ∷ bs) = moved (passed pos b) bs
 
 -- ---- lines that are no tokens
 
+-- the place is the head
 abbrev pub is_head : Place → Bool
 is_head Head = true
 is_head p = false
 
 -- the bytes begin here with #!
 abbrev pub is_first : Position → ℕ → List ℕ → Bool
-is_first pos b z = pos.at == 0 && b == 35 && next_is 33 z
+is_first pos b z = pos.at == 0 && b == hash && next_is 33 z
 
 -- a line of the head begins here with #
 abbrev pub is_hash : Place → Position → ℕ → Bool
-is_hash p pos b = is_head p && pos.fresh && b == 35
+is_hash p pos b = is_head p && pos.fresh && b == hash
 
 -- ---- where the script goes on behind a token
 
+-- braces, a slash of the head and a semicolon of a declaration lead elsewhere
 abbrev pub after_mark : Place → Mark → Place
 after_mark p m.OpenBrace = Body
 after_mark p m.CloseBrace = Head

@@ -24,6 +24,7 @@ use Rattle.d_lexer.specs.Faults.{on_line}
 use Rattle.d_lexer.specs.OptionLine.{is_option}
 use Rattle.d_lexer.specs.Tokens.{End, Clean, Bad}
 
+-- the flaw that was read, or refused memory
 abbrev pub Fails : {X : Type 0} → Stop → Result X Flaw → Type 0
 Fails stops.Memory read = Unit {0}
 Fails (stops.Flawed g) read = read ≡ Err g
@@ -33,10 +34,7 @@ abbrev pub Gives : {X : Type 0} → Result X Stop → Result X Flaw → Type 0
 Gives (Ok x) read = read ≡ Ok x
 Gives (Err e) read = Fails e read
 
-abbrev pub OnlyMemory : {X : Type 0} → Result X Stop → Type 0
-OnlyMemory (Ok x) = Unit {0}
-OnlyMemory (Err e) = e ≡ stops.Memory
-
+-- what was read, and then more; a flaw stays
 infixl 10 ◌>>=◌
 abbrev pub ◌>>=◌ : {A B : Type 0} → Result A Flaw → (A → Result B Flaw) → Result B Flaw
 (Ok x) >>= f = f x
@@ -48,53 +46,63 @@ abbrev pub ◌>>=◌ : {A B : Type 0} → Result A Flaw → (A → Result B Flaw
 abbrev pub run_len : (ℕ → Bool) → List ℕ → ℕ
 run_len test z = length (take_while test z)
 
+-- the bytes at the front that pass
 abbrev pub run_of : (ℕ → Bool) → List ℕ → List ℕ
 run_of test z = take (run_len test z) z
 
+-- all but the first
 abbrev pub tail : List ℕ → List ℕ
 tail [] = []
 tail (b ∷ z) = z
 
--- what a text constant holds and how many bytes are left of it, after its first quote; the test says that a backslash came before
+-- one byte more, written as it is
 abbrev pub put : ℕ → Result (List ℕ × ℕ) Flaw → Result (List ℕ × ℕ) Flaw
 put x read = read >>= λ r. Ok (x ∷ r.0, suc r.1)
 
+-- one byte more that stands for none: a backslash
 abbrev pub skip_one : Result (List ℕ × ℕ) Flaw → Result (List ℕ × ℕ) Flaw
 skip_one read = read >>= λ r. Ok (r.0, suc r.1)
 
+-- one byte more, behind a backslash
 abbrev pub put_escape : Option ℕ → Result (List ℕ × ℕ) Flaw → Result (List ℕ × ℕ) Flaw
 put_escape None read = Err Escape
 put_escape (Some x) read = put x read
 
+-- what a text constant holds, and how many bytes it has behind its first quote; the test says that a backslash came before
 unfoldable pub text_from : Bool → List ℕ → Result (List ℕ × ℕ) Flaw
 text_from escaped [] = Err Unclosed
 text_from true (b ∷ z) = put_escape (escape_of b) (text_from false z)
 text_from false (b ∷ z) =
     if b == 34 then Ok ([], 1) else (if b == 10 then Err Unclosed else (if b == 0 then Err BadByte else (if b == 92 then skip_one (text_from true z) else put b (text_from false z))))
 
--- how many bytes a comment has, after its first two
+-- one byte more
 abbrev pub one_longer : Option ℕ → Option ℕ
 one_longer None = None
 one_longer (Some n) = Some (suc n)
 
+-- how many bytes a comment has behind its /*
 unfoldable pub comment_from : List ℕ → Option ℕ
 comment_from [] = None
 comment_from (b ∷ z) = if b == 42 && next_is 47 z then Some 2 else one_longer (comment_from z)
 
--- the longest mark, and how many bytes more than one it has
+-- a mark with its length less one, or the other where there is none
 abbrev pub sized : ℕ → Option Mark → Option (Mark × ℕ) → Option (Mark × ℕ)
 sized n None other = other
 sized n (Some k) other = Some (k, n)
 
+-- the mark where one byte is left
 abbrev pub one_at : Place → ℕ → Option (Mark × ℕ)
 one_at p a = sized 0 (mark_of p (a ∷ [])) None
 
+-- where two are
 abbrev pub two_at : Place → ℕ → ℕ → Option (Mark × ℕ)
 two_at p a b = sized 1 (mark_of p (a ∷ b ∷ [])) (one_at p a)
 
+-- where three or more are
 abbrev pub three_at : Place → ℕ → ℕ → ℕ → Option (Mark × ℕ)
 three_at p a b c = sized 2 (mark_of p (a ∷ b ∷ c ∷ [])) (two_at p a b)
 
+-- the longest mark at the front, and how many bytes more than one it has
 unfoldable pub mark_at : Place → ℕ → List ℕ → Option (Mark × ℕ)
 mark_at p a [] = one_at p a
 mark_at p a (b ∷ []) = two_at p a b
@@ -105,44 +113,58 @@ abbrev pub Fits : Front → ℕ → Type 0
 Fits (Gap n) len = n ≤ len
 Fits (front.Token k n) len = n ≤ len
 
+-- ---- what is at the front: a gap or a token, with how many bytes more than one it has
+
+-- a mark, or a byte that begins nothing
 abbrev pub mark_front : Option (Mark × ℕ) → Result Front Flaw
 mark_front None = Err BadByte
 mark_front (Some k) = Ok (front.Token (kind.Mark k.0) k.1)
 
+-- a number, or a constant that is none
 abbrev pub number_front : Option (ℕ × Suffix) → ℕ → Result Front Flaw
 number_front None len = Err Constant
 number_front (Some n) len = Ok (front.Token (kind.Number n.0 n.1) len)
 
+-- a comment, or one without an end
 abbrev pub comment_front : Option ℕ → Result Front Flaw
 comment_front None = Err Unclosed
 comment_front (Some n) = Ok (Gap (suc n))
 
+-- self and this are words, and every other run is a description run
 abbrev pub head_kind : List ℕ → TokenKind
 head_kind w = if is_declaring w then kind.Word w else kind.DescriptionRun w
 
+-- a word
 abbrev pub word_front : ℕ → List ℕ → Result Front Flaw
 word_front b z = Ok (front.Token (kind.Word (b ∷ run_of is_word_byte z)) (run_len is_word_byte z))
 
+-- a run that begins with a digit
 abbrev pub run_number : ℕ → List ℕ → Result Front Flaw
 run_number b z = number_front (number_of (b ∷ run_of is_word_byte z)) (run_len is_word_byte z)
 
+-- a run of the head
 abbrev pub run_front : ℕ → List ℕ → Result Front Flaw
 run_front b z = Ok (front.Token (head_kind (b ∷ run_of is_run_byte z)) (run_len is_run_byte z))
 
+-- @ alone
 abbrev pub nameless : Result Front Flaw
 nameless = Ok (front.Token (kind.AggregationName (95 ∷ [])) 0)
 
+-- @ and a word
 abbrev pub named : ℕ → List ℕ → Result Front Flaw
 named b z = Ok (front.Token (kind.AggregationName (b ∷ run_of is_word_byte z)) (suc (run_len is_word_byte z)))
 
+-- an aggregation name, from behind its @
 abbrev pub aggregation_front : List ℕ → Result Front Flaw
 aggregation_front [] = nameless
 aggregation_front (b ∷ z) = if is_word_start b then named b z else nameless
 
+-- a text constant, or what is wrong with it
 abbrev pub text_front : Result (List ℕ × ℕ) Flaw → Result Front Flaw
 text_front (Ok t) = Ok (front.Token (kind.TextConstant t.0) t.1)
 text_front (Err f) = Err f
 
+-- a token of a declaration, a predicate or a body
 unfoldable pub inside_at : Place → ℕ → List ℕ → Result Front Flaw
 inside_at p b z =
     if is_word_start b then word_front b z
@@ -151,18 +173,22 @@ inside_at p b z =
     else (if b == 34 then text_front (text_from false z)
     else mark_front (mark_at p b z))))
 
+-- a token of the head
 unfoldable pub head_at : ℕ → List ℕ → Result Front Flaw
 head_at b z = if is_run_byte b then run_front b z else mark_front (mark_at Head b z)
 
+-- a token of the place
 unfoldable pub token_at : Place → ℕ → List ℕ → Result Front Flaw
 token_at Head b z = head_at b z
 token_at Declaration b z = inside_at Declaration b z
 token_at Predicate b z = inside_at Predicate b z
 token_at Body b z = inside_at Body b z
 
+-- an option line, from behind its #
 abbrev pub option_front : List ℕ → Result Front Flaw
 option_front z = if is_option (35 ∷ run_of is_inside z) then Ok (Gap (run_len is_inside z)) else Err OptionLine
 
+-- what is at the front of the bytes
 unfoldable pub front_at : Place → Position → ℕ → List ℕ → Result Front Flaw
 front_at p pos b z =
     if is_blank b then Ok (Gap 0)
@@ -175,15 +201,17 @@ front_at p pos b z =
 abbrev pub Scanned : Type 0
 Scanned = List Token × End
 
+-- one token more
 abbrev pub with_first : Token → Scanned → Scanned
 with_first t s = (t ∷ s.0, s.1)
 
+-- what comes of what is at the front
 abbrev pub scan_by : (go : ℕ → Place → Scanned) → Place → Position → Result Front Flaw → Scanned
 scan_by go p pos (Err g) = ([], Bad (on_line g pos.line))
 scan_by go p pos (Ok (Gap n)) = go n p
 scan_by go p pos (Ok (front.Token t n)) = with_first (record { kind = t; start = pos.at; stop = pos.at + suc n; line = pos.line }) (go n (after p t))
 
--- The tokens of the bytes, once the first few are passed.
+-- the tokens of the bytes, once the first n are passed
 unfoldable pub scan : ℕ → Place → Position → List ℕ → Scanned
 scan n p pos [] = ([], Clean)
 scan (suc n) p pos (b ∷ z) = scan n p (passed pos b) z

@@ -3,6 +3,7 @@ use Rattle.std.specs.Prelude.{ℕ, List, codes}
 use Rattle.d_lexer.specs.declared.token.Mark.{Mark}
 use Rattle.d_lexer.specs.declared.token.Mark.TheVariants as m
 
+-- the mark's bytes
 abbrev pub spelling : Mark → List ℕ
 spelling m.ShiftLeftAssign = codes "<<="
 spelling m.ShiftRightAssign = codes ">>="

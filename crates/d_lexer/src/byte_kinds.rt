@@ -10,6 +10,12 @@ pub(crate) fn is_blank(b: u8) -> bool
     b == b' ' || (9 <= b && b <= 13)
 }
 
+pub(crate) fn is_space(b: u8) -> bool
+    ensures { result ≡ spec.is_space b }
+{
+    b == b' ' || b == b'\t'
+}
+
 pub(crate) fn is_word_start(b: u8) -> bool
     ensures { result ≡ spec.is_word_start b }
 {

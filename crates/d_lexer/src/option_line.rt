@@ -4,11 +4,7 @@ ghost use Rattle.std.specs.Prelude.{◌≡◌, ◌++◌, codes};
 ghost use Rattle.d_lexer.specs.OptionLine as spec;
 ghost use Rattle.d_lexer.specs.OptionLine.{Finds};
 
-fn is_space(b: u8) -> bool
-    ensures { result ≡ spec.is_space b }
-{
-    b == b' ' || b == b'\t'
-}
+use crate::byte_kinds::is_space;
 
 fn behind<'a>(word: &[u8], bytes: &'a [u8]) -> Option<&'a [u8]>
     ensures { Finds (λ r. r.now) result (spec.behind word.now bytes.now) }

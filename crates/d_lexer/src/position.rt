@@ -3,6 +3,8 @@
 ghost use Rattle.std.specs.Prelude.{◌≡◌, ◌+◌, ◌<◌, ◌≤◌, length};
 ghost use Rattle.d_lexer.specs.Places as spec;
 
+use crate::byte_kinds::is_space;
+
 /// How many bytes came before, the line, and whether the line has held only spaces and tabs so far.
 #[derive(Clone, Copy, Debug)]
 pub struct Position {
@@ -32,7 +34,7 @@ impl Position {
         Position {
             at: self.at + 1,
             line: if b == b'\n' { self.line + 1 } else { self.line },
-            fresh: b == b'\n' || (self.fresh && (b == b' ' || b == b'\t')),
+            fresh: b == b'\n' || (self.fresh && is_space(b)),
         }
     }
 

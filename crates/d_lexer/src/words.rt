@@ -1,6 +1,6 @@
 //! Words, aggregation names and description runs.
 
-ghost use Rattle.std.specs.Prelude.{◌≡◌, ◌∷◌, IfOk};
+ghost use Rattle.std.specs.Prelude.{◌≡◌, ◌∷◌, IfErr, IfOk};
 ghost use Rattle.d_lexer.specs.Bytes as spec;
 ghost use Rattle.d_lexer.specs.Scan as scan;
 
@@ -13,7 +13,7 @@ use std::alloc::Global;
 
 fn gathered(alloc: Global, b: u8, run: &[u8]) -> Result<ByteString, Stop>
     ensures ok { IfOk result (λ s. s ≡ b ∷ run.now) }
-    ensures err { scan.OnlyMemory result }
+    ensures err { IfErr result (λ e. e ≡ Stop.Memory) }
 {
     let mut bytes = Vec::with_capacity(alloc, run.len() + 1)?;
     bytes.push(b)?;
