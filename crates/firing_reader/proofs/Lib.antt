@@ -1,5 +1,6 @@
 pub mod Numerals
 pub mod FieldTexts
+pub mod Pool
 pub mod Left
 pub mod Rows
 pub mod Fields

@@ -5,7 +5,7 @@ ghost use Rattle.csv.specs.Records.{fields_of};
 ghost use Rattle.firing_reader.specs.Gives.{Gives};
 ghost use Rattle.firing_reader.specs.Row.{whole_at, int_at, signed_at, text_at, args_at, columns_at, row_of};
 
-use crate::columns::{decimal, field_at, signed, text};
+use crate::columns::{decimal, field_at, signed};
 use crate::fault::TraceFault;
 use crate::firing::Firing;
 use crate::text::Text;
@@ -64,8 +64,8 @@ fn text_in(
     requires { 1 ≤ column }
     ensures { Gives result (text_at row column (fields_of fields.now)) }
 {
-    match text(field_at(fields, column)) {
-        Some(text) => Ok(texts.get(text, before)?),
+    match texts.get(field_at(fields, column), before)? {
+        Some(text) => Ok(text),
         None => Err(TraceFault::Text { row, column }),
     }
 }
