@@ -1,3 +1,4 @@
 pub mod Dividing
 pub mod Fields
 pub mod Counts
+pub mod Divisions

@@ -6,11 +6,14 @@ mod bundle;
 mod bytes;
 mod consuming;
 mod counting;
+pub mod laws;
 mod matching;
 mod plan;
 mod refusal;
 mod replaying;
 mod running;
+#[cfg(test)]
+mod tests;
 
 use consuming::{ConsumeFault, consume};
 use plan::{EngineKind, GroupPlan, Plan};

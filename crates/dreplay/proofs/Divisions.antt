@@ -1,0 +1,84 @@
+-- A bundle is divided in one way.
+use Rattle.std.proofs.Common.{◌≡◌, ◌≢◌, ℕ, zero, suc, ◌+◌, ◌<◌, List, [], ◌∷◌, ◌++◌, length, All, refl, sym, ap, ◌∙◌, subst, arith, ⊎_elim}
+use Rattle.std.specs.Prelude.{codes}
+use Rattle.std.specs.List.{AllByRecursion}
+use Rattle.std.proofs.lemmas.List.Elements.{All-from_recursion}
+use Rattle.dreplay.specs.Bundle.{Divides, IsDivider, IsLine}
+use Rattle.std.specs.List.{slice_split}
+use Rattle.dreplay.specs.Counting.{Description, Counts, fields_of, is_colon}
+use Rattle.dreplay.proofs.Fields.{one_probe}
+
+line_behind : (b : ℕ) (bytes : List ℕ) → IsLine (b ∷ bytes) → IsLine bytes
+line_behind b bytes own = λ k d lt. own (suc k) d (omega arith)
+
+-- a line has no line feed in it
+no_feed : (line front rest : List ℕ) → IsLine line → line ≡ front ++ 10 ∷ rest → ⊥
+no_feed [] [] rest own e = cc
+no_feed [] (f ∷ front) rest own e = cc
+no_feed (b ∷ line) [] rest own e = own 0 b (omega arith) (cc)
+no_feed (b ∷ line) (f ∷ front) rest own e = no_feed line front rest (line_behind b line own) (cc)
+
+-- the first line feed is in one place
+one_cut : (x y a b : List ℕ) → IsLine x → IsLine y → x ++ 10 ∷ a ≡ y ++ 10 ∷ b → (x ≡ y) × (a ≡ b)
+one_cut [] [] a b own own' e = (refl, cc)
+one_cut [] (c ∷ y) a b own own' e = absurd (own' 0 c (omega arith) (cc))
+one_cut (c ∷ x) [] a b own own' e = absurd (own 0 c (omega arith) (cc))
+one_cut (c ∷ x) (f ∷ y) a b own own' e =
+    let rest = one_cut x y a b (line_behind c x own) (line_behind f y own') (cc) in
+    let line = rest.0 in
+    (cc, rest.1)
+
+-- the dividing line is one line
+divider_is_line : (line : List ℕ) → IsDivider line → IsLine line
+divider_is_line line is = ⊎_elim
+    (λ (e : line ≡ codes "---"). subst IsLine (sym e) (All-from_recursion (λ b. b ≢ 10) (codes "---") (λ f. omega arith, (λ f. omega arith, (λ f. omega arith, tt)))))
+    (λ (e : line ≡ codes "---\r"). subst IsLine (sym e) (All-from_recursion (λ b. b ≢ 10) (codes "---\r") (λ f. omega arith, (λ f. omega arith, (λ f. omega arith, (λ f. omega arith, tt))))))
+    is
+
+same_division : (bundle script trace bundle' script' trace' : List ℕ) → Divides bundle script trace → Divides bundle' script' trace' → bundle ≡ bundle' → (script ≡ script') × (trace ≡ trace')
+same_division b s t b' s' t' (Divides.before line rest script trace own other more) (Divides.before line' rest' script' trace' own' other' more') e =
+    let cut = one_cut line line' rest rest' own own' e in
+    let again = same_division rest script trace rest' script' trace' more more' cut.1 in
+    let first = cut.0 in
+    let behind = again.0 in
+    (cc, again.1)
+same_division b s t b' s' t' (Divides.before line rest script trace own other more) (Divides.divider line' trace' is') e =
+    absurd (other (subst IsDivider (sym (one_cut line line' rest trace' own (divider_is_line line' is') e).0) is'))
+same_division b s t b' s' t' (Divides.before line rest script trace own other more) (Divides.last_divider line' is') e = absurd (no_feed line' line rest (divider_is_line line' is') (sym e))
+same_division b s t b' s' t' (Divides.before line rest script trace own other more) (Divides.last_line line' own' other') e = absurd (no_feed line' line rest own' (sym e))
+same_division b s t b' s' t' (Divides.divider line trace is) (Divides.before line' rest' script' trace' own' other' more') e =
+    absurd (other' (subst IsDivider (one_cut line line' trace rest' (divider_is_line line is) own' e).0 is))
+same_division b s t b' s' t' (Divides.divider line trace is) (Divides.divider line' trace' is') e =
+    (refl, (one_cut line line' trace trace' (divider_is_line line is) (divider_is_line line' is') e).1)
+same_division b s t b' s' t' (Divides.divider line trace is) (Divides.last_divider line' is') e = absurd (no_feed line' line trace (divider_is_line line' is') (sym e))
+same_division b s t b' s' t' (Divides.divider line trace is) (Divides.last_line line' own' other') e = absurd (no_feed line' line trace own' (sym e))
+same_division b s t b' s' t' (Divides.last_divider line is) (Divides.before line' rest' script' trace' own' other' more') e = absurd (no_feed line line' rest' (divider_is_line line is) e)
+same_division b s t b' s' t' (Divides.last_divider line is) (Divides.divider line' trace' is') e = absurd (no_feed line line' trace' (divider_is_line line is) e)
+same_division b s t b' s' t' (Divides.last_divider line is) (Divides.last_divider line' is') e = (refl, refl)
+same_division b s t b' s' t' (Divides.last_divider line is) (Divides.last_line line' own' other') e = absurd (other' (subst IsDivider e is))
+same_division b s t b' s' t' (Divides.last_line line own other) (Divides.before line' rest' script' trace' own' other' more') e = absurd (no_feed line line' rest' own e)
+same_division b s t b' s' t' (Divides.last_line line own other) (Divides.divider line' trace' is') e = absurd (no_feed line line' trace' own e)
+same_division b s t b' s' t' (Divides.last_line line own other) (Divides.last_divider line' is') e = absurd (other (subst IsDivider (sym e) is'))
+same_division b s t b' s' t' (Divides.last_line line own other) (Divides.last_line line' own' other') e = (e, refl)
+
+pub one_division : (bundle script trace script' trace' : List ℕ) → Divides bundle script trace → Divides bundle script' trace' → (script ≡ script') × (trace ≡ trace')
+one_division bundle script trace script' trace' d d' = same_division bundle script trace bundle script' trace' d d' refl
+
+make : List ℕ → List ℕ → List ℕ → List ℕ → Description
+make provider probemod probefunc name = record { provider = provider; probemod = probemod; probefunc = probefunc; name = name }
+
+same_description : (d d' : Description) → fields_of d ≡ fields_of d' → d ≡ d'
+unfolding make
+same_description d d' e =
+    let provider : d.provider ≡ d'.provider = cc in
+    let probemod : d.probemod ≡ d'.probemod = cc in
+    let probefunc : d.probefunc ≡ d'.probefunc = cc in
+    let name : d.name ≡ d'.name = cc in
+    ap (λ x. make x d.probemod d.probefunc d.name) provider
+    ∙ ap (λ x. make d'.provider x d.probefunc d.name) probemod
+    ∙ ap (λ x. make d'.provider d'.probemod x d.name) probefunc
+    ∙ ap (λ x. make d'.provider d'.probemod d'.probefunc x) name
+
+pub one_description : (script : List ℕ) (d d' : Description) → Counts script d → Counts script d' → d ≡ d'
+one_description script d d' c c' =
+    same_description d d' (sym c.fields ∙ ap (slice_split is_colon) (one_probe script c'.probe d c'.spelled c) ∙ c'.fields)

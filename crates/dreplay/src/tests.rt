@@ -1,0 +1,131 @@
+//! Calls that no run of the program shows: plans, failing readers and writers, and what is said of each refusal.
+
+ghost use Rattle.dreplay.specs.Plans.{IsSerial};
+
+use crate::consuming::{ConsumeFault, consume};
+use crate::plan::{EngineKind, GroupPlan, Plan, Replayed};
+use crate::refusal::{Refusal, refusal_status, refusal_text};
+use crate::replaying::replay;
+use firing_reader::TraceFault;
+use report::Watched;
+use report::faulty::Faulty;
+use std::alloc::Global;
+use std::test::Fail;
+
+const SCRIPT: &[u8] = b"syscall::read:entry { @[execname] = count(); }";
+
+const TRACE: &[u8] = b"number,cpu,thread,pid,execname,time,provider,module,function,name,\
+arg0,arg1,arg2,arg3,arg4,arg5,arg6,arg7,arg8,arg9\n\
+1,0,7,700,cat,1000,syscall,,read,entry,3,0,0,0,0,0,0,0,0,0\n\
+4,0,8,700,cat,1000,syscall,,write,entry,3,0,0,0,0,0,0,0,0,0";
+
+const BUNDLE: &[u8] = b"syscall::read:entry { @[execname] = count(); }\n---\n\
+number,cpu,thread,pid,execname,time,provider,module,function,name,\
+arg0,arg1,arg2,arg3,arg4,arg5,arg6,arg7,arg8,arg9\n\
+1,0,7,700,cat,1000,syscall,,read,entry,3,0,0,0,0,0,0,0,0,0";
+
+const SHOWN: &[u8] = b"\n  cat                                                               1\n";
+
+fn serial() -> Plan
+    ensures { IsSerial result }
+{
+    Plan {
+        workers: 1,
+        groups: GroupPlan::Dealt(1),
+        engine: EngineKind::Tree,
+    }
+}
+
+// Consumes the bundle one byte a call, where these many calls of the reader and of the writer go well.
+fn consumed(alloc: Global, reads: u64, writes: u64) -> (Result<Replayed, ConsumeFault>, Vec<u8>) {
+    let mut feed = Watched::new(Faulty::new(BUNDLE, reads));
+    let mut sink = Watched::new(Faulty::new(Vec::new(alloc), writes));
+    let answer = consume(alloc, &mut feed, &mut sink, &serial());
+    (answer, sink.into_inner().into_inner())
+}
+
+#[test]
+fn each_firing_is_run_once(rt: HostRuntime) -> Result<(), Fail> {
+    let replayed = replay(rt.alloc(), SCRIPT, TRACE, &serial())?;
+    assert_eq!(rt; replayed.bytes.as_slice(), SHOWN);
+    assert_eq!(rt; replayed.by_worker.len(), 1);
+    assert_eq!(rt; replayed.by_worker[0].as_slice(), [0].as_slice());
+    assert_eq!(rt; replayed.ran.len(), 1);
+    assert_eq!(rt; replayed.ran[0].as_slice(), [1, 4].as_slice());
+    Ok(())
+}
+
+#[test]
+fn nothing_is_written_after_a_failed_read(rt: HostRuntime) {
+    for reads in 0..=BUNDLE.len() as u64 {
+        let (answer, out) = consumed(rt.alloc(), reads, 100);
+        assert!(rt; matches!(answer, Err(ConsumeFault::Read)), "at {reads}");
+        assert!(rt; out.is_empty());
+    }
+    let (answer, out) = consumed(rt.alloc(), BUNDLE.len() as u64 + 1, 100);
+    assert!(rt; answer.is_ok());
+    assert_eq!(rt; out.as_slice(), SHOWN);
+}
+
+#[test]
+fn a_beginning_is_written_before_a_failed_write(rt: HostRuntime) {
+    for writes in 0..SHOWN.len() {
+        let (answer, out) = consumed(rt.alloc(), 1000, writes as u64);
+        assert!(rt; matches!(answer, Err(ConsumeFault::Write)), "at {writes}");
+        assert_eq!(rt; out.as_slice(), &SHOWN[..writes]);
+    }
+}
+
+#[test]
+fn each_refusal_has_its_line_and_status(rt: HostRuntime) -> Result<(), Fail> {
+    let rows = [
+        (Refusal::NotYet, 3, "dreplay: script refused: not yet"),
+        (Refusal::Memory, 1, "dreplay: out of memory"),
+        (
+            Refusal::Trace(TraceFault::Memory),
+            1,
+            "dreplay: out of memory",
+        ),
+        (
+            Refusal::Trace(TraceFault::Header),
+            4,
+            "dreplay: trace refused: Trace 1",
+        ),
+        (
+            Refusal::Trace(TraceFault::Columns { row: 2 }),
+            4,
+            "dreplay: trace refused: Trace 2 row 2",
+        ),
+        (
+            Refusal::Trace(TraceFault::Number { row: 2, column: 4 }),
+            4,
+            "dreplay: trace refused: Trace 3 row 2 column 4",
+        ),
+        (
+            Refusal::Trace(TraceFault::Order { row: 9 }),
+            4,
+            "dreplay: trace refused: Trace 4 row 9",
+        ),
+        (
+            Refusal::Trace(TraceFault::Text { row: 1, column: 10 }),
+            4,
+            "dreplay: trace refused: Trace 5 row 1 column 10",
+        ),
+        (
+            Refusal::Trace(TraceFault::Reserved { row: 7 }),
+            4,
+            "dreplay: trace refused: Trace 6 row 7",
+        ),
+        (
+            Refusal::Trace(TraceFault::TooMany),
+            4,
+            "dreplay: trace refused: Trace 7",
+        ),
+    ];
+    for (refusal, status, line) in rows {
+        let said = refusal_text(rt.alloc(), &refusal)?;
+        assert_eq!(rt; said.as_str(), line);
+        assert_eq!(rt; refusal_status(&refusal), status);
+    }
+    Ok(())
+}
