@@ -34,7 +34,7 @@ impl Partial {
         }
     }
 
-    /// The number that the entry shows.
+    /// The number that the entry shows. What `AggTable::entries` lends is small enough for it.
     pub fn single(&self) -> Option<i64>
         requires { count_in self.now < 2 ^ 63 }
         ensures { result ≡ single_of self.now }

@@ -17,7 +17,9 @@ use std::marker::Model;
 /// One part of a key. Integers are kept as signed 64-bit numbers.
 #[derive(Drop, Debug)]
 pub enum KeyPart {
+    /// An integer.
     Number(i64),
+    /// A text.
     Name(Text),
 }
 
@@ -121,7 +123,7 @@ impl Hash for KeyPart {
     }
 }
 
-/// The key of an entry: its parts from left to right.
+/// The key of an entry: its parts from left to right. Contracts see the list of its parts, so equal keys are `≡`.
 #[derive(Drop, Debug)]
 pub struct Key {
     parts: Vec<KeyPart>,

@@ -11,7 +11,7 @@ use std::cmp::Ordering;
 use std::hash::{Hash, Hasher};
 use std::marker::Model;
 
-/// A byte string. How it lies in memory is no part of its value.
+/// A byte string. Contracts see the list of its bytes: how it lies in memory is no part of its value.
 #[derive(Drop, Debug)]
 pub struct Text {
     bytes: Vec<u8>,

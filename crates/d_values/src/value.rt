@@ -8,14 +8,18 @@ use std::alloc::AllocError;
 /// Whether a value or a key's part is an integer or a text.
 #[derive(Clone, Copy, Debug, PartialEq, Eq)]
 pub enum Kind {
+    /// An integer.
     Number,
+    /// A text.
     Text,
 }
 
-/// The value of an expression. An integer is the 64-bit extension of its typed value.
+/// The value of an expression.
 #[derive(Drop, Debug, PartialEq, Eq)]
 pub enum Value {
+    /// The 64-bit extension of an integer of any type.
     Int(u64),
+    /// A byte string.
     Text(Text),
 }
 
