@@ -1,2 +1,4 @@
+pub mod Lines
 pub mod Listings
 pub mod Outputs
+pub mod Unique

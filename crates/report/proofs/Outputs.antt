@@ -1,48 +1,62 @@
 -- One more aggregation is shown.
-use Rattle.std.proofs.Common.{◌≡◌, ◌⊎◌, ℕ, suc, ◌+◌, ◌<◌, ◌≤◌, List, [], ◌∷◌, ◌++◌, length, get_or, drop, map, Option, Some, None, refl, sym, ap, ◌∙◌, subst, arith, append_assoc, append-nil, drop-cons, add-one, ⊎_elim}
-use Rattle.std.proofs.Math.ListN.{drop_of_length-le}
+use Rattle.std.proofs.Common.{◌≡◌, ◌⊎◌, inl, inr, ⊎_elim, ℕ, zero, suc, ◌+◌, ◌<◌, ◌≤◌, List, [], ◌∷◌, ◌++◌, length, get_or, take, Some, refl, sym, ap, ◌∙◌, subst, arith, length-append}
 use Rattle.std.specs.List.{slice_get}
-use Rattle.std.proofs.lemmas.Option.{slice_get_cases}
-use Rattle.d_values.specs.declared.key.KeyPart.{KeyPart}
+use Rattle.std.proofs.lemmas.List.{flat_map_more, length-take-le, take_all, take_more}
+use Rattle.std.proofs.lemmas.Option.{same_Some, slice_get-get_or, slice_get_within}
 use Rattle.aggregations.specs.declared.function.AggFn.{AggFn}
-use Rattle.aggregations.specs.declared.partial.Partial.{Partial}
-use Rattle.aggregations.specs.Table.{Contribution, Aggregation, functions_of}
-use Rattle.report.specs.Listing.{IsListed, IsListing, listing_bytes}
-use Rattle.report.specs.Output.{ShowsFrom, Shows}
+use Rattle.aggregations.specs.Table.{Contribution}
+use Rattle.report.specs.Layout.{Entry}
+use Rattle.report.specs.Listing.{AppendsListing, IsListing, listing_bytes}
+use Rattle.report.specs.Output.{Shows}
 
--- an aggregation of the table has a function, with which the functions from it on begin
-record IsFunctionAt (functions : List AggFn) (agg : ℕ) : Type 0 where
-  pub function : AggFn
-  pub at : slice_get functions agg ≡ Some function
-  pub first : drop agg functions ≡ function ∷ drop (suc agg) functions
+-- an element of a list with one more is one of the list's or the new one
+push_cases : {X : Type 0} (xs : List X) (new x : X) (i : ℕ) → slice_get (xs ++ new ∷ []) i ≡ Some x → (slice_get xs i ≡ Some x) ⊎ ((i ≡ length xs) × (new ≡ x))
+push_cases [] new x zero at = inr (refl, same_Some new x at)
+push_cases [] new x (suc i) at = cc
+push_cases (y ∷ xs) new x zero at = inl at
+push_cases (y ∷ xs) new x (suc i) at = ⊎_elim inl (λ last. inr (ap suc last.0, last.1)) (push_cases xs new x i at)
 
-function_at : (functions : List AggFn) (agg : ℕ) → agg < length functions → IsFunctionAt functions agg
-function_at functions agg within = ⊎_elim
-    (λ (found : (f : AggFn) × (agg < length functions) × (slice_get functions agg ≡ Some f) × (get_or functions agg f ≡ f)).
-    let first = drop-cons functions agg found.0 within ∙ ap (λ g. g ∷ drop (suc agg) functions) found.3 in
-    record { function = found.0; at = found.2; first = first })
-    (λ (past : (length functions ≤ agg) × (slice_get functions agg ≡ None)). absurd (let over = past.0 in omega arith))
-    (slice_get_cases functions agg).1
+pub shows_none : (contributions : List Contribution) (bytes : List ℕ) → bytes ≡ [] → Shows [] contributions bytes
+shows_none contributions bytes none = record { listings = []; one_each = refl; listed = λ agg function entries at there. cc; joined = none }
 
-pub shows_more : (table : List Aggregation) (agg : ℕ) (contributions : List Contribution) (before after rest : List ℕ) → agg < length (functions_of table)
-    → ((function : AggFn) → slice_get (functions_of table) agg ≡ Some function → IsListed function agg contributions before after)
-    → ((bytes : List ℕ) → ShowsFrom agg (drop agg (functions_of table)) contributions bytes → Shows (functions_of table) contributions (before ++ bytes))
-    → ShowsFrom (agg + 1) (drop (agg + 1) (functions_of table)) contributions rest → Shows (functions_of table) contributions (after ++ rest)
-shows_more table agg contributions before after rest within listed so_far more =
-    let functions = functions_of table in
-    let here = function_at functions agg within in
-    let own = listed here.function here.at in
-    let next : ShowsFrom (suc agg) (drop (suc agg) functions) contributions rest = subst (λ n. ShowsFrom n (drop n functions) contributions rest) (add-one agg) more in
-    let shown : ShowsFrom agg (here.function ∷ drop (suc agg) functions) contributions (listing_bytes own.entries ++ rest) = (own.entries, rest, refl, own.listing, next) in
-    subst (λ bytes. Shows functions contributions bytes)
-    (sym (append_assoc before (listing_bytes own.entries) rest) ∙ ap (λ l. l ++ rest) (sym own.bytes))
-    (so_far (listing_bytes own.entries ++ rest) (subst (λ l. ShowsFrom agg l contributions (listing_bytes own.entries ++ rest)) (sym here.first) shown))
+module _ (contributions : List Contribution) where
+  -- each listing is one of those before or the new one
+  listed_push : (functions : List AggFn) (function : AggFn) (before after : List ℕ) (shown : Shows functions contributions before)
+      (more : AppendsListing function (length functions) contributions before after) (agg : ℕ) (f : AggFn) (entries : List Entry)
+      → slice_get (functions ++ function ∷ []) agg ≡ Some f → slice_get (shown.listings ++ more.entries ∷ []) agg ≡ Some entries → IsListing f agg contributions entries
+  listed_push functions function before after shown more agg f entries at there =
+      ⊎_elim
+      (λ (a : slice_get functions agg ≡ Some f). ⊎_elim (shown.listed agg f entries a)
+      (λ last. absurd (let within = slice_get_within functions agg f a in let size = shown.one_each in let end = last.0 in omega arith)) there_cases)
+      (λ (a : (agg ≡ length functions) × (function ≡ f)). ⊎_elim
+      (λ b. absurd (let within = slice_get_within shown.listings agg entries b in let size = shown.one_each in let end = a.0 in omega arith))
+      (λ last. subst (λ n. IsListing f n contributions entries) (sym a.0)
+      (subst (λ g. IsListing g (length functions) contributions entries) a.1 (subst (IsListing function (length functions) contributions) last.1 more.listing)))
+      there_cases)
+      (push_cases functions function f agg at)
+    where
+      there_cases : (slice_get shown.listings agg ≡ Some entries) ⊎ ((agg ≡ length shown.listings) × (more.entries ≡ entries))
+      there_cases = push_cases shown.listings more.entries entries agg there
 
--- all are shown
-pub shows_all : (table : List Aggregation) (agg : ℕ) (contributions : List Contribution) (bytes : List ℕ) → length (functions_of table) ≤ agg
-    → ((rest : List ℕ) → ShowsFrom agg (drop agg (functions_of table)) contributions rest → Shows (functions_of table) contributions (bytes ++ rest))
-    → Shows (functions_of table) contributions bytes
-shows_all table agg contributions bytes past so_far =
-    let functions = functions_of table in
-    let none : drop agg functions ≡ [] = drop_of_length-le functions past in
-    subst (λ l. Shows functions contributions l) (append-nil bytes) (so_far [] (subst (λ fs. ShowsFrom agg fs contributions []) (sym none) refl))
+  pub shows_push : (functions : List AggFn) (function : AggFn) (before after : List ℕ) → Shows functions contributions before
+      → AppendsListing function (length functions) contributions before after → Shows (functions ++ function ∷ []) contributions after
+  shows_push functions function before after shown more = record {
+    listings = shown.listings ++ more.entries ∷ [];
+    one_each = length-append shown.listings (more.entries ∷ []) ∙ ap (λ n. n + 1) shown.one_each ∙ sym (length-append functions (function ∷ []));
+    listed = listed_push functions function before after shown more;
+    joined = more.bytes ∙ ap (λ l. l ++ listing_bytes more.entries) shown.joined ∙ flat_map_more listing_bytes [] shown.listings more.entries;
+  }
+
+  pub shows_more : (functions : List AggFn) (agg : ℕ) (before after : List ℕ) → agg < length functions
+      → ((function : AggFn) → slice_get functions agg ≡ Some function → AppendsListing function agg contributions before after)
+      → Shows (take agg functions) contributions before → Shows (take (agg + 1) functions) contributions after
+  shows_more [] agg before after within more shown = absurd (omega arith)
+  shows_more (f ∷ functions) agg before after within more shown =
+      let here : AggFn = get_or (f ∷ functions) agg f in
+      let size : length (take agg (f ∷ functions)) ≡ agg = length-take-le agg (f ∷ functions) (omega arith) in
+      let own = more here (slice_get-get_or (f ∷ functions) agg f within) in
+      subst (λ fs. Shows fs contributions after) (sym (take_more (f ∷ functions) agg f within))
+      (shows_push (take agg (f ∷ functions)) here before after shown (subst (λ n. AppendsListing here n contributions before after) (sym size) own))
+
+  pub shows_all : (functions : List AggFn) (agg : ℕ) (bytes : List ℕ) → length functions ≤ agg → Shows (take agg functions) contributions bytes → Shows functions contributions bytes
+  shows_all functions agg bytes past shown = subst (λ fs. Shows fs contributions bytes) (take_all agg functions past) shown

@@ -1,3 +1,4 @@
+pub mod Columns
 pub mod Faulty
 pub mod Layout
 pub mod Listing

@@ -1,18 +1,17 @@
 -- The bytes of all aggregations.
-use Rattle.std.specs.Prelude.{◌≡◌, ℕ, suc, List, [], ◌∷◌, ◌++◌}
-use Rattle.d_values.specs.declared.key.KeyPart.{KeyPart}
+use Rattle.std.specs.Prelude.{◌≡◌, ℕ, List, Some, length, slice_get}
+use Rattle.std.specs.List.{flat_map}
 use Rattle.aggregations.specs.declared.function.AggFn.{AggFn}
-use Rattle.aggregations.specs.declared.partial.Partial.{Partial}
 use Rattle.aggregations.specs.Table.{Contribution}
+use Rattle.report.specs.Layout.{Entry}
 use Rattle.report.specs.Listing.{IsListing, listing_bytes}
 
--- the aggregations from this place on, with these functions, one behind the other
-abbrev pub ShowsFrom : ℕ → List AggFn → List Contribution → List ℕ → Type 0
-ShowsFrom agg [] contributions bytes = bytes ≡ []
-ShowsFrom agg (function ∷ functions) contributions bytes =
-    (entries : List (List KeyPart × Partial)) × (rest : List ℕ) × (bytes ≡ listing_bytes entries ++ rest) × IsListing function agg contributions entries
-    × ShowsFrom (suc agg) functions contributions rest
-
--- these bytes show what the contributions make of aggregations with these functions
-abbrev pub Shows : List AggFn → List Contribution → List ℕ → Type 0
-Shows functions contributions bytes = ShowsFrom 0 functions contributions bytes
+-- the bytes show what the contributions make of aggregations with these functions
+pub record Shows (functions : List AggFn) (contributions : List Contribution) (bytes : List ℕ) : Type 0 where
+  -- the entries of each aggregation, in order
+  pub listings : List (List Entry)
+  pub one_each : length listings ≡ length functions
+  pub listed : (agg : ℕ) (function : AggFn) (entries : List Entry) → slice_get functions agg ≡ Some function → slice_get listings agg ≡ Some entries
+      → IsListing function agg contributions entries
+  -- one behind the other
+  pub joined : bytes ≡ flat_map listing_bytes listings

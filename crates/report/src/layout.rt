@@ -1,9 +1,11 @@
 //! The bytes of an entry.
 
-ghost use Rattle.std.specs.Prelude.{◌≡◌, ◌≤◌, ◌++◌, ◌∷◌, [], ◌-◌, ℤ, IfOk, OnOk, length, replicate};
-ghost use Rattle.report.specs.Layout.{spaces, at_left, at_right, number_bytes, part_bytes, entry_bytes};
+ghost use Rattle.std.specs.Prelude.{◌≡◌, ◌<◌, ◌≤◌, ◌^◌, ◌++◌, OnOk};
 ghost use Rattle.std.specs.List.{flat_map};
+ghost use Rattle.aggregations.specs.Values.{count_in};
+ghost use Rattle.report.specs.Layout.{spaces, number_bytes, part_bytes, value_bytes, entry_bytes};
 
+use aggregations::Partial;
 use d_values::{Key, KeyPart};
 use itoa::Buffer;
 use std::alloc::AllocError;
@@ -23,7 +25,7 @@ fn put_spaces(out: &mut Vec<u8>, count: usize) -> Result<(), AllocError>
 }
 
 fn put_name(out: &mut Vec<u8>, text: &[u8]) -> Result<(), AllocError>
-    ensures { OnOk result (out.new.items ≡ out.old.items ++ 32 ∷ 32 ∷ at_left 50 text.now) }
+    ensures { OnOk result (out.new.items ≡ out.old.items ++ part_bytes (KeyPart.Name text.now)) }
 {
     out.extend_from_slice(b"  ")?;
     out.extend_from_slice(text)?;
@@ -60,12 +62,23 @@ fn put_key(out: &mut Vec<u8>, key: &Key) -> Result<(), AllocError>
     Ok(())
 }
 
-/// Puts an entry: the parts of its key, its value, and a line feed.
-pub fn put_entry(out: &mut Vec<u8>, key: &Key, value: i64) -> Result<(), AllocError>
-    ensures { OnOk result (out.new.items ≡ out.old.items ++ entry_bytes key.now value) }
+// Puts what an entry shows of its value, and a line feed.
+fn put_value(out: &mut Vec<u8>, value: &Partial) -> Result<(), AllocError>
+    requires { count_in value.now < 2 ^ 63 }
+    ensures { OnOk result (out.new.items ≡ out.old.items ++ value_bytes value.now) }
 {
-    put_key(out, key)?;
-    put_number(out, value)?;
+    match value {
+        Partial::Counted(count) => put_number(out, *count as i64)?,
+    }
     out.push(b'\n')?;
     Ok(())
+}
+
+/// Puts an entry: the parts of its key, and its value.
+pub fn put_entry(out: &mut Vec<u8>, key: &Key, value: &Partial) -> Result<(), AllocError>
+    requires { count_in value.now < 2 ^ 63 }
+    ensures { OnOk result (out.new.items ≡ out.old.items ++ entry_bytes (key.now, value.now)) }
+{
+    put_key(out, key)?;
+    put_value(out, value)
 }

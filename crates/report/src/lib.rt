@@ -2,6 +2,7 @@
 #![tactic(auto)]
 
 pub mod faulty;
+pub mod laws;
 mod layout;
 mod listing;
 pub mod reading;

@@ -35,20 +35,12 @@ pub fn listing(
     agg: usize,
 ) -> Result<Vec<(&Key, &Partial)>, AllocError>
     requires { agg < length (functions_of table.now) }
-    ensures listed { (contributions : List Contribution) (function : AggFn) → StandsFor table.now contributions → slice_get (functions_of table.now) agg ≡ Some function → IfOk result (λ es. IsListing function agg contributions (map deref_pair es.items)) }
+    ensures listed { (contributions : List Contribution) (function : AggFn)
+        → StandsFor table.now contributions → slice_get (functions_of table.now) agg ≡ Some function
+        → IfOk result (λ es. IsListing function agg contributions (map deref_pair es.items)) }
     ensures counts { IfOk result (λ es. All (λ e. count_in e.1.now ≤ 2 ^ 52) es.items) }
 {
     let mut entries = table.entries(alloc, agg)?;
     entries.sort_unstable_by(compare);
     Ok(entries)
-}
-
-/// The number that an entry shows.
-pub fn value(partial: &Partial) -> i64
-    requires { count_in partial.now < 2 ^ 63 }
-    ensures { result ≡ rank_of partial.now }
-{
-    match partial {
-        Partial::Counted(n) => *n as i64,
-    }
 }

@@ -1,4 +1,4 @@
-use Rattle.std.proofs.Common.{◌≡◌, ◌++◌, rules, take, replicate}
+use Rattle.std.proofs.Common.{◌≡◌, rules, take, replicate}
 use Rattle.std.proofs.lemmas.List.{take-replicate}
 use Rattle.report.specs.Layout.{spaces}
 use Rattle.report.proofs.layout.put_spaces.Goals as goal

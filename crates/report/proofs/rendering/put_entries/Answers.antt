@@ -1,8 +1,8 @@
-use Rattle.std.proofs.Common.{◌≡◌, ◌<◌, ◌≤◌, ◌++◌, ◌∷◌, [], ap, sym, ◌∙◌, append-nil, rules, drop, length, arith}
+use Rattle.std.proofs.Common.{◌≡◌, ◌<◌, ◌++◌, ◌∷◌, [], ap, sym, ◌∙◌, append-nil, rules, drop, length}
 use Rattle.std.proofs.Math.ListN.{drop_of_length-le}
 use Rattle.std.specs.List.{flat_map}
+use Rattle.std.specs.Map.Iter.{deref_pair}
 use Rattle.report.specs.Layout.{entry_bytes}
-use Rattle.report.specs.Listing.{rank_of}
 use Rattle.report.proofs.Listings.{listing_of_some}
 use Rattle.report.proofs.rendering.put_entries.Goals as goal
 
@@ -12,7 +12,7 @@ returns c =
     let start : c.push.new.self.items ≡ c.args.out.now.items ++ 10 ∷ [] = search rules in
     let none : drop c.loop-entry.entry-index c.args.entries.now ≡ [] = drop_of_length-le c.args.entries.now c.loop-entry-test.false in
     sym (append-nil c.loop-entry.out.items)
-    ∙ ap (λ l. c.loop-entry.out.items ++ flat_map (λ e. entry_bytes e.0.now (rank_of e.1.now)) l) (sym none)
+    ∙ ap (λ l. c.loop-entry.out.items ++ flat_map (λ e. entry_bytes (deref_pair e)) l) (sym none)
     ∙ c.loop-entry.invariant
-    ∙ ap (λ l. l ++ flat_map (λ e. entry_bytes e.0.now (rank_of e.1.now)) c.args.entries.now) start
+    ∙ ap (λ l. l ++ flat_map (λ e. entry_bytes (deref_pair e)) c.args.entries.now) start
     ∙ listing_of_some c.args.entries.now c.args.out.now.items some

@@ -1,0 +1,110 @@
+-- Contributions make one listing, and one output.
+use Rattle.std.proofs.Common.{◌≡◌, ◌⊎◌, inl, inr, ⊎_elim, ℕ, zero, suc, List, [], ◌∷◌, get_or, Contains, Option, None, Some, refl, sym, ap, ◌∙◌, subst, arith}
+use Rattle.std.specs.Prelude.{ℤ}
+use Rattle.std.specs.Cmp.{IsTotalOrder}
+use Rattle.std.specs.List.{flat_map, slice_get}
+use Rattle.std.specs.List.Sorted.{IsStrictlySortedBy}
+use Rattle.std.specs.Map.{lookup}
+use Rattle.std.specs.Ordering.{ordering_reverse}
+use Rattle.std.specs.declared.cmp.Ordering.{Ordering}
+use Rattle.std.specs.declared.cmp.Ordering.TheVariants.{Less, Greater}
+use Rattle.std.proofs.lemmas.List.{ext_get_or}
+use Rattle.std.proofs.lemmas.List.Elements.{All-contains, All-from_recursion}
+use Rattle.std.proofs.lemmas.Map.Keys.{sorted_head, sorted_tail}
+use Rattle.std.proofs.lemmas.Map.Made.{Contains-tail}
+use Rattle.std.proofs.lemmas.Map.Views.{Contains-from_lookup, lookup-from_Contains}
+use Rattle.std.proofs.lemmas.Option.{slice_get-get_or}
+use Rattle.d_values.specs.Keys.{same_key}
+use Rattle.d_values.specs.KeyLaws.{same_key_decides, same_key_equiv}
+use Rattle.aggregations.specs.Entries.{IsEntry}
+use Rattle.aggregations.specs.Table.{Contribution, AreEntries, arguments_of}
+use Rattle.aggregations.specs.Values.{IsValue}
+use Rattle.aggregations.specs.declared.function.AggFn.{AggFn}
+use Rattle.aggregations.specs.declared.function.AggFn.TheVariants.{Count}
+use Rattle.aggregations.specs.declared.partial.Partial.{Partial}
+use Rattle.aggregations.specs.declared.partial.Partial.TheVariants.{Counted}
+use Rattle.aggregations.proofs.EntryLemmas.{apart_from_entries, lookup_from_entries}
+use Rattle.report.specs.Layout.{Entry}
+use Rattle.report.specs.Listing.{IsListing, listing_bytes}
+use Rattle.report.specs.Output.{Shows}
+use Rattle.report.proofs.Listings.{entry_cmp_total}
+
+-- ---- lists that rise
+
+module _ {X : Type 0} {R : X → X → Ordering} (order : IsTotalOrder R) where
+  not_both : (x y : X) → R x y ≡ Less → R y x ≡ Less → ⊥
+  not_both x y below above = let turned : Less ≡ Greater = sym below ∙ order.antisymm x y ∙ ap ordering_reverse above in cc
+
+  not_itself : (x : X) → R x x ≡ Less → ⊥
+  not_itself x below = not_both x x below below
+
+  -- an element of a list that rises is its first, or the first is below it
+  first_or_above : (x y : X) (ys : List X) → IsStrictlySortedBy R (y ∷ ys) → Contains (y ∷ ys) x → (x ≡ y) ⊎ (R y x ≡ Less)
+  first_or_above x y ys rises (zero, within, is) = inl (sym is)
+  first_or_above x y ys rises (suc k, within, is) =
+      inr (All-contains (λ z. R y z ≡ Less) ys x (All-from_recursion (λ z. R y z ≡ Less) ys (sorted_head R y ys rises)) (k, omega arith, is))
+
+  same_first : (x y : X) (xs ys : List X) → IsStrictlySortedBy R (x ∷ xs) → IsStrictlySortedBy R (y ∷ ys) → Contains (y ∷ ys) x → Contains (x ∷ xs) y → x ≡ y
+  same_first x y xs ys xs_rise ys_rise x_there y_there =
+      ⊎_elim (λ e. e) (λ (above : R y x ≡ Less). ⊎_elim (λ e. sym e) (λ below. absurd (not_both x y below above)) (first_or_above y x xs xs_rise y_there)) (first_or_above x y ys ys_rise x_there)
+
+  -- what stands behind the first
+  behind : (x : X) (xs ys : List X) → IsStrictlySortedBy R (x ∷ xs) → ((z : X) → Contains (x ∷ xs) z → Contains (x ∷ ys) z) → (z : X) → Contains xs z → Contains ys z
+  behind x xs ys rises same z (k, within, is) =
+      let above : R x z ≡ Less = All-contains (λ z. R x z ≡ Less) xs z (All-from_recursion (λ z. R x z ≡ Less) xs (sorted_head R x xs rises)) (k, within, is) in
+      Contains-tail x ys z (λ e. not_itself x (ap (R x) e ∙ above)) (same z (suc k, omega arith, is))
+
+  -- lists that rise and have the same elements are one list
+  pub same_list : (xs ys : List X) → IsStrictlySortedBy R xs → IsStrictlySortedBy R ys → ((z : X) → Contains xs z → Contains ys z) → ((z : X) → Contains ys z → Contains xs z) → xs ≡ ys
+  same_list [] [] xs_rise ys_rise to back = refl
+  same_list [] (y ∷ ys) xs_rise ys_rise to back = let (k, within, is) = back y (zero, omega arith, refl) in absurd (omega arith)
+  same_list (x ∷ xs) [] xs_rise ys_rise to back = let (k, within, is) = to x (zero, omega arith, refl) in absurd (omega arith)
+  same_list (x ∷ xs) (y ∷ ys) xs_rise ys_rise to back =
+      let first : x ≡ y = same_first x y xs ys xs_rise ys_rise (to x (zero, omega arith, refl)) (back y (zero, omega arith, refl)) in
+      let ys_behind : IsStrictlySortedBy R (x ∷ ys) = subst (λ z. IsStrictlySortedBy R (z ∷ ys)) (sym first) ys_rise in
+      let rest : xs ≡ ys = same_list xs ys (sorted_tail R x xs xs_rise) (sorted_tail R y ys ys_rise)
+      (behind x xs ys xs_rise (λ z there. subst (λ w. Contains (w ∷ ys) z) (sym first) (to z there)))
+      (behind x ys xs ys_behind (λ z there. back z (subst (λ w. Contains (w ∷ ys) z) first there))) in
+      ap (λ l. x ∷ l) rest ∙ ap (λ z. z ∷ ys) first
+
+-- ---- one listing
+
+one_value : (function : AggFn) (v w : Partial) (args : List ℤ) → IsValue function v args → IsValue function w args → v ≡ w
+one_value Count (Counted n) (Counted m) args v_is w_is = ap Counted (v_is ∙ sym w_is)
+
+one_entry : (function : AggFn) (o p : Option Partial) (args : List ℤ) → IsEntry function o args → IsEntry function p args → o ≡ p
+one_entry function None None args none also = refl
+one_entry function None (Some w) args none its = absurd (its.0 none)
+one_entry function (Some v) None args its none = absurd (its.0 none)
+one_entry function (Some v) (Some w) args v_is w_is = ap Some (one_value function v w args v_is.1 w_is.1)
+
+module _ (function : AggFn) (agg : ℕ) (contributions : List Contribution) where
+  same_entries : (xs ys : List Entry) → AreEntries function agg contributions xs → AreEntries function agg contributions ys → (e : Entry) → Contains xs e → Contains ys e
+  same_entries xs ys xs_are ys_are (key, value) there =
+      let here : lookup (same_key key) xs ≡ Some value = lookup-from_Contains same_key_equiv key value xs (apart_from_entries function agg contributions xs xs_are) there in
+      let same = one_entry function (lookup (same_key key) ys) (lookup (same_key key) xs) (arguments_of agg key contributions)
+      (lookup_from_entries function agg contributions ys ys_are key) (lookup_from_entries function agg contributions xs xs_are key) in
+      Contains-from_lookup (λ x y. (same_key_decides x y).0) key value ys (same ∙ here)
+
+  pub one_listing : (xs ys : List Entry) → IsListing function agg contributions xs → IsListing function agg contributions ys → xs ≡ ys
+  one_listing xs ys x_is y_is = same_list entry_cmp_total xs ys x_is.rises y_is.rises (same_entries xs ys x_is.are y_is.are) (same_entries ys xs y_is.are x_is.are)
+
+-- ---- one output
+
+same_listings : (functions : List AggFn) (contributions : List Contribution) (xs ys : List ℕ) (x_shown : Shows functions contributions xs) (y_shown : Shows functions contributions ys)
+    → x_shown.listings ≡ y_shown.listings
+same_listings functions contributions xs ys x_shown y_shown =
+    let x_size = x_shown.one_each in
+    let y_size = y_shown.one_each in
+    ext_get_or [] x_shown.listings y_shown.listings (x_size ∙ sym y_size) (λ agg within.
+    let function : AggFn = get_or functions agg Count in
+    let x_entries : List Entry = get_or x_shown.listings agg [] in
+    let y_entries : List Entry = get_or y_shown.listings agg [] in
+    let at : slice_get functions agg ≡ Some function = slice_get-get_or functions agg Count (omega arith) in
+    one_listing function agg contributions x_entries y_entries
+    (x_shown.listed agg function x_entries at (slice_get-get_or x_shown.listings agg [] within))
+    (y_shown.listed agg function y_entries at (slice_get-get_or y_shown.listings agg [] (omega arith))))
+
+pub one_output : (functions : List AggFn) (contributions : List Contribution) (xs ys : List ℕ) → Shows functions contributions xs → Shows functions contributions ys → xs ≡ ys
+one_output functions contributions xs ys x_shown y_shown =
+    x_shown.joined ∙ ap (flat_map listing_bytes) (same_listings functions contributions xs ys x_shown y_shown) ∙ sym y_shown.joined

@@ -1,0 +1,52 @@
+//! What holds of every listing, of every output and of every entry's line.
+
+ghost use Rattle.std.specs.Prelude.{◌≡◌, ◌+◌, ◌<◌, ◌≤◌, ◌++◌, ℕ, ℤ, pos, List, Some, All, length, slice_get, sum_by};
+ghost use Rattle.std.specs.Fmt.{signed_decimal};
+ghost use Rattle.d_values.specs.declared.key.KeyPart.{KeyPart};
+ghost use Rattle.d_values.specs.declared.key.KeyPart.TheVariants.{Name};
+ghost use Rattle.aggregations.specs.declared.function.AggFn.{AggFn};
+ghost use Rattle.aggregations.specs.declared.partial.Partial.TheVariants.{Counted};
+ghost use Rattle.aggregations.specs.Table.{Contribution};
+ghost use Rattle.report.specs.Columns.{Fits, column_width};
+ghost use Rattle.report.specs.Layout.{Entry, spaces, number_bytes, part_bytes, entry_bytes};
+ghost use Rattle.report.specs.Listing.{IsListing, ComesBefore};
+ghost use Rattle.report.specs.Output.{Shows};
+
+/// Contributions make one listing of an aggregation at most.
+pub fn one_listing()
+    ensures { (function : AggFn) (agg : ℕ) (contributions : List Contribution) (xs ys : List Entry)
+        → IsListing function agg contributions xs → IsListing function agg contributions ys
+        → xs ≡ ys }
+{}
+
+/// Contributions make one output at most.
+pub fn one_output()
+    ensures { (functions : List AggFn) (contributions : List Contribution) (xs ys : List ℕ)
+        → Shows functions contributions xs → Shows functions contributions ys → xs ≡ ys }
+{}
+
+/// Of two entries of a listing the first has the lower value, or the same value and the lower key.
+pub fn listings_ascend()
+    ensures { (function : AggFn) (agg : ℕ) (contributions : List Contribution) (entries : List Entry)
+        → IsListing function agg contributions entries → (i j : ℕ) (x y : Entry) → i < j
+        → slice_get entries i ≡ Some x → slice_get entries j ≡ Some y → ComesBefore x y }
+{}
+
+/// Parts that fit stand in columns, and so does the count behind them.
+pub fn entries_stand_in_columns()
+    ensures { (key : List KeyPart) (count : ℕ)
+        → All Fits key → length (signed_decimal (pos count)) ≤ 16
+        → length (entry_bytes (key, Counted count)) ≡ sum_by column_width key + 18 }
+{}
+
+/// A number is spaces, one at least, and then all its digits.
+pub fn numbers_stand_whole()
+    ensures { (number : ℤ) → (blank : ℕ) × (0 < blank)
+        × (number_bytes number ≡ spaces blank ++ signed_decimal number) }
+{}
+
+/// A name is two spaces, the whole text and perhaps more spaces.
+pub fn names_stand_whole()
+    ensures { (text : List ℕ) → (blank : ℕ)
+        × (part_bytes (Name text) ≡ spaces 2 ++ text ++ spaces blank) }
+{}
