@@ -37,82 +37,85 @@ fn shown(alloc: Global, script: &[u8]) -> Result<String, AllocError> {
     }
 }
 
+// Scripts and their tokens: in the head, in a declaration, in a predicate and in a body.
+const TOKENS: [(&[u8], &str); 19] = [
+    // the head
+    (b"", ""),
+    (
+        b"a.b-c+d:e*f?_9,BEGIN;/",
+        "run:a.b-c+d:e*f?_9 Comma run:BEGIN Semicolon Slash ",
+    ),
+    (
+        b"a \t\r\n\x0b\x0cb/*x*/,//",
+        "run:a run:b Comma Slash Slash ",
+    ),
+    (b"a/* --- \n--- * / ** */{}", "run:a OpenBrace CloseBrace "),
+    (
+        b" \t#pragma\t\tD  option\tquiet \t\r\nhit{}",
+        "run:hit OpenBrace CloseBrace ",
+    ),
+    (b"#!/usr/sbin/dtrace -s\n#pragma D option quiet", ""),
+    // a declaration
+    (
+        b"self int x[char, long];this string s;self:a",
+        "word:self word:int word:x OpenBracket word:char Comma word:long CloseBracket Semicolon word:this word:string word:s Semicolon run:self:a ",
+    ),
+    (
+        b"self @x 1 \"a\"+{a",
+        "word:self @x 1:Absent text:[97] Plus OpenBrace word:a ",
+    ),
+    (
+        b"this }x-y self{x",
+        "word:this CloseBrace run:x-y word:self OpenBrace word:x ",
+    ),
+    // a predicate
+    (
+        b"hit/@n == 0x1F && \"s\" != x/{",
+        "run:hit Slash @n Equal 31:Absent AndAnd text:[115] NotEqual word:x ClosingSlash OpenBrace ",
+    ),
+    (
+        b"hit/a / b/c/ /* c */ {",
+        "run:hit Slash word:a Slash word:b Slash word:c ClosingSlash OpenBrace ",
+    ),
+    (
+        b"hit/x;}y.z",
+        "run:hit Slash word:x Semicolon CloseBrace run:y.z ",
+    ),
+    // a body
+    (
+        b"a{@ @_ @self;{self} self int",
+        "run:a OpenBrace @_ @_ @self Semicolon OpenBrace word:self CloseBrace word:self word:int ",
+    ),
+    (
+        b"a{0 00 017 0u 9L 0x1f 0XAbUl 1uLL 0X1FUL 5ll",
+        "run:a OpenBrace 0:Absent 0:Absent 15:Absent 0:Unsigned 9:Long 31:Absent 171:UnsignedLong 1:UnsignedLong 31:UnsignedLong 5:Long ",
+    ),
+    (
+        b"a{18446744073709551615 01777777777777777777777u 0xffffffffffffffffLL",
+        "run:a OpenBrace 18446744073709551615:Absent 18446744073709551615:Unsigned 18446744073709551615:Long ",
+    ),
+    (
+        b"a{\"\" \"a\\a\\b\\f\\n\\r\\t\\v\\\\\\\"\\'\\?\" \"\r/*\"",
+        "run:a OpenBrace text:[] text:[97, 7, 8, 12, 10, 13, 9, 11, 92, 34, 39, 63] text:[13, 47, 42] ",
+    ),
+    // marks, apart and beside longer ones
+    (
+        b"a{<<= << < <= >>= >> > >= -> -- -= - ++ += + == = != !",
+        "run:a OpenBrace ShiftLeftAssign ShiftLeft Less LessEqual ShiftRightAssign ShiftRight Greater GreaterEqual Arrow Decrement SubtractAssign Minus Increment AddAssign Plus Equal Assign NotEqual Not ",
+    ),
+    (
+        b"a{&& &= & || |= | ^^ ^= ^ *= * %= % /= / ~ ? : ( ) [ ] , ; { }",
+        "run:a OpenBrace AndAnd AndAssign And OrOr OrAssign Or XorXor XorAssign Xor MultiplyAssign Star RemainderAssign Percent DivideAssign Slash Tilde Question Colon OpenParenthesis CloseParenthesis OpenBracket CloseBracket Comma Semicolon OpenBrace CloseBrace ",
+    ),
+    (
+        b"a{<<<=>>>>=--->+++===!==&&&|||^^^^=",
+        "run:a OpenBrace ShiftLeft LessEqual ShiftRight ShiftRightAssign Decrement Arrow Increment AddAssign Equal NotEqual Assign AndAnd And OrOr Or XorXor XorXor Assign ",
+    ),
+];
+
 #[test]
 fn tokens(rt: HostRuntime) -> Result<(), Fail> {
-    for (script, want) in [
-        // the head
-        (b"".as_slice(), ""),
-        (
-            b"a.b-c+d:e*f?_9,BEGIN;/",
-            "run:a.b-c+d:e*f?_9 Comma run:BEGIN Semicolon Slash ",
-        ),
-        (
-            b"a \t\r\n\x0b\x0cb/*x*/,//",
-            "run:a run:b Comma Slash Slash ",
-        ),
-        (b"a/* --- \n--- * / ** */{}", "run:a OpenBrace CloseBrace "),
-        (
-            b" \t#pragma\t\tD  option\tquiet \t\r\nhit{}",
-            "run:hit OpenBrace CloseBrace ",
-        ),
-        (b"#!/usr/sbin/dtrace -s\n#pragma D option quiet", ""),
-        // a declaration
-        (
-            b"self int x[char, long];this string s;self:a",
-            "word:self word:int word:x OpenBracket word:char Comma word:long CloseBracket Semicolon word:this word:string word:s Semicolon run:self:a ",
-        ),
-        (
-            b"self @x 1 \"a\"+{a",
-            "word:self @x 1:Absent text:[97] Plus OpenBrace word:a ",
-        ),
-        (
-            b"this }x-y self{x",
-            "word:this CloseBrace run:x-y word:self OpenBrace word:x ",
-        ),
-        // a predicate
-        (
-            b"hit/@n == 0x1F && \"s\" != x/{",
-            "run:hit Slash @n Equal 31:Absent AndAnd text:[115] NotEqual word:x ClosingSlash OpenBrace ",
-        ),
-        (
-            b"hit/a / b/c/ /* c */ {",
-            "run:hit Slash word:a Slash word:b Slash word:c ClosingSlash OpenBrace ",
-        ),
-        (
-            b"hit/x;}y.z",
-            "run:hit Slash word:x Semicolon CloseBrace run:y.z ",
-        ),
-        // a body
-        (
-            b"a{@ @_ @self;{self} self int",
-            "run:a OpenBrace @_ @_ @self Semicolon OpenBrace word:self CloseBrace word:self word:int ",
-        ),
-        (
-            b"a{0 00 017 0u 9L 0x1f 0XAbUl 1uLL 0X1FUL 5ll",
-            "run:a OpenBrace 0:Absent 0:Absent 15:Absent 0:Unsigned 9:Long 31:Absent 171:UnsignedLong 1:UnsignedLong 31:UnsignedLong 5:Long ",
-        ),
-        (
-            b"a{18446744073709551615 01777777777777777777777u 0xffffffffffffffffLL",
-            "run:a OpenBrace 18446744073709551615:Absent 18446744073709551615:Unsigned 18446744073709551615:Long ",
-        ),
-        (
-            b"a{\"\" \"a\\a\\b\\f\\n\\r\\t\\v\\\\\\\"\\'\\?\" \"\r/*\"",
-            "run:a OpenBrace text:[] text:[97, 7, 8, 12, 10, 13, 9, 11, 92, 34, 39, 63] text:[13, 47, 42] ",
-        ),
-        // marks, apart and beside longer ones
-        (
-            b"a{<<= << < <= >>= >> > >= -> -- -= - ++ += + == = != !",
-            "run:a OpenBrace ShiftLeftAssign ShiftLeft Less LessEqual ShiftRightAssign ShiftRight Greater GreaterEqual Arrow Decrement SubtractAssign Minus Increment AddAssign Plus Equal Assign NotEqual Not ",
-        ),
-        (
-            b"a{&& &= & || |= | ^^ ^= ^ *= * %= % /= / ~ ? : ( ) [ ] , ; { }",
-            "run:a OpenBrace AndAnd AndAssign And OrOr OrAssign Or XorXor XorAssign Xor MultiplyAssign Star RemainderAssign Percent DivideAssign Slash Tilde Question Colon OpenParenthesis CloseParenthesis OpenBracket CloseBracket Comma Semicolon OpenBrace CloseBrace ",
-        ),
-        (
-            b"a{<<<=>>>>=--->+++===!==&&&|||^^^^=",
-            "run:a OpenBrace ShiftLeft LessEqual ShiftRight ShiftRightAssign Decrement Arrow Increment AddAssign Equal NotEqual Assign AndAnd And OrOr Or XorXor XorXor Assign ",
-        ),
-    ] {
+    for (script, want) in TOKENS {
         let got = shown(rt.alloc(), script)?;
         assert_eq!(rt; got.as_str(), want, "{script:?}");
     }
@@ -142,56 +145,59 @@ fn spans(rt: HostRuntime) -> Result<(), Fail> {
     Ok(())
 }
 
+// Scripts and their first fault.
+const FAULTS: [(&[u8], &str); 40] = [
+    (
+        b":::hit { trace(18446744073709551616); }",
+        "Constant { line: 1 }",
+    ),
+    (b"a{02000000000000000000000", "Constant { line: 1 }"),
+    (b"a{0x10000000000000000", "Constant { line: 1 }"),
+    (b"a{\n08", "Constant { line: 2 }"),
+    (b"a{0x", "Constant { line: 1 }"),
+    (b"a{0xul", "Constant { line: 1 }"),
+    (b"a{1uu", "Constant { line: 1 }"),
+    (b"a{1lu", "Constant { line: 1 }"),
+    (b"a{12ab", "Constant { line: 1 }"),
+    (b"a{1_0", "Constant { line: 1 }"),
+    (b"a{\n\"a\\q\"", "Escape { line: 2 }"),
+    (b"a{\"\\\n\"", "Escape { line: 1 }"),
+    (b"a{\"\\q\0", "Escape { line: 1 }"),
+    (b"a{\"\0\\q", "BadByte { line: 1 }"),
+    (b"a{\"a\\", "Unclosed { line: 1 }"),
+    (b"a{\n\"open\n\"", "Unclosed { line: 2 }"),
+    (b"a{\"open", "Unclosed { line: 1 }"),
+    (b"a\n/* \n\n x", "Unclosed { line: 2 }"),
+    (b"/*\n---\n*", "Unclosed { line: 1 }"),
+    (b"/*/", "Unclosed { line: 1 }"),
+    (
+        b"#pragma D option quiet\n#pragma D option bufsize=4k\n",
+        "OptionLine { line: 2 }",
+    ),
+    (b"# pragma D option quiet", "OptionLine { line: 1 }"),
+    (b"#pragma D option quiets", "OptionLine { line: 1 }"),
+    (b"#pragmaD option quiet", "OptionLine { line: 1 }"),
+    (b"#pragma D option quiet /* c */", "OptionLine { line: 1 }"),
+    (b"#pragma D option quiet\0", "OptionLine { line: 1 }"),
+    (b"\n#!x", "OptionLine { line: 2 }"),
+    (b" #!x", "OptionLine { line: 1 }"),
+    (b"/**/#pragma D option quiet", "BadByte { line: 1 }"),
+    (b"\x0b#pragma D option quiet", "BadByte { line: 1 }"),
+    (b"a {\n#pragma D option quiet\n}", "BadByte { line: 2 }"),
+    (b"a{.", "BadByte { line: 1 }"),
+    (b"a{$x", "BadByte { line: 1 }"),
+    (b"a{'c'", "BadByte { line: 1 }"),
+    (b"a{\\", "BadByte { line: 1 }"),
+    (b"a\0", "BadByte { line: 1 }"),
+    (b"a\n\"x\"", "BadByte { line: 2 }"),
+    (b"@x", "BadByte { line: 1 }"),
+    (b"a<b", "BadByte { line: 1 }"),
+    (b"caf\xc3\xa9", "BadByte { line: 1 }"),
+];
+
 #[test]
 fn faults(rt: HostRuntime) -> Result<(), Fail> {
-    for (script, want) in [
-        (
-            b":::hit { trace(18446744073709551616); }".as_slice(),
-            "Constant { line: 1 }",
-        ),
-        (b"a{02000000000000000000000", "Constant { line: 1 }"),
-        (b"a{0x10000000000000000", "Constant { line: 1 }"),
-        (b"a{\n08", "Constant { line: 2 }"),
-        (b"a{0x", "Constant { line: 1 }"),
-        (b"a{0xul", "Constant { line: 1 }"),
-        (b"a{1uu", "Constant { line: 1 }"),
-        (b"a{1lu", "Constant { line: 1 }"),
-        (b"a{12ab", "Constant { line: 1 }"),
-        (b"a{1_0", "Constant { line: 1 }"),
-        (b"a{\n\"a\\q\"", "Escape { line: 2 }"),
-        (b"a{\"\\\n\"", "Escape { line: 1 }"),
-        (b"a{\"\\q\0", "Escape { line: 1 }"),
-        (b"a{\"\0\\q", "BadByte { line: 1 }"),
-        (b"a{\"a\\", "Unclosed { line: 1 }"),
-        (b"a{\n\"open\n\"", "Unclosed { line: 2 }"),
-        (b"a{\"open", "Unclosed { line: 1 }"),
-        (b"a\n/* \n\n x", "Unclosed { line: 2 }"),
-        (b"/*\n---\n*", "Unclosed { line: 1 }"),
-        (b"/*/", "Unclosed { line: 1 }"),
-        (
-            b"#pragma D option quiet\n#pragma D option bufsize=4k\n",
-            "OptionLine { line: 2 }",
-        ),
-        (b"# pragma D option quiet", "OptionLine { line: 1 }"),
-        (b"#pragma D option quiets", "OptionLine { line: 1 }"),
-        (b"#pragmaD option quiet", "OptionLine { line: 1 }"),
-        (b"#pragma D option quiet /* c */", "OptionLine { line: 1 }"),
-        (b"#pragma D option quiet\0", "OptionLine { line: 1 }"),
-        (b"\n#!x", "OptionLine { line: 2 }"),
-        (b" #!x", "OptionLine { line: 1 }"),
-        (b"/**/#pragma D option quiet", "BadByte { line: 1 }"),
-        (b"\x0b#pragma D option quiet", "BadByte { line: 1 }"),
-        (b"a {\n#pragma D option quiet\n}", "BadByte { line: 2 }"),
-        (b"a{.", "BadByte { line: 1 }"),
-        (b"a{$x", "BadByte { line: 1 }"),
-        (b"a{'c'", "BadByte { line: 1 }"),
-        (b"a{\\", "BadByte { line: 1 }"),
-        (b"a\0", "BadByte { line: 1 }"),
-        (b"a\n\"x\"", "BadByte { line: 2 }"),
-        (b"@x", "BadByte { line: 1 }"),
-        (b"a<b", "BadByte { line: 1 }"),
-        (b"caf\xc3\xa9", "BadByte { line: 1 }"),
-    ] {
+    for (script, want) in FAULTS {
         let got = shown(rt.alloc(), script)?;
         assert_eq!(rt; got.as_str(), want, "{script:?}");
     }
