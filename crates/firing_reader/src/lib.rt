@@ -1,4 +1,14 @@
 //! Recorded probe firings, read from CSV.
+//!
+//! The first record is the header, and each record after it is one firing. `read_trace` answers the trace that the bytes
+//! write, exactly as `specs/Trace.antt` defines it, or its first fault.
+//!
+//! ```text
+//! let trace = read_trace(rt.alloc(), &bytes)?;
+//! for firing in trace.firings() {
+//!     println!(rt; "{} on thread {}", firing.number, firing.thread)?;
+//! }
+//! ```
 #![tactic(auto)]
 
 mod columns;

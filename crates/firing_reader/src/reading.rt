@@ -1,4 +1,4 @@
-// Reading the rows of a trace.
+//! Reading the rows of a trace.
 
 ghost use Rattle.std.specs.Prelude.{◌≤◌};
 ghost use Rattle.firing_reader.specs.Gives.{Gives, GivesBy};
