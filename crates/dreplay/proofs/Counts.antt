@@ -6,8 +6,11 @@ use Rattle.firing_reader.specs.declared.firing.Firing.{Firing}
 use Rattle.d_values.specs.declared.key.KeyPart.{KeyPart}
 use Rattle.d_values.specs.declared.key.KeyPart.TheVariants.{Name}
 use Rattle.aggregations.specs.Table.{Aggregation, Contribution, contribution, StandsFor, count_held, functions_of}
+use Rattle.std.specs.List.{flat_map}
+use Rattle.report.specs.Output.{Shows}
+use Rattle.dreplay.specs.Answer.{IsShown}
 use Rattle.dreplay.specs.Counting.{Description}
-use Rattle.dreplay.specs.Meaning.{contributed, counts_over, functions}
+use Rattle.dreplay.specs.Meaning.{contributed, counts_over, functions, texts_over}
 use Rattle.dreplay.specs.Patterns.{selects}
 
 -- the table stands for what the first firings contribute, and the key has one part
@@ -59,3 +62,12 @@ selected d f table before key chosen named stands =
     subst (λ l. StandsFor table (before ++ l))
     (ap (λ k. contribution 0 k (pos 0) ∷ []) named ∙ ap (λ b. cond b (contribution 0 (Name f.execname ∷ []) (pos 0) ∷ []) []) (sym chosen))
     stands
+
+-- a counting clause makes no texts
+pub no_texts : (d : Description) (firings : List Firing) → texts_over d firings ≡ []
+no_texts d [] = refl
+no_texts d (f ∷ fs) = no_texts d fs
+
+-- so its bytes are those of its aggregations
+pub shown_run : (d : Description) (firings : List Firing) (bytes : List ℕ) → Shows functions (counts_over d firings) bytes → IsShown d firings bytes
+shown_run d firings bytes shows = record { tables = bytes; aggregations = shows; joined = sym (ap (λ texts. flat_map (λ text. text.1) texts ++ bytes) (no_texts d firings)) }

@@ -1,4 +1,5 @@
-pub mod Dividing
-pub mod Fields
+pub mod Answers
 pub mod Counts
+pub mod Dividing
 pub mod Divisions
+pub mod Fields

@@ -1,5 +1,6 @@
 -- The answer of a script over a trace.
-use Rattle.std.specs.Prelude.{◌≡◌, ℕ, List, Result, Ok, Err}
+use Rattle.std.specs.Prelude.{◌≡◌, ◌++◌, ℕ, List, Result, Ok, Err}
+use Rattle.std.specs.List.{flat_map}
 use Rattle.firing_reader.specs.declared.firing.Firing.{Firing}
 use Rattle.firing_reader.specs.declared.fault.TraceFault.{TraceFault}
 use Rattle.firing_reader.specs.Trace.{trace_of}
@@ -7,7 +8,13 @@ use Rattle.report.specs.Output.{Shows}
 use Rattle.dreplay.specs.declared.refusal.Refusal.{Refusal}
 use Rattle.dreplay.specs.declared.refusal.Refusal.TheVariants.{NotYet, Trace, Memory}
 use Rattle.dreplay.specs.Counting.{Description, Counts}
-use Rattle.dreplay.specs.Meaning.{counts_over, functions}
+use Rattle.dreplay.specs.Meaning.{counts_over, functions, texts_over}
+
+-- the bytes show the run of a counting clause: its texts in the order of the firings, then its aggregations
+pub record IsShown (description : Description) (firings : List Firing) (bytes : List ℕ) : Type 0 where
+  pub tables : List ℕ
+  pub aggregations : Shows functions (counts_over description firings) tables
+  pub joined : bytes ≡ flat_map (λ text. text.1) (texts_over description firings) ++ tables
 
 -- these bytes are the output of the script over the trace
 pub record IsOutput (script trace bytes : List ℕ) : Type 0 where
@@ -15,7 +22,7 @@ pub record IsOutput (script trace bytes : List ℕ) : Type 0 where
   pub counts : Counts script description
   pub firings : List Firing
   pub reads : trace_of trace ≡ Ok firings
-  pub shown : Shows functions (counts_over description firings) bytes
+  pub shown : IsShown description firings bytes
 
 -- the script runs, and this is the trace's first fault
 pub record IsTraceRefused (script trace : List ℕ) (fault : TraceFault) : Type 0 where

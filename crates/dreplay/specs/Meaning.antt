@@ -7,7 +7,7 @@ use Rattle.aggregations.specs.declared.function.AggFn.TheVariants.{Count}
 use Rattle.aggregations.specs.Table.{Contribution, contribution}
 use Rattle.dreplay.specs.Counting.{Description}
 use Rattle.dreplay.specs.Patterns.{selects}
-use Rattle.dreplay.specs.Run.{Made, contributions_of}
+use Rattle.dreplay.specs.Run.{Made, contributions_of, texts_of}
 
 -- the clause has no variables
 abbrev pub NoVariables : Type 0
@@ -30,3 +30,7 @@ functions = Count ∷ []
 -- what the clause contributes over the firings of a trace
 abbrev pub counts_over : Description → List Firing → List Contribution
 counts_over d fs = contributions_of (counted d) fs no_variables
+
+-- the texts of the clause, each with its firing's number
+abbrev pub texts_over : Description → List Firing → List (ℕ × List ℕ)
+texts_over d fs = texts_of (counted d) fs no_variables

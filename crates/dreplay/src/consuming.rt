@@ -1,10 +1,10 @@
 //! From the bytes in to the bytes out.
 
-ghost use Rattle.std.specs.Prelude.{◌≡◌, ◌≢◌, ◌⊎◌, ◌↔◌, ◌+◌, ℕ, List, Ok, Err, IfOk, IfErr, IsTrue, IsFalse};
+ghost use Rattle.std.specs.Prelude.{◌≡◌, ◌≢◌, ◌≤◌, ◌⊎◌, ◌↔◌, ◌+◌, ℕ, List, Ok, Err, IfOk, IfErr, IsTrue, IsFalse};
 ghost use Rattle.std.specs.Io.KnownBytes.{Appends};
 ghost use Rattle.report.specs.Stream.{AppendsBeginning};
 ghost use Rattle.report.specs.declared.reading.TheConstants.{MOST_CALLS};
-ghost use Rattle.dreplay.specs.Consuming.{IsAnswerOf};
+ghost use Rattle.dreplay.specs.Consuming.{IsAnswerOf, RanOver};
 ghost use Rattle.dreplay.specs.Plans.{IsSerial};
 
 use crate::bundle::divide;
@@ -41,6 +41,7 @@ pub fn consume<F: Feed, S: Sink>(
     requires sink { IsFalse (S.has_failed sink.old) }
 
     ensures answer { IfOk result (λ r. IsAnswerOf (F.remaining feed.old) (Ok r.bytes.items)) }
+    ensures serial { IfOk result (RanOver (F.remaining feed.old)) }
     ensures written { IfOk result (λ r. Appends (S.contents sink.old) (S.contents sink.new) r.bytes.items) }
 
     // The reader, and only it, is blamed where it failed or had not ended.
@@ -48,6 +49,8 @@ pub fn consume<F: Feed, S: Sink>(
         ⊎ (IsFalse (F.has_ended feed.new) × (F.calls feed.new ≡ F.calls feed.old + MOST_CALLS)) }
     ensures read_whole { result ≢ Err ConsumeFault.Read → IsFalse (F.has_failed feed.new)
         × ((result ≡ Err (ConsumeFault.Refused Refusal.Memory)) ⊎ IsTrue (F.has_ended feed.new)) }
+
+    ensures calls { F.calls feed.new ≤ F.calls feed.old + MOST_CALLS }
 
     ensures refused { (e : Refusal) → result ≡ Err (ConsumeFault.Refused e) →
         (e ≡ Refusal.Memory) ⊎ IsAnswerOf (F.remaining feed.old) (Err e) }

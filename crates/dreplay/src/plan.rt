@@ -1,6 +1,6 @@
 //! How a run is carried out, and what it gave.
 
-/// How a run is carried out. The answer is the same for each plan.
+/// How a run is carried out. Today one worker runs one dealt group by the tree engine; callers owe that.
 #[derive(Debug, Drop, PartialEq, Eq)]
 pub struct Plan {
     /// How many workers there are, from 1 to 16.

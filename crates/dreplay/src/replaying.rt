@@ -2,10 +2,8 @@
 
 ghost use Rattle.std.specs.Prelude.{◌≡◌, ◌⊎◌, ◌∷◌, [], Ok, Err, MatchResult, IfOk, map};
 ghost use Rattle.firing_reader.specs.Firings.{number_of};
-ghost use Rattle.dreplay.specs.Answer.{IsAnswer};
-ghost use Rattle.dreplay.specs.Meaning.{counts_over, functions};
+ghost use Rattle.dreplay.specs.Answer.{IsAnswer, IsShown};
 ghost use Rattle.dreplay.specs.Probe.{description_of};
-ghost use Rattle.report.specs.Output.{Shows};
 ghost use Rattle.dreplay.specs.Plans.{IsSerial, RanSerially};
 
 use crate::counting::{Probe, read_counting};
@@ -19,7 +17,8 @@ use std::alloc::{AllocError, Global};
 /// Runs a script over a trace. The script is refused before the trace.
 pub fn replay(alloc: Global, script: &[u8], trace: &[u8], plan: &Plan) -> Result<Replayed, Refusal>
     requires { IsSerial plan.now }
-    ensures answer { MatchResult result (λ r. IsAnswer script.now trace.now (Ok r.bytes.items)) (λ e. (e ≡ Refusal.Memory) ⊎ IsAnswer script.now trace.now (Err e)) }
+    ensures answer { MatchResult result (λ r. IsAnswer script.now trace.now (Ok r.bytes.items))
+        (λ e. (e ≡ Refusal.Memory) ⊎ IsAnswer script.now trace.now (Err e)) }
     ensures serial { IfOk result (RanSerially trace.now) }
 {
     let Some(probe) = read_counting(script) else {
@@ -34,7 +33,7 @@ pub fn replay(alloc: Global, script: &[u8], trace: &[u8], plan: &Plan) -> Result
 
 // Runs a counting clause over a trace.
 fn run(alloc: Global, probe: &Probe<'_>, trace: &Trace) -> Result<Replayed, AllocError>
-    ensures shown { IfOk result (λ r. Shows functions (counts_over (description_of probe.now) trace.now) r.bytes.items) }
+    ensures shown { IfOk result (λ r. IsShown (description_of probe.now) trace.now r.bytes.items) }
     ensures took { IfOk result (λ r. map (λ v. v.items) r.by_worker.items ≡ (0 ∷ []) ∷ []) }
     ensures ran { IfOk result (λ r. map (λ v. v.items) r.ran.items ≡ map number_of trace.now ∷ []) }
 {

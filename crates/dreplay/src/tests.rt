@@ -26,6 +26,51 @@ arg0,arg1,arg2,arg3,arg4,arg5,arg6,arg7,arg8,arg9\n\
 
 const SHOWN: &[u8] = b"\n  cat                                                               1\n";
 
+const SAID: [(Refusal, u8, &str); 10] = [
+    (Refusal::NotYet, 3, "dreplay: script refused: not yet"),
+    (Refusal::Memory, 1, "dreplay: out of memory"),
+    (
+        Refusal::Trace(TraceFault::Memory),
+        1,
+        "dreplay: out of memory",
+    ),
+    (
+        Refusal::Trace(TraceFault::Header),
+        4,
+        "dreplay: trace refused: Trace 1",
+    ),
+    (
+        Refusal::Trace(TraceFault::Columns { row: 2 }),
+        4,
+        "dreplay: trace refused: Trace 2 row 2",
+    ),
+    (
+        Refusal::Trace(TraceFault::Number { row: 2, column: 4 }),
+        4,
+        "dreplay: trace refused: Trace 3 row 2 column 4",
+    ),
+    (
+        Refusal::Trace(TraceFault::Order { row: 9 }),
+        4,
+        "dreplay: trace refused: Trace 4 row 9",
+    ),
+    (
+        Refusal::Trace(TraceFault::Text { row: 1, column: 10 }),
+        4,
+        "dreplay: trace refused: Trace 5 row 1 column 10",
+    ),
+    (
+        Refusal::Trace(TraceFault::Reserved { row: 7 }),
+        4,
+        "dreplay: trace refused: Trace 6 row 7",
+    ),
+    (
+        Refusal::Trace(TraceFault::TooMany),
+        4,
+        "dreplay: trace refused: Trace 7",
+    ),
+];
+
 fn serial() -> Plan
     ensures { IsSerial result }
 {
@@ -78,51 +123,7 @@ fn a_beginning_is_written_before_a_failed_write(rt: HostRuntime) {
 
 #[test]
 fn each_refusal_has_its_line_and_status(rt: HostRuntime) -> Result<(), Fail> {
-    let rows = [
-        (Refusal::NotYet, 3, "dreplay: script refused: not yet"),
-        (Refusal::Memory, 1, "dreplay: out of memory"),
-        (
-            Refusal::Trace(TraceFault::Memory),
-            1,
-            "dreplay: out of memory",
-        ),
-        (
-            Refusal::Trace(TraceFault::Header),
-            4,
-            "dreplay: trace refused: Trace 1",
-        ),
-        (
-            Refusal::Trace(TraceFault::Columns { row: 2 }),
-            4,
-            "dreplay: trace refused: Trace 2 row 2",
-        ),
-        (
-            Refusal::Trace(TraceFault::Number { row: 2, column: 4 }),
-            4,
-            "dreplay: trace refused: Trace 3 row 2 column 4",
-        ),
-        (
-            Refusal::Trace(TraceFault::Order { row: 9 }),
-            4,
-            "dreplay: trace refused: Trace 4 row 9",
-        ),
-        (
-            Refusal::Trace(TraceFault::Text { row: 1, column: 10 }),
-            4,
-            "dreplay: trace refused: Trace 5 row 1 column 10",
-        ),
-        (
-            Refusal::Trace(TraceFault::Reserved { row: 7 }),
-            4,
-            "dreplay: trace refused: Trace 6 row 7",
-        ),
-        (
-            Refusal::Trace(TraceFault::TooMany),
-            4,
-            "dreplay: trace refused: Trace 7",
-        ),
-    ];
-    for (refusal, status, line) in rows {
+    for (refusal, status, line) in SAID {
         let said = refusal_text(rt.alloc(), &refusal)?;
         assert_eq!(rt; said.as_str(), line);
         assert_eq!(rt; refusal_status(&refusal), status);
