@@ -10,6 +10,7 @@ use Rattle.std.specs.Ordering.{int_cmp, is_lt, ordering_then, ordering_reverse}
 use Rattle.std.specs.declared.cmp.Ordering.{Ordering}
 use Rattle.std.specs.declared.cmp.Ordering.TheVariants.{Less, Equal, Greater}
 use Rattle.std.proofs.lemmas.List.{get_or-map, length-map}
+use Rattle.std.proofs.lemmas.List.Folds.{flat_map-map}
 use Rattle.std.proofs.lemmas.Map.Keys.{sorted_from_all_adjacent}
 use Rattle.d_values.specs.declared.key.KeyPart.{KeyPart}
 use Rattle.d_values.specs.Keys.{key_cmp}
@@ -68,14 +69,10 @@ listed function agg contributions xs ys moved sorted seen are =
     let now = AreEntries-IsPermutation function agg contributions (map deref_pair xs) (map deref_pair ys) seen are in
     record { are = now; rises = rises_from_sorted (map deref_pair ys) now.once (sorted_map deref_pair (λ a b. is_lt (entry_cmp a b)) ys sorted) }
 
-flat_map-map : {X Y A : Type 0} (g : X → Y) (f : Y → List A) (xs : List X) → flat_map (λ x. f (g x)) xs ≡ flat_map f (map g xs)
-flat_map-map g f [] = refl
-flat_map-map g f (x ∷ xs) = ap (λ l. f (g x) ++ l) (flat_map-map g f xs)
-
 -- a line feed and the bytes of each entry
 pub listing_of_some : (es : List (Bor (List KeyPart) × Bor Partial)) (out : List ℕ) → 0 < length es
     → (out ++ 10 ∷ []) ++ flat_map (λ e. entry_bytes (deref_pair e)) es ≡ out ++ listing_bytes (map deref_pair es)
 listing_of_some [] out some = absurd (omega arith)
 listing_of_some (e ∷ es) out some =
     append_assoc out (10 ∷ []) (flat_map (λ e. entry_bytes (deref_pair e)) (e ∷ es))
-    ∙ ap (λ l. out ++ 10 ∷ l) (flat_map-map deref_pair entry_bytes (e ∷ es))
+    ∙ ap (λ l. out ++ 10 ∷ l) (sym (flat_map-map entry_bytes deref_pair (e ∷ es)))

@@ -4,7 +4,7 @@ use Rattle.std.specs.Fmt.{signed_decimal}
 use Rattle.d_values.specs.declared.key.KeyPart.{KeyPart}
 use Rattle.d_values.specs.declared.key.KeyPart.TheVariants.{Number, Name}
 
--- a number of at most 16 digits and sign, or a text of at most 50 bytes
+-- a number of at most 16 bytes with its sign, or a text of at most 50
 abbrev pub Fits : KeyPart → Type 0
 Fits (Number number) = length (signed_decimal number) ≤ 16
 Fits (Name text) = length text ≤ 50

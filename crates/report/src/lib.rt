@@ -1,4 +1,5 @@
-//! What a run shows, and the way of its bytes out: the layout of aggregations, and streams that tell what went through them.
+//! What a run shows, and the way of its bytes out: the layout of aggregations, and streams that tell
+//! what went through them.
 #![tactic(auto)]
 
 pub mod faulty;

@@ -1,4 +1,4 @@
-use Rattle.std.proofs.Common.{◌≡◌, ◌++◌, drop}
+use Rattle.std.proofs.Common.{◌≡◌, [], ◌∷◌, ◌++◌, drop}
 use Rattle.std.specs.List.{flat_map}
 use Rattle.std.specs.Map.Iter.{deref_pair}
 use Rattle.report.specs.Layout.{entry_bytes}
@@ -7,4 +7,4 @@ use Rattle.report.proofs.rendering.put_entries.Given as goal
 abbrev pub invariant-loop-entry : goal.invariant-loop-entry
 invariant-loop-entry l =
     l.out.items ++ flat_map (λ e. entry_bytes (deref_pair e)) (drop l.entry-index l.entries)
-    ≡ l.initial.out.items ++ flat_map (λ e. entry_bytes (deref_pair e)) l.entries
+    ≡ (l.fn.out.items ++ 10 ∷ []) ++ flat_map (λ e. entry_bytes (deref_pair e)) l.entries
