@@ -38,6 +38,7 @@ install: build
 
 bench: build
 	@bench/run
+	@bench/lexer/run
 
 clean:
 	rm -rf crates/*/out
