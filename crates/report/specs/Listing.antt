@@ -20,7 +20,7 @@ rank_of (Counted count) = pos count
 abbrev pub entry_cmp : Entry → Entry → Ordering
 entry_cmp x y = ordering_then (int_cmp (rank_of x.1) (rank_of y.1)) (key_cmp x.0 y.0)
 
--- the same in words: a lower value, or the same value and a lower key
+-- x comes before y, in words: it has a lower value, or the same value and a lower key
 abbrev pub ComesBefore : Entry → Entry → Type 0
 ComesBefore x y = (rank_of x.1 <ℤ rank_of y.1) ⊎ ((rank_of x.1 ≡ rank_of y.1) × (key_cmp x.0 y.0 ≡ Less))
 

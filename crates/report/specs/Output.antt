@@ -11,7 +11,7 @@ pub record Shows (functions : List AggFn) (contributions : List Contribution) (b
   -- the entries of each aggregation, in order
   pub listings : List (List Entry)
   pub one_each : length listings ≡ length functions
-  pub listed : (agg : ℕ) (function : AggFn) (entries : List Entry) → slice_get functions agg ≡ Some function → slice_get listings agg ≡ Some entries
-      → IsListing function agg contributions entries
+  pub listed : (agg : ℕ) (function : AggFn) (entries : List Entry)
+      → slice_get functions agg ≡ Some function → slice_get listings agg ≡ Some entries → IsListing function agg contributions entries
   -- one behind the other
   pub joined : bytes ≡ flat_map listing_bytes listings
