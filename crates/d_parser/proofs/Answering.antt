@@ -1,0 +1,20 @@
+-- The script of all tokens, and no other.
+use Rattle.std.proofs.Common.{◌≡◌, List, Option, Some, None, Result, Ok, Err, sym, subst}
+use Rattle.std.specs.Prelude.{IfOk}
+use Rattle.d_lexer.specs.declared.token.Token.{Token}
+use Rattle.d_parser.specs.declared.fault.ParseFault.{ParseFault}
+use Rattle.d_parser.specs.declared.tree.Script.{Script}
+use Rattle.d_parser.specs.Tree.{ItemTree, script_of}
+use Rattle.d_parser.specs.Script.{IsScript}
+use Rattle.d_parser.specs.Reading.{Gives}
+use Rattle.d_parser.specs.ReadingScripts.{script}
+use Rattle.d_parser.proofs.Sound.{IfSome}
+use Rattle.d_parser.proofs.SoundScripts.{script_sound}
+use Rattle.d_parser.proofs.CompleteScripts.{script_complete}
+
+pub found_of : (r : Result Script ParseFault) (ts : List Token) → Gives script_of r (script ts) → IfOk r (λ s. IsScript (script_of s) ts)
+found_of (Ok s) ts h = subst (λ (o : Option (List ItemTree)). IfSome (λ all. IsScript all ts) o) h (script_sound ts)
+found_of (Err e) ts h = tt
+
+pub only_of : (r : Result Script ParseFault) (ts : List Token) → Gives script_of r (script ts) → (s : List ItemTree) → IsScript s ts → Gives script_of r (Some s)
+only_of r ts h s k = subst (λ (o : Option (List ItemTree)). Gives script_of r o) (script_complete s ts k) h

@@ -1,0 +1,712 @@
+-- What spells a tree is read as that tree.
+use Rattle.std.proofs.Common.{◌≡◌, ℕ, zero, suc, ◌+◌, ◌-◌, ◌<◌, ◌≤◌, max, Bool, true, false, cond, List, [], ◌∷◌, ◌++◌, length, Option, Some, None, refl, sym, ap, subst, ◌∙◌, arith, rules, inl, inr, lit≤, lit<, append_assoc, length-append}
+use Rattle.std.proofs.lemmas.List.{append-nil}
+use Rattle.std.specs.Prelude.{nat_le}
+use Rattle.std.proofs.lemmas.Bool.{cases_lt, le-leb, lt-leb}
+use denote.Enum.Bare.{same_true}
+use Rattle.d_lexer.specs.contracts.token.Mark.{the_type}
+use Rattle.d_lexer.specs.declared.token.Mark.{Mark}
+use Rattle.d_lexer.specs.declared.token.Mark.TheVariants as m
+use Rattle.d_lexer.specs.declared.token.Token.{Token}
+use Rattle.d_lexer.specs.declared.token.TokenKind.{TokenKind}
+use Rattle.d_lexer.specs.declared.token.TokenKind.TheVariants as kind
+use Rattle.d_parser.specs.declared.operators.UnaryOperator.{UnaryOperator}
+use Rattle.d_parser.specs.declared.operators.BinaryOperator.{BinaryOperator}
+use Rattle.d_parser.specs.declared.operators.BinaryOperator.TheVariants as b
+use Rattle.d_parser.specs.declared.operators.AssignOperator.{AssignOperator}
+use Rattle.d_parser.specs.declared.operators.Step.{Step}
+use Rattle.d_parser.specs.declared.tree.IntegerType.{IntegerType}
+use Rattle.d_parser.specs.declared.tree.Constant.{Constant}
+use Rattle.d_parser.specs.declared.tree.Constant.TheVariants as c
+use Rattle.d_parser.specs.declared.tree.Variable.{Variable}
+use Rattle.d_parser.specs.declared.tree.Variable.TheVariants as v
+use Rattle.d_parser.specs.declared.words.WordKind.{WordKind}
+use Rattle.d_parser.specs.declared.words.WordKind.TheVariants as w
+use Rattle.d_parser.specs.declared.marks.Prefix.{Prefix}
+use Rattle.d_parser.specs.declared.marks.Prefix.TheVariants as p
+use Rattle.d_parser.specs.declared.marks.Follow.{Follow}
+use Rattle.d_parser.specs.declared.marks.Follow.TheVariants as f
+use Rattle.d_parser.specs.Tree.{Tree, Known, Read, Call, Unary, Cast, Before, After, Binary, Choice, Assign, Trees, end, more, add}
+use Rattle.d_parser.specs.Words.{word_kind, kind_of, begins_type, only_integer, type_from, integer_type, is_word, AreWords, run, behind_run}
+use Rattle.d_parser.specs.Marks.{prefix_of, follow_of, level_of, follow_at, kind_is, is_at, same_mark, tail}
+use Rattle.d_parser.specs.Grammar.{Part, token, Begins, Sign, Within, IsPhrase, rank, constant_kind, IsPlain, IsMember, IsVariable, MayHave, IsTarget, IsEnclosed, IsCast, Spells, SpellsKeys, SpellsList, SpellsMore}
+use Rattle.d_parser.specs.Reading.{◌>>=◌, Reader, after_mark, plain_word, plain_by, member, variable, typed_by, is_typed, cast_type, calls, begins_call, is_clause_local, readers, listed, keys_by, keys, arguments, with_keys, target, follows_by, follows, named, casted, parenthesised, stepped, prefixed_by, marked, part_by, part, climb_by, climb_on, choice_by, chosen, choice, operand, whole, further_on}
+use Rattle.d_parser.proofs.Takes.{begins_one, sign_one, takes, phrase_takes, keys_take, more_take, target_takes, Takes}
+use Rattle.d_parser.proofs.Runs.{run_is, behind_is}
+
+-- ---- what follows
+
+-- a phrase of a level above this ends before the first token
+abbrev pub reach_of : Follow → ℕ
+reach_of (f.Infix op) = level_of op
+reach_of (f.Assign op) = 1
+reach_of (f.Step step) = 15
+reach_of f.Question = 2
+reach_of f.Bracket = 15
+reach_of f.Parenthesis = 15
+reach_of f.Other = 0
+
+abbrev pub reach : List Token → ℕ
+reach ts = reach_of (follow_at ts)
+
+abbrev pub opens_of : Follow → Bool
+opens_of f.Bracket = true
+opens_of f.Parenthesis = true
+opens_of follow = false
+
+pub level_high : (op : BinaryOperator) → 3 ≤ level_of op
+level_high b.Multiply = lit≤ tt
+level_high b.Divide = lit≤ tt
+level_high b.Remainder = lit≤ tt
+level_high b.Add = lit≤ tt
+level_high b.Subtract = lit≤ tt
+level_high b.ShiftLeft = lit≤ tt
+level_high b.ShiftRight = lit≤ tt
+level_high b.Less = lit≤ tt
+level_high b.LessEqual = lit≤ tt
+level_high b.Greater = lit≤ tt
+level_high b.GreaterEqual = lit≤ tt
+level_high b.Equal = lit≤ tt
+level_high b.NotEqual = lit≤ tt
+level_high b.BitAnd = lit≤ tt
+level_high b.BitXor = lit≤ tt
+level_high b.BitOr = lit≤ tt
+level_high b.And = lit≤ tt
+level_high b.Xor = lit≤ tt
+level_high b.Or = lit≤ tt
+
+pub level_below : (op : BinaryOperator) → level_of op ≤ 13
+level_below b.Multiply = lit≤ tt
+level_below b.Divide = lit≤ tt
+level_below b.Remainder = lit≤ tt
+level_below b.Add = lit≤ tt
+level_below b.Subtract = lit≤ tt
+level_below b.ShiftLeft = lit≤ tt
+level_below b.ShiftRight = lit≤ tt
+level_below b.Less = lit≤ tt
+level_below b.LessEqual = lit≤ tt
+level_below b.Greater = lit≤ tt
+level_below b.GreaterEqual = lit≤ tt
+level_below b.Equal = lit≤ tt
+level_below b.NotEqual = lit≤ tt
+level_below b.BitAnd = lit≤ tt
+level_below b.BitXor = lit≤ tt
+level_below b.BitOr = lit≤ tt
+level_below b.And = lit≤ tt
+level_below b.Xor = lit≤ tt
+level_below b.Or = lit≤ tt
+
+pub sign_follow : (mark : Mark) (ts rest : List Token) → Sign mark ts rest → follow_at ts ≡ follow_of mark
+sign_follow mark ts rest h = ap follow_at h.begins.is
+
+pub sign_tail : (mark : Mark) (ts rest : List Token) → Sign mark ts rest → tail ts ≡ rest
+sign_tail mark ts rest h = ap tail h.begins.is
+
+pub sign_at : (mark other : Mark) (ts rest : List Token) → Sign mark ts rest → is_at other ts ≡ same_mark mark other
+sign_at mark other ts rest h = ap (is_at other) h.begins.is
+
+pub after_sign : (mark : Mark) (ts rest : List Token) → same_mark mark mark ≡ true → Sign mark ts rest → after_mark mark ts ≡ Some rest
+after_sign mark ts rest s h = rw (sign_at mark mark ts rest h, s, sign_tail mark ts rest h) refl
+
+pub sign_reach : (mark : Mark) (ts rest : List Token) (f : Follow) → Sign mark ts rest → follow_of mark ≡ f → reach ts ≡ reach_of f
+sign_reach mark ts rest f h e = ap reach_of (sign_follow mark ts rest h ∙ e)
+
+-- nothing but what opens or steps goes on a unary part
+below_unary : (f : Follow) → reach_of f < 15 → reach_of f < 14
+below_unary (f.Infix op) h = let low = level_below op in omega arith
+below_unary (f.Assign op) h = lit< tt
+below_unary (f.Step step) h = absurd (omega arith)
+below_unary f.Question h = lit< tt
+below_unary f.Bracket h = absurd (omega arith)
+below_unary f.Parenthesis h = absurd (omega arith)
+below_unary f.Other h = lit< tt
+
+-- ---- steps
+
+climb_stays : (n k : ℕ) (f : Follow) (t : Tree) (ts : List Token) → reach_of f < k → climb_by (readers n) f k t ts ≡ Some (t, ts)
+climb_stays n k (f.Infix op) t ts h = rw (lt-leb k (level_of op) h) refl
+climb_stays n k (f.Assign op) t ts h = refl
+climb_stays n k (f.Step step) t ts h = refl
+climb_stays n k f.Question t ts h = refl
+climb_stays n k f.Bracket t ts h = refl
+climb_stays n k f.Parenthesis t ts h = refl
+climb_stays n k f.Other t ts h = refl
+
+climb_ends : (n k : ℕ) (t : Tree) (ts : List Token) → 0 < n → reach ts < k → (readers n).climb k t ts ≡ Some (t, ts)
+unfolding climb_on
+climb_ends zero k t ts h e = absurd (omega arith)
+climb_ends (suc n) k t ts h e = climb_stays n k (follow_at ts) t ts e
+
+question_by : (n : ℕ) (f : Follow) (t : Tree) (ts : List Token) → reach_of f < 2 → choice_by (readers n) f t ts ≡ Some (t, ts)
+question_by n (f.Infix op) t ts h = refl
+question_by n (f.Assign op) t ts h = refl
+question_by n (f.Step step) t ts h = refl
+question_by n f.Question t ts h = absurd (omega arith)
+question_by n f.Bracket t ts h = refl
+question_by n f.Parenthesis t ts h = refl
+question_by n f.Other t ts h = refl
+
+choice_stays : (n k : ℕ) (t : Tree) (ts : List Token) → reach ts < k → choice (readers n) k t ts ≡ Some (t, ts)
+unfolding choice
+choice_stays n k t ts h =
+    elim (cases_lt 2 k) [
+      | inl high ↦ rw (lt-leb k 2 high) refl
+      | inr low ↦ rw (le-leb k 2 low) (question_by n (follow_at ts) t ts (omega arith))
+    ]
+
+whole_of : (n k : ℕ) (ts : List Token) (t : Tree) (rest : List Token) → operand (readers n) k ts ≡ Some (t, rest) → (readers (suc n)).phrase k ts ≡ choice (readers n) k t rest
+unfolding whole
+whole_of n k ts t rest e = rw e refl
+
+operand_of : (n k : ℕ) (ts : List Token) (t : Tree) (rest : List Token) → part (readers n) k ts ≡ Some (t, rest) → operand (readers n) k ts ≡ (readers n).climb (max k 3) t rest
+unfolding operand
+operand_of n k ts t rest e = rw e refl
+
+-- a part that nothing goes on is a phrase
+part_ends : (n k : ℕ) (ts : List Token) (t : Tree) (rest : List Token) → part (readers n) k ts ≡ Some (t, rest) → length rest < n → reach rest < k → (readers (suc n)).phrase k ts ≡ Some (t, rest)
+part_ends n k ts t rest e len h =
+    whole_of n k ts t rest (operand_of n k ts t rest e ∙ climb_ends n (max k 3) t rest (omega arith) (omega arith)) ∙ choice_stays n k t rest h
+
+-- ---- what a tree owes
+
+-- its operators are joined up to here, with enough levels left
+pub record Climbed (n k : ℕ) (t : Tree) (ts rest : List Token) : Type 0 where
+  pub left : ℕ
+  pub enough : length rest < left
+  pub within : left ≤ n
+  pub is : operand (readers n) k ts ≡ (readers left).climb (max k 3) t rest
+
+abbrev Climbs : Tree → Type 0
+Climbs t = (n k l : ℕ) (ts rest : List Token) → Spells t ts rest → 3 ≤ l → l ≤ 13 → l ≤ rank t → k ≤ l → length ts ≤ n → reach rest ≤ l → (reach rest ≡ 1 → 2 ≤ k) → Climbed n k t ts rest
+
+abbrev Phrases : Tree → Type 0
+Phrases t = (n k : ℕ) (ts rest : List Token) → Spells t ts rest → k ≤ rank t → length ts < n → reach rest < k → (readers n).phrase k ts ≡ Some (t, rest)
+
+pub record Reads (t : Tree) : Type 0 where
+  pub climbs : Climbs t
+  pub phrases : Phrases t
+
+rank_low : (t : Tree) → 1 ≤ rank t
+rank_low (Known line constant) = lit≤ tt
+rank_low (Read x keys) = lit≤ tt
+rank_low (Call line name arguments) = lit≤ tt
+rank_low (Unary line op a) = lit≤ tt
+rank_low (Cast line to a) = lit≤ tt
+rank_low (Before line step x keys) = lit≤ tt
+rank_low (After x keys step) = lit≤ tt
+rank_low (Binary op a b) = let h = level_high op in omega arith
+rank_low (Choice test a b) = lit≤ tt
+rank_low (Assign op x keys a) = lit≤ tt
+
+-- ---- parentheses
+
+typed_kind : (n k : ℕ) (word : WordKind) (follow : Follow) (name : List ℕ) (line : ℕ) (ts : List Token) → begins_type word ≡ true → (calls word follow ≡ false) × (variable word name line ts ≡ None)
+unfolding variable
+typed_kind n k w.Plain follow name line ts h = absurd cc
+typed_kind n k w.Thread follow name line ts h = absurd cc
+typed_kind n k w.Clause follow name line ts h = absurd cc
+typed_kind n k w.Text follow name line ts h = (refl, refl)
+typed_kind n k w.Char follow name line ts h = (refl, refl)
+typed_kind n k w.Short follow name line ts h = (refl, refl)
+typed_kind n k w.Int follow name line ts h = (refl, refl)
+typed_kind n k w.Long follow name line ts h = (refl, refl)
+typed_kind n k w.Signed follow name line ts h = (refl, refl)
+typed_kind n k w.Unsigned follow name line ts h = (refl, refl)
+typed_kind n k (w.Fixed t) follow name line ts h = (refl, refl)
+
+typed_part : (n k : ℕ) (t : TokenKind) (line : ℕ) (ts : List Token) → typed_by t ≡ true → part_by (readers n) k t line ts ≡ None
+unfolding named target
+typed_part n k (kind.Word name) line ts h = let e = typed_kind n k (word_kind name) (follow_at ts) name line ts h in rw (e.0, e.1) refl
+typed_part n k (kind.DescriptionRun name) line ts h = refl
+typed_part n k (kind.AggregationName name) line ts h = refl
+typed_part n k (kind.Number value suffix) line ts h = absurd cc
+typed_part n k (kind.TextConstant bytes) line ts h = absurd cc
+typed_part n k (kind.Mark mark) line ts h = absurd cc
+
+-- no expression begins with a word of a type
+typed_none : (n k : ℕ) (ts : List Token) → is_typed ts ≡ true → (readers n).phrase k ts ≡ None
+unfolding whole operand part
+typed_none zero k ts h = refl
+typed_none (suc n) k [] h = absurd cc
+typed_none (suc n) k (t ∷ ts) h = rw (typed_part n k t.kind t.line ts h) refl
+
+untyped_by : (b : Bool) (n k : ℕ) (ts : List Token) (x : Tree × List Token) → is_typed ts ≡ b → (readers n).phrase k ts ≡ Some x → b ≡ false
+untyped_by true n k ts x h e = let none = typed_none n k ts h in absurd cc
+untyped_by false n k ts x h e = refl
+
+parens_read : (n k line : ℕ) (t : Tree) (inner close rest : List Token) → (readers n).phrase 1 inner ≡ Some (t, close) → Sign m.CloseParenthesis close rest → marked (readers n) m.OpenParenthesis line inner ≡ Some (t, rest)
+unfolding marked parenthesised
+parens_read n k line t inner close rest e h =
+    rw (untyped_by (is_typed inner) n 1 inner (t, close) refl e) (rw e (rw (after_sign m.CloseParenthesis close rest refl h) refl))
+
+parens_part : (n k : ℕ) (t : Tree) (ts inner close rest : List Token) → Sign m.OpenParenthesis ts inner → (readers n).phrase 1 inner ≡ Some (t, close) → Sign m.CloseParenthesis close rest → part (readers n) k ts ≡ Some (t, rest)
+unfolding part
+parens_part n k t ts inner close rest o e h = rw o.begins.is (parens_read n k o.line t inner close rest e h)
+
+close_reach : (ts rest : List Token) → Sign m.CloseParenthesis ts rest → reach ts ≡ 0
+close_reach ts rest h = sign_reach m.CloseParenthesis ts rest f.Other h refl
+
+inside : (t : Tree) → Reads t → (p n : ℕ) (ts rest : List Token) → Within p (Spells t) ts rest → length ts < n → reach rest < 1 → (readers n).phrase 1 ts ≡ Some (t, rest)
+inside t r zero n ts rest h len e = r.phrases n 1 ts rest h (rank_low t) len e
+inside t r (suc p) zero ts rest h len e = absurd (omega arith)
+inside t r (suc p) (suc n) ts rest h len e =
+    let one = sign_one m.OpenParenthesis ts h.0 h.2 in
+    let two = sign_one m.CloseParenthesis h.1 rest h.4 in
+    let less = phrase_takes t 1 (takes t) h.0 h.1 (record { pairs = p; high = λ e. rank_low t; within = h.3 }) in
+    let zero_reach = close_reach h.1 rest h.4 in
+    part_ends n 1 ts t rest (parens_part n 1 t ts h.0 h.1 rest h.2 (inside t r p n h.0 h.1 h.3 (omega arith) (omega arith)) h.4) (omega arith) e
+
+wrapped_part : (t : Tree) → Reads t → (p n k : ℕ) (ts rest : List Token) → Within (suc p) (Spells t) ts rest → length ts ≤ n → part (readers n) k ts ≡ Some (t, rest)
+wrapped_part t r p n k ts rest h len =
+    let one = sign_one m.OpenParenthesis ts h.0 h.2 in
+    let zero_reach = close_reach h.1 rest h.4 in
+    parens_part n k t ts h.0 h.1 rest h.2 (inside t r p n h.0 h.1 h.3 (omega arith) (omega arith)) h.4
+
+phrase_by : (t : Tree) → Reads t → (p n k : ℕ) (ts rest : List Token) → (p ≡ 0 → k ≤ rank t) → Within p (Spells t) ts rest → length rest < length ts → length ts < n → reach rest < k → (readers n).phrase k ts ≡ Some (t, rest)
+phrase_by t r zero n k ts rest high h less len e = r.phrases n k ts rest h (high refl) len e
+phrase_by t r (suc p) zero k ts rest high h less len e = absurd (omega arith)
+phrase_by t r (suc p) (suc n) k ts rest high h less len e = part_ends n k ts t rest (wrapped_part t r p n k ts rest h (omega arith)) (omega arith) e
+
+pub phrase_of : (t : Tree) → Reads t → (n k : ℕ) (ts rest : List Token) → IsPhrase (Spells t) (rank t) k ts rest → length ts < n → reach rest < k → (readers n).phrase k ts ≡ Some (t, rest)
+phrase_of t r n k ts rest h len e = phrase_by t r h.pairs n k ts rest h.high h.within (phrase_takes t k (takes t) ts rest h) len e
+
+climbed_part : (n k : ℕ) (t : Tree) (ts rest : List Token) → length rest < n → part (readers n) k ts ≡ Some (t, rest) → Climbed n k t ts rest
+climbed_part n k t ts rest len e = record { left = n; enough = len; within = omega arith; is = operand_of n k ts t rest e }
+
+climbs_by : (t : Tree) → Reads t → (p n k l : ℕ) (ts rest : List Token) → (p ≡ 0 → l ≤ rank t) → Within p (Spells t) ts rest → length rest < length ts → 3 ≤ l → l ≤ 13 → k ≤ l → length ts ≤ n → reach rest ≤ l → (reach rest ≡ 1 → 2 ≤ k) → Climbed n k t ts rest
+climbs_by t r zero n k l ts rest high h less low most le len e free = r.climbs n k l ts rest h low most (high refl) le len e free
+climbs_by t r (suc p) n k l ts rest high h less low most le len e free = climbed_part n k t ts rest (omega arith) (wrapped_part t r p n k ts rest h len)
+
+climbs_of : (t : Tree) → Reads t → (n k l : ℕ) (ts rest : List Token) → IsPhrase (Spells t) (rank t) l ts rest → 3 ≤ l → l ≤ 13 → k ≤ l → length ts ≤ n → reach rest ≤ l → (reach rest ≡ 1 → 2 ≤ k) → Climbed n k t ts rest
+climbs_of t r n k l ts rest h low most le len e free = climbs_by t r h.pairs n k l ts rest h.high h.within (phrase_takes t l (takes t) ts rest h) low most le len e free
+
+-- ---- from one statement to the other
+
+from_climbs : (t : Tree) → 3 ≤ rank t → rank t ≤ 13 → Climbs t → Phrases t
+from_climbs t high most climbs zero k ts rest s le len e = absurd (omega arith)
+from_climbs t high most climbs (suc n) k ts rest s le len e =
+    let up = climbs n k (max k 3) ts rest s (omega arith) (omega arith) (omega arith) (omega arith) (omega arith) (omega arith) (λ one. omega arith) in
+    whole_of n k ts t rest (up.is ∙ climb_ends up.left (max k 3) t rest (let h = up.enough in omega arith) (omega arith)) ∙ choice_stays n k t rest e
+
+reads_joined : (t : Tree) → 3 ≤ rank t → rank t ≤ 13 → Climbs t → Reads t
+reads_joined t high most climbs = record { climbs = climbs; phrases = from_climbs t high most climbs }
+
+-- what is one part, whatever comes behind it
+abbrev IsPart : Tree → Type 0
+IsPart t = (n k : ℕ) (ts rest : List Token) → Spells t ts rest → length ts ≤ n → reach rest < 15 → (reach rest ≡ 1 → 2 ≤ k) → part (readers n) k ts ≡ Some (t, rest)
+
+part_phrase : (t : Tree) → rank t ≤ 15 → IsPart t → Phrases t
+part_phrase t low is_part zero k ts rest s le len e = absurd (omega arith)
+part_phrase t low is_part (suc n) k ts rest s le len e =
+    let less = takes t ts rest s in
+    part_ends n k ts t rest (is_part n k ts rest s (omega arith) (omega arith) (λ one. omega arith)) (omega arith) e
+
+part_climbs : (t : Tree) → IsPart t → Climbs t
+part_climbs t is_part n k l ts rest s low most high le len e free =
+    let less = takes t ts rest s in
+    climbed_part n k t ts rest (omega arith) (is_part n k ts rest s len (omega arith) free)
+
+reads_part : (t : Tree) → rank t ≤ 15 → IsPart t → Reads t
+reads_part t low is_part = record { climbs = part_climbs t is_part; phrases = part_phrase t low is_part }
+
+reads_low : (t : Tree) → rank t < 3 → Phrases t → Reads t
+reads_low t low phrases = record { climbs = λ n k l ts rest s h1 h2 h3. absurd (omega arith); phrases = phrases }
+
+-- ---- constants
+
+known_part : (line : ℕ) (constant : Constant) → IsPart (Known line constant)
+unfolding part
+known_part line (c.Number value suffix) n k ts rest s len e free = rw s.is refl
+known_part line (c.Text bytes) n k ts rest s len e free = rw s.is refl
+
+reads_known : (line : ℕ) (constant : Constant) → Reads (Known line constant)
+reads_known line constant = reads_part (Known line constant) (lit≤ tt) (known_part line constant)
+
+-- ---- unary parts
+
+open_is : (b : Bool) (mark : Mark) (x : Prefix) → same_mark mark m.OpenParenthesis ≡ b → prefix_of mark ≡ x → (x ≡ p.Other → ⊥) → b ≡ false
+open_is true mark x e h other = absurd (let same : mark ≡ m.OpenParenthesis = same_true the_type (search rules) mark m.OpenParenthesis e in other (sym h ∙ ap prefix_of same))
+open_is false mark x e h other = refl
+
+not_open : (mark : Mark) (x : Prefix) → prefix_of mark ≡ x → (x ≡ p.Other → ⊥) → same_mark mark m.OpenParenthesis ≡ false
+not_open mark x h other = open_is (same_mark mark m.OpenParenthesis) mark x refl h other
+
+unary_part : (line : ℕ) (op : UnaryOperator) (a : Tree) → Reads a → IsPart (Unary line op a)
+unfolding part marked
+unary_part line op a r n k ts rest s len e free =
+    let one : length ts ≡ suc (length s.1) = ap length s.3.is in
+    rw (s.3.is, not_open s.0 (p.Unary op) s.2 (λ h. absurd cc), s.2) (rw (phrase_of a r n 14 s.1 rest s.4 (omega arith) (omega (arith, below_unary (follow_at rest) e))) refl)
+
+cast_read : (n line : ℕ) (to : IntegerType) (words close rest : List Token) → AreWords words → integer_type words ≡ Some to → Sign m.CloseParenthesis close rest → cast_type (words ++ close) ≡ Some (to, rest)
+unfolding cast_type run behind_run
+cast_read n line to words close rest h t s =
+    let run_close : run close ≡ [] = rw s.begins.is refl in
+    let behind_close : behind_run close ≡ close = rw s.begins.is refl in
+    rw (run_is words close h ∙ (ap (λ (xs : List Token). words ++ xs) run_close ∙ append-nil words), behind_is words close h ∙ behind_close, t, after_sign m.CloseParenthesis close rest refl s) refl
+
+typed_from : (word : WordKind) (ts : List Token) (to : IntegerType) → only_integer (type_from word ts) ≡ Some to → begins_type word ≡ true
+typed_from w.Plain [] to h = absurd cc
+typed_from w.Plain (a ∷ []) to h = absurd cc
+typed_from w.Plain (a ∷ (b ∷ [])) to h = absurd cc
+typed_from w.Plain (a ∷ (b ∷ (c ∷ ts))) to h = absurd cc
+typed_from w.Thread [] to h = absurd cc
+typed_from w.Thread (a ∷ []) to h = absurd cc
+typed_from w.Thread (a ∷ (b ∷ [])) to h = absurd cc
+typed_from w.Thread (a ∷ (b ∷ (c ∷ ts))) to h = absurd cc
+typed_from w.Clause [] to h = absurd cc
+typed_from w.Clause (a ∷ []) to h = absurd cc
+typed_from w.Clause (a ∷ (b ∷ [])) to h = absurd cc
+typed_from w.Clause (a ∷ (b ∷ (c ∷ ts))) to h = absurd cc
+typed_from w.Text ts to h = refl
+typed_from w.Char ts to h = refl
+typed_from w.Short ts to h = refl
+typed_from w.Int ts to h = refl
+typed_from w.Long ts to h = refl
+typed_from w.Signed ts to h = refl
+typed_from w.Unsigned ts to h = refl
+typed_from (w.Fixed t) ts to h = refl
+
+typed_word : (t : TokenKind) → is_word t ≡ true → begins_type (kind_of t) ≡ true → typed_by t ≡ true
+typed_word (kind.Word name) h e = e
+typed_word (kind.DescriptionRun name) h e = absurd cc
+typed_word (kind.AggregationName name) h e = absurd cc
+typed_word (kind.Number value suffix) h e = absurd cc
+typed_word (kind.TextConstant bytes) h e = absurd cc
+typed_word (kind.Mark mark) h e = absurd cc
+
+typed_words : (words close : List Token) (to : IntegerType) → AreWords words → integer_type words ≡ Some to → is_typed (words ++ close) ≡ true
+typed_words [] close to h e = absurd cc
+typed_words (t ∷ ts) close to h e = typed_word t.kind h.0 (typed_from (kind_of t.kind) ts to e)
+
+cast_part : (line : ℕ) (to : IntegerType) (a : Tree) → Reads a → IsPart (Cast line to a)
+unfolding part marked parenthesised casted
+cast_part line to a r n k ts rest s len e free =
+    let one : length ts ≡ suc (length (s.1.words ++ s.1.close)) = ap length s.1.opens.is in
+    let two = length-append s.1.words s.1.close in
+    let three = sign_one m.CloseParenthesis s.1.close s.0 s.1.closes in
+    rw (s.1.opens.is, typed_words s.1.words s.1.close to s.1.are_words s.1.spells, cast_read n line to s.1.words s.1.close s.0 s.1.are_words s.1.spells s.1.closes)
+    (rw (phrase_of a r n 14 s.0 rest s.2 (omega arith) (omega (arith, below_unary (follow_at rest) e))) refl)
+
+-- ---- lists
+
+-- the second added one by one
+abbrev pub join : Trees → Trees → Trees
+join front end = front
+join front (more a rest) = join (add front a) rest
+
+join_push : (b : Tree) (front rest : Trees) → join (more b front) rest ≡ more b (join front rest)
+join_push b front end = refl
+join_push b front (more a rest) = join_push b (add front a) rest
+
+join_end : (rest : Trees) → join end rest ≡ rest
+join_end end = refl
+join_end (more a rest) = join_push a end rest ∙ ap (more a) (join_end rest)
+
+pub join_more : (a : Tree) (rest : Trees) → join (more a end) rest ≡ more a rest
+join_more a rest = join_push a end rest ∙ ap (more a) (join_end rest)
+
+abbrev Furthers : Trees → Type 0
+Furthers l = (n : ℕ) (acc : Trees) (ts rest : List Token) → SpellsMore l ts rest → length ts < n → is_at m.Comma rest ≡ false → reach rest ≡ 0 → (readers n).further acc ts ≡ Some (join acc l, rest)
+
+abbrev Parts : Trees → Type 0
+Parts end = Unit {0}
+Parts (more a l) = Reads a × Furthers l
+
+pub record ReadsAll (l : Trees) : Type 0 where
+  pub furthers : Furthers l
+  pub parts : Parts l
+
+-- nothing goes on an expression before a comma, or where the list ends
+more_reach : (l : Trees) (ts rest : List Token) → SpellsMore l ts rest → reach rest ≡ 0 → reach ts ≡ 0
+more_reach end ts rest h e = ap reach h ∙ e
+more_reach (more a l) ts rest h e = sign_reach m.Comma ts h.0 f.Other h.2 refl
+
+further_end : (n : ℕ) (acc : Trees) (ts : List Token) → 0 < n → is_at m.Comma ts ≡ false → (readers n).further acc ts ≡ Some (acc, ts)
+unfolding further_on
+further_end zero acc ts pos h = absurd (omega arith)
+further_end (suc n) acc ts pos h = rw h refl
+
+further_goes : (n : ℕ) (acc : Trees) (a : Tree) (ts first behind : List Token) → Sign m.Comma ts first → (readers n).phrase 1 first ≡ Some (a, behind) → (readers (suc n)).further acc ts ≡ (readers n).further (add acc a) behind
+unfolding further_on
+further_goes n acc a ts first behind s e = rw (sign_at m.Comma m.Comma ts first s, sign_tail m.Comma ts first s) (rw e refl)
+
+furthers_end : Furthers end
+furthers_end n acc ts rest s len h e = rw s (further_end n acc rest (omega arith) h)
+
+furthers_more : (a : Tree) (l : Trees) → Reads a → Furthers l → Furthers (more a l)
+furthers_more a l r g zero acc ts rest s len h e = absurd (omega arith)
+furthers_more a l r g (suc n) acc ts rest s len h e =
+    let one = sign_one m.Comma ts s.0 s.2 in
+    let less = phrase_takes a 1 (takes a) s.0 s.1 s.3 in
+    let quiet = more_reach l s.1 rest s.4 e in
+    further_goes n acc a ts s.0 s.1 s.2 (phrase_of a r n 1 s.0 s.1 s.3 (omega arith) (omega arith)) ∙ g n (add acc a) s.1 rest s.4 (omega arith) h e
+
+listed_read : (n : ℕ) (close : Mark) (a : Tree) (l : Trees) (ts behind closing rest : List Token) → Reads a → Furthers l → IsPhrase (Spells a) (rank a) 1 ts behind → SpellsMore l behind closing → Sign close closing rest → same_mark close close ≡ true → same_mark close m.Comma ≡ false → follow_of close ≡ f.Other → length ts < n → listed (readers n) close ts ≡ Some (more a l, rest)
+unfolding listed
+listed_read n close a l ts behind closing rest r g h hs s self comma other len =
+    let less = phrase_takes a 1 (takes a) ts behind h in
+    let ends = sign_reach close closing rest f.Other s other in
+    let quiet = more_reach l behind closing hs ends in
+    let first = phrase_of a r n 1 ts behind h len (omega arith) in
+    let all = g n (more a end) behind closing hs (omega arith) (sign_at close m.Comma closing rest s ∙ comma) ends in
+    rw first (rw all (rw (after_sign close closing rest self s, join_more a l) refl))
+
+keys_none : (n : ℕ) (follow : Follow) (ts : List Token) → opens_of follow ≡ false → keys_by (readers n) follow ts ≡ Some (end, ts)
+keys_none n (f.Infix op) ts h = refl
+keys_none n (f.Assign op) ts h = refl
+keys_none n (f.Step step) ts h = refl
+keys_none n f.Question ts h = refl
+keys_none n f.Bracket ts h = absurd cc
+keys_none n f.Parenthesis ts h = absurd cc
+keys_none n f.Other ts h = refl
+
+pub keys_read : (n : ℕ) (all : Trees) → ReadsAll all → (ts rest : List Token) → SpellsKeys all ts rest → length ts ≤ n → opens_of (follow_at rest) ≡ false → keys (readers n) ts ≡ Some (all, rest)
+unfolding keys
+keys_read n end r ts rest s len h = rw s (keys_none n (follow_at rest) rest h)
+keys_read n (more a l) r ts rest s len h =
+    let one = sign_one m.OpenBracket ts s.0 s.3 in
+    rw (sign_follow m.OpenBracket ts s.0 s.3, sign_tail m.OpenBracket ts s.0 s.3)
+    (listed_read n m.CloseBracket a l s.0 s.1 s.2 rest r.parts.0 r.parts.1 s.4 s.5 s.6 refl refl refl (omega arith))
+
+-- no expression begins with a closing parenthesis
+close_none : (n k : ℕ) (ts rest : List Token) → Sign m.CloseParenthesis ts rest → (readers n).phrase k ts ≡ None
+unfolding whole operand part marked
+close_none zero k ts rest h = refl
+close_none (suc n) k ts rest h = rw h.begins.is refl
+
+mark_there : (t : TokenKind) (mark : Mark) → kind_is mark t ≡ true → t ≡ kind.Mark mark
+mark_there (kind.Word name) mark h = absurd cc
+mark_there (kind.DescriptionRun name) mark h = absurd cc
+mark_there (kind.AggregationName name) mark h = absurd cc
+mark_there (kind.Number value suffix) mark h = absurd cc
+mark_there (kind.TextConstant bytes) mark h = absurd cc
+mark_there (kind.Mark found) mark h = ap kind.Mark (same_true the_type (search rules) found mark h)
+
+pub sign_there : (mark : Mark) (ts : List Token) → is_at mark ts ≡ true → Sign mark ts (tail ts)
+sign_there mark [] h = absurd cc
+sign_there mark (t ∷ ts) h = record { line = t.line; begins = record { start = t.start; stop = t.stop; is = ap (λ (k : TokenKind). token k t.start t.stop t.line ∷ ts) (mark_there t.kind mark h) } }
+
+not_close_by : (found : Bool) (n : ℕ) (ts : List Token) (x : Tree × List Token) → is_at m.CloseParenthesis ts ≡ found → (readers n).phrase 1 ts ≡ Some x → found ≡ false
+not_close_by true n ts x h e = let none = close_none n 1 ts (tail ts) (sign_there m.CloseParenthesis ts h) in absurd cc
+not_close_by false n ts x h e = refl
+
+first_not_close : (n : ℕ) (ts : List Token) (x : Tree × List Token) → (readers n).phrase 1 ts ≡ Some x → is_at m.CloseParenthesis ts ≡ false
+first_not_close n ts x e = not_close_by (is_at m.CloseParenthesis ts) n ts x refl e
+
+pub arguments_read : (n : ℕ) (all : Trees) → ReadsAll all → (list rest : List Token) → IsEnclosed m.OpenParenthesis m.CloseParenthesis (SpellsList all) list rest → length list ≤ n → arguments (readers n) (tail list) ≡ Some (all, rest)
+unfolding arguments
+arguments_read n end r list rest s len =
+    let start : tail list ≡ s.behind = sign_tail m.OpenParenthesis list s.inner s.opens ∙ s.inside in
+    rw (start, sign_at m.CloseParenthesis m.CloseParenthesis s.behind rest s.closes, sign_tail m.CloseParenthesis s.behind rest s.closes) refl
+arguments_read n (more a l) r list rest s len =
+    let one = sign_one m.OpenParenthesis list s.inner s.opens in
+    let less = phrase_takes a 1 (takes a) s.inner s.inside.0 s.inside.1 in
+    let ends = close_reach s.behind rest s.closes in
+    let quiet = more_reach l s.inside.0 s.behind s.inside.2 ends in
+    let first = phrase_of a r.parts.0 n 1 s.inner s.inside.0 s.inside.1 (omega arith) (omega arith) in
+    rw (sign_tail m.OpenParenthesis list s.inner s.opens, first_not_close n s.inner (a, s.inside.0) first)
+    (listed_read n m.CloseParenthesis a l s.inner s.inside.0 s.behind rest r.parts.0 r.parts.1 s.inside.1 s.inside.2 s.closes refl refl refl (omega arith))
+
+-- ---- targets
+
+-- the first word of a target, and that it is read as one
+pub record TargetAt (n : ℕ) (x : Variable) (all : Trees) (ts rest : List Token) : Type 0 where
+  pub name : List ℕ
+  pub line : ℕ
+  pub behind : List Token
+  pub begins : Begins (kind.Word name) line ts behind
+  pub no_call : begins_call name behind ≡ false
+  pub read : target (readers n) (word_kind name) name line behind ≡ Some ((x, all), rest)
+
+plain_read : (name : List ℕ) (line : ℕ) (ts rest : List Token) → IsPlain name line ts rest → plain_word ts ≡ Some (name, rest)
+unfolding plain_word
+plain_read name line ts rest h = rw h.begins.is (rw h.plain refl)
+
+member_read : (name : List ℕ) (rest at_arrow at_name : List Token) (name_line : ℕ) → Sign m.Arrow at_arrow at_name → IsPlain name name_line at_name rest → member at_arrow ≡ Some (name, rest)
+unfolding member
+member_read name rest at_arrow at_name name_line s h = rw (after_sign m.Arrow at_arrow at_name refl s) (plain_read name name_line at_name rest h)
+
+plain_no_call : (follow : Follow) → opens_of follow ≡ false → calls w.Plain follow ≡ false
+plain_no_call (f.Infix op) h = refl
+plain_no_call (f.Assign op) h = refl
+plain_no_call (f.Step step) h = refl
+plain_no_call f.Question h = refl
+plain_no_call f.Bracket h = refl
+plain_no_call f.Parenthesis h = absurd cc
+plain_no_call f.Other h = refl
+
+keys_follow : (all : Trees) (ts rest : List Token) → SpellsKeys all ts rest → opens_of (follow_at rest) ≡ false → calls w.Plain (follow_at ts) ≡ false
+keys_follow end ts rest s h = rw s (plain_no_call (follow_at rest) h)
+keys_follow (more a l) ts rest s h = rw (sign_follow m.OpenBracket ts s.0 s.3) refl
+
+target_at : (n : ℕ) (x : Variable) (all : Trees) → ReadsAll all → (ts rest : List Token) → IsTarget x all (SpellsKeys all) ts rest → length ts ≤ suc n → opens_of (follow_at rest) ≡ false → TargetAt n x all ts rest
+unfolding target with_keys variable
+target_at n (v.Plain line name) all r ts rest s len h =
+    let one : length ts ≡ suc (length s.behind) = ap length s.variable.begins.is in
+    record {
+      name = name;
+      line = line;
+      behind = s.behind;
+      begins = s.variable.begins;
+      no_call = rw s.variable.plain (keys_follow all s.behind rest s.keys h);
+      read = rw s.variable.plain (rw (keys_read n all r s.behind rest s.keys (omega arith) h) refl);
+    }
+target_at n (v.Thread line name) all r ts rest s len h =
+    let one : length ts ≡ suc (length s.variable.at_arrow) = ap length s.variable.begins.is in
+    let two = sign_one m.Arrow s.variable.at_arrow s.variable.at_name s.variable.arrow in
+    let three : length s.variable.at_name ≡ suc (length s.behind) = ap length s.variable.name.begins.is in
+    record {
+      name = s.variable.first;
+      line = line;
+      behind = s.variable.at_arrow;
+      begins = s.variable.begins;
+      no_call = rw s.variable.reserved refl;
+      read = rw s.variable.reserved (rw (member_read name s.behind s.variable.at_arrow s.variable.at_name s.variable.name_line s.variable.arrow s.variable.name)
+          (rw (keys_read n all r s.behind rest s.keys (omega arith) h) refl));
+    }
+target_at n (v.Clause line name) all r ts rest s len h =
+    record {
+      name = s.variable.first;
+      line = line;
+      behind = s.variable.at_arrow;
+      begins = s.variable.begins;
+      no_call = rw s.variable.reserved refl;
+      read = rw s.variable.reserved (rw (member_read name s.behind s.variable.at_arrow s.variable.at_name s.variable.name_line s.variable.arrow s.variable.name)
+          (rw s.may (let same : s.behind ≡ rest = subst (λ (l : Trees). SpellsKeys l s.behind rest) s.may s.keys in rw same refl)));
+    }
+
+-- a part that begins with a target
+named_read : (n k : ℕ) (x : Variable) (all : Trees) (ts rest : List Token) → TargetAt n x all ts rest → part (readers n) k ts ≡ follows (readers n) k (x, all) rest
+unfolding part named
+named_read n k x all ts rest h = rw (h.begins.is, h.no_call) (rw h.read refl)
+
+free_follow : (follow : Follow) → reach_of follow < 15 → opens_of follow ≡ false
+free_follow (f.Infix op) h = refl
+free_follow (f.Assign op) h = refl
+free_follow (f.Step step) h = refl
+free_follow f.Question h = refl
+free_follow f.Bracket h = absurd (omega arith)
+free_follow f.Parenthesis h = absurd (omega arith)
+free_follow f.Other h = refl
+
+read_stays : (n k : ℕ) (follow : Follow) (x : Variable) (all : Trees) (ts : List Token) → reach_of follow < 15 → (reach_of follow ≡ 1 → 2 ≤ k) → follows_by (readers n) follow k (x, all) ts ≡ Some (Read x all, ts)
+read_stays n k (f.Infix op) x all ts h free = refl
+read_stays n k (f.Assign op) x all ts h free = rw (lt-leb k 1 (free refl)) refl
+read_stays n k (f.Step step) x all ts h free = absurd (omega arith)
+read_stays n k f.Question x all ts h free = refl
+read_stays n k f.Bracket x all ts h free = refl
+read_stays n k f.Parenthesis x all ts h free = refl
+read_stays n k f.Other x all ts h free = refl
+
+read_part : (x : Variable) (all : Trees) → ReadsAll all → IsPart (Read x all)
+unfolding follows
+read_part x all r n k ts rest s len e free =
+    named_read n k x all ts rest (target_at n x all r ts rest s (omega arith) (free_follow (follow_at rest) e)) ∙ read_stays n k (follow_at rest) x all rest e free
+
+after_part : (x : Variable) (all : Trees) (step : Step) → ReadsAll all → IsPart (After x all step)
+unfolding follows
+after_part x all step r n k ts rest s len e free =
+    let there = sign_follow s.0 s.1 rest s.4 ∙ s.2 in
+    named_read n k x all ts s.1 (target_at n x all r ts s.1 s.3 (omega arith) (ap opens_of there)) ∙ rw (there, sign_tail s.0 s.1 rest s.4) refl
+
+stepped_read : (n line : ℕ) (step : Step) (x : Variable) (all : Trees) (ts rest : List Token) → TargetAt n x all ts rest → stepped (readers n) line step ts ≡ Some (Before line step x all, rest)
+unfolding stepped
+stepped_read n line step x all ts rest h = rw h.begins.is (rw h.read refl)
+
+before_part : (line : ℕ) (step : Step) (x : Variable) (all : Trees) → ReadsAll all → IsPart (Before line step x all)
+unfolding part marked
+before_part line step x all r n k ts rest s len e free =
+    let one : length ts ≡ suc (length s.1) = ap length s.3.is in
+    rw (s.3.is, not_open s.0 (p.Step step) s.2 (λ h. absurd cc), s.2) (stepped_read n line step x all s.1 rest (target_at n x all r s.1 rest s.4 (omega arith) (free_follow (follow_at rest) e)))
+
+call_part : (line : ℕ) (name : List ℕ) (all : Trees) → ReadsAll all → IsPart (Call line name all)
+unfolding part named
+call_part line name all r n k ts rest s len e free =
+    let one : length ts ≡ suc (length s.0) = ap length s.1.begins.is in
+    let there = sign_follow m.OpenParenthesis s.0 s.2.inner s.2.opens in
+    rw s.1.begins.is (rw (s.1.plain, there) (rw (arguments_read n all r s.0 rest s.2 (omega arith)) refl))
+
+-- ---- assignment
+
+assign_part : (op : AssignOperator) (x : Variable) (all : Trees) (a : Tree) → ReadsAll all → Reads a → (n k : ℕ) (ts rest : List Token) → Spells (Assign op x all a) ts rest → k ≤ 1 → length ts ≤ n → reach rest < k → part (readers n) k ts ≡ Some (Assign op x all a, rest)
+unfolding follows
+assign_part op x all a r ra n k ts rest s le len e =
+    let there = sign_follow s.0 s.1 s.2 s.5 ∙ s.3 in
+    let one = sign_one s.0 s.1 s.2 s.5 in
+    let less = target_takes x all (SpellsKeys all) (keys_take all) ts s.1 s.4 in
+    named_read n k x all ts s.1 (target_at n x all r ts s.1 s.4 (omega arith) (ap opens_of there))
+    ∙ rw (there, le-leb k 1 le, sign_tail s.0 s.1 s.2 s.5) (rw (phrase_of a ra n 1 s.2 rest s.6 (omega arith) (omega arith)) refl)
+
+assign_phrases : (op : AssignOperator) (x : Variable) (all : Trees) (a : Tree) → ReadsAll all → Reads a → Phrases (Assign op x all a)
+assign_phrases op x all a r ra zero k ts rest s le len e = absurd (omega arith)
+assign_phrases op x all a r ra (suc n) k ts rest s le len e =
+    let less = takes (Assign op x all a) ts rest s in
+    part_ends n k ts (Assign op x all a) rest (assign_part op x all a r ra n k ts rest s le (omega arith) e) (omega arith) e
+
+-- ---- operators
+
+climb_goes : (n k : ℕ) (mark : Mark) (op : BinaryOperator) (a b : Tree) (ts right rest : List Token) → follow_of mark ≡ f.Infix op → Sign mark ts right → k ≤ level_of op → (readers n).phrase (suc (level_of op)) right ≡ Some (b, rest) → (readers (suc n)).climb k a ts ≡ (readers n).climb k (Binary op a b) rest
+unfolding climb_on
+climb_goes n k mark op a b ts right rest o s le e = rw (sign_follow mark ts right s, o, sign_tail mark ts right s, le-leb k (level_of op) le) (rw e refl)
+
+climbed_by : (left n k : ℕ) (op : BinaryOperator) (a b : Tree) (ts rest : List Token) (mark : Mark) (middle right : List Token) → Reads b → follow_of mark ≡ f.Infix op → Sign mark middle right → IsPhrase (Spells b) (rank b) (suc (level_of op)) right rest → k ≤ level_of op → reach rest ≤ level_of op → length middle < left → left ≤ n → operand (readers n) k ts ≡ (readers left).climb (max k 3) a middle → Climbed n k (Binary op a b) ts rest
+climbed_by zero n k op a b ts rest mark middle right rb o s h le e len within is = absurd (omega arith)
+climbed_by (suc left) n k op a b ts rest mark middle right rb o s h le e len within is =
+    let one = sign_one mark middle right s in
+    let less = phrase_takes b (suc (level_of op)) (takes b) right rest h in
+    let high = level_high op in
+    record {
+      left = left;
+      enough = omega arith;
+      within = omega arith;
+      is = is ∙ climb_goes left (max k 3) mark op a b middle right rest o s (omega arith) (phrase_of b rb left (suc (level_of op)) right rest h (omega arith) (omega arith));
+    }
+
+binary_climbs : (op : BinaryOperator) (a b : Tree) → Reads a → Reads b → Climbs (Binary op a b)
+binary_climbs op a b ra rb n k l ts rest s low most high le len e free =
+    let there = sign_reach s.0 s.1 s.2 (f.Infix op) s.5 s.3 in
+    let lowest = level_high op in
+    let highest = level_below op in
+    let first = climbs_of a ra n k (level_of op) ts s.1 s.4 lowest highest (omega arith) len (omega arith) (λ one. absurd (omega arith)) in
+    climbed_by first.left n k op a b ts rest s.0 s.1 s.2 rb s.3 s.5 s.6 (omega arith) (omega arith) first.enough first.within first.is
+
+-- ---- choice
+
+choice_goes : (n k : ℕ) (test a b : Tree) (question first colon second rest : List Token) → k ≤ 2 → Sign m.Question question first → (readers n).phrase 1 first ≡ Some (a, colon) → Sign m.Colon colon second → (readers n).phrase 2 second ≡ Some (b, rest) → choice (readers n) k test question ≡ Some (Choice test a b, rest)
+unfolding choice chosen
+choice_goes n k test a b question first colon second rest le q e s g =
+    rw (le-leb k 2 le, sign_follow m.Question question first q, sign_tail m.Question question first q) (rw e (rw (after_sign m.Colon colon second refl s) (rw g refl)))
+
+choice_phrases : (test a b : Tree) → Reads test → Reads a → Reads b → Phrases (Choice test a b)
+choice_phrases test a b rt ra rb zero k ts rest s le len e = absurd (omega arith)
+choice_phrases test a b rt ra rb (suc n) k ts rest s le len e =
+    let at_question = sign_reach m.Question s.0 s.1 f.Question s.5 refl in
+    let at_colon = sign_reach m.Colon s.2 s.3 f.Other s.7 refl in
+    let one = phrase_takes test 3 (takes test) ts s.0 s.4 in
+    let two = sign_one m.Question s.0 s.1 s.5 in
+    let three = phrase_takes a 1 (takes a) s.1 s.2 s.6 in
+    let four = sign_one m.Colon s.2 s.3 s.7 in
+    let head = climbs_of test rt n k 3 ts s.0 s.4 (lit≤ tt) (lit≤ tt) (omega arith) (omega arith) (omega arith) (λ h. absurd (omega arith)) in
+    let enough = head.enough in
+    let first = phrase_of a ra n 1 s.1 s.2 s.6 (omega arith) (omega arith) in
+    let second = phrase_of b rb n 2 s.3 rest s.8 (omega arith) (omega arith) in
+    whole_of n k ts test s.0 (head.is ∙ climb_ends head.left (max k 3) test s.0 (omega arith) (omega arith)) ∙ choice_goes n k test a b s.0 s.1 s.2 s.3 rest le s.5 first s.7 second
+
+-- ---- all
+
+mutual
+  pub reads : (t : Tree) → Reads t
+  reads (Known line constant) = reads_known line constant
+  reads (Read x keys) = reads_part (Read x keys) (lit≤ tt) (read_part x keys (reads_all keys))
+  reads (Call line name all) = reads_part (Call line name all) (lit≤ tt) (call_part line name all (reads_all all))
+  reads (Unary line op a) = reads_part (Unary line op a) (lit≤ tt) (unary_part line op a (reads a))
+  reads (Cast line to a) = reads_part (Cast line to a) (lit≤ tt) (cast_part line to a (reads a))
+  reads (Before line step x keys) = reads_part (Before line step x keys) (lit≤ tt) (before_part line step x keys (reads_all keys))
+  reads (After x keys step) = reads_part (After x keys step) (lit≤ tt) (after_part x keys step (reads_all keys))
+  reads (Binary op a b) = reads_joined (Binary op a b) (level_high op) (level_below op) (binary_climbs op a b (reads a) (reads b))
+  reads (Choice test a b) = reads_low (Choice test a b) (lit< tt) (choice_phrases test a b (reads test) (reads a) (reads b))
+  reads (Assign op x keys a) = reads_low (Assign op x keys a) (lit< tt) (assign_phrases op x keys a (reads_all keys) (reads a))
+
+  pub reads_all : (l : Trees) → ReadsAll l
+  reads_all end = record { furthers = furthers_end; parts = tt }
+  reads_all (more a l) = record { furthers = furthers_more a l (reads a) (reads_all l).furthers; parts = (reads a, (reads_all l).furthers) }

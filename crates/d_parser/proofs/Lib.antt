@@ -1,0 +1,10 @@
+pub mod Rows
+pub mod Steps
+pub mod Runs
+pub mod Takes
+pub mod Complete
+pub mod Sound
+pub mod SoundScripts
+pub mod CompleteScripts
+pub mod Cuts
+pub mod Answering

@@ -1,0 +1,521 @@
+-- What is read as a tree spells that tree.
+use Rattle.std.proofs.Common.{◌≡◌, ℕ, zero, suc, ◌+◌, ◌-◌, ◌<◌, ◌≤◌, max, Bool, true, false, cond, List, [], ◌∷◌, ◌++◌, length, Option, Some, None, refl, sym, ap, subst, ◌∙◌, arith, rules, inl, inr, lit≤, lit<}
+use Rattle.std.specs.Prelude.{nat_le}
+use Rattle.std.proofs.lemmas.Bool.{cases_lt, le-leb, lt-leb}
+use denote.Enum.Bare.{same_true}
+use Rattle.d_lexer.specs.contracts.token.Mark.{the_type}
+use Rattle.d_lexer.specs.declared.token.Mark.{Mark}
+use Rattle.d_lexer.specs.declared.token.Mark.TheVariants as m
+use Rattle.d_lexer.specs.declared.token.Token.{Token}
+use Rattle.d_lexer.specs.declared.token.TokenKind.{TokenKind}
+use Rattle.d_lexer.specs.declared.token.TokenKind.TheVariants as kind
+use Rattle.d_parser.specs.declared.operators.UnaryOperator.{UnaryOperator}
+use Rattle.d_parser.specs.declared.operators.BinaryOperator.{BinaryOperator}
+use Rattle.d_parser.specs.declared.operators.BinaryOperator.TheVariants as b
+use Rattle.d_parser.specs.declared.operators.AssignOperator.{AssignOperator}
+use Rattle.d_parser.specs.declared.operators.Step.{Step}
+use Rattle.d_parser.specs.declared.tree.IntegerType.{IntegerType}
+use Rattle.d_parser.specs.declared.tree.Constant.{Constant}
+use Rattle.d_parser.specs.declared.tree.Constant.TheVariants as c
+use Rattle.d_parser.specs.declared.tree.Variable.{Variable}
+use Rattle.d_parser.specs.declared.tree.Variable.TheVariants as v
+use Rattle.d_parser.specs.declared.words.WordKind.{WordKind}
+use Rattle.d_parser.specs.declared.words.WordKind.TheVariants as w
+use Rattle.d_parser.specs.declared.marks.Prefix.{Prefix}
+use Rattle.d_parser.specs.declared.marks.Prefix.TheVariants as p
+use Rattle.d_parser.specs.declared.marks.Follow.{Follow}
+use Rattle.d_parser.specs.declared.marks.Follow.TheVariants as f
+use Rattle.d_parser.specs.Tree.{Tree, Known, Read, Call, Unary, Cast, Before, After, Binary, Choice, Assign, Trees, end, more, add}
+use Rattle.d_parser.specs.Words.{word_kind, kind_of, begins_type, integer_type, AreWords, run, behind_run}
+use Rattle.d_parser.specs.Marks.{prefix_of, follow_of, level_of, follow_kind, follow_at, is_at, same_mark, tail}
+use Rattle.d_parser.specs.Grammar.{Part, token, Begins, Sign, Within, IsPhrase, rank, constant_kind, IsPlain, IsMember, IsVariable, MayHave, IsTarget, IsEnclosed, IsCast, Spells, SpellsKeys, SpellsList, SpellsMore}
+use Rattle.d_parser.specs.Reading.{◌>>=◌, Reader, after_mark, if_plain, plain_word, plain_by, member, variable, typed_by, is_typed, cast_type, calls, begins_call, is_clause_local, Readers, readers, listed, keys_by, keys, arguments, with_keys, target, follows_by, follows, named, casted, parenthesised, stepped_by, stepped, prefixed_by, marked, part_by, part, climb_by, climb_on, choice_by, chosen, choice, operand, whole, further_on}
+use Rattle.d_parser.proofs.Complete.{level_high, level_below, sign_there, join, join_more}
+use Rattle.d_parser.proofs.Runs.{are_words, run_joined}
+
+-- what an answer meets, if there is one
+abbrev pub IfSome : {A : Type 0} → (A → Type 0) → Option A → Type 0
+IfSome P None = Unit {0}
+IfSome P (Some x) = P x
+
+pub then_sound : {A B : Type 0} (P : A → Type 0) (Q : B → Type 0) (r : Option A) (g : A → Option B) → IfSome P r → ((x : A) → P x → IfSome Q (g x)) → IfSome Q (r >>= g)
+then_sound P Q None g h k = tt
+then_sound P Q (Some x) g h k = k x h
+
+pub test_sound : {A : Type 0} (Q : A → Type 0) (b : Bool) (x y : Option A) → (b ≡ true → IfSome Q x) → (b ≡ false → IfSome Q y) → IfSome Q (cond b x y)
+test_sound Q true x y f g = f refl
+test_sound Q false x y f g = g refl
+
+pub after_sound : (mark : Mark) (ts : List Token) → IfSome (λ rest. Sign mark ts rest) (after_mark mark ts)
+after_sound mark ts = test_sound (λ rest. Sign mark ts rest) (is_at mark ts) (Some (tail ts)) None (λ h. sign_there mark ts h) (λ h. tt)
+
+-- ---- what follows
+
+abbrev pub joins_of : Follow → ℕ
+joins_of (f.Infix op) = level_of op
+joins_of f.Question = 2
+joins_of follow = 0
+
+abbrev pub joins : List Token → ℕ
+joins ts = joins_of (follow_at ts)
+
+joins_below : (follow : Follow) → joins_of follow ≤ 13
+joins_below (f.Infix op) = level_below op
+joins_below (f.Assign op) = lit≤ tt
+joins_below (f.Step step) = lit≤ tt
+joins_below f.Question = lit≤ tt
+joins_below f.Bracket = lit≤ tt
+joins_below f.Parenthesis = lit≤ tt
+joins_below f.Other = lit≤ tt
+
+-- no operator has the level 1
+joins_gap : (follow : Follow) → joins_of follow < 2 → joins_of follow < 1
+joins_gap (f.Infix op) h = let high = level_high op in absurd (omega arith)
+joins_gap (f.Assign op) h = lit< tt
+joins_gap (f.Step step) h = lit< tt
+joins_gap f.Question h = absurd (omega arith)
+joins_gap f.Bracket h = lit< tt
+joins_gap f.Parenthesis h = lit< tt
+joins_gap f.Other h = lit< tt
+
+pub record FollowSign (follow : Follow) (ts : List Token) : Type 0 where
+  pub mark : Mark
+  pub is : follow_of mark ≡ follow
+  pub sign : Sign mark ts (tail ts)
+
+follow_kind_sound : (t : TokenKind) (follow : Follow) → follow_kind t ≡ follow → (follow ≡ f.Other → ⊥) → (mark : Mark) × (t ≡ kind.Mark mark) × (follow_of mark ≡ follow)
+follow_kind_sound (kind.Mark mark) follow h other = (mark, refl, h)
+follow_kind_sound (kind.Word name) follow h other = absurd (other (sym h))
+follow_kind_sound (kind.DescriptionRun name) follow h other = absurd (other (sym h))
+follow_kind_sound (kind.AggregationName name) follow h other = absurd (other (sym h))
+follow_kind_sound (kind.Number value suffix) follow h other = absurd (other (sym h))
+follow_kind_sound (kind.TextConstant bytes) follow h other = absurd (other (sym h))
+
+follow_sound : (follow : Follow) (ts : List Token) → follow_at ts ≡ follow → (follow ≡ f.Other → ⊥) → FollowSign follow ts
+follow_sound follow [] h other = absurd (other (sym h))
+follow_sound follow (t ∷ ts) h other =
+    let k = follow_kind_sound t.kind follow h other in
+    record { mark = k.0; is = k.2; sign = record { line = t.line; begins = record { start = t.start; stop = t.stop; is = ap (λ (x : TokenKind). token x t.start t.stop t.line ∷ ts) k.1 } } }
+
+-- ---- phrases
+
+bare : (t : Tree) (k : ℕ) (ts rest : List Token) → Spells t ts rest → k ≤ rank t → IsPhrase (Spells t) (rank t) k ts rest
+bare t k ts rest s h = record { pairs = 0; high = λ e. h; within = s }
+
+lower : (t : Tree) (j k : ℕ) (ts rest : List Token) → j ≤ k → IsPhrase (Spells t) (rank t) k ts rest → IsPhrase (Spells t) (rank t) j ts rest
+lower t j k ts rest le h = record { pairs = h.pairs; high = λ e. let high = h.high e in omega arith; within = h.within }
+
+in_parens : (t : Tree) (j k : ℕ) (ts inner close rest : List Token) → Sign m.OpenParenthesis ts inner → IsPhrase (Spells t) (rank t) j inner close → Sign m.CloseParenthesis close rest → IsPhrase (Spells t) (rank t) k ts rest
+in_parens t j k ts inner close rest o h s = record { pairs = suc h.pairs; high = λ e. absurd (omega arith); within = (inner, close, o, h.within, s) }
+
+-- what is read as a phrase of level k, and that no operator that it could take follows
+pub record Whole (k : ℕ) (ts : List Token) (x : Tree × List Token) : Type 0 where
+  pub phrase : IsPhrase (Spells x.0) (rank x.0) k ts x.1
+  pub stops : joins x.1 < k
+
+-- what is read so far, and that an operator that follows takes it
+pub record Fits (j : ℕ) (ts : List Token) (x : Tree × List Token) : Type 0 where
+  pub phrase : IsPhrase (Spells x.0) (rank x.0) j ts x.1
+  pub fits : 1 ≤ joins x.1 → IsPhrase (Spells x.0) (rank x.0) (max 3 (joins x.1)) ts x.1
+
+pub record Climbed (j k : ℕ) (ts : List Token) (x : Tree × List Token) : Type 0 where
+  pub fits : Fits j ts x
+  pub stops : joins x.1 < k
+
+-- more of a list
+pub record Further (acc : Trees) (ts : List Token) (x : Trees × List Token) : Type 0 where
+  pub list : Trees
+  pub is : x.0 ≡ join acc list
+  pub spells : SpellsMore list ts x.1
+
+pub record Sound (down : Readers) : Type 0 where
+  pub phrase : (k : ℕ) (ts : List Token) → 1 ≤ k → k ≤ 14 → IfSome (Whole k ts) (down.phrase k ts)
+  pub climb : (j k : ℕ) (left : Tree) (start ts : List Token) → 3 ≤ k → j ≤ k → Fits j start (left, ts) → IfSome (Climbed j k start) (down.climb k left ts)
+  pub further : (acc : Trees) (ts : List Token) → IfSome (Further acc ts) (down.further acc ts)
+
+-- what is a phrase of every level up to 14
+any_fits : (t : Tree) (j : ℕ) (ts rest : List Token) → j ≤ 14 → ((l : ℕ) → l ≤ 14 → IsPhrase (Spells t) (rank t) l ts rest) → Fits j ts (t, rest)
+any_fits t j ts rest le h = record { phrase = h j le; fits = λ one. h (max 3 (joins rest)) (let low = joins_below (follow_at rest) in omega arith) }
+
+bare_fits : (t : Tree) (j : ℕ) (ts rest : List Token) → j ≤ 14 → 14 ≤ rank t → Spells t ts rest → Fits j ts (t, rest)
+bare_fits t j ts rest le high s = any_fits t j ts rest le (λ l h. bare t l ts rest s (omega arith))
+
+-- ---- words and variables
+
+plain_kind_sound : (word : WordKind) (name : List ℕ) (line start stop : ℕ) (ts : List Token) → word_kind name ≡ word → IfSome (λ x. IsPlain x.0 line (token (kind.Word name) start stop line ∷ ts) x.1) (if_plain word name ts)
+plain_kind_sound w.Plain name line start stop ts e = record { begins = record { start = start; stop = stop; is = refl }; plain = e }
+plain_kind_sound w.Thread name line start stop ts e = tt
+plain_kind_sound w.Clause name line start stop ts e = tt
+plain_kind_sound w.Text name line start stop ts e = tt
+plain_kind_sound w.Char name line start stop ts e = tt
+plain_kind_sound w.Short name line start stop ts e = tt
+plain_kind_sound w.Int name line start stop ts e = tt
+plain_kind_sound w.Long name line start stop ts e = tt
+plain_kind_sound w.Signed name line start stop ts e = tt
+plain_kind_sound w.Unsigned name line start stop ts e = tt
+plain_kind_sound (w.Fixed t) name line start stop ts e = tt
+
+abbrev AnyPlain : List Token → List ℕ × List Token → Type 0
+AnyPlain ts x = (line : ℕ) × IsPlain x.0 line ts x.1
+
+plain_by_sound : (t : TokenKind) (line start stop : ℕ) (ts : List Token) → IfSome (λ x. IsPlain x.0 line (token t start stop line ∷ ts) x.1) (plain_by t ts)
+plain_by_sound (kind.Word name) line start stop ts = plain_kind_sound (word_kind name) name line start stop ts refl
+plain_by_sound (kind.DescriptionRun name) line start stop ts = tt
+plain_by_sound (kind.AggregationName name) line start stop ts = tt
+plain_by_sound (kind.Number value suffix) line start stop ts = tt
+plain_by_sound (kind.TextConstant bytes) line start stop ts = tt
+plain_by_sound (kind.Mark mark) line start stop ts = tt
+
+pub weaken : {A : Type 0} (P Q : A → Type 0) (r : Option A) → ((x : A) → P x → Q x) → IfSome P r → IfSome Q r
+weaken P Q None k h = tt
+weaken P Q (Some x) k h = k x h
+
+plain_sound : (ts : List Token) → IfSome (AnyPlain ts) (plain_word ts)
+unfolding plain_word
+plain_sound [] = tt
+plain_sound (t ∷ ts) = weaken (λ x. IsPlain x.0 t.line (t ∷ ts) x.1) (AnyPlain (t ∷ ts)) (plain_by t.kind ts) (λ x h. (t.line, h)) (plain_by_sound t.kind t.line t.start t.stop ts)
+
+pub record Member (ts : List Token) (x : List ℕ × List Token) : Type 0 where
+  pub at_name : List Token
+  pub line : ℕ
+  pub arrow : Sign m.Arrow ts at_name
+  pub name : IsPlain x.0 line at_name x.1
+
+member_sound : (ts : List Token) → IfSome (Member ts) (member ts)
+unfolding member
+member_sound ts = then_sound (λ rest. Sign m.Arrow ts rest) (Member ts) (after_mark m.Arrow ts) (λ rest. plain_word rest) (after_sound m.Arrow ts)
+    (λ rest s. weaken (AnyPlain rest) (Member ts) (plain_word rest) (λ x h. record { at_name = rest; line = h.0; arrow = s; name = h.1 }) (plain_sound rest))
+
+variable_sound : (word : WordKind) (name : List ℕ) (line : ℕ) (start ts : List Token) → word_kind name ≡ word → Begins (kind.Word name) line start ts → IfSome (λ x. IsVariable x.0 start x.1) (variable word name line ts)
+unfolding variable
+variable_sound w.Plain name line start ts e h = record { begins = h; plain = e }
+variable_sound w.Thread name line start ts e h =
+    then_sound (Member ts) (λ x. IsVariable x.0 start x.1) (member ts) (λ x. Some (v.Thread line x.0, x.1)) (member_sound ts)
+    (λ x g. record { first = name; at_arrow = ts; at_name = g.at_name; name_line = g.line; begins = h; reserved = e; arrow = g.arrow; name = g.name })
+variable_sound w.Clause name line start ts e h =
+    then_sound (Member ts) (λ x. IsVariable x.0 start x.1) (member ts) (λ x. Some (v.Clause line x.0, x.1)) (member_sound ts)
+    (λ x g. record { first = name; at_arrow = ts; at_name = g.at_name; name_line = g.line; begins = h; reserved = e; arrow = g.arrow; name = g.name })
+variable_sound w.Text name line start ts e h = tt
+variable_sound w.Char name line start ts e h = tt
+variable_sound w.Short name line start ts e h = tt
+variable_sound w.Int name line start ts e h = tt
+variable_sound w.Long name line start ts e h = tt
+variable_sound w.Signed name line start ts e h = tt
+variable_sound w.Unsigned name line start ts e h = tt
+variable_sound (w.Fixed t) name line start ts e h = tt
+
+integer_by : (o : Option IntegerType) (ts : List Token) → integer_type (run ts) ≡ o → IfSome (λ to. integer_type (run ts) ≡ Some to) o
+integer_by None ts e = tt
+integer_by (Some to) ts e = e
+
+cast_sound : (line : ℕ) (start ts : List Token) → Begins (kind.Mark m.OpenParenthesis) line start ts → IfSome (λ x. IsCast line x.0 start x.1) (cast_type ts)
+unfolding cast_type
+cast_sound line start ts h =
+    then_sound (λ to. integer_type (run ts) ≡ Some to) (λ x. IsCast line x.0 start x.1) (integer_type (run ts)) (λ to. after_mark m.CloseParenthesis (behind_run ts) >>= λ rest. Some (to, rest)) (integer_by (integer_type (run ts)) ts refl)
+    (λ to e. then_sound (λ rest. Sign m.CloseParenthesis (behind_run ts) rest) (λ x. IsCast line x.0 start x.1) (after_mark m.CloseParenthesis (behind_run ts)) (λ rest. Some (to, rest)) (after_sound m.CloseParenthesis (behind_run ts))
+    (λ rest s. record { words = run ts; close = behind_run ts; opens = subst (λ (xs : List Token). Begins (kind.Mark m.OpenParenthesis) line start xs) (run_joined ts) h; are_words = are_words ts; spells = e; closes = s }))
+
+-- ---- marks
+
+bracket_is : (mark : Mark) → follow_of mark ≡ f.Bracket → mark ≡ m.OpenBracket
+bracket_is m.OpenBracket e = refl
+bracket_is mark e = absurd cc
+
+parenthesis_is : (mark : Mark) → follow_of mark ≡ f.Parenthesis → mark ≡ m.OpenParenthesis
+parenthesis_is m.OpenParenthesis e = refl
+parenthesis_is mark e = absurd cc
+
+question_is : (mark : Mark) → follow_of mark ≡ f.Question → mark ≡ m.Question
+question_is m.Question e = refl
+question_is mark e = absurd cc
+
+mark_sign : (mark : Mark) (follow : Follow) (ts : List Token) → ((found : Mark) → follow_of found ≡ follow → found ≡ mark) → follow_at ts ≡ follow → (follow ≡ f.Other → ⊥) → Sign mark ts (tail ts)
+mark_sign mark follow ts one e other = let s = follow_sound follow ts e other in subst (λ (k : Mark). Sign k ts (tail ts)) (one s.mark s.is) s.sign
+
+calls_sound : (word : WordKind) (follow : Follow) → calls word follow ≡ true → (word ≡ w.Plain) × (follow ≡ f.Parenthesis)
+calls_sound w.Plain f.Parenthesis e = (refl, refl)
+calls_sound word follow e = absurd cc
+
+-- ---- below one level
+
+-- an expression and what comes behind commas, up to the mark
+pub record Listed (close : Mark) (ts : List Token) (x : Trees × List Token) : Type 0 where
+  pub first : Tree
+  pub others : Trees
+  pub behind : List Token
+  pub closing : List Token
+  pub is : x.0 ≡ more first others
+  pub phrase : IsPhrase (Spells first) (rank first) 1 ts behind
+  pub spells : SpellsMore others behind closing
+  pub closes : Sign close closing x.1
+
+abbrev pub KeysOf : List Token → Trees × List Token → Type 0
+KeysOf ts x = SpellsKeys x.0 ts x.1
+
+abbrev pub ArgumentsOf : List Token → Trees × List Token → Type 0
+ArgumentsOf ts x = IsEnclosed m.OpenParenthesis m.CloseParenthesis (SpellsList x.0) ts x.1
+
+abbrev TargetOf : List Token → (Variable × Trees) × List Token → Type 0
+TargetOf ts x = IsTarget x.0.0 x.0.1 (SpellsKeys x.0.1) ts x.1
+
+abbrev pub SignOf : Mark → List Token → List Token → Type 0
+SignOf mark ts rest = Sign mark ts rest
+
+abbrev VariableOf : List Token → Variable × List Token → Type 0
+VariableOf ts x = IsVariable x.0 ts x.1
+
+abbrev CastOf : ℕ → List Token → IntegerType × List Token → Type 0
+CastOf line ts x = IsCast line x.0 ts x.1
+
+module _ (down : Readers) (sound : Sound down) where
+  listed_sound : (close : Mark) (ts : List Token) → IfSome (Listed close ts) (listed down close ts)
+  unfolding listed
+  listed_sound close ts =
+      then_sound (Whole 1 ts) (Listed close ts) (down.phrase 1 ts) (λ first. down.further (more first.0 end) first.1 >>= λ all. after_mark close all.1 >>= λ rest. Some (all.0, rest)) (sound.phrase 1 ts (lit≤ tt) (lit≤ tt))
+      (λ first h. then_sound (Further (more first.0 end) first.1) (Listed close ts) (down.further (more first.0 end) first.1) (λ all. after_mark close all.1 >>= λ rest. Some (all.0, rest)) (sound.further (more first.0 end) first.1)
+      (λ all g. then_sound (SignOf close all.1) (Listed close ts) (after_mark close all.1) (λ rest. Some (all.0, rest)) (after_sound close all.1)
+      (λ rest s. record { first = first.0; others = g.list; behind = first.1; closing = all.1; is = g.is ∙ join_more first.0 g.list; phrase = h.phrase; spells = g.spells; closes = s })))
+
+  keys_by_sound : (follow : Follow) (ts : List Token) → follow_at ts ≡ follow → IfSome (KeysOf ts) (keys_by down follow ts)
+  keys_by_sound f.Bracket ts e =
+      weaken (Listed m.CloseBracket (tail ts)) (KeysOf ts) (listed down m.CloseBracket (tail ts))
+      (λ x h. subst (λ (l : Trees). SpellsKeys l ts x.1) (sym h.is) (tail ts, h.behind, h.closing, mark_sign m.OpenBracket f.Bracket ts bracket_is e (λ h. absurd cc), h.phrase, h.spells, h.closes))
+      (listed_sound m.CloseBracket (tail ts))
+  keys_by_sound (f.Infix op) ts e = refl
+  keys_by_sound (f.Assign op) ts e = refl
+  keys_by_sound (f.Step step) ts e = refl
+  keys_by_sound f.Question ts e = refl
+  keys_by_sound f.Parenthesis ts e = refl
+  keys_by_sound f.Other ts e = refl
+
+  pub keys_sound : (ts : List Token) → IfSome (KeysOf ts) (keys down ts)
+  unfolding keys
+  keys_sound ts = keys_by_sound (follow_at ts) ts refl
+
+  pub arguments_sound : (list : List Token) → Sign m.OpenParenthesis list (tail list) → IfSome (ArgumentsOf list) (arguments down (tail list))
+  unfolding arguments
+  arguments_sound list s =
+      test_sound (ArgumentsOf list) (is_at m.CloseParenthesis (tail list)) (Some (end, tail (tail list))) (listed down m.CloseParenthesis (tail list))
+      (λ h. record { inner = tail list; behind = tail list; opens = s; inside = refl; closes = sign_there m.CloseParenthesis (tail list) h })
+      (λ h. weaken (Listed m.CloseParenthesis (tail list)) (ArgumentsOf list) (listed down m.CloseParenthesis (tail list))
+      (λ x g. record { inner = tail list; behind = g.closing; opens = s; inside = subst (λ (l : Trees). SpellsList l (tail list) g.closing) (sym g.is) (g.behind, g.phrase, g.spells); closes = g.closes })
+      (listed_sound m.CloseParenthesis (tail list)))
+
+  keyed_sound : (x : Variable) (start ts : List Token) → IsVariable x start ts → ((all : Trees) → MayHave x all) → IfSome (TargetOf start) (keys down ts >>= λ k. Some ((x, k.0), k.1))
+  keyed_sound x start ts h may =
+      then_sound (KeysOf ts) (TargetOf start) (keys down ts) (λ k. Some ((x, k.0), k.1)) (keys_sound ts) (λ k g. record { behind = ts; variable = h; keys = g; may = may k.0 })
+
+  with_keys_sound : (x : Variable) (start ts : List Token) → IsVariable x start ts → IfSome (TargetOf start) (with_keys down x ts)
+  unfolding with_keys
+  with_keys_sound (v.Plain line name) start ts h = keyed_sound (v.Plain line name) start ts h (λ all. tt)
+  with_keys_sound (v.Thread line name) start ts h = keyed_sound (v.Thread line name) start ts h (λ all. tt)
+  with_keys_sound (v.Clause line name) start ts h = record { behind = ts; variable = h; keys = refl; may = refl }
+
+  target_sound : (name : List ℕ) (line : ℕ) (start ts : List Token) → Begins (kind.Word name) line start ts → IfSome (TargetOf start) (target down (word_kind name) name line ts)
+  unfolding target
+  target_sound name line start ts h =
+      then_sound (VariableOf start) (TargetOf start) (variable (word_kind name) name line ts) (λ x. with_keys down x.0 x.1) (variable_sound (word_kind name) name line start ts refl h) (λ x g. with_keys_sound x.0 start x.1 g)
+
+  read_sound : (j : ℕ) (x : Variable × Trees) (start ts : List Token) → j ≤ 14 → TargetOf start (x, ts) → Fits j start (Read x.0 x.1, ts)
+  read_sound j x start ts le h = bare_fits (Read x.0 x.1) j start ts le (lit≤ tt) h
+
+  assign_sound : (j : ℕ) (x : Variable × Trees) (op : AssignOperator) (start ts : List Token) → j ≤ 1 → TargetOf start (x, ts) → follow_at ts ≡ f.Assign op → IfSome (Fits j start) (down.phrase 1 (tail ts) >>= λ value. Some (Assign op x.0 x.1 value.0, value.1))
+  assign_sound j x op start ts low h e =
+      let s = follow_sound (f.Assign op) ts e (λ h. absurd cc) in
+      then_sound (Whole 1 (tail ts)) (Fits j start) (down.phrase 1 (tail ts)) (λ value. Some (Assign op x.0 x.1 value.0, value.1)) (sound.phrase 1 (tail ts) (lit≤ tt) (lit≤ tt))
+      (λ value g. record {
+        phrase = bare (Assign op x.0 x.1 value.0) j start value.1 (s.mark, ts, tail ts, s.is, h, s.sign, g.phrase) low;
+        fits = λ one. absurd (let stop = g.stops in omega arith);
+      })
+
+  follows_by_sound : (follow : Follow) (j : ℕ) (x : Variable × Trees) (start ts : List Token) → j ≤ 14 → TargetOf start (x, ts) → follow_at ts ≡ follow → IfSome (Fits j start) (follows_by down follow j x ts)
+  follows_by_sound (f.Step step) j x start ts le h e =
+      let s = follow_sound (f.Step step) ts e (λ h. absurd cc) in
+      bare_fits (After x.0 x.1 step) j start (tail ts) le (lit≤ tt) (s.mark, ts, s.is, h, s.sign)
+  follows_by_sound (f.Assign op) j x start ts le h e =
+      elim (cases_lt 1 j) [
+        | inl high ↦ rw (lt-leb j 1 high) (read_sound j x start ts le h)
+        | inr low ↦ rw (le-leb j 1 low) (assign_sound j x op start ts low h e)
+      ]
+  follows_by_sound (f.Infix op) j x start ts le h e = read_sound j x start ts le h
+  follows_by_sound f.Question j x start ts le h e = read_sound j x start ts le h
+  follows_by_sound f.Bracket j x start ts le h e = read_sound j x start ts le h
+  follows_by_sound f.Parenthesis j x start ts le h e = read_sound j x start ts le h
+  follows_by_sound f.Other j x start ts le h e = read_sound j x start ts le h
+
+  follows_sound : (j : ℕ) (x : Variable × Trees) (start ts : List Token) → j ≤ 14 → TargetOf start (x, ts) → IfSome (Fits j start) (follows down j x ts)
+  unfolding follows
+  follows_sound j x start ts le h = follows_by_sound (follow_at ts) j x start ts le h refl
+
+  call_sound : (j : ℕ) (name : List ℕ) (line : ℕ) (start ts : List Token) → j ≤ 14 → Begins (kind.Word name) line start ts → begins_call name ts ≡ true → IfSome (Fits j start) (arguments down (tail ts) >>= λ all. Some (Call line name all.0, all.1))
+  call_sound j name line start ts le h e =
+      let both = calls_sound (word_kind name) (follow_at ts) e in
+      then_sound (ArgumentsOf ts) (Fits j start) (arguments down (tail ts)) (λ all. Some (Call line name all.0, all.1)) (arguments_sound ts (mark_sign m.OpenParenthesis f.Parenthesis ts parenthesis_is both.1 (λ h. absurd cc)))
+      (λ all g. bare_fits (Call line name all.0) j start all.1 le (lit≤ tt) (ts, record { begins = h; plain = both.0 }, g))
+
+  named_sound : (j : ℕ) (name : List ℕ) (line : ℕ) (start ts : List Token) → j ≤ 14 → Begins (kind.Word name) line start ts → IfSome (Fits j start) (named down j name line ts)
+  unfolding named
+  named_sound j name line start ts le h =
+      test_sound (Fits j start) (begins_call name ts) (arguments down (tail ts) >>= λ all. Some (Call line name all.0, all.1)) (target down (word_kind name) name line ts >>= λ x. follows down j x.0 x.1)
+      (λ e. call_sound j name line start ts le h e)
+      (λ e. then_sound (TargetOf start) (Fits j start) (target down (word_kind name) name line ts) (λ x. follows down j x.0 x.1) (target_sound name line start ts h) (λ x g. follows_sound j x.0 start x.1 le g))
+
+  casted_sound : (j line : ℕ) (start ts : List Token) → j ≤ 14 → Begins (kind.Mark m.OpenParenthesis) line start ts → IfSome (Fits j start) (casted down line ts)
+  unfolding casted
+  casted_sound j line start ts le h =
+      then_sound (CastOf line start) (Fits j start) (cast_type ts) (λ to. down.phrase 14 to.1 >>= λ a. Some (Cast line to.0 a.0, a.1)) (cast_sound line start ts h)
+      (λ to g. then_sound (Whole 14 to.1) (Fits j start) (down.phrase 14 to.1) (λ a. Some (Cast line to.0 a.0, a.1)) (sound.phrase 14 to.1 (lit≤ tt) (lit≤ tt))
+      (λ a k. bare_fits (Cast line to.0 a.0) j start a.1 le (lit≤ tt) (to.1, g, k.phrase)))
+
+  parens_sound : (j line : ℕ) (start ts : List Token) → j ≤ 14 → Begins (kind.Mark m.OpenParenthesis) line start ts → IfSome (Fits j start) (parenthesised down line ts)
+  unfolding parenthesised
+  parens_sound j line start ts le h =
+      test_sound (Fits j start) (is_typed ts) (casted down line ts) (down.phrase 1 ts >>= λ inner. after_mark m.CloseParenthesis inner.1 >>= λ rest. Some (inner.0, rest))
+      (λ e. casted_sound j line start ts le h)
+      (λ e. then_sound (Whole 1 ts) (Fits j start) (down.phrase 1 ts) (λ inner. after_mark m.CloseParenthesis inner.1 >>= λ rest. Some (inner.0, rest)) (sound.phrase 1 ts (lit≤ tt) (lit≤ tt))
+      (λ inner g. then_sound (SignOf m.CloseParenthesis inner.1) (Fits j start) (after_mark m.CloseParenthesis inner.1) (λ rest. Some (inner.0, rest)) (after_sound m.CloseParenthesis inner.1)
+      (λ rest s. any_fits inner.0 j start rest le (λ l high. in_parens inner.0 1 l start ts inner.1 rest (record { line = line; begins = h }) g.phrase s))))
+
+  stepped_by_sound : (t : TokenKind) (begin stop word_line : ℕ) (j line : ℕ) (step : Step) (mark : Mark) (start ts : List Token) → j ≤ 14 → prefix_of mark ≡ p.Step step → Begins (kind.Mark mark) line start (token t begin stop word_line ∷ ts) → IfSome (Fits j start) (stepped_by down line step t word_line ts)
+  stepped_by_sound (kind.Word name) begin stop word_line j line step mark start ts le e h =
+      then_sound (TargetOf (token (kind.Word name) begin stop word_line ∷ ts)) (Fits j start) (target down (word_kind name) name word_line ts) (λ x. Some (Before line step x.0.0 x.0.1, x.1)) (target_sound name word_line (token (kind.Word name) begin stop word_line ∷ ts) ts (record { start = begin; stop = stop; is = refl }))
+      (λ x g. bare_fits (Before line step x.0.0 x.0.1) j start x.1 le (lit≤ tt) (mark, token (kind.Word name) begin stop word_line ∷ ts, e, h, g))
+  stepped_by_sound (kind.DescriptionRun name) begin stop word_line j line step mark start ts le e h = tt
+  stepped_by_sound (kind.AggregationName name) begin stop word_line j line step mark start ts le e h = tt
+  stepped_by_sound (kind.Number value suffix) begin stop word_line j line step mark start ts le e h = tt
+  stepped_by_sound (kind.TextConstant bytes) begin stop word_line j line step mark start ts le e h = tt
+  stepped_by_sound (kind.Mark found) begin stop word_line j line step mark start ts le e h = tt
+
+  stepped_sound : (j line : ℕ) (step : Step) (mark : Mark) (start ts : List Token) → j ≤ 14 → prefix_of mark ≡ p.Step step → Begins (kind.Mark mark) line start ts → IfSome (Fits j start) (stepped down line step ts)
+  unfolding stepped
+  stepped_sound j line step mark start [] le e h = tt
+  stepped_sound j line step mark start (t ∷ ts) le e h = stepped_by_sound t.kind t.start t.stop t.line j line step mark start ts le e h
+
+  prefixed_sound : (x : Prefix) (j line : ℕ) (mark : Mark) (start ts : List Token) → j ≤ 14 → prefix_of mark ≡ x → Begins (kind.Mark mark) line start ts → IfSome (Fits j start) (prefixed_by down x line ts)
+  prefixed_sound (p.Unary op) j line mark start ts le e h =
+      then_sound (Whole 14 ts) (Fits j start) (down.phrase 14 ts) (λ a. Some (Unary line op a.0, a.1)) (sound.phrase 14 ts (lit≤ tt) (lit≤ tt))
+      (λ a g. bare_fits (Unary line op a.0) j start a.1 le (lit≤ tt) (mark, ts, e, h, g.phrase))
+  prefixed_sound (p.Step step) j line mark start ts le e h = stepped_sound j line step mark start ts le e h
+  prefixed_sound p.Other j line mark start ts le e h = tt
+
+  marked_sound : (j line : ℕ) (mark : Mark) (start ts : List Token) → j ≤ 14 → Begins (kind.Mark mark) line start ts → IfSome (Fits j start) (marked down mark line ts)
+  unfolding marked
+  marked_sound j line mark start ts le h =
+      test_sound (Fits j start) (same_mark mark m.OpenParenthesis) (parenthesised down line ts) (prefixed_by down (prefix_of mark) line ts)
+      (λ e. parens_sound j line start ts le (subst (λ (k : Mark). Begins (kind.Mark k) line start ts) (same_true the_type (search rules) mark m.OpenParenthesis e) h))
+      (λ e. prefixed_sound (prefix_of mark) j line mark start ts le refl h)
+
+  part_by_sound : (t : TokenKind) (begin stop line : ℕ) (j : ℕ) (ts : List Token) → j ≤ 14 → IfSome (Fits j (token t begin stop line ∷ ts)) (part_by down j t line ts)
+  part_by_sound (kind.Number value suffix) begin stop line j ts le = bare_fits (Known line (c.Number value suffix)) j (token (kind.Number value suffix) begin stop line ∷ ts) ts le (lit≤ tt) (record { start = begin; stop = stop; is = refl })
+  part_by_sound (kind.TextConstant bytes) begin stop line j ts le = bare_fits (Known line (c.Text bytes)) j (token (kind.TextConstant bytes) begin stop line ∷ ts) ts le (lit≤ tt) (record { start = begin; stop = stop; is = refl })
+  part_by_sound (kind.Word name) begin stop line j ts le = named_sound j name line (token (kind.Word name) begin stop line ∷ ts) ts le (record { start = begin; stop = stop; is = refl })
+  part_by_sound (kind.Mark mark) begin stop line j ts le = marked_sound j line mark (token (kind.Mark mark) begin stop line ∷ ts) ts le (record { start = begin; stop = stop; is = refl })
+  part_by_sound (kind.DescriptionRun name) begin stop line j ts le = tt
+  part_by_sound (kind.AggregationName name) begin stop line j ts le = tt
+
+  part_sound : (j : ℕ) (ts : List Token) → j ≤ 14 → IfSome (Fits j ts) (part down j ts)
+  unfolding part
+  part_sound j [] le = tt
+  part_sound j (t ∷ ts) le = part_by_sound t.kind t.start t.stop t.line j ts le
+
+  -- ---- operators
+
+  joined_sound : (j k : ℕ) (op : BinaryOperator) (left : Tree) (start ts : List Token) → 3 ≤ k → j ≤ k → k ≤ level_of op → Fits j start (left, ts) → follow_at ts ≡ f.Infix op → IfSome (Climbed j k start) (down.phrase (suc (level_of op)) (tail ts) >>= λ right. down.climb k (Binary op left right.0) right.1)
+  joined_sound j k op left start ts high le low h e =
+      let s = follow_sound (f.Infix op) ts e (λ h. absurd cc) in
+      let is : joins ts ≡ level_of op = ap joins_of e in
+      let least = level_high op in
+      let most = level_below op in
+      let max_is : max 3 (joins ts) ≡ level_of op = omega arith in
+      let first = subst (λ (l : ℕ). IsPhrase (Spells left) (rank left) l start ts) max_is (h.fits (omega arith)) in
+      then_sound (Whole (suc (level_of op)) (tail ts)) (Climbed j k start) (down.phrase (suc (level_of op)) (tail ts)) (λ right. down.climb k (Binary op left right.0) right.1) (sound.phrase (suc (level_of op)) (tail ts) (omega arith) (omega arith))
+      (λ right g.
+      let spelled : Spells (Binary op left right.0) start right.1 = (s.mark, ts, tail ts, s.is, first, s.sign, g.phrase) in
+      sound.climb j k (Binary op left right.0) start right.1 high le
+      (record { phrase = bare (Binary op left right.0) j start right.1 spelled (omega arith); fits = λ one. bare (Binary op left right.0) (max 3 (joins right.1)) start right.1 spelled (let stop = g.stops in omega arith) }))
+
+  climb_by_sound : (follow : Follow) (j k : ℕ) (left : Tree) (start ts : List Token) → 3 ≤ k → j ≤ k → Fits j start (left, ts) → follow_at ts ≡ follow → IfSome (Climbed j k start) (climb_by down follow k left ts)
+  climb_by_sound (f.Infix op) j k left start ts high le h e =
+      elim (cases_lt (level_of op) k) [
+        | inl less ↦ rw (lt-leb k (level_of op) less) (record { fits = h; stops = rw (ap joins_of e) less })
+        | inr low ↦ rw (le-leb k (level_of op) low) (joined_sound j k op left start ts high le low h e)
+      ]
+  climb_by_sound (f.Assign op) j k left start ts high le h e = record { fits = h; stops = rw (ap joins_of e) (omega arith) }
+  climb_by_sound (f.Step step) j k left start ts high le h e = record { fits = h; stops = rw (ap joins_of e) (omega arith) }
+  climb_by_sound f.Question j k left start ts high le h e = record { fits = h; stops = rw (ap joins_of e) (omega arith) }
+  climb_by_sound f.Bracket j k left start ts high le h e = record { fits = h; stops = rw (ap joins_of e) (omega arith) }
+  climb_by_sound f.Parenthesis j k left start ts high le h e = record { fits = h; stops = rw (ap joins_of e) (omega arith) }
+  climb_by_sound f.Other j k left start ts high le h e = record { fits = h; stops = rw (ap joins_of e) (omega arith) }
+
+  pub climb_on_sound : (j k : ℕ) (left : Tree) (start ts : List Token) → 3 ≤ k → j ≤ k → Fits j start (left, ts) → IfSome (Climbed j k start) (climb_on down k left ts)
+  unfolding climb_on
+  climb_on_sound j k left start ts high le h = climb_by_sound (follow_at ts) j k left start ts high le h refl
+
+  -- ---- choice
+
+  choice_of_sound : (k : ℕ) (test : Tree) (start ts : List Token) → k ≤ 2 → 1 ≤ k → Fits k start (test, ts) → follow_at ts ≡ f.Question
+      → IfSome (Whole k start) (chosen down test (tail ts))
+  unfolding chosen
+  choice_of_sound k test start ts le pos h e =
+      let s = mark_sign m.Question f.Question ts question_is e (λ h. absurd cc) in
+      let is : joins ts ≡ 2 = ap joins_of e in
+      let max_is : max 3 (joins ts) ≡ 3 = omega arith in
+      let head = subst (λ (l : ℕ). IsPhrase (Spells test) (rank test) l start ts) max_is (h.fits (omega arith)) in
+      then_sound (Whole 1 (tail ts)) (Whole k start) (down.phrase 1 (tail ts)) (λ first. after_mark m.Colon first.1 >>= λ rest. down.phrase 2 rest >>= λ second. Some (Choice test first.0 second.0, second.1)) (sound.phrase 1 (tail ts) (lit≤ tt) (lit≤ tt))
+      (λ first g. then_sound (SignOf m.Colon first.1) (Whole k start) (after_mark m.Colon first.1) (λ rest. down.phrase 2 rest >>= λ second. Some (Choice test first.0 second.0, second.1)) (after_sound m.Colon first.1)
+      (λ rest colon. then_sound (Whole 2 rest) (Whole k start) (down.phrase 2 rest) (λ second. Some (Choice test first.0 second.0, second.1)) (sound.phrase 2 rest (lit≤ tt) (lit≤ tt))
+      (λ second d. record {
+        phrase = bare (Choice test first.0 second.0) k start second.1 (ts, tail ts, first.1, rest, head, s, g.phrase, colon, d.phrase) le;
+        stops = let gap = joins_gap (follow_at second.1) d.stops in omega arith;
+      })))
+
+  choice_by_sound : (follow : Follow) (k : ℕ) (test : Tree) (start ts : List Token) → k ≤ 2 → 1 ≤ k → Climbed k 3 start (test, ts) → follow_at ts ≡ follow → IfSome (Whole k start) (choice_by down follow test ts)
+  choice_by_sound f.Question k test start ts le pos h e = choice_of_sound k test start ts le pos h.fits e
+  choice_by_sound (f.Infix op) k test start ts le pos h e = absurd (let stop = h.stops in let is : joins ts ≡ level_of op = ap joins_of e in let high = level_high op in omega arith)
+  choice_by_sound (f.Assign op) k test start ts le pos h e = record { phrase = h.fits.phrase; stops = rw (ap joins_of e) pos }
+  choice_by_sound (f.Step step) k test start ts le pos h e = record { phrase = h.fits.phrase; stops = rw (ap joins_of e) pos }
+  choice_by_sound f.Bracket k test start ts le pos h e = record { phrase = h.fits.phrase; stops = rw (ap joins_of e) pos }
+  choice_by_sound f.Parenthesis k test start ts le pos h e = record { phrase = h.fits.phrase; stops = rw (ap joins_of e) pos }
+  choice_by_sound f.Other k test start ts le pos h e = record { phrase = h.fits.phrase; stops = rw (ap joins_of e) pos }
+
+  choice_sound : (k : ℕ) (test : Tree) (start ts : List Token) → 1 ≤ k → Climbed k (max k 3) start (test, ts) → IfSome (Whole k start) (choice down k test ts)
+  unfolding choice
+  choice_sound k test start ts pos h =
+      elim (cases_lt 2 k) [
+        | inl high ↦ rw (lt-leb k 2 high) (record { phrase = h.fits.phrase; stops = let stop = h.stops in omega arith })
+        | inr low ↦ rw (le-leb k 2 low) (choice_by_sound (follow_at ts) k test start ts low pos (record { fits = h.fits; stops = let stop = h.stops in omega arith }) refl)
+      ]
+
+  operand_sound : (k : ℕ) (ts : List Token) → k ≤ 14 → IfSome (Climbed k (max k 3) ts) (operand down k ts)
+  unfolding operand
+  operand_sound k ts le =
+      then_sound (Fits k ts) (Climbed k (max k 3) ts) (part down k ts) (λ first. down.climb (max k 3) first.0 first.1) (part_sound k ts le)
+      (λ first h. sound.climb k (max k 3) first.0 ts first.1 (omega arith) (omega arith) h)
+
+  pub whole_sound : (k : ℕ) (ts : List Token) → 1 ≤ k → k ≤ 14 → IfSome (Whole k ts) (whole down k ts)
+  unfolding whole
+  whole_sound k ts pos le =
+      then_sound (Climbed k (max k 3) ts) (Whole k ts) (operand down k ts) (λ joined. choice down k joined.0 joined.1) (operand_sound k ts le)
+      (λ joined h. choice_sound k joined.0 ts joined.1 pos h)
+
+  -- ---- lists
+
+  further_by_sound : (acc : Trees) (ts : List Token) → is_at m.Comma ts ≡ true → IfSome (Further acc ts) (down.phrase 1 (tail ts) >>= λ next. down.further (add acc next.0) next.1)
+  further_by_sound acc ts e =
+      then_sound (Whole 1 (tail ts)) (Further acc ts) (down.phrase 1 (tail ts)) (λ next. down.further (add acc next.0) next.1) (sound.phrase 1 (tail ts) (lit≤ tt) (lit≤ tt))
+      (λ next h. weaken (Further (add acc next.0) next.1) (Further acc ts) (down.further (add acc next.0) next.1)
+      (λ x g. record { list = more next.0 g.list; is = g.is; spells = (tail ts, next.1, sign_there m.Comma ts e, h.phrase, g.spells) })
+      (sound.further (add acc next.0) next.1))
+
+  pub further_on_sound : (acc : Trees) (ts : List Token) → IfSome (Further acc ts) (further_on down acc ts)
+  unfolding further_on
+  further_on_sound acc ts =
+      test_sound (Further acc ts) (is_at m.Comma ts) (down.phrase 1 (tail ts) >>= λ next. down.further (add acc next.0) next.1) (Some (acc, ts))
+      (λ e. further_by_sound acc ts e)
+      (λ e. record { list = end; is = refl; spells = refl })
+
+pub readers_sound : (n : ℕ) → Sound (readers n)
+readers_sound zero = record { phrase = λ k ts pos le. tt; climb = λ j k left start ts high le h. tt; further = λ acc ts. tt }
+readers_sound (suc n) =
+    let below = readers_sound n in
+    record { phrase = whole_sound (readers n) below; climb = climb_on_sound (readers n) below; further = further_on_sound (readers n) below }

@@ -1,0 +1,374 @@
+-- What is read as a script spells it.
+use Rattle.std.proofs.Common.{◌≡◌, ℕ, zero, suc, ◌+◌, ◌<◌, ◌≤◌, Bool, true, false, cond, List, [], ◌∷◌, ◌++◌, length, Option, Some, None, refl, sym, ap, subst, ◌∙◌, arith, append_assoc, lit≤, lit<}
+use Rattle.std.proofs.lemmas.List.{append-nil}
+use Rattle.d_lexer.specs.declared.token.Mark.{Mark}
+use Rattle.d_lexer.specs.declared.token.Mark.TheVariants as m
+use Rattle.d_lexer.specs.declared.token.Token.{Token}
+use Rattle.d_lexer.specs.declared.token.TokenKind.{TokenKind}
+use Rattle.d_lexer.specs.declared.token.TokenKind.TheVariants as kind
+use Rattle.d_parser.specs.declared.tree.DeclaredType.{DeclaredType}
+use Rattle.d_parser.specs.declared.tree.Description.{Description}
+use Rattle.d_parser.specs.declared.words.WordKind.{WordKind}
+use Rattle.d_parser.specs.declared.words.WordKind.TheVariants as w
+use Rattle.d_parser.specs.Tree.{Tree, Trees, StmtTree, Expression, Aggregation, DeclarationTree, OfThread, OfClause, ClauseTree, ItemTree, Declared, Probing}
+use Rattle.d_parser.specs.Words.{word_kind, is_word, type_of, AreWords, run, behind_run}
+use Rattle.d_parser.specs.Marks.{is_at, tail}
+use Rattle.d_parser.specs.Grammar.{token, Begins, Sign, IsPhrase, IsEnclosed, IsExpression, Spells, SpellsKeys, SpellsList, rank}
+use Rattle.d_parser.specs.Script.{IsAggregation, IsStmt, IsSlot, AreFurther, present, AreStmts, description_of, IsDescription, FurtherDescriptions, AreDescriptions, IsPredicate, IsClause, IsType, FurtherTypes, AreKeyTypes, IsDeclared, IsDeclaration, IsItem, IsScript}
+use Rattle.d_parser.specs.Reading.{◌>>=◌, Reader, after_mark, readers, keys, arguments}
+use Rattle.d_parser.specs.ReadingScripts.{word_by, any_word, aggregation, stmt_by, stmt, ends_stmt, slot, further_stmts, stmts, with_rest, description_by, description, descriptions_on, further_descriptions, descriptions, predicate, clause, whole_type, types_on, further_types, key_types, last_by, last_apart, word_of, typed_name, of_thread, of_clause, declared_by, item_by, item, items, script}
+use Rattle.d_parser.proofs.Complete.{sign_there}
+use Rattle.d_parser.proofs.Sound.{IfSome, then_sound, test_sound, weaken, after_sound, Whole, KeysOf, ArgumentsOf, SignOf, keys_sound, arguments_sound, readers_sound}
+use Rattle.d_parser.proofs.Runs.{are_words, run_joined}
+
+-- ---- statements
+
+abbrev WordOf : List Token → List ℕ × List Token → Type 0
+WordOf ts x = (line : ℕ) × Begins (kind.Word x.0) line ts x.1
+
+word_by_sound : (t : TokenKind) (start stop line : ℕ) (ts : List Token) → IfSome (WordOf (token t start stop line ∷ ts)) (word_by t ts)
+word_by_sound (kind.Word word) start stop line ts = (line, record { start = start; stop = stop; is = refl })
+word_by_sound (kind.DescriptionRun name) start stop line ts = tt
+word_by_sound (kind.AggregationName name) start stop line ts = tt
+word_by_sound (kind.Number value suffix) start stop line ts = tt
+word_by_sound (kind.TextConstant bytes) start stop line ts = tt
+word_by_sound (kind.Mark mark) start stop line ts = tt
+
+word_sound : (ts : List Token) → IfSome (WordOf ts) (any_word ts)
+unfolding any_word
+word_sound [] = tt
+word_sound (t ∷ ts) = word_by_sound t.kind t.start t.stop t.line ts
+
+abbrev StmtOf : List Token → StmtTree × List Token → Type 0
+StmtOf ts x = IsStmt x.0 ts x.1
+
+opened : (ts : List Token) (rest : List Token) → Sign m.OpenParenthesis ts rest → tail ts ≡ rest
+opened ts rest h = ap tail h.begins.is
+
+arguments_at : (n : ℕ) (open_at list : List Token) → Sign m.OpenParenthesis open_at list → IfSome (ArgumentsOf open_at) (arguments (readers n) list)
+arguments_at n open_at list s =
+    let e = opened open_at list s in
+    subst (λ (xs : List Token). IfSome (ArgumentsOf open_at) (arguments (readers n) xs)) e (arguments_sound (readers n) (readers_sound n) open_at (subst (λ (xs : List Token). Sign m.OpenParenthesis open_at xs) (sym e) s))
+
+aggregation_sound : (n line : ℕ) (name : List ℕ) (start ts : List Token) → Begins (kind.AggregationName name) line start ts → IfSome (StmtOf start) (aggregation n line name ts)
+unfolding aggregation
+aggregation_sound n line name start ts h =
+    then_sound (KeysOf ts) (StmtOf start) (keys (readers n) ts) (λ keys. after_mark m.Assign keys.1 >>= λ rest. any_word rest >>= λ word. after_mark m.OpenParenthesis word.1 >>= λ list. arguments (readers n) list >>= λ all. Some (Aggregation line name keys.0 word.0 all.0, all.1)) (keys_sound (readers n) (readers_sound n) ts)
+    (λ keys k. then_sound (SignOf m.Assign keys.1) (StmtOf start) (after_mark m.Assign keys.1) (λ rest. any_word rest >>= λ word. after_mark m.OpenParenthesis word.1 >>= λ list. arguments (readers n) list >>= λ all. Some (Aggregation line name keys.0 word.0 all.0, all.1)) (after_sound m.Assign keys.1)
+    (λ rest a. then_sound (WordOf rest) (StmtOf start) (any_word rest) (λ word. after_mark m.OpenParenthesis word.1 >>= λ list. arguments (readers n) list >>= λ all. Some (Aggregation line name keys.0 word.0 all.0, all.1)) (word_sound rest)
+    (λ word f. then_sound (SignOf m.OpenParenthesis word.1) (StmtOf start) (after_mark m.OpenParenthesis word.1) (λ list. arguments (readers n) list >>= λ all. Some (Aggregation line name keys.0 word.0 all.0, all.1)) (after_sound m.OpenParenthesis word.1)
+    (λ list o. then_sound (ArgumentsOf word.1) (StmtOf start) (arguments (readers n) list) (λ all. Some (Aggregation line name keys.0 word.0 all.0, all.1)) (arguments_at n word.1 list o)
+    (λ all g. record { at_keys = ts; at_assign = keys.1; at_word = rest; at_open = word.1; word_line = f.0; begins = h; spells_keys = k; assigns = a; word = f.1; spells_arguments = g })))))
+
+expression_sound : (n : ℕ) (ts : List Token) → IfSome (StmtOf ts) ((readers n).phrase 1 ts >>= λ x. Some (Expression x.0, x.1))
+expression_sound n ts = then_sound (Whole 1 ts) (StmtOf ts) ((readers n).phrase 1 ts) (λ x. Some (Expression x.0, x.1)) ((readers_sound n).phrase 1 ts (lit≤ tt) (lit≤ tt)) (λ x h. h.phrase)
+
+stmt_by_sound : (n : ℕ) (t : TokenKind) (start stop line : ℕ) (ts : List Token) → IfSome (StmtOf (token t start stop line ∷ ts)) (stmt_by n t line ts (token t start stop line ∷ ts))
+stmt_by_sound n (kind.AggregationName name) start stop line ts = aggregation_sound n line name (token (kind.AggregationName name) start stop line ∷ ts) ts (record { start = start; stop = stop; is = refl })
+stmt_by_sound n (kind.Word word) start stop line ts = expression_sound n (token (kind.Word word) start stop line ∷ ts)
+stmt_by_sound n (kind.DescriptionRun name) start stop line ts = expression_sound n (token (kind.DescriptionRun name) start stop line ∷ ts)
+stmt_by_sound n (kind.Number value suffix) start stop line ts = expression_sound n (token (kind.Number value suffix) start stop line ∷ ts)
+stmt_by_sound n (kind.TextConstant bytes) start stop line ts = expression_sound n (token (kind.TextConstant bytes) start stop line ∷ ts)
+stmt_by_sound n (kind.Mark mark) start stop line ts = expression_sound n (token (kind.Mark mark) start stop line ∷ ts)
+
+stmt_sound : (n : ℕ) (ts : List Token) → IfSome (StmtOf ts) (stmt n ts)
+unfolding stmt
+stmt_sound n [] = tt
+stmt_sound n (t ∷ ts) = stmt_by_sound n t.kind t.start t.stop t.line ts
+
+-- a slot is read
+pub record Slotted (all : List StmtTree) (ts : List Token) (x : List StmtTree × List Token) : Type 0 where
+  pub slot : Option StmtTree
+  pub spells : IsSlot slot ts x.1
+  pub is : x.0 ≡ all ++ present (slot ∷ [])
+
+slot_sound : (n : ℕ) (all : List StmtTree) (ts : List Token) → IfSome (Slotted all ts) (slot n all ts)
+unfolding slot
+slot_sound n all ts =
+    test_sound (Slotted all ts) (ends_stmt ts) (Some (all, ts)) (stmt n ts >>= λ s. Some (all ++ s.0 ∷ [], s.1))
+    (λ e. record { slot = None; spells = refl; is = sym (append-nil all) })
+    (λ e. then_sound (StmtOf ts) (Slotted all ts) (stmt n ts) (λ s. Some (all ++ s.0 ∷ [], s.1)) (stmt_sound n ts) (λ s h. record { slot = Some s.0; spells = h; is = refl }))
+
+-- the rest of the slots are read
+pub record Slots (all : List StmtTree) (ts : List Token) (x : List StmtTree × List Token) : Type 0 where
+  pub slots : List (Option StmtTree)
+  pub spells : AreFurther slots ts x.1
+  pub is : x.0 ≡ all ++ present slots
+
+present_more : (slot : Option StmtTree) (slots : List (Option StmtTree)) → present (slot ∷ slots) ≡ present (slot ∷ []) ++ present slots
+present_more None slots = refl
+present_more (Some s) slots = refl
+
+further_sound : (n turns : ℕ) (all : List StmtTree) (ts : List Token) → IfSome (Slots all ts) (further_stmts n turns all ts)
+unfolding further_stmts
+further_sound n zero all ts = tt
+further_sound n (suc turns) all ts =
+    test_sound (Slots all ts) (is_at m.CloseBrace ts) (Some (all, tail ts)) (after_mark m.Semicolon ts >>= λ rest. slot n all rest >>= λ x. further_stmts n turns x.0 x.1)
+    (λ e. record { slots = []; spells = sign_there m.CloseBrace ts e; is = sym (append-nil all) })
+    (λ e. then_sound (SignOf m.Semicolon ts) (Slots all ts) (after_mark m.Semicolon ts) (λ rest. slot n all rest >>= λ x. further_stmts n turns x.0 x.1) (after_sound m.Semicolon ts)
+    (λ rest s. then_sound (Slotted all rest) (Slots all ts) (slot n all rest) (λ x. further_stmts n turns x.0 x.1) (slot_sound n all rest)
+    (λ x h. weaken (Slots x.0 x.1) (Slots all ts) (further_stmts n turns x.0 x.1)
+    (λ y g. record { slots = h.slot ∷ g.slots; spells = (rest, x.1, s, h.spells, g.spells); is = g.is ∙ (ap (λ (xs : List StmtTree). xs ++ present g.slots) h.is ∙ (append_assoc all (present (h.slot ∷ [])) (present g.slots) ∙ ap (λ (xs : List StmtTree). all ++ xs) (sym (present_more h.slot g.slots)))) })
+    (further_sound n turns x.0 x.1))))
+
+abbrev StmtsOf : List Token → List StmtTree × List Token → Type 0
+StmtsOf ts x = AreStmts x.0 ts x.1
+
+stmts_sound : (n : ℕ) (ts : List Token) → IfSome (StmtsOf ts) (stmts n ts)
+unfolding stmts
+stmts_sound n ts =
+    then_sound (Slotted [] ts) (StmtsOf ts) (slot n [] ts) (λ x. further_stmts n n x.0 x.1) (slot_sound n [] ts)
+    (λ x h. weaken (Slots x.0 x.1) (StmtsOf ts) (further_stmts n n x.0 x.1)
+    (λ y g. record { slot = h.slot; slots = g.slots; behind = x.1; first = h.spells; further = g.spells; are = g.is ∙ (ap (λ (xs : List StmtTree). xs ++ present g.slots) h.is ∙ sym (present_more h.slot g.slots)) })
+    (further_sound n n x.0 x.1))
+
+-- ---- clauses
+
+abbrev DescriptionOf : List Token → Description × List Token → Type 0
+DescriptionOf ts x = IsDescription x.0 ts x.1
+
+run_sound : (o : Option Description) (run : List ℕ) (start stop line : ℕ) (ts : List Token) → description_of run ≡ o → IfSome (DescriptionOf (token (kind.DescriptionRun run) start stop line ∷ ts)) (with_rest ts o)
+run_sound None run start stop line ts e = tt
+run_sound (Some d) run start stop line ts e = record { run = run; line = line; begins = record { start = start; stop = stop; is = refl }; is = e }
+
+description_by_sound : (t : TokenKind) (start stop line : ℕ) (ts : List Token) → IfSome (DescriptionOf (token t start stop line ∷ ts)) (description_by t ts)
+description_by_sound (kind.DescriptionRun run) start stop line ts = run_sound (description_of run) run start stop line ts refl
+description_by_sound (kind.Word word) start stop line ts = tt
+description_by_sound (kind.AggregationName name) start stop line ts = tt
+description_by_sound (kind.Number value suffix) start stop line ts = tt
+description_by_sound (kind.TextConstant bytes) start stop line ts = tt
+description_by_sound (kind.Mark mark) start stop line ts = tt
+
+description_sound : (ts : List Token) → IfSome (DescriptionOf ts) (description ts)
+unfolding description
+description_sound [] = tt
+description_sound (t ∷ ts) = description_by_sound t.kind t.start t.stop t.line ts
+
+pub record FurtherDescribed (all : List Description) (ts : List Token) (x : List Description × List Token) : Type 0 where
+  pub others : List Description
+  pub spells : FurtherDescriptions others ts x.1
+  pub is : x.0 ≡ all ++ others
+
+further_descriptions_sound : (turns : ℕ) (all : List Description) (ts : List Token) → IfSome (FurtherDescribed all ts) (further_descriptions turns all ts)
+unfolding descriptions_on
+further_descriptions_sound zero all ts = tt
+further_descriptions_sound (suc turns) all ts =
+    test_sound (FurtherDescribed all ts) (is_at m.Comma ts) (description (tail ts) >>= λ d. further_descriptions turns (all ++ d.0 ∷ []) d.1) (Some (all, ts))
+    (λ e. then_sound (DescriptionOf (tail ts)) (FurtherDescribed all ts) (description (tail ts)) (λ d. further_descriptions turns (all ++ d.0 ∷ []) d.1) (description_sound (tail ts))
+    (λ d h. weaken (FurtherDescribed (all ++ d.0 ∷ []) d.1) (FurtherDescribed all ts) (further_descriptions turns (all ++ d.0 ∷ []) d.1)
+    (λ x g. record { others = d.0 ∷ g.others; spells = (tail ts, d.1, sign_there m.Comma ts e, h, g.spells); is = g.is ∙ append_assoc all (d.0 ∷ []) g.others })
+    (further_descriptions_sound turns (all ++ d.0 ∷ []) d.1)))
+    (λ e. record { others = []; spells = refl; is = sym (append-nil all) })
+
+abbrev DescriptionsOf : List Token → List Description × List Token → Type 0
+DescriptionsOf ts x = AreDescriptions x.0 ts x.1
+
+descriptions_sound : (n : ℕ) (ts : List Token) → IfSome (DescriptionsOf ts) (descriptions n ts)
+unfolding descriptions
+descriptions_sound n ts =
+    then_sound (DescriptionOf ts) (DescriptionsOf ts) (description ts) (λ d. further_descriptions n (d.0 ∷ []) d.1) (description_sound ts)
+    (λ d h. weaken (FurtherDescribed (d.0 ∷ []) d.1) (DescriptionsOf ts) (further_descriptions n (d.0 ∷ []) d.1)
+    (λ x g. subst (λ (ds : List Description). AreDescriptions ds ts x.1) (sym g.is) (d.1, h, g.spells))
+    (further_descriptions_sound n (d.0 ∷ []) d.1))
+
+abbrev PredicateOf : List Token → Option Tree × List Token → Type 0
+PredicateOf ts x = IsPredicate x.0 ts x.1
+
+predicate_sound : (n : ℕ) (ts : List Token) → IfSome (PredicateOf ts) (predicate n ts)
+unfolding predicate
+predicate_sound n ts =
+    test_sound (PredicateOf ts) (is_at m.Slash ts) ((readers n).phrase 1 (tail ts) >>= λ x. after_mark m.ClosingSlash x.1 >>= λ rest. Some (Some x.0, rest)) (Some (None, ts))
+    (λ e. then_sound (Whole 1 (tail ts)) (PredicateOf ts) ((readers n).phrase 1 (tail ts)) (λ x. after_mark m.ClosingSlash x.1 >>= λ rest. Some (Some x.0, rest)) ((readers_sound n).phrase 1 (tail ts) (lit≤ tt) (lit≤ tt))
+    (λ x h. then_sound (SignOf m.ClosingSlash x.1) (PredicateOf ts) (after_mark m.ClosingSlash x.1) (λ rest. Some (Some x.0, rest)) (after_sound m.ClosingSlash x.1)
+    (λ rest s. (tail ts, x.1, sign_there m.Slash ts e, h.phrase, s))))
+    (λ e. refl)
+
+abbrev ClauseOf : List Token → ClauseTree × List Token → Type 0
+ClauseOf ts x = IsClause x.0 ts x.1
+
+pub clause_sound : (n : ℕ) (ts : List Token) → IfSome (ClauseOf ts) (clause n ts)
+unfolding clause
+clause_sound n ts =
+    then_sound (DescriptionsOf ts) (ClauseOf ts) (descriptions n ts) (λ d. predicate n d.1 >>= λ p. after_mark m.OpenBrace p.1 >>= λ rest. stmts n rest >>= λ s. Some (record { descriptions = d.0; predicate = p.0; statements = s.0 }, s.1)) (descriptions_sound n ts)
+    (λ d h. then_sound (PredicateOf d.1) (ClauseOf ts) (predicate n d.1) (λ p. after_mark m.OpenBrace p.1 >>= λ rest. stmts n rest >>= λ s. Some (record { descriptions = d.0; predicate = p.0; statements = s.0 }, s.1)) (predicate_sound n d.1)
+    (λ p g. then_sound (SignOf m.OpenBrace p.1) (ClauseOf ts) (after_mark m.OpenBrace p.1) (λ rest. stmts n rest >>= λ s. Some (record { descriptions = d.0; predicate = p.0; statements = s.0 }, s.1)) (after_sound m.OpenBrace p.1)
+    (λ rest o. then_sound (StmtsOf rest) (ClauseOf ts) (stmts n rest) (λ s. Some (record { descriptions = d.0; predicate = p.0; statements = s.0 }, s.1)) (stmts_sound n rest)
+    (λ s k. record { at_predicate = d.1; at_brace = p.1; at_stmts = rest; descriptions = h; predicate = g; opens = o; stmts = k }))))
+
+-- ---- declarations
+
+abbrev TypeOf : List Token → DeclaredType × List Token → Type 0
+TypeOf ts x = IsType x.0 ts x.1
+
+type_by_sound : (o : Option DeclaredType) (ts : List Token) → type_of (run ts) ≡ o → IfSome (TypeOf ts) (with_rest (behind_run ts) o)
+type_by_sound None ts e = tt
+type_by_sound (Some t) ts e = record { words = run ts; is = run_joined ts; are_words = are_words ts; spells = e }
+
+type_sound : (ts : List Token) → IfSome (TypeOf ts) (whole_type ts)
+unfolding whole_type
+type_sound ts = type_by_sound (type_of (run ts)) ts refl
+
+pub record Typed (all : List DeclaredType) (ts : List Token) (x : List DeclaredType × List Token) : Type 0 where
+  pub others : List DeclaredType
+  pub spells : FurtherTypes others ts x.1
+  pub is : x.0 ≡ all ++ others
+
+further_types_sound : (turns : ℕ) (all : List DeclaredType) (ts : List Token) → IfSome (Typed all ts) (further_types turns all ts)
+unfolding types_on
+further_types_sound zero all ts = tt
+further_types_sound (suc turns) all ts =
+    test_sound (Typed all ts) (is_at m.Comma ts) (whole_type (tail ts) >>= λ t. further_types turns (all ++ t.0 ∷ []) t.1) (after_mark m.CloseBracket ts >>= λ rest. Some (all, rest))
+    (λ e. then_sound (TypeOf (tail ts)) (Typed all ts) (whole_type (tail ts)) (λ t. further_types turns (all ++ t.0 ∷ []) t.1) (type_sound (tail ts))
+    (λ t h. weaken (Typed (all ++ t.0 ∷ []) t.1) (Typed all ts) (further_types turns (all ++ t.0 ∷ []) t.1)
+    (λ x g. record { others = t.0 ∷ g.others; spells = (tail ts, t.1, sign_there m.Comma ts e, h, g.spells); is = g.is ∙ append_assoc all (t.0 ∷ []) g.others })
+    (further_types_sound turns (all ++ t.0 ∷ []) t.1)))
+    (λ e. then_sound (SignOf m.CloseBracket ts) (Typed all ts) (after_mark m.CloseBracket ts) (λ rest. Some (all, rest)) (after_sound m.CloseBracket ts)
+    (λ rest s. record { others = []; spells = s; is = sym (append-nil all) }))
+
+abbrev KeyTypesOf : List Token → List DeclaredType × List Token → Type 0
+KeyTypesOf ts x = AreKeyTypes x.0 ts x.1
+
+key_types_sound : (n : ℕ) (ts : List Token) → IfSome (KeyTypesOf ts) (key_types n ts)
+unfolding key_types
+key_types_sound n ts =
+    test_sound (KeyTypesOf ts) (is_at m.OpenBracket ts) (whole_type (tail ts) >>= λ t. further_types n (t.0 ∷ []) t.1) (Some ([], ts))
+    (λ e. then_sound (TypeOf (tail ts)) (KeyTypesOf ts) (whole_type (tail ts)) (λ t. further_types n (t.0 ∷ []) t.1) (type_sound (tail ts))
+    (λ t h. weaken (Typed (t.0 ∷ []) t.1) (KeyTypesOf ts) (further_types n (t.0 ∷ []) t.1)
+    (λ x g. subst (λ (all : List DeclaredType). AreKeyTypes all ts x.1) (sym g.is) (tail ts, t.1, sign_there m.OpenBracket ts e, h, g.spells))
+    (further_types_sound n (t.0 ∷ []) t.1)))
+    (λ e. refl)
+
+-- all but the last, and the last
+abbrev Apart : List Token → List Token × Token → Type 0
+Apart ts x = ts ≡ x.0 ++ x.1 ∷ []
+
+last_some : (t : Token) (o : Option (List Token × Token)) → last_by t o ≡ None → ⊥
+last_some t None e = absurd cc
+last_some t (Some x) e = absurd cc
+
+last_none : (ts : List Token) → last_apart ts ≡ None → ts ≡ []
+last_none [] e = refl
+last_none (t ∷ ts) e = absurd (last_some t (last_apart ts) e)
+
+apart_by : (t : Token) (ts : List Token) (o : Option (List Token × Token)) → (o ≡ None → ts ≡ []) → IfSome (Apart ts) o → IfSome (Apart (t ∷ ts)) (last_by t o)
+apart_by t ts None e h = ap (λ (xs : List Token). t ∷ xs) (e refl)
+apart_by t ts (Some x) e h = ap (λ (xs : List Token). t ∷ xs) h
+
+apart_sound : (ts : List Token) → IfSome (Apart ts) (last_apart ts)
+apart_sound [] = tt
+apart_sound (t ∷ ts) = apart_by t ts (last_apart ts) (last_none ts) (apart_sound ts)
+
+words_apart : (words : List Token) (t : Token) → AreWords (words ++ t ∷ []) → AreWords words × (is_word t.kind ≡ true)
+words_apart [] t h = (tt, h.0)
+words_apart (w ∷ words) t h = let g = words_apart words t h.1 in ((h.0, g.0), g.1)
+
+word_is : (t : TokenKind) → is_word t ≡ true → t ≡ kind.Word (word_of t)
+word_is (kind.Word word) h = refl
+word_is (kind.DescriptionRun name) h = absurd cc
+word_is (kind.AggregationName name) h = absurd cc
+word_is (kind.Number value suffix) h = absurd cc
+word_is (kind.TextConstant bytes) h = absurd cc
+word_is (kind.Mark mark) h = absurd cc
+
+-- a type and a word, up to the rest
+pub record TypedName (ts : List Token) (x : (DeclaredType × List ℕ) × List Token) : Type 0 where
+  pub at_name : List Token
+  pub line : ℕ
+  pub spells : IsType x.0.0 ts at_name
+  pub word : Begins (kind.Word x.0.1) line at_name x.1
+
+some_type : (o : Option DeclaredType) (words : List Token) → type_of words ≡ o → IfSome (λ t. type_of words ≡ Some t) o
+some_type None words e = tt
+some_type (Some t) words e = e
+
+named_type : (ts words : List Token) (last : Token) (t : DeclaredType) → run ts ≡ words ++ last ∷ [] → type_of words ≡ Some t → TypedName ts ((t, word_of last.kind), behind_run ts)
+named_type ts words last t e h =
+    let apart = words_apart words last (subst AreWords e (are_words ts)) in
+    let whole : ts ≡ words ++ (last ∷ behind_run ts) = run_joined ts ∙ (ap (λ (xs : List Token). xs ++ behind_run ts) e ∙ append_assoc words (last ∷ []) (behind_run ts)) in
+    record {
+      at_name = last ∷ behind_run ts;
+      line = last.line;
+      spells = record { words = words; is = whole; are_words = apart.0; spells = h };
+      word = record { start = last.start; stop = last.stop; is = ap (λ (k : TokenKind). token k last.start last.stop last.line ∷ behind_run ts) (word_is last.kind apart.1) };
+    }
+
+typed_name_sound : (ts : List Token) → IfSome (TypedName ts) (typed_name ts)
+unfolding typed_name
+typed_name_sound ts =
+    then_sound (Apart (run ts)) (TypedName ts) (last_apart (run ts)) (λ x. type_of x.0 >>= λ t. Some ((t, word_of x.1.kind), behind_run ts)) (apart_sound (run ts))
+    (λ x e. then_sound (λ t. type_of x.0 ≡ Some t) (TypedName ts) (type_of x.0) (λ t. Some ((t, word_of x.1.kind), behind_run ts)) (some_type (type_of x.0) x.0 refl)
+    (λ t h. named_type ts x.0 x.1 t e h))
+
+abbrev DeclarationOf : List Token → DeclarationTree × List Token → Type 0
+DeclarationOf ts x = IsDeclaration x.0 ts x.1
+
+thread_sound : (n line : ℕ) (name : List ℕ) (start ts : List Token) → word_kind name ≡ w.Thread → Begins (kind.Word name) line start ts → IfSome (DeclarationOf start) (declared_by w.Thread n line ts)
+unfolding of_thread
+thread_sound n line name start ts e h =
+    then_sound (TypedName ts) (DeclarationOf start) (typed_name ts) (λ x. key_types n x.1 >>= λ k. after_mark m.Semicolon k.1 >>= λ rest. Some (OfThread line x.0.0 x.0.1 k.0, rest)) (typed_name_sound ts)
+    (λ x g. then_sound (KeyTypesOf x.1) (DeclarationOf start) (key_types n x.1) (λ k. after_mark m.Semicolon k.1 >>= λ rest. Some (OfThread line x.0.0 x.0.1 k.0, rest)) (key_types_sound n x.1)
+    (λ k a. then_sound (SignOf m.Semicolon k.1) (DeclarationOf start) (after_mark m.Semicolon k.1) (λ rest. Some (OfThread line x.0.0 x.0.1 k.0, rest)) (after_sound m.Semicolon k.1)
+    (λ rest s. record { first = name; at_type = ts; at_name = g.at_name; at_keys = x.1; at_end = k.1; name_line = g.line; begins = h; reserved = e; spells = g.spells; word = g.word; key_types = a; ends = s })))
+
+clause_local_sound : (n line : ℕ) (name : List ℕ) (start ts : List Token) → word_kind name ≡ w.Clause → Begins (kind.Word name) line start ts → IfSome (DeclarationOf start) (declared_by w.Clause n line ts)
+unfolding of_clause
+clause_local_sound n line name start ts e h =
+    then_sound (TypedName ts) (DeclarationOf start) (typed_name ts) (λ x. after_mark m.Semicolon x.1 >>= λ rest. Some (OfClause line x.0.0 x.0.1, rest)) (typed_name_sound ts)
+    (λ x g. then_sound (SignOf m.Semicolon x.1) (DeclarationOf start) (after_mark m.Semicolon x.1) (λ rest. Some (OfClause line x.0.0 x.0.1, rest)) (after_sound m.Semicolon x.1)
+    (λ rest s. record { first = name; at_type = ts; at_name = g.at_name; at_keys = x.1; at_end = x.1; name_line = g.line; begins = h; reserved = e; spells = g.spells; word = g.word; key_types = refl; ends = s }))
+
+declared_sound : (word : WordKind) (n line : ℕ) (name : List ℕ) (start ts : List Token) → word_kind name ≡ word → Begins (kind.Word name) line start ts → IfSome (DeclarationOf start) (declared_by word n line ts)
+declared_sound w.Thread n line name start ts e h = thread_sound n line name start ts e h
+declared_sound w.Clause n line name start ts e h = clause_local_sound n line name start ts e h
+declared_sound w.Plain n line name start ts e h = tt
+declared_sound w.Text n line name start ts e h = tt
+declared_sound w.Char n line name start ts e h = tt
+declared_sound w.Short n line name start ts e h = tt
+declared_sound w.Int n line name start ts e h = tt
+declared_sound w.Long n line name start ts e h = tt
+declared_sound w.Signed n line name start ts e h = tt
+declared_sound w.Unsigned n line name start ts e h = tt
+declared_sound (w.Fixed t) n line name start ts e h = tt
+
+-- ---- scripts
+
+abbrev ItemOf : List Token → ItemTree × List Token → Type 0
+ItemOf ts x = IsItem x.0 ts x.1
+
+probing_sound : (n : ℕ) (ts : List Token) → IfSome (ItemOf ts) (clause n ts >>= λ c. Some (Probing c.0, c.1))
+probing_sound n ts = then_sound (ClauseOf ts) (ItemOf ts) (clause n ts) (λ c. Some (Probing c.0, c.1)) (clause_sound n ts) (λ c h. h)
+
+item_by_sound : (n : ℕ) (t : TokenKind) (start stop line : ℕ) (ts : List Token) → IfSome (ItemOf (token t start stop line ∷ ts)) (item_by n t line ts (token t start stop line ∷ ts))
+item_by_sound n (kind.Word word) start stop line ts =
+    then_sound (DeclarationOf (token (kind.Word word) start stop line ∷ ts)) (ItemOf (token (kind.Word word) start stop line ∷ ts)) (declared_by (word_kind word) n line ts) (λ d. Some (Declared d.0, d.1))
+    (declared_sound (word_kind word) n line word (token (kind.Word word) start stop line ∷ ts) ts refl (record { start = start; stop = stop; is = refl })) (λ d h. h)
+item_by_sound n (kind.AggregationName name) start stop line ts = probing_sound n (token (kind.AggregationName name) start stop line ∷ ts)
+item_by_sound n (kind.DescriptionRun name) start stop line ts = probing_sound n (token (kind.DescriptionRun name) start stop line ∷ ts)
+item_by_sound n (kind.Number value suffix) start stop line ts = probing_sound n (token (kind.Number value suffix) start stop line ∷ ts)
+item_by_sound n (kind.TextConstant bytes) start stop line ts = probing_sound n (token (kind.TextConstant bytes) start stop line ∷ ts)
+item_by_sound n (kind.Mark mark) start stop line ts = probing_sound n (token (kind.Mark mark) start stop line ∷ ts)
+
+item_sound : (n : ℕ) (ts : List Token) → IfSome (ItemOf ts) (item n ts)
+unfolding item
+item_sound n [] = tt
+item_sound n (t ∷ ts) = item_by_sound n t.kind t.start t.stop t.line ts
+
+pub record Itemised (all : List ItemTree) (ts : List Token) (x : List ItemTree) : Type 0 where
+  pub others : List ItemTree
+  pub spells : IsScript others ts
+  pub is : x ≡ all ++ others
+
+items_sound : (n turns : ℕ) (all : List ItemTree) (ts : List Token) → IfSome (Itemised all ts) (items n turns all ts)
+unfolding items
+items_sound n zero all ts = tt
+items_sound n (suc turns) all [] = record { others = []; spells = refl; is = sym (append-nil all) }
+items_sound n (suc turns) all (t ∷ ts) =
+    then_sound (ItemOf (t ∷ ts)) (Itemised all (t ∷ ts)) (item n (t ∷ ts)) (λ x. items n turns (all ++ x.0 ∷ []) x.1) (item_sound n (t ∷ ts))
+    (λ x h. weaken (Itemised (all ++ x.0 ∷ []) x.1) (Itemised all (t ∷ ts)) (items n turns (all ++ x.0 ∷ []) x.1)
+    (λ y g. record { others = x.0 ∷ g.others; spells = (x.1, h, g.spells); is = g.is ∙ append_assoc all (x.0 ∷ []) g.others })
+    (items_sound n turns (all ++ x.0 ∷ []) x.1))
+
+pub script_sound : (ts : List Token) → IfSome (λ all. IsScript all ts) (script ts)
+unfolding script
+script_sound ts =
+    weaken (Itemised [] ts) (λ all. IsScript all ts) (items (length ts + 1) (length ts + 1) [] ts) (λ x g. subst (λ (all : List ItemTree). IsScript all ts) (sym g.is) g.spells) (items_sound (length ts + 1) (length ts + 1) [] ts)

@@ -1,0 +1,106 @@
+-- What is read with a level left, and with none.
+use Rattle.std.proofs.Common.{◌≡◌, ℕ, zero, suc, ◌+◌, ◌-◌, ◌<◌, ◌≤◌, Bool, true, false, List, [], ◌∷◌, ◌++◌, length, take, get_or, ap, sym, ◌∙◌, Option, Some, None, refl, arith}
+use Rattle.d_lexer.specs.declared.token.Token.{Token}
+use Rattle.d_parser.specs.Tree.{Tree, Trees}
+use Rattle.d_lexer.specs.declared.token.Mark.TheVariants as m
+use Rattle.d_parser.specs.declared.tree.DeclaredType.{DeclaredType}
+use Rattle.d_parser.specs.declared.tree.Description.{Description}
+use Rattle.d_parser.specs.Tree.{StmtTree}
+use Rattle.d_parser.specs.Marks.{is_at, tail}
+use Rattle.d_parser.specs.Reading.{◌>>=◌, after_mark, readers, whole, climb_on, further_on}
+use Rattle.d_parser.specs.Words.{run, behind_run, type_of}
+use Rattle.d_parser.specs.Tree.{ItemTree}
+use Rattle.d_parser.specs.ReadingScripts.{last_by, last_apart, word_of, typed_name, item, items, slot, further_stmts, further_types, types_on, further_descriptions, descriptions_on}
+
+pub phrase_step : (n k : ℕ) (ts : List Token) → 0 < n → (readers n).phrase k ts ≡ whole (readers (n - 1)) k ts
+phrase_step zero k ts h = absurd (omega arith)
+phrase_step (suc n) k ts h = let e : suc n - 1 ≡ n = omega arith in rw e refl
+
+pub phrase_none : (n k : ℕ) (ts : List Token) → n ≡ 0 → (readers n).phrase k ts ≡ None
+phrase_none n k ts h = rw h refl
+
+pub climb_step : (n k : ℕ) (left : Tree) (ts : List Token) → 0 < n → (readers n).climb k left ts ≡ climb_on (readers (n - 1)) k left ts
+climb_step zero k left ts h = absurd (omega arith)
+climb_step (suc n) k left ts h = let e : suc n - 1 ≡ n = omega arith in rw e refl
+
+pub climb_none : (n k : ℕ) (left : Tree) (ts : List Token) → n ≡ 0 → (readers n).climb k left ts ≡ None
+climb_none n k left ts h = rw h refl
+
+pub further_step : (n : ℕ) (all : Trees) (ts : List Token) → 0 < n → (readers n).further all ts ≡ further_on (readers (n - 1)) all ts
+further_step zero all ts h = absurd (omega arith)
+further_step (suc n) all ts h = let e : suc n - 1 ≡ n = omega arith in rw e refl
+
+pub further_none : (n : ℕ) (all : Trees) (ts : List Token) → n ≡ 0 → (readers n).further all ts ≡ None
+further_none n all ts h = rw h refl
+
+pub types_step : (n : ℕ) (all : List DeclaredType) (ts : List Token) → 0 < n → further_types n all ts ≡ types_on (further_types (n - 1)) all ts
+types_step zero all ts h = absurd (omega arith)
+types_step (suc n) all ts h = let e : suc n - 1 ≡ n = omega arith in rw e refl
+
+pub types_none : (n : ℕ) (all : List DeclaredType) (ts : List Token) → n ≡ 0 → further_types n all ts ≡ None
+types_none n all ts h = rw h refl
+
+pub descriptions_step : (n : ℕ) (all : List Description) (ts : List Token) → 0 < n → further_descriptions n all ts ≡ descriptions_on (further_descriptions (n - 1)) all ts
+descriptions_step zero all ts h = absurd (omega arith)
+descriptions_step (suc n) all ts h = let e : suc n - 1 ≡ n = omega arith in rw e refl
+
+pub descriptions_none : (n : ℕ) (all : List Description) (ts : List Token) → n ≡ 0 → further_descriptions n all ts ≡ None
+descriptions_none n all ts h = rw h refl
+
+at_suc : (n c : ℕ) → c < n → n - c ≡ suc (n - (c + 1))
+at_suc n c h = omega arith
+
+pub stmts_stop : (k n c : ℕ) (all : List StmtTree) (ts : List Token) → c < n → is_at m.CloseBrace ts ≡ true → further_stmts k (n - c) all ts ≡ Some (all, tail ts)
+unfolding further_stmts
+stmts_stop k n c all ts h e = rw (at_suc n c h) (rw e refl)
+
+pub stmts_fail : (k n c : ℕ) (all : List StmtTree) (ts : List Token) → c < n → is_at m.CloseBrace ts ≡ false → after_mark m.Semicolon ts ≡ None → further_stmts k (n - c) all ts ≡ None
+unfolding further_stmts
+stmts_fail k n c all ts h e f = rw (at_suc n c h) (rw (e, f) refl)
+
+pub stmts_fail_slot : (k n c : ℕ) (all : List StmtTree) (ts rest : List Token) → c < n → is_at m.CloseBrace ts ≡ false → after_mark m.Semicolon ts ≡ Some rest → slot k all rest ≡ None → further_stmts k (n - c) all ts ≡ None
+unfolding further_stmts
+stmts_fail_slot k n c all ts rest h e f g = rw (at_suc n c h) (rw e (rw f (rw g refl)))
+
+pub stmts_goes : (k n c : ℕ) (all : List StmtTree) (ts rest : List Token) (x : List StmtTree × List Token) → c < n → is_at m.CloseBrace ts ≡ false → after_mark m.Semicolon ts ≡ Some rest → slot k all rest ≡ Some x → further_stmts k (n - c) all ts ≡ further_stmts k (n - (c + 1)) x.0 x.1
+unfolding further_stmts
+stmts_goes k n c all ts rest x h e f g = rw (at_suc n c h) (rw e (rw f (rw g refl)))
+
+pub stmts_end : (k n c : ℕ) (all : List StmtTree) (ts : List Token) → n ≤ c → further_stmts k (n - c) all ts ≡ None
+unfolding further_stmts
+stmts_end k n c all ts h = let e : n - c ≡ 0 = omega arith in rw e refl
+
+last_taken : (ts : List Token) (x : Token) → 1 ≤ length ts → x ≡ get_or ts (length ts - 1) x → last_apart ts ≡ Some (take (length ts - 1) ts, x)
+last_taken [] x h e = absurd (omega arith)
+last_taken (t ∷ []) x h e = rw e refl
+last_taken (t ∷ (u ∷ ts)) x h e =
+    let n : length (t ∷ (u ∷ ts)) - 1 ≡ suc (length (u ∷ ts) - 1) = omega arith in
+    let below = last_taken (u ∷ ts) x (omega arith) (rw n at e) in
+    rw (n, below) refl
+
+pub typed_some : (ts words rest : List Token) (x : Token) (t : DeclaredType) → words ≡ run ts → rest ≡ behind_run ts → 1 ≤ length words → x ≡ get_or words (length words - 1) x → type_of (take (length words - 1) words) ≡ Some t → typed_name ts ≡ Some ((t, word_of x.kind), rest)
+unfolding typed_name
+typed_some ts words rest x t own behind len last e = rw (← own, ← behind) (rw (last_taken words x len last) (rw e refl))
+
+pub typed_none : (ts words : List Token) (x : Token) → words ≡ run ts → 1 ≤ length words → x ≡ get_or words (length words - 1) x → type_of (take (length words - 1) words) ≡ None → typed_name ts ≡ None
+unfolding typed_name
+typed_none ts words x own len last e = rw (← own) (rw (last_taken words x len last) (rw e refl))
+
+pub items_fail : (k n c : ℕ) (all : List ItemTree) (ts : List Token) → c < n → 1 ≤ length ts → item k ts ≡ None → items k (n - c) all ts ≡ None
+unfolding items
+items_fail k n c all [] h l e = absurd (omega arith)
+items_fail k n c all (t ∷ ts) h l e = rw (at_suc n c h) (rw e refl)
+
+pub items_stop : (k n c : ℕ) (all : List ItemTree) (ts : List Token) → c < n → length ts ≡ 0 → items k (n - c) all ts ≡ Some all
+unfolding items
+items_stop k n c all [] h e = rw (at_suc n c h) refl
+items_stop k n c all (t ∷ ts) h e = absurd (omega arith)
+
+pub items_goes : (k n c : ℕ) (all : List ItemTree) (ts : List Token) (x : ItemTree × List Token) → c < n → 1 ≤ length ts → item k ts ≡ Some x → items k (n - c) all ts ≡ items k (n - (c + 1)) (all ++ x.0 ∷ []) x.1
+unfolding items
+items_goes k n c all [] x h l e = absurd (omega arith)
+items_goes k n c all (t ∷ ts) x h l e = rw (at_suc n c h) (rw e refl)
+
+pub items_end : (k n c : ℕ) (all : List ItemTree) (ts : List Token) → n ≤ c → items k (n - c) all ts ≡ None
+unfolding items
+items_end k n c all ts h = let e : n - c ≡ 0 = omega arith in rw e refl

@@ -1,0 +1,9 @@
+use Rattle.std.proofs.Common.{◌≡◌, ap, ◌∙◌}
+use Rattle.d_parser.specs.Tree as spec
+use Rattle.d_parser.specs.declared.tree.Expr.{items_hidden-the_row-Expr-0}
+use Rattle.d_parser.specs.declared.tree.Expr.TheBlock.{hidden-the_row-Expr-0}
+use Rattle.d_parser.proofs.Rows.{row_is}
+use Rattle.d_parser.proofs.build.call.Goals as goal
+
+pub returns : goal.returns
+returns c = ap (spec.Call c.args.line c.args.function) (row_is (hidden-the_row-Expr-0 c.args.arguments) ∙ ap spec.trees_of (items_hidden-the_row-Expr-0 c.args.arguments))

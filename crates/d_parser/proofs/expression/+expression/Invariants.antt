@@ -1,0 +1,62 @@
+use Rattle.std.proofs.Common.{◌≡◌, ◌+◌, ◌*◌}
+use Rattle.d_parser.proofs.expression.+expression.Given as goal
+
+abbrev pub decreases-arguments : goal.decreases-arguments
+decreases-arguments l = 9 * l.fuel + 2
+
+abbrev pub decreases-cast : goal.decreases-cast
+decreases-cast l = 9 * l.fuel + 1
+
+abbrev pub decreases-choice : goal.decreases-choice
+decreases-choice l = 9 * l.fuel + 2
+
+abbrev pub decreases-chosen : goal.decreases-chosen
+decreases-chosen l = 9 * l.fuel + 1
+
+abbrev pub decreases-climb : goal.decreases-climb
+decreases-climb l = 9 * l.fuel
+
+abbrev pub decreases-climb_on : goal.decreases-climb_on
+decreases-climb_on l = 9 * l.fuel + 1
+
+abbrev pub decreases-follows : goal.decreases-follows
+decreases-follows l = 9 * l.fuel + 1
+
+abbrev pub decreases-further : goal.decreases-further
+decreases-further l = 9 * l.fuel
+
+abbrev pub decreases-further_on : goal.decreases-further_on
+decreases-further_on l = 9 * l.fuel + 1
+
+abbrev pub decreases-keys : goal.decreases-keys
+decreases-keys l = 9 * l.fuel + 2
+
+abbrev pub decreases-listed : goal.decreases-listed
+decreases-listed l = 9 * l.fuel + 1
+
+abbrev pub decreases-marked : goal.decreases-marked
+decreases-marked l = 9 * l.fuel + 6
+
+abbrev pub decreases-named : goal.decreases-named
+decreases-named l = 9 * l.fuel + 5
+
+abbrev pub decreases-parenthesised : goal.decreases-parenthesised
+decreases-parenthesised l = 9 * l.fuel + 2
+
+abbrev pub decreases-part : goal.decreases-part
+decreases-part l = 9 * l.fuel + 7
+
+abbrev pub decreases-phrase : goal.decreases-phrase
+decreases-phrase l = 9 * l.fuel
+
+abbrev pub decreases-stepped : goal.decreases-stepped
+decreases-stepped l = 9 * l.fuel + 5
+
+abbrev pub decreases-target : goal.decreases-target
+decreases-target l = 9 * l.fuel + 4
+
+abbrev pub decreases-whole : goal.decreases-whole
+decreases-whole l = 9 * l.fuel + 8
+
+abbrev pub decreases-with_keys : goal.decreases-with_keys
+decreases-with_keys l = 9 * l.fuel + 3

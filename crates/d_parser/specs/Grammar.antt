@@ -1,0 +1,161 @@
+-- Which tokens spell an expression. In each relation the first list begins with the tokens meant, and the second is what comes behind them.
+use Rattle.std.specs.Prelude.{◌≡◌, ◌≤◌, ℕ, zero, suc, Bool, true, false, List, [], ◌∷◌, ◌++◌, Option, Some, None}
+use Rattle.d_lexer.specs.declared.token.Mark.{Mark}
+use Rattle.d_lexer.specs.declared.token.Mark.TheVariants as m
+use Rattle.d_lexer.specs.declared.token.Token.{Token}
+use Rattle.d_lexer.specs.declared.token.TokenKind.{TokenKind}
+use Rattle.d_lexer.specs.declared.token.TokenKind.TheVariants as kind
+use Rattle.d_parser.specs.declared.tree.Constant.{Constant}
+use Rattle.d_parser.specs.declared.tree.Constant.TheVariants as c
+use Rattle.d_parser.specs.declared.tree.IntegerType.{IntegerType}
+use Rattle.d_parser.specs.declared.tree.Variable.{Variable}
+use Rattle.d_parser.specs.declared.tree.Variable.TheVariants as v
+use Rattle.d_parser.specs.declared.words.WordKind.{WordKind}
+use Rattle.d_parser.specs.declared.words.WordKind.TheVariants as w
+use Rattle.d_parser.specs.declared.marks.Prefix.TheVariants as p
+use Rattle.d_parser.specs.declared.marks.Follow.TheVariants as f
+use Rattle.d_parser.specs.Tree.{Tree, Known, Read, Call, Unary, Cast, Before, After, Binary, Choice, Assign, Trees, end, more}
+use Rattle.d_parser.specs.Words.{word_kind, integer_type, AreWords}
+use Rattle.d_parser.specs.Marks.{prefix_of, follow_of, level_of}
+
+-- what is spelled at the front of a list, and what is left
+abbrev pub Part : Type 1
+Part = List Token → List Token → Type 0
+
+abbrev pub token : TokenKind → (start stop line : ℕ) → Token
+token k start stop line = record { kind = k; start = start; stop = stop; line = line }
+
+-- a token of this kind, on this line
+pub record Begins (k : TokenKind) (line : ℕ) (ts rest : List Token) : Type 0 where
+  pub start : ℕ
+  pub stop : ℕ
+  pub is : ts ≡ token k start stop line ∷ rest
+
+-- this mark, on any line
+pub record Sign (mark : Mark) (ts rest : List Token) : Type 0 where
+  pub line : ℕ
+  pub begins : Begins (kind.Mark mark) line ts rest
+
+-- so many pairs of parentheses round a part
+abbrev pub Within : ℕ → Part → Part
+Within zero Inner ts rest = Inner ts rest
+Within (suc n) Inner ts rest = (inner : List Token) × (close : List Token) × Sign m.OpenParenthesis ts inner × Within n Inner inner close × Sign m.CloseParenthesis close rest
+
+-- A phrase of level k: parentheses round any expression, or without them what has that level at least.
+pub record IsPhrase (Bare : Part) (own k : ℕ) (ts rest : List Token) : Type 0 where
+  pub pairs : ℕ
+  pub high : pairs ≡ 0 → k ≤ own
+  pub within : Within pairs Bare ts rest
+
+-- the level of a tree that stands without parentheses
+abbrev pub rank : Tree → ℕ
+rank (Assign op x keys a) = 1
+rank (Choice test a b) = 2
+rank (Binary op a b) = level_of op
+rank (Unary line op a) = 14
+rank (Cast line to a) = 14
+rank (Before line step x keys) = 14
+rank t = 15
+
+abbrev pub constant_kind : Constant → TokenKind
+constant_kind (c.Number value suffix) = kind.Number value suffix
+constant_kind (c.Text bytes) = kind.TextConstant bytes
+
+-- a word that isn't reserved
+pub record IsPlain (name : List ℕ) (line : ℕ) (ts rest : List Token) : Type 0 where
+  pub begins : Begins (kind.Word name) line ts rest
+  pub plain : word_kind name ≡ w.Plain
+
+-- `self` or `this` on this line, an arrow and a word
+pub record IsMember (which : WordKind) (word : List ℕ) (line : ℕ) (ts rest : List Token) : Type 0 where
+  pub first : List ℕ
+  pub at_arrow : List Token
+  pub at_name : List Token
+  pub name_line : ℕ
+  pub begins : Begins (kind.Word first) line ts at_arrow
+  pub reserved : word_kind first ≡ which
+  pub arrow : Sign m.Arrow at_arrow at_name
+  pub name : IsPlain word name_line at_name rest
+
+abbrev pub IsVariable : Variable → Part
+IsVariable (v.Plain line name) ts rest = IsPlain name line ts rest
+IsVariable (v.Thread line name) ts rest = IsMember w.Thread name line ts rest
+IsVariable (v.Clause line name) ts rest = IsMember w.Clause name line ts rest
+
+-- clause-local variables have no keys
+abbrev pub MayHave : Variable → Trees → Type 0
+MayHave (v.Clause line name) keys = keys ≡ end
+MayHave x keys = Unit {0}
+
+-- a variable and its keys
+pub record IsTarget (x : Variable) (all : Trees) (Keys : Part) (ts rest : List Token) : Type 0 where
+  pub behind : List Token
+  pub variable : IsVariable x ts behind
+  pub keys : Keys behind rest
+  pub may : MayHave x all
+
+-- the tokens in brackets or parentheses
+pub record IsEnclosed (opening closing : Mark) (Inner : Part) (ts rest : List Token) : Type 0 where
+  pub inner : List Token
+  pub behind : List Token
+  pub opens : Sign opening ts inner
+  pub inside : Inner inner behind
+  pub closes : Sign closing behind rest
+
+-- `(`, an integer type and `)`
+pub record IsCast (line : ℕ) (to : IntegerType) (ts rest : List Token) : Type 0 where
+  pub words : List Token
+  pub close : List Token
+  pub opens : Begins (kind.Mark m.OpenParenthesis) line ts (words ++ close)
+  pub are_words : AreWords words
+  pub spells : integer_type words ≡ Some to
+  pub closes : Sign m.CloseParenthesis close rest
+
+abbrev mutual
+  -- the tokens spell the tree, with no parentheses round it
+  pub Spells : Tree → Part
+  Spells (Known line constant) ts rest = Begins (constant_kind constant) line ts rest
+  Spells (Read x keys) ts rest = IsTarget x keys (SpellsKeys keys) ts rest
+  Spells (Call line name arguments) ts rest =
+      (list : List Token) × IsPlain name line ts list × IsEnclosed m.OpenParenthesis m.CloseParenthesis (SpellsList arguments) list rest
+  Spells (Unary line op a) ts rest =
+      (mark : Mark) × (operand : List Token) × (prefix_of mark ≡ p.Unary op) × Begins (kind.Mark mark) line ts operand × IsPhrase (Spells a) (rank a) 14 operand rest
+  Spells (Cast line to a) ts rest = (operand : List Token) × IsCast line to ts operand × IsPhrase (Spells a) (rank a) 14 operand rest
+  Spells (Before line step x keys) ts rest =
+      (mark : Mark) × (target : List Token) × (prefix_of mark ≡ p.Step step) × Begins (kind.Mark mark) line ts target × IsTarget x keys (SpellsKeys keys) target rest
+  Spells (After x keys step) ts rest =
+      (mark : Mark) × (behind : List Token) × (follow_of mark ≡ f.Step step) × IsTarget x keys (SpellsKeys keys) ts behind × Sign mark behind rest
+  Spells (Binary op a b) ts rest =
+      (mark : Mark) × (middle : List Token) × (right : List Token) × (follow_of mark ≡ f.Infix op)
+      × IsPhrase (Spells a) (rank a) (level_of op) ts middle × Sign mark middle right × IsPhrase (Spells b) (rank b) (suc (level_of op)) right rest
+  Spells (Choice test a b) ts rest =
+      (question : List Token) × (first : List Token) × (colon : List Token) × (second : List Token)
+      × IsPhrase (Spells test) (rank test) 3 ts question × Sign m.Question question first × IsPhrase (Spells a) (rank a) 1 first colon
+      × Sign m.Colon colon second × IsPhrase (Spells b) (rank b) 2 second rest
+  Spells (Assign op x keys a) ts rest =
+      (mark : Mark) × (behind : List Token) × (value : List Token) × (follow_of mark ≡ f.Assign op)
+      × IsTarget x keys (SpellsKeys keys) ts behind × Sign mark behind value × IsPhrase (Spells a) (rank a) 1 value rest
+
+  -- keys in brackets, or nothing
+  pub SpellsKeys : Trees → Part
+  SpellsKeys end ts rest = ts ≡ rest
+  SpellsKeys (more a keys) ts rest =
+      (first : List Token) × (behind : List Token) × (close : List Token) × Sign m.OpenBracket ts first
+      × IsPhrase (Spells a) (rank a) 1 first behind × SpellsMore keys behind close × Sign m.CloseBracket close rest
+
+  -- expressions with commas between, or nothing
+  pub SpellsList : Trees → Part
+  SpellsList end ts rest = ts ≡ rest
+  SpellsList (more a list) ts rest = (behind : List Token) × IsPhrase (Spells a) (rank a) 1 ts behind × SpellsMore list behind rest
+
+  -- expressions with a comma before each
+  pub SpellsMore : Trees → Part
+  SpellsMore end ts rest = ts ≡ rest
+  SpellsMore (more a list) ts rest =
+      (first : List Token) × (behind : List Token) × Sign m.Comma ts first × IsPhrase (Spells a) (rank a) 1 first behind × SpellsMore list behind rest
+
+abbrev pub IsPhraseOf : Tree → ℕ → Part
+IsPhraseOf t k ts rest = IsPhrase (Spells t) (rank t) k ts rest
+
+abbrev pub IsExpression : Tree → Part
+IsExpression t ts rest = IsPhrase (Spells t) (rank t) 1 ts rest

@@ -1,0 +1,182 @@
+-- Which tokens spell a script: its declarations, and its clauses with their descriptions, predicate and statements.
+use Rattle.std.specs.Prelude.{◌≡◌, ◌==◌, ◌<◌, ◌&&◌, nat_le, ℕ, zero, suc, Bool, true, false, not, if◌then◌else◌, List, [], ◌∷◌, ◌++◌, Option, Some, None}
+pub use Rattle.std.specs.List.{list_all}
+use Rattle.d_lexer.specs.declared.token.Mark.{Mark}
+use Rattle.d_lexer.specs.declared.token.Mark.TheVariants as m
+use Rattle.d_lexer.specs.declared.token.Token.{Token}
+use Rattle.d_lexer.specs.declared.token.TokenKind.{TokenKind}
+use Rattle.d_lexer.specs.declared.token.TokenKind.TheVariants as kind
+use Rattle.d_parser.specs.declared.tree.DeclaredType.{DeclaredType}
+use Rattle.d_parser.specs.declared.tree.Description.{Description}
+use Rattle.d_parser.specs.declared.words.WordKind.{WordKind}
+use Rattle.d_parser.specs.declared.words.WordKind.TheVariants as w
+use Rattle.d_parser.specs.Tree.{Tree, Trees, StmtTree, Expression, Aggregation, DeclarationTree, OfThread, OfClause, ClauseTree, ItemTree, Declared, Probing}
+use Rattle.d_parser.specs.Words.{word_kind, type_of, AreWords}
+use Rattle.d_parser.specs.Grammar.{Part, Begins, Sign, IsEnclosed, IsExpression, SpellsKeys, SpellsList}
+
+-- ---- statements
+
+-- `@name[keys] = function(arguments)`
+pub record IsAggregation (line : ℕ) (name : List ℕ) (keys : Trees) (function : List ℕ) (arguments : Trees) (ts rest : List Token) : Type 0 where
+  pub at_keys : List Token
+  pub at_assign : List Token
+  pub at_word : List Token
+  pub at_open : List Token
+  pub word_line : ℕ
+  pub begins : Begins (kind.AggregationName name) line ts at_keys
+  pub spells_keys : SpellsKeys keys at_keys at_assign
+  pub assigns : Sign m.Assign at_assign at_word
+  pub word : Begins (kind.Word function) word_line at_word at_open
+  pub spells_arguments : IsEnclosed m.OpenParenthesis m.CloseParenthesis (SpellsList arguments) at_open rest
+
+abbrev pub IsStmt : StmtTree → Part
+IsStmt (Expression t) ts rest = IsExpression t ts rest
+IsStmt (Aggregation line name keys function arguments) ts rest = IsAggregation line name keys function arguments ts rest
+
+-- a statement, or none
+abbrev pub IsSlot : Option StmtTree → Part
+IsSlot None ts rest = ts ≡ rest
+IsSlot (Some s) ts rest = IsStmt s ts rest
+
+-- a semicolon before each, and then `}`
+abbrev pub AreFurther : List (Option StmtTree) → Part
+AreFurther [] ts rest = Sign m.CloseBrace ts rest
+AreFurther (slot ∷ slots) ts rest = (first : List Token) × (behind : List Token) × Sign m.Semicolon ts first × IsSlot slot first behind × AreFurther slots behind rest
+
+-- those that are there
+abbrev pub present : List (Option StmtTree) → List StmtTree
+present [] = []
+present (None ∷ slots) = present slots
+present (Some s ∷ slots) = s ∷ present slots
+
+-- statements that may be empty, with semicolons between, up to `}`
+pub record AreStmts (stmts : List StmtTree) (ts rest : List Token) : Type 0 where
+  pub slot : Option StmtTree
+  pub slots : List (Option StmtTree)
+  pub behind : List Token
+  pub first : IsSlot slot ts behind
+  pub further : AreFurther slots behind rest
+  pub are : stmts ≡ present (slot ∷ slots)
+
+-- ---- clauses
+
+abbrev pub colon : ℕ
+colon = 58
+
+-- the bytes before the first colon
+unfoldable pub before_colon : List ℕ → List ℕ
+before_colon [] = []
+before_colon (b ∷ bytes) = if b == colon then [] else b ∷ before_colon bytes
+
+-- those behind it, if there is one
+unfoldable pub behind_colon : List ℕ → Option (List ℕ)
+behind_colon [] = None
+behind_colon (b ∷ bytes) = if b == colon then Some bytes else behind_colon bytes
+
+-- one field before others, where there are such
+abbrev pub with_first : List ℕ → Option (List (List ℕ)) → Option (List (List ℕ))
+with_first field None = None
+with_first field (Some others) = Some (field ∷ others)
+
+-- the fields between colons, where there are no more than that
+abbrev pub fields : ℕ → Option (List ℕ) → Option (List (List ℕ))
+fields n None = Some []
+fields zero (Some bytes) = None
+fields (suc n) (Some bytes) = with_first (before_colon bytes) (fields n (behind_colon bytes))
+
+abbrev pub described : (a b c d : List ℕ) → Description
+described a b c d = record { provider = a; «module» = b; function = c; name = d }
+
+-- the fields read from the right
+abbrev pub placed : Option (List (List ℕ)) → Option Description
+placed (Some (a ∷ [])) = Some (record { provider = []; «module» = []; function = []; name = a })
+placed (Some (a ∷ (b ∷ []))) = Some (record { provider = []; «module» = []; function = a; name = b })
+placed (Some (a ∷ (b ∷ (c ∷ [])))) = Some (record { provider = []; «module» = a; function = b; name = c })
+placed (Some (a ∷ (b ∷ (c ∷ (d ∷ []))))) = Some (record { provider = a; «module» = b; function = c; name = d })
+placed other = None
+
+abbrev pub is_digit : ℕ → Bool
+is_digit b = nat_le 48 b && nat_le b 57
+
+-- at most four fields, and not digits alone
+abbrev pub description_of : List ℕ → Option Description
+description_of run = if list_all is_digit run then None else placed (fields 4 (Some run))
+
+pub record IsDescription (d : Description) (ts rest : List Token) : Type 0 where
+  pub run : List ℕ
+  pub line : ℕ
+  pub begins : Begins (kind.DescriptionRun run) line ts rest
+  pub is : description_of run ≡ Some d
+
+-- a comma before each
+abbrev pub FurtherDescriptions : List Description → Part
+FurtherDescriptions [] ts rest = ts ≡ rest
+FurtherDescriptions (d ∷ ds) ts rest = (first : List Token) × (behind : List Token) × Sign m.Comma ts first × IsDescription d first behind × FurtherDescriptions ds behind rest
+
+-- one at least, with commas between
+abbrev pub AreDescriptions : List Description → Part
+AreDescriptions [] ts rest = ⊥
+AreDescriptions (d ∷ ds) ts rest = (behind : List Token) × IsDescription d ts behind × FurtherDescriptions ds behind rest
+
+-- an expression between slashes, or nothing
+abbrev pub IsPredicate : Option Tree → Part
+IsPredicate None ts rest = ts ≡ rest
+IsPredicate (Some t) ts rest = (first : List Token) × (close : List Token) × Sign m.Slash ts first × IsExpression t first close × Sign m.ClosingSlash close rest
+
+pub record IsClause (c : ClauseTree) (ts rest : List Token) : Type 0 where
+  pub at_predicate : List Token
+  pub at_brace : List Token
+  pub at_stmts : List Token
+  pub descriptions : AreDescriptions c.descriptions ts at_predicate
+  pub predicate : IsPredicate c.predicate at_predicate at_brace
+  pub opens : Sign m.OpenBrace at_brace at_stmts
+  pub stmts : AreStmts c.statements at_stmts rest
+
+-- ---- declarations
+
+-- words that spell a type
+pub record IsType (t : DeclaredType) (ts rest : List Token) : Type 0 where
+  pub words : List Token
+  pub is : ts ≡ words ++ rest
+  pub are_words : AreWords words
+  pub spells : type_of words ≡ Some t
+
+-- a comma before each, and then `]`
+abbrev pub FurtherTypes : List DeclaredType → Part
+FurtherTypes [] ts rest = Sign m.CloseBracket ts rest
+FurtherTypes (t ∷ all) ts rest = (first : List Token) × (behind : List Token) × Sign m.Comma ts first × IsType t first behind × FurtherTypes all behind rest
+
+-- types in brackets, or nothing
+abbrev pub AreKeyTypes : List DeclaredType → Part
+AreKeyTypes [] ts rest = ts ≡ rest
+AreKeyTypes (t ∷ all) ts rest = (first : List Token) × (behind : List Token) × Sign m.OpenBracket ts first × IsType t first behind × FurtherTypes all behind rest
+
+-- `self` or `this` on this line, a type, a word that may be reserved, perhaps key types, and a semicolon
+pub record IsDeclared (which : WordKind) (line : ℕ) (t : DeclaredType) (name : List ℕ) (keys : List DeclaredType) (ts rest : List Token) : Type 0 where
+  pub first : List ℕ
+  pub at_type : List Token
+  pub at_name : List Token
+  pub at_keys : List Token
+  pub at_end : List Token
+  pub name_line : ℕ
+  pub begins : Begins (kind.Word first) line ts at_type
+  pub reserved : word_kind first ≡ which
+  pub spells : IsType t at_type at_name
+  pub word : Begins (kind.Word name) name_line at_name at_keys
+  pub key_types : AreKeyTypes keys at_keys at_end
+  pub ends : Sign m.Semicolon at_end rest
+
+abbrev pub IsDeclaration : DeclarationTree → Part
+IsDeclaration (OfThread line t name keys) ts rest = IsDeclared w.Thread line t name keys ts rest
+IsDeclaration (OfClause line t name) ts rest = IsDeclared w.Clause line t name [] ts rest
+
+-- ---- scripts
+
+abbrev pub IsItem : ItemTree → Part
+IsItem (Declared d) ts rest = IsDeclaration d ts rest
+IsItem (Probing c) ts rest = IsClause c ts rest
+
+-- all tokens spell these declarations and clauses
+abbrev pub IsScript : List ItemTree → List Token → Type 0
+IsScript [] ts = ts ≡ []
+IsScript (item ∷ items) ts = (rest : List Token) × IsItem item ts rest × IsScript items rest

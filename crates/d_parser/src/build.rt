@@ -1,0 +1,154 @@
+//! Small trees put together.
+
+ghost use Rattle.std.specs.Prelude.{◌≡◌, IfOk};
+ghost use Rattle.d_parser.specs.Reading.{OnlyMemory};
+ghost use Rattle.d_parser.specs.Tree as spec;
+ghost use Rattle.d_parser.specs.declared.tree.Constant.TheVariants as constant;
+
+use crate::fault::ParseFault;
+use crate::operators::{AssignOperator, BinaryOperator, Step, UnaryOperator};
+use crate::tree::{Constant, Expr, IntegerType, Target, Variable};
+use d_lexer::{ByteString, Suffix};
+use std::alloc::Global;
+
+pub(crate) fn call(line: usize, function: ByteString, arguments: Vec<Expr>) -> Expr
+    ensures { spec.tree_of result ≡ spec.Call line function (spec.trees_of arguments.items) }
+{
+    Expr::Call {
+        line,
+        function,
+        arguments,
+    }
+}
+
+pub(crate) fn target(variable: Variable, keys: Vec<Expr>) -> Target
+    ensures { spec.target_of result ≡ (variable, spec.trees_of keys.items) }
+{
+    Target { variable, keys }
+}
+
+pub(crate) fn read(target: Target) -> Expr
+    ensures { spec.tree_of result ≡ spec.Read (spec.target_of target).0 (spec.target_of target).1 }
+{
+    Expr::Read(target)
+}
+
+fn assigned(operator: AssignOperator, target: Target, value: Box<Expr>) -> Expr
+    ensures { spec.tree_of result ≡ spec.Assign operator (spec.target_of target).0 (spec.target_of target).1 (spec.tree_of value.value) }
+{
+    Expr::Assign {
+        operator,
+        target,
+        value,
+    }
+}
+
+pub(crate) fn assign(
+    alloc: Global,
+    operator: AssignOperator,
+    target: Target,
+    value: Expr,
+) -> Result<Expr, ParseFault>
+    ensures ok { IfOk result (λ e. spec.tree_of e ≡ spec.Assign operator (spec.target_of target).0 (spec.target_of target).1 (spec.tree_of value)) }
+    ensures err { OnlyMemory result }
+{
+    let value = Box::new(alloc, value)?;
+    Ok(assigned(operator, target, value))
+}
+
+pub(crate) fn before(line: usize, step: Step, target: Target) -> Expr
+    ensures { spec.tree_of result ≡ spec.Before line step (spec.target_of target).0 (spec.target_of target).1 }
+{
+    Expr::Before { line, step, target }
+}
+
+pub(crate) fn after(target: Target, step: Step) -> Expr
+    ensures { spec.tree_of result ≡ spec.After (spec.target_of target).0 (spec.target_of target).1 step }
+{
+    Expr::After { target, step }
+}
+
+pub(crate) fn number(line: usize, value: u64, suffix: Suffix) -> Expr
+    ensures { spec.tree_of result ≡ spec.Known line (constant.Number value suffix) }
+{
+    Expr::Constant {
+        line,
+        constant: Constant::Number { value, suffix },
+    }
+}
+
+pub(crate) fn text(line: usize, bytes: ByteString) -> Expr
+    ensures { spec.tree_of result ≡ spec.Known line (constant.Text bytes) }
+{
+    Expr::Constant {
+        line,
+        constant: Constant::Text(bytes),
+    }
+}
+
+pub(crate) fn unary(
+    alloc: Global,
+    line: usize,
+    operator: UnaryOperator,
+    operand: Expr,
+) -> Result<Expr, ParseFault>
+    ensures ok { IfOk result (λ e. spec.tree_of e ≡ spec.Unary line operator (spec.tree_of operand)) }
+    ensures err { OnlyMemory result }
+{
+    let operand = Box::new(alloc, operand)?;
+    Ok(Expr::Unary {
+        line,
+        operator,
+        operand,
+    })
+}
+
+pub(crate) fn cast(
+    alloc: Global,
+    line: usize,
+    to: IntegerType,
+    operand: Expr,
+) -> Result<Expr, ParseFault>
+    ensures ok { IfOk result (λ e. spec.tree_of e ≡ spec.Cast line to (spec.tree_of operand)) }
+    ensures err { OnlyMemory result }
+{
+    let operand = Box::new(alloc, operand)?;
+    Ok(Expr::Cast { line, to, operand })
+}
+
+pub(crate) fn binary(
+    alloc: Global,
+    operator: BinaryOperator,
+    left: Expr,
+    right: Expr,
+) -> Result<Expr, ParseFault>
+    ensures ok { IfOk result (λ e. spec.tree_of e ≡ spec.Binary operator (spec.tree_of left) (spec.tree_of right)) }
+    ensures err { OnlyMemory result }
+{
+    let left = Box::new(alloc, left)?;
+    let right = Box::new(alloc, right)?;
+    Ok(Expr::Binary {
+        operator,
+        left,
+        right,
+    })
+}
+
+pub(crate) fn choice(
+    alloc: Global,
+    test: Expr,
+    first: Expr,
+    second: Expr,
+) -> Result<Expr, ParseFault>
+    ensures ok { IfOk result (λ e. spec.tree_of e ≡ spec.Choice (spec.tree_of test) (spec.tree_of first) (spec.tree_of second)) }
+    ensures err { OnlyMemory result }
+{
+    let test = Box::new(alloc, test)?;
+    let first = Box::new(alloc, first)?;
+    let second = Box::new(alloc, second)?;
+    Ok(Expr::Choice {
+        test,
+        first,
+        second,
+    })
+}

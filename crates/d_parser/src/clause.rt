@@ -1,0 +1,120 @@
+//! Clauses: descriptions, predicate and statements.
+
+ghost use Rattle.std.specs.Prelude.{◌≡◌, Some};
+ghost use Rattle.d_parser.specs.Tree.{clause_of, predicate_of};
+ghost use Rattle.d_parser.specs.Reading.{Gives};
+ghost use Rattle.d_parser.specs.ReadingScripts as spec;
+
+use crate::expression::phrase;
+use crate::fault::ParseFault;
+use crate::marks::{is_at, tail};
+use crate::names::{after_mark, line_at};
+use crate::probe::description_of;
+use crate::statement::statements;
+use crate::tree::{Clause, Description, Expr};
+use d_lexer::{Mark, Token, TokenKind};
+use std::alloc::Global;
+
+#[tactic(auto, unfolding(crate::specs::ReadingScripts::description))]
+fn description(alloc: Global, tokens: &[Token]) -> Result<(Description, &[Token]), ParseFault>
+    ensures { Gives (λ x. (x.0, x.1.now)) result (spec.description tokens.now) }
+{
+    let [token, rest @ ..] = tokens else {
+        return Err(ParseFault::Syntax { line: 0 });
+    };
+    match &token.kind {
+        TokenKind::DescriptionRun(run) => Ok((
+            description_of(alloc, run.as_slice(), token.line)?,
+            rest,
+        )),
+        _ => Err(ParseFault::Syntax { line: token.line }),
+    }
+}
+
+/// The descriptions behind commas.
+#[cycle(descriptions)]
+#[tactic(auto, using(crate::proofs::Steps::descriptions_step, crate::proofs::Steps::descriptions_none))]
+fn further_descriptions<'a>(
+    alloc: Global,
+    turns: usize,
+    all: Vec<Description>,
+    tokens: &'a [Token],
+) -> Result<(Vec<Description>, &'a [Token]), ParseFault>
+    ensures { Gives (λ x. (x.0.items, x.1.now)) result (spec.further_descriptions turns all.items tokens.now) }
+{
+    if turns == 0 {
+        return Err(ParseFault::Syntax {
+            line: line_at(tokens),
+        });
+    }
+    descriptions_on(alloc, turns - 1, all, tokens)
+}
+
+#[cycle(descriptions)]
+#[tactic(auto, unfolding(crate::specs::ReadingScripts::descriptions_on))]
+fn descriptions_on<'a>(
+    alloc: Global,
+    turns: usize,
+    all: Vec<Description>,
+    tokens: &'a [Token],
+) -> Result<(Vec<Description>, &'a [Token]), ParseFault>
+    ensures { Gives (λ x. (x.0.items, x.1.now)) result (spec.descriptions_on (spec.further_descriptions turns) all.items tokens.now) }
+{
+    if !is_at(Mark::Comma, tokens) {
+        return Ok((all, tokens));
+    }
+    let mut all = all;
+    let (next, rest) = description(alloc, tail(tokens))?;
+    all.push(next)?;
+    further_descriptions(alloc, turns, all, rest)
+}
+
+#[tactic(auto, unfolding(crate::specs::ReadingScripts::descriptions))]
+fn descriptions(
+    alloc: Global,
+    fuel: usize,
+    tokens: &[Token],
+) -> Result<(Vec<Description>, &[Token]), ParseFault>
+    ensures { Gives (λ x. (x.0.items, x.1.now)) result (spec.descriptions fuel tokens.now) }
+{
+    let (first, rest) = description(alloc, tokens)?;
+    let mut all = Vec::new(alloc);
+    all.push(first)?;
+    further_descriptions(alloc, fuel, all, rest)
+}
+
+#[tactic(auto, unfolding(crate::specs::ReadingScripts::predicate))]
+fn predicate(
+    alloc: Global,
+    fuel: usize,
+    tokens: &[Token],
+) -> Result<(Option<Expr>, &[Token]), ParseFault>
+    ensures { Gives (λ x. (predicate_of x.0, x.1.now)) result (spec.predicate fuel tokens.now) }
+{
+    if !is_at(Mark::Slash, tokens) {
+        return Ok((None, tokens));
+    }
+    let (test, rest) = phrase(alloc, fuel, 1, tail(tokens))?;
+    Ok((Some(test), after_mark(Mark::ClosingSlash, rest)?))
+}
+
+/// A clause at the front.
+#[tactic(auto, unfolding(crate::specs::ReadingScripts::clause))]
+pub(crate) fn clause(
+    alloc: Global,
+    fuel: usize,
+    tokens: &[Token],
+) -> Result<(Clause, &[Token]), ParseFault>
+    ensures { Gives (λ x. (clause_of x.0, x.1.now)) result (spec.clause fuel tokens.now) }
+{
+    let (descriptions, rest) = descriptions(alloc, fuel, tokens)?;
+    let (predicate, rest) = predicate(alloc, fuel, rest)?;
+    let rest = after_mark(Mark::OpenBrace, rest)?;
+    let (statements, rest) = statements(alloc, fuel, rest)?;
+    let clause = Clause {
+        descriptions,
+        predicate,
+        statements,
+    };
+    Ok((clause, rest))
+}

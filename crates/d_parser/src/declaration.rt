@@ -1,0 +1,156 @@
+//! Declarations.
+
+ghost use Rattle.std.specs.Prelude.{◌≡◌};
+ghost use Rattle.d_parser.specs.Tree.{declaration_of};
+ghost use Rattle.d_parser.specs.Reading.{Gives};
+ghost use Rattle.d_parser.specs.ReadingScripts as spec;
+
+use crate::fault::ParseFault;
+use crate::marks::{is_at, tail};
+use crate::names::{after_mark, line_at};
+use crate::tree::{Declaration, DeclaredType};
+use crate::words::{split_run, type_of};
+use d_lexer::{ByteString, Mark, Token, TokenKind};
+use std::alloc::Global;
+
+/// The type that the words at the front spell.
+#[tactic(auto, unfolding(crate::specs::ReadingScripts::whole_type))]
+fn whole_type(tokens: &[Token]) -> Result<(DeclaredType, &[Token]), ParseFault>
+    ensures { Gives (λ x. (x.0, x.1.now)) result (spec.whole_type tokens.now) }
+{
+    let (words, rest) = split_run(tokens);
+    match type_of(words) {
+        Some(declared) => Ok((declared, rest)),
+        None => Err(ParseFault::Syntax {
+            line: line_at(tokens),
+        }),
+    }
+}
+
+/// The types behind commas, and the closing bracket.
+#[cycle(types)]
+#[tactic(auto, using(crate::proofs::Steps::types_step, crate::proofs::Steps::types_none))]
+fn further_types(
+    turns: usize,
+    all: Vec<DeclaredType>,
+    tokens: &[Token],
+) -> Result<(Vec<DeclaredType>, &[Token]), ParseFault>
+    ensures { Gives (λ x. (x.0.items, x.1.now)) result (spec.further_types turns all.items tokens.now) }
+{
+    if turns == 0 {
+        return Err(ParseFault::Syntax {
+            line: line_at(tokens),
+        });
+    }
+    types_on(turns - 1, all, tokens)
+}
+
+#[cycle(types)]
+#[tactic(auto, unfolding(crate::specs::ReadingScripts::types_on))]
+fn types_on(
+    turns: usize,
+    all: Vec<DeclaredType>,
+    tokens: &[Token],
+) -> Result<(Vec<DeclaredType>, &[Token]), ParseFault>
+    ensures { Gives (λ x. (x.0.items, x.1.now)) result (spec.types_on (spec.further_types turns) all.items tokens.now) }
+{
+    if !is_at(Mark::Comma, tokens) {
+        return Ok((all, after_mark(Mark::CloseBracket, tokens)?));
+    }
+    let mut all = all;
+    let (next, rest) = whole_type(tail(tokens))?;
+    all.push(next)?;
+    further_types(turns, all, rest)
+}
+
+/// Types in brackets, or nothing.
+#[tactic(auto, unfolding(crate::specs::ReadingScripts::key_types))]
+fn key_types(
+    alloc: Global,
+    fuel: usize,
+    tokens: &[Token],
+) -> Result<(Vec<DeclaredType>, &[Token]), ParseFault>
+    ensures { Gives (λ x. (x.0.items, x.1.now)) result (spec.key_types fuel tokens.now) }
+{
+    let mut all = Vec::new(alloc);
+    if !is_at(Mark::OpenBracket, tokens) {
+        return Ok((all, tokens));
+    }
+    let (first, rest) = whole_type(tail(tokens))?;
+    all.push(first)?;
+    further_types(fuel, all, rest)
+}
+
+fn word_of(alloc: Global, token: &Token) -> Result<ByteString, ParseFault>
+    ensures ok { Gives (λ x. x) result (spec.some_word token.now.kind) }
+{
+    match &token.kind {
+        TokenKind::Word(word) => Ok(ByteString::from_slice(alloc, word.as_slice())?),
+        _ => Ok(ByteString::from_slice(alloc, b"")?),
+    }
+}
+
+/// A type and a word.
+#[tactic(auto, unfolding(crate::specs::ReadingScripts::typed_name))]
+fn typed_name(
+    alloc: Global,
+    tokens: &[Token],
+) -> Result<(DeclaredType, ByteString, &[Token]), ParseFault>
+    ensures { Gives (λ x. ((x.0, x.1), x.2.now)) result (spec.typed_name tokens.now) }
+{
+    let (words, rest) = split_run(tokens);
+    let [types @ .., name] = words else {
+        return Err(ParseFault::Syntax {
+            line: line_at(tokens),
+        });
+    };
+    match type_of(types) {
+        Some(declared) => Ok((declared, word_of(alloc, name)?, rest)),
+        None => Err(ParseFault::Syntax {
+            line: line_at(tokens),
+        }),
+    }
+}
+
+/// What `self` declares.
+#[tactic(auto, unfolding(crate::specs::ReadingScripts::of_thread))]
+pub(crate) fn of_thread<'a>(
+    alloc: Global,
+    fuel: usize,
+    line: usize,
+    tokens: &'a [Token],
+) -> Result<(Declaration, &'a [Token]), ParseFault>
+    ensures { Gives (λ x. (declaration_of x.0, x.1.now)) result (spec.of_thread fuel line tokens.now) }
+{
+    let (declared, name, rest) = typed_name(alloc, tokens)?;
+    let (keys, rest) = key_types(alloc, fuel, rest)?;
+    let rest = after_mark(Mark::Semicolon, rest)?;
+    let declaration = Declaration::Thread {
+        line,
+        declared,
+        name,
+        keys,
+    };
+    Ok((declaration, rest))
+}
+
+/// What `this` declares.
+#[tactic(auto, unfolding(crate::specs::ReadingScripts::of_clause))]
+pub(crate) fn of_clause(
+    alloc: Global,
+    line: usize,
+    tokens: &[Token],
+) -> Result<(Declaration, &[Token]), ParseFault>
+    ensures { Gives (λ x. (declaration_of x.0, x.1.now)) result (spec.of_clause line tokens.now) }
+{
+    let (declared, name, rest) = typed_name(alloc, tokens)?;
+    let rest = after_mark(Mark::Semicolon, rest)?;
+    Ok((
+        Declaration::Clause {
+            line,
+            declared,
+            name,
+        },
+        rest,
+    ))
+}

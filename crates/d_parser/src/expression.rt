@@ -1,0 +1,425 @@
+//! Expressions, by precedence climbing. `fuel` bounds how deep the calls go; a list never needs more than its length.
+
+ghost use Rattle.std.specs.Prelude.{◌≡◌, ◌≤◌, IfOk};
+ghost use Rattle.d_parser.specs.Tree as trees;
+ghost use Rattle.d_parser.specs.Tree.{tree_of, trees_of, target_of};
+ghost use Rattle.d_parser.specs.Reading as spec;
+ghost use Rattle.d_parser.specs.Reading.{Gives};
+ghost use Rattle.d_parser.specs.Words as words;
+
+use crate::build;
+use crate::fault::ParseFault;
+use crate::marks::{Follow, Prefix, follow_at, is_at, prefix_of, tail};
+use crate::names::{after_mark, cast_type, is_typed, line_at, variable};
+use crate::operators::Step;
+use crate::tree::{Constant, Expr, Target, Variable};
+use crate::words::{WordKind, word_kind};
+use d_lexer::{ByteString, Mark, Token, TokenKind};
+use std::alloc::Global;
+
+/// Expressions with commas between, and the mark that closes them.
+#[cycle(expression)]
+#[tactic(auto, unfolding(crate::specs::Reading::listed))]
+fn listed<'a>(
+    alloc: Global,
+    fuel: usize,
+    close: Mark,
+    tokens: &'a [Token],
+) -> Result<(Vec<Expr>, &'a [Token]), ParseFault>
+    ensures { Gives (λ x. (trees_of x.0.items, x.1.now)) result (spec.listed (spec.readers fuel) close tokens.now) }
+{
+    let (first, rest) = phrase(alloc, fuel, 1, tokens)?;
+    let mut all = Vec::new(alloc);
+    all.push(first)?;
+    let (all, rest) = further(alloc, fuel, all, rest)?;
+    Ok((all, after_mark(close, rest)?))
+}
+
+#[cycle(expression)]
+#[tactic(auto, unfolding(crate::specs::Reading::keys))]
+pub(crate) fn keys<'a>(
+    alloc: Global,
+    fuel: usize,
+    tokens: &'a [Token],
+) -> Result<(Vec<Expr>, &'a [Token]), ParseFault>
+    ensures { Gives (λ x. (trees_of x.0.items, x.1.now)) result (spec.keys (spec.readers fuel) tokens.now) }
+{
+    match follow_at(tokens) {
+        Follow::Bracket => listed(alloc, fuel, Mark::CloseBracket, tail(tokens)),
+        _ => Ok((Vec::new(alloc), tokens)),
+    }
+}
+
+/// The arguments of a call, behind its opening parenthesis.
+#[cycle(expression)]
+#[tactic(auto, unfolding(crate::specs::Reading::arguments))]
+pub(crate) fn arguments<'a>(
+    alloc: Global,
+    fuel: usize,
+    tokens: &'a [Token],
+) -> Result<(Vec<Expr>, &'a [Token]), ParseFault>
+    ensures { Gives (λ x. (trees_of x.0.items, x.1.now)) result (spec.arguments (spec.readers fuel) tokens.now) }
+{
+    if is_at(Mark::CloseParenthesis, tokens) {
+        return Ok((Vec::new(alloc), tail(tokens)));
+    }
+    listed(alloc, fuel, Mark::CloseParenthesis, tokens)
+}
+
+#[cycle(expression)]
+#[tactic(auto, unfolding(crate::specs::Reading::with_keys))]
+fn with_keys<'a>(
+    alloc: Global,
+    fuel: usize,
+    variable: Variable,
+    tokens: &'a [Token],
+) -> Result<(Target, &'a [Token]), ParseFault>
+    ensures { Gives (λ x. (target_of x.0, x.1.now)) result (spec.with_keys (spec.readers fuel) variable tokens.now) }
+{
+    if variable.is_clause_local() {
+        return Ok((build::target(variable, Vec::new(alloc)), tokens));
+    }
+    let (keys, rest) = keys(alloc, fuel, tokens)?;
+    Ok((build::target(variable, keys), rest))
+}
+
+/// A target, by its first word.
+#[cycle(expression)]
+#[tactic(auto, unfolding(crate::specs::Reading::target))]
+fn target<'a>(
+    alloc: Global,
+    fuel: usize,
+    name: &ByteString,
+    line: usize,
+    tokens: &'a [Token],
+) -> Result<(Target, &'a [Token]), ParseFault>
+    ensures { Gives (λ x. (target_of x.0, x.1.now)) result (spec.target (spec.readers fuel) (words.word_kind name.now) name.now line tokens.now) }
+{
+    let (variable, rest) = variable(alloc, name, line, tokens)?;
+    with_keys(alloc, fuel, variable, rest)
+}
+
+/// What a target goes on as.
+#[cycle(expression)]
+#[tactic(auto, unfolding(crate::specs::Reading::follows))]
+fn follows<'a>(
+    alloc: Global,
+    fuel: usize,
+    level: u8,
+    target: Target,
+    tokens: &'a [Token],
+) -> Result<(Expr, &'a [Token]), ParseFault>
+    ensures { Gives (λ x. (tree_of x.0, x.1.now)) result (spec.follows (spec.readers fuel) level (target_of target) tokens.now) }
+{
+    match follow_at(tokens) {
+        Follow::Step(step) => Ok((build::after(target, step), tail(tokens))),
+        Follow::Assign(operator) => {
+            if 1 < level {
+                return Ok((build::read(target), tokens));
+            }
+            let (value, rest) = phrase(alloc, fuel, 1, tail(tokens))?;
+            Ok((build::assign(alloc, operator, target, value)?, rest))
+        }
+        _ => Ok((build::read(target), tokens)),
+    }
+}
+
+/// A call, or what a target begins.
+#[cycle(expression)]
+#[tactic(auto, unfolding(crate::specs::Reading::named))]
+fn named<'a>(
+    alloc: Global,
+    fuel: usize,
+    level: u8,
+    name: &ByteString,
+    line: usize,
+    tokens: &'a [Token],
+) -> Result<(Expr, &'a [Token]), ParseFault>
+    ensures { Gives (λ x. (tree_of x.0, x.1.now)) result (spec.named (spec.readers fuel) level name.now line tokens.now) }
+{
+    if begins_call(name, tokens) {
+        let (all, rest) = arguments(alloc, fuel, tail(tokens))?;
+        return Ok((
+            build::call(line, ByteString::from_slice(alloc, name.as_slice())?, all),
+            rest,
+        ));
+    }
+    let (target, rest) = target(alloc, fuel, name, line, tokens)?;
+    follows(alloc, fuel, level, target, rest)
+}
+
+fn begins_call(name: &ByteString, tokens: &[Token]) -> bool
+    ensures { result ≡ spec.begins_call name.now tokens.now }
+{
+    match (word_kind(name.as_slice()), follow_at(tokens)) {
+        (WordKind::Plain, Follow::Parenthesis) => true,
+        _ => false,
+    }
+}
+
+#[cycle(expression)]
+#[tactic(auto, unfolding(crate::specs::Reading::casted))]
+fn cast<'a>(
+    alloc: Global,
+    fuel: usize,
+    line: usize,
+    tokens: &'a [Token],
+) -> Result<(Expr, &'a [Token]), ParseFault>
+    ensures { Gives (λ x. (tree_of x.0, x.1.now)) result (spec.casted (spec.readers fuel) line tokens.now) }
+{
+    let (to, rest) = cast_type(tokens)?;
+    let (operand, rest) = phrase(alloc, fuel, 14, rest)?;
+    Ok((build::cast(alloc, line, to, operand)?, rest))
+}
+
+/// A cast or an expression, behind the opening parenthesis.
+#[cycle(expression)]
+#[tactic(auto, unfolding(crate::specs::Reading::parenthesised))]
+fn parenthesised<'a>(
+    alloc: Global,
+    fuel: usize,
+    line: usize,
+    tokens: &'a [Token],
+) -> Result<(Expr, &'a [Token]), ParseFault>
+    ensures { Gives (λ x. (tree_of x.0, x.1.now)) result (spec.parenthesised (spec.readers fuel) line tokens.now) }
+{
+    if is_typed(tokens) {
+        return cast(alloc, fuel, line, tokens);
+    }
+    let (inner, rest) = phrase(alloc, fuel, 1, tokens)?;
+    Ok((inner, after_mark(Mark::CloseParenthesis, rest)?))
+}
+
+/// The target behind `++` or `--`.
+#[cycle(expression)]
+#[tactic(auto, unfolding(crate::specs::Reading::stepped))]
+fn stepped<'a>(
+    alloc: Global,
+    fuel: usize,
+    line: usize,
+    step: Step,
+    tokens: &'a [Token],
+) -> Result<(Expr, &'a [Token]), ParseFault>
+    ensures { Gives (λ x. (tree_of x.0, x.1.now)) result (spec.stepped (spec.readers fuel) line step tokens.now) }
+{
+    let [token, rest @ ..] = tokens else {
+        return Err(ParseFault::Syntax { line: 0 });
+    };
+    match &token.kind {
+        TokenKind::Word(name) => {
+            let (target, rest) = target(alloc, fuel, name, token.line, rest)?;
+            Ok((build::before(line, step, target), rest))
+        }
+        _ => Err(ParseFault::Syntax { line: token.line }),
+    }
+}
+
+/// Behind a mark that begins a part.
+#[cycle(expression)]
+#[tactic(auto, unfolding(crate::specs::Reading::marked))]
+fn marked<'a>(
+    alloc: Global,
+    fuel: usize,
+    mark: Mark,
+    line: usize,
+    tokens: &'a [Token],
+) -> Result<(Expr, &'a [Token]), ParseFault>
+    ensures { Gives (λ x. (tree_of x.0, x.1.now)) result (spec.marked (spec.readers fuel) mark line tokens.now) }
+{
+    if mark == Mark::OpenParenthesis {
+        return parenthesised(alloc, fuel, line, tokens);
+    }
+    match prefix_of(mark) {
+        Prefix::Unary(operator) => {
+            let (operand, rest) = phrase(alloc, fuel, 14, tokens)?;
+            Ok((build::unary(alloc, line, operator, operand)?, rest))
+        }
+        Prefix::Step(step) => stepped(alloc, fuel, line, step, tokens),
+        Prefix::Other => Err(ParseFault::Syntax { line }),
+    }
+}
+
+/// A unary part, or where the level allows it an assignment.
+#[cycle(expression)]
+#[tactic(auto, unfolding(crate::specs::Reading::part))]
+fn part<'a>(
+    alloc: Global,
+    fuel: usize,
+    level: u8,
+    tokens: &'a [Token],
+) -> Result<(Expr, &'a [Token]), ParseFault>
+    ensures { Gives (λ x. (tree_of x.0, x.1.now)) result (spec.part (spec.readers fuel) level tokens.now) }
+{
+    let [token, rest @ ..] = tokens else {
+        return Err(ParseFault::Syntax { line: 0 });
+    };
+    match &token.kind {
+        TokenKind::Number { value, suffix } => Ok((
+            build::number(token.line, *value, *suffix),
+            rest,
+        )),
+        TokenKind::TextConstant(bytes) => {
+            Ok((
+                build::text(token.line, ByteString::from_slice(alloc, bytes.as_slice())?),
+                rest,
+            ))
+        }
+        TokenKind::Word(name) => named(alloc, fuel, level, name, token.line, rest),
+        TokenKind::Mark(mark) => marked(alloc, fuel, *mark, token.line, rest),
+        _ => Err(ParseFault::Syntax { line: token.line }),
+    }
+}
+
+/// The operators of the level or more, and what they join to the left part.
+#[cycle(expression)]
+#[tactic(auto, using(crate::proofs::Steps::climb_step, crate::proofs::Steps::climb_none))]
+fn climb<'a>(
+    alloc: Global,
+    fuel: usize,
+    level: u8,
+    left: Expr,
+    tokens: &'a [Token],
+) -> Result<(Expr, &'a [Token]), ParseFault>
+    ensures { Gives (λ x. (tree_of x.0, x.1.now)) result ((spec.readers fuel).climb level (tree_of left) tokens.now) }
+{
+    if fuel == 0 {
+        return Err(ParseFault::Syntax {
+            line: line_at(tokens),
+        });
+    }
+    climb_on(alloc, fuel - 1, level, left, tokens)
+}
+
+#[cycle(expression)]
+#[tactic(auto, unfolding(crate::specs::Reading::climb_on))]
+fn climb_on<'a>(
+    alloc: Global,
+    fuel: usize,
+    level: u8,
+    left: Expr,
+    tokens: &'a [Token],
+) -> Result<(Expr, &'a [Token]), ParseFault>
+    ensures { Gives (λ x. (tree_of x.0, x.1.now)) result (spec.climb_on (spec.readers fuel) level (tree_of left) tokens.now) }
+{
+    match follow_at(tokens) {
+        Follow::Infix(operator) => {
+            if operator.level() < level {
+                return Ok((left, tokens));
+            }
+            let (right, rest) = phrase(alloc, fuel, operator.level() + 1, tail(tokens))?;
+            let joined = build::binary(alloc, operator, left, right)?;
+            climb(alloc, fuel, level, joined, rest)
+        }
+        _ => Ok((left, tokens)),
+    }
+}
+
+/// A condition goes on with a question mark.
+#[cycle(expression)]
+#[tactic(auto, unfolding(crate::specs::Reading::choice))]
+fn choice<'a>(
+    alloc: Global,
+    fuel: usize,
+    level: u8,
+    test: Expr,
+    tokens: &'a [Token],
+) -> Result<(Expr, &'a [Token]), ParseFault>
+    ensures { Gives (λ x. (tree_of x.0, x.1.now)) result (spec.choice (spec.readers fuel) level (tree_of test) tokens.now) }
+{
+    if 2 < level {
+        return Ok((test, tokens));
+    }
+    match follow_at(tokens) {
+        Follow::Question => chosen(alloc, fuel, test, tail(tokens)),
+        _ => Ok((test, tokens)),
+    }
+}
+
+/// What stands behind the question mark.
+#[cycle(expression)]
+#[tactic(auto, unfolding(crate::specs::Reading::chosen))]
+fn chosen<'a>(
+    alloc: Global,
+    fuel: usize,
+    test: Expr,
+    tokens: &'a [Token],
+) -> Result<(Expr, &'a [Token]), ParseFault>
+    ensures { Gives (λ x. (tree_of x.0, x.1.now)) result (spec.chosen (spec.readers fuel) (tree_of test) tokens.now) }
+{
+    let (first, rest) = phrase(alloc, fuel, 1, tokens)?;
+    let rest = after_mark(Mark::Colon, rest)?;
+    let (second, rest) = phrase(alloc, fuel, 2, rest)?;
+    Ok((build::choice(alloc, test, first, second)?, rest))
+}
+
+/// A phrase of the level.
+#[cycle(expression)]
+#[tactic(auto, using(crate::proofs::Steps::phrase_step, crate::proofs::Steps::phrase_none))]
+pub(crate) fn phrase<'a>(
+    alloc: Global,
+    fuel: usize,
+    level: u8,
+    tokens: &'a [Token],
+) -> Result<(Expr, &'a [Token]), ParseFault>
+    ensures { Gives (λ x. (tree_of x.0, x.1.now)) result ((spec.readers fuel).phrase level tokens.now) }
+{
+    if fuel == 0 {
+        return Err(ParseFault::Syntax {
+            line: line_at(tokens),
+        });
+    }
+    whole(alloc, fuel - 1, level, tokens)
+}
+
+#[cycle(expression)]
+#[tactic(auto, unfolding(crate::specs::Reading::whole, crate::specs::Reading::operand))]
+fn whole<'a>(
+    alloc: Global,
+    fuel: usize,
+    level: u8,
+    tokens: &'a [Token],
+) -> Result<(Expr, &'a [Token]), ParseFault>
+    ensures { Gives (λ x. (tree_of x.0, x.1.now)) result (spec.whole (spec.readers fuel) level tokens.now) }
+{
+    let (first, rest) = part(alloc, fuel, level, tokens)?;
+    let (joined, rest) = climb(alloc, fuel, level.max(3), first, rest)?;
+    choice(alloc, fuel, level, joined, rest)
+}
+
+/// The expressions behind a comma.
+#[cycle(expression)]
+#[tactic(auto, using(crate::proofs::Steps::further_step, crate::proofs::Steps::further_none))]
+fn further<'a>(
+    alloc: Global,
+    fuel: usize,
+    all: Vec<Expr>,
+    tokens: &'a [Token],
+) -> Result<(Vec<Expr>, &'a [Token]), ParseFault>
+    ensures { Gives (λ x. (trees_of x.0.items, x.1.now)) result ((spec.readers fuel).further (trees_of all.items) tokens.now) }
+{
+    if fuel == 0 {
+        return Err(ParseFault::Syntax {
+            line: line_at(tokens),
+        });
+    }
+    further_on(alloc, fuel - 1, all, tokens)
+}
+
+#[cycle(expression)]
+#[tactic(auto, unfolding(crate::specs::Reading::further_on), using(crate::proofs::Rows::trees_push))]
+fn further_on<'a>(
+    alloc: Global,
+    fuel: usize,
+    all: Vec<Expr>,
+    tokens: &'a [Token],
+) -> Result<(Vec<Expr>, &'a [Token]), ParseFault>
+    ensures { Gives (λ x. (trees_of x.0.items, x.1.now)) result (spec.further_on (spec.readers fuel) (trees_of all.items) tokens.now) }
+{
+    if !is_at(Mark::Comma, tokens) {
+        return Ok((all, tokens));
+    }
+    let mut all = all;
+    let (next, rest) = phrase(alloc, fuel, 1, tail(tokens))?;
+    all.push(next)?;
+    further(alloc, fuel, all, rest)
+}

@@ -1,0 +1,46 @@
+//! Why tokens have no tree.
+
+ghost use Rattle.std.specs.Prelude.{◌≡◌};
+ghost use Rattle.d_parser.specs.declared.fault.ParseFault.TheVariants.{Memory};
+
+use std::alloc::{AllocError, AllocFailed};
+use thiserror::Error;
+
+/// Why a script has no tree. The limits are looked at first, and take no memory.
+#[derive(Clone, Copy, Debug, PartialEq, Eq, Error)]
+pub enum ParseFault {
+    /// The first token that can't go on is on this line; at the end, the last token.
+    #[error("line {line}: not a D script")]
+    Syntax { line: usize },
+    #[error("more than {brackets} open brackets, or {tokens} tokens in a row", brackets = MOST_OPEN, tokens = MOST_IN_A_ROW)]
+    TooDeep,
+    #[error("more than {most} clauses", most = MOST_CLAUSES)]
+    TooManyClauses,
+    #[error("out of memory")]
+    Memory,
+}
+
+/// The most brackets and parentheses that may be open at once.
+pub const MOST_OPEN: usize = 64;
+
+/// The most tokens that may stand without a semicolon or a brace between them.
+pub const MOST_IN_A_ROW: usize = 1024;
+
+/// The most clauses that a script may have.
+pub const MOST_CLAUSES: usize = 256;
+
+impl From<AllocError> for ParseFault {
+    ghost from_gives = { λ _ e. e ≡ Memory };
+
+    fn from(_e: AllocError) -> ParseFault {
+        ParseFault::Memory
+    }
+}
+
+impl<T: Drop> From<AllocFailed<T>> for ParseFault {
+    ghost from_gives = { λ _ e. e ≡ Memory };
+
+    fn from(_e: AllocFailed<T>) -> ParseFault {
+        ParseFault::Memory
+    }
+}

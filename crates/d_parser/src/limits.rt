@@ -1,0 +1,62 @@
+//! The limits that are looked at before anything is read.
+
+ghost use Rattle.std.specs.Prelude.{◌≡◌, ◌≤◌, ◌+◌};
+ghost use Rattle.d_parser.specs.Limits as spec;
+
+use crate::fault::{MOST_IN_A_ROW, MOST_OPEN};
+use d_lexer::{Mark, Token, TokenKind};
+
+fn open_behind(kind: &TokenKind, brackets: usize) -> usize
+    requires { brackets ≤ 64 }
+    ensures is { result ≡ spec.open_behind kind.now brackets }
+    ensures small { result ≤ 65 }
+{
+    match kind {
+        TokenKind::Mark(Mark::OpenParenthesis | Mark::OpenBracket) => brackets + 1,
+        TokenKind::Mark(Mark::CloseParenthesis | Mark::CloseBracket) => brackets.saturating_sub(1),
+        _ => brackets,
+    }
+}
+
+fn row_with(kind: &TokenKind, row: usize) -> usize
+    requires { row ≤ 1024 }
+    ensures is { result ≡ spec.row_with kind.now row }
+    ensures small { result ≤ 1025 }
+{
+    match kind {
+        TokenKind::Mark(Mark::Semicolon | Mark::OpenBrace | Mark::CloseBrace) => 0,
+        _ => row + 1,
+    }
+}
+
+/// Whether too many brackets are open at some token, or too many tokens stand in a row.
+#[tactic(auto, unfolding(crate::specs::Limits::is_deep))]
+pub(crate) fn is_deep(tokens: &[Token]) -> bool
+    ensures { result ≡ spec.is_deep 0 0 tokens.now }
+{
+    let mut rest = tokens;
+    let mut brackets: usize = 0;
+    let mut row: usize = 0;
+    while let [token, after @ ..] = rest {
+        brackets = open_behind(&token.kind, brackets);
+        row = row_with(&token.kind, row);
+        if MOST_OPEN < brackets || MOST_IN_A_ROW < row {
+            return true;
+        }
+        rest = after;
+    }
+    false
+}
+
+fn opens_clause(token: &Token) -> bool
+    ensures { result ≡ spec.opens_clause token.now.kind }
+{
+    matches!(token.kind, TokenKind::Mark(Mark::OpenBrace))
+}
+
+/// How many clauses are opened.
+pub(crate) fn clauses(tokens: &[Token]) -> usize
+    ensures { result ≡ spec.clauses tokens.now }
+{
+    tokens.iter().filter(|token| opens_clause(token)).count()
+}

@@ -1,0 +1,145 @@
+//! What marks do before and behind an operand.
+
+ghost use Rattle.std.specs.Prelude.{◌≡◌, ◌≤◌};
+ghost use Rattle.d_parser.specs.Marks as spec;
+
+use crate::operators::{AssignOperator, BinaryOperator, Step, UnaryOperator};
+use d_lexer::{Mark, Token, TokenKind};
+
+/// What a mark before an operand does.
+#[derive(Clone, Copy, Debug)]
+pub enum Prefix {
+    Unary(UnaryOperator),
+    Step(Step),
+    Other,
+}
+
+/// What a mark behind an operand does.
+#[derive(Clone, Copy, Debug)]
+pub enum Follow {
+    Infix(BinaryOperator),
+    Assign(AssignOperator),
+    Step(Step),
+    Question,
+    Bracket,
+    Parenthesis,
+    Other,
+}
+
+pub(crate) fn prefix_of(mark: Mark) -> Prefix
+    ensures { result ≡ spec.prefix_of mark }
+{
+    match mark {
+        Mark::Not => Prefix::Unary(UnaryOperator::Not),
+        Mark::Tilde => Prefix::Unary(UnaryOperator::Complement),
+        Mark::Minus => Prefix::Unary(UnaryOperator::Negate),
+        Mark::Plus => Prefix::Unary(UnaryOperator::Keep),
+        Mark::Increment => Prefix::Step(Step::Increment),
+        Mark::Decrement => Prefix::Step(Step::Decrement),
+        _ => Prefix::Other,
+    }
+}
+
+fn follow_of(mark: Mark) -> Follow
+    ensures { result ≡ spec.follow_of mark }
+{
+    match mark {
+        Mark::Star => Follow::Infix(BinaryOperator::Multiply),
+        Mark::Slash => Follow::Infix(BinaryOperator::Divide),
+        Mark::Percent => Follow::Infix(BinaryOperator::Remainder),
+        Mark::Plus => Follow::Infix(BinaryOperator::Add),
+        Mark::Minus => Follow::Infix(BinaryOperator::Subtract),
+        Mark::ShiftLeft => Follow::Infix(BinaryOperator::ShiftLeft),
+        Mark::ShiftRight => Follow::Infix(BinaryOperator::ShiftRight),
+        Mark::Less => Follow::Infix(BinaryOperator::Less),
+        Mark::LessEqual => Follow::Infix(BinaryOperator::LessEqual),
+        Mark::Greater => Follow::Infix(BinaryOperator::Greater),
+        Mark::GreaterEqual => Follow::Infix(BinaryOperator::GreaterEqual),
+        Mark::Equal => Follow::Infix(BinaryOperator::Equal),
+        Mark::NotEqual => Follow::Infix(BinaryOperator::NotEqual),
+        Mark::And => Follow::Infix(BinaryOperator::BitAnd),
+        Mark::Xor => Follow::Infix(BinaryOperator::BitXor),
+        Mark::Or => Follow::Infix(BinaryOperator::BitOr),
+        Mark::AndAnd => Follow::Infix(BinaryOperator::And),
+        Mark::XorXor => Follow::Infix(BinaryOperator::Xor),
+        Mark::OrOr => Follow::Infix(BinaryOperator::Or),
+        Mark::Assign => Follow::Assign(AssignOperator::Set),
+        Mark::AddAssign => Follow::Assign(AssignOperator::Add),
+        Mark::SubtractAssign => Follow::Assign(AssignOperator::Subtract),
+        Mark::MultiplyAssign => Follow::Assign(AssignOperator::Multiply),
+        Mark::DivideAssign => Follow::Assign(AssignOperator::Divide),
+        Mark::RemainderAssign => Follow::Assign(AssignOperator::Remainder),
+        Mark::AndAssign => Follow::Assign(AssignOperator::BitAnd),
+        Mark::OrAssign => Follow::Assign(AssignOperator::BitOr),
+        Mark::XorAssign => Follow::Assign(AssignOperator::BitXor),
+        Mark::ShiftLeftAssign => Follow::Assign(AssignOperator::ShiftLeft),
+        Mark::ShiftRightAssign => Follow::Assign(AssignOperator::ShiftRight),
+        Mark::Increment => Follow::Step(Step::Increment),
+        Mark::Decrement => Follow::Step(Step::Decrement),
+        Mark::Question => Follow::Question,
+        Mark::OpenBracket => Follow::Bracket,
+        Mark::OpenParenthesis => Follow::Parenthesis,
+        _ => Follow::Other,
+    }
+}
+
+/// What the first token does to an operand before it.
+pub(crate) fn follow_at(tokens: &[Token]) -> Follow
+    ensures { result ≡ spec.follow_at tokens.now }
+{
+    match tokens {
+        [token, ..] => match &token.kind {
+            TokenKind::Mark(mark) => follow_of(*mark),
+            _ => Follow::Other,
+        },
+        [] => Follow::Other,
+    }
+}
+
+impl BinaryOperator {
+    /// How tightly it binds: 3 for `||` up to 13 for `*`.
+    pub(crate) fn level(self) -> u8
+        ensures value { result ≡ spec.level_of self }
+        ensures small { result ≤ 13 }
+    {
+        match self {
+            BinaryOperator::Or => 3,
+            BinaryOperator::Xor => 4,
+            BinaryOperator::And => 5,
+            BinaryOperator::BitOr => 6,
+            BinaryOperator::BitXor => 7,
+            BinaryOperator::BitAnd => 8,
+            BinaryOperator::Equal | BinaryOperator::NotEqual => 9,
+            BinaryOperator::Less
+            | BinaryOperator::LessEqual
+            | BinaryOperator::Greater
+            | BinaryOperator::GreaterEqual => 10,
+            BinaryOperator::ShiftLeft | BinaryOperator::ShiftRight => 11,
+            BinaryOperator::Add | BinaryOperator::Subtract => 12,
+            BinaryOperator::Multiply | BinaryOperator::Divide | BinaryOperator::Remainder => 13,
+        }
+    }
+}
+
+/// Whether the first token is the mark.
+pub(crate) fn is_at(mark: Mark, tokens: &[Token]) -> bool
+    ensures { result ≡ spec.is_at mark tokens.now }
+{
+    match tokens {
+        [token, ..] => match &token.kind {
+            TokenKind::Mark(found) => *found == mark,
+            _ => false,
+        },
+        [] => false,
+    }
+}
+
+/// Behind the first token.
+pub(crate) fn tail(tokens: &[Token]) -> &[Token]
+    ensures { result.now ≡ spec.tail tokens.now }
+{
+    match tokens {
+        [_, rest @ ..] => rest,
+        [] => tokens,
+    }
+}

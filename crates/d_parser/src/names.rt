@@ -1,0 +1,121 @@
+//! Marks, words and variables at the front of a list.
+
+ghost use Rattle.std.specs.Prelude.{◌≡◌};
+ghost use Rattle.d_parser.specs.Reading as spec;
+ghost use Rattle.d_parser.specs.Reading.{Gives};
+ghost use Rattle.d_parser.specs.Words as words;
+
+use crate::fault::ParseFault;
+use crate::marks::{is_at, tail};
+use crate::tree::{IntegerType, Variable};
+use crate::words::{WordKind, integer_type, split_run, word_kind};
+use d_lexer::{ByteString, Mark, Token, TokenKind};
+use std::alloc::Global;
+
+/// The line on which the rest begins; 0 at its end.
+pub(crate) fn line_at(tokens: &[Token]) -> usize {
+    match tokens {
+        [token, ..] => token.line,
+        [] => 0,
+    }
+}
+
+/// The tokens behind a mark that has to stand there.
+pub(crate) fn after_mark(mark: Mark, tokens: &[Token]) -> Result<&[Token], ParseFault>
+    ensures { Gives (λ rest. rest.now) result (spec.after_mark mark tokens.now) }
+{
+    if is_at(mark, tokens) {
+        Ok(tail(tokens))
+    } else {
+        Err(ParseFault::Syntax {
+            line: line_at(tokens),
+        })
+    }
+}
+
+/// A word that isn't reserved.
+#[tactic(auto, unfolding(crate::specs::Reading::plain_word))]
+fn plain_word(alloc: Global, tokens: &[Token]) -> Result<(ByteString, &[Token]), ParseFault>
+    ensures { Gives (λ x. (x.0, x.1.now)) result (spec.plain_word tokens.now) }
+{
+    let [token, rest @ ..] = tokens else {
+        return Err(ParseFault::Syntax { line: 0 });
+    };
+    match &token.kind {
+        TokenKind::Word(name) => match word_kind(name.as_slice()) {
+            WordKind::Plain => Ok((ByteString::from_slice(alloc, name.as_slice())?, rest)),
+            _ => Err(ParseFault::Syntax { line: token.line }),
+        },
+        _ => Err(ParseFault::Syntax { line: token.line }),
+    }
+}
+
+/// The word behind an arrow.
+#[tactic(auto, unfolding(crate::specs::Reading::member))]
+fn member(alloc: Global, tokens: &[Token]) -> Result<(ByteString, &[Token]), ParseFault>
+    ensures { Gives (λ x. (x.0, x.1.now)) result (spec.member tokens.now) }
+{
+    plain_word(alloc, after_mark(Mark::Arrow, tokens)?)
+}
+
+/// The variable that a word begins.
+#[tactic(auto, unfolding(crate::specs::Reading::variable))]
+pub(crate) fn variable<'a>(
+    alloc: Global,
+    name: &ByteString,
+    line: usize,
+    tokens: &'a [Token],
+) -> Result<(Variable, &'a [Token]), ParseFault>
+    ensures { Gives (λ x. (x.0, x.1.now)) result (spec.variable (words.word_kind name.now) name.now line tokens.now) }
+{
+    match word_kind(name.as_slice()) {
+        WordKind::Plain => {
+            let name = ByteString::from_slice(alloc, name.as_slice())?;
+            Ok((Variable::Plain { line, name }, tokens))
+        }
+        WordKind::Thread => {
+            let (name, rest) = member(alloc, tokens)?;
+            Ok((Variable::Thread { line, name }, rest))
+        }
+        WordKind::Clause => {
+            let (name, rest) = member(alloc, tokens)?;
+            Ok((Variable::Clause { line, name }, rest))
+        }
+        _ => Err(ParseFault::Syntax { line }),
+    }
+}
+
+/// Whether a word of a type is at the front.
+pub(crate) fn is_typed(tokens: &[Token]) -> bool
+    ensures { result ≡ spec.is_typed tokens.now }
+{
+    match tokens {
+        [token, ..] => match &token.kind {
+            TokenKind::Word(word) => word_kind(word.as_slice()).begins_type(),
+            _ => false,
+        },
+        [] => false,
+    }
+}
+
+/// The type in a cast, behind its opening parenthesis.
+#[tactic(auto, unfolding(crate::specs::Reading::cast_type))]
+pub(crate) fn cast_type(tokens: &[Token]) -> Result<(IntegerType, &[Token]), ParseFault>
+    ensures { Gives (λ x. (x.0, x.1.now)) result (spec.cast_type tokens.now) }
+{
+    let (words, rest) = split_run(tokens);
+    let Some(to) = integer_type(words) else {
+        return Err(ParseFault::Syntax {
+            line: line_at(tokens),
+        });
+    };
+    Ok((to, after_mark(Mark::CloseParenthesis, rest)?))
+}
+
+impl Variable {
+    pub(crate) fn is_clause_local(&self) -> bool
+        ensures { result ≡ spec.is_clause_local self.now }
+    {
+        matches!(self, Variable::Clause { .. })
+    }
+}

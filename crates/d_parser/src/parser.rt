@@ -1,0 +1,40 @@
+//! From tokens to the tree.
+
+ghost use Rattle.std.specs.Prelude.{◌≡◌, ◌≤◌, ◌<◌, length, IfOk, Some, List, false, true, Err};
+ghost use Rattle.d_parser.specs.Tree as trees;
+ghost use Rattle.d_parser.specs.Tree.{script_of};
+ghost use Rattle.d_parser.specs.Script as grammar;
+ghost use Rattle.d_parser.specs.Limits as limits;
+ghost use Rattle.d_parser.specs.Reading.{Gives};
+ghost use Rattle.d_parser.specs.declared.fault.ParseFault.TheVariants as faults;
+
+use crate::fault::{MOST_CLAUSES, ParseFault};
+use crate::limits::{clauses, is_deep};
+use crate::script::script;
+use crate::tree::Script;
+use d_lexer::Token;
+use std::alloc::Global;
+
+/// The tree of a script's tokens, as `d_lexer::lex` gives them.
+///
+/// `TooDeep` is decided first, then `TooManyClauses`; `Syntax` comes exactly where the tokens have no tree.
+#[tactic(auto, using(crate::proofs::Answering::found_of, crate::proofs::Answering::only_of))]
+pub fn parse(alloc: Global, tokens: &[Token]) -> Result<Script, ParseFault>
+    requires { length tokens.now ≤ 65536 }
+    // Brackets and rows of tokens are looked at first.
+    ensures deep { limits.is_deep 0 0 tokens.now ≡ true → result ≡ Err faults.TooDeep }
+    // Then clauses are counted.
+    ensures many { limits.is_deep 0 0 tokens.now ≡ false → 256 < limits.clauses tokens.now → result ≡ Err faults.TooManyClauses }
+    // What is answered is a tree of the tokens.
+    ensures found { IfOk result (λ s. grammar.IsScript (script_of s) tokens.now) }
+    // Where there is a tree it is answered, and no other, unless memory runs out.
+    ensures only { limits.is_deep 0 0 tokens.now ≡ false → limits.clauses tokens.now ≤ 256 → (s : List trees.ItemTree) → grammar.IsScript s tokens.now → Gives script_of result (Some s) }
+{
+    if is_deep(tokens) {
+        return Err(ParseFault::TooDeep);
+    }
+    if MOST_CLAUSES < clauses(tokens) {
+        return Err(ParseFault::TooManyClauses);
+    }
+    script(alloc, tokens)
+}

@@ -1,0 +1,86 @@
+//! Scripts: declarations and clauses up to the end.
+
+ghost use Rattle.std.specs.Prelude.{◌≡◌, ◌≤◌, length, map, []};
+ghost use Rattle.d_parser.specs.Tree.{item_of, declaration_of, script_of};
+ghost use Rattle.d_parser.specs.Reading.{Gives};
+ghost use Rattle.d_parser.specs.ReadingScripts as spec;
+ghost use Rattle.d_parser.specs.Words as words;
+
+use crate::clause::clause;
+use crate::declaration::{of_clause, of_thread};
+use crate::fault::ParseFault;
+use crate::names::line_at;
+use crate::tree::{Declaration, Item, Script};
+use crate::words::{WordKind, word_kind};
+use d_lexer::{ByteString, Token, TokenKind};
+use std::alloc::Global;
+
+/// What `self` or `this` declares.
+fn declared<'a>(
+    alloc: Global,
+    fuel: usize,
+    word: &ByteString,
+    line: usize,
+    tokens: &'a [Token],
+) -> Result<(Declaration, &'a [Token]), ParseFault>
+    ensures { Gives (λ x. (declaration_of x.0, x.1.now)) result (spec.declared_by (words.word_kind word.now) fuel line tokens.now) }
+{
+    match word_kind(word.as_slice()) {
+        WordKind::Thread => of_thread(alloc, fuel, line, tokens),
+        WordKind::Clause => of_clause(alloc, line, tokens),
+        _ => Err(ParseFault::Syntax { line }),
+    }
+}
+
+#[tactic(auto, unfolding(crate::specs::ReadingScripts::item))]
+fn item<'a>(
+    alloc: Global,
+    fuel: usize,
+    tokens: &'a [Token],
+) -> Result<(Item, &'a [Token]), ParseFault>
+    ensures { Gives (λ x. (item_of x.0, x.1.now)) result (spec.item fuel tokens.now) }
+{
+    let [token, rest @ ..] = tokens else {
+        return Err(ParseFault::Syntax { line: 0 });
+    };
+    match &token.kind {
+        TokenKind::Word(word) => {
+            let (declaration, rest) = declared(alloc, fuel, word, token.line, rest)?;
+            Ok((Item::Declaration(declaration), rest))
+        }
+        _ => {
+            let (clause, rest) = clause(alloc, fuel, tokens)?;
+            Ok((Item::Clause(clause), rest))
+        }
+    }
+}
+
+#[tactic(auto, using(crate::proofs::Steps::items_fail, crate::proofs::Steps::items_end))]
+fn items(alloc: Global, fuel: usize, tokens: &[Token]) -> Result<Vec<Item>, ParseFault>
+    ensures { Gives (λ x. map item_of x.items) result (spec.items fuel fuel [] tokens.now) }
+{
+    let mut all = Vec::new(alloc);
+    let mut rest = tokens;
+    for _ in 0..fuel {
+        if rest.is_empty() {
+            return Ok(all);
+        }
+        let (next, behind) = item(alloc, fuel, rest)?;
+        all.push(next)?;
+        rest = behind;
+    }
+    Err(ParseFault::Syntax {
+        line: line_at(rest),
+    })
+}
+
+/// The script that all tokens spell.
+#[tactic(auto, unfolding(crate::specs::ReadingScripts::script))]
+pub(crate) fn script(alloc: Global, tokens: &[Token]) -> Result<Script, ParseFault>
+    requires { length tokens.now ≤ 65536 }
+    ensures { Gives script_of result (spec.script tokens.now) }
+{
+    Ok(Script {
+        items: items(alloc, tokens.len() + 1, tokens)?,
+    })
+}

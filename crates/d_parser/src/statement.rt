@@ -1,0 +1,139 @@
+//! Statements.
+
+ghost use Rattle.std.specs.Prelude.{◌≡◌};
+ghost use Rattle.d_parser.specs.Tree.{stmt_of, stmts_of};
+ghost use Rattle.d_parser.specs.Reading.{Gives};
+ghost use Rattle.d_parser.specs.ReadingScripts as spec;
+
+use crate::expression::{arguments, keys, phrase};
+use crate::fault::ParseFault;
+use crate::marks::{is_at, tail};
+use crate::names::{after_mark, line_at};
+use crate::tree::Stmt;
+use d_lexer::{ByteString, Mark, Token, TokenKind};
+use std::alloc::Global;
+
+/// A word, reserved or not.
+#[tactic(auto, unfolding(crate::specs::ReadingScripts::any_word))]
+fn any_word(alloc: Global, tokens: &[Token]) -> Result<(ByteString, &[Token]), ParseFault>
+    ensures { Gives (λ x. (x.0, x.1.now)) result (spec.any_word tokens.now) }
+{
+    let [token, rest @ ..] = tokens else {
+        return Err(ParseFault::Syntax { line: 0 });
+    };
+    match &token.kind {
+        TokenKind::Word(word) => Ok((ByteString::from_slice(alloc, word.as_slice())?, rest)),
+        _ => Err(ParseFault::Syntax { line: token.line }),
+    }
+}
+
+/// An aggregation statement, behind its name.
+#[tactic(auto, unfolding(crate::specs::ReadingScripts::aggregation))]
+fn aggregation<'a>(
+    alloc: Global,
+    fuel: usize,
+    line: usize,
+    name: &ByteString,
+    tokens: &'a [Token],
+) -> Result<(Stmt, &'a [Token]), ParseFault>
+    ensures { Gives (λ x. (stmt_of x.0, x.1.now)) result (spec.aggregation fuel line name.now tokens.now) }
+{
+    let (keys, rest) = keys(alloc, fuel, tokens)?;
+    let (function, rest) = any_word(alloc, after_mark(Mark::Assign, rest)?)?;
+    let (arguments, rest) = arguments(alloc, fuel, after_mark(Mark::OpenParenthesis, rest)?)?;
+    let name = ByteString::from_slice(alloc, name.as_slice())?;
+    let statement = Stmt::Aggregation {
+        line,
+        name,
+        keys,
+        function,
+        arguments,
+    };
+    Ok((statement, rest))
+}
+
+fn expression<'a>(
+    alloc: Global,
+    fuel: usize,
+    tokens: &'a [Token],
+) -> Result<(Stmt, &'a [Token]), ParseFault>
+    ensures { Gives (λ x. (stmt_of x.0, x.1.now)) result (spec.expression fuel tokens.now) }
+{
+    let (expression, rest) = phrase(alloc, fuel, 1, tokens)?;
+    Ok((Stmt::Expression(expression), rest))
+}
+
+#[tactic(auto, unfolding(crate::specs::ReadingScripts::stmt))]
+fn statement<'a>(
+    alloc: Global,
+    fuel: usize,
+    tokens: &'a [Token],
+) -> Result<(Stmt, &'a [Token]), ParseFault>
+    ensures { Gives (λ x. (stmt_of x.0, x.1.now)) result (spec.stmt fuel tokens.now) }
+{
+    let [token, rest @ ..] = tokens else {
+        return Err(ParseFault::Syntax { line: 0 });
+    };
+    match &token.kind {
+        TokenKind::AggregationName(name) => aggregation(alloc, fuel, token.line, name, rest),
+        _ => expression(alloc, fuel, tokens),
+    }
+}
+
+/// With the statement at the front, if there is one.
+#[tactic(auto, unfolding(crate::specs::ReadingScripts::slot), using(crate::proofs::Rows::stmts_push))]
+fn slot<'a>(
+    alloc: Global,
+    fuel: usize,
+    all: Vec<Stmt>,
+    tokens: &'a [Token],
+) -> Result<(Vec<Stmt>, &'a [Token]), ParseFault>
+    ensures { Gives (λ x. (stmts_of x.0.items, x.1.now)) result (spec.slot fuel (stmts_of all.items) tokens.now) }
+{
+    if is_at(Mark::Semicolon, tokens) || is_at(Mark::CloseBrace, tokens) {
+        return Ok((all, tokens));
+    }
+    let mut all = all;
+    let (next, rest) = statement(alloc, fuel, tokens)?;
+    all.push(next)?;
+    Ok((all, rest))
+}
+
+/// The statements behind semicolons, and the closing brace.
+#[tactic(auto, using(crate::proofs::Steps::stmts_stop, crate::proofs::Steps::stmts_goes, crate::proofs::Steps::stmts_fail, crate::proofs::Steps::stmts_fail_slot, crate::proofs::Steps::stmts_end))]
+fn further<'a>(
+    alloc: Global,
+    fuel: usize,
+    all: Vec<Stmt>,
+    tokens: &'a [Token],
+) -> Result<(Vec<Stmt>, &'a [Token]), ParseFault>
+    ensures { Gives (λ x. (stmts_of x.0.items, x.1.now)) result (spec.further_stmts fuel fuel (stmts_of all.items) tokens.now) }
+{
+    let mut all = all;
+    let mut rest = tokens;
+    for _ in 0..fuel {
+        if is_at(Mark::CloseBrace, rest) {
+            return Ok((all, tail(rest)));
+        }
+        let first = after_mark(Mark::Semicolon, rest)?;
+        let (longer, behind) = slot(alloc, fuel, all, first)?;
+        all = longer;
+        rest = behind;
+    }
+    Err(ParseFault::Syntax {
+        line: line_at(rest),
+    })
+}
+
+/// The statements of a clause, behind its opening brace.
+#[tactic(auto, unfolding(crate::specs::ReadingScripts::stmts))]
+pub(crate) fn statements<'a>(
+    alloc: Global,
+    fuel: usize,
+    tokens: &'a [Token],
+) -> Result<(Vec<Stmt>, &'a [Token]), ParseFault>
+    ensures { Gives (λ x. (stmts_of x.0.items, x.1.now)) result (spec.stmts fuel tokens.now) }
+{
+    let (all, rest) = slot(alloc, fuel, Vec::new(alloc), tokens)?;
+    further(alloc, fuel, all, rest)
+}
