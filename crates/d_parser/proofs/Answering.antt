@@ -1,6 +1,8 @@
 -- The script of all tokens, and no other.
 use Rattle.std.proofs.Common.{◌≡◌, List, Option, Some, None, Result, Ok, Err, sym, subst}
-use Rattle.std.specs.Prelude.{IfOk}
+use Rattle.std.specs.Prelude.{IfOk, ℕ, Bool}
+use Rattle.d_parser.specs.Limits.{OnlyLimits}
+use Rattle.d_parser.specs.declared.fault.ParseFault.TheVariants as faults
 use Rattle.d_lexer.specs.declared.token.Token.{Token}
 use Rattle.d_parser.specs.declared.fault.ParseFault.{ParseFault}
 use Rattle.d_parser.specs.declared.tree.Script.{Script}
@@ -18,3 +20,10 @@ found_of (Err e) ts h = tt
 
 pub only_of : (r : Result Script ParseFault) (ts : List Token) → Gives script_of r (script ts) → (s : List ItemTree) → IsScript s ts → Gives script_of r (Some s)
 only_of r ts h s k = subst (λ (o : Option (List ItemTree)). Gives script_of r o) (script_complete s ts k) h
+
+pub passed_of : (r : Result Script ParseFault) (ts : List Token) (deep : Bool) (found : ℕ) → Gives script_of r (script ts) → OnlyLimits deep found r
+passed_of (Ok s) ts deep found h = tt
+passed_of (Err faults.TooDeep) ts deep found h = absurd h
+passed_of (Err faults.TooManyClauses) ts deep found h = absurd h
+passed_of (Err (faults.Syntax line)) ts deep found h = tt
+passed_of (Err faults.Memory) ts deep found h = tt

@@ -1,5 +1,8 @@
 -- How deep and how long tokens may be.
 use Rattle.std.specs.Prelude.{◌≡◌, ◌<◌, ◌-◌, nat_lt, ℕ, suc, Bool, true, false, ◌||◌, List, [], ◌∷◌, count_by}
+use Rattle.std.specs.Prelude.{Result, Ok, Err}
+use Rattle.d_parser.specs.declared.fault.ParseFault.{ParseFault}
+use Rattle.d_parser.specs.declared.fault.ParseFault.TheVariants as faults
 use Rattle.d_lexer.specs.declared.token.Mark.TheVariants as m
 use Rattle.d_lexer.specs.declared.token.Token.{Token}
 use Rattle.d_lexer.specs.declared.token.TokenKind.{TokenKind}
@@ -31,3 +34,10 @@ opens_clause t = false
 
 abbrev pub clauses : List Token → ℕ
 clauses ts = count_by (λ t. opens_clause t.kind) ts
+
+-- TooDeep and TooManyClauses are answered only where that limit is passed
+abbrev pub OnlyLimits : {X : Type 0} → Bool → ℕ → Result X ParseFault → Type 0
+OnlyLimits deep found (Ok x) = Unit {0}
+OnlyLimits deep found (Err faults.TooDeep) = deep ≡ true
+OnlyLimits deep found (Err faults.TooManyClauses) = 256 < found
+OnlyLimits deep found (Err e) = Unit {0}

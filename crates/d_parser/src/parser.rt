@@ -6,6 +6,7 @@ ghost use Rattle.d_parser.specs.Tree.{script_of};
 ghost use Rattle.d_parser.specs.Script as grammar;
 ghost use Rattle.d_parser.specs.Limits as limits;
 ghost use Rattle.d_parser.specs.Reading.{Gives};
+ghost use Rattle.d_parser.specs.Limits.{OnlyLimits};
 ghost use Rattle.d_parser.specs.declared.fault.ParseFault.TheVariants as faults;
 
 use crate::fault::{MOST_CLAUSES, ParseFault};
@@ -18,13 +19,15 @@ use std::alloc::Global;
 /// The tree of a script's tokens, as `d_lexer::lex` gives them.
 ///
 /// `TooDeep` is decided first, then `TooManyClauses`; `Syntax` comes exactly where the tokens have no tree.
-#[tactic(auto, using(crate::proofs::Answering::found_of, crate::proofs::Answering::only_of))]
+#[tactic(auto, using(crate::proofs::Answering::found_of, crate::proofs::Answering::only_of, crate::proofs::Answering::passed_of))]
 pub fn parse(alloc: Global, tokens: &[Token]) -> Result<Script, ParseFault>
     requires { length tokens.now ≤ 65536 }
     // Brackets and rows of tokens are looked at first.
     ensures deep { limits.is_deep 0 0 tokens.now ≡ true → result ≡ Err faults.TooDeep }
     // Then clauses are counted.
     ensures many { limits.is_deep 0 0 tokens.now ≡ false → 256 < limits.clauses tokens.now → result ≡ Err faults.TooManyClauses }
+    // A limit is told only where it is passed.
+    ensures passed { OnlyLimits (limits.is_deep 0 0 tokens.now) (limits.clauses tokens.now) result }
     // What is answered is a tree of the tokens.
     ensures found { IfOk result (λ s. grammar.IsScript (script_of s) tokens.now) }
     // Where there is a tree it is answered, and no other, unless memory runs out.
