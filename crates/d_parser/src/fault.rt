@@ -9,7 +9,7 @@ use thiserror::Error;
 /// Why a script has no tree. The limits are looked at first, and take no memory.
 #[derive(Clone, Copy, Debug, PartialEq, Eq, Error)]
 pub enum ParseFault {
-    /// The first token that can't go on is on this line; at the end, the last token.
+    /// The first token that can't go on is on this line; 0 where the tokens end too soon.
     #[error("line {line}: not a D script")]
     Syntax { line: usize },
     #[error("more than {brackets} open brackets, or {tokens} tokens in a row", brackets = MOST_OPEN, tokens = MOST_IN_A_ROW)]
