@@ -4,7 +4,7 @@
 #   make build      builds it: the program is crates/dreplay/out/dreplay
 #   make test       the gate: every proof from nothing, then every case over both built programs
 #   make cases      the cases alone, over the program that `make build` leaves
-#   make install    puts it into PREFIX/bin (/usr/local/bin, if PREFIX is not given)
+#   make install    puts it and dreplay-from-strace into PREFIX/bin (/usr/local/bin, if PREFIX is not given)
 #   make bench      measures it beside mawk
 #   make clean      removes what was built and proved
 
@@ -32,9 +32,11 @@ test:
 
 cases: build
 	@tests/run --program $(PROGRAM)
+	@tests/convert
 
 install: build
 	install -D -m 755 $(PROGRAM) '$(DESTDIR)$(PREFIX)/bin/dreplay'
+	install -D -m 755 tools/dreplay-from-strace '$(DESTDIR)$(PREFIX)/bin/dreplay-from-strace'
 
 bench: build
 	@bench/run

@@ -8,6 +8,7 @@ from dataclasses import dataclass
 TOP = os.path.dirname(os.path.dirname(os.path.abspath(__file__)))
 CASES = f"{TOP}/tests/cases"
 EXAMPLES = f"{TOP}/examples"
+CONVERSIONS = f"{TOP}/tests/conversions"
 # The gate leaves the program twice: as LLVM builds it, and as Rattle's own compiler does.
 PROGRAMS = [f"{TOP}/crates/dreplay/out/dreplay", f"{TOP}/crates/dreplay/out/dreplay.by-rattle"]
 FILES = {"bundle", "bundle.sh", "stdout", "stderr", "status", "args", "plans", "run"}
@@ -29,7 +30,7 @@ class Result:
 
 @dataclass
 class Case:
-    """A folder of tests/cases or examples: what the program is given, and what it has to answer."""
+    """A folder of tests/cases, examples or tests/conversions: what the program is given, and what it has to answer."""
 
     name: str
     folder: str
@@ -94,6 +95,14 @@ def example_of(name):
     if bundle != read(f"{folder}/script.d") + b"---\n" + read(f"{folder}/trace.csv"):
         raise BadCase("bundle is not script.d, a line ---, and trace.csv")
     return Case(name, folder, bundle, [], [[]], "", Result(0, read(f"{folder}/expected"), b""))
+
+
+def conversion_of(name):
+    """Reads tests/conversions/NAME: a recording for the converter, and the trace that it has to write."""
+    folder = f"{CONVERSIONS}/{name}"
+    words = lines_of(f"{folder}/args") or ["recording"]
+    expected = Result(int(read(f"{folder}/status", b"0")), read(f"{folder}/trace.csv"), read(f"{folder}/stderr"))
+    return Case(name, folder, read(f"{folder}/recording"), words, [[]], "", expected)
 
 
 def folders(path):
