@@ -4,6 +4,7 @@
 #   make build      builds it: the program is crates/dreplay/out/dreplay
 #   make test       the gate: every proof from nothing, then every case over both built programs
 #   make cases      the cases alone, over the program that `make build` leaves
+#   make examples   the examples alone, likewise: each answer is compared with the one beside its script
 #   make install    puts it and dreplay-from-strace into PREFIX/bin (/usr/local/bin, if PREFIX is not given)
 #   make bench      measures it beside mawk
 #   make clean      removes what was built and proved
@@ -12,7 +13,7 @@ PREFIX ?= /usr/local
 PROGRAM := crates/dreplay/out/dreplay
 EXAMPLE := examples/counts
 
-.PHONY: example build test cases install bench clean
+.PHONY: example build test cases examples install bench clean
 
 example: build
 	@echo
@@ -33,6 +34,9 @@ test:
 cases: build
 	@tests/run --program $(PROGRAM)
 	@tests/convert
+
+examples: build
+	@tests/run --program $(PROGRAM) $(basename $(wildcard examples/*/*.d))
 
 install: build
 	install -D -m 755 $(PROGRAM) '$(DESTDIR)$(PREFIX)/bin/dreplay'

@@ -88,13 +88,31 @@ def case_of(name):
     return Case(name, folder, bundle_of(folder), words, plans, read(f"{folder}/run").decode(), expected)
 
 
+def examples():
+    """The names of all examples: FOLDER/SCRIPT for each examples/FOLDER/SCRIPT.d."""
+    files = [f"{folder}/{file}" for folder in folders(EXAMPLES) for file in sorted(os.listdir(f"{EXAMPLES}/{folder}"))]
+    return [file[:-2] for file in files if file.endswith(".d")]
+
+
 def example_of(name):
-    """Reads examples/NAME, whose page shows what stands in expected. Its bundle has to be its script and its trace."""
-    folder = f"{EXAMPLES}/{name}"
-    bundle = read(f"{folder}/bundle")
-    if bundle != read(f"{folder}/script.d") + b"---\n" + read(f"{folder}/trace.csv"):
-        raise BadCase("bundle is not script.d, a line ---, and trace.csv")
-    return Case(name, folder, bundle, [], [[]], "", Result(0, read(f"{folder}/expected"), b""))
+    """Reads the example FOLDER/SCRIPT. What it has to answer over its folder's trace stands in SCRIPT.expected."""
+    folder = os.path.dirname(f"{EXAMPLES}/{name}")
+    bundle = read(f"{EXAMPLES}/{name}.d") + b"---\n" + read(f"{folder}/trace.csv")
+    if read(f"{folder}/bundle", bundle) != bundle:
+        raise BadCase("bundle is not the script, a line ---, and trace.csv")
+    if not os.path.exists(f"{EXAMPLES}/{name}.expected"):
+        raise BadCase(f"there is no file {os.path.basename(name)}.expected")
+    return Case(name, folder, bundle, [], [[]], "", Result(0, read(f"{EXAMPLES}/{name}.expected"), b""))
+
+
+def every_name():
+    """The names of all cases and examples, as the words of a test script give them."""
+    return folders(CASES) + [f"examples/{name}" for name in examples()]
+
+
+def load(name):
+    """Reads the case or the example that a word names."""
+    return example_of(name.removeprefix("examples/")) if name.startswith("examples/") else case_of(name)
 
 
 def conversion_of(name):
@@ -132,10 +150,10 @@ def differences(has, wants):
 
 
 def asked(doc):
-    """Reads a test script's words by its doc: the programs to run, and the names of cases."""
+    """Reads a test script's words by its doc: the programs to run, and the names of cases and examples."""
     parser = argparse.ArgumentParser(usage=doc.split("usage: ")[1].split("\n")[0], description=doc.split("\n")[0])
     parser.add_argument("--program", action="append", metavar="PATH", help="a program to run in the place of the gate's two")
-    parser.add_argument("names", nargs="*", metavar="NAME", help="a folder of tests/cases")
+    parser.add_argument("names", nargs="*", metavar="NAME", help="a folder of tests/cases, or examples/FOLDER/SCRIPT")
     words = parser.parse_args()
     return [os.path.abspath(path) for path in words.program or PROGRAMS], words.names
 
