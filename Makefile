@@ -5,7 +5,8 @@
 #   make test       the gate: every proof from nothing, then every case over both built programs
 #   make cases      the cases alone, over the program that `make build` leaves
 #   make examples   the examples alone, likewise: each answer is compared with the one beside its script
-#   make install    puts it and dreplay-from-strace into PREFIX/bin (/usr/local/bin, if PREFIX is not given)
+#   make install    puts it and dreplay-from-strace into PREFIX/bin (/usr/local/bin, if PREFIX is not given), and the man
+#                   page into PREFIX/share/man/man1
 #   make bench      measures it beside mawk
 #   make clean      removes what was built and proved
 
@@ -41,6 +42,7 @@ examples: build
 install: build
 	install -D -m 755 $(PROGRAM) '$(DESTDIR)$(PREFIX)/bin/dreplay'
 	install -D -m 755 tools/dreplay-from-strace '$(DESTDIR)$(PREFIX)/bin/dreplay-from-strace'
+	install -D -m 644 man/dreplay.1 '$(DESTDIR)$(PREFIX)/share/man/man1/dreplay.1'
 
 bench: build
 	@bench/run
