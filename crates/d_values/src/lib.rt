@@ -1,13 +1,29 @@
 //! The values that D programs compute with, and the keys of their tables.
 #![tactic(auto)]
 
+mod arithmetic;
+mod comparison;
+mod int_type;
 mod key;
+mod operators;
+mod promotion;
+mod shifts;
 mod text;
 mod value;
+mod word;
 
+pub use arithmetic::{OutOfZero, binary};
+pub use comparison::{compare, compare_text};
+pub use int_type::{DType, IntType};
 pub use key::{Key, KeyPart};
-pub use text::Text;
-pub use value::{Kind, Value};
+pub use operators::{ArithmeticOperator, ComparisonOperator, ShiftOperator};
+pub use promotion::{common, promoted};
+pub use shifts::shift;
+pub use text::{Text, join_text};
+pub use value::{Kind, Value, Var};
+pub use word::{complement, convert, negate};
 
+#[cfg(test)]
+mod number_tests;
 #[cfg(test)]
 mod tests;

@@ -1,5 +1,6 @@
 use super::*;
 use std::alloc::{AllocError, Global};
+use std::cmp::Ordering;
 use std::test::Fail;
 
 #[derive(Clone, Copy)]
@@ -80,5 +81,28 @@ fn texts_keep_their_bytes(rt: HostRuntime) -> Result<(), Fail> {
     let text = Text::from(bytes);
     assert_eq!(rt; text.clone()?.as_bytes(), b"read".as_slice());
     assert_eq!(rt; text.into_bytes().as_slice(), b"read".as_slice());
+    Ok(())
+}
+
+#[test]
+fn texts_join(rt: HostRuntime) -> Result<(), Fail> {
+    let alloc = rt.alloc();
+    let long = vec![in alloc; b'x'; 254]?;
+    let rows: [(&[u8], &[u8], usize, u8); 4] = [
+        (b"ab", b"cat", 5, b't'),
+        (&long, b"yz", 255, b'y'),
+        (b"", b"", 0, 0),
+        (b"z", &long, 255, b'x'),
+    ];
+    for (a, b, length, last) in rows {
+        let joined = join_text(alloc, a, b)?;
+        let bytes = joined.as_bytes();
+        assert_eq!(rt; bytes.len(), length);
+        assert_eq!(rt; bytes.last().copied().unwrap_or(0), last);
+        assert_eq!(rt; bytes.first().copied(), a.iter().chain(b).next().copied());
+    }
+    assert_eq!(rt; compare_text(b"a", b"ab"), Ordering::Less);
+    assert_eq!(rt; compare_text(b"b\x80", b"b\x7f"), Ordering::Greater);
+    assert_eq!(rt; compare_text(b"", b""), Ordering::Equal);
     Ok(())
 }

@@ -1,6 +1,6 @@
 //! Texts: byte strings that contracts see as lists of bytes.
 
-ghost use Rattle.std.specs.Prelude.{◌≡◌, ◌↔◌, [], ◌∷◌, IfOk, OnOk, OnErr, IsTrue};
+ghost use Rattle.std.specs.Prelude.{◌≡◌, ◌↔◌, [], ◌∷◌, ◌++◌, take, IfOk, OnOk, OnErr, IsTrue};
 ghost use Rattle.std.proofs.Common.{refl, ap};
 ghost use Rattle.std.specs.Cmp.{partial_equiv_from_equiv, po};
 ghost use Rattle.std.specs.Ordering.{as_partial_cmp};
@@ -68,6 +68,20 @@ impl Text {
         self.bytes.clear();
         self.bytes.extend_from_slice(bytes)
     }
+}
+
+// How many bytes a text of the language has at most.
+const TEXT_LIMIT: usize = 255;
+
+/// Both texts joined, cut to the first 255 bytes.
+pub fn join_text(alloc: Global, a: &[u8], b: &[u8]) -> Result<Text, AllocError>
+    ensures { IfOk result (λ t. t ≡ take 255 (a.now ++ b.now)) }
+{
+    let first = &a[..a.len().min(TEXT_LIMIT)];
+    let second = &b[..b.len().min(TEXT_LIMIT - first.len())];
+    let mut text = Text::from_slice(alloc, first)?;
+    text.bytes.extend_from_slice(second)?;
+    Ok(text)
 }
 
 // Takes no memory.

@@ -6,12 +6,21 @@ use crate::text::Text;
 use std::alloc::AllocError;
 
 /// Whether a value or a key's part is an integer or a text.
-#[derive(Clone, Copy, Debug, PartialEq, Eq)]
+#[derive(Clone, Copy, Debug, PartialEq, Eq, Hash)]
 pub enum Kind {
     /// An integer.
     Number,
     /// A text.
     Text,
+}
+
+/// A variable: its slot among those of its kind and its storage, thread-local or clause-local.
+#[derive(Clone, Copy, Debug, PartialEq, Eq, Hash)]
+pub struct Var {
+    /// Its place.
+    pub slot: u16,
+    /// Whether it holds integers or texts.
+    pub kind: Kind,
 }
 
 /// The value of an expression.

@@ -1,0 +1,87 @@
+-- Integers as 64-bit words.
+use Rattle.std.specs.Prelude.{ℕ, ◌+◌, ◌-◌, ◌*◌, ◌/◌, ◌%◌, ◌^◌, Bool, true, false, ◌&&◌, ◌==◌, nat_le, if◌then◌else◌, Result, Ok, Err, bit_and, bit_or, bit_xor, int_div, int_rem}
+use Rattle.std.specs.Int.{int_shr, cast_signed, cast_unsigned, w64}
+use Rattle.std.specs.Ordering.{nat_cmp, int_cmp}
+use Rattle.std.specs.declared.cmp.Ordering.{Ordering}
+use Rattle.d_values.specs.declared.int_type.IntType.{IntType}
+use Rattle.d_values.specs.declared.operators.ArithmeticOperator.{ArithmeticOperator}
+use Rattle.d_values.specs.declared.operators.ArithmeticOperator.TheVariants.{Multiply, Divide, Remainder, Add, Subtract, BitAnd, BitXor, BitOr}
+use Rattle.d_values.specs.declared.operators.ShiftOperator.{ShiftOperator}
+use Rattle.d_values.specs.declared.operators.ShiftOperator.TheVariants.{Left, Right}
+use Rattle.d_values.specs.declared.arithmetic.OutOfZero.{OutOfZero}
+
+-- the lowest bits of a type as a word: ones above them where their sign is set
+abbrev pub extended : IntType → ℕ → ℕ
+extended t low =
+    if t.signed && nat_le (2 ^ (t.width - 1)) low then low + (2 ^ 64 - 2 ^ t.width) else low
+
+-- the word of the type whose lowest bits are those of this one
+abbrev pub narrow : IntType → ℕ → ℕ
+narrow t word = extended t (word % 2 ^ t.width)
+
+-- ---- 64-bit results, before they are narrowed
+
+abbrev pub sum_of : ℕ → ℕ → ℕ
+sum_of a b = (a + b) % 2 ^ 64
+
+abbrev pub difference_of : ℕ → ℕ → ℕ
+difference_of a b = (a + (2 ^ 64 - b)) % 2 ^ 64
+
+abbrev pub product_of : ℕ → ℕ → ℕ
+product_of a b = (a * b) % 2 ^ 64
+
+-- cut toward zero, of signed or of unsigned numbers
+abbrev pub quotient_of : Bool → ℕ → ℕ → ℕ
+quotient_of signed a b =
+    if signed then cast_unsigned w64 (int_div (cast_signed w64 a) (cast_signed w64 b)) else a / b
+
+abbrev pub remainder_of : Bool → ℕ → ℕ → ℕ
+remainder_of signed a b =
+    if signed then cast_unsigned w64 (int_rem (cast_signed w64 a) (cast_signed w64 b)) else a % b
+
+abbrev pub left_of : ℕ → ℕ → ℕ
+left_of a count = (a * 2 ^ count) % 2 ^ 64
+
+-- with copies of the sign, or with zeros
+abbrev pub right_of : Bool → ℕ → ℕ → ℕ
+right_of signed a count = if signed then cast_unsigned w64 (int_shr (cast_signed w64 a) count) else a / 2 ^ count
+
+-- an operator on words, signed or not
+abbrev pub operate : ArithmeticOperator → Bool → ℕ → ℕ → ℕ
+operate Multiply signed a b = product_of a b
+operate Divide signed a b = quotient_of signed a b
+operate Remainder signed a b = remainder_of signed a b
+operate Add signed a b = sum_of a b
+operate Subtract signed a b = difference_of a b
+operate BitAnd signed a b = bit_and a b
+operate BitXor signed a b = bit_xor a b
+operate BitOr signed a b = bit_or a b
+
+-- ---- the operators
+
+-- the operator has no value at 0 on its right
+abbrev pub divides : ArithmeticOperator → Bool
+divides Divide = true
+divides Remainder = true
+divides _ = false
+
+abbrev pub binary_of : ArithmeticOperator → IntType → ℕ → ℕ → Result ℕ OutOfZero
+binary_of op t a b = if divides op && (b == 0) then Err (record {}) else Ok (narrow t (operate op t.signed a b))
+
+abbrev pub shifted : ShiftOperator → Bool → ℕ → ℕ → ℕ
+shifted Left signed a count = left_of a count
+shifted Right signed a count = right_of signed a count
+
+-- the count is taken modulo the width
+abbrev pub shift_of : ShiftOperator → IntType → ℕ → ℕ → ℕ
+shift_of op t a count = narrow t (shifted op t.signed a (count % t.width))
+
+abbrev pub opposite_of : IntType → ℕ → ℕ
+opposite_of t a = narrow t (difference_of 0 a)
+
+abbrev pub complement_of : IntType → ℕ → ℕ
+complement_of t a = narrow t (2 ^ 64 - 1 - a)
+
+-- the order of two words of the type
+abbrev pub order_of : IntType → ℕ → ℕ → Ordering
+order_of t a b = if t.signed then int_cmp (cast_signed w64 a) (cast_signed w64 b) else nat_cmp a b

@@ -1,0 +1,80 @@
+//! `* / % + - & ^ |` on words.
+
+ghost use Rattle.std.specs.Prelude.{◌≡◌, ◌≢◌, true};
+ghost use Rattle.d_values.specs.Words.{divides, operate, quotient_of, remainder_of, binary_of};
+
+use crate::int_type::IntType;
+use crate::operators::ArithmeticOperator;
+use crate::word::narrowed;
+
+/// The refusal of `/` and `%` by zero.
+#[derive(Clone, Copy, Debug, PartialEq, Eq)]
+pub struct OutOfZero;
+
+/// The operator's result in the type that both operands have. Refused exactly where `/` or `%` has
+/// 0 on its right.
+pub fn binary(op: ArithmeticOperator, t: IntType, a: u64, b: u64) -> Result<u64, OutOfZero>
+    ensures word { result ≡ binary_of op t a b }
+{
+    if op.divides() && b == 0 {
+        return Err(OutOfZero);
+    }
+    Ok(narrowed(t, operated(op, t.signed, a, b)))
+}
+
+impl ArithmeticOperator {
+    // Whether it is `/` or `%`.
+    fn divides(self) -> bool
+        ensures { result ≡ divides self }
+    {
+        matches!(
+            self,
+            ArithmeticOperator::Divide | ArithmeticOperator::Remainder
+        )
+    }
+}
+
+// The operator's result in 64 bits.
+fn operated(op: ArithmeticOperator, signed: bool, a: u64, b: u64) -> u64
+    requires { divides op ≡ true → b ≢ 0 }
+    ensures { result ≡ operate op signed a b }
+{
+    match op {
+        ArithmeticOperator::Multiply => a.wrapping_mul(b),
+        ArithmeticOperator::Divide => quotient(signed, a, b),
+        ArithmeticOperator::Remainder => remainder(signed, a, b),
+        ArithmeticOperator::Add => a.wrapping_add(b),
+        ArithmeticOperator::Subtract => a.wrapping_sub(b),
+        ArithmeticOperator::BitAnd => a & b,
+        ArithmeticOperator::BitXor => a ^ b,
+        ArithmeticOperator::BitOr => a | b,
+    }
+}
+
+// Cut toward zero.
+fn quotient(signed: bool, a: u64, b: u64) -> u64
+    requires { b ≢ 0 }
+    ensures { result ≡ quotient_of signed a b }
+{
+    if signed {
+        a.cast_signed()
+            .wrapping_div(b.cast_signed())
+            .cast_unsigned()
+    } else {
+        a / b
+    }
+}
+
+// What is left of a division that cuts toward zero.
+fn remainder(signed: bool, a: u64, b: u64) -> u64
+    requires { b ≢ 0 }
+    ensures { result ≡ remainder_of signed a b }
+{
+    if signed {
+        a.cast_signed()
+            .wrapping_rem(b.cast_signed())
+            .cast_unsigned()
+    } else {
+        a % b
+    }
+}

@@ -1,0 +1,42 @@
+//! `<<` and `>>` on words.
+
+ghost use Rattle.std.specs.Prelude.{◌≡◌, ◌<◌};
+ghost use Rattle.d_values.specs.Words.{shifted, right_of, shift_of};
+
+use crate::int_type::IntType;
+use crate::operators::ShiftOperator;
+use crate::word::narrowed;
+
+/// The left operand, of the type, moved by the count modulo the type's width. A right shift of a
+/// signed one copies its sign.
+pub fn shift(op: ShiftOperator, t: IntType, a: u64, count: u64) -> u64
+    ensures word { result ≡ shift_of op t a count }
+{
+    narrowed(
+        t,
+        moved(op, t.signed, a, (count % u64::from(t.width)) as u32),
+    )
+}
+
+// The shift in 64 bits.
+fn moved(op: ShiftOperator, signed: bool, a: u64, count: u32) -> u64
+    requires { count < 64 }
+    ensures { result ≡ shifted op signed a count }
+{
+    match op {
+        ShiftOperator::Left => a.wrapping_shl(count),
+        ShiftOperator::Right => moved_right(signed, a, count),
+    }
+}
+
+// To the right, with copies of the sign or with zeros.
+fn moved_right(signed: bool, a: u64, count: u32) -> u64
+    requires { count < 64 }
+    ensures { result ≡ right_of signed a count }
+{
+    if signed {
+        (a.cast_signed() >> count).cast_unsigned()
+    } else {
+        a >> count
+    }
+}

@@ -1,0 +1,43 @@
+//! Integers as 64-bit words, each the extension of a typed value.
+
+ghost use Rattle.std.specs.Prelude.{◌≡◌};
+ghost use Rattle.d_values.specs.Words.{narrow, opposite_of, complement_of};
+
+use crate::int_type::IntType;
+
+/// The word of the type whose lowest bits are those of this one.
+pub(crate) fn narrowed(t: IntType, word: u64) -> u64
+    ensures { result ≡ narrow t word }
+{
+    if t.width == 64 {
+        return word;
+    }
+    let size = 1u64 << t.width;
+    let low = word & (size - 1);
+    if t.signed && size / 2 <= low {
+        low + (u64::MAX - size + 1)
+    } else {
+        low
+    }
+}
+
+/// The value of one type as a value of another (Guide, "Type Conversions").
+pub fn convert(value: u64, from: IntType, to: IntType) -> u64
+    ensures word { result ≡ narrow to value }
+{
+    narrowed(to, value)
+}
+
+/// `-a` in the type.
+pub fn negate(t: IntType, a: u64) -> u64
+    ensures word { result ≡ opposite_of t a }
+{
+    narrowed(t, 0u64.wrapping_sub(a))
+}
+
+/// `~a` in the type.
+pub fn complement(t: IntType, a: u64) -> u64
+    ensures word { result ≡ complement_of t a }
+{
+    narrowed(t, !a)
+}
