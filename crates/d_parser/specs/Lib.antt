@@ -6,3 +6,5 @@ pub mod Reading
 pub mod Script
 pub mod ReadingScripts
 pub mod Limits
+pub mod Symbols
+pub mod Lines

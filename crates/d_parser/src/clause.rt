@@ -6,7 +6,7 @@ ghost use Rattle.d_parser.specs.Reading.{Gives};
 ghost use Rattle.d_parser.specs.ReadingScripts as spec;
 
 use crate::expression::phrase;
-use crate::fault::ParseFault;
+use crate::fault::{AT_END, ParseFault};
 use crate::marks::{is_at, tail};
 use crate::names::{after_mark, line_at};
 use crate::probe::description_of;
@@ -20,7 +20,7 @@ fn description(alloc: Global, tokens: &[Token]) -> Result<(Description, &[Token]
     ensures { Gives (λ x. (x.0, x.1.now)) result (spec.description tokens.now) }
 {
     let [token, rest @ ..] = tokens else {
-        return Err(ParseFault::Syntax { line: 0 });
+        return Err(ParseFault::Syntax { line: AT_END });
     };
     match &token.kind {
         TokenKind::DescriptionRun(run) => Ok((

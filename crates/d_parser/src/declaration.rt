@@ -7,9 +7,9 @@ ghost use Rattle.d_parser.specs.ReadingScripts as spec;
 
 use crate::fault::ParseFault;
 use crate::marks::{is_at, tail};
-use crate::names::{after_mark, line_at};
+use crate::names::{after_mark, line_at, line_behind};
 use crate::tree::{Declaration, DeclaredType};
-use crate::words::{split_run, type_of};
+use crate::words::{split_run, type_length, type_of};
 use d_lexer::{ByteString, Mark, Token, TokenKind};
 use std::alloc::Global;
 
@@ -22,7 +22,7 @@ fn whole_type(tokens: &[Token]) -> Result<(DeclaredType, &[Token]), ParseFault>
     match type_of(words) {
         Some(declared) => Ok((declared, rest)),
         None => Err(ParseFault::Syntax {
-            line: line_at(tokens),
+            line: line_behind(type_length(words), tokens),
         }),
     }
 }
@@ -90,6 +90,16 @@ fn word_of(alloc: Global, token: &Token) -> Result<ByteString, ParseFault>
     }
 }
 
+/// The line of the first token that can't go on, where these words are no type and a name.
+fn line_without_name(words: &[Token], tokens: &[Token]) -> usize {
+    let count = type_length(words);
+    if count == 0 || count == words.len() {
+        line_behind(count, tokens)
+    } else {
+        line_behind(count + 1, tokens)
+    }
+}
+
 /// A type and a word.
 #[tactic(auto, unfolding(crate::specs::ReadingScripts::typed_name))]
 fn typed_name(
@@ -107,7 +117,7 @@ fn typed_name(
     match type_of(types) {
         Some(declared) => Ok((declared, word_of(alloc, name)?, rest)),
         None => Err(ParseFault::Syntax {
-            line: line_at(tokens),
+            line: line_without_name(words, tokens),
         }),
     }
 }

@@ -1,4 +1,5 @@
 //! Expressions, by precedence climbing. `fuel` bounds how deep the calls go; a list never needs more than its length.
+//! Functions that aren't inlined keep what one level takes of the stack small: the deepest tree fits in 2 MiB.
 
 ghost use Rattle.std.specs.Prelude.{◌≡◌, ◌≤◌, IfOk};
 ghost use Rattle.d_parser.specs.Tree as trees;
@@ -8,7 +9,7 @@ ghost use Rattle.d_parser.specs.Reading.{Gives};
 ghost use Rattle.d_parser.specs.Words as words;
 
 use crate::build;
-use crate::fault::ParseFault;
+use crate::fault::{AT_END, ParseFault};
 use crate::marks::{Follow, Prefix, follow_at, is_at, prefix_of, tail};
 use crate::names::{after_mark, cast_type, is_typed, line_at, variable};
 use crate::operators::Step;
@@ -101,6 +102,7 @@ fn target<'a>(
 
 /// What a target goes on as.
 #[cycle(expression)]
+#[inline(never)]
 #[tactic(auto, unfolding(crate::specs::Reading::follows))]
 fn follows<'a>(
     alloc: Global,
@@ -126,6 +128,7 @@ fn follows<'a>(
 
 /// A call, or what a target begins.
 #[cycle(expression)]
+#[inline(never)]
 #[tactic(auto, unfolding(crate::specs::Reading::named))]
 fn named<'a>(
     alloc: Global,
@@ -158,6 +161,7 @@ fn begins_call(name: &ByteString, tokens: &[Token]) -> bool
 }
 
 #[cycle(expression)]
+#[inline(never)]
 #[tactic(auto, unfolding(crate::specs::Reading::casted))]
 fn cast<'a>(
     alloc: Global,
@@ -174,6 +178,7 @@ fn cast<'a>(
 
 /// A cast or an expression, behind the opening parenthesis.
 #[cycle(expression)]
+#[inline(never)]
 #[tactic(auto, unfolding(crate::specs::Reading::parenthesised))]
 fn parenthesised<'a>(
     alloc: Global,
@@ -203,7 +208,7 @@ fn stepped<'a>(
     ensures { Gives (λ x. (tree_of x.0, x.1.now)) result (spec.stepped (spec.readers fuel) line step tokens.now) }
 {
     let [token, rest @ ..] = tokens else {
-        return Err(ParseFault::Syntax { line: 0 });
+        return Err(ParseFault::Syntax { line: AT_END });
     };
     match &token.kind {
         TokenKind::Word(name) => {
@@ -216,6 +221,7 @@ fn stepped<'a>(
 
 /// Behind a mark that begins a part.
 #[cycle(expression)]
+#[inline(never)]
 #[tactic(auto, unfolding(crate::specs::Reading::marked))]
 fn marked<'a>(
     alloc: Global,
@@ -251,7 +257,7 @@ fn part<'a>(
     ensures { Gives (λ x. (tree_of x.0, x.1.now)) result (spec.part (spec.readers fuel) level tokens.now) }
 {
     let [token, rest @ ..] = tokens else {
-        return Err(ParseFault::Syntax { line: 0 });
+        return Err(ParseFault::Syntax { line: AT_END });
     };
     match &token.kind {
         TokenKind::Number { value, suffix } => Ok((
@@ -291,6 +297,7 @@ fn climb<'a>(
 }
 
 #[cycle(expression)]
+#[inline(never)]
 #[tactic(auto, unfolding(crate::specs::Reading::climb_on))]
 fn climb_on<'a>(
     alloc: Global,
@@ -337,6 +344,7 @@ fn choice<'a>(
 
 /// What stands behind the question mark.
 #[cycle(expression)]
+#[inline(never)]
 #[tactic(auto, unfolding(crate::specs::Reading::chosen))]
 fn chosen<'a>(
     alloc: Global,

@@ -2,6 +2,7 @@
 
 ghost use Rattle.std.specs.Prelude.{◌≡◌};
 ghost use Rattle.d_parser.specs.declared.fault.ParseFault.TheVariants.{Memory};
+ghost use Rattle.d_parser.specs.Lines.{ending_on};
 
 use std::alloc::{AllocError, AllocFailed};
 use thiserror::Error;
@@ -9,7 +10,7 @@ use thiserror::Error;
 /// Why a script has no tree. The limits are looked at first, and take no memory.
 #[derive(Clone, Copy, Debug, PartialEq, Eq, Error)]
 pub enum ParseFault {
-    /// The first token that can't go on is on this line; 0 where the tokens end too soon.
+    /// The first token that can't go on is on this line; where the tokens end too soon it is the last token's.
     #[error("line {line}: not a D script")]
     Syntax { line: usize },
     #[error("more than {brackets} open brackets, or {tokens} tokens in a row", brackets = MOST_OPEN, tokens = MOST_IN_A_ROW)]
@@ -28,6 +29,21 @@ pub const MOST_IN_A_ROW: usize = 1024;
 
 /// The most clauses that a script may have.
 pub const MOST_CLAUSES: usize = 256;
+
+/// Stands for the line at which the tokens end, until that is filled in.
+pub(crate) const AT_END: usize = 0;
+
+impl ParseFault {
+    /// The same fault, with the line at which the tokens end.
+    pub(crate) fn ending_on(self, line: usize) -> ParseFault
+        ensures { result ≡ ending_on line self }
+    {
+        match self {
+            ParseFault::Syntax { line: AT_END } => ParseFault::Syntax { line },
+            other => other,
+        }
+    }
+}
 
 impl From<AllocError> for ParseFault {
     ghost from_gives = { λ _ e. e ≡ Memory };

@@ -14,7 +14,13 @@ mod operators;
 mod parser;
 mod probe;
 mod script;
+mod show;
 mod statement;
+mod symbols;
+#[cfg(test)]
+mod tests;
+#[cfg(test)]
+mod tests_of_faults;
 mod tree;
 mod words;
 

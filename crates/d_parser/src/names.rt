@@ -5,18 +5,31 @@ ghost use Rattle.d_parser.specs.Reading as spec;
 ghost use Rattle.d_parser.specs.Reading.{Gives};
 ghost use Rattle.d_parser.specs.Words as words;
 
-use crate::fault::ParseFault;
+use crate::fault::{AT_END, ParseFault};
 use crate::marks::{is_at, tail};
 use crate::tree::{IntegerType, Variable};
-use crate::words::{WordKind, integer_type, split_run, word_kind};
+use crate::words::{WordKind, integer_type, kind_of, split_run, type_length, word_kind};
 use d_lexer::{ByteString, Mark, Token, TokenKind};
 use std::alloc::Global;
 
-/// The line on which the rest begins; 0 at its end.
+/// The line of the token behind so many others.
+pub(crate) fn line_behind(count: usize, tokens: &[Token]) -> usize {
+    match tokens.get(count) {
+        Some(token) => token.line,
+        None => AT_END,
+    }
+}
+
+/// The line on which the rest begins.
 pub(crate) fn line_at(tokens: &[Token]) -> usize {
+    line_behind(0, tokens)
+}
+
+/// The line at which all tokens end; 1 where there are none.
+pub(crate) fn last_line(tokens: &[Token]) -> usize {
     match tokens {
-        [token, ..] => token.line,
-        [] => 0,
+        [.., token] => token.line,
+        [] => 1,
     }
 }
 
@@ -39,7 +52,7 @@ fn plain_word(alloc: Global, tokens: &[Token]) -> Result<(ByteString, &[Token]),
     ensures { Gives (λ x. (x.0, x.1.now)) result (spec.plain_word tokens.now) }
 {
     let [token, rest @ ..] = tokens else {
-        return Err(ParseFault::Syntax { line: 0 });
+        return Err(ParseFault::Syntax { line: AT_END });
     };
     match &token.kind {
         TokenKind::Word(name) => match word_kind(name.as_slice()) {
@@ -98,6 +111,14 @@ pub(crate) fn is_typed(tokens: &[Token]) -> bool
     }
 }
 
+/// The line of the first token that can't go on, where these words are no integer type.
+fn line_without_cast(words: &[Token], tokens: &[Token]) -> usize {
+    match words {
+        [first, ..] if matches!(kind_of(first), WordKind::Text) => line_at(tokens),
+        _ => line_behind(type_length(words), tokens),
+    }
+}
+
 /// The type in a cast, behind its opening parenthesis.
 #[tactic(auto, unfolding(crate::specs::Reading::cast_type))]
 pub(crate) fn cast_type(tokens: &[Token]) -> Result<(IntegerType, &[Token]), ParseFault>
@@ -106,7 +127,7 @@ pub(crate) fn cast_type(tokens: &[Token]) -> Result<(IntegerType, &[Token]), Par
     let (words, rest) = split_run(tokens);
     let Some(to) = integer_type(words) else {
         return Err(ParseFault::Syntax {
-            line: line_at(tokens),
+            line: line_without_cast(words, tokens),
         });
     };
     Ok((to, after_mark(Mark::CloseParenthesis, rest)?))

@@ -8,8 +8,8 @@ ghost use Rattle.d_parser.specs.Words as words;
 
 use crate::clause::clause;
 use crate::declaration::{of_clause, of_thread};
-use crate::fault::ParseFault;
-use crate::names::line_at;
+use crate::fault::{AT_END, ParseFault};
+use crate::names::{last_line, line_at};
 use crate::tree::{Declaration, Item, Script};
 use crate::words::{WordKind, word_kind};
 use d_lexer::{ByteString, Token, TokenKind};
@@ -41,7 +41,7 @@ fn item<'a>(
     ensures { Gives (λ x. (item_of x.0, x.1.now)) result (spec.item fuel tokens.now) }
 {
     let [token, rest @ ..] = tokens else {
-        return Err(ParseFault::Syntax { line: 0 });
+        return Err(ParseFault::Syntax { line: AT_END });
     };
     match &token.kind {
         TokenKind::Word(word) => {
@@ -80,7 +80,8 @@ pub(crate) fn script(alloc: Global, tokens: &[Token]) -> Result<Script, ParseFau
     requires { length tokens.now ≤ 65536 }
     ensures { Gives script_of result (spec.script tokens.now) }
 {
-    Ok(Script {
-        items: items(alloc, tokens.len() + 1, tokens)?,
-    })
+    match items(alloc, tokens.len() + 1, tokens) {
+        Ok(items) => Ok(Script { items }),
+        Err(fault) => Err(fault.ending_on(last_line(tokens))),
+    }
 }

@@ -6,7 +6,7 @@ ghost use Rattle.d_parser.specs.Reading.{Gives};
 ghost use Rattle.d_parser.specs.ReadingScripts as spec;
 
 use crate::expression::{arguments, keys, phrase};
-use crate::fault::ParseFault;
+use crate::fault::{AT_END, ParseFault};
 use crate::marks::{is_at, tail};
 use crate::names::{after_mark, line_at};
 use crate::tree::Stmt;
@@ -19,7 +19,7 @@ fn any_word(alloc: Global, tokens: &[Token]) -> Result<(ByteString, &[Token]), P
     ensures { Gives (λ x. (x.0, x.1.now)) result (spec.any_word tokens.now) }
 {
     let [token, rest @ ..] = tokens else {
-        return Err(ParseFault::Syntax { line: 0 });
+        return Err(ParseFault::Syntax { line: AT_END });
     };
     match &token.kind {
         TokenKind::Word(word) => Ok((ByteString::from_slice(alloc, word.as_slice())?, rest)),
@@ -72,7 +72,7 @@ fn statement<'a>(
     ensures { Gives (λ x. (stmt_of x.0, x.1.now)) result (spec.stmt fuel tokens.now) }
 {
     let [token, rest @ ..] = tokens else {
-        return Err(ParseFault::Syntax { line: 0 });
+        return Err(ParseFault::Syntax { line: AT_END });
     };
     match &token.kind {
         TokenKind::AggregationName(name) => aggregation(alloc, fuel, token.line, name, rest),

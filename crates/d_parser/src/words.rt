@@ -182,6 +182,18 @@ pub(crate) fn type_of(words: &[Token]) -> Option<DeclaredType>
     }
 }
 
+/// How many words at the front spell a type together, up to the first that can't go on.
+pub(crate) fn type_length(words: &[Token]) -> usize
+    ensures { result ≤ length words.now }
+{
+    for count in 0..words.len() {
+        if type_of(&words[..count + 1]).is_none() {
+            return count;
+        }
+    }
+    words.len()
+}
+
 /// The integer type that words spell.
 pub(crate) fn integer_type(words: &[Token]) -> Option<IntegerType>
     ensures { result ≡ spec.integer_type words.now }
