@@ -1,0 +1,57 @@
+-- The first fault, and what a function may answer.
+use Rattle.std.specs.Prelude.{◌≡◌, ℕ, List, Option, Some, None, Result, Ok, Err}
+use Rattle.d_types.specs.declared.fault.TypeFault.{TypeFault}
+use Rattle.d_types.specs.declared.fault.TypeFault.TheVariants as f
+
+-- why a construct is refused; where several causes hold, the first of them tells
+pub data Cause : Type 0 where
+  GlobalAssignment : (name : List ℕ) → Cause
+  Undeclared : Cause
+  Mismatch : Cause
+  Keys : Cause
+  AggregationRedefined : Cause
+  LquantizeBounds : Cause
+  PrintfArguments : Cause
+  ReadOnly : Cause
+  NoRegister : Cause
+
+-- a cause, and the line of the refused construct's first token
+pub record Fault : Type 0 where
+  pub cause : Cause
+  pub line : ℕ
+
+-- what comes first is refused first
+infixl 10 ◌>>=◌
+abbrev pub ◌>>=◌ : {A B : Type 0} → Result A Fault → (A → Result B Fault) → Result B Fault
+(Err e) >>= go = Err e
+(Ok x) >>= go = go x
+
+abbrev pub refuse : {A : Type 0} → Cause → ℕ → Result A Fault
+refuse cause line = Err (record { cause = cause; line = line })
+
+-- what there is, or else the cause
+abbrev pub unless : {A : Type 0} → Cause → ℕ → Option A → Result A Fault
+unless cause line None = refuse cause line
+unless cause line (Some x) = Ok x
+
+-- What a function returned, seen by view, is what is asked for, unless memory ran out.
+abbrev pub Fails : {Y : Type 0} → TypeFault → Result Y Fault → Type 0
+Fails (f.GlobalAssignment name line) r = r ≡ refuse (GlobalAssignment name) line
+Fails (f.Undeclared line) r = r ≡ refuse Undeclared line
+Fails (f.Mismatch line) r = r ≡ refuse Mismatch line
+Fails (f.Keys line) r = r ≡ refuse Keys line
+Fails (f.AggregationRedefined line) r = r ≡ refuse AggregationRedefined line
+Fails (f.LquantizeBounds line) r = r ≡ refuse LquantizeBounds line
+Fails (f.PrintfArguments line) r = r ≡ refuse PrintfArguments line
+Fails (f.ReadOnly line) r = r ≡ refuse ReadOnly line
+Fails (f.NoRegister line) r = r ≡ refuse NoRegister line
+Fails f.Memory r = Unit {0}
+
+abbrev pub Gives : {X Y : Type 0} → (X → Y) → Result X TypeFault → Result Y Fault → Type 0
+Gives view (Ok x) r = r ≡ Ok (view x)
+Gives view (Err e) r = Fails e r
+
+-- only memory is a reason to fail
+abbrev pub OnlyMemory : {X : Type 0} → Result X TypeFault → Type 0
+OnlyMemory (Ok x) = Unit {0}
+OnlyMemory (Err e) = e ≡ f.Memory

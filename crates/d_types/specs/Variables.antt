@@ -1,0 +1,72 @@
+-- The table of variables.
+use Rattle.std.specs.Prelude.{ℕ, zero, suc, ◌+◌, Bool, true, false, ◌&&◌, if◌then◌else◌, List, [], ◌∷◌, map, Option, Some, None}
+use Rattle.std.specs.Str.{bytes_eq}
+use denote.Enum.Bare.{sameb}
+use Rattle.d_types.specs.contracts.typed.Space as space
+use Rattle.d_values.specs.contracts.value.Kind as kind
+use Rattle.d_values.specs.declared.value.Kind.{Kind}
+use Rattle.d_values.specs.declared.value.Kind.TheVariants as k
+use Rattle.d_values.specs.declared.int_type.DType.{DType}
+use Rattle.d_values.specs.declared.int_type.DType.TheVariants as ty
+use Rattle.d_types.specs.declared.typed.Space.{Space}
+use Rattle.d_types.specs.declared.variables.Entry.{Entry}
+use Rattle.d_types.specs.Typed.{Typed, Typeds, end, more, type_of}
+
+-- a variable; its keys are known before its type
+pub record Row : Type 0 where
+  pub space : Space
+  pub word : List ℕ
+  pub keys : List Kind
+  pub holds : Option DType
+
+-- the variables so far: a variable's slot is its place
+abbrev pub Rows : Type 0
+Rows = List Row
+
+abbrev pub row_of : Entry → Row
+row_of e = record { space = e.space; word = e.name; keys = e.keys.items; holds = e.holds }
+
+abbrev pub rows_of : List Entry → Rows
+rows_of es = map row_of es
+
+abbrev pub kind_of : DType → Kind
+kind_of (ty.Int t) = k.Number
+kind_of ty.Text = k.Text
+
+abbrev pub is_named : Space → List ℕ → Row → Bool
+is_named s w r = sameb space.the_type r.space s && bytes_eq r.word w
+
+-- the slot of a variable, in a table whose first slot is n
+abbrev pub find_from : ℕ → Space → List ℕ → Rows → Option ℕ
+find_from n s w [] = None
+find_from n s w (r ∷ rs) = if is_named s w r then Some n else find_from (n + 1) s w rs
+
+abbrev pub find : Space → List ℕ → Rows → Option ℕ
+find s w rows = find_from 0 s w rows
+
+-- its type, once it is known
+abbrev pub type_at : Rows → ℕ → Option DType
+type_at [] n = None
+type_at (r ∷ rs) zero = r.holds
+type_at (r ∷ rs) (suc n) = type_at rs n
+
+-- keys of these kinds
+abbrev pub fit : List Kind → Typeds → Bool
+fit [] end = true
+fit [] (more y keys) = false
+fit (x ∷ kinds) end = false
+fit (x ∷ kinds) (more y keys) = sameb kind.the_type (kind_of (type_of y)) x && fit kinds keys
+
+abbrev pub keys_fit : Rows → ℕ → Typeds → Bool
+keys_fit [] n keys = false
+keys_fit (r ∷ rs) zero keys = fit r.keys keys
+keys_fit (r ∷ rs) (suc n) keys = keys_fit rs n keys
+
+abbrev pub set_type : ℕ → DType → Rows → Rows
+set_type n t [] = []
+set_type zero t (r ∷ rs) = record r { holds = Some t } ∷ rs
+set_type (suc n) t (r ∷ rs) = r ∷ set_type n t rs
+
+abbrev pub kinds_of : Typeds → List Kind
+kinds_of end = []
+kinds_of (more x rest) = kind_of (type_of x) ∷ kinds_of rest

@@ -1,0 +1,48 @@
+//! The types of values.
+
+ghost use Rattle.std.specs.Prelude.{◌≡◌};
+ghost use Rattle.d_types.specs.Typed as spec;
+
+use crate::constants::integer;
+use crate::typed::{BuiltIn, Operation, TypedExpr};
+use d_parser::{IntegerType, UnaryOperator};
+use d_values::DType;
+
+fn type_of_built_in(built_in: BuiltIn) -> DType
+    ensures { result ≡ spec.type_of_built_in built_in }
+{
+    match built_in {
+        BuiltIn::Argument(_) => integer(IntegerType::Int64),
+        BuiltIn::Timestamp => integer(IntegerType::Uint64),
+        BuiltIn::Cpu | BuiltIn::Pid | BuiltIn::Tid => integer(IntegerType::Int32),
+        _ => DType::Text,
+    }
+}
+
+impl TypedExpr {
+    /// The type of its value.
+    pub fn type_of(&self) -> DType
+        ensures { result ≡ spec.type_of (spec.typed_of self.now) }
+    {
+        match self {
+            TypedExpr::Constant(t, _) => DType::Int(*t),
+            TypedExpr::Text(_) => DType::Text,
+            TypedExpr::BuiltIn(built_in) => type_of_built_in(*built_in),
+            TypedExpr::Read(variable, _) => variable.holds,
+            TypedExpr::Unary(UnaryOperator::Not, _, _) => integer(IntegerType::Int32),
+            TypedExpr::Unary(_, t, _) => DType::Int(*t),
+            TypedExpr::Operate(Operation::Arithmetic(_, t), _, _) => DType::Int(*t),
+            TypedExpr::Operate(Operation::Shift(_, t), _, _) => DType::Int(*t),
+            TypedExpr::Compare(_, _, _, _) => integer(IntegerType::Int32),
+            TypedExpr::CompareText(_, _, _) => integer(IntegerType::Int32),
+            TypedExpr::Logic(_, _, _) => integer(IntegerType::Int32),
+            TypedExpr::Choice(t, _, _, _) => *t,
+            TypedExpr::Convert(_, to, _) => DType::Int(*to),
+            TypedExpr::Assign(variable, _, _) => variable.holds,
+            TypedExpr::Update(_, variable, _, _) => variable.holds,
+            TypedExpr::Step(_, _, variable, _) => variable.holds,
+            TypedExpr::Strlen(_) => integer(IntegerType::Uint64),
+            TypedExpr::Strjoin(_, _) => DType::Text,
+        }
+    }
+}

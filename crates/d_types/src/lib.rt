@@ -1,0 +1,16 @@
+//! From trees to typed scripts: types, variables, and the registers that expressions need. `docs/LANGUAGE.md` has the rules.
+#![tactic(auto)]
+
+mod constants;
+mod fault;
+mod function;
+mod kinds;
+mod needs;
+mod typed;
+mod variables;
+mod words;
+
+pub use typed::{
+    Answer, BuiltIn, Conversion, Letter, LogicOperator, Operation, Piece, Space, TypedAggregation,
+    TypedClause, TypedExpr, TypedStmt, Variable,
+};

@@ -1,0 +1,158 @@
+//! Typed trees: conversions are nodes of their own, variables are slots, and each word is what it names.
+
+use crate::function::AggFn;
+use d_lexer::ByteString;
+use d_parser::{Description, Step, UnaryOperator};
+use d_values::{ArithmeticOperator, ComparisonOperator, DType, IntType, ShiftOperator, Text};
+
+/// A built-in variable (Dynamic Tracing Guide, "Built-in Variables").
+#[derive(Clone, Copy, Debug, PartialEq, Eq)]
+pub enum BuiltIn {
+    /// `arg0` to `arg9`, by number.
+    Argument(u8),
+    Timestamp,
+    Cpu,
+    Pid,
+    Tid,
+    Execname,
+    Probeprov,
+    Probemod,
+    Probefunc,
+    Probename,
+}
+
+/// Where a variable is kept: `self->` for the thread, `this->` for the clauses of a firing.
+#[derive(Clone, Copy, Debug, PartialEq, Eq)]
+pub enum Space {
+    Thread,
+    Clause,
+}
+
+/// A variable: its place among the script's variables, and the type of its values.
+#[derive(Clone, Copy, Debug, PartialEq, Eq)]
+pub struct Variable {
+    pub space: Space,
+    pub slot: u16,
+    pub holds: DType,
+}
+
+/// An operator on two integers, with the type that it works in and answers.
+#[derive(Clone, Copy, Debug, PartialEq, Eq)]
+pub enum Operation {
+    Arithmetic(ArithmeticOperator, IntType),
+    Shift(ShiftOperator, IntType),
+}
+
+/// An operator on two truths, which answers 0 or 1.
+#[derive(Clone, Copy, Debug, PartialEq, Eq)]
+pub enum LogicOperator {
+    And,
+    Xor,
+    Or,
+}
+
+/// What `++` and `--` answer: before a variable its new value, behind it the old one.
+#[derive(Clone, Copy, Debug, PartialEq, Eq)]
+pub enum Answer {
+    New,
+    Old,
+}
+
+/// A typed expression. A variable without keys is a scalar.
+#[derive(Drop)]
+pub enum TypedExpr {
+    /// An integer constant: its type, and its value, which fits it.
+    Constant(IntType, u64),
+    /// A text constant of at most 255 bytes.
+    Text(Text),
+    BuiltIn(BuiltIn),
+    /// The value of a variable.
+    Read(Variable, Vec<TypedExpr>),
+    /// An operator before an operand of the type.
+    Unary(UnaryOperator, IntType, Box<TypedExpr>),
+    /// Both operands have the operation's type; a shift's count has its own.
+    Operate(Operation, Box<TypedExpr>, Box<TypedExpr>),
+    /// Two integers of the type.
+    Compare(ComparisonOperator, IntType, Box<TypedExpr>, Box<TypedExpr>),
+    /// Two texts.
+    CompareText(ComparisonOperator, Box<TypedExpr>, Box<TypedExpr>),
+    Logic(LogicOperator, Box<TypedExpr>, Box<TypedExpr>),
+    /// `test ? first : second`, both of the type.
+    Choice(DType, Box<TypedExpr>, Box<TypedExpr>, Box<TypedExpr>),
+    /// An integer of the first type as one of the second.
+    Convert(IntType, IntType, Box<TypedExpr>),
+    /// `x = value`, the value of the variable's type.
+    Assign(Variable, Vec<TypedExpr>, Box<TypedExpr>),
+    /// `x op= value`: x is converted to the operation's type, and the result back to that of x.
+    Update(Operation, Variable, Vec<TypedExpr>, Box<TypedExpr>),
+    Step(Step, Answer, Variable, Vec<TypedExpr>),
+    /// `strlen(text)`
+    Strlen(Box<TypedExpr>),
+    /// `strjoin(first, second)`
+    Strjoin(Box<TypedExpr>, Box<TypedExpr>),
+}
+
+/// How printf writes an argument (Dynamic Tracing Guide, "Output Formatting").
+#[derive(Clone, Copy, Debug, PartialEq, Eq)]
+pub enum Letter {
+    /// `d` or `i`: with its sign.
+    Signed,
+    /// `u`
+    Unsigned,
+    /// `x`
+    Hexadecimal,
+    /// `o`
+    Octal,
+    /// `s`
+    Text,
+}
+
+/// A conversion of a format. The width is 0 where there is none.
+#[derive(Clone, Copy, Debug, PartialEq, Eq)]
+pub struct Conversion {
+    /// `-`: put left.
+    pub left: bool,
+    /// `0`: filled with zeros.
+    pub zeros: bool,
+    pub width: u8,
+    pub letter: Letter,
+}
+
+/// A piece of a format.
+#[derive(Clone, Copy, Debug, PartialEq, Eq)]
+pub enum Piece {
+    /// A byte that is written as it is.
+    Byte(u8),
+    /// Where the next argument goes.
+    Argument(Conversion),
+}
+
+/// A typed statement.
+#[derive(Drop)]
+pub enum TypedStmt {
+    /// An expression, for its assignments.
+    Evaluate(TypedExpr),
+    /// `trace(value)`
+    Trace(TypedExpr),
+    /// `printf(format, arguments)`: an argument for each conversion, of its kind.
+    Print(Vec<Piece>, Vec<TypedExpr>),
+    /// `exit(status)`
+    Exit(TypedExpr),
+    /// `@name[keys] = function(argument)`: the aggregation's place, its keys, and what its function takes, if any.
+    Aggregate(usize, Vec<TypedExpr>, Option<TypedExpr>),
+}
+
+/// A typed clause.
+#[derive(Drop)]
+pub struct TypedClause {
+    pub descriptions: Vec<Description>,
+    pub predicate: Option<TypedExpr>,
+    pub statements: Vec<TypedStmt>,
+}
+
+/// An aggregation of a script. The nameless one is named `_`.
+#[derive(Drop)]
+pub struct TypedAggregation {
+    pub name: ByteString,
+    pub function: AggFn,
+}

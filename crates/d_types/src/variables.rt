@@ -1,0 +1,105 @@
+//! The table of variables.
+
+ghost use Rattle.std.specs.Prelude.{◌≡◌, ◌≤◌, ◌<◌, ◌^◌, ◌++◌, ◌∷◌, [], Some, None, OnOk, IfOk, IfSome, length, map};
+ghost use Rattle.d_types.specs.Variables as spec;
+ghost use Rattle.d_types.specs.Variables.{rows_of};
+ghost use Rattle.d_types.specs.Typed.{typeds_of};
+
+use crate::typed::{Space, TypedExpr};
+use d_lexer::ByteString;
+use d_values::{DType, Kind};
+use std::alloc::{AllocError, Global};
+
+/// A variable. Its keys are known before its type.
+#[derive(Drop)]
+pub struct Entry {
+    pub space: Space,
+    pub name: ByteString,
+    pub keys: Vec<Kind>,
+    pub holds: Option<DType>,
+}
+
+/// Which key a value of the type is.
+pub(crate) fn kind_of(t: DType) -> Kind
+    ensures { result ≡ spec.kind_of t }
+{
+    match t {
+        DType::Int(_) => Kind::Number,
+        DType::Text => Kind::Text,
+    }
+}
+
+fn is_named(entry: &Entry, space: Space, name: &[u8]) -> bool
+    ensures { result ≡ spec.is_named space name.now (spec.row_of entry.now) }
+{
+    entry.space == space && entry.name.as_slice() == name
+}
+
+/// The slot of a variable.
+pub(crate) fn find(table: &[Entry], space: Space, name: &[u8]) -> Option<usize>
+    ensures { result ≡ spec.find space name.now (rows_of table.now) }
+{
+    for (slot, entry) in table.iter().enumerate() {
+        if is_named(entry, space, name) {
+            return Some(slot);
+        }
+    }
+    None
+}
+
+/// The type of a slot's variable, once it is known.
+#[tactic(auto, using(crate::proofs::Tables::type_at_within, crate::proofs::Tables::type_at_past))]
+pub(crate) fn type_at(table: &[Entry], slot: usize) -> Option<DType>
+    ensures { result ≡ spec.type_at (rows_of table.now) slot }
+{
+    if slot < table.len() {
+        table[slot].holds
+    } else {
+        None
+    }
+}
+
+/// Whether the keys are of the kinds.
+pub(crate) fn fit(kinds: &[Kind], keys: &[TypedExpr]) -> bool
+    ensures { result ≡ spec.fit kinds.now (typeds_of keys.now) }
+{
+    match kinds {
+        [] => match keys {
+            [] => true,
+            [_first, ..] => false,
+        },
+        [kind, other_kinds @ ..] => match keys {
+            [] => false,
+            [key, other_keys @ ..] => kind_of(key.type_of()) == *kind
+                && fit(other_kinds, other_keys),
+        },
+    }
+}
+
+/// Whether a slot has such keys.
+#[tactic(auto, using(crate::proofs::Tables::keys_fit_within, crate::proofs::Tables::keys_fit_past))]
+pub(crate) fn keys_fit(table: &[Entry], slot: usize, keys: &[TypedExpr]) -> bool
+    ensures { result ≡ spec.keys_fit (rows_of table.now) slot (typeds_of keys.now) }
+{
+    slot < table.len() && fit(&table[slot].keys, keys)
+}
+
+/// Gives a slot's variable its type.
+pub(crate) fn set_type(table: &mut [Entry], slot: usize, t: DType)
+    ensures { rows_of table.new ≡ spec.set_type slot t (rows_of table.old) }
+{
+    if slot < table.len() {
+        table[slot].holds = Some(t);
+    }
+}
+
+/// The kinds of keys.
+pub(crate) fn kinds_of(alloc: Global, keys: &[TypedExpr]) -> Result<Vec<Kind>, AllocError>
+    ensures { IfOk result (λ kinds. kinds.items ≡ spec.kinds_of (typeds_of keys.now)) }
+{
+    let mut kinds = Vec::new(alloc);
+    for key in keys {
+        kinds.push(kind_of(key.type_of()))?;
+    }
+    Ok(kinds)
+}
