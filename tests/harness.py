@@ -94,15 +94,23 @@ def examples():
     return [file[:-2] for file in files if file.endswith(".d")]
 
 
+def indented(text):
+    """A text as a page shows it: each line that isn't empty is four spaces in."""
+    return b"".join(b"    " + line if line.strip() else line for line in text.splitlines(keepends=True))
+
+
 def example_of(name):
-    """Reads the example FOLDER/SCRIPT. What it has to answer over its folder's trace stands in SCRIPT.expected."""
-    folder = os.path.dirname(f"{EXAMPLES}/{name}")
-    bundle = read(f"{EXAMPLES}/{name}.d") + b"---\n" + read(f"{folder}/trace.csv")
+    """Reads the example FOLDER/SCRIPT. What it has to answer over its folder's trace stands in SCRIPT.expected.
+    Its page, SCRIPT.md or the folder's README.md, has to show the script and the answer."""
+    folder, path = os.path.dirname(f"{EXAMPLES}/{name}"), f"{EXAMPLES}/{name}"
+    script, answer = read(f"{path}.d"), read(f"{path}.expected")
+    bundle = script + b"---\n" + read(f"{folder}/trace.csv")
     if read(f"{folder}/bundle", bundle) != bundle:
         raise BadCase("bundle is not the script, a line ---, and trace.csv")
-    if not os.path.exists(f"{EXAMPLES}/{name}.expected"):
-        raise BadCase(f"there is no file {os.path.basename(name)}.expected")
-    return Case(name, folder, bundle, [], [[]], "", Result(0, read(f"{EXAMPLES}/{name}.expected"), b""))
+    page = read(f"{path}.md") or read(f"{folder}/README.md")
+    if not answer or indented(script) not in page or indented(answer) not in page:
+        raise BadCase("its page does not show the script and the answer")
+    return Case(name, folder, bundle, [], [[]], "", Result(0, answer, b""))
 
 
 def every_name():
