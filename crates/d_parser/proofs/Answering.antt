@@ -1,7 +1,8 @@
 -- The script of all tokens, and no other.
 use Rattle.std.proofs.Common.{◌≡◌, List, Option, Some, None, Result, Ok, Err, sym, subst}
-use Rattle.std.specs.Prelude.{IfOk, ℕ, Bool}
+use Rattle.std.specs.Prelude.{IfOk, ℕ, Bool, ◌≤◌, length}
 use Rattle.d_parser.specs.Limits.{OnlyLimits}
+use Rattle.d_parser.specs.Sizes.{IsWithin}
 use Rattle.d_parser.specs.declared.fault.ParseFault.TheVariants as faults
 use Rattle.d_lexer.specs.declared.token.Token.{Token}
 use Rattle.d_parser.specs.declared.fault.ParseFault.{ParseFault}
@@ -13,6 +14,7 @@ use Rattle.d_parser.specs.ReadingScripts.{script}
 use Rattle.d_parser.proofs.Sound.{IfSome}
 use Rattle.d_parser.proofs.SoundScripts.{script_sound}
 use Rattle.d_parser.proofs.CompleteScripts.{script_complete}
+use Rattle.d_parser.proofs.Counts.{script_within}
 
 pub found_of : (r : Result Script ParseFault) (ts : List Token) → Gives script_of r (script ts) → IfOk r (λ s. IsScript (script_of s) ts)
 found_of (Ok s) ts h = subst (λ (o : Option (List ItemTree)). IfSome (λ all. IsScript all ts) o) h (script_sound ts)
@@ -27,3 +29,7 @@ passed_of (Err faults.TooDeep) ts deep found h = absurd h
 passed_of (Err faults.TooManyClauses) ts deep found h = absurd h
 passed_of (Err (faults.Syntax line)) ts deep found h = tt
 passed_of (Err faults.Memory) ts deep found h = tt
+
+pub few_of : (r : Result Script ParseFault) (ts : List Token) (n : ℕ) → length ts ≤ n → Gives script_of r (script ts) → IfOk r (λ s. IsWithin n (script_of s))
+few_of (Ok s) ts n le h = script_within (script_of s) ts n le (found_of (Ok s) ts h)
+few_of (Err e) ts n le h = tt

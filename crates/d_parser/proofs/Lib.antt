@@ -8,3 +8,5 @@ pub mod SoundScripts
 pub mod CompleteScripts
 pub mod Cuts
 pub mod Answering
+pub mod Deep
+pub mod Counts

@@ -46,7 +46,7 @@ within_takes (suc n) P f ts rest h =
 pub phrase_takes : (t : Tree) (k : ℕ) → Takes (Spells t) → Takes (IsPhrase (Spells t) (rank t) k)
 phrase_takes t k f ts rest h = within_takes h.pairs (Spells t) f ts rest h.within
 
-variable_takes : (x : Variable) → Takes (IsVariable x)
+pub variable_takes : (x : Variable) → Takes (IsVariable x)
 variable_takes (v.Plain line name) ts rest h = let one = begins_one (kind.Word name) line ts rest h.begins in omega arith
 variable_takes (v.Thread line name) ts rest h =
     let one = ap length h.begins.is in

@@ -8,3 +8,4 @@ pub mod ReadingScripts
 pub mod Limits
 pub mod Symbols
 pub mod Lines
+pub mod Sizes

@@ -7,6 +7,7 @@ ghost use Rattle.d_parser.specs.Script as grammar;
 ghost use Rattle.d_parser.specs.Limits as limits;
 ghost use Rattle.d_parser.specs.Reading.{Gives};
 ghost use Rattle.d_parser.specs.Limits.{OnlyLimits};
+ghost use Rattle.d_parser.specs.Sizes.{IsWithin};
 ghost use Rattle.d_parser.specs.declared.fault.ParseFault.TheVariants as faults;
 
 use crate::fault::{MOST_CLAUSES, ParseFault};
@@ -30,6 +31,8 @@ pub fn parse(alloc: Global, tokens: &[Token]) -> Result<Script, ParseFault>
     ensures passed { OnlyLimits (limits.is_deep 0 0 tokens.now) (limits.clauses tokens.now) result }
     // What is answered is a tree of the tokens.
     ensures found { IfOk result (λ s. grammar.IsScript (script_of s) tokens.now) }
+    // Its descriptions, its statements, and its declarations with all places of variables are at most 65,536 each.
+    ensures few { IfOk result (λ s. IsWithin 65536 (script_of s)) }
     // Where there is a tree it is answered, and no other, unless memory runs out.
     ensures only { limits.is_deep 0 0 tokens.now ≡ false → limits.clauses tokens.now ≤ 256 → (s : List trees.ItemTree) → grammar.IsScript s tokens.now → Gives script_of result (Some s) }
 {

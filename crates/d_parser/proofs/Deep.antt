@@ -1,0 +1,150 @@
+-- What is told token by token of depth, and what is true of the whole list.
+use Rattle.std.proofs.Common.{◌≡◌, ℕ, zero, suc, ◌+◌, ◌-◌, ◌<◌, ◌≤◌, Bool, true, false, List, [], ◌∷◌, ◌++◌, length, refl, sym, ap, arith, inl, inr}
+use Rattle.std.specs.Prelude.{◌||◌, ◌⊎◌, ◌↔◌, nat_lt}
+use Rattle.std.proofs.lemmas.Bool.{cases_lt, ltb-true, lt-ltb}
+use Rattle.d_lexer.specs.declared.token.Token.{Token}
+use Rattle.d_parser.specs.Limits.{Turn, Opens, Closes, Ends, Goes, turn, opens, closes, ends, opened, closed, ended, IsDeep, open_by, row_by, open_behind, row_with, is_deep}
+
+-- a stretch that is too deep, behind so many open brackets and so many tokens in a row
+abbrev Full : ℕ → ℕ → List Token → Type 0
+Full b r p = (64 + closed p < b + opened p) ⊎ ((1024 < r + length p) × (ended p ≡ 0))
+
+-- such a stretch at the front
+record Front (b r : ℕ) (ts : List Token) : Type 0 where
+  p : List Token
+  q : List Token
+  is : ts ≡ p ++ q
+  full : Full b r p
+
+-- ---- a step
+
+deeper : (u : Turn) (b x y : ℕ) → 64 + y < open_by u b + x → (64 + (closes u + y) < b + (opens u + x)) ⊎ (64 + y < x)
+deeper Opens b x y h = inl (omega arith)
+deeper Closes zero x y h = inr (omega arith)
+deeper Closes (suc b) x y h = inl (omega arith)
+deeper Ends b x y h = inl (omega arith)
+deeper Goes b x y h = inl (omega arith)
+
+shallower : (u : Turn) (b x y : ℕ) → 64 + (closes u + y) < b + (opens u + x) → 64 + y < open_by u b + x
+shallower Opens b x y h = omega arith
+shallower Closes b x y h = omega arith
+shallower Ends b x y h = omega arith
+shallower Goes b x y h = omega arith
+
+longer : (u : Turn) (r n e : ℕ) → 1024 < row_by u r + n → e ≡ 0 → ((1024 < r + suc n) × (ends u + e ≡ 0)) ⊎ (1024 < n)
+longer Opens r n e h k = inl (omega arith, omega arith)
+longer Closes r n e h k = inl (omega arith, omega arith)
+longer Ends r n e h k = inr (omega arith)
+longer Goes r n e h k = inl (omega arith, omega arith)
+
+shorter : (u : Turn) (r n e : ℕ) → 1024 < r + suc n → ends u + e ≡ 0 → (1024 < row_by u r + n) × (e ≡ 0)
+shorter Opens r n e h k = (omega arith, omega arith)
+shorter Closes r n e h k = (omega arith, omega arith)
+shorter Ends r n e h k = absurd (omega arith)
+shorter Goes r n e h k = (omega arith, omega arith)
+
+-- ---- from the tokens one by one to the list
+
+one_of : (x y z : Bool) → (x || y || z) ≡ true → (x ≡ true) ⊎ ((y ≡ true) ⊎ (z ≡ true))
+one_of true y z h = inl refl
+one_of false true z h = inr (inl refl)
+one_of false false z h = inr (inr h)
+
+within : (t : Token) (ts : List Token) → IsDeep ts → IsDeep (t ∷ ts)
+within t ts d = record { before = t ∷ d.before; stretch = d.stretch; behind = d.behind; is = ap (λ (l : List Token). t ∷ l) d.is; deep = d.deep }
+
+here : (t : Token) (p q ts : List Token) → ts ≡ p ++ q → (64 + closed p < opened p) ⊎ ((1024 < length p) × (ended p ≡ 0)) → IsDeep (t ∷ ts)
+here t p q ts e d = record { before = t ∷ []; stretch = p; behind = q; is = ap (λ (l : List Token). t ∷ l) e; deep = d }
+
+front : (t : Token) (p q ts : List Token) (b r : ℕ) → ts ≡ p ++ q → Full b r (t ∷ p) → Front b r (t ∷ ts)
+front t p q ts b r e f = record { p = t ∷ p; q = q; is = ap (λ (l : List Token). t ∷ l) e; full = f }
+
+step : (t : Token) (ts : List Token) (b r : ℕ) → Front (open_behind t.kind b) (row_with t.kind r) ts → Front b r (t ∷ ts) ⊎ IsDeep (t ∷ ts)
+step t ts b r f =
+    elim f.full [
+      | inl d ↦ elim (deeper (turn t.kind) b (opened f.p) (closed f.p) d) [
+        | inl w ↦ inl (front t f.p f.q ts b r f.is (inl w))
+        | inr w ↦ inr (here t f.p f.q ts f.is (inl w))
+      ]
+      | inr l ↦ elim (longer (turn t.kind) r (length f.p) (ended f.p) l.0 l.1) [
+        | inl w ↦ inl (front t f.p f.q ts b r f.is (inr w))
+        | inr w ↦ inr (here t f.p f.q ts f.is (inr (w, l.1)))
+      ]
+    ]
+
+empty_front : (b r : ℕ) (ts : List Token) → Full b r [] → Front b r ts
+empty_front b r ts f = record { p = []; q = ts; is = refl; full = f }
+
+deep_sound : (ts : List Token) (b r : ℕ) → is_deep b r ts ≡ true → Front b r ts ⊎ IsDeep ts
+unfolding is_deep
+deep_sound [] b r h = absurd (let c : false ≡ true = h in cc)
+deep_sound (t ∷ ts) b r h =
+    elim (one_of (nat_lt 64 (open_behind t.kind b)) (nat_lt 1024 (row_with t.kind r)) (is_deep (open_behind t.kind b) (row_with t.kind r) ts) h) [
+      | inl x ↦ step t ts b r (empty_front _ _ ts (inl (let l = ltb-true 64 (open_behind t.kind b) x in omega arith)))
+      | inr (inl x) ↦ step t ts b r (empty_front _ _ ts (inr ((let l = ltb-true 1024 (row_with t.kind r) x in omega arith), refl)))
+      | inr (inr z) ↦ elim (deep_sound ts (open_behind t.kind b) (row_with t.kind r) z) [
+        | inl f ↦ step t ts b r f
+        | inr d ↦ inr (within t ts d)
+      ]
+    ]
+
+-- ---- from the list to the tokens one by one
+
+any_of : (x y z : Bool) → (x ≡ false → y ≡ false → z ≡ true) → (x || y || z) ≡ true
+any_of true y z h = refl
+any_of false true z h = refl
+any_of false false z h = h refl refl
+
+not_over : (n k : ℕ) → nat_lt n k ≡ false → k ≤ n
+not_over n k h = elim (cases_lt n k) [
+  | inl over ↦ absurd (let e = lt-ltb n k over in cc)
+  | inr le ↦ le
+]
+
+go_on : (t : Token) (ts : List Token) (b r : ℕ) → (open_behind t.kind b ≤ 64 → row_with t.kind r ≤ 1024 → is_deep (open_behind t.kind b) (row_with t.kind r) ts ≡ true) → is_deep b r (t ∷ ts) ≡ true
+unfolding is_deep
+go_on t ts b r h =
+    any_of (nat_lt 64 (open_behind t.kind b)) (nat_lt 1024 (row_with t.kind r)) (is_deep (open_behind t.kind b) (row_with t.kind r) ts)
+    (λ x y. h (not_over 64 (open_behind t.kind b) x) (not_over 1024 (row_with t.kind r) y))
+
+front_deep : (p q : List Token) (b r : ℕ) → b ≤ 64 → r ≤ 1024 → Full b r p → is_deep b r (p ++ q) ≡ true
+front_deep [] q b r le short f = elim f [
+  | inl d ↦ absurd (omega arith)
+  | inr l ↦ (let one = l.0 in absurd (omega arith))
+]
+front_deep (t ∷ p) q b r le short f =
+    go_on t (p ++ q) b r (λ le2 short2. front_deep p q (open_behind t.kind b) (row_with t.kind r) le2 short2 (elim f [
+      | inl d ↦ inl (shallower (turn t.kind) b (opened p) (closed p) d)
+      | inr l ↦ inr (shorter (turn t.kind) r (length p) (ended p) l.0 l.1)
+    ]))
+
+part_deep : (before stretch behind : List Token) (b r : ℕ) → b ≤ 64 → r ≤ 1024 → (64 + closed stretch < opened stretch) ⊎ ((1024 < length stretch) × (ended stretch ≡ 0)) → is_deep b r (before ++ stretch ++ behind) ≡ true
+part_deep [] stretch behind b r le short d = front_deep stretch behind b r le short (elim d [
+  | inl x ↦ inl (omega arith)
+  | inr x ↦ inr ((let l = x.0 in omega arith), x.1)
+])
+part_deep (t ∷ before) stretch behind b r le short d =
+    go_on t (before ++ stretch ++ behind) b r (λ le2 short2. part_deep before stretch behind (open_behind t.kind b) (row_with t.kind r) le2 short2 d)
+
+-- ---- both
+
+from_front : (ts : List Token) → Front 0 0 ts → IsDeep ts
+from_front ts f = record {
+  before = [];
+  stretch = f.p;
+  behind = f.q;
+  is = f.is;
+  deep = elim f.full [
+    | inl d ↦ inl (omega arith)
+    | inr l ↦ inr ((let long = l.0 in omega arith), l.1)
+  ];
+}
+
+pub deep_is : (ts : List Token) → (is_deep 0 0 ts ≡ true) → IsDeep ts
+deep_is ts h = elim (deep_sound ts 0 0 h) [
+  | inl f ↦ from_front ts f
+  | inr d ↦ d
+]
+
+pub is_deep_of : (ts : List Token) → IsDeep ts → is_deep 0 0 ts ≡ true
+is_deep_of ts d = rw d.is (part_deep d.before d.stretch d.behind 0 0 (omega arith) (omega arith) d.deep)
