@@ -1,4 +1,5 @@
 pub mod Answers
+pub mod CommandLine
 pub mod Counts
 pub mod Dividing
 pub mod Divisions

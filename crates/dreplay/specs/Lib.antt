@@ -8,3 +8,4 @@ pub mod Run
 pub mod Answer
 pub mod Plans
 pub mod Consuming
+pub mod Words

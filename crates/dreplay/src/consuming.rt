@@ -4,10 +4,11 @@ ghost use Rattle.std.specs.Prelude.{◌≡◌, ◌≢◌, ◌≤◌, ◌⊎◌, 
 ghost use Rattle.std.specs.Io.KnownBytes.{Appends};
 ghost use Rattle.report.specs.Stream.{AppendsBeginning};
 ghost use Rattle.report.specs.declared.reading.TheConstants.{MOST_CALLS};
-ghost use Rattle.dreplay.specs.Consuming.{IsAnswerOf, RanOver};
-ghost use Rattle.dreplay.specs.Plans.{IsSerial};
+ghost use Rattle.dreplay.specs.Answer.{IsAnswer};
+ghost use Rattle.dreplay.specs.Consuming.{IsAnswerOf, IsAnswerOver, RanOver, RanOverTrace, told_of};
+ghost use Rattle.dreplay.specs.Plans.{IsSerial, RanSerially};
 
-use crate::bundle::divide;
+use crate::bundle::{Division, divide};
 use crate::plan::{Plan, Replayed};
 use crate::refusal::Refusal;
 use crate::replaying::replay;
@@ -27,6 +28,17 @@ pub enum ConsumeFault {
     /// The writer failed. A beginning of the answer was written.
     #[error("write failed")]
     Write,
+}
+
+impl From<ReadFault> for ConsumeFault {
+    ghost from_gives = { λ fault e. e ≡ told_of fault };
+
+    fn from(fault: ReadFault) -> ConsumeFault {
+        match fault {
+            ReadFault::Failed => ConsumeFault::Read,
+            ReadFault::Memory => ConsumeFault::Refused(Refusal::Memory),
+        }
+    }
 }
 
 /// Reads a bundle to its end, runs its script over its trace, and writes what the script shows.
@@ -61,13 +73,76 @@ pub fn consume<F: Feed, S: Sink>(
     ensures beginning { result ≡ Err ConsumeFault.Write → (bytes : List ℕ)
         × IsAnswerOf (F.remaining feed.old) (Ok bytes) × AppendsBeginning (S.contents sink.old) (S.contents sink.new) bytes }
 {
-    let bundle = match read_to_end(alloc, feed) {
-        Ok(bytes) => bytes,
-        Err(ReadFault::Failed) => return Err(ConsumeFault::Read),
-        Err(ReadFault::Memory) => return Err(ConsumeFault::Refused(Refusal::Memory)),
+    let bundle = read_to_end(alloc, feed)?;
+    show(alloc, divide(&bundle), sink, plan)
+}
+
+/// Reads a trace to its end, runs the script over it, and writes what the script shows.
+pub fn consume_trace<F: Feed, S: Sink>(
+    alloc: Global,
+    script: &[u8],
+    feed: &mut F,
+    sink: &mut S,
+    plan: &Plan,
+) -> Result<Replayed, ConsumeFault>
+    requires plan { IsSerial plan.now }
+    requires feed { IsFalse (F.has_failed feed.old) }
+    requires sink { IsFalse (S.has_failed sink.old) }
+
+    ensures answer { IfOk result (λ r.
+        IsAnswerOver script.now (F.remaining feed.old) (Ok r.bytes.items)) }
+    ensures serial { IfOk result (RanOverTrace (F.remaining feed.old)) }
+    ensures written { IfOk result (λ r.
+        Appends (S.contents sink.old) (S.contents sink.new) r.bytes.items) }
+
+    // The reader and the writer are blamed as `consume` blames them.
+    ensures read { result ≡ Err ConsumeFault.Read → IsTrue (F.has_failed feed.new)
+        ⊎ (IsFalse (F.has_ended feed.new) × (F.calls feed.new ≡ F.calls feed.old + MOST_CALLS)) }
+    ensures read_whole { result ≢ Err ConsumeFault.Read → IsFalse (F.has_failed feed.new)
+        × ((result ≡ Err (ConsumeFault.Refused Refusal.Memory)) ⊎ IsTrue (F.has_ended feed.new)) }
+    ensures calls { F.calls feed.new ≤ F.calls feed.old + MOST_CALLS }
+
+    ensures refused { (e : Refusal) → result ≡ Err (ConsumeFault.Refused e) →
+        (e ≡ Refusal.Memory) ⊎ IsAnswerOver script.now (F.remaining feed.old) (Err e) }
+    ensures untouched { result ≢ Err ConsumeFault.Write → IfErr result (λ e. sink.new ≡ sink.old) }
+    ensures write { (result ≡ Err ConsumeFault.Write) ↔ IsTrue (S.has_failed sink.new) }
+    ensures beginning { result ≡ Err ConsumeFault.Write → (bytes : List ℕ)
+        × IsAnswerOver script.now (F.remaining feed.old) (Ok bytes)
+        × AppendsBeginning (S.contents sink.old) (S.contents sink.new) bytes }
+{
+    let trace = read_to_end(alloc, feed)?;
+    let parts = Division {
+        script,
+        trace: &trace,
     };
-    let division = divide(&bundle);
-    match replay(alloc, division.script, division.trace, plan) {
+    show(alloc, parts, sink, plan)
+}
+
+// Runs a script over a trace, and writes what the script shows.
+fn show<S: Sink>(
+    alloc: Global,
+    parts: Division<'_>,
+    sink: &mut S,
+    plan: &Plan,
+) -> Result<Replayed, ConsumeFault>
+    requires plan { IsSerial plan.now }
+    requires sink { IsFalse (S.has_failed sink.old) }
+
+    ensures answer { IfOk result (λ r.
+        IsAnswer parts.entry.script.now parts.entry.trace.now (Ok r.bytes.items)) }
+    ensures serial { IfOk result (RanSerially parts.entry.trace.now) }
+    ensures written { IfOk result (λ r.
+        Appends (S.contents sink.old) (S.contents sink.new) r.bytes.items) }
+    ensures read { result ≢ Err ConsumeFault.Read }
+    ensures refused { (e : Refusal) → result ≡ Err (ConsumeFault.Refused e) →
+        (e ≡ Refusal.Memory) ⊎ IsAnswer parts.entry.script.now parts.entry.trace.now (Err e) }
+    ensures untouched { result ≢ Err ConsumeFault.Write → IfErr result (λ e. sink.new ≡ sink.old) }
+    ensures write { (result ≡ Err ConsumeFault.Write) ↔ IsTrue (S.has_failed sink.new) }
+    ensures beginning { result ≡ Err ConsumeFault.Write → (bytes : List ℕ)
+        × IsAnswer parts.entry.script.now parts.entry.trace.now (Ok bytes)
+        × AppendsBeginning (S.contents sink.old) (S.contents sink.new) bytes }
+{
+    match replay(alloc, parts.script, parts.trace, plan) {
         Ok(replayed) => match emit(sink, &replayed.bytes) {
             Ok(_) => Ok(replayed),
             Err(_) => Err(ConsumeFault::Write),

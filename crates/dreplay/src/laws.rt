@@ -1,10 +1,13 @@
 //! Laws of what bundles, scripts and answers mean: each holds of the definitions, and its function computes nothing.
 
-ghost use Rattle.std.specs.Prelude.{◌≡◌, ℕ, List, Result};
+ghost use Rattle.std.specs.Prelude.{◌≡◌, ◌∷◌, [], ℕ, List, Option, Result, codes};
+ghost use Rattle.clap.specs.Words.{fault_of};
+ghost use Rattle.clap.specs.declared.error.kind.ErrorKind.TheVariants.{DisplayHelp, InvalidValue};
 ghost use Rattle.dreplay.specs.declared.refusal.Refusal.{Refusal};
 ghost use Rattle.dreplay.specs.Answer.{IsAnswer};
 ghost use Rattle.dreplay.specs.Bundle.{Divides};
 ghost use Rattle.dreplay.specs.Counting.{Counts, Description};
+ghost use Rattle.dreplay.specs.Words.{AsksHelp, Runs, file_in, program};
 
 /// A bundle is divided in one way.
 pub fn one_division()
@@ -21,4 +24,20 @@ pub fn one_description()
 pub fn one_answer()
     ensures { (script trace : List ℕ) (a b : Result (List ℕ) Refusal) → IsAnswer script trace a
         → IsAnswer script trace b → a ≡ b }
+{}
+
+/// Without words a bundle is run, and with `-s FILE` the script of that file.
+pub fn runs_accepted()
+    ensures { (words : List (List ℕ)) (file : Option (List ℕ)) → Runs words file
+        → (fault_of program words ≡ []) × (file_in words ≡ file) }
+{}
+
+/// `-h` and `--help` ask for help.
+pub fn help_told()
+    ensures { (words : List (List ℕ)) → AsksHelp words → fault_of program words ≡ DisplayHelp ∷ [] }
+{}
+
+/// `-s` without a file is a mistake.
+pub fn file_wanted()
+    ensures { fault_of program (codes "-s" ∷ []) ≡ InvalidValue ∷ [] }
 {}

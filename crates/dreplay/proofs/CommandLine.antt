@@ -1,0 +1,81 @@
+use Rattle.std.proofs.Common.{◌≡◌, ◌∙◌, ◌∷◌, ◌==◌, refl, true, false, ap, subst, sym, codes, List, [], ℕ, Option, Some, None, Bool, rules}
+use Rattle.clap.specs.Words.{App, first_value, first_of, found_of, is_simple, is_simple_and_free, HasMatchesOf, fault_of, kind_of, takes}
+use Rattle.clap.specs.Kinds.{Kinds}
+use Rattle.clap.specs.declared.error.Error.{Error}
+use Rattle.clap.specs.declared.parser.matches.ArgMatches.{ArgMatches}
+use Rattle.clap.specs.declared.error.kind.ErrorKind.TheVariants.{DisplayHelp, InvalidValue, OutOfMemory}
+use Rattle.clap.proofs.OnLiterals.{clap_on_literals}
+use Rattle.clap.proofs.WalkLemmas.{first_value-rows}
+use Rattle.dreplay.specs.Words.{AsksHelp, IsOption, IsToldAs, Runs, file_in, program}
+use Rattle.dreplay.specs.declared.words.UsageFault.{UsageFault}
+use Rattle.dreplay.specs.declared.words.UsageFault.TheVariants.{Help, Usage, Memory}
+
+pub is_simple_program : is_simple program ≡ true
+unfolding clap_on_literals
+is_simple_program = refl
+
+pub is_free_program : is_simple_and_free program ≡ true
+unfolding clap_on_literals
+is_free_program = refl
+
+-- the matches of a command that is the program have the file of the words
+pub file_matched : (a : App) (words : List (List ℕ)) (m : ArgMatches) → a ≡ program → HasMatchesOf a words m
+    → first_value (found_of m) (codes "script") ≡ file_in words
+file_matched a words m same has =
+    let rows = has (ap is_simple same ∙ is_simple_program) in
+    rw (first_value-rows (found_of m) (codes "script"), rows.0, same) refl
+
+-- and no fault is found
+pub no_fault : (a : App) (words : List (List ℕ)) → a ≡ program → (is_simple_and_free a ≡ true → fault_of a words ≡ [])
+    → fault_of program words ≡ []
+no_fault a words same free =
+    subst (λ (x : App). fault_of x words ≡ []) same (free (ap is_simple_and_free same ∙ is_free_program))
+
+-- where clap promises that only memory can fail, the fault is told as Memory
+pub only_memory : (a : App) (words : List (List ℕ)) (error : Error) (fault : UsageFault) → a ≡ program → IsToldAs error fault
+    → (takes a words ≡ true → kind_of error ≡ OutOfMemory) → takes program words ≡ true → fault ≡ Memory
+only_memory a words error fault same told promise taken =
+    told_so error fault told (promise (subst (λ (x : App). takes x words ≡ true) (sym same) taken))
+  where
+    told_so : (error : Error) (fault : UsageFault) → IsToldAs error fault → kind_of error ≡ OutOfMemory → fault ≡ Memory
+    told_so error (Help e) told memory = cc
+    told_so error (Usage e) told memory = absurd (told.2 memory)
+    told_so error Memory told memory = refl
+
+bundle_runs : (fault_of program [] ≡ []) × (file_in [] ≡ None)
+unfolding clap_on_literals
+bundle_runs = (refl, refl)
+
+-- of a file whose first byte is no hyphen
+plain_runs : (b : ℕ) (rest : List ℕ) → (b == 45) ≡ false
+    → (fault_of program (codes "-s" ∷ (b ∷ rest) ∷ []) ≡ []) × (file_in (codes "-s" ∷ (b ∷ rest) ∷ []) ≡ Some (b ∷ rest))
+unfolding clap_on_literals
+plain_runs b rest other = (rw (other, other) refl, rw (other, other) refl)
+
+empty_runs : (fault_of program (codes "-s" ∷ [] ∷ []) ≡ []) × (file_in (codes "-s" ∷ [] ∷ []) ≡ Some [])
+unfolding clap_on_literals
+empty_runs = (refl, refl)
+
+hyphen_runs : (fault_of program (codes "-s" ∷ (45 ∷ []) ∷ []) ≡ []) × (file_in (codes "-s" ∷ (45 ∷ []) ∷ []) ≡ Some (45 ∷ []))
+unfolding clap_on_literals
+hyphen_runs = (refl, refl)
+
+pub help_asked : (words : List (List ℕ)) → AsksHelp words → fault_of program words ≡ DisplayHelp ∷ []
+unfolding clap_on_literals
+help_asked _ AsksHelp.short = refl
+help_asked _ AsksHelp.long = refl
+
+pub no_file : fault_of program (codes "-s" ∷ []) ≡ InvalidValue ∷ []
+unfolding clap_on_literals
+no_file = refl
+
+pub runs : (words : List (List ℕ)) (file : Option (List ℕ)) → Runs words file → (fault_of program words ≡ []) × (file_in words ≡ file)
+runs _ _ Runs.bundle = bundle_runs
+runs _ _ (Runs.script [] plain) = empty_runs
+runs _ _ (Runs.script (b ∷ rest) plain) = first_byte b rest plain (b == 45) refl
+  where
+    first_byte : (b : ℕ) (rest : List ℕ) → ¬ IsOption (b ∷ rest) → (t : Bool) → (b == 45) ≡ t
+        → (fault_of program (codes "-s" ∷ (b ∷ rest) ∷ []) ≡ []) × (file_in (codes "-s" ∷ (b ∷ rest) ∷ []) ≡ Some (b ∷ rest))
+    first_byte b rest plain false other = plain_runs b rest other
+    first_byte b [] plain true same = let e : b ≡ 45 = search rules in rw e hyphen_runs
+    first_byte b (x ∷ rest) plain true same = absurd (plain (x, rest, ap (λ n. n ∷ x ∷ rest) (search rules)))
