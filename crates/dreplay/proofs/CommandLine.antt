@@ -1,12 +1,13 @@
-use Rattle.std.proofs.Common.{◌≡◌, ◌∙◌, ◌∷◌, ◌==◌, refl, true, false, ap, subst, sym, codes, List, [], ℕ, Option, Some, None, Bool, rules}
+use Rattle.std.proofs.Common.{◌≡◌, ◌∙◌, ◌∷◌, ◌++◌, ◌≢◌, ◌==◌, refl, true, false, ap, subst, sym, codes, List, [], ℕ, Option, Some, None, Bool, rules}
 use Rattle.clap.specs.Words.{App, first_value, first_of, found_of, is_simple, is_simple_and_free, HasMatchesOf, fault_of, kind_of, takes}
 use Rattle.clap.specs.Kinds.{Kinds}
 use Rattle.clap.specs.declared.error.Error.{Error}
 use Rattle.clap.specs.declared.parser.matches.ArgMatches.{ArgMatches}
-use Rattle.clap.specs.declared.error.kind.ErrorKind.TheVariants.{DisplayHelp, InvalidValue, OutOfMemory}
+use Rattle.clap.specs.declared.error.kind.ErrorKind.TheVariants.{DisplayHelp, InvalidValue, OutOfMemory, UnknownArgument}
+use Rattle.clap.specs.declared.error.kind.ErrorKind.{ErrorKind}
 use Rattle.clap.proofs.OnLiterals.{clap_on_literals}
 use Rattle.clap.proofs.WalkLemmas.{first_value-rows}
-use Rattle.dreplay.specs.Words.{AsksHelp, IsOption, IsToldAs, Runs, file_in, program}
+use Rattle.dreplay.specs.Words.{AsksHelp, IsOption, IsToldAs, Mistakes, Runs, file_in, program}
 use Rattle.dreplay.specs.declared.words.UsageFault.{UsageFault}
 use Rattle.dreplay.specs.declared.words.UsageFault.TheVariants.{Help, Usage, Memory}
 
@@ -65,17 +66,54 @@ unfolding clap_on_literals
 help_asked _ AsksHelp.short = refl
 help_asked _ AsksHelp.long = refl
 
-pub no_file : fault_of program (codes "-s" ∷ []) ≡ InvalidValue ∷ []
+-- of a name behind -s in one word, but with an equals sign
+joined_runs : (b : ℕ) (rest : List ℕ) → (b == 61) ≡ false
+    → (fault_of program ((codes "-s" ++ b ∷ rest) ∷ []) ≡ []) × (file_in ((codes "-s" ++ b ∷ rest) ∷ []) ≡ Some (b ∷ rest))
+unfolding clap_on_literals
+joined_runs b rest other = (rw other refl, rw other refl)
+
+plain_stray : (b : ℕ) (rest : List ℕ) → (b == 45) ≡ false → fault_of program ((b ∷ rest) ∷ []) ≡ UnknownArgument ∷ []
+unfolding clap_on_literals
+plain_stray b rest other = rw (other, other) refl
+
+no_file : fault_of program (codes "-s" ∷ []) ≡ InvalidValue ∷ []
 unfolding clap_on_literals
 no_file = refl
 
-pub runs : (words : List (List ℕ)) (file : Option (List ℕ)) → Runs words file → (fault_of program words ≡ []) × (file_in words ≡ file)
-runs _ _ Runs.bundle = bundle_runs
-runs _ _ (Runs.script [] plain) = empty_runs
-runs _ _ (Runs.script (b ∷ rest) plain) = first_byte b rest plain (b == 45) refl
+empty_stray : fault_of program ([] ∷ []) ≡ UnknownArgument ∷ []
+unfolding clap_on_literals
+empty_stray = refl
+
+hyphen_stray : fault_of program ((45 ∷ []) ∷ []) ≡ UnknownArgument ∷ []
+unfolding clap_on_literals
+hyphen_stray = refl
+
+pub mistaken : (words : List (List ℕ)) (kind : ErrorKind) → Mistakes words kind → fault_of program words ≡ kind ∷ []
+mistaken _ _ Mistakes.no_file = no_file
+mistaken _ _ (Mistakes.stray [] plain) = empty_stray
+mistaken _ _ (Mistakes.stray (b ∷ rest) plain) = first_byte b rest plain (b == 45) refl
   where
     first_byte : (b : ℕ) (rest : List ℕ) → ¬ IsOption (b ∷ rest) → (t : Bool) → (b == 45) ≡ t
-        → (fault_of program (codes "-s" ∷ (b ∷ rest) ∷ []) ≡ []) × (file_in (codes "-s" ∷ (b ∷ rest) ∷ []) ≡ Some (b ∷ rest))
-    first_byte b rest plain false other = plain_runs b rest other
-    first_byte b [] plain true same = let e : b ≡ 45 = search rules in rw e hyphen_runs
+        → fault_of program ((b ∷ rest) ∷ []) ≡ UnknownArgument ∷ []
+    first_byte b rest plain false other = plain_stray b rest other
+    first_byte b [] plain true same = let e : b ≡ 45 = search rules in rw e hyphen_stray
     first_byte b (x ∷ rest) plain true same = absurd (plain (x, rest, ap (λ n. n ∷ x ∷ rest) (search rules)))
+
+-- of a file whose first byte is known to be a hyphen, or not
+script_runs : (b : ℕ) (rest : List ℕ) → ¬ IsOption (b ∷ rest) → (t : Bool) → (b == 45) ≡ t
+    → (fault_of program (codes "-s" ∷ (b ∷ rest) ∷ []) ≡ []) × (file_in (codes "-s" ∷ (b ∷ rest) ∷ []) ≡ Some (b ∷ rest))
+script_runs b rest plain false other = plain_runs b rest other
+script_runs b [] plain true same = let e : b ≡ 45 = search rules in rw e hyphen_runs
+script_runs b (x ∷ rest) plain true same = absurd (plain (x, rest, ap (λ n. n ∷ x ∷ rest) (search rules)))
+
+name_runs : (b : ℕ) (rest : List ℕ) → b ≢ 61 → (t : Bool) → (b == 61) ≡ t
+    → (fault_of program ((codes "-s" ++ b ∷ rest) ∷ []) ≡ []) × (file_in ((codes "-s" ++ b ∷ rest) ∷ []) ≡ Some (b ∷ rest))
+name_runs b rest other false differs = joined_runs b rest differs
+name_runs b rest other true same = absurd (other (search rules))
+
+pub runs : (words : List (List ℕ)) (file : Option (List ℕ)) → Runs words file
+    → (fault_of program words ≡ []) × (file_in words ≡ file)
+runs _ _ Runs.bundle = bundle_runs
+runs _ _ (Runs.script [] plain) = empty_runs
+runs _ _ (Runs.script (b ∷ rest) plain) = script_runs b rest plain (b == 45) refl
+runs _ _ (Runs.joined b rest other) = name_runs b rest other (b == 61) refl

@@ -1,10 +1,12 @@
 -- What the words behind the program's name ask for.
-use Rattle.std.specs.Prelude.{◌≡◌, ◌≢◌, ◌∷◌, ℕ, List, [], Option, Some, None, codes, true}
+use Rattle.std.specs.Prelude.{◌≡◌, ◌≢◌, ◌∷◌, ◌++◌, ℕ, List, [], Option, Some, None, codes, true}
 use Rattle.std.specs.Prelude.{option_map, string_bytes}
 use Rattle.clap.specs.Words.{App, IsAmong, Rule, fault_of, first_of, kind_of, matches_of, new_app}
 use Rattle.clap.specs.Words.{new_rule, with_rule}
 use Rattle.clap.specs.declared.error.Error.{Error}
+use Rattle.clap.specs.declared.error.kind.ErrorKind.{ErrorKind}
 use Rattle.clap.specs.declared.error.kind.ErrorKind.TheVariants.{DisplayHelp, OutOfMemory}
+use Rattle.clap.specs.declared.error.kind.ErrorKind.TheVariants.{InvalidValue, UnknownArgument}
 use Rattle.dreplay.specs.declared.words.Asked.{Asked}
 use Rattle.dreplay.specs.declared.words.UsageFault.{UsageFault}
 use Rattle.dreplay.specs.declared.words.UsageFault.TheVariants.{Help, Usage, Memory}
@@ -49,12 +51,19 @@ IsToldAs error Memory = kind_of error ≡ OutOfMemory
 abbrev pub IsOption : List ℕ → Type 0
 IsOption word = (b : ℕ) × (rest : List ℕ) × (word ≡ 45 ∷ b ∷ rest)
 
--- the words of a run: none for a bundle; -s and a file for a script apart
+-- the words of a run: none for a bundle; -s and a file, in two words or one, for a script apart
 pub data Runs : List (List ℕ) → Option (List ℕ) → Type 0 where
   bundle : Runs [] None
   script : (file : List ℕ) → ¬ IsOption file → Runs (codes "-s" ∷ file ∷ []) (Some file)
+  joined : (b : ℕ) (rest : List ℕ) → b ≢ 61 → Runs ((codes "-s" ++ b ∷ rest) ∷ []) (Some (b ∷ rest))
 
 -- the words that ask for help
 pub data AsksHelp : List (List ℕ) → Type 0 where
   short : AsksHelp (codes "-h" ∷ [])
   long : AsksHelp (codes "--help" ∷ [])
+
+-- mistakes, each of its kind: -s without a file, and a word that is neither an option nor the value
+-- of one
+pub data Mistakes : List (List ℕ) → ErrorKind → Type 0 where
+  no_file : Mistakes (codes "-s" ∷ []) InvalidValue
+  stray : (word : List ℕ) → ¬ IsOption word → Mistakes (word ∷ []) UnknownArgument

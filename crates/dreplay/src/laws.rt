@@ -1,13 +1,14 @@
 //! Laws of what bundles, scripts and answers mean: each holds of the definitions, and its function computes nothing.
 
-ghost use Rattle.std.specs.Prelude.{◌≡◌, ◌∷◌, [], ℕ, List, Option, Result, codes};
+ghost use Rattle.std.specs.Prelude.{◌≡◌, ◌∷◌, [], ℕ, List, Option, Result};
 ghost use Rattle.clap.specs.Words.{fault_of};
-ghost use Rattle.clap.specs.declared.error.kind.ErrorKind.TheVariants.{DisplayHelp, InvalidValue};
+ghost use Rattle.clap.specs.declared.error.kind.ErrorKind.{ErrorKind};
+ghost use Rattle.clap.specs.declared.error.kind.ErrorKind.TheVariants.{DisplayHelp};
 ghost use Rattle.dreplay.specs.declared.refusal.Refusal.{Refusal};
 ghost use Rattle.dreplay.specs.Answer.{IsAnswer};
 ghost use Rattle.dreplay.specs.Bundle.{Divides};
 ghost use Rattle.dreplay.specs.Counting.{Counts, Description};
-ghost use Rattle.dreplay.specs.Words.{AsksHelp, Runs, file_in, program};
+ghost use Rattle.dreplay.specs.Words.{AsksHelp, Mistakes, Runs, file_in, program};
 
 /// A bundle is divided in one way.
 pub fn one_division()
@@ -37,7 +38,8 @@ pub fn help_told()
     ensures { (words : List (List ℕ)) → AsksHelp words → fault_of program words ≡ DisplayHelp ∷ [] }
 {}
 
-/// `-s` without a file is a mistake.
-pub fn file_wanted()
-    ensures { fault_of program (codes "-s" ∷ []) ≡ InvalidValue ∷ [] }
+/// `-s` without a file is a mistake, and so is a word that is no option.
+pub fn mistakes_told()
+    ensures { (words : List (List ℕ)) (kind : ErrorKind) → Mistakes words kind
+        → fault_of program words ≡ kind ∷ [] }
 {}
