@@ -1,5 +1,5 @@
 -- The script of all tokens, and no other.
-use Rattle.std.proofs.Common.{◌≡◌, List, Option, Some, None, Result, Ok, Err, sym, subst}
+use Rattle.std.proofs.Common.{List, Option, Some, Result, Ok, Err, subst}
 use Rattle.std.specs.Prelude.{IfOk, ℕ, Bool, ◌≤◌, length}
 use Rattle.d_parser.specs.Limits.{OnlyLimits}
 use Rattle.d_parser.specs.Sizes.{IsWithin}

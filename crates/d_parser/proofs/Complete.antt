@@ -1,7 +1,6 @@
 -- What spells a tree is read as that tree.
-use Rattle.std.proofs.Common.{◌≡◌, ℕ, zero, suc, ◌+◌, ◌-◌, ◌<◌, ◌≤◌, max, Bool, true, false, cond, List, [], ◌∷◌, ◌++◌, length, Option, Some, None, refl, sym, ap, subst, ◌∙◌, arith, rules, inl, inr, lit≤, lit<, append_assoc, length-append}
+use Rattle.std.proofs.Common.{◌≡◌, ℕ, zero, suc, ◌<◌, ◌≤◌, max, Bool, true, false, List, [], ◌∷◌, ◌++◌, length, Some, None, refl, sym, ap, subst, ◌∙◌, arith, rules, inl, inr, lit≤, lit<, length-append}
 use Rattle.std.proofs.lemmas.List.{append-nil}
-use Rattle.std.specs.Prelude.{nat_le}
 use Rattle.std.proofs.lemmas.Bool.{cases_lt, le-leb, lt-leb}
 use denote.Enum.Bare.{same_true}
 use Rattle.d_lexer.specs.contracts.token.Mark.{the_type}
@@ -29,9 +28,9 @@ use Rattle.d_parser.specs.declared.marks.Follow.TheVariants as f
 use Rattle.d_parser.specs.Tree.{Tree, Known, Read, Call, Unary, Cast, Before, After, Binary, Choice, Assign, Trees, end, more, add}
 use Rattle.d_parser.specs.Words.{word_kind, kind_of, begins_type, only_integer, type_from, integer_type, is_word, AreWords, run, behind_run}
 use Rattle.d_parser.specs.Marks.{prefix_of, follow_of, level_of, follow_at, kind_is, is_at, same_mark, tail}
-use Rattle.d_parser.specs.Grammar.{Part, token, Begins, Sign, Within, IsPhrase, rank, constant_kind, IsPlain, IsMember, IsVariable, MayHave, IsTarget, IsEnclosed, IsCast, Spells, SpellsKeys, SpellsList, SpellsMore}
-use Rattle.d_parser.specs.Reading.{◌>>=◌, Reader, after_mark, plain_word, plain_by, member, variable, typed_by, is_typed, cast_type, calls, begins_call, is_clause_local, readers, listed, keys_by, keys, arguments, with_keys, target, follows_by, follows, named, casted, parenthesised, stepped, prefixed_by, marked, part_by, part, climb_by, climb_on, choice_by, chosen, choice, operand, whole, further_on}
-use Rattle.d_parser.proofs.Takes.{begins_one, sign_one, takes, phrase_takes, keys_take, more_take, target_takes, Takes}
+use Rattle.d_parser.specs.Grammar.{token, Begins, Sign, Within, IsPhrase, rank, IsPlain, IsTarget, IsEnclosed, Spells, SpellsKeys, SpellsList, SpellsMore}
+use Rattle.d_parser.specs.Reading.{after_mark, plain_word, member, variable, typed_by, is_typed, cast_type, calls, begins_call, readers, listed, keys_by, keys, arguments, with_keys, target, follows_by, follows, named, casted, parenthesised, stepped, marked, part_by, part, climb_by, climb_on, choice_by, chosen, choice, operand, whole, further_on}
+use Rattle.d_parser.proofs.Takes.{sign_one, takes, phrase_takes, keys_take, target_takes}
 use Rattle.d_parser.proofs.Runs.{run_is, behind_is}
 
 -- ---- what follows

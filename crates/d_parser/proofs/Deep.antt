@@ -1,6 +1,6 @@
 -- What is told token by token of depth, and what is true of the whole list.
-use Rattle.std.proofs.Common.{◌≡◌, ℕ, zero, suc, ◌+◌, ◌-◌, ◌<◌, ◌≤◌, Bool, true, false, List, [], ◌∷◌, ◌++◌, length, refl, sym, ap, arith, inl, inr}
-use Rattle.std.specs.Prelude.{◌||◌, ◌⊎◌, ◌↔◌, nat_lt}
+use Rattle.std.proofs.Common.{◌≡◌, ℕ, zero, suc, ◌+◌, ◌<◌, ◌≤◌, Bool, true, false, List, [], ◌∷◌, ◌++◌, length, refl, ap, arith, inl, inr}
+use Rattle.std.specs.Prelude.{◌||◌, ◌⊎◌, nat_lt}
 use Rattle.std.proofs.lemmas.Bool.{cases_lt, ltb-true, lt-ltb}
 use Rattle.d_lexer.specs.declared.token.Token.{Token}
 use Rattle.d_parser.specs.Limits.{Turn, Opens, Closes, Ends, Goes, turn, opens, closes, ends, opened, closed, ended, IsDeep, open_by, row_by, open_behind, row_with, is_deep}

@@ -1,10 +1,9 @@
 -- A row of trees as a list.
-use Rattle.std.proofs.Common.{◌≡◌, ℕ, List, [], ◌∷◌, ◌++◌, refl, sym, ap, ◌∙◌, map}
-use Rattle.d_parser.specs.declared.tree.Expr.{Expr, Row_of-Expr, end_of-Expr, more_of-Expr, items-the_row-Expr, items_hidden-the_row-Expr-0}
-use Rattle.d_parser.specs.declared.tree.Expr.TheBlock.{hidden-the_row-Expr-0}
+use Rattle.std.proofs.Common.{◌≡◌, List, [], ◌∷◌, ◌++◌, refl, ap, map}
+use Rattle.d_parser.specs.declared.tree.Expr.{Expr, Row_of-Expr, end_of-Expr, more_of-Expr, items-the_row-Expr}
 use Rattle.d_parser.specs.declared.tree.Stmt.{Stmt}
 use Rattle.d_parser.specs.declared.tree.Item.{Item}
-use Rattle.d_parser.specs.Tree.{Tree, Trees, end, more, add, tree_of, trees_in, trees_of, stmt_of, stmts_of, item_of}
+use Rattle.d_parser.specs.Tree.{more, add, tree_of, trees_in, trees_of, stmt_of, stmts_of, item_of}
 
 pub trees_push : (xs : List Expr) (x : Expr) → trees_of (xs ++ x ∷ []) ≡ add (trees_of xs) (tree_of x)
 trees_push [] x = refl

@@ -1,6 +1,5 @@
 -- What is read as a tree spells that tree.
-use Rattle.std.proofs.Common.{◌≡◌, ℕ, zero, suc, ◌+◌, ◌-◌, ◌<◌, ◌≤◌, max, Bool, true, false, cond, List, [], ◌∷◌, ◌++◌, length, Option, Some, None, refl, sym, ap, subst, ◌∙◌, arith, rules, inl, inr, lit≤, lit<}
-use Rattle.std.specs.Prelude.{nat_le}
+use Rattle.std.proofs.Common.{◌≡◌, ℕ, zero, suc, ◌<◌, ◌≤◌, max, Bool, true, false, cond, List, [], ◌∷◌, Option, Some, None, refl, sym, ap, subst, ◌∙◌, arith, rules, inl, inr, lit≤, lit<}
 use Rattle.std.proofs.lemmas.Bool.{cases_lt, le-leb, lt-leb}
 use denote.Enum.Bare.{same_true}
 use Rattle.d_lexer.specs.contracts.token.Mark.{the_type}
@@ -9,13 +8,10 @@ use Rattle.d_lexer.specs.declared.token.Mark.TheVariants as m
 use Rattle.d_lexer.specs.declared.token.Token.{Token}
 use Rattle.d_lexer.specs.declared.token.TokenKind.{TokenKind}
 use Rattle.d_lexer.specs.declared.token.TokenKind.TheVariants as kind
-use Rattle.d_parser.specs.declared.operators.UnaryOperator.{UnaryOperator}
 use Rattle.d_parser.specs.declared.operators.BinaryOperator.{BinaryOperator}
-use Rattle.d_parser.specs.declared.operators.BinaryOperator.TheVariants as b
 use Rattle.d_parser.specs.declared.operators.AssignOperator.{AssignOperator}
 use Rattle.d_parser.specs.declared.operators.Step.{Step}
 use Rattle.d_parser.specs.declared.tree.IntegerType.{IntegerType}
-use Rattle.d_parser.specs.declared.tree.Constant.{Constant}
 use Rattle.d_parser.specs.declared.tree.Constant.TheVariants as c
 use Rattle.d_parser.specs.declared.tree.Variable.{Variable}
 use Rattle.d_parser.specs.declared.tree.Variable.TheVariants as v
@@ -26,10 +22,10 @@ use Rattle.d_parser.specs.declared.marks.Prefix.TheVariants as p
 use Rattle.d_parser.specs.declared.marks.Follow.{Follow}
 use Rattle.d_parser.specs.declared.marks.Follow.TheVariants as f
 use Rattle.d_parser.specs.Tree.{Tree, Known, Read, Call, Unary, Cast, Before, After, Binary, Choice, Assign, Trees, end, more, add}
-use Rattle.d_parser.specs.Words.{word_kind, kind_of, begins_type, integer_type, AreWords, run, behind_run}
+use Rattle.d_parser.specs.Words.{word_kind, integer_type, run, behind_run}
 use Rattle.d_parser.specs.Marks.{prefix_of, follow_of, level_of, follow_kind, follow_at, is_at, same_mark, tail}
-use Rattle.d_parser.specs.Grammar.{Part, token, Begins, Sign, Within, IsPhrase, rank, constant_kind, IsPlain, IsMember, IsVariable, MayHave, IsTarget, IsEnclosed, IsCast, Spells, SpellsKeys, SpellsList, SpellsMore}
-use Rattle.d_parser.specs.Reading.{◌>>=◌, Reader, after_mark, if_plain, plain_word, plain_by, member, variable, typed_by, is_typed, cast_type, calls, begins_call, is_clause_local, Readers, readers, listed, keys_by, keys, arguments, with_keys, target, follows_by, follows, named, casted, parenthesised, stepped_by, stepped, prefixed_by, marked, part_by, part, climb_by, climb_on, choice_by, chosen, choice, operand, whole, further_on}
+use Rattle.d_parser.specs.Grammar.{token, Begins, Sign, IsPhrase, rank, IsPlain, IsVariable, MayHave, IsTarget, IsEnclosed, IsCast, Spells, SpellsKeys, SpellsList, SpellsMore}
+use Rattle.d_parser.specs.Reading.{◌>>=◌, after_mark, if_plain, plain_word, plain_by, member, variable, is_typed, cast_type, calls, begins_call, Readers, readers, listed, keys_by, keys, arguments, with_keys, target, follows_by, follows, named, casted, parenthesised, stepped_by, stepped, prefixed_by, marked, part_by, part, climb_by, climb_on, choice_by, chosen, choice, operand, whole, further_on}
 use Rattle.d_parser.proofs.Complete.{level_high, level_below, sign_there, join, join_more}
 use Rattle.d_parser.proofs.Runs.{are_words, run_joined}
 

@@ -1,7 +1,6 @@
 -- What is read as a script spells it.
-use Rattle.std.proofs.Common.{◌≡◌, ℕ, zero, suc, ◌+◌, ◌<◌, ◌≤◌, Bool, true, false, cond, List, [], ◌∷◌, ◌++◌, length, Option, Some, None, refl, sym, ap, subst, ◌∙◌, arith, append_assoc, lit≤, lit<}
+use Rattle.std.proofs.Common.{◌≡◌, ℕ, zero, suc, ◌+◌, true, List, [], ◌∷◌, ◌++◌, length, Option, Some, None, refl, sym, ap, subst, ◌∙◌, append_assoc, lit≤}
 use Rattle.std.proofs.lemmas.List.{append-nil}
-use Rattle.d_lexer.specs.declared.token.Mark.{Mark}
 use Rattle.d_lexer.specs.declared.token.Mark.TheVariants as m
 use Rattle.d_lexer.specs.declared.token.Token.{Token}
 use Rattle.d_lexer.specs.declared.token.TokenKind.{TokenKind}
@@ -10,12 +9,12 @@ use Rattle.d_parser.specs.declared.tree.DeclaredType.{DeclaredType}
 use Rattle.d_parser.specs.declared.tree.Description.{Description}
 use Rattle.d_parser.specs.declared.words.WordKind.{WordKind}
 use Rattle.d_parser.specs.declared.words.WordKind.TheVariants as w
-use Rattle.d_parser.specs.Tree.{Tree, Trees, StmtTree, Expression, Aggregation, DeclarationTree, OfThread, OfClause, ClauseTree, ItemTree, Declared, Probing}
+use Rattle.d_parser.specs.Tree.{Tree, StmtTree, Expression, Aggregation, DeclarationTree, OfThread, OfClause, ClauseTree, ItemTree, Declared, Probing}
 use Rattle.d_parser.specs.Words.{word_kind, is_word, type_of, AreWords, run, behind_run}
 use Rattle.d_parser.specs.Marks.{is_at, tail}
-use Rattle.d_parser.specs.Grammar.{token, Begins, Sign, IsPhrase, IsEnclosed, IsExpression, Spells, SpellsKeys, SpellsList, rank}
-use Rattle.d_parser.specs.Script.{IsAggregation, IsStmt, IsSlot, AreFurther, present, AreStmts, description_of, IsDescription, FurtherDescriptions, AreDescriptions, IsPredicate, IsClause, IsType, FurtherTypes, AreKeyTypes, IsDeclared, IsDeclaration, IsItem, IsScript}
-use Rattle.d_parser.specs.Reading.{◌>>=◌, Reader, after_mark, readers, keys, arguments}
+use Rattle.d_parser.specs.Grammar.{token, Begins, Sign}
+use Rattle.d_parser.specs.Script.{IsStmt, IsSlot, AreFurther, present, AreStmts, description_of, IsDescription, FurtherDescriptions, AreDescriptions, IsPredicate, IsClause, IsType, FurtherTypes, AreKeyTypes, IsDeclaration, IsItem, IsScript}
+use Rattle.d_parser.specs.Reading.{◌>>=◌, after_mark, readers, keys, arguments}
 use Rattle.d_parser.specs.ReadingScripts.{word_by, any_word, aggregation, stmt_by, stmt, ends_stmt, slot, further_stmts, stmts, with_rest, description_by, description, descriptions_on, further_descriptions, descriptions, predicate, clause, whole_type, types_on, further_types, key_types, last_by, last_apart, word_of, typed_name, of_thread, of_clause, declared_by, item_by, item, items, script}
 use Rattle.d_parser.proofs.Complete.{sign_there}
 use Rattle.d_parser.proofs.Sound.{IfSome, then_sound, test_sound, weaken, after_sound, Whole, KeysOf, ArgumentsOf, SignOf, keys_sound, arguments_sound, readers_sound}

@@ -1,30 +1,15 @@
 -- What spells a tree has a token at least.
-use Rattle.std.proofs.Common.{◌≡◌, ℕ, zero, suc, ◌+◌, ◌<◌, ◌≤◌, List, [], ◌∷◌, ◌++◌, length, refl, ap, arith, length-append}
+use Rattle.std.proofs.Common.{◌≡◌, ℕ, zero, suc, ◌<◌, ◌≤◌, List, ◌++◌, length, ap, arith, length-append}
 use Rattle.d_lexer.specs.declared.token.Mark.{Mark}
 use Rattle.d_lexer.specs.declared.token.Mark.TheVariants as m
 use Rattle.d_lexer.specs.declared.token.Token.{Token}
 use Rattle.d_lexer.specs.declared.token.TokenKind.{TokenKind}
 use Rattle.d_lexer.specs.declared.token.TokenKind.TheVariants as kind
-use Rattle.d_parser.specs.declared.operators.UnaryOperator.{UnaryOperator}
-use Rattle.d_parser.specs.declared.operators.BinaryOperator.{BinaryOperator}
-use Rattle.d_parser.specs.declared.operators.BinaryOperator.TheVariants as b
-use Rattle.d_parser.specs.declared.operators.AssignOperator.{AssignOperator}
-use Rattle.d_parser.specs.declared.operators.Step.{Step}
-use Rattle.d_parser.specs.declared.tree.IntegerType.{IntegerType}
-use Rattle.d_parser.specs.declared.tree.Constant.{Constant}
-use Rattle.d_parser.specs.declared.tree.Constant.TheVariants as c
 use Rattle.d_parser.specs.declared.tree.Variable.{Variable}
 use Rattle.d_parser.specs.declared.tree.Variable.TheVariants as v
-use Rattle.d_parser.specs.declared.words.WordKind.{WordKind}
-use Rattle.d_parser.specs.declared.words.WordKind.TheVariants as w
-use Rattle.d_parser.specs.declared.marks.Prefix.{Prefix}
-use Rattle.d_parser.specs.declared.marks.Prefix.TheVariants as p
-use Rattle.d_parser.specs.declared.marks.Follow.{Follow}
-use Rattle.d_parser.specs.declared.marks.Follow.TheVariants as f
-use Rattle.d_parser.specs.Tree.{Tree, Known, Read, Call, Unary, Cast, Before, After, Binary, Choice, Assign, Trees, end, more, add}
-use Rattle.d_parser.specs.Words.{AreWords}
+use Rattle.d_parser.specs.Tree.{Tree, Known, Read, Call, Unary, Cast, Before, After, Binary, Choice, Assign, Trees, end, more}
 use Rattle.d_parser.specs.Marks.{level_of}
-use Rattle.d_parser.specs.Grammar.{Part, Begins, Sign, Within, IsPhrase, rank, IsPlain, IsMember, IsVariable, IsTarget, IsEnclosed, IsCast, Spells, SpellsKeys, SpellsList, SpellsMore}
+use Rattle.d_parser.specs.Grammar.{Part, Begins, Sign, Within, IsPhrase, rank, IsVariable, IsTarget, Spells, SpellsKeys, SpellsList, SpellsMore}
 
 pub begins_one : (k : TokenKind) (line : ℕ) (ts rest : List Token) → Begins k line ts rest → length ts ≡ suc (length rest)
 begins_one k line ts rest h = ap length h.is

@@ -1,5 +1,5 @@
 -- What marks do before and behind an operand.
-use Rattle.std.specs.Prelude.{◌≡◌, ℕ, Bool, true, false, if◌then◌else◌, List, [], ◌∷◌, Option, Some, None}
+use Rattle.std.specs.Prelude.{ℕ, Bool, false, List, [], ◌∷◌}
 use denote.Enum.Bare.{sameb}
 use Rattle.d_lexer.specs.contracts.token.Mark.{the_type}
 use Rattle.d_lexer.specs.declared.token.Mark.{Mark}

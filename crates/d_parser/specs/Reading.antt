@@ -1,5 +1,5 @@
 -- The tree at the front of a list, and what is left, read from left to right.
-use Rattle.std.specs.Prelude.{◌≡◌, ◌≤◌, ℕ, zero, suc, ◌+◌, max, nat_le, Bool, true, false, if◌then◌else◌, List, [], ◌∷◌, ◌++◌, length, Option, Some, None, Result, Ok, Err}
+use Rattle.std.specs.Prelude.{◌≡◌, ℕ, zero, suc, max, nat_le, Bool, true, false, if◌then◌else◌, List, [], ◌∷◌, Option, Some, None, Result, Ok, Err}
 use Rattle.d_lexer.specs.declared.token.Mark.{Mark}
 use Rattle.d_lexer.specs.declared.token.Mark.TheVariants as m
 use Rattle.d_lexer.specs.declared.token.Token.{Token}
@@ -20,7 +20,7 @@ use Rattle.d_parser.specs.declared.fault.ParseFault.{ParseFault}
 use Rattle.d_parser.specs.declared.fault.ParseFault.TheVariants as faults
 use Rattle.d_parser.specs.Tree.{Tree, Known, Read, Call, Unary, Cast, Before, After, Binary, Choice, Assign, Trees, end, more, add}
 use Rattle.d_parser.specs.Words.{word_kind, begins_type, integer_type, run, behind_run}
-use Rattle.d_parser.specs.Marks.{prefix_of, follow_of, level_of, follow_at, is_at, same_mark, tail}
+use Rattle.d_parser.specs.Marks.{prefix_of, level_of, follow_at, is_at, same_mark, tail}
 
 infixl 10 ◌>>=◌
 abbrev pub ◌>>=◌ : {A B : Type 0} → Option A → (A → Option B) → Option B

@@ -1,10 +1,8 @@
 -- Which tokens spell a script: its declarations, and its clauses with their descriptions, predicate and statements.
-use Rattle.std.specs.Prelude.{◌≡◌, ◌==◌, ◌<◌, ◌&&◌, nat_le, ℕ, zero, suc, Bool, true, false, not, if◌then◌else◌, List, [], ◌∷◌, ◌++◌, Option, Some, None}
+use Rattle.std.specs.Prelude.{◌≡◌, ◌==◌, ◌&&◌, nat_le, ℕ, zero, suc, Bool, if◌then◌else◌, List, [], ◌∷◌, ◌++◌, Option, Some, None}
 pub use Rattle.std.specs.List.{list_all}
-use Rattle.d_lexer.specs.declared.token.Mark.{Mark}
 use Rattle.d_lexer.specs.declared.token.Mark.TheVariants as m
 use Rattle.d_lexer.specs.declared.token.Token.{Token}
-use Rattle.d_lexer.specs.declared.token.TokenKind.{TokenKind}
 use Rattle.d_lexer.specs.declared.token.TokenKind.TheVariants as kind
 use Rattle.d_parser.specs.declared.tree.DeclaredType.{DeclaredType}
 use Rattle.d_parser.specs.declared.tree.Description.{Description}

@@ -1,4 +1,4 @@
-use Rattle.std.proofs.Common.{◌≡◌, ap, ◌∙◌}
+use Rattle.std.proofs.Common.{ap, ◌∙◌}
 use Rattle.d_parser.specs.Tree as spec
 use Rattle.d_parser.specs.declared.tree.Expr.{items_hidden-the_row-Expr-0}
 use Rattle.d_parser.specs.declared.tree.Expr.TheBlock.{hidden-the_row-Expr-0}

@@ -1,4 +1,4 @@
-use Rattle.std.proofs.Common.{◌≡◌, ap, sym, ◌∙◌}
+use Rattle.std.proofs.Common.{◌≡◌, sym, ◌∙◌}
 use Rattle.std.proofs.Common.{refl}
 use Rattle.d_parser.specs.ReadingScripts.{word_of}
 use Rattle.d_parser.proofs.Steps.{typed_some, typed_none}

@@ -1,4 +1,4 @@
-use Rattle.std.proofs.Common.{◌≡◌, ◌+◌, ◌*◌}
+use Rattle.std.proofs.Common.{◌+◌, ◌*◌}
 use Rattle.d_parser.proofs.expression.+expression.Given as goal
 
 abbrev pub decreases-arguments : goal.decreases-arguments

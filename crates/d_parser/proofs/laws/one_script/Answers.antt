@@ -1,5 +1,4 @@
 use Rattle.d_parser.proofs.CompleteScripts.{one_script}
-use Rattle.d_parser.proofs.SoundScripts.{script_sound}
 use Rattle.d_parser.proofs.laws.one_script.Goals as goal
 
 pub returns : goal.returns

@@ -1,4 +1,4 @@
-use Rattle.std.proofs.Common.{◌≡◌, sym, ◌∙◌}
+use Rattle.std.proofs.Common.{sym, ◌∙◌}
 use Rattle.d_parser.specs.Tree.{stmts_of}
 use Rattle.d_parser.proofs.Steps.{stmts_goes}
 use Rattle.d_parser.proofs.statement.further.Goals as goal
