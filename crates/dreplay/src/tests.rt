@@ -2,7 +2,7 @@
 
 ghost use Rattle.dreplay.specs.Plans.{IsSerial};
 
-use crate::consuming::{ConsumeFault, consume};
+use crate::consuming::{ConsumeFault, consume, consume_trace};
 use crate::plan::{EngineKind, GroupPlan, Plan, Replayed};
 use crate::refusal::{Refusal, refusal_status, refusal_text};
 use crate::replaying::replay;
@@ -89,6 +89,18 @@ fn consumed(alloc: Global, reads: u64, writes: u64) -> (Result<Replayed, Consume
     (answer, sink.into_inner().into_inner())
 }
 
+// Consumes the trace, with its script apart, in the same way.
+fn consumed_apart(
+    alloc: Global,
+    reads: u64,
+    writes: u64,
+) -> (Result<Replayed, ConsumeFault>, Vec<u8>) {
+    let mut feed = Watched::new(Faulty::new(TRACE, reads));
+    let mut sink = Watched::new(Faulty::new(Vec::new(alloc), writes));
+    let answer = consume_trace(alloc, SCRIPT, &mut feed, &mut sink, &serial());
+    (answer, sink.into_inner().into_inner())
+}
+
 #[test]
 fn each_firing_is_run_once(rt: HostRuntime) -> Result<(), Fail> {
     let replayed = replay(rt.alloc(), SCRIPT, TRACE, &serial())?;
@@ -113,9 +125,24 @@ fn nothing_is_written_after_a_failed_read(rt: HostRuntime) {
 }
 
 #[test]
+fn nothing_is_written_after_a_failed_read_of_a_trace(rt: HostRuntime) {
+    for reads in 0..=TRACE.len() as u64 {
+        let (answer, out) = consumed_apart(rt.alloc(), reads, 100);
+        assert!(rt; matches!(answer, Err(ConsumeFault::Read)), "at {reads}");
+        assert!(rt; out.is_empty());
+    }
+    let (answer, out) = consumed_apart(rt.alloc(), TRACE.len() as u64 + 1, 100);
+    assert!(rt; answer.is_ok());
+    assert_eq!(rt; out.as_slice(), SHOWN);
+}
+
+#[test]
 fn a_beginning_is_written_before_a_failed_write(rt: HostRuntime) {
     for writes in 0..SHOWN.len() {
         let (answer, out) = consumed(rt.alloc(), 1000, writes as u64);
+        assert!(rt; matches!(answer, Err(ConsumeFault::Write)), "at {writes}");
+        assert_eq!(rt; out.as_slice(), &SHOWN[..writes]);
+        let (answer, out) = consumed_apart(rt.alloc(), 1000, writes as u64);
         assert!(rt; matches!(answer, Err(ConsumeFault::Write)), "at {writes}");
         assert_eq!(rt; out.as_slice(), &SHOWN[..writes]);
     }
