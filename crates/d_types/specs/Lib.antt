@@ -5,3 +5,6 @@ pub mod Faults
 pub mod Constants
 pub mod Words
 pub mod Variables
+pub mod Operators
+pub mod Targets
+pub mod Typing

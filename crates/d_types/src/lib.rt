@@ -1,11 +1,17 @@
 //! From trees to typed scripts: types, variables, and the registers that expressions need. `docs/LANGUAGE.md` has the rules.
 #![tactic(auto)]
 
+mod assignments;
+mod build;
+mod calls;
 mod constants;
+mod expression;
 mod fault;
 mod function;
 mod kinds;
 mod needs;
+mod operators;
+mod targets;
 mod typed;
 mod variables;
 mod words;

@@ -1,0 +1,7 @@
+use Rattle.std.proofs.Common.{ap}
+use Rattle.d_types.specs.Typed as typed
+use Rattle.d_types.proofs.Rows.{keys_are}
+use Rattle.d_types.proofs.assignments.step_of.Goals as goal
+
+pub returns : goal.returns
+returns c = ap (typed.Count c.args.step c.args.answer c.args.variable) (keys_are c.args.keys)

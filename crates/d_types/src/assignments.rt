@@ -1,0 +1,142 @@
+//! Assignments to a slot. None where the types don't fit.
+
+ghost use Rattle.std.specs.Prelude.{◌≡◌, IfOk, option_map};
+ghost use Rattle.d_types.specs.Faults.{OnlyMemory};
+ghost use Rattle.d_types.specs.Targets as spec;
+ghost use Rattle.d_types.specs.Typed as typed;
+ghost use Rattle.d_types.specs.Typed.{typed_of, typeds_of};
+ghost use Rattle.d_types.specs.Variables as table_spec;
+ghost use Rattle.d_types.specs.Variables.{rows_of};
+
+use crate::build::{as_type, convert};
+use crate::constants::integer;
+use crate::fault::TypeFault;
+use crate::operators::AssignSort;
+use crate::targets::variable_at;
+use crate::typed::{Answer, Operation, Space, TypedExpr, Variable};
+use crate::variables::{Entry, set_type, type_at};
+use d_parser::{IntegerType, Step};
+use d_values::{DType, common, promoted};
+use std::alloc::Global;
+
+/// The type that an assignment gives its target at once.
+pub(crate) fn type_at_once(sort: AssignSort) -> Option<DType>
+    ensures { result ≡ spec.type_at_once sort }
+{
+    match sort {
+        AssignSort::Set => None,
+        AssignSort::Arithmetic(_) | AssignSort::Shift(_) => Some(integer(IntegerType::Int64)),
+    }
+}
+
+fn assign_of(
+    alloc: Global,
+    variable: Variable,
+    keys: Vec<TypedExpr>,
+    x: TypedExpr,
+) -> Result<TypedExpr, TypeFault>
+    ensures ok { IfOk result (λ y. typed_of y ≡ typed.Assign variable (typeds_of keys.items) (typed_of x)) }
+    ensures err { OnlyMemory result }
+{
+    let x = Box::new(alloc, x)?;
+    Ok(TypedExpr::Assign(variable, keys, x))
+}
+
+fn update_of(
+    alloc: Global,
+    operation: Operation,
+    variable: Variable,
+    keys: Vec<TypedExpr>,
+    x: TypedExpr,
+) -> Result<TypedExpr, TypeFault>
+    ensures ok { IfOk result (λ y. typed_of y ≡ typed.Update operation variable (typeds_of keys.items) (typed_of x)) }
+    ensures err { OnlyMemory result }
+{
+    let x = Box::new(alloc, x)?;
+    Ok(TypedExpr::Update(operation, variable, keys, x))
+}
+
+fn step_of(step: Step, answer: Answer, variable: Variable, keys: Vec<TypedExpr>) -> TypedExpr
+    ensures { typed_of result ≡ typed.Count step answer variable (typeds_of keys.items) }
+{
+    TypedExpr::Step(step, answer, variable, keys)
+}
+
+fn store(
+    alloc: Global,
+    table: &mut [Entry],
+    space: Space,
+    slot: usize,
+    keys: Vec<TypedExpr>,
+    x: TypedExpr,
+) -> Result<Option<TypedExpr>, TypeFault>
+    ensures ok { IfOk result (λ y. option_map (λ z. (typed_of z, rows_of table.new)) y ≡ spec.store space (table_spec.type_at (rows_of table.old) slot) slot (typeds_of keys.items) (typed_of x) (rows_of table.old)) }
+    ensures err { OnlyMemory result }
+{
+    match type_at(table, slot) {
+        None => {
+            let holds = x.type_of();
+            let variable = variable_at(space, slot, holds)?;
+            set_type(table, slot, holds);
+            Ok(Some(assign_of(alloc, variable, keys, x)?))
+        }
+        Some(holds) => match as_type(alloc, holds, x)? {
+            Some(y) => {
+                let variable = variable_at(space, slot, holds)?;
+                Ok(Some(assign_of(alloc, variable, keys, y)?))
+            }
+            None => Ok(None),
+        },
+    }
+}
+
+/// An assignment of a value to a slot.
+pub(crate) fn assigned(
+    alloc: Global,
+    table: &mut [Entry],
+    sort: AssignSort,
+    space: Space,
+    slot: usize,
+    keys: Vec<TypedExpr>,
+    x: TypedExpr,
+) -> Result<Option<TypedExpr>, TypeFault>
+    ensures ok { IfOk result (λ y. option_map (λ z. (typed_of z, rows_of table.new)) y ≡ spec.assigned sort space (table_spec.type_at (rows_of table.old) slot) (typed.type_of (typed_of x)) slot (typeds_of keys.items) (typed_of x) (rows_of table.old)) }
+    ensures err { OnlyMemory result }
+{
+    match (sort, type_at(table, slot), x.type_of()) {
+        (AssignSort::Set, _, _) => store(alloc, table, space, slot, keys, x),
+        (AssignSort::Arithmetic(op), Some(DType::Int(t)), DType::Int(u)) => {
+            let x = convert(alloc, u, common(t, u), x)?;
+            let variable = variable_at(space, slot, DType::Int(t))?;
+            let operation = Operation::Arithmetic(op, common(t, u));
+            Ok(Some(update_of(alloc, operation, variable, keys, x)?))
+        }
+        (AssignSort::Shift(op), Some(DType::Int(t)), DType::Int(_)) => {
+            let variable = variable_at(space, slot, DType::Int(t))?;
+            let operation = Operation::Shift(op, promoted(t));
+            Ok(Some(update_of(alloc, operation, variable, keys, x)?))
+        }
+        _ => Ok(None),
+    }
+}
+
+/// `++` or `--` on a slot.
+pub(crate) fn step(
+    table: &[Entry],
+    by: Step,
+    answer: Answer,
+    space: Space,
+    slot: usize,
+    keys: Vec<TypedExpr>,
+) -> Result<Option<TypedExpr>, TypeFault>
+    ensures ok { IfOk result (λ y. option_map typed_of y ≡ spec.step by answer space (table_spec.type_at (rows_of table.now) slot) slot (typeds_of keys.items)) }
+    ensures err { OnlyMemory result }
+{
+    match type_at(table, slot) {
+        Some(DType::Int(t)) => {
+            let variable = variable_at(space, slot, DType::Int(t))?;
+            Ok(Some(step_of(by, answer, variable, keys)))
+        }
+        _ => Ok(None),
+    }
+}

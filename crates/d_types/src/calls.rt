@@ -1,0 +1,83 @@
+//! Calls in expressions. None where the arguments don't fit.
+
+ghost use Rattle.std.specs.Prelude.{◌≡◌, IfOk, option_map};
+ghost use Rattle.d_types.specs.Faults.{OnlyMemory};
+ghost use Rattle.d_types.specs.Typing as spec;
+ghost use Rattle.d_types.specs.Typed as typed;
+ghost use Rattle.d_types.specs.Typed.{typed_of, typeds_of};
+
+use crate::fault::TypeFault;
+use crate::typed::TypedExpr;
+use crate::words::Callee;
+use d_values::DType;
+use std::alloc::Global;
+
+fn length_of(alloc: Global, x: TypedExpr) -> Result<Option<TypedExpr>, TypeFault>
+    ensures ok { IfOk result (λ y. option_map typed_of y ≡ spec.strlen (typed.type_of (typed_of x)) (typed_of x)) }
+    ensures err { OnlyMemory result }
+{
+    match x.type_of() {
+        DType::Text => Ok(Some(TypedExpr::Strlen(Box::new(alloc, x)?))),
+        DType::Int(_) => Ok(None),
+    }
+}
+
+fn join(alloc: Global, x: TypedExpr, y: TypedExpr) -> Result<Option<TypedExpr>, TypeFault>
+    ensures ok { IfOk result (λ z. option_map typed_of z ≡ spec.strjoin (typed.type_of (typed_of x)) (typed.type_of (typed_of y)) (typed_of x) (typed_of y)) }
+    ensures err { OnlyMemory result }
+{
+    match (x.type_of(), y.type_of()) {
+        (DType::Text, DType::Text) => {
+            let x = Box::new(alloc, x)?;
+            Ok(Some(TypedExpr::Strjoin(x, Box::new(alloc, y)?)))
+        }
+        _ => Ok(None),
+    }
+}
+
+fn strlen(alloc: Global, args: Vec<TypedExpr>) -> Result<Option<TypedExpr>, TypeFault>
+    ensures ok { IfOk result (λ y. option_map typed_of y ≡ spec.strlen_of (typeds_of args.items)) }
+    ensures err { OnlyMemory result }
+{
+    let mut rest = args;
+    let Some(x) = rest.pop() else {
+        return Ok(None);
+    };
+    if !rest.is_empty() {
+        return Ok(None);
+    }
+    length_of(alloc, x)
+}
+
+fn strjoin(alloc: Global, args: Vec<TypedExpr>) -> Result<Option<TypedExpr>, TypeFault>
+    ensures ok { IfOk result (λ y. option_map typed_of y ≡ spec.strjoin_of (typeds_of args.items)) }
+    ensures err { OnlyMemory result }
+{
+    let mut rest = args;
+    let Some(y) = rest.pop() else {
+        return Ok(None);
+    };
+    let Some(x) = rest.pop() else {
+        return Ok(None);
+    };
+    if !rest.is_empty() {
+        return Ok(None);
+    }
+    join(alloc, x, y)
+}
+
+/// A call of a function.
+pub(crate) fn call(
+    alloc: Global,
+    callee: Callee,
+    args: Vec<TypedExpr>,
+) -> Result<Option<TypedExpr>, TypeFault>
+    ensures ok { IfOk result (λ y. option_map typed_of y ≡ spec.call callee (typeds_of args.items)) }
+    ensures err { OnlyMemory result }
+{
+    match callee {
+        Callee::Strlen => strlen(alloc, args),
+        Callee::Strjoin => strjoin(alloc, args),
+        Callee::Trace | Callee::Printf | Callee::Exit => Ok(None),
+    }
+}

@@ -1,0 +1,277 @@
+//! From trees of expressions to typed ones.
+
+ghost use Rattle.std.specs.Prelude.{◌≡◌, IfOk};
+ghost use Rattle.d_parser.specs.Tree as tree;
+ghost use Rattle.d_parser.specs.Tree.{tree_of, trees_of};
+ghost use Rattle.d_types.specs.Faults.{Gives, OnlyMemory};
+ghost use Rattle.d_types.specs.Typed as typed;
+ghost use Rattle.d_types.specs.Typed.{typed_of, typeds_of};
+ghost use Rattle.d_types.specs.Typing as spec;
+ghost use Rattle.d_types.specs.Variables.{rows_of};
+
+use crate::assignments::{assigned, step, type_at_once};
+use crate::build::{as_type, binary, choice, unary};
+use crate::calls::call;
+use crate::constants::{int_type, integer, type_of_constant};
+use crate::fault::TypeFault;
+use crate::needs::fits;
+use crate::operators::{assign_sort, binary_sort};
+use crate::targets::{line_of_variable, read, space_of, target};
+use crate::typed::{Answer, TypedExpr};
+use crate::variables::{Entry, type_at};
+use crate::words::callee_named;
+use d_parser::{AssignOperator, Constant, Expr, IntegerType, Step, Variable};
+use d_values::{DType, join_text};
+use std::alloc::Global;
+
+/// The line of the first token.
+pub(crate) fn line_of(e: &Expr) -> usize
+    ensures { result ≡ spec.line_of (tree_of e.now) }
+{
+    match e {
+        Expr::Constant { line, .. } => *line,
+        Expr::Read(target) => line_of_variable(&target.variable),
+        Expr::Call { line, .. } => *line,
+        Expr::Unary { line, .. } => *line,
+        Expr::Cast { line, .. } => *line,
+        Expr::Before { line, .. } => *line,
+        Expr::After { target, .. } => line_of_variable(&target.variable),
+        Expr::Binary { left, .. } => line_of(left),
+        Expr::Choice { test, .. } => line_of(test),
+        Expr::Assign { target, .. } => line_of_variable(&target.variable),
+    }
+}
+
+// A text is cut to its first 255 bytes.
+fn constant(alloc: Global, constant: &Constant) -> Result<TypedExpr, TypeFault>
+    ensures ok { IfOk result (λ x. typed_of x ≡ spec.constant constant.now) }
+    ensures err { OnlyMemory result }
+{
+    match constant {
+        Constant::Number { value, suffix } => {
+            Ok(TypedExpr::Constant(type_of_constant(*value, *suffix), *value))
+        }
+        Constant::Text(bytes) => { Ok(TypedExpr::Text(join_text(alloc, bytes.as_slice(), &[])?)) }
+    }
+}
+
+/// The typed tree of a part.
+#[cycle(typing)]
+pub(crate) fn expr(alloc: Global, table: &mut Vec<Entry>, e: &Expr) -> Result<TypedExpr, TypeFault>
+    ensures { Gives (λ x. (typed_of x, rows_of table.new.items)) result (spec.expr (rows_of table.old.items) (tree_of e.now)) }
+{
+    match e {
+        Expr::Constant {
+            constant: known,
+            ..
+        } => constant(alloc, known),
+        Expr::Read(target) => read_expr(alloc, table, &target.variable, &target.keys),
+        Expr::Call {
+            line,
+            function,
+            arguments,
+        } => call_expr(alloc, table, *line, function.as_slice(), arguments),
+        Expr::Unary {
+            line,
+            operator,
+            operand,
+        } => {
+            let x = expr(alloc, table, operand)?;
+            match unary(alloc, *operator, x)? {
+                Some(typed) => Ok(typed),
+                None => Err(TypeFault::Mismatch { line: *line }),
+            }
+        }
+        Expr::Cast { line, to, operand } => {
+            let x = expr(alloc, table, operand)?;
+            match as_type(alloc, DType::Int(int_type(*to)), x)? {
+                Some(typed) => Ok(typed),
+                None => Err(TypeFault::Mismatch { line: *line }),
+            }
+        }
+        Expr::Before { line, step, target } => {
+            before_expr(alloc, table, *line, *step, &target.variable, &target.keys)
+        }
+        Expr::After { target, step } => {
+            after_expr(alloc, table, &target.variable, &target.keys, *step)
+        }
+        Expr::Binary {
+            operator,
+            left,
+            right,
+        } => {
+            let x = expr(alloc, table, left)?;
+            let y = expr(alloc, table, right)?;
+            match binary(alloc, binary_sort(*operator), x, y)? {
+                Some(typed) => Ok(typed),
+                None => Err(TypeFault::Mismatch {
+                    line: line_of(left),
+                }),
+            }
+        }
+        Expr::Choice {
+            test,
+            first,
+            second,
+        } => {
+            let x = expr(alloc, table, test)?;
+            let y = expr(alloc, table, first)?;
+            let z = expr(alloc, table, second)?;
+            match choice(alloc, x, y, z)? {
+                Some(typed) => Ok(typed),
+                None => Err(TypeFault::Mismatch {
+                    line: line_of(test),
+                }),
+            }
+        }
+        Expr::Assign {
+            operator,
+            target,
+            value,
+        } => match exprs(alloc, table, &target.keys) {
+            Ok(keys) => assign_expr(alloc, table, *operator, &target.variable, value, keys),
+            Err(fault) => Err(fault),
+        },
+    }
+}
+
+#[cycle(typing)]
+fn read_expr(
+    alloc: Global,
+    table: &mut Vec<Entry>,
+    variable: &Variable,
+    keys: &[Expr],
+) -> Result<TypedExpr, TypeFault>
+    ensures { Gives (λ x. (typed_of x, rows_of table.new.items)) result (spec.expr (rows_of table.old.items) (tree.Read variable.now (trees_of keys.now))) }
+{
+    let keys = exprs(alloc, table, keys)?;
+    read(table, variable, keys)
+}
+
+#[cycle(typing)]
+fn call_expr(
+    alloc: Global,
+    table: &mut Vec<Entry>,
+    line: usize,
+    function: &[u8],
+    args: &[Expr],
+) -> Result<TypedExpr, TypeFault>
+    ensures { Gives (λ x. (typed_of x, rows_of table.new.items)) result (spec.expr (rows_of table.old.items) (tree.Call line function.now (trees_of args.now))) }
+{
+    let args = exprs(alloc, table, args)?;
+    let Some(callee) = callee_named(function) else {
+        return Err(TypeFault::Undeclared { line });
+    };
+    match call(alloc, callee, args)? {
+        Some(typed) => Ok(typed),
+        None => Err(TypeFault::Mismatch { line }),
+    }
+}
+
+// `++` and `--`, once the keys are typed.
+fn step_rest(
+    alloc: Global,
+    table: &mut Vec<Entry>,
+    line: usize,
+    by: Step,
+    answer: Answer,
+    variable: &Variable,
+    keys: Vec<TypedExpr>,
+) -> Result<TypedExpr, TypeFault>
+    ensures { Gives (λ x. (typed_of x, rows_of table.new.items)) result (spec.step_rest (rows_of table.old.items) line by answer variable.now (typeds_of keys.items)) }
+{
+    let long = Some(integer(IntegerType::Int64));
+    let slot = target(alloc, table, variable, long, &keys)?;
+    match step(table, by, answer, space_of(variable), slot, keys)? {
+        Some(typed) => Ok(typed),
+        None => Err(TypeFault::Mismatch { line }),
+    }
+}
+
+#[cycle(typing)]
+fn before_expr(
+    alloc: Global,
+    table: &mut Vec<Entry>,
+    line: usize,
+    by: Step,
+    variable: &Variable,
+    keys: &[Expr],
+) -> Result<TypedExpr, TypeFault>
+    ensures { Gives (λ x. (typed_of x, rows_of table.new.items)) result (spec.expr (rows_of table.old.items) (tree.Before line by variable.now (trees_of keys.now))) }
+{
+    let keys = exprs(alloc, table, keys)?;
+    step_rest(alloc, table, line, by, Answer::New, variable, keys)
+}
+
+#[cycle(typing)]
+fn after_expr(
+    alloc: Global,
+    table: &mut Vec<Entry>,
+    variable: &Variable,
+    keys: &[Expr],
+    by: Step,
+) -> Result<TypedExpr, TypeFault>
+    ensures { Gives (λ x. (typed_of x, rows_of table.new.items)) result (spec.expr (rows_of table.old.items) (tree.After variable.now (trees_of keys.now) by)) }
+{
+    let keys = exprs(alloc, table, keys)?;
+    step_rest(
+        alloc,
+        table,
+        line_of_variable(variable),
+        by,
+        Answer::Old,
+        variable,
+        keys,
+    )
+}
+
+#[cycle(typing)]
+fn assign_expr(
+    alloc: Global,
+    table: &mut Vec<Entry>,
+    operator: AssignOperator,
+    variable: &Variable,
+    value: &Expr,
+    keys: Vec<TypedExpr>,
+) -> Result<TypedExpr, TypeFault>
+    ensures { Gives (λ x. (typed_of x, rows_of table.new.items)) result (spec.assign_rest (rows_of table.old.items) operator variable.now (typeds_of keys.items) (tree_of value.now)) }
+{
+    let sort = assign_sort(operator);
+    let slot = target(alloc, table, variable, type_at_once(sort), &keys)?;
+    let x = expr(alloc, table, value)?;
+    match assigned(alloc, table, sort, space_of(variable), slot, keys, x)? {
+        Some(typed) => Ok(typed),
+        None => Err(TypeFault::Mismatch {
+            line: line_of_variable(variable),
+        }),
+    }
+}
+
+#[cycle(typing)]
+#[tactic(auto, using(crate::proofs::Rows::typeds_push))]
+pub(crate) fn exprs(
+    alloc: Global,
+    table: &mut Vec<Entry>,
+    list: &[Expr],
+) -> Result<Vec<TypedExpr>, TypeFault>
+    ensures { Gives (λ xs. (typeds_of xs.items, rows_of table.new.items)) result (spec.exprs typed.end (rows_of table.old.items) (trees_of list.now)) }
+{
+    let mut done = Vec::new(alloc);
+    for e in list {
+        let x = expr(alloc, table, e)?;
+        done.push(x)?;
+    }
+    Ok(done)
+}
+
+/// The typed tree of an expression that is no part of another.
+pub(crate) fn whole(alloc: Global, table: &mut Vec<Entry>, e: &Expr) -> Result<TypedExpr, TypeFault>
+    ensures { Gives (λ x. (typed_of x, rows_of table.new.items)) result (spec.whole (rows_of table.old.items) (tree_of e.now)) }
+{
+    let x = expr(alloc, table, e)?;
+    if fits(&x, 6) {
+        Ok(x)
+    } else {
+        Err(TypeFault::NoRegister { line: line_of(e) })
+    }
+}

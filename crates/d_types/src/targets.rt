@@ -1,0 +1,231 @@
+//! Variables that are read and assigned.
+
+ghost use Rattle.std.specs.Prelude.{◌≡◌, ◌≤◌, ◌++◌, ◌∷◌, [], IfOk, OnOk, length};
+ghost use Rattle.d_types.specs.Faults.{Gives, OnlyMemory};
+ghost use Rattle.d_types.specs.Targets as spec;
+ghost use Rattle.d_types.specs.Typed as typed;
+ghost use Rattle.d_types.specs.Typed.{typed_of, typeds_of};
+ghost use Rattle.d_types.specs.Variables as table_spec;
+ghost use Rattle.d_types.specs.Variables.{rows_of};
+
+use crate::fault::TypeFault;
+use crate::typed::{BuiltIn, Space, TypedExpr, Variable};
+use crate::variables::{Entry, find, keys_fit, kinds_of, set_type, type_at};
+use crate::words::built_in;
+use d_lexer::ByteString;
+use d_values::DType;
+use std::alloc::Global;
+
+/// The line of a variable's first token.
+pub(crate) fn line_of_variable(variable: &d_parser::Variable) -> usize
+    ensures { result ≡ spec.line_of_variable variable.now }
+{
+    match variable {
+        d_parser::Variable::Plain { line, .. } => *line,
+        d_parser::Variable::Thread { line, .. } => *line,
+        d_parser::Variable::Clause { line, .. } => *line,
+    }
+}
+
+/// Where a target is kept.
+pub(crate) fn space_of(variable: &d_parser::Variable) -> Space
+    ensures { result ≡ spec.space_of variable.now }
+{
+    match variable {
+        d_parser::Variable::Clause { .. } => Space::Clause,
+        _ => Space::Thread,
+    }
+}
+
+// A script has fewer places of variables than slots, so a slot always fits.
+pub(crate) fn variable_at(space: Space, slot: usize, holds: DType) -> Result<Variable, TypeFault>
+    ensures ok { IfOk result (λ v. v ≡ record { space = space; slot = slot; holds = holds }) }
+    ensures err { OnlyMemory result }
+{
+    match u16::try_from(slot) {
+        Ok(slot) => Ok(Variable { space, slot, holds }),
+        Err(_) => Err(TypeFault::Memory),
+    }
+}
+
+fn read_of(variable: Variable, keys: Vec<TypedExpr>) -> TypedExpr
+    ensures { typed_of result ≡ typed.Read variable (typeds_of keys.items) }
+{
+    TypedExpr::Read(variable, keys)
+}
+
+fn plain(line: usize, named: Option<BuiltIn>, keys: &[TypedExpr]) -> Result<TypedExpr, TypeFault>
+    ensures { Gives typed_of result (spec.plain line named (typeds_of keys.now)) }
+{
+    match (named, keys) {
+        (None, _) => Err(TypeFault::Undeclared { line }),
+        (Some(built_in), []) => Ok(TypedExpr::BuiltIn(built_in)),
+        (Some(_), [_first, ..]) => Err(TypeFault::Keys { line }),
+    }
+}
+
+fn load_at(
+    space: Space,
+    line: usize,
+    table: &[Entry],
+    found: Option<usize>,
+    keys: Vec<TypedExpr>,
+) -> Result<TypedExpr, TypeFault>
+    ensures { Gives typed_of result (spec.load_at space line (rows_of table.now) found (typeds_of keys.items)) }
+{
+    let Some(slot) = found else {
+        return Err(TypeFault::Undeclared { line });
+    };
+    let Some(holds) = type_at(table, slot) else {
+        return Err(TypeFault::Undeclared { line });
+    };
+    if keys_fit(table, slot, &keys) {
+        let variable = variable_at(space, slot, holds)?;
+        Ok(read_of(variable, keys))
+    } else {
+        Err(TypeFault::Keys { line })
+    }
+}
+
+/// A variable or built-in that is read.
+pub(crate) fn read(
+    table: &[Entry],
+    variable: &d_parser::Variable,
+    keys: Vec<TypedExpr>,
+) -> Result<TypedExpr, TypeFault>
+    ensures { Gives typed_of result (spec.read (rows_of table.now) variable.now (typeds_of keys.items)) }
+{
+    match variable {
+        d_parser::Variable::Plain { line, name } => plain(*line, built_in(name.as_slice()), &keys),
+        d_parser::Variable::Thread { line, name } => {
+            let found = find(table, Space::Thread, name.as_slice());
+            load_at(Space::Thread, *line, table, found, keys)
+        }
+        d_parser::Variable::Clause { line, name } => {
+            let found = find(table, Space::Clause, name.as_slice());
+            load_at(Space::Clause, *line, table, found, keys)
+        }
+    }
+}
+
+fn copied(alloc: Global, name: &ByteString) -> Result<ByteString, TypeFault>
+    ensures ok { IfOk result (λ w. w ≡ name.now) }
+    ensures err { OnlyMemory result }
+{
+    Ok(ByteString::from_slice(alloc, name.as_slice())?)
+}
+
+fn plain_target(
+    alloc: Global,
+    line: usize,
+    name: &ByteString,
+    named: Option<BuiltIn>,
+    keys: &[TypedExpr],
+) -> Result<usize, TypeFault>
+    ensures { (rows : table_spec.Rows) → Gives (λ slot. (slot, rows)) result (spec.plain_target line name.now named (typeds_of keys.now)) }
+{
+    match (named, keys) {
+        (None, _) => {
+            let name = copied(alloc, name)?;
+            Err(TypeFault::GlobalAssignment { name, line })
+        }
+        (Some(_), []) => Err(TypeFault::ReadOnly { line }),
+        (Some(_), [_first, ..]) => Err(TypeFault::Keys { line }),
+    }
+}
+
+fn most_keys(space: Space) -> usize
+    ensures { result ≡ spec.most_keys space }
+{
+    match space {
+        Space::Thread => 8,
+        Space::Clause => 0,
+    }
+}
+
+fn settle(table: &mut [Entry], slot: usize, holds: Option<DType>)
+    ensures { rows_of table.new ≡ spec.settled (table_spec.type_at (rows_of table.old) slot) slot holds (rows_of table.old) }
+{
+    if type_at(table, slot).is_none() {
+        if let Some(holds) = holds {
+            set_type(table, slot, holds);
+        }
+    }
+}
+
+// A new variable, and its slot.
+fn add_entry(
+    alloc: Global,
+    table: &mut Vec<Entry>,
+    space: Space,
+    name: &ByteString,
+    holds: Option<DType>,
+    keys: &[TypedExpr],
+) -> Result<usize, TypeFault>
+    ensures slot { IfOk result (λ slot. slot ≡ length (rows_of table.old.items)) }
+    ensures added { OnOk result (rows_of table.new.items ≡ rows_of table.old.items ++ spec.new_row space name.now holds (typeds_of keys.now) ∷ []) }
+    ensures err { OnlyMemory result }
+{
+    let slot = table.len();
+    let name = copied(alloc, name)?;
+    let keys = kinds_of(alloc, keys)?;
+    table.push(Entry {
+        space,
+        name,
+        keys,
+        holds,
+    })?;
+    Ok(slot)
+}
+
+fn slot_for(
+    alloc: Global,
+    table: &mut Vec<Entry>,
+    space: Space,
+    line: usize,
+    name: &ByteString,
+    holds: Option<DType>,
+    keys: &[TypedExpr],
+) -> Result<usize, TypeFault>
+    ensures { Gives (λ slot. (slot, rows_of table.new.items)) result (spec.slot_for space line name.now (rows_of table.old.items) holds (typeds_of keys.now) (table_spec.find space name.now (rows_of table.old.items))) }
+{
+    match find(table, space, name.as_slice()) {
+        None => {
+            if most_keys(space) < keys.len() {
+                return Err(TypeFault::Keys { line });
+            }
+            let added = add_entry(alloc, table, space, name, holds, keys)?;
+            Ok(added)
+        }
+        Some(slot) => {
+            if !keys_fit(table, slot, keys) {
+                return Err(TypeFault::Keys { line });
+            }
+            settle(table, slot, holds);
+            Ok(slot)
+        }
+    }
+}
+
+/// The slot of a variable that is assigned.
+pub(crate) fn target(
+    alloc: Global,
+    table: &mut Vec<Entry>,
+    variable: &d_parser::Variable,
+    holds: Option<DType>,
+    keys: &[TypedExpr],
+) -> Result<usize, TypeFault>
+    ensures { Gives (λ slot. (slot, rows_of table.new.items)) result (spec.target (rows_of table.old.items) variable.now holds (typeds_of keys.now)) }
+{
+    match variable {
+        d_parser::Variable::Plain { line, name } => {
+            plain_target(alloc, *line, name, built_in(name.as_slice()), keys)
+        }
+        d_parser::Variable::Thread { line, name } => {
+            slot_for(alloc, table, Space::Thread, *line, name, holds, keys)
+        }
+        d_parser::Variable::Clause { line, name } => {
+            slot_for(alloc, table, Space::Clause, *line, name, holds, keys)
+        }
+    }
+}
