@@ -1,6 +1,5 @@
 use Rattle.std.proofs.Common.{◌≡◌, ◌∙◌, ◌∷◌, ◌++◌, ◌≢◌, ◌==◌, refl, true, false, ap, subst, sym, codes, List, [], ℕ, Option, Some, None, Bool, rules}
-use Rattle.clap.specs.Words.{App, first_value, first_of, found_of, is_simple, is_simple_and_free, HasMatchesOf, fault_of, kind_of, takes}
-use Rattle.clap.specs.Kinds.{Kinds}
+use Rattle.clap.specs.Words.{App, first_value, found_of, is_simple, is_simple_and_free, HasMatchesOf, fault_of, kind_of, takes}
 use Rattle.clap.specs.declared.error.Error.{Error}
 use Rattle.clap.specs.declared.parser.matches.ArgMatches.{ArgMatches}
 use Rattle.clap.specs.declared.error.kind.ErrorKind.TheVariants.{DisplayHelp, InvalidValue, OutOfMemory, UnknownArgument}

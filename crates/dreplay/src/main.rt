@@ -1,5 +1,5 @@
-//! Replays a D script over a recorded trace of probe firings. It reads a bundle from standard input: a script, a line `---`
-//! and a trace, and writes to standard output what the script shows.
+//! Replays a D script over a recorded trace of probe firings, and writes to standard output what the script shows. It reads
+//! a bundle from standard input: a script, a line `---` and a trace; or the script from the file of the option `-s`.
 #![tactic(auto)]
 
 ghost use Rattle.std.specs.Prelude.{IfOk};

@@ -3,7 +3,6 @@
 ghost use Rattle.std.specs.Prelude.{◌≡◌, IfErr, IfOk, MatchResult, codes, map, option_map, string_bytes, true};
 ghost use Rattle.clap.specs.Words.{app_of, first_value, found_of, kind_of, takes};
 ghost use Rattle.dreplay.specs.declared.words.UsageFault.TheVariants.{Memory};
-ghost use Rattle.dreplay.specs.Plans.{IsSerial};
 ghost use Rattle.dreplay.specs.Words.{Asks, IsFaultOf, IsToldAs, program};
 
 use crate::plan::{EngineKind, GroupPlan, Plan};
