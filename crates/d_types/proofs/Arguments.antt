@@ -1,10 +1,10 @@
--- The arguments of strlen and strjoin, taken from the end.
-use Rattle.std.proofs.Common.{◌≡◌, ℕ, ◌==◌, Bool, true, false, List, [], ◌∷◌, ◌++◌, length, Option, None, vec_len, refl, sym, ap, ◌∙◌, Vec, Global, arith}
+-- Arguments, taken from the end.
+use Rattle.std.proofs.Common.{◌≡◌, ℕ, ◌==◌, Bool, true, false, List, [], ◌∷◌, ◌++◌, length, Option, Some, None, vec_len, refl, sym, ap, ◌∙◌, Vec, Global, arith}
 use Rattle.std.proofs.lemmas.List.{nil_from_length}
 use Rattle.std.proofs.lemmas.Bool.Decides.{nat_tests}
 use Rattle.d_types.specs.declared.typed.TypedExpr.{TypedExpr}
 use Rattle.d_types.specs.Typed.{Typed, Typeds, typed_of, typeds_of, type_of}
-use Rattle.d_types.specs.Typing.{strlen, strjoin, strlen_of, strjoin_of}
+use Rattle.d_types.specs.Typing.{strjoin, only, strjoin_of}
 
 none_left : (v : Vec TypedExpr Global) → (vec_len v == 0) ≡ true → v.items ≡ []
 none_left v h =
@@ -15,7 +15,7 @@ none_left v h =
 some_left : (v : Vec TypedExpr Global) → (vec_len v == 0) ≡ false → (length v.items == 0) ≡ false
 some_left v h = ap (λ n. n == 0) (sym v.ok.0) ∙ h
 
-too_many : (ys : List TypedExpr) (x : TypedExpr) → (length ys == 0) ≡ false → strlen_of (typeds_of (ys ++ x ∷ [])) ≡ None
+too_many : (ys : List TypedExpr) (x : TypedExpr) → (length ys == 0) ≡ false → only (typeds_of (ys ++ x ∷ [])) ≡ None
 too_many [] x h = cc
 too_many (y ∷ []) x h = refl
 too_many (y ∷ z ∷ ys) x h = refl
@@ -27,10 +27,10 @@ too_many_joined (a ∷ b ∷ []) x y h = refl
 too_many_joined (a ∷ b ∷ c ∷ ys) x y h = refl
 
 module _ (all : List TypedExpr) (rest : Vec TypedExpr Global) (x : TypedExpr) (popped : all ≡ rest.items ++ x ∷ []) where
-  pub one_argument : (vec_len rest == 0) ≡ true → strlen_of (typeds_of all) ≡ strlen (type_of (typed_of x)) (typed_of x)
+  pub one_argument : (vec_len rest == 0) ≡ true → only (typeds_of all) ≡ Some (typed_of x)
   one_argument h = rw (popped, none_left rest h) refl
 
-  pub more_arguments : (vec_len rest == 0) ≡ false → strlen_of (typeds_of all) ≡ None
+  pub more_arguments : (vec_len rest == 0) ≡ false → only (typeds_of all) ≡ None
   more_arguments h = rw popped (too_many rest.items x (some_left rest h))
 
 module _ (all others : List TypedExpr) (rest : Vec TypedExpr Global) (x y : TypedExpr) (last : all ≡ others ++ y ∷ []) (popped : others ≡ rest.items ++ x ∷ []) where

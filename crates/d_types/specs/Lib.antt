@@ -8,3 +8,5 @@ pub mod Variables
 pub mod Operators
 pub mod Targets
 pub mod Typing
+pub mod Formats
+pub mod Statements

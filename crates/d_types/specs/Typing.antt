@@ -52,9 +52,14 @@ abbrev pub strjoin : DType → DType → Typed → Typed → Option Typed
 strjoin Text Text x y = Some (typed.Strjoin x y)
 strjoin t u x y = None
 
-abbrev pub strlen_of : Typeds → Option Typed
-strlen_of (more x end) = strlen (type_of x) x
-strlen_of args = None
+-- the only argument
+abbrev pub only : Typeds → Option Typed
+only (more x end) = Some x
+only args = None
+
+abbrev pub strlen_of : Option Typed → Option Typed
+strlen_of None = None
+strlen_of (Some x) = strlen (type_of x) x
 
 abbrev pub strjoin_of : Typeds → Option Typed
 strjoin_of (more x (more y end)) = strjoin (type_of x) (type_of y) x y
@@ -62,7 +67,7 @@ strjoin_of args = None
 
 -- an action has no value
 abbrev pub call : Callee → Typeds → Option Typed
-call f.Strlen args = strlen_of args
+call f.Strlen args = strlen_of (only args)
 call f.Strjoin args = strjoin_of args
 call action args = None
 

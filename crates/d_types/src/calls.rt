@@ -35,18 +35,28 @@ fn join(alloc: Global, x: TypedExpr, y: TypedExpr) -> Result<Option<TypedExpr>, 
     }
 }
 
-fn strlen(alloc: Global, args: Vec<TypedExpr>) -> Result<Option<TypedExpr>, TypeFault>
-    ensures ok { IfOk result (λ y. option_map typed_of y ≡ spec.strlen_of (typeds_of args.items)) }
-    ensures err { OnlyMemory result }
+/// The only argument.
+pub(crate) fn only(args: Vec<TypedExpr>) -> Option<TypedExpr>
+    ensures { option_map typed_of result ≡ spec.only (typeds_of args.items) }
 {
     let mut rest = args;
     let Some(x) = rest.pop() else {
-        return Ok(None);
+        return None;
     };
     if !rest.is_empty() {
-        return Ok(None);
+        return None;
     }
-    length_of(alloc, x)
+    Some(x)
+}
+
+fn strlen(alloc: Global, args: Vec<TypedExpr>) -> Result<Option<TypedExpr>, TypeFault>
+    ensures ok { IfOk result (λ y. option_map typed_of y ≡ spec.strlen_of (spec.only (typeds_of args.items))) }
+    ensures err { OnlyMemory result }
+{
+    match only(args) {
+        Some(x) => length_of(alloc, x),
+        None => Ok(None),
+    }
 }
 
 fn strjoin(alloc: Global, args: Vec<TypedExpr>) -> Result<Option<TypedExpr>, TypeFault>

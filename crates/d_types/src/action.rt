@@ -1,0 +1,170 @@
+//! Expressions that stand as statements, and actions.
+
+ghost use Rattle.std.specs.Prelude.{◌≡◌, IfOk, option_map};
+ghost use Rattle.d_parser.specs.Tree as tree;
+ghost use Rattle.d_parser.specs.Tree.{tree_of, trees_of};
+ghost use Rattle.d_types.specs.Faults.{Gives};
+ghost use Rattle.d_types.specs.Statements as spec;
+ghost use Rattle.d_types.specs.Typed as typed;
+ghost use Rattle.d_types.specs.Typed.{typed_of, typeds_of, action_of};
+ghost use Rattle.d_types.specs.Variables.{rows_of};
+ghost use Rattle.d_types.specs.Words as words;
+
+use crate::calls::only;
+use crate::expression::whole;
+use crate::fault::TypeFault;
+use crate::format::{arguments_fit, pieces};
+use crate::typed::{TypedExpr, TypedStmt};
+use crate::variables::Entry;
+use crate::words::{Callee, callee_named};
+use d_lexer::ByteString;
+use d_parser::{Constant, Expr};
+use d_values::DType;
+use std::alloc::Global;
+
+/// Expressions that are no parts of others.
+#[tactic(auto, using(crate::proofs::Rows::typeds_push))]
+pub(crate) fn wholes(
+    alloc: Global,
+    table: &mut Vec<Entry>,
+    list: &[Expr],
+) -> Result<Vec<TypedExpr>, TypeFault>
+    ensures { Gives (λ xs. (typeds_of xs.items, rows_of table.new.items)) result (spec.wholes typed.end (rows_of table.old.items) (trees_of list.now)) }
+{
+    let mut done = Vec::new(alloc);
+    for e in list {
+        let x = whole(alloc, table, e)?;
+        done.push(x)?;
+    }
+    Ok(done)
+}
+
+/// `trace(value)`
+fn trace(
+    alloc: Global,
+    table: &mut Vec<Entry>,
+    line: usize,
+    args: &[Expr],
+) -> Result<TypedStmt, TypeFault>
+    ensures { Gives (λ s. (action_of s, rows_of table.new.items)) result (spec.trace line (rows_of table.old.items) (trees_of args.now)) }
+{
+    let args = wholes(alloc, table, args)?;
+    match only(args) {
+        Some(x) => Ok(TypedStmt::Trace(x)),
+        None => Err(TypeFault::Mismatch { line }),
+    }
+}
+
+/// `exit(status)`
+fn exit(
+    alloc: Global,
+    table: &mut Vec<Entry>,
+    line: usize,
+    args: &[Expr],
+) -> Result<TypedStmt, TypeFault>
+    ensures { Gives (λ s. (action_of s, rows_of table.new.items)) result (spec.exit line (rows_of table.old.items) (trees_of args.now)) }
+{
+    let args = wholes(alloc, table, args)?;
+    let Some(x) = only(args) else {
+        return Err(TypeFault::Mismatch { line });
+    };
+    match x.type_of() {
+        DType::Int(_) => Ok(TypedStmt::Exit(x)),
+        DType::Text => Err(TypeFault::Mismatch { line }),
+    }
+}
+
+/// `printf(format, arguments)`
+fn print_with(
+    alloc: Global,
+    table: &mut Vec<Entry>,
+    line: usize,
+    format: &ByteString,
+    args: &[Expr],
+) -> Result<TypedStmt, TypeFault>
+    ensures { Gives (λ s. (action_of s, rows_of table.new.items)) result (spec.print_with line (rows_of table.old.items) format.now (trees_of args.now)) }
+{
+    let args = wholes(alloc, table, args)?;
+    let Some(format) = pieces(alloc, format.as_slice())? else {
+        return Err(TypeFault::PrintfArguments { line });
+    };
+    if arguments_fit(&format, &args) {
+        Ok(TypedStmt::Print(format, args))
+    } else {
+        Err(TypeFault::PrintfArguments { line })
+    }
+}
+
+fn print(
+    alloc: Global,
+    table: &mut Vec<Entry>,
+    line: usize,
+    args: &[Expr],
+) -> Result<TypedStmt, TypeFault>
+    ensures { Gives (λ s. (action_of s, rows_of table.new.items)) result (spec.print line (rows_of table.old.items) (trees_of args.now)) }
+{
+    if let [first, rest @ ..] = args {
+        if let Some(format) = text_of(first) {
+            return print_with(alloc, table, line, format, rest);
+        }
+    }
+    let _ = wholes(alloc, table, args)?;
+    Err(TypeFault::PrintfArguments { line })
+}
+
+/// The bytes of a text constant.
+fn text_of(e: &Expr) -> Option<&ByteString>
+    ensures { option_map (λ b. b.now) result ≡ spec.text_of (tree_of e.now) }
+{
+    match e {
+        Expr::Constant {
+            constant: Constant::Text(bytes),
+            ..
+        } => Some(bytes),
+        _ => None,
+    }
+}
+
+fn evaluate(alloc: Global, table: &mut Vec<Entry>, e: &Expr) -> Result<TypedStmt, TypeFault>
+    ensures { Gives (λ s. (action_of s, rows_of table.new.items)) result (spec.evaluate (rows_of table.old.items) (tree_of e.now)) }
+{
+    let x = whole(alloc, table, e)?;
+    Ok(TypedStmt::Evaluate(x))
+}
+
+fn called(
+    alloc: Global,
+    table: &mut Vec<Entry>,
+    line: usize,
+    name: &[u8],
+    args: &[Expr],
+    e: &Expr,
+) -> Result<TypedStmt, TypeFault>
+    requires { tree_of e.now ≡ tree.Call line name.now (trees_of args.now) }
+    ensures { Gives (λ s. (action_of s, rows_of table.new.items)) result (spec.called (words.callee_named name.now) line name.now (rows_of table.old.items) (trees_of args.now)) }
+{
+    match callee_named(name) {
+        Some(Callee::Trace) => trace(alloc, table, line, args),
+        Some(Callee::Exit) => exit(alloc, table, line, args),
+        Some(Callee::Printf) => print(alloc, table, line, args),
+        Some(Callee::Strlen | Callee::Strjoin) | None => evaluate(alloc, table, e),
+    }
+}
+
+/// An expression that stands as a statement.
+pub(crate) fn action(
+    alloc: Global,
+    table: &mut Vec<Entry>,
+    e: &Expr,
+) -> Result<TypedStmt, TypeFault>
+    ensures { Gives (λ s. (action_of s, rows_of table.new.items)) result (spec.action (rows_of table.old.items) (tree_of e.now)) }
+{
+    match e {
+        Expr::Call {
+            line,
+            function,
+            arguments,
+        } => called(alloc, table, *line, function.as_slice(), arguments, e),
+        _ => evaluate(alloc, table, e),
+    }
+}

@@ -1,0 +1,217 @@
+//! The formats of printf.
+
+ghost use Rattle.std.specs.Prelude.{◌≡◌, IfOk, OnOk, option_map, []};
+ghost use Rattle.d_types.specs.Faults.{OnlyMemory};
+ghost use Rattle.d_types.specs.Formats as spec;
+ghost use Rattle.d_types.specs.Typed.{typeds_of};
+
+use crate::fault::TypeFault;
+use crate::typed::{Conversion, Letter, Piece, TypedExpr};
+use d_values::DType;
+use std::alloc::Global;
+
+/// A conversion as far as it was read.
+#[derive(Clone, Copy)]
+pub struct Flags {
+    pub left: bool,
+    pub zeros: bool,
+    pub width: u8,
+}
+
+/// Where a byte of a format stands.
+#[derive(Clone, Copy)]
+pub enum Place {
+    Outside,
+    /// Behind a percent sign.
+    Opened,
+    Flagged(Flags),
+    /// Behind a digit of the width.
+    Width(Flags),
+    /// Behind `h`.
+    Half(Flags),
+    /// Behind `l`.
+    Long(Flags),
+    /// Behind `hh` or `ll`.
+    Sized(Flags),
+}
+
+/// What a byte does: where the next one stands, and the piece that it ends. None where it can't stand there.
+type Turn = Option<(Place, Option<Piece>)>;
+
+fn letter_of(byte: u8) -> Option<Letter>
+    ensures { result ≡ spec.letter_of byte }
+{
+    match byte {
+        b'd' | b'i' => Some(Letter::Signed),
+        b'u' => Some(Letter::Unsigned),
+        b'x' => Some(Letter::Hexadecimal),
+        b'o' => Some(Letter::Octal),
+        b's' => Some(Letter::Text),
+        _ => None,
+    }
+}
+
+fn at_letter(flags: Flags, byte: u8) -> Turn
+    ensures { result ≡ spec.at_letter flags byte }
+{
+    match letter_of(byte) {
+        Some(letter) => {
+            let conversion = Conversion {
+                left: flags.left,
+                zeros: flags.zeros,
+                width: flags.width,
+                letter,
+            };
+            Some((Place::Outside, Some(Piece::Argument(conversion))))
+        }
+        None => None,
+    }
+}
+
+fn at_length(flags: Flags, byte: u8) -> Turn
+    ensures { result ≡ spec.at_length flags byte }
+{
+    if byte == b'h' {
+        Some((Place::Half(flags), None))
+    } else if byte == b'l' {
+        Some((Place::Long(flags), None))
+    } else {
+        at_letter(flags, byte)
+    }
+}
+
+fn is_digit(byte: u8) -> bool
+    ensures { result ≡ spec.is_digit byte }
+{
+    48 <= byte && byte <= 57
+}
+
+fn at_width(flags: Flags, byte: u8) -> Turn
+    ensures { result ≡ spec.at_width flags byte }
+{
+    if is_digit(byte) {
+        let width = flags.width as u16 * 10 + byte.saturating_sub(48) as u16;
+        if width <= 255 {
+            let flags = Flags {
+                left: flags.left,
+                zeros: flags.zeros,
+                width: width as u8,
+            };
+            Some((Place::Width(flags), None))
+        } else {
+            None
+        }
+    } else {
+        at_length(flags, byte)
+    }
+}
+
+fn at_flags(flags: Flags, byte: u8) -> Turn
+    ensures { result ≡ spec.at_flags flags byte }
+{
+    if byte == b'-' {
+        let flags = Flags {
+            left: true,
+            zeros: flags.zeros,
+            width: flags.width,
+        };
+        Some((Place::Flagged(flags), None))
+    } else if byte == b'0' {
+        let flags = Flags {
+            left: flags.left,
+            zeros: true,
+            width: flags.width,
+        };
+        Some((Place::Flagged(flags), None))
+    } else {
+        at_width(flags, byte)
+    }
+}
+
+fn turn(place: Place, byte: u8) -> Turn
+    ensures { result ≡ spec.turn place byte }
+{
+    let none = Flags {
+        left: false,
+        zeros: false,
+        width: 0,
+    };
+    match place {
+        Place::Outside if byte == b'%' => Some((Place::Opened, None)),
+        Place::Outside => Some((Place::Outside, Some(Piece::Byte(byte)))),
+        Place::Opened if byte == b'%' => Some((Place::Outside, Some(Piece::Byte(byte)))),
+        Place::Opened => at_flags(none, byte),
+        Place::Flagged(flags) => at_flags(flags, byte),
+        Place::Width(flags) => at_width(flags, byte),
+        Place::Half(flags) if byte == b'h' => Some((Place::Sized(flags), None)),
+        Place::Long(flags) if byte == b'l' => Some((Place::Sized(flags), None)),
+        Place::Half(flags) | Place::Long(flags) | Place::Sized(flags) => at_letter(flags, byte),
+    }
+}
+
+fn is_outside(place: Place) -> bool
+    ensures { result ≡ spec.is_outside place }
+{
+    matches!(place, Place::Outside)
+}
+
+fn add(pieces: &mut Vec<Piece>, ended: Option<Piece>) -> Result<(), TypeFault>
+    ensures ok { OnOk result (pieces.new.items ≡ spec.with_piece pieces.old.items ended) }
+    ensures err { OnlyMemory result }
+{
+    if let Some(piece) = ended {
+        pieces.push(piece)?;
+    }
+    Ok(())
+}
+
+/// The pieces of a format. None where it has an unknown conversion.
+pub(crate) fn pieces(alloc: Global, format: &[u8]) -> Result<Option<Vec<Piece>>, TypeFault>
+    ensures ok { IfOk result (λ ps. option_map (λ v. v.items) ps ≡ spec.pieces format.now) }
+    ensures err { OnlyMemory result }
+{
+    let mut done = Vec::new(alloc);
+    let mut place = Place::Outside;
+    for byte in format {
+        let Some((next, ended)) = turn(place, *byte) else {
+            return Ok(None);
+        };
+        add(&mut done, ended)?;
+        place = next;
+    }
+    if is_outside(place) {
+        Ok(Some(done))
+    } else {
+        Ok(None)
+    }
+}
+
+fn takes(letter: Letter, t: DType) -> bool
+    ensures { result ≡ spec.takes letter t }
+{
+    match (letter, t) {
+        (Letter::Text, DType::Text) => true,
+        (Letter::Text, DType::Int(_)) => false,
+        (_, DType::Text) => false,
+        (_, DType::Int(_)) => true,
+    }
+}
+
+/// Whether there is an argument for each conversion, of its kind.
+pub(crate) fn arguments_fit(pieces: &[Piece], args: &[TypedExpr]) -> bool
+    ensures { result ≡ spec.fit pieces.now (typeds_of args.now) }
+{
+    match pieces {
+        [] => match args {
+            [] => true,
+            [_first, ..] => false,
+        },
+        [Piece::Byte(_), others @ ..] => arguments_fit(others, args),
+        [Piece::Argument(conversion), others @ ..] => match args {
+            [] => false,
+            [first, rest @ ..] => {
+                takes(conversion.letter, first.type_of()) && arguments_fit(others, rest)
+            }
+        },
+    }
+}
