@@ -47,6 +47,7 @@ install: build
 bench: build
 	@bench/run
 	@bench/lexer/run
+	@bench/parser/run
 
 clean:
 	rm -rf crates/*/out
