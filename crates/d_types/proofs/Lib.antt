@@ -5,3 +5,9 @@ pub mod NewVariables
 pub mod Trees
 pub mod Binds
 pub mod Arguments
+pub mod NewAggregations
+pub mod Lists
+pub mod Complete
+pub mod Sound
+pub mod Whole
+pub mod Fitting

@@ -10,3 +10,8 @@ pub mod Targets
 pub mod Typing
 pub mod Formats
 pub mod Statements
+pub mod Aggregations
+pub mod Scripts
+pub mod TypedScripts
+pub mod Rules
+pub mod Fitting

@@ -8,6 +8,7 @@ use Rattle.d_values.specs.declared.int_type.IntType.{IntType}
 use Rattle.d_values.specs.declared.int_type.DType.{DType}
 use Rattle.d_values.specs.declared.int_type.DType.TheVariants as ty
 use Rattle.d_values.specs.declared.operators.ComparisonOperator.{ComparisonOperator}
+use Rattle.d_values.specs.declared.value.Kind.{Kind}
 use Rattle.d_values.specs.Types.{INT32, INT64, UINT64}
 use Rattle.d_types.specs.declared.function.AggFn.{AggFn}
 use Rattle.d_types.specs.declared.typed.BuiltIn.{BuiltIn}
@@ -132,10 +133,19 @@ pub record ClauseMeant : Type 0 where
   pub predicate : Option Typed
   pub statements : List Action
 
--- what a script makes of its clauses, with its aggregations in the order of their first appearance
+-- an aggregation: its name, its keys and its function
+pub record Agg : Type 0 where
+  pub name : List ℕ
+  pub keys : List Kind
+  pub function : AggFn
+
+-- in the order of their first appearance
+abbrev pub Aggs : Type 0
+Aggs = List Agg
+
 pub record ScriptMeant : Type 0 where
   pub clauses : List ClauseMeant
-  pub aggregations : List (List ℕ × AggFn)
+  pub aggregations : Aggs
 
 abbrev pub argument_of : Option TypedExpr → Option Typed
 argument_of None = None
@@ -154,5 +164,11 @@ actions_of all = map action_of all
 abbrev pub meant_of : TypedClause → ClauseMeant
 meant_of c = record { descriptions = c.descriptions.items; predicate = argument_of c.predicate; statements = actions_of c.statements.items }
 
-abbrev pub aggregation_of : TypedAggregation → List ℕ × AggFn
-aggregation_of a = (a.name, a.function)
+abbrev pub agg_of : TypedAggregation → Agg
+agg_of a = record { name = a.name; keys = a.keys.items; function = a.function }
+
+abbrev pub aggs_of : List TypedAggregation → Aggs
+aggs_of all = map agg_of all
+
+abbrev pub script_meant : List TypedClause → List TypedAggregation → ScriptMeant
+script_meant clauses aggregations = record { clauses = map meant_of clauses; aggregations = aggs_of aggregations }

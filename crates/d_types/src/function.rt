@@ -1,7 +1,7 @@
 //! Aggregating functions.
 
-ghost use Rattle.std.specs.Prelude.{IsTrue};
-ghost use Rattle.d_types.specs.Ranges.{are_in_range};
+ghost use Rattle.std.specs.Prelude.{◌≡◌};
+ghost use Rattle.d_types.specs.Ranges as spec;
 
 /// What an aggregation makes of its arguments (Dynamic Tracing Guide, "Aggregations").
 #[derive(Clone, Copy, Debug, PartialEq, Eq)]
@@ -19,14 +19,18 @@ pub enum AggFn {
     /// `quantize(e)`: how many in each power of two.
     Quantize,
     /// `lquantize(e, lower, upper, step)`: how many in each step between the bounds.
-    Lquantize(Buckets),
+    Lquantize { lower: i32, upper: i32, step: u16 },
 }
 
-/// The buckets of `lquantize`: from `lower`, each `step` wide, (upper - lower) / step of them, which are 1 to 65535.
-#[derive(Clone, Copy, Debug, PartialEq, Eq)]
-pub struct Buckets {
-    pub lower: i32,
-    pub upper: i32,
-    pub step: u16,
-    pub ghost inside: { IsTrue (are_in_range lower upper step) },
+/// Whether `lquantize` takes these bounds and this step: 1 to 65535 steps from the lower bound to the upper one.
+pub(crate) fn are_in_range(lower: i32, upper: i32, step: u16) -> bool
+    ensures { result ≡ spec.are_in_range lower upper step }
+{
+    if lower < upper && 1 <= step {
+        let width = upper.abs_diff(lower);
+        let step = u32::from(step);
+        step <= width && width / step <= 65535
+    } else {
+        false
+    }
 }

@@ -2,23 +2,36 @@
 #![tactic(auto)]
 
 mod action;
+mod aggregation;
 mod assignments;
 mod build;
 mod calls;
+mod checking;
+mod clause;
 mod constants;
+mod declaration;
 mod expression;
 mod fault;
 mod format;
 mod function;
 mod kinds;
+pub mod laws;
 mod needs;
 mod operators;
 mod targets;
 mod typed;
+mod typed_script;
 mod variables;
 mod words;
 
+pub use checking::check;
+pub use fault::TypeFault;
+pub use function::AggFn;
 pub use typed::{
     Answer, BuiltIn, Conversion, Letter, LogicOperator, Operation, Piece, Space, TypedAggregation,
     TypedClause, TypedExpr, TypedStmt, Variable,
 };
+pub use typed_script::TypedScript;
+
+#[cfg(test)]
+mod tests;

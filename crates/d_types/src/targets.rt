@@ -108,7 +108,8 @@ pub(crate) fn read(
     }
 }
 
-fn copied(alloc: Global, name: &ByteString) -> Result<ByteString, TypeFault>
+/// A copy of a name.
+pub(crate) fn copied(alloc: Global, name: &ByteString) -> Result<ByteString, TypeFault>
     ensures ok { IfOk result (λ w. w ≡ name.now) }
     ensures err { OnlyMemory result }
 {

@@ -3,7 +3,7 @@
 use crate::function::AggFn;
 use d_lexer::ByteString;
 use d_parser::{Description, Step, UnaryOperator};
-use d_values::{ArithmeticOperator, ComparisonOperator, DType, IntType, ShiftOperator, Text};
+use d_values::{ArithmeticOperator, ComparisonOperator, DType, IntType, Kind, ShiftOperator, Text};
 
 /// A built-in variable (Dynamic Tracing Guide, "Built-in Variables").
 #[derive(Clone, Copy, Debug, PartialEq, Eq)]
@@ -150,9 +150,10 @@ pub struct TypedClause {
     pub statements: Vec<TypedStmt>,
 }
 
-/// An aggregation of a script. The nameless one is named `_`.
+/// An aggregation of a script: its name (`_` where it has none), the kinds of its keys, and its function.
 #[derive(Drop)]
 pub struct TypedAggregation {
     pub name: ByteString,
+    pub keys: Vec<Kind>,
     pub function: AggFn,
 }

@@ -1,0 +1,8 @@
+use Rattle.d_types.proofs.Lists.{actions_push}
+use Rattle.d_types.proofs.Tables.{front}
+use Rattle.d_types.proofs.clause.statements.Goals as goal
+
+pub loop-stmt-preserved : goal.loop-stmt-preserved
+loop-stmt-preserved c =
+    let inv = rw (front c.args.list.now c.loop-stmt.stmt-index c.stmt-item.result c.loop-stmt-test.true c.stmt-item.is, c.in_ok-typed.ensures) at c.loop-stmt.invariant in
+    rw (c.in_ok-push.ensures.items, actions_push) inv

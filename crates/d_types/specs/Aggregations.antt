@@ -1,0 +1,147 @@
+-- The typed tree of an aggregation statement, or its first fault.
+use Rattle.std.specs.Prelude.{ℕ, ◌+◌, ◌==◌, ◌&&◌, nat_le, Bool, true, false, if◌then◌else◌, List, [], ◌∷◌, ◌++◌, length, map, Option, Some, None, Result, Ok, Err, ℤ, pos, neg_ℤ}
+use Rattle.std.specs.Str.{bytes_eq}
+use Rattle.std.specs.Ordering.{int_eq}
+use Rattle.d_parser.specs.declared.operators.UnaryOperator.{UnaryOperator}
+use Rattle.d_parser.specs.declared.operators.UnaryOperator.TheVariants as un
+use Rattle.d_parser.specs.declared.tree.Constant.{Constant}
+use Rattle.d_parser.specs.declared.tree.Constant.TheVariants as c
+use Rattle.d_parser.specs.Tree as tree
+use Rattle.d_parser.specs.Tree.{Tree, Trees}
+use Rattle.d_values.specs.declared.int_type.DType.{DType}
+use Rattle.d_values.specs.declared.int_type.DType.TheVariants.{Int, Text}
+use Rattle.d_types.specs.declared.function.AggFn.{AggFn}
+use Rattle.d_types.specs.declared.function.AggFn.TheVariants as fn
+use Rattle.d_types.specs.declared.words.Aggregating.{Aggregating}
+use Rattle.d_types.specs.declared.words.Aggregating.TheVariants as ag
+use Rattle.d_types.specs.Faults.{Fault, ◌>>=◌, refuse, unless, Undeclared, Mismatch, Keys, AggregationRedefined, LquantizeBounds}
+use Rattle.d_types.specs.Ranges.{are_in_range}
+use Rattle.d_types.specs.Words.{aggregating_named}
+use Rattle.d_types.specs.Typed.{Typed, Typeds, end, more, type_of, Action, Aggregate, Agg, Aggs}
+use Rattle.d_types.specs.Needs.{count}
+use Rattle.d_types.specs.Variables.{Rows, kinds_of, fit}
+use Rattle.d_types.specs.Typing.{only}
+use Rattle.d_types.specs.Statements.{wholes}
+
+-- ---- bounds and steps, which are read from the text
+
+abbrev pub number_in : Constant → Option ℕ
+number_in (c.Number v suffix) = Some v
+number_in (c.Text bytes) = None
+
+-- a constant's value, the type aside
+abbrev pub number : Tree → Option ℕ
+number (tree.Known line c) = number_in c
+number t = None
+
+abbrev pub positive : Option ℕ → Option ℤ
+positive None = None
+positive (Some v) = if nat_le v 2147483647 then Some (pos v) else None
+
+abbrev pub negative : Option ℕ → Option ℤ
+negative None = None
+negative (Some v) = if nat_le v 2147483648 then Some (neg_ℤ (pos v)) else None
+
+abbrev pub signed : UnaryOperator → Tree → Option ℤ
+signed un.Negate a = negative (number a)
+signed op a = None
+
+-- a constant from -2^31 to 2^31 - 1, perhaps with one minus
+abbrev pub bound : Tree → Option ℤ
+bound (tree.Unary line op a) = signed op a
+bound t = positive (number t)
+
+abbrev pub small : Option ℕ → Option ℕ
+small None = None
+small (Some v) = if nat_le v 65535 then Some v else None
+
+abbrev pub step : Tree → Option ℕ
+step t = small (number t)
+
+abbrev pub buckets : Option ℤ → Option ℤ → Option ℕ → Option AggFn
+buckets (Some lower) (Some upper) (Some s) = if are_in_range lower upper s then Some (fn.Lquantize lower upper s) else None
+buckets lower upper s = None
+
+-- `lquantize(e, lower, upper)` has steps of 1, and `lquantize(e, lower, upper, step)` its own
+abbrev pub lquantize : Trees → Option AggFn
+lquantize (tree.more e (tree.more lower (tree.more upper tree.end))) = buckets (bound lower) (bound upper) (Some 1)
+lquantize (tree.more e (tree.more lower (tree.more upper (tree.more s tree.end)))) = buckets (bound lower) (bound upper) (step s)
+lquantize args = None
+
+-- a function with its bounds, where they are in range
+abbrev pub function : Aggregating → Trees → Option AggFn
+function ag.Count args = Some fn.Count
+function ag.Sum args = Some fn.Sum
+function ag.Min args = Some fn.Min
+function ag.Max args = Some fn.Max
+function ag.Avg args = Some fn.Avg
+function ag.Quantize args = Some fn.Quantize
+function ag.Lquantize args = lquantize args
+
+-- ---- arguments
+
+abbrev pub is_integer : DType → Bool
+is_integer (Int t) = true
+is_integer Text = false
+
+abbrev pub integers : Typeds → Bool
+integers end = true
+integers (more x rest) = is_integer (type_of x) && integers rest
+
+-- count() takes nothing, lquantize three or four arguments, the others one
+abbrev pub takes : Aggregating → ℕ → Bool
+takes ag.Count n = nat_le n 0
+takes ag.Lquantize n = nat_le 3 n && nat_le n 4
+takes f n = nat_le 1 n && nat_le n 1
+
+-- integers, of the number that the function takes
+abbrev pub arguments_fit : Aggregating → Typeds → Bool
+arguments_fit f args = takes f (count args) && integers args
+
+-- the first argument is what is aggregated
+abbrev pub first : Typeds → Option Typed
+first end = None
+first (more x rest) = Some x
+
+-- ---- the aggregation
+
+-- the place of an aggregation, in a list whose first place is n, and what it is
+abbrev pub find_from : ℕ → List ℕ → Aggs → Option (ℕ × Agg)
+find_from n name [] = None
+find_from n name (a ∷ rest) = if bytes_eq a.name name then Some (n, a) else find_from (n + 1) name rest
+
+-- the same function, with the same bounds and step
+abbrev pub same : AggFn → AggFn → Bool
+same fn.Count fn.Count = true
+same fn.Sum fn.Sum = true
+same fn.Min fn.Min = true
+same fn.Max fn.Max = true
+same fn.Avg fn.Avg = true
+same fn.Quantize fn.Quantize = true
+same (fn.Lquantize a b s) (fn.Lquantize c d t) = int_eq a c && int_eq b d && (s == t)
+same f g = false
+
+-- bounds out of range are other bounds than all known ones
+abbrev pub is_again : Option AggFn → AggFn → Bool
+is_again None g = false
+is_again (Some f) g = same f g
+
+abbrev pub defined : List ℕ → Typeds → Aggs → AggFn → Result (ℕ × Aggs) Fault
+defined name keys aggs f = Ok (length aggs, aggs ++ record { name = name; keys = kinds_of keys; function = f } ∷ [])
+
+-- the place of an aggregation, and all of them with it: the first statement fixes its keys and its function
+abbrev pub joined : ℕ → List ℕ → Typeds → Option AggFn → Aggs → Option (ℕ × Agg) → Result (ℕ × Aggs) Fault
+joined line name keys f aggs None =
+    if nat_le (count keys) 8 then (unless LquantizeBounds line f >>= defined name keys aggs) else refuse Keys line
+joined line name keys f aggs (Some p) =
+    if fit p.1.keys keys
+    then (if is_again f p.1.function then Ok (p.0, aggs) else refuse AggregationRedefined line)
+    else refuse Keys line
+
+-- keys, the function's name, arguments, and then the statement itself
+abbrev pub aggregate : ℕ → List ℕ → Trees → List ℕ → Trees → Rows → Aggs → Result (Action × (Rows × Aggs)) Fault
+aggregate line name keys f args rows aggs =
+    wholes end rows keys >>= λ k. unless Undeclared line (aggregating_named f) >>= λ g. wholes end k.1 args >>= λ x.
+    if arguments_fit g x.0
+    then (joined line name k.0 (function g args) aggs (find_from 0 name aggs) >>= λ a. Ok (Aggregate a.0 k.0 (first x.0), (x.1, a.1)))
+    else refuse Mismatch line

@@ -1,0 +1,80 @@
+-- The typed tree of a script, or its first fault: declarations and clauses go in the order of the text.
+use Rattle.std.specs.Prelude.{◌≡◌, ℕ, nat_le, if◌then◌else◌, List, [], ◌∷◌, ◌++◌, length, map, Option, Some, None, Result, Ok, Err}
+use Rattle.d_parser.specs.declared.tree.DeclaredType.{DeclaredType}
+use Rattle.d_parser.specs.Tree as tree
+use Rattle.d_parser.specs.Tree.{Tree, StmtTree, DeclarationTree, ClauseTree, ItemTree}
+use Rattle.d_values.specs.declared.value.Kind.{Kind}
+use Rattle.d_values.specs.declared.int_type.DType.{DType}
+use Rattle.d_values.specs.declared.int_type.DType.TheVariants.{Int, Text}
+use Rattle.d_types.specs.declared.typed.Space.{Space}
+use Rattle.d_types.specs.declared.typed.Space.TheVariants as s
+use Rattle.d_types.specs.Faults.{Fault, ◌>>=◌, refuse, Mismatch, Keys, NoRegister}
+use Rattle.d_types.specs.Constants.{declared_type}
+use Rattle.d_types.specs.Typed.{Typed, type_of, Action, Aggs, ClauseMeant, ScriptMeant}
+use Rattle.d_types.specs.Needs.{need}
+use Rattle.d_types.specs.Variables.{Rows, kind_of, find}
+use Rattle.d_types.specs.Typing.{line_of, expr}
+use Rattle.d_types.specs.Statements.{action}
+use Rattle.d_types.specs.Aggregations.{aggregate}
+
+-- ---- declarations
+
+abbrev pub declared_kinds : List DeclaredType → List Kind
+declared_kinds all = map (λ t. kind_of (declared_type t)) all
+
+-- a variable is declared before it is assigned, and once
+abbrev pub declared : Space → ℕ → List ℕ → DeclaredType → List DeclaredType → Rows → Option ℕ → Result Rows Fault
+declared space line name t keys rows None =
+    if nat_le (length keys) 8
+    then Ok (rows ++ record { space = space; word = name; keys = declared_kinds keys; holds = Some (declared_type t) } ∷ [])
+    else refuse Keys line
+declared space line name t keys rows (Some slot) = refuse Mismatch line
+
+abbrev pub declaration : Rows → DeclarationTree → Result Rows Fault
+declaration rows (tree.OfThread line t name keys) = declared s.Thread line name t keys rows (find s.Thread name rows)
+declaration rows (tree.OfClause line t name) = declared s.Clause line name t [] rows (find s.Clause name rows)
+
+-- ---- clauses
+
+-- a predicate is an integer
+abbrev pub tested : DType → Tree → Typed → Rows → Result (Option Typed × Rows) Fault
+tested Text t x rows = refuse Mismatch (line_of t)
+tested (Int u) t x rows = if nat_le (need x) 6 then Ok (Some x, rows) else refuse NoRegister (line_of t)
+
+abbrev pub predicate : Rows → Option Tree → Result (Option Typed × Rows) Fault
+predicate rows None = Ok (None, rows)
+predicate rows (Some t) = expr rows t >>= λ x. tested (type_of x.0) t x.0 x.1
+
+abbrev pub statement : Rows → Aggs → StmtTree → Result (Action × (Rows × Aggs)) Fault
+statement rows aggs (tree.Expression t) = action rows t >>= λ a. Ok (a.0, (a.1, aggs))
+statement rows aggs (tree.Aggregation line name keys f args) = aggregate line name keys f args rows aggs
+
+-- the statements behind those that are done
+abbrev pub statements : List Action → Rows → Aggs → List StmtTree → Result (List Action × (Rows × Aggs)) Fault
+statements done rows aggs [] = Ok (done, (rows, aggs))
+statements done rows aggs (t ∷ rest) = statement rows aggs t >>= λ a. statements (done ++ a.0 ∷ []) a.1.0 a.1.1 rest
+
+-- a clause's predicate comes before its statements
+abbrev pub clause : Rows → Aggs → ClauseTree → Result (ClauseMeant × (Rows × Aggs)) Fault
+clause rows aggs c =
+    predicate rows c.predicate >>= λ p. statements [] p.1 aggs c.statements >>= λ a.
+    Ok (record { descriptions = c.descriptions; predicate = p.0; statements = a.0 }, a.1)
+
+-- ---- scripts
+
+-- a declaration, or a clause behind those that are done
+abbrev pub item : List ClauseMeant → Rows → Aggs → ItemTree → Result (List ClauseMeant × (Rows × Aggs)) Fault
+item done rows aggs (tree.Declared d) = declaration rows d >>= λ r. Ok (done, (r, aggs))
+item done rows aggs (tree.Probing c) = clause rows aggs c >>= λ a. Ok (done ++ a.0 ∷ [], a.1)
+
+abbrev pub items : List ClauseMeant → Rows → Aggs → List ItemTree → Result (List ClauseMeant × (Rows × Aggs)) Fault
+items done rows aggs [] = Ok (done, (rows, aggs))
+items done rows aggs (t ∷ rest) = item done rows aggs t >>= λ a. items a.0 a.1.0 a.1.1 rest
+
+-- what a script means, or its first fault
+abbrev pub script : List ItemTree → Result ScriptMeant Fault
+script all = items [] [] [] all >>= λ x. Ok (record { clauses = x.0; aggregations = x.1.1 })
+
+-- some script means this
+abbrev pub IsMeant : ScriptMeant → Type 0
+IsMeant m = (source : List ItemTree) × (script source ≡ Ok m)

@@ -1,0 +1,310 @@
+//! Aggregation statements.
+
+ghost use Rattle.std.specs.Prelude.{◌≡◌, ◌++◌, ◌∷◌, [], IfOk, OnOk, Some, None, length, option_map};
+ghost use Rattle.d_parser.specs.Tree.{tree_of, trees_of};
+ghost use Rattle.d_types.specs.Aggregations as spec;
+ghost use Rattle.d_types.specs.Faults.{Gives, OnlyMemory};
+ghost use Rattle.d_types.specs.Typed as typed;
+ghost use Rattle.d_types.specs.Typed.{typed_of, typeds_of, action_of, aggs_of};
+ghost use Rattle.d_types.specs.Variables as table_spec;
+ghost use Rattle.d_types.specs.Variables.{rows_of};
+
+use crate::action::wholes;
+use crate::fault::TypeFault;
+use crate::function::{AggFn, are_in_range};
+use crate::targets::copied;
+use crate::typed::{TypedAggregation, TypedExpr, TypedStmt};
+use crate::variables::{Entry, fit, kinds_of};
+use crate::words::{Aggregating, aggregating_named};
+use d_lexer::ByteString;
+use d_parser::{Constant, Expr, UnaryOperator};
+use d_values::DType;
+use std::alloc::Global;
+
+fn number_of(e: &Expr) -> Option<u64>
+    ensures { result ≡ spec.number (tree_of e.now) }
+{
+    match e {
+        Expr::Constant {
+            constant: Constant::Number { value, .. },
+            ..
+        } => Some(*value),
+        _ => None,
+    }
+}
+
+fn positive(value: Option<u64>) -> Option<i32>
+    ensures { result ≡ spec.positive value }
+{
+    match value {
+        Some(value) if value <= 2147483647 => Some(value as i32),
+        _ => None,
+    }
+}
+
+fn negative(value: Option<u64>) -> Option<i32>
+    ensures { result ≡ spec.negative value }
+{
+    match value {
+        Some(value) if value <= 2147483648 => Some((-(value as i64)) as i32),
+        _ => None,
+    }
+}
+
+/// A bound: a constant, perhaps with one minus.
+fn bound(e: &Expr) -> Option<i32>
+    ensures { result ≡ spec.bound (tree_of e.now) }
+{
+    match e {
+        Expr::Unary {
+            operator: UnaryOperator::Negate,
+            operand,
+            ..
+        } => negative(number_of(operand)),
+        _ => positive(number_of(e)),
+    }
+}
+
+fn step(e: &Expr) -> Option<u16>
+    ensures { result ≡ spec.step (tree_of e.now) }
+{
+    match number_of(e) {
+        Some(value) if value <= 65535 => Some(value as u16),
+        _ => None,
+    }
+}
+
+fn buckets(lower: Option<i32>, upper: Option<i32>, step: Option<u16>) -> Option<AggFn>
+    ensures { result ≡ spec.buckets lower upper step }
+{
+    match (lower, upper, step) {
+        (Some(lower), Some(upper), Some(step)) if are_in_range(lower, upper, step) => {
+            Some(AggFn::Lquantize { lower, upper, step })
+        }
+        _ => None,
+    }
+}
+
+fn lquantize(args: &[Expr]) -> Option<AggFn>
+    ensures { result ≡ spec.lquantize (trees_of args.now) }
+{
+    match args {
+        [_value, lower, upper] => buckets(bound(lower), bound(upper), Some(1)),
+        [_value, lower, upper, width] => buckets(bound(lower), bound(upper), step(width)),
+        [] => None,
+        [_value] => None,
+        [_value, _lower] => None,
+        [_value, _lower, _upper, _width, _more, ..] => None,
+    }
+}
+
+/// A function with its bounds. None where they aren't in range.
+fn function_of(aggregating: Aggregating, args: &[Expr]) -> Option<AggFn>
+    ensures { result ≡ spec.function aggregating (trees_of args.now) }
+{
+    match aggregating {
+        Aggregating::Count => Some(AggFn::Count),
+        Aggregating::Sum => Some(AggFn::Sum),
+        Aggregating::Min => Some(AggFn::Min),
+        Aggregating::Max => Some(AggFn::Max),
+        Aggregating::Avg => Some(AggFn::Avg),
+        Aggregating::Quantize => Some(AggFn::Quantize),
+        Aggregating::Lquantize => lquantize(args),
+    }
+}
+
+fn is_integer(t: DType) -> bool
+    ensures { result ≡ spec.is_integer t }
+{
+    matches!(t, DType::Int(_))
+}
+
+fn integers(args: &[TypedExpr]) -> bool
+    ensures { result ≡ spec.integers (typeds_of args.now) }
+{
+    match args {
+        [] => true,
+        [first, rest @ ..] => is_integer(first.type_of()) && integers(rest),
+    }
+}
+
+fn takes(aggregating: Aggregating, n: usize) -> bool
+    ensures { result ≡ spec.takes aggregating n }
+{
+    match aggregating {
+        Aggregating::Count => n <= 0,
+        Aggregating::Lquantize => 3 <= n && n <= 4,
+        _ => 1 <= n && n <= 1,
+    }
+}
+
+/// Whether they are integers, of the number that the function takes.
+#[tactic(auto, using(crate::proofs::Rows::count_is))]
+fn arguments_fit(aggregating: Aggregating, args: &[TypedExpr]) -> bool
+    ensures { result ≡ spec.arguments_fit aggregating (typeds_of args.now) }
+{
+    takes(aggregating, args.len()) && integers(args)
+}
+
+fn same(f: AggFn, g: AggFn) -> bool
+    ensures { result ≡ spec.same f g }
+{
+    match (f, g) {
+        (AggFn::Count, AggFn::Count) => true,
+        (AggFn::Sum, AggFn::Sum) => true,
+        (AggFn::Min, AggFn::Min) => true,
+        (AggFn::Max, AggFn::Max) => true,
+        (AggFn::Avg, AggFn::Avg) => true,
+        (AggFn::Quantize, AggFn::Quantize) => true,
+        (
+            AggFn::Lquantize { lower, upper, step },
+            AggFn::Lquantize {
+                lower: other_lower,
+                upper: other_upper,
+                step: other_step,
+            },
+        ) => lower == other_lower && upper == other_upper && step == other_step,
+        _ => false,
+    }
+}
+
+fn is_again(function: Option<AggFn>, known: AggFn) -> bool
+    ensures { result ≡ spec.is_again function known }
+{
+    match function {
+        Some(function) => same(function, known),
+        None => false,
+    }
+}
+
+/// The first argument.
+fn first(args: Vec<TypedExpr>) -> Option<TypedExpr>
+    ensures { option_map typed_of result ≡ spec.first (typeds_of args.items) }
+{
+    args.into_iter().next()
+}
+
+/// The place of an aggregation, and what it is.
+fn find<'a>(aggs: &'a [TypedAggregation], name: &[u8]) -> Option<(usize, &'a TypedAggregation)>
+    ensures { option_map (λ p. (p.0, typed.agg_of p.1.now)) result ≡ spec.find_from 0 name.now (aggs_of aggs.now) }
+{
+    for (place, aggregation) in aggs.iter().enumerate() {
+        if aggregation.name.as_slice() == name {
+            return Some((place, aggregation));
+        }
+    }
+    None
+}
+
+fn again(
+    place: usize,
+    known: &TypedAggregation,
+    line: usize,
+    name: &ByteString,
+    keys: &[TypedExpr],
+    function: Option<AggFn>,
+) -> Result<usize, TypeFault>
+    ensures { (aggs : typed.Aggs) → Gives (λ p. (p, aggs)) result (spec.joined line name.now (typeds_of keys.now) function aggs (Some (place, typed.agg_of known.now))) }
+{
+    if !fit(&known.keys, keys) {
+        Err(TypeFault::Keys { line })
+    } else if is_again(function, known.function) {
+        Ok(place)
+    } else {
+        Err(TypeFault::AggregationRedefined { line })
+    }
+}
+
+// A new aggregation, and its place.
+fn define(
+    alloc: Global,
+    aggs: &mut Vec<TypedAggregation>,
+    name: &ByteString,
+    keys: &[TypedExpr],
+    function: AggFn,
+) -> Result<usize, TypeFault>
+    ensures place { IfOk result (λ place. place ≡ length (aggs_of aggs.old.items)) }
+    ensures added { OnOk result (aggs_of aggs.new.items ≡ aggs_of aggs.old.items ++ record { name = name.now; keys = table_spec.kinds_of (typeds_of keys.now); function = function } ∷ []) }
+    ensures err { OnlyMemory result }
+{
+    let place = aggs.len();
+    let name = copied(alloc, name)?;
+    let keys = kinds_of(alloc, keys)?;
+    aggs.push(TypedAggregation {
+        name,
+        keys,
+        function,
+    })?;
+    Ok(place)
+}
+
+fn new_place(
+    alloc: Global,
+    aggs: &mut Vec<TypedAggregation>,
+    line: usize,
+    name: &ByteString,
+    keys: &[TypedExpr],
+    function: Option<AggFn>,
+) -> Result<usize, TypeFault>
+    ensures { Gives (λ place. (place, aggs_of aggs.new.items)) result (spec.joined line name.now (typeds_of keys.now) function (aggs_of aggs.old.items) None) }
+{
+    if 8 < keys.len() {
+        return Err(TypeFault::Keys { line });
+    }
+    match function {
+        Some(function) => {
+            let place = define(alloc, aggs, name, keys, function)?;
+            Ok(place)
+        }
+        None => Err(TypeFault::LquantizeBounds { line }),
+    }
+}
+
+/// The place of an aggregation. The first statement fixes its keys and its function.
+fn joined(
+    alloc: Global,
+    aggs: &mut Vec<TypedAggregation>,
+    line: usize,
+    name: &ByteString,
+    keys: &[TypedExpr],
+    function: Option<AggFn>,
+) -> Result<usize, TypeFault>
+    ensures { Gives (λ place. (place, aggs_of aggs.new.items)) result (spec.joined line name.now (typeds_of keys.now) function (aggs_of aggs.old.items) (spec.find_from 0 name.now (aggs_of aggs.old.items))) }
+{
+    match find(aggs, name.as_slice()) {
+        Some((place, known)) => again(place, known, line, name, keys, function),
+        None => new_place(alloc, aggs, line, name, keys, function),
+    }
+}
+
+/// `@name[keys] = function(arguments)`
+pub(crate) fn aggregate(
+    alloc: Global,
+    table: &mut Vec<Entry>,
+    aggs: &mut Vec<TypedAggregation>,
+    line: usize,
+    name: &ByteString,
+    keys: &[Expr],
+    function: &[u8],
+    args: &[Expr],
+) -> Result<TypedStmt, TypeFault>
+    ensures { Gives (λ s. (action_of s, (rows_of table.new.items, aggs_of aggs.new.items))) result (spec.aggregate line name.now (trees_of keys.now) function.now (trees_of args.now) (rows_of table.old.items) (aggs_of aggs.old.items)) }
+{
+    let keys = wholes(alloc, table, keys)?;
+    let Some(aggregating) = aggregating_named(function) else {
+        return Err(TypeFault::Undeclared { line });
+    };
+    let values = wholes(alloc, table, args)?;
+    if !arguments_fit(aggregating, &values) {
+        return Err(TypeFault::Mismatch { line });
+    }
+    let place = joined(
+        alloc,
+        aggs,
+        line,
+        name,
+        &keys,
+        function_of(aggregating, args),
+    )?;
+    Ok(TypedStmt::Aggregate(place, keys, first(values)))
+}

@@ -1,0 +1,65 @@
+//! From scripts to typed scripts.
+
+ghost use Rattle.std.specs.Prelude.{◌≡◌, [], map};
+ghost use Rattle.d_parser.specs.Tree.{item_of, script_of};
+ghost use Rattle.d_types.specs.Faults.{Gives};
+ghost use Rattle.d_types.specs.Scripts as spec;
+ghost use Rattle.d_types.specs.Typed.{meant_of, aggs_of};
+ghost use Rattle.d_types.specs.TypedScripts.{typed_script_of};
+ghost use Rattle.d_types.specs.Variables.{rows_of};
+
+use crate::clause::clause;
+use crate::declaration::declaration;
+use crate::fault::TypeFault;
+use crate::typed::{TypedAggregation, TypedClause};
+use crate::typed_script::TypedScript;
+use crate::variables::Entry;
+use d_parser::{Item, Script};
+use std::alloc::Global;
+
+fn item(
+    alloc: Global,
+    table: &mut Vec<Entry>,
+    aggs: &mut Vec<TypedAggregation>,
+    done: &mut Vec<TypedClause>,
+    item: &Item,
+) -> Result<(), TypeFault>
+    ensures { Gives (λ x. (map meant_of done.new.items, (rows_of table.new.items, aggs_of aggs.new.items))) result (spec.item (map meant_of done.old.items) (rows_of table.old.items) (aggs_of aggs.old.items) (item_of item.now)) }
+{
+    match item {
+        Item::Declaration(declared) => declaration(alloc, table, declared),
+        Item::Clause(probing) => {
+            let typed = clause(alloc, table, aggs, probing)?;
+            done.push(typed)?;
+            Ok(())
+        }
+    }
+}
+
+fn items(
+    alloc: Global,
+    table: &mut Vec<Entry>,
+    aggs: &mut Vec<TypedAggregation>,
+    list: &[Item],
+) -> Result<Vec<TypedClause>, TypeFault>
+    ensures { Gives (λ all. (map meant_of all.items, (rows_of table.new.items, aggs_of aggs.new.items))) result (spec.items [] (rows_of table.old.items) (aggs_of aggs.old.items) (map item_of list.now)) }
+{
+    let mut done = Vec::new(alloc);
+    for next in list {
+        item(alloc, table, aggs, &mut done, next)?;
+    }
+    Ok(done)
+}
+
+/// The typed script of a script, or its first fault: parts come first, from the left to the right, and
+/// then the construct itself, with the cause of lowest number. Memory may take the place of either.
+pub fn check(alloc: Global, script: Script) -> Result<TypedScript, TypeFault>
+    ensures { Gives typed_script_of result (spec.script (script_of script)) }
+{
+    let mut table = Vec::new(alloc);
+    let mut aggs = Vec::new(alloc);
+    match items(alloc, &mut table, &mut aggs, &script.items) {
+        Ok(clauses) => Ok(TypedScript::known(clauses, aggs)),
+        Err(fault) => Err(fault),
+    }
+}

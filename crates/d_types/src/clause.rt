@@ -1,0 +1,132 @@
+//! Clauses and their statements.
+
+ghost use Rattle.std.specs.Prelude.{◌≡◌, [], Some, IfOk};
+ghost use Rattle.d_parser.specs.Tree.{tree_of, stmt_of, stmts_of, predicate_of, clause_of};
+ghost use Rattle.d_types.specs.Faults.{Gives, OnlyMemory};
+ghost use Rattle.d_types.specs.Scripts as spec;
+ghost use Rattle.d_types.specs.Typed.{typed_of, action_of, actions_of, argument_of, meant_of, aggs_of};
+ghost use Rattle.d_types.specs.Variables.{rows_of};
+
+use crate::action::action;
+use crate::aggregation::aggregate;
+use crate::expression::{expr, line_of};
+use crate::fault::TypeFault;
+use crate::needs::fits;
+use crate::targets::copied;
+use crate::typed::{TypedAggregation, TypedClause, TypedExpr, TypedStmt};
+use crate::variables::Entry;
+use d_parser::{Clause, Description, Expr, Stmt};
+use d_values::DType;
+use std::alloc::Global;
+
+fn tested(alloc: Global, table: &mut Vec<Entry>, e: &Expr) -> Result<Option<TypedExpr>, TypeFault>
+    ensures { Gives (λ p. (argument_of p, rows_of table.new.items)) result (spec.predicate (rows_of table.old.items) (Some (tree_of e.now))) }
+{
+    let x = expr(alloc, table, e)?;
+    if x.type_of() == DType::Text {
+        Err(TypeFault::Mismatch { line: line_of(e) })
+    } else if fits(&x, 6) {
+        Ok(Some(x))
+    } else {
+        Err(TypeFault::NoRegister { line: line_of(e) })
+    }
+}
+
+fn predicate(
+    alloc: Global,
+    table: &mut Vec<Entry>,
+    predicate: &Option<Expr>,
+) -> Result<Option<TypedExpr>, TypeFault>
+    ensures { Gives (λ p. (argument_of p, rows_of table.new.items)) result (spec.predicate (rows_of table.old.items) (predicate_of predicate.now)) }
+{
+    match predicate {
+        Some(e) => tested(alloc, table, e),
+        None => Ok(None),
+    }
+}
+
+fn statement(
+    alloc: Global,
+    table: &mut Vec<Entry>,
+    aggs: &mut Vec<TypedAggregation>,
+    statement: &Stmt,
+) -> Result<TypedStmt, TypeFault>
+    ensures { Gives (λ s. (action_of s, (rows_of table.new.items, aggs_of aggs.new.items))) result (spec.statement (rows_of table.old.items) (aggs_of aggs.old.items) (stmt_of statement.now)) }
+{
+    match statement {
+        Stmt::Expression(e) => action(alloc, table, e),
+        Stmt::Aggregation {
+            line,
+            name,
+            keys,
+            function,
+            arguments,
+        } => {
+            let function = function.as_slice();
+            aggregate(alloc, table, aggs, *line, name, keys, function, arguments)
+        }
+    }
+}
+
+fn statements(
+    alloc: Global,
+    table: &mut Vec<Entry>,
+    aggs: &mut Vec<TypedAggregation>,
+    list: &[Stmt],
+) -> Result<Vec<TypedStmt>, TypeFault>
+    ensures { Gives (λ all. (actions_of all.items, (rows_of table.new.items, aggs_of aggs.new.items))) result (spec.statements [] (rows_of table.old.items) (aggs_of aggs.old.items) (stmts_of list.now)) }
+{
+    let mut done = Vec::new(alloc);
+    for stmt in list {
+        let typed = statement(alloc, table, aggs, stmt)?;
+        done.push(typed)?;
+    }
+    Ok(done)
+}
+
+fn described(alloc: Global, description: &Description) -> Result<Description, TypeFault>
+    ensures ok { IfOk result (λ d. d ≡ description.now) }
+    ensures err { OnlyMemory result }
+{
+    let provider = copied(alloc, &description.provider)?;
+    let module = copied(alloc, &description.module)?;
+    let function = copied(alloc, &description.function)?;
+    let name = copied(alloc, &description.name)?;
+    Ok(Description {
+        provider,
+        module,
+        function,
+        name,
+    })
+}
+
+fn descriptions(alloc: Global, list: &[Description]) -> Result<Vec<Description>, TypeFault>
+    ensures ok { IfOk result (λ all. all.items ≡ list.now) }
+    ensures err { OnlyMemory result }
+{
+    let mut done = Vec::new(alloc);
+    for description in list {
+        let copy = described(alloc, description)?;
+        done.push(copy)?;
+    }
+    Ok(done)
+}
+
+/// A clause: its predicate comes before its statements.
+pub(crate) fn clause(
+    alloc: Global,
+    table: &mut Vec<Entry>,
+    aggs: &mut Vec<TypedAggregation>,
+    clause: &Clause,
+) -> Result<TypedClause, TypeFault>
+    ensures { Gives (λ c. (meant_of c, (rows_of table.new.items, aggs_of aggs.new.items))) result (spec.clause (rows_of table.old.items) (aggs_of aggs.old.items) (clause_of clause.now)) }
+{
+    let predicate = predicate(alloc, table, &clause.predicate)?;
+    let statements = statements(alloc, table, aggs, &clause.statements)?;
+    let descriptions = descriptions(alloc, &clause.descriptions)?;
+    Ok(TypedClause {
+        descriptions,
+        predicate,
+        statements,
+    })
+}

@@ -1,0 +1,25 @@
+//! Laws.
+
+ghost use Rattle.std.specs.Prelude.{◌≡◌, ◌↔◌, Ok};
+ghost use Rattle.d_parser.specs.Tree as trees;
+ghost use Rattle.d_types.specs.Fitting as fitting;
+ghost use Rattle.d_types.specs.Rules as rules_of_types;
+ghost use Rattle.d_types.specs.Scripts as scripts;
+ghost use Rattle.d_types.specs.Typed as typed;
+ghost use Rattle.d_types.specs.Typing as typing;
+ghost use Rattle.d_types.specs.Variables as variables;
+
+/// An expression is given a typed tree exactly where the rules give it that tree, whatever the variables before it.
+pub fn typed_by_the_rules()
+    ensures { (rows after : variables.Rows) (t : trees.Tree) (z : typed.Typed) → (typing.expr rows t ≡ Ok (z, after)) ↔ rules_of_types.Types rows t z after }
+{}
+
+/// The rules give an expression one typed tree at most, and one table of variables behind it.
+pub fn one_typed_tree()
+    ensures { (rows m n : variables.Rows) (t : trees.Tree) (y z : typed.Typed) → rules_of_types.Types rows t y m → rules_of_types.Types rows t z n → (y ≡ z) × (m ≡ n) }
+{}
+
+/// Every whole expression of a typed script needs six registers at most.
+pub fn six_registers()
+    ensures { (m : typed.ScriptMeant) → scripts.IsMeant m → fitting.ScriptFits m }
+{}
