@@ -1,1 +1,6 @@
 pub mod Narrowing
+pub mod Residues
+pub mod Wrapping
+pub mod Calls
+pub mod Storing
+pub mod Lawful

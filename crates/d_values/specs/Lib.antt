@@ -5,3 +5,7 @@ pub mod Widths
 pub mod Types
 pub mod Operators
 pub mod Words
+pub mod Numbers
+pub mod Variables
+pub mod Stores
+pub mod Tables

@@ -1,6 +1,7 @@
 //! `* / % + - & ^ |` on words.
 
-ghost use Rattle.std.specs.Prelude.{◌≡◌, ◌≢◌, true};
+ghost use Rattle.std.specs.Prelude.{◌≡◌, ◌≢◌, ◌↔◌, true, IfOk, IsErr};
+ghost use Rattle.d_values.specs.Numbers.{number_of, wrap, whole_of};
 ghost use Rattle.d_values.specs.Words.{divides, operate, quotient_of, remainder_of, binary_of};
 
 use crate::int_type::IntType;
@@ -15,6 +16,9 @@ pub struct OutOfZero;
 /// 0 on its right.
 pub fn binary(op: ArithmeticOperator, t: IntType, a: u64, b: u64) -> Result<u64, OutOfZero>
     ensures word { result ≡ binary_of op t a b }
+    ensures number { IfOk result (λ r.
+        number_of t r ≡ wrap t (whole_of op (number_of t a) (number_of t b))) }
+    ensures refused { IsErr result ↔ ((divides op ≡ true) × (b ≡ 0)) }
 {
     if op.divides() && b == 0 {
         return Err(OutOfZero);

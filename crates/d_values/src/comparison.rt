@@ -1,6 +1,8 @@
 //! The order of integers and of texts.
 
 ghost use Rattle.std.specs.Prelude.{◌≡◌};
+ghost use Rattle.std.specs.Ordering.{int_cmp};
+ghost use Rattle.d_values.specs.Numbers.{number_of};
 ghost use Rattle.d_values.specs.Words.{order_of};
 ghost use Rattle.d_values.specs.Operators.{holds_of};
 ghost use Rattle.d_values.specs.Texts.{text_cmp};
@@ -28,6 +30,7 @@ impl ComparisonOperator {
 /// The order of two integers of a type, both words of it.
 pub fn compare(t: IntType, a: u64, b: u64) -> Ordering
     ensures word { result ≡ order_of t a b }
+    ensures number { result ≡ int_cmp (number_of t a) (number_of t b) }
 {
     if t.signed {
         a.cast_signed().cmp(&b.cast_signed())

@@ -2,17 +2,23 @@
 #![tactic(auto)]
 
 mod arithmetic;
+mod cells;
+mod clause_locals;
 mod comparison;
 mod int_type;
 mod key;
+pub mod laws;
 mod operators;
 mod promotion;
 mod shifts;
 mod text;
+mod thread_table;
 mod value;
+mod variable;
 mod word;
 
 pub use arithmetic::{OutOfZero, binary};
+pub use clause_locals::ClauseLocals;
 pub use comparison::{compare, compare_text};
 pub use int_type::{DType, IntType};
 pub use key::{Key, KeyPart};
@@ -20,10 +26,14 @@ pub use operators::{ArithmeticOperator, ComparisonOperator, ShiftOperator};
 pub use promotion::{common, promoted};
 pub use shifts::shift;
 pub use text::{Text, join_text};
-pub use value::{Kind, Value, Var};
+pub use thread_table::ThreadTable;
+pub use value::{Kind, Value, ValueRef};
+pub use variable::Var;
 pub use word::{complement, convert, negate};
 
 #[cfg(test)]
 mod number_tests;
+#[cfg(test)]
+mod table_tests;
 #[cfg(test)]
 mod tests;

@@ -1,6 +1,8 @@
 //! `<<` and `>>` on words.
 
-ghost use Rattle.std.specs.Prelude.{◌≡◌, ◌<◌};
+ghost use Rattle.std.specs.Prelude.{◌≡◌, ◌<◌, ◌%◌};
+ghost use Rattle.d_values.specs.declared.int_type.IntType.{IntType};
+ghost use Rattle.d_values.specs.Numbers.{number_of, modulo, wrap, whole_shift_of};
 ghost use Rattle.d_values.specs.Words.{shifted, right_of, shift_of};
 
 use crate::int_type::IntType;
@@ -11,6 +13,11 @@ use crate::word::narrowed;
 /// signed one copies its sign.
 pub fn shift(op: ShiftOperator, t: IntType, a: u64, count: u64) -> u64
     ensures word { result ≡ shift_of op t a count }
+    ensures number { number_of t result
+        ≡ wrap t (whole_shift_of op (number_of t a) (count % t.width)) }
+
+    // Of whatever type the count is.
+    ensures counted { (c : IntType) → count % t.width ≡ modulo (number_of c count) t.width }
 {
     narrowed(
         t,

@@ -1,26 +1,18 @@
 //! Values of expressions.
 
 ghost use Rattle.std.specs.Prelude.{◌≡◌};
+ghost use Rattle.d_values.specs.Stores.{kind_of, is_blank, blank, lent_value};
 
 use crate::text::Text;
 use std::alloc::AllocError;
 
 /// Whether a value or a key's part is an integer or a text.
-#[derive(Clone, Copy, Debug, PartialEq, Eq, Hash)]
+#[derive(Clone, Copy, Debug, PartialEq, Eq)]
 pub enum Kind {
     /// An integer.
     Number,
     /// A text.
     Text,
-}
-
-/// A variable: its slot among those of its kind and its storage, thread-local or clause-local.
-#[derive(Clone, Copy, Debug, PartialEq, Eq, Hash)]
-pub struct Var {
-    /// Its place.
-    pub slot: u16,
-    /// Whether it holds integers or texts.
-    pub kind: Kind,
 }
 
 /// The value of an expression.
@@ -42,6 +34,59 @@ impl Clone for Value {
                 let text = text.clone()?;
                 Ok(Value::Text(text))
             }
+        }
+    }
+}
+
+impl Value {
+    /// Whether it is an integer or a text.
+    pub fn kind(&self) -> Kind
+        ensures { result ≡ kind_of self.now }
+    {
+        match self {
+            Value::Int(_) => Kind::Number,
+            Value::Text(_) => Kind::Text,
+        }
+    }
+
+    /// Whether it is zero or the empty text, as a variable is before it is assigned.
+    pub fn is_blank(&self) -> bool
+        ensures { result ≡ is_blank self.now }
+    {
+        match self {
+            Value::Int(n) => *n == 0,
+            Value::Text(text) => text.as_bytes().is_empty(),
+        }
+    }
+
+    /// Lends it. Takes no memory.
+    pub fn as_ref(&self) -> ValueRef<'_>
+        ensures { lent_value result ≡ self.now }
+    {
+        match self {
+            Value::Int(n) => ValueRef::Int(*n),
+            Value::Text(text) => ValueRef::Text(text.as_bytes()),
+        }
+    }
+}
+
+/// A value that a variable lends.
+#[derive(Clone, Copy, Debug)]
+pub enum ValueRef<'a> {
+    /// The 64-bit extension of an integer of any type.
+    Int(u64),
+    /// The bytes of a text.
+    Text(&'a [u8]),
+}
+
+impl ValueRef<'_> {
+    /// Zero, or the empty text.
+    pub fn blank(kind: Kind) -> ValueRef<'static>
+        ensures { lent_value result ≡ blank kind }
+    {
+        match kind {
+            Kind::Number => ValueRef::Int(0),
+            Kind::Text => ValueRef::Text(&[]),
         }
     }
 }

@@ -1,6 +1,7 @@
 //! Integers as 64-bit words, each the extension of a typed value.
 
-ghost use Rattle.std.specs.Prelude.{◌≡◌};
+ghost use Rattle.std.specs.Prelude.{◌≡◌, pos, neg_ℤ, ◌-ℤ◌};
+ghost use Rattle.d_values.specs.Numbers.{number_of, wrap};
 ghost use Rattle.d_values.specs.Words.{narrow, opposite_of, complement_of};
 
 use crate::int_type::IntType;
@@ -24,6 +25,7 @@ pub(crate) fn narrowed(t: IntType, word: u64) -> u64
 /// The value of one type as a value of another (Guide, "Type Conversions").
 pub fn convert(value: u64, from: IntType, to: IntType) -> u64
     ensures word { result ≡ narrow to value }
+    ensures number { number_of to result ≡ wrap to (number_of from value) }
 {
     narrowed(to, value)
 }
@@ -31,6 +33,7 @@ pub fn convert(value: u64, from: IntType, to: IntType) -> u64
 /// `-a` in the type.
 pub fn negate(t: IntType, a: u64) -> u64
     ensures word { result ≡ opposite_of t a }
+    ensures number { number_of t result ≡ wrap t (neg_ℤ (number_of t a)) }
 {
     narrowed(t, 0u64.wrapping_sub(a))
 }
@@ -38,6 +41,7 @@ pub fn negate(t: IntType, a: u64) -> u64
 /// `~a` in the type.
 pub fn complement(t: IntType, a: u64) -> u64
     ensures word { result ≡ complement_of t a }
+    ensures number { number_of t result ≡ wrap t (neg_ℤ (number_of t a) -ℤ pos 1) }
 {
     narrowed(t, !a)
 }

@@ -1,0 +1,144 @@
+-- What is set, before and after.
+use Rattle.std.specs.Prelude.{◌≡◌, Bool, true, false, ◌&&◌, if◌then◌else◌, List, [], ◌∷◌, Option, None, Some, unwrap_or, map, Result, Ok, Err, OnOk, OnErr}
+use Rattle.std.proofs.Common.{refl, sym, ap, ◌∙◌, subst, true≢false}
+use Rattle.std.specs.Map.{lookup, set_value}
+use Rattle.indexmap.specs.IndexMap.{IndexMap, get}
+use Rattle.d_values.specs.declared.key.KeyPart.{KeyPart}
+use Rattle.d_values.specs.declared.value.Kind.{Kind}
+use Rattle.d_values.specs.declared.value.Kind.TheVariants as k
+use Rattle.d_values.specs.declared.value.Value.{Value}
+use Rattle.d_values.specs.declared.value.Value.TheVariants.{Int, Text}
+use Rattle.std.proofs.lemmas.Bool.Decides.{Decides-eqb}
+use Rattle.d_values.specs.declared.variable.Var.{Var}
+use Rattle.d_values.specs.Keys.{same_key}
+use Rattle.d_values.specs.Variables.{same_var, same_var_decides}
+use Rattle.d_values.specs.Stores.{Locals, Own, kind_of, blank, is_blank, kept, local_entry, local_of, AreLocals, with_local, element, own_entry, own_of, AreOwn, with_own}
+use Rattle.d_values.specs.Tables.{pairs_of, value_in, value_at, Sets}
+
+kind_of-blank : (kind : Kind) → kind_of (blank kind) ≡ kind
+kind_of-blank k.Number = refl
+kind_of-blank k.Text = refl
+
+-- what an entry reads as is of the variable's kind
+kind_read : (kind : Kind) (o : Option Value) → ((value : Value) → o ≡ Some value → kind_of value ≡ kind) → kind_of (unwrap_or o (blank kind)) ≡ kind
+kind_read kind None are = kind_of-blank kind
+kind_read kind (Some value) are = are value refl
+
+pub kind_of-local_of : (locals : Locals) (var : Var) → AreLocals locals → kind_of (local_of locals var) ≡ var.kind
+kind_of-local_of locals var are = kind_read var.kind (local_entry locals var) (λ value e. (are var value e).1)
+
+pub kind_of-own_of : (own : Own) (var : Var) (key : List KeyPart) → AreOwn own → kind_of (own_of own var key) ≡ var.kind
+kind_of-own_of own var key are = kind_read var.kind (own_entry own var key) (λ value e. (are var key value e).1)
+
+-- what is kept is no blank, and the value itself
+kept_some : (value x : Value) → kept value ≡ Some x → (is_blank x ≡ false) × (x ≡ value)
+kept_some value x e = elim (is_blank value) as (λ b. is_blank value ≡ b → (if b then None else Some value) ≡ Some x → (is_blank x ≡ false) × (x ≡ value)) [
+  | true ↦ λ b f. absurd (none f)
+  | false ↦ λ b f. (subst (λ v. is_blank v ≡ false) (same f) b, sym (same f))
+] refl e
+  where
+    none : ◌≡◌ {A = Option Value} None (Some x) → ⊥
+    none f = cc
+
+    same : Some value ≡ Some x → value ≡ x
+    same f = cc
+
+blank_is : (value : Value) → is_blank value ≡ true → value ≡ blank (kind_of value)
+blank_is (Int n) e = ap Int ((Decides-eqb n 0).0 e)
+blank_is (Text []) e = refl
+blank_is (Text (b ∷ bytes)) e = absurd (true≢false (sym e))
+
+-- what a set variable reads is what was set
+reads_kept : (value : Value) (kind : Kind) → kind_of value ≡ kind → unwrap_or (kept value) (blank kind) ≡ value
+reads_kept value kind e = elim (is_blank value) as (λ b. is_blank value ≡ b → unwrap_or (if b then None else Some value) (blank kind) ≡ value) [
+  | true ↦ λ b. ap blank (sym e) ∙ sym (blank_is value b)
+  | false ↦ λ b. refl
+] refl
+
+are_one : (var v : Var) (value x : Value) (o : Option Value) → kind_of value ≡ var.kind
+    → ((y : Value) → o ≡ Some y → (is_blank y ≡ false) × (kind_of y ≡ v.kind))
+    → (b : Bool) → (b ≡ true → var ≡ v) → (if b then kept value else o) ≡ Some x → (is_blank x ≡ false) × (kind_of x ≡ v.kind)
+are_one var v value x o kind are true same e =
+    let k = kept_some value x e in
+    (k.0, ap kind_of k.1 ∙ kind ∙ ap (λ w. w.kind) (same refl))
+are_one var v value x o kind are false same e = are x e
+
+pub AreLocals-set : (old new : Locals) (var : Var) (value : Value) → AreLocals old → kind_of value ≡ var.kind
+    → ((v : Var) → local_entry new v ≡ with_local (local_entry old) var (kept value) v) → AreLocals new
+AreLocals-set old new var value are kind sets v x e =
+    are_one var v value x (local_entry old v) kind (are v) (same_var var v) (same_var_decides var v).0 (sym (sets v) ∙ e)
+
+-- ---- variables of a thread
+
+-- the tests of a variable and of a key, together
+both_same : (var v : Var) (key k : List KeyPart) → same_var var v && same_key key k ≡ true → var ≡ v
+both_same var v key k e = elim (same_var var v) as (λ b. same_var var v ≡ b → b && same_key key k ≡ true → var ≡ v) [
+  | true ↦ λ s f. (same_var_decides var v).0 s
+  | false ↦ λ s f. absurd (true≢false (sym f))
+] refl e
+
+pub AreOwn-set : (old new : Own) (var : Var) (key : List KeyPart) (value : Value) → AreOwn old → kind_of value ≡ var.kind
+    → ((v : Var) (k : List KeyPart) → own_entry new v k ≡ with_own (own_entry old) var key (kept value) v k) → AreOwn new
+AreOwn-set old new var key value are kind sets v k x e =
+    are_one var v value x (own_entry old v k) kind (are v k) (same_var var v && same_key key k) (both_same var v key k) (sym (sets v k) ∙ e)
+
+read_one : (var v : Var) (value : Value) (o : Option Value) → kind_of value ≡ var.kind → (b : Bool) → (b ≡ true → var ≡ v)
+    → unwrap_or (if b then kept value else o) (blank v.kind) ≡ (if b then value else unwrap_or o (blank v.kind))
+read_one var v value o kind true same = reads_kept value v.kind (kind ∙ ap (λ w. w.kind) (same refl))
+read_one var v value o kind false same = refl
+
+pub own_of-set : (old new : Own) (var : Var) (key : List KeyPart) (value : Value) → kind_of value ≡ var.kind
+    → ((v : Var) (k : List KeyPart) → own_entry new v k ≡ with_own (own_entry old) var key (kept value) v k)
+    → own_of new ≡ with_own (own_of old) var key value
+own_of-set old new var key value kind sets i v k =
+    (ap (λ o. unwrap_or o (blank v.kind)) (sets v k)
+    ∙ read_one var v value (own_entry old v k) kind (same_var var v && same_key key k) (both_same var v key k)) i
+
+pub local_of-set : (old new : Locals) (var : Var) (value : Value) → kind_of value ≡ var.kind
+    → ((v : Var) → local_entry new v ≡ with_local (local_entry old) var (kept value) v)
+    → local_of new ≡ with_local (local_of old) var value
+local_of-set old new var value kind sets i v =
+    (ap (λ o. unwrap_or o (blank v.kind)) (sets v)
+    ∙ read_one var v value (local_entry old v) kind (same_var var v) (same_var_decides var v).0) i
+
+module _ {S : Type 0} where
+  pub own_entry-pairs_of : (maps : List (Var × IndexMap (List KeyPart) Value S)) (v : Var) (k : List KeyPart) → own_entry (pairs_of maps) v k ≡ value_at maps v k
+  own_entry-pairs_of [] v k = refl
+  own_entry-pairs_of (p ∷ maps) v k =
+      elim (same_var v p.0) as (λ b. element (if b then Some p.1.entries else lookup (same_var v) (pairs_of maps)) k ≡ value_in (if b then Some p.1 else lookup (same_var v) maps) k) [
+        | true ↦ refl
+        | false ↦ own_entry-pairs_of maps v k
+      ]
+
+  pub pairs_sets : (old new : List (Var × IndexMap (List KeyPart) Value S)) (var : Var) (key : List KeyPart) (value : Option Value) → Sets old new var key value
+      → (v : Var) (k : List KeyPart) → own_entry (pairs_of new) v k ≡ with_own (own_entry (pairs_of old)) var key value v k
+  pairs_sets old new var key value sets v k =
+      own_entry-pairs_of new v k ∙ sets v k
+      ∙ ap (λ o. if same_var var v && same_key key k then value else o) (sym (own_entry-pairs_of old v k))
+
+  -- a map of the same pairs in the place of another
+  pub pairs_of-set_value : (test : Var → Bool) (maps : List (Var × IndexMap (List KeyPart) Value S)) (was is : IndexMap (List KeyPart) Value S)
+      → lookup test maps ≡ Some was → is.entries ≡ was.entries → pairs_of (set_value test maps is) ≡ pairs_of maps
+  pairs_of-set_value test [] was is there same = refl
+  pairs_of-set_value test (p ∷ maps) was is there same =
+      elim (test p.0) as (λ b. (if b then Some p.1 else lookup test maps) ≡ Some was → pairs_of (if b then (p.0, is) ∷ maps else p ∷ set_value test maps is) ≡ pairs_of (p ∷ maps)) [
+        | true ↦ λ e. ap (λ es. (p.0, es) ∷ pairs_of maps) (same ∙ ap (λ m. m.entries) (sym (is_some e)))
+        | false ↦ λ e. ap (λ ps. (p.0, p.1.entries) ∷ ps) (pairs_of-set_value test maps was is e same)
+      ] there
+    where
+      is_some : Some p.1 ≡ Some was → p.1 ≡ was
+      is_some e = cc
+
+-- ---- by whether memory was refused
+
+pub on_ok : {X E P Q : Type 0} (r : Result X E) → OnOk r P → (P → Q) → OnOk r Q
+on_ok (Ok v) p f = f p
+on_ok (Err e) p f = p
+
+pub on_err : {X E P Q : Type 0} (r : Result X E) → OnErr r P → (P → Q) → OnErr r Q
+on_err (Ok v) p f = p
+on_err (Err e) p f = f p
+
+pub on_either : {X E P Q R : Type 0} (r : Result X E) → OnOk r P → OnErr r Q → (P → R) → (Q → R) → R
+on_either (Ok v) p q f g = f p
+on_either (Err e) p q f g = g q

@@ -1,0 +1,80 @@
+//! Clause-local variables.
+
+ghost use Rattle.std.specs.Prelude.{◌≡◌, [], OnOk, OnErr};
+ghost use Rattle.indexmap.specs.IndexMap.{Updates};
+ghost use Rattle.d_values.specs.Variables.{same_var};
+ghost use Rattle.d_values.specs.Stores.{kind_of, kept, lent_value, local_entry, local_of, with_local};
+
+use crate::cells::{lend, replaced};
+use crate::value::{Value, ValueRef};
+use crate::variable::Var;
+use indexmap::IndexMap;
+use std::alloc::{AllocError, Global};
+use std::marker::Model;
+
+/// The clause-local variables of a firing (Guide, "Clause-Local Variables"). A variable that was
+/// never set reads as zero or the empty text.
+#[derive(Drop)]
+pub struct ClauseLocals {
+    map: IndexMap<Var, Value>,
+}
+
+impl Model for ClauseLocals {
+    ghost use Rattle.d_values.specs.Stores.{Locals, AreLocals};
+
+    ghost Value = { Locals };
+
+    ghost view = { λ l. l.map.entries };
+
+    ghost invariant = { λ l. AreLocals l.map.entries };
+}
+
+impl ClauseLocals {
+    /// No variable is set.
+    pub fn new(alloc: Global) -> ClauseLocals
+        ensures { result ≡ [] }
+    {
+        ClauseLocals {
+            map: IndexMap::new(alloc),
+        }
+    }
+
+    /// Unsets all. Takes no memory.
+    pub fn reset(&mut self)
+        ensures { self.new ≡ [] }
+    {
+        self.map.clear();
+    }
+
+    /// What the variable holds. Takes no memory.
+    pub fn get(&self, var: Var) -> ValueRef<'_>
+        ensures value { lent_value result ≡ local_of self.now var }
+        ensures kind { kind_of (lent_value result) ≡ var.kind }
+    {
+        lend(&self.map, &var, var.kind)
+    }
+
+    /// Sets the variable, to a value of its kind.
+    pub fn set(&mut self, var: Var, value: Value) -> Result<(), AllocError>
+        requires { kind_of value ≡ var.kind }
+        ensures ok { OnOk result (local_of self.new ≡ with_local (local_of self.old) var value) }
+
+        // Zero and the empty text unset it.
+        ensures kept { OnOk result
+            (local_entry self.new ≡ with_local (local_entry self.old) var (kept value)) }
+        ensures err { OnErr result (self.new ≡ self.old) }
+    {
+        put(&mut self.map, var, value)
+    }
+}
+
+// Sets a variable's value.
+fn put(map: &mut IndexMap<Var, Value>, var: Var, value: Value) -> Result<(), AllocError>
+    ensures ok { OnOk result (Updates same_var map.old map.new var (kept value)) }
+    ensures err { OnErr result (map.new.entries ≡ map.old.entries) }
+{
+    if let Some(value) = replaced(map, &var, value) {
+        map.insert(var, value)?;
+    }
+    Ok(())
+}

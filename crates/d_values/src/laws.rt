@@ -1,0 +1,44 @@
+//! What holds of all numbers and variables, in other words than the definitions'.
+
+ghost use Rattle.std.specs.Prelude.{◌≡◌, ◌≢◌, ℕ, ◌<◌, ◌^◌, ℤ, pos, ◌+ℤ◌, ◌*ℤ◌, int_div, int_rem, unsigned_abs, List};
+ghost use Rattle.d_values.specs.Numbers.{wrap, IsWrapped};
+ghost use Rattle.d_values.specs.Stores.{with_local, with_own};
+ghost use Rattle.d_values.specs.declared.int_type.IntType.{IntType};
+ghost use Rattle.d_values.specs.declared.key.KeyPart.{KeyPart};
+ghost use Rattle.d_values.specs.declared.value.Value.{Value};
+ghost use Rattle.d_values.specs.declared.variable.Var.{Var};
+
+/// What is wrapped into a type is a number of it, and the same modulo two to the width.
+pub fn wrapped()
+    ensures { (t : IntType) (z : ℤ) → IsWrapped t z (wrap t z) }
+{}
+
+/// There is no other such number.
+pub fn one_number()
+    ensures { (t : IntType) (z n : ℤ) → IsWrapped t z n → n ≡ wrap t z }
+{}
+
+/// A quotient times the divisor, and the remainder, are what was divided; the remainder is nearer
+/// to zero than the divisor.
+pub fn division()
+    ensures whole { (x y : ℤ) → int_div x y *ℤ y +ℤ int_rem x y ≡ x }
+    ensures rest { (x y : ℤ) → 0 < unsigned_abs y
+        → unsigned_abs (int_rem x y) < unsigned_abs y }
+{}
+
+/// A variable reads what it was set to, and each other variable what it did.
+pub fn one_local_set()
+    ensures here { (values : Var → Value) (var : Var) (value : Value)
+        → with_local values var value var ≡ value }
+    ensures others { (values : Var → Value) (var : Var) (value : Value) (other : Var)
+        → other ≢ var → with_local values var value other ≡ values other }
+{}
+
+/// A variable reads under a key what it was set to there, and all else stays.
+pub fn one_element_set()
+    ensures here { (values : Var → List KeyPart → Value) (var : Var) (key : List KeyPart)
+        (value : Value) → with_own values var key value var key ≡ value }
+    ensures others { (values : Var → List KeyPart → Value) (var : Var) (key : List KeyPart)
+        (value : Value) (v : Var) (k : List KeyPart) → ((v ≡ var) × (k ≡ key) → ⊥)
+        → with_own values var key value v k ≡ values v k }
+{}

@@ -1,0 +1,147 @@
+//! Thread-local variables.
+
+ghost use Rattle.std.specs.Prelude.{◌≡◌, [], List, Some, None, unwrap_or, if◌then◌else◌, IfOk, OnOk, OnErr};
+ghost use Rattle.indexmap.specs.IndexMap.{get, Updates};
+ghost use Rattle.d_values.specs.declared.key.KeyPart.{KeyPart};
+ghost use Rattle.d_values.specs.Keys.{same_key};
+ghost use Rattle.d_values.specs.Stores.{blank, kind_of, kept, lent_value, own_entry, own_of, with_own, AreOwn};
+ghost use Rattle.d_values.specs.Tables.{pairs_of, value_at, Sets};
+ghost use Rattle.d_values.specs.Variables.{same_var};
+
+use crate::cells::{lend, replaced};
+use crate::key::Key;
+use crate::value::{Value, ValueRef};
+use crate::variable::Var;
+use indexmap::IndexMap;
+use std::alloc::{AllocError, Global};
+use std::marker::Model;
+
+/// The thread-local variables of a thread (Guide, "Thread-Local Variables"), scalars under the
+/// empty key. What was never set reads as zero or the empty text.
+#[derive(Drop)]
+pub struct ThreadTable {
+    variables: IndexMap<Var, IndexMap<Key, Value>>,
+}
+
+impl Model for ThreadTable {
+    ghost use Rattle.d_values.specs.Stores.{Own, AreOwn};
+    ghost use Rattle.d_values.specs.Tables.{pairs_of};
+
+    ghost Value = { Own };
+
+    ghost view = { λ t. pairs_of t.variables.entries };
+
+    ghost invariant = { λ t. AreOwn (pairs_of t.variables.entries) };
+}
+
+impl ThreadTable {
+    /// Nothing is set.
+    pub fn new(alloc: Global) -> ThreadTable
+        ensures { result ≡ [] }
+    {
+        ThreadTable {
+            variables: IndexMap::new(alloc),
+        }
+    }
+
+    /// What the variable holds under the key. Takes no memory.
+    pub fn get(&self, var: Var, key: &Key) -> ValueRef<'_>
+        ensures value { lent_value result ≡ own_of self.now var key.now }
+        ensures kind { kind_of (lent_value result) ≡ var.kind }
+    {
+        find(&self.variables, var, key)
+    }
+
+    /// Sets the variable under the key, to a value of its kind. The key is cloned only where
+    /// nothing was set.
+    pub fn set(&mut self, var: Var, key: &Key, value: Value) -> Result<(), AllocError>
+        requires { kind_of value ≡ var.kind }
+        ensures ok { OnOk result
+            (own_of self.new ≡ with_own (own_of self.old) var key.now value) }
+
+        // Zero and the empty text unset it.
+        ensures kept { OnOk result
+            (own_entry self.new ≡ with_own (own_entry self.old) var key.now (kept value)) }
+        ensures err { OnErr result (self.new ≡ self.old) }
+    {
+        put(&mut self.variables, var, key, value)
+    }
+
+    /// Lends the map that holds it all: the pairs of the maps in it are exactly what is set. Takes
+    /// no memory.
+    pub fn map(&self) -> &IndexMap<Var, IndexMap<Key, Value>>
+        ensures pairs { pairs_of result.now.entries ≡ self.now }
+        ensures set { AreOwn self.now }
+    {
+        &self.variables
+    }
+}
+
+// What a variable has at a key.
+fn find<'a>(variables: &'a IndexMap<Var, IndexMap<Key, Value>>, var: Var, key: &Key) -> ValueRef<'a>
+    ensures { lent_value result
+        ≡ unwrap_or (value_at variables.now.entries var key.now) (blank var.kind) }
+{
+    match variables.get(&var) {
+        Some(elements) => lend(elements, key, var.kind),
+        None => ValueRef::blank(var.kind),
+    }
+}
+
+// Sets what a variable has at a key.
+fn put(
+    variables: &mut IndexMap<Var, IndexMap<Key, Value>>,
+    var: Var,
+    key: &Key,
+    value: Value,
+) -> Result<(), AllocError>
+    ensures ok { OnOk result
+        (Sets variables.old.entries variables.new.entries var key.now (kept value)) }
+    ensures err { OnErr result (pairs_of variables.new.entries ≡ pairs_of variables.old.entries) }
+{
+    match variables.get_mut(&var) {
+        Some(elements) => replace(elements, key, value),
+        None => start(variables, var, key, value),
+    }
+}
+
+// Sets a key's value.
+fn replace(elements: &mut IndexMap<Key, Value>, key: &Key, value: Value) -> Result<(), AllocError>
+    ensures ok { OnOk result (Updates same_key elements.old elements.new key.now (kept value)) }
+    ensures err { OnErr result (elements.new.entries ≡ elements.old.entries) }
+{
+    if let Some(value) = replaced(elements, key, value) {
+        elements.insert(key.clone()?, value)?;
+    }
+    Ok(())
+}
+
+// Sets what a variable has at a key that has had nothing at any.
+fn start(
+    variables: &mut IndexMap<Var, IndexMap<Key, Value>>,
+    var: Var,
+    key: &Key,
+    value: Value,
+) -> Result<(), AllocError>
+    requires { get same_var variables.old var ≡ None }
+    ensures ok { OnOk result
+        (Sets variables.old.entries variables.new.entries var key.now (kept value)) }
+    ensures err { OnErr result (variables.new.entries ≡ variables.old.entries) }
+{
+    if value.is_blank() {
+        return Ok(());
+    }
+    let elements = only(*variables.allocator(), key, value)?;
+    variables.insert(var, elements)?;
+    Ok(())
+}
+
+// A map of one pair.
+fn only(alloc: Global, key: &Key, value: Value) -> Result<IndexMap<Key, Value>, AllocError>
+    ensures { IfOk result (λ m. (k : List KeyPart)
+        → get same_key m k ≡ (if same_key key.now k then Some value else None)) }
+{
+    let mut elements = IndexMap::new(alloc);
+    elements.insert(key.clone()?, value)?;
+    Ok(elements)
+}
