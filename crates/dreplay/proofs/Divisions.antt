@@ -1,12 +1,8 @@
 -- A bundle is divided in one way.
-use Rattle.std.proofs.Common.{◌≡◌, ◌≢◌, ℕ, zero, suc, ◌+◌, ◌<◌, List, [], ◌∷◌, ◌++◌, length, All, refl, sym, ap, ◌∙◌, subst, arith, ⊎_elim}
+use Rattle.std.proofs.Common.{◌≡◌, ◌≢◌, ℕ, suc, List, [], ◌∷◌, ◌++◌, refl, sym, subst, arith, ⊎_elim}
 use Rattle.std.specs.Prelude.{codes}
-use Rattle.std.specs.List.{AllByRecursion}
 use Rattle.std.proofs.lemmas.List.Elements.{All-from_recursion}
 use Rattle.dreplay.specs.Bundle.{Divides, IsDivider, IsLine}
-use Rattle.std.specs.List.{slice_split}
-use Rattle.dreplay.specs.Counting.{Description, Counts, fields_of, is_colon}
-use Rattle.dreplay.proofs.Fields.{one_probe}
 
 line_behind : (b : ℕ) (bytes : List ℕ) → IsLine (b ∷ bytes) → IsLine bytes
 line_behind b bytes own = λ k d lt. own (suc k) d (omega arith)
@@ -63,22 +59,3 @@ same_division b s t b' s' t' (Divides.last_line line own other) (Divides.last_li
 
 pub one_division : (bundle script trace script' trace' : List ℕ) → Divides bundle script trace → Divides bundle script' trace' → (script ≡ script') × (trace ≡ trace')
 one_division bundle script trace script' trace' d d' = same_division bundle script trace bundle script' trace' d d' refl
-
-make : List ℕ → List ℕ → List ℕ → List ℕ → Description
-make provider probemod probefunc name = record { provider = provider; probemod = probemod; probefunc = probefunc; name = name }
-
-same_description : (d d' : Description) → fields_of d ≡ fields_of d' → d ≡ d'
-unfolding make
-same_description d d' e =
-    let provider : d.provider ≡ d'.provider = cc in
-    let probemod : d.probemod ≡ d'.probemod = cc in
-    let probefunc : d.probefunc ≡ d'.probefunc = cc in
-    let name : d.name ≡ d'.name = cc in
-    ap (λ x. make x d.probemod d.probefunc d.name) provider
-    ∙ ap (λ x. make d'.provider x d.probefunc d.name) probemod
-    ∙ ap (λ x. make d'.provider d'.probemod x d.name) probefunc
-    ∙ ap (λ x. make d'.provider d'.probemod d'.probefunc x) name
-
-pub one_description : (script : List ℕ) (d d' : Description) → Counts script d → Counts script d' → d ≡ d'
-one_description script d d' c c' =
-    same_description d d' (sym c.fields ∙ ap (slice_split is_colon) (one_probe script c'.probe d c'.spelled c) ∙ c'.fields)

@@ -1,6 +1,15 @@
+pub mod Adding
 pub mod Answers
 pub mod CommandLine
-pub mod Counts
+pub mod Counted
 pub mod Dividing
 pub mod Divisions
-pub mod Fields
+pub mod KeyTexts
+pub mod Keys
+pub mod Naming
+pub mod OneCounting
+pub mod PatternTests
+pub mod Places
+pub mod Sizes
+pub mod Stars
+pub mod Zips

@@ -1,36 +1,44 @@
--- The one script form that runs today: a clause that counts firings by the program's name.
-use Rattle.std.specs.Prelude.{◌≡◌, ◌≤◌, ◌-◌, ◌==◌, ◌||◌, Bool, ℕ, List, [], ◌∷◌, ◌++◌, length, take, nat_eq, codes, if◌then◌else◌}
-use Rattle.std.specs.List.{AllPass, slice_split, ends_with}
-use Rattle.std.specs.Char.{is_ascii_alphanumeric}
+-- Scripts that count firings by their texts, without where they lie in memory.
+use Rattle.std.specs.Prelude.{ℕ, List, map}
+use Rattle.d_parser.specs.declared.tree.Description.{Description}
+use Rattle.dreplay.specs.declared.texts.FiringText.{FiringText}
+use Rattle.dreplay.specs.declared.counting.CountingScript.{CountingScript}
+use Rattle.dreplay.specs.declared.counting.CountingClause.{CountingClause}
+use Rattle.dreplay.specs.declared.counting.CountingStatement.{CountingStatement}
+use Rattle.dreplay.specs.declared.counting.Shape as code
 
--- a probe description: four fields, an empty one for any
-pub record Description : Type 0 where
-  pub provider : List ℕ
-  pub probemod : List ℕ
-  pub probefunc : List ℕ
+-- `@name[keys] = count()`, with the place of its aggregation
+pub record Statement : Type 0 where
+  pub agg : ℕ
+  pub keys : List FiringText
+
+pub record Clause : Type 0 where
+  pub descriptions : List Description
+  pub statements : List Statement
+
+-- an aggregation's name and its number of keys
+pub record Shape : Type 0 where
   pub name : List ℕ
+  pub keys : ℕ
 
-abbrev pub is_colon : ℕ → Bool
-is_colon b = b == 58
+-- the clauses, and the aggregations in order of first appearance
+pub record Script : Type 0 where
+  pub clauses : List Clause
+  pub aggregations : List Shape
 
--- a letter, a digit or one of the marks _ . - + :
-abbrev pub is_probe_byte : ℕ → Bool
-is_probe_byte b = is_ascii_alphanumeric b || (b == 95) || (b == 46) || (b == 45) || (b == 43) || (b == 58)
+abbrev pub shape : List ℕ → ℕ → Shape
+shape name keys = record { name = name; keys = keys }
 
-abbrev pub body : List ℕ
-body = codes " { @[execname] = count(); }"
+-- ---- what the code's scripts are
 
--- a script without the line feed at its end
-abbrev pub trimmed : List ℕ → List ℕ
-trimmed script = if ends_with nat_eq script (10 ∷ []) then take (length script - 1) script else script
+abbrev pub statement_of : CountingStatement → Statement
+statement_of s = record { agg = s.agg; keys = s.keys.items }
 
-abbrev pub fields_of : Description → List (List ℕ)
-fields_of d = d.provider ∷ d.probemod ∷ d.probefunc ∷ d.name ∷ []
+abbrev pub clause_of : CountingClause → Clause
+clause_of c = record { descriptions = c.descriptions.now; statements = map statement_of c.statements.items }
 
--- the script is a description with three colons and the body, and perhaps a line feed
-pub record Counts (script : List ℕ) (d : Description) : Type 0 where
-  pub short : length script ≤ 65_536
-  pub probe : List ℕ
-  pub spelled : trimmed script ≡ probe ++ body
-  pub plain : AllPass is_probe_byte probe
-  pub fields : slice_split is_colon probe ≡ fields_of d
+abbrev pub shape_of : code.Shape → Shape
+shape_of a = record { name = a.name.now; keys = a.keys }
+
+abbrev pub script_of : CountingScript → Script
+script_of s = record { clauses = map clause_of s.clauses.items; aggregations = map shape_of s.aggregations.items }

@@ -1,13 +1,63 @@
 -- Which firings a description matches.
-use Rattle.std.specs.Prelude.{ℕ, ◌&&◌, Bool, true, List, [], ◌∷◌}
-use Rattle.std.specs.Str.{bytes_eq}
+use Rattle.std.specs.Prelude.{◌≡◌, ◌⊎◌, ◌==◌, ◌&&◌, ◌||◌, ℕ, Bool, true, false, not, if◌then◌else◌, List, [], ◌∷◌, ◌++◌}
 use Rattle.firing_reader.specs.declared.firing.Firing.{Firing}
-use Rattle.dreplay.specs.Counting.{Description}
+use Rattle.d_parser.specs.declared.tree.Description.{Description}
+
+abbrev pub star : ℕ
+star = 42
+
+abbrev pub question : ℕ
+question = 63
+
+-- the bytes that one byte of a pattern takes: a star any, none included, a question mark one, and any other byte itself
+pub data Takes (p : ℕ) (own : List ℕ) : Type 0 where
+  any : p ≡ star → Takes p own
+  one : (b : ℕ) → p ≡ question → own ≡ b ∷ [] → Takes p own
+  itself : own ≡ p ∷ [] → Takes p own
+
+-- the bytes of the pattern take those of the text, one behind the other
+abbrev pub Matches : (pattern text : List ℕ) → Type 0
+Matches [] text = text ≡ []
+Matches (p ∷ pattern) text = (own : List ℕ) × (rest : List ℕ) × (text ≡ own ++ rest) × Takes p own × Matches pattern rest
 
 -- an empty field matches everything
-abbrev pub matches : List ℕ → List ℕ → Bool
-matches [] text = true
-matches (b ∷ pattern) text = bytes_eq (b ∷ pattern) text
+abbrev pub MatchesField : (pattern text : List ℕ) → Type 0
+MatchesField pattern text = (pattern ≡ []) ⊎ Matches pattern text
+
+-- each field of the description matches that of the firing's probe
+pub record Selects (d : Description) (f : Firing) : Type 0 where
+  pub provider : MatchesField d.provider f.provider
+  pub probemod : MatchesField d.«module» f.probemod
+  pub probefunc : MatchesField d.function f.probefunc
+  pub name : MatchesField d.name f.name
+
+-- ---- the same as tests
+
+-- neither a star nor a question mark
+abbrev pub is_plain : ℕ → Bool
+is_plain p = not (p == star) && not (p == question)
+
+-- the test passes behind some of the bytes
+abbrev pub passes_behind : (List ℕ → Bool) → List ℕ → Bool
+passes_behind test [] = test []
+passes_behind test (b ∷ text) = test (b ∷ text) || passes_behind test text
+
+abbrev pub is_same_or_question : ℕ × ℕ → Bool
+is_same_or_question pair = (pair.0 == pair.1) || (pair.0 == question)
+
+-- p takes the first byte, and the test passes behind it
+abbrev pub passes_behind_one : ℕ → (List ℕ → Bool) → List ℕ → Bool
+passes_behind_one p test [] = false
+passes_behind_one p test (b ∷ text) = is_same_or_question (p, b) && test text
+
+abbrev pub matches : (pattern text : List ℕ) → Bool
+matches [] [] = true
+matches [] (b ∷ text) = false
+matches (p ∷ pattern) text = if p == star then passes_behind (matches pattern) text else passes_behind_one p (matches pattern) text
+
+abbrev pub field_matches : (pattern text : List ℕ) → Bool
+field_matches [] text = true
+field_matches (p ∷ pattern) text = matches (p ∷ pattern) text
 
 abbrev pub selects : Description → Firing → Bool
-selects d f = matches d.provider f.provider && matches d.probemod f.probemod && matches d.probefunc f.probefunc && matches d.name f.name
+selects d f = field_matches d.provider f.provider && field_matches d.«module» f.probemod && field_matches d.function f.probefunc && field_matches d.name f.name

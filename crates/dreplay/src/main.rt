@@ -12,11 +12,15 @@ mod counting;
 pub mod laws;
 mod matching;
 mod plan;
+mod reading;
 mod refusal;
 mod replaying;
 mod running;
+mod scripts;
+mod shapes;
 #[cfg(test)]
 mod tests;
+mod texts;
 mod words;
 
 use consuming::{ConsumeFault, consume, consume_trace};

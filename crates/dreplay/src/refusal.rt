@@ -2,8 +2,10 @@
 
 ghost use Rattle.std.specs.Prelude.{◌≡◌, IfOk, string_bytes};
 ghost use Rattle.dreplay.specs.declared.refusal.Refusal.TheVariants.{Memory};
-ghost use Rattle.dreplay.specs.Refusals.{line_of, status_of};
+ghost use Rattle.dreplay.specs.Refusals.{line_of, of_lex, of_parse, of_trace, status_of};
 
+use d_lexer::LexFault;
+use d_parser::ParseFault;
 use firing_reader::TraceFault;
 use std::alloc::{AllocError, AllocFailed, Global};
 use thiserror::Error;
@@ -11,6 +13,12 @@ use thiserror::Error;
 /// The first reason for which a script over a trace has no answer. The script is looked at before the trace.
 #[derive(Clone, Copy, Debug, PartialEq, Eq, Error)]
 pub enum Refusal {
+    /// Why the script has no tokens.
+    #[error("{0}")]
+    Lex(LexFault),
+    /// Why its tokens have no tree.
+    #[error("{0}")]
+    Parse(ParseFault),
     /// A script that does not run yet.
     #[error("the script does not run yet")]
     NotYet,
@@ -38,19 +46,91 @@ impl<T: Drop> From<AllocFailed<T>> for Refusal {
     }
 }
 
+impl From<LexFault> for Refusal {
+    ghost from_gives = { λ fault e. e ≡ of_lex fault };
+
+    fn from(fault: LexFault) -> Refusal {
+        match fault {
+            LexFault::Memory => Refusal::Memory,
+            _ => Refusal::Lex(fault),
+        }
+    }
+}
+
+impl From<ParseFault> for Refusal {
+    ghost from_gives = { λ fault e. e ≡ of_parse fault };
+
+    fn from(fault: ParseFault) -> Refusal {
+        match fault {
+            ParseFault::Memory => Refusal::Memory,
+            _ => Refusal::Parse(fault),
+        }
+    }
+}
+
+impl From<TraceFault> for Refusal {
+    ghost from_gives = { λ fault e. e ≡ of_trace fault };
+
+    fn from(fault: TraceFault) -> Refusal {
+        match fault {
+            TraceFault::Memory => Refusal::Memory,
+            _ => Refusal::Trace(fault),
+        }
+    }
+}
+
 /// The line that the program writes to standard error, without its line feed.
 pub fn refusal_text(alloc: Global, refusal: &Refusal) -> Result<String, AllocError>
     ensures { IfOk result (λ text. string_bytes text ≡ line_of refusal.now) }
 {
     match refusal {
+        Refusal::Lex(fault) => lex_text(alloc, *fault),
+        Refusal::Parse(fault) => parse_text(alloc, *fault),
         Refusal::NotYet => String::from_str(alloc, "dreplay: script refused: not yet"),
-        Refusal::Trace(fault) => fault_text(alloc, *fault),
+        Refusal::Trace(fault) => trace_text(alloc, *fault),
         Refusal::Memory => String::from_str(alloc, "dreplay: out of memory"),
     }
 }
 
-// The line of a trace's fault: its number, and the row and column that it has.
-fn fault_text(alloc: Global, fault: TraceFault) -> Result<String, AllocError>
+fn lex_text(alloc: Global, fault: LexFault) -> Result<String, AllocError>
+    ensures { IfOk result (λ text. string_bytes text ≡ line_of (Refusal.Lex fault)) }
+{
+    match fault {
+        LexFault::TooLong => format!(in alloc; "dreplay: script refused: Lex 1"),
+        LexFault::BadByte { line } => {
+            format!(in alloc; "dreplay: script refused: Lex 2 line {line}")
+        }
+        LexFault::Unclosed { line } => {
+            format!(in alloc; "dreplay: script refused: Lex 3 line {line}")
+        }
+        LexFault::Constant { line } => {
+            format!(in alloc; "dreplay: script refused: Lex 4 line {line}")
+        }
+        LexFault::Escape { line } => {
+            format!(in alloc; "dreplay: script refused: Lex 5 line {line}")
+        }
+        LexFault::OptionLine { line } => {
+            format!(in alloc; "dreplay: script refused: Lex 6 line {line}")
+        }
+        LexFault::Memory => String::from_str(alloc, "dreplay: out of memory"),
+    }
+}
+
+fn parse_text(alloc: Global, fault: ParseFault) -> Result<String, AllocError>
+    ensures { IfOk result (λ text. string_bytes text ≡ line_of (Refusal.Parse fault)) }
+{
+    match fault {
+        ParseFault::Syntax { line } => {
+            format!(in alloc; "dreplay: script refused: Parse 1 line {line}")
+        }
+        ParseFault::TooDeep => format!(in alloc; "dreplay: script refused: Parse 2"),
+        ParseFault::TooManyClauses => format!(in alloc; "dreplay: script refused: Parse 3"),
+        ParseFault::Memory => String::from_str(alloc, "dreplay: out of memory"),
+    }
+}
+
+// A trace's fault has a row, and perhaps a column.
+fn trace_text(alloc: Global, fault: TraceFault) -> Result<String, AllocError>
     ensures { IfOk result (λ text. string_bytes text ≡ line_of (Refusal.Trace fault)) }
 {
     match fault {
@@ -80,8 +160,11 @@ pub fn refusal_status(refusal: &Refusal) -> u8
     ensures { result ≡ status_of refusal.now }
 {
     match refusal {
-        Refusal::NotYet => 3,
-        Refusal::Trace(TraceFault::Memory) | Refusal::Memory => 1,
+        Refusal::Lex(LexFault::Memory)
+        | Refusal::Parse(ParseFault::Memory)
+        | Refusal::Trace(TraceFault::Memory)
+        | Refusal::Memory => 1,
+        Refusal::Lex(_) | Refusal::Parse(_) | Refusal::NotYet => 3,
         Refusal::Trace(_) => 4,
     }
 }

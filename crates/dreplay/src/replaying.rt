@@ -1,16 +1,21 @@
 //! The answer of a script over a trace.
 
-ghost use Rattle.std.specs.Prelude.{◌≡◌, ◌⊎◌, ◌∷◌, [], Ok, Err, MatchResult, IfOk, map};
+ghost use Rattle.std.specs.Prelude.{◌≡◌, ◌⊎◌, ◌≤◌, ◌^◌, ◌∷◌, [], List, Ok, Err, MatchResult, IfOk, length, map};
 ghost use Rattle.firing_reader.specs.Firings.{number_of};
+ghost use Rattle.firing_reader.specs.declared.firing.Firing.{Firing};
 ghost use Rattle.dreplay.specs.Answer.{IsAnswer, IsShown};
-ghost use Rattle.dreplay.specs.Probe.{description_of};
+ghost use Rattle.dreplay.specs.Counting.{script_of};
+ghost use Rattle.dreplay.specs.Meaning.{counts_over};
 ghost use Rattle.dreplay.specs.Plans.{IsSerial, RanSerially};
+ghost use Rattle.dreplay.specs.Running.{CanRunScript};
 
-use crate::counting::{Probe, read_counting};
+use crate::counting::CountingScript;
 use crate::plan::{Plan, Replayed};
+use crate::reading::counting_script;
 use crate::refusal::Refusal;
 use crate::running::count_firings;
-use firing_reader::{Firing, Trace, TraceFault, read_trace};
+use crate::scripts::read_script;
+use firing_reader::{Firing, Trace, read_trace};
 use report::render;
 use std::alloc::{AllocError, Global};
 
@@ -21,23 +26,22 @@ pub fn replay(alloc: Global, script: &[u8], trace: &[u8], plan: &Plan) -> Result
         (λ e. (e ≡ Refusal.Memory) ⊎ IsAnswer script.now trace.now (Err e)) }
     ensures serial { IfOk result (RanSerially trace.now) }
 {
-    let Some(probe) = read_counting(script) else {
-        return Err(Refusal::NotYet);
-    };
-    match read_trace(alloc, trace) {
-        Ok(trace) => Ok(run(alloc, &probe, &trace)?),
-        Err(TraceFault::Memory) => Err(Refusal::Memory),
-        Err(fault) => Err(Refusal::Trace(fault)),
-    }
+    let tree = read_script(alloc, script)?;
+    let counting = counting_script(alloc, &tree)?;
+    let trace = read_trace(alloc, trace)?;
+    Ok(run(alloc, &counting, &trace)?)
 }
 
-// Runs a counting clause over a trace.
-fn run(alloc: Global, probe: &Probe<'_>, trace: &Trace) -> Result<Replayed, AllocError>
-    ensures shown { IfOk result (λ r. IsShown (description_of probe.now) trace.now r.bytes.items) }
+// Runs a counting script over a trace.
+fn run(alloc: Global, script: &CountingScript<'_>, trace: &Trace) -> Result<Replayed, AllocError>
+    requires can { CanRunScript script.now }
+    requires room { (firings : List Firing) → length firings ≤ 1_000_000
+        → length (counts_over (script_of script.now) firings) ≤ 2 ^ 52 }
+    ensures shown { IfOk result (λ r. IsShown (script_of script.now) trace.now r.bytes.items) }
     ensures took { IfOk result (λ r. map (λ v. v.items) r.by_worker.items ≡ (0 ∷ []) ∷ []) }
     ensures ran { IfOk result (λ r. map (λ v. v.items) r.ran.items ≡ map number_of trace.now ∷ []) }
 {
-    let table = count_firings(alloc, probe, trace.firings())?;
+    let table = count_firings(alloc, script, trace.firings())?;
     let bytes = render(alloc, &table)?;
     let taken = vec![in alloc; 0]?;
     let numbers = numbers(alloc, trace.firings())?;

@@ -1,5 +1,5 @@
-use Rattle.std.proofs.Common.{◌≡◌, ◌∷◌, ◌++◌, [], List, ℕ, rules, sym, subst}
-use Rattle.dreplay.specs.Bundle.{Divides, IsDivider, IsLine}
+use Rattle.std.proofs.Common.{[], rules, sym, subst}
+use Rattle.dreplay.specs.Bundle.{Divides}
 use Rattle.dreplay.proofs.Dividing.{passed_here, passed_all, passed_line}
 use Rattle.dreplay.proofs.bundle.divide.Goals as goal
 

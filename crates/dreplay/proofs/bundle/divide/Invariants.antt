@@ -1,5 +1,4 @@
-use Rattle.std.proofs.Common.{◌≡◌, ◌+◌, List, ℕ, ◌++◌, length, take, drop}
-use Rattle.dreplay.specs.Bundle.{Divides}
+use Rattle.std.proofs.Common.{length}
 use Rattle.dreplay.proofs.Dividing.{Passed}
 use Rattle.dreplay.proofs.bundle.divide.Given as goal
 

@@ -1,6 +1,7 @@
-use Rattle.dreplay.specs.Probe.{description_of}
-use Rattle.dreplay.proofs.Counts.{CountedSoFar}
+use Rattle.dreplay.specs.Counting.{script_of}
+use Rattle.dreplay.specs.Meaning.{contributed}
+use Rattle.dreplay.proofs.Adding.{Adding}
 use Rattle.dreplay.proofs.running.count_firings.Given as goal
 
 abbrev pub invariant-loop-firing : goal.invariant-loop-firing
-invariant-loop-firing l = CountedSoFar (description_of l.probe) l.firings l.firing-index l.table l.key
+invariant-loop-firing l = Adding (contributed (script_of l.script)) l.firings l.firing-index l.initial.table l.table l.keys.items

@@ -1,0 +1,22 @@
+//! From the bytes of a script to its tree.
+
+ghost use Rattle.std.specs.Prelude.{◌≡◌, ◌⊎◌, IfOk, MatchResult};
+ghost use Rattle.d_parser.specs.Tree as tree;
+ghost use Rattle.d_parser.specs.Sizes.{IsWithin};
+ghost use Rattle.dreplay.specs.Scripts.{HasTree, IsUnread};
+
+use crate::refusal::Refusal;
+use d_lexer::lex;
+use d_parser::{Script, parse};
+use std::alloc::Global;
+
+/// The tree of a script, or why it has none: the lexer's fault before the parser's.
+pub fn read_script(alloc: Global, script: &[u8]) -> Result<Script, Refusal>
+    ensures read { MatchResult result (λ s. HasTree script.now (tree.script_of s))
+        (λ e. (e ≡ Refusal.Memory) ⊎ IsUnread script.now e) }
+    ensures few { IfOk result (λ s. IsWithin 65536 (tree.script_of s)) }
+{
+    let tokens = lex(alloc, script)?;
+    let tree = parse(alloc, &tokens)?;
+    Ok(tree)
+}

@@ -1,0 +1,3 @@
+# 257 clauses.
+yes ':::a{}' | head -257
+echo ---
