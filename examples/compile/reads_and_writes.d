@@ -1,0 +1,9 @@
+syscall::read:entry
+{
+    @reads[execname] = count();
+}
+
+syscall::write:entry
+{
+    @writes[execname] = count();
+}

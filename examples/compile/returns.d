@@ -1,0 +1,11 @@
+syscall:::entry
+{
+    @all = count();
+    @entered[probefunc] = count();
+}
+
+syscall:::return
+{
+    @all = count();
+    @returned[probefunc] = count();
+}
