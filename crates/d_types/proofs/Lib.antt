@@ -11,3 +11,8 @@ pub mod Complete
 pub mod Sound
 pub mod Whole
 pub mod Fitting
+pub mod Nodes
+pub mod Changes
+pub mod Neither
+pub mod Keeping
+pub mod Dividing

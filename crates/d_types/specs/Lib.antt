@@ -15,3 +15,8 @@ pub mod Scripts
 pub mod TypedScripts
 pub mod Rules
 pub mod Fitting
+pub mod Storage
+pub mod Expressions
+pub mod Printing
+pub mod Clauses
+pub mod Laws

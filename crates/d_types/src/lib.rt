@@ -10,14 +10,17 @@ mod checking;
 mod clause;
 mod constants;
 mod declaration;
+mod evaluating;
 mod expression;
 mod fault;
 mod format;
 mod function;
 mod kinds;
 pub mod laws;
+pub mod meaning;
 mod needs;
 mod operators;
+mod running;
 mod targets;
 mod typed;
 mod typed_script;
@@ -25,13 +28,17 @@ mod variables;
 mod words;
 
 pub use checking::check;
+pub use evaluating::{EvalFault, evaluate};
 pub use fault::TypeFault;
 pub use function::AggFn;
+pub use running::{Effect, Ran, fault_line, run_clause};
 pub use typed::{
     Answer, BuiltIn, Conversion, Letter, LogicOperator, Operation, Piece, Space, TypedAggregation,
     TypedClause, TypedExpr, TypedStmt, Variable,
 };
 pub use typed_script::TypedScript;
 
+#[cfg(test)]
+mod meaning_tests;
 #[cfg(test)]
 mod tests;

@@ -1,0 +1,71 @@
+-- What evaluation never does, by what stands in the expression.
+use Rattle.std.specs.Prelude.{◌≡◌, Bool, true, false, ◌||◌}
+use Rattle.d_values.specs.Words.{divides}
+use Rattle.firing_reader.specs.declared.firing.Firing.{Firing}
+use Rattle.d_types.specs.declared.typed.Operation.{Operation}
+use Rattle.d_types.specs.declared.typed.Operation.TheVariants as op
+use Rattle.d_types.specs.Typed.{Typed, Constant, Text, Fixed, Read, Unary, Operate, Compare, CompareText, Logic, Choice, Convert, Assign, Update, Count, Strlen, Strjoin, Typeds, end, more}
+use Rattle.d_types.specs.Storage.{Variables}
+use Rattle.d_types.specs.Expressions.{Outcome, Gives, Faults}
+
+-- `/` or `%`
+abbrev pub is_division : Operation → Bool
+is_division (op.Arithmetic o t) = divides o
+is_division (op.Shift o t) = false
+
+abbrev mutual
+  -- an assignment, `++` or `--` stands in it
+  pub assigns : Typed → Bool
+  assigns (Constant t word) = false
+  assigns (Text bytes) = false
+  assigns (Fixed b) = false
+  assigns (Read x keys) = assigns_in keys
+  assigns (Unary o t a) = assigns a
+  assigns (Operate o a b) = assigns a || assigns b
+  assigns (Compare o t a b) = assigns a || assigns b
+  assigns (CompareText o a b) = assigns a || assigns b
+  assigns (Logic o a b) = assigns a || assigns b
+  assigns (Choice t c a b) = assigns c || (assigns a || assigns b)
+  assigns (Convert t u a) = assigns a
+  assigns (Assign x keys a) = true
+  assigns (Update o x keys a) = true
+  assigns (Count step answer x keys) = true
+  assigns (Strlen a) = assigns a
+  assigns (Strjoin a b) = assigns a || assigns b
+
+  pub assigns_in : Typeds → Bool
+  assigns_in end = false
+  assigns_in (more a rest) = assigns a || assigns_in rest
+
+abbrev mutual
+  -- `/`, `%`, `/=` or `%=` stands in it
+  pub has_division : Typed → Bool
+  has_division (Constant t word) = false
+  has_division (Text bytes) = false
+  has_division (Fixed b) = false
+  has_division (Read x keys) = has_division_in keys
+  has_division (Unary o t a) = has_division a
+  has_division (Operate o a b) = is_division o || (has_division a || has_division b)
+  has_division (Compare o t a b) = has_division a || has_division b
+  has_division (CompareText o a b) = has_division a || has_division b
+  has_division (Logic o a b) = has_division a || has_division b
+  has_division (Choice t c a b) = has_division c || (has_division a || has_division b)
+  has_division (Convert t u a) = has_division a
+  has_division (Assign x keys a) = has_division_in keys || has_division a
+  has_division (Update o x keys a) = is_division o || (has_division_in keys || has_division a)
+  has_division (Count step answer x keys) = has_division_in keys
+  has_division (Strlen a) = has_division a
+  has_division (Strjoin a b) = has_division a || has_division b
+
+  pub has_division_in : Typeds → Bool
+  has_division_in end = false
+  has_division_in (more a rest) = has_division a || has_division_in rest
+
+-- the variables after it
+abbrev pub variables_after : {A : Type 0} → Outcome A → Variables
+variables_after (Gives x vars) = vars
+variables_after (Faults vars) = vars
+
+abbrev pub is_fault : {A : Type 0} → Outcome A → Bool
+is_fault (Gives x vars) = false
+is_fault (Faults vars) = true
