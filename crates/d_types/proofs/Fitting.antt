@@ -23,15 +23,15 @@ use Rattle.d_types.specs.Scripts.{declaration, tested, predicate, statement, sta
 use Rattle.d_types.specs.Fitting.{Fits, AllFit, OneFits, ActionFits, ActionsFit, ClauseFits, ClausesFit, ScriptFits}
 use Rattle.d_types.proofs.Sound.{bound}
 
-within : {A : Type 0} (cause : Cause) (line : ℕ) (b : Bool) (x y : A) → ◌≡◌ {A = Result A Fault} (if b then Ok x else refuse cause line) (Ok y) → (b ≡ true) × (x ≡ y)
+pub within : {A : Type 0} (cause : Cause) (line : ℕ) (b : Bool) (x y : A) → ◌≡◌ {A = Result A Fault} (if b then Ok x else refuse cause line) (Ok y) → (b ≡ true) × (x ≡ y)
 within cause line false x y h = cc
 within cause line true x y h = (refl, cc)
 
-is_some_of : {A : Type 0} (cause : Cause) (line : ℕ) (o : Option A) (x : A) → unless cause line o ≡ Ok x → o ≡ Some x
+pub is_some_of : {A : Type 0} (cause : Cause) (line : ℕ) (o : Option A) (x : A) → unless cause line o ≡ Ok x → o ≡ Some x
 is_some_of cause line None x h = cc
 is_some_of cause line (Some y) x h = cc
 
-whole_fits : (rows : Rows) (t : Tree) (x : Typed × Rows) → whole rows t ≡ Ok x → Fits x.0
+pub whole_fits : (rows : Rows) (t : Tree) (x : Typed × Rows) → whole rows t ≡ Ok x → Fits x.0
 whole_fits rows t x h =
     let p = bound (expr rows t) _ _ h in
     let q = within _ _ (nat_le (need p.0.0) 6) p.0 x p.2 in

@@ -16,3 +16,5 @@ pub mod Changes
 pub mod Neither
 pub mod Keeping
 pub mod Dividing
+pub mod CompleteScripts
+pub mod SoundScripts

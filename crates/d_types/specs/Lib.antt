@@ -20,3 +20,4 @@ pub mod Expressions
 pub mod Printing
 pub mod Clauses
 pub mod Laws
+pub mod WellTyped

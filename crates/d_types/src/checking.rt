@@ -1,12 +1,13 @@
 //! From scripts to typed scripts.
 
-ghost use Rattle.std.specs.Prelude.{◌≡◌, [], map};
+ghost use Rattle.std.specs.Prelude.{◌≡◌, [], map, IfOk};
 ghost use Rattle.d_parser.specs.Tree.{item_of, script_of};
 ghost use Rattle.d_types.specs.Faults.{Gives};
 ghost use Rattle.d_types.specs.Scripts as spec;
-ghost use Rattle.d_types.specs.Typed.{meant_of, aggs_of};
+ghost use Rattle.d_types.specs.Typed.{ScriptMeant, meant_of, aggs_of};
 ghost use Rattle.d_types.specs.TypedScripts.{typed_script_of};
 ghost use Rattle.d_types.specs.Variables.{rows_of};
+ghost use Rattle.d_types.specs.WellTyped.{IsWell};
 
 use crate::clause::clause;
 use crate::declaration::declaration;
@@ -51,9 +52,7 @@ fn items(
     Ok(done)
 }
 
-/// The typed script of a script, or its first fault: parts come first, from the left to the right, and
-/// then the construct itself, with the cause of lowest number. Memory may take the place of either.
-pub fn check(alloc: Global, script: Script) -> Result<TypedScript, TypeFault>
+fn checked(alloc: Global, script: Script) -> Result<TypedScript, TypeFault>
     ensures { Gives typed_script_of result (spec.script (script_of script)) }
 {
     let mut table = Vec::new(alloc);
@@ -62,4 +61,17 @@ pub fn check(alloc: Global, script: Script) -> Result<TypedScript, TypeFault>
         Ok(clauses) => Ok(TypedScript::known(clauses, aggs)),
         Err(fault) => Err(fault),
     }
+}
+
+/// The typed script of a script that is well typed, with every register need at most 6, else its first fault: parts come
+/// first, from the left to the right, then the construct itself, with the cause of lowest number.
+pub fn check(alloc: Global, script: Script) -> Result<TypedScript, TypeFault>
+    // What is answered is what the script means by the rules.
+    ensures typed { IfOk result (λ s. IsWell (script_of script) (typed_script_of s)) }
+    // Where the rules give a meaning it is answered, and no other, unless memory runs out.
+    ensures only { (m : ScriptMeant) → IsWell (script_of script) m → Gives {Y = ScriptMeant} typed_script_of result (Ok m) }
+    // A fault is the first one, on its line, unless memory runs out.
+    ensures first { Gives typed_script_of result (spec.script (script_of script)) }
+{
+    checked(alloc, script)
 }

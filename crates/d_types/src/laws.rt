@@ -1,6 +1,6 @@
 //! Laws.
 
-ghost use Rattle.std.specs.Prelude.{◌≡◌, ◌↔◌, Ok};
+ghost use Rattle.std.specs.Prelude.{◌≡◌, ◌↔◌, List, Ok};
 ghost use Rattle.d_parser.specs.Tree as trees;
 ghost use Rattle.d_types.specs.Fitting as fitting;
 ghost use Rattle.d_types.specs.Rules as rules_of_types;
@@ -8,6 +8,7 @@ ghost use Rattle.d_types.specs.Scripts as scripts;
 ghost use Rattle.d_types.specs.Typed as typed;
 ghost use Rattle.d_types.specs.Typing as typing;
 ghost use Rattle.d_types.specs.Variables as variables;
+ghost use Rattle.d_types.specs.WellTyped as well_typed;
 
 /// An expression is given a typed tree exactly where the rules give it that tree, whatever the variables before it.
 pub fn typed_by_the_rules()
@@ -22,4 +23,15 @@ pub fn one_typed_tree()
 /// Every whole expression of a typed script needs six registers at most.
 pub fn six_registers()
     ensures { (m : typed.ScriptMeant) → scripts.IsMeant m → fitting.ScriptFits m }
+{}
+
+/// A script is given a meaning exactly where the rules give it that meaning: where it is well typed, and each of its whole
+/// expressions needs six registers at most.
+pub fn scripts_by_the_rules()
+    ensures { (source : List trees.ItemTree) (m : typed.ScriptMeant) → (scripts.script source ≡ Ok m) ↔ well_typed.IsWell source m }
+{}
+
+/// The rules give a script one meaning at most.
+pub fn one_meaning()
+    ensures { (source : List trees.ItemTree) (m n : typed.ScriptMeant) → well_typed.IsWell source m → well_typed.IsWell source n → m ≡ n }
 {}

@@ -1,20 +1,9 @@
-use Rattle.std.proofs.Common.{◌≡◌, Ok, map}
 use Rattle.d_parser.specs.Tree.{script_of}
-use Rattle.d_types.specs.Typed.{aggs_of, meant_of, script_meant}
-use Rattle.d_types.specs.Variables.{rows_of}
-use Rattle.d_types.specs.Scripts.{IsMeant, script}
-use Rattle.d_types.proofs.Whole.{script_is}
+use Rattle.d_types.proofs.SoundScripts.{ok_sound, ok_only}
 use Rattle.d_types.proofs.checking.check.Goals as goal
 
-pub known-requires : goal.known-requires
-known-requires c =
-    let typed = rw (c.deref.ensures.value, c.new-table.ensures.items, c.new-aggs.ensures.items) at c.in-Ok.ensures in
-    let meant : IsMeant (script_meant c.in-Ok.clauses.items c.items.new.aggs.items) =
-    (script_of c.args.script, script_is (script_of c.args.script) (map meant_of c.in-Ok.clauses.items) (rows_of c.items.new.table.items) (aggs_of c.items.new.aggs.items) typed) in
-    ∣ meant ∣₁
+pub returns-clause-typed : goal.returns-clause-typed
+returns-clause-typed c = ok_sound _ c.checked.result (script_of c.args.script) c.checked.ensures
 
-pub returns-in-Ok : goal.returns-in-Ok
-returns-in-Ok c =
-    let typed = rw (c.deref.ensures.value, c.new-table.ensures.items, c.new-aggs.ensures.items) at c.in-Ok.ensures in
-    rw (c.known.ensures.clauses, c.known.ensures.aggregations)
-    (script_is (script_of c.args.script) (map meant_of c.in-Ok.clauses.items) (rows_of c.items.new.table.items) (aggs_of c.items.new.aggs.items) typed)
+pub returns-clause-only : goal.returns-clause-only
+returns-clause-only c m w = ok_only _ c.checked.result (script_of c.args.script) m c.checked.ensures w
