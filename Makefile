@@ -48,6 +48,7 @@ bench: build
 	@bench/run
 	@bench/lexer/run
 	@bench/parser/run
+	@bench/variables/run
 
 clean:
 	rm -rf crates/*/out
