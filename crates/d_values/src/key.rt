@@ -148,6 +148,14 @@ impl Key {
         }
     }
 
+    /// The parts, given back from left to right. Takes no memory.
+    pub fn into_parts(self) -> Vec<KeyPart>
+        ensures { result.items ≡ self }
+    {
+        let Key { parts } = self;
+        parts
+    }
+
     /// The parts, from left to right.
     pub fn parts(&self) -> &[KeyPart]
         ensures { result.now ≡ self.now }
@@ -180,6 +188,15 @@ impl Key {
     {
         let alloc = *self.parts.allocator();
         self.parts[place].set_name(alloc, bytes)
+    }
+}
+
+// Takes no memory.
+impl From<Vec<KeyPart>> for Key {
+    ghost from_gives = { λ v k. k ≡ v.items };
+
+    fn from(parts: Vec<KeyPart>) -> Key {
+        Key { parts }
     }
 }
 

@@ -1,6 +1,6 @@
 //! What holds of all numbers and variables, in other words than the definitions'.
 
-ghost use Rattle.std.specs.Prelude.{◌≡◌, ◌≢◌, ℕ, ◌<◌, ◌^◌, ℤ, pos, ◌+ℤ◌, ◌*ℤ◌, int_div, int_rem, unsigned_abs, List};
+ghost use Rattle.std.specs.Prelude.{◌≡◌, ◌≢◌, ◌/◌, ◌<◌, ℤ, pos, ◌+ℤ◌, ◌*ℤ◌, int_div, int_rem, unsigned_abs, List};
 ghost use Rattle.d_values.specs.Numbers.{wrap, IsWrapped};
 ghost use Rattle.d_values.specs.Stores.{with_local, with_own};
 ghost use Rattle.d_values.specs.declared.int_type.IntType.{IntType};
@@ -19,11 +19,12 @@ pub fn one_number()
 {}
 
 /// A quotient times the divisor, and the remainder, are what was divided; the remainder is nearer
-/// to zero than the divisor.
+/// to zero than the divisor, and the quotient is cut toward zero, as that of the distances from zero is.
 pub fn division()
     ensures whole { (x y : ℤ) → int_div x y *ℤ y +ℤ int_rem x y ≡ x }
     ensures rest { (x y : ℤ) → 0 < unsigned_abs y
         → unsigned_abs (int_rem x y) < unsigned_abs y }
+    ensures toward_zero { (x y : ℤ) → unsigned_abs (int_div x y) ≡ unsigned_abs x / unsigned_abs y }
 {}
 
 /// A variable reads what it was set to, and each other variable what it did.

@@ -1,5 +1,5 @@
-//! Variables, set and read. A refused allocation leaves them as they were: see each `Err` below,
-//! and let the first allocation fail, then the second, and so on.
+//! Variables, set and read. A refused allocation leaves them as they were: a test then ends as out of memory, once it has
+//! seen that; let the first allocation fail, then the second, and so on.
 use super::*;
 use std::alloc::{AllocError, Global};
 use std::process::Abort;
@@ -82,9 +82,9 @@ fn locals_keep_values(rt: HostRuntime) -> Result<(), Fail> {
         if value.kind() != var.kind {
             continue;
         }
-        if locals.set(var, value).is_err() {
+        if let Err(refused) = locals.set(var, value.clone()?) {
             assert_eq!(rt; read_locals(&locals), before);
-            return Ok(());
+            return Err(refused.into());
         }
         assert_eq!(rt; read_locals(&locals), after);
     }
@@ -115,9 +115,9 @@ fn threads_keep_values(rt: HostRuntime) -> Result<(), Fail> {
         if value.kind() != var.kind {
             continue;
         }
-        if table.set(var, &keys[key % 2], value).is_err() {
+        if let Err(refused) = table.set(var, &keys[key % 2], value.clone()?) {
             assert_eq!(rt; read_own(&table, &keys), before);
-            return Ok(());
+            return Err(refused.into());
         }
         assert_eq!(rt; read_own(&table, &keys), after);
     }

@@ -1,4 +1,4 @@
-use Rattle.std.proofs.Common.{ap, ◌∙◌, rules}
+use Rattle.std.proofs.Common.{ap, ◌∙◌}
 use Rattle.d_values.specs.Numbers.{number_of}
 use Rattle.d_values.proofs.Calls.{converted}
 use Rattle.d_values.proofs.word.convert.Goals as goal

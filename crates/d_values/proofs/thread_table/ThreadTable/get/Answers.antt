@@ -1,6 +1,6 @@
-use Rattle.std.proofs.Common.{◌≡◌, sym, ap, ◌∙◌}
+use Rattle.std.proofs.Common.{sym, ap, ◌∙◌}
 use Rattle.std.specs.Prelude.{unwrap_or}
-use Rattle.d_values.specs.Stores.{kind_of, blank, lent_value, own_of}
+use Rattle.d_values.specs.Stores.{kind_of, blank, own_of}
 use Rattle.d_values.specs.Tables.{pairs_of}
 use Rattle.d_values.proofs.Storing.{own_entry-pairs_of, kind_of-own_of}
 use Rattle.d_values.proofs.thread_table.ThreadTable.get.Goals as goal
