@@ -7,7 +7,7 @@
 #   make examples   the examples alone, likewise: each answer is compared with the one beside its script
 #   make install    puts it and dreplay-from-strace into PREFIX/bin (/usr/local/bin, if PREFIX is not given), and the man
 #                   page into PREFIX/share/man/man1
-#   make bench      measures it beside mawk
+#   make bench      measures it beside mawk, and the lexer, the parser and a thread's variables alone
 #   make clean      removes what was built and proved
 
 PREFIX ?= /usr/local

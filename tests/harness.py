@@ -1,6 +1,7 @@
 """What the test scripts share: the cases, the built programs, one run of a case, and the count of what passed and failed."""
 import argparse
 import os
+import re
 import shlex
 import subprocess
 from dataclasses import dataclass
@@ -110,6 +111,10 @@ def example_of(name):
     page = read(f"{path}.md") or read(f"{folder}/README.md")
     if not answer or indented(script) not in page or indented(answer) not in page:
         raise BadCase("its page does not show the script and the answer")
+    rows = read(f"{folder}/trace.csv").splitlines()
+    for shown in re.findall(rb"^    (.*),\.\.$", read(f"{folder}/README.md"), re.MULTILINE):
+        if not any(row.startswith(shown) for row in rows):
+            raise BadCase(f"README.md shows a row that trace.csv has not: {shown!r}")
     return Case(name, folder, bundle, [], [[]], "", Result(0, answer, b""))
 
 
