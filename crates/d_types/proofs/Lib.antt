@@ -18,3 +18,10 @@ pub mod Keeping
 pub mod Dividing
 pub mod CompleteScripts
 pub mod SoundScripts
+pub mod ValueTypes
+pub mod Holding
+pub mod HoldingRuns
+pub mod FiringValues
+pub mod Growing
+pub mod Consistent
+pub mod ConsistentScripts

@@ -21,3 +21,6 @@ pub mod Printing
 pub mod Clauses
 pub mod Laws
 pub mod WellTyped
+pub mod Held
+pub mod Numbers
+pub mod Wholes

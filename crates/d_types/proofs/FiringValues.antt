@@ -1,0 +1,81 @@
+-- The built-ins of a trace's firings, and variables that were never assigned, are values of their types.
+use Rattle.std.specs.Prelude.{◌≡◌, ℕ, ◌-◌, ◌%◌, ◌^◌, ◌<◌, ◌≤◌, ℤ, pos, negsuc, List, [], length, All, get_or, FitsSigned}
+use Rattle.std.proofs.Common.{sym, ap, ◌∙◌, arith, inl, inr, subst}
+use Rattle.std.specs.Int.{cast_unsigned, w64}
+use Rattle.std.proofs.lemmas.Bool.{cases_lt}
+use Rattle.std.proofs.lemmas.Int.{ints}
+use Rattle.std.proofs.lemmas.List.{get_or_past}
+use Rattle.std.proofs.lemmas.List.Elements.{All-get_or}
+use Rattle.std.proofs.lemmas.Nat.{pow_pos}
+use Rattle.std.proofs.Math.Nat.{mod-eq_of_lt}
+use Rattle.d_values.specs.declared.int_type.IntType.{IntType}
+use Rattle.d_values.specs.declared.int_type.DType.{DType}
+use Rattle.d_values.specs.declared.int_type.DType.TheVariants as ty
+use Rattle.d_values.specs.declared.key.KeyPart.{KeyPart}
+use Rattle.d_values.specs.Numbers.{bits_of}
+use Rattle.d_values.specs.Types.{INT32, INT64, UINT64}
+use Rattle.d_values.specs.Words.{extended, narrow}
+use Rattle.d_values.proofs.Narrowing.{extended_low}
+use Rattle.firing_reader.specs.declared.firing.Firing.{Firing}
+use Rattle.firing_reader.specs.Firings.{IsFiring, IsIntFrom}
+use Rattle.d_types.specs.declared.typed.BuiltIn.TheVariants as bi
+use Rattle.d_types.specs.declared.typed.Space.{Space}
+use Rattle.d_types.specs.declared.typed.Space.TheVariants as sp
+use Rattle.d_types.specs.Storage.{variables, value_in, kind_held}
+use Rattle.d_types.specs.Held.{IsWord, IsOf, HasTypedBuiltIns, Slots, AreTyped}
+use Rattle.d_types.proofs.ValueTypes.{narrow_is}
+
+-- ---- firings
+
+unsigned_is : (z : ℤ) → FitsSigned w64 z → cast_unsigned w64 z ≡ bits_of z
+unsigned_is (pos n) fits = omega arith
+unsigned_is (negsuc n) fits = omega arith
+
+long_is : (z : ℤ) → FitsSigned w64 z → IsWord INT64 (cast_unsigned w64 z)
+long_is (pos n) fits = (pos n, record { least = omega (arith, ints); below = omega (arith, ints) }, unsigned_is (pos n) fits)
+long_is (negsuc n) fits = (negsuc n, record { least = omega (arith, ints); below = omega (arith, ints) }, unsigned_is (negsuc n) fits)
+
+int_is : (least : ℕ) (z : ℤ) → IsIntFrom least z → IsWord INT32 (cast_unsigned w64 z)
+int_is least (pos n) is =
+    let small : n ≤ 0x7FFF_FFFF = omega (arith, ints, is.1) in
+    (pos n, record { least = omega (arith, ints); below = omega (arith, ints) }, (let e : cast_unsigned w64 (pos n) ≡ bits_of (pos n) = omega arith in e))
+int_is least (negsuc n) is = absurd (omega (arith, ints, is.0))
+
+time_is : (n : ℕ) → n < 2 ^ 64 → IsWord UINT64 n
+time_is n small = (pos n, record { least = omega (arith, ints); below = omega (arith, ints) }, (let e : n ≡ bits_of (pos n) = omega arith in e))
+
+argument_is : (args : List ℤ) (n : ℕ) → All (FitsSigned w64) args → FitsSigned w64 (get_or args n (pos 0))
+argument_is args n fit = elim (cases_lt n (length args)) [
+  | inl inside ↦ All-get_or (FitsSigned w64) args n (pos 0) inside fit
+  | inr past ↦ subst (FitsSigned w64) (sym (get_or_past args n (pos 0) past)) (omega arith)
+]
+
+pub firing_is : (f : Firing) → IsFiring f → HasTypedBuiltIns f
+firing_is f is (bi.Argument n) = long_is (get_or f.args n (pos 0)) (argument_is f.args n is.args)
+firing_is f is bi.Timestamp = time_is f.time is.time
+firing_is f is bi.Cpu = int_is 0 f.cpu is.cpu
+firing_is f is bi.Pid = int_is 0 f.pid is.pid
+firing_is f is bi.Tid = int_is 1 f.thread is.thread
+firing_is f is bi.Execname = is.execname.short
+firing_is f is bi.Probeprov = is.provider.short
+firing_is f is bi.Probemod = is.probemod.short
+firing_is f is bi.Probefunc = is.probefunc.short
+firing_is f is bi.Probename = is.name.short
+
+-- ---- what was never assigned
+
+zero_is : (t : IntType) → IsWord t 0
+zero_is t =
+    let low : 0 % 2 ^ t.width ≡ 0 = mod-eq_of_lt (pow_pos t.width) in
+    let same : narrow t 0 ≡ 0 = ap (extended t) low ∙ extended_low t 0 (pow_pos (t.width - 1)) in
+    subst (IsWord t) same (narrow_is t 0)
+
+blank_is : (space : Space) (t : DType) (slot : ℕ) (key : List KeyPart) →
+    IsOf t (value_in space (variables [] []) (record { slot = slot; kind = kind_held t }) key)
+blank_is sp.Thread (ty.Int t) slot key = zero_is t
+blank_is sp.Thread ty.Text slot key = omega arith
+blank_is sp.Clause (ty.Int t) slot key = zero_is t
+blank_is sp.Clause ty.Text slot key = omega arith
+
+pub unassigned_is : (slots : Slots) → AreTyped slots (variables [] [])
+unassigned_is slots x key known = blank_is x.space x.holds x.slot key

@@ -1,0 +1,297 @@
+-- Values are of their types, and variables hold such values.
+use Rattle.std.proofs.Common.{◌≡◌, ℕ, zero, suc, ◌≤◌, List, ◌∷◌, take, ◌++◌, length, Bool, true, false, ◌&&◌, if◌then◌else◌, Some, refl, sym, ap, ◌∙◌, subst, arith, Ok, Err}
+use Rattle.std.proofs.lemmas.List.{length-take}
+use Rattle.d_parser.specs.declared.operators.Step.{Step}
+use Rattle.d_parser.specs.declared.operators.UnaryOperator.{UnaryOperator}
+use Rattle.d_parser.specs.declared.operators.UnaryOperator.TheVariants as un
+use Rattle.d_values.specs.declared.int_type.IntType.{IntType}
+use Rattle.d_values.specs.declared.int_type.DType.{DType}
+use Rattle.d_values.specs.declared.int_type.DType.TheVariants as ty
+use Rattle.d_values.specs.declared.key.KeyPart.{KeyPart}
+use Rattle.d_values.specs.declared.value.Value.{Value}
+use Rattle.d_values.specs.declared.value.Value.TheVariants as va
+use Rattle.d_values.specs.declared.variable.Var.{Var}
+use Rattle.d_values.specs.Keys.{same_key}
+use Rattle.d_values.specs.Operators.{holds_of}
+use Rattle.d_values.specs.Stores.{with_local, with_own}
+use Rattle.d_values.specs.Texts.{text_cmp}
+use Rattle.d_values.specs.Types.{INT32, UINT64}
+use Rattle.d_values.specs.Variables.{same_var, same_var_decides}
+use Rattle.d_values.specs.Words.{narrow, order_of, operate}
+use Rattle.firing_reader.specs.declared.firing.Firing.{Firing}
+use Rattle.d_types.specs.declared.typed.Answer.{Answer}
+use Rattle.d_types.specs.declared.typed.Answer.TheVariants as an
+use Rattle.d_types.specs.declared.typed.LogicOperator.TheVariants as lo
+use Rattle.d_types.specs.declared.typed.Operation.{Operation}
+use Rattle.d_types.specs.declared.typed.Operation.TheVariants as op
+use Rattle.d_types.specs.declared.typed.Space.{Space}
+use Rattle.d_types.specs.declared.typed.Space.TheVariants as sp
+use Rattle.d_types.specs.declared.typed.Variable.{Variable}
+use Rattle.d_types.specs.Typed.{Typed, Constant, Text, Fixed, Read, Unary, Operate, Compare, CompareText, Logic, Choice, Convert, Assign, Update, Count, Strlen, Strjoin, Typeds, end, more, type_of, type_of_unary, type_of_operation}
+use Rattle.d_types.specs.Storage.{Variables, word_of, bytes_of, as_kind, kind_held, var_of, value_in, value_at, set_in, set}
+use Rattle.d_types.specs.Expressions.{Outcome, Gives, Faults, with, given, integer, number, text, truth, bit, inverse, at_zero, part_of, unary_of, operation_of, works_in, held, stepped, answered, assigned, updated, moved, eval, keys_of}
+use Rattle.d_types.specs.Held.{IsWord, IsOf, HasTypedBuiltIns, Slots, IsKnown, AreTyped, Ends, IsSomeInteger, Takes, IsConsistent, AreConsistent}
+use Rattle.d_types.proofs.ValueTypes.{narrow_is, long_word, truth_is, bit_is, inverse_is}
+
+-- ---- values
+
+word_is : (t : IntType) (value : Value) → IsOf (ty.Int t) value → IsWord t (word_of value)
+word_is t (va.Int w) is = is
+word_is t (va.Text bs) is = absurd is
+
+bytes_are : (value : Value) → IsOf ty.Text value → length (bytes_of value) ≤ 255
+bytes_are (va.Int w) is = absurd is
+bytes_are (va.Text bs) is = is
+
+-- a value of its type stays the same where it is stored
+stored_is : (t : DType) (value : Value) → IsOf t value → IsOf t (as_kind (kind_held t) value)
+stored_is (ty.Int t) value is = word_is t value is
+stored_is ty.Text value is = bytes_are value is
+
+-- ---- variables
+
+module _ (slots : Slots) where
+  one_type : (x y : Variable) → IsKnown slots x → IsKnown slots y → var_of x ≡ var_of y → x.holds ≡ y.holds
+  one_type x y known other same =
+      let slot : x.slot ≡ y.slot = ap (λ (v : Var). v.slot) same in
+      let both : Some x.holds ≡ Some y.holds = sym known ∙ ap slots slot ∙ other in
+      cc
+
+  -- what is read where something of the type of x was set at x
+  chosen : (b : Bool) (x y : Variable) (new old : Value) → IsOf x.holds new → (b ≡ true → x.holds ≡ y.holds) → IsOf y.holds old → IsOf y.holds (if b then new else old)
+  chosen true x y new old is same before = subst (λ t. IsOf t new) (same refl) is
+  chosen false x y new old is same before = before
+
+  local_is : (vars : Variables) (x y : Variable) (new : Value) (key : List KeyPart) → IsKnown slots x → IsKnown slots y → IsOf x.holds new →
+      IsOf y.holds (vars.locals (var_of y)) → IsOf y.holds (with_local vars.locals (var_of x) new (var_of y))
+  local_is vars x y new key known other is before =
+      chosen (same_var (var_of x) (var_of y)) x y new (vars.locals (var_of y)) is
+      (λ e. one_type x y known other ((same_var_decides (var_of x) (var_of y)).0 e)) before
+
+  left_true : (a b : Bool) → a && b ≡ true → a ≡ true
+  left_true true b e = refl
+  left_true false b e = e
+
+  own_is : (vars : Variables) (x y : Variable) (new : Value) (at key : List KeyPart) → IsKnown slots x → IsKnown slots y → IsOf x.holds new →
+      IsOf y.holds (vars.own (var_of y) key) → IsOf y.holds (with_own vars.own (var_of x) at new (var_of y) key)
+  own_is vars x y new at key known other is before =
+      chosen (same_var (var_of x) (var_of y) && same_key at key) x y new (vars.own (var_of y) key) is
+      (λ e. one_type x y known other ((same_var_decides (var_of x) (var_of y)).0 (left_true (same_var (var_of x) (var_of y)) (same_key at key) e))) before
+
+  set_in_is : (s r : Space) (vars : Variables) (x y : Variable) (new : Value) (at key : List KeyPart) → IsKnown slots x → IsKnown slots y → IsOf x.holds new →
+      IsOf y.holds (value_in r vars (var_of y) key) → IsOf y.holds (value_in r (set_in s vars (var_of x) at new) (var_of y) key)
+  set_in_is sp.Thread sp.Thread vars x y new at key known other is before = own_is vars x y new at key known other is before
+  set_in_is sp.Thread sp.Clause vars x y new at key known other is before = before
+  set_in_is sp.Clause sp.Thread vars x y new at key known other is before = before
+  set_in_is sp.Clause sp.Clause vars x y new at key known other is before = local_is vars x y new key known other is before
+
+  -- a variable that gets a value of its type
+  set_is : (vars : Variables) (x : Variable) (at : List KeyPart) (value : Value) → AreTyped slots vars → IsKnown slots x → IsOf x.holds value → AreTyped slots (set vars x at value)
+  set_is vars x at value good known is y key other =
+      set_in_is x.space y.space vars x y (as_kind (kind_held x.holds) value) at key known other (stored_is x.holds value is) (good y key other)
+
+  -- ---- outcomes
+
+  abbrev Any : {A : Type 0} → A → Type 0
+  Any x = Unit {0}
+
+  pub one : {A B : Type 0} (P : A → Type 0) (Q : B → Type 0) (o : Outcome A) (go : A → Variables → Outcome B) →
+      Ends slots P o → ((x : A) (vars : Variables) → P x → AreTyped slots vars → Ends slots Q (go x vars)) → Ends slots Q (with o go)
+  one P Q (Gives x vars) go good rest = rest x vars good.0 good.1
+  one P Q (Faults vars) go good rest = good
+
+  word : (t : IntType) (z : DType) (o : Outcome Value) → z ≡ ty.Int t → Ends slots (IsOf z) o → Ends slots (IsWord t) (number o)
+  word t z (Gives x vars) e good = (word_is t x (subst (λ u. IsOf u x) e good.0), good.1)
+  word t z (Faults vars) e good = good
+
+  abbrev Short : List ℕ → Type 0
+  Short bytes = length bytes ≤ 255
+
+  bytes : (z : DType) (o : Outcome Value) → z ≡ ty.Text → Ends slots (IsOf z) o → Ends slots Short (text o)
+  bytes z (Gives x vars) e good = (bytes_are x (subst (λ u. IsOf u x) e good.0), good.1)
+  bytes z (Faults vars) e good = good
+
+  by_zero : {A : Type 0} (P : A → Type 0) (n : ℕ) (a b : Outcome A) → Ends slots P a → Ends slots P b → Ends slots P (at_zero n a b)
+  by_zero P zero a b h k = h
+  by_zero P (suc n) a b h k = k
+
+  unary_is : (o : UnaryOperator) (t : IntType) (x : ℕ) → IsWord t x → IsOf (type_of_unary o t) (va.Int (unary_of o t x))
+  unary_is un.Not t x is = inverse_is x
+  unary_is un.Complement t x is = narrow_is t _
+  unary_is un.Negate t x is = narrow_is t _
+  unary_is un.Keep t x is = is
+
+  -- the operator's word is of the type that it works in
+  quotient : (refused : Bool) (t : IntType) (w : ℕ) (vars : Variables) → AreTyped slots vars →
+      Ends slots (IsWord t) (given (if refused then Err (record {}) else Ok (narrow t w)) vars)
+  quotient true t w vars good = good
+  quotient false t w vars good = (narrow_is t w, good)
+
+  operated : (o : Operation) (x y : ℕ) (vars : Variables) → AreTyped slots vars → Ends slots (IsWord (works_in o)) (given (operation_of o x y) vars)
+  operated (op.Arithmetic o t) x y vars good = quotient _ t (operate o t.signed x y) vars good
+  operated (op.Shift o t) x y vars good = (narrow_is t _, good)
+
+  as_integer : (t : IntType) (o : Outcome ℕ) → Ends slots (IsWord t) o → Ends slots (IsOf (ty.Int t)) (integer o)
+  as_integer t (Gives w vars) good = good
+  as_integer t (Faults vars) good = good
+
+  operation_is : (o : Operation) (x y : ℕ) (vars : Variables) → AreTyped slots vars → Ends slots (IsOf (type_of_operation o)) (integer (given (operation_of o x y) vars))
+  operation_is (op.Arithmetic o t) x y vars good = as_integer t (given (operation_of (op.Arithmetic o t) x y) vars) (operated (op.Arithmetic o t) x y vars good)
+  operation_is (op.Shift o t) x y vars good = as_integer t (given (operation_of (op.Shift o t) x y) vars) (operated (op.Shift o t) x y vars good)
+
+  -- the word that an integer variable is given
+  held_is : (t : DType) (w : ℕ) → IsSomeInteger t → IsOf t (va.Int (held t w))
+  held_is (ty.Int t) w some = narrow_is t w
+  held_is ty.Text w some = let no = some.1 in cc
+
+  updated_is : (x : Variable) (key : List KeyPart) (w : ℕ) (vars : Variables) → IsKnown slots x → IsSomeInteger x.holds → AreTyped slots vars →
+      Ends slots (IsOf x.holds) (updated x key w vars)
+  updated_is x key w vars known some good = let is = held_is x.holds w some in (is, set_is vars x key (va.Int (held x.holds w)) good known is)
+
+  answered_is : (t : DType) (answer : Answer) (old new : ℕ) → IsOf t (va.Int old) → IsOf t (va.Int new) → IsOf t (va.Int (answered answer old new))
+  answered_is t an.New old new before after = after
+  answered_is t an.Old old new before after = before
+
+  -- the integer that a variable has
+  word_at : (t : DType) (value : Value) → IsSomeInteger t → IsOf t value → IsOf t (va.Int (word_of value))
+  word_at (ty.Int t) value some is = word_is t value is
+  word_at ty.Text value some is = let no = some.1 in cc
+
+  moved_is : (step : Step) (answer : Answer) (x : Variable) (key : List KeyPart) (vars : Variables) → IsKnown slots x → IsSomeInteger x.holds → AreTyped slots vars →
+      Ends slots (IsOf x.holds) (moved step answer x key (word_of (value_at vars x key)) vars)
+  moved_is step answer x key vars known some good =
+      let old = word_of (value_at vars x key) in
+      let is = held_is x.holds (stepped step old) some in (
+        answered_is x.holds answer old (held x.holds (stepped step old)) (word_at x.holds (value_at vars x key) some (good x key known)) is,
+        set_is vars x key (va.Int (held x.holds (stepped step old))) good known is,
+      )
+
+  changing : (o : Operation) (x : Variable) (key : List KeyPart) (old y : ℕ) (vars : Variables) → IsKnown slots x → IsSomeInteger x.holds → AreTyped slots vars →
+      Ends slots (IsOf x.holds) (with (given (operation_of o old y) vars) (updated x key))
+  changing o x key old y vars known some good =
+      one (IsWord (works_in o)) (IsOf x.holds) (given (operation_of o old y) vars) (updated x key) (operated o old y vars good)
+      (λ w late is well. updated_is x key w late known some well)
+
+  either_is : (n a b : ℕ) → IsWord INT32 a → IsWord INT32 b → IsWord INT32 (at_zero n a b)
+  either_is zero a b h k = h
+  either_is (suc n) a b h k = k
+
+  cut_is : (bytes : List ℕ) → length (take 255 bytes) ≤ 255
+  cut_is bytes = omega (arith, length-take 255 bytes)
+
+  -- ---- expressions
+
+  module _ (f : Firing) (fit : HasTypedBuiltIns f) where
+    abbrev Good : Typed → Variables → Type 0
+    Good z vars = Ends slots (IsOf (type_of z)) (eval f z vars)
+
+    -- integers of both operands, then what is made of them
+    two : {A : Type 0} (P : A → Type 0) (t u : IntType) (a b : Typed) (go : ℕ → ℕ → Variables → Outcome A) (vars : Variables) →
+        type_of a ≡ ty.Int t → type_of b ≡ ty.Int u → Good a vars → ((late : Variables) → AreTyped slots late → Good b late) →
+        ((x y : ℕ) (late : Variables) → IsWord t x → IsWord u y → AreTyped slots late → Ends slots P (go x y late)) →
+        Ends slots P (with (number (eval f a vars)) (λ x vars. with (number (eval f b vars)) (λ y. go x y)))
+    two P t u a b go vars ea eb left right rest =
+        one (IsWord t) P (number (eval f a vars)) (λ x vars. with (number (eval f b vars)) (λ y. go x y)) (word t (type_of a) (eval f a vars) ea left)
+        (λ x late is good. one (IsWord u) P (number (eval f b late)) (λ y. go x y) (word u (type_of b) (eval f b late) eb (right late good))
+        (λ y last also well. rest x y last is also well))
+
+    two_texts : {A : Type 0} (P : A → Type 0) (a b : Typed) (go : List ℕ → List ℕ → Variables → Outcome A) (vars : Variables) →
+        type_of a ≡ ty.Text → type_of b ≡ ty.Text → Good a vars → ((late : Variables) → AreTyped slots late → Good b late) →
+        ((x y : List ℕ) (late : Variables) → AreTyped slots late → Ends slots P (go x y late)) →
+        Ends slots P (with (text (eval f a vars)) (λ x vars. with (text (eval f b vars)) (λ y. go x y)))
+    two_texts P a b go vars ea eb left right rest =
+        one Short P (text (eval f a vars)) (λ x vars. with (text (eval f b vars)) (λ y. go x y)) (bytes (type_of a) (eval f a vars) ea left)
+        (λ x late is good. one Short P (text (eval f b late)) (λ y. go x y) (bytes (type_of b) (eval f b late) eb (right late good))
+        (λ y last also well. rest x y last well))
+
+    -- the integer of one operand, then what is made of it
+    single : {A : Type 0} (P : A → Type 0) (t : IntType) (a : Typed) (go : ℕ → Variables → Outcome A) (vars : Variables) →
+        type_of a ≡ ty.Int t → Good a vars → ((x : ℕ) (late : Variables) → IsWord t x → AreTyped slots late → Ends slots P (go x late)) →
+        Ends slots P (with (number (eval f a vars)) go)
+    single P t a go vars e good rest = one (IsWord t) P (number (eval f a vars)) go (word t (type_of a) (eval f a vars) e good) rest
+
+    -- a word, then the operation, then the change
+    updating : (o : Operation) (x : Variable) (a : Typed) (key : List KeyPart) (old : ℕ) (vars : Variables) → IsKnown slots x → IsSomeInteger x.holds →
+        Takes o (ty.Int (works_in o)) (type_of a) → Good a vars →
+        Ends slots (IsOf x.holds) (with (number (eval f a vars)) (λ y after. with (given (operation_of o old y) after) (updated x key)))
+    updating (op.Arithmetic o t) x a key old vars known some takes good =
+        single (IsOf x.holds) t a (λ y after. with (given (operation_of (op.Arithmetic o t) old y) after) (updated x key)) vars takes.1 good
+        (λ y late is well. changing (op.Arithmetic o t) x key old y late known some well)
+    updating (op.Shift o t) x a key old vars known some takes good =
+        single (IsOf x.holds) takes.1.0 a (λ y after. with (given (operation_of (op.Shift o t) old y) after) (updated x key)) vars takes.1.1 good
+        (λ y late is well. changing (op.Shift o t) x key old y late known some well)
+
+    mutual
+      pub eval_is : (z : Typed) (vars : Variables) → IsConsistent slots z → AreTyped slots vars → Good z vars
+      eval_is (Constant t w) vars c good = (c, good)
+      eval_is (Text bs) vars c good = (c, good)
+      eval_is (Fixed b) vars c good = (fit b, good)
+      eval_is (Read x keys) vars c good =
+          one Any (IsOf x.holds) (keys_of f keys vars) (λ key vars. Gives (value_at vars x key) vars) (keys_are keys vars c.1 good)
+          (λ key late any well. (well x key c.0, well))
+      eval_is (Unary o t a) vars c good =
+          single (IsOf (type_of_unary o t)) t a (λ x. Gives (va.Int (unary_of o t x))) vars c.0 (eval_is a vars c.1 good)
+          (λ x late is well. (unary_is o t x is, well))
+      eval_is (Operate (op.Arithmetic o t) a b) vars c good =
+          two (IsOf (ty.Int t)) t t a b (λ x y vars. integer (given (operation_of (op.Arithmetic o t) x y) vars)) vars c.0.0 c.0.1
+          (eval_is a vars c.1 good) (λ late well. eval_is b late c.2 well)
+          (λ x y late is also well. operation_is (op.Arithmetic o t) x y late well)
+      eval_is (Operate (op.Shift o t) a b) vars c good =
+          two (IsOf (ty.Int t)) t c.0.1.0 a b (λ x y vars. integer (given (operation_of (op.Shift o t) x y) vars)) vars c.0.0 c.0.1.1
+          (eval_is a vars c.1 good) (λ late well. eval_is b late c.2 well)
+          (λ x y late is also well. operation_is (op.Shift o t) x y late well)
+      eval_is (Compare o t a b) vars c good =
+          two (IsOf (ty.Int INT32)) t t a b (λ x y. Gives (va.Int (truth (holds_of o (order_of t x y))))) vars c.0 c.1
+          (eval_is a vars c.2 good) (λ late well. eval_is b late c.3 well)
+          (λ x y late is also well. (truth_is (holds_of o (order_of t x y)), well))
+      eval_is (CompareText o a b) vars c good =
+          two_texts (IsOf (ty.Int INT32)) a b (λ x y. Gives (va.Int (truth (holds_of o (text_cmp x y))))) vars c.0 c.1
+          (eval_is a vars c.2 good) (λ late well. eval_is b late c.3 well)
+          (λ x y late well. (truth_is (holds_of o (text_cmp x y)), well))
+      eval_is (Logic lo.And a b) vars c good =
+          single (IsOf (ty.Int INT32)) c.0.0 a (λ x vars. at_zero x (Gives (va.Int 0) vars) (with (number (eval f b vars)) (λ y. Gives (va.Int (bit y))))) vars c.0.1
+          (eval_is a vars c.2 good)
+          (λ x late is well. by_zero (IsOf (ty.Int INT32)) x (Gives (va.Int 0) late) (with (number (eval f b late)) (λ y. Gives (va.Int (bit y)))) (bit_is 0, well)
+          (single (IsOf (ty.Int INT32)) c.1.0 b (λ y. Gives (va.Int (bit y))) late c.1.1 (eval_is b late c.3 well) (λ y last also fine. (bit_is y, fine))))
+      eval_is (Logic lo.Or a b) vars c good =
+          single (IsOf (ty.Int INT32)) c.0.0 a (λ x vars. at_zero x (with (number (eval f b vars)) (λ y. Gives (va.Int (bit y)))) (Gives (va.Int 1) vars)) vars c.0.1
+          (eval_is a vars c.2 good)
+          (λ x late is well. by_zero (IsOf (ty.Int INT32)) x (with (number (eval f b late)) (λ y. Gives (va.Int (bit y)))) (Gives (va.Int 1) late)
+          (single (IsOf (ty.Int INT32)) c.1.0 b (λ y. Gives (va.Int (bit y))) late c.1.1 (eval_is b late c.3 well) (λ y last also fine. (bit_is y, fine)))
+          (bit_is 1, well))
+      eval_is (Logic lo.Xor a b) vars c good =
+          two (IsOf (ty.Int INT32)) c.0.0 c.1.0 a b (λ x y. Gives (va.Int (at_zero x (bit y) (inverse y)))) vars c.0.1 c.1.1
+          (eval_is a vars c.2 good) (λ late well. eval_is b late c.3 well)
+          (λ x y late is also well. (either_is x (bit y) (inverse y) (bit_is y) (inverse_is y), well))
+      eval_is (Choice t c a b) vars h good =
+          single (IsOf t) h.0.0 c (λ x vars. at_zero x (eval f b vars) (eval f a vars)) vars h.0.1 (eval_is c vars h.3 good)
+          (λ x late is well. by_zero (IsOf t) x (eval f b late) (eval f a late)
+          (subst (λ u. Ends slots (IsOf u) (eval f b late)) h.2 (eval_is b late h.5 well)) (subst (λ u. Ends slots (IsOf u) (eval f a late)) h.1 (eval_is a late h.4 well)))
+      eval_is (Convert t u a) vars c good =
+          single (IsOf (ty.Int u)) t a (λ x. Gives (va.Int (narrow u x))) vars c.0 (eval_is a vars c.1 good) (λ x late is well. (narrow_is u x, well))
+      eval_is (Assign x keys a) vars c good =
+          one Any (IsOf x.holds) (keys_of f keys vars) (λ key vars. with (eval f a vars) (assigned x key)) (keys_are keys vars c.1 good)
+          (λ key late any well. one (IsOf (type_of a)) (IsOf x.holds) (eval f a late) (assigned x key) (eval_is a late c.3 well)
+          (λ value last is fine. let is : IsOf x.holds value = subst (λ u. IsOf u value) c.2 is in (is, set_is last x key value fine c.0 is)))
+      eval_is (Update o x keys a) vars c good =
+          one Any (IsOf x.holds) (keys_of f keys vars)
+          (λ key vars. with (number (eval f a vars)) (λ y after.
+          with (given (operation_of o (narrow (works_in o) (word_of (value_at vars x key))) y) after) (updated x key)))
+          (keys_are keys vars c.1 good)
+          (λ key late any well. updating o x a key (narrow (works_in o) (word_of (value_at late x key))) late c.0 c.2 c.3 (eval_is a late c.4 well))
+      eval_is (Count step answer x keys) vars c good =
+          one Any (IsOf x.holds) (keys_of f keys vars) (λ key vars. moved step answer x key (word_of (value_at vars x key)) vars) (keys_are keys vars c.1 good)
+          (λ key late any well. moved_is step answer x key late c.0 c.2 well)
+      eval_is (Strlen a) vars c good =
+          one Short (IsOf (ty.Int UINT64)) (text (eval f a vars)) (λ x. Gives (va.Int (length x))) (bytes (type_of a) (eval f a vars) c.0 (eval_is a vars c.1 good))
+          (λ x late is well. (long_word (length x) is, well))
+      eval_is (Strjoin a b) vars c good =
+          two_texts (IsOf ty.Text) a b (λ x y. Gives (va.Text (take 255 (x ++ y)))) vars c.0 c.1
+          (eval_is a vars c.2 good) (λ late well. eval_is b late c.3 well)
+          (λ x y late well. (cut_is (x ++ y), well))
+
+      pub keys_are : (keys : Typeds) (vars : Variables) → AreConsistent slots keys → AreTyped slots vars → Ends slots Any (keys_of f keys vars)
+      keys_are end vars c good = (tt, good)
+      keys_are (more a rest) vars c good =
+          one (IsOf (type_of a)) Any (eval f a vars) (λ x vars. with (keys_of f rest vars) (λ key. Gives (part_of x ∷ key))) (eval_is a vars c.0 good)
+          (λ x late is well. one Any Any (keys_of f rest late) (λ key. Gives (part_of x ∷ key)) (keys_are rest late c.1 well) (λ key last any fine. (tt, fine)))

@@ -1,0 +1,88 @@
+-- Values of a type, variables that hold values of their types, and trees whose parts have the types that their places ask for.
+use Rattle.std.specs.Prelude.{◌≡◌, ◌≤◌, ℕ, ℤ, List, length, Option, Some}
+use Rattle.d_values.specs.declared.int_type.IntType.{IntType}
+use Rattle.d_values.specs.declared.int_type.DType.{DType}
+use Rattle.d_values.specs.declared.int_type.DType.TheVariants as ty
+use Rattle.d_values.specs.declared.key.KeyPart.{KeyPart}
+use Rattle.d_values.specs.declared.value.Value.{Value}
+use Rattle.d_values.specs.declared.value.Value.TheVariants as va
+use Rattle.d_values.specs.Numbers.{IsNumber, bits_of}
+use Rattle.firing_reader.specs.declared.firing.Firing.{Firing}
+use Rattle.d_types.specs.declared.typed.BuiltIn.{BuiltIn}
+use Rattle.d_types.specs.declared.typed.Operation.{Operation}
+use Rattle.d_types.specs.declared.typed.Operation.TheVariants as op
+use Rattle.d_types.specs.declared.typed.Variable.{Variable}
+use Rattle.d_types.specs.Typed.{Typed, Constant, Text, Fixed, Read, Unary, Operate, Compare, CompareText, Logic, Choice, Convert, Assign, Update, Count, Strlen, Strjoin, Typeds, end, more, type_of, type_of_built_in}
+use Rattle.d_types.specs.Storage.{Variables, value_at}
+use Rattle.d_types.specs.Expressions.{Outcome, Gives, Faults, built_in_of, works_in}
+
+-- ---- values
+
+-- the 64-bit word of a number of the type
+abbrev pub IsWord : IntType → ℕ → Type 0
+IsWord t word = (n : ℤ) × IsNumber t n × (word ≡ bits_of n)
+
+-- a value of the type: such a word, or a text of at most 255 bytes
+abbrev pub IsOf : DType → Value → Type 0
+IsOf (ty.Int t) (va.Int word) = IsWord t word
+IsOf ty.Text (va.Text bytes) = length bytes ≤ 255
+IsOf _ _ = ⊥
+
+-- each built-in of the firing is a value of its type
+abbrev pub HasTypedBuiltIns : Firing → Type 0
+HasTypedBuiltIns f = (b : BuiltIn) → IsOf (type_of_built_in b) (built_in_of f b)
+
+-- ---- variables
+
+-- the type that the variable of a slot has, where one is known
+abbrev pub Slots : Type 0
+Slots = ℕ → Option DType
+
+abbrev pub IsKnown : Slots → Variable → Type 0
+IsKnown slots x = slots x.slot ≡ Some x.holds
+
+-- each variable holds a value of its type, at each key
+abbrev pub AreTyped : Slots → Variables → Type 0
+AreTyped slots vars = (x : Variable) (key : List KeyPart) → IsKnown slots x → IsOf x.holds (value_at vars x key)
+
+-- what an evaluation gives is such, and the variables after it hold values of their types, also after a fault
+abbrev pub Ends : {A : Type 0} → Slots → (A → Type 0) → Outcome A → Type 0
+Ends slots Is (Gives x vars) = Is x × AreTyped slots vars
+Ends slots Is (Faults vars) = AreTyped slots vars
+
+-- ---- trees
+
+-- an integer of some type
+abbrev pub IsSomeInteger : DType → Type 0
+IsSomeInteger t = (u : IntType) × (t ≡ ty.Int u)
+
+-- both operands have the operation's type; a shift's count is any integer
+abbrev pub Takes : Operation → DType → DType → Type 0
+Takes (op.Arithmetic o t) left right = (left ≡ ty.Int t) × (right ≡ ty.Int t)
+Takes (op.Shift o t) left right = (left ≡ ty.Int t) × IsSomeInteger right
+
+abbrev mutual
+  -- each constant is a value of its type, each variable has the type of its slot, and each part the type that its place asks for
+  pub IsConsistent : Slots → Typed → Type 0
+  IsConsistent slots (Constant t word) = IsWord t word
+  IsConsistent slots (Text bytes) = length bytes ≤ 255
+  IsConsistent slots (Fixed b) = Unit {0}
+  IsConsistent slots (Read x keys) = IsKnown slots x × AreConsistent slots keys
+  IsConsistent slots (Unary o t a) = (type_of a ≡ ty.Int t) × IsConsistent slots a
+  IsConsistent slots (Operate o a b) = Takes o (type_of a) (type_of b) × IsConsistent slots a × IsConsistent slots b
+  IsConsistent slots (Compare o t a b) = (type_of a ≡ ty.Int t) × (type_of b ≡ ty.Int t) × IsConsistent slots a × IsConsistent slots b
+  IsConsistent slots (CompareText o a b) = (type_of a ≡ ty.Text) × (type_of b ≡ ty.Text) × IsConsistent slots a × IsConsistent slots b
+  IsConsistent slots (Logic o a b) = IsSomeInteger (type_of a) × IsSomeInteger (type_of b) × IsConsistent slots a × IsConsistent slots b
+  IsConsistent slots (Choice t c a b) =
+      IsSomeInteger (type_of c) × (type_of a ≡ t) × (type_of b ≡ t) × IsConsistent slots c × IsConsistent slots a × IsConsistent slots b
+  IsConsistent slots (Convert t u a) = (type_of a ≡ ty.Int t) × IsConsistent slots a
+  IsConsistent slots (Assign x keys a) = IsKnown slots x × AreConsistent slots keys × (type_of a ≡ x.holds) × IsConsistent slots a
+  IsConsistent slots (Update o x keys a) =
+      IsKnown slots x × AreConsistent slots keys × IsSomeInteger x.holds × Takes o (ty.Int (works_in o)) (type_of a) × IsConsistent slots a
+  IsConsistent slots (Count step answer x keys) = IsKnown slots x × AreConsistent slots keys × IsSomeInteger x.holds
+  IsConsistent slots (Strlen a) = (type_of a ≡ ty.Text) × IsConsistent slots a
+  IsConsistent slots (Strjoin a b) = (type_of a ≡ ty.Text) × (type_of b ≡ ty.Text) × IsConsistent slots a × IsConsistent slots b
+
+  pub AreConsistent : Slots → Typeds → Type 0
+  AreConsistent slots end = Unit {0}
+  AreConsistent slots (more a rest) = IsConsistent slots a × AreConsistent slots rest
