@@ -10,18 +10,25 @@ use thiserror::Error;
 /// Why a script has no tokens. A line is that on which the refused token, comment, option line or byte begins.
 #[derive(Clone, Copy, Debug, PartialEq, Eq, Error)]
 pub enum LexFault {
+    /// More than 65,536 bytes: looked at first.
     #[error("the script has more than {most} bytes", most = MOST_BYTES)]
     TooLong,
+    /// A byte that no token begins with where it stands.
     #[error("line {line}: a byte that no token has here")]
     BadByte { line: usize },
+    /// A comment or a text constant without its end.
     #[error("line {line}: a comment or a text constant without an end")]
     Unclosed { line: usize },
+    /// A number that is no integer constant below 2^64.
     #[error("line {line}: not an integer constant below 2^64")]
     Constant { line: usize },
+    /// A backslash in a text constant before a byte that makes no escape.
     #[error("line {line}: an unknown escape in a text constant")]
     Escape { line: usize },
+    /// A line that begins with `#` and is not `#pragma D option quiet`.
     #[error("line {line}: an option line other than `#pragma D option quiet`")]
     OptionLine { line: usize },
+    /// Memory ran out.
     #[error("out of memory")]
     Memory,
 }

@@ -5,50 +5,95 @@ use crate::byte_string::ByteString;
 /// A mark: one to three bytes that are neither word, number, name nor text.
 #[derive(Clone, Copy, Debug, PartialEq, Eq)]
 pub enum Mark {
+    /// `<<=`
     ShiftLeftAssign,
+    /// `>>=`
     ShiftRightAssign,
+    /// `->`
     Arrow,
+    /// `++`
     Increment,
+    /// `--`
     Decrement,
+    /// `<<`
     ShiftLeft,
+    /// `>>`
     ShiftRight,
+    /// `<=`
     LessEqual,
+    /// `>=`
     GreaterEqual,
+    /// `==`
     Equal,
+    /// `!=`
     NotEqual,
+    /// `&&`
     AndAnd,
+    /// `||`
     OrOr,
+    /// `^^`
     XorXor,
+    /// `+=`
     AddAssign,
+    /// `-=`
     SubtractAssign,
+    /// `*=`
     MultiplyAssign,
+    /// `/=`
     DivideAssign,
+    /// `%=`
     RemainderAssign,
+    /// `&=`
     AndAssign,
+    /// `|=`
     OrAssign,
+    /// `^=`
     XorAssign,
+    /// `+`
     Plus,
+    /// `-`
     Minus,
+    /// `*`
     Star,
+    /// `/`
     Slash,
+    /// `%`
     Percent,
+    /// `&`
     And,
+    /// `|`
     Or,
+    /// `^`
     Xor,
+    /// `~`
     Tilde,
+    /// `<`
     Less,
+    /// `>`
     Greater,
+    /// `!`
     Not,
+    /// `?`
     Question,
+    /// `:`
     Colon,
+    /// `=`
     Assign,
+    /// `(`
     OpenParenthesis,
+    /// `)`
     CloseParenthesis,
+    /// `[`
     OpenBracket,
+    /// `]`
     CloseBracket,
+    /// `{`
     OpenBrace,
+    /// `}`
     CloseBrace,
+    /// `,`
     Comma,
+    /// `;`
     Semicolon,
     /// The `/` that closes a predicate: the next token is `{`.
     ClosingSlash,
@@ -57,6 +102,7 @@ pub enum Mark {
 /// The letters behind a number's digits.
 #[derive(Clone, Copy, Debug, PartialEq, Eq)]
 pub enum Suffix {
+    /// No letters.
     Absent,
     /// `u`
     Unsigned,
@@ -75,17 +121,23 @@ pub enum TokenKind {
     Word(ByteString),
     /// The word behind an `@`; `_` for an `@` alone.
     AggregationName(ByteString),
+    /// An integer constant: its value, and the letters behind its digits.
     Number { value: u64, suffix: Suffix },
     /// The bytes between the quotes, with the escapes decoded.
     TextConstant(ByteString),
+    /// An operator, a bracket or a separator.
     Mark(Mark),
 }
 
 /// A token: its bytes are those from `start` up to `stop`, counted from 0, and it begins on `line`, counted from 1.
 #[derive(Debug, Drop)]
 pub struct Token {
+    /// What it is.
     pub kind: TokenKind,
+    /// Where its first byte stands.
     pub start: usize,
+    /// Where the byte behind it stands.
     pub stop: usize,
+    /// The line on which it begins.
     pub line: usize,
 }

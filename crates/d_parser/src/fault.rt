@@ -13,10 +13,13 @@ pub enum ParseFault {
     /// The first token that can't go on is on this line; where the tokens end too soon it is the last token's.
     #[error("line {line}: not a D script")]
     Syntax { line: usize },
+    /// More than 64 brackets open at once, or more than 1,024 tokens without `;`, `{` or `}`.
     #[error("more than {brackets} open brackets, or {tokens} tokens in a row", brackets = MOST_OPEN, tokens = MOST_IN_A_ROW)]
     TooDeep,
+    /// More than 256 `{`.
     #[error("more than {most} clauses", most = MOST_CLAUSES)]
     TooManyClauses,
+    /// Memory ran out.
     #[error("out of memory")]
     Memory,
 }
