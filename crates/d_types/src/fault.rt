@@ -37,6 +37,7 @@ pub enum TypeFault {
     /// An expression needs more than six registers.
     #[error("line {line}: the expression is too deep")]
     NoRegister { line: usize },
+    /// Memory ran out.
     #[error("out of memory")]
     Memory,
 }

@@ -10,51 +10,72 @@ use d_values::{ArithmeticOperator, ComparisonOperator, DType, IntType, Kind, Shi
 pub enum BuiltIn {
     /// `arg0` to `arg9`, by number.
     Argument(u8),
+    /// `timestamp`: the time of the firing.
     Timestamp,
+    /// `cpu`
     Cpu,
+    /// `pid`: the process.
     Pid,
+    /// `tid`: the thread.
     Tid,
+    /// `execname`: the name of the process's program.
     Execname,
+    /// `probeprov`: the probe's provider.
     Probeprov,
+    /// `probemod`: the probe's module.
     Probemod,
+    /// `probefunc`: the probe's function.
     Probefunc,
+    /// `probename`: the probe's name.
     Probename,
 }
 
 /// Where a variable is kept: `self->` for the thread, `this->` for the clauses of a firing.
 #[derive(Clone, Copy, Debug, PartialEq, Eq)]
 pub enum Space {
+    /// `self->`
     Thread,
+    /// `this->`
     Clause,
 }
 
 /// A variable: its place among the script's variables, and the type of its values.
 #[derive(Clone, Copy, Debug, PartialEq, Eq)]
 pub struct Variable {
+    /// Which variables it is one of.
     pub space: Space,
+    /// Its place among the script's variables.
     pub slot: u16,
+    /// The type of its values.
     pub holds: DType,
 }
 
 /// An operator on two integers, with the type that it works in and answers.
 #[derive(Clone, Copy, Debug, PartialEq, Eq)]
 pub enum Operation {
+    /// `* / % + - & ^ |`
     Arithmetic(ArithmeticOperator, IntType),
+    /// `<<` and `>>`, in the left operand's type.
     Shift(ShiftOperator, IntType),
 }
 
 /// An operator on two truths, which answers 0 or 1.
 #[derive(Clone, Copy, Debug, PartialEq, Eq)]
 pub enum LogicOperator {
+    /// `&&`
     And,
+    /// `^^`
     Xor,
+    /// `||`
     Or,
 }
 
 /// What `++` and `--` answer: before a variable its new value, behind it the old one.
 #[derive(Clone, Copy, Debug, PartialEq, Eq)]
 pub enum Answer {
+    /// `++x`, `--x`
     New,
+    /// `x++`, `x--`
     Old,
 }
 
@@ -65,6 +86,7 @@ pub enum TypedExpr {
     Constant(IntType, u64),
     /// A text constant of at most 255 bytes.
     Text(Text),
+    /// A value of the firing's.
     BuiltIn(BuiltIn),
     /// The value of a variable.
     Read(Variable, Vec<TypedExpr>),
@@ -76,6 +98,7 @@ pub enum TypedExpr {
     Compare(ComparisonOperator, IntType, Box<TypedExpr>, Box<TypedExpr>),
     /// Two texts.
     CompareText(ComparisonOperator, Box<TypedExpr>, Box<TypedExpr>),
+    /// Two integers, of which `&&` and `||` may leave the second.
     Logic(LogicOperator, Box<TypedExpr>, Box<TypedExpr>),
     /// `test ? first : second`, both of the type.
     Choice(DType, Box<TypedExpr>, Box<TypedExpr>, Box<TypedExpr>),
@@ -85,6 +108,7 @@ pub enum TypedExpr {
     Assign(Variable, Vec<TypedExpr>, Box<TypedExpr>),
     /// `x op= value`: x is converted to the operation's type, and the result back to that of x.
     Update(Operation, Variable, Vec<TypedExpr>, Box<TypedExpr>),
+    /// `++` or `--` on a variable.
     Step(Step, Answer, Variable, Vec<TypedExpr>),
     /// `strlen(text)`
     Strlen(Box<TypedExpr>),
@@ -114,7 +138,9 @@ pub struct Conversion {
     pub left: bool,
     /// `0`: filled with zeros.
     pub zeros: bool,
+    /// The least number of bytes.
     pub width: u8,
+    /// What it makes of its argument.
     pub letter: Letter,
 }
 
@@ -145,15 +171,21 @@ pub enum TypedStmt {
 /// A typed clause.
 #[derive(Drop)]
 pub struct TypedClause {
+    /// The probes that it is for.
     pub descriptions: Vec<Description>,
+    /// What has to be other than zero, if anything.
     pub predicate: Option<TypedExpr>,
+    /// What is done, in order.
     pub statements: Vec<TypedStmt>,
 }
 
 /// An aggregation of a script: its name (`_` where it has none), the kinds of its keys, and its function.
 #[derive(Drop)]
 pub struct TypedAggregation {
+    /// The word behind its `@`.
     pub name: ByteString,
+    /// The kind of each key, from left to right.
     pub keys: Vec<Kind>,
+    /// What it makes of its arguments.
     pub function: AggFn,
 }
