@@ -25,3 +25,4 @@ pub mod FiringValues
 pub mod Growing
 pub mod Consistent
 pub mod ConsistentScripts
+mod Sizes

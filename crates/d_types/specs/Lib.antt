@@ -24,3 +24,4 @@ pub mod WellTyped
 pub mod Held
 pub mod Numbers
 pub mod Wholes
+pub mod Sizes

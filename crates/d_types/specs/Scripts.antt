@@ -1,6 +1,7 @@
 -- The typed tree of a script, or its first fault: declarations and clauses go in the order of the text.
-use Rattle.std.specs.Prelude.{◌≡◌, ℕ, nat_le, if◌then◌else◌, List, [], ◌∷◌, ◌++◌, length, map, Option, Some, None, Result, Ok, Err}
+use Rattle.std.specs.Prelude.{◌≡◌, ℕ, nat_le, if◌then◌else◌, List, [], ◌∷◌, ◌++◌, length, map, Option, Some, None, Result, Ok}
 use Rattle.d_parser.specs.declared.tree.DeclaredType.{DeclaredType}
+use Rattle.d_parser.specs.Sizes.{IsWithin}
 use Rattle.d_parser.specs.Tree as tree
 use Rattle.d_parser.specs.Tree.{Tree, StmtTree, DeclarationTree, ClauseTree, ItemTree}
 use Rattle.d_values.specs.declared.value.Kind.{Kind}
@@ -75,6 +76,6 @@ items done rows aggs (t ∷ rest) = item done rows aggs t >>= λ a. items a.0 a.
 abbrev pub script : List ItemTree → Result ScriptMeant Fault
 script all = items [] [] [] all >>= λ x. Ok (record { clauses = x.0; aggregations = x.1.1 })
 
--- some script means this
+-- some script means this, with at most 65,536 descriptions, statements, and declarations with places of variables
 abbrev pub IsMeant : ScriptMeant → Type 0
-IsMeant m = (source : List ItemTree) × (script source ≡ Ok m)
+IsMeant m = (source : List ItemTree) × IsWithin 65536 source × (script source ≡ Ok m)

@@ -1,6 +1,7 @@
 //! From scripts to typed scripts.
 
 ghost use Rattle.std.specs.Prelude.{◌≡◌, [], map, IfOk};
+ghost use Rattle.d_parser.specs.Sizes.{IsWithin};
 ghost use Rattle.d_parser.specs.Tree.{item_of, script_of};
 ghost use Rattle.d_types.specs.Faults.{Gives};
 ghost use Rattle.d_types.specs.Scripts as spec;
@@ -53,6 +54,7 @@ fn items(
 }
 
 fn checked(alloc: Global, script: Script) -> Result<TypedScript, TypeFault>
+    requires { IsWithin 65536 (script_of script) }
     ensures { Gives typed_script_of result (spec.script (script_of script)) }
 {
     let mut table = Vec::new(alloc);
@@ -64,8 +66,10 @@ fn checked(alloc: Global, script: Script) -> Result<TypedScript, TypeFault>
 }
 
 /// The typed script of a script that is well typed, with every register need at most 6, else its first fault: parts come
-/// first, from the left to the right, then the construct itself, with the cause of lowest number.
+/// first, from the left to the right, then the construct itself, with the cause of lowest number. Every script that
+/// `parse` gives is small enough, and the typed script keeps that it is.
 pub fn check(alloc: Global, script: Script) -> Result<TypedScript, TypeFault>
+    requires { IsWithin 65536 (script_of script) }
     // What is answered is what the script means by the rules.
     ensures typed { IfOk result (λ s. IsWell (script_of script) (typed_script_of s)) }
     // Where the rules give a meaning it is answered, and no other, unless memory runs out.

@@ -5,6 +5,7 @@ ghost use Rattle.d_parser.specs.Tree as trees;
 ghost use Rattle.d_types.specs.Fitting as fitting;
 ghost use Rattle.d_types.specs.Rules as rules_of_types;
 ghost use Rattle.d_types.specs.Scripts as scripts;
+ghost use Rattle.d_types.specs.Sizes as sizes;
 ghost use Rattle.d_types.specs.Typed as typed;
 ghost use Rattle.d_types.specs.Typing as typing;
 ghost use Rattle.d_types.specs.Variables as variables;
@@ -23,6 +24,11 @@ pub fn one_typed_tree()
 /// Every whole expression of a typed script needs six registers at most.
 pub fn six_registers()
     ensures { (m : typed.ScriptMeant) → scripts.IsMeant m → fitting.ScriptFits m }
+{}
+
+/// A typed script has at most 65,536 descriptions, as many statements, and as many places of variables, all clauses together.
+pub fn sizes_kept()
+    ensures { (m : typed.ScriptMeant) → scripts.IsMeant m → sizes.HasAtMost 65536 m }
 {}
 
 /// A script is given a meaning exactly where the rules give it that meaning: where it is well typed, and each of its whole

@@ -6,7 +6,8 @@ ghost use Rattle.d_types.specs.Typed.{script_meant};
 
 use crate::typed::{TypedAggregation, TypedClause};
 
-/// A script that is well typed, with every register need at most 6.
+/// A script that is well typed, with every register need at most 6, and at most 65,536 descriptions, as many statements,
+/// and as many declarations and places of variables together.
 #[derive(Drop)]
 pub struct TypedScript {
     clauses: Vec<TypedClause>,

@@ -1,8 +1,8 @@
-use Rattle.std.proofs.Common.{◌≡◌, Ok, map}
+use Rattle.std.proofs.Common.{map}
 use Rattle.d_parser.specs.Tree.{script_of}
 use Rattle.d_types.specs.Typed.{aggs_of, meant_of, script_meant}
 use Rattle.d_types.specs.Variables.{rows_of}
-use Rattle.d_types.specs.Scripts.{IsMeant, script}
+use Rattle.d_types.specs.Scripts.{IsMeant}
 use Rattle.d_types.proofs.Whole.{script_is}
 use Rattle.d_types.proofs.checking.checked.Goals as goal
 
@@ -10,7 +10,7 @@ pub known-requires : goal.known-requires
 known-requires c =
     let typed = rw (c.deref.ensures.value, c.new-table.ensures.items, c.new-aggs.ensures.items) at c.in-Ok.ensures in
     let meant : IsMeant (script_meant c.in-Ok.clauses.items c.items.new.aggs.items) =
-    (script_of c.args.script, script_is (script_of c.args.script) (map meant_of c.in-Ok.clauses.items) (rows_of c.items.new.table.items) (aggs_of c.items.new.aggs.items) typed) in
+    (script_of c.args.script, c.requires, script_is (script_of c.args.script) (map meant_of c.in-Ok.clauses.items) (rows_of c.items.new.table.items) (aggs_of c.items.new.aggs.items) typed) in
     ∣ meant ∣₁
 
 pub returns-in-Ok : goal.returns-in-Ok
