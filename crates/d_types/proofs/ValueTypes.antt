@@ -1,6 +1,6 @@
 -- Words that are values of their types.
-use Rattle.std.specs.Prelude.{◌≡◌, ℕ, zero, suc, ◌+◌, ◌-◌, ◌%◌, ◌^◌, ◌<◌, ◌≤◌, pos, negsuc, ◌-ℤ◌, Bool, true, false}
-use Rattle.std.proofs.Common.{refl, sym, ap, ◌∙◌, arith, inl, inr}
+use Rattle.std.specs.Prelude.{◌≡◌, ℕ, zero, suc, ◌+◌, ◌-◌, ◌%◌, ◌^◌, ◌<◌, ◌≤◌, ℤ, pos, negsuc, ◌-ℤ◌, Bool, true, false}
+use Rattle.std.proofs.Common.{refl, sym, ap, ◌∙◌, subst, arith, inl, inr}
 use Rattle.std.proofs.lemmas.Bool.{cases_lt}
 use Rattle.std.proofs.lemmas.Int.{ints}
 use Rattle.std.proofs.lemmas.Nat.{mod_below, pow_pos}
@@ -8,9 +8,10 @@ use Rattle.d_values.specs.declared.int_type.IntType.{IntType}
 use Rattle.d_values.specs.Numbers.{typed, wrap, bits_of}
 use Rattle.d_values.specs.Types.{INT32, UINT64}
 use Rattle.d_values.specs.Words.{extended, narrow}
-use Rattle.d_values.proofs.Lawful.{wrapped}
+use Rattle.d_values.proofs.Lawful.{wrapped, one_number}
 use Rattle.d_values.proofs.Narrowing.{extended_high, extended_low, extended_plain}
-use Rattle.d_values.proofs.Wrapping.{typed_plain, typed_low, typed_high, sizes}
+use Rattle.d_values.proofs.Residues.{bits_of-read}
+use Rattle.d_values.proofs.Wrapping.{number-narrow, typed_plain, typed_low, typed_high, sizes}
 use Rattle.d_types.specs.Expressions.{truth, bit, inverse}
 use Rattle.d_types.specs.Held.{IsWord}
 
@@ -41,6 +42,20 @@ module _ (t : IntType) (low : ℕ) (small : low < 2 ^ t.width) where
 pub narrow_is : (t : IntType) (word : ℕ) → IsWord t (narrow t word)
 narrow_is t word =
     (wrap t (pos word), (wrapped t (pos word)).number, extended_is t (word % 2 ^ t.width) (mod_below word (2 ^ t.width) (pow_pos t.width)))
+
+bits_small : (z : ℤ) → bits_of z < 2 ^ 64
+bits_small (pos n) = omega arith
+bits_small (negsuc n) = omega arith
+
+narrow_small : (t : IntType) (word : ℕ) → narrow t word < 2 ^ 64
+narrow_small t word = let is = narrow_is t word in subst (λ n. n < 2 ^ 64) (sym is.2) (bits_small is.0)
+
+-- and it leaves each word of the type as it is
+pub narrow_leaves : (t : IntType) (word : ℕ) → IsWord t word → narrow t word ≡ word
+narrow_leaves t word is =
+    let number : is.0 ≡ wrap t is.0 = one_number t is.0 is.0 (record { number = is.1; same = refl }) in
+    sym (bits_of-read t.signed (narrow t word) (narrow_small t word))
+    ∙ ap bits_of (number-narrow t is.0 word (sym is.2)) ∙ ap bits_of (sym number) ∙ sym is.2
 
 -- small numbers are words of int and of unsigned long
 pub int_word : (n : ℕ) → n ≤ 255 → IsWord INT32 n

@@ -1,7 +1,9 @@
 //! Laws of what expressions mean.
 
-ghost use Rattle.std.specs.Prelude.{◌≡◌, ℕ, false, List, []};
+ghost use Rattle.std.specs.Prelude.{◌≡◌, ◌↔◌, ℕ, false, List, []};
 ghost use Rattle.d_parser.specs.Tree as trees;
+ghost use Rattle.d_values.specs.declared.int_type.IntType.{IntType};
+ghost use Rattle.d_values.specs.Words.{narrow};
 ghost use Rattle.firing_reader.specs.declared.firing.Firing.{Firing};
 ghost use Rattle.firing_reader.specs.Firings.{IsFiring};
 ghost use Rattle.d_types.specs.Typed.{Typed, type_of, ClauseMeant, ScriptMeant};
@@ -25,15 +27,17 @@ pub fn only_divisions_fault()
 {}
 
 /// A value of an integer type is the word of a number of that type, and a value of type text a text of at most 255 bytes.
-/// Variables that hold values of their types do so after the expression, also after a fault.
+/// Variables that hold values of their types do so after the expression, also after a fault. The words of a type are those
+/// that conversion to it leaves as they are.
 pub fn values_are_of_their_types()
-    ensures { (slots : held.Slots) (f : Firing) (e : Typed) (vars : Variables)
+    ensures values { (slots : held.Slots) (f : Firing) (e : Typed) (vars : Variables)
         → held.HasTypedBuiltIns f → held.IsConsistent slots e → held.AreTyped slots vars
         → held.Ends slots (held.IsOf (type_of e)) (eval f e vars) }
+    ensures words { (t : IntType) (word : ℕ) → held.IsWord t word ↔ (narrow t word ≡ word) }
 {}
 
-/// So they do after each run of a clause. They do so before anything was assigned, and the built-ins of a trace's firing are
-/// values of their types.
+/// Variables that hold values of their types do so after each run of a clause; they do so before anything was assigned; and the
+/// built-ins of a trace's firing are values of their types.
 pub fn variables_keep_their_types()
     ensures run { (slots : held.Slots) (f : Firing) (place : ℕ) (clause : ClauseMeant) (vars : Variables)
         → held.HasTypedBuiltIns f → ClauseIs (held.IsConsistent slots) clause → held.AreTyped slots vars
