@@ -20,6 +20,7 @@ use Rattle.d_types.specs.Aggregations.{find_from, joined, aggregate}
 use Rattle.d_types.specs.Scripts.{declared, declaration, predicate, statement, statements, clause, items, script}
 use Rattle.d_types.specs.WellTyped.{Whole, AllWhole, Evaluates, Prints, Acts, Stands, Joins, Aggregates, Declares, IsDeclared, Tests, Does, AllDo, Probes, AllItems, IsWell}
 use Rattle.d_types.proofs.Complete.{complete, after, after-add, after-end}
+use Rattle.d_types.proofs.Spelled.{spelled_is_read}
 
 whole_complete : (rows : Rows) (t : Tree) (x : Typed) (last : Rows) → Whole rows t x last → whole rows t ≡ Ok (x, last)
 whole_complete rows t x last h =
@@ -37,7 +38,7 @@ evaluates_complete rows t a last h = rw (whole_complete rows t h.0 last h.1, h.2
 
 prints_complete : (line : ℕ) (rows : Rows) (ts : Trees) (a : Action) (last : Rows) → Prints rows ts a last → print line rows ts ≡ Ok (a, last)
 prints_complete line rows tree.end a last h = absurd h
-prints_complete line rows (tree.more t rest) a last h = rw (h.3, wholes_complete end rows rest h.2 last h.4, h.5, h.6, h.7) refl
+prints_complete line rows (tree.more t rest) a last h = rw (h.3, wholes_complete end rows rest h.2 last h.4, spelled_is_read h.0 h.1 h.5, h.6, h.7) refl
 
 acts_complete : (o : Option Callee) (line : ℕ) (name : List ℕ) (rows : Rows) (ts : Trees) (a : Action) (last : Rows) → Acts o line name rows ts a last →
     called o line name rows ts ≡ Ok (a, last)

@@ -26,3 +26,5 @@ pub mod Growing
 pub mod Consistent
 pub mod ConsistentScripts
 mod Sizes
+mod Spelled
+mod Spelling

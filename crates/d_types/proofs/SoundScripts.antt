@@ -34,6 +34,7 @@ use Rattle.d_types.proofs.Complete.{after, after-add, after-end}
 use Rattle.d_types.proofs.CompleteScripts.{script_complete}
 use Rattle.d_types.proofs.Sound.{bound, sound}
 use Rattle.d_types.proofs.Fitting.{within, is_some_of, whole_fits}
+use Rattle.d_types.proofs.Spelling.{read_is_spelled}
 
 ok_is : {A : Type 0} (x y : A) → ◌≡◌ {A = Result A Fault} (Ok x) (Ok y) → x ≡ y
 ok_is x y h = cc
@@ -104,7 +105,7 @@ print_by_sound (Some format) line rows t ts r e h =
     let q = bound (unless PrintfArguments line (pieces format)) _ _ p.2 in
     let w = within PrintfArguments line (formats.fit q.0 p.0.0) (Print q.0 p.0.0, p.0.1) r q.2 in
     subst (λ (y : Action × Rows). Prints rows (tree.more t ts) y.0 y.1) w.1
-    (format, q.0, p.0.0, e, all_whole rows ts p.0 p.1, is_some_of PrintfArguments line _ q.0 q.1, w.0, refl)
+    (format, q.0, p.0.0, e, all_whole rows ts p.0 p.1, read_is_spelled format q.0 (is_some_of PrintfArguments line _ q.0 q.1), w.0, refl)
 
 prints_sound : (line : ℕ) (rows : Rows) (ts : Trees) (r : Action × Rows) → print line rows ts ≡ Ok r → Prints rows ts r.0 r.1
 prints_sound line rows tree.end r h = not_printed_never line rows tree.end r h

@@ -25,3 +25,4 @@ pub mod Held
 pub mod Numbers
 pub mod Wholes
 pub mod Sizes
+pub mod Spelling

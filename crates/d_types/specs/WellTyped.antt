@@ -17,7 +17,7 @@ use Rattle.d_types.specs.Typed.{Typed, Typeds, end, more, Action, Evaluate, Trac
 use Rattle.d_types.specs.Needs.{count}
 use Rattle.d_types.specs.Variables.{Rows, kinds_of, find}
 use Rattle.d_types.specs.Variables as variables
-use Rattle.d_types.specs.Formats.{pieces}
+use Rattle.d_types.specs.Spelling.{Spells}
 use Rattle.d_types.specs.Formats as formats
 use Rattle.d_types.specs.Statements.{text_of}
 use Rattle.d_types.specs.Aggregations.{arguments_fit, first, function, find_from, is_again}
@@ -39,12 +39,12 @@ AllWhole rows (tree.more a rest) ks after =
 abbrev pub Evaluates : Rows → Tree → Action → Rows → Type 0
 Evaluates rows t a after = (x : Typed) × Whole rows t x after × (a ≡ Evaluate x)
 
--- a text constant with known conversions, and an argument for each of them
+-- a text constant that is spelled as a format, and an argument for each conversion
 abbrev pub Prints : Rows → Trees → Action → Rows → Type 0
 Prints rows tree.end a after = ⊥
 Prints rows (tree.more t rest) a after =
     (format : List ℕ) × (ps : List Piece) × (ks : Typeds) × (text_of t ≡ Some format) × AllWhole rows rest ks after
-    × (pieces format ≡ Some ps) × (formats.fit ps ks ≡ true) × (a ≡ Print ps ks)
+    × Spells ps format × (formats.fit ps ks ≡ true) × (a ≡ Print ps ks)
 
 abbrev pub Acts : Option Callee → ℕ → List ℕ → Rows → Trees → Action → Rows → Type 0
 Acts (Some f.Trace) line name rows args a after = (x : Typed) × AllWhole rows args (more x end) after × (a ≡ Trace x)

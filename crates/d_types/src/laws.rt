@@ -1,11 +1,14 @@
 //! Laws.
 
-ghost use Rattle.std.specs.Prelude.{◌≡◌, ◌↔◌, List, Ok};
+ghost use Rattle.std.specs.Prelude.{◌≡◌, ◌↔◌, ℕ, List, Ok, Some};
 ghost use Rattle.d_parser.specs.Tree as trees;
+ghost use Rattle.d_types.specs.declared.typed.Piece.{Piece};
 ghost use Rattle.d_types.specs.Fitting as fitting;
+ghost use Rattle.d_types.specs.Formats as formats;
 ghost use Rattle.d_types.specs.Rules as rules_of_types;
 ghost use Rattle.d_types.specs.Scripts as scripts;
 ghost use Rattle.d_types.specs.Sizes as sizes;
+ghost use Rattle.d_types.specs.Spelling as spelling;
 ghost use Rattle.d_types.specs.Typed as typed;
 ghost use Rattle.d_types.specs.Typing as typing;
 ghost use Rattle.d_types.specs.Variables as variables;
@@ -40,4 +43,14 @@ pub fn scripts_by_the_rules()
 /// The rules give a script one meaning at most.
 pub fn one_meaning()
     ensures { (source : List trees.ItemTree) (m n : typed.ScriptMeant) → well_typed.IsWell source m → well_typed.IsWell source n → m ≡ n }
+{}
+
+/// A format is read exactly where it is spelled by pieces, and as these pieces.
+pub fn formats_spelled()
+    ensures { (format : List ℕ) (ps : List Piece) → (formats.pieces format ≡ Some ps) ↔ spelling.Spells ps format }
+{}
+
+/// A format is spelled by one list of pieces at most.
+pub fn one_format()
+    ensures { (format : List ℕ) (ps qs : List Piece) → spelling.Spells ps format → spelling.Spells qs format → ps ≡ qs }
 {}

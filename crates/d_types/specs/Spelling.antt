@@ -1,0 +1,55 @@
+-- What the text of a format means.
+use Rattle.std.specs.Prelude.{◌≡◌, ℕ, zero, suc, ◌≤◌, ◌==◌, ◌||◌, ◌⊎◌, Bool, false, if◌then◌else◌, List, [], ◌∷◌, ◌++◌, codes}
+use Rattle.std.specs.Fmt.{decimal}
+use Rattle.d_types.specs.declared.typed.Letter.{Letter}
+use Rattle.d_types.specs.declared.typed.Letter.TheVariants as letter
+use Rattle.d_types.specs.declared.typed.Conversion.{Conversion}
+use Rattle.d_types.specs.declared.typed.Piece.{Piece}
+use Rattle.d_types.specs.declared.typed.Piece.TheVariants as piece
+
+abbrev pub IsOneOf : {A : Type 0} → A → List A → Type 0
+IsOneOf x [] = ⊥
+IsOneOf x (y ∷ others) = (x ≡ y) ⊎ IsOneOf x others
+
+abbrev pub has : ℕ → List ℕ → Bool
+has b [] = false
+has b (c ∷ others) = (c == b) || has b others
+
+-- - and 0, in any order and number
+abbrev pub AreFlags : List ℕ → Type 0
+AreFlags [] = Unit {0}
+AreFlags (f ∷ others) = IsOneOf f (codes "-0") × AreFlags others
+
+-- in decimal, or nothing where there is no width
+abbrev pub width_text : ℕ → List ℕ
+width_text zero = []
+width_text (suc n) = decimal (suc n)
+
+-- what may stand before the letter, and says nothing
+abbrev pub lengths : List (List ℕ)
+lengths = codes "" ∷ codes "h" ∷ codes "hh" ∷ codes "l" ∷ codes "ll" ∷ []
+
+abbrev pub letters : Letter → List ℕ
+letters letter.Signed = codes "di"
+letters letter.Unsigned = codes "u"
+letters letter.Hexadecimal = codes "x"
+letters letter.Octal = codes "o"
+letters letter.Text = codes "s"
+
+-- a percent sign, flags, a width of 255 at most, a length and a letter
+abbrev pub IsConversion : Conversion → List ℕ → Type 0
+IsConversion c text =
+    (flags : List ℕ) × (size : List ℕ) × (l : ℕ)
+    × AreFlags flags × (c.left ≡ has 45 flags) × (c.zeros ≡ has 48 flags)
+    × (c.width ≤ 255) × IsOneOf size lengths × IsOneOf l (letters c.letter)
+    × (text ≡ codes "%" ++ (flags ++ (width_text c.width ++ (size ++ l ∷ []))))
+
+-- a byte stands for itself, but a percent sign is written twice
+abbrev pub IsPiece : Piece → List ℕ → Type 0
+IsPiece (piece.Byte b) text = text ≡ (if b == 37 then codes "%%" else b ∷ [])
+IsPiece (piece.Argument c) text = IsConversion c text
+
+-- the format is the pieces' texts, one behind the other
+abbrev pub Spells : List Piece → List ℕ → Type 0
+Spells [] format = format ≡ []
+Spells (p ∷ ps) format = (text : List ℕ) × (rest : List ℕ) × IsPiece p text × Spells ps rest × (format ≡ text ++ rest)
