@@ -12,9 +12,10 @@ use Rattle.d_types.specs.Constants.{declared_type}
 use Rattle.d_types.specs.Held.{Slots, IsConsistent}
 use Rattle.d_types.specs.Numbers.{HasSmall, HaveSmall, InPredicate, InStatement, InStatements, AreSmall}
 use Rattle.d_types.specs.Scripts.{declared_kinds}
+use Rattle.d_types.specs.Rules.{Types, AllTypes}
 use Rattle.d_types.specs.Typed.{Typed, Typeds, end, more, Action, Evaluate, Trace, Print, Exit, Aggregate, Aggs, ClauseMeant, ScriptMeant}
 use Rattle.d_types.specs.Variables.{Rows, type_at}
-use Rattle.d_types.specs.WellTyped.{Whole, AllWhole, Evaluates, Prints, Acts, Stands, Declares, IsDeclared, Tests, Does, AllDo, Probes, AllItems, IsWell}
+use Rattle.d_types.specs.WellTyped.{Evaluates, Prints, Acts, Stands, Declares, IsDeclared, Tests, Does, AllDo, Probes, AllItems, IsWell}
 use Rattle.d_types.specs.Words.{callee_named}
 use Rattle.d_types.specs.Wholes.{EachIs, AnyIs, ActionIs, ActionsAre, ClauseIs, ClausesAre}
 use Rattle.d_types.proofs.Consistent.{types_leave}
@@ -54,13 +55,10 @@ Of rows z = IsConsistent (type_at rows) z
 of_on : (mid after : Rows) → Grows mid after → (z : Typed) → Of mid z → Of after z
 of_on mid after g z h = consistent_on (type_at mid) (type_at after) g.0 z h
 
-whole_leaves : (rows : Rows) (t : Tree) (z : Typed) (after : Rows) → HasSmall t → Whole rows t z after → Grows rows after × Of after z
-whole_leaves rows t z after small h = types_leave rows t z after small h.0
-
-wholes_leave : (rows : Rows) (ts : Trees) (ks : Typeds) (after : Rows) → HaveSmall ts → AllWhole rows ts ks after → Grows rows after × EachIs (Of after) ks
+wholes_leave : (rows : Rows) (ts : Trees) (ks : Typeds) (after : Rows) → HaveSmall ts → AllTypes rows ts ks after → Grows rows after × EachIs (Of after) ks
 wholes_leave rows tree.end ks after small h = (same_rows rows after h.1, subst (EachIs (Of after)) (sym h.0) tt)
 wholes_leave rows (tree.more a rest) ks after small h =
-    let p = whole_leaves rows a h.0 h.2 small.0 h.3 in
+    let p = types_leave rows a h.0 h.2 small.0 h.3 in
     let q = wholes_leave h.2 rest h.1 after small.1 h.4 in
     (grows_on rows h.2 after p.0 q.0, subst (EachIs (Of after)) (sym h.5) (of_on h.2 after q.0 h.0 p.1, q.1))
 
@@ -72,7 +70,7 @@ acts : (rows after : Rows) (a b : Action) → a ≡ b → Leaves rows b after �
 acts rows after a b e h = subst (λ (x : Action). Leaves rows x after) (sym e) h
 
 evaluates_leave : (rows : Rows) (t : Tree) (a : Action) (after : Rows) → HasSmall t → Evaluates rows t a after → Leaves rows a after
-evaluates_leave rows t a after small h = acts rows after a _ h.2 (whole_leaves rows t h.0 after small h.1)
+evaluates_leave rows t a after small h = acts rows after a _ h.2 (types_leave rows t h.0 after small h.1)
 
 prints_leave : (rows : Rows) (ts : Trees) (a : Action) (after : Rows) → HaveSmall ts → Prints rows ts a after → Leaves rows a after
 prints_leave rows tree.end a after small h = absurd h
@@ -128,7 +126,7 @@ all_do_leave rows aggs (t ∷ rest) all after known small h =
 tests_leave : (rows : Rows) (o : Option Tree) (p : Option Typed) (after : Rows) → InPredicate o → Tests rows o p after → Grows rows after × AnyIs (Of after) p
 tests_leave rows None p after small h = (same_rows rows after h.1, subst (AnyIs (Of after)) (sym h.0) tt)
 tests_leave rows (Some t) p after small h =
-    let q = whole_leaves rows t h.0 after small h.2 in
+    let q = types_leave rows t h.0 after small h.2 in
     (q.0, subst (AnyIs (Of after)) (sym h.4) q.1)
 
 probes_leave : (rows : Rows) (aggs : Aggs) (c : ClauseTree) (m : ClauseMeant) (after : Rows) (known : Aggs) → InPredicate c.predicate → InStatements c.statements →

@@ -16,6 +16,7 @@ pub mod Changes
 pub mod Neither
 pub mod Keeping
 pub mod Dividing
+pub mod Bounds
 pub mod CompleteScripts
 pub mod SoundScripts
 pub mod ValueTypes

@@ -28,25 +28,26 @@ use Rattle.d_types.specs.Typing.{line_of, only, expr, whole}
 use Rattle.d_types.specs.Statements.{wholes, trace, exit_by, exit, print_with, not_printed, text_of, print_by, print, evaluate, called, action}
 use Rattle.d_types.specs.Aggregations.{arguments_fit, first, function, find_from, is_again, defined, joined, aggregate}
 use Rattle.d_types.specs.Scripts.{declared, declared_kinds, declaration, tested, predicate, statement, statements, clause, item, items, script}
-use Rattle.d_types.specs.Rules.{Types, IsInteger}
-use Rattle.d_types.specs.WellTyped.{Whole, AllWhole, Evaluates, Prints, Acts, Stands, Joins, Aggregates, Declares, IsDeclared, Tests, Does, AllDo, Probes, AllItems, IsWell}
+use Rattle.d_types.specs.Fitting.{ScriptFits}
+use Rattle.d_types.specs.Rules.{Types, AllTypes, IsInteger}
+use Rattle.d_types.specs.WellTyped.{Evaluates, Prints, Acts, Stands, Joins, Aggregates, Declares, IsDeclared, Tests, Does, AllDo, Probes, AllItems, IsWell}
 use Rattle.d_types.proofs.Complete.{after, after-add, after-end}
 use Rattle.d_types.proofs.CompleteScripts.{script_complete}
 use Rattle.d_types.proofs.Sound.{bound, sound}
-use Rattle.d_types.proofs.Fitting.{within, is_some_of, whole_fits}
+use Rattle.d_types.proofs.Fitting.{within, is_some_of, script_fits}
 use Rattle.d_types.proofs.Spelling.{read_is_spelled}
 
 ok_is : {A : Type 0} (x y : A) → ◌≡◌ {A = Result A Fault} (Ok x) (Ok y) → x ≡ y
 ok_is x y h = cc
 
-whole_sound : (rows : Rows) (t : Tree) (x : Typed × Rows) → whole rows t ≡ Ok x → Whole rows t x.0 x.1
+whole_sound : (rows : Rows) (t : Tree) (x : Typed × Rows) → whole rows t ≡ Ok x → Types rows t x.0 x.1
 whole_sound rows t x h =
     let p = bound (expr rows t) _ _ h in
     let q = within NoRegister (line_of t) (nat_le (need p.0.0) 6) p.0 x p.2 in
-    (sound rows t x.0 x.1 (p.1 ∙ ap (λ (y : Typed × Rows). Ok y) q.1), whole_fits rows t x h)
+    sound rows t x.0 x.1 (p.1 ∙ ap (λ (y : Typed × Rows). Ok y) q.1)
 
 wholes_sound : (done : Typeds) (rows : Rows) (ts : Trees) (k : Typeds × Rows) → wholes done rows ts ≡ Ok k →
-    (new : Typeds) × AllWhole rows ts new k.1 × (k.0 ≡ after done new)
+    (new : Typeds) × AllTypes rows ts new k.1 × (k.0 ≡ after done new)
 wholes_sound done rows tree.end k h =
     let same : (done, rows) ≡ k = ok_is _ _ h in
     (end, (refl, sym (ap (λ (p : Typeds × Rows). p.1) same)), sym (ap (λ (p : Typeds × Rows). p.0) same) ∙ sym (after-end done))
@@ -55,10 +56,10 @@ wholes_sound done rows (tree.more a rest) k h =
     let r = wholes_sound (add done p.0.0) p.0.1 rest k p.2 in
     (more p.0.0 r.0, (p.0.0, r.0, p.0.1, whole_sound rows a p.0 p.1, r.1, refl), r.2 ∙ after-add done p.0.0 r.0)
 
-all_whole : (rows : Rows) (ts : Trees) (k : Typeds × Rows) → wholes end rows ts ≡ Ok k → AllWhole rows ts k.0 k.1
+all_whole : (rows : Rows) (ts : Trees) (k : Typeds × Rows) → wholes end rows ts ≡ Ok k → AllTypes rows ts k.0 k.1
 all_whole rows ts k h =
     let r = wholes_sound end rows ts k h in
-    subst (λ (l : Typeds). AllWhole rows ts l k.1) (sym r.2) r.1
+    subst (λ (l : Typeds). AllTypes rows ts l k.1) (sym r.2) r.1
 
 only_is : (args : Typeds) (x : Typed) → only args ≡ Some x → args ≡ more x end
 only_is end x h = cc
@@ -78,7 +79,7 @@ trace_sound line name rows ts r h =
     let same : (Trace q.0, p.0.1) ≡ r = ok_is _ _ q.2 in
     let one = only_is p.0.0 q.0 (is_some_of Mismatch line _ q.0 q.1) in
     subst (λ (y : Action × Rows). Acts (Some f.Trace) line name rows ts y.0 y.1) same
-    (q.0, subst (λ (l : Typeds). AllWhole rows ts l p.0.1) one (all_whole rows ts p.0 p.1), refl)
+    (q.0, subst (λ (l : Typeds). AllTypes rows ts l p.0.1) one (all_whole rows ts p.0 p.1), refl)
 
 exit_by_sound : (line : ℕ) (t : DType) (x : Typed) (rows : Rows) (r : Action × Rows) → type_of x ≡ t → exit_by line t x rows ≡ Ok r →
     (u : IntType) × IsInteger x u × ((Exit x, rows) ≡ r)
@@ -92,7 +93,7 @@ exit_sound line name rows ts r h =
     let e = exit_by_sound line _ q.0 p.0.1 r refl q.2 in
     let one = only_is p.0.0 q.0 (is_some_of Mismatch line _ q.0 q.1) in
     subst (λ (y : Action × Rows). Acts (Some f.Exit) line name rows ts y.0 y.1) e.2
-    (q.0, e.0, subst (λ (l : Typeds). AllWhole rows ts l p.0.1) one (all_whole rows ts p.0 p.1), e.1, refl)
+    (q.0, e.0, subst (λ (l : Typeds). AllTypes rows ts l p.0.1) one (all_whole rows ts p.0 p.1), e.1, refl)
 
 not_printed_never : (line : ℕ) (rows : Rows) (ts : Trees) (r : Action × Rows) → not_printed line rows ts ≡ Ok r → ⊥
 not_printed_never line rows ts r h = let p = bound (wholes end rows ts) _ _ h in let no = p.2 in cc
@@ -193,12 +194,11 @@ declared_sound rows (tree.OfThread line t name keys) last h = declares_sound s.T
 declared_sound rows (tree.OfClause line t name) last h = declares_sound s.Clause line name t [] rows _ last refl h
 
 tested_sound : (k : DType) (t : Tree) (x : Typed) (rows : Rows) (r : Option Typed × Rows) → type_of x ≡ k → tested k t x rows ≡ Ok r →
-    (u : IntType) × IsInteger x u × (need x ≤ 6) × ((Some x, rows) ≡ r)
+    (u : IntType) × IsInteger x u × ((Some x, rows) ≡ r)
 tested_sound Text t x rows r p h = cc
 tested_sound (Int u) t x rows r p h =
     let q = within NoRegister (line_of t) (nat_le (need x) 6) (Some x, rows) r h in
-    let small : need x ≤ 6 = grind (arith, nat_tests, q.0) in
-    (u, p, small, q.1)
+    (u, p, q.1)
 
 tests_sound : (rows : Rows) (o : Option Tree) (r : Option Typed × Rows) → predicate rows o ≡ Ok r → Tests rows o r.0 r.1
 tests_sound rows None r h =
@@ -207,7 +207,7 @@ tests_sound rows None r h =
 tests_sound rows (Some t) r h =
     let p = bound (expr rows t) _ _ h in
     let e = tested_sound _ t p.0.0 p.0.1 r refl p.2 in
-    subst (λ (y : Option Typed × Rows). Tests rows (Some t) y.0 y.1) e.3 (p.0.0, e.0, (sound rows t p.0.0 p.0.1 p.1, e.2), e.1, refl)
+    subst (λ (y : Option Typed × Rows). Tests rows (Some t) y.0 y.1) e.2 (p.0.0, e.0, sound rows t p.0.0 p.0.1 p.1, e.1, refl)
 
 does_sound : (rows : Rows) (aggs : Aggs) (t : StmtTree) (r : Action × (Rows × Aggs)) → statement rows aggs t ≡ Ok r → Does rows aggs t r.0 r.1.0 r.1.1
 does_sound rows aggs (tree.Expression t) r h =
@@ -268,10 +268,10 @@ script_sound source m h =
     let same : record { clauses = p.0.0; aggregations = p.0.1.1 } ≡ m = ok_is _ _ p.2 in
     subst (IsWell source) same (p.0.1.0, subst (λ (l : List ClauseMeant). AllItems [] [] source l p.0.1.0 p.0.1.1) (sym a.2) a.1)
 
-pub ok_sound : {X : Type 0} (view : X → ScriptMeant) (r : Result X TypeFault) (source : List ItemTree) → Gives view r (script source) → IfOk r (λ x. IsWell source (view x))
-ok_sound view (Ok x) source h = script_sound source _ h
+pub ok_sound : {X : Type 0} (view : X → ScriptMeant) (r : Result X TypeFault) (source : List ItemTree) → Gives view r (script source) → IfOk r (λ x. IsWell source (view x) × ScriptFits (view x))
+ok_sound view (Ok x) source h = (script_sound source _ h, script_fits source _ h)
 ok_sound view (Err e) source h = tt
 
 pub ok_only : {X : Type 0} (view : X → ScriptMeant) (r : Result X TypeFault) (source : List ItemTree) (m : ScriptMeant) →
-    Gives view r (script source) → IsWell source m → Gives {Y = ScriptMeant} view r (Ok m)
-ok_only view r source m h w = subst (Gives view r) (script_complete source m w) h
+    Gives view r (script source) → IsWell source m → ScriptFits m → Gives {Y = ScriptMeant} view r (Ok m)
+ok_only view r source m h w d = subst (Gives view r) (script_complete source m w d) h

@@ -22,34 +22,24 @@ use Rattle.d_types.specs.Formats as formats
 use Rattle.d_types.specs.Statements.{text_of}
 use Rattle.d_types.specs.Aggregations.{arguments_fit, first, function, find_from, is_again}
 use Rattle.d_types.specs.Scripts.{declared_kinds}
-use Rattle.d_types.specs.Fitting.{Fits}
-use Rattle.d_types.specs.Rules.{Types, IsInteger}
-
--- an expression that is no part of another
-abbrev pub Whole : Rows → Tree → Typed → Rows → Type 0
-Whole rows t x after = Types rows t x after × Fits x
-
-abbrev pub AllWhole : Rows → Trees → Typeds → Rows → Type 0
-AllWhole rows tree.end ks after = (ks ≡ end) × (after ≡ rows)
-AllWhole rows (tree.more a rest) ks after =
-    (x : Typed) × (others : Typeds) × (mid : Rows) × Whole rows a x mid × AllWhole mid rest others after × (ks ≡ more x others)
+use Rattle.d_types.specs.Rules.{Types, AllTypes, IsInteger}
 
 -- ---- actions
 
 abbrev pub Evaluates : Rows → Tree → Action → Rows → Type 0
-Evaluates rows t a after = (x : Typed) × Whole rows t x after × (a ≡ Evaluate x)
+Evaluates rows t a after = (x : Typed) × Types rows t x after × (a ≡ Evaluate x)
 
 -- a text constant that is spelled as a format, and an argument for each conversion
 abbrev pub Prints : Rows → Trees → Action → Rows → Type 0
 Prints rows tree.end a after = ⊥
 Prints rows (tree.more t rest) a after =
-    (format : List ℕ) × (ps : List Piece) × (ks : Typeds) × (text_of t ≡ Some format) × AllWhole rows rest ks after
+    (format : List ℕ) × (ps : List Piece) × (ks : Typeds) × (text_of t ≡ Some format) × AllTypes rows rest ks after
     × Spells ps format × (formats.fit ps ks ≡ true) × (a ≡ Print ps ks)
 
 abbrev pub Acts : Option Callee → ℕ → List ℕ → Rows → Trees → Action → Rows → Type 0
-Acts (Some f.Trace) line name rows args a after = (x : Typed) × AllWhole rows args (more x end) after × (a ≡ Trace x)
+Acts (Some f.Trace) line name rows args a after = (x : Typed) × AllTypes rows args (more x end) after × (a ≡ Trace x)
 Acts (Some f.Exit) line name rows args a after =
-    (x : Typed) × (t : IntType) × AllWhole rows args (more x end) after × IsInteger x t × (a ≡ Exit x)
+    (x : Typed) × (t : IntType) × AllTypes rows args (more x end) after × IsInteger x t × (a ≡ Exit x)
 Acts (Some f.Printf) line name rows args a after = Prints rows args a after
 Acts callee line name rows args a after = Evaluates rows (tree.Call line name args) a after
 
@@ -71,7 +61,7 @@ Joins name ks g aggs place after =
 abbrev pub Aggregates : List ℕ → Trees → List ℕ → Trees → Rows → Aggs → Action → Rows → Aggs → Type 0
 Aggregates name keys word args rows aggs a after known =
     (ks : Typeds) × (xs : Typeds) × (g : Aggregating) × (place : ℕ) × (mid : Rows)
-    × AllWhole rows keys ks mid × (aggregating_named word ≡ Some g) × AllWhole mid args xs after × (arguments_fit g xs ≡ true)
+    × AllTypes rows keys ks mid × (aggregating_named word ≡ Some g) × AllTypes mid args xs after × (arguments_fit g xs ≡ true)
     × Joins name ks (function g args) aggs place known × (a ≡ Aggregate place ks (first xs))
 
 -- ---- clauses and scripts
@@ -87,7 +77,7 @@ IsDeclared rows (tree.OfClause line t name) after = Declares s.Clause name t [] 
 
 abbrev pub Tests : Rows → Option Tree → Option Typed → Rows → Type 0
 Tests rows None p after = (p ≡ None) × (after ≡ rows)
-Tests rows (Some t) p after = (x : Typed) × (u : IntType) × Whole rows t x after × IsInteger x u × (p ≡ Some x)
+Tests rows (Some t) p after = (x : Typed) × (u : IntType) × Types rows t x after × IsInteger x u × (p ≡ Some x)
 
 abbrev pub Does : Rows → Aggs → StmtTree → Action → Rows → Aggs → Type 0
 Does rows aggs (tree.Expression t) a after known = Stands rows t a after × (known ≡ aggs)

@@ -4,6 +4,7 @@ ghost use Rattle.std.specs.Prelude.{◌≡◌, [], map, IfOk};
 ghost use Rattle.d_parser.specs.Sizes.{IsWithin};
 ghost use Rattle.d_parser.specs.Tree.{item_of, script_of};
 ghost use Rattle.d_types.specs.Faults.{Gives};
+ghost use Rattle.d_types.specs.Fitting.{ScriptFits};
 ghost use Rattle.d_types.specs.Scripts as spec;
 ghost use Rattle.d_types.specs.Typed.{ScriptMeant, meant_of, aggs_of};
 ghost use Rattle.d_types.specs.TypedScripts.{typed_script_of};
@@ -71,9 +72,9 @@ fn checked(alloc: Global, script: Script) -> Result<TypedScript, TypeFault>
 pub fn check(alloc: Global, script: Script) -> Result<TypedScript, TypeFault>
     requires { IsWithin 65536 (script_of script) }
     // What is answered is what the script means by the rules.
-    ensures typed { IfOk result (λ s. IsWell (script_of script) (typed_script_of s)) }
+    ensures typed { IfOk result (λ s. IsWell (script_of script) (typed_script_of s) × ScriptFits (typed_script_of s)) }
     // Where the rules give a meaning it is answered, and no other, unless memory runs out.
-    ensures only { (m : ScriptMeant) → IsWell (script_of script) m → Gives {Y = ScriptMeant} typed_script_of result (Ok m) }
+    ensures only { (m : ScriptMeant) → IsWell (script_of script) m → ScriptFits m → Gives {Y = ScriptMeant} typed_script_of result (Ok m) }
     // A fault is the first one, on its line, unless memory runs out.
     ensures first { Gives typed_script_of result (spec.script (script_of script)) }
 {

@@ -37,12 +37,13 @@ pub fn sizes_kept()
 /// A script is given a meaning exactly where the rules give it that meaning: where it is well typed, and each of its whole
 /// expressions needs six registers at most.
 pub fn scripts_by_the_rules()
-    ensures { (source : List trees.ItemTree) (m : typed.ScriptMeant) → (scripts.script source ≡ Ok m) ↔ well_typed.IsWell source m }
+    ensures { (source : List trees.ItemTree) (m : typed.ScriptMeant) → (scripts.script source ≡ Ok m) ↔ (well_typed.IsWell source m × fitting.ScriptFits m) }
 {}
 
 /// The rules give a script one meaning at most.
 pub fn one_meaning()
-    ensures { (source : List trees.ItemTree) (m n : typed.ScriptMeant) → well_typed.IsWell source m → well_typed.IsWell source n → m ≡ n }
+    ensures { (source : List trees.ItemTree) (m n : typed.ScriptMeant) → well_typed.IsWell source m → fitting.ScriptFits m
+        → well_typed.IsWell source n → fitting.ScriptFits n → m ≡ n }
 {}
 
 /// A format is read exactly where it is spelled by pieces, and as these pieces.

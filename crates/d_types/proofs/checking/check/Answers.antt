@@ -6,4 +6,4 @@ pub returns-clause-typed : goal.returns-clause-typed
 returns-clause-typed c = ok_sound _ c.checked.result (script_of c.args.script) c.checked.ensures
 
 pub returns-clause-only : goal.returns-clause-only
-returns-clause-only c m w = ok_only _ c.checked.result (script_of c.args.script) m c.checked.ensures w
+returns-clause-only c m w d = ok_only _ c.checked.result (script_of c.args.script) m c.checked.ensures w d
