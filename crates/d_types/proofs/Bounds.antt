@@ -19,7 +19,8 @@ use Rattle.d_types.specs.Needs.{need, count}
 use Rattle.d_types.specs.Operators.{same_type, converted}
 use Rattle.d_types.specs.Typing.{constant}
 use Rattle.d_types.specs.Aggregations.{number, positive, negative, signed, bound, small, step, buckets, lquantize, function, integers, arguments_fit, first}
-use Rattle.d_types.specs.Fitting.{Fits, AllFit, OneFits}
+use Rattle.d_types.specs.Fitting.{Fits}
+use Rattle.d_types.proofs.Fitting.{AllFit, OneFits}
 use Rattle.d_types.specs.Rules.{Types, AllTypes}
 use Rattle.d_types.specs.Variables.{Rows}
 

@@ -18,7 +18,8 @@ use Rattle.d_types.specs.Typing.{whole}
 use Rattle.d_types.specs.Statements.{wholes, evaluate, print, called, action}
 use Rattle.d_types.specs.Aggregations.{is_again, first, find_from, joined, aggregate}
 use Rattle.d_types.specs.Scripts.{declared, declaration, predicate, statement, statements, clause, items, script}
-use Rattle.d_types.specs.Fitting.{Fits, AllFit, OneFits, ActionFits, ActionsFit, ClauseFits, ClausesFit, ScriptFits}
+use Rattle.d_types.specs.Fitting.{Fits, ScriptFits}
+use Rattle.d_types.proofs.Fitting.{AllFit, OneFits, ActionFits, ActionsFit, ClauseFits, ClausesFit}
 use Rattle.d_types.specs.Rules.{Types, AllTypes}
 use Rattle.d_types.specs.WellTyped.{Evaluates, Prints, Acts, Stands, Joins, Aggregates, Declares, IsDeclared, Tests, Does, AllDo, Probes, AllItems, IsWell}
 use Rattle.d_types.proofs.Complete.{complete, after, after-add, after-end}

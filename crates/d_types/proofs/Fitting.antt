@@ -20,8 +20,27 @@ use Rattle.d_types.specs.Typing.{line_of, only, expr, whole}
 use Rattle.d_types.specs.Statements.{wholes, trace, exit_by, exit, print_with, not_printed, text_of, print_by, print, evaluate, called, action}
 use Rattle.d_types.specs.Aggregations.{arguments_fit, first, function, find_from, joined, aggregate}
 use Rattle.d_types.specs.Scripts.{declaration, tested, predicate, statement, statements, clause, item, items, script}
-use Rattle.d_types.specs.Fitting.{Fits, AllFit, OneFits, ActionFits, ActionsFit, ClauseFits, ClausesFit, ScriptFits}
+use Rattle.d_types.specs.Fitting.{Fits, ScriptFits}
+use Rattle.d_types.specs.Wholes.{EachIs, AnyIs, ActionIs, ActionsAre, ClauseIs, ClausesAre}
 use Rattle.d_types.proofs.Sound.{bound}
+
+abbrev pub AllFit : Typeds → Type 0
+AllFit = EachIs Fits
+
+abbrev pub OneFits : Option Typed → Type 0
+OneFits = AnyIs Fits
+
+abbrev pub ActionFits : Action → Type 0
+ActionFits = ActionIs Fits
+
+abbrev pub ActionsFit : List Action → Type 0
+ActionsFit = ActionsAre Fits
+
+abbrev pub ClauseFits : ClauseMeant → Type 0
+ClauseFits = ClauseIs Fits
+
+abbrev pub ClausesFit : List ClauseMeant → Type 0
+ClausesFit = ClausesAre Fits
 
 pub within : {A : Type 0} (cause : Cause) (line : ℕ) (b : Bool) (x y : A) → ◌≡◌ {A = Result A Fault} (if b then Ok x else refuse cause line) (Ok y) → (b ≡ true) × (x ≡ y)
 within cause line false x y h = cc

@@ -28,7 +28,7 @@ use Rattle.d_types.specs.Typing.{constant}
 use Rattle.d_types.specs.Aggregations.{first}
 use Rattle.d_types.specs.Scripts.{script}
 use Rattle.d_types.specs.Rules.{Types, AllTypes, Joins, Chooses, Reads, Fits, Stores, Calls}
-use Rattle.d_types.specs.WellTyped.{AllWhole, Evaluates, Prints, Acts, Stands, Tests, Does, AllDo, Probes, AllItems, IsWell}
+use Rattle.d_types.specs.WellTyped.{Evaluates, Prints, Acts, Stands, Tests, Does, AllDo, Probes, AllItems, IsWell}
 use Rattle.d_types.specs.Sizes.{places, places_in, in_option, in_action, descriptions, statements, variables, HasAtMost}
 use Rattle.d_types.proofs.SoundScripts.{script_sound}
 
@@ -101,24 +101,17 @@ mutual
 
 -- ---- statements
 
-few_whole : (rows : Rows) (ts : Trees) (ks : Typeds) (last : Rows) → AllWhole rows ts ks last → places_in ks ≤ source.places_in ts
-few_whole rows tree.end ks last h = rw (h.0) (omega arith)
-few_whole rows (tree.more a rest) ks last h =
-    let one = few rows a h.0 h.2 h.3.0 in
-    let others = few_whole h.2 rest h.1 last h.4 in
-    rw (h.5) (omega (arith, one, others))
-
 few_evaluated : (rows : Rows) (t : Tree) (a : Action) (last : Rows) → Evaluates rows t a last → in_action a ≤ source.places t
-few_evaluated rows t a last h = rw (h.2) (few rows t h.0 last h.1.0)
+few_evaluated rows t a last h = rw (h.2) (few rows t h.0 last h.1)
 
 few_printed : (rows : Rows) (ts : Trees) (a : Action) (last : Rows) → Prints rows ts a last → in_action a ≤ source.places_in ts
 few_printed rows tree.end a last h = absurd h
-few_printed rows (tree.more t rest) a last h = let all = few_whole rows rest h.2 last h.4 in rw (h.7) (omega (arith, all))
+few_printed rows (tree.more t rest) a last h = let all = few_in rows rest h.2 last h.4 in rw (h.7) (omega (arith, all))
 
 few_acted : (o : Option Callee) (line : ℕ) (name : List ℕ) (rows : Rows) (ts : Trees) (a : Action) (last : Rows) → Acts o line name rows ts a last →
     in_action a ≤ source.places_in ts
-few_acted (Some f.Trace) line name rows ts a last h = let all = few_whole rows ts (more h.0 end) last h.1 in rw (h.2) (omega (arith, all))
-few_acted (Some f.Exit) line name rows ts a last h = let all = few_whole rows ts (more h.0 end) last h.2 in rw (h.4) (omega (arith, all))
+few_acted (Some f.Trace) line name rows ts a last h = let all = few_in rows ts (more h.0 end) last h.1 in rw (h.2) (omega (arith, all))
+few_acted (Some f.Exit) line name rows ts a last h = let all = few_in rows ts (more h.0 end) last h.2 in rw (h.4) (omega (arith, all))
 few_acted (Some f.Printf) line name rows ts a last h = few_printed rows ts a last h
 few_acted (Some f.Strlen) line name rows ts a last h = few_evaluated rows (tree.Call line name ts) a last h
 few_acted (Some f.Strjoin) line name rows ts a last h = few_evaluated rows (tree.Call line name ts) a last h
@@ -143,8 +136,8 @@ in_first (more x rest) = omega arith
 few_done : (rows : Rows) (aggs : Aggs) (t : StmtTree) (a : Action) (last : Rows) (known : Aggs) → Does rows aggs t a last known → in_action a ≤ source.in_stmt t
 few_done rows aggs (tree.Expression t) a last known h = few_standing rows t a last h.0
 few_done rows aggs (tree.Aggregation line name keys word args) a last known h =
-    let keyed = few_whole rows keys h.0 h.4 h.5 in
-    let given = few_whole h.4 args h.1 last h.7 in
+    let keyed = few_in rows keys h.0 h.4 h.5 in
+    let given = few_in h.4 args h.1 last h.7 in
     let one = in_first h.1 in
     rw (h.10) (omega (arith, keyed, given, one))
 
@@ -166,7 +159,7 @@ all_done rows aggs (t ∷ rest) all last known h = rw (h.6) (ap suc (all_done h.
 
 few_tested : (rows : Rows) (o : Option Tree) (p : Option Typed) (last : Rows) → Tests rows o p last → in_option p ≤ source.in_predicate o
 few_tested rows None p last h = rw (h.0) (omega arith)
-few_tested rows (Some t) p last h = rw (h.4) (few rows t h.0 last h.2.0)
+few_tested rows (Some t) p last h = rw (h.4) (few rows t h.0 last h.2)
 
 few_probed : (rows : Rows) (aggs : Aggs) (d : ClauseTree) (m : ClauseMeant) (last : Rows) (known : Aggs) → Probes rows aggs d m last known →
     (descriptions m ≡ length d.descriptions) × (statements m ≡ length d.statements) × (variables m ≤ source.in_predicate d.predicate + in_all source.in_stmt d.statements)

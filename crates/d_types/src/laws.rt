@@ -40,7 +40,7 @@ pub fn scripts_by_the_rules()
     ensures { (source : List trees.ItemTree) (m : typed.ScriptMeant) → (scripts.script source ≡ Ok m) ↔ (well_typed.IsWell source m × fitting.ScriptFits m) }
 {}
 
-/// The rules give a script one meaning at most.
+/// The rules give a script one meaning at most whose whole expressions need six registers at most.
 pub fn one_meaning()
     ensures { (source : List trees.ItemTree) (m n : typed.ScriptMeant) → well_typed.IsWell source m → fitting.ScriptFits m
         → well_typed.IsWell source n → fitting.ScriptFits n → m ≡ n }
