@@ -1,3 +1,5 @@
+pub mod Ranges
+pub mod LinearRanges
 pub mod Values
 pub mod Table
 pub mod Entries

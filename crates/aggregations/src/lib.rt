@@ -3,10 +3,12 @@
 
 mod entries;
 mod function;
+mod linear_range;
 mod partial;
 mod table;
 
 pub use function::AggFn;
+pub use linear_range::LinearRange;
 pub use partial::Partial;
 pub use table::AggTable;
 

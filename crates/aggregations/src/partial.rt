@@ -15,12 +15,11 @@ pub enum Partial {
 impl Partial {
     // The value of one argument.
     pub(crate) fn of_one(function: AggFn, arg: i64) -> Partial
+        requires { function ≡ AggFn.Count }
         ensures value { IsValue function result (arg ∷ []) }
         ensures count { count_in result ≤ 1 }
     {
-        match function {
-            AggFn::Count => Partial::Counted(1),
-        }
+        Partial::Counted(1)
     }
 
     // Takes one more argument.

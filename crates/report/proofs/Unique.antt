@@ -20,7 +20,7 @@ use Rattle.aggregations.specs.Entries.{IsEntry}
 use Rattle.aggregations.specs.Table.{Contribution, AreEntries, arguments_of}
 use Rattle.aggregations.specs.Values.{IsValue}
 use Rattle.aggregations.specs.declared.function.AggFn.{AggFn}
-use Rattle.aggregations.specs.declared.function.AggFn.TheVariants.{Count}
+use Rattle.aggregations.specs.declared.function.AggFn.TheVariants.{Count, Sum, Min, Max, Avg, Quantize, Lquantize}
 use Rattle.aggregations.specs.declared.partial.Partial.{Partial}
 use Rattle.aggregations.specs.declared.partial.Partial.TheVariants.{Counted}
 use Rattle.aggregations.proofs.EntryLemmas.{apart_from_entries, lookup_from_entries}
@@ -71,6 +71,12 @@ module _ {X : Type 0} {R : X → X → Ordering} (order : IsTotalOrder R) where
 
 one_value : (function : AggFn) (v w : Partial) (args : List ℤ) → IsValue function v args → IsValue function w args → v ≡ w
 one_value Count (Counted n) (Counted m) args v_is w_is = ap Counted (v_is ∙ sym w_is)
+one_value Sum v w args v_is w_is = absurd v_is
+one_value Min v w args v_is w_is = absurd v_is
+one_value Max v w args v_is w_is = absurd v_is
+one_value Avg v w args v_is w_is = absurd v_is
+one_value Quantize v w args v_is w_is = absurd v_is
+one_value (Lquantize range) v w args v_is w_is = absurd v_is
 
 one_entry : (function : AggFn) (o p : Option Partial) (args : List ℤ) → IsEntry function o args → IsEntry function p args → o ≡ p
 one_entry function None None args none also = refl
