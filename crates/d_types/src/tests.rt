@@ -1,25 +1,36 @@
 //! Which fault scripts have, and what aggregations they name.
 
-use crate::check;
+use crate::{TypedScript, check};
 use d_lexer::lex;
 use d_parser::parse;
 use std::alloc::{AllocError, Global};
 use std::process::Abort;
 use std::test::Fail;
 
-// "typed" for a script that is well typed, else its fault.
-fn answered(alloc: Global, script: &[u8]) -> Result<String, AllocError> {
+// The typed script of a text, or what its fault says.
+pub(crate) fn typed(
+    alloc: Global,
+    script: &[u8],
+) -> Result<Result<TypedScript, String>, AllocError> {
     let tokens = match lex(alloc, script) {
         Ok(tokens) => tokens,
-        Err(fault) => return format!(in alloc; "{fault:?}"),
+        Err(fault) => return Ok(Err(format!(in alloc; "{fault:?}")?)),
     };
     let tree = match parse(alloc, &tokens) {
         Ok(tree) => tree,
-        Err(fault) => return format!(in alloc; "{fault:?}"),
+        Err(fault) => return Ok(Err(format!(in alloc; "{fault:?}")?)),
     };
     match check(alloc, tree) {
+        Ok(script) => Ok(Ok(script)),
+        Err(fault) => Ok(Err(format!(in alloc; "{fault}")?)),
+    }
+}
+
+// "typed" for a script that is well typed, else its fault.
+fn answered(alloc: Global, script: &[u8]) -> Result<String, AllocError> {
+    match typed(alloc, script)? {
         Ok(_) => format!(in alloc; "typed"),
-        Err(fault) => format!(in alloc; "{fault}"),
+        Err(fault) => Ok(fault),
     }
 }
 
