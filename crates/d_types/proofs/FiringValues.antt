@@ -21,7 +21,8 @@ use Rattle.firing_reader.specs.Firings.{IsFiring, IsIntFrom}
 use Rattle.d_types.specs.declared.typed.BuiltIn.TheVariants as bi
 use Rattle.d_types.specs.declared.typed.Space.{Space}
 use Rattle.d_types.specs.declared.typed.Space.TheVariants as sp
-use Rattle.d_types.specs.Storage.{variables, value_in, kind_held}
+use Rattle.d_types.specs.Variables.{kind_of}
+use Rattle.d_types.specs.Storage.{variables, value_in}
 use Rattle.d_types.specs.Held.{IsWord, IsOf, HasTypedBuiltIns, Slots, AreTyped}
 use Rattle.d_types.proofs.ValueTypes.{narrow_is}
 
@@ -71,7 +72,7 @@ zero_is t =
     subst (IsWord t) same (narrow_is t 0)
 
 blank_is : (space : Space) (t : DType) (slot : ℕ) (key : List KeyPart) →
-    IsOf t (value_in space (variables [] []) (record { slot = slot; kind = kind_held t }) key)
+    IsOf t (value_in space (variables [] []) (record { slot = slot; kind = kind_of t }) key)
 blank_is sp.Thread (ty.Int t) slot key = zero_is t
 blank_is sp.Thread ty.Text slot key = omega arith
 blank_is sp.Clause (ty.Int t) slot key = zero_is t

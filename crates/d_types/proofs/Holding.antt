@@ -28,7 +28,8 @@ use Rattle.d_types.specs.declared.typed.Space.{Space}
 use Rattle.d_types.specs.declared.typed.Space.TheVariants as sp
 use Rattle.d_types.specs.declared.typed.Variable.{Variable}
 use Rattle.d_types.specs.Typed.{Typed, Constant, Text, Fixed, Read, Unary, Operate, Compare, CompareText, Logic, Choice, Convert, Assign, Update, Count, Strlen, Strjoin, Typeds, end, more, type_of, type_of_unary, type_of_operation}
-use Rattle.d_types.specs.Storage.{Variables, word_of, bytes_of, as_kind, kind_held, var_of, value_in, value_at, set_in, set}
+use Rattle.d_types.specs.Variables.{kind_of}
+use Rattle.d_types.specs.Storage.{Variables, word_of, bytes_of, as_kind, var_of, value_in, value_at, set_in, set}
 use Rattle.d_types.specs.Expressions.{Outcome, Gives, Faults, with, given, integer, number, text, truth, bit, inverse, at_zero, part_of, unary_of, operation_of, works_in, held, stepped, answered, assigned, updated, moved, eval, keys_of}
 use Rattle.d_types.specs.Held.{IsWord, IsOf, HasTypedBuiltIns, Slots, IsKnown, AreTyped, Ends, IsSomeInteger, Takes, IsConsistent, AreConsistent}
 use Rattle.d_types.proofs.ValueTypes.{narrow_is, long_word, truth_is, bit_is, inverse_is}
@@ -44,7 +45,7 @@ bytes_are (va.Int w) is = absurd is
 bytes_are (va.Text bs) is = is
 
 -- a value of its type stays the same where it is stored
-stored_is : (t : DType) (value : Value) → IsOf t value → IsOf t (as_kind (kind_held t) value)
+stored_is : (t : DType) (value : Value) → IsOf t value → IsOf t (as_kind (kind_of t) value)
 stored_is (ty.Int t) value is = word_is t value is
 stored_is ty.Text value is = bytes_are value is
 
@@ -88,7 +89,7 @@ module _ (slots : Slots) where
   -- a variable that gets a value of its type
   set_is : (vars : Variables) (x : Variable) (at : List KeyPart) (value : Value) → AreTyped slots vars → IsKnown slots x → IsOf x.holds value → AreTyped slots (set vars x at value)
   set_is vars x at value good known is y key other =
-      set_in_is x.space y.space vars x y (as_kind (kind_held x.holds) value) at key known other (stored_is x.holds value is) (good y key other)
+      set_in_is x.space y.space vars x y (as_kind (kind_of x.holds) value) at key known other (stored_is x.holds value is) (good y key other)
 
   -- ---- outcomes
 

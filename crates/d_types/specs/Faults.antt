@@ -34,7 +34,7 @@ abbrev pub unless : {A : Type 0} → Cause → ℕ → Option A → Result A Fau
 unless cause line None = refuse cause line
 unless cause line (Some x) = Ok x
 
--- What a function returned, seen by view, is what is asked for, unless memory ran out.
+-- What a function refused is what is asked for, unless memory ran out.
 abbrev pub Fails : {Y : Type 0} → TypeFault → Result Y Fault → Type 0
 Fails (f.GlobalAssignment name line) r = r ≡ refuse (GlobalAssignment name) line
 Fails (f.Undeclared line) r = r ≡ refuse Undeclared line
@@ -47,6 +47,7 @@ Fails (f.ReadOnly line) r = r ≡ refuse ReadOnly line
 Fails (f.NoRegister line) r = r ≡ refuse NoRegister line
 Fails f.Memory r = Unit {0}
 
+-- What a function returned, seen by view, is what is asked for, unless memory ran out.
 abbrev pub Gives : {X Y : Type 0} → (X → Y) → Result X TypeFault → Result Y Fault → Type 0
 Gives view (Ok x) r = r ≡ Ok (view x)
 Gives view (Err e) r = Fails e r

@@ -69,7 +69,7 @@ as_type (Int t) (Int u) x = Some (converted t u x)
 as_type Text Text x = Some x
 as_type _ _ x = None
 
--- `~ - +` work in the promoted type
+-- `~ - +` work in the promoted type, and so does `!`, whose answer is an int
 abbrev pub unary : UnaryOperator → DType → Typed → Option Typed
 unary op (Int t) x = Some (typed.Unary op (promoted_of t) (converted t (promoted_of t) x))
 unary op Text x = None

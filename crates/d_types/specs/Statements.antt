@@ -1,23 +1,20 @@
 -- The typed tree of a statement, or its first fault.
-use Rattle.std.specs.Prelude.{ℕ, zero, suc, ◌+◌, ◌&&◌, nat_le, nat_lt, Bool, true, false, if◌then◌else◌, List, [], ◌∷◌, ◌++◌, length, Option, Some, None, Result, Ok, Err}
-use Rattle.std.specs.Str.{bytes_eq}
+use Rattle.std.specs.Prelude.{ℕ, if◌then◌else◌, List, Option, Some, None, Result, Ok}
 use Rattle.d_parser.specs.declared.tree.Constant.TheVariants as c
 use Rattle.d_parser.specs.Tree as tree
-use Rattle.d_parser.specs.Tree.{Tree, Trees, StmtTree}
+use Rattle.d_parser.specs.Tree.{Tree, Trees}
 use Rattle.d_values.specs.declared.int_type.DType.{DType}
 use Rattle.d_values.specs.declared.int_type.DType.TheVariants.{Int, Text}
-use Rattle.d_types.specs.declared.typed.Piece.{Piece}
 use Rattle.d_types.specs.declared.words.Callee.{Callee}
 use Rattle.d_types.specs.declared.words.Callee.TheVariants as f
-use Rattle.d_types.specs.Faults.{Fault, ◌>>=◌, refuse, unless, Undeclared, Mismatch, PrintfArguments}
+use Rattle.d_types.specs.Faults.{Fault, ◌>>=◌, refuse, unless, Mismatch, PrintfArguments}
 use Rattle.d_types.specs.Words.{callee_named}
-use Rattle.d_types.specs.Typed as typed
 use Rattle.d_types.specs.Typed.{Typed, Typeds, end, more, add, type_of, Action, Evaluate, Trace, Print, Exit}
 use Rattle.d_types.specs.Variables.{Rows}
 use Rattle.d_types.specs.Formats.{pieces, fit}
-use Rattle.d_types.specs.Typing.{line_of, only, whole}
+use Rattle.d_types.specs.Typing.{only, whole}
 
--- expressions that are no parts of others, after what is typed of them
+-- expressions that are no parts of others, behind those that are typed
 abbrev pub wholes : Typeds → Rows → Trees → Result (Typeds × Rows) Fault
 wholes done rows tree.end = Ok (done, rows)
 wholes done rows (tree.more a rest) = whole rows a >>= λ x. wholes (add done x.0) x.1 rest

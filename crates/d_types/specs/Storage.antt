@@ -1,7 +1,5 @@
 -- The variables that an expression reads and changes.
 use Rattle.std.specs.Prelude.{ℕ, List, []}
-use Rattle.d_values.specs.declared.int_type.DType.{DType}
-use Rattle.d_values.specs.declared.int_type.DType.TheVariants as ty
 use Rattle.d_values.specs.declared.key.KeyPart.{KeyPart}
 use Rattle.d_values.specs.declared.value.Kind.{Kind}
 use Rattle.d_values.specs.declared.value.Kind.TheVariants as ki
@@ -12,6 +10,7 @@ use Rattle.d_values.specs.Stores.{Locals, Own, local_of, with_local, own_of, wit
 use Rattle.d_types.specs.declared.typed.Space.{Space}
 use Rattle.d_types.specs.declared.typed.Space.TheVariants as sp
 use Rattle.d_types.specs.declared.typed.Variable.{Variable}
+use Rattle.d_types.specs.Variables.{kind_of}
 
 -- ---- values
 
@@ -42,12 +41,8 @@ pub record Variables : Type 0 where
 abbrev pub variables : Locals → Own → Variables
 variables locals own = record { locals = local_of locals; own = own_of own }
 
-abbrev pub kind_held : DType → Kind
-kind_held (ty.Int t) = ki.Number
-kind_held ty.Text = ki.Text
-
 abbrev pub var_of : Variable → Var
-var_of x = record { slot = x.slot; kind = kind_held x.holds }
+var_of x = record { slot = x.slot; kind = kind_of x.holds }
 
 abbrev pub value_in : Space → Variables → Var → List KeyPart → Value
 value_in sp.Thread vars var key = vars.own var key
@@ -63,4 +58,4 @@ set_in sp.Clause vars var key value = record { locals = with_local vars.locals v
 
 -- the variables once one was given a value of its kind at the key
 abbrev pub set : Variables → Variable → List KeyPart → Value → Variables
-set vars x key value = set_in x.space vars (var_of x) key (as_kind (kind_held x.holds) value)
+set vars x key value = set_in x.space vars (var_of x) key (as_kind (kind_of x.holds) value)

@@ -88,7 +88,7 @@ target rows (v.Plain line name) t keys = plain_target line name (built_in name) 
 target rows (v.Thread line name) t keys = slot_for s.Thread line name rows t keys (find s.Thread name rows)
 target rows (v.Clause line name) t keys = slot_for s.Clause line name rows t keys (find s.Clause name rows)
 
--- where a target is kept
+-- where a target is kept (a plain word never is)
 abbrev pub space_of : Variable → Space
 space_of (v.Clause line name) = s.Clause
 space_of x = s.Thread

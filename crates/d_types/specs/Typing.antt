@@ -75,7 +75,7 @@ abbrev pub beside : Rows → Option Typed → Option (Typed × Rows)
 beside rows None = None
 beside rows (Some x) = Some (x, rows)
 
--- what fits the operands' types
+-- a construct whose operands or arguments are of its kinds
 abbrev pub fitting : ℕ → Option (Typed × Rows) → Result (Typed × Rows) Fault
 fitting line x = unless Mismatch line x
 
@@ -109,7 +109,7 @@ abbrev mutual
       exprs end rows keys >>= λ k. target k.1 v (type_at_once (assign_sort op)) k.0 >>= λ s. expr s.1 a >>= λ x.
       fitting (line_of_variable v) (assigned (assign_sort op) (space_of v) (type_at x.1 s.0) (type_of x.0) s.0 k.0 x.0 x.1)
 
-  -- a list, after what is typed of it
+  -- a list, behind those that are typed
   pub exprs : Typeds → Rows → Trees → Result (Typeds × Rows) Fault
   exprs done rows tree.end = Ok (done, rows)
   exprs done rows (tree.more a rest) = expr rows a >>= λ x. exprs (add done x.0) x.1 rest

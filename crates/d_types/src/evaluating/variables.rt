@@ -5,7 +5,8 @@ ghost use Rattle.d_values.specs.Stores.{kind_of, lent_value};
 ghost use Rattle.d_types.specs.Storage as spec;
 
 use crate::typed::{Space, Variable};
-use d_values::{ClauseLocals, DType, Key, Kind, Text, ThreadTable, Value, ValueRef, Var};
+use crate::variables::kind_of;
+use d_values::{ClauseLocals, Key, Kind, Text, ThreadTable, Value, ValueRef, Var};
 use std::alloc::{AllocError, Global};
 
 /// The word of an integer, or 0.
@@ -67,13 +68,9 @@ impl Variable {
     fn var(self) -> Var
         ensures { result ≡ spec.var_of self }
     {
-        let kind = match self.holds {
-            DType::Int(_) => Kind::Number,
-            DType::Text => Kind::Text,
-        };
         Var {
             slot: self.slot,
-            kind,
+            kind: kind_of(self.holds),
         }
     }
 
