@@ -13,15 +13,22 @@ use Rattle.d_parser.specs.Limits.{clauses, is_deep}
 use Rattle.d_parser.specs.Script.{IsScript}
 use Rattle.d_parser.specs.Tree.{ItemTree}
 use Rattle.d_parser.proofs.CompleteScripts.{one_script}
+use Rattle.d_types.specs.declared.fault.TypeFault.{TypeFault}
+use Rattle.d_types.specs.Faults.{Fault}
+use Rattle.d_types.specs.Fitting.{ScriptFits}
+use Rattle.d_types.specs.Scripts as typing
+use Rattle.d_types.specs.Typed.{ScriptMeant}
+use Rattle.d_types.specs.WellTyped.{IsWell}
+use Rattle.d_types.proofs.CompleteScripts.{script_complete}
 use Rattle.report.specs.Output.{Shows}
 use Rattle.report.proofs.Unique.{one_output}
 use Rattle.dreplay.specs.declared.refusal.Refusal.{Refusal}
-use Rattle.dreplay.specs.declared.refusal.Refusal.TheVariants.{Lex, Parse, NotYet, Trace, Memory}
+use Rattle.dreplay.specs.declared.refusal.Refusal.TheVariants.{Lex, Parse, Typing, NotYet, Trace, Memory}
 use Rattle.dreplay.specs.Answer.{IsAnswer, IsNotYet, IsOutput, IsRunning, IsSameAnswer}
 use Rattle.dreplay.specs.Counting.{Script}
 use Rattle.dreplay.specs.Meaning.{counts_over, functions, texts_over}
 use Rattle.dreplay.specs.Runs.{Runs}
-use Rattle.dreplay.specs.Scripts.{HasTree, IsParseFault, IsUnread}
+use Rattle.dreplay.specs.Scripts.{HasTree, IsMistyped, IsParseFault, IsUnread, told}
 use Rattle.dreplay.proofs.OneCounting.{one_counting}
 
 -- ---- one tree
@@ -67,6 +74,7 @@ tree_not_refused script xs (Parse (parse.Syntax line)) a r =
     let tokens = same_tokens script a.tokens r.0 a.has.lexed r.1.lexed in
     r.2 xs (subst (IsScript xs) tokens a.spelled)
 tree_not_refused script xs (Parse parse.Memory) a r = r
+tree_not_refused script xs (Typing f) a r = r
 tree_not_refused script xs NotYet a r = r
 tree_not_refused script xs (Trace f) a r = r
 tree_not_refused script xs Memory a r = r
@@ -108,6 +116,27 @@ same_parse_fault script parse.Memory g a b = absurd a
 lex_is : (f g : LexFault) → f ≡ g → IsSameAnswer (Err (Lex f)) (Err (Lex g))
 lex_is f g e = ap Lex e
 
+-- ---- one first fault of the types
+
+well_not_mistyped : (script : List ℕ) (items : List ItemTree) (m : ScriptMeant) (f : TypeFault) → HasTree script items → IsWell items m → ScriptFits m → ¬ IsMistyped script f
+well_not_mistyped script items m f tree well fits n =
+    let typed = script_complete items m well fits in
+    let refused : typing.script items ≡ Err n.first = subst (λ all. typing.script all ≡ Err n.first) (same_tree script n.items items n.tree tree) n.refused in
+    cc
+
+same_type_fault : (script : List ℕ) (f g : TypeFault) → IsMistyped script f → IsMistyped script g → f ≡ g
+same_type_fault script f g a b =
+    let one = a.refused in
+    let two : typing.script a.items ≡ Err b.first = subst (λ all. typing.script all ≡ Err b.first) (same_tree script b.items a.items b.tree a.tree) b.refused in
+    let first : a.first ≡ b.first = cc in
+    a.is ∙ ap (λ (e : Fault). told e.cause e.line) first ∙ sym b.is
+
+running_not_mistyped : (script : List ℕ) (s : Script) (f : TypeFault) → IsRunning script s → ¬ IsMistyped script f
+running_not_mistyped script s f a n = well_not_mistyped script a.items a.meaning f a.tree a.well a.fits n
+
+not_yet_not_mistyped : (script : List ℕ) (f : TypeFault) → IsNotYet script → ¬ IsMistyped script f
+not_yet_not_mistyped script f a n = well_not_mistyped script a.items a.meaning f a.tree a.well a.fits n
+
 -- ---- one run
 
 same_counting : (script : List ℕ) (s t : Script) → IsRunning script s → IsRunning script t → s ≡ t
@@ -140,30 +169,42 @@ pub one_answer : (script trace : List ℕ) (a b : Result (List ℕ) Refusal) →
 one_answer script trace (Ok x) (Ok y) o p = same_output script trace x y o p
 one_answer script trace (Ok x) (Err (Lex f)) o p = absurd (tree_not_refused script o.running.items (Lex f) o.running.tree p)
 one_answer script trace (Ok x) (Err (Parse f)) o p = absurd (tree_not_refused script o.running.items (Parse f) o.running.tree p)
+one_answer script trace (Ok x) (Err (Typing f)) o p = absurd (running_not_mistyped script o.counting f o.running p)
 one_answer script trace (Ok x) (Err NotYet) o p = absurd (not_both_ways script o.counting o.running p)
 one_answer script trace (Ok x) (Err (Trace g)) o p = let read = o.reads in let refused = p.refused in cc
 one_answer script trace (Ok x) (Err Memory) o p = absurd p
 one_answer script trace (Err (Lex f)) (Ok y) o p = absurd (tree_not_refused script p.running.items (Lex f) p.running.tree o)
 one_answer script trace (Err (Lex f)) (Err (Lex g)) o p = lex_is f g (same_lex_fault script f g o p)
 one_answer script trace (Err (Lex f)) (Err (Parse g)) o p = let l = lexed_in script g p in absurd (lexed_not_refused script l.0 f l.1 o)
+one_answer script trace (Err (Lex f)) (Err (Typing g)) o p = absurd (tree_not_refused script p.items (Lex f) p.tree o)
 one_answer script trace (Err (Lex f)) (Err NotYet) o p = absurd (tree_not_refused script p.items (Lex f) p.tree o)
 one_answer script trace (Err (Lex f)) (Err (Trace g)) o p = absurd (tree_not_refused script p.running.items (Lex f) p.running.tree o)
 one_answer script trace (Err (Lex f)) (Err Memory) o p = absurd p
 one_answer script trace (Err (Parse f)) (Ok y) o p = absurd (tree_not_refused script p.running.items (Parse f) p.running.tree o)
 one_answer script trace (Err (Parse f)) (Err (Lex g)) o p = let l = lexed_in script f o in absurd (lexed_not_refused script l.0 g l.1 p)
 one_answer script trace (Err (Parse f)) (Err (Parse g)) o p = same_parse_fault script f g o p
+one_answer script trace (Err (Parse f)) (Err (Typing g)) o p = absurd (tree_not_refused script p.items (Parse f) p.tree o)
 one_answer script trace (Err (Parse f)) (Err NotYet) o p = absurd (tree_not_refused script p.items (Parse f) p.tree o)
 one_answer script trace (Err (Parse f)) (Err (Trace g)) o p = absurd (tree_not_refused script p.running.items (Parse f) p.running.tree o)
 one_answer script trace (Err (Parse f)) (Err Memory) o p = absurd p
+one_answer script trace (Err (Typing f)) (Ok y) o p = absurd (running_not_mistyped script p.counting f p.running o)
+one_answer script trace (Err (Typing f)) (Err (Lex g)) o p = absurd (tree_not_refused script o.items (Lex g) o.tree p)
+one_answer script trace (Err (Typing f)) (Err (Parse g)) o p = absurd (tree_not_refused script o.items (Parse g) o.tree p)
+one_answer script trace (Err (Typing f)) (Err (Typing g)) o p = ap Typing (same_type_fault script f g o p)
+one_answer script trace (Err (Typing f)) (Err NotYet) o p = absurd (not_yet_not_mistyped script f p o)
+one_answer script trace (Err (Typing f)) (Err (Trace g)) o p = absurd (running_not_mistyped script p.counting f p.running o)
+one_answer script trace (Err (Typing f)) (Err Memory) o p = absurd p
 one_answer script trace (Err NotYet) (Ok y) o p = absurd (not_both_ways script p.counting p.running o)
 one_answer script trace (Err NotYet) (Err (Lex g)) o p = absurd (tree_not_refused script o.items (Lex g) o.tree p)
 one_answer script trace (Err NotYet) (Err (Parse g)) o p = absurd (tree_not_refused script o.items (Parse g) o.tree p)
+one_answer script trace (Err NotYet) (Err (Typing g)) o p = absurd (not_yet_not_mistyped script g o p)
 one_answer script trace (Err NotYet) (Err NotYet) o p = refl
 one_answer script trace (Err NotYet) (Err (Trace g)) o p = absurd (not_both_ways script p.counting p.running o)
 one_answer script trace (Err NotYet) (Err Memory) o p = absurd p
 one_answer script trace (Err (Trace f)) (Ok y) o p = let refused = o.refused in let read = p.reads in cc
 one_answer script trace (Err (Trace f)) (Err (Lex g)) o p = absurd (tree_not_refused script o.running.items (Lex g) o.running.tree p)
 one_answer script trace (Err (Trace f)) (Err (Parse g)) o p = absurd (tree_not_refused script o.running.items (Parse g) o.running.tree p)
+one_answer script trace (Err (Trace f)) (Err (Typing g)) o p = absurd (running_not_mistyped script o.counting g o.running p)
 one_answer script trace (Err (Trace f)) (Err NotYet) o p = absurd (not_both_ways script o.counting o.running p)
 one_answer script trace (Err (Trace f)) (Err (Trace g)) o p =
     let refused = o.refused in

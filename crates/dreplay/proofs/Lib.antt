@@ -1,4 +1,5 @@
 pub mod Adding
+pub mod Answering
 pub mod Answers
 pub mod CommandLine
 pub mod Counted
@@ -10,6 +11,7 @@ pub mod Naming
 pub mod OneCounting
 pub mod PatternTests
 pub mod Places
+pub mod RunsTyped
 pub mod Sizes
 pub mod Stars
 pub mod Zips

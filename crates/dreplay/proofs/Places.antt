@@ -71,7 +71,7 @@ pub counting_is : (shapes : List code.Shape) (name : List ℕ) (xs : List Expr) 
 counting_is shapes name xs agg d ys place lt many few keys =
     let long = keys_long xs ys keys in
     let one = position-Some (λ s. is_named name (shape_of s)) shapes agg d place in
-    let named : (get_or shapes agg d).name.now ≡ name = (bytes_eq-Decides (get_or shapes agg d).name.now name).0 one.1 in
+    let named : (get_or shapes agg d).name ≡ name = (bytes_eq-Decides (get_or shapes agg d).name name).0 one.1 in
     record {
       texts = keys;
       few = omega arith;
@@ -106,13 +106,14 @@ map_end : (xs : List code.Shape) (x : code.Shape) → map shape_of (xs ++ x ∷ 
 map_end [] x = refl
 map_end (y ∷ xs) x = ap (λ l. shape_of y ∷ l) (map_end xs x)
 
-pub note_new : (all new : List code.Shape) (next : code.Shape) (b : Bool) → b ≡ list_any (λ s. is_named next.name.now (shape_of s)) all → b ≡ false → new ≡ all ++ next ∷ []
-    → map shape_of new ≡ noted (map shape_of all) (shape_of next)
-note_new all new next b is other pushed =
+pub note_new : (all new : List code.Shape) (next : code.Shape) (name : List ℕ) (keys : ℕ) (b : Bool) → b ≡ list_any (λ s. is_named name (shape_of s)) all → b ≡ false
+    → next.name ≡ name → next.keys ≡ keys → new ≡ all ++ next ∷ [] → map shape_of new ≡ noted (map shape_of all) (shape name keys)
+note_new all new next name keys b is other named as_many pushed =
     ap (map shape_of) pushed ∙ map_end all next
-    ∙ sym (ap (λ c. cond c (map shape_of all) (map shape_of all ++ shape_of next ∷ [])) (any_map (is_named next.name.now) shape_of all ∙ sym is ∙ other))
+    ∙ ap (λ s. map shape_of all ++ s ∷ []) (ap (λ n. shape n next.keys) named ∙ ap (shape name) as_many)
+    ∙ sym (ap (λ c. cond c (map shape_of all) (map shape_of all ++ shape name keys ∷ [])) (any_map (is_named name) shape_of all ∙ sym is ∙ other))
 
-pub note_old : (all : List code.Shape) (next : code.Shape) (b : Bool) → b ≡ list_any (λ s. is_named next.name.now (shape_of s)) all → b ≡ true
-    → map shape_of all ≡ noted (map shape_of all) (shape_of next)
-note_old all next b is known =
-    sym (ap (λ c. cond c (map shape_of all) (map shape_of all ++ shape_of next ∷ [])) (any_map (is_named next.name.now) shape_of all ∙ sym is ∙ known))
+pub note_old : (all : List code.Shape) (name : List ℕ) (keys : ℕ) (b : Bool) → b ≡ list_any (λ s. is_named name (shape_of s)) all → b ≡ true
+    → map shape_of all ≡ noted (map shape_of all) (shape name keys)
+note_old all name keys b is known =
+    sym (ap (λ c. cond c (map shape_of all) (map shape_of all ++ shape name keys ∷ [])) (any_map (is_named name) shape_of all ∙ sym is ∙ known))

@@ -5,13 +5,14 @@ use Rattle.std.specs.List.{AllZip}
 use Rattle.std.proofs.lemmas.List.{take_all, take_more}
 use Rattle.std.proofs.lemmas.Slice.Zip.{all_zipped_more}
 use Rattle.dreplay.specs.declared.refusal.Refusal.{Refusal}
-use Rattle.dreplay.specs.declared.refusal.Refusal.TheVariants.{Lex, Parse, NotYet, Trace, Memory}
+use Rattle.dreplay.specs.declared.refusal.Refusal.TheVariants.{Lex, Parse, Typing, NotYet, Trace, Memory}
 use Rattle.dreplay.specs.Reading.{Reads}
 
 -- a part's refusal is that of the whole, where the whole is read only with the part
 pub passes_on : {X Y V W : Type 0} (view : X → Y) (other : V → W) (P : Y → Type 0) (Q : W → Type 0) (e : Refusal) → (((y : Y) → ¬ P y) → (w : W) → ¬ Q w) → Reads view (Err e) P → Reads other (Err e) Q
 passes_on view other P Q (Lex f) none h = h
 passes_on view other P Q (Parse f) none h = h
+passes_on view other P Q (Typing f) none h = h
 passes_on view other P Q NotYet none h = none h
 passes_on view other P Q (Trace f) none h = h
 passes_on view other P Q Memory none h = tt

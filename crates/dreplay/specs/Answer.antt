@@ -6,12 +6,15 @@ use Rattle.firing_reader.specs.declared.fault.TraceFault.{TraceFault}
 use Rattle.firing_reader.specs.Trace.{trace_of}
 use Rattle.d_parser.specs.declared.fault.ParseFault.TheVariants.{Syntax}
 use Rattle.d_parser.specs.Tree.{ItemTree}
+use Rattle.d_types.specs.Fitting.{ScriptFits}
+use Rattle.d_types.specs.Typed.{ScriptMeant}
+use Rattle.d_types.specs.WellTyped.{IsWell}
 use Rattle.report.specs.Output.{Shows}
 use Rattle.dreplay.specs.declared.refusal.Refusal.{Refusal}
-use Rattle.dreplay.specs.declared.refusal.Refusal.TheVariants.{Lex, Parse, NotYet, Trace, Memory}
+use Rattle.dreplay.specs.declared.refusal.Refusal.TheVariants.{Lex, Parse, Typing, NotYet, Trace, Memory}
 use Rattle.dreplay.specs.Counting.{Script}
 use Rattle.dreplay.specs.Runs.{Runs}
-use Rattle.dreplay.specs.Scripts.{HasTree, IsUnread}
+use Rattle.dreplay.specs.Scripts.{HasTree, IsMistyped, IsUnread}
 use Rattle.dreplay.specs.Meaning.{counts_over, functions, texts_over}
 
 -- the bytes show the run of the script: its texts in the order of the firings, then its aggregations
@@ -20,10 +23,13 @@ pub record IsShown (s : Script) (firings : List Firing) (bytes : List ℕ) : Typ
   pub aggregations : Shows (functions s) (counts_over s firings) tables
   pub joined : bytes ≡ flat_map (λ text. text.1) (texts_over s firings) ++ tables
 
--- the script runs, and this is what it counts
+-- the script is well typed and runs, and this is what it counts
 pub record IsRunning (script : List ℕ) (s : Script) : Type 0 where
   pub items : List ItemTree
   pub tree : HasTree script items
+  pub meaning : ScriptMeant
+  pub well : IsWell items meaning
+  pub fits : ScriptFits meaning
   pub runs : Runs items s
 
 -- these bytes are the output of the script over the trace
@@ -34,10 +40,13 @@ pub record IsOutput (script trace bytes : List ℕ) : Type 0 where
   pub reads : trace_of trace ≡ Ok firings
   pub shown : IsShown counting firings bytes
 
--- the script has a tree and doesn't run
+-- the script is well typed and doesn't run
 pub record IsNotYet (script : List ℕ) : Type 0 where
   pub items : List ItemTree
   pub tree : HasTree script items
+  pub meaning : ScriptMeant
+  pub well : IsWell items meaning
+  pub fits : ScriptFits meaning
   pub runs_not : (s : Script) → ¬ Runs items s
 
 -- the script runs, and this is the trace's first fault
@@ -46,11 +55,12 @@ pub record IsTraceRefused (script trace : List ℕ) (fault : TraceFault) : Type 
   pub running : IsRunning script counting
   pub refused : trace_of trace ≡ Err fault
 
--- the bytes, or the first refusal: the script's before the trace's. The line of a script that has no tree may be any
+-- the bytes, or the first refusal: why the script has no tokens, no tree or no types, that it doesn't run, the trace's. The line of a script that has no tree may be any
 abbrev pub IsAnswer : (script trace : List ℕ) → Result (List ℕ) Refusal → Type 0
 IsAnswer script trace (Ok bytes) = IsOutput script trace bytes
 IsAnswer script trace (Err (Lex fault)) = IsUnread script (Lex fault)
 IsAnswer script trace (Err (Parse fault)) = IsUnread script (Parse fault)
+IsAnswer script trace (Err (Typing fault)) = IsMistyped script fault
 IsAnswer script trace (Err NotYet) = IsNotYet script
 IsAnswer script trace (Err (Trace fault)) = IsTraceRefused script trace fault
 IsAnswer script trace (Err Memory) = ⊥

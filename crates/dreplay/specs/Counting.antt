@@ -35,10 +35,10 @@ abbrev pub statement_of : CountingStatement → Statement
 statement_of s = record { agg = s.agg; keys = s.keys.items }
 
 abbrev pub clause_of : CountingClause → Clause
-clause_of c = record { descriptions = c.descriptions.now; statements = map statement_of c.statements.items }
+clause_of c = record { descriptions = c.descriptions.items; statements = map statement_of c.statements.items }
 
 abbrev pub shape_of : code.Shape → Shape
-shape_of a = record { name = a.name.now; keys = a.keys }
+shape_of a = record { name = a.name; keys = a.keys }
 
 abbrev pub script_of : CountingScript → Script
 script_of s = record { clauses = map clause_of s.clauses.items; aggregations = map shape_of s.aggregations.items }

@@ -4,10 +4,12 @@ use Rattle.d_lexer.specs.declared.fault.LexFault.{LexFault}
 use Rattle.d_lexer.specs.declared.fault.LexFault.TheVariants as lex
 use Rattle.d_parser.specs.declared.fault.ParseFault.{ParseFault}
 use Rattle.d_parser.specs.declared.fault.ParseFault.TheVariants as parse
+use Rattle.d_types.specs.declared.fault.TypeFault.{TypeFault}
+use Rattle.d_types.specs.declared.fault.TypeFault.TheVariants as types
 use Rattle.firing_reader.specs.declared.fault.TraceFault.{TraceFault}
 use Rattle.firing_reader.specs.declared.fault.TraceFault.TheVariants as fault
 use Rattle.dreplay.specs.declared.refusal.Refusal.{Refusal}
-use Rattle.dreplay.specs.declared.refusal.Refusal.TheVariants.{Lex, Parse, NotYet, Trace, Memory}
+use Rattle.dreplay.specs.declared.refusal.Refusal.TheVariants.{Lex, Parse, Typing, NotYet, Trace, Memory}
 
 -- ---- a part's fault as a refusal: want of memory is the same for each
 
@@ -18,6 +20,10 @@ of_lex f = Lex f
 abbrev pub of_parse : ParseFault → Refusal
 of_parse parse.Memory = Memory
 of_parse f = Parse f
+
+abbrev pub of_type : TypeFault → Refusal
+of_type types.Memory = Memory
+of_type f = Typing f
 
 abbrev pub of_trace : TraceFault → Refusal
 of_trace fault.Memory = Memory
@@ -50,6 +56,18 @@ parse_parts parse.TooDeep = codes "2"
 parse_parts parse.TooManyClauses = codes "3"
 parse_parts parse.Memory = codes "4"
 
+abbrev pub type_parts : TypeFault → List ℕ
+type_parts (types.GlobalAssignment name line) = codes "1" ++ line_part line
+type_parts (types.Undeclared line) = codes "2" ++ line_part line
+type_parts (types.Mismatch line) = codes "3" ++ line_part line
+type_parts (types.Keys line) = codes "4" ++ line_part line
+type_parts (types.AggregationRedefined line) = codes "5" ++ line_part line
+type_parts (types.LquantizeBounds line) = codes "6" ++ line_part line
+type_parts (types.PrintfArguments line) = codes "7" ++ line_part line
+type_parts (types.ReadOnly line) = codes "8" ++ line_part line
+type_parts (types.NoRegister line) = codes "9" ++ line_part line
+type_parts types.Memory = codes "10"
+
 abbrev pub trace_parts : TraceFault → List ℕ
 trace_parts fault.Header = codes "1"
 trace_parts (fault.Columns row) = codes "2" ++ row_part row
@@ -65,6 +83,8 @@ line_of (Lex lex.Memory) = codes "dreplay: out of memory"
 line_of (Lex f) = codes "dreplay: script refused: Lex " ++ lex_parts f
 line_of (Parse parse.Memory) = codes "dreplay: out of memory"
 line_of (Parse f) = codes "dreplay: script refused: Parse " ++ parse_parts f
+line_of (Typing types.Memory) = codes "dreplay: out of memory"
+line_of (Typing f) = codes "dreplay: script refused: Type " ++ type_parts f
 line_of NotYet = codes "dreplay: script refused: not yet"
 line_of (Trace fault.Memory) = codes "dreplay: out of memory"
 line_of (Trace f) = codes "dreplay: trace refused: Trace " ++ trace_parts f
@@ -73,9 +93,11 @@ line_of Memory = codes "dreplay: out of memory"
 abbrev pub status_of : Refusal → ℕ
 status_of (Lex lex.Memory) = 1
 status_of (Parse parse.Memory) = 1
+status_of (Typing types.Memory) = 1
 status_of (Trace fault.Memory) = 1
 status_of Memory = 1
 status_of (Lex f) = 3
 status_of (Parse f) = 3
+status_of (Typing f) = 3
 status_of NotYet = 3
 status_of (Trace f) = 4

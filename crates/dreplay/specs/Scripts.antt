@@ -1,5 +1,5 @@
--- From the bytes of a script to its tree, or why it has none.
-use Rattle.std.specs.Prelude.{◌≡◌, ◌≤◌, ◌<◌, ℕ, true, false, List}
+-- From the bytes of a script to its tree and its types, or why it has none.
+use Rattle.std.specs.Prelude.{◌≡◌, ◌≤◌, ◌<◌, ℕ, true, false, List, Err}
 use Rattle.d_lexer.specs.declared.token.Token.{Token}
 use Rattle.d_lexer.specs.Lexing.{IsLexed, IsRefused}
 use Rattle.d_parser.specs.declared.fault.ParseFault.{ParseFault}
@@ -7,6 +7,11 @@ use Rattle.d_parser.specs.declared.fault.ParseFault.TheVariants as fault
 use Rattle.d_parser.specs.Limits.{is_deep, clauses}
 use Rattle.d_parser.specs.Tree.{ItemTree}
 use Rattle.d_parser.specs.Script.{IsScript}
+use Rattle.d_types.specs.declared.fault.TypeFault.{TypeFault}
+use Rattle.d_types.specs.declared.fault.TypeFault.TheVariants as types
+use Rattle.d_types.specs.Faults as cause
+use Rattle.d_types.specs.Faults.{Cause, Fault}
+use Rattle.d_types.specs.Scripts as typing
 use Rattle.dreplay.specs.declared.refusal.Refusal.{Refusal}
 use Rattle.dreplay.specs.declared.refusal.Refusal.TheVariants.{Lex, Parse}
 
@@ -34,3 +39,25 @@ abbrev pub IsUnread : List ℕ → Refusal → Type 0
 IsUnread script (Lex f) = IsRefused script f
 IsUnread script (Parse f) = IsParseFault script f
 IsUnread script e = ⊥
+
+-- ---- its types
+
+-- a cause and its line, as they are told
+abbrev pub told : Cause → ℕ → TypeFault
+told (cause.GlobalAssignment name) line = types.GlobalAssignment name line
+told cause.Undeclared line = types.Undeclared line
+told cause.Mismatch line = types.Mismatch line
+told cause.Keys line = types.Keys line
+told cause.AggregationRedefined line = types.AggregationRedefined line
+told cause.LquantizeBounds line = types.LquantizeBounds line
+told cause.PrintfArguments line = types.PrintfArguments line
+told cause.ReadOnly line = types.ReadOnly line
+told cause.NoRegister line = types.NoRegister line
+
+-- the script has a tree, and this is the first fault of its types
+pub record IsMistyped (script : List ℕ) (fault : TypeFault) : Type 0 where
+  pub items : List ItemTree
+  pub tree : HasTree script items
+  pub first : Fault
+  pub refused : typing.script items ≡ Err first
+  pub is : fault ≡ told first.cause first.line

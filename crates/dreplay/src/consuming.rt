@@ -17,7 +17,7 @@ use std::alloc::Global;
 use thiserror::Error;
 
 /// Why a bundle's answer was not written.
-#[derive(Clone, Copy, Debug, PartialEq, Eq, Error)]
+#[derive(Debug, Drop, Error)]
 pub enum ConsumeFault {
     /// The reader failed, or had not ended after 2^32 calls. Nothing was written.
     #[error("read failed")]

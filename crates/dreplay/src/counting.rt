@@ -1,19 +1,20 @@
 //! Scripts that count firings by their texts: the ones that run today.
 
 use crate::texts::FiringText;
+use d_lexer::ByteString;
 use d_parser::Description;
 
 /// A script that counts: its clauses, and its aggregations in order of first appearance.
 #[derive(Drop)]
-pub struct CountingScript<'a> {
-    pub clauses: Vec<CountingClause<'a>>,
-    pub aggregations: Vec<Shape<'a>>,
+pub struct CountingScript {
+    pub clauses: Vec<CountingClause>,
+    pub aggregations: Vec<Shape>,
 }
 
 /// A clause that counts the firings that its descriptions match.
 #[derive(Drop)]
-pub struct CountingClause<'a> {
-    pub descriptions: &'a [Description],
+pub struct CountingClause {
+    pub descriptions: Vec<Description>,
     pub statements: Vec<CountingStatement>,
 }
 
@@ -26,8 +27,8 @@ pub struct CountingStatement {
 }
 
 /// An aggregation's name, and its number of keys.
-#[derive(Clone, Copy, Debug)]
-pub struct Shape<'a> {
-    pub name: &'a [u8],
+#[derive(Debug, Drop)]
+pub struct Shape {
+    pub name: ByteString,
     pub keys: usize,
 }

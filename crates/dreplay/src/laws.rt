@@ -13,6 +13,9 @@ ghost use Rattle.dreplay.specs.Runs as counting;
 ghost use Rattle.dreplay.specs.Words.{AsksHelp, Mistakes, Runs, file_in, program};
 ghost use Rattle.d_parser.specs.declared.tree.Description.{Description};
 ghost use Rattle.d_parser.specs.Tree.{ItemTree};
+ghost use Rattle.d_types.specs.Fitting.{ScriptFits};
+ghost use Rattle.d_types.specs.Typed.{ScriptMeant};
+ghost use Rattle.d_types.specs.WellTyped.{IsWell};
 ghost use Rattle.firing_reader.specs.declared.firing.Firing.{Firing};
 
 /// A bundle is divided in one way.
@@ -29,6 +32,11 @@ pub fn selected_is_matched()
 /// A script that runs counts in one way.
 pub fn one_counting()
     ensures { (items : List ItemTree) (s t : Script) → counting.Runs items s → counting.Runs items t → s ≡ t }
+{}
+
+/// A script that runs is well typed, and needs six registers at most.
+pub fn counting_is_well_typed()
+    ensures { (items : List ItemTree) (s : Script) → counting.Runs items s → (m : ScriptMeant) × IsWell items m × ScriptFits m }
 {}
 
 /// A script and a trace have one answer at most: bytes or a refusal, whose line is no part of it where there is no tree.

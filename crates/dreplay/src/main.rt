@@ -9,6 +9,7 @@ mod bundle;
 mod bytes;
 mod consuming;
 mod counting;
+mod descriptions;
 pub mod laws;
 mod matching;
 mod plan;

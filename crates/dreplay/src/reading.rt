@@ -9,6 +9,7 @@ ghost use Rattle.dreplay.specs.Reading.{Reads};
 ghost use Rattle.dreplay.specs.Runs.{AreKeys, IsCounting, IsCountingClause, IsItem, IsKey, IsStatement, Runs, is_named};
 
 use crate::counting::{CountingClause, CountingScript, CountingStatement, Shape};
+use crate::descriptions::descriptions;
 use crate::refusal::Refusal;
 use crate::shapes::shapes;
 use crate::texts::FiringText;
@@ -18,7 +19,7 @@ use std::alloc::Global;
 const MOST_KEYS: usize = 8;
 
 /// What a script counts, or `NotYet` where it doesn't run today.
-pub fn counting_script<'a>(alloc: Global, script: &'a Script) -> Result<CountingScript<'a>, Refusal>
+pub fn counting_script(alloc: Global, script: &Script) -> Result<CountingScript, Refusal>
     ensures { Reads script_of result (Runs (tree.script_of script.now)) }
 {
     let aggregations = shapes(alloc, &script.items)?;
@@ -29,11 +30,11 @@ pub fn counting_script<'a>(alloc: Global, script: &'a Script) -> Result<Counting
     })
 }
 
-fn clauses<'a>(
+fn clauses(
     alloc: Global,
-    aggregations: &[Shape<'_>],
-    items: &'a [Item],
-) -> Result<Vec<CountingClause<'a>>, Refusal>
+    aggregations: &[Shape],
+    items: &[Item],
+) -> Result<Vec<CountingClause>, Refusal>
     ensures { Reads (λ v. map clause_of v.items) result (AllZip (IsItem (map shape_of aggregations.now)) (map item_of items.now)) }
 {
     let mut all = Vec::new(alloc);
@@ -44,11 +45,7 @@ fn clauses<'a>(
     Ok(all)
 }
 
-fn clause<'a>(
-    alloc: Global,
-    aggregations: &[Shape<'_>],
-    item: &'a Item,
-) -> Result<CountingClause<'a>, Refusal>
+fn clause(alloc: Global, aggregations: &[Shape], item: &Item) -> Result<CountingClause, Refusal>
     ensures { Reads clause_of result (IsItem (map shape_of aggregations.now) (item_of item.now)) }
 {
     match item {
@@ -57,26 +54,27 @@ fn clause<'a>(
     }
 }
 
-fn counting_clause<'a>(
+fn counting_clause(
     alloc: Global,
-    aggregations: &[Shape<'_>],
-    clause: &'a Clause,
-) -> Result<CountingClause<'a>, Refusal>
+    aggregations: &[Shape],
+    clause: &Clause,
+) -> Result<CountingClause, Refusal>
     ensures { Reads clause_of result (IsCountingClause (map shape_of aggregations.now) (tree.clause_of clause.now)) }
 {
     if clause.predicate.is_some() {
         return Err(Refusal::NotYet);
     }
     let statements = statements(alloc, aggregations, &clause.statements)?;
+    let descriptions = descriptions(alloc, &clause.descriptions)?;
     Ok(CountingClause {
-        descriptions: &clause.descriptions,
+        descriptions,
         statements,
     })
 }
 
 fn statements(
     alloc: Global,
-    aggregations: &[Shape<'_>],
+    aggregations: &[Shape],
     trees: &[Stmt],
 ) -> Result<Vec<CountingStatement>, Refusal>
     ensures { Reads (λ v. map statement_of v.items) result (AllZip (IsStatement (map shape_of aggregations.now)) (map stmt_of trees.now)) }
@@ -91,7 +89,7 @@ fn statements(
 
 fn statement(
     alloc: Global,
-    aggregations: &[Shape<'_>],
+    aggregations: &[Shape],
     tree: &Stmt,
 ) -> Result<CountingStatement, Refusal>
     ensures { Reads statement_of result (IsStatement (map shape_of aggregations.now) (stmt_of tree.now)) }
@@ -118,7 +116,7 @@ fn statement(
 
 fn counting(
     alloc: Global,
-    aggregations: &[Shape<'_>],
+    aggregations: &[Shape],
     name: &[u8],
     keys: &[Expr],
 ) -> Result<CountingStatement, Refusal>
@@ -138,11 +136,13 @@ fn counting(
 }
 
 // The place of the aggregation with this name.
-fn place_of(aggregations: &[Shape<'_>], name: &[u8]) -> Option<usize>
+fn place_of(aggregations: &[Shape], name: &[u8]) -> Option<usize>
     ensures value { result ≡ position (λ s. is_named name.now (shape_of s)) aggregations.now }
     ensures bound { IfSome result (λ agg. agg < length aggregations.now) }
 {
-    aggregations.iter().position(|shape| shape.name == name)
+    aggregations
+        .iter()
+        .position(|shape| shape.name.as_slice() == name)
 }
 
 fn texts(alloc: Global, keys: &[Expr]) -> Result<Vec<FiringText>, Refusal>

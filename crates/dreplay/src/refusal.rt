@@ -2,16 +2,17 @@
 
 ghost use Rattle.std.specs.Prelude.{◌≡◌, IfOk, string_bytes};
 ghost use Rattle.dreplay.specs.declared.refusal.Refusal.TheVariants.{Memory};
-ghost use Rattle.dreplay.specs.Refusals.{line_of, of_lex, of_parse, of_trace, status_of};
+ghost use Rattle.dreplay.specs.Refusals.{line_of, of_lex, of_parse, of_trace, of_type, status_of};
 
 use d_lexer::LexFault;
 use d_parser::ParseFault;
+use d_types::TypeFault;
 use firing_reader::TraceFault;
 use std::alloc::{AllocError, AllocFailed, Global};
 use thiserror::Error;
 
 /// The first reason for which a script over a trace has no answer. The script is looked at before the trace.
-#[derive(Clone, Copy, Debug, PartialEq, Eq, Error)]
+#[derive(Debug, Drop, Error)]
 pub enum Refusal {
     /// Why the script has no tokens.
     #[error("{0}")]
@@ -19,7 +20,10 @@ pub enum Refusal {
     /// Why its tokens have no tree.
     #[error("{0}")]
     Parse(ParseFault),
-    /// A script that does not run yet.
+    /// The first fault of its types.
+    #[error("{0}")]
+    Typing(TypeFault),
+    /// A well-typed script that does not run yet.
     #[error("the script does not run yet")]
     NotYet,
     /// The trace's first fault.
@@ -68,6 +72,17 @@ impl From<ParseFault> for Refusal {
     }
 }
 
+impl From<TypeFault> for Refusal {
+    ghost from_gives = { λ fault e. e ≡ of_type fault };
+
+    fn from(fault: TypeFault) -> Refusal {
+        match fault {
+            TypeFault::Memory => Refusal::Memory,
+            _ => Refusal::Typing(fault),
+        }
+    }
+}
+
 impl From<TraceFault> for Refusal {
     ghost from_gives = { λ fault e. e ≡ of_trace fault };
 
@@ -86,6 +101,7 @@ pub fn refusal_text(alloc: Global, refusal: &Refusal) -> Result<String, AllocErr
     match refusal {
         Refusal::Lex(fault) => lex_text(alloc, *fault),
         Refusal::Parse(fault) => parse_text(alloc, *fault),
+        Refusal::Typing(fault) => type_text(alloc, fault),
         Refusal::NotYet => String::from_str(alloc, "dreplay: script refused: not yet"),
         Refusal::Trace(fault) => trace_text(alloc, *fault),
         Refusal::Memory => String::from_str(alloc, "dreplay: out of memory"),
@@ -129,6 +145,41 @@ fn parse_text(alloc: Global, fault: ParseFault) -> Result<String, AllocError>
     }
 }
 
+fn type_text(alloc: Global, fault: &TypeFault) -> Result<String, AllocError>
+    ensures { IfOk result (λ text. string_bytes text ≡ line_of (Refusal.Typing fault.now)) }
+{
+    match fault {
+        TypeFault::GlobalAssignment { line, .. } => {
+            format!(in alloc; "dreplay: script refused: Type 1 line {line}")
+        }
+        TypeFault::Undeclared { line } => {
+            format!(in alloc; "dreplay: script refused: Type 2 line {line}")
+        }
+        TypeFault::Mismatch { line } => {
+            format!(in alloc; "dreplay: script refused: Type 3 line {line}")
+        }
+        TypeFault::Keys { line } => {
+            format!(in alloc; "dreplay: script refused: Type 4 line {line}")
+        }
+        TypeFault::AggregationRedefined { line } => {
+            format!(in alloc; "dreplay: script refused: Type 5 line {line}")
+        }
+        TypeFault::LquantizeBounds { line } => {
+            format!(in alloc; "dreplay: script refused: Type 6 line {line}")
+        }
+        TypeFault::PrintfArguments { line } => {
+            format!(in alloc; "dreplay: script refused: Type 7 line {line}")
+        }
+        TypeFault::ReadOnly { line } => {
+            format!(in alloc; "dreplay: script refused: Type 8 line {line}")
+        }
+        TypeFault::NoRegister { line } => {
+            format!(in alloc; "dreplay: script refused: Type 9 line {line}")
+        }
+        TypeFault::Memory => String::from_str(alloc, "dreplay: out of memory"),
+    }
+}
+
 // A trace's fault has a row, and perhaps a column.
 fn trace_text(alloc: Global, fault: TraceFault) -> Result<String, AllocError>
     ensures { IfOk result (λ text. string_bytes text ≡ line_of (Refusal.Trace fault)) }
@@ -162,9 +213,10 @@ pub fn refusal_status(refusal: &Refusal) -> u8
     match refusal {
         Refusal::Lex(LexFault::Memory)
         | Refusal::Parse(ParseFault::Memory)
+        | Refusal::Typing(TypeFault::Memory)
         | Refusal::Trace(TraceFault::Memory)
         | Refusal::Memory => 1,
-        Refusal::Lex(_) | Refusal::Parse(_) | Refusal::NotYet => 3,
+        Refusal::Lex(_) | Refusal::Parse(_) | Refusal::Typing(_) | Refusal::NotYet => 3,
         Refusal::Trace(_) => 4,
     }
 }

@@ -15,11 +15,12 @@ use crate::reading::counting_script;
 use crate::refusal::Refusal;
 use crate::running::count_firings;
 use crate::scripts::read_script;
+use d_types::check;
 use firing_reader::{Firing, Trace, read_trace};
 use report::render;
 use std::alloc::{AllocError, Global};
 
-/// Runs a script over a trace. The script is refused before the trace.
+/// Runs a script over a trace. The script is refused before the trace, and for its types before it is one that doesn't run yet.
 pub fn replay(alloc: Global, script: &[u8], trace: &[u8], plan: &Plan) -> Result<Replayed, Refusal>
     requires { IsSerial plan.now }
     ensures answer { MatchResult result (λ r. IsAnswer script.now trace.now (Ok r.bytes.items))
@@ -27,13 +28,16 @@ pub fn replay(alloc: Global, script: &[u8], trace: &[u8], plan: &Plan) -> Result
     ensures serial { IfOk result (RanSerially trace.now) }
 {
     let tree = read_script(alloc, script)?;
-    let counting = counting_script(alloc, &tree)?;
+    let counting = counting_script(alloc, &tree);
+    // The tree ends here, and a fault of its types comes before what doesn't run yet.
+    check(alloc, tree)?;
+    let counting = counting?;
     let trace = read_trace(alloc, trace)?;
     Ok(run(alloc, &counting, &trace)?)
 }
 
 // Runs a counting script over a trace.
-fn run(alloc: Global, script: &CountingScript<'_>, trace: &Trace) -> Result<Replayed, AllocError>
+fn run(alloc: Global, script: &CountingScript, trace: &Trace) -> Result<Replayed, AllocError>
     requires can { CanRunScript script.now }
     requires room { (firings : List Firing) → length firings ≤ 1_000_000
         → length (counts_over (script_of script.now) firings) ≤ 2 ^ 52 }

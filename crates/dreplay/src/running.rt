@@ -19,7 +19,7 @@ use std::alloc::{AllocError, Global};
 /// Runs the clauses for each firing.
 pub fn count_firings(
     alloc: Global,
-    script: &CountingScript<'_>,
+    script: &CountingScript,
     firings: &[Firing],
 ) -> Result<AggTable, AllocError>
     requires can { CanRunScript script.now }
@@ -35,7 +35,7 @@ pub fn count_firings(
     Ok(table)
 }
 
-fn counting_table(alloc: Global, script: &CountingScript<'_>) -> Result<AggTable, AllocError>
+fn counting_table(alloc: Global, script: &CountingScript) -> Result<AggTable, AllocError>
     ensures functions { IfOk result (λ t. functions_of t ≡ functions (script_of script.now)) }
     ensures stands { IfOk result (λ t. StandsFor t []) }
     ensures held { IfOk result (λ t. count_held t ≡ 0) }
@@ -46,7 +46,7 @@ fn counting_table(alloc: Global, script: &CountingScript<'_>) -> Result<AggTable
 }
 
 // The function of each aggregation.
-fn counts(alloc: Global, aggregations: &[Shape<'_>]) -> Result<Vec<AggFn>, AllocError>
+fn counts(alloc: Global, aggregations: &[Shape]) -> Result<Vec<AggFn>, AllocError>
     ensures { IfOk result (λ v. v.items ≡ map (λ a. AggFn.Count) aggregations.now) }
 {
     aggregations.iter().map(|_| AggFn::Count).collect(alloc)
@@ -77,7 +77,7 @@ fn blank_key(alloc: Global, parts: usize) -> Result<Key, AllocError>
 fn run_clauses(
     table: &mut AggTable,
     keys: &mut [Key],
-    clauses: &[CountingClause<'_>],
+    clauses: &[CountingClause],
     firing: &Firing,
 ) -> Result<(), AllocError>
     requires can { All (CanRunAll (length (functions_of table.old))) clauses.now }
@@ -96,7 +96,7 @@ fn run_clauses(
 fn run_clause(
     table: &mut AggTable,
     keys: &mut [Key],
-    clause: &CountingClause<'_>,
+    clause: &CountingClause,
     firing: &Firing,
 ) -> Result<(), AllocError>
     requires can { CanRunAll (length (functions_of table.old)) clause.now }
@@ -105,7 +105,7 @@ fn run_clause(
     ensures added { OnOk result (AddsAll table.old table.new (runs_of firing.now (clause_of clause.now))) }
     ensures keys { OnOk result (AreBuffers keys.new) }
 {
-    for description in clause.descriptions {
+    for description in &clause.descriptions {
         run_for(table, keys, clause, description, firing)?;
     }
     Ok(())
@@ -114,7 +114,7 @@ fn run_clause(
 fn run_for(
     table: &mut AggTable,
     keys: &mut [Key],
-    clause: &CountingClause<'_>,
+    clause: &CountingClause,
     description: &Description,
     firing: &Firing,
 ) -> Result<(), AllocError>

@@ -8,65 +8,65 @@ ghost use Rattle.dreplay.specs.Runs.{aggregations_of, is_named, shapes_in, shape
 ghost use Rattle.dreplay.specs.Shapes.{noted, noted_all};
 
 use crate::counting::Shape;
+use d_lexer::ByteString;
 use d_parser::{Item, Stmt};
 use std::alloc::{AllocError, Global};
 
 /// The aggregations of a script in order of first appearance, with their numbers of keys there.
-pub fn shapes<'a>(alloc: Global, items: &'a [Item]) -> Result<Vec<Shape<'a>>, AllocError>
+pub fn shapes(alloc: Global, items: &[Item]) -> Result<Vec<Shape>, AllocError>
     ensures { IfOk result (λ v. map shape_of v.items ≡ aggregations_of (map item_of items.now)) }
 {
     let mut all = Vec::new(alloc);
     for item in items {
-        note_item(&mut all, item)?;
+        note_item(alloc, &mut all, item)?;
     }
     Ok(all)
 }
 
-fn note_item<'a>(all: &mut Vec<Shape<'a>>, item: &'a Item) -> Result<(), AllocError>
+fn note_item(alloc: Global, all: &mut Vec<Shape>, item: &Item) -> Result<(), AllocError>
     ensures { OnOk result (map shape_of all.new.items ≡ noted_all (map shape_of all.old.items) (shapes_in_item (item_of item.now))) }
 {
     match item {
-        Item::Clause(clause) => note_statements(all, &clause.statements),
+        Item::Clause(clause) => note_statements(alloc, all, &clause.statements),
         Item::Declaration(_) => Ok(()),
     }
 }
 
-fn note_statements<'a>(all: &mut Vec<Shape<'a>>, statements: &'a [Stmt]) -> Result<(), AllocError>
+fn note_statements(
+    alloc: Global,
+    all: &mut Vec<Shape>,
+    statements: &[Stmt],
+) -> Result<(), AllocError>
     ensures { OnOk result (map shape_of all.new.items ≡ noted_all (map shape_of all.old.items) (flat_map shapes_in (map stmt_of statements.now))) }
 {
     for statement in statements {
-        note_statement(all, statement)?;
+        note_statement(alloc, all, statement)?;
     }
     Ok(())
 }
 
-fn note_statement<'a>(all: &mut Vec<Shape<'a>>, statement: &'a Stmt) -> Result<(), AllocError>
+fn note_statement(alloc: Global, all: &mut Vec<Shape>, statement: &Stmt) -> Result<(), AllocError>
     ensures { OnOk result (map shape_of all.new.items ≡ noted_all (map shape_of all.old.items) (shapes_in (stmt_of statement.now))) }
 {
     match statement {
-        Stmt::Aggregation { name, keys, .. } => note(
-            all,
-            Shape {
-                name: name.as_slice(),
-                keys: keys.len(),
-            },
-        ),
+        Stmt::Aggregation { name, keys, .. } => note(alloc, all, name.as_slice(), keys.len()),
         Stmt::Expression(_) => Ok(()),
     }
 }
 
 // Puts an aggregation behind the others where its name is new.
-fn note<'a>(all: &mut Vec<Shape<'a>>, next: Shape<'a>) -> Result<(), AllocError>
-    ensures { OnOk result (map shape_of all.new.items ≡ noted (map shape_of all.old.items) (shape_of next.entry)) }
+fn note(alloc: Global, all: &mut Vec<Shape>, name: &[u8], keys: usize) -> Result<(), AllocError>
+    ensures { OnOk result (map shape_of all.new.items ≡ noted (map shape_of all.old.items) (shape name.now keys)) }
 {
-    if !is_known(all, next.name) {
-        all.push(next)?;
+    if !is_known(all, name) {
+        let name = ByteString::from_slice(alloc, name)?;
+        all.push(Shape { name, keys })?;
     }
     Ok(())
 }
 
-fn is_known(all: &[Shape<'_>], name: &[u8]) -> bool
+fn is_known(all: &[Shape], name: &[u8]) -> bool
     ensures { result ≡ list_any (λ s. is_named name.now (shape_of s)) all.now }
 {
-    all.iter().any(|shape| shape.name == name)
+    all.iter().any(|shape| shape.name.as_slice() == name)
 }

@@ -8,6 +8,7 @@ use crate::refusal::{Refusal, refusal_status, refusal_text};
 use crate::replaying::replay;
 use d_lexer::LexFault;
 use d_parser::ParseFault;
+use d_types::TypeFault;
 use firing_reader::TraceFault;
 use report::Watched;
 use report::faulty::Faulty;
@@ -28,12 +29,17 @@ arg0,arg1,arg2,arg3,arg4,arg5,arg6,arg7,arg8,arg9\n\
 
 const SHOWN: &[u8] = b"\n  cat                                                               1\n";
 
-const SAID: [(Refusal, u8, &str); 12] = [
+const SAID: [(Refusal, u8, &str); 13] = [
     (Refusal::NotYet, 3, "dreplay: script refused: not yet"),
     (Refusal::Memory, 1, "dreplay: out of memory"),
     (Refusal::Lex(LexFault::Memory), 1, "dreplay: out of memory"),
     (
         Refusal::Parse(ParseFault::Memory),
+        1,
+        "dreplay: out of memory",
+    ),
+    (
+        Refusal::Typing(TypeFault::Memory),
         1,
         "dreplay: out of memory",
     ),

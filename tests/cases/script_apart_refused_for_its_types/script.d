@@ -1,0 +1,3 @@
+:::hit {
+	@[pid] = count(execname);
+}
