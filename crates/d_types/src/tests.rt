@@ -230,6 +230,8 @@ hit { @ = lquantize(1, 0, 10, 11); } => line 1: bounds of lquantize
 
 hit { @ = lquantize(1, 0x0, -0); } => line 1: bounds of lquantize
 
+hit { @ = lquantize(1, 0x0, 10); @ = lquantize(1, -0, 10); @ = lquantize(1, 0u, 0xa, 1u); } => typed
+
 hit { @ = lquantize(1, 0, execname); } => line 1: of the wrong type
 
 hit { @ = lquantize(1, 0, x); } => line 1: not declared
@@ -336,6 +338,43 @@ hit { self->s = execname;
 hit { @ = count(1, execname); @[1,2,3,4,5,6,7,8,9] = count(); } => line 1: of the wrong type
 
 hit { @ = count(); @[1] = sum(1); } => line 1: other keys
+
+hit { @ = int(); } => line 1: not declared
+
+hit {
+ @n =
+ foo(1); } => line 2: not declared
+
+hit {
+ @ =
+ sum(
+ execname); } => line 2: of the wrong type
+
+hit {
+ exit(
+ execname); } => line 2: of the wrong type
+
+hit {
+ printf(\"%d\",
+ execname); } => line 2: the format and its arguments
+
+hit { @ = sum(execname, x); } => line 1: not declared
+
+hit { printf(\"%q\", x); } => line 1: not declared
+
+hit { self->x = printf(\"%q\", 1); } => line 1: of the wrong type
+
+hit { @ = lquantize(1, 0, arg0+(arg1+(arg2+(arg3+(arg4+(arg5+arg6)))))); } => line 1: the expression is too deep
+
+hit { @[arg0+(arg1+(arg2+(arg3+(arg4+(arg5+arg6))))), x] = count(); } => line 1: the expression is too deep
+
+hit { self->x = 1; trace(self->x[1,2,3,4,5,6,7,8,9]); } => line 1: other keys
+
+hit {
+ ++
+ pid; } => line 3: can't be assigned
+
+hit /strjoin(execname, strjoin(execname, strjoin(execname, strjoin(execname, strjoin(execname, strjoin(execname, probemod))))))/ { } => line 1: of the wrong type
 
 self int x;
 self int x[int,int,int,int,int,int,int,int,int]; => line 2: of the wrong type
