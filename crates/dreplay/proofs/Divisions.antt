@@ -1,7 +1,12 @@
--- A bundle is divided in one way.
-use Rattle.std.proofs.Common.{◌≡◌, ◌≢◌, ℕ, suc, List, [], ◌∷◌, ◌++◌, refl, sym, subst, arith, ⊎_elim}
+-- A bundle is divided, and in one way.
+use Rattle.std.proofs.Common.{◌≡◌, ◌≢◌, ℕ, suc, Bool, true, false, ◌||◌, List, [], ◌∷◌, ◌++◌, refl, sym, subst, append_assoc, append-nil, arith, ⊎_elim}
 use Rattle.std.specs.Prelude.{codes}
-use Rattle.std.proofs.lemmas.List.Elements.{All-from_recursion}
+use Rattle.std.specs.Bool.{Decides}
+use Rattle.std.specs.Str.{bytes_eq}
+use Rattle.std.proofs.Math.Dec.{eqb}
+use Rattle.std.proofs.lemmas.Bool.Decides.{Decides-or, eqb_tells, not_from_Decides}
+use Rattle.std.proofs.lemmas.List.Elements.{All-from_recursion, All-nil, All-push}
+use Rattle.std.proofs.lemmas.Slice.Eq.{bytes_eq-Decides}
 use Rattle.dreplay.specs.Bundle.{Divides, IsDivider, IsLine}
 
 line_behind : (b : ℕ) (bytes : List ℕ) → IsLine (b ∷ bytes) → IsLine bytes
@@ -59,3 +64,35 @@ same_division b s t b' s' t' (Divides.last_line line own other) (Divides.last_li
 
 pub one_division : (bundle script trace script' trace' : List ℕ) → Divides bundle script trace → Divides bundle script' trace' → (script ≡ script') × (trace ≡ trace')
 one_division bundle script trace script' trace' d d' = same_division bundle script trace bundle script' trace' d d' refl
+
+-- a test whether a line divides
+abbrev is_divider : List ℕ → Bool
+is_divider line = bytes_eq line (codes "---") || bytes_eq line (codes "---\r")
+
+is_divider-Decides : (line : List ℕ) → Decides (is_divider line) (IsDivider line)
+is_divider-Decides line = Decides-or _ _ (bytes_eq-Decides line (codes "---")) (bytes_eq-Decides line (codes "---\r"))
+
+-- the parts of a bundle
+abbrev HasParts : List ℕ → Type 0
+HasParts bundle = (script trace : List ℕ) × Divides bundle script trace
+
+last_parts : (r : Bool) (line : List ℕ) → Decides r (IsDivider line) → IsLine line → HasParts line
+last_parts true line test own = ([], [], Divides.last_divider line (test.0 refl))
+last_parts false line test own = (line, [], Divides.last_line line own (not_from_Decides false test refl))
+
+line_parts : (r : Bool) (line rest : List ℕ) → Decides r (IsDivider line) → IsLine line → HasParts rest → HasParts (line ++ 10 ∷ rest)
+line_parts true line rest test own more = ([], rest, Divides.divider line rest (test.0 refl))
+line_parts false line rest test own more = (line ++ 10 ∷ more.0, more.1, Divides.before line rest more.0 more.1 own (not_from_Decides false test refl) more.2)
+
+-- a bundle that begins with a part of a line
+parts_from : (line rest : List ℕ) → IsLine line → HasParts (line ++ rest)
+parts_from line [] own = subst HasParts (sym (append-nil line)) (last_parts (is_divider line) line (is_divider-Decides line) own)
+parts_from line (b ∷ rest) own = ⊎_elim
+    (λ (is : (eqb b 10 ≡ true) × (b ≡ 10)). subst (λ c. HasParts (line ++ c ∷ rest)) (sym is.1)
+    (line_parts (is_divider line) line rest (is_divider-Decides line) own (parts_from [] rest (All-nil _))))
+    (λ (is_not : (eqb b 10 ≡ false) × (b ≢ 10)). subst HasParts (append_assoc line (b ∷ []) rest) (parts_from (line ++ b ∷ []) rest (All-push (λ x. x ≢ 10) line b own is_not.1)))
+    (eqb_tells b 10)
+
+-- each bundle is divided
+pub division : (bundle : List ℕ) → (script trace : List ℕ) × Divides bundle script trace
+division bundle = parts_from [] bundle (All-nil _)

@@ -14,4 +14,5 @@ pub mod Places
 pub mod RunsTyped
 pub mod Sizes
 pub mod Stars
+pub mod Unread
 pub mod Zips

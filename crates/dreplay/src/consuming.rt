@@ -1,12 +1,9 @@
 //! From the bytes in to the bytes out.
 
-ghost use Rattle.std.specs.Prelude.{◌≡◌, ◌≢◌, ◌≤◌, ◌⊎◌, ◌↔◌, ◌+◌, ℕ, List, Ok, Err, IfOk, IfErr, IsTrue, IsFalse};
-ghost use Rattle.std.specs.Io.KnownBytes.{Appends};
-ghost use Rattle.report.specs.Stream.{AppendsBeginning};
-ghost use Rattle.report.specs.declared.reading.TheConstants.{MOST_CALLS};
-ghost use Rattle.dreplay.specs.Answer.{IsAnswer};
-ghost use Rattle.dreplay.specs.Consuming.{IsAnswerOf, IsAnswerOver, RanOver, RanOverTrace, told_of};
-ghost use Rattle.dreplay.specs.Plans.{IsSerial, RanSerially};
+ghost use Rattle.std.specs.Prelude.{◌≡◌, ◌≢◌, ℕ, List, Err, IfErr, IsFalse};
+ghost use Rattle.dreplay.specs.Bundle.{Divides};
+ghost use Rattle.dreplay.specs.Consuming.{HoldsOfInput, IsReadToEnd, IsShownTo, told_of};
+ghost use Rattle.dreplay.specs.Plans.{IsSerial};
 
 use crate::bundle::{Division, divide};
 use crate::plan::{Plan, Replayed};
@@ -16,7 +13,7 @@ use report::{Feed, ReadFault, Sink, emit, read_to_end};
 use std::alloc::Global;
 use thiserror::Error;
 
-/// Why a bundle's answer was not written.
+/// Why an answer was not written.
 #[derive(Debug, Drop, Error)]
 pub enum ConsumeFault {
     /// The reader failed, or had not ended after 2^32 calls. Nothing was written.
@@ -51,27 +48,13 @@ pub fn consume<F: Feed, S: Sink>(
     requires plan { IsSerial plan.now }
     requires feed { IsFalse (F.has_failed feed.old) }
     requires sink { IsFalse (S.has_failed sink.old) }
-
-    ensures answer { IfOk result (λ r. IsAnswerOf (F.remaining feed.old) (Ok r.bytes.items)) }
-    ensures serial { IfOk result (RanOver (F.remaining feed.old)) }
-    ensures written { IfOk result (λ r. Appends (S.contents sink.old) (S.contents sink.new) r.bytes.items) }
-
-    // The reader, and only it, is blamed where it failed or had not ended.
-    ensures read { result ≡ Err ConsumeFault.Read → IsTrue (F.has_failed feed.new)
-        ⊎ (IsFalse (F.has_ended feed.new) × (F.calls feed.new ≡ F.calls feed.old + MOST_CALLS)) }
-    ensures read_whole { result ≢ Err ConsumeFault.Read → IsFalse (F.has_failed feed.new)
-        × ((result ≡ Err (ConsumeFault.Refused Refusal.Memory)) ⊎ IsTrue (F.has_ended feed.new)) }
-
-    ensures calls { F.calls feed.new ≤ F.calls feed.old + MOST_CALLS }
-
-    ensures refused { (e : Refusal) → result ≡ Err (ConsumeFault.Refused e) →
-        (e ≡ Refusal.Memory) ⊎ IsAnswerOf (F.remaining feed.old) (Err e) }
+    ensures read { IsReadToEnd (F.has_failed feed.new) (F.has_ended feed.new)
+        (F.calls feed.old) (F.calls feed.new) result }
+    ensures shown { HoldsOfInput (F.remaining feed.old) (λ bundle. (script trace : List ℕ)
+        × Divides bundle script trace
+        × IsShownTo script trace (S.contents sink.old) (S.contents sink.new)
+        (S.calls sink.old) (S.calls sink.new) (S.has_failed sink.new) result) }
     ensures untouched { result ≢ Err ConsumeFault.Write → IfErr result (λ e. sink.new ≡ sink.old) }
-
-    // The writer, and only it, is blamed where it failed.
-    ensures write { (result ≡ Err ConsumeFault.Write) ↔ IsTrue (S.has_failed sink.new) }
-    ensures beginning { result ≡ Err ConsumeFault.Write → (bytes : List ℕ)
-        × IsAnswerOf (F.remaining feed.old) (Ok bytes) × AppendsBeginning (S.contents sink.old) (S.contents sink.new) bytes }
 {
     let bundle = read_to_end(alloc, feed)?;
     show(alloc, divide(&bundle), sink, plan)
@@ -88,27 +71,12 @@ pub fn consume_trace<F: Feed, S: Sink>(
     requires plan { IsSerial plan.now }
     requires feed { IsFalse (F.has_failed feed.old) }
     requires sink { IsFalse (S.has_failed sink.old) }
-
-    ensures answer { IfOk result (λ r.
-        IsAnswerOver script.now (F.remaining feed.old) (Ok r.bytes.items)) }
-    ensures serial { IfOk result (RanOverTrace (F.remaining feed.old)) }
-    ensures written { IfOk result (λ r.
-        Appends (S.contents sink.old) (S.contents sink.new) r.bytes.items) }
-
-    // The reader and the writer are blamed as `consume` blames them.
-    ensures read { result ≡ Err ConsumeFault.Read → IsTrue (F.has_failed feed.new)
-        ⊎ (IsFalse (F.has_ended feed.new) × (F.calls feed.new ≡ F.calls feed.old + MOST_CALLS)) }
-    ensures read_whole { result ≢ Err ConsumeFault.Read → IsFalse (F.has_failed feed.new)
-        × ((result ≡ Err (ConsumeFault.Refused Refusal.Memory)) ⊎ IsTrue (F.has_ended feed.new)) }
-    ensures calls { F.calls feed.new ≤ F.calls feed.old + MOST_CALLS }
-
-    ensures refused { (e : Refusal) → result ≡ Err (ConsumeFault.Refused e) →
-        (e ≡ Refusal.Memory) ⊎ IsAnswerOver script.now (F.remaining feed.old) (Err e) }
+    ensures read { IsReadToEnd (F.has_failed feed.new) (F.has_ended feed.new)
+        (F.calls feed.old) (F.calls feed.new) result }
+    ensures shown { HoldsOfInput (F.remaining feed.old) (λ trace.
+        IsShownTo script.now trace (S.contents sink.old) (S.contents sink.new)
+        (S.calls sink.old) (S.calls sink.new) (S.has_failed sink.new) result) }
     ensures untouched { result ≢ Err ConsumeFault.Write → IfErr result (λ e. sink.new ≡ sink.old) }
-    ensures write { (result ≡ Err ConsumeFault.Write) ↔ IsTrue (S.has_failed sink.new) }
-    ensures beginning { result ≡ Err ConsumeFault.Write → (bytes : List ℕ)
-        × IsAnswerOver script.now (F.remaining feed.old) (Ok bytes)
-        × AppendsBeginning (S.contents sink.old) (S.contents sink.new) bytes }
 {
     let trace = read_to_end(alloc, feed)?;
     let parts = Division {
@@ -127,20 +95,11 @@ fn show<S: Sink>(
 ) -> Result<Replayed, ConsumeFault>
     requires plan { IsSerial plan.now }
     requires sink { IsFalse (S.has_failed sink.old) }
-
-    ensures answer { IfOk result (λ r.
-        IsAnswer parts.entry.script.now parts.entry.trace.now (Ok r.bytes.items)) }
-    ensures serial { IfOk result (RanSerially parts.entry.trace.now) }
-    ensures written { IfOk result (λ r.
-        Appends (S.contents sink.old) (S.contents sink.new) r.bytes.items) }
     ensures read { result ≢ Err ConsumeFault.Read }
-    ensures refused { (e : Refusal) → result ≡ Err (ConsumeFault.Refused e) →
-        (e ≡ Refusal.Memory) ⊎ IsAnswer parts.entry.script.now parts.entry.trace.now (Err e) }
+    ensures shown { IsShownTo parts.entry.script.now parts.entry.trace.now
+        (S.contents sink.old) (S.contents sink.new)
+        (S.calls sink.old) (S.calls sink.new) (S.has_failed sink.new) result }
     ensures untouched { result ≢ Err ConsumeFault.Write → IfErr result (λ e. sink.new ≡ sink.old) }
-    ensures write { (result ≡ Err ConsumeFault.Write) ↔ IsTrue (S.has_failed sink.new) }
-    ensures beginning { result ≡ Err ConsumeFault.Write → (bytes : List ℕ)
-        × IsAnswer parts.entry.script.now parts.entry.trace.now (Ok bytes)
-        × AppendsBeginning (S.contents sink.old) (S.contents sink.new) bytes }
 {
     match replay(alloc, parts.script, parts.trace, plan) {
         Ok(replayed) => match emit(sink, &replayed.bytes) {
