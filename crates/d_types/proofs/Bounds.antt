@@ -10,7 +10,7 @@ use Rattle.d_parser.specs.Tree as tree
 use Rattle.d_parser.specs.Tree.{Tree, Trees}
 use Rattle.d_values.specs.declared.int_type.IntType.{IntType}
 use Rattle.d_values.specs.Types.{promoted_of}
-use Rattle.d_types.specs.declared.function.AggFn.{AggFn}
+use Rattle.aggregations.specs.declared.function.AggFn.{AggFn}
 use Rattle.d_types.specs.declared.words.Aggregating.{Aggregating}
 use Rattle.d_types.specs.declared.words.Aggregating.TheVariants as ag
 use Rattle.d_types.specs.Typed as typed

@@ -1,7 +1,7 @@
 -- A new aggregation.
 use Rattle.std.proofs.Common.{◌≡◌, ℕ, ◌<◌, ◌≤◌, List, length, nat_le, true, false, Option, None, refl, arith}
 use Rattle.std.proofs.lemmas.Bool.Decides.{nat_tests}
-use Rattle.d_types.specs.declared.function.AggFn.{AggFn}
+use Rattle.aggregations.specs.declared.function.AggFn.{AggFn}
 use Rattle.d_types.specs.declared.typed.TypedExpr.{TypedExpr}
 use Rattle.d_types.specs.Faults.{◌>>=◌, refuse, unless, Keys, LquantizeBounds}
 use Rattle.d_types.specs.Typed.{typeds_of, Aggs}

@@ -2,6 +2,8 @@
 use Rattle.std.specs.Prelude.{ℕ, ◌+◌, ◌==◌, ◌&&◌, nat_le, Bool, true, false, if◌then◌else◌, List, [], ◌∷◌, ◌++◌, length, map, Option, Some, None, Result, Ok, Err, ℤ, pos, neg_ℤ}
 use Rattle.std.specs.Str.{bytes_eq}
 use Rattle.std.specs.Ordering.{int_eq}
+use Rattle.std.specs.Option.{option_map}
+use Rattle.aggregations.specs.LinearRanges.{linear_range}
 use Rattle.d_parser.specs.declared.operators.UnaryOperator.{UnaryOperator}
 use Rattle.d_parser.specs.declared.operators.UnaryOperator.TheVariants as un
 use Rattle.d_parser.specs.declared.tree.Constant.{Constant}
@@ -10,12 +12,11 @@ use Rattle.d_parser.specs.Tree as tree
 use Rattle.d_parser.specs.Tree.{Tree, Trees}
 use Rattle.d_values.specs.declared.int_type.DType.{DType}
 use Rattle.d_values.specs.declared.int_type.DType.TheVariants.{Int, Text}
-use Rattle.d_types.specs.declared.function.AggFn.{AggFn}
-use Rattle.d_types.specs.declared.function.AggFn.TheVariants as fn
+use Rattle.aggregations.specs.declared.function.AggFn.{AggFn}
+use Rattle.aggregations.specs.declared.function.AggFn.TheVariants as fn
 use Rattle.d_types.specs.declared.words.Aggregating.{Aggregating}
 use Rattle.d_types.specs.declared.words.Aggregating.TheVariants as ag
 use Rattle.d_types.specs.Faults.{Fault, ◌>>=◌, refuse, unless, Undeclared, Mismatch, Keys, AggregationRedefined, LquantizeBounds}
-use Rattle.d_types.specs.Ranges.{are_in_range}
 use Rattle.d_types.specs.Words.{aggregating_named}
 use Rattle.d_types.specs.Typed.{Typed, Typeds, end, more, type_of, Action, Aggregate, Agg, Aggs}
 use Rattle.d_types.specs.Needs.{count}
@@ -59,7 +60,7 @@ abbrev pub step : Tree → Option ℕ
 step t = small (number t)
 
 abbrev pub buckets : Option ℤ → Option ℤ → Option ℕ → Option AggFn
-buckets (Some lower) (Some upper) (Some s) = if are_in_range lower upper s then Some (fn.Lquantize lower upper s) else None
+buckets (Some lower) (Some upper) (Some s) = option_map fn.Lquantize (linear_range lower upper s)
 buckets lower upper s = None
 
 -- `lquantize(e, lower, upper)` has steps of 1, and `lquantize(e, lower, upper, step)` its own
@@ -118,7 +119,7 @@ same fn.Min fn.Min = true
 same fn.Max fn.Max = true
 same fn.Avg fn.Avg = true
 same fn.Quantize fn.Quantize = true
-same (fn.Lquantize a b s) (fn.Lquantize c d t) = int_eq a c && int_eq b d && (s == t)
+same (fn.Lquantize a) (fn.Lquantize b) = int_eq a.lower b.lower && int_eq a.upper b.upper && (a.step == b.step)
 same f g = false
 
 -- bounds out of range are other bounds than all known ones

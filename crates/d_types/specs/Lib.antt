@@ -1,4 +1,3 @@
-pub mod Ranges
 pub mod Typed
 pub mod Needs
 pub mod Faults

@@ -10,7 +10,7 @@ use Rattle.d_values.specs.declared.int_type.DType.TheVariants as ty
 use Rattle.d_values.specs.declared.operators.ComparisonOperator.{ComparisonOperator}
 use Rattle.d_values.specs.declared.value.Kind.{Kind}
 use Rattle.d_values.specs.Types.{INT32, INT64, UINT64}
-use Rattle.d_types.specs.declared.function.AggFn.{AggFn}
+use Rattle.aggregations.specs.declared.function.AggFn.{AggFn}
 use Rattle.d_types.specs.declared.typed.BuiltIn.{BuiltIn}
 use Rattle.d_types.specs.declared.typed.BuiltIn.TheVariants as bi
 use Rattle.d_types.specs.declared.typed.Variable.{Variable}

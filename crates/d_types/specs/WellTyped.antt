@@ -4,7 +4,7 @@ use Rattle.d_parser.specs.declared.tree.DeclaredType.{DeclaredType}
 use Rattle.d_parser.specs.Tree as tree
 use Rattle.d_parser.specs.Tree.{Tree, Trees, StmtTree, DeclarationTree, ClauseTree, ItemTree}
 use Rattle.d_values.specs.declared.int_type.IntType.{IntType}
-use Rattle.d_types.specs.declared.function.AggFn.{AggFn}
+use Rattle.aggregations.specs.declared.function.AggFn.{AggFn}
 use Rattle.d_types.specs.declared.typed.Piece.{Piece}
 use Rattle.d_types.specs.declared.typed.Space.{Space}
 use Rattle.d_types.specs.declared.typed.Space.TheVariants as s

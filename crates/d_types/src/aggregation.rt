@@ -11,11 +11,11 @@ ghost use Rattle.d_types.specs.Variables.{rows_of};
 
 use crate::action::wholes;
 use crate::fault::TypeFault;
-use crate::function::{AggFn, are_in_range};
 use crate::targets::copied;
 use crate::typed::{TypedAggregation, TypedExpr, TypedStmt};
 use crate::variables::{Entry, fit, kinds_of};
 use crate::words::{Aggregating, aggregating_named};
+use aggregations::{AggFn, LinearRange};
 use d_lexer::ByteString;
 use d_parser::{Constant, Expr, UnaryOperator};
 use d_values::DType;
@@ -74,13 +74,20 @@ fn step(e: &Expr) -> Option<u16>
     }
 }
 
+fn linear(range: Option<LinearRange>) -> Option<AggFn>
+    ensures { result ≡ option_map AggFn.Lquantize range }
+{
+    match range {
+        Some(range) => Some(AggFn::Lquantize(range)),
+        None => None,
+    }
+}
+
 fn buckets(lower: Option<i32>, upper: Option<i32>, step: Option<u16>) -> Option<AggFn>
     ensures { result ≡ spec.buckets lower upper step }
 {
     match (lower, upper, step) {
-        (Some(lower), Some(upper), Some(step)) if are_in_range(lower, upper, step) => {
-            Some(AggFn::Lquantize { lower, upper, step })
-        }
+        (Some(lower), Some(upper), Some(step)) => { linear(LinearRange::new(lower, upper, step)) }
         _ => None,
     }
 }
@@ -146,33 +153,11 @@ fn arguments_fit(aggregating: Aggregating, args: &[TypedExpr]) -> bool
     takes(aggregating, args.len()) && integers(args)
 }
 
-fn same(f: AggFn, g: AggFn) -> bool
-    ensures { result ≡ spec.same f g }
-{
-    match (f, g) {
-        (AggFn::Count, AggFn::Count) => true,
-        (AggFn::Sum, AggFn::Sum) => true,
-        (AggFn::Min, AggFn::Min) => true,
-        (AggFn::Max, AggFn::Max) => true,
-        (AggFn::Avg, AggFn::Avg) => true,
-        (AggFn::Quantize, AggFn::Quantize) => true,
-        (
-            AggFn::Lquantize { lower, upper, step },
-            AggFn::Lquantize {
-                lower: other_lower,
-                upper: other_upper,
-                step: other_step,
-            },
-        ) => lower == other_lower && upper == other_upper && step == other_step,
-        _ => false,
-    }
-}
-
 fn is_again(function: Option<AggFn>, known: AggFn) -> bool
     ensures { result ≡ spec.is_again function known }
 {
     match function {
-        Some(function) => same(function, known),
+        Some(function) => function == known,
         None => false,
     }
 }

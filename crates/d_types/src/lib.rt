@@ -14,7 +14,6 @@ mod evaluating;
 mod expression;
 mod fault;
 mod format;
-mod function;
 mod kinds;
 pub mod laws;
 pub mod meaning;
@@ -27,10 +26,10 @@ mod typed_script;
 mod variables;
 mod words;
 
+pub use aggregations::{AggFn, LinearRange};
 pub use checking::check;
 pub use evaluating::{EvalFault, evaluate};
 pub use fault::TypeFault;
-pub use function::AggFn;
 pub use running::{Effect, Ran, fault_line, run_clause};
 pub use typed::{
     Answer, BuiltIn, Conversion, Letter, LogicOperator, Operation, Piece, Space, TypedAggregation,

@@ -1,6 +1,6 @@
 //! Typed trees: conversions are nodes of their own, variables are slots, and each word is what it names.
 
-use crate::function::AggFn;
+use aggregations::AggFn;
 use d_lexer::ByteString;
 use d_parser::{Description, Step, UnaryOperator};
 use d_values::{ArithmeticOperator, ComparisonOperator, DType, IntType, Kind, ShiftOperator, Text};

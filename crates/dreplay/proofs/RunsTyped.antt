@@ -9,7 +9,7 @@ use Rattle.d_parser.specs.Tree.{Tree, Known, Read, Call, Unary, Cast, Before, Af
 use Rattle.d_parser.specs.Tree as tree
 use Rattle.d_values.specs.declared.value.Kind.{Kind}
 use Rattle.d_values.specs.declared.value.Kind.TheVariants as k
-use Rattle.d_types.specs.declared.function.AggFn.TheVariants as fn
+use Rattle.aggregations.specs.declared.function.AggFn.TheVariants as fn
 use Rattle.d_types.specs.declared.typed.BuiltIn.{BuiltIn}
 use Rattle.d_types.specs.declared.typed.BuiltIn.TheVariants as b
 use Rattle.d_types.specs.declared.words.Aggregating.TheVariants as ag
