@@ -8,7 +8,9 @@ use crate::bytes::split_at_first;
 /// The two parts of a bundle.
 #[derive(Clone, Copy, Debug)]
 pub struct Division<'a> {
+    /// The lines before the dividing one, with their line feeds.
     pub script: &'a [u8],
+    /// What stands behind the dividing line.
     pub trace: &'a [u8],
 }
 

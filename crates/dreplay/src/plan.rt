@@ -5,7 +5,9 @@
 pub struct Plan {
     /// How many workers there are, from 1 to 16.
     pub workers: u32,
+    /// Which threads are in which group.
     pub groups: GroupPlan,
+    /// What evaluates the script.
     pub engine: EngineKind,
 }
 

@@ -8,10 +8,15 @@ use firing_reader::Firing;
 /// A text of a firing, which a script reads by a word of its own (Dynamic Tracing Guide, "Variables").
 #[derive(Clone, Copy, Debug, PartialEq, Eq)]
 pub enum FiringText {
+    /// `execname`: the name of the process's program.
     Execname,
+    /// `probeprov`: the probe's provider.
     Probeprov,
+    /// `probemod`: the probe's module.
     Probemod,
+    /// `probefunc`: the probe's function.
     Probefunc,
+    /// `probename`: the probe's name.
     Probename,
 }
 

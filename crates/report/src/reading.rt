@@ -13,6 +13,7 @@ pub enum ReadFault {
     /// A call failed, or the feed had not ended after 2^32 calls.
     #[error("read failed")]
     Failed,
+    /// Memory ran out.
     #[error("out of memory")]
     Memory,
 }
