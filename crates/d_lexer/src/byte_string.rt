@@ -43,3 +43,11 @@ impl ByteString {
         &self.bytes
     }
 }
+
+impl Clone for ByteString {
+    ghost is_clone = { λ s t. t ≡ s };
+
+    fn clone(&self) -> Result<ByteString, AllocError> {
+        ByteString::from_slice(*self.bytes.allocator(), &self.bytes)
+    }
+}

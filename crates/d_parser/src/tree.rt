@@ -1,7 +1,10 @@
 //! The tree of a script. A `line` is that of the construct's first token.
 
+ghost use Rattle.std.specs.Prelude.{◌≡◌};
+
 use crate::operators::{AssignOperator, BinaryOperator, Step, UnaryOperator};
 use d_lexer::{ByteString, Suffix};
+use std::alloc::AllocError;
 
 /// A script: its declarations and clauses in the order of the text.
 #[derive(Drop)]
@@ -89,6 +92,23 @@ pub struct Description {
     pub function: ByteString,
     /// What it is called, such as `entry`.
     pub name: ByteString,
+}
+
+impl Clone for Description {
+    ghost is_clone = { λ d e. e ≡ d };
+
+    fn clone(&self) -> Result<Description, AllocError> {
+        let provider = self.provider.clone()?;
+        let module = self.module.clone()?;
+        let function = self.function.clone()?;
+        let name = self.name.clone()?;
+        Ok(Description {
+            provider,
+            module,
+            function,
+            name,
+        })
+    }
 }
 
 /// A statement.

@@ -1,8 +1,8 @@
 //! Clauses and their statements.
 
-ghost use Rattle.std.specs.Prelude.{◌≡◌, [], Some, IfOk};
+ghost use Rattle.std.specs.Prelude.{[], Some};
 ghost use Rattle.d_parser.specs.Tree.{tree_of, stmt_of, stmts_of, predicate_of, clause_of};
-ghost use Rattle.d_types.specs.Faults.{Gives, OnlyMemory};
+ghost use Rattle.d_types.specs.Faults.{Gives};
 ghost use Rattle.d_types.specs.Scripts as spec;
 ghost use Rattle.d_types.specs.Typed.{typed_of, action_of, actions_of, argument_of, meant_of, aggs_of};
 ghost use Rattle.d_types.specs.Variables.{rows_of};
@@ -12,10 +12,9 @@ use crate::aggregation::aggregate;
 use crate::expression::{expr, line_of};
 use crate::fault::TypeFault;
 use crate::needs::fits;
-use crate::targets::copied;
 use crate::typed::{TypedAggregation, TypedClause, TypedExpr, TypedStmt};
 use crate::variables::Entry;
-use d_parser::{Clause, Description, Expr, Stmt};
+use d_parser::{Clause, Expr, Stmt};
 use d_values::DType;
 use std::alloc::Global;
 
@@ -84,34 +83,6 @@ fn statements(
     Ok(done)
 }
 
-fn described(alloc: Global, description: &Description) -> Result<Description, TypeFault>
-    ensures ok { IfOk result (λ d. d ≡ description.now) }
-    ensures err { OnlyMemory result }
-{
-    let provider = copied(alloc, &description.provider)?;
-    let module = copied(alloc, &description.module)?;
-    let function = copied(alloc, &description.function)?;
-    let name = copied(alloc, &description.name)?;
-    Ok(Description {
-        provider,
-        module,
-        function,
-        name,
-    })
-}
-
-fn descriptions(alloc: Global, list: &[Description]) -> Result<Vec<Description>, TypeFault>
-    ensures ok { IfOk result (λ all. all.items ≡ list.now) }
-    ensures err { OnlyMemory result }
-{
-    let mut done = Vec::new(alloc);
-    for description in list {
-        let copy = described(alloc, description)?;
-        done.push(copy)?;
-    }
-    Ok(done)
-}
-
 /// A clause: its predicate comes before its statements.
 pub(crate) fn clause(
     alloc: Global,
@@ -123,7 +94,7 @@ pub(crate) fn clause(
 {
     let predicate = predicate(alloc, table, &clause.predicate)?;
     let statements = statements(alloc, table, aggs, &clause.statements)?;
-    let descriptions = descriptions(alloc, &clause.descriptions)?;
+    let descriptions = Vec::from_clones(alloc, &clause.descriptions)?;
     Ok(TypedClause {
         descriptions,
         predicate,

@@ -9,7 +9,6 @@ mod bundle;
 mod bytes;
 mod consuming;
 mod counting;
-mod descriptions;
 pub mod laws;
 mod matching;
 mod plan;

@@ -9,7 +9,6 @@ ghost use Rattle.dreplay.specs.Reading.{Reads};
 ghost use Rattle.dreplay.specs.Runs.{AreKeys, IsCounting, IsCountingClause, IsItem, IsKey, IsStatement, Runs, is_named};
 
 use crate::counting::{CountingClause, CountingScript, CountingStatement, Shape};
-use crate::descriptions::descriptions;
 use crate::refusal::Refusal;
 use crate::shapes::shapes;
 use crate::texts::FiringText;
@@ -65,7 +64,7 @@ fn counting_clause(
         return Err(Refusal::NotYet);
     }
     let statements = statements(alloc, aggregations, &clause.statements)?;
-    let descriptions = descriptions(alloc, &clause.descriptions)?;
+    let descriptions = Vec::from_clones(alloc, &clause.descriptions)?;
     Ok(CountingClause {
         descriptions,
         statements,
