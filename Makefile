@@ -1,20 +1,28 @@
-# dreplay: what a user needs. All of it wants the Rattle toolchain's command `rt` on PATH.
+# dreplay: what a user needs. Building and proving take the Rattle toolchain's command `rt`, which has to be on PATH.
 #
 #   make            builds dreplay and runs the example of examples/counts
 #   make build      builds it: the program is crates/dreplay/out/dreplay
 #   make test       the gate: every proof from nothing, then every case over both built programs
 #   make cases      the cases alone, over the program that `make build` leaves
 #   make examples   the examples alone, likewise: each answer is compared with the one beside its script
-#   make install    puts it and dreplay-from-strace into PREFIX/bin (/usr/local/bin, if PREFIX is not given), and the man
-#                   page into PREFIX/share/man/man1
+#   make install    puts it and its tools into PREFIX/bin (/usr/local/bin, if PREFIX is not given), with man pages,
+#                   completions and examples in PREFIX/share; it builds nothing if the program is there
+#   make uninstall  removes all of that
+#   make dist       packs it into an archive and a Debian package in dist/, which need no toolchain
 #   make bench      measures it beside mawk, and the lexer, the parser and a thread's variables alone
 #   make clean      removes what was built and proved
+#   make help       prints this
 
 PREFIX ?= /usr/local
 PROGRAM := crates/dreplay/out/dreplay
 EXAMPLE := examples/counts
 
-.PHONY: example build test cases examples install bench clean
+.PHONY: help example build test cases examples install uninstall dist bench clean
+
+# `make` alone is `make example`.
+.DEFAULT_GOAL := example
+help:
+	@sed -n '/^[^#]/q; s/^# \{0,1\}//p' Makefile
 
 example: build
 	@echo
@@ -39,10 +47,46 @@ cases: build
 examples: build
 	@tests/run --program $(PROGRAM) $(basename $(wildcard examples/*/*.d))
 
-install: build
+# What `make install` puts where: each line has a folder under PREFIX, a mode and the files.
+TOOLS := $(wildcard tools/dreplay-*)
+define INSTALLED
+bin 755 $(TOOLS)
+share/dreplay/dreplay_tools 644 $(wildcard tools/dreplay_tools/*.py)
+share/dreplay/recorders 644 $(wildcard tools/recorders/*)
+share/man/man1 644 $(wildcard man/*.1)
+share/bash-completion/completions 644 completions/dreplay.bash
+share/zsh/site-functions 644 completions/_dreplay
+share/fish/vendor_completions.d 644 completions/dreplay.fish
+endef
+export INSTALLED
+
+$(PROGRAM):
+	@$(MAKE) --no-print-directory build
+
+install: $(PROGRAM)
 	install -D -m 755 $(PROGRAM) '$(DESTDIR)$(PREFIX)/bin/dreplay'
-	install -D -m 755 tools/dreplay-from-strace '$(DESTDIR)$(PREFIX)/bin/dreplay-from-strace'
-	install -D -m 644 man/dreplay.1 '$(DESTDIR)$(PREFIX)/share/man/man1/dreplay.1'
+	@echo "$$INSTALLED" | while read -r folder mode files; do \
+	    install -d '$(DESTDIR)$(PREFIX)'/"$$folder" && \
+	    install -m "$$mode" $$files '$(DESTDIR)$(PREFIX)'/"$$folder" || exit 1; done
+	@for tool in $(notdir $(TOOLS)); do \
+	    ln -sf dreplay.bash '$(DESTDIR)$(PREFIX)/share/bash-completion/completions/'"$$tool" && \
+	    ln -sf dreplay.fish '$(DESTDIR)$(PREFIX)/share/fish/vendor_completions.d/'"$$tool.fish" || exit 1; done
+	@ln -sf dreplay.bash '$(DESTDIR)$(PREFIX)/share/bash-completion/completions/dreplay'
+	@for folder in $(notdir $(wildcard examples/*)); do \
+	    install -d '$(DESTDIR)$(PREFIX)/share/doc/dreplay/examples/'"$$folder" && \
+	    install -m 644 examples/"$$folder"/* '$(DESTDIR)$(PREFIX)/share/doc/dreplay/examples/'"$$folder" || exit 1; done
+
+uninstall:
+	rm -f '$(DESTDIR)$(PREFIX)/bin/dreplay'
+	@echo "$$INSTALLED" | while read -r folder mode files; do \
+	    for file in $$files; do rm -f '$(DESTDIR)$(PREFIX)'/"$$folder/$${file##*/}"; done; done
+	@for tool in dreplay $(notdir $(TOOLS)); do \
+	    rm -f '$(DESTDIR)$(PREFIX)/share/bash-completion/completions/'"$$tool" \
+	        '$(DESTDIR)$(PREFIX)/share/fish/vendor_completions.d/'"$$tool.fish"; done
+	@rm -rf '$(DESTDIR)$(PREFIX)/share/dreplay' '$(DESTDIR)$(PREFIX)/share/doc/dreplay'
+
+dist: $(PROGRAM)
+	@tools/make-dist $(PROGRAM)
 
 bench: build
 	@bench/run
@@ -51,4 +95,4 @@ bench: build
 	@bench/variables/run
 
 clean:
-	rm -rf crates/*/out
+	rm -rf crates/*/out dist

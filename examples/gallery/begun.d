@@ -1,0 +1,5 @@
+/* Which programs are begun? */
+syscall::execve:return
+{
+    @[execname] = count();
+}

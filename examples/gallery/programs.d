@@ -1,0 +1,5 @@
+/* Which programs make how many system calls? */
+syscall:::entry
+{
+    @[execname] = count();
+}

@@ -1,0 +1,5 @@
+/* Who removes and renames files? */
+syscall::unlink*:entry, syscall::rename*:entry
+{
+    @[execname, probefunc] = count();
+}

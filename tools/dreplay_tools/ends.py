@@ -1,0 +1,94 @@
+"""How a tool ends: every end is an exit status and at most a line on standard error, and never a traceback."""
+import os
+import signal
+import sys
+
+FAILED = 2  # a file or standard stream fails, memory runs out, or the command line is wrong
+INTERRUPTED = 128 + signal.SIGINT
+
+
+class Failure(Exception):
+    """The end of a tool, with the line that it writes and its exit status."""
+
+    def __init__(self, why, status=FAILED):
+        super().__init__(why)
+        self.status = status
+
+
+def reason(error):
+    """An error of the system in words, with the file that it is about."""
+    words = error.strerror or str(error) or type(error).__name__
+    return f"{error.filename}: {words}" if error.filename else words
+
+
+class Tool:
+    """A tool's name, and what it writes to standard error."""
+
+    def __init__(self, name):
+        self.name, self.progress_shown = name, False
+
+    def say(self, what):
+        """Writes a line to standard error. Where that is closed, nobody wants to read it."""
+        try:
+            self.erase_progress()
+            print(f"{self.name}: {what}", file=sys.stderr, flush=True)
+        except (OSError, ValueError, AttributeError):
+            pass
+
+    def progress(self, what):
+        """Shows how far the work is, in one line that is written over, where standard error is a terminal."""
+        if sys.stderr is not None and sys.stderr.isatty():
+            self.progress_shown = True
+            print(f"\r\x1b[K{self.name}: {what}", end="", file=sys.stderr, flush=True)
+
+    def erase_progress(self):
+        if self.progress_shown:
+            self.progress_shown = False
+            print("\r\x1b[K", end="", file=sys.stderr, flush=True)
+
+    def run(self, main):
+        """Runs main, which returns the exit status, and ends the process."""
+        try:
+            status = self.status_of(main)
+            self.erase_progress()
+        except KeyboardInterrupt:
+            status = INTERRUPTED
+        # Nothing of Python's own end may write: it would try the failed stream again.
+        os._exit(status)
+
+    def status_of(self, main):
+        try:
+            signal.signal(signal.SIGPIPE, signal.SIG_DFL)
+            signal.signal(signal.SIGINT, signal.default_int_handler)
+            if sys.stdout is None:
+                raise Failure("standard output is closed")
+            sys.stdout.reconfigure(encoding="utf-8", errors="surrogateescape")
+            status = main() or 0
+            sys.stdout.flush()
+            return status
+        except SystemExit as end:  # argparse has said why
+            return flushed(end.code)
+        except KeyboardInterrupt:
+            self.say("interrupted")
+            return INTERRUPTED
+        except MemoryError:
+            self.say("out of memory")
+            return FAILED
+        except Failure as end:
+            self.say(end)
+            return end.status
+        except UnicodeError as why:
+            self.say(f"{why}")
+            return FAILED
+        except OSError as why:
+            self.say(reason(why))
+            return FAILED
+
+
+def flushed(status):
+    """The status of an end by argparse, whose help may not have gone out."""
+    try:
+        sys.stdout.flush()
+    except OSError:
+        return FAILED
+    return status if isinstance(status, int) else FAILED if status else 0

@@ -1,0 +1,71 @@
+"""Inputs of the tools: plain or compressed, from a file or from standard input, as a file that can be read twice."""
+import gzip
+import lzma
+import shutil
+import subprocess
+import sys
+import tempfile
+import zlib
+
+from .ends import Failure
+
+GZIP, XZ, ZSTD = b"\x1f\x8b", b"\xfd7zXZ\x00", b"\x28\xb5\x2f\xfd"
+
+
+def decompressed(file, shown):
+    """A reader of what a compressed file holds, or none where it isn't compressed."""
+    begins = file.peek(6)[:6]
+    if begins.startswith(GZIP):
+        return gzip.GzipFile(fileobj=file)
+    if begins.startswith(XZ):
+        return lzma.LZMAFile(file)
+    if begins.startswith(ZSTD):
+        return zstd(file, shown)
+    return None
+
+
+def zstd(file, shown):
+    """A reader of a file of zstd, by Python's package for it or else by the command."""
+    try:
+        import zstandard
+    except ImportError:
+        zstandard = None
+    if zstandard:
+        return zstandard.ZstdDecompressor().stream_reader(file)
+    if not shutil.which("zstd"):
+        raise Failure(f"{shown}: it is compressed by zstd, and neither the command zstd nor python3-zstandard is installed")
+    spool = tempfile.TemporaryFile()
+    child = subprocess.Popen(["zstd", "-dcq"], stdin=subprocess.PIPE, stdout=spool, stderr=subprocess.DEVNULL)
+    try:
+        shutil.copyfileobj(file, child.stdin)
+        child.stdin.close()
+    except BrokenPipeError:
+        pass
+    if child.wait():
+        raise Failure(f"{shown}: its compression is damaged")
+    spool.seek(0)
+    return spool
+
+
+def opened(path):
+    """A binary file of what PATH holds, uncompressed and seekable, from its start. '-' is standard input."""
+    shown = "standard input" if path == "-" else path
+    if path == "-":
+        if sys.stdin is None:
+            raise Failure("standard input is closed")
+        file = sys.stdin.buffer
+    else:
+        file = open(path, "rb")
+    try:
+        inner = decompressed(file, shown)
+        if inner is None and file.seekable():
+            return file
+        # What can be read only once is copied to a file that nobody else sees.
+        spool = tempfile.TemporaryFile()
+        shutil.copyfileobj(inner or file, spool, 1 << 20)
+    except (EOFError, lzma.LZMAError, zlib.error, gzip.BadGzipFile):
+        raise Failure(f"{shown}: its compression is damaged")
+    except IsADirectoryError:
+        raise Failure(f"{shown}: Is a directory")
+    spool.seek(0)
+    return spool
