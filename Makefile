@@ -2,7 +2,7 @@
 #
 #   make            builds dreplay and runs the example of examples/counts
 #   make build      builds it: the program is crates/dreplay/out/dreplay
-#   make test       the gate: every proof from nothing, then every case over both built programs
+#   make test       the gate: every proof from nothing, the edits that must fail, then every case over both built programs
 #   make cases      the cases alone, over the program that `make build` leaves
 #   make examples   the examples alone, likewise: each answer is compared with the one beside its script
 #   make install    puts it and its tools into PREFIX/bin (/usr/local/bin, if PREFIX is not given), with man pages,

@@ -144,7 +144,7 @@ TRACE = [
            "Shorten it, or recode it: `iconv -f LATIN1 -t UTF-8`.",
            ("a name in Latin-1", "the same in UTF-8")),
     script("Trace", 6, "Reserved", ROW, "The provider is `dtrace`.",
-           "Leave these rows out: they belong to a run, and not to a recording.",
+           "Leave these rows out: every run has a `BEGIN` and an `END` of its own.",
            ("a row of `dtrace:::BEGIN`", "no row")),
     script("Trace", 7, "TooMany", "", "More than 1,000,000 rows.",
            "Take a part of the trace, such as its first 1,000,001 lines, or record fewer calls: `dreplay-from-strace` has `--only`, "
@@ -164,16 +164,12 @@ SYSTEM = [
 USAGE = Refusal("error", 0, "error:", "", "The command line is wrong: a word that is no option, a `-s` without its file, a second `-s`, or a "
                 "word that isn't UTF-8.", "`dreplay --help` lists the options. The trace comes by `<`: `dreplay -s SCRIPT < TRACE`.", ())
 
-NOT_YET = Refusal("not yet", 0, "not yet", "", "The script is right, but this release doesn't run all of it.",
-                  "See which scripts run in the section SCRIPTS of dreplay(1).", ())
-
 GROUPS = [
     Group("The command line", 2, "", [USAGE]),
     Group("The system", 1, "dreplay: ", SYSTEM),
     Group("The script's tokens", 3, "dreplay: script refused: ", LEX),
     Group("The script's grammar", 3, "dreplay: script refused: ", PARSE),
     Group("The script's types", 3, "dreplay: script refused: ", TYPE),
-    Group("The script", 3, "dreplay: script refused: ", [NOT_YET]),
     Group("The trace", 4, "dreplay: trace refused: ", TRACE),
 ]
 

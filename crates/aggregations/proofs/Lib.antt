@@ -1,3 +1,10 @@
+pub mod BucketLemmas
 pub mod EntryLemmas
+pub mod HistogramLemmas
+pub mod MergeLemmas
+pub mod OrderLemmas
 pub mod RangeLemmas
+pub mod RankLemmas
+pub mod SpanLemmas
 pub mod TableLemmas
+pub mod ValueLemmas

@@ -1,21 +1,33 @@
--- One aggregation, by look-ups.
-use Rattle.std.specs.Prelude.{◌≡◌, ◌≢◌, false, List, [], ◌∷◌, ◌++◌, ℤ, Option, None, Some}
-use Rattle.std.specs.List.{IsDistinct}
-use Rattle.std.specs.Map.{keys_of}
+-- What a change does to the entries of one aggregation.
+use Rattle.std.specs.Prelude.{◌≡◌, false, List, [], ◌∷◌, ◌++◌, ℤ, Option}
 use Rattle.d_values.specs.declared.key.KeyPart.{KeyPart}
 use Rattle.d_values.specs.Keys.{same_key}
 use Rattle.aggregations.specs.declared.function.AggFn.{AggFn}
-use Rattle.aggregations.specs.declared.partial.Partial.{Partial}
-use Rattle.aggregations.specs.Values.{IsValue}
-use Rattle.aggregations.specs.Table.{Aggregation, entry_at}
+use Rattle.aggregations.specs.declared.held.Held.{Held}
+use Rattle.aggregations.specs.Table.{Aggregation, IsEntry, entry_at}
 
--- an entry is there exactly where there are arguments, and its value is theirs
-abbrev pub IsEntry : AggFn → Option Partial → List ℤ → Type 0
-IsEntry function None args = args ≡ []
-IsEntry function (Some value) args = (args ≢ []) × IsValue function value args
+-- whatever arguments the old entry and the other are made of, the new one is made of both
+abbrev pub Joins : AggFn → (old other new : Option Held) → Type 0
+Joins function old other new = (xs ys : List ℤ)
+    → IsEntry function old xs → IsEntry function other ys → IsEntry function new (xs ++ ys)
+
+-- whatever arguments the old entry is made of, the new one is made of those and one more
+abbrev pub Notes : AggFn → Option Held → ℤ → Option Held → Type 0
+Notes function old arg new = (args : List ℤ)
+    → IsEntry function old args → IsEntry function new (args ++ arg ∷ [])
+
+-- the key has what P says, and each other key what it had
+pub record Puts (old new : Aggregation) (key : List KeyPart) (P : Option Held → Type 0)
+    : Type 0 where
+  pub here : P (entry_at key new)
+  pub others : (other : List KeyPart) → same_key key other ≡ false
+      → entry_at other new ≡ entry_at other old
 
 -- the argument went to the key's entry, and all else stayed
-pub record TakesArgument (old new : Aggregation) (key : List KeyPart) (arg : ℤ) : Type 0 where
-  pub once : IsDistinct same_key (keys_of new.entries)
-  pub here : (args : List ℤ) → IsEntry old.function (entry_at old key) args → IsEntry old.function (entry_at new key) (args ++ arg ∷ [])
-  pub others : (other : List KeyPart) → same_key key other ≡ false → entry_at new other ≡ entry_at old other
+abbrev pub TakesArgument : (old new : Aggregation) → List KeyPart → ℤ → Type 0
+TakesArgument old new key arg = Puts old new key (Notes old.function (entry_at key old) arg)
+
+-- the other's entry for each key went to the key's entry
+abbrev pub TakesAll : (old other new : Aggregation) → Type 0
+TakesAll old other new = (key : List KeyPart)
+    → Joins old.function (entry_at key old) (entry_at key other) (entry_at key new)

@@ -1,5 +1,9 @@
 pub mod Ranges
 pub mod LinearRanges
+pub mod Buckets
+pub mod Histograms
 pub mod Values
+pub mod Held
+pub mod Figures
 pub mod Table
 pub mod Entries

@@ -1,10 +1,11 @@
 -- What a table of aggregations stands for: a list of contributions.
-use Rattle.std.specs.Prelude.{◌≡◌, ◌≢◌, ℕ, Bool, ◌==◌, ◌&&◌, List, [], ℤ, Option, Some, AllPairs, Contains, filter, map, slice_get, sum_by}
+use Rattle.std.specs.Prelude.{◌≡◌, ◌≢◌, ℕ, Bool, ◌==◌, ◌&&◌, List, [], ℤ, Option, None, Some, filter, map, slice_get, sum_by}
+use Rattle.std.specs.List.{IsDistinct}
 use Rattle.std.specs.Map.{keys_of, values_of, lookup}
 use Rattle.d_values.specs.declared.key.KeyPart.{KeyPart}
 use Rattle.d_values.specs.Keys.{same_key}
 use Rattle.aggregations.specs.declared.function.AggFn.{AggFn}
-use Rattle.aggregations.specs.declared.partial.Partial.{Partial}
+use Rattle.aggregations.specs.declared.held.Held.{Held}
 use Rattle.aggregations.specs.Values.{IsValue, count_in}
 
 -- one argument, for a key of an aggregation
@@ -20,11 +21,7 @@ contribution agg key arg = record { agg = agg; key = key; arg = arg }
 -- an aggregation as contracts see it. A table is seen as the list of its aggregations
 pub record Aggregation : Type 0 where
   pub function : AggFn
-  pub entries : List (List KeyPart × Partial)
-
--- what an aggregation has at the key
-abbrev pub entry_at : Aggregation → List KeyPart → Option Partial
-entry_at a key = lookup (same_key key) a.entries
+  pub entries : List (List KeyPart × Held)
 
 -- the functions of a table's aggregations
 abbrev pub functions_of : List Aggregation → List AggFn
@@ -46,16 +43,34 @@ is_for agg key c = (c.agg == agg) && same_key c.key key
 abbrev pub arguments_of : ℕ → List KeyPart → List Contribution → List ℤ
 arguments_of agg key contributions = map (λ c. c.arg) (filter (is_for agg key) contributions)
 
--- the entries that the contributions give an aggregation, in any order
-pub record AreEntries (function : AggFn) (agg : ℕ) (contributions : List Contribution) (entries : List (List KeyPart × Partial)) : Type 0 where
-  -- no key stands twice
-  pub once : AllPairs (λ a b. a ≢ b) (keys_of entries)
-  -- the key of each has arguments, and its value is theirs
-  pub values : (key : List KeyPart) (value : Partial) → Contains entries (key, value)
-      → (arguments_of agg key contributions ≢ []) × IsValue function value (arguments_of agg key contributions)
-  -- each key that has arguments is there
-  pub all : (key : List KeyPart) → arguments_of agg key contributions ≢ [] → Contains (keys_of entries) key
+-- what an aggregation has at the key
+abbrev pub entry_at : List KeyPart → Aggregation → Option Held
+entry_at key a = lookup (same_key key) a.entries
 
--- each aggregation has the entries that the contributions give it
-pub record StandsFor (table : List Aggregation) (contributions : List Contribution) : Type 0 where
-  pub entries : (agg : ℕ) (a : Aggregation) → slice_get table agg ≡ Some a → AreEntries a.function agg contributions a.entries
+-- an entry is there exactly where there are arguments, and its value is theirs
+abbrev pub IsEntry : AggFn → Option Held → List ℤ → Type 0
+IsEntry function None args = args ≡ []
+IsEntry function (Some held) args = (args ≢ []) × IsValue function held args
+
+-- what the aggregation has at the key is made of the arguments. For no aggregation there are none
+abbrev pub HasEntry : Option Aggregation → List KeyPart → List ℤ → Type 0
+HasEntry None key args = args ≡ []
+HasEntry (Some a) key args = IsEntry a.function (entry_at key a) args
+
+-- each entry is the value of the contributions' arguments for its key
+abbrev pub StandsFor : List Aggregation → List Contribution → Type 0
+StandsFor table contributions =
+    (agg : ℕ) (key : List KeyPart)
+    → HasEntry (slice_get table agg) key (arguments_of agg key contributions)
+
+-- the entries that the contributions give an aggregation, in any order
+pub record AreEntries (function : AggFn) (agg : ℕ) (contributions : List Contribution)
+    (entries : List (List KeyPart × Held)) : Type 0 where
+  -- no key stands twice
+  pub once : IsDistinct same_key (keys_of entries)
+  pub values : (key : List KeyPart)
+      → IsEntry function (lookup (same_key key) entries) (arguments_of agg key contributions)
+
+-- the same items, in some order: each way to weigh them gives both one sum
+abbrev pub SameItems : {A : Type 0} → List A → List A → Type 0
+SameItems {A} xs ys = (weight : A → ℕ) → sum_by weight xs ≡ sum_by weight ys

@@ -1,23 +1,59 @@
 -- The value of an aggregation, from the arguments in their order.
-use Rattle.std.specs.Prelude.{◌≡◌, ℕ, List, All, length, ℤ, pos, Option, Some}
+use Rattle.std.specs.Prelude.{◌≡◌, ℕ, ◌<◌, ◌≤◌, ◌^◌, List, [], ◌∷◌, ◌++◌, All, Contains, length, sum, ℤ, pos, ◌+ℤ◌, ◌≤ℤ◌}
+use Rattle.std.specs.Int.{int_wrap}
+use mir.Syntax.{w64}
 use Rattle.aggregations.specs.declared.function.AggFn.{AggFn}
-use Rattle.aggregations.specs.declared.function.AggFn.TheVariants.{Count}
-use Rattle.aggregations.specs.declared.partial.Partial.{Partial}
-use Rattle.aggregations.specs.declared.partial.Partial.TheVariants.{Counted}
+use Rattle.aggregations.specs.declared.function.AggFn.TheVariants.{Count, Sum, Min, Max, Avg, Quantize, Lquantize}
+use Rattle.aggregations.specs.declared.held.Held.{Held}
+use Rattle.aggregations.specs.declared.held.Held.TheVariants.{Counted, Summed, Least, Greatest, Mean, Counts}
+use Rattle.aggregations.specs.Histograms.{histogram_of}
 
--- p is what the function makes of the arguments. What the functions other than count() make is no Partial yet
-abbrev pub IsValue : AggFn → Partial → List ℤ → Type 0
+-- the whole numbers, added up
+abbrev pub total : List ℤ → ℤ
+total [] = pos 0
+total (x ∷ xs) = x +ℤ total xs
+
+-- their total as a 64-bit number
+abbrev pub IsSum : ℤ → List ℤ → Type 0
+IsSum s args = s ≡ int_wrap w64 (total args)
+
+-- m is one of them, and none is below it
+abbrev pub IsLeast : ℤ → List ℤ → Type 0
+IsLeast m args = Contains args m × All (λ x. m ≤ℤ x) args
+
+-- m is one of them, and none is above it
+abbrev pub IsGreatest : ℤ → List ℤ → Type 0
+IsGreatest m args = Contains args m × All (λ x. x ≤ℤ m) args
+
+-- what is held is what the function makes of the arguments
+abbrev pub IsValue : AggFn → Held → List ℤ → Type 0
 IsValue Count (Counted n) args = n ≡ length args
-IsValue function p args = ⊥
+IsValue Sum (Summed s) args = IsSum s args
+IsValue Min (Least m) args = IsLeast m args
+IsValue Max (Greatest m) args = IsGreatest m args
+IsValue Avg (Mean m) args = IsSum m.sum args × (m.count ≡ length args)
+IsValue Quantize (Counts h) args = h ≡ histogram_of Quantize args
+IsValue (Lquantize r) (Counts h) args = h ≡ histogram_of (Lquantize r) args
+IsValue function held args = ⊥
 
--- each is count(), whose values alone there are yet
-abbrev pub AllCount : List AggFn → Type 0
-AllCount functions = All (λ f. f ≡ Count) functions
+-- whatever old is made of, new is made of that and one more
+abbrev pub TakesOne : (old : Held) → ℤ → (new : Held) → Type 0
+TakesOne old arg new = (function : AggFn) (args : List ℤ)
+    → IsValue function old args → IsValue function new (args ++ arg ∷ [])
 
--- the counts that p holds
-abbrev pub count_in : Partial → ℕ
+-- whatever old and other are made of, new is made of both
+abbrev pub TakesBoth : (old other new : Held) → Type 0
+TakesBoth old other new = (function : AggFn) (xs ys : List ℤ)
+    → IsValue function old xs → IsValue function other ys → IsValue function new (xs ++ ys)
+
+-- how many arguments are held, as far as that is kept
+abbrev pub count_in : Held → ℕ
 count_in (Counted n) = n
+count_in (Mean m) = m.count
+count_in (Counts h) = sum h.counts
+count_in held = 0
 
--- the number that p shows
-abbrev pub single_of : Partial → Option ℤ
-single_of (Counted n) = Some (pos n)
+-- what is true of each entry: at most 2^52 arguments, and a mean has some
+abbrev pub IsKept : Held → Type 0
+IsKept (Mean m) = (0 < m.count) × (m.count ≤ 2 ^ 52)
+IsKept held = count_in held ≤ 2 ^ 52

@@ -1,45 +1,177 @@
-//! What an entry holds.
+//! Entries: a value made from the arguments that came.
 
-ghost use Rattle.std.specs.Prelude.{◌≡◌, ◌+◌, ◌<◌, ◌≤◌, ◌^◌, ◌∷◌, ◌++◌, [], ℤ, List};
-ghost use Rattle.aggregations.specs.Values.{IsValue, count_in, single_of};
+ghost use Rattle.std.specs.Prelude.{◌≡◌, ◌+◌, ◌<◌, ◌≤◌, ◌^◌, ◌∷◌, [], IfOk, OnOk, OnErr, option_copied};
+ghost use Rattle.aggregations.specs.Figures.{figure_of, single_in, histogram_in, count_at, rank_of};
+ghost use Rattle.aggregations.specs.Values.{IsValue, TakesOne, TakesBoth, count_in};
 
 use crate::function::AggFn;
+use crate::held::{Held, Mean};
+use crate::histogram::Histogram;
+use std::alloc::{AllocError, Global};
+use std::marker::Model;
 
 /// The value of an entry, as far as its arguments have come.
-#[derive(Drop, Debug)]
-pub enum Partial {
-    /// How many arguments there were.
-    Counted(u64),
+#[derive(Drop)]
+pub struct Partial {
+    held: Held,
+}
+
+impl Model for Partial {
+    ghost use Rattle.aggregations.specs.declared.held.Held.{Held};
+    ghost use Rattle.aggregations.specs.Values.{IsKept};
+
+    ghost Value = { Held };
+
+    ghost view = { λ p. p.held };
+
+    ghost invariant = { λ p. IsKept p.held };
 }
 
 impl Partial {
     // The value of one argument.
-    pub(crate) fn of_one(function: AggFn, arg: i64) -> Partial
-        requires { function ≡ AggFn.Count }
-        ensures value { IsValue function result (arg ∷ []) }
-        ensures count { count_in result ≤ 1 }
+    pub(crate) fn of_one(alloc: Global, function: AggFn, arg: i64) -> Result<Partial, AllocError>
+        ensures value { IfOk result (λ p. IsValue function p (arg ∷ [])) }
+        ensures count { IfOk result (λ p. count_in p ≤ 1) }
     {
-        Partial::Counted(1)
-    }
-
-    // Takes one more argument.
-    pub(crate) fn note(&mut self, function: AggFn, arg: i64)
-        requires { count_in self.old < 2 ^ 52 }
-        ensures value { (args : List ℤ) → IsValue function self.old args → IsValue function self.new (args ++ arg ∷ []) }
-        ensures count { count_in self.new ≤ count_in self.old + 1 }
-    {
-        match self {
-            Partial::Counted(n) => *n += 1,
+        match function {
+            AggFn::Count => Ok(Partial {
+                held: Held::Counted(1),
+            }),
+            AggFn::Sum => Ok(Partial {
+                held: Held::Summed(arg),
+            }),
+            AggFn::Min => Ok(Partial {
+                held: Held::Least(arg),
+            }),
+            AggFn::Max => Ok(Partial {
+                held: Held::Greatest(arg),
+            }),
+            AggFn::Avg => {
+                let mean = Mean { sum: arg, count: 1 };
+                Ok(Partial {
+                    held: Held::Mean(mean),
+                })
+            }
+            AggFn::Quantize | AggFn::Lquantize(_) => {
+                let mut histogram = Histogram::new(alloc, function);
+                histogram.note(arg)?;
+                Ok(Partial {
+                    held: Held::Counts(histogram),
+                })
+            }
         }
     }
 
-    /// The number that the entry shows. What `AggTable::entries` lends is small enough for it.
-    pub fn single(&self) -> Option<i64>
-        requires { count_in self.now < 2 ^ 63 }
-        ensures { result ≡ single_of self.now }
+    // Takes one more argument.
+    pub(crate) fn note(&mut self, arg: i64) -> Result<(), AllocError>
+        requires { count_in self.old < 2 ^ 52 }
+        ensures value { OnOk result (TakesOne self.old arg self.new) }
+        ensures count { count_in self.new ≤ count_in self.old + 1 }
+        ensures err { OnErr result (self.new ≡ self.old) }
     {
-        match self {
-            Partial::Counted(n) => Some(*n as i64),
+        match &mut self.held {
+            Held::Counted(n) => {
+                *n += 1;
+                Ok(())
+            }
+            Held::Summed(sum) => {
+                *sum = sum.wrapping_add(arg);
+                Ok(())
+            }
+            Held::Least(least) => {
+                *least = (*least).min(arg);
+                Ok(())
+            }
+            Held::Greatest(greatest) => {
+                *greatest = (*greatest).max(arg);
+                Ok(())
+            }
+            Held::Mean(mean) => {
+                mean.sum = mean.sum.wrapping_add(arg);
+                mean.count += 1;
+                Ok(())
+            }
+            Held::Counts(histogram) => histogram.note(arg),
+        }
+    }
+
+    // Takes the arguments of another entry of the function too.
+    pub(crate) fn join(&mut self, other: &Partial) -> Result<(), AllocError>
+        requires { count_in self.old + count_in other.now ≤ 2 ^ 52 }
+        ensures value { OnOk result (TakesBoth self.old other.now self.new) }
+        ensures count { count_in self.new ≤ count_in self.old + count_in other.now }
+    {
+        let other = &other.held;
+        match &mut self.held {
+            Held::Counted(n) => {
+                *n += other.count();
+                Ok(())
+            }
+            Held::Summed(sum) => {
+                *sum = sum.wrapping_add(other.number());
+                Ok(())
+            }
+            Held::Least(least) => {
+                *least = (*least).min(other.number());
+                Ok(())
+            }
+            Held::Greatest(greatest) => {
+                *greatest = (*greatest).max(other.number());
+                Ok(())
+            }
+            Held::Mean(mean) => {
+                mean.sum = mean.sum.wrapping_add(other.number());
+                mean.count += other.count();
+                Ok(())
+            }
+            Held::Counts(histogram) => match other {
+                Held::Counts(more) => histogram.join(more),
+                _ => Ok(()),
+            },
+        }
+    }
+
+    /// The number that the entry shows. None for a histogram.
+    pub fn single(&self) -> Option<i64>
+        ensures { result ≡ single_in (figure_of self.now) }
+    {
+        match &self.held {
+            Held::Counted(n) => Some(*n as i64),
+            Held::Summed(x) | Held::Least(x) | Held::Greatest(x) => Some(*x),
+            Held::Mean(mean) => Some(mean.sum / mean.count as i64),
+            Held::Counts(_) => None,
+        }
+    }
+
+    /// The histogram that the entry shows. None for a number.
+    pub fn histogram(&self) -> Option<&Histogram>
+        ensures { option_copied result ≡ histogram_in (figure_of self.now) }
+    {
+        match &self.held {
+            Held::Counts(histogram) => Some(histogram),
+            _ => None,
+        }
+    }
+
+    /// How many arguments a bucket of the histogram has. None where the entry shows a number.
+    pub fn count_at(&self, bucket: u32) -> u64
+        ensures { result ≡ count_at (figure_of self.now) bucket }
+    {
+        match &self.held {
+            Held::Counts(histogram) => histogram.count_at(bucket),
+            _ => 0,
+        }
+    }
+
+    /// The number that entries are ordered by: the one shown, or the sum of label times count.
+    pub fn rank(&self) -> i128
+        ensures { result ≡ rank_of (figure_of self.now) }
+    {
+        match &self.held {
+            Held::Counted(n) => i128::from(*n),
+            Held::Summed(x) | Held::Least(x) | Held::Greatest(x) => i128::from(*x),
+            Held::Mean(mean) => i128::from(mean.sum / mean.count as i64),
+            Held::Counts(histogram) => histogram.rank(),
         }
     }
 }

@@ -17,7 +17,9 @@ use Rattle.d_lexer.specs.Tokens.{End, Clean, Bad, Lexes}
 use Rattle.d_lexer.specs.Scan.{Scanned, scan, scan_by, front_at}
 use Rattle.d_lexer.specs.Lexing.{settle, AreTokens, IsFirstFault, IsLexed, IsRefused, HasOne, Stops, Lexed}
 use Rattle.d_lexer.proofs.Sound.{whole_sound}
+use Rattle.d_lexer.specs.Small.{AreSmall}
 use Rattle.d_lexer.proofs.Complete.{complete}
+use Rattle.d_lexer.proofs.Small.{tokens_small}
 
 abbrev Read : List ℕ → Scanned
 Read bytes = scan 0 Head start bytes
@@ -133,3 +135,7 @@ settle_length (t ∷ ts) = ap suc (settle_length ts)
 pub few_of : {X : Type 0} (view : X → List Token) (bytes : List ℕ) → length bytes ≤ 65536 → (r : Result X LexFault) → Lexed view r (Read bytes) → IfOk r (λ x. length (view x) ≤ 65536)
 few_of view bytes within (Ok x) h = omega (arith, ap length h.0, settle_length (Read bytes).0, scan_few bytes 0 Head start)
 few_of view bytes within (Err e) h = search rules
+
+pub small_of : {X : Type 0} (view : X → List Token) (bytes : List ℕ) → length bytes ≤ 65536 → (r : Result X LexFault) → Lexed view r (Read bytes) → IfOk r (λ x. AreSmall (view x))
+small_of view bytes within (Ok x) h = tokens_small bytes (view x) (ok_of view bytes within (Ok x) h).1
+small_of view bytes within (Err e) h = search rules

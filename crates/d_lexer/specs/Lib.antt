@@ -8,4 +8,5 @@ pub mod Tokens
 pub mod Scan
 pub mod Lexing
 pub mod Spans
+pub mod Small
 pub mod Spelling

@@ -4,6 +4,7 @@ ghost use Rattle.std.specs.Prelude.{◌≡◌, ◌≢◌, ℕ, List};
 ghost use Rattle.std.specs.List.{AllByRecursion};
 ghost use Rattle.d_lexer.specs.Lexing.{AreTokens, IsFirstFault, HasOne};
 ghost use Rattle.d_lexer.specs.Marks.{mark_of};
+ghost use Rattle.d_lexer.specs.Small.{AreSmall};
 ghost use Rattle.d_lexer.specs.Spelling.{spelling};
 ghost use Rattle.d_lexer.specs.declared.place.Place.{Place};
 ghost use Rattle.d_lexer.specs.declared.place.Place.TheVariants.{Body};
@@ -56,4 +57,9 @@ pub fn marks_are_spelled()
 /// Each mark's spelling is that mark in a body; a closing slash stands in a predicate alone.
 pub fn spellings_are_marks()
     ensures { (k : Mark) → k ≢ marks.ClosingSlash → mark_of Body (spelling k) ≡ Some k }
+{}
+
+/// Numbers are below 2^64.
+pub fn numbers_are_small()
+    ensures { (bytes : List ℕ) (ts : List Token) → AreTokens bytes ts → AreSmall ts }
 {}

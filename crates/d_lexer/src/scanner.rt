@@ -4,6 +4,7 @@ ghost use Rattle.std.specs.Prelude.{◌≡◌, ◌↔◌, ℕ, List, ◌+◌, �
 ghost use Rattle.d_lexer.specs.Places as places;
 ghost use Rattle.d_lexer.specs.Scan as scan;
 ghost use Rattle.d_lexer.specs.Lexing as spec;
+ghost use Rattle.d_lexer.specs.Small.{AreSmall};
 ghost use Rattle.d_lexer.specs.declared.fault.LexFault.{LexFault};
 ghost use Rattle.d_lexer.specs.declared.place.Place.TheVariants.{Head};
 ghost use Rattle.d_lexer.specs.declared.place.Place.{Place};
@@ -111,6 +112,7 @@ pub fn lex(alloc: Global, bytes: &[u8]) -> Result<Vec<Token>, LexFault>
     ensures lexed { (ts : List Token) → spec.IsLexed bytes.now ts → MatchResult result (λ v. v.items ≡ ts) (λ e. e ≡ LexFault.Memory) }
     ensures refused { (fault : LexFault) → spec.IsRefused bytes.now fault → IsErrAnd result (λ e. (e ≡ fault) ⊎ (e ≡ LexFault.Memory)) }
     ensures few { IfOk result (λ ts. length ts.items ≤ 65536) }
+    ensures small { IfOk result (λ ts. AreSmall ts.items) }
 {
     if bytes.len() > MOST_BYTES {
         return Err(LexFault::TooLong);

@@ -10,3 +10,4 @@ pub mod Cuts
 pub mod Answering
 pub mod Deep
 pub mod Counts
+pub mod Numbers

@@ -9,3 +9,4 @@ pub mod Limits
 pub mod Symbols
 pub mod Lines
 pub mod Sizes
+pub mod Numbers

@@ -1,12 +1,14 @@
 //! From tokens to the tree.
 
 ghost use Rattle.std.specs.Prelude.{◌≡◌, ◌≤◌, ◌<◌, length, IfOk, Some, List, false, true, Err};
+ghost use Rattle.d_lexer.specs.Small as token;
 ghost use Rattle.d_parser.specs.Tree as trees;
 ghost use Rattle.d_parser.specs.Tree.{script_of};
 ghost use Rattle.d_parser.specs.Script as grammar;
 ghost use Rattle.d_parser.specs.Limits as limits;
 ghost use Rattle.d_parser.specs.Reading.{Gives};
 ghost use Rattle.d_parser.specs.Limits.{OnlyLimits};
+ghost use Rattle.d_parser.specs.Numbers.{AreSmall};
 ghost use Rattle.d_parser.specs.Sizes.{IsWithin};
 ghost use Rattle.d_parser.specs.declared.fault.ParseFault.TheVariants as faults;
 
@@ -22,7 +24,8 @@ use std::alloc::Global;
 /// `TooDeep` is decided first, then `TooManyClauses`; `Syntax` comes exactly where the tokens have no tree.
 #[tactic(auto, using(crate::proofs::Answering::found_of, crate::proofs::Answering::only_of, crate::proofs::Answering::passed_of))]
 pub fn parse(alloc: Global, tokens: &[Token]) -> Result<Script, ParseFault>
-    requires { length tokens.now ≤ 65536 }
+    requires few { length tokens.now ≤ 65536 }
+    requires small { token.AreSmall tokens.now }
     // Brackets and rows of tokens are looked at first.
     ensures deep { limits.is_deep 0 0 tokens.now ≡ true → result ≡ Err faults.TooDeep }
     // Then clauses are counted.
@@ -33,6 +36,8 @@ pub fn parse(alloc: Global, tokens: &[Token]) -> Result<Script, ParseFault>
     ensures found { IfOk result (λ s. grammar.IsScript (script_of s) tokens.now) }
     // Its descriptions, its statements, and its declarations with all places of variables are at most 65,536 each.
     ensures few { IfOk result (λ s. IsWithin 65536 (script_of s)) }
+    // Its numbers are below 2^64, as those of the tokens are.
+    ensures small { IfOk result (λ s. AreSmall (script_of s)) }
     // Where there is a tree it is answered, and no other, unless memory runs out.
     ensures only { limits.is_deep 0 0 tokens.now ≡ false → limits.clauses tokens.now ≤ 256 → (s : List trees.ItemTree) → grammar.IsScript s tokens.now → Gives script_of result (Some s) }
 {

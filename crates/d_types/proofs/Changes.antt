@@ -11,18 +11,18 @@ use Rattle.d_types.specs.declared.typed.Operation.{Operation}
 use Rattle.d_types.specs.declared.typed.Variable.{Variable}
 use Rattle.d_types.specs.Typed.{Typed, Typeds, Update, Count}
 use Rattle.d_types.specs.Storage.{Variables, word_of, value_at}
-use Rattle.d_types.specs.Expressions.{Gives, Meets, with, given, number, eval, keys_of, operation_of, works_in, updated, moved}
+use Rattle.d_types.specs.Expressions.{Has, Meets, with, given, number, eval, keys_of, operation_of, works_in, updated, moved}
 
 pub update_meets : (f : Firing) (o : Operation) (x : Variable) (keys : Typeds) (a : Typed) (vars found after last : Variables)
     (key : List KeyPart) (old y : ℕ) (result : Result Value EvalFault) →
-    keys_of f keys vars ≡ Gives key found → old ≡ word_of (value_at found x key) → number (eval f a found) ≡ Gives y after →
+    keys_of f keys vars ≡ Has key found → old ≡ word_of (value_at found x key) → number (eval f a found) ≡ Has y after →
     Meets (with (given (operation_of o (narrow (works_in o) old) y) after) (updated x key)) result last →
     Meets (eval f (Update o x keys a) vars) result last
 update_meets f o x keys a vars found after last key old y result keyed was right meets = rw (keyed, right, ← was) meets
 
 pub count_meets : (f : Firing) (step : Step) (answer : Answer) (x : Variable) (keys : Typeds) (vars found last : Variables)
     (key : List KeyPart) (old : ℕ) (result : Result Value EvalFault) →
-    keys_of f keys vars ≡ Gives key found → old ≡ word_of (value_at found x key) →
+    keys_of f keys vars ≡ Has key found → old ≡ word_of (value_at found x key) →
     Meets (moved step answer x key old found) result last →
     Meets (eval f (Count step answer x keys) vars) result last
 count_meets f step answer x keys vars found last key old result keyed was meets = rw (keyed, ← was) meets

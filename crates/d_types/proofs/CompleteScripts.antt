@@ -1,5 +1,5 @@
 -- The recursion answers each script that the rules give.
-use Rattle.std.proofs.Common.{◌≡◌, ℕ, ◌≤◌, nat_le, ◌⊎◌, inl, inr, List, [], ◌∷◌, ◌++◌, length, true, Option, Some, None, Result, Ok, Err, refl, sym, ap, subst, ◌∙◌, append_assoc, append-nil, arith}
+use Rattle.std.proofs.Common.{◌≡◌, ℕ, ◌≤◌, nat_le, inl, inr, List, [], ◌∷◌, ◌++◌, true, Option, Some, None, Ok, refl, subst, append_assoc, append-nil, arith}
 use Rattle.std.proofs.lemmas.Bool.Decides.{nat_tests}
 use Rattle.d_parser.specs.declared.tree.DeclaredType.{DeclaredType}
 use Rattle.d_parser.specs.Tree as tree
@@ -9,7 +9,6 @@ use Rattle.d_types.specs.declared.typed.Space.{Space}
 use Rattle.d_types.specs.declared.typed.Space.TheVariants as s
 use Rattle.d_types.specs.declared.words.Callee.{Callee}
 use Rattle.d_types.specs.declared.words.Callee.TheVariants as f
-use Rattle.d_types.specs.Faults.{Fault}
 use Rattle.d_types.specs.Words.{callee_named}
 use Rattle.d_types.specs.Typed.{Typed, Typeds, end, more, add, Action, Aggs, ClauseMeant, ScriptMeant}
 use Rattle.d_types.specs.Needs.{need}
@@ -130,9 +129,4 @@ items_complete done rows aggs (tree.Probing c ∷ rest) all last known h fit =
     rw (probes_complete rows aggs c h.0 h.2 h.3 h.4 both.0, items_complete (done ++ h.0 ∷ []) h.2 h.3 rest h.1 last known h.5 both.1, append_assoc, h.6) refl
 
 pub script_complete : (source : List ItemTree) (m : ScriptMeant) → IsWell source m → ScriptFits m → script source ≡ Ok m
-script_complete source m h fit = rw (items_complete [] [] [] source m.clauses h.0 m.aggregations h.1 fit) refl
-
-pub one_script_meant : (source : List ItemTree) (m n : ScriptMeant) → IsWell source m → ScriptFits m → IsWell source n → ScriptFits n → m ≡ n
-one_script_meant source m n g d h e =
-    let both : ◌≡◌ {A = Result ScriptMeant Fault} (Ok m) (Ok n) = sym (script_complete source m g d) ∙ script_complete source n h e in
-    cc
+script_complete source m h fit = rw (items_complete [] [] [] source m.clauses h.0 m.aggregations h.1 fit, ← h.2) refl

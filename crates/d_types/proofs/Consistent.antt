@@ -16,6 +16,7 @@ use Rattle.d_values.specs.declared.int_type.IntType.{IntType}
 use Rattle.d_values.specs.declared.int_type.DType.{DType}
 use Rattle.d_values.specs.declared.int_type.DType.TheVariants.{Int, Text}
 use Rattle.d_values.specs.Numbers.{IsNumber, bits_of}
+use Rattle.d_values.specs.Texts.{longest}
 use Rattle.d_values.specs.Types.{INT32, INT64, UINT32, UINT64, promoted_of, common_of}
 use Rattle.d_values.specs.Widths.{is_width}
 use Rattle.d_types.specs.declared.operators.AssignSort.{AssignSort}
@@ -27,7 +28,7 @@ use Rattle.d_types.specs.declared.typed.Space.{Space}
 use Rattle.d_types.specs.declared.typed.Space.TheVariants as s
 use Rattle.d_types.specs.Constants.{type_of_constant, with_l, int_type}
 use Rattle.d_types.specs.Held.{IsWord, Slots, IsConsistent, AreConsistent}
-use Rattle.d_types.specs.Numbers.{IsSmall, HasSmall, HaveSmall}
+use Rattle.d_parser.specs.Numbers.{IsSmall, HasSmall, HaveSmall}
 use Rattle.d_types.specs.Operators.{binary_sort, assign_sort, same_type, converted}
 use Rattle.d_types.specs.Rules.{Types, AllTypes, IsInteger, Joins, Chooses, Loads, Reads, Places, Targets, Fits, Stores, Steps, Calls}
 use Rattle.d_types.specs.Targets.{new_row, settled, space_of, type_at_once}
@@ -60,7 +61,7 @@ both_true : (a b : Bool) → a && b ≡ true → (a ≡ true) × (b ≡ true)
 both_true true b e = (refl, e)
 both_true false b e = cc
 
-same_type_is : (t u : IntType) → same_type t u ≡ true → t ≡ u
+pub same_type_is : (t u : IntType) → same_type t u ≡ true → t ≡ u
 same_type_is t u e =
     let p = both_true (t.width == u.width) (if t.signed then u.signed else not u.signed) e in
     let w : t.width ≡ u.width = grind (arith, nat_tests, p.0) in
@@ -237,7 +238,7 @@ module _ (rows : Rows) (space : Space) (slot : ℕ) (keys : Typeds) (x : Typed) 
 
 constant_fine : (slots : Slots) (k : _) → IsSmall k → IsConsistent slots (constant k)
 constant_fine slots (c.Number n suffix) h = word_of_type n suffix h
-constant_fine slots (c.Text bytes) h = omega (arith, length-take 255 bytes)
+constant_fine slots (c.Text bytes) h = omega (arith, length-take longest bytes)
 
 stepped_fine : (rows mid after : Rows) (by : Step) (answer : Answer) (x : Variable) (t : Option DType) (slot : ℕ) (keys : Typeds) (z : Typed) →
     Grows rows mid → AreConsistent (type_at mid) keys → Targets mid x t keys slot after → Steps by answer (space_of x) slot keys after z → Leaves rows z after

@@ -1,25 +1,31 @@
 -- The trees of a well-typed script are consistent with its last table of variables.
-use Rattle.std.proofs.Common.{◌≡◌, ℕ, List, [], ◌∷◌, Option, Some, None, sym, subst}
+use Rattle.std.proofs.Common.{◌≡◌, ℕ, zero, suc, List, [], ◌∷◌, slice_get, All, Option, Some, None, refl, sym, ◌∙◌, subst}
+use Rattle.std.specs.Option.{option_and_then}
+use Rattle.std.proofs.Math.Logic.{∥∥₁_elim}
+use Rattle.std.proofs.lemmas.List.Elements.{All-nil, All-cons}
 use Rattle.d_parser.specs.declared.tree.DeclaredType.{DeclaredType}
 use Rattle.d_parser.specs.Tree as tree
 use Rattle.d_parser.specs.Tree.{Tree, Trees, StmtTree, DeclarationTree, ClauseTree, ItemTree}
+use Rattle.d_values.specs.declared.int_type.DType.{DType}
 use Rattle.d_types.specs.declared.typed.Space.{Space}
 use Rattle.d_types.specs.declared.typed.Space.TheVariants as s
 use Rattle.d_types.specs.declared.words.Callee.{Callee}
 use Rattle.d_types.specs.declared.words.Callee.TheVariants as f
 use Rattle.d_types.specs.Aggregations.{first}
 use Rattle.d_types.specs.Constants.{declared_type}
-use Rattle.d_types.specs.Held.{Slots, IsConsistent}
-use Rattle.d_types.specs.Numbers.{HasSmall, HaveSmall, InPredicate, InStatement, InStatements, AreSmall}
-use Rattle.d_types.specs.Scripts.{declared_kinds}
-use Rattle.d_types.specs.Rules.{Types, AllTypes}
+use Rattle.d_types.specs.Held.{slots_of, IsConsistent}
+use Rattle.d_parser.specs.Numbers.{HasSmall, HaveSmall, InPredicate, InStatement, InStatements, AreSmall}
+use Rattle.d_types.specs.Scripts.{declared_kinds, IsMeant}
+use Rattle.d_types.specs.Rules.{AllTypes}
 use Rattle.d_types.specs.Typed.{Typed, Typeds, end, more, Action, Evaluate, Trace, Print, Exit, Aggregate, Aggs, ClauseMeant, ScriptMeant}
-use Rattle.d_types.specs.Variables.{Rows, type_at}
+use Rattle.d_types.specs.Variables.{Rows, type_at, types_in}
 use Rattle.d_types.specs.WellTyped.{Evaluates, Prints, Acts, Stands, Declares, IsDeclared, Tests, Does, AllDo, Probes, AllItems, IsWell}
 use Rattle.d_types.specs.Words.{callee_named}
 use Rattle.d_types.specs.Wholes.{EachIs, AnyIs, ActionIs, ActionsAre, ClauseIs, ClausesAre}
 use Rattle.d_types.proofs.Consistent.{types_leave}
-use Rattle.d_types.proofs.Growing.{Grows, grows_on, same_rows, push_grows, consistent_on}
+use Rattle.d_types.proofs.OneConsistency.{clause_prop}
+use Rattle.d_types.proofs.SoundScripts.{script_sound}
+use Rattle.d_types.proofs.Growing.{Extends, Grows, grows_on, same_rows, push_grows, consistent_on}
 
 -- ---- what holds of every whole expression stays so
 
@@ -157,5 +163,24 @@ items_leave rows aggs (tree.Probing c ∷ rest) all after known small h =
     let q = items_leave h.2 h.3 rest h.1 after known small.2 h.5 in
     (grows_on rows h.2 after p.0 q.0, subst (ClausesAre (Of after)) (sym h.6) (clause_on (Of h.2) (Of after) (of_on h.2 after q.0) h.0 p.1, q.1))
 
-pub script_is : (source : List ItemTree) (m : ScriptMeant) → AreSmall source → IsWell source m → (slots : Slots) × ClausesAre (IsConsistent slots) m.clauses
-script_is source m small h = (type_at h.0, (items_leave [] [] source m.clauses h.0 m.aggregations small h.1).1)
+-- ---- the types of a script's variables
+
+slot_is : (rows : Rows) (slot : ℕ) → option_and_then (λ t. t) (slice_get (types_in rows) slot) ≡ type_at rows slot
+slot_is [] slot = refl
+slot_is (r ∷ rows) zero = refl
+slot_is (r ∷ rows) (suc slot) = slot_is rows slot
+
+all_clauses : (P Q : Typed → Type 0) (to : (z : Typed) → P z → Q z) (all : List ClauseMeant) → ClausesAre P all → All (ClauseIs Q) all
+all_clauses P Q to [] h = All-nil (ClauseIs Q)
+all_clauses P Q to (c ∷ rest) h = All-cons (ClauseIs Q) c rest (clause_on P Q to c h.0) (all_clauses P Q to rest h.1)
+
+well_is_consistent : (source : List ItemTree) (m : ScriptMeant) → AreSmall source → IsWell source m → All (ClauseIs (IsConsistent (slots_of m))) m.clauses
+well_is_consistent source m small h =
+    let extends : Extends (type_at h.0) (slots_of m) =
+    λ slot t known. subst (λ (l : List (Option DType)). option_and_then (λ u. u) (slice_get l slot) ≡ Some t) (sym h.2) (slot_is h.0 slot ∙ known)
+    in
+    all_clauses (Of h.0) (IsConsistent (slots_of m)) (consistent_on (type_at h.0) (slots_of m) extends) m.clauses (items_leave [] [] source m.clauses h.0 m.aggregations small h.1).1
+
+pub script_is_consistent : (m : ScriptMeant) → ∥ IsMeant m ∥₁ → All (ClauseIs (IsConsistent (slots_of m))) m.clauses
+script_is_consistent m meant =
+    ∥∥₁_elim meant (hlevel (clause_prop (slots_of m))) (λ (h : IsMeant m). well_is_consistent h.0 m h.2 (script_sound h.0 m h.3))

@@ -3,7 +3,7 @@ use Rattle.std.proofs.Common.{◌≡◌, ℕ, zero, suc, false, ◌||◌, ◌∷
 use Rattle.d_values.specs.declared.value.Value.{Value}
 use Rattle.d_values.specs.declared.value.Value.TheVariants as va
 use Rattle.d_values.specs.Operators.{holds_of}
-use Rattle.d_values.specs.Texts.{text_cmp}
+use Rattle.d_values.specs.Texts.{text_cmp, joined_text}
 use Rattle.d_values.specs.Words.{narrow, order_of, divides}
 use Rattle.firing_reader.specs.declared.firing.Firing.{Firing}
 use Rattle.d_types.specs.declared.typed.LogicOperator.TheVariants as lo
@@ -11,7 +11,7 @@ use Rattle.d_types.specs.declared.typed.Operation.{Operation}
 use Rattle.d_types.specs.declared.typed.Operation.TheVariants as op
 use Rattle.d_types.specs.Typed.{Typed, Constant, Text, Fixed, Read, Unary, Operate, Compare, CompareText, Logic, Choice, Convert, Assign, Update, Count, Strlen, Strjoin, Typeds, end, more}
 use Rattle.d_types.specs.Storage.{Variables, word_of, value_at}
-use Rattle.d_types.specs.Expressions.{Outcome, Gives, Faults, with, given, integer, number, text, truth, bit, inverse, at_zero, part_of, unary_of, operation_of, works_in, assigned, updated, moved, eval, keys_of}
+use Rattle.d_types.specs.Expressions.{Outcome, Has, Faults, with, given, integer, number, text, truth, bit, inverse, at_zero, part_of, unary_of, operation_of, works_in, assigned, updated, moved, eval, keys_of}
 use Rattle.d_types.specs.Laws.{is_division, has_division, has_division_in, is_fault}
 use Rattle.d_types.proofs.Neither.{left, right}
 
@@ -20,15 +20,15 @@ Succeeds o = is_fault o ≡ false
 
 one : {A B : Type 0} (o : Outcome A) (go : A → Variables → Outcome B) →
     Succeeds o → ((x : A) (vars : Variables) → Succeeds (go x vars)) → Succeeds (with o go)
-one (Gives x after) go good rest = rest x after
+one (Has x after) go good rest = rest x after
 one (Faults after) go good rest = good
 
 word : (o : Outcome Value) → Succeeds o → Succeeds (number o)
-word (Gives x after) good = refl
+word (Has x after) good = refl
 word (Faults after) good = good
 
 bytes : (o : Outcome Value) → Succeeds o → Succeeds (text o)
-bytes (Gives x after) good = refl
+bytes (Has x after) good = refl
 bytes (Faults after) good = good
 
 by_zero : {A : Type 0} (n : ℕ) (a b : Outcome A) → Succeeds a → Succeeds b → Succeeds (at_zero n a b)
@@ -41,7 +41,7 @@ given_word (op.Arithmetic o t) x y vars none = let e : divides o ≡ false = non
 given_word (op.Shift o t) x y vars none = refl
 
 quotient : (o : Operation) (x y : ℕ) (vars : Variables) → is_division o ≡ false → Succeeds (integer (given (operation_of o x y) vars))
-quotient o x y vars none = one (given (operation_of o x y) vars) (λ word. Gives (va.Int word)) (given_word o x y vars none) (λ w vars. refl)
+quotient o x y vars none = one (given (operation_of o x y) vars) (λ word. Has (va.Int word)) (given_word o x y vars none) (λ w vars. refl)
 
 mutual
   pub eval_gives : (f : Firing) (e : Typed) (vars : Variables) → has_division e ≡ false → Succeeds (eval f e vars)
@@ -49,9 +49,9 @@ mutual
   eval_gives f (Text bs) vars none = refl
   eval_gives f (Fixed b) vars none = refl
   eval_gives f (Read x keys) vars none =
-      one (keys_of f keys vars) (λ key vars. Gives (value_at vars x key) vars) (keys_give f keys vars none) (λ key vars. refl)
+      one (keys_of f keys vars) (λ key vars. Has (value_at vars x key) vars) (keys_give f keys vars none) (λ key vars. refl)
   eval_gives f (Unary o t a) vars none =
-      one (number (eval f a vars)) (λ x. Gives (va.Int (unary_of o t x))) (word (eval f a vars) (eval_gives f a vars none)) (λ x vars. refl)
+      one (number (eval f a vars)) (λ x. Has (va.Int (unary_of o t x))) (word (eval f a vars) (eval_gives f a vars none)) (λ x vars. refl)
   eval_gives f (Operate o a b) vars none =
       let parts : (has_division a || has_division b) ≡ false = right (is_division o) (has_division a || has_division b) none in
       one (number (eval f a vars)) (λ x vars. with (number (eval f b vars)) (λ y vars. integer (given (operation_of o x y) vars)))
@@ -60,31 +60,31 @@ mutual
       (word (eval f b vars) (eval_gives f b vars (right (has_division a) (has_division b) parts)))
       (λ y vars. quotient o x y vars (left (is_division o) (has_division a || has_division b) none)))
   eval_gives f (Compare o t a b) vars none =
-      one (number (eval f a vars)) (λ x vars. with (number (eval f b vars)) (λ y. Gives (va.Int (truth (holds_of o (order_of t x y))))))
+      one (number (eval f a vars)) (λ x vars. with (number (eval f b vars)) (λ y. Has (va.Int (truth (holds_of o (order_of t x y))))))
       (word (eval f a vars) (eval_gives f a vars (left (has_division a) (has_division b) none)))
-      (λ x vars. one (number (eval f b vars)) (λ y. Gives (va.Int (truth (holds_of o (order_of t x y)))))
+      (λ x vars. one (number (eval f b vars)) (λ y. Has (va.Int (truth (holds_of o (order_of t x y)))))
       (word (eval f b vars) (eval_gives f b vars (right (has_division a) (has_division b) none))) (λ y vars. refl))
   eval_gives f (CompareText o a b) vars none =
-      one (text (eval f a vars)) (λ x vars. with (text (eval f b vars)) (λ y. Gives (va.Int (truth (holds_of o (text_cmp x y))))))
+      one (text (eval f a vars)) (λ x vars. with (text (eval f b vars)) (λ y. Has (va.Int (truth (holds_of o (text_cmp x y))))))
       (bytes (eval f a vars) (eval_gives f a vars (left (has_division a) (has_division b) none)))
-      (λ x vars. one (text (eval f b vars)) (λ y. Gives (va.Int (truth (holds_of o (text_cmp x y)))))
+      (λ x vars. one (text (eval f b vars)) (λ y. Has (va.Int (truth (holds_of o (text_cmp x y)))))
       (bytes (eval f b vars) (eval_gives f b vars (right (has_division a) (has_division b) none))) (λ y vars. refl))
   eval_gives f (Logic lo.And a b) vars none =
-      one (number (eval f a vars)) (λ x vars. at_zero x (Gives (va.Int 0) vars) (with (number (eval f b vars)) (λ y. Gives (va.Int (bit y)))))
+      one (number (eval f a vars)) (λ x vars. at_zero x (Has (va.Int 0) vars) (with (number (eval f b vars)) (λ y. Has (va.Int (bit y)))))
       (word (eval f a vars) (eval_gives f a vars (left (has_division a) (has_division b) none)))
-      (λ x vars. by_zero x (Gives (va.Int 0) vars) (with (number (eval f b vars)) (λ y. Gives (va.Int (bit y)))) refl
-      (one (number (eval f b vars)) (λ y. Gives (va.Int (bit y)))
+      (λ x vars. by_zero x (Has (va.Int 0) vars) (with (number (eval f b vars)) (λ y. Has (va.Int (bit y)))) refl
+      (one (number (eval f b vars)) (λ y. Has (va.Int (bit y)))
       (word (eval f b vars) (eval_gives f b vars (right (has_division a) (has_division b) none))) (λ y vars. refl)))
   eval_gives f (Logic lo.Or a b) vars none =
-      one (number (eval f a vars)) (λ x vars. at_zero x (with (number (eval f b vars)) (λ y. Gives (va.Int (bit y)))) (Gives (va.Int 1) vars))
+      one (number (eval f a vars)) (λ x vars. at_zero x (with (number (eval f b vars)) (λ y. Has (va.Int (bit y)))) (Has (va.Int 1) vars))
       (word (eval f a vars) (eval_gives f a vars (left (has_division a) (has_division b) none)))
-      (λ x vars. by_zero x (with (number (eval f b vars)) (λ y. Gives (va.Int (bit y)))) (Gives (va.Int 1) vars)
-      (one (number (eval f b vars)) (λ y. Gives (va.Int (bit y)))
+      (λ x vars. by_zero x (with (number (eval f b vars)) (λ y. Has (va.Int (bit y)))) (Has (va.Int 1) vars)
+      (one (number (eval f b vars)) (λ y. Has (va.Int (bit y)))
       (word (eval f b vars) (eval_gives f b vars (right (has_division a) (has_division b) none))) (λ y vars. refl)) refl)
   eval_gives f (Logic lo.Xor a b) vars none =
-      one (number (eval f a vars)) (λ x vars. with (number (eval f b vars)) (λ y. Gives (va.Int (at_zero x (bit y) (inverse y)))))
+      one (number (eval f a vars)) (λ x vars. with (number (eval f b vars)) (λ y. Has (va.Int (at_zero x (bit y) (inverse y)))))
       (word (eval f a vars) (eval_gives f a vars (left (has_division a) (has_division b) none)))
-      (λ x vars. one (number (eval f b vars)) (λ y. Gives (va.Int (at_zero x (bit y) (inverse y))))
+      (λ x vars. one (number (eval f b vars)) (λ y. Has (va.Int (at_zero x (bit y) (inverse y))))
       (word (eval f b vars) (eval_gives f b vars (right (has_division a) (has_division b) none))) (λ y vars. refl))
   eval_gives f (Choice t c a b) vars none =
       let others : (has_division a || has_division b) ≡ false = right (has_division c) (has_division a || has_division b) none in
@@ -93,7 +93,7 @@ mutual
       (λ x vars. by_zero x (eval f b vars) (eval f a vars)
       (eval_gives f b vars (right (has_division a) (has_division b) others)) (eval_gives f a vars (left (has_division a) (has_division b) others)))
   eval_gives f (Convert t u a) vars none =
-      one (number (eval f a vars)) (λ x. Gives (va.Int (narrow u x))) (word (eval f a vars) (eval_gives f a vars none)) (λ x vars. refl)
+      one (number (eval f a vars)) (λ x. Has (va.Int (narrow u x))) (word (eval f a vars) (eval_gives f a vars none)) (λ x vars. refl)
   eval_gives f (Assign x keys a) vars none =
       one (keys_of f keys vars) (λ key vars. with (eval f a vars) (assigned x key))
       (keys_give f keys vars (left (has_division_in keys) (has_division a) none))
@@ -112,17 +112,17 @@ mutual
   eval_gives f (Count step answer x keys) vars none =
       one (keys_of f keys vars) (λ key vars. moved step answer x key (word_of (value_at vars x key)) vars) (keys_give f keys vars none) (λ key vars. refl)
   eval_gives f (Strlen a) vars none =
-      one (text (eval f a vars)) (λ x. Gives (va.Int (length x))) (bytes (eval f a vars) (eval_gives f a vars none)) (λ x vars. refl)
+      one (text (eval f a vars)) (λ x. Has (va.Int (length x))) (bytes (eval f a vars) (eval_gives f a vars none)) (λ x vars. refl)
   eval_gives f (Strjoin a b) vars none =
-      one (text (eval f a vars)) (λ x vars. with (text (eval f b vars)) (λ y. Gives (va.Text (take 255 (x ++ y)))))
+      one (text (eval f a vars)) (λ x vars. with (text (eval f b vars)) (λ y. Has (va.Text (joined_text x y))))
       (bytes (eval f a vars) (eval_gives f a vars (left (has_division a) (has_division b) none)))
-      (λ x vars. one (text (eval f b vars)) (λ y. Gives (va.Text (take 255 (x ++ y))))
+      (λ x vars. one (text (eval f b vars)) (λ y. Has (va.Text (joined_text x y)))
       (bytes (eval f b vars) (eval_gives f b vars (right (has_division a) (has_division b) none))) (λ y vars. refl))
 
   keys_give : (f : Firing) (keys : Typeds) (vars : Variables) → has_division_in keys ≡ false → Succeeds (keys_of f keys vars)
   keys_give f end vars none = refl
   keys_give f (more a rest) vars none =
-      one (eval f a vars) (λ x vars. with (keys_of f rest vars) (λ key. Gives (part_of x ∷ key)))
+      one (eval f a vars) (λ x vars. with (keys_of f rest vars) (λ key. Has (part_of x ∷ key)))
       (eval_gives f a vars (left (has_division a) (has_division_in rest) none))
-      (λ x vars. one (keys_of f rest vars) (λ key. Gives (part_of x ∷ key))
+      (λ x vars. one (keys_of f rest vars) (λ key. Has (part_of x ∷ key))
       (keys_give f rest vars (right (has_division a) (has_division_in rest) none)) (λ key vars. refl))

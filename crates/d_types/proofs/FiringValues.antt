@@ -1,4 +1,4 @@
--- The built-ins of a trace's firings, and variables that were never assigned, are values of their types.
+-- The built-ins of firings, and variables that were never assigned, are values of their types.
 use Rattle.std.specs.Prelude.{◌≡◌, ℕ, ◌-◌, ◌%◌, ◌^◌, ◌<◌, ◌≤◌, ℤ, pos, negsuc, List, [], length, All, get_or, FitsSigned}
 use Rattle.std.proofs.Common.{sym, ap, ◌∙◌, arith, inl, inr, subst}
 use Rattle.std.specs.Int.{cast_unsigned, w64}
@@ -11,19 +11,16 @@ use Rattle.std.proofs.Math.Nat.{mod-eq_of_lt}
 use Rattle.d_values.specs.declared.int_type.IntType.{IntType}
 use Rattle.d_values.specs.declared.int_type.DType.{DType}
 use Rattle.d_values.specs.declared.int_type.DType.TheVariants as ty
-use Rattle.d_values.specs.declared.key.KeyPart.{KeyPart}
 use Rattle.d_values.specs.Numbers.{bits_of}
+use Rattle.d_values.specs.Stores.{blank}
 use Rattle.d_values.specs.Types.{INT32, INT64, UINT64}
 use Rattle.d_values.specs.Words.{extended, narrow}
 use Rattle.d_values.proofs.Narrowing.{extended_low}
 use Rattle.firing_reader.specs.declared.firing.Firing.{Firing}
-use Rattle.firing_reader.specs.Firings.{IsFiring, IsIntFrom}
+use Rattle.firing_reader.specs.Firings.{HasRanges, IsIntFrom}
 use Rattle.d_types.specs.declared.typed.BuiltIn.TheVariants as bi
-use Rattle.d_types.specs.declared.typed.Space.{Space}
-use Rattle.d_types.specs.declared.typed.Space.TheVariants as sp
 use Rattle.d_types.specs.Variables.{kind_of}
-use Rattle.d_types.specs.Storage.{variables, value_in}
-use Rattle.d_types.specs.Held.{IsWord, IsOf, HasTypedBuiltIns, Slots, AreTyped}
+use Rattle.d_types.specs.Held.{IsWord, IsOf, HasTypedBuiltIns, Slots, AreTypedLocals, AreTypedOwn}
 use Rattle.d_types.proofs.ValueTypes.{narrow_is}
 
 -- ---- firings
@@ -51,12 +48,12 @@ argument_is args n fit = elim (cases_lt n (length args)) [
   | inr past ↦ subst (FitsSigned w64) (sym (get_or_past args n (pos 0) past)) (omega arith)
 ]
 
-pub firing_is : (f : Firing) → IsFiring f → HasTypedBuiltIns f
+pub firing_is : (f : Firing) → HasRanges f → HasTypedBuiltIns f
 firing_is f is (bi.Argument n) = long_is (get_or f.args n (pos 0)) (argument_is f.args n is.args)
 firing_is f is bi.Timestamp = time_is f.time is.time
 firing_is f is bi.Cpu = int_is 0 f.cpu is.cpu
 firing_is f is bi.Pid = int_is 0 f.pid is.pid
-firing_is f is bi.Tid = int_is 1 f.thread is.thread
+firing_is f is bi.Tid = int_is 0 f.thread is.thread
 firing_is f is bi.Execname = is.execname.short
 firing_is f is bi.Probeprov = is.provider.short
 firing_is f is bi.Probemod = is.probemod.short
@@ -71,12 +68,12 @@ zero_is t =
     let same : narrow t 0 ≡ 0 = ap (extended t) low ∙ extended_low t 0 (pow_pos (t.width - 1)) in
     subst (IsWord t) same (narrow_is t 0)
 
-blank_is : (space : Space) (t : DType) (slot : ℕ) (key : List KeyPart) →
-    IsOf t (value_in space (variables [] []) (record { slot = slot; kind = kind_of t }) key)
-blank_is sp.Thread (ty.Int t) slot key = zero_is t
-blank_is sp.Thread ty.Text slot key = omega arith
-blank_is sp.Clause (ty.Int t) slot key = zero_is t
-blank_is sp.Clause ty.Text slot key = omega arith
+blank_is : (t : DType) → IsOf t (blank (kind_of t))
+blank_is (ty.Int t) = zero_is t
+blank_is ty.Text = omega arith
 
-pub unassigned_is : (slots : Slots) → AreTyped slots (variables [] [])
-unassigned_is slots x key known = blank_is x.space x.holds x.slot key
+pub locals_unassigned : (slots : Slots) → AreTypedLocals slots (λ var. blank var.kind)
+locals_unassigned slots slot t known = blank_is t
+
+pub own_unassigned : (slots : Slots) → AreTypedOwn slots (λ var key. blank var.kind)
+own_unassigned slots slot t key known = blank_is t

@@ -1,5 +1,7 @@
 -- What is typed fits into six registers.
 use Rattle.std.proofs.Common.{◌≡◌, ℕ, ◌≤◌, nat_le, List, [], ◌∷◌, ◌++◌, Bool, true, false, if◌then◌else◌, Option, Some, None, Result, Ok, Err, refl, sym, ap, ◌∙◌, subst, arith}
+use Rattle.std.proofs.Math.Bridge.{le_prop}
+use Rattle.std.proofs.Math.Logic.{∥∥₁_elim}
 use Rattle.std.proofs.lemmas.Bool.Decides.{nat_tests}
 use Rattle.d_parser.specs.Tree as tree
 use Rattle.d_parser.specs.Tree.{Tree, Trees, StmtTree, ClauseTree, ItemTree}
@@ -14,12 +16,12 @@ use Rattle.d_types.specs.Faults.{◌>>=◌, Fault, Cause, refuse, unless, Undecl
 use Rattle.d_types.specs.Words.{callee_named, aggregating_named}
 use Rattle.d_types.specs.Typed.{Typed, Typeds, end, more, add, type_of, Action, Evaluate, Trace, Print, Exit, Aggregate, Agg, Aggs, ClauseMeant, ScriptMeant}
 use Rattle.d_types.specs.Needs.{need}
-use Rattle.d_types.specs.Variables.{Rows}
+use Rattle.d_types.specs.Variables.{Rows, types_in}
 use Rattle.d_types.specs.Formats.{pieces, fit}
 use Rattle.d_types.specs.Typing.{line_of, only, expr, whole}
 use Rattle.d_types.specs.Statements.{wholes, trace, exit_by, exit, print_with, not_printed, text_of, print_by, print, evaluate, called, action}
 use Rattle.d_types.specs.Aggregations.{arguments_fit, first, function, find_from, joined, aggregate}
-use Rattle.d_types.specs.Scripts.{declaration, tested, predicate, statement, statements, clause, item, items, script}
+use Rattle.d_types.specs.Scripts.{declaration, tested, predicate, statement, statements, clause, item, items, script, IsMeant}
 use Rattle.d_types.specs.Fitting.{Fits, ScriptFits}
 use Rattle.d_types.specs.Wholes.{EachIs, AnyIs, ActionIs, ActionsAre, ClauseIs, ClausesAre}
 use Rattle.d_types.proofs.Sound.{bound}
@@ -226,5 +228,33 @@ items_fit done rows aggs (t ∷ rest) r fits h =
 pub script_fits : (source : List ItemTree) (m : ScriptMeant) → script source ≡ Ok m → ScriptFits m
 script_fits source m h =
     let p = bound (items [] [] [] source) _ _ h in
-    let same : record { clauses = p.0.0; aggregations = p.0.1.1 } ≡ m = cc in
+    let same : record { clauses = p.0.0; aggregations = p.0.1.1; slots = types_in p.0.1.0 } ≡ m = cc in
     subst ScriptFits same (items_fit [] [] [] source p.0 tt p.1)
+
+-- ---- one proof at most
+
+all_fit_prop : (all : Typeds) → IsProp (AllFit all)
+all_fit_prop end = hlevel
+all_fit_prop (more x rest) = let others = all_fit_prop rest in hlevel (le_prop, others)
+
+one_fits_prop : (o : Option Typed) → IsProp (OneFits o)
+one_fits_prop None = hlevel
+one_fits_prop (Some x) = hlevel le_prop
+
+action_fits_prop : (a : Action) → IsProp (ActionFits a)
+action_fits_prop (Evaluate x) = hlevel le_prop
+action_fits_prop (Trace x) = hlevel le_prop
+action_fits_prop (Print format args) = all_fit_prop args
+action_fits_prop (Exit x) = hlevel le_prop
+action_fits_prop (Aggregate place keys argument) = hlevel (all_fit_prop, one_fits_prop)
+
+actions_fit_prop : (all : List Action) → IsProp (ActionsFit all)
+actions_fit_prop [] = hlevel
+actions_fit_prop (a ∷ rest) = let others = actions_fit_prop rest in hlevel (action_fits_prop, others)
+
+clauses_fit_prop : (all : List ClauseMeant) → IsProp (ClausesFit all)
+clauses_fit_prop [] = hlevel
+clauses_fit_prop (c ∷ rest) = let others = clauses_fit_prop rest in hlevel (one_fits_prop, actions_fit_prop, others)
+
+pub typed_script_fits : (m : ScriptMeant) → ∥ IsMeant m ∥₁ → ScriptFits m
+typed_script_fits m meant = ∥∥₁_elim meant (clauses_fit_prop m.clauses) (λ (h : IsMeant m). script_fits h.0 m h.3)

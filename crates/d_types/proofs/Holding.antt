@@ -1,5 +1,5 @@
 -- Values are of their types, and variables hold such values.
-use Rattle.std.proofs.Common.{◌≡◌, ℕ, zero, suc, ◌≤◌, List, ◌∷◌, take, ◌++◌, length, Bool, true, false, ◌&&◌, if◌then◌else◌, Some, refl, sym, ap, ◌∙◌, subst, arith, Ok, Err}
+use Rattle.std.proofs.Common.{◌≡◌, ℕ, zero, suc, ◌≤◌, List, ◌∷◌, ◌++◌, length, Bool, true, false, ◌&&◌, if◌then◌else◌, Some, refl, sym, ap, ◌∙◌, subst, arith, Ok, Err}
 use Rattle.std.proofs.lemmas.List.{length-take}
 use Rattle.d_parser.specs.declared.operators.Step.{Step}
 use Rattle.d_parser.specs.declared.operators.UnaryOperator.{UnaryOperator}
@@ -14,7 +14,7 @@ use Rattle.d_values.specs.declared.variable.Var.{Var}
 use Rattle.d_values.specs.Keys.{same_key}
 use Rattle.d_values.specs.Operators.{holds_of}
 use Rattle.d_values.specs.Stores.{with_local, with_own}
-use Rattle.d_values.specs.Texts.{text_cmp}
+use Rattle.d_values.specs.Texts.{text_cmp, longest, joined_text}
 use Rattle.d_values.specs.Types.{INT32, UINT64}
 use Rattle.d_values.specs.Variables.{same_var, same_var_decides}
 use Rattle.d_values.specs.Words.{narrow, order_of, operate}
@@ -30,8 +30,8 @@ use Rattle.d_types.specs.declared.typed.Variable.{Variable}
 use Rattle.d_types.specs.Typed.{Typed, Constant, Text, Fixed, Read, Unary, Operate, Compare, CompareText, Logic, Choice, Convert, Assign, Update, Count, Strlen, Strjoin, Typeds, end, more, type_of, type_of_unary, type_of_operation}
 use Rattle.d_types.specs.Variables.{kind_of}
 use Rattle.d_types.specs.Storage.{Variables, word_of, bytes_of, as_kind, var_of, value_in, value_at, set_in, set}
-use Rattle.d_types.specs.Expressions.{Outcome, Gives, Faults, with, given, integer, number, text, truth, bit, inverse, at_zero, part_of, unary_of, operation_of, works_in, held, stepped, answered, assigned, updated, moved, eval, keys_of}
-use Rattle.d_types.specs.Held.{IsWord, IsOf, HasTypedBuiltIns, Slots, IsKnown, AreTyped, Ends, IsSomeInteger, Takes, IsConsistent, AreConsistent}
+use Rattle.d_types.specs.Expressions.{Outcome, Has, Faults, with, given, integer, number, text, truth, bit, inverse, at_zero, part_of, unary_of, operation_of, works_in, held, stepped, answered, assigned, updated, moved, eval, keys_of}
+use Rattle.d_types.specs.Held.{IsWord, IsOf, HasTypedBuiltIns, Slots, IsKnown, AreTypedLocals, AreTypedOwn, AreTyped, Ends, IsSomeInteger, Takes, IsConsistent, AreConsistent}
 use Rattle.d_types.proofs.ValueTypes.{narrow_is, long_word, truth_is, bit_is, inverse_is}
 
 -- ---- values
@@ -40,7 +40,7 @@ word_is : (t : IntType) (value : Value) → IsOf (ty.Int t) value → IsWord t (
 word_is t (va.Int w) is = is
 word_is t (va.Text bs) is = absurd is
 
-bytes_are : (value : Value) → IsOf ty.Text value → length (bytes_of value) ≤ 255
+bytes_are : (value : Value) → IsOf ty.Text value → length (bytes_of value) ≤ longest
 bytes_are (va.Int w) is = absurd is
 bytes_are (va.Text bs) is = is
 
@@ -51,45 +51,55 @@ stored_is ty.Text value is = bytes_are value is
 
 -- ---- variables
 
+-- a variable of these values, at its slot
+abbrev at : ℕ → DType → Var
+at slot t = record { slot = slot; kind = kind_of t }
+
 module _ (slots : Slots) where
-  one_type : (x y : Variable) → IsKnown slots x → IsKnown slots y → var_of x ≡ var_of y → x.holds ≡ y.holds
-  one_type x y known other same =
-      let slot : x.slot ≡ y.slot = ap (λ (v : Var). v.slot) same in
-      let both : Some x.holds ≡ Some y.holds = sym known ∙ ap slots slot ∙ other in
+  one_type : (x : Variable) (slot : ℕ) (t : DType) → IsKnown slots x → slots slot ≡ Some t → var_of x ≡ at slot t → x.holds ≡ t
+  one_type x slot t known other same =
+      let place : x.slot ≡ slot = ap (λ (v : Var). v.slot) same in
+      let both : Some x.holds ≡ Some t = sym known ∙ ap slots place ∙ other in
       cc
 
   -- what is read where something of the type of x was set at x
-  chosen : (b : Bool) (x y : Variable) (new old : Value) → IsOf x.holds new → (b ≡ true → x.holds ≡ y.holds) → IsOf y.holds old → IsOf y.holds (if b then new else old)
-  chosen true x y new old is same before = subst (λ t. IsOf t new) (same refl) is
-  chosen false x y new old is same before = before
+  chosen : (b : Bool) (x : Variable) (t : DType) (new old : Value) → IsOf x.holds new → (b ≡ true → x.holds ≡ t) → IsOf t old → IsOf t (if b then new else old)
+  chosen true x t new old is same before = subst (λ u. IsOf u new) (same refl) is
+  chosen false x t new old is same before = before
 
-  local_is : (vars : Variables) (x y : Variable) (new : Value) (key : List KeyPart) → IsKnown slots x → IsKnown slots y → IsOf x.holds new →
-      IsOf y.holds (vars.locals (var_of y)) → IsOf y.holds (with_local vars.locals (var_of x) new (var_of y))
-  local_is vars x y new key known other is before =
-      chosen (same_var (var_of x) (var_of y)) x y new (vars.locals (var_of y)) is
-      (λ e. one_type x y known other ((same_var_decides (var_of x) (var_of y)).0 e)) before
+  locals_are : (locals : Var → Value) (x : Variable) (new : Value) → AreTypedLocals slots locals → IsKnown slots x → IsOf x.holds new →
+      AreTypedLocals slots (with_local locals (var_of x) new)
+  locals_are locals x new good known is slot t other =
+      chosen (same_var (var_of x) (at slot t)) x t new (locals (at slot t)) is
+      (λ e. one_type x slot t known other ((same_var_decides (var_of x) (at slot t)).0 e)) (good slot t other)
 
   left_true : (a b : Bool) → a && b ≡ true → a ≡ true
   left_true true b e = refl
   left_true false b e = e
 
-  own_is : (vars : Variables) (x y : Variable) (new : Value) (at key : List KeyPart) → IsKnown slots x → IsKnown slots y → IsOf x.holds new →
-      IsOf y.holds (vars.own (var_of y) key) → IsOf y.holds (with_own vars.own (var_of x) at new (var_of y) key)
-  own_is vars x y new at key known other is before =
-      chosen (same_var (var_of x) (var_of y) && same_key at key) x y new (vars.own (var_of y) key) is
-      (λ e. one_type x y known other ((same_var_decides (var_of x) (var_of y)).0 (left_true (same_var (var_of x) (var_of y)) (same_key at key) e))) before
+  own_are : (own : Var → List KeyPart → Value) (x : Variable) (place : List KeyPart) (new : Value) → AreTypedOwn slots own → IsKnown slots x → IsOf x.holds new →
+      AreTypedOwn slots (with_own own (var_of x) place new)
+  own_are own x place new good known is slot t key other =
+      chosen (same_var (var_of x) (at slot t) && same_key place key) x t new (own (at slot t) key) is
+      (λ e. one_type x slot t known other ((same_var_decides (var_of x) (at slot t)).0 (left_true (same_var (var_of x) (at slot t)) (same_key place key) e)))
+      (good slot t key other)
 
-  set_in_is : (s r : Space) (vars : Variables) (x y : Variable) (new : Value) (at key : List KeyPart) → IsKnown slots x → IsKnown slots y → IsOf x.holds new →
-      IsOf y.holds (value_in r vars (var_of y) key) → IsOf y.holds (value_in r (set_in s vars (var_of x) at new) (var_of y) key)
-  set_in_is sp.Thread sp.Thread vars x y new at key known other is before = own_is vars x y new at key known other is before
-  set_in_is sp.Thread sp.Clause vars x y new at key known other is before = before
-  set_in_is sp.Clause sp.Thread vars x y new at key known other is before = before
-  set_in_is sp.Clause sp.Clause vars x y new at key known other is before = local_is vars x y new key known other is before
+  set_in_is : (s : Space) (vars : Variables) (x : Variable) (place : List KeyPart) (new : Value) → AreTyped slots vars → IsKnown slots x → IsOf x.holds new →
+      AreTyped slots (set_in s vars (var_of x) place new)
+  set_in_is sp.Thread vars x place new good known is = (good.0, own_are vars.own x place new good.1 known is)
+  set_in_is sp.Clause vars x place new good known is = (locals_are vars.locals x new good.0 known is, good.1)
 
   -- a variable that gets a value of its type
-  set_is : (vars : Variables) (x : Variable) (at : List KeyPart) (value : Value) → AreTyped slots vars → IsKnown slots x → IsOf x.holds value → AreTyped slots (set vars x at value)
-  set_is vars x at value good known is y key other =
-      set_in_is x.space y.space vars x y (as_kind (kind_of x.holds) value) at key known other (stored_is x.holds value is) (good y key other)
+  set_is : (vars : Variables) (x : Variable) (place : List KeyPart) (value : Value) → AreTyped slots vars → IsKnown slots x → IsOf x.holds value →
+      AreTyped slots (set vars x place value)
+  set_is vars x place value good known is = set_in_is x.space vars x place (as_kind (kind_of x.holds) value) good known (stored_is x.holds value is)
+
+  value_in_is : (s : Space) (vars : Variables) (x : Variable) (key : List KeyPart) → AreTyped slots vars → IsKnown slots x → IsOf x.holds (value_in s vars (var_of x) key)
+  value_in_is sp.Thread vars x key good known = good.1 x.slot x.holds key known
+  value_in_is sp.Clause vars x key good known = good.0 x.slot x.holds known
+
+  value_is : (vars : Variables) (x : Variable) (key : List KeyPart) → AreTyped slots vars → IsKnown slots x → IsOf x.holds (value_at vars x key)
+  value_is vars x key good known = value_in_is x.space vars x key good known
 
   -- ---- outcomes
 
@@ -98,18 +108,18 @@ module _ (slots : Slots) where
 
   pub one : {A B : Type 0} (P : A → Type 0) (Q : B → Type 0) (o : Outcome A) (go : A → Variables → Outcome B) →
       Ends slots P o → ((x : A) (vars : Variables) → P x → AreTyped slots vars → Ends slots Q (go x vars)) → Ends slots Q (with o go)
-  one P Q (Gives x vars) go good rest = rest x vars good.0 good.1
+  one P Q (Has x vars) go good rest = rest x vars good.0 good.1
   one P Q (Faults vars) go good rest = good
 
   word : (t : IntType) (z : DType) (o : Outcome Value) → z ≡ ty.Int t → Ends slots (IsOf z) o → Ends slots (IsWord t) (number o)
-  word t z (Gives x vars) e good = (word_is t x (subst (λ u. IsOf u x) e good.0), good.1)
+  word t z (Has x vars) e good = (word_is t x (subst (λ u. IsOf u x) e good.0), good.1)
   word t z (Faults vars) e good = good
 
   abbrev Short : List ℕ → Type 0
-  Short bytes = length bytes ≤ 255
+  Short bytes = length bytes ≤ longest
 
   bytes : (z : DType) (o : Outcome Value) → z ≡ ty.Text → Ends slots (IsOf z) o → Ends slots Short (text o)
-  bytes z (Gives x vars) e good = (bytes_are x (subst (λ u. IsOf u x) e good.0), good.1)
+  bytes z (Has x vars) e good = (bytes_are x (subst (λ u. IsOf u x) e good.0), good.1)
   bytes z (Faults vars) e good = good
 
   by_zero : {A : Type 0} (P : A → Type 0) (n : ℕ) (a b : Outcome A) → Ends slots P a → Ends slots P b → Ends slots P (at_zero n a b)
@@ -133,7 +143,7 @@ module _ (slots : Slots) where
   operated (op.Shift o t) x y vars good = (narrow_is t _, good)
 
   as_integer : (t : IntType) (o : Outcome ℕ) → Ends slots (IsWord t) o → Ends slots (IsOf (ty.Int t)) (integer o)
-  as_integer t (Gives w vars) good = good
+  as_integer t (Has w vars) good = good
   as_integer t (Faults vars) good = good
 
   operation_is : (o : Operation) (x y : ℕ) (vars : Variables) → AreTyped slots vars → Ends slots (IsOf (type_of_operation o)) (integer (given (operation_of o x y) vars))
@@ -163,7 +173,7 @@ module _ (slots : Slots) where
   moved_is step answer x key vars known some good =
       let old = word_of (value_at vars x key) in
       let is = held_is x.holds (stepped step old) some in (
-        answered_is x.holds answer old (held x.holds (stepped step old)) (word_at x.holds (value_at vars x key) some (good x key known)) is,
+        answered_is x.holds answer old (held x.holds (stepped step old)) (word_at x.holds (value_at vars x key) some (value_is vars x key good known)) is,
         set_is vars x key (va.Int (held x.holds (stepped step old))) good known is,
       )
 
@@ -177,8 +187,8 @@ module _ (slots : Slots) where
   either_is zero a b h k = h
   either_is (suc n) a b h k = k
 
-  cut_is : (bytes : List ℕ) → length (take 255 bytes) ≤ 255
-  cut_is bytes = omega (arith, length-take 255 bytes)
+  cut_is : (x y : List ℕ) → length (joined_text x y) ≤ longest
+  cut_is x y = omega (arith, length-take longest (x ++ y))
 
   -- ---- expressions
 
@@ -228,10 +238,10 @@ module _ (slots : Slots) where
       eval_is (Text bs) vars c good = (c, good)
       eval_is (Fixed b) vars c good = (fit b, good)
       eval_is (Read x keys) vars c good =
-          one Any (IsOf x.holds) (keys_of f keys vars) (λ key vars. Gives (value_at vars x key) vars) (keys_are keys vars c.1 good)
-          (λ key late any well. (well x key c.0, well))
+          one Any (IsOf x.holds) (keys_of f keys vars) (λ key vars. Has (value_at vars x key) vars) (keys_are keys vars c.1 good)
+          (λ key late any well. (value_is late x key well c.0, well))
       eval_is (Unary o t a) vars c good =
-          single (IsOf (type_of_unary o t)) t a (λ x. Gives (va.Int (unary_of o t x))) vars c.0 (eval_is a vars c.1 good)
+          single (IsOf (type_of_unary o t)) t a (λ x. Has (va.Int (unary_of o t x))) vars c.0 (eval_is a vars c.1 good)
           (λ x late is well. (unary_is o t x is, well))
       eval_is (Operate (op.Arithmetic o t) a b) vars c good =
           two (IsOf (ty.Int t)) t t a b (λ x y vars. integer (given (operation_of (op.Arithmetic o t) x y) vars)) vars c.0.0 c.0.1
@@ -242,26 +252,26 @@ module _ (slots : Slots) where
           (eval_is a vars c.1 good) (λ late well. eval_is b late c.2 well)
           (λ x y late is also well. operation_is (op.Shift o t) x y late well)
       eval_is (Compare o t a b) vars c good =
-          two (IsOf (ty.Int INT32)) t t a b (λ x y. Gives (va.Int (truth (holds_of o (order_of t x y))))) vars c.0 c.1
+          two (IsOf (ty.Int INT32)) t t a b (λ x y. Has (va.Int (truth (holds_of o (order_of t x y))))) vars c.0 c.1
           (eval_is a vars c.2 good) (λ late well. eval_is b late c.3 well)
           (λ x y late is also well. (truth_is (holds_of o (order_of t x y)), well))
       eval_is (CompareText o a b) vars c good =
-          two_texts (IsOf (ty.Int INT32)) a b (λ x y. Gives (va.Int (truth (holds_of o (text_cmp x y))))) vars c.0 c.1
+          two_texts (IsOf (ty.Int INT32)) a b (λ x y. Has (va.Int (truth (holds_of o (text_cmp x y))))) vars c.0 c.1
           (eval_is a vars c.2 good) (λ late well. eval_is b late c.3 well)
           (λ x y late well. (truth_is (holds_of o (text_cmp x y)), well))
       eval_is (Logic lo.And a b) vars c good =
-          single (IsOf (ty.Int INT32)) c.0.0 a (λ x vars. at_zero x (Gives (va.Int 0) vars) (with (number (eval f b vars)) (λ y. Gives (va.Int (bit y))))) vars c.0.1
+          single (IsOf (ty.Int INT32)) c.0.0 a (λ x vars. at_zero x (Has (va.Int 0) vars) (with (number (eval f b vars)) (λ y. Has (va.Int (bit y))))) vars c.0.1
           (eval_is a vars c.2 good)
-          (λ x late is well. by_zero (IsOf (ty.Int INT32)) x (Gives (va.Int 0) late) (with (number (eval f b late)) (λ y. Gives (va.Int (bit y)))) (bit_is 0, well)
-          (single (IsOf (ty.Int INT32)) c.1.0 b (λ y. Gives (va.Int (bit y))) late c.1.1 (eval_is b late c.3 well) (λ y last also fine. (bit_is y, fine))))
+          (λ x late is well. by_zero (IsOf (ty.Int INT32)) x (Has (va.Int 0) late) (with (number (eval f b late)) (λ y. Has (va.Int (bit y)))) (bit_is 0, well)
+          (single (IsOf (ty.Int INT32)) c.1.0 b (λ y. Has (va.Int (bit y))) late c.1.1 (eval_is b late c.3 well) (λ y last also fine. (bit_is y, fine))))
       eval_is (Logic lo.Or a b) vars c good =
-          single (IsOf (ty.Int INT32)) c.0.0 a (λ x vars. at_zero x (with (number (eval f b vars)) (λ y. Gives (va.Int (bit y)))) (Gives (va.Int 1) vars)) vars c.0.1
+          single (IsOf (ty.Int INT32)) c.0.0 a (λ x vars. at_zero x (with (number (eval f b vars)) (λ y. Has (va.Int (bit y)))) (Has (va.Int 1) vars)) vars c.0.1
           (eval_is a vars c.2 good)
-          (λ x late is well. by_zero (IsOf (ty.Int INT32)) x (with (number (eval f b late)) (λ y. Gives (va.Int (bit y)))) (Gives (va.Int 1) late)
-          (single (IsOf (ty.Int INT32)) c.1.0 b (λ y. Gives (va.Int (bit y))) late c.1.1 (eval_is b late c.3 well) (λ y last also fine. (bit_is y, fine)))
+          (λ x late is well. by_zero (IsOf (ty.Int INT32)) x (with (number (eval f b late)) (λ y. Has (va.Int (bit y)))) (Has (va.Int 1) late)
+          (single (IsOf (ty.Int INT32)) c.1.0 b (λ y. Has (va.Int (bit y))) late c.1.1 (eval_is b late c.3 well) (λ y last also fine. (bit_is y, fine)))
           (bit_is 1, well))
       eval_is (Logic lo.Xor a b) vars c good =
-          two (IsOf (ty.Int INT32)) c.0.0 c.1.0 a b (λ x y. Gives (va.Int (at_zero x (bit y) (inverse y)))) vars c.0.1 c.1.1
+          two (IsOf (ty.Int INT32)) c.0.0 c.1.0 a b (λ x y. Has (va.Int (at_zero x (bit y) (inverse y)))) vars c.0.1 c.1.1
           (eval_is a vars c.2 good) (λ late well. eval_is b late c.3 well)
           (λ x y late is also well. (either_is x (bit y) (inverse y) (bit_is y) (inverse_is y), well))
       eval_is (Choice t c a b) vars h good =
@@ -269,7 +279,7 @@ module _ (slots : Slots) where
           (λ x late is well. by_zero (IsOf t) x (eval f b late) (eval f a late)
           (subst (λ u. Ends slots (IsOf u) (eval f b late)) h.2 (eval_is b late h.5 well)) (subst (λ u. Ends slots (IsOf u) (eval f a late)) h.1 (eval_is a late h.4 well)))
       eval_is (Convert t u a) vars c good =
-          single (IsOf (ty.Int u)) t a (λ x. Gives (va.Int (narrow u x))) vars c.0 (eval_is a vars c.1 good) (λ x late is well. (narrow_is u x, well))
+          single (IsOf (ty.Int u)) t a (λ x. Has (va.Int (narrow u x))) vars c.0 (eval_is a vars c.1 good) (λ x late is well. (narrow_is u x, well))
       eval_is (Assign x keys a) vars c good =
           one Any (IsOf x.holds) (keys_of f keys vars) (λ key vars. with (eval f a vars) (assigned x key)) (keys_are keys vars c.1 good)
           (λ key late any well. one (IsOf (type_of a)) (IsOf x.holds) (eval f a late) (assigned x key) (eval_is a late c.3 well)
@@ -284,15 +294,15 @@ module _ (slots : Slots) where
           one Any (IsOf x.holds) (keys_of f keys vars) (λ key vars. moved step answer x key (word_of (value_at vars x key)) vars) (keys_are keys vars c.1 good)
           (λ key late any well. moved_is step answer x key late c.0 c.2 well)
       eval_is (Strlen a) vars c good =
-          one Short (IsOf (ty.Int UINT64)) (text (eval f a vars)) (λ x. Gives (va.Int (length x))) (bytes (type_of a) (eval f a vars) c.0 (eval_is a vars c.1 good))
+          one Short (IsOf (ty.Int UINT64)) (text (eval f a vars)) (λ x. Has (va.Int (length x))) (bytes (type_of a) (eval f a vars) c.0 (eval_is a vars c.1 good))
           (λ x late is well. (long_word (length x) is, well))
       eval_is (Strjoin a b) vars c good =
-          two_texts (IsOf ty.Text) a b (λ x y. Gives (va.Text (take 255 (x ++ y)))) vars c.0 c.1
+          two_texts (IsOf ty.Text) a b (λ x y. Has (va.Text (joined_text x y))) vars c.0 c.1
           (eval_is a vars c.2 good) (λ late well. eval_is b late c.3 well)
-          (λ x y late well. (cut_is (x ++ y), well))
+          (λ x y late well. (cut_is x y, well))
 
       pub keys_are : (keys : Typeds) (vars : Variables) → AreConsistent slots keys → AreTyped slots vars → Ends slots Any (keys_of f keys vars)
       keys_are end vars c good = (tt, good)
       keys_are (more a rest) vars c good =
-          one (IsOf (type_of a)) Any (eval f a vars) (λ x vars. with (keys_of f rest vars) (λ key. Gives (part_of x ∷ key))) (eval_is a vars c.0 good)
-          (λ x late is well. one Any Any (keys_of f rest late) (λ key. Gives (part_of x ∷ key)) (keys_are rest late c.1 well) (λ key last any fine. (tt, fine)))
+          one (IsOf (type_of a)) Any (eval f a vars) (λ x vars. with (keys_of f rest vars) (λ key. Has (part_of x ∷ key))) (eval_is a vars c.0 good)
+          (λ x late is well. one Any Any (keys_of f rest late) (λ key. Has (part_of x ∷ key)) (keys_are rest late c.1 well) (λ key last any fine. (tt, fine)))

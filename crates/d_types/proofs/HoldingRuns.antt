@@ -7,8 +7,8 @@ use Rattle.d_types.specs.declared.running.effect.Effect.{Effect}
 use Rattle.d_types.specs.declared.running.effect.Effect.TheVariants as ef
 use Rattle.d_types.specs.Typed.{Typed, Typeds, end, more, type_of, Action, Evaluate, Trace, Print, Exit, Aggregate, ClauseMeant}
 use Rattle.d_types.specs.Storage.{Variables}
-use Rattle.d_types.specs.Expressions.{Outcome, Gives, Faults, with, number, eval, keys_of}
-use Rattle.d_types.specs.Clauses.{values_of, given_of, effect_of, Ran, followed, statements_of, where_true, guarded, run_of}
+use Rattle.d_types.specs.Expressions.{Outcome, Has, Faults, with, number, eval, keys_of}
+use Rattle.d_types.specs.Clauses.{values_of, given_of, effect_of, Ran, followed, statements_of, where_true, by_trees, guarded_by, run_of}
 use Rattle.d_types.specs.Printing.{traced, printed}
 use Rattle.d_types.specs.Held.{IsOf, HasTypedBuiltIns, Slots, AreTyped, Ends, IsConsistent, AreConsistent}
 use Rattle.d_types.specs.Wholes.{EachIs, AnyIs, ActionIs, ActionsAre, ClauseIs}
@@ -29,7 +29,7 @@ module _ (slots : Slots) (f : Firing) (fit : HasTypedBuiltIns f) where
       one slots (IsOf (type_of a)) (λ x. Unit {0}) (eval f a vars) go (eval_is slots f fit a vars is good) (λ x late fits well. rest x late well)
 
   word_kept : (o : Outcome Value) → Kept o → Kept (number o)
-  word_kept (Gives x vars) good = good
+  word_kept (Has x vars) good = good
   word_kept (Faults vars) good = good
 
   number_kept : (a : Typed) (vars : Variables) → IsConsistent slots a → AreTyped slots vars → Kept (number (eval f a vars))
@@ -38,33 +38,33 @@ module _ (slots : Slots) (f : Firing) (fit : HasTypedBuiltIns f) where
   values_kept : (all : Typeds) (vars : Variables) → EachIs (IsConsistent slots) all → AreTyped slots vars → Kept (values_of f all vars)
   values_kept end vars is good = (tt, good)
   values_kept (more a rest) vars is good =
-      behind a (λ x vars. with (values_of f rest vars) (λ xs. Gives ((type_of a, x) ∷ xs))) vars is.0 good
-      (λ x late well. one slots (λ y. Unit {0}) (λ y. Unit {0}) (values_of f rest late) (λ xs. Gives ((type_of a, x) ∷ xs)) (values_kept rest late is.1 well)
+      behind a (λ x vars. with (values_of f rest vars) (λ xs. Has ((type_of a, x) ∷ xs))) vars is.0 good
+      (λ x late well. one slots (λ y. Unit {0}) (λ y. Unit {0}) (values_of f rest late) (λ xs. Has ((type_of a, x) ∷ xs)) (values_kept rest late is.1 well)
       (λ xs last any fine. (tt, fine)))
 
   given_kept : (argument : Option Typed) (vars : Variables) → AnyIs (IsConsistent slots) argument → AreTyped slots vars → Kept (given_of f argument vars)
   given_kept None vars is good = (tt, good)
   given_kept (Some a) vars is good =
-      one slots (λ y. Unit {0}) (λ y. Unit {0}) (number (eval f a vars)) (λ word. Gives (cast_signed w64 word)) (number_kept a vars is good) (λ w late any well. (tt, well))
+      one slots (λ y. Unit {0}) (λ y. Unit {0}) (number (eval f a vars)) (λ word. Has (cast_signed w64 word)) (number_kept a vars is good) (λ w late any well. (tt, well))
 
   effect_kept : (a : Action) (vars : Variables) → ActionIs (IsConsistent slots) a → AreTyped slots vars → Kept (effect_of f a vars)
-  effect_kept (Evaluate a) vars is good = behind a (λ x. Gives ef.Nothing) vars is good (λ x late well. (tt, well))
-  effect_kept (Trace a) vars is good = behind a (λ x. Gives (ef.Says (traced (type_of a) x))) vars is good (λ x late well. (tt, well))
+  effect_kept (Evaluate a) vars is good = behind a (λ x. Has ef.Nothing) vars is good (λ x late well. (tt, well))
+  effect_kept (Trace a) vars is good = behind a (λ x. Has (ef.Says (traced (type_of a) x))) vars is good (λ x late well. (tt, well))
   effect_kept (Print format all) vars is good =
-      one slots (λ y. Unit {0}) (λ y. Unit {0}) (values_of f all vars) (λ values. Gives (ef.Says (printed format values))) (values_kept all vars is good)
+      one slots (λ y. Unit {0}) (λ y. Unit {0}) (values_of f all vars) (λ values. Has (ef.Says (printed format values))) (values_kept all vars is good)
       (λ xs late any well. (tt, well))
   effect_kept (Exit a) vars is good =
-      one slots (λ y. Unit {0}) (λ y. Unit {0}) (number (eval f a vars)) (λ word. Gives (ef.Exits (word % 256))) (number_kept a vars is good)
+      one slots (λ y. Unit {0}) (λ y. Unit {0}) (number (eval f a vars)) (λ word. Has (ef.Exits (word % 256))) (number_kept a vars is good)
       (λ w late any well. (tt, well))
   effect_kept (Aggregate place keys argument) vars is good =
-      one slots (λ y. Unit {0}) (λ y. Unit {0}) (keys_of f keys vars) (λ key vars. with (given_of f argument vars) (λ z. Gives (ef.Adds place key z)))
+      one slots (λ y. Unit {0}) (λ y. Unit {0}) (keys_of f keys vars) (λ key vars. with (given_of f argument vars) (λ z. Has (ef.Adds place key z)))
       (keys_are slots f fit keys vars (all_are keys is.0) good)
-      (λ key late any well. one slots (λ y. Unit {0}) (λ y. Unit {0}) (given_of f argument late) (λ z. Gives (ef.Adds place key z)) (given_kept argument late is.1 well)
+      (λ key late any well. one slots (λ y. Unit {0}) (λ y. Unit {0}) (given_of f argument late) (λ z. Has (ef.Adds place key z)) (given_kept argument late is.1 well)
       (λ z last every fine. (tt, fine)))
 
   followed_kept : (o : Outcome Effect) (go : Variables → Ran) → Kept o → ((vars : Variables) → AreTyped slots vars → AreTyped slots (go vars).variables) →
       AreTyped slots (followed o go).variables
-  followed_kept (Gives effect vars) go good rest = rest vars good.1
+  followed_kept (Has effect vars) go good rest = rest vars good.1
   followed_kept (Faults vars) go good rest = good
 
   statements_kept : (all : List Action) (vars : Variables) → ActionsAre (IsConsistent slots) all → AreTyped slots vars → AreTyped slots (statements_of f all vars).variables
@@ -74,12 +74,12 @@ module _ (slots : Slots) (f : Firing) (fit : HasTypedBuiltIns f) where
 
   where_true_kept : (o : Outcome ℕ) (go : Variables → Ran) → Kept o → ((vars : Variables) → AreTyped slots vars → AreTyped slots (go vars).variables) →
       AreTyped slots (where_true o go).variables
-  where_true_kept (Gives zero vars) go good rest = good.1
-  where_true_kept (Gives (suc n) vars) go good rest = rest vars good.1
+  where_true_kept (Has zero vars) go good rest = good.1
+  where_true_kept (Has (suc n) vars) go good rest = rest vars good.1
   where_true_kept (Faults vars) go good rest = good
 
   guarded_kept : (predicate : Option Typed) (go : Variables → Ran) (vars : Variables) → AnyIs (IsConsistent slots) predicate → AreTyped slots vars →
-      ((late : Variables) → AreTyped slots late → AreTyped slots (go late).variables) → AreTyped slots (guarded f predicate go vars).variables
+      ((late : Variables) → AreTyped slots late → AreTyped slots (go late).variables) → AreTyped slots (guarded_by (by_trees f) predicate go vars).variables
   guarded_kept None go vars is good rest = rest vars good
   guarded_kept (Some a) go vars is good rest = where_true_kept (number (eval f a vars)) go (number_kept a vars is good) rest
 

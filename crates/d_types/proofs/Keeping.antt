@@ -4,13 +4,13 @@ use Rattle.d_values.specs.declared.arithmetic.OutOfZero.{OutOfZero}
 use Rattle.d_values.specs.declared.value.Value.{Value}
 use Rattle.d_values.specs.declared.value.Value.TheVariants as va
 use Rattle.d_values.specs.Operators.{holds_of}
-use Rattle.d_values.specs.Texts.{text_cmp}
+use Rattle.d_values.specs.Texts.{text_cmp, joined_text}
 use Rattle.d_values.specs.Words.{narrow, order_of}
 use Rattle.firing_reader.specs.declared.firing.Firing.{Firing}
 use Rattle.d_types.specs.declared.typed.LogicOperator.TheVariants as lo
 use Rattle.d_types.specs.Typed.{Typed, Constant, Text, Fixed, Read, Unary, Operate, Compare, CompareText, Logic, Choice, Convert, Assign, Update, Count, Strlen, Strjoin, Typeds, end, more}
 use Rattle.d_types.specs.Storage.{Variables, value_at}
-use Rattle.d_types.specs.Expressions.{Outcome, Gives, Faults, with, given, integer, number, text, truth, bit, inverse, at_zero, part_of, unary_of, operation_of, eval, keys_of}
+use Rattle.d_types.specs.Expressions.{Outcome, Has, Faults, with, given, integer, number, text, truth, bit, inverse, at_zero, part_of, unary_of, operation_of, eval, keys_of}
 use Rattle.d_types.specs.Laws.{assigns, assigns_in, variables_after}
 use Rattle.d_types.proofs.Neither.{left, right}
 
@@ -19,15 +19,15 @@ Keeps vars o = variables_after o ≡ vars
 
 one : {A B : Type 0} (vars : Variables) (o : Outcome A) (go : A → Variables → Outcome B) →
     Keeps vars o → ((x : A) → Keeps vars (go x vars)) → Keeps vars (with o go)
-one vars (Gives x after) go same rest = let P : Variables → Type 0 = λ v. Keeps vars (go x v) in subst P (sym same) (rest x)
+one vars (Has x after) go same rest = let P : Variables → Type 0 = λ v. Keeps vars (go x v) in subst P (sym same) (rest x)
 one vars (Faults after) go same rest = same
 
 word : (vars : Variables) (o : Outcome Value) → Keeps vars o → Keeps vars (number o)
-word vars (Gives x after) same = same
+word vars (Has x after) same = same
 word vars (Faults after) same = same
 
 bytes : (vars : Variables) (o : Outcome Value) → Keeps vars o → Keeps vars (text o)
-bytes vars (Gives x after) same = same
+bytes vars (Has x after) same = same
 bytes vars (Faults after) same = same
 
 by_zero : {A : Type 0} (vars : Variables) (n : ℕ) (a b : Outcome A) → Keeps vars a → Keeps vars b → Keeps vars (at_zero n a b)
@@ -44,40 +44,40 @@ mutual
   eval_keeps f (Text bs) vars none = refl
   eval_keeps f (Fixed b) vars none = refl
   eval_keeps f (Read x keys) vars none =
-      one vars (keys_of f keys vars) (λ key vars. Gives (value_at vars x key) vars) (keys_keep f keys vars none) (λ key. refl)
+      one vars (keys_of f keys vars) (λ key vars. Has (value_at vars x key) vars) (keys_keep f keys vars none) (λ key. refl)
   eval_keeps f (Unary o t a) vars none =
-      one vars (number (eval f a vars)) (λ x. Gives (va.Int (unary_of o t x))) (word vars (eval f a vars) (eval_keeps f a vars none)) (λ x. refl)
+      one vars (number (eval f a vars)) (λ x. Has (va.Int (unary_of o t x))) (word vars (eval f a vars) (eval_keeps f a vars none)) (λ x. refl)
   eval_keeps f (Operate o a b) vars none =
       one vars (number (eval f a vars)) (λ x vars. with (number (eval f b vars)) (λ y vars. integer (given (operation_of o x y) vars)))
       (word vars (eval f a vars) (eval_keeps f a vars (left (assigns a) (assigns b) none)))
       (λ x. one vars (number (eval f b vars)) (λ y vars. integer (given (operation_of o x y) vars))
       (word vars (eval f b vars) (eval_keeps f b vars (right (assigns a) (assigns b) none))) (λ y. quotient vars (operation_of o x y)))
   eval_keeps f (Compare o t a b) vars none =
-      one vars (number (eval f a vars)) (λ x vars. with (number (eval f b vars)) (λ y. Gives (va.Int (truth (holds_of o (order_of t x y))))))
+      one vars (number (eval f a vars)) (λ x vars. with (number (eval f b vars)) (λ y. Has (va.Int (truth (holds_of o (order_of t x y))))))
       (word vars (eval f a vars) (eval_keeps f a vars (left (assigns a) (assigns b) none)))
-      (λ x. one vars (number (eval f b vars)) (λ y. Gives (va.Int (truth (holds_of o (order_of t x y)))))
+      (λ x. one vars (number (eval f b vars)) (λ y. Has (va.Int (truth (holds_of o (order_of t x y)))))
       (word vars (eval f b vars) (eval_keeps f b vars (right (assigns a) (assigns b) none))) (λ y. refl))
   eval_keeps f (CompareText o a b) vars none =
-      one vars (text (eval f a vars)) (λ x vars. with (text (eval f b vars)) (λ y. Gives (va.Int (truth (holds_of o (text_cmp x y))))))
+      one vars (text (eval f a vars)) (λ x vars. with (text (eval f b vars)) (λ y. Has (va.Int (truth (holds_of o (text_cmp x y))))))
       (bytes vars (eval f a vars) (eval_keeps f a vars (left (assigns a) (assigns b) none)))
-      (λ x. one vars (text (eval f b vars)) (λ y. Gives (va.Int (truth (holds_of o (text_cmp x y)))))
+      (λ x. one vars (text (eval f b vars)) (λ y. Has (va.Int (truth (holds_of o (text_cmp x y)))))
       (bytes vars (eval f b vars) (eval_keeps f b vars (right (assigns a) (assigns b) none))) (λ y. refl))
   eval_keeps f (Logic lo.And a b) vars none =
-      one vars (number (eval f a vars)) (λ x vars. at_zero x (Gives (va.Int 0) vars) (with (number (eval f b vars)) (λ y. Gives (va.Int (bit y)))))
+      one vars (number (eval f a vars)) (λ x vars. at_zero x (Has (va.Int 0) vars) (with (number (eval f b vars)) (λ y. Has (va.Int (bit y)))))
       (word vars (eval f a vars) (eval_keeps f a vars (left (assigns a) (assigns b) none)))
-      (λ x. by_zero vars x (Gives (va.Int 0) vars) (with (number (eval f b vars)) (λ y. Gives (va.Int (bit y)))) refl
-      (one vars (number (eval f b vars)) (λ y. Gives (va.Int (bit y)))
+      (λ x. by_zero vars x (Has (va.Int 0) vars) (with (number (eval f b vars)) (λ y. Has (va.Int (bit y)))) refl
+      (one vars (number (eval f b vars)) (λ y. Has (va.Int (bit y)))
       (word vars (eval f b vars) (eval_keeps f b vars (right (assigns a) (assigns b) none))) (λ y. refl)))
   eval_keeps f (Logic lo.Or a b) vars none =
-      one vars (number (eval f a vars)) (λ x vars. at_zero x (with (number (eval f b vars)) (λ y. Gives (va.Int (bit y)))) (Gives (va.Int 1) vars))
+      one vars (number (eval f a vars)) (λ x vars. at_zero x (with (number (eval f b vars)) (λ y. Has (va.Int (bit y)))) (Has (va.Int 1) vars))
       (word vars (eval f a vars) (eval_keeps f a vars (left (assigns a) (assigns b) none)))
-      (λ x. by_zero vars x (with (number (eval f b vars)) (λ y. Gives (va.Int (bit y)))) (Gives (va.Int 1) vars)
-      (one vars (number (eval f b vars)) (λ y. Gives (va.Int (bit y)))
+      (λ x. by_zero vars x (with (number (eval f b vars)) (λ y. Has (va.Int (bit y)))) (Has (va.Int 1) vars)
+      (one vars (number (eval f b vars)) (λ y. Has (va.Int (bit y)))
       (word vars (eval f b vars) (eval_keeps f b vars (right (assigns a) (assigns b) none))) (λ y. refl)) refl)
   eval_keeps f (Logic lo.Xor a b) vars none =
-      one vars (number (eval f a vars)) (λ x vars. with (number (eval f b vars)) (λ y. Gives (va.Int (at_zero x (bit y) (inverse y)))))
+      one vars (number (eval f a vars)) (λ x vars. with (number (eval f b vars)) (λ y. Has (va.Int (at_zero x (bit y) (inverse y)))))
       (word vars (eval f a vars) (eval_keeps f a vars (left (assigns a) (assigns b) none)))
-      (λ x. one vars (number (eval f b vars)) (λ y. Gives (va.Int (at_zero x (bit y) (inverse y))))
+      (λ x. one vars (number (eval f b vars)) (λ y. Has (va.Int (at_zero x (bit y) (inverse y))))
       (word vars (eval f b vars) (eval_keeps f b vars (right (assigns a) (assigns b) none))) (λ y. refl))
   eval_keeps f (Choice t c a b) vars none =
       let others : (assigns a || assigns b) ≡ false = right (assigns c) (assigns a || assigns b) none in
@@ -86,22 +86,22 @@ mutual
       (λ x. by_zero vars x (eval f b vars) (eval f a vars)
       (eval_keeps f b vars (right (assigns a) (assigns b) others)) (eval_keeps f a vars (left (assigns a) (assigns b) others)))
   eval_keeps f (Convert t u a) vars none =
-      one vars (number (eval f a vars)) (λ x. Gives (va.Int (narrow u x))) (word vars (eval f a vars) (eval_keeps f a vars none)) (λ x. refl)
+      one vars (number (eval f a vars)) (λ x. Has (va.Int (narrow u x))) (word vars (eval f a vars) (eval_keeps f a vars none)) (λ x. refl)
   eval_keeps f (Assign x keys a) vars none = cc
   eval_keeps f (Update o x keys a) vars none = cc
   eval_keeps f (Count step answer x keys) vars none = cc
   eval_keeps f (Strlen a) vars none =
-      one vars (text (eval f a vars)) (λ x. Gives (va.Int (length x))) (bytes vars (eval f a vars) (eval_keeps f a vars none)) (λ x. refl)
+      one vars (text (eval f a vars)) (λ x. Has (va.Int (length x))) (bytes vars (eval f a vars) (eval_keeps f a vars none)) (λ x. refl)
   eval_keeps f (Strjoin a b) vars none =
-      one vars (text (eval f a vars)) (λ x vars. with (text (eval f b vars)) (λ y. Gives (va.Text (take 255 (x ++ y)))))
+      one vars (text (eval f a vars)) (λ x vars. with (text (eval f b vars)) (λ y. Has (va.Text (joined_text x y))))
       (bytes vars (eval f a vars) (eval_keeps f a vars (left (assigns a) (assigns b) none)))
-      (λ x. one vars (text (eval f b vars)) (λ y. Gives (va.Text (take 255 (x ++ y))))
+      (λ x. one vars (text (eval f b vars)) (λ y. Has (va.Text (joined_text x y)))
       (bytes vars (eval f b vars) (eval_keeps f b vars (right (assigns a) (assigns b) none))) (λ y. refl))
 
   keys_keep : (f : Firing) (keys : Typeds) (vars : Variables) → assigns_in keys ≡ false → Keeps vars (keys_of f keys vars)
   keys_keep f end vars none = refl
   keys_keep f (more a rest) vars none =
-      one vars (eval f a vars) (λ x vars. with (keys_of f rest vars) (λ key. Gives (part_of x ∷ key)))
+      one vars (eval f a vars) (λ x vars. with (keys_of f rest vars) (λ key. Has (part_of x ∷ key)))
       (eval_keeps f a vars (left (assigns a) (assigns_in rest) none))
-      (λ x. one vars (keys_of f rest vars) (λ key. Gives (part_of x ∷ key))
+      (λ x. one vars (keys_of f rest vars) (λ key. Has (part_of x ∷ key))
       (keys_keep f rest vars (right (assigns a) (assigns_in rest) none)) (λ key. refl))

@@ -19,13 +19,19 @@ pub mod Dividing
 pub mod Bounds
 pub mod CompleteScripts
 pub mod SoundScripts
+pub mod OneMeaning
 pub mod ValueTypes
 pub mod Holding
 pub mod HoldingRuns
 pub mod FiringValues
 pub mod Growing
 pub mod Consistent
+pub mod OneConsistency
+pub mod InPlace
+pub mod Stepping
 pub mod ConsistentScripts
-mod Sizes
+pub mod Proper
+pub mod Sizes
+pub mod Contributions
 mod Spelled
 mod Spelling

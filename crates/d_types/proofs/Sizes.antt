@@ -1,5 +1,7 @@
 -- A typed script is as small as its source.
 use Rattle.std.proofs.Common.{◌≡◌, ℕ, suc, ◌+◌, ◌≤◌, inl, inr, List, [], ◌∷◌, length, Bool, true, false, if◌then◌else◌, Option, Some, None, Ok, refl, ap, arith}
+use Rattle.std.proofs.Math.Bridge.{le_prop}
+use Rattle.std.proofs.Math.Logic.{∥∥₁_elim}
 use Rattle.d_parser.specs.declared.tree.Variable.{Variable}
 use Rattle.d_parser.specs.declared.tree.Variable.TheVariants as v
 use Rattle.d_parser.specs.declared.tree.Constant.{Constant}
@@ -26,7 +28,7 @@ use Rattle.d_types.specs.Operators.{same_type, converted, binary_sort, assign_so
 use Rattle.d_types.specs.Targets.{space_of}
 use Rattle.d_types.specs.Typing.{constant}
 use Rattle.d_types.specs.Aggregations.{first}
-use Rattle.d_types.specs.Scripts.{script}
+use Rattle.d_types.specs.Scripts.{script, IsMeant}
 use Rattle.d_types.specs.Rules.{Types, AllTypes, Joins, Chooses, Reads, Fits, Stores, Calls}
 use Rattle.d_types.specs.WellTyped.{Evaluates, Prints, Acts, Stands, Tests, Does, AllDo, Probes, AllItems, IsWell}
 use Rattle.d_types.specs.Sizes.{places, places_in, in_option, in_action, descriptions, statements, variables, HasAtMost}
@@ -184,8 +186,11 @@ sizes rows aggs (tree.Probing d ∷ rest) all last known h =
     let others = sizes h.2 h.3 rest h.1 last known h.5 in
     rw (h.6) (omega (arith, one.0, others.0), omega (arith, one.1, others.1), omega (arith, one.2, others.2))
 
-pub script_is_small : (items : List ItemTree) (m : ScriptMeant) → IsWithin 65536 items → script items ≡ Ok m → HasAtMost 65536 m
+script_is_small : (items : List ItemTree) (m : ScriptMeant) → IsWithin 65536 items → script items ≡ Ok m → HasAtMost 65536 m
 script_is_small items m small h =
     let well : IsWell items m = script_sound items m h in
     let all = sizes [] [] items m.clauses well.0 m.aggregations well.1 in
     record { few_descriptions = omega (arith, all.0, small.few_descriptions); few_statements = omega (arith, all.1, small.few_statements); few_variables = omega (arith, all.2, small.few_variables) }
+
+pub typed_script_is_small : (m : ScriptMeant) → ∥ IsMeant m ∥₁ → HasAtMost 65536 m
+typed_script_is_small m meant = ∥∥₁_elim meant (hlevel le_prop) (λ (h : IsMeant m). script_is_small h.0 m h.1 h.3)

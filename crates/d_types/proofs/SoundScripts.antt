@@ -20,7 +20,7 @@ use Rattle.d_types.specs.Faults.{Gives, ◌>>=◌, Fault, Cause, refuse, unless,
 use Rattle.d_types.specs.Words.{callee_named, aggregating_named}
 use Rattle.d_types.specs.Typed.{Typed, Typeds, end, more, add, type_of, Action, Evaluate, Trace, Print, Exit, Aggregate, Agg, Aggs, ClauseMeant, ScriptMeant}
 use Rattle.d_types.specs.Needs.{need, count}
-use Rattle.d_types.specs.Variables.{Rows, find, kinds_of}
+use Rattle.d_types.specs.Variables.{Rows, find, kinds_of, types_in}
 use Rattle.d_types.specs.Variables as variables
 use Rattle.d_types.specs.Formats.{pieces}
 use Rattle.d_types.specs.Formats as formats
@@ -265,8 +265,8 @@ pub script_sound : (source : List ItemTree) (m : ScriptMeant) → script source 
 script_sound source m h =
     let p = bound (items [] [] [] source) _ _ h in
     let a = items_sound [] [] [] source p.0 p.1 in
-    let same : record { clauses = p.0.0; aggregations = p.0.1.1 } ≡ m = ok_is _ _ p.2 in
-    subst (IsWell source) same (p.0.1.0, subst (λ (l : List ClauseMeant). AllItems [] [] source l p.0.1.0 p.0.1.1) (sym a.2) a.1)
+    let same : record { clauses = p.0.0; aggregations = p.0.1.1; slots = types_in p.0.1.0 } ≡ m = ok_is _ _ p.2 in
+    subst (IsWell source) same (p.0.1.0, subst (λ (l : List ClauseMeant). AllItems [] [] source l p.0.1.0 p.0.1.1) (sym a.2) a.1, refl)
 
 pub ok_sound : {X : Type 0} (view : X → ScriptMeant) (r : Result X TypeFault) (source : List ItemTree) → Gives view r (script source) → IfOk r (λ x. IsWell source (view x) × ScriptFits (view x))
 ok_sound view (Ok x) source h = (script_sound source _ h, script_fits source _ h)

@@ -1,10 +1,17 @@
 -- A script's items, all of them typed.
-use Rattle.std.proofs.Common.{◌≡◌, List, [], Ok, refl}
+use Rattle.std.proofs.Common.{◌≡◌, List, [], ◌∷◌, map, Option, Ok, refl, ap}
 use Rattle.d_parser.specs.Tree.{ItemTree}
+use Rattle.d_values.specs.declared.int_type.DType.{DType}
+use Rattle.d_types.specs.declared.variables.Entry.{Entry}
 use Rattle.d_types.specs.Typed.{Aggs, ClauseMeant}
-use Rattle.d_types.specs.Variables.{Rows}
+use Rattle.d_types.specs.Variables.{rows_of, types_in}
 use Rattle.d_types.specs.Scripts.{items, script}
 
-pub script_is : (source : List ItemTree) (clauses : List ClauseMeant) (rows : Rows) (aggs : Aggs) → items [] [] [] source ≡ Ok (clauses, (rows, aggs)) →
-    script source ≡ Ok (record { clauses = clauses; aggregations = aggs })
-script_is source clauses rows aggs h = rw h refl
+types_are : (table : List Entry) → map (λ e. e.holds) table ≡ types_in (rows_of table)
+types_are [] = refl
+types_are (e ∷ table) = ap (λ rest. e.holds ∷ rest) (types_are table)
+
+pub script_is : (source : List ItemTree) (clauses : List ClauseMeant) (table : List Entry) (aggs : Aggs) (slots : List (Option DType)) →
+    items [] [] [] source ≡ Ok (clauses, (rows_of table, aggs)) → slots ≡ map (λ e. e.holds) table →
+    script source ≡ Ok (record { clauses = clauses; aggregations = aggs; slots = slots })
+script_is source clauses table aggs slots h e = rw (h, e, types_are table) refl

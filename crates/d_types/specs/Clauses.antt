@@ -2,37 +2,54 @@
 use Rattle.std.specs.Prelude.{◌≡◌, ℕ, zero, suc, ◌%◌, List, [], ◌∷◌, ◌++◌, Option, Some, None, Bool, true, false, if◌then◌else◌, ℤ, pos, codes}
 use Rattle.std.specs.Fmt.{decimal}
 use Rattle.std.specs.Int.{cast_signed, w64}
+use Rattle.std.specs.Option.{option_or}
 use Rattle.aggregations.specs.Table.{Contribution, contribution}
 use Rattle.d_values.specs.declared.int_type.DType.{DType}
+use Rattle.d_values.specs.declared.key.KeyPart.{KeyPart}
 use Rattle.d_values.specs.declared.value.Value.{Value}
 use Rattle.firing_reader.specs.declared.firing.Firing.{Firing}
 use Rattle.d_types.specs.declared.running.effect.Effect.{Effect}
 use Rattle.d_types.specs.declared.running.effect.Effect.TheVariants as ef
-use Rattle.d_types.specs.Typed.{Typed, Typeds, end, more, type_of, Action, Evaluate, Trace, Print, Exit, Aggregate, ClauseMeant}
+use Rattle.d_types.specs.Typed.{Typed, Typeds, end, more, type_of, ActionOf, Action, Evaluate, Trace, Print, Exit, Aggregate, ClauseMeant}
 use Rattle.d_types.specs.Storage.{Variables}
-use Rattle.d_types.specs.Expressions.{Outcome, Gives, Faults, with, number, eval, keys_of}
+use Rattle.d_types.specs.Expressions.{Outcome, Has, Faults, with, number, eval, keys_of}
 use Rattle.d_types.specs.Printing.{traced, printed}
+
+-- ---- evaluation
+
+-- how expressions and lists of them are evaluated: from left to right, each going on with the variables that the one before left
+pub record Evaluation (E Es : Type 0) : Type 0 where
+  pub value : E → Variables → Outcome Value
+  -- printf's arguments, each with its type
+  pub values : Es → Variables → Outcome (List (DType × Value))
+  -- an aggregation's key
+  pub key : Es → Variables → Outcome (List KeyPart)
+  pub type : E → DType
+
+abbrev pub values_of : Firing → Typeds → Variables → Outcome (List (DType × Value))
+values_of f end vars = Has [] vars
+values_of f (more a rest) vars = with (eval f a vars) (λ x vars. with (values_of f rest vars) (λ xs. Has ((type_of a, x) ∷ xs)))
+
+-- that of typed trees
+abbrev pub by_trees : Firing → Evaluation Typed Typeds
+by_trees f = record { value = eval f; values = values_of f; key = keys_of f; type = type_of }
 
 -- ---- one statement
 
--- printf's arguments, from left to right, each with its type
-abbrev pub values_of : Firing → Typeds → Variables → Outcome (List (DType × Value))
-values_of f end vars = Gives [] vars
-values_of f (more a rest) vars = with (eval f a vars) (λ x vars. with (values_of f rest vars) (λ xs. Gives ((type_of a, x) ∷ xs)))
+module _ {E Es : Type 0} (by : Evaluation E Es) where
+  -- what an aggregating function is given, as a signed number; 0 where it takes nothing
+  abbrev pub given_by : Option E → Variables → Outcome ℤ
+  given_by None vars = Has (pos 0) vars
+  given_by (Some a) vars = with (number (by.value a vars)) (λ word. Has (cast_signed w64 word))
 
--- what an aggregating function is given, as a signed number; 0 where it takes nothing
-abbrev pub given_of : Firing → Option Typed → Variables → Outcome ℤ
-given_of f None vars = Gives (pos 0) vars
-given_of f (Some a) vars = with (number (eval f a vars)) (λ word. Gives (cast_signed w64 word))
-
--- what a statement does beside its assignments, or the fault
-abbrev pub effect_of : Firing → Action → Variables → Outcome Effect
-effect_of f (Evaluate a) vars = with (eval f a vars) (λ x. Gives ef.Nothing)
-effect_of f (Trace a) vars = with (eval f a vars) (λ x. Gives (ef.Says (traced (type_of a) x)))
-effect_of f (Print format arguments) vars = with (values_of f arguments vars) (λ values. Gives (ef.Says (printed format values)))
-effect_of f (Exit a) vars = with (number (eval f a vars)) (λ word. Gives (ef.Exits (word % 256)))
-effect_of f (Aggregate place keys argument) vars =
-    with (keys_of f keys vars) (λ key vars. with (given_of f argument vars) (λ z. Gives (ef.Adds place key z)))
+  -- what a statement does beside its assignments, or the fault
+  abbrev pub effect_by : ActionOf E Es → Variables → Outcome Effect
+  effect_by (Evaluate a) vars = with (by.value a vars) (λ x. Has ef.Nothing)
+  effect_by (Trace a) vars = with (by.value a vars) (λ x. Has (ef.Says (traced (by.type a) x)))
+  effect_by (Print format arguments) vars = with (by.values arguments vars) (λ values. Has (ef.Says (printed format values)))
+  effect_by (Exit a) vars = with (number (by.value a vars)) (λ word. Has (ef.Exits (word % 256)))
+  effect_by (Aggregate place keys argument) vars =
+      with (by.key keys vars) (λ key vars. with (given_by argument vars) (λ z. Has (ef.Adds place key z)))
 
 -- ---- statements
 
@@ -47,23 +64,23 @@ ran effects faulted vars = record { effects = effects; faulted = faulted; variab
 
 -- an effect, and then those of the statements behind; or the fault, which ends them
 abbrev pub followed : Outcome Effect → (Variables → Ran) → Ran
-followed (Gives effect vars) go = let rest = go vars in ran (effect ∷ rest.effects) rest.faulted rest.variables
+followed (Has effect vars) go = let rest = go vars in ran (effect ∷ rest.effects) rest.faulted rest.variables
 followed (Faults vars) go = ran [] true vars
 
 -- the statements in order, up to the first that faults
-abbrev pub statements_of : Firing → List Action → Variables → Ran
-statements_of f [] vars = ran [] false vars
-statements_of f (action ∷ rest) vars = followed (effect_of f action vars) (statements_of f rest)
+abbrev pub statements_by : {E Es : Type 0} → Evaluation E Es → List (ActionOf E Es) → Variables → Ran
+statements_by by [] vars = ran [] false vars
+statements_by by (action ∷ rest) vars = followed (effect_by by action vars) (statements_by by rest)
 
 -- the statements where the predicate isn't 0
 abbrev pub where_true : Outcome ℕ → (Variables → Ran) → Ran
-where_true (Gives zero vars) go = ran [] false vars
-where_true (Gives (suc n) vars) go = go vars
+where_true (Has zero vars) go = ran [] false vars
+where_true (Has (suc n) vars) go = go vars
 where_true (Faults vars) go = ran [] true vars
 
-abbrev pub guarded : Firing → Option Typed → (Variables → Ran) → Variables → Ran
-guarded f None go vars = go vars
-guarded f (Some a) go vars = where_true (number (eval f a vars)) go
+abbrev pub guarded_by : {E Es : Type 0} → Evaluation E Es → Option E → (Variables → Ran) → Variables → Ran
+guarded_by by None go vars = go vars
+guarded_by by (Some a) go vars = where_true (number (by.value a vars)) go
 
 -- ---- a run
 
@@ -104,7 +121,34 @@ made line all = record {
   variables = all.variables;
 }
 
+-- nothing is made, and the variables stay
+abbrev pub nothing : Variables → Made
+nothing vars = record { texts = []; contributions = []; exit = None; variables = vars }
+
+-- what two runs made, one after the other: the first exit counts, and the variables are those after the second
+abbrev pub and_then : Made → Made → Made
+and_then a b = record {
+  texts = a.texts ++ b.texts;
+  contributions = a.contributions ++ b.contributions;
+  exit = option_or a.exit b.exit;
+  variables = b.variables;
+}
+
+-- a run of statements behind a predicate, where this line stands for a fault
+abbrev pub run_by : {E Es : Type 0} → Evaluation E Es → List ℕ → Option E → List (ActionOf E Es) → Variables → Made
+run_by by line predicate statements vars = made line (guarded_by by predicate (statements_by by statements) vars)
+
+-- ---- typed trees
+
+abbrev pub given_of : Firing → Option Typed → Variables → Outcome ℤ
+given_of f = given_by (by_trees f)
+
+abbrev pub effect_of : Firing → Action → Variables → Outcome Effect
+effect_of f = effect_by (by_trees f)
+
+abbrev pub statements_of : Firing → List Action → Variables → Ran
+statements_of f = statements_by (by_trees f)
+
 -- a run of the clause at this place among the script's, from 1
 abbrev pub run_of : Firing → ℕ → ClauseMeant → Variables → Made
-run_of f place clause vars =
-    made (fault_line f.number place) (guarded f clause.predicate (statements_of f clause.statements) vars)
+run_of f place clause vars = run_by (by_trees f) (fault_line f.number place) clause.predicate clause.statements vars

@@ -1,6 +1,6 @@
 -- What an expression means: its value, or the fault, and the variables after it.
-use Rattle.std.specs.Prelude.{◌≡◌, ℕ, zero, suc, List, [], ◌∷◌, ◌++◌, length, take, Bool, true, false, Result, Ok, Err, ℤ, pos, get_or}
-use Rattle.std.specs.Int.{cast_signed, cast_unsigned, w64}
+use Rattle.std.specs.Prelude.{◌≡◌, ℕ, zero, suc, List, [], ◌∷◌, length, Bool, true, false, Result, Ok, Err, ℤ, pos, get_or}
+use Rattle.std.specs.Int.{cast_unsigned, w64}
 use Rattle.d_parser.specs.declared.operators.UnaryOperator.{UnaryOperator}
 use Rattle.d_parser.specs.declared.operators.UnaryOperator.TheVariants as un
 use Rattle.d_parser.specs.declared.operators.Step.{Step}
@@ -10,11 +10,12 @@ use Rattle.d_values.specs.declared.int_type.IntType.{IntType}
 use Rattle.d_values.specs.declared.int_type.DType.{DType}
 use Rattle.d_values.specs.declared.int_type.DType.TheVariants as ty
 use Rattle.d_values.specs.declared.key.KeyPart.{KeyPart}
-use Rattle.d_values.specs.declared.key.KeyPart.TheVariants as ke
 use Rattle.d_values.specs.declared.value.Value.{Value}
 use Rattle.d_values.specs.declared.value.Value.TheVariants as va
+pub use Rattle.d_values.specs.Keys.{part_of}
 use Rattle.d_values.specs.Operators.{holds_of}
-use Rattle.d_values.specs.Texts.{text_cmp}
+pub use Rattle.d_values.specs.Outcomes.{Outcome, Has, Faults, with}
+use Rattle.d_values.specs.Texts.{text_cmp, joined_text}
 use Rattle.d_values.specs.Words.{narrow, binary_of, shift_of, opposite_of, complement_of, order_of, sum_of, difference_of}
 use Rattle.firing_reader.specs.declared.firing.Firing.{Firing}
 use Rattle.d_types.specs.declared.evaluating.fault.EvalFault.{EvalFault}
@@ -32,37 +33,27 @@ use Rattle.d_types.specs.Storage.{Variables, word_of, bytes_of, value_at, set}
 
 -- ---- how an evaluation ends
 
--- with what it gives, or with the fault, and the variables after it
-pub data Outcome (A : Type 0) : Type 0 where
-  Gives : A → Variables → Outcome A
-  Faults : Variables → Outcome A
-
--- goes on with what was given
-abbrev pub with : {A B : Type 0} → Outcome A → (A → Variables → Outcome B) → Outcome B
-with (Gives x vars) go = go x vars
-with (Faults vars) go = Faults vars
-
 -- the operator's word, or the fault at a divisor of zero
 abbrev pub given : Result ℕ OutOfZero → Variables → Outcome ℕ
-given (Ok word) vars = Gives word vars
+given (Ok word) vars = Has word vars
 given (Err e) vars = Faults vars
 
 -- what a call answers and leaves, unless memory ran out
 abbrev pub Meets : {A : Type 0} → Outcome A → Result A EvalFault → Variables → Type 0
-Meets o (Ok x) vars = o ≡ Gives x vars
+Meets o (Ok x) vars = o ≡ Has x vars
 Meets o (Err ef.DivideByZero) vars = o ≡ Faults vars
 Meets o (Err ef.Memory) vars = Unit {0}
 
 -- ---- values
 
 abbrev pub number : Outcome Value → Outcome ℕ
-number o = with o (λ x. Gives (word_of x))
+number o = with o (λ x. Has (word_of x))
 
 abbrev pub text : Outcome Value → Outcome (List ℕ)
-text o = with o (λ x. Gives (bytes_of x))
+text o = with o (λ x. Has (bytes_of x))
 
 abbrev pub integer : Outcome ℕ → Outcome Value
-integer o = with o (λ word. Gives (va.Int word))
+integer o = with o (λ word. Has (va.Int word))
 
 -- 1 for true, 0 for false
 abbrev pub truth : Bool → ℕ
@@ -127,16 +118,11 @@ abbrev pub answered : Answer → ℕ → ℕ → ℕ
 answered an.New old new = new
 answered an.Old old new = old
 
--- an integer is a signed number as a key, and a text its bytes
-abbrev pub part_of : Value → KeyPart
-part_of (va.Int word) = ke.Number (cast_signed w64 word)
-part_of (va.Text bytes) = ke.Name bytes
-
 -- ---- variables
 
 -- the variable gets the value, and the expression has it
 abbrev pub assigned : Variable → List KeyPart → Value → Variables → Outcome Value
-assigned x key value vars = Gives value (set vars x key value)
+assigned x key value vars = Has value (set vars x key value)
 
 -- the variable gets the word, as one of its type
 abbrev pub updated : Variable → List KeyPart → ℕ → Variables → Outcome Value
@@ -146,31 +132,31 @@ updated x key word = assigned x key (va.Int (held x.holds word))
 abbrev pub moved : Step → Answer → Variable → List KeyPart → ℕ → Variables → Outcome Value
 moved step answer x key old vars =
     let new = held x.holds (stepped step old) in
-    Gives (va.Int (answered answer old new)) (set vars x key (va.Int new))
+    Has (va.Int (answered answer old new)) (set vars x key (va.Int new))
 
 -- ---- expressions
 
 abbrev mutual
   pub eval : Firing → Typed → Variables → Outcome Value
-  eval f (Constant t word) vars = Gives (va.Int word) vars
-  eval f (Text bytes) vars = Gives (va.Text bytes) vars
-  eval f (Fixed b) vars = Gives (built_in_of f b) vars
-  eval f (Read x keys) vars = with (keys_of f keys vars) (λ key vars. Gives (value_at vars x key) vars)
-  eval f (Unary o t a) vars = with (number (eval f a vars)) (λ x. Gives (va.Int (unary_of o t x)))
+  eval f (Constant t word) vars = Has (va.Int word) vars
+  eval f (Text bytes) vars = Has (va.Text bytes) vars
+  eval f (Fixed b) vars = Has (built_in_of f b) vars
+  eval f (Read x keys) vars = with (keys_of f keys vars) (λ key vars. Has (value_at vars x key) vars)
+  eval f (Unary o t a) vars = with (number (eval f a vars)) (λ x. Has (va.Int (unary_of o t x)))
   eval f (Operate o a b) vars =
       with (number (eval f a vars)) (λ x vars. with (number (eval f b vars)) (λ y vars. integer (given (operation_of o x y) vars)))
   eval f (Compare o t a b) vars =
-      with (number (eval f a vars)) (λ x vars. with (number (eval f b vars)) (λ y. Gives (va.Int (truth (holds_of o (order_of t x y))))))
+      with (number (eval f a vars)) (λ x vars. with (number (eval f b vars)) (λ y. Has (va.Int (truth (holds_of o (order_of t x y))))))
   eval f (CompareText o a b) vars =
-      with (text (eval f a vars)) (λ x vars. with (text (eval f b vars)) (λ y. Gives (va.Int (truth (holds_of o (text_cmp x y))))))
+      with (text (eval f a vars)) (λ x vars. with (text (eval f b vars)) (λ y. Has (va.Int (truth (holds_of o (text_cmp x y))))))
   eval f (Logic lo.And a b) vars =
-      with (number (eval f a vars)) (λ x vars. at_zero x (Gives (va.Int 0) vars) (with (number (eval f b vars)) (λ y. Gives (va.Int (bit y)))))
+      with (number (eval f a vars)) (λ x vars. at_zero x (Has (va.Int 0) vars) (with (number (eval f b vars)) (λ y. Has (va.Int (bit y)))))
   eval f (Logic lo.Or a b) vars =
-      with (number (eval f a vars)) (λ x vars. at_zero x (with (number (eval f b vars)) (λ y. Gives (va.Int (bit y)))) (Gives (va.Int 1) vars))
+      with (number (eval f a vars)) (λ x vars. at_zero x (with (number (eval f b vars)) (λ y. Has (va.Int (bit y)))) (Has (va.Int 1) vars))
   eval f (Logic lo.Xor a b) vars =
-      with (number (eval f a vars)) (λ x vars. with (number (eval f b vars)) (λ y. Gives (va.Int (at_zero x (bit y) (inverse y)))))
+      with (number (eval f a vars)) (λ x vars. with (number (eval f b vars)) (λ y. Has (va.Int (at_zero x (bit y) (inverse y)))))
   eval f (Choice t c a b) vars = with (number (eval f c vars)) (λ x vars. at_zero x (eval f b vars) (eval f a vars))
-  eval f (Convert t u a) vars = with (number (eval f a vars)) (λ x. Gives (va.Int (narrow u x)))
+  eval f (Convert t u a) vars = with (number (eval f a vars)) (λ x. Has (va.Int (narrow u x)))
   -- the keys, then the right side, then the change
   eval f (Assign x keys a) vars = with (keys_of f keys vars) (λ key vars. with (eval f a vars) (assigned x key))
   -- the variable is read before the right side is evaluated
@@ -178,11 +164,11 @@ abbrev mutual
       with (keys_of f keys vars) (λ key vars. with (number (eval f a vars)) (λ y after.
       with (given (operation_of o (narrow (works_in o) (word_of (value_at vars x key))) y) after) (updated x key)))
   eval f (Count step answer x keys) vars = with (keys_of f keys vars) (λ key vars. moved step answer x key (word_of (value_at vars x key)) vars)
-  eval f (Strlen a) vars = with (text (eval f a vars)) (λ x. Gives (va.Int (length x)))
+  eval f (Strlen a) vars = with (text (eval f a vars)) (λ x. Has (va.Int (length x)))
   eval f (Strjoin a b) vars =
-      with (text (eval f a vars)) (λ x vars. with (text (eval f b vars)) (λ y. Gives (va.Text (take 255 (x ++ y)))))
+      with (text (eval f a vars)) (λ x vars. with (text (eval f b vars)) (λ y. Has (va.Text (joined_text x y))))
 
   -- keys, from left to right
   pub keys_of : Firing → Typeds → Variables → Outcome (List KeyPart)
-  keys_of f end vars = Gives [] vars
-  keys_of f (more a rest) vars = with (eval f a vars) (λ x vars. with (keys_of f rest vars) (λ key. Gives (part_of x ∷ key)))
+  keys_of f end vars = Has [] vars
+  keys_of f (more a rest) vars = with (eval f a vars) (λ x vars. with (keys_of f rest vars) (λ key. Has (part_of x ∷ key)))

@@ -1,20 +1,23 @@
 -- Values of a type, variables that hold values of their types, and trees whose parts have the types that their places ask for.
-use Rattle.std.specs.Prelude.{◌≡◌, ◌≤◌, ℕ, ℤ, List, length, Option, Some}
+use Rattle.std.specs.Prelude.{◌≡◌, ◌≤◌, ℕ, ℤ, List, length, slice_get, Option, Some, option_and_then}
 use Rattle.d_values.specs.declared.int_type.IntType.{IntType}
 use Rattle.d_values.specs.declared.int_type.DType.{DType}
 use Rattle.d_values.specs.declared.int_type.DType.TheVariants as ty
 use Rattle.d_values.specs.declared.key.KeyPart.{KeyPart}
 use Rattle.d_values.specs.declared.value.Value.{Value}
 use Rattle.d_values.specs.declared.value.Value.TheVariants as va
+use Rattle.d_values.specs.declared.variable.Var.{Var}
 use Rattle.d_values.specs.Numbers.{IsNumber, bits_of}
+use Rattle.d_values.specs.Texts.{longest}
 use Rattle.firing_reader.specs.declared.firing.Firing.{Firing}
 use Rattle.d_types.specs.declared.typed.BuiltIn.{BuiltIn}
 use Rattle.d_types.specs.declared.typed.Operation.{Operation}
 use Rattle.d_types.specs.declared.typed.Operation.TheVariants as op
 use Rattle.d_types.specs.declared.typed.Variable.{Variable}
-use Rattle.d_types.specs.Typed.{Typed, Constant, Text, Fixed, Read, Unary, Operate, Compare, CompareText, Logic, Choice, Convert, Assign, Update, Count, Strlen, Strjoin, Typeds, end, more, type_of, type_of_built_in}
-use Rattle.d_types.specs.Storage.{Variables, value_at}
-use Rattle.d_types.specs.Expressions.{Outcome, Gives, Faults, built_in_of, works_in}
+use Rattle.d_types.specs.Typed.{ScriptMeant, Typed, Constant, Text, Fixed, Read, Unary, Operate, Compare, CompareText, Logic, Choice, Convert, Assign, Update, Count, Strlen, Strjoin, Typeds, end, more, type_of, type_of_built_in}
+use Rattle.d_types.specs.Storage.{Variables}
+use Rattle.d_types.specs.Variables.{kind_of}
+use Rattle.d_types.specs.Expressions.{Outcome, Has, Faults, built_in_of, works_in}
 
 -- ---- values
 
@@ -22,10 +25,10 @@ use Rattle.d_types.specs.Expressions.{Outcome, Gives, Faults, built_in_of, works
 abbrev pub IsWord : IntType → ℕ → Type 0
 IsWord t word = (n : ℤ) × IsNumber t n × (word ≡ bits_of n)
 
--- a value of the type: such a word, or a text of at most 255 bytes
+-- a value of the type: such a word, or a text that isn't too long
 abbrev pub IsOf : DType → Value → Type 0
 IsOf (ty.Int t) (va.Int word) = IsWord t word
-IsOf ty.Text (va.Text bytes) = length bytes ≤ 255
+IsOf ty.Text (va.Text bytes) = length bytes ≤ longest
 IsOf _ _ = ⊥
 
 -- each built-in of the firing is a value of its type
@@ -38,16 +41,29 @@ HasTypedBuiltIns f = (b : BuiltIn) → IsOf (type_of_built_in b) (built_in_of f 
 abbrev pub Slots : Type 0
 Slots = ℕ → Option DType
 
+-- those of a script
+abbrev pub slots_of : ScriptMeant → Slots
+slots_of m slot = option_and_then (λ t. t) (slice_get m.slots slot)
+
 abbrev pub IsKnown : Slots → Variable → Type 0
 IsKnown slots x = slots x.slot ≡ Some x.holds
 
--- each variable holds a value of its type, at each key
+-- each clause-local variable holds a value of its type
+abbrev pub AreTypedLocals : Slots → (Var → Value) → Type 0
+AreTypedLocals slots locals = (slot : ℕ) (t : DType) → slots slot ≡ Some t → IsOf t (locals (record { slot = slot; kind = kind_of t }))
+
+-- each of a thread's variables holds a value of its type, at each key
+abbrev pub AreTypedOwn : Slots → (Var → List KeyPart → Value) → Type 0
+AreTypedOwn slots own =
+    (slot : ℕ) (t : DType) (key : List KeyPart) → slots slot ≡ Some t → IsOf t (own (record { slot = slot; kind = kind_of t }) key)
+
+-- all variables hold values of their types
 abbrev pub AreTyped : Slots → Variables → Type 0
-AreTyped slots vars = (x : Variable) (key : List KeyPart) → IsKnown slots x → IsOf x.holds (value_at vars x key)
+AreTyped slots vars = AreTypedLocals slots vars.locals × AreTypedOwn slots vars.own
 
 -- what an evaluation gives is such, and the variables after it hold values of their types, also after a fault
 abbrev pub Ends : {A : Type 0} → Slots → (A → Type 0) → Outcome A → Type 0
-Ends slots Is (Gives x vars) = Is x × AreTyped slots vars
+Ends slots Is (Has x vars) = Is x × AreTyped slots vars
 Ends slots Is (Faults vars) = AreTyped slots vars
 
 -- ---- trees
@@ -65,7 +81,7 @@ abbrev mutual
   -- each constant is a value of its type, each variable has the type of its slot, and each part the type that its place asks for
   pub IsConsistent : Slots → Typed → Type 0
   IsConsistent slots (Constant t word) = IsWord t word
-  IsConsistent slots (Text bytes) = length bytes ≤ 255
+  IsConsistent slots (Text bytes) = length bytes ≤ longest
   IsConsistent slots (Fixed b) = Unit {0}
   IsConsistent slots (Read x keys) = IsKnown slots x × AreConsistent slots keys
   IsConsistent slots (Unary o t a) = (type_of a ≡ ty.Int t) × IsConsistent slots a

@@ -1,12 +1,20 @@
 -- What evaluation never does, by what stands in the expression.
 use Rattle.std.specs.Prelude.{◌≡◌, Bool, true, false, ◌||◌}
+use Rattle.d_parser.specs.declared.operators.Step.{Step}
+use Rattle.d_parser.specs.declared.operators.Step.TheVariants as st
+use Rattle.d_values.specs.declared.int_type.IntType.{IntType}
+use Rattle.d_values.specs.declared.operators.ArithmeticOperator.{ArithmeticOperator}
+use Rattle.d_values.specs.declared.operators.ArithmeticOperator.TheVariants as ao
+use Rattle.d_values.specs.Types.{INT32, common_of}
 use Rattle.d_values.specs.Words.{divides}
 use Rattle.firing_reader.specs.declared.firing.Firing.{Firing}
 use Rattle.d_types.specs.declared.typed.Operation.{Operation}
 use Rattle.d_types.specs.declared.typed.Operation.TheVariants as op
+use Rattle.d_types.specs.declared.typed.Variable.{Variable}
 use Rattle.d_types.specs.Typed.{Typed, Constant, Text, Fixed, Read, Unary, Operate, Compare, CompareText, Logic, Choice, Convert, Assign, Update, Count, Strlen, Strjoin, Typeds, end, more}
 use Rattle.d_types.specs.Storage.{Variables}
-use Rattle.d_types.specs.Expressions.{Outcome, Gives, Faults}
+use Rattle.d_types.specs.Expressions.{Outcome, Has, Faults, works_in}
+use Rattle.d_types.specs.Operators.{converted}
 
 -- `/` or `%`
 abbrev pub is_division : Operation → Bool
@@ -63,9 +71,23 @@ abbrev mutual
 
 -- the variables after it
 abbrev pub variables_after : {A : Type 0} → Outcome A → Variables
-variables_after (Gives x vars) = vars
+variables_after (Has x vars) = vars
 variables_after (Faults vars) = vars
 
 abbrev pub is_fault : {A : Type 0} → Outcome A → Bool
-is_fault (Gives x vars) = false
+is_fault (Has x vars) = false
 is_fault (Faults vars) = true
+
+-- `x op e` as a value of the type t of x
+abbrev pub in_place : Operation → IntType → Variable → Typed → Typed
+in_place o t x e = converted (works_in o) t (Operate o (converted t (works_in o) (Read x end)) e)
+
+-- the operator of `++` and of `--`
+abbrev pub operator_of : Step → ArithmeticOperator
+operator_of st.Increment = ao.Add
+operator_of st.Decrement = ao.Subtract
+
+-- `x += 1` or `x -= 1`, of a variable of type t
+abbrev pub one_more : Step → IntType → Variable → Typed
+one_more by t x =
+    Update (op.Arithmetic (operator_of by) (common_of t INT32)) x end (converted INT32 (common_of t INT32) (Constant INT32 1))

@@ -21,7 +21,7 @@ pub mod Clauses
 pub mod Laws
 pub mod WellTyped
 pub mod Held
-pub mod Numbers
 pub mod Wholes
+pub mod Proper
 pub mod Sizes
 pub mod Spelling

@@ -1,6 +1,7 @@
 -- The typed tree of a script, or its first fault: declarations and clauses go in the order of the text.
 use Rattle.std.specs.Prelude.{◌≡◌, ℕ, nat_le, if◌then◌else◌, List, [], ◌∷◌, ◌++◌, length, map, Option, Some, None, Result, Ok}
 use Rattle.d_parser.specs.declared.tree.DeclaredType.{DeclaredType}
+use Rattle.d_parser.specs.Numbers.{AreSmall}
 use Rattle.d_parser.specs.Sizes.{IsWithin}
 use Rattle.d_parser.specs.Tree as tree
 use Rattle.d_parser.specs.Tree.{Tree, StmtTree, DeclarationTree, ClauseTree, ItemTree}
@@ -13,7 +14,7 @@ use Rattle.d_types.specs.Faults.{Fault, ◌>>=◌, refuse, Mismatch, Keys, NoReg
 use Rattle.d_types.specs.Constants.{declared_type}
 use Rattle.d_types.specs.Typed.{Typed, type_of, Action, Aggs, ClauseMeant, ScriptMeant}
 use Rattle.d_types.specs.Needs.{need}
-use Rattle.d_types.specs.Variables.{Rows, kind_of, find}
+use Rattle.d_types.specs.Variables.{Rows, kind_of, find, types_in}
 use Rattle.d_types.specs.Typing.{line_of, expr}
 use Rattle.d_types.specs.Statements.{action}
 use Rattle.d_types.specs.Aggregations.{aggregate}
@@ -74,8 +75,9 @@ items done rows aggs (t ∷ rest) = item done rows aggs t >>= λ a. items a.0 a.
 
 -- what a script means, or its first fault
 abbrev pub script : List ItemTree → Result ScriptMeant Fault
-script all = items [] [] [] all >>= λ x. Ok (record { clauses = x.0; aggregations = x.1.1 })
+script all = items [] [] [] all >>= λ x. Ok (record { clauses = x.0; aggregations = x.1.1; slots = types_in x.1.0 })
 
--- some script means this, with at most 65,536 descriptions, statements, and declarations with places of variables
+-- some script means this, with at most 65,536 descriptions, statements, and declarations with places of variables, and with
+-- numbers below 2 ^ 64
 abbrev pub IsMeant : ScriptMeant → Type 0
-IsMeant m = (source : List ItemTree) × IsWithin 65536 source × (script source ≡ Ok m)
+IsMeant m = (source : List ItemTree) × IsWithin 65536 source × AreSmall source × (script source ≡ Ok m)

@@ -1,5 +1,5 @@
 -- How large a typed script is.
-use Rattle.std.specs.Prelude.{ℕ, suc, ◌+◌, ◌≤◌, length, Option, Some, None}
+use Rattle.std.specs.Prelude.{ℕ, suc, ◌+◌, ◌*◌, ◌≤◌, length, Option, Some, None}
 use Rattle.d_parser.specs.Sizes.{in_all}
 use Rattle.d_types.specs.Typed.{Typed, Constant, Text, Fixed, Read, Unary, Operate, Compare, CompareText, Logic, Choice, Convert, Assign, Update, Count, Strlen, Strjoin, Typeds, end, more}
 use Rattle.d_types.specs.Typed.{Action, Evaluate, Trace, Print, Exit, Aggregate, ClauseMeant, ScriptMeant}
@@ -53,3 +53,7 @@ pub record HasAtMost (n : ℕ) (m : ScriptMeant) : Type 0 where
   pub few_descriptions : in_all descriptions m.clauses ≤ n
   pub few_statements : in_all statements m.clauses ≤ n
   pub few_variables : in_all variables m.clauses ≤ n
+
+-- how many of a clause's statements run where each of its descriptions matches a firing
+abbrev pub most_runs : ClauseMeant → ℕ
+most_runs c = descriptions c * statements c

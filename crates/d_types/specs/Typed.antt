@@ -121,12 +121,16 @@ type_of (Strjoin a b) = ty.Text
 
 -- ---- statements and clauses
 
-pub data Action : Type 0 where
-  Evaluate : Typed → Action
-  Trace : Typed → Action
-  Print : List Piece → Typeds → Action
-  Exit : Typed → Action
-  Aggregate : (place : ℕ) (keys : Typeds) (argument : Option Typed) → Action
+-- a statement over any expressions and lists of them
+pub data ActionOf (E Es : Type 0) : Type 0 where
+  Evaluate : E → ActionOf E Es
+  Trace : E → ActionOf E Es
+  Print : List Piece → Es → ActionOf E Es
+  Exit : E → ActionOf E Es
+  Aggregate : (place : ℕ) (keys : Es) (argument : Option E) → ActionOf E Es
+
+abbrev pub Action : Type 0
+Action = ActionOf Typed Typeds
 
 pub record ClauseMeant : Type 0 where
   pub descriptions : List Description
@@ -146,6 +150,8 @@ Aggs = List Agg
 pub record ScriptMeant : Type 0 where
   pub clauses : List ClauseMeant
   pub aggregations : Aggs
+  -- the type of each slot's variable
+  pub slots : List (Option DType)
 
 abbrev pub argument_of : Option TypedExpr → Option Typed
 argument_of None = None
@@ -170,5 +176,6 @@ agg_of a = record { name = a.name; keys = a.keys.items; function = a.function }
 abbrev pub aggs_of : List TypedAggregation → Aggs
 aggs_of all = map agg_of all
 
-abbrev pub script_meant : List TypedClause → List TypedAggregation → ScriptMeant
-script_meant clauses aggregations = record { clauses = map meant_of clauses; aggregations = aggs_of aggregations }
+abbrev pub script_meant : List TypedClause → List TypedAggregation → List (Option DType) → ScriptMeant
+script_meant clauses aggregations slots =
+    record { clauses = map meant_of clauses; aggregations = aggs_of aggregations; slots = slots }

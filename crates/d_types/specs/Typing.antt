@@ -9,6 +9,7 @@ use Rattle.d_parser.specs.Tree as tree
 use Rattle.d_parser.specs.Tree.{Tree, Trees}
 use Rattle.d_values.specs.declared.int_type.DType.{DType}
 use Rattle.d_values.specs.declared.int_type.DType.TheVariants.{Int, Text}
+use Rattle.d_values.specs.Texts.{longest}
 use Rattle.d_values.specs.Types.{INT64}
 use Rattle.d_types.specs.declared.typed.Answer.{Answer}
 use Rattle.d_types.specs.declared.typed.Answer.TheVariants as w
@@ -37,10 +38,10 @@ line_of (tree.Binary op a b) = line_of a
 line_of (tree.Choice c a b) = line_of c
 line_of (tree.Assign op v keys a) = line_of_variable v
 
--- a text is cut to its first 255 bytes
+-- a text is cut to its first bytes
 abbrev pub constant : Constant → Typed
 constant (c.Number v suffix) = typed.Constant (type_of_constant v suffix) v
-constant (c.Text bytes) = typed.Text (take 255 bytes)
+constant (c.Text bytes) = typed.Text (take longest bytes)
 
 -- ---- calls
 

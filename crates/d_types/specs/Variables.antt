@@ -62,6 +62,10 @@ keys_fit [] n keys = false
 keys_fit (r ∷ rs) zero keys = fit r.keys keys
 keys_fit (r ∷ rs) (suc n) keys = keys_fit rs n keys
 
+-- the types of all of them
+abbrev pub types_in : Rows → List (Option DType)
+types_in rows = map (λ r. r.holds) rows
+
 abbrev pub set_type : ℕ → DType → Rows → Rows
 set_type n t [] = []
 set_type zero t (r ∷ rs) = record r { holds = Some t } ∷ rs

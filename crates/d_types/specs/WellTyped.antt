@@ -15,7 +15,7 @@ use Rattle.d_types.specs.Constants.{declared_type}
 use Rattle.d_types.specs.Words.{callee_named, aggregating_named}
 use Rattle.d_types.specs.Typed.{Typed, Typeds, end, more, Action, Evaluate, Trace, Print, Exit, Aggregate, Agg, Aggs, ClauseMeant, ScriptMeant}
 use Rattle.d_types.specs.Needs.{count}
-use Rattle.d_types.specs.Variables.{Rows, kinds_of, find}
+use Rattle.d_types.specs.Variables.{Rows, kinds_of, find, types_in}
 use Rattle.d_types.specs.Variables as variables
 use Rattle.d_types.specs.Spelling.{Spells}
 use Rattle.d_types.specs.Formats as formats
@@ -104,4 +104,4 @@ AllItems rows aggs (tree.Probing c ∷ rest) all after known =
 
 -- the script is well typed, and this is what it means
 abbrev pub IsWell : List ItemTree → ScriptMeant → Type 0
-IsWell source m = (rows : Rows) × AllItems [] [] source m.clauses rows m.aggregations
+IsWell source m = (rows : Rows) × AllItems [] [] source m.clauses rows m.aggregations × (m.slots ≡ types_in rows)

@@ -1,6 +1,7 @@
 //! From scripts to typed scripts.
 
 ghost use Rattle.std.specs.Prelude.{◌≡◌, [], map, IfOk};
+ghost use Rattle.d_parser.specs.Numbers.{AreSmall};
 ghost use Rattle.d_parser.specs.Sizes.{IsWithin};
 ghost use Rattle.d_parser.specs.Tree.{item_of, script_of};
 ghost use Rattle.d_types.specs.Faults.{Gives};
@@ -16,7 +17,7 @@ use crate::declaration::declaration;
 use crate::fault::TypeFault;
 use crate::typed::{TypedAggregation, TypedClause};
 use crate::typed_script::TypedScript;
-use crate::variables::Entry;
+use crate::variables::{Entry, types_in};
 use d_parser::{Item, Script};
 use std::alloc::Global;
 
@@ -55,22 +56,27 @@ fn items(
 }
 
 fn checked(alloc: Global, script: Script) -> Result<TypedScript, TypeFault>
-    requires { IsWithin 65536 (script_of script) }
+    requires few { IsWithin 65536 (script_of script) }
+    requires small { AreSmall (script_of script) }
     ensures { Gives typed_script_of result (spec.script (script_of script)) }
 {
     let mut table = Vec::new(alloc);
     let mut aggs = Vec::new(alloc);
     match items(alloc, &mut table, &mut aggs, &script.items) {
-        Ok(clauses) => Ok(TypedScript::known(clauses, aggs)),
+        Ok(clauses) => {
+            let slots = types_in(alloc, &table)?;
+            Ok(TypedScript::known(clauses, aggs, slots))
+        }
         Err(fault) => Err(fault),
     }
 }
 
 /// The typed script of a script that is well typed, with every register need at most 6, else its first fault: parts come
 /// first, from the left to the right, then the construct itself, with the cause of lowest number. Every script that
-/// `parse` gives is small enough, and the typed script keeps that it is.
+/// `parse` gives is small enough and has such numbers, and the typed script keeps that it does.
 pub fn check(alloc: Global, script: Script) -> Result<TypedScript, TypeFault>
-    requires { IsWithin 65536 (script_of script) }
+    requires few { IsWithin 65536 (script_of script) }
+    requires small { AreSmall (script_of script) }
     // What is answered is what the script means by the rules.
     ensures typed { IfOk result (λ s. IsWell (script_of script) (typed_script_of s) × ScriptFits (typed_script_of s)) }
     // Where the rules give a meaning it is answered, and no other, unless memory runs out.

@@ -37,7 +37,8 @@ pub(crate) fn space_of(variable: &d_parser::Variable) -> Space
     }
 }
 
-// A script has fewer places of variables than slots, so a slot always fits.
+// A script has at most 65,536 declarations and places of variables, so a slot always fits: that is
+// read from the table's rows and not proved.
 pub(crate) fn variable_at(space: Space, slot: usize, holds: DType) -> Result<Variable, TypeFault>
     ensures ok { IfOk result (λ v. v ≡ record { space = space; slot = slot; holds = holds }) }
     ensures err { OnlyMemory result }

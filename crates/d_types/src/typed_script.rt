@@ -5,28 +5,34 @@ ghost use Rattle.d_types.specs.Scripts.{IsMeant};
 ghost use Rattle.d_types.specs.Typed.{script_meant};
 
 use crate::typed::{TypedAggregation, TypedClause};
+use d_values::DType;
 
-/// A script that is well typed, with every register need at most 6, and at most 65,536 descriptions, as many statements,
-/// and as many declarations and places of variables together.
+/// A script that is well typed, with every register need at most 6, with at most 65,536 descriptions,
+/// as many statements, and as many declarations and places of variables together, and with numbers
+/// below 2^64.
 #[derive(Drop)]
 pub struct TypedScript {
     clauses: Vec<TypedClause>,
     aggregations: Vec<TypedAggregation>,
-    ghost typed: { ∥ IsMeant (script_meant clauses.items aggregations.items) ∥₁ },
+    slots: Vec<Option<DType>>,
+    ghost typed: { ∥ IsMeant (script_meant clauses.items aggregations.items slots.items) ∥₁ },
 }
 
 impl TypedScript {
     pub(crate) fn known(
         clauses: Vec<TypedClause>,
         aggregations: Vec<TypedAggregation>,
+        slots: Vec<Option<DType>>,
     ) -> TypedScript
-        requires { ∥ IsMeant (script_meant clauses.items aggregations.items) ∥₁ }
+        requires { ∥ IsMeant (script_meant clauses.items aggregations.items slots.items) ∥₁ }
         ensures clauses { result.clauses.items ≡ clauses.items }
         ensures aggregations { result.aggregations.items ≡ aggregations.items }
+        ensures slots { result.slots.items ≡ slots.items }
     {
         TypedScript {
             clauses,
             aggregations,
+            slots,
         }
     }
 
@@ -42,5 +48,12 @@ impl TypedScript {
         ensures { result.now ≡ self.now.aggregations.items }
     {
         &self.aggregations
+    }
+
+    /// The type of each variable, by its slot.
+    pub fn slots(&self) -> &[Option<DType>]
+        ensures { result.now ≡ self.now.slots.items }
+    {
+        &self.slots
     }
 }

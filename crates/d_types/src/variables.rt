@@ -103,3 +103,10 @@ pub(crate) fn kinds_of(alloc: Global, keys: &[TypedExpr]) -> Result<Vec<Kind>, A
     }
     Ok(kinds)
 }
+
+/// The types of all variables.
+pub(crate) fn types_in(alloc: Global, table: &[Entry]) -> Result<Vec<Option<DType>>, AllocError>
+    ensures { IfOk result (λ types. types.items ≡ map (λ e. e.holds) table.now) }
+{
+    table.iter().map(|entry| entry.holds).collect(alloc)
+}

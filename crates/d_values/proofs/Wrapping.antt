@@ -17,7 +17,7 @@ last : (w : ℕ) → is_width w ≡ true → w ≢ 8 → w ≢ 16 → w ≢ 32 �
 last w known not8 not16 not32 = grind (arith, nat_tests)
 
 -- what holds of the four widths holds of a type's
-by_width : (P : ℕ → Type 0) → P 8 → P 16 → P 32 → P 64 → (w : ℕ) → is_width w ≡ true → P w
+pub by_width : (P : ℕ → Type 0) → P 8 → P 16 → P 32 → P 64 → (w : ℕ) → is_width w ≡ true → P w
 by_width P p8 p16 p32 p64 w known = elim (cases_eq w 8) [
   | inl e ↦ subst P (sym e) p8
   | inr not8 ↦ elim (cases_eq w 16) [

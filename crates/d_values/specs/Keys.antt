@@ -3,11 +3,19 @@ use Rattle.std.specs.Prelude.{◌≡◌, ◌≢◌, ℕ, Bool, false, List, [], 
 use Rattle.std.specs.Cmp.Lexicographic.{pointwise, slice_cmp}
 use Rattle.std.specs.Ordering.{int_cmp, int_eq}
 use Rattle.std.specs.Hash.{i64}
+use Rattle.std.specs.Int.{cast_signed, w64}
 use Rattle.std.specs.declared.cmp.Ordering.{Ordering}
 use Rattle.std.specs.declared.cmp.Ordering.TheVariants.{Less, Greater}
 use Rattle.d_values.specs.Texts.{text_cmp, same_text}
 use Rattle.d_values.specs.declared.key.KeyPart.{KeyPart}
 use Rattle.d_values.specs.declared.key.KeyPart.TheVariants.{Number, Name}
+use Rattle.d_values.specs.declared.value.Value.{Value}
+use Rattle.d_values.specs.declared.value.Value.TheVariants as v
+
+-- an integer is a signed number as a part of a key, and a text its bytes
+abbrev pub part_of : Value → KeyPart
+part_of (v.Int word) = Number (cast_signed w64 word)
+part_of (v.Text bytes) = Name bytes
 
 -- parts: integers as signed numbers, texts by their bytes, and an integer before a text
 abbrev pub part_cmp : KeyPart → KeyPart → Ordering

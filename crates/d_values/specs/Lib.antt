@@ -8,4 +8,6 @@ pub mod Words
 pub mod Numbers
 pub mod Variables
 pub mod Stores
+pub mod Storage
+pub mod Outcomes
 pub mod Tables

@@ -1,5 +1,5 @@
--- When texts are the same, and their order.
-use Rattle.std.specs.Prelude.{◌≡◌, ℕ, Bool, List, nat_eq}
+-- Texts: when they are the same, their order, and how long they are.
+use Rattle.std.specs.Prelude.{◌≡◌, ℕ, Bool, List, ◌++◌, take, nat_eq}
 use Rattle.std.specs.Bool.{Decides}
 use Rattle.std.specs.Cmp.{IsEquivalence, IsTotalOrder}
 use Rattle.std.specs.Cmp.Lexicographic.{pointwise, slice_cmp, bytes_decides, nat_list_eq_equiv, nat_list_cmp_total, texts_ties}
@@ -27,3 +27,11 @@ text_cmp_total = nat_list_cmp_total
 -- the order ties the same texts, and no others
 pub text_cmp_ties : (x y : List ℕ) → same_text x y ≡ eq_by_cmp text_cmp x y
 text_cmp_ties = texts_ties
+
+-- how many bytes a text of the language has at most
+abbrev pub longest : ℕ
+longest = 255
+
+-- both texts, one after the other, cut to the first of those bytes
+abbrev pub joined_text : List ℕ → List ℕ → List ℕ
+joined_text a b = take longest (a ++ b)

@@ -1,10 +1,10 @@
 //! Texts: byte strings that contracts see as lists of bytes.
 
-ghost use Rattle.std.specs.Prelude.{◌≡◌, ◌↔◌, [], ◌∷◌, ◌++◌, take, IfOk, OnOk, OnErr, IsTrue};
+ghost use Rattle.std.specs.Prelude.{◌≡◌, ◌↔◌, [], ◌∷◌, IfOk, OnOk, OnErr, IsTrue};
 ghost use Rattle.std.proofs.Common.{refl, ap};
 ghost use Rattle.std.specs.Cmp.{partial_equiv_from_equiv, po};
 ghost use Rattle.std.specs.Ordering.{as_partial_cmp};
-ghost use Rattle.d_values.specs.Texts.{same_text, text_cmp, same_text_decides, same_text_equiv, text_cmp_total, text_cmp_ties};
+ghost use Rattle.d_values.specs.Texts.{same_text, text_cmp, same_text_decides, same_text_equiv, text_cmp_total, text_cmp_ties, joined_text};
 
 use std::alloc::{AllocError, Global};
 use std::cmp::Ordering;
@@ -75,7 +75,7 @@ const TEXT_LIMIT: usize = 255;
 
 /// Both texts joined, cut to the first 255 bytes.
 pub fn join_text(alloc: Global, a: &[u8], b: &[u8]) -> Result<Text, AllocError>
-    ensures { IfOk result (λ t. t ≡ take 255 (a.now ++ b.now)) }
+    ensures { IfOk result (λ t. t ≡ joined_text a.now b.now) }
 {
     let first = &a[..a.len().min(TEXT_LIMIT)];
     let second = &b[..b.len().min(TEXT_LIMIT - first.len())];

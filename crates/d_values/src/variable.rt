@@ -9,8 +9,8 @@ ghost use Rattle.d_values.specs.Variables.{code_of, same_var, same_var_decides, 
 use crate::value::Kind;
 use std::hash::{Hash, Hasher};
 
-/// A variable: its slot among those of one storage, clause-local or thread-local, and its kind.
-/// Variables of one slot and of different kinds are different.
+/// A variable: its slot among the script's variables, and its kind. Variables of one slot and of
+/// different kinds are different.
 #[derive(Clone, Copy, Debug)]
 pub struct Var {
     /// Its place.

@@ -1,7 +1,6 @@
 -- A script and a trace have one answer.
-use Rattle.std.proofs.Common.{◌≡◌, ◌++◌, ◌<◌, ◌≤◌, ⊎_elim, ℕ, true, false, List, length, refl, sym, ap, ◌∙◌, subst, arith}
+use Rattle.std.proofs.Common.{◌≡◌, ◌<◌, ◌≤◌, ⊎_elim, ℕ, true, false, List, length, refl, sym, ap, ◌∙◌, subst, arith}
 use Rattle.std.specs.Prelude.{Result, Ok, Err}
-use Rattle.std.specs.List.{flat_map}
 use Rattle.d_lexer.specs.declared.fault.LexFault.{LexFault}
 use Rattle.d_lexer.specs.declared.fault.LexFault.TheVariants as lex
 use Rattle.d_lexer.specs.declared.token.Token.{Token}
@@ -15,21 +14,16 @@ use Rattle.d_parser.specs.Tree.{ItemTree}
 use Rattle.d_parser.proofs.CompleteScripts.{one_script}
 use Rattle.d_types.specs.declared.fault.TypeFault.{TypeFault}
 use Rattle.d_types.specs.Faults.{Fault}
-use Rattle.d_types.specs.Fitting.{ScriptFits}
 use Rattle.d_types.specs.Scripts as typing
 use Rattle.d_types.specs.Typed.{ScriptMeant}
 use Rattle.d_types.specs.WellTyped.{IsWell}
 use Rattle.d_types.proofs.CompleteScripts.{script_complete}
-use Rattle.report.specs.Output.{Shows}
+use Rattle.d_types.proofs.OneMeaning.{one_well}
 use Rattle.report.proofs.Unique.{one_output}
 use Rattle.dreplay.specs.declared.refusal.Refusal.{Refusal}
-use Rattle.dreplay.specs.declared.refusal.Refusal.TheVariants.{Lex, Parse, Typing, NotYet, Trace, Memory}
-use Rattle.dreplay.specs.Answer.{IsAnswer, IsNotYet, IsOutput, IsRunning, IsSameAnswer}
-use Rattle.dreplay.specs.Counting.{Script}
-use Rattle.dreplay.specs.Meaning.{counts_over, functions, texts_over}
-use Rattle.dreplay.specs.Runs.{Runs}
-use Rattle.dreplay.specs.Scripts.{HasTree, IsMistyped, IsParseFault, IsUnread, told}
-use Rattle.dreplay.proofs.OneCounting.{one_counting}
+use Rattle.dreplay.specs.declared.refusal.Refusal.TheVariants.{Lex, Parse, Typing, Trace, Memory}
+use Rattle.dreplay.specs.Answer.{IsAnswer, IsSameAnswer, IsShown, Shown}
+use Rattle.dreplay.specs.Scripts.{HasTree, IsAccepted, IsMistyped, IsParseFault, IsUnread, told}
 
 -- ---- one tree
 
@@ -75,7 +69,6 @@ tree_not_refused script xs (Parse (parse.Syntax line)) a r =
     r.2 xs (subst (IsScript xs) tokens a.spelled)
 tree_not_refused script xs (Parse parse.Memory) a r = r
 tree_not_refused script xs (Typing f) a r = r
-tree_not_refused script xs NotYet a r = r
 tree_not_refused script xs (Trace f) a r = r
 tree_not_refused script xs Memory a r = r
 
@@ -118,10 +111,10 @@ lex_is f g e = ap Lex e
 
 -- ---- one first fault of the types
 
-well_not_mistyped : (script : List ℕ) (items : List ItemTree) (m : ScriptMeant) (f : TypeFault) → HasTree script items → IsWell items m → ScriptFits m → ¬ IsMistyped script f
-well_not_mistyped script items m f tree well fits n =
-    let typed = script_complete items m well fits in
-    let refused : typing.script items ≡ Err n.first = subst (λ all. typing.script all ≡ Err n.first) (same_tree script n.items items n.tree tree) n.refused in
+accepted_not_mistyped : (script : List ℕ) (m : ScriptMeant) (f : TypeFault) → IsAccepted script m → ¬ IsMistyped script f
+accepted_not_mistyped script m f a n =
+    let typed = script_complete a.items m a.well a.fits in
+    let refused : typing.script a.items ≡ Err n.first = subst (λ all. typing.script all ≡ Err n.first) (same_tree script n.items a.items n.tree a.tree) n.refused in
     cc
 
 same_type_fault : (script : List ℕ) (f g : TypeFault) → IsMistyped script f → IsMistyped script g → f ≡ g
@@ -131,84 +124,70 @@ same_type_fault script f g a b =
     let first : a.first ≡ b.first = cc in
     a.is ∙ ap (λ (e : Fault). told e.cause e.line) first ∙ sym b.is
 
-running_not_mistyped : (script : List ℕ) (s : Script) (f : TypeFault) → IsRunning script s → ¬ IsMistyped script f
-running_not_mistyped script s f a n = well_not_mistyped script a.items a.meaning f a.tree a.well a.fits n
+abbrev IsScriptRefusal : Refusal → Type 0
+IsScriptRefusal (Lex f) = Unit {0}
+IsScriptRefusal (Parse f) = Unit {0}
+IsScriptRefusal (Typing f) = Unit {0}
+IsScriptRefusal e = ⊥
 
-not_yet_not_mistyped : (script : List ℕ) (f : TypeFault) → IsNotYet script → ¬ IsMistyped script f
-not_yet_not_mistyped script f a n = well_not_mistyped script a.items a.meaning f a.tree a.well a.fits n
+-- an accepted script isn't refused
+accepted_not_refused : (script trace : List ℕ) (m : ScriptMeant) (e : Refusal) → IsAccepted script m → IsScriptRefusal e → ¬ IsAnswer script trace (Err e)
+accepted_not_refused script trace m (Lex f) a own r = tree_not_refused script a.items (Lex f) a.tree r
+accepted_not_refused script trace m (Parse f) a own r = tree_not_refused script a.items (Parse f) a.tree r
+accepted_not_refused script trace m (Typing f) a own r = accepted_not_mistyped script m f a r
+accepted_not_refused script trace m (Trace f) a own r = own
+accepted_not_refused script trace m Memory a own r = own
 
 -- ---- one run
 
-same_counting : (script : List ℕ) (s t : Script) → IsRunning script s → IsRunning script t → s ≡ t
-same_counting script s t a b =
-    one_counting a.items s t a.runs (subst (λ items. Runs items t) (same_tree script b.items a.items b.tree a.tree) b.runs)
+same_meaning : (script : List ℕ) (m n : ScriptMeant) → IsAccepted script m → IsAccepted script n → m ≡ n
+same_meaning script m n a b =
+    let well : IsWell a.items n = subst (λ items. IsWell items n) (same_tree script b.items a.items b.tree a.tree) b.well in
+    one_well a.items m n a.well well
 
-not_both_ways : (script : List ℕ) (s : Script) → IsRunning script s → ¬ IsNotYet script
-not_both_ways script s a n = n.runs_not s (subst (λ items. Runs items s) (same_tree script a.items n.items a.tree n.tree) a.runs)
-
-same_output : (script trace x y : List ℕ) → IsOutput script trace x → IsOutput script trace y → x ≡ y
-same_output script trace x y o p =
-    let counting = same_counting script p.counting o.counting p.running o.running in
-    let read = p.reads in
-    let read' = o.reads in
-    let firings : p.firings ≡ o.firings = cc in
-    let texts : texts_over p.counting p.firings ≡ texts_over o.counting o.firings = ap (λ s. texts_over s p.firings) counting ∙ ap (texts_over o.counting) firings in
-    let contributions : counts_over p.counting p.firings ≡ counts_over o.counting o.firings = ap (λ s. counts_over s p.firings) counting ∙ ap (counts_over o.counting) firings in
-    let same_functions : functions p.counting ≡ functions o.counting = ap functions counting in
-    let shows : Shows (functions o.counting) (counts_over o.counting o.firings) p.shown.tables =
-    subst (λ c. Shows (functions o.counting) c p.shown.tables) contributions (subst (λ f. Shows f (counts_over p.counting p.firings) p.shown.tables) same_functions p.shown.aggregations) in
-    let tables = one_output (functions o.counting) (counts_over o.counting o.firings) o.shown.tables p.shown.tables o.shown.aggregations shows in
-    o.shown.joined
-    ∙ ap (λ shown. flat_map (λ text. text.1) (texts_over o.counting o.firings) ++ shown) tables
-    ∙ ap (λ texts. flat_map (λ text. text.1) texts ++ p.shown.tables) (sym texts)
-    ∙ sym p.shown.joined
+same_shown : (script trace : List ℕ) (x y : Shown) → IsAnswer script trace (Ok x) → IsAnswer script trace (Ok y) → IsSameAnswer (Ok x) (Ok y)
+same_shown script trace x y o p =
+    let meaning = same_meaning script p.0 o.0 p.2.accepted o.2.accepted in
+    let read = p.2.reads in
+    let read' = o.2.reads in
+    let firings : p.1 ≡ o.1 = cc in
+    let shown : IsShown o.0 o.1 y = subst (λ m. IsShown m o.1 y) meaning (subst (λ fs. IsShown p.0 fs y) firings p.3) in
+    (one_output _ _ _ x.bytes y.bytes o.3.bytes shown.bytes, o.3.status ∙ sym shown.status)
 
 -- ---- one answer
 
-pub one_answer : (script trace : List ℕ) (a b : Result (List ℕ) Refusal) → IsAnswer script trace a → IsAnswer script trace b → IsSameAnswer a b
-one_answer script trace (Ok x) (Ok y) o p = same_output script trace x y o p
-one_answer script trace (Ok x) (Err (Lex f)) o p = absurd (tree_not_refused script o.running.items (Lex f) o.running.tree p)
-one_answer script trace (Ok x) (Err (Parse f)) o p = absurd (tree_not_refused script o.running.items (Parse f) o.running.tree p)
-one_answer script trace (Ok x) (Err (Typing f)) o p = absurd (running_not_mistyped script o.counting f o.running p)
-one_answer script trace (Ok x) (Err NotYet) o p = absurd (not_both_ways script o.counting o.running p)
-one_answer script trace (Ok x) (Err (Trace g)) o p = let read = o.reads in let refused = p.refused in cc
+pub one_answer : (script trace : List ℕ) (a b : Result Shown Refusal) → IsAnswer script trace a → IsAnswer script trace b → IsSameAnswer a b
+one_answer script trace (Ok x) (Ok y) o p = same_shown script trace x y o p
+one_answer script trace (Ok x) (Err (Lex f)) o p = absurd (accepted_not_refused script trace o.0 (Lex f) o.2.accepted tt p)
+one_answer script trace (Ok x) (Err (Parse f)) o p = absurd (accepted_not_refused script trace o.0 (Parse f) o.2.accepted tt p)
+one_answer script trace (Ok x) (Err (Typing f)) o p = absurd (accepted_not_refused script trace o.0 (Typing f) o.2.accepted tt p)
+one_answer script trace (Ok x) (Err (Trace g)) o p = let read = o.2.reads in let refused = p.1 in cc
 one_answer script trace (Ok x) (Err Memory) o p = absurd p
-one_answer script trace (Err (Lex f)) (Ok y) o p = absurd (tree_not_refused script p.running.items (Lex f) p.running.tree o)
+one_answer script trace (Err (Lex f)) (Ok y) o p = absurd (accepted_not_refused script trace p.0 (Lex f) p.2.accepted tt o)
 one_answer script trace (Err (Lex f)) (Err (Lex g)) o p = lex_is f g (same_lex_fault script f g o p)
 one_answer script trace (Err (Lex f)) (Err (Parse g)) o p = let l = lexed_in script g p in absurd (lexed_not_refused script l.0 f l.1 o)
 one_answer script trace (Err (Lex f)) (Err (Typing g)) o p = absurd (tree_not_refused script p.items (Lex f) p.tree o)
-one_answer script trace (Err (Lex f)) (Err NotYet) o p = absurd (tree_not_refused script p.items (Lex f) p.tree o)
-one_answer script trace (Err (Lex f)) (Err (Trace g)) o p = absurd (tree_not_refused script p.running.items (Lex f) p.running.tree o)
+one_answer script trace (Err (Lex f)) (Err (Trace g)) o p = absurd (accepted_not_refused script trace p.0.0 (Lex f) p.0.1 tt o)
 one_answer script trace (Err (Lex f)) (Err Memory) o p = absurd p
-one_answer script trace (Err (Parse f)) (Ok y) o p = absurd (tree_not_refused script p.running.items (Parse f) p.running.tree o)
+one_answer script trace (Err (Parse f)) (Ok y) o p = absurd (accepted_not_refused script trace p.0 (Parse f) p.2.accepted tt o)
 one_answer script trace (Err (Parse f)) (Err (Lex g)) o p = let l = lexed_in script f o in absurd (lexed_not_refused script l.0 g l.1 p)
 one_answer script trace (Err (Parse f)) (Err (Parse g)) o p = same_parse_fault script f g o p
 one_answer script trace (Err (Parse f)) (Err (Typing g)) o p = absurd (tree_not_refused script p.items (Parse f) p.tree o)
-one_answer script trace (Err (Parse f)) (Err NotYet) o p = absurd (tree_not_refused script p.items (Parse f) p.tree o)
-one_answer script trace (Err (Parse f)) (Err (Trace g)) o p = absurd (tree_not_refused script p.running.items (Parse f) p.running.tree o)
+one_answer script trace (Err (Parse f)) (Err (Trace g)) o p = absurd (accepted_not_refused script trace p.0.0 (Parse f) p.0.1 tt o)
 one_answer script trace (Err (Parse f)) (Err Memory) o p = absurd p
-one_answer script trace (Err (Typing f)) (Ok y) o p = absurd (running_not_mistyped script p.counting f p.running o)
+one_answer script trace (Err (Typing f)) (Ok y) o p = absurd (accepted_not_refused script trace p.0 (Typing f) p.2.accepted tt o)
 one_answer script trace (Err (Typing f)) (Err (Lex g)) o p = absurd (tree_not_refused script o.items (Lex g) o.tree p)
 one_answer script trace (Err (Typing f)) (Err (Parse g)) o p = absurd (tree_not_refused script o.items (Parse g) o.tree p)
 one_answer script trace (Err (Typing f)) (Err (Typing g)) o p = ap Typing (same_type_fault script f g o p)
-one_answer script trace (Err (Typing f)) (Err NotYet) o p = absurd (not_yet_not_mistyped script f p o)
-one_answer script trace (Err (Typing f)) (Err (Trace g)) o p = absurd (running_not_mistyped script p.counting f p.running o)
+one_answer script trace (Err (Typing f)) (Err (Trace g)) o p = absurd (accepted_not_refused script trace p.0.0 (Typing f) p.0.1 tt o)
 one_answer script trace (Err (Typing f)) (Err Memory) o p = absurd p
-one_answer script trace (Err NotYet) (Ok y) o p = absurd (not_both_ways script p.counting p.running o)
-one_answer script trace (Err NotYet) (Err (Lex g)) o p = absurd (tree_not_refused script o.items (Lex g) o.tree p)
-one_answer script trace (Err NotYet) (Err (Parse g)) o p = absurd (tree_not_refused script o.items (Parse g) o.tree p)
-one_answer script trace (Err NotYet) (Err (Typing g)) o p = absurd (not_yet_not_mistyped script g o p)
-one_answer script trace (Err NotYet) (Err NotYet) o p = refl
-one_answer script trace (Err NotYet) (Err (Trace g)) o p = absurd (not_both_ways script p.counting p.running o)
-one_answer script trace (Err NotYet) (Err Memory) o p = absurd p
-one_answer script trace (Err (Trace f)) (Ok y) o p = let refused = o.refused in let read = p.reads in cc
-one_answer script trace (Err (Trace f)) (Err (Lex g)) o p = absurd (tree_not_refused script o.running.items (Lex g) o.running.tree p)
-one_answer script trace (Err (Trace f)) (Err (Parse g)) o p = absurd (tree_not_refused script o.running.items (Parse g) o.running.tree p)
-one_answer script trace (Err (Trace f)) (Err (Typing g)) o p = absurd (running_not_mistyped script o.counting g o.running p)
-one_answer script trace (Err (Trace f)) (Err NotYet) o p = absurd (not_both_ways script o.counting o.running p)
+one_answer script trace (Err (Trace f)) (Ok y) o p = let refused = o.1 in let read = p.2.reads in cc
+one_answer script trace (Err (Trace f)) (Err (Lex g)) o p = absurd (accepted_not_refused script trace o.0.0 (Lex g) o.0.1 tt p)
+one_answer script trace (Err (Trace f)) (Err (Parse g)) o p = absurd (accepted_not_refused script trace o.0.0 (Parse g) o.0.1 tt p)
+one_answer script trace (Err (Trace f)) (Err (Typing g)) o p = absurd (accepted_not_refused script trace o.0.0 (Typing g) o.0.1 tt p)
 one_answer script trace (Err (Trace f)) (Err (Trace g)) o p =
-    let refused = o.refused in
-    let refused' = p.refused in
+    let refused = o.1 in
+    let refused' = p.1 in
     let same : f ≡ g = cc in
     ap Trace same
 one_answer script trace (Err (Trace f)) (Err Memory) o p = absurd p

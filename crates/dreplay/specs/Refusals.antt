@@ -1,5 +1,5 @@
--- What the program says of a refusal.
-use Rattle.std.specs.Prelude.{ℕ, List, ◌++◌, codes, decimal}
+-- What the program says of a refusal, and how it ends.
+use Rattle.std.specs.Prelude.{◌≡◌, ◌⊎◌, ℕ, List, [], ◌++◌, Result, Ok, Err, IsErr, codes, decimal}
 use Rattle.d_lexer.specs.declared.fault.LexFault.{LexFault}
 use Rattle.d_lexer.specs.declared.fault.LexFault.TheVariants as lex
 use Rattle.d_parser.specs.declared.fault.ParseFault.{ParseFault}
@@ -7,27 +7,20 @@ use Rattle.d_parser.specs.declared.fault.ParseFault.TheVariants as parse
 use Rattle.d_types.specs.declared.fault.TypeFault.{TypeFault}
 use Rattle.d_types.specs.declared.fault.TypeFault.TheVariants as types
 use Rattle.firing_reader.specs.declared.fault.TraceFault.{TraceFault}
-use Rattle.firing_reader.specs.declared.fault.TraceFault.TheVariants as fault
+use Rattle.firing_reader.specs.declared.fault.TraceFault.TheVariants as trace
+use Rattle.dreplay.specs.declared.consuming.ConsumeFault.{ConsumeFault}
+use Rattle.dreplay.specs.declared.consuming.ConsumeFault.TheVariants.{Read, Refused, Write}
+use Rattle.dreplay.specs.declared.plan.Replayed.{Replayed}
 use Rattle.dreplay.specs.declared.refusal.Refusal.{Refusal}
-use Rattle.dreplay.specs.declared.refusal.Refusal.TheVariants.{Lex, Parse, Typing, NotYet, Trace, Memory}
+use Rattle.dreplay.specs.declared.refusal.Refusal.TheVariants.{Lex, Parse, Typing, Trace, Memory}
 
--- ---- a part's fault as a refusal: want of memory is the same for each
-
-abbrev pub of_lex : LexFault → Refusal
-of_lex lex.Memory = Memory
-of_lex f = Lex f
-
-abbrev pub of_parse : ParseFault → Refusal
-of_parse parse.Memory = Memory
-of_parse f = Parse f
-
-abbrev pub of_type : TypeFault → Refusal
-of_type types.Memory = Memory
-of_type f = Typing f
-
-abbrev pub of_trace : TraceFault → Refusal
-of_trace fault.Memory = Memory
-of_trace f = Trace f
+-- want of memory is one thing, whichever part it was in
+abbrev pub plain : Refusal → Refusal
+plain (Lex lex.Memory) = Memory
+plain (Parse parse.Memory) = Memory
+plain (Typing types.Memory) = Memory
+plain (Trace trace.Memory) = Memory
+plain e = e
 
 -- ---- the program's line
 
@@ -48,13 +41,13 @@ lex_parts (lex.Unclosed line) = codes "3" ++ line_part line
 lex_parts (lex.Constant line) = codes "4" ++ line_part line
 lex_parts (lex.Escape line) = codes "5" ++ line_part line
 lex_parts (lex.OptionLine line) = codes "6" ++ line_part line
-lex_parts lex.Memory = codes "7"
+lex_parts lex.Memory = []
 
 abbrev pub parse_parts : ParseFault → List ℕ
 parse_parts (parse.Syntax line) = codes "1" ++ line_part line
 parse_parts parse.TooDeep = codes "2"
 parse_parts parse.TooManyClauses = codes "3"
-parse_parts parse.Memory = codes "4"
+parse_parts parse.Memory = []
 
 abbrev pub type_parts : TypeFault → List ℕ
 type_parts (types.GlobalAssignment name line) = codes "1" ++ line_part line
@@ -66,38 +59,54 @@ type_parts (types.LquantizeBounds line) = codes "6" ++ line_part line
 type_parts (types.PrintfArguments line) = codes "7" ++ line_part line
 type_parts (types.ReadOnly line) = codes "8" ++ line_part line
 type_parts (types.NoRegister line) = codes "9" ++ line_part line
-type_parts types.Memory = codes "10"
+type_parts types.Memory = []
 
 abbrev pub trace_parts : TraceFault → List ℕ
-trace_parts fault.Header = codes "1"
-trace_parts (fault.Columns row) = codes "2" ++ row_part row
-trace_parts (fault.Number row column) = codes "3" ++ row_part row ++ column_part column
-trace_parts (fault.Order row) = codes "4" ++ row_part row
-trace_parts (fault.Text row column) = codes "5" ++ row_part row ++ column_part column
-trace_parts (fault.Reserved row) = codes "6" ++ row_part row
-trace_parts fault.TooMany = codes "7"
-trace_parts fault.Memory = codes "8"
+trace_parts trace.Header = codes "1"
+trace_parts (trace.Columns row) = codes "2" ++ row_part row
+trace_parts (trace.Number row column) = codes "3" ++ row_part row ++ column_part column
+trace_parts (trace.Order row) = codes "4" ++ row_part row
+trace_parts (trace.Text row column) = codes "5" ++ row_part row ++ column_part column
+trace_parts (trace.Reserved row) = codes "6" ++ row_part row
+trace_parts trace.TooMany = codes "7"
+trace_parts trace.Memory = []
+
+-- why there is no answer, of a plain refusal
+abbrev pub reason_of : Refusal → List ℕ
+reason_of (Lex f) = codes "script refused: Lex " ++ lex_parts f
+reason_of (Parse f) = codes "script refused: Parse " ++ parse_parts f
+reason_of (Typing f) = codes "script refused: Type " ++ type_parts f
+reason_of (Trace f) = codes "trace refused: Trace " ++ trace_parts f
+reason_of Memory = codes "out of memory"
 
 abbrev pub line_of : Refusal → List ℕ
-line_of (Lex lex.Memory) = codes "dreplay: out of memory"
-line_of (Lex f) = codes "dreplay: script refused: Lex " ++ lex_parts f
-line_of (Parse parse.Memory) = codes "dreplay: out of memory"
-line_of (Parse f) = codes "dreplay: script refused: Parse " ++ parse_parts f
-line_of (Typing types.Memory) = codes "dreplay: out of memory"
-line_of (Typing f) = codes "dreplay: script refused: Type " ++ type_parts f
-line_of NotYet = codes "dreplay: script refused: not yet"
-line_of (Trace fault.Memory) = codes "dreplay: out of memory"
-line_of (Trace f) = codes "dreplay: trace refused: Trace " ++ trace_parts f
-line_of Memory = codes "dreplay: out of memory"
+line_of e = codes "dreplay: " ++ reason_of (plain e)
+
+abbrev pub fault_line : ConsumeFault → List ℕ
+fault_line Read = codes "dreplay: read failed"
+fault_line (Refused e) = line_of e
+fault_line Write = codes "dreplay: write failed"
+
+-- ---- the status
+
+-- of a plain refusal
+abbrev pub reason_status : Refusal → ℕ
+reason_status Memory = 1
+reason_status (Lex f) = 3
+reason_status (Parse f) = 3
+reason_status (Typing f) = 3
+reason_status (Trace f) = 4
 
 abbrev pub status_of : Refusal → ℕ
-status_of (Lex lex.Memory) = 1
-status_of (Parse parse.Memory) = 1
-status_of (Typing types.Memory) = 1
-status_of (Trace fault.Memory) = 1
-status_of Memory = 1
-status_of (Lex f) = 3
-status_of (Parse f) = 3
-status_of (Typing f) = 3
-status_of NotYet = 3
-status_of (Trace f) = 4
+status_of e = reason_status (plain e)
+
+-- how the program ends
+abbrev pub status_at_end : Result Replayed ConsumeFault → ℕ
+status_at_end (Ok r) = r.status
+status_at_end (Err Read) = 1
+status_at_end (Err (Refused e)) = status_of e
+status_at_end (Err Write) = 1
+
+-- it ends so; or, where the line of a fault had no room, as for want of memory
+abbrev pub EndsWith : Result Replayed ConsumeFault → ℕ → Type 0
+EndsWith answer status = (status ≡ status_at_end answer) ⊎ (IsErr answer × (status ≡ status_of Memory))

@@ -11,7 +11,10 @@ use Rattle.d_types.specs.declared.fault.TypeFault.{TypeFault}
 use Rattle.d_types.specs.declared.fault.TypeFault.TheVariants as types
 use Rattle.d_types.specs.Faults as cause
 use Rattle.d_types.specs.Faults.{Cause, Fault}
+use Rattle.d_types.specs.Fitting.{ScriptFits}
 use Rattle.d_types.specs.Scripts as typing
+use Rattle.d_types.specs.Typed.{ScriptMeant}
+use Rattle.d_types.specs.WellTyped.{IsWell}
 use Rattle.dreplay.specs.declared.refusal.Refusal.{Refusal}
 use Rattle.dreplay.specs.declared.refusal.Refusal.TheVariants.{Lex, Parse}
 
@@ -61,3 +64,10 @@ pub record IsMistyped (script : List ℕ) (fault : TypeFault) : Type 0 where
   pub first : Fault
   pub refused : typing.script items ≡ Err first
   pub is : fault ≡ told first.cause first.line
+
+-- the script is well typed with six registers, and this is what it means
+pub record IsAccepted (script : List ℕ) (m : ScriptMeant) : Type 0 where
+  pub items : List ItemTree
+  pub tree : HasTree script items
+  pub well : IsWell items m
+  pub fits : ScriptFits m

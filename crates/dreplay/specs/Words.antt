@@ -1,5 +1,5 @@
--- What the words behind the program's name ask for.
-use Rattle.std.specs.Prelude.{◌≡◌, ◌≢◌, ◌∷◌, ◌++◌, ℕ, List, [], Option, Some, None, codes, true}
+-- What the words after the program's name ask for.
+use Rattle.std.specs.Prelude.{◌≡◌, ◌≢◌, ◌⊎◌, ◌∷◌, ◌++◌, ℕ, List, [], Option, Some, None, codes, true}
 use Rattle.std.specs.Prelude.{option_map, string_bytes}
 use Rattle.clap.specs.Words.{App, IsAmong, Rule, fault_of, first_of, kind_of, matches_of, new_app}
 use Rattle.clap.specs.Words.{new_rule, with_rule}
@@ -67,3 +67,9 @@ pub data AsksHelp : List (List ℕ) → Type 0 where
 pub data Mistakes : List (List ℕ) → ErrorKind → Type 0 where
   no_file : Mistakes (codes "-s" ∷ []) InvalidValue
   stray : (word : List ℕ) → ¬ IsOption word → Mistakes (word ∷ []) UnknownArgument
+
+-- how the program ends without a run: help was shown, or could not be; the words are a mistake; or memory ran out
+abbrev pub EndsUnasked : UsageFault → ℕ → Type 0
+EndsUnasked (Help e) status = (status ≡ 0) ⊎ (status ≡ 1)
+EndsUnasked (Usage e) status = status ≡ 2
+EndsUnasked Memory status = status ≡ 1

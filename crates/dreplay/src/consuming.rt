@@ -1,8 +1,8 @@
 //! From the bytes in to the bytes out.
 
-ghost use Rattle.std.specs.Prelude.{◌≡◌, ◌≢◌, ℕ, List, Err, IfErr, IsFalse};
+ghost use Rattle.std.specs.Prelude.{◌≡◌, ◌≢◌, List, ℕ, Err, IfErr, IsFalse};
 ghost use Rattle.dreplay.specs.Bundle.{Divides};
-ghost use Rattle.dreplay.specs.Consuming.{HoldsOfInput, IsReadToEnd, IsShownTo, told_of};
+ghost use Rattle.dreplay.specs.Consuming.{HoldsOfInput, IsReadToEnd, Shows, told_of};
 ghost use Rattle.dreplay.specs.Plans.{IsSerial};
 
 use crate::bundle::{Division, divide};
@@ -46,14 +46,12 @@ pub fn consume<F: Feed, S: Sink>(
     plan: &Plan,
 ) -> Result<Replayed, ConsumeFault>
     requires plan { IsSerial plan.now }
-    requires feed { IsFalse (F.has_failed feed.old) }
-    requires sink { IsFalse (S.has_failed sink.old) }
-    ensures read { IsReadToEnd (F.has_failed feed.new) (F.has_ended feed.new)
-        (F.calls feed.old) (F.calls feed.new) result }
-    ensures shown { HoldsOfInput (F.remaining feed.old) (λ bundle. (script trace : List ℕ)
-        × Divides bundle script trace
-        × IsShownTo script trace (S.contents sink.old) (S.contents sink.new)
-        (S.calls sink.old) (S.calls sink.new) (S.has_failed sink.new) result) }
+    requires feed { IsFalse (F.seen feed.old).has_failed }
+    requires sink { IsFalse (S.seen sink.old).has_failed }
+    ensures read { IsReadToEnd (F.seen feed.old) (F.seen feed.new) result }
+    ensures shown { result ≢ Err ConsumeFault.Read → HoldsOfInput (F.seen feed.old).remaining (λ bundle.
+        (script trace : List ℕ) × Divides bundle script trace
+        × Shows script trace plan.now (S.seen sink.old) (S.seen sink.new) result) }
     ensures untouched { result ≢ Err ConsumeFault.Write → IfErr result (λ e. sink.new ≡ sink.old) }
 {
     let bundle = read_to_end(alloc, feed)?;
@@ -69,13 +67,11 @@ pub fn consume_trace<F: Feed, S: Sink>(
     plan: &Plan,
 ) -> Result<Replayed, ConsumeFault>
     requires plan { IsSerial plan.now }
-    requires feed { IsFalse (F.has_failed feed.old) }
-    requires sink { IsFalse (S.has_failed sink.old) }
-    ensures read { IsReadToEnd (F.has_failed feed.new) (F.has_ended feed.new)
-        (F.calls feed.old) (F.calls feed.new) result }
-    ensures shown { HoldsOfInput (F.remaining feed.old) (λ trace.
-        IsShownTo script.now trace (S.contents sink.old) (S.contents sink.new)
-        (S.calls sink.old) (S.calls sink.new) (S.has_failed sink.new) result) }
+    requires feed { IsFalse (F.seen feed.old).has_failed }
+    requires sink { IsFalse (S.seen sink.old).has_failed }
+    ensures read { IsReadToEnd (F.seen feed.old) (F.seen feed.new) result }
+    ensures shown { result ≢ Err ConsumeFault.Read → HoldsOfInput (F.seen feed.old).remaining (λ trace.
+        Shows script.now trace plan.now (S.seen sink.old) (S.seen sink.new) result) }
     ensures untouched { result ≢ Err ConsumeFault.Write → IfErr result (λ e. sink.new ≡ sink.old) }
 {
     let trace = read_to_end(alloc, feed)?;
@@ -94,11 +90,10 @@ fn show<S: Sink>(
     plan: &Plan,
 ) -> Result<Replayed, ConsumeFault>
     requires plan { IsSerial plan.now }
-    requires sink { IsFalse (S.has_failed sink.old) }
+    requires sink { IsFalse (S.seen sink.old).has_failed }
     ensures read { result ≢ Err ConsumeFault.Read }
-    ensures shown { IsShownTo parts.entry.script.now parts.entry.trace.now
-        (S.contents sink.old) (S.contents sink.new)
-        (S.calls sink.old) (S.calls sink.new) (S.has_failed sink.new) result }
+    ensures shown { Shows parts.entry.script.now parts.entry.trace.now plan.now
+        (S.seen sink.old) (S.seen sink.new) result }
     ensures untouched { result ≢ Err ConsumeFault.Write → IfErr result (λ e. sink.new ≡ sink.old) }
 {
     match replay(alloc, parts.script, parts.trace, plan) {

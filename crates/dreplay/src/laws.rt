@@ -1,22 +1,13 @@
 //! Laws of what bundles, scripts and answers mean: each holds of the definitions, and its function computes nothing.
 
-ghost use Rattle.std.specs.Prelude.{◌≡◌, ◌↔◌, ◌∷◌, [], ℕ, List, Option, Result, IsTrue};
+ghost use Rattle.std.specs.Prelude.{◌≡◌, ◌∷◌, [], ℕ, List, Option, Result};
 ghost use Rattle.clap.specs.Words.{fault_of};
 ghost use Rattle.clap.specs.declared.error.kind.ErrorKind.{ErrorKind};
 ghost use Rattle.clap.specs.declared.error.kind.ErrorKind.TheVariants.{DisplayHelp};
 ghost use Rattle.dreplay.specs.declared.refusal.Refusal.{Refusal};
-ghost use Rattle.dreplay.specs.Answer.{IsAnswer, IsSameAnswer};
+ghost use Rattle.dreplay.specs.Answer.{IsAnswer, IsSameAnswer, Shown};
 ghost use Rattle.dreplay.specs.Bundle.{Divides};
-ghost use Rattle.dreplay.specs.Counting.{Script};
-ghost use Rattle.dreplay.specs.Patterns.{Selects, selects};
-ghost use Rattle.dreplay.specs.Runs as counting;
 ghost use Rattle.dreplay.specs.Words.{AsksHelp, Mistakes, Runs, file_in, program};
-ghost use Rattle.d_parser.specs.declared.tree.Description.{Description};
-ghost use Rattle.d_parser.specs.Tree.{ItemTree};
-ghost use Rattle.d_types.specs.Fitting.{ScriptFits};
-ghost use Rattle.d_types.specs.Typed.{ScriptMeant};
-ghost use Rattle.d_types.specs.WellTyped.{IsWell};
-ghost use Rattle.firing_reader.specs.declared.firing.Firing.{Firing};
 
 /// A bundle is divided in one way.
 pub fn one_division()
@@ -24,25 +15,21 @@ pub fn one_division()
         → Divides bundle script' trace' → (script ≡ script') × (trace ≡ trace') }
 {}
 
-/// A description selects the firings whose probe its patterns match.
-pub fn selected_is_matched()
-    ensures { (d : Description) (f : Firing) → IsTrue (selects d f) ↔ Selects d f }
+/// Each bundle is divided.
+pub fn has_division()
+    ensures { (bundle : List ℕ) → (script trace : List ℕ) × Divides bundle script trace }
 {}
 
-/// A script that runs counts in one way.
-pub fn one_counting()
-    ensures { (items : List ItemTree) (s t : Script) → counting.Runs items s → counting.Runs items t → s ≡ t }
-{}
-
-/// A script that runs is well typed, and needs six registers at most.
-pub fn counting_is_well_typed()
-    ensures { (items : List ItemTree) (s : Script) → counting.Runs items s → (m : ScriptMeant) × IsWell items m × ScriptFits m }
-{}
-
-/// A script and a trace have one answer at most: bytes or a refusal, whose line is no part of it where there is no tree.
+/// A script and a trace have one answer at most: bytes and a status, or a refusal, whose line is no part of it where there
+/// is no tree.
 pub fn one_answer()
-    ensures { (script trace : List ℕ) (a b : Result (List ℕ) Refusal) → IsAnswer script trace a
+    ensures { (script trace : List ℕ) (a b : Result Shown Refusal) → IsAnswer script trace a
         → IsAnswer script trace b → IsSameAnswer a b }
+{}
+
+/// Each script and trace have an answer.
+pub fn has_answer()
+    ensures { (script trace : List ℕ) → (a : Result Shown Refusal) × IsAnswer script trace a }
 {}
 
 /// Without words a bundle is run, and with `-s FILE` the script of that file.

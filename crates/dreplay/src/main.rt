@@ -3,28 +3,28 @@
 #![tactic(auto)]
 
 ghost use Rattle.std.specs.Prelude.{IfOk};
+ghost use Rattle.std.specs.Process.{exit_status};
+ghost use Rattle.dreplay.specs.Refusals.{EndsWith};
 ghost use Rattle.dreplay.specs.Plans.{IsSerial};
+ghost use Rattle.dreplay.specs.Words.{EndsUnasked};
 
 mod bundle;
 mod bytes;
 mod consuming;
-mod counting;
+mod ending;
 pub mod laws;
-mod matching;
 mod plan;
-mod reading;
 mod refusal;
 mod replaying;
-mod running;
 mod scripts;
-mod shapes;
 #[cfg(test)]
 mod tests;
-mod texts;
 mod words;
 
 use consuming::{ConsumeFault, consume, consume_trace};
-use refusal::{Refusal, refusal_status, refusal_text};
+use ending::{fault_text, status_at_end};
+use plan::Replayed;
+use refusal::Refusal;
 use report::{Watched, read_to_end};
 use std::env::args;
 use std::fs::File;
@@ -35,10 +35,10 @@ use words::{Asked, UsageFault, not_text, read_words};
 
 fn main(rt: HostRuntime) -> ExitCode {
     match asked(&rt) {
-        Ok(asked) => match run(&rt, &asked) {
-            Ok(()) => ExitCode::SUCCESS,
-            Err(fault) => fail(&rt, fault),
-        },
+        Ok(asked) => {
+            let answer = run(&rt, &asked);
+            end(&rt, &answer)
+        }
         Err(fault) => explain(&rt, fault),
     }
 }
@@ -52,7 +52,7 @@ fn asked(rt: &(impl Env + AllocGlobal)) -> Result<Asked, UsageFault>
     read_words(rt.alloc(), &words)
 }
 
-// The words behind the program's name.
+// The words after the program's name.
 fn program_words(rt: &(impl Env + AllocGlobal)) -> Result<Vec<String>, UsageFault> {
     match args(rt) {
         Ok(words) => Ok(words.skip(1).collect(rt.alloc())?),
@@ -62,7 +62,7 @@ fn program_words(rt: &(impl Env + AllocGlobal)) -> Result<Vec<String>, UsageFaul
 }
 
 // Runs what was asked for, over the standard streams.
-fn run(rt: &HostRuntime, asked: &Asked) -> Result<(), ConsumeFault>
+fn run(rt: &HostRuntime, asked: &Asked) -> Result<Replayed, ConsumeFault>
     requires { IsSerial asked.now.plan }
 {
     let script = match &asked.file {
@@ -71,11 +71,12 @@ fn run(rt: &HostRuntime, asked: &Asked) -> Result<(), ConsumeFault>
     };
     let mut input = Watched::new(rt.stdin());
     let mut output = Watched::new(rt.stdout());
-    match &script {
+    let replayed = match &script {
         Some(script) => consume_trace(rt.alloc(), script, &mut input, &mut output, &asked.plan)?,
         None => consume(rt.alloc(), &mut input, &mut output, &asked.plan)?,
     };
-    rt.stdout().flush().map_err(|_| ConsumeFault::Write)
+    rt.stdout().flush().map_err(|_| ConsumeFault::Write)?;
+    Ok(replayed)
 }
 
 // All bytes of a file.
@@ -87,30 +88,33 @@ fn read_file(rt: &(impl Files + AllocGlobal), path: &str) -> Result<Vec<u8>, Con
 }
 
 // Shows the help that was asked for, or says on standard error what is wrong with the words.
-fn explain(rt: &(impl Print + Eprint + AllocGlobal), fault: UsageFault) -> ExitCode {
+fn explain(rt: &(impl Print + Eprint + AllocGlobal), fault: UsageFault) -> ExitCode
+    ensures { EndsUnasked fault (exit_status result) }
+{
     match fault {
         UsageFault::Help(help) => match help.print(rt) {
-            Ok(()) => ExitCode::SUCCESS,
-            Err(_) => fail(rt, ConsumeFault::Write),
+            Ok(()) => ExitCode::from(0),
+            Err(_) => end(rt, &Err(ConsumeFault::Write)),
         },
         UsageFault::Usage(mistake) => {
             let _ = mistake.print(rt);
             ExitCode::from(2)
         }
-        UsageFault::Memory => fail(rt, ConsumeFault::Refused(Refusal::Memory)),
+        UsageFault::Memory => end(rt, &Err(ConsumeFault::Refused(Refusal::Memory))),
     }
 }
 
-// Says on standard error why there is no answer, and gives the status to end with.
-fn fail(rt: &(impl Eprint + AllocGlobal), fault: ConsumeFault) -> ExitCode {
-    let (said, status) = match fault {
-        ConsumeFault::Read => (rt.eprintln("dreplay: read failed"), 1),
-        ConsumeFault::Write => (rt.eprintln("dreplay: write failed"), 1),
-        ConsumeFault::Refused(refusal) => match refusal_text(rt.alloc(), &refusal) {
-            Ok(line) => (rt.eprintln(line), refusal_status(&refusal)),
-            Err(_) => (rt.eprintln("dreplay: out of memory"), 1),
-        },
+// Says on standard error why there is no answer, where there is none, and ends as the answer says.
+fn end(rt: &(impl Eprint + AllocGlobal), answer: &Result<Replayed, ConsumeFault>) -> ExitCode
+    ensures { EndsWith answer.now (exit_status result) }
+{
+    let Err(fault) = answer else {
+        return ExitCode::from(status_at_end(answer));
     };
-    let _ = said;
-    ExitCode::from(status)
+    let Ok(line) = fault_text(rt.alloc(), fault) else {
+        let _ = rt.eprintln("dreplay: out of memory");
+        return ExitCode::from(1);
+    };
+    let _ = rt.eprintln(line);
+    ExitCode::from(status_at_end(answer))
 }

@@ -1,6 +1,6 @@
 //! How a run is carried out, and what it gave.
 
-/// How a run is carried out. Today one worker runs one dealt group by the tree engine; callers owe that.
+/// How a run is carried out. Today one worker takes the groups of `Dealt(1)` and walks the tree; callers owe that.
 #[derive(Debug, Drop, PartialEq, Eq)]
 pub struct Plan {
     /// How many workers there are, from 1 to 16.
@@ -14,7 +14,7 @@ pub struct Plan {
 /// How the threads of a trace are grouped.
 #[derive(Debug, Drop, PartialEq, Eq)]
 pub enum GroupPlan {
-    /// The i-th thread goes to group `i` modulo this number, which is from 1 to 4096.
+    /// The i-th thread, ascending, goes to group `i` modulo this number, which is from 1 to 4096.
     Dealt(u32),
     /// These threads in each group.
     Lists(Vec<Vec<i32>>),
@@ -36,6 +36,8 @@ pub struct Replayed {
     pub bytes: Vec<u8>,
     /// The groups that each worker took.
     pub by_worker: Vec<Vec<u32>>,
-    /// For each group the numbers of the firings that were run.
+    /// For each group the numbers of the firings that were run; BEGIN and END are the last group.
     pub ran: Vec<Vec<u64>>,
+    /// The status of the script's exit, or 0.
+    pub status: u8,
 }

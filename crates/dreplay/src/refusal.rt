@@ -1,8 +1,8 @@
 //! Why a script or a trace is refused, and what the program says of it.
 
 ghost use Rattle.std.specs.Prelude.{◌≡◌, IfOk, string_bytes};
-ghost use Rattle.dreplay.specs.declared.refusal.Refusal.TheVariants.{Memory};
-ghost use Rattle.dreplay.specs.Refusals.{line_of, of_lex, of_parse, of_trace, of_type, status_of};
+ghost use Rattle.dreplay.specs.declared.refusal.Refusal.TheVariants.{Lex, Memory, Parse, Trace, Typing};
+ghost use Rattle.dreplay.specs.Refusals.{line_of, plain, status_of};
 
 use d_lexer::LexFault;
 use d_parser::ParseFault;
@@ -23,9 +23,6 @@ pub enum Refusal {
     /// The first fault of its types.
     #[error("{0}")]
     Typing(TypeFault),
-    /// A well-typed script that does not run yet.
-    #[error("the script does not run yet")]
-    NotYet,
     /// The trace's first fault.
     #[error("{0}")]
     Trace(TraceFault),
@@ -51,7 +48,7 @@ impl<T: Drop> From<AllocFailed<T>> for Refusal {
 }
 
 impl From<LexFault> for Refusal {
-    ghost from_gives = { λ fault e. e ≡ of_lex fault };
+    ghost from_gives = { λ fault e. e ≡ plain (Lex fault) };
 
     fn from(fault: LexFault) -> Refusal {
         match fault {
@@ -62,7 +59,7 @@ impl From<LexFault> for Refusal {
 }
 
 impl From<ParseFault> for Refusal {
-    ghost from_gives = { λ fault e. e ≡ of_parse fault };
+    ghost from_gives = { λ fault e. e ≡ plain (Parse fault) };
 
     fn from(fault: ParseFault) -> Refusal {
         match fault {
@@ -73,7 +70,7 @@ impl From<ParseFault> for Refusal {
 }
 
 impl From<TypeFault> for Refusal {
-    ghost from_gives = { λ fault e. e ≡ of_type fault };
+    ghost from_gives = { λ fault e. e ≡ plain (Typing fault) };
 
     fn from(fault: TypeFault) -> Refusal {
         match fault {
@@ -84,7 +81,7 @@ impl From<TypeFault> for Refusal {
 }
 
 impl From<TraceFault> for Refusal {
-    ghost from_gives = { λ fault e. e ≡ of_trace fault };
+    ghost from_gives = { λ fault e. e ≡ plain (Trace fault) };
 
     fn from(fault: TraceFault) -> Refusal {
         match fault {
@@ -102,7 +99,6 @@ pub fn refusal_text(alloc: Global, refusal: &Refusal) -> Result<String, AllocErr
         Refusal::Lex(fault) => lex_text(alloc, *fault),
         Refusal::Parse(fault) => parse_text(alloc, *fault),
         Refusal::Typing(fault) => type_text(alloc, fault),
-        Refusal::NotYet => String::from_str(alloc, "dreplay: script refused: not yet"),
         Refusal::Trace(fault) => trace_text(alloc, *fault),
         Refusal::Memory => String::from_str(alloc, "dreplay: out of memory"),
     }
@@ -216,7 +212,7 @@ pub fn refusal_status(refusal: &Refusal) -> u8
         | Refusal::Typing(TypeFault::Memory)
         | Refusal::Trace(TraceFault::Memory)
         | Refusal::Memory => 1,
-        Refusal::Lex(_) | Refusal::Parse(_) | Refusal::Typing(_) | Refusal::NotYet => 3,
+        Refusal::Lex(_) | Refusal::Parse(_) | Refusal::Typing(_) => 3,
         Refusal::Trace(_) => 4,
     }
 }

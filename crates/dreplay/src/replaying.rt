@@ -1,63 +1,55 @@
 //! The answer of a script over a trace.
 
-ghost use Rattle.std.specs.Prelude.{◌≡◌, ◌⊎◌, ◌≤◌, ◌^◌, ◌∷◌, [], List, Ok, Err, MatchResult, IfOk, length, map};
-ghost use Rattle.firing_reader.specs.Firings.{number_of};
-ghost use Rattle.firing_reader.specs.declared.firing.Firing.{Firing};
-ghost use Rattle.dreplay.specs.Answer.{IsAnswer, IsShown};
-ghost use Rattle.dreplay.specs.Counting.{script_of};
-ghost use Rattle.dreplay.specs.Meaning.{counts_over};
-ghost use Rattle.dreplay.specs.Plans.{IsSerial, RanSerially};
-ghost use Rattle.dreplay.specs.Running.{CanRunScript};
+ghost use Rattle.std.specs.Prelude.{◌≡◌, [], ◌∷◌, IfOk, map, unwrap_or, option_map};
+ghost use Rattle.d_types.specs.TypedScripts.{typed_script_of};
+ghost use Rattle.replay_core.specs.Exit.{firings_over};
+ghost use Rattle.replay_core.specs.Groups.{numbers_by_group, one_group};
+ghost use Rattle.dreplay.specs.Answer.{IsShown};
+ghost use Rattle.dreplay.specs.Plans.{IsSerial};
+ghost use Rattle.dreplay.specs.Replaying.{IsReplay, shown_in};
 
-use crate::counting::CountingScript;
 use crate::plan::{Plan, Replayed};
-use crate::reading::counting_script;
 use crate::refusal::Refusal;
-use crate::running::count_firings;
 use crate::scripts::read_script;
-use d_types::check;
-use firing_reader::{Firing, Trace, read_trace};
+use d_types::{TypedScript, check};
+use firing_reader::{Trace, read_trace};
+use replay_core::run_serially;
 use report::render;
 use std::alloc::{AllocError, Global};
 
-/// Runs a script over a trace. The script is refused before the trace, and for its types before it is one that doesn't run yet.
+/// Runs a script over a trace, between BEGIN and END. The script is refused before the trace.
 pub fn replay(alloc: Global, script: &[u8], trace: &[u8], plan: &Plan) -> Result<Replayed, Refusal>
     requires { IsSerial plan.now }
-    ensures answer { MatchResult result (λ r. IsAnswer script.now trace.now (Ok r.bytes.items))
-        (λ e. (e ≡ Refusal.Memory) ⊎ IsAnswer script.now trace.now (Err e)) }
-    ensures serial { IfOk result (RanSerially trace.now) }
+    ensures { IsReplay script.now trace.now plan.now result }
 {
     let tree = read_script(alloc, script)?;
-    let counting = counting_script(alloc, &tree);
-    // The tree ends here, and a fault of its types comes before what doesn't run yet.
-    check(alloc, tree)?;
-    let counting = counting?;
+    let script = check(alloc, tree)?;
     let trace = read_trace(alloc, trace)?;
-    Ok(run(alloc, &counting, &trace)?)
+    let replayed = run(alloc, &script, &trace)?;
+    Ok(replayed)
 }
 
-// Runs a counting script over a trace.
-fn run(alloc: Global, script: &CountingScript, trace: &Trace) -> Result<Replayed, AllocError>
-    requires can { CanRunScript script.now }
-    requires room { (firings : List Firing) → length firings ≤ 1_000_000
-        → length (counts_over (script_of script.now) firings) ≤ 2 ^ 52 }
-    ensures shown { IfOk result (λ r. IsShown (script_of script.now) trace.now r.bytes.items) }
-    ensures took { IfOk result (λ r. map (λ v. v.items) r.by_worker.items ≡ (0 ∷ []) ∷ []) }
-    ensures ran { IfOk result (λ r. map (λ v. v.items) r.ran.items ≡ map number_of trace.now ∷ []) }
+// Runs a script over a trace, by one worker that takes the group of the rows and that of BEGIN and END.
+fn run(alloc: Global, script: &TypedScript, trace: &Trace) -> Result<Replayed, AllocError>
+    ensures shown { IfOk result (λ r. IsShown (typed_script_of script.now) trace.now (shown_in r)) }
+    ensures took { IfOk result (λ r. map (λ v. v.items) r.by_worker.items ≡ (0 ∷ 1 ∷ []) ∷ []) }
+    ensures ran { IfOk result (λ r. map (λ v. v.items) r.ran.items
+        ≡ numbers_by_group one_group (firings_over (typed_script_of script.now) trace.now)) }
 {
-    let table = count_firings(alloc, script, trace.firings())?;
-    let bytes = render(alloc, &table)?;
-    let taken = vec![in alloc; 0]?;
-    let numbers = numbers(alloc, trace.firings())?;
+    let whole = run_serially(alloc, script, trace)?;
+    let bytes = render(alloc, script, &whole)?;
+    let groups = vec![in alloc; 0, 1]?;
     Ok(Replayed {
         bytes,
-        by_worker: vec![in alloc; taken]?,
-        ran: vec![in alloc; numbers]?,
+        by_worker: vec![in alloc; groups]?,
+        status: status(whole.exit),
+        ran: whole.ran,
     })
 }
 
-fn numbers(alloc: Global, firings: &[Firing]) -> Result<Vec<u64>, AllocError>
-    ensures { IfOk result (λ v. v.items ≡ map number_of firings.now) }
+// The status of an exit, or 0.
+fn status(exit: Option<(u64, u8)>) -> u8
+    ensures { result ≡ unwrap_or (option_map (λ exit. exit.1) exit) 0 }
 {
-    firings.iter().map(|firing| firing.number).collect(alloc)
+    exit.map_or(0, |(_, status)| status)
 }

@@ -2,6 +2,7 @@
 
 ghost use Rattle.std.specs.Prelude.{◌≡◌, ◌⊎◌, IfOk, MatchResult};
 ghost use Rattle.d_parser.specs.Tree as tree;
+ghost use Rattle.d_parser.specs.Numbers.{AreSmall};
 ghost use Rattle.d_parser.specs.Sizes.{IsWithin};
 ghost use Rattle.dreplay.specs.Scripts.{HasTree, IsUnread};
 
@@ -15,6 +16,7 @@ pub fn read_script(alloc: Global, script: &[u8]) -> Result<Script, Refusal>
     ensures read { MatchResult result (λ s. HasTree script.now (tree.script_of s))
         (λ e. (e ≡ Refusal.Memory) ⊎ IsUnread script.now e) }
     ensures few { IfOk result (λ s. IsWithin 65536 (tree.script_of s)) }
+    ensures small { IfOk result (λ s. AreSmall (tree.script_of s)) }
 {
     let tokens = lex(alloc, script)?;
     let tree = parse(alloc, &tokens)?;

@@ -1,4 +1,4 @@
-//! Calls that no run of the program shows: plans, failing readers and writers, and what is said of each refusal.
+//! Calls that no run of the program shows: what ran, failing readers and writers, and what is said of each refusal.
 
 ghost use Rattle.dreplay.specs.Plans.{IsSerial};
 
@@ -13,6 +13,7 @@ use firing_reader::TraceFault;
 use report::Watched;
 use report::faulty::Faulty;
 use std::alloc::Global;
+use std::process::Abort;
 use std::test::Fail;
 
 const SCRIPT: &[u8] = b"syscall::read:entry { @[execname] = count(); }";
@@ -29,8 +30,17 @@ arg0,arg1,arg2,arg3,arg4,arg5,arg6,arg7,arg8,arg9\n\
 
 const SHOWN: &[u8] = b"\n  cat                                                               1\n";
 
-const SAID: [(Refusal, u8, &str); 13] = [
-    (Refusal::NotYet, 3, "dreplay: script refused: not yet"),
+const EXITING: &[u8] = b":::hit / arg0 / { exit(arg0); } :::hit { @ = count(); } \
+dtrace:::END { printf(\"end\\n\"); }";
+
+const FOUR_HITS: &[u8] = b"number,cpu,thread,pid,execname,time,provider,module,function,name,\
+arg0,arg1,arg2,arg3,arg4,arg5,arg6,arg7,arg8,arg9\n\
+10,0,1,1,a,0,p,,f,hit,0,0,0,0,0,0,0,0,0,0\n\
+12,0,2,1,a,0,p,,f,hit,5,0,0,0,0,0,0,0,0,0\n\
+20,0,1,1,a,0,p,,f,hit,0,0,0,0,0,0,0,0,0,0\n\
+40,0,1,1,a,0,p,,f,hit,3,0,0,0,0,0,0,0,0,0";
+
+const SAID: [(Refusal, u8, &str); 12] = [
     (Refusal::Memory, 1, "dreplay: out of memory"),
     (Refusal::Lex(LexFault::Memory), 1, "dreplay: out of memory"),
     (
@@ -115,14 +125,33 @@ fn consumed_apart(
     (answer, sink.into_inner().into_inner())
 }
 
+// The rows are group 0, BEGIN and END group 1, and the one worker takes both.
+fn expect_ran(rt: &impl Abort, replayed: &Replayed, rows: &[u64], ends: &[u64]) {
+    assert_eq!(rt; replayed.by_worker.len(), 1);
+    assert_eq!(rt; replayed.by_worker[0].as_slice(), [0, 1].as_slice());
+    assert_eq!(rt; replayed.ran.len(), 2);
+    assert_eq!(rt; replayed.ran[0].as_slice(), rows);
+    assert_eq!(rt; replayed.ran[1].as_slice(), ends);
+}
+
 #[test]
 fn each_firing_is_run_once(rt: HostRuntime) -> Result<(), Fail> {
     let replayed = replay(rt.alloc(), SCRIPT, TRACE, &serial())?;
     assert_eq!(rt; replayed.bytes.as_slice(), SHOWN);
-    assert_eq!(rt; replayed.by_worker.len(), 1);
-    assert_eq!(rt; replayed.by_worker[0].as_slice(), [0].as_slice());
-    assert_eq!(rt; replayed.ran.len(), 1);
-    assert_eq!(rt; replayed.ran[0].as_slice(), [1, 4].as_slice());
+    expect_ran(&rt, &replayed, &[1, 4], &[0, 5]);
+    assert_eq!(rt; replayed.status, 0);
+    Ok(())
+}
+
+#[test]
+fn firings_after_an_exit_do_not_run(rt: HostRuntime) -> Result<(), Fail> {
+    let replayed = replay(rt.alloc(), EXITING, FOUR_HITS, &serial())?;
+    assert_eq!(rt;
+        replayed.bytes.as_slice(),
+        b"end\n\n                 2\n".as_slice()
+    );
+    expect_ran(&rt, &replayed, &[10, 12], &[0, 41]);
+    assert_eq!(rt; replayed.status, 5);
     Ok(())
 }
 

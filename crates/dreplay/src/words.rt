@@ -1,4 +1,4 @@
-//! The words behind the program's name.
+//! The words after the program's name.
 
 ghost use Rattle.std.specs.Prelude.{◌≡◌, IfErr, IfOk, MatchResult, codes, map, option_map, string_bytes, true};
 ghost use Rattle.clap.specs.Words.{app_of, first_value, found_of, kind_of, takes};
@@ -60,13 +60,15 @@ Examples:
       does the same, with the script apart from the trace
 
 Exit status:
-  0  the answer was written, or this help
+  0  the answer was written, or this help; a script that exits has its own status
   1  out of memory, or reading or writing failed
-  2  the words behind 'dreplay' are not understood
+  2  the options are not understood
   3  the script is refused
-  4  the trace is refused";
+  4  the trace is refused
 
-/// Reads the words behind the program's name.
+dreplay-explain says what a refusal means, and what to do about it.";
+
+/// Reads the words after the program's name.
 pub fn read_words<'a>(alloc: Global, words: &'a [&'a str]) -> Result<Asked, UsageFault>
     ensures exact { let given = map (λ w. w.now) words.now in
         MatchResult result (Asks given) (IsFaultOf given) }

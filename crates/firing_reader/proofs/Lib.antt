@@ -8,3 +8,4 @@ pub mod RowFaults
 pub mod Kept
 pub mod FirstFault
 pub mod Threads
+pub mod EndRanges

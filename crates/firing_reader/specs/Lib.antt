@@ -4,4 +4,5 @@ pub mod Row
 pub mod Left
 pub mod Firings
 pub mod Trace
+pub mod Ends
 pub mod Faults

@@ -12,6 +12,7 @@
 #![tactic(auto)]
 
 mod columns;
+mod ends;
 mod fault;
 mod firing;
 mod header;

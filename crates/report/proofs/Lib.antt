@@ -1,4 +1,5 @@
 pub mod Lines
 pub mod Listings
 pub mod Outputs
+pub mod Rows
 pub mod Unique

@@ -1,7 +1,7 @@
 -- How the entries of a listing ascend, and how long their lines are.
 use Rattle.std.proofs.Common.{◌≡◌, inl, inr, ℕ, ◌+◌, ◌-◌, ◌<◌, ◌≤◌, List, [], ◌∷◌, ◌++◌, length, get_or, Some, refl, sym, ap, ◌∙◌, arith, length-append, suc}
 use Rattle.std.proofs.lemmas.List.{length-replicate}
-use Rattle.std.specs.Prelude.{All, ℤ, pos, sum_by, ◌<ℤ◌}
+use Rattle.std.specs.Prelude.{All, ℤ, sum_by, ◌<ℤ◌}
 use Rattle.std.specs.Cmp.{int_ranks}
 use Rattle.std.specs.Fmt.{signed_decimal}
 use Rattle.std.specs.List.{flat_map, slice_get}
@@ -17,15 +17,17 @@ use Rattle.d_values.specs.declared.key.KeyPart.TheVariants.{Number, Name}
 use Rattle.d_values.specs.Keys.{key_cmp}
 use Rattle.aggregations.specs.Table.{Contribution}
 use Rattle.aggregations.specs.declared.function.AggFn.{AggFn}
-use Rattle.aggregations.specs.declared.partial.Partial.TheVariants.{Counted}
-use Rattle.report.specs.Columns.{Fits, column_width}
-use Rattle.report.specs.Layout.{Entry, spaces, number_bytes, part_bytes, entry_bytes}
-use Rattle.report.specs.Listing.{ComesBefore, entry_cmp, IsListing, rank_of}
+use Rattle.aggregations.specs.declared.held.Held.{Held}
+use Rattle.aggregations.specs.Figures.{figure_of}
+use Rattle.aggregations.specs.Figures.Figure.{Single}
+use Rattle.report.specs.Columns.{Fits, column_width, spaces}
+use Rattle.report.specs.Layout.{Entry, number_bytes, part_bytes, value_bytes, entry_bytes}
+use Rattle.report.specs.Listing.{ComesBefore, entry_cmp, IsListing, entry_rank}
 
 in_words : (x y : Entry) → entry_cmp x y ≡ Less → ComesBefore x y
-in_words x y less = by (int_cmp (rank_of x.1) (rank_of y.1)) (int_ranks (rank_of x.1) (rank_of y.1)) less
+in_words x y less = by (int_cmp (entry_rank x) (entry_rank y)) (int_ranks (entry_rank x) (entry_rank y)) less
   where
-    by : (r : Ordering) → MatchOrdering r (rank_of x.1 <ℤ rank_of y.1) (rank_of x.1 ≡ rank_of y.1) (rank_of y.1 <ℤ rank_of x.1)
+    by : (r : Ordering) → MatchOrdering r (entry_rank x <ℤ entry_rank y) (entry_rank x ≡ entry_rank y) (entry_rank y <ℤ entry_rank x)
         → ordering_then r (key_cmp x.0 y.0) ≡ Less → ComesBefore x y
     by Less below e = inl below
     by Equal same e = inr (same, e)
@@ -61,13 +63,14 @@ key_width (part ∷ key) fit =
     ∙ ap (λ n. column_width part + n) (key_width key (All-tail Fits part key fit))
     ∙ sym (sum_by-cons column_width part key)
 
-pub line_width : (key : List KeyPart) (count : ℕ) → All Fits key → length (signed_decimal (pos count)) ≤ 16 → length (entry_bytes (key, Counted count)) ≡ sum_by column_width key + 18
-line_width key count fit fits =
+pub line_width : (key : List KeyPart) (held : Held) (number : ℤ) → All Fits key → figure_of held ≡ Single number → length (signed_decimal number) ≤ 16
+    → length (entry_bytes (key, held)) ≡ sum_by column_width key + 18
+line_width key held number fit is fits =
     let parts = key_width key fit in
-    let shown = number_width (pos count) fits in
-    let value = length-append (number_bytes (pos count)) (10 ∷ []) in
-    let whole = length-append (flat_map part_bytes key) (number_bytes (pos count) ++ 10 ∷ []) in
-    omega arith
+    let shown = number_width number fits in
+    let value = length-append (number_bytes number) (10 ∷ []) in
+    let whole = length-append (flat_map part_bytes key) (number_bytes number ++ 10 ∷ []) in
+    ap (λ figure. length (flat_map part_bytes key ++ value_bytes figure)) is ∙ omega arith
 
 pub number_whole : (number : ℤ) → (blank : ℕ) × (0 < blank) × (number_bytes number ≡ spaces blank ++ signed_decimal number)
 number_whole number = (suc (16 - length (signed_decimal number)), omega arith, refl)

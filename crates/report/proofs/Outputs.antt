@@ -1,13 +1,14 @@
 -- One more aggregation is shown.
-use Rattle.std.proofs.Common.{◌≡◌, ◌⊎◌, inl, inr, ⊎_elim, ℕ, zero, suc, ◌+◌, ◌<◌, ◌≤◌, List, [], ◌∷◌, ◌++◌, length, get_or, take, Some, refl, sym, ap, ◌∙◌, subst, arith, length-append}
-use Rattle.std.specs.List.{slice_get}
+use Rattle.std.proofs.Common.{◌≡◌, ◌⊎◌, inl, inr, ⊎_elim, ℕ, zero, suc, ◌+◌, ◌<◌, ◌≤◌, List, [], ◌∷◌, ◌++◌, length, get_or, take, Some, refl, sym, ap, ◌∙◌, subst, arith, append-nil, append_assoc, length-append}
+use Rattle.std.specs.List.{flat_map, slice_get}
 use Rattle.std.proofs.lemmas.List.{flat_map_more, length-take-le, take_all, take_more}
 use Rattle.std.proofs.lemmas.Option.{same_Some, slice_get-get_or, slice_get_within}
 use Rattle.aggregations.specs.declared.function.AggFn.{AggFn}
 use Rattle.aggregations.specs.Table.{Contribution}
 use Rattle.report.specs.Layout.{Entry}
 use Rattle.report.specs.Listing.{AppendsListing, IsListing, listing_bytes}
-use Rattle.report.specs.Output.{Shows}
+use Rattle.report.proofs.Listings.{listing_exists}
+use Rattle.report.specs.Output.{AppendsTables, IsOutput, Shows}
 
 -- an element of a list with one more is one of the list's or the new one
 push_cases : {X : Type 0} (xs : List X) (new x : X) (i : ℕ) → slice_get (xs ++ new ∷ []) i ≡ Some x → (slice_get xs i ≡ Some x) ⊎ ((i ≡ length xs) × (new ≡ x))
@@ -58,5 +59,45 @@ module _ (contributions : List Contribution) where
       subst (λ fs. Shows fs contributions after) (sym (take_more (f ∷ functions) agg f within))
       (shows_push (take agg (f ∷ functions)) here before after shown (subst (λ n. AppendsListing here n contributions before after) (sym size) own))
 
-  pub shows_all : (functions : List AggFn) (agg : ℕ) (bytes : List ℕ) → length functions ≤ agg → Shows (take agg functions) contributions bytes → Shows functions contributions bytes
-  shows_all functions agg bytes past shown = subst (λ fs. Shows fs contributions bytes) (take_all agg functions past) shown
+  -- bytes before the aggregations stay
+  pub tables_none : (before : List ℕ) → AppendsTables [] contributions before before
+  tables_none before = record { tables = []; shown = shows_none contributions [] refl; joined = sym (append-nil before) }
+
+  pub tables_more : (functions : List AggFn) (agg : ℕ) (first before after : List ℕ) → agg < length functions
+      → ((function : AggFn) → slice_get functions agg ≡ Some function → AppendsListing function agg contributions before after)
+      → AppendsTables (take agg functions) contributions first before → AppendsTables (take (agg + 1) functions) contributions first after
+  tables_more [] agg first before after within more shown = absurd (omega arith)
+  tables_more (f ∷ functions) agg first before after within more shown =
+      let here : AggFn = get_or (f ∷ functions) agg f in
+      let own = more here (slice_get-get_or (f ∷ functions) agg f within) in
+      record {
+        tables = shown.tables ++ listing_bytes own.entries;
+        shown = shows_more (f ∷ functions) agg shown.tables (shown.tables ++ listing_bytes own.entries) within
+            (λ function at. let same = more function at in
+            record { entries = own.entries; listing = subst (λ g. IsListing g agg contributions own.entries) (same_Some here function (sym (slice_get-get_or (f ∷ functions) agg f within) ∙ at)) own.listing; bytes = refl })
+            shown.shown;
+        joined = own.bytes ∙ ap (λ l. l ++ listing_bytes own.entries) shown.joined ∙ append_assoc first shown.tables (listing_bytes own.entries);
+      }
+
+  pub tables_all : (functions : List AggFn) (agg : ℕ) (first bytes : List ℕ) → length functions ≤ agg → AppendsTables (take agg functions) contributions first bytes
+      → AppendsTables functions contributions first bytes
+  tables_all functions agg first bytes past shown = subst (λ fs. AppendsTables fs contributions first bytes) (take_all agg functions past) shown
+
+  -- ---- there is an output
+
+  tables_from : (done rest : List AggFn) (before : List ℕ) → Shows done contributions before → (bytes : List ℕ) × Shows (done ++ rest) contributions bytes
+  tables_from done [] before shown = (before, subst (λ fs. Shows fs contributions before) (sym (append-nil done)) shown)
+  tables_from done (f ∷ rest) before shown =
+      let listing = listing_exists f (length done) contributions in
+      let more : AppendsListing f (length done) contributions before (before ++ listing_bytes listing.0) = record { entries = listing.0; listing = listing.1; bytes = refl } in
+      let all = tables_from (done ++ f ∷ []) rest (before ++ listing_bytes listing.0) (shows_push done f before (before ++ listing_bytes listing.0) shown more) in
+      (all.0, subst (λ fs. Shows fs contributions all.0) (append_assoc done (f ∷ []) rest) all.1)
+
+  pub output_exists : (functions : List AggFn) (texts : List (ℕ × List ℕ)) → (bytes : List ℕ) × IsOutput functions texts contributions bytes
+  output_exists functions texts =
+      let all = tables_from [] functions [] (shows_none contributions [] refl) in
+      (flat_map (λ text. text.1) texts ++ all.0, record { tables = all.0; shown = all.1; joined = refl })
+
+  pub output_after : (functions : List AggFn) (texts : List (ℕ × List ℕ)) (bytes : List ℕ) → AppendsTables functions contributions (flat_map (λ text. text.1) texts) bytes
+      → IsOutput functions texts contributions bytes
+  output_after functions texts bytes after = record { tables = after.tables; shown = after.shown; joined = after.joined }

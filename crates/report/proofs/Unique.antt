@@ -1,6 +1,5 @@
 -- Contributions make one listing, and one output.
-use Rattle.std.proofs.Common.{◌≡◌, ◌⊎◌, inl, inr, ⊎_elim, ℕ, zero, suc, List, [], ◌∷◌, get_or, Contains, Option, None, Some, refl, sym, ap, ◌∙◌, subst, arith}
-use Rattle.std.specs.Prelude.{ℤ}
+use Rattle.std.proofs.Common.{◌≡◌, ◌⊎◌, inl, inr, ⊎_elim, ℕ, zero, suc, List, [], ◌∷◌, ◌++◌, get_or, Contains, Some, refl, sym, ap, ◌∙◌, subst, arith}
 use Rattle.std.specs.Cmp.{IsTotalOrder}
 use Rattle.std.specs.List.{flat_map, slice_get}
 use Rattle.std.specs.List.Sorted.{IsStrictlySortedBy}
@@ -16,17 +15,13 @@ use Rattle.std.proofs.lemmas.Map.Views.{Contains-from_lookup, lookup-from_Contai
 use Rattle.std.proofs.lemmas.Option.{slice_get-get_or}
 use Rattle.d_values.specs.Keys.{same_key}
 use Rattle.d_values.specs.KeyLaws.{same_key_decides, same_key_equiv}
-use Rattle.aggregations.specs.Entries.{IsEntry}
 use Rattle.aggregations.specs.Table.{Contribution, AreEntries, arguments_of}
-use Rattle.aggregations.specs.Values.{IsValue}
 use Rattle.aggregations.specs.declared.function.AggFn.{AggFn}
-use Rattle.aggregations.specs.declared.function.AggFn.TheVariants.{Count, Sum, Min, Max, Avg, Quantize, Lquantize}
-use Rattle.aggregations.specs.declared.partial.Partial.{Partial}
-use Rattle.aggregations.specs.declared.partial.Partial.TheVariants.{Counted}
-use Rattle.aggregations.proofs.EntryLemmas.{apart_from_entries, lookup_from_entries}
+use Rattle.aggregations.specs.declared.function.AggFn.TheVariants.{Count}
+use Rattle.aggregations.proofs.EntryLemmas.{one_entry}
 use Rattle.report.specs.Layout.{Entry}
 use Rattle.report.specs.Listing.{IsListing, listing_bytes}
-use Rattle.report.specs.Output.{Shows}
+use Rattle.report.specs.Output.{IsOutput, Shows}
 use Rattle.report.proofs.Listings.{entry_cmp_total}
 
 -- ---- lists that rise
@@ -69,27 +64,12 @@ module _ {X : Type 0} {R : X → X → Ordering} (order : IsTotalOrder R) where
 
 -- ---- one listing
 
-one_value : (function : AggFn) (v w : Partial) (args : List ℤ) → IsValue function v args → IsValue function w args → v ≡ w
-one_value Count (Counted n) (Counted m) args v_is w_is = ap Counted (v_is ∙ sym w_is)
-one_value Sum v w args v_is w_is = absurd v_is
-one_value Min v w args v_is w_is = absurd v_is
-one_value Max v w args v_is w_is = absurd v_is
-one_value Avg v w args v_is w_is = absurd v_is
-one_value Quantize v w args v_is w_is = absurd v_is
-one_value (Lquantize range) v w args v_is w_is = absurd v_is
-
-one_entry : (function : AggFn) (o p : Option Partial) (args : List ℤ) → IsEntry function o args → IsEntry function p args → o ≡ p
-one_entry function None None args none also = refl
-one_entry function None (Some w) args none its = absurd (its.0 none)
-one_entry function (Some v) None args its none = absurd (its.0 none)
-one_entry function (Some v) (Some w) args v_is w_is = ap Some (one_value function v w args v_is.1 w_is.1)
-
 module _ (function : AggFn) (agg : ℕ) (contributions : List Contribution) where
   same_entries : (xs ys : List Entry) → AreEntries function agg contributions xs → AreEntries function agg contributions ys → (e : Entry) → Contains xs e → Contains ys e
   same_entries xs ys xs_are ys_are (key, value) there =
-      let here : lookup (same_key key) xs ≡ Some value = lookup-from_Contains same_key_equiv key value xs (apart_from_entries function agg contributions xs xs_are) there in
+      let here : lookup (same_key key) xs ≡ Some value = lookup-from_Contains same_key_equiv key value xs xs_are.once there in
       let same = one_entry function (lookup (same_key key) ys) (lookup (same_key key) xs) (arguments_of agg key contributions)
-      (lookup_from_entries function agg contributions ys ys_are key) (lookup_from_entries function agg contributions xs xs_are key) in
+      (ys_are.values key) (xs_are.values key) in
       Contains-from_lookup (λ x y. (same_key_decides x y).0) key value ys (same ∙ here)
 
   pub one_listing : (xs ys : List Entry) → IsListing function agg contributions xs → IsListing function agg contributions ys → xs ≡ ys
@@ -111,6 +91,11 @@ same_listings functions contributions xs ys x_shown y_shown =
     (x_shown.listed agg function x_entries at (slice_get-get_or x_shown.listings agg [] within))
     (y_shown.listed agg function y_entries at (slice_get-get_or y_shown.listings agg [] (omega arith))))
 
-pub one_output : (functions : List AggFn) (contributions : List Contribution) (xs ys : List ℕ) → Shows functions contributions xs → Shows functions contributions ys → xs ≡ ys
-one_output functions contributions xs ys x_shown y_shown =
+same_tables : (functions : List AggFn) (contributions : List Contribution) (xs ys : List ℕ) → Shows functions contributions xs → Shows functions contributions ys → xs ≡ ys
+same_tables functions contributions xs ys x_shown y_shown =
     x_shown.joined ∙ ap (flat_map listing_bytes) (same_listings functions contributions xs ys x_shown y_shown) ∙ sym y_shown.joined
+
+pub one_output : (functions : List AggFn) (texts : List (ℕ × List ℕ)) (contributions : List Contribution) (xs ys : List ℕ)
+    → IsOutput functions texts contributions xs → IsOutput functions texts contributions ys → xs ≡ ys
+one_output functions texts contributions xs ys x_is y_is =
+    x_is.joined ∙ ap (λ tables. flat_map (λ text. text.1) texts ++ tables) (same_tables functions contributions x_is.tables y_is.tables x_is.shown y_is.shown) ∙ sym y_is.joined

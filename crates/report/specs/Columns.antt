@@ -1,8 +1,26 @@
--- The columns in which the parts of a key stand.
-use Rattle.std.specs.Prelude.{ℕ, ◌≤◌, length}
+-- Columns of a fixed width. Widths count bytes, and nothing is cut.
+use Rattle.std.specs.Prelude.{ℕ, ◌-◌, ◌≤◌, List, ◌++◌, length, replicate}
 use Rattle.std.specs.Fmt.{signed_decimal}
 use Rattle.d_values.specs.declared.key.KeyPart.{KeyPart}
 use Rattle.d_values.specs.declared.key.KeyPart.TheVariants.{Number, Name}
+
+abbrev pub space : ℕ
+space = 32
+
+abbrev pub line_feed : ℕ
+line_feed = 10
+
+-- so many spaces
+abbrev pub spaces : ℕ → List ℕ
+spaces count = replicate count space
+
+-- the text at the right of a column of this width
+abbrev pub at_right : ℕ → List ℕ → List ℕ
+at_right width text = spaces (width - length text) ++ text
+
+-- the text at the left of a column of this width
+abbrev pub at_left : ℕ → List ℕ → List ℕ
+at_left width text = text ++ spaces (width - length text)
 
 -- a number of at most 16 bytes with its sign, or a text of at most 50
 abbrev pub Fits : KeyPart → Type 0

@@ -1,33 +1,18 @@
--- The bytes of an entry. Widths count bytes, and nothing is cut.
-use Rattle.std.specs.Prelude.{ℕ, ◌-◌, List, [], ◌∷◌, ◌++◌, length, replicate, ℤ, pos}
+-- The bytes of an entry.
+use Rattle.std.specs.Prelude.{ℕ, List, [], ◌∷◌, ◌++◌, ℤ}
 use Rattle.std.specs.Fmt.{signed_decimal}
 use Rattle.std.specs.List.{flat_map}
 use Rattle.d_values.specs.declared.key.KeyPart.{KeyPart}
 use Rattle.d_values.specs.declared.key.KeyPart.TheVariants.{Number, Name}
-use Rattle.aggregations.specs.declared.partial.Partial.{Partial}
-use Rattle.aggregations.specs.declared.partial.Partial.TheVariants.{Counted}
+use Rattle.aggregations.specs.declared.held.Held.{Held}
+use Rattle.aggregations.specs.Figures.{Figure, figure_of}
+use Rattle.aggregations.specs.Figures.Figure.{Single, Distribution}
+use Rattle.report.specs.Columns.{space, line_feed, at_left, at_right}
+use Rattle.report.specs.Histograms.{histogram_bytes}
 
--- a key, and the value of its arguments
+-- a key, and what is held of its arguments
 abbrev pub Entry : Type 0
-Entry = List KeyPart × Partial
-
-abbrev pub space : ℕ
-space = 32
-
-abbrev pub line_feed : ℕ
-line_feed = 10
-
--- so many spaces
-abbrev pub spaces : ℕ → List ℕ
-spaces count = replicate count space
-
--- the text at the right of a column of this width
-abbrev pub at_right : ℕ → List ℕ → List ℕ
-at_right width text = spaces (width - length text) ++ text
-
--- the text at the left of a column of this width
-abbrev pub at_left : ℕ → List ℕ → List ℕ
-at_left width text = text ++ spaces (width - length text)
+Entry = List KeyPart × Held
 
 -- a space, and the number in decimal at the right of 16
 abbrev pub number_bytes : ℤ → List ℕ
@@ -38,10 +23,11 @@ abbrev pub part_bytes : KeyPart → List ℕ
 part_bytes (Number number) = number_bytes number
 part_bytes (Name text) = space ∷ space ∷ at_left 50 text
 
--- what an entry shows of its value: a count as a number and a line feed
-abbrev pub value_bytes : Partial → List ℕ
-value_bytes (Counted count) = number_bytes (pos count) ++ line_feed ∷ []
+-- a number and a line feed, or a histogram
+abbrev pub value_bytes : Figure → List ℕ
+value_bytes (Single number) = number_bytes number ++ line_feed ∷ []
+value_bytes (Distribution histogram) = histogram_bytes histogram
 
--- the parts of the key one behind the other, and the value
+-- the parts of the key one after the other, and what the entry shows
 abbrev pub entry_bytes : Entry → List ℕ
-entry_bytes entry = flat_map part_bytes entry.0 ++ value_bytes entry.1
+entry_bytes entry = flat_map part_bytes entry.0 ++ value_bytes (figure_of entry.1)

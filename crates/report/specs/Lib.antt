@@ -1,5 +1,6 @@
 pub mod Columns
 pub mod Faulty
+pub mod Histograms
 pub mod Layout
 pub mod Listing
 pub mod Output

@@ -1,5 +1,5 @@
 -- The entries of an aggregation in the order in which they are shown.
-use Rattle.std.specs.Prelude.{◌≡◌, ◌⊎◌, ◌<ℤ◌, ℕ, List, [], ◌∷◌, ◌++◌, ℤ, pos}
+use Rattle.std.specs.Prelude.{◌≡◌, ◌⊎◌, ◌<ℤ◌, ℕ, List, [], ◌∷◌, ◌++◌, ℤ}
 use Rattle.std.specs.List.{flat_map}
 use Rattle.std.specs.List.Sorted.{IsStrictlySortedBy}
 use Rattle.std.specs.Ordering.{int_cmp, ordering_then}
@@ -7,25 +7,27 @@ use Rattle.std.specs.declared.cmp.Ordering.{Ordering}
 use Rattle.std.specs.declared.cmp.Ordering.TheVariants.{Less}
 use Rattle.d_values.specs.Keys.{key_cmp}
 use Rattle.aggregations.specs.declared.function.AggFn.{AggFn}
-use Rattle.aggregations.specs.declared.partial.Partial.{Partial}
-use Rattle.aggregations.specs.declared.partial.Partial.TheVariants.{Counted}
+use Rattle.aggregations.specs.Figures.{figure_of, rank_of}
 use Rattle.aggregations.specs.Table.{Contribution, AreEntries}
-use Rattle.report.specs.Layout.{Entry, line_feed, entry_bytes}
+use Rattle.report.specs.Columns.{line_feed}
+use Rattle.report.specs.Layout.{Entry, entry_bytes}
 
 -- the number by which an entry is ordered
-abbrev pub rank_of : Partial → ℤ
-rank_of (Counted count) = pos count
+abbrev pub entry_rank : Entry → ℤ
+entry_rank entry = rank_of (figure_of entry.1)
 
--- by value, and entries of one value by their keys
+-- by rank, and entries of one rank by their keys
 abbrev pub entry_cmp : Entry → Entry → Ordering
-entry_cmp x y = ordering_then (int_cmp (rank_of x.1) (rank_of y.1)) (key_cmp x.0 y.0)
+entry_cmp x y = ordering_then (int_cmp (entry_rank x) (entry_rank y)) (key_cmp x.0 y.0)
 
--- x comes before y, in words: it has a lower value, or the same value and a lower key
+-- x comes before y, in words: it has a lower rank, or the same rank and a lower key
 abbrev pub ComesBefore : Entry → Entry → Type 0
-ComesBefore x y = (rank_of x.1 <ℤ rank_of y.1) ⊎ ((rank_of x.1 ≡ rank_of y.1) × (key_cmp x.0 y.0 ≡ Less))
+ComesBefore x y =
+    (entry_rank x <ℤ entry_rank y) ⊎ ((entry_rank x ≡ entry_rank y) × (key_cmp x.0 y.0 ≡ Less))
 
--- the entries that the contributions give an aggregation, each before those behind it
-pub record IsListing (function : AggFn) (agg : ℕ) (contributions : List Contribution) (entries : List Entry) : Type 0 where
+-- the entries that the contributions give an aggregation, each before those after it
+pub record IsListing (function : AggFn) (agg : ℕ) (contributions : List Contribution)
+    (entries : List Entry) : Type 0 where
   pub are : AreEntries function agg contributions entries
   pub rises : IsStrictlySortedBy entry_cmp entries
 
@@ -35,7 +37,8 @@ listing_bytes [] = []
 listing_bytes (e ∷ es) = line_feed ∷ flat_map entry_bytes (e ∷ es)
 
 -- the bytes after are those before, and then a listing of the aggregation
-pub record AppendsListing (function : AggFn) (agg : ℕ) (contributions : List Contribution) (before after : List ℕ) : Type 0 where
+pub record AppendsListing (function : AggFn) (agg : ℕ) (contributions : List Contribution)
+    (before after : List ℕ) : Type 0 where
   pub entries : List Entry
   pub listing : IsListing function agg contributions entries
   pub bytes : after ≡ before ++ listing_bytes entries

@@ -1,5 +1,6 @@
 -- What clauses read of a watched reader or writer.
-use Rattle.std.specs.Prelude.{ℕ, ◌+◌, Bool, if◌then◌else◌}
+use Rattle.std.specs.Prelude.{ℕ, ◌+◌, Bool, List, Option, if◌then◌else◌}
+use Rattle.report.specs.Stream.{FeedSeen, SinkSeen}
 use Rattle.report.specs.declared.watched.Watched.{Watched}
 
 -- the reader or writer itself
@@ -17,3 +18,20 @@ watched_has_failed w = w.has_failed
 -- whether the last read told the end
 abbrev pub watched_has_ended : {T : Type 0} → Watched T → Bool
 watched_has_ended w = w.has_ended
+
+-- a watched writer as a sink, with the bytes that the writer holds
+abbrev pub watched_sink : {T : Type 0} → (T → Option (List ℕ)) → Watched T → SinkSeen
+watched_sink contents w = record {
+  bytes = contents (watched_inner w);
+  calls = watched_calls w;
+  has_failed = watched_has_failed w;
+}
+
+-- a watched reader as a feed, with the bytes that the reader has left
+abbrev pub watched_feed : {T : Type 0} → (T → Option (List ℕ)) → Watched T → FeedSeen
+watched_feed remaining w = record {
+  remaining = remaining (watched_inner w);
+  calls = watched_calls w;
+  has_failed = watched_has_failed w;
+  has_ended = watched_has_ended w;
+}

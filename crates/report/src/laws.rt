@@ -1,16 +1,18 @@
 //! What holds of every listing, of every output and of every entry's line.
 
-ghost use Rattle.std.specs.Prelude.{◌≡◌, ◌+◌, ◌<◌, ◌≤◌, ◌++◌, ℕ, ℤ, pos, List, Some, All, length, slice_get, sum_by};
+ghost use Rattle.std.specs.Prelude.{◌≡◌, ◌+◌, ◌<◌, ◌≤◌, ◌++◌, ℕ, ℤ, List, Some, All, length, slice_get, sum_by};
 ghost use Rattle.std.specs.Fmt.{signed_decimal};
 ghost use Rattle.d_values.specs.declared.key.KeyPart.{KeyPart};
 ghost use Rattle.d_values.specs.declared.key.KeyPart.TheVariants.{Name};
 ghost use Rattle.aggregations.specs.declared.function.AggFn.{AggFn};
-ghost use Rattle.aggregations.specs.declared.partial.Partial.TheVariants.{Counted};
+ghost use Rattle.aggregations.specs.declared.held.Held.{Held};
+ghost use Rattle.aggregations.specs.Figures.{figure_of};
+ghost use Rattle.aggregations.specs.Figures.Figure.{Single};
 ghost use Rattle.aggregations.specs.Table.{Contribution};
-ghost use Rattle.report.specs.Columns.{Fits, column_width};
-ghost use Rattle.report.specs.Layout.{Entry, spaces, number_bytes, part_bytes, entry_bytes};
+ghost use Rattle.report.specs.Columns.{Fits, column_width, spaces};
+ghost use Rattle.report.specs.Layout.{Entry, number_bytes, part_bytes, entry_bytes};
 ghost use Rattle.report.specs.Listing.{IsListing, ComesBefore};
-ghost use Rattle.report.specs.Output.{Shows};
+ghost use Rattle.report.specs.Output.{IsOutput};
 
 /// Contributions make one listing of an aggregation at most.
 pub fn one_listing()
@@ -19,24 +21,33 @@ pub fn one_listing()
         → xs ≡ ys }
 {}
 
-/// Contributions make one output at most.
+/// Texts and contributions make one output at most.
 pub fn one_output()
-    ensures { (functions : List AggFn) (contributions : List Contribution) (xs ys : List ℕ)
-        → Shows functions contributions xs → Shows functions contributions ys → xs ≡ ys }
+    ensures { (functions : List AggFn) (texts : List (ℕ × List ℕ))
+        (contributions : List Contribution) (xs ys : List ℕ)
+        → IsOutput functions texts contributions xs → IsOutput functions texts contributions ys
+        → xs ≡ ys }
 {}
 
-/// Of two entries of a listing the first has the lower value, or the same value and the lower key.
+/// Texts and contributions make an output.
+pub fn has_output()
+    ensures { (functions : List AggFn) (texts : List (ℕ × List ℕ))
+        (contributions : List Contribution)
+        → (bytes : List ℕ) × IsOutput functions texts contributions bytes }
+{}
+
+/// Of two entries of a listing the first has the lower rank, or the same rank and the lower key.
 pub fn listings_ascend()
     ensures { (function : AggFn) (agg : ℕ) (contributions : List Contribution) (entries : List Entry)
         → IsListing function agg contributions entries → (i j : ℕ) (x y : Entry) → i < j
         → slice_get entries i ≡ Some x → slice_get entries j ≡ Some y → ComesBefore x y }
 {}
 
-/// Parts that fit stand in columns, and so does the count behind them.
+/// Parts that fit stand in columns, and so does the number after them.
 pub fn entries_stand_in_columns()
-    ensures { (key : List KeyPart) (count : ℕ)
-        → All Fits key → length (signed_decimal (pos count)) ≤ 16
-        → length (entry_bytes (key, Counted count)) ≡ sum_by column_width key + 18 }
+    ensures { (key : List KeyPart) (held : Held) (number : ℤ)
+        → All Fits key → figure_of held ≡ Single number → length (signed_decimal number) ≤ 16
+        → length (entry_bytes (key, held)) ≡ sum_by column_width key + 18 }
 {}
 
 /// A number is spaces, one at least, and then all its digits.

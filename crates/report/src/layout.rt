@@ -1,10 +1,12 @@
 //! The bytes of an entry.
 
-ghost use Rattle.std.specs.Prelude.{◌≡◌, ◌<◌, ◌≤◌, ◌^◌, ◌++◌, OnOk};
+ghost use Rattle.std.specs.Prelude.{◌≡◌, ◌++◌, OnOk};
 ghost use Rattle.std.specs.List.{flat_map};
-ghost use Rattle.aggregations.specs.Values.{count_in};
-ghost use Rattle.report.specs.Layout.{spaces, number_bytes, part_bytes, value_bytes, entry_bytes};
+ghost use Rattle.aggregations.specs.Figures.{figure_of};
+ghost use Rattle.report.specs.Layout.{number_bytes, part_bytes, value_bytes, entry_bytes};
 
+use crate::columns::put_spaces;
+use crate::histograms::put_histogram;
 use aggregations::Partial;
 use d_values::{Key, KeyPart};
 use itoa::Buffer;
@@ -13,16 +15,6 @@ use std::alloc::AllocError;
 const NAME_WIDTH: usize = 50;
 
 const NUMBER_WIDTH: usize = 16;
-
-// The widest column.
-const BLANKS: [u8; NAME_WIDTH] = [b' '; NAME_WIDTH];
-
-fn put_spaces(out: &mut Vec<u8>, count: usize) -> Result<(), AllocError>
-    requires { count ≤ 50 }
-    ensures { OnOk result (out.new.items ≡ out.old.items ++ spaces count) }
-{
-    out.extend_from_slice(&BLANKS[..count])
-}
 
 fn put_name(out: &mut Vec<u8>, text: &[u8]) -> Result<(), AllocError>
     ensures { OnOk result (out.new.items ≡ out.old.items ++ part_bytes (KeyPart.Name text.now)) }
@@ -52,7 +44,7 @@ fn put_part(out: &mut Vec<u8>, part: &KeyPart) -> Result<(), AllocError>
     }
 }
 
-// Puts the parts of a key one behind the other.
+// Puts the parts of a key one after the other.
 fn put_key(out: &mut Vec<u8>, key: &Key) -> Result<(), AllocError>
     ensures { OnOk result (out.new.items ≡ out.old.items ++ flat_map part_bytes key.now) }
 {
@@ -62,21 +54,21 @@ fn put_key(out: &mut Vec<u8>, key: &Key) -> Result<(), AllocError>
     Ok(())
 }
 
-// Puts what an entry shows of its value, and a line feed.
+// Puts what an entry shows: a number and a line feed, or a histogram.
 fn put_value(out: &mut Vec<u8>, value: &Partial) -> Result<(), AllocError>
-    requires { count_in value.now < 2 ^ 63 }
-    ensures { OnOk result (out.new.items ≡ out.old.items ++ value_bytes value.now) }
+    ensures { OnOk result (out.new.items ≡ out.old.items ++ value_bytes (figure_of value.now)) }
 {
-    match value {
-        Partial::Counted(count) => put_number(out, *count as i64)?,
+    if let Some(number) = value.single() {
+        put_number(out, number)?;
+        out.push(b'\n')?;
+    } else if let Some(histogram) = value.histogram() {
+        put_histogram(out, histogram)?;
     }
-    out.push(b'\n')?;
     Ok(())
 }
 
-/// Puts an entry: the parts of its key, and its value.
+/// Puts an entry: the parts of its key, and what it shows.
 pub fn put_entry(out: &mut Vec<u8>, key: &Key, value: &Partial) -> Result<(), AllocError>
-    requires { count_in value.now < 2 ^ 63 }
     ensures { OnOk result (out.new.items ≡ out.old.items ++ entry_bytes (key.now, value.now)) }
 {
     put_key(out, key)?;

@@ -2,7 +2,9 @@
 //! what went through them.
 #![tactic(auto)]
 
+mod columns;
 pub mod faulty;
+mod histograms;
 pub mod laws;
 mod layout;
 mod listing;

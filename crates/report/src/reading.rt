@@ -26,17 +26,17 @@ const ROOM: usize = 1 << 16;
 
 /// Reads all bytes that the feed has left. At a fault a beginning of them was read and is lost.
 pub fn read_to_end<F: Feed>(alloc: Global, feed: &mut F) -> Result<Vec<u8>, ReadFault>
-    requires { IsFalse (F.has_failed feed.old) }
-    ensures bytes { IfOk result (λ v. IfSome (F.remaining feed.old) (λ all. v.items ≡ all)) }
-    ensures nothing_left { OnOk result (IsAtEnd (F.remaining feed.new)) }
+    requires { IsFalse (F.seen feed.old).has_failed }
+    ensures bytes { IfOk result (λ v. IfSome (F.seen feed.old).remaining (λ all. v.items ≡ all)) }
+    ensures nothing_left { OnOk result (IsAtEnd (F.seen feed.new).remaining) }
     ensures ended { OnOk result
-        (IsTrue (F.has_ended feed.new) × IsFalse (F.has_failed feed.new)) }
+        (IsTrue (F.seen feed.new).has_ended × IsFalse (F.seen feed.new).has_failed) }
     ensures failed { result ≡ Err ReadFault.Failed →
-        IsTrue (F.has_failed feed.new) ⊎ (IsFalse (F.has_ended feed.new)
-        × (F.calls feed.new ≡ F.calls feed.old + MOST_CALLS)) }
-    ensures memory { result ≡ Err ReadFault.Memory → IsFalse (F.has_failed feed.new) }
-    ensures rest { LosesBeginning (F.remaining feed.old) (F.remaining feed.new) }
-    ensures calls { F.calls feed.new ≤ F.calls feed.old + MOST_CALLS }
+        IsTrue (F.seen feed.new).has_failed ⊎ (IsFalse (F.seen feed.new).has_ended
+        × ((F.seen feed.new).calls ≡ (F.seen feed.old).calls + MOST_CALLS)) }
+    ensures memory { result ≡ Err ReadFault.Memory → IsFalse (F.seen feed.new).has_failed }
+    ensures rest { LosesBeginning (F.seen feed.old).remaining (F.seen feed.new).remaining }
+    ensures calls { (F.seen feed.new).calls ≤ (F.seen feed.old).calls + MOST_CALLS }
 {
     let mut buffer = vec![in alloc; 0u8; ROOM].map_err(|_| ReadFault::Memory)?;
     let mut bytes = Vec::new(alloc);

@@ -1,30 +1,58 @@
-//! The bytes of all aggregations.
+//! All that a run shows.
 
-ghost use Rattle.std.specs.Prelude.{◌≡◌, ◌<◌, ◌≤◌, ◌^◌, ◌++◌, List, Some, All, IfOk, OnOk, map, slice_get, length};
+ghost use Rattle.std.specs.Prelude.{◌≡◌, ◌<◌, ◌++◌, List, Some, OnOk, IfOk, map, slice_get, length};
+ghost use Rattle.std.specs.List.{flat_map};
 ghost use Rattle.std.specs.Map.Iter.{deref_pair};
 ghost use Rattle.aggregations.specs.declared.function.AggFn.{AggFn};
 ghost use Rattle.aggregations.specs.Table.{Contribution, StandsFor, functions_of};
-ghost use Rattle.aggregations.specs.Values.{count_in};
+ghost use Rattle.d_types.specs.TypedScripts.{typed_script_of};
 ghost use Rattle.report.specs.Listing.{AppendsListing, listing_bytes};
-ghost use Rattle.report.specs.Output.{Shows};
+ghost use Rattle.report.specs.Output.{AppendsTables, IsOutput};
 
 use crate::layout::put_entry;
 use crate::listing::listing;
 use aggregations::{AggTable, Partial};
-use d_values::Key;
+use d_types::TypedScript;
+use d_values::{Key, Text};
+use replay_core::Whole;
 use std::alloc::{AllocError, Global};
 
-/// The bytes that show the table: each aggregation that has entries, in the order of the table, its
-/// entries ascending by value and then by key (Dynamic Tracing Guide, "Aggregations").
-pub fn render(alloc: Global, table: &AggTable) -> Result<Vec<u8>, AllocError>
-    ensures { (contributions : List Contribution) → StandsFor table.now contributions
-        → IfOk result (λ bytes. Shows (functions_of table.now) contributions bytes.items) }
+/// The bytes that show what a run of the script made: its texts, and after them each aggregation that
+/// has entries, in the order of the script, its entries ascending by value and then by key (Dynamic
+/// Tracing Guide, "Aggregations"). The caller owes that the aggregations are the script's.
+pub fn render(alloc: Global, script: &TypedScript, whole: &Whole) -> Result<Vec<u8>, AllocError>
+    requires { functions_of whole.now.table
+        ≡ map (λ a. a.function) (typed_script_of script.now).aggregations }
+    ensures { (contributions : List Contribution) → StandsFor whole.now.table contributions
+        → IfOk result (λ bytes. IsOutput (functions_of whole.now.table) whole.now.texts.items
+        contributions bytes.items) }
 {
+    // The table has what the script says of them.
+    let _ = script;
     let mut out = Vec::new(alloc);
-    for agg in 0..table.len() {
-        put_aggregation(alloc, &mut out, table, agg)?;
-    }
+    put_texts(&mut out, &whole.texts)?;
+    put_tables(alloc, &mut out, &whole.table)?;
     Ok(out)
+}
+
+fn put_texts(out: &mut Vec<u8>, texts: &[(u64, Text)]) -> Result<(), AllocError>
+    ensures { OnOk result (out.new.items ≡ out.old.items ++ flat_map (λ text. text.1) texts.now) }
+{
+    for (_, text) in texts {
+        out.extend_from_slice(text.as_bytes())?;
+    }
+    Ok(())
+}
+
+fn put_tables(alloc: Global, out: &mut Vec<u8>, table: &AggTable) -> Result<(), AllocError>
+    ensures { (contributions : List Contribution) → StandsFor table.now contributions
+        → OnOk result
+        (AppendsTables (functions_of table.now) contributions out.old.items out.new.items) }
+{
+    for agg in 0..table.len() {
+        put_aggregation(alloc, out, table, agg)?;
+    }
+    Ok(())
 }
 
 // Puts what shows one aggregation.
@@ -45,7 +73,6 @@ fn put_aggregation(
 
 // Puts a line feed and the entries, where there are any.
 fn put_entries(out: &mut Vec<u8>, entries: &[(&Key, &Partial)]) -> Result<(), AllocError>
-    requires { All (λ e. count_in e.1.now ≤ 2 ^ 52) entries.now }
     ensures { OnOk result (out.new.items
         ≡ out.old.items ++ listing_bytes (map deref_pair entries.now)) }
 {

@@ -1,6 +1,6 @@
 //! A std reader or writer as a stream that counts its calls and notes a failure.
 ghost use Rattle.std.specs.Prelude.{◌≡◌, ◌+◌, ◌<◌, IsFalse, true, false};
-ghost use Rattle.report.specs.Watched.{watched_inner, watched_calls, watched_has_failed, watched_has_ended};
+ghost use Rattle.report.specs.Watched.{watched_inner, watched_calls, watched_has_failed, watched_has_ended, watched_feed, watched_sink};
 
 use crate::stream::{Failed, Feed, Sink};
 use std::io::{Read, Write};
@@ -50,11 +50,7 @@ impl<T> Watched<T> {
 }
 
 impl<W: Write> Sink for Watched<W> {
-    ghost contents = { λ w. W.contents (watched_inner w) };
-
-    ghost calls = { watched_calls };
-
-    ghost has_failed = { watched_has_failed };
+    ghost seen = { watched_sink W.contents };
 
     fn put(&mut self, piece: &[u8]) -> Result<usize, Failed> {
         if self.good_calls < u64::MAX
@@ -69,13 +65,7 @@ impl<W: Write> Sink for Watched<W> {
 }
 
 impl<R: Read> Feed for Watched<R> {
-    ghost remaining = { λ r. R.remaining (watched_inner r) };
-
-    ghost calls = { watched_calls };
-
-    ghost has_failed = { watched_has_failed };
-
-    ghost has_ended = { watched_has_ended };
+    ghost seen = { watched_feed R.remaining };
 
     fn get(&mut self, buffer: &mut [u8]) -> Result<usize, Failed> {
         if self.good_calls < u64::MAX

@@ -14,12 +14,12 @@ pub struct WriteFault;
 /// Writes the bytes, each once and in order, and takes no memory. A fault comes exactly where the
 /// sink fails; what went out is then a beginning of the bytes, and not all of them.
 pub fn emit<S: Sink>(sink: &mut S, bytes: &[u8]) -> Result<(), WriteFault>
-    requires { IsFalse (S.has_failed sink.old) }
-    ensures fault { IsErr result ↔ IsTrue (S.has_failed sink.new) }
-    ensures whole { OnOk result (Appends (S.contents sink.old) (S.contents sink.new) bytes.now) }
+    requires { IsFalse (S.seen sink.old).has_failed }
+    ensures fault { IsErr result ↔ IsTrue (S.seen sink.new).has_failed }
+    ensures whole { OnOk result (Appends (S.seen sink.old).bytes (S.seen sink.new).bytes bytes.now) }
     ensures beginning { OnErr result
-        (AppendsBeginning (S.contents sink.old) (S.contents sink.new) bytes.now) }
-    ensures calls { S.calls sink.new ≤ S.calls sink.old + length bytes.now }
+        (AppendsBeginning (S.seen sink.old).bytes (S.seen sink.new).bytes bytes.now) }
+    ensures calls { (S.seen sink.new).calls ≤ (S.seen sink.old).calls + length bytes.now }
 {
     let mut rest = bytes;
     while !rest.is_empty() {

@@ -1,1 +1,1 @@
-:::hit { @[pid] = count(); }
+:::hit { @[pid] = count(execname); }

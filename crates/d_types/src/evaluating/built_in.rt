@@ -22,7 +22,7 @@ fn copied(alloc: Global, text: &Recorded) -> Result<Value, AllocError>
     Ok(Value::Text(text))
 }
 
-/// The value of a built-in variable. Arguments past the ninth are 0.
+/// The value of a built-in variable. An argument of a number over 9 is 0.
 pub(crate) fn built_in(
     alloc: Global,
     built_in: BuiltIn,

@@ -1,6 +1,6 @@
 use Rattle.std.proofs.Common.{Global, Vec, arith}
 use Rattle.d_lexer.specs.declared.token.Token.{Token}
-use Rattle.d_lexer.proofs.Public.{ok_of, err_of, lexed_of, refused_of, few_of, in_bounds}
+use Rattle.d_lexer.proofs.Public.{ok_of, err_of, lexed_of, refused_of, few_of, small_of, in_bounds}
 use Rattle.d_lexer.proofs.scanner.lex.Goals as goal
 
 pub returns-clause-ok : goal.returns-clause-ok
@@ -21,3 +21,7 @@ returns-clause-few c = few_of (λ (v : Vec Token Global). v.items) c.args.bytes.
 pub returns-clause-too_long : goal.returns-clause-too_long
 returns-clause-too_long c =
     (λ t. absurd (in_bounds (λ (v : Vec Token Global). v.items) c.args.bytes.now c.if-bytes-gt-MOST_BYTES.false c.lexed.result c.lexed.ensures t), λ long. absurd (omega (arith, long)))
+
+pub returns-clause-small : goal.returns-clause-small
+returns-clause-small c =
+    small_of (λ (v : Vec Token Global). v.items) c.args.bytes.now c.if-bytes-gt-MOST_BYTES.false c.lexed.result c.lexed.ensures

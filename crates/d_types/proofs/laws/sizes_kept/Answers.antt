@@ -1,5 +1,5 @@
-use Rattle.d_types.proofs.Sizes.{script_is_small}
+use Rattle.d_types.proofs.Sizes.{typed_script_is_small}
 use Rattle.d_types.proofs.laws.sizes_kept.Goals as goal
 
 pub returns : goal.returns
-returns c m h = script_is_small h.0 m h.1 h.2
+returns c m h = typed_script_is_small m h

@@ -1,31 +1,38 @@
 use Rattle.std.proofs.lemmas.Result.{err_from_is_err_and}
-use Rattle.dreplay.specs.Counting.{script_of}
-use Rattle.dreplay.proofs.Counted.{can_run}
-use Rattle.dreplay.proofs.Answering.{not_running, running, trace_refused}
-use Rattle.dreplay.proofs.Sizes.{has_room}
+use Rattle.d_parser.specs.Tree as tree
+use Rattle.d_types.specs.TypedScripts.{typed_script_of}
+use Rattle.firing_reader.proofs.Kept.{is_trace}
+use Rattle.dreplay.specs.Scripts.{IsAccepted}
+use Rattle.dreplay.proofs.Refusing.{trace_refused}
+use Rattle.dreplay.proofs.Serial.{ran_by}
 use Rattle.dreplay.proofs.replaying.replay.Goals as goal
 
-pub run-requires-clause-can : goal.run-requires-clause-can
-run-requires-clause-can c = can_run _ c.in_ok-counting.counting c.in_ok-counting.ensures
-
-pub run-requires-clause-room : goal.run-requires-clause-room
-run-requires-clause-room c firings few = has_room _ _ firings c.in_ok-counting.ensures c.in_ok-tree.ensures.few few
-
-pub returns-in_err-counting-clause-answer : goal.returns-in_err-counting-clause-answer
-returns-in_err-counting-clause-answer c =
-    let p = err_from_is_err_and c.from_residual-in_err-counting.result c.from_residual-in_err-counting.ensures.1 in
-    rw (p.1, p.2) (not_running _ _ _ c.in_ok-tree.ensures.read c.in_ok-check.ensures.typed.0 c.in_ok-check.ensures.typed.1 _ c.in_err-counting.field-0.0 c.in_err-counting.ensures)
-
-pub returns-in_err-trace-clause-answer : goal.returns-in_err-trace-clause-answer
-returns-in_err-trace-clause-answer c =
+pub returns-in_err-trace : goal.returns-in_err-trace
+returns-in_err-trace c =
+    let m = typed_script_of c.in_ok-script.script in
+    let accepted : IsAccepted c.args.script.now m = record {
+      items = tree.script_of c.in_ok-tree.tree;
+      tree = c.in_ok-tree.ensures.read;
+      well = c.in_ok-script.ensures.typed.0;
+      fits = c.in_ok-script.ensures.typed.1;
+    } in
     let p = err_from_is_err_and c.from_residual-in_err-trace.result c.from_residual-in_err-trace.ensures.1 in
-    rw (p.1, p.2) (trace_refused _ _ _ c.in_ok-tree.ensures.read c.in_ok-check.ensures.typed.0 c.in_ok-check.ensures.typed.1 _ _ c.in_err-trace.field-0.0 c.in_ok-counting.ensures c.in_err-trace.ensures)
+    rw (p.1, p.2) (trace_refused _ _ c.args.plan.now m accepted c.in_err-trace.field-0.0 c.in_err-trace.ensures)
 
-pub returns-clause-answer : goal.returns-clause-answer
-returns-clause-answer c = record {
-  counting = script_of c.in_ok-counting.counting;
-  running = running _ _ _ c.in_ok-tree.ensures.read c.in_ok-check.ensures.typed.0 c.in_ok-check.ensures.typed.1 _ c.in_ok-counting.ensures;
-  firings = c.in_ok-trace.trace;
-  reads = c.in_ok-trace.ensures;
-  shown = c.in_ok-run.ensures.shown;
-}
+pub returns : goal.returns
+returns c =
+    let m = typed_script_of c.in_ok-script.script in
+    let trace = c.in_ok-trace.trace in
+    let firings = (is_trace _ _ c.in_ok-trace.ensures).firings in
+    let accepted : IsAccepted c.args.script.now m = record {
+      items = tree.script_of c.in_ok-tree.tree;
+      tree = c.in_ok-tree.ensures.read;
+      well = c.in_ok-script.ensures.typed.0;
+      fits = c.in_ok-script.ensures.typed.1;
+    } in (
+      m,
+      trace,
+      record { accepted = accepted; reads = c.in_ok-trace.ensures },
+      c.in_ok-replayed.ensures.shown,
+      ran_by m trace c.args.plan.now c.in_ok-replayed.replayed c.requires firings c.in_ok-replayed.ensures.took c.in_ok-replayed.ensures.ran,
+    )

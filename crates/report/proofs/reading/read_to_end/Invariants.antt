@@ -4,7 +4,7 @@ use Rattle.std.specs.Io.KnownBytes.{Consumes}
 use Rattle.report.proofs.reading.read_to_end.Given as goal
 
 abbrev pub invariant-loop : goal.invariant-loop
-invariant-loop g l = IsFalse (g.F.Feed.has_failed l.feed)
-    × Consumes (g.F.Feed.remaining l.initial.feed) (g.F.Feed.remaining l.feed) l.bytes.items
-    × (g.F.Feed.calls l.feed ≡ g.F.Feed.calls l.initial.feed + l.counter)
-    × (0 < l.counter → IsFalse (g.F.Feed.has_ended l.feed))
+invariant-loop g l = IsFalse (g.F.Feed.seen l.feed).has_failed
+    × Consumes (g.F.Feed.seen l.initial.feed).remaining (g.F.Feed.seen l.feed).remaining l.bytes.items
+    × ((g.F.Feed.seen l.feed).calls ≡ (g.F.Feed.seen l.initial.feed).calls + l.counter)
+    × (0 < l.counter → IsFalse (g.F.Feed.seen l.feed).has_ended)

@@ -1,13 +1,15 @@
-use Rattle.std.proofs.Common.{arith, rules}
-use Rattle.report.proofs.Outputs.{shows_none, shows_more, shows_all}
+use Rattle.std.proofs.Common.{◌≡◌, rules, subst}
+use Rattle.std.specs.List.{flat_map}
+use Rattle.aggregations.specs.Table.{functions_of}
+use Rattle.report.specs.Output.{AppendsTables}
+use Rattle.report.proofs.Outputs.{output_after}
 use Rattle.report.proofs.rendering.render.Goals as goal
 
-pub loop-agg-init : goal.loop-agg-init
-loop-agg-init c contributions stands = shows_none contributions _ (search rules)
-
-pub loop-agg-preserved : goal.loop-agg-preserved
-loop-agg-preserved c contributions stands =
-    shows_more contributions _ _ _ _ (omega arith) (λ function at. c.in_ok-put_aggregation.ensures contributions function stands at) (c.loop-agg.invariant contributions stands)
-
 pub returns : goal.returns
-returns c contributions stands = shows_all contributions _ _ _ (omega arith) (c.loop-agg.invariant contributions stands)
+returns c contributions stands =
+    let texts = c.args.whole.now.texts.items in
+    let functions = functions_of c.args.whole.now.table in
+    let bytes = c.put_tables.new.out.items in
+    let first : c.put_texts.new.out.items ≡ flat_map (λ text. text.1) texts = search rules in
+    output_after contributions functions texts bytes
+    (subst (λ l. AppendsTables functions contributions l bytes) first (c.in_ok-put_tables.ensures contributions stands))

@@ -1,0 +1,192 @@
+-- One aggregation takes the entries of another.
+use Rattle.std.proofs.Common.{◌≡◌, ℕ, ◌+◌, ◌<◌, ◌≤◌, ◌⊎◌, inl, inr, Bool, true, false, cond, length, get_or, set, drop, List, [], ◌∷◌, ◌++◌, Option, None, Some, refl, sym, ap, ◌∙◌, subst, arith, sum_by, append-nil, zero-add}
+use Rattle.std.specs.Prelude.{slice_get}
+use Rattle.std.specs.Option.{option_map}
+use Rattle.std.proofs.lemmas.Bool.{cases_eq}
+use Rattle.std.proofs.lemmas.Option.{slice_get-get_or, slice_get-map, slice_get_within}
+use Rattle.std.proofs.Math.Seq.{map-set_same}
+use Rattle.std.proofs.lemmas.List.{length-map}
+use Rattle.std.proofs.lemmas.List.FromFn.{length-enumerate_from, get_or-enumerate_from}
+use Rattle.std.specs.List.{IsDistinct, AllByRecursion, enumerate_from}
+use Rattle.std.specs.Map.{lookup, keys_of, values_of}
+use Rattle.std.proofs.lemmas.List.Sums.{sum_by-cons, sum_by-set, sum_by-drop_more, get_or-le-sum_by}
+use Rattle.d_values.specs.declared.key.KeyPart.{KeyPart}
+use Rattle.d_values.specs.Keys.{same_key}
+use Rattle.d_values.specs.KeyLaws.{same_key_decides, same_key_equiv}
+use Rattle.aggregations.specs.declared.function.AggFn.{AggFn}
+use Rattle.aggregations.specs.declared.held.Held.{Held}
+use Rattle.aggregations.specs.Values.{count_in}
+use Rattle.aggregations.specs.Table.{Aggregation, Contribution, functions_of, count_of, count_held, arguments_of, entry_at, IsEntry, HasEntry, StandsFor}
+use Rattle.aggregations.proofs.TableLemmas.{arguments_of-append, slice_get-set_same, slice_get-set_other}
+use Rattle.aggregations.specs.Entries.{Joins, Puts, TakesAll}
+
+some_is : {T : Type 0} {x y : T} → Some x ≡ Some y → x ≡ y
+some_is e = cc
+
+-- `first` takes `all`, and is `now`, with the entries `rest` of `all` still to come
+pub record Merging (first all : Aggregation) (rest : List (List KeyPart × Held)) (now : Aggregation) : Type 0 where
+  pub function : now.function ≡ first.function
+  pub apart : IsDistinct same_key (keys_of rest)
+  pub todo : (k : List KeyPart) (p : Held) → lookup (same_key k) rest ≡ Some p → (entry_at k all ≡ Some p) × (entry_at k now ≡ entry_at k first)
+  pub done : (k : List KeyPart) → lookup (same_key k) rest ≡ None → Joins first.function (entry_at k first) (entry_at k all) (entry_at k now)
+  pub held : count_of now + sum_by count_in (values_of rest) ≤ count_of first + count_of all
+
+pub joins_first : (f : AggFn) (p : Held) → Joins f None (Some p) (Some p)
+joins_first f p xs ys none some = subst (λ l. IsEntry f (Some p) (l ++ ys)) (sym none) some
+
+left_out : (key : List KeyPart) (es : List (List KeyPart × Held)) → AllByRecursion (λ y. same_key key y ≡ false) (keys_of es) → lookup (same_key key) es ≡ None
+left_out key [] h = refl
+left_out key (e ∷ es) h = ap (λ b. cond b (Some e.1) (lookup (same_key key) es)) h.0 ∙ left_out key es h.1
+
+pub merging_start : (first all : Aggregation) → IsDistinct same_key (keys_of all.entries) → Merging first all all.entries first
+merging_start first all apart = record {
+  function = refl;
+  apart = apart;
+  todo = λ k p e. (e, refl);
+  done = λ k none xs ys a b.
+      let nil : ys ≡ [] = subst (λ o. IsEntry first.function o ys) none b in
+      subst (λ l. IsEntry first.function (entry_at k first) l) (sym (ap (λ l. xs ++ l) nil ∙ append-nil xs)) a;
+  held = omega arith;
+}
+
+pub merging_more : (first all now next : Aggregation) (key : List KeyPart) (p : Held) (rest : List (List KeyPart × Held)) → Merging first all ((key, p) ∷ rest) now
+    → next.function ≡ now.function → count_of next ≤ count_of now + count_in p
+    → Puts now next key (Joins first.function (entry_at key now) (Some p)) → Merging first all rest next
+unfolding IsDistinct
+merging_more first all now next key p rest m kept more puts = record {
+  function = kept ∙ m.function;
+  apart = m.apart.1;
+  todo = λ k q e. todo k q e (same_key key k) refl;
+  done = λ k e. done k e (same_key key k) refl;
+  held = let sums = sum_by-cons count_in p (values_of rest) in let h = m.held in omega arith;
+}
+  where
+    exact : (k : List KeyPart) → same_key key k ≡ true → key ≡ k
+    exact k e = (same_key_decides key k).0 e
+
+    gone : (k : List KeyPart) → same_key key k ≡ true → lookup (same_key k) rest ≡ None
+    gone k e = subst (λ q. lookup (same_key q) rest ≡ None) ((same_key_decides key k).0 e) (left_out key rest m.apart.0)
+
+    passed : (k : List KeyPart) → same_key key k ≡ false → lookup (same_key k) ((key, p) ∷ rest) ≡ lookup (same_key k) rest
+    passed k e = ap (λ b. cond b (Some p) (lookup (same_key k) rest)) (same_key_equiv.symm k key ∙ e)
+
+    found : (k : List KeyPart) → same_key key k ≡ true → lookup (same_key k) ((key, p) ∷ rest) ≡ Some p
+    found k e = ap (λ b. cond b (Some p) (lookup (same_key k) rest)) (same_key_equiv.symm k key ∙ e)
+
+    todo : (k : List KeyPart) (q : Held) → lookup (same_key k) rest ≡ Some q → (b : Bool) → same_key key k ≡ b → (entry_at k all ≡ Some q) × (entry_at k next ≡ entry_at k first)
+    todo k q e true t = let none = gone k t in cc
+    todo k q e false t = let old = m.todo k q (passed k t ∙ e) in (old.0, puts.others k t ∙ old.1)
+
+    done : (k : List KeyPart) → lookup (same_key k) rest ≡ None → (b : Bool) → same_key key k ≡ b → Joins first.function (entry_at k first) (entry_at k all) (entry_at k next)
+    done k e true t =
+        let old = m.todo k p (found k t) in
+        let here = subst (λ q. Joins first.function (entry_at q now) (Some p) (entry_at q next)) (exact k t) puts.here in
+        λ xs ys a b. here xs ys (subst (λ o. IsEntry first.function o xs) (sym old.1) a) (subst (λ o. IsEntry first.function o ys) old.0 b)
+    done k e false t = subst (λ o. Joins first.function (entry_at k first) (entry_at k all) o) (sym (puts.others k t)) (m.done k (passed k t ∙ e))
+
+pub merging_all : (first all now : Aggregation) → Merging first all [] now → TakesAll first all now
+merging_all first all now m key = m.done key refl
+
+-- ---- tables
+
+-- `first` takes `all`, and is `now`, with the aggregations from `place` on still to come
+pub record MergingTables (first all : List Aggregation) (place : ℕ) (now : List Aggregation) : Type 0 where
+  pub functions : functions_of now ≡ functions_of first
+  pub done : (i : ℕ) (a b c : Aggregation) → i < place → slice_get first i ≡ Some a → slice_get all i ≡ Some b → slice_get now i ≡ Some c → TakesAll a b c
+  pub todo : (i : ℕ) → place ≤ i → slice_get now i ≡ slice_get first i
+  pub held : count_held now + count_held (drop place all) ≤ count_held first + count_held all
+
+pub tables_start : (first all : List Aggregation) → MergingTables first all 0 first
+tables_start first all = record {
+  functions = refl;
+  done = λ i a b c lt. absurd (omega arith);
+  todo = λ i le. refl;
+  held = omega arith;
+}
+
+-- the aggregation at the place takes its own, or is refused memory for it
+pub tables_set : (first all now : List Aggregation) (place : ℕ) (old more new : Aggregation) → MergingTables first all place now
+    → place < length now → old ≡ get_or now place old → place < length all → more ≡ get_or all place more
+    → new.function ≡ old.function → count_of new ≤ count_of old + count_of more
+    → (functions_of (set now place new) ≡ functions_of first)
+    × (count_held (set now place new) + count_held (drop (place + 1) all) ≤ count_held first + count_held all)
+tables_set first all now place old more new m within was within_all is kept count = (
+  map-set_same (λ a. a.function) now place new old (kept ∙ ap (λ a. a.function) was) ∙ m.functions,
+  (let sums = sum_by-set count_of now place new old within in
+      let here : count_of old ≡ count_of (get_or now place old) = ap count_of was in
+      let rest = sum_by-drop_more count_of all place more within_all in
+      let front : count_of more ≡ count_of (get_or all place more) = ap count_of is in
+      let before = m.held in
+      omega arith),
+)
+
+pub tables_room : (first all now : List Aggregation) (place : ℕ) (old more : Aggregation) → MergingTables first all place now
+    → place < length now → old ≡ get_or now place old → place < length all → more ≡ get_or all place more
+    → count_of old + count_of more ≤ count_held first + count_held all
+tables_room first all now place old more m within was within_all is =
+    let one = get_or-le-sum_by count_of now place old within in
+    let here : count_of old ≡ count_of (get_or now place old) = ap count_of was in
+    let rest = sum_by-drop_more count_of all place more within_all in
+    let front : count_of more ≡ count_of (get_or all place more) = ap count_of is in
+    let before = m.held in
+    omega arith
+
+pub tables_more : (first all now : List Aggregation) (place : ℕ) (old more new : Aggregation) → MergingTables first all place now
+    → place < length now → old ≡ get_or now place old → place < length all → more ≡ get_or all place more
+    → new.function ≡ old.function → TakesAll old more new → count_of new ≤ count_of old + count_of more
+    → MergingTables first all (place + 1) (set now place new)
+tables_more first all now place old more new m within was within_all is kept takes count = record {
+  functions = (tables_set first all now place old more new m within was within_all is kept count).0;
+  done = λ i a b c lt x y z. done i a b c lt x y z (cases_eq i place);
+  todo = λ i le. slice_get-set_other now place new i (λ e. omega arith) ∙ m.todo i (omega arith);
+  held = (tables_set first all now place old more new m within was within_all is kept count).1;
+}
+  where
+    done : (i : ℕ) (a b c : Aggregation) → i < place + 1 → slice_get first i ≡ Some a → slice_get all i ≡ Some b → slice_get (set now place new) i ≡ Some c
+        → ((i ≡ place) ⊎ (i ≡ place → ⊥)) → TakesAll a b c
+    done i a b c lt x y z (inl e) =
+        let old_there : slice_get now place ≡ Some old = slice_get-get_or now place old within ∙ ap Some (sym was) in
+        let more_there : slice_get all place ≡ Some more = slice_get-get_or all place more within_all ∙ ap Some (sym is) in
+        let from : old ≡ a = some_is (sym old_there ∙ m.todo place (omega arith) ∙ ap (slice_get first) (sym e) ∙ x) in
+        let by : more ≡ b = some_is (sym more_there ∙ ap (slice_get all) (sym e) ∙ y) in
+        let to : new ≡ c = some_is (sym (slice_get-set_same now place new within) ∙ ap (slice_get (set now place new)) (sym e) ∙ z) in
+        subst (λ o. TakesAll o b c) from (subst (λ o. TakesAll old o c) by (subst (TakesAll old more) to takes))
+    done i a b c lt x y z (inr ne) = m.done i a b c (omega arith) x y (sym (slice_get-set_other now place new i ne) ∙ z)
+
+pub tables_all : (first all now : List Aggregation) (xs ys : List Contribution) → functions_of first ≡ functions_of all
+    → MergingTables first all (length all) now → StandsFor first xs → StandsFor all ys → StandsFor now (xs ++ ys)
+tables_all first all now xs ys same m stands stands_all agg key =
+    subst (HasEntry (slice_get now agg) key) (sym (arguments_of-append agg key xs ys))
+    (at (slice_get now agg) (slice_get first agg) (slice_get all agg) refl refl refl (by_function now first m.functions) (by_function first all same) (stands agg key) (stands_all agg key))
+  where
+    by_function : (s t : List Aggregation) → functions_of s ≡ functions_of t → option_map (λ a. a.function) (slice_get s agg) ≡ option_map (λ a. a.function) (slice_get t agg)
+    by_function s t e = sym (slice_get-map (λ a. a.function) s agg) ∙ ap (λ l. slice_get l agg) e ∙ slice_get-map (λ a. a.function) t agg
+
+    at : (oc oa ob : Option Aggregation) → slice_get now agg ≡ oc → slice_get first agg ≡ oa → slice_get all agg ≡ ob
+        → option_map (λ a. a.function) oc ≡ option_map (λ a. a.function) oa → option_map (λ a. a.function) oa ≡ option_map (λ a. a.function) ob
+        → HasEntry oa key (arguments_of agg key xs) → HasEntry ob key (arguments_of agg key ys)
+        → HasEntry oc key (arguments_of agg key xs ++ arguments_of agg key ys)
+    at None None None c a b e f hx hy = ap (λ l. l ++ arguments_of agg key ys) hx ∙ hy
+    at (Some new) (Some old) (Some more) c a b e f hx hy =
+        let kept : new.function ≡ old.function = some_is e in
+        let one : old.function ≡ more.function = some_is f in
+        let takes = m.done agg old more new (slice_get_within all agg more b) a b c in
+        subst (λ g. IsEntry g (entry_at key new) (arguments_of agg key xs ++ arguments_of agg key ys)) (sym kept)
+        (takes key (arguments_of agg key xs) (arguments_of agg key ys) hx (subst (λ g. IsEntry g (entry_at key more) (arguments_of agg key ys)) (sym one) hy))
+    at None (Some old) ob c a b e f hx hy = absurd cc
+    at (Some new) None ob c a b e f hx hy = absurd cc
+    at None None (Some more) c a b e f hx hy = absurd cc
+    at (Some new) (Some old) None c a b e f hx hy = absurd cc
+
+-- both tables have as many aggregations
+pub tables_length : (first all now : List Aggregation) (place : ℕ) → functions_of first ≡ functions_of all → MergingTables first all place now
+    → length now ≡ length all
+tables_length first all now place same m =
+    sym (length-map now (λ a. a.function)) ∙ ap length (m.functions ∙ same) ∙ length-map all (λ a. a.function)
+
+pub enumerated : (all : List Aggregation) (i : ℕ) (p : ℕ × Aggregation) → i < length (enumerate_from 0 all) → p ≡ get_or (enumerate_from 0 all) i p
+    → (p.0 ≡ i) × (i < length all) × (p.1 ≡ get_or all i p.1)
+enumerated all i p lt is =
+    let within : i < length all = subst (λ n. i < n) (length-enumerate_from 0 all) lt in
+    let at = is ∙ get_or-enumerate_from 0 all i p within in
+    (ap (λ q. q.0) at ∙ zero-add i, within, ap (λ q. q.1) at)

@@ -1,0 +1,182 @@
+-- What a table stands for doesn't depend on the order of the contributions.
+use Rattle.std.proofs.Common.{◌≡◌, ℕ, zero, suc, ◌+◌, ◌*◌, ◌<◌, ◌≤◌, Bool, true, false, cond, List, [], ◌∷◌, length, get_or, All, Contains, sum_by, count_by, Option, None, Some, refl, sym, ap, ◌∙◌, subst, ⊎_elim, zero-add, arith, map, filter}
+use Rattle.std.specs.Prelude.{ℤ, pos, negsuc, ◌+ℤ◌, ◌≤ℤ◌, slice_get}
+use Rattle.std.specs.List.{range_with_len}
+use Rattle.std.specs.Ordering.{int_eq}
+use Rattle.std.specs.Int.Signed.{le_z}
+use Rattle.std.proofs.lemmas.Bool.Decides.{Decides-int_eq}
+use Rattle.std.proofs.lemmas.Cmp.{int_eq_equiv}
+use Rattle.std.specs.Int.{int_wrap}
+use mir.Syntax.{w64}
+use Rattle.std.proofs.lemmas.Int.{ints}
+use Rattle.std.proofs.lemmas.Bool.{cases_Bool}
+use Rattle.std.proofs.lemmas.List.Elements.{All-from_get_or, All-weaker, Contains-append_right}
+use Rattle.std.proofs.lemmas.List.Sums.{sum_by-cons, sum_by-le, get_or-le-sum_by}
+use Rattle.d_values.specs.declared.key.KeyPart.{KeyPart}
+use Rattle.aggregations.specs.declared.function.AggFn.{AggFn}
+use Rattle.aggregations.specs.declared.function.AggFn.TheVariants.{Count, Sum, Min, Max, Avg, Quantize, Lquantize}
+use Rattle.aggregations.specs.declared.held.Held.{Held}
+use Rattle.aggregations.specs.declared.held.Held.TheVariants.{Counted, Summed, Least, Greatest, Mean, Counts}
+use Rattle.aggregations.specs.Buckets.{buckets, is_in, counts_of}
+use Rattle.aggregations.specs.Values.{total, IsLeast, IsGreatest, IsSum, IsValue}
+use Rattle.aggregations.specs.Table.{Contribution, Aggregation, SameItems, arguments_of, is_for, entry_at, IsEntry, HasEntry, StandsFor}
+use Rattle.aggregations.proofs.HistogramLemmas.{seen}
+
+ones : {A : Type 0} (xs : List A) → sum_by (λ x. 1) xs ≡ length xs
+ones [] = refl
+ones (x ∷ xs) = let here = sum_by-cons (λ x. 1) x xs in let more = ones xs in omega arith
+
+pub same_length : {A : Type 0} (xs ys : List A) → SameItems xs ys → length xs ≡ length ys
+same_length xs ys same = sym (ones xs) ∙ same (λ x. 1) ∙ ones ys
+
+-- a whole number as a difference
+up_of : ℤ → ℕ
+up_of (pos n) = n
+up_of (negsuc n) = 0
+
+down_of : ℤ → ℕ
+down_of (pos n) = 0
+down_of (negsuc n) = suc n
+
+apart : (x : ℤ) → x +ℤ pos (down_of x) ≡ pos (up_of x)
+unfolding up_of down_of
+apart (pos n) = omega (arith, ints)
+apart (negsuc n) = omega (arith, ints)
+
+totals : (xs : List ℤ) → total xs +ℤ pos (sum_by down_of xs) ≡ pos (sum_by up_of xs)
+totals [] = omega (arith, ints)
+totals (x ∷ xs) =
+    let a = sum_by-cons down_of x xs in
+    let b = sum_by-cons up_of x xs in
+    let more = totals xs in
+    let here = apart x in
+    omega (arith, ints)
+
+pub same_total : (xs ys : List ℤ) → SameItems xs ys → total xs ≡ total ys
+same_total xs ys same =
+    let a = totals xs in
+    let b = totals ys in
+    let c = same down_of in
+    let d = same up_of in
+    omega (arith, ints)
+
+-- membership and a bound, as sums
+hits : ℤ → ℤ → ℕ
+hits m y = cond (int_eq y m) 1 0
+
+hit : (m : ℤ) → 0 < hits m m
+unfolding hits
+hit m = subst (λ b. 0 < cond b 1 0) (sym (int_eq_equiv.refl m)) (omega arith)
+
+found : (m y : ℤ) → 0 < hits m y → y ≡ m
+unfolding hits
+found m y h = ⊎_elim (λ (e : int_eq y m ≡ true). (Decides-int_eq y m).0 e)
+    (λ (e : int_eq y m ≡ false). let none : hits m y ≡ 0 = ap (λ b. cond b 1 0) e in absurd (omega arith))
+    (cases_Bool (int_eq y m))
+
+contains_from_sum : (m : ℤ) (xs : List ℤ) → 0 < sum_by (hits m) xs → Contains xs m
+contains_from_sum m [] h = absurd (omega arith)
+contains_from_sum m (x ∷ xs) h =
+    let e = sum_by-cons (hits m) x xs in
+    elim (hits m x) as (λ n. hits m x ≡ n → Contains (x ∷ xs) m) [
+      | zero ↦ λ none. Contains-append_right (x ∷ []) xs m (contains_from_sum m xs (omega arith))
+      | suc n ↦ λ some. (0, omega arith, found m x (omega arith))
+    ] refl
+
+sum_from_contains : (m : ℤ) (xs : List ℤ) → Contains xs m → 0 < sum_by (hits m) xs
+sum_from_contains m xs h =
+    let le = get_or-le-sum_by (hits m) xs h.0 m h.1 in
+    let one : 0 < hits m (get_or xs h.0 m) = subst (λ y. 0 < hits m y) (sym h.2) (hit m) in
+    omega arith
+
+pub same_contains : (m : ℤ) (xs ys : List ℤ) → SameItems xs ys → Contains xs m → Contains ys m
+same_contains m xs ys same h = contains_from_sum m ys (let a = sum_from_contains m xs h in let b = same (hits m) in omega arith)
+
+fails : (ℤ → Bool) → ℤ → ℕ
+fails t x = cond (t x) 0 1
+
+fails_none : (t : ℤ → Bool) (x : ℤ) → t x ≡ true → fails t x ≤ 0
+unfolding fails
+fails_none t x e = subst (λ b. cond b 0 1 ≤ 0) (sym e) (omega arith)
+
+passes : (t : ℤ → Bool) (x : ℤ) → fails t x ≤ 0 → t x ≡ true
+unfolding fails
+passes t x le = ⊎_elim (λ (e : t x ≡ true). e)
+    (λ (e : t x ≡ false). let one : fails t x ≡ 1 = ap (λ b. cond b 0 1) e in absurd (omega arith))
+    (cases_Bool (t x))
+
+-- what a test says of each item
+pub same_all : (t : ℤ → Bool) (xs ys : List ℤ) → SameItems xs ys → All (λ x. t x ≡ true) xs → All (λ x. t x ≡ true) ys
+same_all t xs ys same all =
+    let low : sum_by (fails t) xs ≤ length xs * 0 = sum_by-le (fails t) 0 xs (All-weaker (λ x. t x ≡ true) (λ x. fails t x ≤ 0) (fails_none t) xs all) in
+    let eq : sum_by (fails t) xs ≡ sum_by (fails t) ys = same (fails t) in
+    All-from_get_or (λ x. t x ≡ true) ys (pos 0) (λ i lt.
+    let le : fails t (get_or ys i (pos 0)) ≤ sum_by (fails t) ys = get_or-le-sum_by (fails t) ys i (pos 0) lt in
+    passes t (get_or ys i (pos 0)) (omega arith))
+
+above : (m x : ℤ) → m ≤ℤ x → le_z m x ≡ true
+above m x h = grind (arith, ints)
+
+above_is : (m x : ℤ) → le_z m x ≡ true → m ≤ℤ x
+above_is m x h = grind (arith, ints)
+
+pub same_least : (m : ℤ) (xs ys : List ℤ) → SameItems xs ys → IsLeast m xs → IsLeast m ys
+same_least m xs ys same h = (
+  same_contains m xs ys same h.0,
+  All-weaker (λ x. le_z m x ≡ true) (λ x. m ≤ℤ x) (above_is m) ys (same_all (le_z m) xs ys same (All-weaker (λ x. m ≤ℤ x) (λ x. le_z m x ≡ true) (above m) xs h.1)),
+)
+
+pub same_greatest : (m : ℤ) (xs ys : List ℤ) → SameItems xs ys → IsGreatest m xs → IsGreatest m ys
+same_greatest m xs ys same h = (
+  same_contains m xs ys same h.0,
+  All-weaker (λ x. le_z x m ≡ true) (λ x. x ≤ℤ m) (λ x. above_is x m) ys (same_all (λ x. le_z x m) xs ys same (All-weaker (λ x. x ≤ℤ m) (λ x. le_z x m ≡ true) (λ x. above x m) xs h.1)),
+)
+
+pub same_sum : (s : ℤ) (xs ys : List ℤ) → SameItems xs ys → IsSum s xs → IsSum s ys
+same_sum s xs ys same h = h ∙ ap (int_wrap w64) (same_total xs ys same)
+
+nil_of : (l : List ℤ) → length l ≡ 0 → l ≡ []
+nil_of [] e = refl
+nil_of (x ∷ l) e = absurd (omega arith)
+
+same_counts : (f : AggFn) (xs ys : List ℤ) → SameItems xs ys → counts_of f xs ≡ counts_of f ys
+same_counts f xs ys same = each (range_with_len 0 (buckets f))
+  where
+    each : (bs : List ℕ) → map (λ b. count_by (is_in f b) xs) bs ≡ map (λ b. count_by (is_in f b) ys) bs
+    each [] = refl
+    each (b ∷ bs) = ap (λ n. n ∷ map (λ b. count_by (is_in f b) xs) bs) (same (λ x. cond (is_in f b x) 1 0)) ∙ ap (λ l. count_by (is_in f b) ys ∷ l) (each bs)
+
+-- no value depends on the order
+pub same_value : (f : AggFn) (p : Held) (xs ys : List ℤ) → SameItems xs ys → IsValue f p xs → IsValue f p ys
+same_value Count (Counted n) xs ys same h = h ∙ same_length xs ys same
+same_value Sum (Summed s) xs ys same h = same_sum s xs ys same h
+same_value Min (Least m) xs ys same h = same_least m xs ys same h
+same_value Max (Greatest m) xs ys same h = same_greatest m xs ys same h
+same_value Avg (Mean m) xs ys same h = (same_sum m.sum xs ys same h.0, h.1 ∙ same_length xs ys same)
+same_value Quantize (Counts h) xs ys same is = is ∙ ap (seen Quantize) (same_counts Quantize xs ys same)
+same_value (Lquantize r) (Counts h) xs ys same is = is ∙ ap (seen (Lquantize r)) (same_counts (Lquantize r) xs ys same)
+same_value _ _ xs ys same h = absurd h
+
+pub same_entry : (f : AggFn) (o : Option Held) (xs ys : List ℤ) → SameItems xs ys → IsEntry f o xs → IsEntry f o ys
+same_entry f None xs ys same h = nil_of ys (let e = same_length xs ys same in let z = ap length h in omega arith)
+same_entry f (Some p) xs ys same h = ((λ e. h.0 (nil_of xs (let n = same_length xs ys same in let z = ap length e in omega arith))), same_value f p xs ys same h.1)
+
+arguments_sum : (h : ℤ → ℕ) (agg : ℕ) (key : List KeyPart) (xs : List Contribution) → sum_by h (arguments_of agg key xs) ≡ sum_by (λ c. cond (is_for agg key c) (h c.arg) 0) xs
+arguments_sum h agg key [] = refl
+arguments_sum h agg key (c ∷ cs) =
+    let more = arguments_sum h agg key cs in
+    (elim (is_for agg key c) as (λ b. sum_by h (map (λ c. c.arg) (cond b (c ∷ filter (is_for agg key) cs) (filter (is_for agg key) cs))) ≡ cond b (h c.arg) 0 + sum_by (λ c. cond (is_for agg key c) (h c.arg) 0) cs) [
+      | true ↦ sum_by-cons h c.arg (arguments_of agg key cs) ∙ ap (λ n. h c.arg + n) more
+      | false ↦ more ∙ sym (zero-add (sum_by (λ c. cond (is_for agg key c) (h c.arg) 0) cs))
+    ]) ∙ sym (sum_by-cons (λ c. cond (is_for agg key c) (h c.arg) 0) c cs)
+
+pub same_arguments : (agg : ℕ) (key : List KeyPart) (xs ys : List Contribution) → SameItems xs ys → SameItems (arguments_of agg key xs) (arguments_of agg key ys)
+same_arguments agg key xs ys same h = arguments_sum h agg key xs ∙ same (λ c. cond (is_for agg key c) (h c.arg) 0) ∙ sym (arguments_sum h agg key ys)
+
+has_entry_same : (a : Option Aggregation) (key : List KeyPart) (xs ys : List ℤ) → SameItems xs ys → HasEntry a key xs → HasEntry a key ys
+has_entry_same None key xs ys same h = nil_of ys (let e = same_length xs ys same in let z = ap length h in omega arith)
+has_entry_same (Some a) key xs ys same h = same_entry a.function (entry_at key a) xs ys same h
+
+-- a table that stands for a list stands for it in any other order
+pub stands_same : (table : List Aggregation) (xs ys : List Contribution) → SameItems xs ys → StandsFor table xs → StandsFor table ys
+stands_same table xs ys same stands agg key = has_entry_same (slice_get table agg) key (arguments_of agg key xs) (arguments_of agg key ys) (same_arguments agg key xs ys same) (stands agg key)

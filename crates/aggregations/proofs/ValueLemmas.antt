@@ -1,0 +1,167 @@
+-- Values of lists joined, and of lists with one more argument.
+use Rattle.std.proofs.Common.{◌≡◌, ◌≢◌, ℕ, ◌+◌, List, [], ◌∷◌, ◌++◌, length, refl, sym, ap, ◌∙◌, subst, arith, length-append, sum, map, count_by}
+use Rattle.std.specs.List.{range_with_len}
+use Rattle.std.proofs.lemmas.List.Sums.{sum_by-cons}
+use Rattle.std.specs.Prelude.{ℤ, ◌+ℤ◌, ◌≤ℤ◌, ◌<ℤ◌}
+use Rattle.std.specs.Int.{int_wrap, int_min, int_max}
+use mir.Syntax.{w64}
+use Rattle.std.proofs.lemmas.Int.{ints, clamps, int_wrap-add_left, int_wrap-add_right, by_lt_z}
+use Rattle.std.proofs.lemmas.List.Elements.{All-append, All-weaker, All-cons, All-nil, Contains-append_left, Contains-append_right}
+use Rattle.aggregations.specs.declared.function.AggFn.{AggFn}
+use Rattle.aggregations.specs.declared.function.AggFn.TheVariants.{Count, Sum, Min, Max, Avg, Quantize, Lquantize}
+use Rattle.aggregations.specs.declared.held.Held.{Held}
+use Rattle.aggregations.specs.declared.held.Held.TheVariants.{Counted, Summed, Least, Greatest, Mean, Counts}
+use Rattle.aggregations.specs.Histograms.{Histogram, histogram_of}
+use Rattle.aggregations.specs.Buckets.{HasBuckets, buckets, counts_of, is_in}
+use Rattle.aggregations.specs.Values.{total, IsSum, IsLeast, IsGreatest, IsValue, TakesOne, TakesBoth}
+use Rattle.aggregations.specs.Held.{count_of, number_of}
+
+pub total-append : (xs ys : List ℤ) → total (xs ++ ys) ≡ total xs +ℤ total ys
+total-append [] ys = omega (arith, ints)
+total-append (x ∷ xs) ys = let more = total-append xs ys in omega (arith, ints)
+
+pub sum_joined : (s t : ℤ) (xs ys : List ℤ) → IsSum s xs → IsSum t ys → IsSum (int_wrap w64 (s +ℤ t)) (xs ++ ys)
+sum_joined s t xs ys a b =
+    ap (λ z. int_wrap w64 (z +ℤ t)) a ∙ int_wrap-add_left w64 (total xs) t ∙ ap (λ z. int_wrap w64 (total xs +ℤ z)) b
+    ∙ int_wrap-add_right w64 (total xs) (total ys) ∙ ap (int_wrap w64) (sym (total-append xs ys))
+
+pub least_joined : (m n : ℤ) (xs ys : List ℤ) → IsLeast m xs → IsLeast n ys → IsLeast (int_min m n) (xs ++ ys)
+least_joined m n xs ys a b = by_lt_z n m
+    (λ (lt : n <ℤ m). let is : int_min m n ≡ n = omega (arith, ints, clamps) in
+    subst (λ z. IsLeast z (xs ++ ys)) (sym is) (Contains-append_right xs ys n b.0, All-append (λ x. n ≤ℤ x) xs ys (All-weaker (λ x. m ≤ℤ x) (λ x. n ≤ℤ x) (λ x h. omega (arith, ints)) xs a.1) b.1))
+    (λ (le : m ≤ℤ n). let is : int_min m n ≡ m = omega (arith, ints, clamps) in
+    subst (λ z. IsLeast z (xs ++ ys)) (sym is) (Contains-append_left xs ys m a.0, All-append (λ x. m ≤ℤ x) xs ys a.1 (All-weaker (λ x. n ≤ℤ x) (λ x. m ≤ℤ x) (λ x h. omega (arith, ints)) ys b.1)))
+
+pub greatest_joined : (m n : ℤ) (xs ys : List ℤ) → IsGreatest m xs → IsGreatest n ys → IsGreatest (int_max m n) (xs ++ ys)
+greatest_joined m n xs ys a b = by_lt_z m n
+    (λ (lt : m <ℤ n). let is : int_max m n ≡ n = omega (arith, ints, clamps) in
+    subst (λ z. IsGreatest z (xs ++ ys)) (sym is) (Contains-append_right xs ys n b.0, All-append (λ x. x ≤ℤ n) xs ys (All-weaker (λ x. x ≤ℤ m) (λ x. x ≤ℤ n) (λ x h. omega (arith, ints)) xs a.1) b.1))
+    (λ (le : n ≤ℤ m). let is : int_max m n ≡ m = omega (arith, ints, clamps) in
+    subst (λ z. IsGreatest z (xs ++ ys)) (sym is) (Contains-append_left xs ys m a.0, All-append (λ x. x ≤ℤ m) xs ys a.1 (All-weaker (λ x. x ≤ℤ n) (λ x. x ≤ℤ m) (λ x h. omega (arith, ints)) ys b.1)))
+
+pub one_least : (x : ℤ) → IsLeast x (x ∷ [])
+one_least x = ((0, omega arith, refl), All-cons (λ y. x ≤ℤ y) x [] (omega (arith, ints)) (All-nil (λ y. x ≤ℤ y)))
+
+pub one_greatest : (x : ℤ) → IsGreatest x (x ∷ [])
+one_greatest x = ((0, omega arith, refl), All-cons (λ y. y ≤ℤ x) x [] (omega (arith, ints)) (All-nil (λ y. y ≤ℤ x)))
+
+-- ---- one more argument, by what is held
+
+pub sum_noted : (s x : ℤ) (xs : List ℤ) → IsSum s xs → IsSum (int_wrap w64 (s +ℤ x)) (xs ++ x ∷ [])
+sum_noted s x xs a =
+    let t = total-append xs (x ∷ []) in
+    let e : total xs +ℤ x ≡ total (xs ++ x ∷ []) = omega (arith, ints) in
+    ap (λ z. int_wrap w64 (z +ℤ x)) a ∙ int_wrap-add_left w64 (total xs) x ∙ ap (int_wrap w64) e
+
+pub summed_noted : (f : AggFn) (s x : ℤ) (xs : List ℤ) → IsValue f (Summed s) xs → IsValue f (Summed (int_wrap w64 (s +ℤ x))) (xs ++ x ∷ [])
+summed_noted Sum s x xs a = sum_noted s x xs a
+summed_noted _ s x xs a = absurd a
+
+pub smaller_noted : (f : AggFn) (s x : ℤ) (xs : List ℤ) → IsValue f (Least s) xs → IsValue f (Least (int_min s x)) (xs ++ x ∷ [])
+smaller_noted Min s x xs a = least_joined s x xs (x ∷ []) a (one_least x)
+smaller_noted _ s x xs a = absurd a
+
+pub greater_noted : (f : AggFn) (s x : ℤ) (xs : List ℤ) → IsValue f (Greatest s) xs → IsValue f (Greatest (int_max s x)) (xs ++ x ∷ [])
+greater_noted Max s x xs a = greatest_joined s x xs (x ∷ []) a (one_greatest x)
+greater_noted _ s x xs a = absurd a
+
+pub mean_noted : (f : AggFn) (s x : ℤ) (n : ℕ) (xs : List ℤ) → IsValue f (Mean (record { sum = s; count = n })) xs → IsValue f (Mean (record { sum = int_wrap w64 (s +ℤ x); count = n + 1 })) (xs ++ x ∷ [])
+mean_noted Avg s x n xs a = (sum_noted s x xs a.0, let h = a.1 in simp length-append (omega arith))
+mean_noted _ s x n xs a = absurd a
+
+pub counts_noted : (f : AggFn) (h new : Histogram) (x : ℤ) (xs : List ℤ)
+    → ((args : List ℤ) → h ≡ histogram_of h.function args → new ≡ histogram_of h.function (args ++ x ∷ []))
+    → IsValue f (Counts h) xs → IsValue f (Counts new) (xs ++ x ∷ [])
+counts_noted Quantize h new x xs step is = let same : h.function ≡ Quantize = ap (λ h. h.function) is in
+    subst (λ g. new ≡ histogram_of g (xs ++ x ∷ [])) same (step xs (subst (λ g. h ≡ histogram_of g xs) (sym same) is))
+counts_noted (Lquantize r) h new x xs step is = let same : h.function ≡ Lquantize r = ap (λ h. h.function) is in
+    subst (λ g. new ≡ histogram_of g (xs ++ x ∷ [])) same (step xs (subst (λ g. h ≡ histogram_of g xs) (sym same) is))
+counts_noted _ h new x xs step is = absurd is
+
+pub noted_as : (old new p q : Held) (x : ℤ) → old ≡ p → new ≡ q → TakesOne p x q → TakesOne old x new
+noted_as old new p q x was is takes =
+    subst (λ h. TakesOne h x new) (sym was) (subst (λ h. TakesOne p x h) (sym is) takes)
+
+pub counts_value : (f : AggFn) (h : Histogram) (args : List ℤ) → HasBuckets f → h ≡ histogram_of f args → IsValue f (Counts h) args
+counts_value Quantize h args some is = is
+counts_value (Lquantize r) h args some is = is
+counts_value _ h args some is = absurd (omega arith)
+
+none_in : (f : AggFn) (bs : List ℕ) → sum (map (λ b. count_by (is_in f b) []) bs) ≡ 0
+none_in f [] = refl
+none_in f (b ∷ bs) = let more = none_in f bs in let e = sum_by-cons (λ x. x) 0 (map (λ b. count_by (is_in f b) []) bs) in omega arith
+
+-- a histogram without arguments holds no counts
+pub sum-none : (f : AggFn) → sum (counts_of f []) ≡ 0
+sum-none f = none_in f (range_with_len 0 (buckets f))
+
+pub counted_noted : (n : ℕ) (x : ℤ) → TakesOne (Counted n) x (Counted (n + 1))
+counted_noted n x Count xs is = simp length-append (omega arith)
+counted_noted n x _ xs is = absurd is
+
+-- ---- lists joined, by what is held
+
+pub counted_joined : (f : AggFn) (n : ℕ) (p : Held) (xs ys : List ℤ) → IsValue f (Counted n) xs → IsValue f p ys → IsValue f (Counted (n + count_of p)) (xs ++ ys)
+counted_joined Count n (Counted m) xs ys a b = simp length-append (omega arith)
+counted_joined Count n _ xs ys a b = absurd b
+counted_joined _ n p xs ys a b = absurd a
+
+pub summed_joined : (f : AggFn) (s : ℤ) (p : Held) (xs ys : List ℤ) → IsValue f (Summed s) xs → IsValue f p ys → IsValue f (Summed (int_wrap w64 (s +ℤ number_of p))) (xs ++ ys)
+summed_joined Sum s (Summed t) xs ys a b = sum_joined s t xs ys a b
+summed_joined Sum s _ xs ys a b = absurd b
+summed_joined _ s p xs ys a b = absurd a
+
+pub smaller_joined : (f : AggFn) (s : ℤ) (p : Held) (xs ys : List ℤ) → IsValue f (Least s) xs → IsValue f p ys → IsValue f (Least (int_min s (number_of p))) (xs ++ ys)
+smaller_joined Min s (Least t) xs ys a b = least_joined s t xs ys a b
+smaller_joined Min s _ xs ys a b = absurd b
+smaller_joined _ s p xs ys a b = absurd a
+
+pub greater_joined : (f : AggFn) (s : ℤ) (p : Held) (xs ys : List ℤ) → IsValue f (Greatest s) xs → IsValue f p ys → IsValue f (Greatest (int_max s (number_of p))) (xs ++ ys)
+greater_joined Max s (Greatest t) xs ys a b = greatest_joined s t xs ys a b
+greater_joined Max s _ xs ys a b = absurd b
+greater_joined _ s p xs ys a b = absurd a
+
+pub mean_joined : (f : AggFn) (s : ℤ) (n : ℕ) (p : Held) (xs ys : List ℤ) → IsValue f (Mean (record { sum = s; count = n })) xs → IsValue f p ys → IsValue f (Mean (record { sum = int_wrap w64 (s +ℤ number_of p); count = n + count_of p })) (xs ++ ys)
+mean_joined Avg s n (Mean m) xs ys a b = (sum_joined s m.sum xs ys a.0 b.0, let x = a.1 in let y = b.1 in simp length-append (omega arith))
+mean_joined Avg s n _ xs ys a b = absurd b
+mean_joined _ s n p xs ys a b = absurd a
+
+pub both_as : (old other new p q : Held) → old ≡ p → new ≡ q → TakesBoth p other q → TakesBoth old other new
+both_as old other new p q was is takes =
+    subst (λ h. TakesBoth h other new) (sym was) (subst (λ h. TakesBoth p other h) (sym is) takes)
+
+pub counts_joined : (f : AggFn) (h more new : Histogram) (xs ys : List ℤ)
+    → ((function : AggFn) (xs ys : List ℤ) → h ≡ histogram_of function xs → more ≡ histogram_of function ys → new ≡ histogram_of function (xs ++ ys))
+    → IsValue f (Counts h) xs → IsValue f (Counts more) ys → IsValue f (Counts new) (xs ++ ys)
+counts_joined Quantize h more new xs ys step a b = step Quantize xs ys a b
+counts_joined (Lquantize r) h more new xs ys step a b = step (Lquantize r) xs ys a b
+counts_joined _ h more new xs ys step a b = absurd a
+
+pub only_counts : (f : AggFn) (h : Histogram) (other : Held) (xs ys : List ℤ) → ((x : Histogram) → other ≡ Counts x → ⊥) → IsValue f (Counts h) xs → IsValue f other ys → ⊥
+only_counts Quantize h (Counts x) xs ys none a b = none x refl
+only_counts (Lquantize r) h (Counts x) xs ys none a b = none x refl
+only_counts Quantize h _ xs ys none a b = b
+only_counts (Lquantize r) h _ xs ys none a b = b
+only_counts _ h other xs ys none a b = a
+
+-- ---- there is a value
+
+least_exists : (x : ℤ) (xs : List ℤ) → (m : ℤ) × IsLeast m (x ∷ xs)
+least_exists x [] = (x, one_least x)
+least_exists x (y ∷ ys) = let rest = least_exists y ys in
+    (int_min x rest.0, least_joined x rest.0 (x ∷ []) (y ∷ ys) (one_least x) rest.1)
+
+greatest_exists : (x : ℤ) (xs : List ℤ) → (m : ℤ) × IsGreatest m (x ∷ xs)
+greatest_exists x [] = (x, one_greatest x)
+greatest_exists x (y ∷ ys) = let rest = greatest_exists y ys in
+    (int_max x rest.0, greatest_joined x rest.0 (x ∷ []) (y ∷ ys) (one_greatest x) rest.1)
+
+pub value_exists : (f : AggFn) (args : List ℤ) → args ≢ [] → (held : Held) × IsValue f held args
+value_exists f [] some = absurd (some refl)
+value_exists Count (x ∷ xs) some = (Counted (length (x ∷ xs)), refl)
+value_exists Sum (x ∷ xs) some = (Summed (int_wrap w64 (total (x ∷ xs))), refl)
+value_exists Min (x ∷ xs) some = let least = least_exists x xs in (Least least.0, least.1)
+value_exists Max (x ∷ xs) some = let greatest = greatest_exists x xs in (Greatest greatest.0, greatest.1)
+value_exists Avg (x ∷ xs) some = (Mean (record { sum = int_wrap w64 (total (x ∷ xs)); count = length (x ∷ xs) }), (refl, refl))
+value_exists Quantize (x ∷ xs) some = (Counts (histogram_of Quantize (x ∷ xs)), refl)
+value_exists (Lquantize r) (x ∷ xs) some = (Counts (histogram_of (Lquantize r) (x ∷ xs)), refl)

@@ -1,0 +1,29 @@
+use Rattle.std.proofs.Common.{◌≡◌, ◌<◌, ◌^◌, rules, arith, sym, ap, ◌∙◌, sum}
+use Rattle.std.specs.Map.{values_of}
+use Rattle.aggregations.proofs.HistogramLemmas.{sum-used, buckets_kept}
+use Rattle.aggregations.proofs.histogram.Histogram.total.Goals as goal
+
+pub sum-requires-clause-fits : goal.sum-requires-clause-fits
+sum-requires-clause-fits c =
+    let f = c.self.inside.function in
+    let used = c.self.inside.used.entries in
+    let is = sum-used f used (buckets_kept f used c.self.invariant) in
+    let few = c.self.invariant.few in
+    let fits : sum (values_of used) < 2 ^ 64 = omega arith in
+    search rules
+
+pub returns-clause-value : goal.returns-clause-value
+returns-clause-value c =
+    let f = c.self.inside.function in
+    let used = c.self.inside.used.entries in
+    let is : c.sum.result ≡ sum (values_of used) = search rules in
+    is ∙ sym (sum-used f used (buckets_kept f used c.self.invariant)) ∙ ap (λ h. sum h.counts) c.self.view_is
+
+pub returns-clause-few : goal.returns-clause-few
+returns-clause-few c =
+    let f = c.self.inside.function in
+    let used = c.self.inside.used.entries in
+    let is : c.sum.result ≡ sum (values_of used) = search rules in
+    let all = sum-used f used (buckets_kept f used c.self.invariant) in
+    let few = c.self.invariant.few in
+    omega arith

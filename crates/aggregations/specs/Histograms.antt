@@ -1,0 +1,46 @@
+-- Histograms: how many arguments each bucket of a function has.
+use Rattle.std.specs.Prelude.{◌≡◌, ℕ, ◌+◌, ◌<◌, ◌≤◌, ◌^◌, List, ℤ, Some, map, sum, slice_index, slice_set, nat_eq}
+use Rattle.std.specs.List.{range_with_len, IsDistinct}
+use Rattle.std.specs.Map.{lookup, keys_of}
+use Rattle.std.specs.Option.{unwrap_or}
+use Rattle.aggregations.specs.declared.function.AggFn.{AggFn}
+use Rattle.aggregations.specs.Buckets.{buckets, HasBuckets, counts_of}
+
+-- a histogram as contracts see it: a count for each bucket of the function
+pub record Histogram : Type 0 where
+  pub function : AggFn
+  pub counts : List ℕ
+
+-- the histogram of the arguments
+abbrev pub histogram_of : AggFn → List ℤ → Histogram
+histogram_of function args = record { function = function; counts = counts_of function args }
+
+-- with more in one bucket
+abbrev pub with_more : Histogram → ℕ → ℕ → Histogram
+with_more h bucket more = record {
+  function = h.function;
+  counts = slice_set h.counts bucket (slice_index h.counts bucket + more);
+}
+
+-- what is kept for the bucket: nothing where it was never used
+abbrev pub used_at : List (ℕ × ℕ) → ℕ → ℕ
+used_at used bucket = unwrap_or (lookup (nat_eq bucket) used) 0
+
+-- a count for each bucket of the function, from those that were used
+abbrev pub counts_used : AggFn → List (ℕ × ℕ) → List ℕ
+counts_used function used = map (used_at used) (range_with_len 0 (buckets function))
+
+-- what is kept: buckets of the function, each once and with arguments, and at most 2^52 arguments
+pub record AreUsed (function : AggFn) (used : List (ℕ × ℕ)) : Type 0 where
+  pub has : HasBuckets function
+  pub apart : IsDistinct nat_eq (keys_of used)
+  pub each : (bucket count : ℕ) → lookup (nat_eq bucket) used ≡ Some count
+      → (bucket < buckets function) × (0 < count)
+  pub few : sum (counts_used function used) ≤ 2 ^ 52
+
+-- from the first bucket that has arguments to the last
+pub record IsSpan (counts : List ℕ) (first last : ℕ) : Type 0 where
+  pub starts : 0 < slice_index counts first
+  pub ends : 0 < slice_index counts last
+  pub before : (bucket : ℕ) → bucket < first → slice_index counts bucket ≡ 0
+  pub after : (bucket : ℕ) → last < bucket → slice_index counts bucket ≡ 0

@@ -1,0 +1,83 @@
+//! The buckets of histograms.
+
+ghost use Rattle.std.specs.Prelude.{◌≡◌, ℕ, ◌+◌, ◌<◌, ◌≤◌, ◌^◌, ◌==◌};
+ghost use Rattle.aggregations.specs.Buckets as spec;
+
+use crate::function::AggFn;
+
+impl AggFn {
+    /// How many buckets its histograms have. None where it makes no histogram.
+    pub fn buckets(self) -> u32
+        ensures { result ≡ spec.buckets self }
+    {
+        match self {
+            AggFn::Quantize => 127,
+            AggFn::Lquantize(range) => u32::from(range.levels()) + 2,
+            _ => 0,
+        }
+    }
+
+    /// The number that a bucket is called by.
+    pub fn label(self, bucket: u32) -> i64
+        requires { bucket < spec.buckets self }
+        ensures { result ≡ spec.label self bucket }
+    {
+        match self {
+            AggFn::Quantize => {
+                if bucket < 63 {
+                    -(1i64 << (62 - bucket))
+                } else if bucket == 63 {
+                    0
+                } else {
+                    1i64 << (bucket - 64)
+                }
+            }
+            AggFn::Lquantize(range) => {
+                if bucket == 0 {
+                    i64::from(range.lower()) - 1
+                } else {
+                    i64::from(range.lower()) + i64::from(bucket - 1) * i64::from(range.step())
+                }
+            }
+            _ => 0,
+        }
+    }
+
+    // The bucket that the number is in, and no other.
+    pub(crate) fn bucket_of(self, x: i64) -> u32
+        requires { 0 < spec.buckets self }
+        ensures within { result < spec.buckets self }
+        ensures only { (b : ℕ) → b < spec.buckets self → spec.is_in self b x ≡ (b == result) }
+    {
+        match self {
+            AggFn::Quantize => {
+                if x < 0 {
+                    62 - top_bit(x.unsigned_abs()).min(62)
+                } else if x == 0 {
+                    63
+                } else {
+                    64 + top_bit(x.unsigned_abs())
+                }
+            }
+            AggFn::Lquantize(range) => {
+                let lower = i64::from(range.lower());
+                if x < lower {
+                    0
+                } else {
+                    let steps = x.abs_diff(lower) / u64::from(range.step());
+                    steps.min(u64::from(range.levels())) as u32 + 1
+                }
+            }
+            _ => 0,
+        }
+    }
+}
+
+// The place of a number's highest bit.
+fn top_bit(n: u64) -> u32
+    requires { 0 < n }
+    ensures at_least { 2 ^ result ≤ n }
+    ensures below { n < 2 ^ (result + 1) }
+{
+    63 - n.leading_zeros()
+}

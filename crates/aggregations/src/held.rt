@@ -1,0 +1,54 @@
+//! What an entry holds of its arguments.
+
+ghost use Rattle.std.specs.Prelude.{◌≡◌};
+ghost use Rattle.aggregations.specs.Held as spec;
+
+use crate::histogram::Histogram;
+
+/// The total of some arguments, wrapped into 64 bits, and their number.
+#[derive(Drop)]
+pub(crate) struct Mean {
+    pub(crate) sum: i64,
+    pub(crate) count: u64,
+}
+
+/// What is held of some arguments, for each of the functions.
+#[derive(Drop)]
+pub(crate) enum Held {
+    /// How many there were.
+    Counted(u64),
+    /// Their total, wrapped into 64 bits.
+    Summed(i64),
+    /// The least.
+    Least(i64),
+    /// The greatest.
+    Greatest(i64),
+    /// What their mean is made of.
+    Mean(Mean),
+    /// How many were in each bucket.
+    Counts(Histogram),
+}
+
+impl Held {
+    // How many there were, where that is held.
+    pub(crate) fn count(&self) -> u64
+        ensures { result ≡ spec.count_of self.now }
+    {
+        match self {
+            Held::Counted(n) => *n,
+            Held::Mean(mean) => mean.count,
+            _ => 0,
+        }
+    }
+
+    // Their total, the least or the greatest.
+    pub(crate) fn number(&self) -> i64
+        ensures { result ≡ spec.number_of self.now }
+    {
+        match self {
+            Held::Summed(x) | Held::Least(x) | Held::Greatest(x) => *x,
+            Held::Mean(mean) => mean.sum,
+            _ => 0,
+        }
+    }
+}

@@ -1,0 +1,135 @@
+//! Histograms.
+
+ghost use Rattle.std.specs.Prelude.{◌≡◌, ℕ, ◌+◌, ◌<◌, ◌≤◌, ◌^◌, ◌∷◌, ◌++◌, [], List, ℤ, OnOk, OnErr, MatchOption, length, slice_index, sum};
+ghost use Rattle.aggregations.specs.Buckets.{buckets, HasBuckets};
+ghost use Rattle.aggregations.specs.Figures.{Figure, rank_of};
+ghost use Rattle.aggregations.specs.Histograms.{histogram_of, with_more, IsSpan};
+
+use crate::function::AggFn;
+use indexmap::IndexMap;
+use std::alloc::{AllocError, Global};
+use std::marker::Model;
+
+/// How many arguments each bucket of a function has. Only buckets that have arguments take room.
+#[derive(Drop)]
+pub struct Histogram {
+    function: AggFn,
+    used: IndexMap<u32, u64>,
+}
+
+impl Model for Histogram {
+    ghost use Rattle.aggregations.specs.Histograms as spec;
+
+    ghost Value = { spec.Histogram };
+
+    ghost view = { λ h. record {
+      function = h.function;
+      counts = spec.counts_used h.function h.used.entries;
+    } };
+
+    ghost invariant = { λ h. spec.AreUsed h.function h.used.entries };
+}
+
+impl Histogram {
+    // Without arguments.
+    pub(crate) fn new(alloc: Global, function: AggFn) -> Histogram
+        requires { HasBuckets function }
+        ensures { result ≡ histogram_of function [] }
+    {
+        Histogram {
+            function,
+            used: IndexMap::new(alloc),
+        }
+    }
+
+    /// The function whose buckets it counts.
+    pub fn function(&self) -> AggFn
+        ensures value { result ≡ self.now.function }
+        ensures long { length self.now.counts ≡ buckets result }
+    {
+        self.function
+    }
+
+    /// How many arguments a bucket has: none where the function has no such bucket.
+    pub fn count_at(&self, bucket: u32) -> u64
+        ensures { result ≡ slice_index self.now.counts bucket }
+    {
+        self.used.get(&bucket).copied().unwrap_or(0)
+    }
+
+    /// How many arguments there are, at most 2^52.
+    pub fn total(&self) -> u64
+        ensures value { result ≡ sum self.now.counts }
+        ensures few { result ≤ 2 ^ 52 }
+    {
+        self.used.values().copied().sum()
+    }
+
+    /// The first and the last bucket that have arguments. None without arguments.
+    pub fn span(&self) -> Option<(u32, u32)>
+        ensures { MatchOption result (sum self.now.counts ≡ 0)
+            (λ s. IsSpan self.now.counts s.0 s.1) }
+    {
+        let first = self.used.keys().copied().min()?;
+        let last = self.used.keys().copied().max()?;
+        Some((first, last))
+    }
+
+    /// The sum of label times count.
+    pub fn rank(&self) -> i128
+        ensures { result ≡ rank_of (Figure.Distribution self.now) }
+    {
+        let mut rank = 0;
+        for (bucket, count) in &self.used {
+            rank += i128::from(self.function.label(*bucket)) * i128::from(*count);
+        }
+        rank
+    }
+
+    // Counts more arguments for a bucket.
+    fn add(&mut self, bucket: u32, more: u64) -> Result<(), AllocError>
+        requires bucket { bucket < buckets self.old.function }
+        requires some { 0 < more }
+        requires room { sum self.old.counts + more ≤ 2 ^ 52 }
+        ensures ok { OnOk result (self.new ≡ with_more self.old bucket more) }
+        ensures err { OnErr result (self.new ≡ self.old) }
+    {
+        match self.used.get_mut(&bucket) {
+            Some(count) => *count += more,
+            None => {
+                self.used.insert(bucket, more)?;
+            }
+        }
+        Ok(())
+    }
+
+    // Takes one more argument.
+    pub(crate) fn note(&mut self, arg: i64) -> Result<(), AllocError>
+        requires { sum self.old.counts < 2 ^ 52 }
+        ensures value { OnOk result ((args : List ℤ)
+            → self.old ≡ histogram_of self.old.function args
+            → self.new ≡ histogram_of self.old.function (args ++ arg ∷ [])) }
+        ensures function { self.new.function ≡ self.old.function }
+        ensures count { sum self.new.counts ≤ sum self.old.counts + 1 }
+        ensures err { OnErr result (self.new ≡ self.old) }
+    {
+        let bucket = self.function.bucket_of(arg);
+        self.add(bucket, 1)
+    }
+
+    // Takes the arguments of another histogram of the function too.
+    pub(crate) fn join(&mut self, other: &Histogram) -> Result<(), AllocError>
+        requires { sum self.old.counts + sum other.now.counts ≤ 2 ^ 52 }
+        ensures value { OnOk result ((function : AggFn) (xs ys : List ℤ)
+            → self.old ≡ histogram_of function xs
+            → other.now ≡ histogram_of function ys → self.new ≡ histogram_of function (xs ++ ys)) }
+        ensures count { sum self.new.counts ≤ sum self.old.counts + sum other.now.counts }
+    {
+        if other.function.buckets() == self.function.buckets() {
+            for (bucket, more) in &other.used {
+                self.add(*bucket, *more)?;
+            }
+        }
+        Ok(())
+    }
+}

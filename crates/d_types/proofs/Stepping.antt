@@ -1,0 +1,120 @@
+-- `++` and `--` are `+= 1` and `-= 1`.
+use Rattle.std.proofs.Common.{◌≡◌, ℕ, ◌+◌, ◌-◌, ◌*◌, ◌%◌, ◌^◌, ◌<◌, ◌≤◌, nat_lt, nat_le, ◌⊎◌, inl, inr, [], Bool, true, false, ◌&&◌, if◌then◌else◌, refl, sym, ap, ◌∙◌, subst, arith}
+use Rattle.std.proofs.lemmas.Bool.Decides.{nat_tests}
+use Rattle.d_parser.specs.declared.operators.Step.{Step}
+use Rattle.d_parser.specs.declared.operators.Step.TheVariants as st
+use Rattle.d_values.specs.declared.int_type.IntType.{IntType}
+use Rattle.d_values.specs.declared.int_type.DType.{DType}
+use Rattle.d_values.specs.declared.int_type.DType.TheVariants as ty
+use Rattle.d_values.specs.declared.value.Value.{Value}
+use Rattle.d_values.specs.declared.value.Value.TheVariants as va
+use Rattle.d_values.specs.Types.{INT32, rank_of, higher, common_of}
+use Rattle.d_values.specs.Words.{extended, narrow, operate}
+use Rattle.d_values.proofs.Narrowing.{extended_low}
+use Rattle.d_values.proofs.Wrapping.{by_width}
+use Rattle.firing_reader.specs.declared.firing.Firing.{Firing}
+use Rattle.d_types.specs.declared.typed.Answer.TheVariants as an
+use Rattle.d_types.specs.declared.typed.Operation.TheVariants as op
+use Rattle.d_types.specs.declared.typed.Variable.{Variable}
+use Rattle.d_types.specs.Typed.{Constant, Update, Count, end}
+use Rattle.d_types.specs.Operators.{converted}
+use Rattle.d_types.specs.Storage.{Variables, word_of, value_at}
+use Rattle.d_types.specs.Expressions.{Outcome, Has, with, given, number, operation_of, held, stepped, assigned, updated, eval}
+use Rattle.d_types.specs.Laws.{operator_of}
+use Rattle.d_types.proofs.InPlace.{converts}
+use Rattle.d_types.proofs.ValueTypes.{int_word}
+
+-- a width within another: what lies above the first doesn't show in it
+record Nests (low high : ℕ) : Type 0 where
+  signs : (w : ℕ) → (w + (2 ^ 64 - 2 ^ high)) % 2 ^ low ≡ w % 2 ^ low
+  inner : (w : ℕ) → (w % 2 ^ high) % 2 ^ low ≡ w % 2 ^ low
+  more : (x a : ℕ) → x % 2 ^ low ≡ a % 2 ^ low → ((x + 1) % 2 ^ 64) % 2 ^ low ≡ ((a + 1) % 2 ^ 64) % 2 ^ low
+  less : (x a : ℕ) → x % 2 ^ low ≡ a % 2 ^ low → ((x + (2 ^ 64 - 1)) % 2 ^ 64) % 2 ^ low ≡ ((a + (2 ^ 64 - 1)) % 2 ^ 64) % 2 ^ low
+  one : 1 % 2 ^ high ≡ 1
+  positive : 1 < 2 ^ (high - 1)
+
+eight : Nests 8 32
+eight = record { signs = λ w. omega arith; inner = λ w. omega arith; more = λ x a e. omega arith; less = λ x a e. omega arith; one = refl; positive = omega arith }
+
+sixteen : Nests 16 32
+sixteen = record { signs = λ w. omega arith; inner = λ w. omega arith; more = λ x a e. omega arith; less = λ x a e. omega arith; one = refl; positive = omega arith }
+
+half : Nests 32 32
+half = record { signs = λ w. omega arith; inner = λ w. omega arith; more = λ x a e. omega arith; less = λ x a e. omega arith; one = refl; positive = omega arith }
+
+whole : Nests 64 64
+whole = record { signs = λ w. omega arith; inner = λ w. omega arith; more = λ x a e. omega arith; less = λ x a e. omega arith; one = refl; positive = omega arith }
+
+-- ---- the common type with int
+
+wide : (t : IntType) → ((common_of t INT32).width ≡ t.width) × (32 ≤ t.width) ⊎ ((common_of t INT32).width ≡ 32) × (t.width < 32)
+wide t = by (nat_lt t.width 32) refl
+  where
+    at : (b : Bool) → nat_lt (rank_of t) 64 ≡ b → 32 ≤ t.width → (if b then INT32 else t).width ≡ t.width
+    at true e h = absurd (ranked t.signed e)
+      where
+        ranked : (s : Bool) → nat_lt (2 * t.width + (if s then 0 else 1)) 64 ≡ true → ⊥
+        ranked true d = grind (arith, nat_tests, h)
+        ranked false d = grind (arith, nat_tests, h)
+    at false e h = refl
+
+    by : (b : Bool) → nat_lt t.width 32 ≡ b →
+        ((higher (if b then INT32 else t) INT32).width ≡ t.width) × (32 ≤ t.width) ⊎ ((higher (if b then INT32 else t) INT32).width ≡ 32) × (t.width < 32)
+    by true e = let low : t.width < 32 = grind (arith, nat_tests) in inr (refl, low)
+    by false e = let high : 32 ≤ t.width = grind (arith, nat_tests) in inl (at (nat_lt (rank_of t) 64) refl high, high)
+
+nests : (t : IntType) → Nests t.width (common_of t INT32).width
+nests t =
+    by_width (λ w. (high : ℕ) → ((high ≡ w) × (32 ≤ w)) ⊎ ((high ≡ 32) × (w < 32)) → Nests w high)
+    (λ high h. narrow_case 8 high eight (omega arith) h) (λ high h. narrow_case 16 high sixteen (omega arith) h)
+    (λ high h. wide_case 32 high half (omega arith) h) (λ high h. wide_case 64 high whole (omega arith) h)
+    t.width t.known (common_of t INT32).width (wide t)
+  where
+    narrow_case : (w high : ℕ) → Nests w 32 → w < 32 → ((high ≡ w) × (32 ≤ w)) ⊎ ((high ≡ 32) × (w < 32)) → Nests w high
+    narrow_case w high n small (inl h) = let long : 32 ≤ w = h.1 in absurd (omega arith)
+    narrow_case w high n small (inr h) = subst (Nests w) (sym h.0) n
+
+    wide_case : (w high : ℕ) → Nests w w → 32 ≤ w → ((high ≡ w) × (32 ≤ w)) ⊎ ((high ≡ 32) × (w < 32)) → Nests w high
+    wide_case w high n large (inl h) = subst (Nests w) (sym h.0) n
+    wide_case w high n large (inr h) = let short : w < 32 = h.1 in absurd (omega arith)
+
+-- ---- steps
+
+module _ (t : IntType) where
+  abbrev common : IntType
+  common = common_of t INT32
+
+  -- a word of the common type has the lowest bits of what it was made of
+  lowest : (w : ℕ) → narrow common w % 2 ^ t.width ≡ w % 2 ^ t.width
+  lowest w = either (common.signed && nat_le (2 ^ (common.width - 1)) (w % 2 ^ common.width))
+    where
+      either : (b : Bool) → (if b then w % 2 ^ common.width + (2 ^ 64 - 2 ^ common.width) else w % 2 ^ common.width) % 2 ^ t.width ≡ w % 2 ^ t.width
+      either true = (nests t).signs (w % 2 ^ common.width) ∙ (nests t).inner w
+      either false = (nests t).inner w
+
+  one_is : narrow common 1 ≡ 1
+  one_is = ap (extended common) (nests t).one ∙ extended_low common 1 (nests t).positive
+
+  step_is : (by : Step) (old : ℕ) → narrow t (narrow common (operate (operator_of by) common.signed (narrow common old) 1)) ≡ narrow t (stepped by old)
+  step_is st.Increment old = ap (extended t) (lowest ((narrow common old + 1) % 2 ^ 64) ∙ (nests t).more (narrow common old) old (lowest old))
+  step_is st.Decrement old = ap (extended t) (lowest ((narrow common old + (2 ^ 64 - 1)) % 2 ^ 64) ∙ (nests t).less (narrow common old) old (lowest old))
+
+  result_is : (by : Step) (x y : ℕ) (vars : Variables) → given (operation_of (op.Arithmetic (operator_of by) common) x y) vars ≡ Has (narrow common (operate (operator_of by) common.signed x y)) vars
+  result_is st.Increment x y vars = refl
+  result_is st.Decrement x y vars = refl
+
+  pub step_is_update : (f : Firing) (by : Step) (x : Variable) (vars : Variables) → x.holds ≡ ty.Int t →
+      eval f (Count by an.New x end) vars
+      ≡ eval f (Update (op.Arithmetic (operator_of by) common) x end (converted INT32 common (Constant INT32 1))) vars
+  step_is_update f by x vars e =
+      let old = word_of (value_at vars x []) in
+      let first = narrow common old in
+      let right : eval f (converted INT32 common (Constant INT32 1)) vars ≡ Has (va.Int 1) vars =
+      converts f INT32 common (Constant INT32 1) vars (int_word 1 (omega arith)) ∙ ap (λ n. Has (va.Int n) vars) one_is
+      in
+      let word : held x.holds (stepped by old) ≡ held x.holds (narrow common (operate (operator_of by) common.signed first 1)) =
+      ap (λ (u : DType). held u (stepped by old)) e ∙ sym (step_is by old) ∙ ap (λ (u : DType). held u (narrow common (operate (operator_of by) common.signed first 1))) (sym e)
+      in
+      ap (λ n. assigned x [] (va.Int n) vars) word
+      ∙ sym (ap (λ (o : Outcome ℕ). with o (updated x [])) (result_is by first 1 vars))
+      ∙ sym (ap (λ (o : Outcome Value). with (number o) (λ y after. with (given (operation_of (op.Arithmetic (operator_of by) common) first y) after) (updated x []))) right)

@@ -1,0 +1,101 @@
+-- What turns make is what a firing means.
+use Rattle.std.specs.Prelude.{◌≡◌, ℕ, zero, suc, ◌+◌, ◌<◌, ◌≤◌, List, [], ◌∷◌, ◌++◌, All, filter, map, length, slice_get, sum_by, Option, None, Some, option_map, is_some, OnOk, Result, Ok, Err, Bool, true, false, if◌then◌else◌}
+use Rattle.std.specs.Option.{option_or}
+use Rattle.std.proofs.Common.{refl, sym, ap, ◌∙◌, subst, arith, add-one, add-zero, append_assoc, length-append}
+use Rattle.std.proofs.lemmas.List.{length-map}
+use Rattle.std.proofs.lemmas.List.Sums.{sum_by-cons}
+use Rattle.std.proofs.lemmas.List.Elements.{All-append}
+use Rattle.aggregations.specs.Table.{StandsFor, functions_of}
+use Rattle.d_parser.specs.declared.tree.Description.{Description}
+use Rattle.d_types.specs.Clauses.{Made, run_of}
+use Rattle.d_types.specs.Clauses.{nothing, and_then}
+use Rattle.d_types.specs.Storage.{Variables}
+use Rattle.d_types.specs.Typed.{ClauseMeant, ScriptMeant}
+use Rattle.firing_reader.specs.declared.firing.Firing.{Firing}
+use Rattle.replay_core.specs.declared.probe.Probe.{Probe}
+use Rattle.replay_core.specs.Lanes.{Fires, GoesOnBy, LaneSeen, Notes}
+use Rattle.replay_core.specs.Meaning.{Threads, at_start, clauses_for, history, in_turn, made_of, texts_of, threads_after}
+use Rattle.replay_core.specs.Patterns.{probe_of, selects}
+use Rattle.replay_core.specs.Pieces.{PieceSeen}
+use Rattle.replay_core.specs.Places.{places_for}
+use Rattle.replay_core.specs.Turns.{run_at, turns}
+use Rattle.replay_core.proofs.Noting.{append_nil, or_none}
+
+-- ---- turns
+
+module _ (f : Firing) (all : List ClauseMeant) where
+  -- one clause, once for each of these descriptions
+  repeated : (n : ℕ) (c : ClauseMeant) (ds : List Description) (places : List ℕ) (rest : List (ℕ × ClauseMeant)) → slice_get all n ≡ Some c
+      → ((vars : Variables) → turns f all places vars ≡ in_turn f rest vars)
+      → (vars : Variables) → turns f all (map (λ d. n) ds ++ places) vars ≡ in_turn f (map (λ d. (n + 1, c)) ds ++ rest) vars
+  repeated n c [] places rest here same vars = same vars
+  repeated n c (d ∷ ds) places rest here same vars =
+      let first : run_at f n (slice_get all n) vars ≡ run_of f (n + 1) c vars = ap (λ o. run_at f n o vars) here in
+      ap (λ m. and_then m (turns f all (map (λ (d : Description). n) ds ++ places) m.variables)) first
+      ∙ ap (λ m. and_then (run_of f (n + 1) c vars) m) (repeated n c ds places rest here same (run_of f (n + 1) c vars).variables)
+
+  turns_from : (n : ℕ) (cs : List ClauseMeant) → ((i : ℕ) → slice_get all (n + i) ≡ slice_get cs i)
+      → (vars : Variables) → turns f all (places_for (probe_of f) n (map (λ c. c.descriptions) cs)) vars ≡ in_turn f (clauses_for f (n + 1) cs) vars
+  turns_from n [] same vars = refl
+  turns_from n (c ∷ cs) same vars =
+      let here : slice_get all n ≡ Some c = ap (slice_get all) (sym (add-zero n)) ∙ same 0 in
+      let more : (i : ℕ) → slice_get all (n + 1 + i) ≡ slice_get cs i = λ i. let e : n + 1 + i ≡ n + suc i = omega arith in ap (slice_get all) e ∙ same (suc i) in
+      let after : (vars : Variables) → turns f all (places_for (probe_of f) (n + 1) (map (λ c. c.descriptions) cs)) vars ≡ in_turn f (clauses_for f (suc (n + 1)) cs) vars =
+      λ v. turns_from (n + 1) cs more v ∙ ap (λ k. in_turn f (clauses_for f k cs) v) (add-one (n + 1)) in
+      repeated n c (filter (λ d. selects d (probe_of f)) c.descriptions) (places_for (probe_of f) (n + 1) (map (λ c. c.descriptions) cs)) (clauses_for f (suc (n + 1)) cs) here after vars
+
+pub turns_are : (m : ScriptMeant) (f : Firing) (vars : Variables)
+    → turns f m.clauses (places_for (probe_of f) 0 (map (λ c. c.descriptions) m.clauses)) vars ≡ in_turn f (clauses_for f 1 m.clauses) vars
+turns_are m f vars = turns_from f m.clauses 0 m.clauses (λ i. ap (slice_get m.clauses) (let e : 0 + i ≡ i = omega arith in e)) vars
+
+-- ---- how many, and where
+
+length_filter : {A : Type 0} (p : A → Bool) (xs : List A) → length (filter p xs) ≤ length xs
+length_filter p [] = omega arith
+length_filter p (x ∷ xs) = elim (p x) as (λ b. length (if b then x ∷ filter p xs else filter p xs) ≤ length (x ∷ xs)) [
+  | true ↦ let less = length_filter p xs in omega arith
+  | false ↦ let less = length_filter p xs in omega arith
+]
+
+pub places_few : (p : Probe) (n : ℕ) (ds : List (List Description)) → length (places_for p n ds) ≤ sum_by length ds
+places_few p n [] = omega arith
+places_few p n (d ∷ ds) =
+    let own = length_filter (λ d. selects d p) d in
+    let rest = places_few p (n + 1) ds in
+    rw (sum_by-cons, length-append, length-map) (omega (arith, own, rest))
+
+pub places_within : (p : Probe) (n : ℕ) (ds : List (List Description)) → All (λ i. i < n + length ds) (places_for p n ds)
+places_within p n [] = λ k d lt. absurd (omega arith)
+places_within p n (d ∷ ds) =
+    All-append (λ i. i < n + suc (length ds)) (map (λ d. n) (filter (λ d. selects d p) d)) (places_for p (n + 1) ds)
+    (same (filter (λ d. selects d p) d))
+    (λ k x lt. let rest = places_within p (n + 1) ds k x lt in omega (arith, rest))
+  where
+    same : (xs : List Description) → All (λ i. i < n + suc (length ds)) (map (λ d. n) xs)
+    same [] k y lt = absurd (omega arith)
+    same (x ∷ xs) zero y lt = omega arith
+    same (x ∷ xs) (suc k) y lt = same xs k y (omega arith)
+
+-- ---- a firing
+
+pub goes_on : (m : ScriptMeant) (f : Firing) (threads : Threads) (made : Made) (old mid new : PieceSeen) → made ≡ made_of m f (threads f.thread)
+    → mid ≡ record { texts = old.texts; table = old.table; taken = old.taken ++ f.number ∷ []; exit = old.exit }
+    → Notes f.number made mid new → GoesOnBy (history m (f ∷ []) threads) old new
+goes_on m f threads made old mid new is pushed notes = subst (λ r. GoesOnBy ((f, r) ∷ []) old new) is (record {
+  texts = notes.texts ∙ ap (λ p. p.texts ++ map (λ text. (f.number, text)) made.texts) pushed ∙ ap (λ l. old.texts ++ l) (append_nil (map (λ text. (f.number, text)) made.texts));
+  functions = notes.functions ∙ ap (λ p. functions_of p.table) pushed;
+  table = λ before stands.
+      let from : StandsFor mid.table before = subst (λ p. StandsFor p.table before) (sym pushed) stands in
+      subst (λ l. StandsFor new.table (before ++ l)) (append_nil made.contributions) (notes.table before from);
+  taken = notes.taken ∙ ap (λ p. p.taken) pushed;
+  exit = notes.exit ∙ ap (λ p. option_or p.exit (option_map (λ status. (f.number, status)) made.exit)) pushed
+      ∙ ap (option_or old.exit) (or_none (option_map (λ status. (f.number, status)) made.exit));
+})
+
+pub some_same : {A : Type 0} (tell : ℕ → A) (o : Option ℕ) → is_some o ≡ is_some (option_or (option_map tell o) None)
+some_same tell None = refl
+some_same tell (Some status) = refl
+
+pub both : {T E : Type 0} (P Q : Type 0) (r : Result T E) → OnOk r P → OnOk r Q → OnOk r (P × Q)
+both P Q (Ok x) p q = (p, q)
+both P Q (Err e) p q = p

@@ -1,0 +1,14 @@
+pub mod PatternTests
+pub mod Stars
+pub mod Noting
+pub mod Turning
+pub mod EffectLemmas
+pub mod SelectionLemmas
+pub mod ThreadLemmas
+pub mod FiringLemmas
+pub mod RunLemmas
+pub mod PlaceLemmas
+pub mod DescriptionLemmas
+pub mod ExitLemmas
+pub mod GroupLemmas
+pub mod TreeLemmas

@@ -1,0 +1,77 @@
+-- What each typed script keeps is what a lane asks for.
+use Rattle.std.specs.Prelude.{◌≡◌, ℕ, zero, suc, ◌+◌, ◌<◌, ◌≤◌, List, [], ◌∷◌, All, Option, length, map, max, sum_by}
+use Rattle.std.specs.List.{AllZip}
+use Rattle.std.proofs.Common.{refl, sym, ap, ◌∙◌, subst, arith, get_or}
+use Rattle.std.proofs.Math.ListN as math
+use Rattle.std.proofs.lemmas.List.{length-map}
+use Rattle.std.proofs.lemmas.List.Sums.{sum_by-cons}
+use Rattle.d_parser.specs.Sizes.{in_all}
+use Rattle.d_values.specs.declared.int_type.DType.{DType}
+use Rattle.d_types.specs.declared.typed.TypedAggregation.{TypedAggregation}
+use Rattle.d_types.specs.declared.typed.TypedClause.{TypedClause}
+use Rattle.d_types.specs.Proper.{IsProperAction, IsProperScript}
+use Rattle.d_types.specs.Scripts.{IsMeant}
+use Rattle.d_types.specs.Sizes.{descriptions, statements, HasAtMost}
+use Rattle.d_types.specs.Typed.{Action, Aggregate, Aggs, Evaluate, Exit, Print, ScriptMeant, Trace, agg_of, meant_of, script_meant}
+use Rattle.d_types.proofs.Proper.{script_is_proper}
+use Rattle.d_types.proofs.Sizes.{typed_script_is_small}
+use Rattle.replay_core.specs.Bounds.{place_in, places_among, places_in}
+use Rattle.replay_core.specs.Scripts.{functions_in}
+
+place_below : (aggs : Aggs) (a : Action) → IsProperAction aggs a → place_in a ≤ length aggs
+place_below aggs (Evaluate x) is = omega arith
+place_below aggs (Trace x) is = omega arith
+place_below aggs (Print format arguments) is = omega arith
+place_below aggs (Exit x) is = omega arith
+place_below aggs (Aggregate place keys argument) is = omega (arith, is.0)
+
+places_below : (aggs : Aggs) (all : List Action) → All (IsProperAction aggs) all → places_among all ≤ length aggs
+places_below aggs [] are = omega arith
+places_below aggs (a ∷ rest) are =
+    let first = place_below aggs a (are 0 a (omega arith)) in
+    let others = places_below aggs rest (λ k d lt. are (suc k) d (omega arith)) in
+    omega (arith, first, others)
+
+one_of_all : {A : Type 0} (h : A → ℕ) (xs : List A) (k : ℕ) (d : A) → k < length xs → h (get_or xs k d) ≤ in_all h xs
+one_of_all h [] k d lt = absurd (omega arith)
+one_of_all h (x ∷ xs) zero d lt = omega arith
+one_of_all h (x ∷ xs) (suc k) d lt = let less = one_of_all h xs k d (omega arith) in omega arith
+
+-- the sum, by recursion from the front
+total : (cs : List TypedClause) → sum_by (λ c. length c.descriptions.items) cs ≡ in_all descriptions (map meant_of cs)
+total [] = refl
+total (c ∷ cs) = sum_by-cons (λ (c : TypedClause). length c.descriptions.items) c cs ∙ ap (λ n. length c.descriptions.items + n) (total cs)
+
+module _ (clauses : List TypedClause) (aggs : List TypedAggregation) (slots : List (Option DType)) (typed : ∥ IsMeant (script_meant clauses aggs slots) ∥₁) where
+  pub all_named : All (λ c. places_in (meant_of c) ≤ length aggs) clauses
+  all_named k d lt =
+      let m = script_meant clauses aggs slots in
+      let many = length-map clauses meant_of in
+      let here = math.get_or-map meant_of clauses k d in
+      let proper = script_is_proper m typed k (meant_of d) (omega arith) in
+      let below = places_below m.aggregations _ proper.statements in
+      let few = length-map aggs agg_of in
+      subst (λ c. places_in c ≤ length aggs) here (omega (arith, below, few))
+
+  pub all_few : All (λ c. statements (meant_of c) ≤ 65536) clauses
+  all_few k d lt =
+      let m = script_meant clauses aggs slots in
+      let many = length-map clauses meant_of in
+      let small = (typed_script_is_small m typed).few_statements in
+      let one = one_of_all statements m.clauses k (meant_of d) (omega arith) in
+      let here = math.get_or-map meant_of clauses k d in
+      subst (λ c. statements c ≤ 65536) here (omega (arith, small, one))
+
+  pub few_probes : sum_by (λ c. length c.descriptions.items) clauses ≤ 65536
+  few_probes =
+      let small = (typed_script_is_small (script_meant clauses aggs slots) typed).few_descriptions in
+      let same = total clauses in
+      omega (arith, small, same)
+
+pub trees_mean : (cs : List TypedClause) → AllZip (λ c meant. meant ≡ meant_of c) cs (map meant_of cs)
+trees_mean [] = tt
+trees_mean (c ∷ cs) = (refl, trees_mean cs)
+
+pub functions_same : (clauses : List TypedClause) (aggs : List TypedAggregation) (slots : List (Option DType)) → map (λ a. a.function) aggs ≡ functions_in (script_meant clauses aggs slots)
+functions_same clauses [] slots = refl
+functions_same clauses (a ∷ aggs) slots = ap (λ l. a.function ∷ l) (functions_same clauses aggs slots)

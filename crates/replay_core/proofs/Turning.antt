@@ -1,0 +1,69 @@
+-- The turns that are left, and those that were taken.
+use Rattle.std.specs.Prelude.{◌≡◌, ℕ, zero, suc, ◌+◌, ◌<◌, List, [], ◌∷◌, slice_get, Bool, true, false, ◌||◌, Option, None, Some, is_some, length}
+use Rattle.std.specs.Option.{option_or}
+use Rattle.std.specs.List.{AllZip}
+use Rattle.std.proofs.Common.{refl, sym, ap, ◌∙◌, subst, arith, get_or}
+use Rattle.d_types.specs.Clauses.{Made, run_of}
+use Rattle.d_types.specs.Clauses.{nothing, and_then}
+use Rattle.d_types.specs.Storage.{Variables}
+use Rattle.d_types.specs.Typed.{ClauseMeant}
+use Rattle.firing_reader.specs.declared.firing.Firing.{Firing}
+use Rattle.replay_core.specs.Lanes.{Notes}
+use Rattle.replay_core.specs.Pieces.{PieceSeen}
+use Rattle.replay_core.specs.Turns.{run_at, turns}
+use Rattle.replay_core.proofs.Noting.{notes_nothing, notes_then}
+
+-- with the turns that are left a piece goes on as with all of them from the start
+pub record Continues (f : Firing) (cs : List ClauseMeant) (all left : List ℕ) (before now : Variables) (old new : PieceSeen) (exits : Bool) : Type 0 where
+  pub notes : (end : PieceSeen) → Notes f.number (turns f cs left now) new end → Notes f.number (turns f cs all before) old end
+  pub variables : (turns f cs left now).variables ≡ (turns f cs all before).variables
+  pub told : (exits || is_some (turns f cs left now).exit) ≡ is_some (turns f cs all before).exit
+
+-- what stands beside an element
+pub zip_at : {A B : Type 0} (R : A → B → Type 0) (xs : List A) (ys : List B) (i : ℕ) (d : A) → AllZip R xs ys → i < length xs
+    → (y : B) × (slice_get ys i ≡ Some y) × R (get_or xs i d) y
+zip_at R [] ys i d zip lt = absurd (omega arith)
+zip_at R (x ∷ xs) [] i d zip lt = absurd zip
+zip_at R (x ∷ xs) (y ∷ ys) zero d zip lt = (y, refl, zip.0)
+zip_at R (x ∷ xs) (y ∷ ys) (suc i) d zip lt = zip_at R xs ys i d zip.1 (omega arith)
+
+module _ (f : Firing) (cs : List ClauseMeant) where
+  pub continues_start : (all : List ℕ) (vars : Variables) (p : PieceSeen) → Continues f cs all all vars vars p p false
+  continues_start all vars p = record { notes = λ end h. h; variables = refl; told = refl }
+
+  some_or : (exits : Bool) (a b : Option ℕ) → ((exits || is_some a) || is_some b) ≡ (exits || is_some (option_or a b))
+  some_or true a b = refl
+  some_or false None b = refl
+  some_or false (Some s) b = refl
+
+  -- one more turn
+  pub continues_more : (all left : List ℕ) (place : ℕ) (before now after : Variables) (old new next : PieceSeen) (exits more : Bool) (made : Made)
+      → Continues f cs all (place ∷ left) before now old new exits
+      → run_at f place (slice_get cs place) now ≡ made → made.variables ≡ after → Notes f.number made new next → more ≡ (exits || is_some made.exit)
+      → Continues f cs all left before after old next more
+  continues_more all left place before now after old new next exits more made so_far is vars noted more_is =
+      let first = run_at f place (slice_get cs place) now in
+      let same : first.variables ≡ after = ap (λ m. m.variables) is ∙ vars in
+      let rest_is : turns f cs left first.variables ≡ turns f cs left after = ap (turns f cs left) same in
+      let turn : turns f cs (place ∷ left) now ≡ and_then made (turns f cs left after) =
+      ap (λ m. and_then m (turns f cs left m.variables)) is ∙ ap (λ v. and_then made (turns f cs left v)) vars in
+      record {
+        notes = λ end h. so_far.notes end
+            (subst (λ m. Notes f.number m new end) (sym turn) (notes_then f.number made (turns f cs left after) new next end noted h));
+        variables = ap (λ m. m.variables) (sym turn) ∙ so_far.variables;
+        told = ap (λ b. b || is_some (turns f cs left after).exit) more_is ∙ some_or exits made.exit (turns f cs left after).exit
+            ∙ ap (λ m. exits || is_some m.exit) (sym turn) ∙ so_far.told;
+      }
+
+  -- none is left
+  pub continues_all : (all : List ℕ) (before now : Variables) (old new : PieceSeen) (exits : Bool) → Continues f cs all [] before now old new exits
+      → Notes f.number (turns f cs all before) old new × (now ≡ (turns f cs all before).variables)
+  continues_all all before now old new exits c = (c.notes new (notes_nothing f.number now new), c.variables)
+
+  or_false : (b : Bool) → b ≡ (b || false)
+  or_false true = refl
+  or_false false = refl
+
+  pub exits_all : (all : List ℕ) (before now : Variables) (old new : PieceSeen) (exits : Bool) → Continues f cs all [] before now old new exits
+      → exits ≡ is_some (turns f cs all before).exit
+  exits_all all before now old new exits c = or_false exits ∙ c.told

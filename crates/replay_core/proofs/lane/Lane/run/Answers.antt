@@ -1,0 +1,77 @@
+use Rattle.std.specs.Prelude.{◌≡◌, ◌+◌, ◌*◌, ◌<◌, ◌≤◌, ℕ, ℤ, All, length, map, if◌then◌else◌, is_some, sum_by}
+use Rattle.std.specs.Ordering.{int_eq}
+use Rattle.std.proofs.Common.{rules, refl, arith, subst, sym, ap, ◌∙◌}
+use Rattle.std.proofs.lemmas.List.{length-map}
+use Rattle.std.proofs.lemmas.Result.{on_ok_weaker, IfOk-weaker}
+use Rattle.aggregations.specs.Table.{count_held}
+use Rattle.replay_core.specs.Meaning.{at_start, made_of}
+use Rattle.replay_core.specs.Patterns.{probe_of}
+use Rattle.replay_core.specs.Places.{places_for}
+use Rattle.replay_core.specs.Seen.{piece_seen}
+use Rattle.replay_core.specs.Threads.{threads_in}
+use Rattle.replay_core.specs.Turns.{turns}
+use Rattle.replay_core.proofs.FiringLemmas.{both, goes_on, places_few, places_within, some_same, turns_are}
+use Rattle.replay_core.proofs.Noting.{or_none}
+use Rattle.replay_core.proofs.lane.Lane.run.Goals as goal
+
+pub run_on_thread-requires-clause-there : goal.run_on_thread-requires-clause-there
+run_on_thread-requires-clause-there g c =
+    let ds = map (λ d. d.now) c.args.self.now.selections.descriptions.items in
+    let p = probe_of c.args.firing.now in
+    let places_are : c.places.result.now ≡ places_for p 0 ds = search rules in
+    let many : length ds ≡ length c.args.self.now.clauses.now = length-map _ _ ∙ c.args.self.now.described in
+    subst (λ l. All (λ i. i < length c.args.self.now.clauses.now) l) (sym places_are)
+    (λ k d lt. let within = places_within p 0 ds k d lt in omega (arith, within, many))
+
+pub run_on_thread-requires-clause-room : goal.run_on_thread-requires-clause-room
+run_on_thread-requires-clause-room g c =
+    let ds = map (λ d. d.now) c.args.self.now.selections.descriptions.items in
+    let p = probe_of c.args.firing.now in
+    let places_are : c.places.result.now ≡ places_for p 0 ds = search rules in
+    let few = places_few p 0 ds in
+    let all = c.args.self.now.few_descriptions in
+    let long = ap length places_are in
+    let held = c.requires.room in
+    omega (arith, few, all, long, held, c.requires.few)
+
+pub returns-clause-room : goal.returns-clause-room
+returns-clause-room g c =
+    let ds = map (λ d. d.now) c.args.self.now.selections.descriptions.items in
+    let p = probe_of c.args.firing.now in
+    let places_are : c.places.result.now ≡ places_for p 0 ds = search rules in
+    let few = places_few p 0 ds in
+    let all = c.args.self.now.few_descriptions in
+    let long = ap length places_are in
+    let held = c.requires.room in
+    let taken : length c.run_on_thread.new.piece.taken.items ≡ length c.args.self.now.piece.taken.items + 1 =
+    ap length c.run_on_thread.ensures.taken ∙ grind (arith, c.in_ok-push.ensures.items) in
+    on_ok_weaker c.run_on_thread.result (λ more. omega (arith, few, all, long, held, taken, more)) c.run_on_thread.ensures.held
+
+pub returns-clause-step : goal.returns-clause-step
+returns-clause-step g c =
+    let f = c.args.firing.now in
+    let ds = map (λ d. d.now) c.args.self.now.selections.descriptions.items in
+    let threads = threads_in c.args.self.now.threads.entries in
+    let places_are : c.places.result.now ≡ places_for (probe_of f) 0 ds = search rules in
+    let start = at_start (threads f.thread) in
+    on_ok_weaker c.run_on_thread.result (λ (notes, others) m runs.
+    let made = turns f m.clauses c.places.result.now start in
+    let is : made ≡ made_of m f (threads f.thread) =
+    ap (λ l. turns f m.clauses l start) (places_are ∙ ap (places_for (probe_of f) 0) runs.are_described) ∙ turns_are m f start in
+    record {
+      threads = λ i thread. (others m.clauses runs.clauses_mean thread ∙ ap (λ r. if int_eq thread f.thread then r.variables.own else threads thread) is) i;
+      piece = goes_on m f threads made (piece_seen c.args.self.now.piece) _ (piece_seen c.run_on_thread.new.piece) is
+          (search rules) (notes m.clauses runs.clauses_mean);
+    }) (both _ _ c.run_on_thread.result c.run_on_thread.ensures.notes c.run_on_thread.ensures.threads)
+
+pub returns-clause-exits : goal.returns-clause-exits
+returns-clause-exits g c =
+    let f = c.args.firing.now in
+    let ds = map (λ d. d.now) c.args.self.now.selections.descriptions.items in
+    let threads = threads_in c.args.self.now.threads.entries in
+    let places_are : c.places.result.now ≡ places_for (probe_of f) 0 ds = search rules in
+    let start = at_start (threads f.thread) in
+    IfOk-weaker c.run_on_thread.result _ _ (λ exits told m runs.
+    let is : turns f m.clauses c.places.result.now start ≡ made_of m f (threads f.thread) =
+    ap (λ l. turns f m.clauses l start) (places_are ∙ ap (places_for (probe_of f) 0) runs.are_described) ∙ turns_are m f start in
+    told m.clauses runs.clauses_mean ∙ ap (λ r. is_some r.exit) is ∙ some_same (λ status. (f.number, status)) (made_of m f (threads f.thread)).exit) c.run_on_thread.ensures.exits

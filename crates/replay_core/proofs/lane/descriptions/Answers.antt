@@ -1,0 +1,23 @@
+use Rattle.std.specs.Prelude.{◌+◌, ◌<◌, length}
+use Rattle.std.proofs.Common.{arith, ◌∙◌, ap}
+use Rattle.replay_core.proofs.DescriptionLemmas.{meaning_all, meaning_more, one_longer, probes_more}
+use Rattle.replay_core.proofs.lane.descriptions.Goals as goal
+
+pub loop-clause-preserved : goal.loop-clause-preserved
+loop-clause-preserved g c =
+    let xs = c.args.clauses.now in
+    let i = c.loop-clause.clause-index in
+    let inside : i < length xs = omega arith in
+    let old = c.loop-clause.all.items in
+    let new = c.push.new.self.items in
+    let inv = c.loop-clause.invariant in
+    record {
+      each = one_longer old new c.descriptions.result c.in_ok-push.ensures.items ∙ ap (λ n. n + 1) inv.each;
+      probes = probes_more (λ d. d.now) g.C.Clause.probes xs i c.clause-item.result old new c.descriptions.result inside c.clause-item.is c.in_ok-push.ensures.items c.descriptions.ensures.probes inv.probes;
+      meaning = λ cs zip.
+          meaning_more (λ d. d.now) g.C.Clause.means xs cs i c.clause-item.result old new c.descriptions.result inside c.clause-item.is c.in_ok-push.ensures.items c.descriptions.ensures.meaning zip (inv.meaning cs zip);
+    }
+
+pub returns-clause-meaning : goal.returns-clause-meaning
+returns-clause-meaning g c = λ cs zip.
+    meaning_all (λ d. d.now) g.C.Clause.means c.args.clauses.now cs c.loop-clause.clause-index c.loop-clause.all.items (omega arith) zip (c.loop-clause.invariant.meaning cs zip)

@@ -1,0 +1,24 @@
+-- Which firings of a trace count, and how the run ends.
+use Rattle.std.specs.Prelude.{ℕ, nat_le, List, filter, Option, None, Some, option_map, unwrap_or}
+use Rattle.d_types.specs.Typed.{ScriptMeant}
+use Rattle.d_types.specs.Clauses.{Made}
+use Rattle.firing_reader.specs.declared.firing.Firing.{Firing}
+use Rattle.firing_reader.specs.Ends.{with_ends}
+use Rattle.replay_core.specs.Meaning.{unassigned, history, exit_of}
+
+-- those up to the one that exits
+abbrev pub up_to : Option (ℕ × ℕ) → List Firing → List Firing
+up_to None fs = fs
+up_to (Some exit) fs = filter (λ f. nat_le f.number exit.0) fs
+
+-- BEGIN, the trace's firings up to the first of all that exits, END
+abbrev pub firings_over : ScriptMeant → List Firing → List Firing
+firings_over m trace = with_ends trace (up_to (exit_of (history m (with_ends trace trace) unassigned)) trace)
+
+-- the run of a script over a trace
+abbrev pub history_over : ScriptMeant → List Firing → List (Firing × Made)
+history_over m trace = history m (firings_over m trace) unassigned
+
+-- the status of its exit, or 0
+abbrev pub exit_status : List (Firing × Made) → ℕ
+exit_status h = unwrap_or (option_map (λ exit. exit.1) (exit_of h)) 0

@@ -1,0 +1,43 @@
+-- What a lane does with a firing.
+use Rattle.std.specs.Prelude.{◌≡◌, ℕ, List, [], ◌∷◌, ◌++◌, map, None, option_map}
+use Rattle.std.specs.Option.{option_or}
+use Rattle.aggregations.specs.Table.{Contribution, StandsFor, functions_of}
+use Rattle.d_types.specs.Typed.{ScriptMeant}
+use Rattle.d_types.specs.Clauses.{Made}
+use Rattle.firing_reader.specs.declared.firing.Firing.{Firing}
+use Rattle.replay_core.specs.Meaning.{Threads, unassigned, threads_after, history, texts_of, contributions_of, numbers_of, exit_of}
+use Rattle.replay_core.specs.Pieces.{PieceSeen}
+
+-- a lane as contracts see it: what its threads keep, and the piece so far
+pub record LaneSeen : Type 0 where
+  pub threads : Threads
+  pub piece : PieceSeen
+
+-- no firing was run: nothing is assigned, and nothing was made
+pub record IsFresh (lane : LaneSeen) : Type 0 where
+  pub threads : lane.threads ≡ unassigned
+  pub texts : lane.piece.texts ≡ []
+  pub table : StandsFor lane.piece.table []
+  pub taken : lane.piece.taken ≡ []
+  pub exit : lane.piece.exit ≡ None
+
+-- the piece goes on by this history
+pub record GoesOnBy (r : List (Firing × Made)) (old new : PieceSeen) : Type 0 where
+  pub texts : new.texts ≡ old.texts ++ texts_of r
+  pub functions : functions_of new.table ≡ functions_of old.table
+  pub table : (before : List Contribution) → StandsFor old.table before → StandsFor new.table (before ++ contributions_of r)
+  pub taken : new.taken ≡ old.taken ++ numbers_of r
+  pub exit : new.exit ≡ option_or old.exit (exit_of r)
+
+-- a run of a clause at the firing of this number is noted in the piece, which takes no firing by it
+pub record Notes (number : ℕ) (made : Made) (old new : PieceSeen) : Type 0 where
+  pub texts : new.texts ≡ old.texts ++ map (λ text. (number, text)) made.texts
+  pub functions : functions_of new.table ≡ functions_of old.table
+  pub table : (before : List Contribution) → StandsFor old.table before → StandsFor new.table (before ++ made.contributions)
+  pub taken : new.taken ≡ old.taken
+  pub exit : new.exit ≡ option_or old.exit (option_map (λ status. (number, status)) made.exit)
+
+-- one firing: its history alone, from what the threads had
+pub record Fires (m : ScriptMeant) (f : Firing) (old new : LaneSeen) : Type 0 where
+  pub threads : new.threads ≡ threads_after m f old.threads
+  pub piece : GoesOnBy (history m (f ∷ []) old.threads) old.piece new.piece

@@ -1,0 +1,16 @@
+pub mod Patterns
+pub mod Meaning
+pub mod Exit
+pub mod Groups
+pub mod Pieces
+pub mod Lanes
+pub mod Bounds
+pub mod Places
+pub mod Selecting
+pub mod Seen
+pub mod Threads
+pub mod Turns
+pub mod Effects
+pub mod Scripts
+pub mod Wholes
+pub mod Running

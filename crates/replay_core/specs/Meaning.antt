@@ -1,0 +1,72 @@
+-- What a firing means, and what a run means.
+use Rattle.std.specs.Prelude.{ℕ, suc, ℤ, List, [], ◌∷◌, ◌++◌, filter, map, Option, None, Some, option_map, if◌then◌else◌}
+use Rattle.std.specs.List.{flat_map}
+use Rattle.std.specs.Option.{option_or}
+use Rattle.std.specs.Ordering.{int_eq}
+use Rattle.aggregations.specs.Table.{Contribution}
+use Rattle.d_values.specs.declared.key.KeyPart.{KeyPart}
+use Rattle.d_values.specs.declared.value.Value.{Value}
+use Rattle.d_values.specs.declared.variable.Var.{Var}
+use Rattle.d_values.specs.Stores.{blank}
+use Rattle.d_types.specs.Typed.{ClauseMeant, ScriptMeant}
+use Rattle.d_types.specs.Storage.{Variables}
+use Rattle.d_types.specs.Clauses.{Made, run_of}
+use Rattle.d_types.specs.Clauses.{nothing, and_then}
+use Rattle.firing_reader.specs.declared.firing.Firing.{Firing}
+use Rattle.replay_core.specs.Patterns.{probe_of, selects}
+
+-- what the threads keep: each its own variables, at each key
+abbrev pub Threads : Type 0
+Threads = ℤ → Var → List KeyPart → Value
+
+-- zero or the empty text everywhere
+abbrev pub unassigned : Threads
+unassigned thread var key = blank var.kind
+
+-- ---- a firing
+
+-- the clauses that run, each with its place from 1: in the script's order, once for each description that selects the firing's probe
+abbrev pub clauses_for : Firing → ℕ → List ClauseMeant → List (ℕ × ClauseMeant)
+clauses_for f place [] = []
+clauses_for f place (c ∷ cs) =
+    map (λ d. (place, c)) (filter (λ d. selects d (probe_of f)) c.descriptions) ++ clauses_for f (suc place) cs
+
+-- they run one after the other
+abbrev pub in_turn : Firing → List (ℕ × ClauseMeant) → Variables → Made
+in_turn f [] vars = nothing vars
+in_turn f (c ∷ cs) vars = let first = run_of f c.0 c.1 vars in and_then first (in_turn f cs first.variables)
+
+-- a firing begins with its thread's variables, and with clause-locals that are zero or empty
+abbrev pub at_start : (Var → List KeyPart → Value) → Variables
+at_start own = record { locals = λ var. blank var.kind; own = own }
+
+-- what a firing makes
+abbrev pub made_of : ScriptMeant → Firing → (Var → List KeyPart → Value) → Made
+made_of m f own = in_turn f (clauses_for f 1 m.clauses) (at_start own)
+
+-- ---- a run
+
+-- the firing's thread has new variables, and each other thread those that it had
+abbrev pub threads_after : ScriptMeant → Firing → Threads → Threads
+threads_after m f threads thread =
+    if int_eq thread f.thread then (made_of m f (threads f.thread)).variables.own else threads thread
+
+-- each firing with what it makes, over one map of the threads' variables
+abbrev pub history : ScriptMeant → List Firing → Threads → List (Firing × Made)
+history m [] threads = []
+history m (f ∷ fs) threads = (f, made_of m f (threads f.thread)) ∷ history m fs (threads_after m f threads)
+
+-- the texts, each with its firing's number
+abbrev pub texts_of : List (Firing × Made) → List (ℕ × List ℕ)
+texts_of r = flat_map (λ x. map (λ text. (x.0.number, text)) x.1.texts) r
+
+abbrev pub contributions_of : List (Firing × Made) → List Contribution
+contributions_of r = flat_map (λ x. x.1.contributions) r
+
+abbrev pub numbers_of : List (Firing × Made) → List ℕ
+numbers_of r = map (λ x. x.0.number) r
+
+-- the first firing that exits, with its status: numbers rise, so it is the least
+abbrev pub exit_of : List (Firing × Made) → Option (ℕ × ℕ)
+exit_of [] = None
+exit_of (x ∷ xs) = option_or (option_map (λ status. (x.0.number, status)) x.1.exit) (exit_of xs)

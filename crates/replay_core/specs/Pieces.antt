@@ -1,0 +1,42 @@
+-- What pieces and wholes are of.
+use Rattle.std.specs.Prelude.{◌≡◌, ℕ, List, map, Option}
+use Rattle.aggregations.specs.Table.{Aggregation, StandsFor, functions_of}
+use Rattle.d_types.specs.Typed.{ScriptMeant}
+use Rattle.replay_core.specs.Scripts.{functions_in}
+use Rattle.firing_reader.specs.declared.firing.Firing.{Firing}
+use Rattle.firing_reader.specs.Firings.{number_of}
+use Rattle.replay_core.specs.Meaning.{unassigned, history, texts_of, contributions_of, exit_of}
+use Rattle.replay_core.specs.Groups.{Grouping, numbers_by_group}
+
+-- a lane's piece as contracts see it
+pub record PieceSeen : Type 0 where
+  -- each with its firing's number
+  pub texts : List (ℕ × List ℕ)
+  pub table : List Aggregation
+  -- the numbers of the firings
+  pub taken : List ℕ
+  -- the first of them that exited, and its status
+  pub exit : Option (ℕ × ℕ)
+
+-- the same of a whole, whose numbers stand group by group
+pub record WholeSeen : Type 0 where
+  pub texts : List (ℕ × List ℕ)
+  pub table : List Aggregation
+  pub ran : List (List ℕ)
+  pub exit : Option (ℕ × ℕ)
+
+-- the piece is what the script makes of these firings
+pub record IsPieceOf (m : ScriptMeant) (fs : List Firing) (p : PieceSeen) : Type 0 where
+  pub texts : p.texts ≡ texts_of (history m fs unassigned)
+  pub functions : functions_of p.table ≡ functions_in m
+  pub table : StandsFor p.table (contributions_of (history m fs unassigned))
+  pub taken : p.taken ≡ map number_of fs
+  pub exit : p.exit ≡ exit_of (history m fs unassigned)
+
+-- so is the whole, which has the numbers of each group's firings
+pub record IsWholeOf (m : ScriptMeant) (fs : List Firing) (grouping : Grouping) (w : WholeSeen) : Type 0 where
+  pub texts : w.texts ≡ texts_of (history m fs unassigned)
+  pub functions : functions_of w.table ≡ functions_in m
+  pub table : StandsFor w.table (contributions_of (history m fs unassigned))
+  pub ran : w.ran ≡ numbers_by_group grouping fs
+  pub exit : w.exit ≡ exit_of (history m fs unassigned)

@@ -1,0 +1,10 @@
+-- Which clauses run for a probe, by their places.
+use Rattle.std.specs.Prelude.{ℕ, ◌+◌, List, [], ◌∷◌, ◌++◌, filter, map}
+use Rattle.d_parser.specs.declared.tree.Description.{Description}
+use Rattle.replay_core.specs.declared.probe.Probe.{Probe}
+use Rattle.replay_core.specs.Patterns.{selects}
+
+-- the places from the given one on: each once for each description that selects the probe
+abbrev pub places_for : Probe → ℕ → List (List Description) → List ℕ
+places_for p place [] = []
+places_for p place (ds ∷ rest) = map (λ d. place) (filter (λ d. selects d p) ds) ++ places_for p (place + 1) rest

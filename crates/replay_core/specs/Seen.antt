@@ -1,0 +1,20 @@
+-- Pieces and wholes as contracts see them.
+use Rattle.std.specs.Prelude.{◌≡◌, [], None, map}
+use Rattle.aggregations.specs.Table.{StandsFor, count_held}
+use Rattle.replay_core.specs.declared.piece.Piece.{Piece}
+use Rattle.replay_core.specs.declared.whole.Whole.{Whole}
+use Rattle.replay_core.specs.Pieces.{PieceSeen, WholeSeen}
+
+abbrev pub piece_seen : Piece → PieceSeen
+piece_seen p = record { texts = p.texts.items; table = p.table; taken = p.taken.items; exit = p.exit }
+
+abbrev pub whole_seen : Whole → WholeSeen
+whole_seen w = record { texts = w.texts.items; table = w.table; ran = map (λ group. group.items) w.ran.items; exit = w.exit }
+
+-- a piece of no firing
+pub record IsEmptyPiece (p : Piece) : Type 0 where
+  pub texts : p.texts.items ≡ []
+  pub table : StandsFor p.table []
+  pub held : count_held p.table ≡ 0
+  pub taken : p.taken.items ≡ []
+  pub exit : p.exit ≡ None

@@ -1,0 +1,40 @@
+//! What runs firings.
+
+ghost use Rattle.std.specs.Prelude.{◌≡◌, ◌<◌, ◌↔◌, Bool, [], ◌∷◌, IfOk, IsErr, IsTrue, OnOk, is_some, length};
+
+use crate::piece::Piece;
+use firing_reader::Firing;
+use std::alloc::AllocError;
+
+/// Runs firings for a script, in the order in which it is given them.
+pub trait Engine {
+    ghost use Rattle.d_types.specs.Typed.{ScriptMeant};
+    ghost use Rattle.firing_reader.specs.Firings.{HasRanges};
+    ghost use Rattle.replay_core.specs.Meaning.{exit_of, history};
+    ghost use Rattle.replay_core.specs.Lanes.{Fires, LaneSeen};
+    ghost use Rattle.replay_core.specs.Seen.{piece_seen};
+
+    /// What it runs means this.
+    ghost runs: { Self → ScriptMeant → Type 0 };
+
+    /// What the threads keep, and what the firings made so far.
+    ghost seen: { Self → LaneSeen };
+
+    /// Memory was refused to a firing.
+    ghost is_spent: { Self → Bool };
+
+    /// Runs the clauses for a firing, and answers whether it exits. Once memory was refused, each later call is refused too.
+    fn fire(&mut self, firing: &Firing) -> Result<bool, AllocError>
+        requires ranges { HasRanges firing.now }
+        requires few { length (seen self.old).piece.taken < 1_000_002 }
+        ensures step { (m : ScriptMeant) → runs self.old m → OnOk result (Fires m firing.now (seen self.old) (seen self.new)) }
+        ensures exits { (m : ScriptMeant) → runs self.old m
+            → IfOk result (λ exits. exits ≡ is_some (exit_of (history m (firing.now ∷ []) (seen self.old).threads))) }
+        ensures script { (m : ScriptMeant) → runs self.old m → runs self.new m }
+        ensures spent { IsTrue (is_spent self.old) → IsErr result × ((seen self.new).piece.taken ≡ (seen self.old).piece.taken) }
+        ensures err { IsTrue (is_spent self.new) ↔ IsErr result };
+
+    /// What the firings made.
+    fn finish(self) -> Piece
+        ensures { piece_seen result ≡ (seen self).piece };
+}

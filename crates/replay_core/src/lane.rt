@@ -1,0 +1,141 @@
+//! Lanes: what all engines share.
+
+ghost use Rattle.std.specs.Prelude.{◌≡◌, ◌+◌, ◌*◌, ◌<◌, ◌≤◌, ◌^◌, ◌∷◌, [], List, All, IfOk, OnOk, false, true, is_some, length, map, sum_by};
+ghost use Rattle.aggregations.specs.Table.{count_held, functions_of};
+ghost use Rattle.std.specs.List.{AllZip};
+ghost use Rattle.d_types.specs.Typed.{ClauseMeant, ScriptMeant};
+ghost use Rattle.replay_core.specs.Scripts.{RunsAs, functions_in};
+ghost use Rattle.replay_core.specs.Selecting.{IsSelection};
+ghost use Rattle.replay_core.specs.Seen.{piece_seen};
+ghost use Rattle.replay_core.specs.Threads.{threads_in};
+ghost use Rattle.replay_core.specs.Lanes.{Fires, IsFresh};
+ghost use Rattle.replay_core.specs.Meaning.{exit_of, history};
+
+use crate::clause::Clause;
+use crate::engine::Engine;
+use crate::piece::Piece;
+use crate::selection::Selections;
+use crate::tables::Tables;
+use crate::threads::run_on_thread;
+use aggregations::AggFn;
+use d_parser::Description;
+use firing_reader::Firing;
+use indexmap::IndexMap;
+use std::alloc::{AllocError, Global};
+
+/// Runs firings through the clauses of a script. An engine adds only how one clause is run.
+#[derive(Drop)]
+pub struct Lane<'a, C: Clause> {
+    clauses: &'a [C],
+    selections: Selections<'a>,
+    threads: IndexMap<i32, Tables>,
+    piece: Piece,
+    // Memory was refused to a firing.
+    spent: bool,
+    ghost named: { All (λ c. C.places c ≤ length (functions_of piece.table)) clauses.now },
+    ghost few: { All (λ c. C.most c ≤ 65536) clauses.now },
+    ghost described: { length selections.descriptions.items ≡ length clauses.now },
+    ghost few_descriptions: { sum_by length (map (λ d. d.now) selections.descriptions.items) ≤ 65536 },
+    ghost known: { All (IsSelection (map (λ d. d.now) selections.descriptions.items)) selections.known.items },
+    ghost room: { spent ≡ false → count_held piece.table ≤ 2 ^ 32 * length piece.taken.items },
+}
+
+impl<'a, C: Clause> Lane<'a, C> {
+    /// A lane that has run no firing, over clauses and the functions of the aggregations that they name.
+    pub fn new(
+        alloc: Global,
+        clauses: &'a [C],
+        functions: Vec<AggFn>,
+    ) -> Result<Lane<'a, C>, AllocError>
+        requires named { All (λ c. C.places c ≤ length functions.items) clauses.now }
+        requires few { All (λ c. C.most c ≤ 65536) clauses.now }
+        requires few_descriptions { sum_by C.probes clauses.now ≤ 65536 }
+        ensures script { IfOk result (λ l. (m : ScriptMeant) → AllZip C.means clauses.now m.clauses → functions.items ≡ functions_in m
+            → RunsAs C.means l.clauses.now (map (λ d. d.now) l.selections.descriptions.items) (functions_of l.piece.table) m) }
+        ensures fresh { IfOk result (λ l. IsFresh (record { threads = threads_in l.threads.entries; piece = piece_seen l.piece })) }
+    {
+        let piece = Piece::new(alloc, functions)?;
+        let descriptions = descriptions(alloc, clauses)?;
+        Ok(Lane {
+            clauses,
+            selections: Selections::new(alloc, descriptions),
+            threads: IndexMap::new(alloc),
+            piece,
+            spent: false,
+        })
+    }
+
+    // Takes the firing's number, and runs the clauses for it.
+    fn run(&mut self, firing: &Firing) -> Result<bool, AllocError>
+        requires few { length self.old.piece.taken.items < 1_000_002 }
+        requires room { count_held self.old.piece.table ≤ 2 ^ 32 * length self.old.piece.taken.items }
+        requires spent { self.old.spent ≡ true }
+        ensures spent { self.new.spent ≡ true }
+        ensures script { (m : ScriptMeant)
+            → RunsAs C.means self.old.clauses.now (map (λ d. d.now) self.old.selections.descriptions.items) (functions_of self.old.piece.table) m
+            → RunsAs C.means self.new.clauses.now (map (λ d. d.now) self.new.selections.descriptions.items) (functions_of self.new.piece.table) m }
+        ensures room { OnOk result (count_held self.new.piece.table ≤ 2 ^ 32 * length self.new.piece.taken.items) }
+        ensures step { OnOk result ((m : ScriptMeant)
+            → RunsAs C.means self.old.clauses.now (map (λ d. d.now) self.old.selections.descriptions.items) (functions_of self.old.piece.table) m
+            → Fires m firing.now (record { threads = threads_in self.old.threads.entries; piece = piece_seen self.old.piece })
+            (record { threads = threads_in self.new.threads.entries; piece = piece_seen self.new.piece })) }
+        ensures exits { IfOk result (λ exits. (m : ScriptMeant)
+            → RunsAs C.means self.old.clauses.now (map (λ d. d.now) self.old.selections.descriptions.items) (functions_of self.old.piece.table) m
+            → exits ≡ is_some (exit_of (history m (firing.now ∷ []) (threads_in self.old.threads.entries)))) }
+    {
+        self.piece.taken.push(firing.number)?;
+        self.selections.turn_to(firing)?;
+        run_on_thread(
+            self.clauses,
+            self.selections.places(),
+            firing,
+            &mut self.threads,
+            &mut self.piece,
+        )
+    }
+}
+
+// The descriptions of each clause.
+fn descriptions<'a, C: Clause>(
+    alloc: Global,
+    clauses: &'a [C],
+) -> Result<Vec<&'a [Description]>, AllocError>
+    ensures each { IfOk result (λ v. length v.items ≡ length clauses.now) }
+    ensures probes { IfOk result (λ v. sum_by length (map (λ d. d.now) v.items) ≡ sum_by C.probes clauses.now) }
+    ensures meaning { IfOk result (λ v. (cs : List ClauseMeant) → AllZip C.means clauses.now cs
+        → map (λ d. d.now) v.items ≡ map (λ c. c.descriptions) cs) }
+{
+    let mut all = Vec::new(alloc);
+    for clause in clauses {
+        all.push(clause.descriptions())?;
+    }
+    Ok(all)
+}
+
+impl<'a, C: Clause> Engine for Lane<'a, C> {
+    ghost use Rattle.std.specs.Prelude.{map};
+    ghost use Rattle.aggregations.specs.Table.{functions_of};
+    ghost use Rattle.replay_core.specs.Scripts.{RunsAs};
+    ghost use Rattle.replay_core.specs.Seen.{piece_seen};
+    ghost use Rattle.replay_core.specs.Threads.{threads_in};
+
+    ghost runs = { λ l m. RunsAs C.means l.clauses.now (map (λ d. d.now) l.selections.descriptions.items) (functions_of l.piece.table) m };
+
+    ghost seen = { λ l. record { threads = threads_in l.threads.entries; piece = piece_seen l.piece } };
+
+    ghost is_spent = { λ l. l.spent };
+
+    fn fire(&mut self, firing: &Firing) -> Result<bool, AllocError> {
+        if self.spent {
+            return Err(AllocError);
+        }
+        self.spent = true;
+        let exits = self.run(firing)?;
+        self.spent = false;
+        Ok(exits)
+    }
+
+    fn finish(self) -> Piece {
+        self.piece
+    }
+}

@@ -1,0 +1,113 @@
+//! Which probes a description matches.
+
+ghost use Rattle.std.specs.Prelude.{◌≡◌, ◌≢◌, ◌≤◌, ◌-◌, ◌↔◌, ◌∷◌, ◌++◌, ◌&&◌, ◌==◌, ℕ, List, All, IsTrue, MatchOption, length, take, drop};
+ghost use Rattle.std.specs.List.{list_all, zip};
+ghost use Rattle.replay_core.specs.Patterns.{Matches, field_matches, is_plain, is_same_or_question, probe_of, selects};
+
+use crate::bytes::split_at_first;
+use d_parser::Description;
+use firing_reader::Firing;
+
+/// Whether each field of the description matches the firing's probe.
+pub(crate) fn is_selected(description: &Description, firing: &Firing) -> bool
+    ensures { result ≡ selects description.now (probe_of firing.now) }
+{
+    is_field_match(description.provider.as_slice(), firing.provider.as_bytes())
+        && is_field_match(description.module.as_slice(), firing.probemod.as_bytes())
+        && is_field_match(description.function.as_slice(), firing.probefunc.as_bytes())
+        && is_field_match(description.name.as_slice(), firing.name.as_bytes())
+}
+
+// An empty field matches everything.
+fn is_field_match(pattern: &[u8], text: &[u8]) -> bool
+    ensures { result ≡ field_matches pattern.now text.now }
+{
+    pattern.is_empty() || is_match(pattern, text)
+}
+
+fn is_match(pattern: &[u8], text: &[u8]) -> bool
+    ensures { IsTrue result ↔ Matches pattern.now text.now }
+{
+    if is_literal(pattern) {
+        pattern == text
+    } else {
+        is_wild_match(pattern, text)
+    }
+}
+
+fn is_literal(pattern: &[u8]) -> bool
+    ensures { result ≡ list_all is_plain pattern.now }
+{
+    pattern.iter().all(|p| *p != b'*' && *p != b'?')
+}
+
+// What stands before the first star has one place. Behind it a run between two stars takes the first place where it
+// fits: wherever the rest of the pattern matches behind a later place, it also matches behind the first.
+fn is_wild_match(pattern: &[u8], text: &[u8]) -> bool
+    ensures { IsTrue result ↔ Matches pattern.now text.now }
+{
+    match split_at_first(pattern, b'*') {
+        None => fits(pattern, text),
+        Some((run, behind)) => begins(run, text) && is_match_anywhere(behind, &text[run.len()..]),
+    }
+}
+
+// Whether the pattern matches what stands behind some of the bytes.
+fn is_match_anywhere(pattern: &[u8], text: &[u8]) -> bool
+    ensures { IsTrue result ↔ Matches (42 ∷ pattern.now) text.now }
+{
+    let mut pattern = pattern;
+    let mut text = text;
+    while let Some((run, behind)) = split_at_first(pattern, b'*') {
+        let Some(rest) = behind_first(run, text) else {
+            return false;
+        };
+        pattern = behind;
+        text = rest;
+    }
+    ends(pattern, text)
+}
+
+// What stands behind the first place where the run fits.
+fn behind_first<'a>(run: &[u8], text: &'a [u8]) -> Option<&'a [u8]>
+    requires { All (λ p. p ≢ 42) run.now }
+    ensures { MatchOption result ((after : List ℕ) → ¬ Matches (42 ∷ (run.now ++ after)) text.now)
+        (λ rest. (after : List ℕ) → Matches (42 ∷ (run.now ++ 42 ∷ after)) text.now ↔ Matches (42 ∷ after) rest.now) }
+{
+    let mut rest = text;
+    while !begins(run, rest) {
+        let [_, behind @ ..] = rest else {
+            return None;
+        };
+        rest = behind;
+    }
+    Some(&rest[run.len()..])
+}
+
+fn begins(run: &[u8], text: &[u8]) -> bool
+    requires { All (λ p. p ≢ 42) run.now }
+    ensures { IsTrue result ↔ ((length run.now ≤ length text.now) × Matches run.now (take (length run.now) text.now)) }
+{
+    run.len() <= text.len() && fits(run, &text[..run.len()])
+}
+
+fn ends(run: &[u8], text: &[u8]) -> bool
+    requires { All (λ p. p ≢ 42) run.now }
+    ensures { IsTrue result ↔ ((length run.now ≤ length text.now) × Matches run.now (drop (length text.now - length run.now) text.now)) }
+{
+    run.len() <= text.len() && fits(run, &text[text.len() - run.len()..])
+}
+
+// A pattern without stars matches byte by byte.
+fn fits(run: &[u8], text: &[u8]) -> bool
+    requires { All (λ p. p ≢ 42) run.now }
+    ensures { IsTrue result ↔ Matches run.now text.now }
+{
+    run.len() == text.len() && are_same(run, text)
+}
+
+fn are_same(run: &[u8], text: &[u8]) -> bool
+    ensures { result ≡ list_all is_same_or_question (zip run.now text.now) }
+{
+    run.iter().zip(text).all(|(p, b)| p == b || *p == b'?')
+}

@@ -1,0 +1,165 @@
+//! Which clauses run for a probe: decided once for each.
+
+ghost use Rattle.std.specs.Prelude.{◌≡◌, ◌++◌, true, All, IfOk, OnOk, filter, map};
+ghost use Rattle.replay_core.specs.Patterns.{probe_of, selects};
+ghost use Rattle.replay_core.specs.Places.{places_for};
+
+use crate::matching::is_selected;
+use crate::probe::Probe;
+use d_parser::Description;
+use firing_reader::Firing;
+use indexmap::IndexMap;
+use std::alloc::{AllocError, Global};
+
+/// The clauses that run for a probe, by their places among the script's: in the script's order, each once for each of its
+/// descriptions that selects the probe.
+#[derive(Drop)]
+pub(crate) struct Selection {
+    probe: Probe,
+    places: Vec<usize>,
+}
+
+/// The selections for the probes that fired so far.
+#[derive(Drop)]
+pub(crate) struct Selections<'a> {
+    alloc: Global,
+    // Those of each clause.
+    descriptions: Vec<&'a [Description]>,
+    known: Vec<Selection>,
+    // The place among those known that was last filled or found under the probe's name.
+    named: IndexMap<Vec<u8>, usize>,
+    // The name of the probe that is looked for.
+    name: Vec<u8>,
+    // The place among those known of the selection for the probe that fired last.
+    last: usize,
+}
+
+impl<'a> Selections<'a> {
+    ghost use Rattle.replay_core.specs.Selecting.{IsSelection, places_at};
+
+    /// None yet, of clauses with these descriptions.
+    pub(crate) fn new(alloc: Global, descriptions: Vec<&'a [Description]>) -> Selections<'a>
+        ensures descriptions { result.descriptions.items ≡ descriptions.entry.items }
+        ensures known { All (IsSelection (map (λ d. d.now) result.descriptions.items)) result.known.items }
+    {
+        Selections {
+            alloc,
+            descriptions,
+            known: Vec::new(alloc),
+            named: IndexMap::new(alloc),
+            name: Vec::new(alloc),
+            last: 0,
+        }
+    }
+
+    /// Turns to the selection for the firing's probe.
+    pub(crate) fn turn_to(&mut self, firing: &Firing) -> Result<(), AllocError>
+        requires { All (IsSelection (map (λ d. d.now) self.old.descriptions.items)) self.old.known.items }
+        ensures descriptions { self.new.descriptions.items ≡ self.old.descriptions.items }
+        ensures known { All (IsSelection (map (λ d. d.now) self.new.descriptions.items)) self.new.known.items }
+        ensures turned { OnOk result (places_at self.new.known.items self.new.last
+            ≡ places_for (probe_of firing.now) 0 (map (λ d. d.now) self.new.descriptions.items)) }
+    {
+        if self.is_at(self.last, firing) {
+            return Ok(());
+        }
+        self.write_name(firing)?;
+        if let Some(place) = self.named.get(&self.name) {
+            let place = *place;
+            if self.is_at(place, firing) {
+                self.last = place;
+                return Ok(());
+            }
+        }
+        self.learn(firing)
+    }
+
+    /// The places of the clauses, by the selection that it is at.
+    pub(crate) fn places(&self) -> &[usize]
+        ensures { result.now ≡ places_at self.now.known.items self.now.last }
+    {
+        match self.known.get(self.last) {
+            Some(selection) => &selection.places,
+            None => &[],
+        }
+    }
+
+    // Whether the selection at the place is for the firing's probe.
+    fn is_at(&self, place: usize, firing: &Firing) -> bool
+        requires { All (IsSelection (map (λ d. d.now) self.now.descriptions.items)) self.now.known.items }
+        ensures { result ≡ true → places_at self.now.known.items place
+            ≡ places_for (probe_of firing.now) 0 (map (λ d. d.now) self.now.descriptions.items) }
+    {
+        match self.known.get(place) {
+            Some(selection) => selection.probe.is_of(firing),
+            None => false,
+        }
+    }
+
+    // Writes the parts of the probe's name, each after a zero byte, which none of them has.
+    fn write_name(&mut self, firing: &Firing) -> Result<(), AllocError>
+        ensures descriptions { self.new.descriptions.items ≡ self.old.descriptions.items }
+        ensures known { self.new.known.items ≡ self.old.known.items }
+    {
+        self.name.clear();
+        for part in [
+            &firing.name,
+            &firing.probefunc,
+            &firing.probemod,
+            &firing.provider,
+        ] {
+            self.name.extend_from_slice(part.as_bytes())?;
+            self.name.push(0)?;
+        }
+        Ok(())
+    }
+
+    // Adds the selection for the firing's probe, under the name that was written.
+    fn learn(&mut self, firing: &Firing) -> Result<(), AllocError>
+        requires { All (IsSelection (map (λ d. d.now) self.old.descriptions.items)) self.old.known.items }
+        ensures descriptions { self.new.descriptions.items ≡ self.old.descriptions.items }
+        ensures known { All (IsSelection (map (λ d. d.now) self.new.descriptions.items)) self.new.known.items }
+        ensures turned { OnOk result (places_at self.new.known.items self.new.last
+            ≡ places_for (probe_of firing.now) 0 (map (λ d. d.now) self.new.descriptions.items)) }
+    {
+        let probe = Probe::of(firing)?;
+        let places = selected(self.alloc, &self.descriptions, firing)?;
+        let place = self.known.len();
+        self.known.push(Selection { probe, places })?;
+        self.last = place;
+        self.named.insert(self.name.clone()?, place)?;
+        Ok(())
+    }
+}
+
+// The places of the clauses that run for the firing.
+fn selected(
+    alloc: Global,
+    descriptions: &[&[Description]],
+    firing: &Firing,
+) -> Result<Vec<usize>, AllocError>
+    ensures { IfOk result (λ places. places.items ≡ places_for (probe_of firing.now) 0 (map (λ d. d.now) descriptions.now)) }
+{
+    let mut places = Vec::new(alloc);
+    for (place, descriptions) in descriptions.iter().enumerate() {
+        add_selected(&mut places, place, descriptions, firing)?;
+    }
+    Ok(places)
+}
+
+// The place, once for each of the descriptions that selects the firing.
+fn add_selected(
+    places: &mut Vec<usize>,
+    place: usize,
+    descriptions: &[Description],
+    firing: &Firing,
+) -> Result<(), AllocError>
+    ensures { OnOk result (places.new.items ≡ places.old.items ++ map (λ d. place) (filter (λ d. selects d (probe_of firing.now)) descriptions.now)) }
+{
+    for description in descriptions {
+        if is_selected(description, firing) {
+            places.push(place)?;
+        }
+    }
+    Ok(())
+}

@@ -1,0 +1,28 @@
+//! The variables of threads.
+
+ghost use Rattle.std.specs.Prelude.{◌≡◌, []};
+
+use d_values::{ClauseLocals, ThreadTable};
+use std::alloc::Global;
+
+/// The tables in which the clauses of a thread's firings find their variables.
+#[derive(Drop)]
+pub(crate) struct Tables {
+    /// What the clauses of the present firing share.
+    pub(crate) locals: ClauseLocals,
+    /// What the thread keeps.
+    pub(crate) own: ThreadTable,
+}
+
+impl Tables {
+    /// Nothing is assigned.
+    pub(crate) fn new(alloc: Global) -> Tables
+        ensures locals { result.locals ≡ [] }
+        ensures own { result.own ≡ [] }
+    {
+        Tables {
+            locals: ClauseLocals::new(alloc),
+            own: ThreadTable::new(alloc),
+        }
+    }
+}

@@ -1,0 +1,58 @@
+//! The clauses of a firing on the variables of its thread.
+
+ghost use Rattle.std.specs.Prelude.{◌≡◌, ◌+◌, ◌*◌, ◌<◌, ◌≤◌, ◌^◌, ℕ, ℤ, List, All, IfOk, OnOk, is_some, length, if◌then◌else◌};
+ghost use Rattle.std.specs.List.{AllZip};
+ghost use Rattle.std.specs.Ordering.{int_eq};
+ghost use Rattle.aggregations.specs.Table.{count_held, functions_of};
+ghost use Rattle.d_types.specs.Typed.{ClauseMeant};
+ghost use Rattle.replay_core.specs.Lanes.{Notes};
+ghost use Rattle.replay_core.specs.Meaning.{at_start};
+ghost use Rattle.replay_core.specs.Seen.{piece_seen};
+ghost use Rattle.replay_core.specs.Threads.{threads_in};
+ghost use Rattle.replay_core.specs.Turns.{turns};
+
+use crate::clause::Clause;
+use crate::piece::Piece;
+use crate::tables::Tables;
+use crate::turns::run_in_turn;
+use firing_reader::Firing;
+use indexmap::IndexMap;
+use std::alloc::AllocError;
+
+/// Runs the clauses at these places for a firing, on its thread's variables, and answers whether one exited.
+pub(crate) fn run_on_thread<C: Clause>(
+    clauses: &[C],
+    places: &[usize],
+    firing: &Firing,
+    threads: &mut IndexMap<i32, Tables>,
+    piece: &mut Piece,
+) -> Result<bool, AllocError>
+    requires there { All (λ place. place < length clauses.now) places.now }
+    requires named { All (λ c. C.places c ≤ length (functions_of piece.old.table)) clauses.now }
+    requires few { All (λ c. C.most c ≤ 65536) clauses.now }
+    requires room { count_held piece.old.table + 65536 * length places.now ≤ 2 ^ 52 }
+    ensures functions { functions_of piece.new.table ≡ functions_of piece.old.table }
+    ensures taken { piece.new.taken.items ≡ piece.old.taken.items }
+    ensures notes { OnOk result ((cs : List ClauseMeant) → AllZip C.means clauses.now cs →
+        Notes firing.now.number (turns firing.now cs places.now (at_start (threads_in threads.old.entries firing.now.thread))) (piece_seen piece.old) (piece_seen piece.new)) }
+    ensures threads { OnOk result ((cs : List ClauseMeant) → AllZip C.means clauses.now cs → (thread : ℤ) →
+        threads_in threads.new.entries thread ≡ (if int_eq thread firing.now.thread
+        then (turns firing.now cs places.now (at_start (threads_in threads.old.entries firing.now.thread))).variables.own
+        else threads_in threads.old.entries thread)) }
+    ensures exits { IfOk result (λ exits. (cs : List ClauseMeant) → AllZip C.means clauses.now cs →
+        exits ≡ is_some (turns firing.now cs places.now (at_start (threads_in threads.old.entries firing.now.thread))).exit) }
+    ensures held { OnOk result (count_held piece.new.table ≤ count_held piece.old.table + 65536 * length places.now) }
+{
+    match threads.get_mut(&firing.thread) {
+        Some(tables) => {
+            tables.locals.reset();
+            run_in_turn(clauses, places, firing, tables, piece)
+        }
+        None => {
+            let mut tables = Tables::new(*piece.taken.allocator());
+            let exits = run_in_turn(clauses, places, firing, &mut tables, piece)?;
+            threads.insert(firing.thread, tables)?;
+            Ok(exits)
+        }
+    }
+}

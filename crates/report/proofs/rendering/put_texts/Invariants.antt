@@ -1,0 +1,6 @@
+use Rattle.std.proofs.Common.{◌≡◌, ◌++◌, drop}
+use Rattle.std.specs.List.{flat_map}
+use Rattle.report.proofs.rendering.put_texts.Given as goal
+
+abbrev pub invariant-loop-text : goal.invariant-loop-text
+invariant-loop-text l = l.out.items ++ flat_map (λ text. text.1) (drop l.text-index l.texts) ≡ l.fn.out.items ++ flat_map (λ text. text.1) l.texts

@@ -1,8 +1,0 @@
-use Rattle.std.proofs.Common.{List, take}
-use Rattle.aggregations.specs.Table.{Contribution, StandsFor, functions_of}
-use Rattle.report.specs.Output.{Shows}
-use Rattle.report.proofs.rendering.render.Given as goal
-
-abbrev pub invariant-loop-agg : goal.invariant-loop-agg
-invariant-loop-agg l = (contributions : List Contribution) → StandsFor l.table contributions
-    → Shows (take l.agg (functions_of l.table)) contributions l.out.items

@@ -1,0 +1,6 @@
+/* Which calls fail, and whose are they? */
+syscall:::return
+/ arg0 == -1 /
+{
+    @[probefunc, execname] = count();
+}

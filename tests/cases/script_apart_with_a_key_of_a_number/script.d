@@ -1,0 +1,1 @@
+:::entry { @[pid] = count(); }
