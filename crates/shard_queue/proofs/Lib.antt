@@ -1,0 +1,14 @@
+pub mod Totals
+pub mod Drawing
+pub mod Least
+pub mod BoardSteps
+pub mod Lists
+pub mod Seats
+pub mod Marks
+pub mod QueueSteps
+pub mod QueueSeats
+pub mod Sought
+pub mod Listed
+pub mod Wrongs
+pub mod Places
+pub mod Unite

@@ -1,0 +1,50 @@
+-- What the views know of lists of seats.
+use Rattle.std.proofs.Common.{◌≡◌, ℕ, min, ◌≤◌, ◌+◌, List, [], ◌∷◌, ◌++◌, sym, ap, ◌∙◌, subst, arith, append_assoc, append-nil, if◌then◌else◌, length-append}
+use Rattle.shard_queue.specs.declared.knowledge.BoardView.{BoardView}
+use Rattle.shard_queue.specs.declared.claim_seat.ClaimSeat.{ClaimSeat}
+use Rattle.shard_queue.specs.Hands.{hand, gathered, IsHandOut}
+use Rattle.shard_queue.specs.Least.{no_number}
+use Rattle.shard_queue.specs.BoardRule.{both}
+use Rattle.shard_queue.specs.Boards.{drawn_of, told_in, lowered, seen, least_lowered, least_seen, Counts}
+
+pub drawn_of-more : (ss : List ClaimSeat) (s : ClaimSeat) → drawn_of (ss ++ s ∷ []) ≡ drawn_of ss ++ s.taken.items
+drawn_of-more [] s = append-nil s.taken.items
+drawn_of-more (x ∷ ss) s = ap (λ ys. x.taken.items ++ ys) (drawn_of-more ss s) ∙ sym (append_assoc x.taken.items (drawn_of ss) s.taken.items)
+
+pub told_in-more : (ss : List ClaimSeat) (s : ClaimSeat) → told_in (ss ++ s ∷ []) ≡ told_in ss + (if s.told then 1 else 0)
+told_in-more [] s = omega arith
+told_in-more (x ∷ ss) s = let more = told_in-more ss s in omega arith
+
+pub lowered-more : (ss : List ClaimSeat) (s : ClaimSeat) → least_lowered (ss ++ s ∷ []) ≡ min (least_lowered ss) (lowered s)
+lowered-more [] s = omega arith
+lowered-more (x ∷ ss) s = let more = lowered-more ss s in omega arith
+
+pub seen-more : (ss : List ClaimSeat) (s : ClaimSeat) → least_seen (ss ++ s ∷ []) ≡ min (least_seen ss) (seen s)
+seen-more [] s = omega arith
+seen-more (x ∷ ss) s = let more = seen-more ss s in omega arith
+
+pub lowered-small : (ss : List ClaimSeat) → least_lowered ss ≤ no_number
+lowered-small [] = omega arith
+lowered-small (x ∷ ss) = let more = lowered-small ss in omega arith
+
+pub counts_more : (ss : List ClaimSeat) (v : BoardView) (s : ClaimSeat) (u : BoardView) → Counts ss v → s.seat.me.0.hand ≡ hand s.end 1 (if s.told then 1 else 0) s.taken.items → u ≡ both v s.seat.me.0 → Counts (ss ++ s ∷ []) u
+counts_more ss v s u c is new =
+    let its : u.hand ≡ gathered v.hand (hand s.end 1 (if s.told then 1 else 0) s.taken.items) = ap (λ (x : BoardView). x.hand) new ∙ ap (gathered v.hand) is in
+    let len = length-append ss (s ∷ []) in
+    let told = told_in-more ss s in
+    let a = c.seats in
+    let b = c.told in
+    let n : u.hand.seats ≡ v.hand.seats + 1 = ap (λ x. x.seats) its in
+    let t : u.hand.told ≡ v.hand.told + (if s.told then 1 else 0) = ap (λ x. x.told) its in
+    record {
+      seats = omega arith;
+      told = omega arith;
+      drawn = ap (λ x. x.drawn) its ∙ ap (λ ys. ys ++ s.taken.items) c.drawn ∙ sym (drawn_of-more ss s);
+      lowered = ap (λ (x : BoardView). x.low.lowered) new ∙ ap (λ n. min n (lowered s)) c.lowered ∙ sym (lowered-more ss s);
+      seen = ap (λ (x : BoardView). x.low.seen) new ∙ ap (λ n. min n (seen s)) c.seen ∙ sym (seen-more ss s);
+    }
+
+-- what a view knows, for seats that are all that it counts
+pub whole_as : (n : ℕ) (ss all : List ClaimSeat) (v : BoardView) → Counts ss v → ss ≡ all → IsHandOut n v.hand.told v.hand.drawn → IsHandOut n (told_in all) (drawn_of all)
+whole_as n ss all v c same w = subst (λ (ts : List ClaimSeat). IsHandOut n (told_in ts) (drawn_of ts)) same
+    (subst (λ t. IsHandOut n t (drawn_of ss)) c.told (subst (λ (xs : List ℕ). IsHandOut n v.hand.told xs) c.drawn w))

@@ -1,0 +1,51 @@
+-- Why lists group no threads.
+use Rattle.std.specs.Prelude.{◌≡◌, ◌<◌, ◌≤◌, ◌⊎◌, ℕ, ℤ, not, List, [], ◌∷◌, ◌++◌, length, flat_map, find, if◌then◌else◌, option_map, Option, Some, None}
+use Rattle.std.specs.Option.{option_or}
+use Rattle.firing_reader.specs.declared.firing.Firing.{Firing}
+use Rattle.shard_queue.specs.declared.fault.GroupFault.{GroupFault}
+use Rattle.shard_queue.specs.declared.fault.GroupFault.TheVariants.{Missing, Doubled, Stranger, TooMany}
+use Rattle.shard_queue.specs.Threads.{has, AreThreads}
+use Rattle.shard_queue.specs.Groupings.{Grouping, listed}
+
+-- all that the lists have, list after list
+abbrev pub all_of : List (List ℤ) → List ℤ
+all_of lists = flat_map (λ list. list) lists
+
+-- the first of some threads that did not fire, or that stood before
+abbrev pub first_wrong : (threads before : List ℤ) → List ℤ → Option GroupFault
+first_wrong threads before [] = None
+first_wrong threads before (t ∷ ts) =
+    if not (has threads t) then Some (Stranger t)
+    else if has before t then Some (Doubled t)
+    else first_wrong threads (before ++ t ∷ []) ts
+
+-- the least thread that is in no list
+abbrev pub first_missing : (threads listed : List ℤ) → Option GroupFault
+first_missing threads listed = option_map Missing (find (λ t. not (has listed t)) threads)
+
+-- the first wrong thread of lists, else the least missing one, where these threads fired
+abbrev pub thread_fault : (threads : List ℤ) → List (List ℤ) → Option GroupFault
+thread_fault threads lists =
+    option_or (first_wrong threads [] (all_of lists)) (first_missing threads (all_of lists))
+
+-- the lists group the trace's threads, each in one list
+pub record IsListed (lists : List (List ℤ)) (trace : List Firing) (groups : Grouping) : Type 0 where
+  pub few : length lists ≤ 4096
+  pub threads : List ℤ
+  pub fired : AreThreads trace threads
+  pub faultless : thread_fault threads lists ≡ None
+  pub is : groups ≡ listed lists
+
+-- they don't, since there are too many of them, or else since a thread is wrong or missing
+abbrev pub IsListFault : List (List ℤ) → List Firing → GroupFault → Type 0
+IsListFault lists trace fault =
+    ((4096 < length lists) × (fault ≡ TooMany))
+    ⊎ ((length lists ≤ 4096) × ((threads : List ℤ) × AreThreads trace threads
+    × (thread_fault threads lists ≡ Some fault)))
+
+-- the first thread without a number
+abbrev pub first_unfound : List ℤ → List (Option ℕ) → Option GroupFault
+first_unfound [] numbers = None
+first_unfound (t ∷ ts) [] = None
+first_unfound (t ∷ ts) (None ∷ numbers) = Some (Missing t)
+first_unfound (t ∷ ts) (Some number ∷ numbers) = first_unfound ts numbers

@@ -1,0 +1,56 @@
+-- Groupings: how many groups there are, and which thread is in which.
+use Rattle.std.specs.Prelude.{◌≡◌, ℕ, suc, ◌+◌, ◌%◌, ◌==◌, ℤ, Bool, false, List, [], ◌∷◌, length, filter, if◌then◌else◌, option_map, Option, Some, None}
+use Rattle.std.specs.Ordering.{int_eq}
+use Rattle.std.specs.List.{position_from}
+use Rattle.firing_reader.specs.declared.firing.Firing.{Firing}
+use Rattle.shard_queue.specs.Threads.{thread_zero, has, AreThreads}
+
+-- the groups are numbered from 0; a thread that no group has is a stranger
+pub record Grouping : Type 0 where
+  pub count : ℕ
+  pub group : ℤ → Option ℕ
+
+-- these groups, and thread 0 in one of its own after them
+abbrev pub with_own : ℕ → (ℤ → Option ℕ) → Grouping
+with_own count group = record {
+  count = count + 1;
+  group = λ t. if int_eq t thread_zero then Some count else group t;
+}
+
+-- dealt into so many groups: the i-th thread goes to group i modulo their number
+abbrev pub dealt : ℕ → List ℤ → Grouping
+dealt count threads =
+    with_own count (λ t. option_map (λ i. i % count) (position_from (int_eq t) 0 threads))
+
+-- the first of these lists that has the thread
+abbrev pub list_of : List (List ℤ) → ℤ → Option ℕ
+list_of lists t = position_from (λ list. has list t) 0 lists
+
+-- a group for each list. No list at all is read as one empty list
+abbrev pub listed : List (List ℤ) → Grouping
+listed [] = with_own 1 (list_of ([] ∷ []))
+listed (list ∷ lists) = with_own (length lists + 1) (list_of (list ∷ lists))
+
+-- the trace's threads, ascending, dealt into so many groups
+abbrev pub IsDealt : ℕ → List Firing → Grouping → Type 0
+IsDealt count trace grouping =
+    (threads : List ℤ) × AreThreads trace threads × (grouping ≡ dealt count threads)
+
+-- whether this is group g
+abbrev pub is_group : ℕ → Option ℕ → Bool
+is_group g None = false
+is_group g (Some h) = h == g
+
+-- the firings of a group's threads, in their order
+abbrev pub of_group : Grouping → ℕ → List Firing → List Firing
+of_group grouping g firings = filter (λ f. is_group g (grouping.group f.thread)) firings
+
+-- the places of the threads that pass, where the first has place i
+abbrev pub places_from : (ℤ → Bool) → ℕ → List ℤ → List ℕ
+places_from test i [] = []
+places_from test i (t ∷ ts) =
+    if test t then i ∷ places_from test (suc i) ts else places_from test (suc i) ts
+
+-- the places of a group's firings, where a run has those of these threads
+abbrev pub places_of : Grouping → ℕ → List ℤ → List ℕ
+places_of grouping g threads = places_from (λ t. is_group g (grouping.group t)) 0 threads

@@ -1,0 +1,45 @@
+-- What was handed to the seats of a board or a queue, added up.
+use Rattle.std.specs.Prelude.{◌≡◌, ℕ, ◌+◌, ◌-◌, ◌≤◌, ◌<◌, List, [], ◌∷◌, ◌++◌}
+use mathlib.Core.Option.{some}
+use lib.ListN.{get_elem?}
+use Rattle.shard_queue.specs.declared.knowledge.Hand.{Hand}
+use Rattle.shard_queue.specs.Numbers.{IsAllBelow}
+
+abbrev pub hand : ℕ → ℕ → ℕ → List ℕ → Hand
+hand end seats told drawn = record { end = end; seats = seats; told = told; drawn = drawn }
+
+-- one view that knows what two did
+abbrev pub gathered : Hand → Hand → Hand
+gathered v w = hand w.end (v.seats + w.seats) (v.told + w.told) (v.drawn ++ w.drawn)
+
+-- a seat is cut off
+abbrev pub one_less : Hand → Hand
+one_less v = hand v.end (v.seats - 1) v.told v.drawn
+
+abbrev pub empty_hand : Hand
+empty_hand = hand 0 0 0 []
+
+-- f of each view, added up
+abbrev pub total : (Hand → ℕ) → List Hand → ℕ
+total f [] = 0
+total f (v ∷ vs) = f v + total f vs
+
+abbrev pub seats_of : Hand → ℕ
+seats_of v = v.seats
+
+abbrev pub told_of : Hand → ℕ
+told_of v = v.told
+
+-- a view that counts seats knows the end. One that counts none has drawn nothing
+pub record Fits (n : ℕ) (v : Hand) : Type 0 where
+  pub ends : 0 < v.seats → v.end ≡ n
+  pub few : v.told ≤ v.seats
+  pub idle : v.seats ≡ 0 → v.drawn ≡ []
+
+abbrev pub AllFit : ℕ → List Hand → Type 0
+AllFit n views = (by : ℕ) (v : Hand) → get_elem? views by ≡ some v → Fits n v
+
+-- what was drawn is the numbers below some front, each once: all below n if someone was told the end
+abbrev pub IsHandOut : ℕ → ℕ → List ℕ → Type 0
+IsHandOut n told drawn =
+    (front : ℕ) × (front ≤ n) × (0 < told → front ≡ n) × IsAllBelow front drawn

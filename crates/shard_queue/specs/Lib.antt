@@ -1,0 +1,13 @@
+pub mod Numbers
+pub mod Hands
+pub mod Drawing
+pub mod Least
+pub mod BoardRule
+pub mod Boards
+pub mod Marks
+pub mod QueueRule
+pub mod Queues
+pub mod Threads
+pub mod Groupings
+pub mod Faults
+pub mod Groups

@@ -1,0 +1,144 @@
+//! A board of two words. From the first each seat claims numbers; the second is the least number that
+//! a seat lowered.
+ghost use Rattle.std.specs.Prelude.{◌≡◌, ◌<◌, ◌≤◌, ◌-◌, [], map, All, vec_len, vec_capacity, IfOk};
+ghost use Rattle.shard_queue.specs.Hands.{hand, IsHandOut};
+ghost use Rattle.shard_queue.specs.Least.{nothing_lowered};
+ghost use Rattle.shard_queue.specs.BoardRule.{view};
+
+use crate::board_rule::{Arrives, Claims, Gathers, OneSeat};
+use crate::claim_seat::ClaimSeat;
+use crate::knowledge::BoardView;
+use atomic_table::{Seat, Table};
+use std::alloc::{AllocError, Global};
+
+/// Hands out the numbers below its end.
+#[derive(Drop)]
+pub struct ClaimBoard {
+    pub(crate) table: Table<(), BoardView, (u64, u64), Claims, Global>,
+    pub(crate) end: u32,
+    pub(crate) workers: usize,
+    ghost sized: { (table.shared.table_id.words ≡ 2) × (table.shared.table_id.slots ≡ 0) },
+    ghost key_is: { table.shared.key ≡ (end, workers) },
+}
+
+/// What a board had at its end: the numbers that each seat claimed, and the least that a seat lowered.
+#[derive(Drop)]
+pub struct Closed {
+    pub lists: Vec<Vec<u32>>,
+    pub least: u64,
+}
+
+impl ClaimBoard {
+    ghost use Rattle.shard_queue.specs.Boards.{IsAt, IsNew, drawn_of, told_in, least_lowered, least_seen};
+
+    /// A board of the numbers below `end`, and a seat for each worker. Err where memory was refused.
+    pub fn open(
+        alloc: Global,
+        end: u32,
+        workers: usize,
+    ) -> Result<(ClaimBoard, Vec<ClaimSeat>), AllocError>
+        requires { workers ≤ 16 }
+        ensures board { IfOk result (λ r. (r.0.end ≡ end) × (r.0.workers ≡ workers)) }
+        ensures seats { IfOk result
+            (λ r. (vec_len r.1 ≡ workers) × All (λ s. IsAt r.0 s × IsNew s) r.1.items) }
+    {
+        let (board, rest) = ClaimBoard::laid(alloc, end, workers)?;
+        let seats = board.seats(alloc, rest)?;
+        Ok((board, seats))
+    }
+
+    fn laid(
+        alloc: Global,
+        end: u32,
+        workers: usize,
+    ) -> Result<(ClaimBoard, Seat<(), BoardView>), AllocError>
+        requires { workers ≤ 16 }
+        ensures board { IfOk result (λ r. (r.0.end ≡ end) × (r.0.workers ≡ workers)) }
+        ensures rest { IfOk result (λ r. (r.1.table_id ≡ r.0.table.shared.table_id)
+            × (r.1.me ≡ (view (hand end workers 0 []) nothing_lowered, []))) }
+    {
+        let key = (u64::from(end), workers as u64);
+        let (table, rest) = Table::of_words(alloc, &[0, u64::MAX], &key)?;
+        Ok((
+            ClaimBoard {
+                table,
+                end,
+                workers,
+            },
+            rest,
+        ))
+    }
+
+    fn seats(
+        &self,
+        alloc: Global,
+        mut rest: Seat<(), BoardView>,
+    ) -> Result<Vec<ClaimSeat>, AllocError>
+        requires at { rest.table_id ≡ self.now.table.shared.table_id }
+        requires view { rest.me
+            ≡ (view (hand self.now.end self.now.workers 0 []) nothing_lowered, []) }
+        ensures { IfOk result
+            (λ v. (vec_len v ≡ self.now.workers) × All (λ s. IsAt self.now s × IsNew s) v.items) }
+    {
+        let mut seats = Vec::with_capacity(alloc, self.workers)?;
+        for _ in 0..self.workers {
+            let taken = Vec::with_capacity(alloc, self.end as usize)?;
+            seats.push_reserved(self.seat(&mut rest, taken));
+        }
+        Ok(seats)
+    }
+
+    // Cuts a seat off the view that counts those that are left.
+    fn seat(&self, rest: &mut Seat<(), BoardView>, taken: Vec<u32>) -> ClaimSeat
+        requires at { rest.old.table_id ≡ self.now.table.shared.table_id }
+        requires view { let left = rest.old.me.0.hand.seats in
+            (rest.old.me ≡ (view (hand self.now.end left 0 []) nothing_lowered, [])) × (0 < left) }
+        requires room { (taken.items ≡ []) × (self.now.end ≤ vec_capacity taken) }
+        ensures at { rest.new.table_id ≡ self.now.table.shared.table_id }
+        ensures view { rest.new.me
+            ≡ (view (hand self.now.end (rest.old.me.0.hand.seats - 1) 0 []) nothing_lowered, []) }
+        ensures seat { IsAt self.now result × IsNew result }
+    {
+        let seat = self.table.shared.split_seat::<OneSeat>(rest);
+        ClaimSeat {
+            seat,
+            taken,
+            end: self.end,
+            told: false,
+        }
+    }
+
+    /// Each seat's list, and the least number. With all seats, the lists have the numbers below some
+    /// front, each once, and all if a seat was told the end. Err where memory was refused.
+    pub fn close(self, alloc: Global, seats: Vec<ClaimSeat>) -> Result<Closed, AllocError>
+        requires at { All (IsAt self) seats.items }
+        requires every { vec_len seats ≡ self.workers }
+        ensures lists { IfOk result (λ c. c.lists.items ≡ map (λ s. s.taken) seats.items) }
+        ensures whole { IfOk result
+            (λ c. IsHandOut self.end (told_in seats.items) (drawn_of seats.items)) }
+        ensures least { IfOk result (λ c. (c.least ≡ least_lowered seats.items)
+            × (c.least ≤ least_seen seats.items)) }
+    {
+        let mut lists = Vec::with_capacity(alloc, seats.len())?;
+        let (_, mut all) = self.table.shared.load_new_seat::<Arrives>(0);
+        for place in seats {
+            let ClaimSeat {
+                seat,
+                taken,
+                end: _,
+                told: _,
+            } = place;
+            self.table.shared.join_seat::<Gathers>(&mut all, seat);
+            lists.push_reserved(taken);
+        }
+        let ClaimBoard {
+            table,
+            end: _,
+            workers: _,
+        } = self;
+        let closed = table.close_with(all);
+        let least = closed.word(1);
+        closed.free();
+        Ok(Closed { lists, least })
+    }
+}

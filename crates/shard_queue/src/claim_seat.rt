@@ -1,0 +1,80 @@
+//! A worker's place at a board.
+ghost use Rattle.std.specs.Prelude.{◌≡◌, ◌<◌, ◌≤◌, ◌++◌, ◌∷◌, [], true, false, min, if◌then◌else◌, vec_capacity, Contains, IsSome, IfSome, IfNone};
+ghost use Rattle.shard_queue.specs.Hands.{hand};
+
+use crate::board::ClaimBoard;
+use crate::board_rule::{Claims, Looks, Lowers};
+use crate::knowledge::BoardView;
+use atomic_table::Seat;
+
+/// A worker's place at a board: the numbers that it claimed, and whether it was told the end.
+#[derive(Drop)]
+pub struct ClaimSeat {
+    pub(crate) seat: Seat<(), BoardView>,
+    pub(crate) taken: Vec<u32>,
+    pub(crate) end: u32,
+    pub(crate) told: bool,
+    ghost knows: { seat.me.0.hand ≡ hand end 1 (if told then 1 else 0) taken.items },
+    ghost empty: { seat.me.1 ≡ [] },
+    ghost room: { end ≤ vec_capacity taken },
+}
+
+impl ClaimBoard {
+    ghost use Rattle.shard_queue.specs.Boards.{IsAt, lowered, seen};
+
+    /// The next number, which no seat had before, or `None` at the end. A seat that was told the end is
+    /// told it again, without a step.
+    pub fn claim(&self, seat: &mut ClaimSeat) -> Option<u32>
+        requires { IsAt self.now seat.old }
+        ensures seat { IsAt self.now seat.new }
+        ensures some { IfSome result (λ g. (g < self.now.end) × ¬ (Contains seat.old.taken.items g)
+            × (seat.new.taken.items ≡ seat.old.taken.items ++ g ∷ [])) }
+        ensures more { IsSome result → (seat.old.told ≡ false) × (seat.new.told ≡ false) }
+        ensures none { IfNone result
+            ((seat.new.told ≡ true) × (seat.new.taken.items ≡ seat.old.taken.items)) }
+        ensures again { seat.old.told ≡ true → seat.new ≡ seat.old }
+        ensures least { (lowered seat.new ≡ lowered seat.old) × (seen seat.new ≡ seen seat.old) }
+    {
+        if seat.told {
+            return None;
+        }
+        let found = self.table.shared.fetch_add::<Claims>(&mut seat.seat, 0, 1);
+        if found < u64::from(seat.end) {
+            let number = found as u32;
+            seat.taken.push_reserved(number);
+            Some(number)
+        } else {
+            seat.told = true;
+            None
+        }
+    }
+
+    /// The least number of the board becomes the lesser of itself and this one.
+    pub fn lower(&self, seat: &mut ClaimSeat, number: u64)
+        requires { IsAt self.now seat.old }
+        ensures seat { IsAt self.now seat.new }
+        ensures lowered { lowered seat.new ≡ min (lowered seat.old) number }
+        ensures seen { seen seat.new ≡ seen seat.old }
+        ensures others { (seat.new.taken.items ≡ seat.old.taken.items)
+            × (seat.new.told ≡ seat.old.told) }
+    {
+        self.table
+            .shared
+            .fetch_min::<Lowers>(&mut seat.seat, 1, number);
+    }
+
+    /// The least number that some seat lowered, 2^64 - 1 without any. It is no more than what this seat
+    /// lowered or was shown.
+    pub fn least(&self, seat: &mut ClaimSeat) -> u64
+        requires { IsAt self.now seat.old }
+        ensures seat { IsAt self.now seat.new }
+        ensures own { result ≤ lowered seat.old }
+        ensures before { result ≤ seen seat.old }
+        ensures lowered { lowered seat.new ≡ lowered seat.old }
+        ensures seen { seen seat.new ≡ result }
+        ensures others { (seat.new.taken.items ≡ seat.old.taken.items)
+            × (seat.new.told ≡ seat.old.told) }
+    {
+        self.table.shared.load::<Looks>(&mut seat.seat, 1)
+    }
+}

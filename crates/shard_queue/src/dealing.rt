@@ -1,0 +1,36 @@
+//! Threads dealt out into groups.
+
+ghost use Rattle.std.specs.Prelude.{◌≡◌, ◌<◌, ◌≤◌, ◌%◌, map, IfOk};
+ghost use Rattle.shard_queue.specs.Threads.{run_threads};
+ghost use Rattle.shard_queue.specs.Groupings.{IsDealt};
+ghost use Rattle.shard_queue.specs.Groups.{grouping, AreOf};
+ghost use Rattle.shard_queue.specs.Numbers.{below};
+
+use crate::groups::Groups;
+use firing_reader::Trace;
+use std::alloc::{AllocError, Global};
+
+impl Groups {
+    /// So many groups of the trace's threads, and after them one of thread 0: the i-th thread, ascending,
+    /// goes to group `i` modulo their number. Err where memory was refused.
+    pub fn deal(alloc: Global, trace: &Trace, groups: u32) -> Result<Groups, AllocError>
+        requires { (0 < groups) × (groups ≤ 4096) }
+        ensures dealt { IfOk result (λ r. IsDealt groups trace.now (grouping r)) }
+        ensures of { IfOk result (λ r. AreOf r (run_threads trace.now)) }
+    {
+        let threads = trace.threads(alloc)?;
+        let numbers = dealt_numbers(alloc, threads.len(), groups)?;
+        let dealt = Groups::numbered(alloc, trace, threads, numbers, groups)?;
+        Ok(dealt)
+    }
+}
+
+// 0, 1 and so on to the last group, again and again.
+fn dealt_numbers(alloc: Global, count: usize, groups: u32) -> Result<Vec<u32>, AllocError>
+    requires { 0 < groups }
+    ensures { IfOk result (λ v. v.items ≡ map (λ i. i % groups) (below count)) }
+{
+    (0..count)
+        .map(|i| (i % groups as usize) as u32)
+        .collect(alloc)
+}

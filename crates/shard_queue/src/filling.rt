@@ -1,0 +1,71 @@
+//! The places of each group's firings, noted in one pass over the trace.
+
+ghost use Rattle.std.specs.Prelude.{◌≡◌, ◌<◌, ◌≤◌, ◌+◌, ℕ, [], All, map, length, slice_index_or, IfOk, OnOk, vec_len};
+ghost use Rattle.std.specs.Ordering.{int_eq};
+ghost use Rattle.std.specs.List.{zip};
+ghost use Rattle.std.specs.Map.{lookup};
+ghost use Rattle.shard_queue.specs.Threads.{run_threads, AreThreads};
+ghost use Rattle.shard_queue.specs.Groupings.{places_of, with_own};
+ghost use Rattle.shard_queue.specs.Groups.{grouping, places, AreOf};
+
+use crate::groups::Groups;
+use firing_reader::{Firing, Trace};
+use std::alloc::{AllocError, Global};
+
+impl Groups {
+    // Groups in which each of the trace's threads has the number at its place, and thread 0 has `own`.
+    pub(crate) fn numbered(
+        alloc: Global,
+        trace: &Trace,
+        threads: Vec<i32>,
+        numbers: Vec<u32>,
+        own: u32,
+    ) -> Result<Groups, AllocError>
+        requires threads { AreThreads trace.now threads.items }
+        requires numbers { (vec_len numbers ≡ vec_len threads) × All (λ g. g < own) numbers.items }
+        requires few { own ≤ 4096 }
+        ensures grouping { IfOk result (λ r. grouping r
+            ≡ with_own own (λ t. lookup (int_eq t) (zip threads.items numbers.items))) }
+        ensures of { IfOk result (λ r. AreOf r (run_threads trace.now)) }
+    {
+        let places = empty_lists(alloc, own as usize + 1)?;
+        let mut groups = Groups {
+            threads,
+            numbers,
+            own,
+            places,
+        };
+        groups.fill(trace.firings())?;
+        Ok(groups)
+    }
+
+    // Notes the places of the firings, with BEGIN before them and END after them.
+    fn fill(&mut self, firings: &[Firing]) -> Result<(), AllocError>
+        requires empty { (g : ℕ) → places self.old g ≡ [] }
+        requires few { length firings.now ≤ 1_000_000 }
+        ensures grouping { OnOk result (grouping self.new ≡ grouping self.old) }
+        ensures places { OnOk result ((g : ℕ) → places self.new g
+            ≡ places_of (grouping self.old) g (run_threads firings.now)) }
+    {
+        self.add(0, 0)?;
+        let mut place = 1;
+        for firing in firings {
+            self.add(firing.thread, place)?;
+            place += 1;
+        }
+        self.add(0, place)?;
+        Ok(())
+    }
+}
+
+fn empty_lists(alloc: Global, count: usize) -> Result<Vec<Vec<u32>>, AllocError>
+    ensures len { IfOk result (λ v. vec_len v ≡ count) }
+    ensures empty { IfOk result
+        (λ v. (g : ℕ) → slice_index_or (map (λ l. l.items) v.items) g [] ≡ []) }
+{
+    let mut lists = Vec::with_capacity(alloc, count)?;
+    for _ in 0..count {
+        lists.push_reserved(Vec::new(alloc));
+    }
+    Ok(lists)
+}

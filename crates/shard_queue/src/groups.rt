@@ -1,0 +1,69 @@
+//! Groups of threads.
+
+ghost use Rattle.std.specs.Prelude.{◌≡◌, ◌<◌, ◌+◌, ◌∷◌, ◌++◌, [], ℕ, All, IfSome, OnOk, if◌then◌else◌, vec_len};
+ghost use Rattle.std.specs.Ordering.{int_cmp};
+ghost use Rattle.std.specs.List.Sorted.{IsStrictlySortedBy, IsStrictlySortedBy-prop};
+ghost use Rattle.shard_queue.specs.Groupings.{is_group};
+
+use crate::threads::place_of;
+use std::alloc::AllocError;
+
+/// Which thread is in which group, and for each group the places of its firings in the run: BEGIN has
+/// place 0, the rows of the trace follow, and END is the last.
+#[derive(Drop)]
+pub struct Groups {
+    // the threads of the trace, and at the same index the group of each
+    pub(crate) threads: Vec<i32>,
+    pub(crate) numbers: Vec<u32>,
+    // the group of thread 0
+    pub(crate) own: u32,
+    pub(crate) places: Vec<Vec<u32>>,
+    ghost ascending: { IsStrictlySortedBy int_cmp threads.items } by { IsStrictlySortedBy-prop int_cmp threads.items },
+    ghost numbered: { vec_len numbers ≡ vec_len threads },
+    ghost small: { All (λ g. g < own) numbers.items },
+    ghost sized: { vec_len places ≡ own + 1 },
+}
+
+impl Groups {
+    ghost use Rattle.shard_queue.specs.Groups.{grouping, places};
+
+    /// How many groups there are, that of thread 0 among them.
+    pub fn len(&self) -> usize
+        ensures { result ≡ (grouping self.now).count }
+    {
+        self.places.len()
+    }
+
+    /// The group of a thread, `None` for a stranger.
+    pub fn group_of(&self, thread: i32) -> Option<u32>
+        ensures group { result ≡ (grouping self.now).group thread }
+        ensures below { IfSome result (λ g. g < (grouping self.now).count) }
+    {
+        if thread == 0 {
+            return Some(self.own);
+        }
+        let place = place_of(&self.threads, thread)?;
+        Some(self.numbers[place])
+    }
+
+    /// The places of a group's firings, ascending.
+    pub fn places(&self, group: u32) -> &[u32]
+        requires { group < (grouping self.now).count }
+        ensures { result.now ≡ places self.now group }
+    {
+        self.places[group as usize].as_slice()
+    }
+
+    // Notes the place of a firing.
+    pub(crate) fn add(&mut self, thread: i32, place: u32) -> Result<(), AllocError>
+        ensures grouping { OnOk result (grouping self.new ≡ grouping self.old) }
+        ensures places { OnOk result ((g : ℕ) → places self.new g
+            ≡ (if is_group g ((grouping self.old).group thread)
+            then places self.old g ++ place ∷ [] else places self.old g)) }
+    {
+        if let Some(group) = self.group_of(thread) {
+            self.places[group as usize].push(place)?;
+        }
+        Ok(())
+    }
+}

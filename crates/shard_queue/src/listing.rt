@@ -1,0 +1,144 @@
+//! Threads grouped by lists.
+
+ghost use Rattle.std.specs.Prelude.{◌≡◌, ◌<◌, ◌≤◌, ◌+◌, ◌++◌, ◌⊎◌, ℕ, ℤ, true, false, Some, None, [], List, map, take, set, length, slice_get, slice_index_or, is_some, IfOk, OnOk, IfErr, MatchResult};
+ghost use Rattle.std.specs.Ordering.{int_cmp};
+ghost use Rattle.std.specs.List.Sorted.{IsStrictlySortedBy};
+ghost use Rattle.shard_queue.specs.Threads.{has, items_of, run_threads};
+ghost use Rattle.shard_queue.specs.Groupings.{list_of};
+ghost use Rattle.shard_queue.specs.Faults.{all_of, first_wrong, first_missing, first_unfound, thread_fault, IsListed, IsListFault};
+ghost use Rattle.shard_queue.specs.Groups.{grouping, AreOf};
+ghost use Rattle.shard_queue.specs.declared.fault.GroupFault.TheVariants.{Doubled, Stranger, Memory};
+
+use crate::fault::GroupFault;
+use crate::groups::Groups;
+use crate::threads::place_of;
+use firing_reader::Trace;
+use std::alloc::{AllocError, Global};
+
+/// The most groups that lists or a deal may make, beside that of thread 0.
+pub const MOST_GROUPS: u32 = 4096;
+
+impl Groups {
+    /// A group for each list, of the threads in it, and after them one of thread 0. Each of the trace's
+    /// threads has to be in one list, and no others may be: else the first fault is returned. No list at
+    /// all is read as one empty list.
+    pub fn from_lists(
+        alloc: Global,
+        trace: &Trace,
+        lists: &[Vec<i32>],
+    ) -> Result<Groups, GroupFault>
+        ensures listed { IfOk result (λ r. IsListed (items_of lists.now) trace.now (grouping r)) }
+        ensures of { IfOk result (λ r. AreOf r (run_threads trace.now)) }
+        ensures fault { IfErr result
+            (λ e. (e ≡ Memory) ⊎ IsListFault (items_of lists.now) trace.now e) }
+    {
+        if lists.len() > MOST_GROUPS as usize {
+            return Err(GroupFault::TooMany);
+        }
+        let threads = trace.threads(alloc)?;
+        let numbers = listed_numbers(alloc, &threads, lists)?;
+        let own = lists.len().max(1) as u32;
+        let listed = Groups::numbered(alloc, trace, threads, numbers, own)?;
+        Ok(listed)
+    }
+}
+
+// The number of each thread's list.
+fn listed_numbers(
+    alloc: Global,
+    threads: &[i32],
+    lists: &[Vec<i32>],
+) -> Result<Vec<u32>, GroupFault>
+    requires ascending { IsStrictlySortedBy int_cmp threads.now }
+    requires few { length lists.now ≤ 4096 }
+    ensures right { OnOk result (first_wrong threads.now [] (all_of (items_of lists.now)) ≡ None) }
+    ensures whole { OnOk result (first_missing threads.now (all_of (items_of lists.now)) ≡ None) }
+    ensures numbers { IfOk result
+        (λ v. map Some v.items ≡ map (list_of (items_of lists.now)) threads.now) }
+    ensures fault { IfErr result
+        (λ e. (e ≡ Memory) ⊎ (thread_fault threads.now (items_of lists.now) ≡ Some e)) }
+{
+    let mut found = none_found(alloc, threads)?;
+    for list in 0..lists.len() {
+        note_list(threads, &mut found, lists, list)?;
+    }
+    let numbers = all_found(alloc, threads, &found)?;
+    Ok(numbers)
+}
+
+// No thread has a number yet.
+fn none_found(alloc: Global, threads: &[i32]) -> Result<Vec<Option<u32>>, AllocError>
+    ensures { IfOk result (λ v. v.items ≡ map (λ t. None) threads.now) }
+{
+    threads.iter().map(|_| None).collect(alloc)
+}
+
+// Notes the threads of one list, after those of the lists before it.
+fn note_list(
+    threads: &[i32],
+    found: &mut [Option<u32>],
+    lists: &[Vec<i32>],
+    list: usize,
+) -> Result<(), GroupFault>
+    requires ascending { IsStrictlySortedBy int_cmp threads.now }
+    requires few { (list < length lists.now) × (length lists.now ≤ 4096) }
+    requires before { found.old ≡ map (list_of (take list (items_of lists.now))) threads.now }
+    ensures noted { OnOk result
+        (found.new ≡ map (list_of (take (list + 1) (items_of lists.now))) threads.now) }
+    ensures right { (rest : List ℤ) → let before = all_of (take list (items_of lists.now)) in
+        let these = slice_index_or (items_of lists.now) list [] in MatchResult result
+        (λ _. first_wrong threads.now before (these ++ rest)
+        ≡ first_wrong threads.now (before ++ these) rest)
+        (λ e. first_wrong threads.now before (these ++ rest) ≡ Some e) }
+{
+    let listed = lists[list].as_slice();
+    for thread in listed {
+        let thread = *thread;
+        note(threads, found, thread, list as u32)?;
+    }
+    Ok(())
+}
+
+// Notes that a thread is in a list.
+fn note(
+    threads: &[i32],
+    found: &mut [Option<u32>],
+    thread: i32,
+    list: u32,
+) -> Result<(), GroupFault>
+    requires ascending { IsStrictlySortedBy int_cmp threads.now }
+    requires sized { length found.old ≡ length threads.now }
+    ensures noted { OnOk result ((place : ℕ) × (slice_get threads.now place ≡ Some thread)
+        × (slice_get found.old place ≡ Some None)
+        × (found.new ≡ set found.old place (Some list))) }
+    ensures wrong { IfErr result (λ e. ((e ≡ Stranger thread) × (has threads.now thread ≡ false))
+        ⊎ ((e ≡ Doubled thread) × ((place n : ℕ) × (slice_get threads.now place ≡ Some thread)
+        × (slice_get found.old place ≡ Some (Some n))))) }
+{
+    let Some(place) = place_of(threads, thread) else {
+        return Err(GroupFault::Stranger { thread });
+    };
+    if found[place].is_some() {
+        return Err(GroupFault::Doubled { thread });
+    }
+    found[place] = Some(list);
+    Ok(())
+}
+
+// The number of each thread's list, where every thread is in one.
+fn all_found(alloc: Global, threads: &[i32], found: &[Option<u32>]) -> Result<Vec<u32>, GroupFault>
+    requires { length found.now ≡ length threads.now }
+    ensures all { IfOk result (λ v. map Some v.items ≡ found.now) }
+    ensures missing { IfErr result
+        (λ e. (e ≡ Memory) ⊎ (first_unfound threads.now found.now ≡ Some e)) }
+{
+    let mut numbers = Vec::with_capacity(alloc, found.len())?;
+    for (place, number) in found.iter().enumerate() {
+        let Some(number) = *number else {
+            let thread = threads[place];
+            return Err(GroupFault::Missing { thread });
+        };
+        numbers.push_reserved(number);
+    }
+    Ok(numbers)
+}

@@ -1,0 +1,178 @@
+//! A queue of numbers, from which each seat takes. After them comes an end mark for each seat.
+ghost use Rattle.std.specs.Prelude.{◌≡◌, ◌<◌, ◌≤◌, ◌+◌, ◌-◌, [], None, Some, map, length, All, IfOk, IfSome, vec_len, vec_capacity};
+ghost use Rattle.crossbeam_queue.specs.Passes.{view, IsPassOf};
+ghost use Rattle.shard_queue.specs.Hands.{hand, IsHandOut};
+ghost use Rattle.shard_queue.specs.QueueRule.{among, joint};
+
+use crate::knowledge::QueueView;
+use crate::queue_rule::{Deals, Gathers, Grows, OneSeat, Puts};
+use crate::queue_seat::QueueSeat;
+use crossbeam_queue::{Pass, RuledArrayQueue};
+use std::alloc::{AllocError, Global};
+use std::sync::Wait;
+
+/// Hands out the numbers below its end.
+#[derive(Drop)]
+pub struct GroupQueue {
+    pub(crate) queue: RuledArrayQueue<u32, QueueView, Deals>,
+    pub(crate) end: u32,
+    pub(crate) workers: u32,
+    ghost some_worker: { 0 < workers },
+}
+
+impl GroupQueue {
+    ghost use Rattle.shard_queue.specs.Queues.{IsIn, IsUnused, Sums, SumsIf, taken_by, told_by};
+
+    /// A queue of the numbers below `end`, and a seat for each worker. Err where memory was refused.
+    pub fn open<R: Wait>(
+        rt: &R,
+        alloc: Global,
+        end: u32,
+        workers: u32,
+    ) -> Result<(GroupQueue, Vec<QueueSeat>), AllocError>
+        requires { (end ≤ 4097) × (0 < workers) × (workers ≤ 16) }
+        ensures queue { IfOk result (λ r. (r.0.end ≡ end) × (r.0.workers ≡ workers)) }
+        ensures seats { IfOk result
+            (λ r. (vec_len r.1 ≡ workers) × All (λ s. IsIn r.0 s × IsUnused s) r.1.items) }
+    {
+        let (queue, first) = GroupQueue::laid(alloc, end, workers)?;
+        let grown = queue.grown(first);
+        let full = queue.filled(rt, grown);
+        let seats = queue.seats(alloc, full)?;
+        Ok((queue, seats))
+    }
+
+    fn laid(
+        alloc: Global,
+        end: u32,
+        workers: u32,
+    ) -> Result<(GroupQueue, Pass<u32, QueueView>), AllocError>
+        requires { (end ≤ 4097) × (0 < workers) × (workers ≤ 16) }
+        ensures queue { IfOk result (λ r. (r.0.end ≡ end) × (r.0.workers ≡ workers)) }
+        ensures pass { IfOk result
+            (λ r. IsPassOf r.0.queue r.1 × (view r.1 ≡ among 1 (hand 0 1 0 []))) }
+    {
+        let (queue, pass) = RuledArrayQueue::ruled(alloc, end as usize + workers as usize)?;
+        Ok((
+            GroupQueue {
+                queue,
+                end,
+                workers,
+            },
+            pass,
+        ))
+    }
+
+    // Counts all seats.
+    fn grown(&self, mut pass: Pass<u32, QueueView>) -> Pass<u32, QueueView>
+        requires { IsPassOf self.now.queue pass × (view pass ≡ among 1 (hand 0 1 0 [])) }
+        ensures { IsPassOf self.now.queue result
+            × (view result ≡ among self.now.workers (hand 0 self.now.workers 0 [])) }
+    {
+        for _ in 1..self.workers {
+            self.queue.another::<Grows>(&mut pass);
+        }
+        pass
+    }
+
+    // Puts each number, and the marks.
+    fn filled<R: Wait>(&self, rt: &R, mut pass: Pass<u32, QueueView>) -> Pass<u32, QueueView>
+        requires end { (self.now.end ≤ 4097) × (self.now.workers ≤ 16) }
+        requires pass { IsPassOf self.now.queue pass
+            × (view pass ≡ among self.now.workers (hand 0 self.now.workers 0 [])) }
+        ensures { let seats = self.now.workers in IsPassOf self.now.queue result
+            × (view result ≡ among seats (hand (self.now.end + seats) seats 0 [])) }
+    {
+        let mut next = 0;
+        for _ in rt.forever() {
+            if next >= self.end + self.workers {
+                break;
+            }
+            if self.queue.try_push_as::<Puts>(&mut pass, next).is_ok() {
+                next += 1;
+            }
+        }
+        pass
+    }
+
+    fn seats(
+        &self,
+        alloc: Global,
+        mut rest: Pass<u32, QueueView>,
+    ) -> Result<Vec<QueueSeat>, AllocError>
+        requires { let seats = self.now.workers in IsPassOf self.now.queue rest
+            × (view rest ≡ among seats (hand (self.now.end + seats) seats 0 [])) }
+        ensures { IfOk result (λ v. (vec_len v ≡ self.now.workers)
+            × All (λ s. IsIn self.now s × IsUnused s) v.items) }
+    {
+        let mut seats = Vec::with_capacity(alloc, self.workers as usize)?;
+        for _ in 0..self.workers {
+            let taken = Vec::with_capacity(alloc, self.end as usize)?;
+            let pass = self.queue.another::<OneSeat>(&mut rest);
+            seats.push_reserved(self.seat(pass, taken));
+        }
+        Ok(seats)
+    }
+
+    fn seat(&self, pass: Pass<u32, QueueView>, taken: Vec<u32>) -> QueueSeat
+        requires pass { let seats = self.now.workers in IsPassOf self.now.queue pass
+            × (view pass ≡ among seats (hand (self.now.end + seats) 1 0 [])) }
+        requires room { (taken.items ≡ []) × (self.now.end ≤ vec_capacity taken) }
+        ensures { IsIn self.now result × IsUnused result }
+    {
+        QueueSeat {
+            pass,
+            taken,
+            end: self.end,
+            workers: self.workers,
+            told: false,
+        }
+    }
+
+    /// Each seat's list. With all seats, they have the numbers below some front, each once, and all if a
+    /// seat was told the end. Err where memory was refused.
+    pub fn close(self, alloc: Global, seats: Vec<QueueSeat>) -> Result<Vec<Vec<u32>>, AllocError>
+        requires at { All (IsIn self) seats.items }
+        requires every { vec_len seats ≡ self.workers }
+        ensures lists { IfOk result (λ v. v.items ≡ map (λ s. s.taken) seats.items) }
+        ensures whole { IfOk result
+            (λ v. IsHandOut self.end (told_by seats.items) (taken_by seats.items)) }
+    {
+        let mut lists = Vec::with_capacity(alloc, seats.len())?;
+        let mut all = None;
+        for place in seats {
+            let QueueSeat {
+                pass,
+                taken,
+                end: _,
+                workers: _,
+                told: _,
+            } = place;
+            all = Some(self.gathered(all, pass));
+            lists.push_reserved(taken);
+        }
+        if let Some(mut pass) = all {
+            self.queue.learn_as::<Gathers>(&mut pass);
+        }
+        Ok(lists)
+    }
+
+    // One pass that knows what two know.
+    fn gathered(
+        &self,
+        all: Option<Pass<u32, QueueView>>,
+        pass: Pass<u32, QueueView>,
+    ) -> Pass<u32, QueueView>
+        requires all { IfSome all (IsPassOf self.now.queue) }
+        requires pass { IsPassOf self.now.queue pass × (0 < (view pass).hand.seats) }
+        ensures pass { IsPassOf self.now.queue result }
+        ensures one { all ≡ None → view result ≡ view pass }
+        ensures both { IfSome all (λ p. view result ≡ joint (view p) (view pass)) }
+    {
+        let Some(mut all) = all else {
+            return pass;
+        };
+        self.queue.absorb::<Gathers>(&mut all, pass);
+        all
+    }
+}

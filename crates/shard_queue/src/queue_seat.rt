@@ -1,0 +1,54 @@
+//! A worker's place at a queue.
+ghost use Rattle.std.specs.Prelude.{◌≡◌, ◌<◌, ◌≤◌, ◌+◌, ◌++◌, ◌∷◌, [], true, false, if◌then◌else◌, vec_capacity, Contains, IsSome, IfSome, IfNone};
+ghost use Rattle.crossbeam_queue.specs.Passes.{view};
+ghost use Rattle.shard_queue.specs.Hands.{hand};
+ghost use Rattle.shard_queue.specs.QueueRule.{among};
+
+use crate::knowledge::QueueView;
+use crate::queue::GroupQueue;
+use crate::queue_rule::Takes;
+use crossbeam_queue::Pass;
+use std::sync::Wait;
+
+/// A worker's place at a queue: the numbers that it took, and whether it was told the end.
+#[derive(Drop)]
+pub struct QueueSeat {
+    pub(crate) pass: Pass<u32, QueueView>,
+    pub(crate) taken: Vec<u32>,
+    pub(crate) end: u32,
+    pub(crate) workers: u32,
+    pub(crate) told: bool,
+    ghost knows: { view pass
+        ≡ among workers (hand (end + workers) 1 (if told then 1 else 0) taken.items) },
+    ghost room: { end ≤ vec_capacity taken },
+}
+
+impl GroupQueue {
+    ghost use Rattle.shard_queue.specs.Queues.{IsIn};
+
+    /// The next number, which no seat had before, or `None` at the end.
+    pub fn take<R: Wait>(&self, rt: &R, seat: &mut QueueSeat) -> Option<u32>
+        requires { IsIn self.now seat.old }
+        ensures seat { IsIn self.now seat.new }
+        ensures some { IfSome result (λ g. (g < self.now.end) × ¬ (Contains seat.old.taken.items g)
+            × (seat.new.taken.items ≡ seat.old.taken.items ++ g ∷ [])) }
+        ensures more { IsSome result → (seat.old.told ≡ false) × (seat.new.told ≡ false) }
+        ensures none { IfNone result
+            ((seat.new.told ≡ true) × (seat.new.taken.items ≡ seat.old.taken.items)) }
+        ensures again { seat.old.told ≡ true → seat.new ≡ seat.old }
+    {
+        if seat.told {
+            return None;
+        }
+        let Some(number) = self.queue.pop_as::<Takes, R>(rt, &mut seat.pass) else {
+            unreachable!()
+        };
+        if number < seat.end {
+            seat.taken.push_reserved(number);
+            Some(number)
+        } else {
+            seat.told = true;
+            None
+        }
+    }
+}

@@ -1,0 +1,15 @@
+//! Threads in ascending order.
+
+ghost use Rattle.std.specs.Prelude.{◌≡◌, false, Some, MatchOption, slice_get};
+ghost use Rattle.std.specs.Ordering.{int_cmp};
+ghost use Rattle.std.specs.List.Sorted.{IsStrictlySortedBy};
+ghost use Rattle.shard_queue.specs.Threads.{has};
+
+// The place of a thread among these, if it is there.
+pub(crate) fn place_of(threads: &[i32], thread: i32) -> Option<usize>
+    requires { IsStrictlySortedBy int_cmp threads.now }
+    ensures { MatchOption result (has threads.now thread ≡ false)
+        (λ i. slice_get threads.now i ≡ Some thread) }
+{
+    threads.binary_search(&thread).ok()
+}
