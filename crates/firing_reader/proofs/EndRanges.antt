@@ -1,6 +1,6 @@
 -- The ranges of BEGIN and END.
-use Rattle.std.specs.Prelude.{◌≡◌, ◌<◌, ◌≤◌, ◌^◌, ◌+◌, ◌-◌, ◌==◌, ℕ, zero, suc, pos, false, true, nat_lt, List, [], ◌∷◌, length, slice_get, slice_index, codes, replicate, All, FitsSigned, Some, None}
-use Rattle.std.proofs.Common.{refl, arith, inl, inr, get_or}
+use Rattle.std.specs.Prelude.{◌≡◌, ◌<◌, ◌≤◌, ◌^◌, ◌+◌, ◌-◌, ◌==◌, ℕ, zero, suc, pos, false, true, nat_lt, List, [], ◌∷◌, length, slice_get, codes, replicate, All, FitsSigned, Some}
+use Rattle.std.proofs.Common.{refl, arith, get_or}
 use Rattle.std.specs.Int.{w64}
 use Rattle.std.specs.List.{list_all, list_any}
 use Rattle.std.specs.Option.{option_map_or}

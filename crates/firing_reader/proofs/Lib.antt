@@ -9,3 +9,7 @@ pub mod Kept
 pub mod FirstFault
 pub mod Threads
 pub mod EndRanges
+pub mod PlainRows
+pub mod PlainFields
+pub mod PlainFirings
+pub mod PlainHeader

@@ -6,3 +6,4 @@ pub mod Firings
 pub mod Trace
 pub mod Ends
 pub mod Faults
+pub mod Plain

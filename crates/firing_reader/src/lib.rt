@@ -1,7 +1,8 @@
 //! Recorded probe firings, read from CSV.
 //!
 //! The first record is the header, and each record after it is one firing. `read_trace` answers the trace that the bytes
-//! write, exactly as `specs/Trace.antt` defines it, or its first fault.
+//! write, exactly as `specs/Trace.antt` defines it, or its first fault. Rows are read where they lie in the bytes up to the
+//! first that has a quote, a carriage return or a fault; from there on `csv` reads them.
 //!
 //! ```text
 //! let trace = read_trace(rt.alloc(), &bytes)?;
@@ -17,6 +18,7 @@ mod fault;
 mod firing;
 mod header;
 pub mod laws;
+mod plain;
 mod reading;
 mod records;
 mod row;

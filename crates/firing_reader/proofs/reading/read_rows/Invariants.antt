@@ -1,7 +1,9 @@
 use Rattle.std.proofs.Common.{◌≡◌}
+use Rattle.firing_reader.specs.Plain.{rows_after, with_front}
 use Rattle.firing_reader.specs.Trace.{last_number, rows_of}
-use Rattle.firing_reader.proofs.Rows.{with_front}
 use Rattle.firing_reader.proofs.reading.read_rows.Given as goal
 
 abbrev pub invariant-loop-row : goal.invariant-loop-row
-invariant-loop-row l = with_front l.firings.items (rows_of l.row (last_number l.firings.items) l.records) ≡ rows_of 1 0 l.fn.records
+invariant-loop-row l =
+    with_front l.firings.items (rows_of l.row (last_number l.firings.items) l.records)
+    ≡ rows_after l.fn.before.items l.fn.records

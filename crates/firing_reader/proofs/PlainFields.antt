@@ -1,0 +1,53 @@
+-- What the digits at the front of bytes write.
+use Rattle.std.proofs.Common.{◌≡◌, ◌<◌, ◌≤◌, ◌^◌, ℕ, ℤ, pos, neg_ℤ, true, List, [], ◌∷◌, length, Option, Some, None, cond, leb, ltb, map, refl, sym, ap, ◌∙◌, arith, All, Bor}
+use Rattle.std.specs.Prelude.{IfSome}
+use Rattle.std.specs.Int.{IsInRange}
+use Rattle.std.specs.Str.Parse.{digits_value, AllDigits}
+use Rattle.std.proofs.lemmas.Str.Parse.{digit_at}
+use Rattle.std.proofs.lemmas.Bool.{le-leb, lt-ltb}
+use Rattle.std.proofs.lemmas.List.Elements.{All-cons, All-nil}
+use Rattle.firing_reader.proofs.Numerals.{all_read, digits}
+use Rattle.firing_reader.proofs.PlainRows.{is_not}
+use Rattle.firing_reader.specs.Column.{is_decimal, signed_of}
+use Rattle.firing_reader.specs.Plain.{BeginsWith, JoinsField, whole_of}
+
+pub digit_joins : (b : ℕ) → IsInRange 48 57 b → JoinsField b
+digit_joins b h = (λ e. absurd (omega (arith, h.0, h.1, e)), λ e. absurd (omega (arith, h.0, h.1, e)), λ e. absurd (omega (arith, h.0, h.1, e)), λ e. absurd (omega (arith, h.0, h.1, e)))
+
+pub digits_join : (xs : List ℕ) → AllDigits 10 xs → All JoinsField xs
+digits_join [] all = All-nil JoinsField
+digits_join (c ∷ cs) all = All-cons JoinsField c cs (digit_joins c (digit_at (c ∷ cs) 0 all (omega arith))) (digits_join cs all.1)
+
+pub whole_read : (xs : List ℕ) (n least most : ℕ) → 0 < length xs → n < 2 ^ 64 → AllDigits 10 xs → n ≡ digits_value 10 xs → least ≤ n → n ≤ most → whole_of least most xs ≡ Some n
+whole_read xs n least most some fits all value low high = rw (← all_read xs n some fits all value, le-leb least n low, le-leb n most high) refl
+
+decimal_digits : (xs : List ℕ) → 0 < length xs → AllDigits 10 xs → is_decimal xs ≡ true
+decimal_digits xs some all = rw (digits.from xs all, lt-ltb 0 (length xs) some) refl
+
+pub negative_read : (xs : List ℕ) (n : ℕ) → 0 < length xs → AllDigits 10 xs → n ≡ digits_value 10 xs → signed_of (45 ∷ xs) ≡ cond (leb n (2 ^ 63)) (Some (neg_ℤ (pos n))) None
+negative_read xs n some all value = rw (decimal_digits xs some all, value) refl
+
+pub positive_read : (xs : List ℕ) (n : ℕ) → AllDigits 10 xs → n ≡ digits_value 10 xs → signed_of xs ≡ cond (ltb n (2 ^ 63)) (Some (pos n)) None
+positive_read [] n all value = rw value refl
+positive_read (b ∷ rest) n all value =
+    let d = digit_at (b ∷ rest) 0 all (omega arith) in
+    rw (is_not b 45 (λ e. absurd (omega (arith, d.0, d.1, e))), decimal_digits (b ∷ rest) (omega arith) all, value) refl
+
+minus_joins : JoinsField 45
+minus_joins = (λ e. absurd (omega (arith, e)), λ e. absurd (omega (arith, e)), λ e. absurd (omega (arith, e)), λ e. absurd (omega (arith, e)))
+
+-- a minus before what writes a size
+pub minus_more : (bytes rest : List ℕ) → bytes ≡ 45 ∷ rest → (o : Option (ℤ × Bor (List ℕ)))
+    → IfSome o (λ p. (field : List ℕ) × BeginsWith rest field p.1.now × (signed_of (45 ∷ field) ≡ Some p.0))
+    → IfSome o (λ p. (field : List ℕ) × BeginsWith bytes field p.1.now × (signed_of field ≡ Some p.0))
+minus_more bytes rest is None h = h
+minus_more bytes rest is (Some p) (field, fronts, read) = (45 ∷ field, record { split = is ∙ ap (λ (l : List ℕ). 45 ∷ l) fronts.split; plain = All-cons JoinsField 45 field minus_joins fronts.plain }, read)
+
+-- an argument that was read, seen as the number that its word stands for
+pub read_fits : (o : Option ℤ) (a b : ℤ) → o ≡ Some a → b ≡ a → o ≡ Some b
+read_fits o a b read same = read ∙ ap (λ (z : ℤ). Some z) (sym same)
+
+-- no arguments were read
+pub none_read : (args : List ℤ) → [] ≡ map (λ (a : ℤ). Some a) args → args ≡ []
+none_read [] e = refl
+none_read (a ∷ more) e = absurd cc

@@ -1,0 +1,116 @@
+-- Plain rows, which are read where they lie in a trace: their fields have no quote, comma or end of a line in them.
+use Rattle.std.specs.Prelude.{◌≡◌, ◌≢◌, ◌+◌, ◌≤◌, ◌^◌, ℕ, List, [], ◌∷◌, ◌++◌, length, All, Option, Some, codes, option_and_then, option_map, map, Result, Ok, pos, ℤ}
+use Rattle.csv.specs.Machine.{next_record}
+use Rattle.csv.specs.Reading.{default_config}
+use Rattle.csv.specs.declared.parser.State.TheVariants as st
+use Rattle.firing_reader.specs.declared.fault.TraceFault.{TraceFault}
+use Rattle.firing_reader.specs.declared.firing.Firing.{Firing}
+use Rattle.firing_reader.specs.Column.{decimal_of, signed_of, text_of}
+use Rattle.firing_reader.specs.Left.{left_in}
+use Rattle.firing_reader.specs.Row.{◌>>=◌, within}
+use Rattle.firing_reader.specs.Trace.{last_number, next_of, rows_of}
+
+-- a byte that only joins a field: no comma, quote, carriage return or line feed
+abbrev pub JoinsField : ℕ → Type 0
+JoinsField b = (b ≢ 44) × (b ≢ 34) × (b ≢ 13) × (b ≢ 10)
+
+-- the bytes begin with this field
+pub record BeginsWith (bytes field rest : List ℕ) : Type 0 where
+  pub split : bytes ≡ field ++ rest
+  pub plain : All JoinsField field
+
+-- csv takes these fields off the bytes, and goes on at the start of a field
+abbrev pub Passes : List ℕ → List (List ℕ) → List ℕ → Type 0
+Passes bytes fields rest = (before : List (List ℕ)) →
+    next_record default_config st.StartField before [] bytes
+    ≡ next_record default_config st.StartField (before ++ fields) [] rest
+
+-- csv takes these fields off the bytes, and they end a record: the rest begins at its line feed
+abbrev pub Closes : List ℕ → List (List ℕ) → List ℕ → Type 0
+Closes bytes fields rest = (before : List (List ℕ)) →
+    (after : List ℕ) × (rest ≡ 10 ∷ after)
+    × (next_record default_config st.StartField before [] bytes
+    ≡ Some (before ++ fields, st.StartRecord, after))
+
+-- the number of a field, from least to most
+abbrev pub whole_of : ℕ → ℕ → List ℕ → Option ℕ
+whole_of least most bytes = option_and_then (within least most) (decimal_of bytes)
+
+-- the number of a field, from least to the greatest of 31 bits
+abbrev pub int_of : ℕ → List ℕ → Option ℤ
+int_of least bytes = option_map pos (whole_of least 0x7FFF_FFFF bytes)
+
+-- the first four columns: numbers, and the fields that write them
+pub record ReadsHead (bytes rest : List ℕ) (number : ℕ) (cpu thread pid : ℤ) : Type 0 where
+  pub x1 : List ℕ
+  pub x2 : List ℕ
+  pub x3 : List ℕ
+  pub x4 : List ℕ
+  pub passes : Passes bytes (x1 ∷ x2 ∷ x3 ∷ x4 ∷ []) rest
+  pub is_number : whole_of 1 (2 ^ 62) x1 ≡ Some number
+  pub is_cpu : int_of 0 x2 ≡ Some cpu
+  pub is_thread : int_of 1 x3 ≡ Some thread
+  pub is_pid : int_of 0 x4 ≡ Some pid
+
+-- the columns 5 to 10: texts and the time, and the fields that write them
+pub record ReadsNames (bytes rest execname : List ℕ) (time : ℕ)
+    (provider probemod probefunc name : List ℕ) : Type 0 where
+  pub x5 : List ℕ
+  pub x6 : List ℕ
+  pub x7 : List ℕ
+  pub x8 : List ℕ
+  pub x9 : List ℕ
+  pub x10 : List ℕ
+  pub passes : Passes bytes (x5 ∷ x6 ∷ x7 ∷ x8 ∷ x9 ∷ x10 ∷ []) rest
+  pub is_execname : text_of x5 ≡ Some execname
+  pub is_time : whole_of 0 0xFFFF_FFFF_FFFF_FFFF x6 ≡ Some time
+  pub is_provider : text_of x7 ≡ Some provider
+  pub is_probemod : text_of x8 ≡ Some probemod
+  pub is_probefunc : text_of x9 ≡ Some probefunc
+  pub is_name : text_of x10 ≡ Some name
+
+-- the last ten columns: arguments, and the fields that write them
+pub record ReadsArguments (bytes rest : List ℕ) (args : List ℤ) : Type 0 where
+  pub x0 : List ℕ
+  pub x1 : List ℕ
+  pub x2 : List ℕ
+  pub x3 : List ℕ
+  pub x4 : List ℕ
+  pub x5 : List ℕ
+  pub x6 : List ℕ
+  pub x7 : List ℕ
+  pub x8 : List ℕ
+  pub x9 : List ℕ
+  pub closes : Closes bytes (x0 ∷ x1 ∷ x2 ∷ x3 ∷ x4 ∷ x5 ∷ x6 ∷ x7 ∷ x8 ∷ x9 ∷ []) rest
+  pub values : map signed_of (x0 ∷ x1 ∷ x2 ∷ x3 ∷ x4 ∷ x5 ∷ x6 ∷ x7 ∷ x8 ∷ x9 ∷ [])
+      ≡ map (λ a. Some a) args
+
+-- after a record the bytes hold this row, which follows a firing with the number last; the rest begins at its line feed
+pub record ReadsRow (bytes rest : List ℕ) (last : ℕ) (f : Firing) : Type 0 where
+  pub fields : List (List ℕ)
+  pub after : List ℕ
+  pub is_rest : rest ≡ 10 ∷ after
+  pub read : next_record default_config st.StartRecord [] [] bytes
+      ≡ Some (fields, st.StartRecord, after)
+  pub firing : (row : ℕ) → row ≤ 1_000_000 → next_of row last fields ≡ Ok f
+
+-- firings that were read before, and what is read after them
+abbrev pub with_front : List Firing → Result (List Firing) TraceFault
+    → Result (List Firing) TraceFault
+with_front front read = read >>= λ es. Ok (front ++ es)
+
+-- firings that were read before, and the rows that are left
+abbrev pub rows_after : List Firing → List (List (List ℕ)) → Result (List Firing) TraceFault
+rows_after front rows = with_front front (rows_of (length front + 1) (last_number front) rows)
+
+-- all rows of these bytes
+abbrev pub rows_in : List ℕ → Result (List Firing) TraceFault
+rows_in bytes = rows_of 1 0 (left_in st.StartRecord (Some bytes))
+
+-- these firings and the rows of the rest are the rows of all the bytes
+abbrev pub GoesOn : List Firing → List ℕ → List ℕ → Type 0
+GoesOn firings rest bytes = rows_after firings (left_in st.StartRecord (Some rest)) ≡ rows_in bytes
+
+-- the header, as it is mostly written
+abbrev pub header_line : List ℕ
+header_line = codes "number,cpu,thread,pid,execname,time,provider,module,function,name,arg0,arg1,arg2,arg3,arg4,arg5,arg6,arg7,arg8,arg9"

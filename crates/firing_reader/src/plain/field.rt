@@ -1,0 +1,123 @@
+//! The fields of a plain row: each value and what comes after it, or None where csv has to read the row.
+
+ghost use Rattle.std.specs.Prelude.{◌≡◌, ◌≤◌, ◌∷◌, [], ℕ, List, IfSome, Some, take, length};
+ghost use Rattle.std.specs.Str.Parse.{AllDigits, digits_value};
+ghost use Rattle.firing_reader.specs.Column.{signed_of, text_of};
+ghost use Rattle.firing_reader.specs.Plain.{BeginsWith, Closes, Passes, int_of, whole_of};
+
+use super::front::{after_comma, after_feed, after_minus, front, rest_after};
+use crate::columns::{negative, positive};
+use crate::text::Text;
+use crate::texts::Texts;
+
+// No number above this is read here: ten of it and a digit still have 64 bits.
+const LARGE: u64 = 1_844_674_407_370_955_160;
+
+// The digits at the front: the number that they write, and how many there are.
+fn digits(bytes: &[u8]) -> Option<(u64, usize)>
+    ensures count { IfSome result (λ p. p.1 ≤ length bytes.now) }
+    ensures digits { IfSome result (λ p. AllDigits 10 (take p.1 bytes.now)) }
+    ensures value { IfSome result (λ p. p.0 ≡ digits_value 10 (take p.1 bytes.now)) }
+{
+    let mut number: u64 = 0;
+    for at in 0..bytes.len() {
+        let b = bytes[at];
+        if !b.is_ascii_digit() {
+            return Some((number, at));
+        }
+        if number > LARGE {
+            return None;
+        }
+        number = number * 10 + u64::from(b - b'0');
+    }
+    Some((number, bytes.len()))
+}
+
+// A number from least to most that a comma ends.
+pub(crate) fn whole(bytes: &[u8], least: u64, most: u64) -> Option<(u64, &[u8])>
+    ensures value { IfSome result (λ p. (field : List ℕ)
+        × Passes bytes.now (field ∷ []) p.1.now × (whole_of least most field ≡ Some p.0)) }
+    ensures bound { IfSome result (λ p. p.0 ≤ most) }
+{
+    let (number, count) = digits(bytes)?;
+    if count == 0 || number < least || most < number {
+        return None;
+    }
+    let rest = after_comma(rest_after(bytes, count))?;
+    Some((number, rest))
+}
+
+// A number of at most 31 bits, from least, that a comma ends.
+pub(crate) fn int(bytes: &[u8], least: u64) -> Option<(i32, &[u8])>
+    ensures { IfSome result (λ p. (field : List ℕ)
+        × Passes bytes.now (field ∷ []) p.1.now × (int_of least field ≡ Some p.0)) }
+{
+    let (number, rest) = whole(bytes, least, 0x7fff_ffff)?;
+    Some((number as i32, rest))
+}
+
+// A text that a comma ends. The row before had `before` in its column.
+pub(crate) fn text<'a>(
+    texts: &mut Texts,
+    bytes: &'a [u8],
+    before: &Text,
+) -> Option<(Text, &'a [u8])>
+    ensures { IfSome result (λ p. (field : List ℕ)
+        × Passes bytes.now (field ∷ []) p.1.now × (text_of field ≡ Some p.0)) }
+{
+    let count = front(bytes);
+    let rest = after_comma(rest_after(bytes, count))?;
+    let text = texts.get(&bytes[..count], before).ok()??;
+    Some((text, rest))
+}
+
+// An argument without a minus.
+fn above_zero(bytes: &[u8]) -> Option<(i64, &[u8])>
+    ensures { IfSome result (λ p. (field : List ℕ)
+        × BeginsWith bytes.now field p.1.now × (signed_of field ≡ Some p.0)) }
+{
+    let (number, count) = digits(bytes)?;
+    Some((positive(number)?, rest_after(bytes, count)))
+}
+
+// An argument whose minus comes before these bytes.
+fn below_zero(bytes: &[u8]) -> Option<(i64, &[u8])>
+    ensures { IfSome result (λ p. (field : List ℕ)
+        × BeginsWith bytes.now field p.1.now × (signed_of (45 ∷ field) ≡ Some p.0)) }
+{
+    let (number, count) = digits(bytes)?;
+    if count == 0 {
+        return None;
+    }
+    Some((negative(number)?, rest_after(bytes, count)))
+}
+
+// An argument, whatever ends it.
+fn argument(bytes: &[u8]) -> Option<(i64, &[u8])>
+    ensures { IfSome result (λ p. (field : List ℕ)
+        × BeginsWith bytes.now field p.1.now × (signed_of field ≡ Some p.0)) }
+{
+    match after_minus(bytes) {
+        Some(rest) => below_zero(rest),
+        None => above_zero(bytes),
+    }
+}
+
+// An argument that a comma ends.
+pub(crate) fn next_argument(bytes: &[u8]) -> Option<(i64, &[u8])>
+    ensures { IfSome result (λ p. (field : List ℕ)
+        × Passes bytes.now (field ∷ []) p.1.now × (signed_of field ≡ Some p.0)) }
+{
+    let (value, rest) = argument(bytes)?;
+    Some((value, after_comma(rest)?))
+}
+
+// An argument that a line feed ends. The line feed is the first byte of what comes after it.
+pub(crate) fn last_argument(bytes: &[u8]) -> Option<(i64, &[u8])>
+    ensures { IfSome result (λ p. (field : List ℕ)
+        × Closes bytes.now (field ∷ []) p.1.now × (signed_of field ≡ Some p.0)) }
+{
+    let (value, rest) = argument(bytes)?;
+    after_feed(rest)?;
+    Some((value, rest))
+}

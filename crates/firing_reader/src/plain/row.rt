@@ -1,0 +1,121 @@
+//! One plain row.
+
+ghost use Rattle.std.specs.Prelude.{IfSome};
+ghost use Rattle.firing_reader.specs.Plain.{ReadsArguments, ReadsHead, ReadsNames, ReadsRow};
+
+use super::field::{int, last_argument, next_argument, text, whole};
+use super::front::{after_feed, starts_with_digit};
+use crate::firing::Firing;
+use crate::text::Text;
+use crate::texts::Texts;
+
+// The provider of no recorded firing.
+const RESERVED: &[u8] = b"dtrace";
+
+// What comes before the texts of a row.
+#[derive(Clone, Copy)]
+struct Head {
+    number: u64,
+    cpu: i32,
+    thread: i32,
+    pid: i32,
+}
+
+// The texts of a row, and its time.
+#[derive(Drop)]
+struct Names {
+    execname: Text,
+    time: u64,
+    provider: Text,
+    probemod: Text,
+    probefunc: Text,
+    name: Text,
+}
+
+fn read_head(bytes: &[u8]) -> Option<(Head, &[u8])>
+    ensures { IfSome result (λ p.
+        ReadsHead bytes.now p.1.now p.0.number p.0.cpu p.0.thread p.0.pid) }
+{
+    let (number, rest) = whole(bytes, 1, 1 << 62)?;
+    let (cpu, rest) = int(rest, 0)?;
+    let (thread, rest) = int(rest, 1)?;
+    let (pid, rest) = int(rest, 0)?;
+    let head = Head {
+        number,
+        cpu,
+        thread,
+        pid,
+    };
+    Some((head, rest))
+}
+
+fn read_names<'a>(texts: &mut Texts, bytes: &'a [u8], before: &Firing) -> Option<(Names, &'a [u8])>
+    ensures { IfSome result (λ p. ReadsNames bytes.now p.1.now
+        p.0.execname p.0.time p.0.provider p.0.probemod p.0.probefunc p.0.name) }
+{
+    let (execname, rest) = text(texts, bytes, &before.execname)?;
+    let (time, rest) = whole(rest, 0, u64::MAX)?;
+    let (provider, rest) = text(texts, rest, &before.provider)?;
+    let (probemod, rest) = text(texts, rest, &before.probemod)?;
+    let (probefunc, rest) = text(texts, rest, &before.probefunc)?;
+    let (name, rest) = text(texts, rest, &before.name)?;
+    let names = Names {
+        execname,
+        time,
+        provider,
+        probemod,
+        probefunc,
+        name,
+    };
+    Some((names, rest))
+}
+
+fn arguments(bytes: &[u8]) -> Option<([i64; 10], &[u8])>
+    ensures { IfSome result (λ p. ReadsArguments bytes.now p.1.now p.0) }
+{
+    let (a0, rest) = next_argument(bytes)?;
+    let (a1, rest) = next_argument(rest)?;
+    let (a2, rest) = next_argument(rest)?;
+    let (a3, rest) = next_argument(rest)?;
+    let (a4, rest) = next_argument(rest)?;
+    let (a5, rest) = next_argument(rest)?;
+    let (a6, rest) = next_argument(rest)?;
+    let (a7, rest) = next_argument(rest)?;
+    let (a8, rest) = next_argument(rest)?;
+    let (a9, rest) = last_argument(rest)?;
+    Some(([a0, a1, a2, a3, a4, a5, a6, a7, a8, a9], rest))
+}
+
+// The row after a line feed, and what comes from its own line feed on. It follows the firing `before`.
+pub(crate) fn row<'a>(
+    texts: &mut Texts,
+    bytes: &'a [u8],
+    before: &Firing,
+) -> Option<(Firing, &'a [u8])>
+    ensures { IfSome result (λ p. ReadsRow bytes.now p.1.now before.now.number p.0) }
+{
+    let line = after_feed(bytes)?;
+    if !starts_with_digit(line) {
+        return None;
+    }
+    let (head, rest) = read_head(line)?;
+    let (names, rest) = read_names(texts, rest, before)?;
+    let (args, rest) = arguments(rest)?;
+    if names.provider.as_bytes() == RESERVED || head.number <= before.number {
+        return None;
+    }
+    let firing = Firing {
+        number: head.number,
+        cpu: head.cpu,
+        thread: head.thread,
+        pid: head.pid,
+        execname: names.execname,
+        time: names.time,
+        provider: names.provider,
+        probemod: names.probemod,
+        probefunc: names.probefunc,
+        name: names.name,
+        args,
+    };
+    Some((firing, rest))
+}
