@@ -148,7 +148,7 @@ fn firings_after_an_exit_do_not_run(rt: HostRuntime) -> Result<(), Fail> {
     let replayed = replay(rt.alloc(), EXITING, FOUR_HITS, &serial())?;
     assert_eq!(rt;
         replayed.bytes.as_slice(),
-        b"end\n\n                 2\n".as_slice()
+        b"end\n\n                2\n".as_slice()
     );
     expect_ran(&rt, &replayed, &[10, 12], &[0, 41]);
     assert_eq!(rt; replayed.status, 5);
