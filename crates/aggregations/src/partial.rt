@@ -153,7 +153,7 @@ impl Partial {
         }
     }
 
-    /// How many arguments a bucket of the histogram has. None where the entry shows a number.
+    /// How many arguments a bucket of the histogram has: 0 where the entry shows a number.
     pub fn count_at(&self, bucket: u32) -> u64
         ensures { result ≡ count_at (figure_of self.now) bucket }
     {
