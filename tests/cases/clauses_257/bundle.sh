@@ -1,3 +1,0 @@
-# 257 clauses.
-yes ':::a{}' | head -257
-echo ---
