@@ -154,7 +154,7 @@ TRACE = [
 
 SYSTEM = [
     Refusal("", 0, "out of memory", "", "Memory ran out.", "Take a part of the trace, or a machine with more memory. A trace of 1,000,000 rows "
-            "takes 2.5 to 15 times the size of its file, and more with variables on very many threads.", ()),
+            "takes 2 to 15 times the size of its file, and more with variables on very many threads.", ()),
     Refusal("", 0, "read failed", "", "The file of `-s` or standard input can't be read.",
             "Check that the file exists, is a regular file and is readable.", ()),
     Refusal("", 0, "write failed", "", "Standard output can't be written: a full disk, or a closed pipe.",

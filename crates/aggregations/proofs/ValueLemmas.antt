@@ -1,5 +1,5 @@
 -- Values of lists joined, and of lists with one more argument.
-use Rattle.std.proofs.Common.{◌≡◌, ◌≢◌, ℕ, ◌+◌, List, [], ◌∷◌, ◌++◌, length, refl, sym, ap, ◌∙◌, subst, arith, length-append, sum, map, count_by}
+use Rattle.std.proofs.Common.{◌≡◌, ◌≢◌, ℕ, ◌+◌, List, [], ◌∷◌, ◌++◌, length, refl, sym, ap, ◌∙◌, subst, arith, length-append, sum, map, count_by, Some, None}
 use Rattle.std.specs.List.{range_with_len}
 use Rattle.std.proofs.lemmas.List.Sums.{sum_by-cons}
 use Rattle.std.specs.Prelude.{ℤ, ◌+ℤ◌, ◌≤ℤ◌, ◌<ℤ◌}
@@ -15,6 +15,8 @@ use Rattle.aggregations.specs.Histograms.{Histogram, histogram_of}
 use Rattle.aggregations.specs.Buckets.{HasBuckets, buckets, counts_of, is_in}
 use Rattle.aggregations.specs.Values.{total, IsSum, IsLeast, IsGreatest, IsValue, TakesOne, TakesBoth}
 use Rattle.aggregations.specs.Held.{count_of, number_of}
+use Rattle.aggregations.specs.Figures.{figure_of, histogram_in}
+use Rattle.std.proofs.lemmas.Option.{same_Some}
 
 pub total-append : (xs ys : List ℤ) → total (xs ++ ys) ≡ total xs +ℤ total ys
 total-append [] ys = omega (arith, ints)
@@ -136,6 +138,18 @@ pub counts_joined : (f : AggFn) (h more new : Histogram) (xs ys : List ℤ)
 counts_joined Quantize h more new xs ys step a b = step Quantize xs ys a b
 counts_joined (Lquantize r) h more new xs ys step a b = step (Lquantize r) xs ys a b
 counts_joined _ h more new xs ys step a b = absurd a
+
+-- the histogram that is held
+pub held_histogram : (held : Held) (h : Histogram) → histogram_in (figure_of held) ≡ Some h → held ≡ Counts h
+held_histogram (Counted n) h is = cc
+held_histogram (Summed s) h is = cc
+held_histogram (Least m) h is = cc
+held_histogram (Greatest m) h is = cc
+held_histogram (Mean m) h is = cc
+held_histogram (Counts x) h is = ap Counts (same_Some x h is)
+
+pub no_histogram : (held : Held) → histogram_in (figure_of held) ≡ None → (h : Histogram) → held ≡ Counts h → ⊥
+no_histogram held none h is = let some : histogram_in (figure_of held) ≡ Some h = ap (λ x. histogram_in (figure_of x)) is in cc
 
 pub only_counts : (f : AggFn) (h : Histogram) (other : Held) (xs ys : List ℤ) → ((x : Histogram) → other ≡ Counts x → ⊥) → IsValue f (Counts h) xs → IsValue f other ys → ⊥
 only_counts Quantize h (Counts x) xs ys none a b = none x refl

@@ -1,8 +1,6 @@
 -- What a change does to the entries of one aggregation.
 use Rattle.std.specs.Prelude.{◌≡◌, false, List, [], ◌∷◌, ◌++◌, ℤ, Option}
-use Rattle.d_values.specs.declared.key.KeyPart.{KeyPart}
-use Rattle.d_values.specs.Keys.{same_key}
-use Rattle.aggregations.specs.declared.function.AggFn.{AggFn}
+use Rattle.aggregations.specs.Vocabulary.{AggFn, KeyPart, same_key}
 use Rattle.aggregations.specs.declared.held.Held.{Held}
 use Rattle.aggregations.specs.Table.{Aggregation, IsEntry, entry_at}
 

@@ -2,10 +2,15 @@
 use Rattle.std.specs.Prelude.{ℕ, map, ℤ, pos, ◌*ℤ◌, int_div, Option, None, Some, slice_index}
 use Rattle.std.specs.List.{enumerate_from}
 use Rattle.aggregations.specs.declared.held.Held.{Held}
-use Rattle.aggregations.specs.declared.held.Held.TheVariants.{Counted, Summed, Least, Greatest, Mean, Counts}
-use Rattle.aggregations.specs.Buckets.{label}
-use Rattle.aggregations.specs.Histograms.{Histogram}
-use Rattle.aggregations.specs.Values.{total}
+use Rattle.aggregations.specs.declared.held.Held.TheVariants.{
+  Counted,
+  Summed,
+  Least,
+  Greatest,
+  Mean,
+  Counts,
+}
+use Rattle.aggregations.specs.{Buckets.label, Histograms.Histogram, Values.total}
 
 -- a number, or how many arguments each bucket has
 pub data Figure : Type 0 where

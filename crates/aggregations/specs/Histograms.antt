@@ -1,9 +1,9 @@
 -- Histograms: how many arguments each bucket of a function has.
-use Rattle.std.specs.Prelude.{◌≡◌, ℕ, ◌+◌, ◌<◌, ◌≤◌, ◌^◌, List, ℤ, Some, map, sum, slice_index, slice_set, nat_eq}
+use Rattle.std.specs.Prelude.{◌≡◌, ℕ, ◌+◌, ◌<◌, ◌≤◌, ◌^◌, nat_eq, ℤ, Some}
+use Rattle.std.specs.Prelude.{List, map, sum, slice_index, slice_set}
 use Rattle.std.specs.List.{range_with_len, IsDistinct}
-use Rattle.std.specs.Map.{lookup, keys_of}
-use Rattle.std.specs.Option.{unwrap_or}
-use Rattle.aggregations.specs.declared.function.AggFn.{AggFn}
+use Rattle.std.specs.{Map.lookup, Map.keys_of, Option.unwrap_or}
+use Rattle.aggregations.specs.Vocabulary.{AggFn}
 use Rattle.aggregations.specs.Buckets.{buckets, HasBuckets, counts_of}
 
 -- a histogram as contracts see it: a count for each bucket of the function

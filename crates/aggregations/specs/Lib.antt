@@ -1,3 +1,4 @@
+pub mod Vocabulary
 pub mod Ranges
 pub mod LinearRanges
 pub mod Buckets

@@ -1,10 +1,8 @@
 -- What a table of aggregations stands for: a list of contributions.
-use Rattle.std.specs.Prelude.{◌≡◌, ◌≢◌, ℕ, Bool, ◌==◌, ◌&&◌, List, [], ℤ, Option, None, Some, filter, map, slice_get, sum_by}
-use Rattle.std.specs.List.{IsDistinct}
-use Rattle.std.specs.Map.{keys_of, values_of, lookup}
-use Rattle.d_values.specs.declared.key.KeyPart.{KeyPart}
-use Rattle.d_values.specs.Keys.{same_key}
-use Rattle.aggregations.specs.declared.function.AggFn.{AggFn}
+use Rattle.std.specs.Prelude.{◌≡◌, ◌≢◌, ℕ, Bool, ◌==◌, ◌&&◌, ℤ, Option, None, Some}
+use Rattle.std.specs.Prelude.{List, [], filter, map, slice_get, sum_by}
+use Rattle.std.specs.{List.IsDistinct, Map.keys_of, Map.values_of, Map.lookup}
+use Rattle.aggregations.specs.Vocabulary.{AggFn, KeyPart, same_key}
 use Rattle.aggregations.specs.declared.held.Held.{Held}
 use Rattle.aggregations.specs.Values.{IsValue, count_in}
 
@@ -66,7 +64,7 @@ StandsFor table contributions =
 -- the entries that the contributions give an aggregation, in any order
 pub record AreEntries (function : AggFn) (agg : ℕ) (contributions : List Contribution)
     (entries : List (List KeyPart × Held)) : Type 0 where
-  -- no key stands twice
+  -- each key once
   pub once : IsDistinct same_key (keys_of entries)
   pub values : (key : List KeyPart)
       → IsEntry function (lookup (same_key key) entries) (arguments_of agg key contributions)

@@ -1,11 +1,17 @@
 -- The value of an aggregation, from the arguments in their order.
-use Rattle.std.specs.Prelude.{◌≡◌, ℕ, ◌<◌, ◌≤◌, ◌^◌, List, [], ◌∷◌, ◌++◌, All, Contains, length, sum, ℤ, pos, ◌+ℤ◌, ◌≤ℤ◌}
-use Rattle.std.specs.Int.{int_wrap}
-use mir.Syntax.{w64}
-use Rattle.aggregations.specs.declared.function.AggFn.{AggFn}
-use Rattle.aggregations.specs.declared.function.AggFn.TheVariants.{Count, Sum, Min, Max, Avg, Quantize, Lquantize}
-use Rattle.aggregations.specs.declared.held.Held.{Held}
-use Rattle.aggregations.specs.declared.held.Held.TheVariants.{Counted, Summed, Least, Greatest, Mean, Counts}
+use Rattle.std.specs.Prelude.{◌≡◌, ℕ, ◌<◌, ◌≤◌, ◌^◌, ℤ, pos, ◌+ℤ◌, ◌≤ℤ◌}
+use Rattle.std.specs.Prelude.{List, [], ◌∷◌, ◌++◌, All, Contains, length, sum}
+use Rattle.std.specs.Int.{int_wrap, w64}
+use Rattle.aggregations.specs.Vocabulary.{AggFn, Count, Sum, Min, Max, Avg, Quantize, Lquantize}
+use Rattle.aggregations.specs.declared.held.Held.{
+  Held,
+  TheVariants.Counted,
+  TheVariants.Summed,
+  TheVariants.Least,
+  TheVariants.Greatest,
+  TheVariants.Mean,
+  TheVariants.Counts,
+}
 use Rattle.aggregations.specs.Histograms.{histogram_of}
 
 -- the whole numbers, added up
@@ -49,11 +55,17 @@ TakesBoth old other new = (function : AggFn) (xs ys : List ℤ)
 -- how many arguments are held, as far as that is kept
 abbrev pub count_in : Held → ℕ
 count_in (Counted n) = n
+count_in (Summed s) = 0
+count_in (Least m) = 0
+count_in (Greatest m) = 0
 count_in (Mean m) = m.count
 count_in (Counts h) = sum h.counts
-count_in held = 0
 
 -- what is true of each entry: at most 2^52 arguments, and a mean has some
 abbrev pub IsKept : Held → Type 0
+IsKept (Counted n) = n ≤ 2 ^ 52
+IsKept (Summed s) = 0 ≤ 2 ^ 52
+IsKept (Least m) = 0 ≤ 2 ^ 52
+IsKept (Greatest m) = 0 ≤ 2 ^ 52
 IsKept (Mean m) = (0 < m.count) × (m.count ≤ 2 ^ 52)
-IsKept held = count_in held ≤ 2 ^ 52
+IsKept (Counts h) = sum h.counts ≤ 2 ^ 52

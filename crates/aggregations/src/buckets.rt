@@ -13,11 +13,16 @@ impl AggFn {
         match self {
             AggFn::Quantize => 127,
             AggFn::Lquantize(range) => u32::from(range.levels()) + 2,
-            _ => 0,
+            AggFn::Count | AggFn::Sum | AggFn::Min | AggFn::Max | AggFn::Avg => 0,
         }
     }
 
     /// The number that a bucket is called by.
+    ///
+    /// ```text
+    /// AggFn::Quantize.label(63); // 0
+    /// AggFn::Quantize.label(66); // 4: the bucket of 4 to 7
+    /// ```
     pub fn label(self, bucket: u32) -> i64
         requires { bucket < spec.buckets self }
         ensures { result ≡ spec.label self bucket }
@@ -39,7 +44,7 @@ impl AggFn {
                     i64::from(range.lower()) + i64::from(bucket - 1) * i64::from(range.step())
                 }
             }
-            _ => 0,
+            AggFn::Count | AggFn::Sum | AggFn::Min | AggFn::Max | AggFn::Avg => 0,
         }
     }
 
@@ -68,7 +73,7 @@ impl AggFn {
                     steps.min(u64::from(range.levels())) as u32 + 1
                 }
             }
-            _ => 0,
+            AggFn::Count | AggFn::Sum | AggFn::Min | AggFn::Max | AggFn::Avg => 0,
         }
     }
 }

@@ -1,6 +1,7 @@
 //! What an entry holds of its arguments.
 
-ghost use Rattle.std.specs.Prelude.{◌≡◌};
+ghost use Rattle.std.specs.Prelude.{◌≡◌, option_copied};
+ghost use Rattle.aggregations.specs.Figures.{figure_of, histogram_in};
 ghost use Rattle.aggregations.specs.Held as spec;
 
 use crate::histogram::Histogram;
@@ -37,7 +38,7 @@ impl Held {
         match self {
             Held::Counted(n) => *n,
             Held::Mean(mean) => mean.count,
-            _ => 0,
+            Held::Summed(_) | Held::Least(_) | Held::Greatest(_) | Held::Counts(_) => 0,
         }
     }
 
@@ -48,7 +49,21 @@ impl Held {
         match self {
             Held::Summed(x) | Held::Least(x) | Held::Greatest(x) => *x,
             Held::Mean(mean) => mean.sum,
-            _ => 0,
+            Held::Counted(_) | Held::Counts(_) => 0,
+        }
+    }
+
+    // How many were in each bucket, where that is held.
+    pub(crate) fn histogram(&self) -> Option<&Histogram>
+        ensures { option_copied result ≡ histogram_in (figure_of self.now) }
+    {
+        match self {
+            Held::Counts(histogram) => Some(histogram),
+            Held::Counted(_)
+            | Held::Summed(_)
+            | Held::Least(_)
+            | Held::Greatest(_)
+            | Held::Mean(_) => None,
         }
     }
 }

@@ -1,9 +1,8 @@
 //! Histograms.
 
-ghost use Rattle.std.specs.Prelude.{◌≡◌, ℕ, ◌+◌, ◌<◌, ◌≤◌, ◌^◌, ◌∷◌, ◌++◌, [], List, ℤ, OnOk, OnErr, MatchOption, length, slice_index, sum};
-ghost use Rattle.aggregations.specs.Buckets.{buckets, HasBuckets};
-ghost use Rattle.aggregations.specs.Figures.{Figure, rank_of};
-ghost use Rattle.aggregations.specs.Histograms.{histogram_of, with_more, IsSpan};
+ghost use Rattle.std.specs.Prelude.{◌≡◌, ◌+◌, ◌<◌, ◌≤◌, ◌^◌, ℤ, OnOk, OnErr, MatchOption};
+ghost use Rattle.std.specs.Prelude.{List, [], ◌∷◌, ◌++◌, length, slice_index, sum};
+ghost use Rattle.aggregations.specs.{Buckets.buckets, Buckets.HasBuckets};
 
 use crate::function::AggFn;
 use indexmap::IndexMap;
@@ -31,6 +30,9 @@ impl Model for Histogram {
 }
 
 impl Histogram {
+    ghost use Rattle.aggregations.specs.Figures.{Figure, rank_of};
+    ghost use Rattle.aggregations.specs.Histograms.{histogram_of, with_more, IsSpan};
+
     // Without arguments.
     pub(crate) fn new(alloc: Global, function: AggFn) -> Histogram
         requires { HasBuckets function }

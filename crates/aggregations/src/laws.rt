@@ -1,11 +1,9 @@
 //! What holds of all values and tables, in other words than the definitions'.
 
 ghost use Rattle.std.specs.Prelude.{◌≡◌, ◌≢◌, ℕ, ◌<◌, ◌==◌, List, [], ℤ};
-ghost use Rattle.aggregations.specs.declared.function.AggFn.{AggFn};
-ghost use Rattle.aggregations.specs.declared.held.Held.{Held};
-ghost use Rattle.aggregations.specs.Buckets.{HasBuckets, buckets, is_in};
-ghost use Rattle.aggregations.specs.Values.{IsValue};
+ghost use Rattle.aggregations.specs.{Vocabulary.AggFn, declared.held.Held.Held, Values.IsValue};
 ghost use Rattle.aggregations.specs.Table.{Aggregation, Contribution, SameItems, StandsFor};
+ghost use Rattle.aggregations.specs.Buckets.{HasBuckets, buckets, is_in};
 
 /// A table that stands for a list stands for it in any other order.
 pub fn order_plays_no_part()

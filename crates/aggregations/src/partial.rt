@@ -1,7 +1,7 @@
 //! Entries: a value made from the arguments that came.
 
-ghost use Rattle.std.specs.Prelude.{◌≡◌, ◌+◌, ◌<◌, ◌≤◌, ◌^◌, ◌∷◌, [], IfOk, OnOk, OnErr, option_copied};
-ghost use Rattle.aggregations.specs.Figures.{figure_of, single_in, histogram_in, count_at, rank_of};
+ghost use Rattle.std.specs.Prelude.{◌≡◌, ◌+◌, ◌<◌, ◌≤◌, ◌^◌, ◌∷◌, []};
+ghost use Rattle.std.specs.Prelude.{IfOk, OnOk, OnErr, option_copied};
 ghost use Rattle.aggregations.specs.Values.{IsValue, TakesOne, TakesBoth, count_in};
 
 use crate::function::AggFn;
@@ -28,6 +28,9 @@ impl Model for Partial {
 }
 
 impl Partial {
+    ghost use Rattle.aggregations.specs.Figures.{figure_of, rank_of};
+    ghost use Rattle.aggregations.specs.Figures.{single_in, histogram_in, count_at};
+
     // The value of one argument.
     pub(crate) fn of_one(alloc: Global, function: AggFn, arg: i64) -> Result<Partial, AllocError>
         ensures value { IfOk result (λ p. IsValue function p (arg ∷ [])) }
@@ -124,14 +127,18 @@ impl Partial {
                 mean.count += other.count();
                 Ok(())
             }
-            Held::Counts(histogram) => match other {
-                Held::Counts(more) => histogram.join(more),
-                _ => Ok(()),
+            Held::Counts(histogram) => match other.histogram() {
+                Some(more) => histogram.join(more),
+                None => Ok(()),
             },
         }
     }
 
     /// The number that the entry shows. None for a histogram.
+    ///
+    /// ```text
+    /// partial.single(); // for `avg` of 1, 2 and 6: Some(3)
+    /// ```
     pub fn single(&self) -> Option<i64>
         ensures { result ≡ single_in (figure_of self.now) }
     {
@@ -147,10 +154,7 @@ impl Partial {
     pub fn histogram(&self) -> Option<&Histogram>
         ensures { option_copied result ≡ histogram_in (figure_of self.now) }
     {
-        match &self.held {
-            Held::Counts(histogram) => Some(histogram),
-            _ => None,
-        }
+        self.held.histogram()
     }
 
     /// How many arguments a bucket of the histogram has: 0 where the entry shows a number.
@@ -159,7 +163,11 @@ impl Partial {
     {
         match &self.held {
             Held::Counts(histogram) => histogram.count_at(bucket),
-            _ => 0,
+            Held::Counted(_)
+            | Held::Summed(_)
+            | Held::Least(_)
+            | Held::Greatest(_)
+            | Held::Mean(_) => 0,
         }
     }
 

@@ -5,7 +5,7 @@ use Rattle.d_lexer.specs.declared.place.Place.{Place}
 use Rattle.d_lexer.specs.declared.position.Position.{Position}
 use Rattle.d_lexer.specs.Places.{moved, passed}
 use Rattle.d_lexer.specs.Tokens.{Fills}
-use Rattle.d_lexer.specs.Scan.{run_len, run_of, scan}
+use Rattle.d_lexer.specs.Steps.Scan.{run_len, run_of, scan}
 
 -- z is own and rest, own has n bytes, and P holds of them
 pub record Split (P : List ℕ → List ℕ → Type 0) (n : ℕ) (z : List ℕ) : Type 0 where

@@ -18,13 +18,14 @@ use Rattle.d_lexer.specs.declared.fault.Flaw.{Flaw}
 use Rattle.d_lexer.specs.declared.fault.Flaw.TheVariants as f
 use Rattle.d_lexer.specs.declared.fault.LexFault.{LexFault}
 use Rattle.d_lexer.specs.Bytes.{is_blank, is_word_start, is_word_byte, is_run_byte, is_inside, is_plain, begins_comment, escape_of, is_declaring}
-use Rattle.d_lexer.specs.Numbers.{IsNoNumber, number_of}
+use Rattle.d_lexer.specs.Numbers.{IsNoNumber}
+use Rattle.d_lexer.specs.Steps.Numbers.{number_of}
 use Rattle.d_lexer.specs.Marks.{mark_of}
 use Rattle.d_lexer.specs.Places.{moved, passed, is_head, is_first, is_hash, after}
 use Rattle.d_lexer.specs.Faults.{on_line}
-use Rattle.d_lexer.specs.OptionLine.{is_option}
+use Rattle.d_lexer.specs.Steps.OptionLine.{is_option}
 use Rattle.d_lexer.specs.Tokens.{StopsAt, Fills, HasNoEnd, IsPiece, blank, comment, first_line, Past, here, past, IsRunOf, SpellsText, SpellsAggregation, IsMark, SpellsInside, SpellsHead, Spells, begins, StopsText, IsFault, stray, open_comment, text, number, option_line, other_option, End, Clean, Bad, EndsAs, Lexes}
-use Rattle.d_lexer.specs.Scan.{put, skip_one, text_from, comment_from, mark_at, mark_front, number_front, head_kind, aggregation_front, text_front, inside_at, head_at, token_at, front_at, Scanned, with_first, scan}
+use Rattle.d_lexer.specs.Steps.Scan.{put, skip_one, text_from, comment_from, mark_at, mark_front, number_front, head_kind, aggregation_front, text_front, inside_at, head_at, token_at, front_at, Scanned, with_first, scan}
 use Rattle.d_lexer.proofs.Base.{run_fills, run_is, scan_skip}
 use Rattle.d_lexer.proofs.Steps.{behind_text, behind_none}
 use Rattle.d_lexer.proofs.Numbers.{number_reads, none_reads}

@@ -13,8 +13,8 @@ use Rattle.d_lexer.specs.declared.front.Front.TheVariants as front
 use Rattle.d_lexer.specs.Places.{passed, moved, after}
 use Rattle.d_lexer.specs.Faults.{on_line}
 use Rattle.d_lexer.specs.Tokens.{End, Clean, Bad}
-use Rattle.d_lexer.specs.Scan.{scan, front_at, Gives, Fits, Scanned, with_first}
-use Rattle.d_lexer.specs.Lexing.{joined}
+use Rattle.d_lexer.specs.Steps.Scan.{scan, front_at, Gives, Fits, Scanned, with_first}
+use Rattle.d_lexer.specs.Steps.Lexing.{joined}
 use Rattle.d_lexer.proofs.Base.{Split}
 use Rattle.d_lexer.proofs.Sound.{FrontIs, front_sound}
 

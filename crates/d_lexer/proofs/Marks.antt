@@ -7,7 +7,7 @@ use Rattle.d_lexer.specs.declared.place.Place.TheVariants.{Head, Declaration, Pr
 use Rattle.d_lexer.specs.Bytes.{entry_of, is_blank}
 use Rattle.d_lexer.specs.Marks.{mark_of, singles, of_head, doubles, settings, shifts, arrows}
 use Rattle.d_lexer.specs.Tokens.{IsMark, begins}
-use Rattle.d_lexer.specs.Scan.{mark_at, sized}
+use Rattle.d_lexer.specs.Steps.Scan.{mark_at, with_length}
 use Rattle.d_lexer.proofs.Base.{both_true, Split, cond_is}
 
 -- a byte with which a mark may begin
@@ -117,28 +117,28 @@ abbrev pub MarkIs : Place → ℕ → List ℕ → Option (Mark × ℕ) → Type
 MarkIs p a z None = (own rest : List ℕ) (k : Mark) → mark_of p own ≡ Some k → (a ∷ z) ≡ own ++ rest → ⊥
 MarkIs p a z (Some x) = Split (λ own rest. (mark_of p (a ∷ own) ≡ Some (x.0)) × Longest p (a ∷ own) rest) x.1 z
 
-sized_is : (P : Option (Mark × ℕ) → Type 0) (n : ℕ) (o : Option Mark) (other : Option (Mark × ℕ)) → ((k : Mark) → o ≡ Some k → P (Some (k, n))) → (o ≡ None → P other) → P (sized n o other)
-sized_is P n None other f g = g refl
-sized_is P n (Some k) other f g = f k refl
+with_length_is : (P : Option (Mark × ℕ) → Type 0) (n : ℕ) (o : Option Mark) (other : Option (Mark × ℕ)) → ((k : Mark) → o ≡ Some k → P (Some (k, n))) → (o ≡ None → P other) → P (with_length n o other)
+with_length_is P n None other f g = g refl
+with_length_is P n (Some k) other f g = f k refl
 
 pub mark_sound : (p : Place) (a : ℕ) (z : List ℕ) → MarkIs p a z (mark_at p a z)
 unfolding mark_at
 mark_sound p a [] =
-    sized_is (MarkIs p a []) 0 (mark_of p (a ∷ [])) None
+    with_length_is (MarkIs p a []) 0 (mark_of p (a ∷ [])) None
     (λ k e. record { own = []; rest = []; is = refl; size = refl; holds = (e, λ other after j f is. at_most_1 p (a ∷ []) other after j (λ x y w q r. absurd cc) (λ x y q r. absurd cc) f is) })
     (λ e other after j f is. at_most_0 p (a ∷ []) other after j (λ x y w q r. absurd cc) (λ x y q r. absurd cc) (λ x q r. cc) f is)
 mark_sound p a (b ∷ []) =
-    sized_is (MarkIs p a (b ∷ [])) 1 (mark_of p (a ∷ b ∷ [])) (sized 0 (mark_of p (a ∷ [])) None)
+    with_length_is (MarkIs p a (b ∷ [])) 1 (mark_of p (a ∷ b ∷ [])) (with_length 0 (mark_of p (a ∷ [])) None)
     (λ k e. record { own = b ∷ []; rest = []; is = refl; size = refl; holds = (e, λ other after j f is. at_most_2 p (a ∷ b ∷ []) other after j (λ x y w q r. absurd cc) f is) })
-    (λ e2. sized_is (MarkIs p a (b ∷ [])) 0 (mark_of p (a ∷ [])) None
+    (λ e2. with_length_is (MarkIs p a (b ∷ [])) 0 (mark_of p (a ∷ [])) None
     (λ k e. record { own = []; rest = b ∷ []; is = refl; size = refl; holds = (e, λ other after j f is. at_most_1 p (a ∷ b ∷ []) other after j (λ x y w q r. absurd cc) (λ x y q r. cc) f is) })
     (λ e other after j f is. at_most_0 p (a ∷ b ∷ []) other after j (λ x y w q r. absurd cc) (λ x y q r. cc) (λ x q r. cc) f is))
 mark_sound p a (b ∷ c ∷ z) =
-    sized_is (MarkIs p a (b ∷ c ∷ z)) 2 (mark_of p (a ∷ b ∷ c ∷ [])) (sized 1 (mark_of p (a ∷ b ∷ [])) (sized 0 (mark_of p (a ∷ [])) None))
+    with_length_is (MarkIs p a (b ∷ c ∷ z)) 2 (mark_of p (a ∷ b ∷ c ∷ [])) (with_length 1 (mark_of p (a ∷ b ∷ [])) (with_length 0 (mark_of p (a ∷ [])) None))
     (λ k e. record { own = b ∷ c ∷ []; rest = z; is = refl; size = refl; holds = (e, λ other after j f is. at_most_3 p (a ∷ b ∷ c ∷ z) other after j f is) })
-    (λ e3. sized_is (MarkIs p a (b ∷ c ∷ z)) 1 (mark_of p (a ∷ b ∷ [])) (sized 0 (mark_of p (a ∷ [])) None)
+    (λ e3. with_length_is (MarkIs p a (b ∷ c ∷ z)) 1 (mark_of p (a ∷ b ∷ [])) (with_length 0 (mark_of p (a ∷ [])) None)
     (λ k e. record { own = b ∷ []; rest = c ∷ z; is = refl; size = refl; holds = (e, λ other after j f is. at_most_2 p (a ∷ b ∷ c ∷ z) other after j (λ x y w q r. cc) f is) })
-    (λ e2. sized_is (MarkIs p a (b ∷ c ∷ z)) 0 (mark_of p (a ∷ [])) None
+    (λ e2. with_length_is (MarkIs p a (b ∷ c ∷ z)) 0 (mark_of p (a ∷ [])) None
     (λ k e. record { own = []; rest = b ∷ c ∷ z; is = refl; size = refl; holds = (e, λ other after j f is. at_most_1 p (a ∷ b ∷ c ∷ z) other after j (λ x y w q r. cc) (λ x y q r. cc) f is) })
     (λ e other after j f is. at_most_0 p (a ∷ b ∷ c ∷ z) other after j (λ x y w q r. cc) (λ x y q r. cc) (λ x q r. cc) f is)))
 

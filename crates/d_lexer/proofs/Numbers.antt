@@ -7,7 +7,8 @@ use Rattle.std.specs.Prelude.{option_and_then, nat_le}
 use Rattle.std.specs.Char.{is_ascii_digit}
 use Rattle.d_lexer.specs.declared.token.Suffix.{Suffix}
 use Rattle.d_lexer.specs.declared.token.Suffix.TheVariants.{Absent, Unsigned, Long, UnsignedLong}
-use Rattle.d_lexer.specs.Numbers.{digit_of, below, is_u, is_l, suffix_of, is_x, StandFor, IsBase, hexadecimal, octal, decimal, IsNumber, IsNoNumber, with_suffix, number_by, number_from, hex_by, zero_from, number_of}
+use Rattle.d_lexer.specs.Numbers.{digit_of, below, is_u, is_l, suffix_of, is_x, StandFor, IsBase, hexadecimal, octal, decimal, IsNumber, IsNoNumber}
+use Rattle.d_lexer.specs.Steps.Numbers.{with_suffix, number_by, number_from, hex_by, zero_from, number_of}
 use Rattle.d_lexer.proofs.Base.{cond_is}
 
 -- one digit more, behind a first part

@@ -14,8 +14,9 @@ use Rattle.d_lexer.specs.declared.fault.LexFault.{LexFault}
 use Rattle.d_lexer.specs.declared.fault.LexFault.TheVariants as faults
 use Rattle.d_lexer.specs.Places.{start, passed, after}
 use Rattle.d_lexer.specs.Tokens.{End, Clean, Bad, Lexes}
-use Rattle.d_lexer.specs.Scan.{Scanned, scan, scan_by, front_at}
-use Rattle.d_lexer.specs.Lexing.{settle, AreTokens, IsFirstFault, IsLexed, IsRefused, HasOne, Stops, Lexed}
+use Rattle.d_lexer.specs.Steps.Scan.{Scanned, scan, scan_by, front_at}
+use Rattle.d_lexer.specs.Lexing.{settle, AreTokens, IsFirstFault, IsLexed, IsRefused, HasOne}
+use Rattle.d_lexer.specs.Steps.Lexing.{Stops, Lexed}
 use Rattle.d_lexer.proofs.Sound.{whole_sound}
 use Rattle.d_lexer.specs.Small.{AreSmall}
 use Rattle.d_lexer.proofs.Complete.{complete}

@@ -17,11 +17,11 @@ use Rattle.d_lexer.specs.declared.front.Front.TheVariants.{Gap}
 use Rattle.d_lexer.specs.declared.fault.Flaw.{Flaw}
 use Rattle.d_lexer.specs.declared.fault.Flaw.TheVariants as f
 use Rattle.d_lexer.specs.Bytes.{next_is, is_blank, is_word_start, is_word_byte, is_run_byte, is_inside, is_plain, begins_comment, escape_of, is_declaring}
-use Rattle.d_lexer.specs.Numbers.{number_of}
+use Rattle.d_lexer.specs.Steps.Numbers.{number_of}
 use Rattle.d_lexer.specs.Places.{moved, passed, is_head, is_first, is_hash, after}
-use Rattle.d_lexer.specs.OptionLine.{is_option}
+use Rattle.d_lexer.specs.Steps.OptionLine.{is_option}
 use Rattle.d_lexer.specs.Tokens.{Fills, HasNoEnd, IsPiece, blank, comment, first_line, option_line, here, past, IsRunOf, SpellsText, IsMark, SpellsInside, Spells, begins, BreaksText, IsFault, stray, open_comment, text, number, other_option, End, Lexes}
-use Rattle.d_lexer.specs.Scan.{run_len, run_of, tail, put, skip_one, put_escape, text_from, one_longer, comment_from, mark_at, mark_front, number_front, comment_front, head_kind, aggregation_front, text_front, inside_at, head_at, token_at, front_at, Scanned, scan_by, scan}
+use Rattle.d_lexer.specs.Steps.Scan.{run_len, run_of, tail, put, skip_one, put_escape, text_from, one_longer, comment_from, mark_at, mark_front, number_front, comment_front, head_kind, aggregation_front, text_front, inside_at, head_at, token_at, front_at, Scanned, scan_by, scan}
 use Rattle.d_lexer.proofs.Base.{both_true, Split, cond_is, run_splits, run_is}
 use Rattle.d_lexer.proofs.Numbers.{number_is, none_is}
 use Rattle.d_lexer.proofs.OptionLines.{option_is, no_option_is}

@@ -1,6 +1,6 @@
 -- What the loops keep.
 use Rattle.std.proofs.Common.{◌≡◌, ℕ, suc, ◌+◌, List, [], ◌∷◌, ◌++◌, Option, Some, None, Result, Ok, Err, refl, arith, append_assoc}
-use Rattle.d_lexer.specs.Scan.{one_longer, put, skip_one}
+use Rattle.d_lexer.specs.Steps.Scan.{one_longer, put, skip_one}
 use Rattle.d_lexer.specs.declared.fault.Flaw.{Flaw}
 
 -- so many more

@@ -1,5 +1,6 @@
 -- Kinds of bytes.
-use Rattle.std.specs.Prelude.{ℕ, Bool, false, not, ◌&&◌, ◌||◌, if◌then◌else◌, ◌==◌, nat_le, List, [], ◌∷◌, Option, Some, None, codes}
+use Rattle.std.specs.Prelude.{ℕ, ◌==◌, nat_le, Bool, false, not, ◌&&◌, ◌||◌, if◌then◌else◌}
+use Rattle.std.specs.Prelude.{List, [], ◌∷◌, Option, Some, None, codes}
 use Rattle.std.specs.Str.{bytes_eq}
 use Rattle.std.specs.Char.{is_ascii_alphabetic, is_ascii_alphanumeric}
 
@@ -73,9 +74,11 @@ abbrev pub entry_of : {X : Type 0} → List (ℕ × X) → ℕ → Option X
 entry_of [] b = None
 entry_of (e ∷ es) b = if b == e.0 then Some e.1 else entry_of es b
 
--- what may stand behind a backslash: a b f n r t v \ " ' ?
+-- what may come after a backslash: a b f n r t v \ " ' ?
 abbrev pub escapes : List (ℕ × ℕ)
-escapes = (97, 7) ∷ (98, 8) ∷ (102, 12) ∷ (110, 10) ∷ (114, 13) ∷ (116, 9) ∷ (118, 11) ∷ (92, 92) ∷ (34, 34) ∷ (39, 39) ∷ (63, 63) ∷ []
+escapes =
+    (97, 7) ∷ (98, 8) ∷ (102, 12) ∷ (110, 10) ∷ (114, 13) ∷ (116, 9) ∷ (118, 11)
+    ∷ (92, 92) ∷ (34, 34) ∷ (39, 39) ∷ (63, 63) ∷ []
 
 -- the byte that an escape stands for
 abbrev pub escape_of : ℕ → Option ℕ

@@ -1,3 +1,5 @@
+pub mod Vocabulary
+pub mod Outcomes
 pub mod Bytes
 pub mod Numbers
 pub mod Marks
@@ -5,7 +7,7 @@ pub mod Places
 pub mod Faults
 pub mod OptionLine
 pub mod Tokens
-pub mod Scan
+pub mod Steps
 pub mod Lexing
 pub mod Spans
 pub mod Small

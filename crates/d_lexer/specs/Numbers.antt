@@ -1,11 +1,16 @@
 -- Numbers: what a run of letters and digits stands for.
-use Rattle.std.specs.Prelude.{◌≡◌, ◌≢◌, ℕ, ◌+◌, ◌*◌, ◌-◌, ◌^◌, ◌<◌, Bool, true, ◌&&◌, ◌||◌, if◌then◌else◌, ◌==◌, nat_le, nat_lt, List, [], ◌∷◌, ◌++◌, length, Option, Some, None, option_and_then}
+use Rattle.std.specs.Prelude.{◌≡◌, ◌≢◌, ℕ, ◌+◌, ◌*◌, ◌-◌, ◌^◌, ◌<◌, ◌==◌, nat_le, nat_lt}
+use Rattle.std.specs.Prelude.{Bool, true, ◌&&◌, ◌||◌, if◌then◌else◌, Option, Some, None}
+use Rattle.std.specs.Prelude.{List, [], ◌∷◌, ◌++◌, length}
 use Rattle.d_lexer.specs.declared.token.Suffix.{Suffix}
 use Rattle.d_lexer.specs.declared.token.Suffix.TheVariants.{Absent, Unsigned, Long, UnsignedLong}
 
--- what a digit stands for: 0 to 9, then a to f in either case
+-- the value of a digit: 0 to 9, then a to f in either case
 abbrev pub digit_value : ℕ → Option ℕ
-digit_value d = if nat_le 48 d && nat_le d 57 then Some (d - 48) else (if nat_le 97 d && nat_le d 102 then Some (d - 87) else (if nat_le 65 d && nat_le d 70 then Some (d - 55) else None))
+digit_value d =
+    if nat_le 48 d && nat_le d 57 then Some (d - 48)
+    else (if nat_le 97 d && nat_le d 102 then Some (d - 87)
+    else (if nat_le 65 d && nat_le d 70 then Some (d - 55) else None))
 
 -- a value that is below the base
 abbrev pub below : ℕ → Option ℕ → Option ℕ
@@ -27,7 +32,8 @@ is_l b = b == 108 || b == 76
 unfoldable pub suffix_of : List ℕ → Option Suffix
 suffix_of [] = Some Absent
 suffix_of (a ∷ []) = if is_u a then Some Unsigned else (if is_l a then Some Long else None)
-suffix_of (a ∷ b ∷ []) = if is_u a && is_l b then Some UnsignedLong else (if is_l a && is_l b then Some Long else None)
+suffix_of (a ∷ b ∷ []) =
+    if is_u a && is_l b then Some UnsignedLong else (if is_l a && is_l b then Some Long else None)
 suffix_of (a ∷ b ∷ c ∷ []) = if is_u a && is_l b && is_l c then Some UnsignedLong else None
 suffix_of (a ∷ b ∷ c ∷ d ∷ z) = None
 
@@ -36,17 +42,22 @@ suffix_of (a ∷ b ∷ c ∷ d ∷ z) = None
 -- the digits of the base stand for the number: each for its value times a power of the base
 abbrev pub StandFor : ℕ → List ℕ → ℕ → Type 0
 StandFor base [] n = n ≡ 0
-StandFor base (d ∷ ds) n = (k : ℕ) × (m : ℕ) × (digit_of base d ≡ Some k) × StandFor base ds m × (n ≡ k * base ^ length ds + m)
+StandFor base (d ∷ ds) n =
+    (k : ℕ) × (m : ℕ) × (digit_of base d ≡ Some k) × StandFor base ds m
+    × (n ≡ k * base ^ length ds + m)
 
 -- x in either case
 abbrev pub is_x : ℕ → Bool
 is_x b = b == 120 || b == 88
 
--- how the base is told: 0x and hexadecimal digits, 0 and perhaps octal digits, or decimal digits that begin with another
+-- how the base is written: 0x and hexadecimal digits, 0 and perhaps octal digits, or decimal digits
+-- that begin with another
 pub data IsBase (base : ℕ) (before digits : List ℕ) : Type 0 where
-  hexadecimal : (x d : ℕ) (ds : List ℕ) → base ≡ 16 → before ≡ 48 ∷ (x ∷ []) → is_x x ≡ true → digits ≡ d ∷ ds → IsBase base before digits
+  hexadecimal : (x d : ℕ) (ds : List ℕ) → base ≡ 16 → before ≡ 48 ∷ (x ∷ []) → is_x x ≡ true
+      → digits ≡ d ∷ ds → IsBase base before digits
   octal : (ds : List ℕ) → base ≡ 8 → before ≡ [] → digits ≡ 48 ∷ ds → IsBase base before digits
-  decimal : (d : ℕ) (ds : List ℕ) → base ≡ 10 → before ≡ [] → digits ≡ d ∷ ds → d ≢ 48 → IsBase base before digits
+  decimal : (d : ℕ) (ds : List ℕ) → base ≡ 10 → before ≡ [] → digits ≡ d ∷ ds → d ≢ 48
+      → IsBase base before digits
 
 -- the bytes are digits that stand for n, below 2 ^ 64, and a suffix
 pub record IsNumber (own : List ℕ) (n : ℕ) (s : Suffix) : Type 0 where
@@ -63,44 +74,3 @@ pub record IsNumber (own : List ℕ) (n : ℕ) (s : Suffix) : Type 0 where
 -- the bytes stand for no number
 abbrev pub IsNoNumber : List ℕ → Type 0
 IsNoNumber own = (n : ℕ) (s : Suffix) → IsNumber own n s → ⊥
-
--- ---- the same, digit by digit
-
--- one digit more, below 2 ^ 64
-abbrev pub one_more : ℕ → ℕ → ℕ → Option ℕ
-one_more base n k = if nat_lt (n * base + k) (2 ^ 64) then Some (n * base + k) else None
-
--- the number, where what is behind its digits is a suffix
-abbrev pub with_suffix : ℕ → Option Suffix → Option (ℕ × Suffix)
-with_suffix n None = None
-with_suffix n (Some s) = Some (n, s)
-
--- the digits of the base, and behind them a suffix
-abbrev pub number_by : (go : ℕ → Option (ℕ × Suffix)) → ℕ → ℕ → List ℕ → Option ℕ → Option (ℕ × Suffix)
-number_by go base n bytes None = with_suffix n (suffix_of bytes)
-number_by go base n bytes (Some k) = option_and_then go (one_more base n k)
-
--- the number whose first digits are n
-unfoldable pub number_from : ℕ → ℕ → List ℕ → Option (ℕ × Suffix)
-number_from base n [] = Some (n, Absent)
-number_from base n (d ∷ ds) = number_by (λ k. number_from base k ds) base n (d ∷ ds) (digit_of base d)
-
--- hexadecimal digits, where the first byte is one
-abbrev pub hex_by : List ℕ → Option ℕ → Option (ℕ × Suffix)
-hex_by z None = None
-hex_by z (Some k) = number_from 16 0 z
-
--- behind 0x
-abbrev pub hex_from : List ℕ → Option (ℕ × Suffix)
-hex_from [] = None
-hex_from (d ∷ ds) = hex_by (d ∷ ds) (digit_of 16 d)
-
--- behind a first 0
-abbrev pub zero_from : List ℕ → Option (ℕ × Suffix)
-zero_from [] = Some (0, Absent)
-zero_from (c ∷ ds) = if is_x c then hex_from ds else number_from 8 0 (c ∷ ds)
-
--- the number that a run of letters and digits spells
-unfoldable pub number_of : List ℕ → Option (ℕ × Suffix)
-number_of [] = None
-number_of (b ∷ ds) = if b == 48 then zero_from ds else number_from 10 (b - 48) ds

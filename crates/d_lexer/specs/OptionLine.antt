@@ -1,6 +1,6 @@
 -- Option lines.
-use Rattle.std.specs.Prelude.{◌≡◌, ℕ, Bool, true, false, ◌||◌, if◌then◌else◌, ◌==◌, List, [], ◌∷◌, ◌++◌, Option, Some, None, codes}
-use Rattle.std.specs.List.{AllByRecursion, list_all}
+use Rattle.std.specs.Prelude.{◌≡◌, ℕ, Bool, true, ◌||◌, ◌==◌, List, [], ◌∷◌, ◌++◌, codes}
+use Rattle.std.specs.List.{AllByRecursion}
 use Rattle.d_lexer.specs.Bytes.{is_space}
 
 -- a space, a tab or a carriage return
@@ -17,62 +17,14 @@ AreSpaces (b ∷ bs) = AllByRecursion (λ c. is_space c ≡ true) (b ∷ bs)
 -- these words with spaces before each, and then perhaps spaces and carriage returns
 abbrev pub AreWords : List (List ℕ) → List ℕ → Type 0
 AreWords [] z = AllByRecursion (λ c. is_trailing c ≡ true) z
-AreWords (w ∷ ws) z = (own : List ℕ) × (rest : List ℕ) × AreSpaces own × (z ≡ own ++ (w ++ rest)) × AreWords ws rest
+AreWords (w ∷ ws) z =
+    (own : List ℕ) × (rest : List ℕ) × AreSpaces own × (z ≡ own ++ (w ++ rest)) × AreWords ws rest
 
--- the words behind #pragma
+-- the words after #pragma
 abbrev pub option_words : List (List ℕ)
 option_words = codes "D" ∷ codes "option" ∷ codes "quiet" ∷ []
 
 -- a line's bytes from its # on
 abbrev pub IsOptionLine : List ℕ → Type 0
-IsOptionLine own = (rest : List ℕ) × (own ≡ codes "#pragma" ++ rest) × AreWords option_words rest
-
--- ---- the same, from left to right
-
--- what is left behind a word
-unfoldable pub behind : List ℕ → List ℕ → Option (List ℕ)
-behind [] bytes = Some bytes
-behind (w ∷ ws) [] = None
-behind (w ∷ ws) (b ∷ bytes) = if b == w then behind ws bytes else None
-
--- what is left behind any spaces
-unfoldable pub skip_spaces : List ℕ → List ℕ
-skip_spaces [] = []
-skip_spaces (b ∷ bytes) = if is_space b then skip_spaces bytes else b ∷ bytes
-
--- what is left behind one space at least
-unfoldable pub spaces : List ℕ → Option (List ℕ)
-spaces [] = None
-spaces (b ∷ bytes) = if is_space b then Some (skip_spaces bytes) else None
-
--- nothing but spaces and carriage returns
-abbrev pub is_trail : List ℕ → Bool
-is_trail bytes = list_all is_trailing bytes
-
--- a search, and then another from there
-abbrev pub and_then : Option (List ℕ) → (List ℕ → Option (List ℕ)) → Option (List ℕ)
-and_then None k = None
-and_then (Some z) k = k z
-
--- the search finds, and the line ends there
-abbrev pub ends : Option (List ℕ) → Bool
-ends None = false
-ends (Some z) = is_trail z
-
--- what is left behind spaces and a word
-abbrev pub next_word : List ℕ → List ℕ → Option (List ℕ)
-next_word w z = and_then (spaces z) (behind w)
-
--- what is left behind several
-abbrev pub after_words : List (List ℕ) → List ℕ → Option (List ℕ)
-after_words [] z = Some z
-after_words (w ∷ ws) z = and_then (next_word w z) (after_words ws)
-
--- the line is an option line
-unfoldable pub is_option : List ℕ → Bool
-is_option own = ends (and_then (behind (codes "#pragma") own) (after_words option_words))
-
--- what a search answers, seen without where it lies
-abbrev pub Finds : {X : Type 0} → (X → List ℕ) → Option X → Option (List ℕ) → Type 0
-Finds view None o = o ≡ None
-Finds view (Some x) o = o ≡ Some (view x)
+IsOptionLine own =
+    (rest : List ℕ) × (own ≡ codes "#pragma" ++ rest) × AreWords option_words rest

@@ -1,11 +1,12 @@
--- Where tokens and faults stand, told by the bytes alone.
-use Rattle.std.specs.Prelude.{◌≡◌, ◌==◌, ℕ, ◌+◌, ◌<◌, ◌≤◌, List, [], ◌∷◌, ◌++◌, length, count_by}
+-- Where tokens and faults are, by the bytes alone.
+use Rattle.std.specs.Prelude.{◌≡◌, ◌==◌, ℕ, ◌+◌, ◌<◌, ◌≤◌}
+use Rattle.std.specs.Prelude.{List, [], ◌∷◌, ◌++◌, length, count_by}
 use Rattle.d_lexer.specs.declared.token.Token.{Token}
 use Rattle.d_lexer.specs.declared.fault.Flaw.{Flaw}
 use Rattle.d_lexer.specs.declared.fault.LexFault.{LexFault}
 use Rattle.d_lexer.specs.Faults.{on_line}
 
--- the line behind these bytes: one more than their line feeds
+-- the line after these bytes: one more than their line feeds
 abbrev pub line_behind : List ℕ → ℕ
 line_behind bytes = 1 + count_by (λ b. b == 10) bytes
 
@@ -19,12 +20,13 @@ pub record Stands (bytes : List ℕ) (t : Token) : Type 0 where
   pub stop : t.stop ≡ length (before ++ own)
   pub line : t.line ≡ line_behind before
 
--- the tokens begin at this offset or later, have a byte at least, and none begins before the one in front of it stops
+-- the tokens begin at this offset or later, have a byte at least, and none begins before the one in
+-- front of it stops
 abbrev pub AreInOrder : ℕ → List Token → Type 0
 AreInOrder from [] = Unit {0}
 AreInOrder from (t ∷ ts) = (from ≤ t.start) × (t.start < t.stop) × AreInOrder t.stop ts
 
--- the fault tells the line on which its first byte stands
+-- the fault has the line of its first byte
 pub record TellsItsLine (bytes : List ℕ) (fault : LexFault) : Type 0 where
   pub before : List ℕ
   pub first : ℕ

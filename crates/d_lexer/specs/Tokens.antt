@@ -1,25 +1,20 @@
 -- Which tokens a script has, and which fault.
-use Rattle.std.specs.Prelude.{◌≡◌, ℕ, ◌+◌, ◌≤◌, ◌⊎◌, Bool, true, false, ◌&&◌, ◌||◌, ◌==◌, List, [], ◌∷◌, ◌++◌, length, Some, None, codes}
-use Rattle.std.specs.List.{AllByRecursion}
-use Rattle.std.specs.Char.{is_ascii_digit}
-use Rattle.d_lexer.specs.declared.token.Mark.{Mark}
-use Rattle.d_lexer.specs.declared.token.Token.{Token}
-use Rattle.d_lexer.specs.declared.token.TokenKind.{TokenKind}
+use Rattle.std.specs.Prelude.{◌≡◌, ℕ, ◌+◌, ◌≤◌, ◌⊎◌, Bool, true, false, ◌&&◌, ◌||◌, ◌==◌}
+use Rattle.std.specs.{Prelude.Some, Prelude.None, Prelude.List, Prelude.[], Prelude.◌∷◌}
+use Rattle.std.specs.{Prelude.◌++◌, Prelude.length, Prelude.codes, List.AllByRecursion}
+use Rattle.std.specs.{Char.is_ascii_digit}
+use Rattle.d_lexer.specs.Vocabulary.{Mark, Token, TokenKind, Place, Head, Declaration, Predicate}
+use Rattle.d_lexer.specs.Vocabulary.{Body, Position, Flaw, LexFault}
 use Rattle.d_lexer.specs.declared.token.TokenKind.TheVariants as kind
-use Rattle.d_lexer.specs.declared.place.Place.{Place}
-use Rattle.d_lexer.specs.declared.place.Place.TheVariants.{Head}
-use Rattle.d_lexer.specs.declared.position.Position.{Position}
-use Rattle.d_lexer.specs.declared.fault.Flaw.{Flaw}
-use Rattle.d_lexer.specs.declared.fault.Flaw.TheVariants as f
-use Rattle.d_lexer.specs.declared.fault.LexFault.{LexFault}
-use Rattle.d_lexer.specs.Bytes.{line_feed, quote, hash, star, slash, at_sign, backslash, underscore, next_is, is_blank, is_word_start, is_word_byte, is_run_byte, is_inside, is_plain, begins_comment, escape_of, is_declaring}
-use Rattle.d_lexer.specs.Numbers.{IsNumber, IsNoNumber}
-use Rattle.d_lexer.specs.Marks.{mark_of}
-use Rattle.d_lexer.specs.Places.{moved, is_head, is_first, is_hash, after}
-use Rattle.d_lexer.specs.Faults.{on_line}
-use Rattle.d_lexer.specs.OptionLine.{IsOptionLine}
+use Rattle.d_lexer.specs.declared.fault.Flaw.TheVariants as flaw
+use Rattle.d_lexer.specs.Bytes.{line_feed, quote, hash, star, slash, at_sign, backslash, underscore}
+use Rattle.d_lexer.specs.Bytes.{next_is, is_blank, is_word_start, is_word_byte, is_run_byte}
+use Rattle.d_lexer.specs.Bytes.{is_inside, is_plain, begins_comment, escape_of, is_declaring}
+use Rattle.d_lexer.specs.{Numbers.IsNumber, Numbers.IsNoNumber, Marks.mark_of, Places.moved}
+use Rattle.d_lexer.specs.{Places.is_head, Places.is_first, Places.is_hash, Places.after}
+use Rattle.d_lexer.specs.{Faults.on_line, OptionLine.IsOptionLine}
 
--- ---- what parts tokens
+-- ---- what separates tokens
 
 -- the bytes do not begin with one of the kind
 abbrev pub StopsAt : (ℕ → Bool) → List ℕ → Type 0
@@ -36,17 +31,22 @@ abbrev pub HasNoEnd : List ℕ → Type 0
 HasNoEnd [] = Unit {0}
 HasNoEnd (b ∷ bs) = ((b == star && next_is slash bs) ≡ false) × HasNoEnd bs
 
--- one piece of what parts tokens: a blank, a comment, the first line, an option line
+-- one piece of what separates tokens: a blank, a comment, the first line, an option line
 pub data IsPiece (p : Place) (pos : Position) : (own rest : List ℕ) → Type 0 where
   blank : {own rest : List ℕ} (b : ℕ) → own ≡ b ∷ [] → is_blank b ≡ true → IsPiece p pos own rest
-  comment : {own rest : List ℕ} (body : List ℕ) → own ≡ codes "/*" ++ (body ++ codes "*/") → HasNoEnd body → IsPiece p pos own rest
-  first_line : {own rest : List ℕ} (w : List ℕ) → own ≡ hash ∷ w → is_first pos hash (w ++ rest) ≡ true → Fills is_inside w rest → IsPiece p pos own rest
-  option_line : {own rest : List ℕ} (w : List ℕ) → own ≡ hash ∷ w → is_first pos hash (w ++ rest) ≡ false → is_hash p pos hash ≡ true → IsOptionLine own → Fills is_inside w rest → IsPiece p pos own rest
+  comment : {own rest : List ℕ} (body : List ℕ) → own ≡ codes "/*" ++ (body ++ codes "*/")
+      → HasNoEnd body → IsPiece p pos own rest
+  first_line : {own rest : List ℕ} (w : List ℕ) → own ≡ hash ∷ w
+      → is_first pos hash (w ++ rest) ≡ true → Fills is_inside w rest → IsPiece p pos own rest
+  option_line : {own rest : List ℕ} (w : List ℕ) → own ≡ hash ∷ w
+      → is_first pos hash (w ++ rest) ≡ false → is_hash p pos hash ≡ true
+      → IsOptionLine own → Fills is_inside w rest → IsPiece p pos own rest
 
--- Pieces, and what stands behind them is as Then says.
+-- zero or more pieces, followed by input that satisfies Then
 pub data Past (p : Place) (Then : Position → List ℕ → Type 0) : Position → List ℕ → Type 0 where
   here : {pos : Position} {bytes : List ℕ} → Then pos bytes → Past p Then pos bytes
-  past : {pos : Position} {bytes : List ℕ} (own rest : List ℕ) → bytes ≡ own ++ rest → IsPiece p pos own rest → Past p Then (moved pos own) rest → Past p Then pos bytes
+  past : {pos : Position} {bytes : List ℕ} (own rest : List ℕ) → bytes ≡ own ++ rest
+      → IsPiece p pos own rest → Past p Then (moved pos own) rest → Past p Then pos bytes
 
 -- ---- one token
 
@@ -57,50 +57,71 @@ IsRunOf first other (b ∷ bs) rest = (first b ≡ true) × Fills other bs rest
 
 -- how one byte of a text constant is written: as it is, or as an escape
 abbrev pub SpellsByte : List ℕ → ℕ → Type 0
-SpellsByte own x = ((is_plain x ≡ true) × (own ≡ x ∷ [])) ⊎ ((e : ℕ) × (escape_of e ≡ Some x) × (own ≡ backslash ∷ (e ∷ [])))
+SpellsByte own x =
+    ((is_plain x ≡ true) × (own ≡ x ∷ []))
+    ⊎ ((e : ℕ) × (escape_of e ≡ Some x) × (own ≡ backslash ∷ (e ∷ [])))
 
 -- how the bytes of a text constant are written, one after the other
 abbrev pub SpellsText : List ℕ → List ℕ → Type 0
 SpellsText own [] = own ≡ []
-SpellsText own (x ∷ xs) = (first : List ℕ) × (others : List ℕ) × (own ≡ first ++ others) × SpellsByte first x × SpellsText others xs
+SpellsText own (x ∷ xs) =
+    (first : List ℕ) × (others : List ℕ) × (own ≡ first ++ others)
+    × SpellsByte first x × SpellsText others xs
 
 -- these are the mark's bytes, and no longer mark and no comment begins there
 pub record IsMark (p : Place) (own rest : List ℕ) (k : Mark) : Type 0 where
   pub is : mark_of p own ≡ Some k
-  pub longest : (other after : List ℕ) (j : Mark) → mark_of p other ≡ Some j → own ++ rest ≡ other ++ after → length other ≤ length own
+  pub longest : (other after : List ℕ) (j : Mark) → mark_of p other ≡ Some j
+      → own ++ rest ≡ other ++ after → length other ≤ length own
   pub no_comment : begins_comment (own ++ rest) ≡ false
 
--- a word directly behind the @, or none
+-- a word directly after the @, or none
 abbrev pub SpellsAggregation : (own rest w : List ℕ) → Type 0
-SpellsAggregation own rest w = ((own ≡ at_sign ∷ []) × (w ≡ underscore ∷ []) × StopsAt is_word_start rest) ⊎ ((own ≡ at_sign ∷ w) × IsRunOf is_word_start is_word_byte w rest)
+SpellsAggregation own rest w =
+    ((own ≡ at_sign ∷ []) × (w ≡ underscore ∷ []) × StopsAt is_word_start rest)
+    ⊎ ((own ≡ at_sign ∷ w) × IsRunOf is_word_start is_word_byte w rest)
 
 -- a token of a declaration, a predicate or a body
 abbrev pub SpellsInside : Place → (own rest : List ℕ) → TokenKind → Type 0
 SpellsInside p own rest (kind.DescriptionRun w) = ⊥
 SpellsInside p own rest (kind.Word w) = (w ≡ own) × IsRunOf is_word_start is_word_byte own rest
 SpellsInside p own rest (kind.AggregationName w) = SpellsAggregation own rest w
-SpellsInside p own rest (kind.Number n s) = IsNumber own n s × IsRunOf is_ascii_digit is_word_byte own rest
-SpellsInside p own rest (kind.TextConstant w) = (body : List ℕ) × (own ≡ quote ∷ (body ++ quote ∷ [])) × SpellsText body w
+SpellsInside p own rest (kind.Number n s) =
+    IsNumber own n s × IsRunOf is_ascii_digit is_word_byte own rest
+SpellsInside p own rest (kind.TextConstant w) =
+    (body : List ℕ) × (own ≡ quote ∷ (body ++ quote ∷ [])) × SpellsText body w
 SpellsInside p own rest (kind.Mark k) = IsMark p own rest k
 
 -- a token of the head: self and this are words
 abbrev pub SpellsHead : (own rest : List ℕ) → TokenKind → Type 0
-SpellsHead own rest (kind.DescriptionRun w) = (w ≡ own) × (is_declaring own ≡ false) × IsRunOf is_run_byte is_run_byte own rest
-SpellsHead own rest (kind.Word w) = (w ≡ own) × (is_declaring own ≡ true) × IsRunOf is_run_byte is_run_byte own rest
+SpellsHead own rest (kind.DescriptionRun w) =
+    (w ≡ own) × (is_declaring own ≡ false) × IsRunOf is_run_byte is_run_byte own rest
+SpellsHead own rest (kind.Word w) =
+    (w ≡ own) × (is_declaring own ≡ true) × IsRunOf is_run_byte is_run_byte own rest
+SpellsHead own rest (kind.AggregationName w) = ⊥
+SpellsHead own rest (kind.Number n s) = ⊥
+SpellsHead own rest (kind.TextConstant w) = ⊥
 SpellsHead own rest (kind.Mark k) = IsMark Head own rest k
-SpellsHead own rest t = ⊥
 
 -- own is the longest spelling of the token at the front of own ++ rest
 abbrev pub Spells : Place → (own rest : List ℕ) → TokenKind → Type 0
 Spells Head own rest t = SpellsHead own rest t
-Spells p own rest t = SpellsInside p own rest t
+Spells Declaration own rest t = SpellsInside Declaration own rest t
+Spells Predicate own rest t = SpellsInside Predicate own rest t
+Spells Body own rest t = SpellsInside Body own rest t
 
 -- ---- one fault
 
--- a byte with which a run, a word, a number, a name or a text constant begins
+-- a byte with which a word, a number, a name or a text constant begins
+abbrev pub begins_inside : ℕ → Bool
+begins_inside b = is_word_start b || is_ascii_digit b || b == at_sign || b == quote
+
+-- a byte with which a run of the head begins, or another of these
 abbrev pub begins : Place → ℕ → Bool
 begins Head b = is_run_byte b
-begins p b = is_word_start b || is_ascii_digit b || b == at_sign || b == quote
+begins Declaration b = begins_inside b
+begins Predicate b = begins_inside b
+begins Body b = begins_inside b
 
 -- nothing begins with the byte at the front
 pub record IsStray (p : Place) (pos : Position) (b : ℕ) (z : List ℕ) : Type 0 where
@@ -109,26 +130,40 @@ pub record IsStray (p : Place) (pos : Position) (b : ℕ) (z : List ℕ) : Type 
   pub no_first : is_first pos b z ≡ false
   pub no_hash : is_hash p pos b ≡ false
   pub no_token : begins p b ≡ false
-  pub no_mark : (own rest : List ℕ) (k : Mark) → mark_of p own ≡ Some k → (b ∷ z) ≡ own ++ rest → ⊥
+  pub no_mark : (own rest : List ℕ) (k : Mark) → mark_of p own ≡ Some k
+      → (b ∷ z) ≡ own ++ rest → ⊥
 
--- what is wrong behind good bytes of a text constant
+-- what is wrong after good bytes of a text constant
 abbrev pub StopsText : Flaw → List ℕ → Type 0
-StopsText f.BadByte rest = (z : List ℕ) × (rest ≡ 0 ∷ z)
-StopsText f.Unclosed rest = (rest ≡ []) ⊎ ((z : List ℕ) × (rest ≡ line_feed ∷ z)) ⊎ (rest ≡ backslash ∷ [])
-StopsText f.Escape rest = (e : ℕ) × (z : List ℕ) × (rest ≡ backslash ∷ (e ∷ z)) × (escape_of e ≡ None)
-StopsText g rest = ⊥
+StopsText flaw.BadByte rest = (z : List ℕ) × (rest ≡ 0 ∷ z)
+StopsText flaw.Unclosed rest =
+    (rest ≡ []) ⊎ ((z : List ℕ) × (rest ≡ line_feed ∷ z)) ⊎ (rest ≡ backslash ∷ [])
+StopsText flaw.Escape rest =
+    (e : ℕ) × (z : List ℕ) × (rest ≡ backslash ∷ (e ∷ z)) × (escape_of e ≡ None)
+StopsText flaw.Constant rest = ⊥
+StopsText flaw.OptionLine rest = ⊥
 
 -- good bytes of a text constant, and then what is wrong
 abbrev pub BreaksText : List ℕ → Flaw → Type 0
-BreaksText z g = (body : List ℕ) × (w : List ℕ) × (rest : List ℕ) × (z ≡ body ++ rest) × SpellsText body w × StopsText g rest
+BreaksText z g =
+    (body : List ℕ) × (w : List ℕ) × (rest : List ℕ) × (z ≡ body ++ rest)
+    × SpellsText body w × StopsText g rest
 
 -- the fault at the front of the bytes
 pub data IsFault (p : Place) (pos : Position) : List ℕ → Flaw → Type 0 where
-  stray : {bytes : List ℕ} (b : ℕ) (z : List ℕ) → bytes ≡ b ∷ z → IsStray p pos b z → IsFault p pos bytes f.BadByte
-  open_comment : {bytes : List ℕ} (z : List ℕ) → bytes ≡ codes "/*" ++ z → HasNoEnd z → IsFault p pos bytes f.Unclosed
-  text : {bytes : List ℕ} {g : Flaw} (z : List ℕ) → is_head p ≡ false → bytes ≡ quote ∷ z → BreaksText z g → IsFault p pos bytes g
-  number : {bytes : List ℕ} (own rest : List ℕ) → is_head p ≡ false → bytes ≡ own ++ rest → IsRunOf is_ascii_digit is_word_byte own rest → IsNoNumber own → IsFault p pos bytes f.Constant
-  other_option : {bytes : List ℕ} (w rest : List ℕ) → bytes ≡ hash ∷ (w ++ rest) → is_first pos hash (w ++ rest) ≡ false → is_hash p pos hash ≡ true → (IsOptionLine (hash ∷ w) → ⊥) → Fills is_inside w rest → IsFault p pos bytes f.OptionLine
+  stray : {bytes : List ℕ} (b : ℕ) (z : List ℕ) → bytes ≡ b ∷ z → IsStray p pos b z
+      → IsFault p pos bytes flaw.BadByte
+  open_comment : {bytes : List ℕ} (z : List ℕ) → bytes ≡ codes "/*" ++ z → HasNoEnd z
+      → IsFault p pos bytes flaw.Unclosed
+  text : {bytes : List ℕ} {g : Flaw} (z : List ℕ) → is_head p ≡ false → bytes ≡ quote ∷ z
+      → BreaksText z g → IsFault p pos bytes g
+  number : {bytes : List ℕ} (own rest : List ℕ) → is_head p ≡ false → bytes ≡ own ++ rest
+      → IsRunOf is_ascii_digit is_word_byte own rest → IsNoNumber own
+      → IsFault p pos bytes flaw.Constant
+  other_option : {bytes : List ℕ} (w rest : List ℕ) → bytes ≡ hash ∷ (w ++ rest)
+      → is_first pos hash (w ++ rest) ≡ false → is_hash p pos hash ≡ true
+      → (IsOptionLine (hash ∷ w) → ⊥) → Fills is_inside w rest
+      → IsFault p pos bytes flaw.OptionLine
 
 -- ---- all of the bytes
 
@@ -137,12 +172,13 @@ pub data End : Type 0 where
   Clean : End
   Bad : LexFault → End
 
--- what stands where the tokens end
+-- what is left where the tokens end
 abbrev pub EndsAs : Place → End → Position → List ℕ → Type 0
 EndsAs p Clean pos bytes = bytes ≡ []
 EndsAs p (Bad fault) pos bytes = (g : Flaw) × IsFault p pos bytes g × (fault ≡ on_line g pos.line)
 
--- The tokens at the front of the bytes, which lie at this place and position, and what comes behind them.
+-- the tokens at the front of the bytes, which begin at this place and position, and what comes
+-- after them
 abbrev pub Lexes : Place → Position → List ℕ → List Token → End → Type 0
 Lexes p pos bytes [] end = Past p (EndsAs p end) pos bytes
 Lexes p pos bytes (t ∷ ts) end =

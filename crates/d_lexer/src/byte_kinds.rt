@@ -2,7 +2,7 @@
 
 ghost use Rattle.std.specs.Prelude.{◌≡◌, ◌+◌, ◌≤◌, length, take_while, MatchOption};
 ghost use Rattle.d_lexer.specs.Bytes as spec;
-ghost use Rattle.d_lexer.specs.Scan as scan;
+ghost use Rattle.d_lexer.specs.Steps.Scan as scan;
 
 pub(crate) fn is_blank(b: u8) -> bool
     ensures { result ≡ spec.is_blank b }
@@ -58,8 +58,8 @@ pub(crate) fn line_len(bytes: &[u8]) -> usize
     bytes.iter().take_while(|b| **b != b'\n').count()
 }
 
-/// How many bytes a comment has behind its `/*`; none where it has no end.
-#[tactic(auto, unfolding(crate::specs::Scan::comment_from), using(crate::proofs::Steps::longer_one))]
+/// How many bytes a comment has after its `/*`; none where it has no end.
+#[tactic(auto, unfolding(crate::specs::Steps::Scan::comment_from), using(crate::proofs::Steps::longer_one))]
 pub(crate) fn comment_len(bytes: &[u8]) -> Option<usize>
     ensures is { result ≡ scan.comment_from bytes.now }
     ensures small { MatchOption result (0 ≤ 0) (λ n. n ≤ length bytes.now + 1) }
@@ -85,7 +85,7 @@ pub(crate) fn next_is(c: u8, bytes: &[u8]) -> bool
     }
 }
 
-/// The byte that a backslash and this one stand for.
+/// The byte that a backslash and this one mean.
 pub(crate) fn escape_of(e: u8) -> Option<u8>
     ensures { result ≡ spec.escape_of e }
 {

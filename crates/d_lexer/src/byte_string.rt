@@ -5,7 +5,7 @@ ghost use Rattle.std.specs.Prelude.{◌≡◌, IfOk};
 use std::alloc::{AllocError, Global};
 use std::marker::Model;
 
-/// Bytes of a script, owned: in contracts the list of the bytes, wherever they lie.
+/// Bytes of a script, owned: in contracts the list of the bytes, wherever they are in memory.
 #[derive(Debug, Drop)]
 pub struct ByteString {
     bytes: Vec<u8>,
@@ -21,6 +21,11 @@ impl Model for ByteString {
 
 impl ByteString {
     /// A copy of the bytes.
+    ///
+    /// ```text
+    /// let word = ByteString::from_slice(alloc, b"self")?;
+    /// word.as_slice(); // `self`
+    /// ```
     pub fn from_slice(alloc: Global, bytes: &[u8]) -> Result<Self, AllocError>
         ensures { IfOk result (λ s. s ≡ bytes.now) }
     {

@@ -7,13 +7,14 @@ ghost use Rattle.d_lexer.specs.declared.fault.Stop.TheVariants.{Memory};
 use std::alloc::{AllocError, AllocFailed};
 use thiserror::Error;
 
-/// Why a script has no tokens. A line is that on which the refused token, comment, option line or byte begins.
+/// Why a script has no tokens. A line is that on which the refused token, comment, option line or
+/// byte begins.
 #[derive(Clone, Copy, Debug, PartialEq, Eq, Error)]
 pub enum LexFault {
-    /// More than 65,536 bytes: looked at first.
+    /// More than 65,536 bytes: this is checked first.
     #[error("the script has more than {most} bytes", most = MOST_BYTES)]
     TooLong,
-    /// A byte that no token begins with where it stands.
+    /// A byte that no token begins with at its place.
     #[error("line {line}: a byte that no token has here")]
     BadByte { line: usize },
     /// A comment or a text constant without its end.
@@ -36,7 +37,7 @@ pub enum LexFault {
 /// The most bytes that a script may have.
 pub const MOST_BYTES: usize = 65536;
 
-/// What is wrong at a place, whose line is told later.
+/// What is wrong at a place; its line is added later.
 #[derive(Clone, Copy, Debug)]
 pub enum Flaw {
     BadByte,

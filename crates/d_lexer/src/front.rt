@@ -3,7 +3,7 @@
 ghost use Rattle.std.specs.Prelude.{◌≡◌, ◌≤◌, ◌<◌, length, take, [], ◌∷◌, IfOk, true, false};
 ghost use Rattle.std.specs.Char.{is_ascii_digit};
 ghost use Rattle.d_lexer.specs.Places as spec;
-ghost use Rattle.d_lexer.specs.Scan as scan;
+ghost use Rattle.d_lexer.specs.Steps.Scan as scan;
 
 use crate::byte_kinds::{
     comment_len, is_blank, is_run_byte, is_word_start, line_len, next_is, word_len,
@@ -19,7 +19,7 @@ use crate::token::TokenKind;
 use crate::words::{aggregation_front, run_front, word_front};
 use std::alloc::Global;
 
-/// Bytes that part tokens, or a token; and how many bytes more than one it has.
+/// Bytes that separate tokens, or a token; and how many bytes more than one it has.
 #[derive(Debug, Drop)]
 pub enum Front {
     Gap(usize),
@@ -53,7 +53,7 @@ fn mark_front(place: Place, b: u8, rest: &[u8]) -> Result<Front, Stop>
     }
 }
 
-#[tactic(auto, unfolding(crate::specs::Scan::inside_at))]
+#[tactic(auto, unfolding(crate::specs::Steps::Scan::inside_at))]
 fn inside_at(alloc: Global, place: Place, b: u8, rest: &[u8]) -> Result<Front, Stop>
     ensures { scan.Gives result (scan.inside_at place b rest.now) }
 {
@@ -70,7 +70,7 @@ fn inside_at(alloc: Global, place: Place, b: u8, rest: &[u8]) -> Result<Front, S
     }
 }
 
-#[tactic(auto, unfolding(crate::specs::Scan::head_at))]
+#[tactic(auto, unfolding(crate::specs::Steps::Scan::head_at))]
 fn head_at(alloc: Global, b: u8, rest: &[u8]) -> Result<Front, Stop>
     ensures { scan.Gives result (scan.head_at b rest.now) }
 {
@@ -81,13 +81,13 @@ fn head_at(alloc: Global, b: u8, rest: &[u8]) -> Result<Front, Stop>
     }
 }
 
-#[tactic(auto, unfolding(crate::specs::Scan::token_at))]
+#[tactic(auto, unfolding(crate::specs::Steps::Scan::token_at))]
 fn token_at(alloc: Global, place: Place, b: u8, rest: &[u8]) -> Result<Front, Stop>
     ensures { scan.Gives result (scan.token_at place b rest.now) }
 {
     match place {
         Place::Head => head_at(alloc, b, rest),
-        inside => inside_at(alloc, inside, b, rest),
+        Place::Declaration | Place::Predicate | Place::Body => inside_at(alloc, place, b, rest),
     }
 }
 
@@ -133,7 +133,7 @@ fn is_hash(place: Place, pos: Position, b: u8) -> bool
     matches!(place, Place::Head) && pos.fresh && b == b'#'
 }
 
-#[tactic(auto, unfolding(crate::specs::Scan::front_at))]
+#[tactic(auto, unfolding(crate::specs::Steps::Scan::front_at))]
 fn front_at(alloc: Global, place: Place, pos: Position, b: u8, rest: &[u8]) -> Result<Front, Stop>
     requires { length rest.now ≤ 65536 }
     ensures { scan.Gives result (scan.front_at place pos b rest.now) }

@@ -1,32 +1,28 @@
 //! What holds of every script's tokens and first fault.
 
-ghost use Rattle.std.specs.Prelude.{◌≡◌, ◌≢◌, ℕ, List};
-ghost use Rattle.std.specs.List.{AllByRecursion};
-ghost use Rattle.d_lexer.specs.Lexing.{AreTokens, IsFirstFault, HasOne};
-ghost use Rattle.d_lexer.specs.Marks.{mark_of};
-ghost use Rattle.d_lexer.specs.Small.{AreSmall};
-ghost use Rattle.d_lexer.specs.Spelling.{spelling};
-ghost use Rattle.d_lexer.specs.declared.place.Place.{Place};
-ghost use Rattle.d_lexer.specs.declared.place.Place.TheVariants.{Body};
-ghost use Rattle.d_lexer.specs.declared.token.Mark.{Mark};
+ghost use Rattle.std.specs.{Prelude.◌≡◌, Prelude.◌≢◌, Prelude.ℕ, Prelude.List, List.AllByRecursion};
+ghost use Rattle.d_lexer.specs.Vocabulary.{Body, LexFault, Mark, Place, Token};
+ghost use Rattle.d_lexer.specs.{Lexing.AreTokens, Lexing.HasOne, Lexing.IsFirstFault};
+ghost use Rattle.d_lexer.specs.{Marks.mark_of, Small.AreSmall, Spans.AreInOrder, Spans.Stands};
+ghost use Rattle.d_lexer.specs.{Spans.TellsItsLine, Spelling.spelling};
 ghost use Rattle.d_lexer.specs.declared.token.Mark.TheVariants as marks;
-ghost use Rattle.d_lexer.specs.Spans.{AreInOrder, Stands, TellsItsLine};
-ghost use Rattle.d_lexer.specs.declared.fault.LexFault.{LexFault};
-ghost use Rattle.d_lexer.specs.declared.token.Token.{Token};
 
 /// A script has one list of tokens at most.
 pub fn one_list()
-    ensures { (bytes : List ℕ) (ts us : List Token) → AreTokens bytes ts → AreTokens bytes us → ts ≡ us }
+    ensures { (bytes : List ℕ) (ts us : List Token)
+        → AreTokens bytes ts → AreTokens bytes us → ts ≡ us }
 {}
 
 /// A script has one first fault at most.
 pub fn one_fault()
-    ensures { (bytes : List ℕ) (f g : LexFault) → IsFirstFault bytes f → IsFirstFault bytes g → f ≡ g }
+    ensures { (bytes : List ℕ) (f g : LexFault)
+        → IsFirstFault bytes f → IsFirstFault bytes g → f ≡ g }
 {}
 
 /// A script with tokens has no fault.
 pub fn not_both()
-    ensures { (bytes : List ℕ) (ts : List Token) (f : LexFault) → AreTokens bytes ts → IsFirstFault bytes f → ⊥ }
+    ensures { (bytes : List ℕ) (ts : List Token) (f : LexFault)
+        → AreTokens bytes ts → IsFirstFault bytes f → ⊥ }
 {}
 
 /// Each script has tokens or a first fault.
@@ -34,9 +30,11 @@ pub fn has_one()
     ensures { (bytes : List ℕ) → HasOne bytes }
 {}
 
-/// Each token has the bytes from its start to its stop, and its line is one more than the line feeds before it.
+/// Each token has the bytes from its start to its stop, and its line is one more than the line
+/// feeds before it.
 pub fn tokens_stand()
-    ensures { (bytes : List ℕ) (ts : List Token) → AreTokens bytes ts → AllByRecursion (Stands bytes) ts }
+    ensures { (bytes : List ℕ) (ts : List Token)
+        → AreTokens bytes ts → AllByRecursion (Stands bytes) ts }
 {}
 
 /// No token is empty or begins before the one in front of it stops.
@@ -44,9 +42,10 @@ pub fn tokens_in_order()
     ensures { (bytes : List ℕ) (ts : List Token) → AreTokens bytes ts → AreInOrder 0 ts }
 {}
 
-/// The first fault tells the line on which what is refused begins.
+/// The first fault has the line on which what is refused begins.
 pub fn fault_told()
-    ensures { (bytes : List ℕ) (fault : LexFault) → IsFirstFault bytes fault → TellsItsLine bytes fault }
+    ensures { (bytes : List ℕ) (fault : LexFault)
+        → IsFirstFault bytes fault → TellsItsLine bytes fault }
 {}
 
 /// What is read as a mark is its spelling.
@@ -54,7 +53,7 @@ pub fn marks_are_spelled()
     ensures { (p : Place) (own : List ℕ) (k : Mark) → mark_of p own ≡ Some k → own ≡ spelling k }
 {}
 
-/// Each mark's spelling is that mark in a body; a closing slash stands in a predicate alone.
+/// Each mark's spelling is that mark in a body; a closing slash is in a predicate alone.
 pub fn spellings_are_marks()
     ensures { (k : Mark) → k ≢ marks.ClosingSlash → mark_of Body (spelling k) ≡ Some k }
 {}

@@ -1,4 +1,4 @@
-//! The bytes of a D script, cut into tokens. `docs/LANGUAGE.md` has the rules.
+//! The bytes of a D script, cut into tokens. `docs/GRAMMAR.md` has the rules.
 #![tactic(auto)]
 
 mod byte_kinds;

@@ -3,7 +3,7 @@
 ghost use Rattle.std.specs.Prelude.{◌≡◌, ◌≤◌, length, [], ◌∷◌};
 ghost use Rattle.d_lexer.specs.Bytes.{entry_of};
 ghost use Rattle.d_lexer.specs.Marks as spec;
-ghost use Rattle.d_lexer.specs.Scan as scan;
+ghost use Rattle.d_lexer.specs.Steps.Scan as scan;
 ghost use Rattle.d_lexer.specs.declared.place.Place.TheVariants.{Body};
 
 use crate::place::Place;
@@ -94,7 +94,7 @@ fn mark_one(place: Place, a: u8) -> Option<Mark>
     match place {
         Place::Head => of_head(a),
         Place::Predicate if a == b'/' => Some(Mark::ClosingSlash),
-        _ => single(a),
+        Place::Declaration | Place::Predicate | Place::Body => single(a),
     }
 }
 
@@ -131,7 +131,7 @@ fn mark_two(place: Place, a: u8, b: u8) -> Option<Mark>
 {
     match place {
         Place::Head => None,
-        _ => two(a, b),
+        Place::Declaration | Place::Predicate | Place::Body => two(a, b),
     }
 }
 
@@ -140,7 +140,7 @@ fn mark_three(place: Place, a: u8, b: u8, c: u8) -> Option<Mark>
 {
     match place {
         Place::Head => None,
-        _ => three(a, b, c),
+        Place::Declaration | Place::Predicate | Place::Body => three(a, b, c),
     }
 }
 
@@ -175,7 +175,7 @@ fn three_at(place: Place, a: u8, b: u8, c: u8) -> Option<(Mark, usize)>
 }
 
 /// The longest mark at the front, and how many bytes more than one it has.
-#[tactic(auto, unfolding(crate::specs::Scan::mark_at))]
+#[tactic(auto, unfolding(crate::specs::Steps::Scan::mark_at))]
 pub(crate) fn mark_at(place: Place, a: u8, rest: &[u8]) -> Option<(Mark, usize)>
     ensures { result ≡ scan.mark_at place a rest.now }
 {

@@ -2,7 +2,7 @@
 
 ghost use Rattle.std.specs.Prelude.{◌≡◌, ◌≤◌, ◌<◌, length, [], ◌∷◌, true};
 ghost use Rattle.std.specs.Char.{is_ascii_digit};
-ghost use Rattle.d_lexer.specs.Numbers as spec;
+ghost use Rattle.d_lexer.specs.Steps.Numbers as spec;
 
 use crate::token::Suffix;
 
@@ -38,7 +38,7 @@ fn one_more(base: u64, n: u64, k: u64) -> Option<u64>
     n.checked_mul(base)?.checked_add(k)
 }
 
-#[tactic(auto, unfolding(crate::specs::Numbers::number_from))]
+#[tactic(auto, unfolding(crate::specs::Steps::Numbers::number_from))]
 fn number_from(base: u64, first: u64, bytes: &[u8]) -> Option<(u64, Suffix)>
     ensures { result ≡ spec.number_from base first bytes.now }
 {
@@ -74,9 +74,9 @@ fn zero_from(bytes: &[u8]) -> Option<(u64, Suffix)>
     }
 }
 
-/// The value and the suffix that a run of letters and digits spells, given by its first digit and the rest; none where
-/// the run is no number, or one over 2^64-1.
-#[tactic(auto, unfolding(crate::specs::Numbers::number_of))]
+/// The value and the suffix that a run of letters and digits spells, given by its first digit and
+/// the rest; none where the run is no number, or one over 2^64-1.
+#[tactic(auto, unfolding(crate::specs::Steps::Numbers::number_of))]
 pub(crate) fn number_of(b: u8, rest: &[u8]) -> Option<(u64, Suffix)>
     requires { is_ascii_digit b ≡ true }
     ensures { result ≡ spec.number_of (b ∷ rest.now) }

@@ -1,18 +1,19 @@
-//! Option lines.
+//! Option lines: `#pragma D option quiet`, and no others.
 
 ghost use Rattle.std.specs.Prelude.{◌≡◌, ◌++◌, codes};
-ghost use Rattle.d_lexer.specs.OptionLine as spec;
-ghost use Rattle.d_lexer.specs.OptionLine.{Finds};
+ghost use Rattle.d_lexer.specs.Steps.OptionLine as spec;
+ghost use Rattle.d_lexer.specs.Steps.OptionLine.{Finds};
 
 use crate::byte_kinds::is_space;
 
+// What is left after a word.
 fn behind<'a>(word: &[u8], bytes: &'a [u8]) -> Option<&'a [u8]>
     ensures { Finds (λ r. r.now) result (spec.behind word.now bytes.now) }
 {
     bytes.strip_prefix(word)
 }
 
-#[tactic(auto, unfolding(crate::specs::OptionLine::skip_spaces))]
+#[tactic(auto, unfolding(crate::specs::Steps::OptionLine::skip_spaces))]
 fn skip_spaces(bytes: &[u8]) -> &[u8]
     ensures { result.now ≡ spec.skip_spaces bytes.now }
 {
@@ -26,7 +27,8 @@ fn skip_spaces(bytes: &[u8]) -> &[u8]
     rest
 }
 
-#[tactic(auto, unfolding(crate::specs::OptionLine::spaces))]
+#[tactic(auto, unfolding(crate::specs::Steps::OptionLine::spaces))]
+// What is left after one space at least.
 fn spaces(bytes: &[u8]) -> Option<&[u8]>
     ensures { Finds (λ r. r.now) result (spec.spaces bytes.now) }
 {
@@ -42,21 +44,25 @@ fn spaces(bytes: &[u8]) -> Option<&[u8]>
     }
 }
 
+// Whether a line may end so.
 fn is_trail(bytes: &[u8]) -> bool
     ensures { result ≡ spec.is_trail bytes.now }
 {
     bytes.iter().all(|b| is_space(*b) || *b == b'\r')
 }
 
+// What is left after spaces and a word.
 fn next_word<'a>(word: &[u8], bytes: &'a [u8]) -> Option<&'a [u8]>
     ensures { Finds (λ r. r.now) result (spec.next_word word.now bytes.now) }
 {
     behind(word, spaces(bytes)?)
 }
 
-#[tactic(auto, unfolding(crate::specs::OptionLine::behind))]
+#[tactic(auto, unfolding(crate::specs::Steps::OptionLine::behind))]
 fn after_words(bytes: &[u8]) -> Option<&[u8]>
-    ensures { Finds (λ r. r.now) result (spec.and_then (spec.behind (codes "#pragma") (codes "#" ++ bytes.now)) (spec.after_words spec.option_words)) }
+    ensures { Finds (λ r. r.now) result
+        (spec.and_then (spec.behind (codes "#pragma") (codes "#" ++ bytes.now))
+        (spec.after_words spec.option_words)) }
 {
     let rest = behind(b"pragma", bytes)?;
     let rest = next_word(b"D", rest)?;
@@ -64,8 +70,8 @@ fn after_words(bytes: &[u8]) -> Option<&[u8]>
     next_word(b"quiet", rest)
 }
 
-/// Whether a line is `#pragma D option quiet`, told by the bytes behind its `#`.
-#[tactic(auto, unfolding(crate::specs::OptionLine::is_option))]
+/// Whether a line is `#pragma D option quiet`, by the bytes after its `#`.
+#[tactic(auto, unfolding(crate::specs::Steps::OptionLine::is_option))]
 pub(crate) fn is_option(bytes: &[u8]) -> bool
     ensures { result ≡ spec.is_option (codes "#" ++ bytes.now) }
 {

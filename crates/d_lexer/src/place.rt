@@ -5,12 +5,12 @@ ghost use Rattle.d_lexer.specs.Places as spec;
 
 use crate::token::{Mark, TokenKind};
 
-/// Where in a script a token stands: it decides which tokens there are.
+/// Where in a script a token is: it decides which tokens there are.
 #[derive(Clone, Copy, Debug)]
 pub enum Place {
-    /// Between clauses, where probe descriptions stand.
+    /// Between clauses, where probe descriptions are.
     Head,
-    /// Behind a `self` or `this` of the head, up to the semicolon.
+    /// After a `self` or `this` of the head, up to the semicolon.
     Declaration,
     /// Between a head's two slashes.
     Predicate,
@@ -19,14 +19,18 @@ pub enum Place {
 }
 
 impl Place {
-    /// Where the script goes on behind a token.
+    /// Where the script goes on after a token.
     pub(crate) fn after(self, kind: &TokenKind) -> Place
         ensures { result ≡ spec.after self kind.now }
     {
         match (self, kind) {
             (_, TokenKind::Mark(mark)) => self.after_mark(*mark),
             (Place::Head, TokenKind::Word(_)) => Place::Declaration,
-            _ => self,
+            (Place::Declaration | Place::Predicate | Place::Body, TokenKind::Word(_)) => self,
+            (_, TokenKind::DescriptionRun(_))
+            | (_, TokenKind::AggregationName(_))
+            | (_, TokenKind::Number { .. })
+            | (_, TokenKind::TextConstant(_)) => self,
         }
     }
 

@@ -1,14 +1,14 @@
 //! From the bytes to the tokens.
 
-ghost use Rattle.std.specs.Prelude.{◌≡◌, ◌↔◌, ℕ, List, ◌+◌, ◌≤◌, ◌<◌, ◌⊎◌, length, IfOk, IfErr, IsErrAnd, IsErrOf, MatchResult, [], ◌∷◌, ◌++◌};
-ghost use Rattle.d_lexer.specs.Places as places;
-ghost use Rattle.d_lexer.specs.Scan as scan;
+ghost use Rattle.std.specs.Prelude.{◌≡◌, ◌↔◌, ℕ, List, ◌+◌, ◌≤◌, ◌<◌, ◌⊎◌, [], ◌∷◌, ◌++◌, length};
+ghost use Rattle.std.specs.Prelude.{IfOk, IfErr, IsErrAnd, IsErrOf, MatchResult};
+ghost use Rattle.d_lexer.specs.{Small.AreSmall};
 ghost use Rattle.d_lexer.specs.Lexing as spec;
-ghost use Rattle.d_lexer.specs.Small.{AreSmall};
-ghost use Rattle.d_lexer.specs.declared.fault.LexFault.{LexFault};
-ghost use Rattle.d_lexer.specs.declared.place.Place.TheVariants.{Head};
-ghost use Rattle.d_lexer.specs.declared.place.Place.{Place};
-ghost use Rattle.d_lexer.specs.declared.token.Token.{Token};
+ghost use Rattle.d_lexer.specs.Places as places;
+ghost use Rattle.d_lexer.specs.{Vocabulary.Head};
+ghost use Rattle.d_lexer.specs.Steps.Lexing as steps;
+ghost use Rattle.d_lexer.specs.Steps.Scan as scan;
+ghost use Rattle.d_lexer.specs.{Vocabulary.LexFault, Vocabulary.Place, Vocabulary.Token};
 
 use crate::closing_slash::settle;
 use crate::fault::{LexFault, MOST_BYTES, Stop};
@@ -18,6 +18,7 @@ use crate::position::Position;
 use crate::token::Token;
 use std::alloc::Global;
 
+// Puts one token more.
 fn put(tokens: &mut Vec<Token>, token: Token) -> Result<(), LexFault>
     ensures ok { IfOk result (λ _. tokens.new.items ≡ tokens.old.items ++ token ∷ []) }
     ensures err { IfErr result (λ e. e ≡ LexFault.Memory) }
@@ -35,7 +36,9 @@ fn step(
     tokens: &mut Vec<Token>,
 ) -> Result<(Place, usize), LexFault>
     requires at { pos.at + length rest.now < 65536 }
-    ensures is { spec.Steps tokens.old.items tokens.new.items result (scan.scan 0 place pos (b ∷ rest.now)) (λ n q. scan.scan n q (places.passed pos b) rest.now) }
+    ensures is { steps.Steps tokens.old.items tokens.new.items result
+        (scan.scan 0 place pos (b ∷ rest.now))
+        (λ n q. scan.scan n q (places.passed pos b) rest.now) }
     ensures fits { IfOk result (λ r. r.1 ≤ length rest.now) }
 {
     match look(alloc, place, pos, b, rest) {
@@ -64,7 +67,8 @@ fn jump(pos: Position, b: u8, rest: &[u8], n: usize) -> (Position, &[u8])
     requires at { pos.at + length rest.now < 65536 }
     requires line { pos.line ≤ pos.at + 1 }
     requires n { n ≤ length rest.now }
-    ensures is { (q : Place) → scan.scan 0 q result.0 result.1.now ≡ scan.scan n q (places.passed pos b) rest.now }
+    ensures is { (q : Place) → scan.scan 0 q result.0 result.1.now
+        ≡ scan.scan n q (places.passed pos b) rest.now }
     ensures at { result.0.at + length result.1.now ≡ pos.at + 1 + length rest.now }
     ensures less { length result.1.now ≤ length rest.now }
     ensures line { result.0.line ≤ result.0.at + 1 }
@@ -72,17 +76,18 @@ fn jump(pos: Position, b: u8, rest: &[u8], n: usize) -> (Position, &[u8])
     (pos.pass(b).pass_all(&rest[..n]), &rest[n..])
 }
 
-fn scanned(alloc: Global, bytes: &[u8]) -> Result<Vec<Token>, LexFault>
+// The tokens, whose slashes of a predicate are all read as closing ones.
+fn scan_tokens(alloc: Global, bytes: &[u8]) -> Result<Vec<Token>, LexFault>
     requires { length bytes.now ≤ 65536 }
-    ensures { spec.Answers (λ ts. ts.items) result (scan.scan 0 Head places.start bytes.now) }
+    ensures { steps.Answers (λ ts. ts.items) result (scan.scan 0 Head places.start bytes.now) }
 {
     let mut tokens: Vec<Token> = Vec::new(alloc);
     let mut rest = bytes;
     let mut pos = Position::start();
     let mut place = Place::Head;
-    while let [b, behind @ ..] = rest {
-        let (next, n) = step(alloc, place, pos, *b, behind, &mut tokens)?;
-        let (there, left) = jump(pos, *b, behind, n);
+    while let [b, after @ ..] = rest {
+        let (next, n) = step(alloc, place, pos, *b, after, &mut tokens)?;
+        let (there, left) = jump(pos, *b, after, n);
         pos = there;
         rest = left;
         place = next;
@@ -90,32 +95,41 @@ fn scanned(alloc: Global, bytes: &[u8]) -> Result<Vec<Token>, LexFault>
     Ok(tokens)
 }
 
-fn lexed(alloc: Global, bytes: &[u8]) -> Result<Vec<Token>, LexFault>
+// The tokens, once it is known which slash closes a predicate.
+fn final_tokens(alloc: Global, bytes: &[u8]) -> Result<Vec<Token>, LexFault>
     requires { length bytes.now ≤ 65536 }
-    ensures { spec.Lexed (λ ts. ts.items) result (scan.scan 0 Head places.start bytes.now) }
+    ensures { steps.Lexed (λ ts. ts.items) result (scan.scan 0 Head places.start bytes.now) }
 {
-    let mut tokens = scanned(alloc, bytes)?;
+    let mut tokens = scan_tokens(alloc, bytes)?;
     settle(&mut tokens);
     Ok(tokens)
 }
 
-/// The tokens of a script, or why it has none: it is over 65,536 bytes long, its first fault, or out of memory.
+/// The tokens of a script, or why it has none: it is over 65,536 bytes long, its first fault, or
+/// out of memory (`docs/GRAMMAR.md`).
+///
+/// ```text
+/// let tokens = lex(alloc, b"hit { trace(1) }")?; // a run, `{`, a word, `(`, a number, `)`, `}`
+/// lex(alloc, b"hit {\n 08 }"); // Err(LexFault::Constant { line: 2 })
+/// ```
 pub fn lex(alloc: Global, bytes: &[u8]) -> Result<Vec<Token>, LexFault>
-    // Length is looked at first: over 65,536 bytes are too long, whatever they hold.
+    // Length is checked first: over 65,536 bytes are too long, whatever they hold.
     ensures too_long { IsErrOf result LexFault.TooLong ↔ (65536 < length bytes.now) }
 
-    // What is answered is so: these are the script's tokens, or this is its first fault.
+    // What is returned is so: these are the script's tokens, or this is its first fault.
     ensures ok { IfOk result (λ ts. spec.IsLexed bytes.now ts.items) }
     ensures err { IfErr result (λ e. (e ≡ LexFault.Memory) ⊎ spec.IsRefused bytes.now e) }
 
-    // And what is so is answered, unless memory is refused.
-    ensures lexed { (ts : List Token) → spec.IsLexed bytes.now ts → MatchResult result (λ v. v.items ≡ ts) (λ e. e ≡ LexFault.Memory) }
-    ensures refused { (fault : LexFault) → spec.IsRefused bytes.now fault → IsErrAnd result (λ e. (e ≡ fault) ⊎ (e ≡ LexFault.Memory)) }
+    // And what is so is returned, unless memory is refused.
+    ensures lexed { (ts : List Token) → spec.IsLexed bytes.now ts
+        → MatchResult result (λ v. v.items ≡ ts) (λ e. e ≡ LexFault.Memory) }
+    ensures refused { (fault : LexFault) → spec.IsRefused bytes.now fault
+        → IsErrAnd result (λ e. (e ≡ fault) ⊎ (e ≡ LexFault.Memory)) }
     ensures few { IfOk result (λ ts. length ts.items ≤ 65536) }
     ensures small { IfOk result (λ ts. AreSmall ts.items) }
 {
     if bytes.len() > MOST_BYTES {
         return Err(LexFault::TooLong);
     }
-    lexed(alloc, bytes)
+    final_tokens(alloc, bytes)
 }

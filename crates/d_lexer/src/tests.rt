@@ -22,7 +22,7 @@ fn kind_shown(alloc: Global, kind: &TokenKind) -> Result<String, AllocError> {
     Ok(shown)
 }
 
-// The script's tokens, each with a space behind it, or its fault.
+// The script's tokens, each with a space after it, or its fault.
 fn shown(alloc: Global, script: &[u8]) -> Result<String, AllocError> {
     match lex(alloc, script) {
         Ok(tokens) => {

@@ -1,15 +1,15 @@
-//! Text constants.
+//! Text constants, with their escapes decoded.
 
 ghost use Rattle.std.specs.Prelude.{◌≡◌, ◌≤◌, length, false};
-ghost use Rattle.d_lexer.specs.Scan as scan;
+ghost use Rattle.d_lexer.specs.Steps.Scan as scan;
 
 use crate::byte_kinds::escape_of;
 use crate::byte_string::ByteString;
 use crate::fault::{Flaw, Stop};
 use std::alloc::Global;
 
-/// What a text constant holds, and how many bytes it has behind its first quote.
-#[tactic(auto, unfolding(crate::specs::Scan::text_from), using(crate::proofs::Steps::behind_none, crate::proofs::Steps::behind_plain, crate::proofs::Steps::behind_escape))]
+/// What a text constant holds, and how many bytes it has after its first quote.
+#[tactic(auto, unfolding(crate::specs::Steps::Scan::text_from), using(crate::proofs::Steps::behind_none, crate::proofs::Steps::behind_plain, crate::proofs::Steps::behind_escape))]
 pub(crate) fn text(alloc: Global, bytes: &[u8]) -> Result<(ByteString, usize), Stop>
     ensures { scan.Gives result (scan.text_from false bytes.now) }
 {
@@ -27,7 +27,7 @@ pub(crate) fn text(alloc: Global, bytes: &[u8]) -> Result<(ByteString, usize), S
             return Err(Stop::Flawed(Flaw::BadByte));
         }
         if *b == b'\\' {
-            let [e, behind @ ..] = after else {
+            let [e, left @ ..] = after else {
                 return Err(Stop::Flawed(Flaw::Unclosed));
             };
             let Some(x) = escape_of(*e) else {
@@ -35,7 +35,7 @@ pub(crate) fn text(alloc: Global, bytes: &[u8]) -> Result<(ByteString, usize), S
             };
             value.push(x)?;
             n += 2;
-            rest = behind;
+            rest = left;
         } else {
             value.push(*b)?;
             n += 1;

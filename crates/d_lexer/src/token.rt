@@ -1,4 +1,4 @@
-//! Tokens.
+//! What a script is made of.
 
 use crate::byte_string::ByteString;
 
@@ -99,7 +99,7 @@ pub enum Mark {
     ClosingSlash,
 }
 
-/// The letters behind a number's digits.
+/// The letters after a number's digits.
 #[derive(Clone, Copy, Debug, PartialEq, Eq)]
 pub enum Suffix {
     /// No letters.
@@ -119,9 +119,9 @@ pub enum TokenKind {
     DescriptionRun(ByteString),
     /// A word, reserved or not.
     Word(ByteString),
-    /// The word behind an `@`; `_` for an `@` alone.
+    /// The word after an `@`; `_` for an `@` alone.
     AggregationName(ByteString),
-    /// An integer constant: its value, and the letters behind its digits.
+    /// An integer constant: its value, and the letters after its digits.
     Number { value: u64, suffix: Suffix },
     /// The bytes between the quotes, with the escapes decoded.
     TextConstant(ByteString),
@@ -129,14 +129,15 @@ pub enum TokenKind {
     Mark(Mark),
 }
 
-/// A token: its bytes are those from `start` up to `stop`, counted from 0, and it begins on `line`, counted from 1.
+/// A token: its bytes are those from `start` up to `stop`, counted from 0, and it begins on `line`,
+/// counted from 1.
 #[derive(Debug, Drop)]
 pub struct Token {
     /// What it is.
     pub kind: TokenKind,
-    /// Where its first byte stands.
+    /// The offset of its first byte.
     pub start: usize,
-    /// Where the byte behind it stands.
+    /// The offset of the byte after it.
     pub stop: usize,
     /// The line on which it begins.
     pub line: usize,

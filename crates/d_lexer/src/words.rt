@@ -2,7 +2,7 @@
 
 ghost use Rattle.std.specs.Prelude.{◌≡◌, ◌∷◌, IfErr, IfOk};
 ghost use Rattle.d_lexer.specs.Bytes as spec;
-ghost use Rattle.d_lexer.specs.Scan as scan;
+ghost use Rattle.d_lexer.specs.Steps.Scan as scan;
 
 use crate::byte_kinds::{is_word_start, run_len, word_len};
 use crate::byte_string::ByteString;
@@ -11,7 +11,8 @@ use crate::front::Front;
 use crate::token::TokenKind;
 use std::alloc::Global;
 
-fn gathered(alloc: Global, b: u8, run: &[u8]) -> Result<ByteString, Stop>
+// The bytes of a run, given by the first and the others.
+fn copy_run(alloc: Global, b: u8, run: &[u8]) -> Result<ByteString, Stop>
     ensures ok { IfOk result (λ s. s ≡ b ∷ run.now) }
     ensures err { IfErr result (λ e. e ≡ Stop.Memory) }
 {
@@ -26,41 +27,44 @@ pub(crate) fn word_front(alloc: Global, b: u8, rest: &[u8]) -> Result<Front, Sto
     ensures { scan.Gives result (scan.word_front b rest.now) }
 {
     let n = word_len(rest);
-    Ok(Front::Token(TokenKind::Word(gathered(alloc, b, &rest[..n])?), n))
+    Ok(Front::Token(TokenKind::Word(copy_run(alloc, b, &rest[..n])?), n))
 }
 
-fn nameless(alloc: Global) -> Result<Front, Stop>
-    ensures { scan.Gives result scan.nameless }
+// An `@` alone.
+fn bare_name(alloc: Global) -> Result<Front, Stop>
+    ensures { scan.Gives result scan.bare_name }
 {
-    Ok(Front::Token(TokenKind::AggregationName(gathered(alloc, b'_', &[])?), 0))
+    Ok(Front::Token(TokenKind::AggregationName(copy_run(alloc, b'_', &[])?), 0))
 }
 
-fn named(alloc: Global, b: u8, rest: &[u8]) -> Result<Front, Stop>
-    ensures { scan.Gives result (scan.named b rest.now) }
+// An `@` and the word after it.
+fn whole_name(alloc: Global, b: u8, rest: &[u8]) -> Result<Front, Stop>
+    ensures { scan.Gives result (scan.whole_name b rest.now) }
 {
     let n = word_len(rest);
     Ok(Front::Token(
-        TokenKind::AggregationName(gathered(alloc, b, &rest[..n])?),
+        TokenKind::AggregationName(copy_run(alloc, b, &rest[..n])?),
         n + 1,
     ))
 }
 
-/// An aggregation name, behind its `@`.
+/// An aggregation name, after its `@`.
 pub(crate) fn aggregation_front(alloc: Global, rest: &[u8]) -> Result<Front, Stop>
     ensures { scan.Gives result (scan.aggregation_front rest.now) }
 {
     match rest {
-        [] => nameless(alloc),
+        [] => bare_name(alloc),
         [b, after @ ..] => {
             if is_word_start(*b) {
-                named(alloc, *b, after)
+                whole_name(alloc, *b, after)
             } else {
-                nameless(alloc)
+                bare_name(alloc)
             }
         }
     }
 }
 
+// Whether the word begins a declaration.
 fn is_declaring(run: &[u8]) -> bool
     ensures { result ≡ spec.is_declaring run.now }
 {
@@ -72,7 +76,7 @@ pub(crate) fn run_front(alloc: Global, b: u8, rest: &[u8]) -> Result<Front, Stop
     ensures { scan.Gives result (scan.run_front b rest.now) }
 {
     let n = run_len(rest);
-    let run = gathered(alloc, b, &rest[..n])?;
+    let run = copy_run(alloc, b, &rest[..n])?;
     if is_declaring(run.as_slice()) {
         Ok(Front::Token(TokenKind::Word(run), n))
     } else {

@@ -3,8 +3,8 @@ use Rattle.std.proofs.Common.{ℕ, zero, suc, ◌+◌, ◌*◌, ◌^◌, ◌≤�
 use Rattle.std.proofs.Math.Nat.{add-mul, mul-add}
 use Rattle.std.proofs.lemmas.Nat.{mul-le}
 use Rattle.d_parser.specs.Sizes.{in_all}
-use Rattle.d_types.specs.declared.running.effect.Effect.{Effect}
-use Rattle.d_types.specs.declared.running.effect.Effect.TheVariants as ef
+use Rattle.d_types.specs.declared.effect.Effect.{Effect}
+use Rattle.d_types.specs.declared.effect.Effect.TheVariants as ef
 use Rattle.d_types.specs.Typed.{ActionOf, ClauseMeant, ScriptMeant}
 use Rattle.d_types.specs.Storage.{Variables}
 use Rattle.d_types.specs.Expressions.{Outcome, Has, Faults, number}

@@ -3,8 +3,8 @@ use Rattle.std.proofs.Common.{ℕ, zero, suc, List, [], ◌∷◌, ◌%◌, Opti
 use Rattle.std.specs.Int.{cast_signed, w64}
 use Rattle.d_values.specs.declared.value.Value.{Value}
 use Rattle.firing_reader.specs.declared.firing.Firing.{Firing}
-use Rattle.d_types.specs.declared.running.effect.Effect.{Effect}
-use Rattle.d_types.specs.declared.running.effect.Effect.TheVariants as ef
+use Rattle.d_types.specs.declared.effect.Effect.{Effect}
+use Rattle.d_types.specs.declared.effect.Effect.TheVariants as ef
 use Rattle.d_types.specs.Typed.{Typed, Typeds, end, more, type_of, Action, Evaluate, Trace, Print, Exit, Aggregate, ClauseMeant}
 use Rattle.d_types.specs.Storage.{Variables}
 use Rattle.d_types.specs.Expressions.{Outcome, Has, Faults, with, number, eval, keys_of}

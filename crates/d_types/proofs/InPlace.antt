@@ -1,9 +1,10 @@
 -- A change in place is the assignment of the operation.
-use Rattle.std.proofs.Common.{◌≡◌, ℕ, [], Bool, true, false, if◌then◌else◌, Result, Ok, Err, refl, sym, ap, ◌∙◌, subst}
+use Rattle.std.proofs.Common.{◌≡◌, ℕ, List, Bool, true, false, if◌then◌else◌, Result, Ok, Err, refl, sym, ap, ◌∙◌, subst}
 use Rattle.d_values.specs.declared.arithmetic.OutOfZero.{OutOfZero}
 use Rattle.d_values.specs.declared.int_type.IntType.{IntType}
 use Rattle.d_values.specs.declared.int_type.DType.{DType}
 use Rattle.d_values.specs.declared.int_type.DType.TheVariants as ty
+use Rattle.d_values.specs.declared.key.KeyPart.{KeyPart}
 use Rattle.d_values.specs.declared.value.Value.{Value}
 use Rattle.d_values.specs.declared.value.Value.TheVariants as va
 use Rattle.d_values.specs.Words.{narrow, operate}
@@ -11,12 +12,14 @@ use Rattle.firing_reader.specs.declared.firing.Firing.{Firing}
 use Rattle.d_types.specs.declared.typed.Operation.{Operation}
 use Rattle.d_types.specs.declared.typed.Operation.TheVariants as op
 use Rattle.d_types.specs.declared.typed.Variable.{Variable}
-use Rattle.d_types.specs.Typed.{Typed, Read, Operate, Convert, Assign, Update, end}
+use Rattle.d_types.specs.Typed.{Typed, Read, Operate, Convert, Assign, Update, Typeds}
 use Rattle.d_types.specs.Operators.{same_type, converted}
 use Rattle.d_types.specs.Storage.{Variables, word_of, value_at}
-use Rattle.d_types.specs.Expressions.{Outcome, Has, Faults, with, given, integer, number, operation_of, works_in, held, assigned, updated, eval}
+use Rattle.d_types.specs.Expressions.{Outcome, Has, Faults, with, given, integer, number, operation_of, works_in, held, assigned, updated, eval, keys_of}
 use Rattle.d_types.specs.Held.{IsOf, IsWord}
+use Rattle.d_types.specs.Laws.{AreRepeatable, HoldsItsType, in_place, assigns_in, variables_after}
 use Rattle.d_types.proofs.Consistent.{same_type_is}
+use Rattle.d_types.proofs.Keeping.{keys_keep}
 use Rattle.d_types.proofs.ValueTypes.{narrow_is, narrow_leaves}
 
 -- ---- conversions
@@ -60,31 +63,54 @@ operated_is o x (Faults vars) = tt
 -- ---- the change
 
 -- what is assigned after a result
-assigned_is : (t : IntType) (x : Variable) (r : Result ℕ OutOfZero) (vars : Variables) → x.holds ≡ ty.Int t →
-    with (given r vars) (updated x []) ≡ with (with (number (integer (given r vars))) (λ w. Has (va.Int (narrow t w)))) (assigned x [])
-assigned_is t x (Ok w) vars e = ap (λ (u : DType). assigned x [] (va.Int (held u w)) vars) e
-assigned_is t x (Err z) vars e = refl
+assigned_is : (t : IntType) (x : Variable) (key : List KeyPart) (r : Result ℕ OutOfZero) (vars : Variables) → x.holds ≡ ty.Int t →
+    with (given r vars) (updated x key) ≡ with (with (number (integer (given r vars))) (λ w. Has (va.Int (narrow t w)))) (assigned x key)
+assigned_is t x key (Ok w) vars e = ap (λ (u : DType). assigned x key (va.Int (held u w)) vars) e
+assigned_is t x key (Err z) vars e = refl
 
-changed_is : (t : IntType) (o : Operation) (x : Variable) (old : ℕ) (a : Outcome Value) → x.holds ≡ ty.Int t →
-    with (number a) (λ y after. with (given (operation_of o old y) after) (updated x []))
-    ≡ with (with (number (with (number a) (λ y vars. integer (given (operation_of o old y) vars)))) (λ w. Has (va.Int (narrow t w)))) (assigned x [])
-changed_is t o x old (Has v vars) e = assigned_is t x (operation_of o old (word_of v)) vars e
-changed_is t o x old (Faults vars) e = refl
+changed_is : (t : IntType) (o : Operation) (x : Variable) (key : List KeyPart) (old : ℕ) (a : Outcome Value) → x.holds ≡ ty.Int t →
+    with (number a) (λ y after. with (given (operation_of o old y) after) (updated x key))
+    ≡ with (with (number (with (number a) (λ y vars. integer (given (operation_of o old y) vars)))) (λ w. Has (va.Int (narrow t w)))) (assigned x key)
+changed_is t o x key old (Has v vars) e = assigned_is t x key (operation_of o old (word_of v)) vars e
+changed_is t o x key old (Faults vars) e = refl
 
 read_is : (t : IntType) (value : Value) (vars : Variables) → IsOf (ty.Int t) value → HasWord t (Has value vars)
 read_is t (va.Int w) vars h = h
 read_is t (va.Text bytes) vars h = absurd h
 
-pub update_is_assignment : (f : Firing) (t : IntType) (o : Operation) (x : Variable) (a : Typed) (vars : Variables) → x.holds ≡ ty.Int t → IsOf x.holds (value_at vars x []) →
-    eval f (Update o x end a) vars
-    ≡ eval f (Assign x end (converted (works_in o) t (Operate o (converted t (works_in o) (Read x end)) a))) vars
-update_is_assignment f t o x a vars e is =
-    let old = narrow (works_in o) (word_of (value_at vars x [])) in
-    let left : eval f (converted t (works_in o) (Read x end)) vars ≡ Has (va.Int old) vars = converts f t (works_in o) (Read x end) vars (read_is t (value_at vars x []) vars (subst (λ u. IsOf u (value_at vars x [])) e is)) in
-    let both : eval f (Operate o (converted t (works_in o) (Read x end)) a) vars ≡ with (number (eval f a vars)) (λ y vars. integer (given (operation_of o old y) vars)) =
-    ap (λ (l : Outcome Value). with (number l) (λ p vars. with (number (eval f a vars)) (λ y vars. integer (given (operation_of o p y) vars)))) left
-    in
-    let fine : HasWord (works_in o) (eval f (Operate o (converted t (works_in o) (Read x end)) a) vars) = subst (HasWord (works_in o)) (sym both) (operated_is o old (eval f a vars)) in
-    let all = converts f (works_in o) t (Operate o (converted t (works_in o) (Read x end)) a) vars fine in
-    changed_is t o x old (eval f a vars) e
-    ∙ sym (ap (λ (l : Outcome Value). with l (assigned x [])) (all ∙ ap (λ (l : Outcome Value). with (number l) (λ w. Has (va.Int (narrow t w)))) both))
+pub update_is_assignment : (f : Firing) (t : IntType) (o : Operation) (x : Variable) (keys : Typeds) (a : Typed) (vars : Variables) → x.holds ≡ ty.Int t →
+    AreRepeatable f keys vars → HoldsItsType f x keys vars → eval f (Update o x keys a) vars ≡ eval f (Assign x keys (in_place o t x keys a)) vars
+update_is_assignment f t o x keys a vars e again holds = by (keys_of f keys vars) refl
+  where
+    at : (key : List KeyPart) (after : Variables) → keys_of f keys after ≡ Has key after → IsOf x.holds (value_at after x key) →
+        with (number (eval f a after)) (λ y last. with (given (operation_of o (narrow (works_in o) (word_of (value_at after x key))) y) last) (updated x key))
+        ≡ with (eval f (in_place o t x keys a) after) (assigned x key)
+    at key after same is =
+        let value = value_at after x key in
+        let old = narrow (works_in o) (word_of value) in
+        let read : eval f (Read x keys) after ≡ Has value after = ap (λ (k : Outcome (List KeyPart)). with k (λ key vars. Has (value_at vars x key) vars)) same in
+        let word : HasWord t (eval f (Read x keys) after) = subst (HasWord t) (sym read) (read_is t value after (subst (λ u. IsOf u value) e is)) in
+        let left : eval f (converted t (works_in o) (Read x keys)) after ≡ Has (va.Int old) after =
+        converts f t (works_in o) (Read x keys) after word ∙ ap (λ (l : Outcome Value). with (number l) (λ w. Has (va.Int (narrow (works_in o) w)))) read
+        in
+        let both : eval f (Operate o (converted t (works_in o) (Read x keys)) a) after ≡ with (number (eval f a after)) (λ y vars. integer (given (operation_of o old y) vars)) =
+        ap (λ (l : Outcome Value). with (number l) (λ p vars. with (number (eval f a vars)) (λ y vars. integer (given (operation_of o p y) vars)))) left
+        in
+        let fine : HasWord (works_in o) (eval f (Operate o (converted t (works_in o) (Read x keys)) a) after) = subst (HasWord (works_in o)) (sym both) (operated_is o old (eval f a after)) in
+        let all = converts f (works_in o) t (Operate o (converted t (works_in o) (Read x keys)) a) after fine in
+        changed_is t o x key old (eval f a after) e
+        ∙ sym (ap (λ (l : Outcome Value). with l (assigned x key)) (all ∙ ap (λ (l : Outcome Value). with (number l) (λ w. Has (va.Int (narrow t w)))) both))
+
+    by : (k : Outcome (List KeyPart)) → keys_of f keys vars ≡ k →
+        with k (λ key vars. with (number (eval f a vars)) (λ y after. with (given (operation_of o (narrow (works_in o) (word_of (value_at vars x key))) y) after) (updated x key)))
+        ≡ with k (λ key vars. with (eval f (in_place o t x keys a) vars) (assigned x key))
+    by (Has key after) h = at key after (again key after h) (holds key after h)
+    by (Faults after) h = refl
+
+-- ---- keys
+
+-- keys in which nothing is assigned leave the variables as they were
+pub repeatable : (f : Firing) (keys : Typeds) (vars : Variables) → assigns_in keys ≡ false → AreRepeatable f keys vars
+repeatable f keys vars none key after is =
+    let same : after ≡ vars = sym (ap (λ (o : Outcome (List KeyPart)). variables_after o) is) ∙ keys_keep f keys vars none in
+    subst (λ (v : Variables). keys_of f keys v ≡ Has key after) (sym same) is

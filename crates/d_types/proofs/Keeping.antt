@@ -98,7 +98,7 @@ mutual
       (λ x. one vars (text (eval f b vars)) (λ y. Has (va.Text (joined_text x y)))
       (bytes vars (eval f b vars) (eval_keeps f b vars (right (assigns a) (assigns b) none))) (λ y. refl))
 
-  keys_keep : (f : Firing) (keys : Typeds) (vars : Variables) → assigns_in keys ≡ false → Keeps vars (keys_of f keys vars)
+  pub keys_keep : (f : Firing) (keys : Typeds) (vars : Variables) → assigns_in keys ≡ false → Keeps vars (keys_of f keys vars)
   keys_keep f end vars none = refl
   keys_keep f (more a rest) vars none =
       one vars (eval f a vars) (λ x vars. with (keys_of f rest vars) (λ key. Has (part_of x ∷ key)))

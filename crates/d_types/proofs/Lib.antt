@@ -11,8 +11,6 @@ pub mod Complete
 pub mod Sound
 pub mod Whole
 pub mod Fitting
-pub mod Nodes
-pub mod Changes
 pub mod Neither
 pub mod Keeping
 pub mod Dividing
@@ -20,6 +18,7 @@ pub mod Bounds
 pub mod CompleteScripts
 pub mod SoundScripts
 pub mod OneMeaning
+pub mod Nodes
 pub mod ValueTypes
 pub mod Holding
 pub mod HoldingRuns

@@ -1,11 +1,12 @@
 -- `++` and `--` are `+= 1` and `-= 1`.
-use Rattle.std.proofs.Common.{◌≡◌, ℕ, ◌+◌, ◌-◌, ◌*◌, ◌%◌, ◌^◌, ◌<◌, ◌≤◌, nat_lt, nat_le, ◌⊎◌, inl, inr, [], Bool, true, false, ◌&&◌, if◌then◌else◌, refl, sym, ap, ◌∙◌, subst, arith}
+use Rattle.std.proofs.Common.{◌≡◌, ℕ, ◌+◌, ◌-◌, ◌*◌, ◌%◌, ◌^◌, ◌<◌, ◌≤◌, nat_lt, nat_le, ◌⊎◌, inl, inr, List, Bool, true, false, ◌&&◌, if◌then◌else◌, refl, sym, ap, ◌∙◌, subst, arith}
 use Rattle.std.proofs.lemmas.Bool.Decides.{nat_tests}
 use Rattle.d_parser.specs.declared.operators.Step.{Step}
 use Rattle.d_parser.specs.declared.operators.Step.TheVariants as st
 use Rattle.d_values.specs.declared.int_type.IntType.{IntType}
 use Rattle.d_values.specs.declared.int_type.DType.{DType}
 use Rattle.d_values.specs.declared.int_type.DType.TheVariants as ty
+use Rattle.d_values.specs.declared.key.KeyPart.{KeyPart}
 use Rattle.d_values.specs.declared.value.Value.{Value}
 use Rattle.d_values.specs.declared.value.Value.TheVariants as va
 use Rattle.d_values.specs.Types.{INT32, rank_of, higher, common_of}
@@ -16,11 +17,11 @@ use Rattle.firing_reader.specs.declared.firing.Firing.{Firing}
 use Rattle.d_types.specs.declared.typed.Answer.TheVariants as an
 use Rattle.d_types.specs.declared.typed.Operation.TheVariants as op
 use Rattle.d_types.specs.declared.typed.Variable.{Variable}
-use Rattle.d_types.specs.Typed.{Constant, Update, Count, end}
+use Rattle.d_types.specs.Typed.{Constant, Read, Count, Typeds}
 use Rattle.d_types.specs.Operators.{converted}
 use Rattle.d_types.specs.Storage.{Variables, word_of, value_at}
-use Rattle.d_types.specs.Expressions.{Outcome, Has, with, given, number, operation_of, held, stepped, assigned, updated, eval}
-use Rattle.d_types.specs.Laws.{operator_of}
+use Rattle.d_types.specs.Expressions.{Outcome, Has, Faults, with, given, number, operation_of, held, stepped, assigned, updated, moved, eval, keys_of}
+use Rattle.d_types.specs.Laws.{operator_of, one_more, variables_after, with_after}
 use Rattle.d_types.proofs.InPlace.{converts}
 use Rattle.d_types.proofs.ValueTypes.{int_word}
 
@@ -103,18 +104,39 @@ module _ (t : IntType) where
   result_is st.Increment x y vars = refl
   result_is st.Decrement x y vars = refl
 
-  pub step_is_update : (f : Firing) (by : Step) (x : Variable) (vars : Variables) → x.holds ≡ ty.Int t →
-      eval f (Count by an.New x end) vars
-      ≡ eval f (Update (op.Arithmetic (operator_of by) common) x end (converted INT32 common (Constant INT32 1))) vars
-  step_is_update f by x vars e =
-      let old = word_of (value_at vars x []) in
-      let first = narrow common old in
-      let right : eval f (converted INT32 common (Constant INT32 1)) vars ≡ Has (va.Int 1) vars =
-      converts f INT32 common (Constant INT32 1) vars (int_word 1 (omega arith)) ∙ ap (λ n. Has (va.Int n) vars) one_is
-      in
-      let word : held x.holds (stepped by old) ≡ held x.holds (narrow common (operate (operator_of by) common.signed first 1)) =
-      ap (λ (u : DType). held u (stepped by old)) e ∙ sym (step_is by old) ∙ ap (λ (u : DType). held u (narrow common (operate (operator_of by) common.signed first 1))) (sym e)
-      in
-      ap (λ n. assigned x [] (va.Int n) vars) word
-      ∙ sym (ap (λ (o : Outcome ℕ). with o (updated x [])) (result_is by first 1 vars))
-      ∙ sym (ap (λ (o : Outcome Value). with (number o) (λ y after. with (given (operation_of (op.Arithmetic (operator_of by) common) first y) after) (updated x []))) right)
+  pub step_is_update : (f : Firing) (by : Step) (x : Variable) (keys : Typeds) (vars : Variables) → x.holds ≡ ty.Int t →
+      eval f (Count by an.New x keys) vars ≡ eval f (one_more by t x keys) vars
+  step_is_update f by x keys vars e = each (keys_of f keys vars)
+    where
+      at : (key : List KeyPart) (vars : Variables) →
+          moved by an.New x key (word_of (value_at vars x key)) vars
+          ≡ with (number (eval f (converted INT32 common (Constant INT32 1)) vars)) (λ y after. with (given (operation_of (op.Arithmetic (operator_of by) common) (narrow common (word_of (value_at vars x key))) y) after) (updated x key))
+      at key vars =
+          let old = word_of (value_at vars x key) in
+          let first = narrow common old in
+          let right : eval f (converted INT32 common (Constant INT32 1)) vars ≡ Has (va.Int 1) vars =
+          converts f INT32 common (Constant INT32 1) vars (int_word 1 (omega arith)) ∙ ap (λ n. Has (va.Int n) vars) one_is
+          in
+          let word : held x.holds (stepped by old) ≡ held x.holds (narrow common (operate (operator_of by) common.signed first 1)) =
+          ap (λ (u : DType). held u (stepped by old)) e ∙ sym (step_is by old) ∙ ap (λ (u : DType). held u (narrow common (operate (operator_of by) common.signed first 1))) (sym e)
+          in
+          ap (λ n. assigned x key (va.Int n) vars) word
+          ∙ sym (ap (λ (o : Outcome ℕ). with o (updated x key)) (result_is by first 1 vars))
+          ∙ sym (ap (λ (o : Outcome Value). with (number o) (λ y after. with (given (operation_of (op.Arithmetic (operator_of by) common) first y) after) (updated x key))) right)
+
+      each : (k : Outcome (List KeyPart)) →
+          with k (λ key vars. moved by an.New x key (word_of (value_at vars x key)) vars)
+          ≡ with k (λ key vars. with (number (eval f (converted INT32 common (Constant INT32 1)) vars)) (λ y after. with (given (operation_of (op.Arithmetic (operator_of by) common) (narrow common (word_of (value_at vars x key))) y) after) (updated x key)))
+      each (Has key after) = at key after
+      each (Faults after) = refl
+
+-- after the variable they have the value that it had
+pub old_is_read : (f : Firing) (by : Step) (x : Variable) (keys : Typeds) (vars : Variables) →
+    eval f (Count by an.Old x keys) vars ≡ with_after (variables_after (eval f (Count by an.New x keys) vars)) (number (eval f (Read x keys) vars))
+old_is_read f by x keys vars = each (keys_of f keys vars)
+  where
+    each : (k : Outcome (List KeyPart)) →
+        with k (λ key vars. moved by an.Old x key (word_of (value_at vars x key)) vars)
+        ≡ with_after (variables_after (with k (λ key vars. moved by an.New x key (word_of (value_at vars x key)) vars))) (number (with k (λ key vars. Has (value_at vars x key) vars)))
+    each (Has key after) = refl
+    each (Faults after) = refl

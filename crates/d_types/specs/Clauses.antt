@@ -8,8 +8,8 @@ use Rattle.d_values.specs.declared.int_type.DType.{DType}
 use Rattle.d_values.specs.declared.key.KeyPart.{KeyPart}
 use Rattle.d_values.specs.declared.value.Value.{Value}
 use Rattle.firing_reader.specs.declared.firing.Firing.{Firing}
-use Rattle.d_types.specs.declared.running.effect.Effect.{Effect}
-use Rattle.d_types.specs.declared.running.effect.Effect.TheVariants as ef
+use Rattle.d_types.specs.declared.effect.Effect.{Effect}
+use Rattle.d_types.specs.declared.effect.Effect.TheVariants as ef
 use Rattle.d_types.specs.Typed.{Typed, Typeds, end, more, type_of, ActionOf, Action, Evaluate, Trace, Print, Exit, Aggregate, ClauseMeant}
 use Rattle.d_types.specs.Storage.{Variables}
 use Rattle.d_types.specs.Expressions.{Outcome, Has, Faults, with, number, eval, keys_of}

@@ -1,5 +1,5 @@
 -- What an expression means: its value, or the fault, and the variables after it.
-use Rattle.std.specs.Prelude.{◌≡◌, ℕ, zero, suc, List, [], ◌∷◌, length, Bool, true, false, Result, Ok, Err, ℤ, pos, get_or}
+use Rattle.std.specs.Prelude.{ℕ, zero, suc, List, [], ◌∷◌, length, Bool, true, false, Result, Ok, Err, ℤ, pos, get_or}
 use Rattle.std.specs.Int.{cast_unsigned, w64}
 use Rattle.d_parser.specs.declared.operators.UnaryOperator.{UnaryOperator}
 use Rattle.d_parser.specs.declared.operators.UnaryOperator.TheVariants as un
@@ -18,8 +18,6 @@ pub use Rattle.d_values.specs.Outcomes.{Outcome, Has, Faults, with}
 use Rattle.d_values.specs.Texts.{text_cmp, joined_text}
 use Rattle.d_values.specs.Words.{narrow, binary_of, shift_of, opposite_of, complement_of, order_of, sum_of, difference_of}
 use Rattle.firing_reader.specs.declared.firing.Firing.{Firing}
-use Rattle.d_types.specs.declared.evaluating.fault.EvalFault.{EvalFault}
-use Rattle.d_types.specs.declared.evaluating.fault.EvalFault.TheVariants as ef
 use Rattle.d_types.specs.declared.typed.Answer.{Answer}
 use Rattle.d_types.specs.declared.typed.Answer.TheVariants as an
 use Rattle.d_types.specs.declared.typed.BuiltIn.{BuiltIn}
@@ -37,12 +35,6 @@ use Rattle.d_types.specs.Storage.{Variables, word_of, bytes_of, value_at, set}
 abbrev pub given : Result ℕ OutOfZero → Variables → Outcome ℕ
 given (Ok word) vars = Has word vars
 given (Err e) vars = Faults vars
-
--- what a call answers and leaves, unless memory ran out
-abbrev pub Meets : {A : Type 0} → Outcome A → Result A EvalFault → Variables → Type 0
-Meets o (Ok x) vars = o ≡ Has x vars
-Meets o (Err ef.DivideByZero) vars = o ≡ Faults vars
-Meets o (Err ef.Memory) vars = Unit {0}
 
 -- ---- values
 

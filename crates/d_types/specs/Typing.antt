@@ -2,6 +2,7 @@
 use Rattle.std.specs.Prelude.{ℕ, nat_le, take, if◌then◌else◌, List, Option, Some, None, Result, Ok, Err}
 use Rattle.d_parser.specs.declared.operators.Step.{Step}
 use Rattle.d_parser.specs.declared.operators.AssignOperator.{AssignOperator}
+use Rattle.d_parser.specs.declared.operators.BinaryOperator.{BinaryOperator}
 use Rattle.d_parser.specs.declared.tree.Variable.{Variable}
 use Rattle.d_parser.specs.declared.tree.Constant.{Constant}
 use Rattle.d_parser.specs.declared.tree.Constant.TheVariants as c
@@ -120,6 +121,11 @@ abbrev pub assign_rest : Rows → AssignOperator → Variable → Typeds → Tre
 assign_rest rows op v keys a =
     target rows v (type_at_once (assign_sort op)) keys >>= λ s. expr s.1 a >>= λ x.
     fitting (line_of_variable v) (assigned (assign_sort op) (space_of v) (type_at x.1 s.0) (type_of x.0) s.0 keys x.0 x.1)
+
+-- an operator between two operands, once the left one is typed
+abbrev pub binary_rest : Rows → ℕ → BinaryOperator → Typed → Tree → Result (Typed × Rows) Fault
+binary_rest rows line op x b =
+    expr rows b >>= λ y. fitting line (beside y.1 (binary op (type_of x) (type_of y.0) x y.0))
 
 -- an expression that is no part of another: it needs six registers at most
 abbrev pub whole : Rows → Tree → Result (Typed × Rows) Fault

@@ -20,7 +20,9 @@ use crate::targets::{line_of_variable, read, space_of, target};
 use crate::typed::{Answer, TypedExpr};
 use crate::variables::{Entry, type_at};
 use crate::words::callee_named;
-use d_parser::{AssignOperator, Constant, Expr, IntegerType, Step, Variable};
+use d_parser::{
+    AssignOperator, BinaryOperator, Constant, Expr, IntegerType, Step, UnaryOperator, Variable,
+};
 use d_values::{DType, join_text};
 use std::alloc::Global;
 
@@ -75,20 +77,8 @@ pub(crate) fn expr(alloc: Global, table: &mut Vec<Entry>, e: &Expr) -> Result<Ty
             line,
             operator,
             operand,
-        } => {
-            let x = expr(alloc, table, operand)?;
-            match unary(alloc, *operator, x)? {
-                Some(typed) => Ok(typed),
-                None => Err(TypeFault::Mismatch { line: *line }),
-            }
-        }
-        Expr::Cast { line, to, operand } => {
-            let x = expr(alloc, table, operand)?;
-            match as_type(alloc, DType::Int(int_type(*to)), x)? {
-                Some(typed) => Ok(typed),
-                None => Err(TypeFault::Mismatch { line: *line }),
-            }
-        }
+        } => unary_expr(alloc, table, *line, *operator, operand),
+        Expr::Cast { line, to, operand } => cast_expr(alloc, table, *line, *to, operand),
         Expr::Before { line, step, target } => {
             before_expr(alloc, table, *line, *step, &target.variable, &target.keys)
         }
@@ -101,13 +91,7 @@ pub(crate) fn expr(alloc: Global, table: &mut Vec<Entry>, e: &Expr) -> Result<Ty
             right,
         } => {
             let x = expr(alloc, table, left)?;
-            let y = expr(alloc, table, right)?;
-            match binary(alloc, binary_sort(*operator), x, y)? {
-                Some(typed) => Ok(typed),
-                None => Err(TypeFault::Mismatch {
-                    line: line_of(left),
-                }),
-            }
+            binary_rest(alloc, table, *operator, line_of(left), right, x)
         }
         Expr::Choice {
             test,
@@ -132,6 +116,62 @@ pub(crate) fn expr(alloc: Global, table: &mut Vec<Entry>, e: &Expr) -> Result<Ty
             Ok(keys) => assign_expr(alloc, table, *operator, &target.variable, value, keys),
             Err(fault) => Err(fault),
         },
+    }
+}
+
+#[cycle(typing)]
+fn unary_expr(
+    alloc: Global,
+    table: &mut Vec<Entry>,
+    line: usize,
+    operator: UnaryOperator,
+    operand: &Expr,
+) -> Result<TypedExpr, TypeFault>
+    ensures { Gives (λ x. (typed_of x, rows_of table.new.items)) result
+        (spec.expr (rows_of table.old.items) (tree.Unary line operator (tree_of operand.now))) }
+{
+    let x = expr(alloc, table, operand)?;
+    match unary(alloc, operator, x)? {
+        Some(typed) => Ok(typed),
+        None => Err(TypeFault::Mismatch { line }),
+    }
+}
+
+#[cycle(typing)]
+fn cast_expr(
+    alloc: Global,
+    table: &mut Vec<Entry>,
+    line: usize,
+    to: IntegerType,
+    operand: &Expr,
+) -> Result<TypedExpr, TypeFault>
+    ensures { Gives (λ x. (typed_of x, rows_of table.new.items)) result
+        (spec.expr (rows_of table.old.items) (tree.Cast line to (tree_of operand.now))) }
+{
+    let x = expr(alloc, table, operand)?;
+    match as_type(alloc, DType::Int(int_type(to)), x)? {
+        Some(typed) => Ok(typed),
+        None => Err(TypeFault::Mismatch { line }),
+    }
+}
+
+// An operator between two operands, once the left one is typed.
+#[cycle(typing)]
+fn binary_rest(
+    alloc: Global,
+    table: &mut Vec<Entry>,
+    operator: BinaryOperator,
+    line: usize,
+    right: &Expr,
+    x: TypedExpr,
+) -> Result<TypedExpr, TypeFault>
+    ensures { Gives (λ z. (typed_of z, rows_of table.new.items)) result
+        (spec.binary_rest (rows_of table.old.items) line operator (typed_of x) (tree_of right.now)) }
+{
+    let y = expr(alloc, table, right)?;
+    match binary(alloc, binary_sort(operator), x, y)? {
+        Some(typed) => Ok(typed),
+        None => Err(TypeFault::Mismatch { line }),
     }
 }
 

@@ -10,7 +10,7 @@ mod checking;
 mod clause;
 mod constants;
 mod declaration;
-mod evaluating;
+mod effect;
 mod expression;
 mod fault;
 mod format;
@@ -19,7 +19,6 @@ pub mod laws;
 pub mod meaning;
 mod needs;
 mod operators;
-mod running;
 mod targets;
 mod typed;
 mod typed_script;
@@ -28,16 +27,14 @@ mod words;
 
 pub use aggregations::{AggFn, LinearRange};
 pub use checking::check;
-pub use evaluating::{EvalFault, evaluate};
+pub use effect::Effect;
 pub use fault::TypeFault;
-pub use running::{Effect, Ran, fault_line, run_clause};
 pub use typed::{
     Answer, BuiltIn, Conversion, Letter, LogicOperator, Operation, Piece, Space, TypedAggregation,
     TypedClause, TypedExpr, TypedStmt, Variable,
 };
 pub use typed_script::TypedScript;
+pub use variables::kind_of;
 
-#[cfg(test)]
-mod meaning_tests;
 #[cfg(test)]
 mod tests;

@@ -1,6 +1,6 @@
 //! Laws of what expressions mean.
 
-ghost use Rattle.std.specs.Prelude.{◌≡◌, ◌↔◌, ℕ, false, [], All};
+ghost use Rattle.std.specs.Prelude.{◌≡◌, ◌↔◌, ℕ, false, All};
 ghost use Rattle.d_values.specs.declared.int_type.IntType.{IntType};
 ghost use Rattle.d_values.specs.Stores.{blank};
 ghost use Rattle.d_values.specs.Words.{narrow};
@@ -10,14 +10,13 @@ ghost use Rattle.d_types.specs.Typed as typed;
 ghost use Rattle.d_parser.specs.declared.operators.Step.{Step};
 ghost use Rattle.d_types.specs.declared.typed.Answer.{Answer};
 ghost use Rattle.d_types.specs.declared.typed.Operation.{Operation};
-ghost use Rattle.d_values.specs.declared.value.Value.{Value};
 ghost use Rattle.d_types.specs.declared.typed.Variable.{Variable};
 ghost use Rattle.d_values.specs.declared.int_type.DType.{DType};
-ghost use Rattle.d_types.specs.Typed.{Typed, type_of, ClauseMeant, ScriptMeant};
-ghost use Rattle.d_types.specs.Storage.{Variables, value_at, word_of};
+ghost use Rattle.d_types.specs.Typed.{Typed, Typeds, type_of, ClauseMeant, ScriptMeant};
+ghost use Rattle.d_types.specs.Storage.{Variables};
 ghost use Rattle.d_types.specs.Clauses.{run_of};
 ghost use Rattle.d_types.specs.Wholes.{ClauseIs};
-ghost use Rattle.d_types.specs.Expressions.{Has, eval};
+ghost use Rattle.d_types.specs.Expressions.{number, eval};
 ghost use Rattle.d_types.specs.Held as held;
 ghost use Rattle.d_types.specs.Laws as spec;
 ghost use Rattle.d_types.specs.Laws.{in_place};
@@ -59,15 +58,22 @@ pub fn scripts_are_consistent()
     ensures { (m : ScriptMeant) → ∥ IsMeant m ∥₁ → All (ClauseIs (held.IsConsistent (held.slots_of m))) m.clauses }
 {}
 
-/// `x op= e`, of an integer variable without keys that holds a value of its type, is `x = x op e`: x is read before e is
-/// evaluated, and both are converted as in the operation. `++x` is `x += 1`, `--x` is `x -= 1`, and behind x they change it
-/// likewise and have the value that it had.
+/// `x[keys] op= e`, of an integer variable that holds values of its type, is `x[keys] = x[keys] op e`, where evaluating the
+/// keys twice is evaluating them once: so it is where nothing is assigned in them, as in constants, built-ins, variables and
+/// operators on them, and where there are none. `x[keys]` is read before e is evaluated, and both are converted as in the
+/// operation. `++x[keys]` is `x[keys] += 1`, and `--x[keys]` is `x[keys] -= 1`, whatever the keys. After x they change it
+/// likewise, and have the value that it had.
 pub fn changes_in_place_are_assignments()
-    ensures new { (f : Firing) (t : IntType) (by : Step) (x : Variable) (vars : Variables) → x.holds ≡ DType.Int t
-        → eval f (typed.Count by Answer.New x typed.end) vars ≡ eval f (spec.one_more by t x) vars }
-    ensures old { (f : Firing) (by : Step) (x : Variable) (vars : Variables) → eval f (typed.Count by Answer.Old x typed.end) vars
-        ≡ Has (Value.Int (word_of (value_at vars x []))) (spec.variables_after (eval f (typed.Count by Answer.New x typed.end) vars)) }
-    ensures update { (f : Firing) (t : IntType) (o : Operation) (x : Variable) (e : Typed) (vars : Variables)
-        → x.holds ≡ DType.Int t → held.IsOf x.holds (value_at vars x [])
-        → eval f (typed.Update o x typed.end e) vars ≡ eval f (typed.Assign x typed.end (in_place o t x e)) vars }
+    ensures update { (f : Firing) (t : IntType) (o : Operation) (x : Variable) (keys : Typeds) (e : Typed) (vars : Variables)
+        → x.holds ≡ DType.Int t → spec.AreRepeatable f keys vars → spec.HoldsItsType f x keys vars
+        → eval f (typed.Update o x keys e) vars ≡ eval f (typed.Assign x keys (in_place o t x keys e)) vars }
+    ensures repeatable { (f : Firing) (keys : Typeds) (vars : Variables)
+        → spec.assigns_in keys ≡ false → spec.AreRepeatable f keys vars }
+    ensures new { (f : Firing) (t : IntType) (by : Step) (x : Variable) (keys : Typeds) (vars : Variables)
+        → x.holds ≡ DType.Int t
+        → eval f (typed.Count by Answer.New x keys) vars ≡ eval f (spec.one_more by t x keys) vars }
+    ensures old { (f : Firing) (by : Step) (x : Variable) (keys : Typeds) (vars : Variables)
+        → eval f (typed.Count by Answer.Old x keys) vars
+        ≡ spec.with_after (spec.variables_after (eval f (typed.Count by Answer.New x keys) vars))
+        (number (eval f (typed.Read x keys) vars)) }
 {}

@@ -20,7 +20,7 @@ pub struct Entry {
 }
 
 /// Which key a value of the type is.
-pub(crate) fn kind_of(t: DType) -> Kind
+pub fn kind_of(t: DType) -> Kind
     ensures { result ≡ spec.kind_of t }
 {
     match t {

@@ -1,6 +1,5 @@
 pub mod Numerals
 pub mod FieldTexts
-pub mod Pool
 pub mod Left
 pub mod Rows
 pub mod Fields
@@ -13,3 +12,5 @@ pub mod PlainRows
 pub mod PlainFields
 pub mod PlainFirings
 pub mod PlainHeader
+pub mod PieceRows
+pub mod Stored

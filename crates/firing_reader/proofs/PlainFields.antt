@@ -1,15 +1,15 @@
 -- What the digits at the front of bytes write.
-use Rattle.std.proofs.Common.{◌≡◌, ◌<◌, ◌≤◌, ◌^◌, ℕ, ℤ, pos, neg_ℤ, true, List, [], ◌∷◌, length, Option, Some, None, cond, leb, ltb, map, refl, sym, ap, ◌∙◌, arith, All, Bor}
+use Rattle.std.proofs.Common.{zero, suc, get_or, take, ◌≡◌, ◌<◌, ◌≤◌, ◌^◌, ℕ, ℤ, pos, neg_ℤ, true, List, [], ◌∷◌, length, Option, Some, None, cond, leb, ltb, map, refl, sym, ap, ◌∙◌, arith, All, Bor}
 use Rattle.std.specs.Prelude.{IfSome}
 use Rattle.std.specs.Int.{IsInRange}
 use Rattle.std.specs.Str.Parse.{digits_value, AllDigits}
 use Rattle.std.proofs.lemmas.Str.Parse.{digit_at}
 use Rattle.std.proofs.lemmas.Bool.{le-leb, lt-ltb}
-use Rattle.std.proofs.lemmas.List.Elements.{All-cons, All-nil}
+use Rattle.std.proofs.lemmas.List.Elements.{All-cons, All-nil, All-head, All-tail}
 use Rattle.firing_reader.proofs.Numerals.{all_read, digits}
 use Rattle.firing_reader.proofs.PlainRows.{is_not}
 use Rattle.firing_reader.specs.Column.{is_decimal, signed_of}
-use Rattle.firing_reader.specs.Plain.{BeginsWith, JoinsField, whole_of}
+use Rattle.firing_reader.specs.Plain.{BeginsWith, IsWordByte, JoinsField, whole_of}
 
 pub digit_joins : (b : ℕ) → IsInRange 48 57 b → JoinsField b
 digit_joins b h = (λ e. absurd (omega (arith, h.0, h.1, e)), λ e. absurd (omega (arith, h.0, h.1, e)), λ e. absurd (omega (arith, h.0, h.1, e)), λ e. absurd (omega (arith, h.0, h.1, e)))
@@ -51,3 +51,15 @@ read_fits o a b read same = read ∙ ap (λ (z : ℤ). Some z) (sym same)
 pub none_read : (args : List ℤ) → [] ≡ map (λ (a : ℤ). Some a) args → args ≡ []
 none_read [] e = refl
 none_read (a ∷ more) e = absurd cc
+
+word_joins : (b : ℕ) → IsWordByte b → JoinsField b
+word_joins b h = (λ e. absurd (omega (arith, h.0, e)), λ e. absurd (omega (arith, h.0, e)), λ e. absurd (omega (arith, h.0, e)), λ e. absurd (omega (arith, h.0, e)))
+
+pub words_join : (xs : List ℕ) → All IsWordByte xs → All JoinsField xs
+words_join [] all = All-nil JoinsField
+words_join (b ∷ bs) all = All-cons JoinsField b bs (word_joins b (All-head IsWordByte b bs all)) (words_join bs (All-tail IsWordByte b bs all))
+
+pub words_push : (xs : List ℕ) (i : ℕ) → i < length xs → All IsWordByte (take i xs) → IsWordByte (get_or xs i 0) → All IsWordByte (take (suc i) xs)
+words_push [] i lt all p = absurd (omega arith)
+words_push (x ∷ xs) zero lt all p = All-cons IsWordByte x [] p (All-nil IsWordByte)
+words_push (x ∷ xs) (suc i) lt all p = All-cons IsWordByte x (take (suc i) xs) (All-head IsWordByte x (take i xs) all) (words_push xs i (omega arith) (All-tail IsWordByte x (take i xs) all) p)

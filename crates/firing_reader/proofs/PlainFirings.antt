@@ -64,6 +64,6 @@ module _ {b0 r0 b1 r1 b2 r2 : List ℕ} (f : Firing) (h : ReadsHead b0 r0 f.numb
       then_ok _ _ f.name (or_ok _ _ _ n.is_name) ∙
       then_ok _ _ f.args (args_ok row)
 
-  pub firing_ok : (last row : ℕ) → row ≤ 1_000_000 → bytes_eq f.provider (codes "dtrace") ≡ false → last < f.number → next_of row last fields ≡ Ok f
+  pub firing_ok : bytes_eq f.provider (codes "dtrace") ≡ false → (row last : ℕ) → row ≤ 1_000_000 → last < f.number → next_of row last fields ≡ Ok f
   unfolding next_of row_of
-  firing_ok last row few free rises = rw (le-ltb 1_000_000 row few, columns_ok row, free, lt-ltb last f.number rises) refl
+  firing_ok free row last few rises = rw (le-ltb 1_000_000 row few, columns_ok row, free, lt-ltb last f.number rises) refl

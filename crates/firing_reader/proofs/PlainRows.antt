@@ -1,5 +1,5 @@
 -- What csv reads of bytes that begin with a plain field.
-use Rattle.std.proofs.Common.{◌≡◌, ◌≢◌, ◌≤◌, ◌+◌, ℕ, suc, false, List, [], ◌∷◌, ◌++◌, length, Some, Result, Ok, Err, refl, ap, ◌∙◌, append_assoc, arith, add-one, length-append, inl, inr, All}
+use Rattle.std.proofs.Common.{◌≡◌, ◌≢◌, ◌<◌, ◌≤◌, ◌+◌, ℕ, suc, false, List, [], ◌∷◌, ◌++◌, length, Some, Result, Ok, Err, refl, ap, ◌∙◌, append_assoc, arith, add-one, length-append, inl, inr, All}
 use Rattle.std.specs.Prelude.{◌==◌}
 use Rattle.std.proofs.lemmas.Bool.Decides.{eqb_tells}
 use Rattle.std.proofs.lemmas.List.Elements.{All-head, All-tail}
@@ -40,27 +40,24 @@ from_start fields (b ∷ x) c rest n h = start-same fields [] b (x ++ (c ∷ res
 
 pub passes_one : (bytes field rest : List ℕ) → BeginsWith bytes field (44 ∷ rest) → Passes bytes (field ∷ []) rest
 unfolding next_record
-passes_one bytes field rest h before = rw h.split (from_start before field 44 rest refl h.plain ∙ refl)
+passes_one bytes field rest h before tail = rw (h.split, append_assoc field (44 ∷ rest) tail) (from_start before field 44 (rest ++ tail) refl h.plain ∙ refl)
 
 pub closes_one : (bytes field rest after : List ℕ) → rest ≡ 10 ∷ after → BeginsWith bytes field rest → Closes bytes (field ∷ []) rest
 unfolding next_record
-closes_one bytes field rest after is h before = (after, is, rw (h.split, is) (from_start before field 10 after refl h.plain ∙ refl))
+closes_one bytes field rest after is h = (after, is, λ before tail. rw (h.split, is, append_assoc field (10 ∷ after) tail) (from_start before field 10 (after ++ tail) refl h.plain ∙ refl))
 
 pub passes_more : (a b c : List ℕ) (f g : List (List ℕ)) → Passes a f b → Passes b g c → Passes a (f ++ g) c
-passes_more a b c f g p q before = p before ∙ q (before ++ f) ∙ ap (λ (fs : List (List ℕ)). next_record default_config st.StartField fs [] c) (append_assoc before f g)
+passes_more a b c f g p q before tail = p before tail ∙ q (before ++ f) tail ∙ ap (λ (fs : List (List ℕ)). next_record default_config st.StartField fs [] (c ++ tail)) (append_assoc before f g)
 
 pub closes_more : (a b c : List ℕ) (f g : List (List ℕ)) → Passes a f b → Closes b g c → Closes a (f ++ g) c
-closes_more a b c f g p q before =
-    let end = q (before ++ f) in
-    (end.0, end.1, p before ∙ end.2 ∙ ap (λ (fs : List (List ℕ)). Some (fs, st.StartRecord, end.0)) (append_assoc before f g))
+closes_more a b c f g p (after, is, q) = (after, is, λ before tail. p before tail ∙ q (before ++ f) tail ∙ ap (λ (fs : List (List ℕ)). Some (fs, st.StartRecord, after ++ tail)) (append_assoc before f g))
 
 -- a row between two records, after the line feed of the one before
 pub row_read : (bytes line rest : List ℕ) (fields : List (List ℕ)) (first : ℕ) (more : List ℕ) → bytes ≡ 10 ∷ line → line ≡ first ∷ more → JoinsField first → Closes line fields rest
-    → (after : List ℕ) × (rest ≡ 10 ∷ after) × (next_record default_config st.StartRecord [] [] bytes ≡ Some (fields, st.StartRecord, after))
+    → (after : List ℕ) × (rest ≡ 10 ∷ after) × ((tail : List ℕ) → next_record default_config st.StartRecord [] [] (bytes ++ tail) ≡ Some (fields, st.StartRecord, after ++ tail))
 unfolding next_record
-row_read bytes line rest fields first more is starts joins closes =
-    let (after, is_rest, read) = closes [] in
-    (after, is_rest, rw is (rw starts (record-same [] [] first more (is_not first 13 joins.2) (is_not first 10 joins.3)) ∙ read))
+row_read bytes line rest fields first more is starts joins (after, is_rest, read) =
+    (after, is_rest, λ tail. rw is (rw starts (record-same [] [] first (more ++ tail) (is_not first 13 joins.2) (is_not first 10 joins.3)) ∙ read [] tail))
 
 -- a line feed before a record is nothing
 pub skip_feed : (xs : List ℕ) → left_in st.StartRecord (Some (10 ∷ xs)) ≡ left_in st.StartRecord (Some xs)
@@ -74,12 +71,13 @@ feed_no_mark (a ∷ []) = refl
 feed_no_mark (a ∷ b ∷ rest) = refl
 
 -- one more row
-pub goes_plain : (firings : List Firing) (f : Firing) (bytes rest all : List ℕ) → ReadsRow bytes rest (last_number firings) f → length firings + 1 ≤ 1_000_000
+pub goes_plain : (firings : List Firing) (f : Firing) (bytes rest all : List ℕ) → ReadsRow bytes rest f → last_number firings < f.number → length firings + 1 ≤ 1_000_000
     → GoesOn firings bytes all → GoesOn (firings ++ f ∷ []) rest all
-goes_plain firings f bytes rest all h few so_far =
-    let more = (left_more st.StartRecord bytes (h.fields, st.StartRecord, h.after) refl h.read).0 in
+goes_plain firings f bytes rest all h rises few so_far =
+    let read : next_record default_config st.StartRecord [] [] bytes ≡ Some (h.fields, st.StartRecord, h.after) = rw (append-nil bytes, append-nil h.after) at (h.read []) in
+    let more = (left_more st.StartRecord bytes (h.fields, st.StartRecord, h.after) refl read).0 in
     let left : left_in st.StartRecord (Some rest) ≡ left_in st.StartRecord (Some h.after) = ap (λ (l : List ℕ). left_in st.StartRecord (Some l)) h.is_rest ∙ skip_feed h.after in
-    let next = goes_on firings (length firings + 1) (last_number firings) h.fields (left_in st.StartRecord (Some bytes)) (left_in st.StartRecord (Some h.after)) f (rows_in all) more (h.firing (length firings + 1) few) so_far in
+    let next = goes_on firings (length firings + 1) (last_number firings) h.fields (left_in st.StartRecord (Some bytes)) (left_in st.StartRecord (Some h.after)) f (rows_in all) more (h.firing (length firings + 1) (last_number firings) few rises) so_far in
     rw (left, last_push firings f, length-append firings (f ∷ [])) next
 
 goes_front : (r : Result (List Firing) TraceFault) → with_front [] r ≡ r

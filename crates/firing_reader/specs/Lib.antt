@@ -7,3 +7,4 @@ pub mod Trace
 pub mod Ends
 pub mod Faults
 pub mod Plain
+pub mod Stored

@@ -1,5 +1,5 @@
 -- Plain rows, which are read where they lie in a trace: their fields have no quote, comma or end of a line in them.
-use Rattle.std.specs.Prelude.{◌≡◌, ◌≢◌, ◌+◌, ◌≤◌, ◌^◌, ℕ, List, [], ◌∷◌, ◌++◌, length, All, Option, Some, codes, option_and_then, option_map, map, Result, Ok, pos, ℤ}
+use Rattle.std.specs.Prelude.{◌≡◌, ◌≢◌, ◌<◌, ◌+◌, ◌≤◌, ◌^◌, ℕ, List, [], ◌∷◌, ◌++◌, length, All, Option, Some, codes, option_and_then, option_map, map, Result, Ok, pos, ℤ}
 use Rattle.csv.specs.Machine.{next_record}
 use Rattle.csv.specs.Reading.{default_config}
 use Rattle.csv.specs.declared.parser.State.TheVariants as st
@@ -19,18 +19,22 @@ pub record BeginsWith (bytes field rest : List ℕ) : Type 0 where
   pub split : bytes ≡ field ++ rest
   pub plain : All JoinsField field
 
--- csv takes these fields off the bytes, and goes on at the start of a field
-abbrev pub Passes : List ℕ → List (List ℕ) → List ℕ → Type 0
-Passes bytes fields rest = (before : List (List ℕ)) →
-    next_record default_config st.StartField before [] bytes
-    ≡ next_record default_config st.StartField (before ++ fields) [] rest
+-- a byte from the minus on, in ASCII: digits, letters and most of what names have
+abbrev pub IsWordByte : ℕ → Type 0
+IsWordByte b = (45 ≤ b) × (b < 128)
 
--- csv takes these fields off the bytes, and they end a record: the rest begins at its line feed
+-- csv takes these fields off the bytes, whatever comes after them, and goes on at the start of a field
+abbrev pub Passes : List ℕ → List (List ℕ) → List ℕ → Type 0
+Passes bytes fields rest = (before : List (List ℕ)) (tail : List ℕ) →
+    next_record default_config st.StartField before [] (bytes ++ tail)
+    ≡ next_record default_config st.StartField (before ++ fields) [] (rest ++ tail)
+
+-- csv takes these fields off the bytes, whatever comes after them, and they end a record: the rest begins at its line feed
 abbrev pub Closes : List ℕ → List (List ℕ) → List ℕ → Type 0
-Closes bytes fields rest = (before : List (List ℕ)) →
-    (after : List ℕ) × (rest ≡ 10 ∷ after)
-    × (next_record default_config st.StartField before [] bytes
-    ≡ Some (before ++ fields, st.StartRecord, after))
+Closes bytes fields rest = (after : List ℕ) × (rest ≡ 10 ∷ after)
+    × ((before : List (List ℕ)) (tail : List ℕ) →
+    next_record default_config st.StartField before [] (bytes ++ tail)
+    ≡ Some (before ++ fields, st.StartRecord, after ++ tail))
 
 -- the number of a field, from least to most
 abbrev pub whole_of : ℕ → ℕ → List ℕ → Option ℕ
@@ -85,14 +89,30 @@ pub record ReadsArguments (bytes rest : List ℕ) (args : List ℤ) : Type 0 whe
   pub values : map signed_of (x0 ∷ x1 ∷ x2 ∷ x3 ∷ x4 ∷ x5 ∷ x6 ∷ x7 ∷ x8 ∷ x9 ∷ [])
       ≡ map (λ a. Some a) args
 
--- after a record the bytes hold this row, which follows a firing with the number last; the rest begins at its line feed
-pub record ReadsRow (bytes rest : List ℕ) (last : ℕ) (f : Firing) : Type 0 where
+-- after a record the bytes hold this row, whatever comes after it; the rest begins at its line feed
+pub record ReadsRow (bytes rest : List ℕ) (f : Firing) : Type 0 where
   pub fields : List (List ℕ)
   pub after : List ℕ
   pub is_rest : rest ≡ 10 ∷ after
-  pub read : next_record default_config st.StartRecord [] [] bytes
-      ≡ Some (fields, st.StartRecord, after)
-  pub firing : (row : ℕ) → row ≤ 1_000_000 → next_of row last fields ≡ Ok f
+  pub read : (tail : List ℕ) → next_record default_config st.StartRecord [] [] (bytes ++ tail)
+      ≡ Some (fields, st.StartRecord, after ++ tail)
+  pub firing : (row last : ℕ) → row ≤ 1_000_000 → last < f.number
+      → next_of row last fields ≡ Ok f
+
+-- after a record the bytes hold the rows of these firings, whatever comes after them
+unfoldable pub ReadsRows : List ℕ → List Firing → List ℕ → Type 0
+ReadsRows bytes [] rest = bytes ≡ rest
+ReadsRows bytes (f ∷ fs) rest = (mid : List ℕ) × ReadsRow bytes mid f × ReadsRows mid fs rest
+
+-- from a number the numbers of these firings rise to another
+unfoldable pub Rises : ℕ → List Firing → ℕ → Type 0
+Rises last [] end = last ≡ end
+Rises last (f ∷ fs) end = (last < f.number) × Rises f.number fs end
+
+-- the bytes are nothing but the rows of these firings, from a line feed to a line feed, and their numbers rise
+pub record IsPiece (bytes : List ℕ) (fs : List Firing) : Type 0 where
+  pub rows : ReadsRows bytes fs (10 ∷ [])
+  pub rises : Rises 0 fs (last_number fs)
 
 -- firings that were read before, and what is read after them
 abbrev pub with_front : List Firing → Result (List Firing) TraceFault

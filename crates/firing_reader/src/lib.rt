@@ -6,18 +6,24 @@
 //!
 //! ```text
 //! let trace = read_trace(rt.alloc(), &bytes)?;
-//! for firing in trace.firings() {
+//! for at in 0..trace.firings().len() {
+//!     let firing = trace.firings().get(at);
 //!     println!(rt; "{} on thread {}", firing.number, firing.thread)?;
 //! }
 //! ```
 #![tactic(auto)]
 
+mod arguments;
 mod columns;
 mod ends;
 mod fault;
 mod firing;
+mod firings;
 mod header;
 pub mod laws;
+mod owned_text;
+mod pieces;
+mod places;
 mod plain;
 mod reading;
 mod records;
@@ -28,9 +34,11 @@ mod trace;
 
 pub use fault::TraceFault;
 pub use firing::Firing;
+pub use firings::Firings;
+pub use owned_text::OwnedText;
 pub use reading::MOST;
 pub use text::Text;
-pub use trace::{Trace, read_trace};
+pub use trace::{Trace, read_trace, read_trace_by};
 
 #[cfg(test)]
 mod tests;

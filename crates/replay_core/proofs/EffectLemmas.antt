@@ -1,147 +1,170 @@
--- Effects that were noted, and those that are left.
-use Rattle.std.specs.Prelude.{◌≡◌, ℕ, ◌+◌, ◌<◌, ◌≤◌, zero, suc, List, [], ◌∷◌, ◌++◌, All, Bool, true, false, ◌||◌, Option, None, Some, is_some, if◌then◌else◌, length, ℤ}
+-- What a run notes, effect by effect.
+use Rattle.std.specs.Prelude.{◌≡◌, ℕ, ℤ, List, [], ◌∷◌, ◌++◌, map, Bool, true, false, ◌||◌, Option, None, Some, is_some, length, take, Ok, Err}
 use Rattle.std.specs.Option.{option_or}
-use Rattle.std.proofs.Common.{refl, sym, ap, ◌∙◌, subst, arith}
-use Rattle.aggregations.specs.Table.{Aggregation, Contribution, StandsFor, contribution, count_held, functions_of}
+use Rattle.std.proofs.Common.{refl, sym, ap, ◌∙◌, subst}
+use Rattle.aggregations.specs.Table.{Contribution, contribution}
 use Rattle.d_values.specs.declared.key.KeyPart.{KeyPart}
-use Rattle.d_types.specs.declared.running.effect.Effect.{Effect}
-use Rattle.d_types.specs.declared.running.effect.Effect.TheVariants as ef
-use Rattle.d_types.specs.Clauses.{Made, made, ran, texts_in, contributions_in, exit_in}
-use Rattle.d_types.specs.Clauses.{nothing, and_then}
+use Rattle.d_types.specs.declared.effect.Effect.{Effect}
+use Rattle.d_types.specs.declared.effect.Effect.TheVariants as ef
+use Rattle.d_types.specs.Expressions.{Outcome, Has, Faults, with}
+use Rattle.d_types.specs.Clauses.{Made, Ran, made, ran, followed, texts_in, contributions_in, exit_in, and_then}
 use Rattle.d_types.specs.Storage.{Variables}
-use Rattle.replay_core.specs.declared.piece.Piece.{Piece}
-use Rattle.replay_core.specs.Effects.{left_by}
+use Rattle.replay_core.specs.declared.evaluation.fault.EvalFault.TheVariants as fault
+use Rattle.replay_core.specs.Effects.{done_by, NotesEffect, Performs, NotesRun}
 use Rattle.replay_core.specs.Lanes.{Notes}
 use Rattle.replay_core.specs.Pieces.{PieceSeen}
-use Rattle.replay_core.specs.Seen.{piece_seen}
-use Rattle.replay_core.proofs.Noting.{append_nil, notes_nothing, notes_then, or_none}
+use Rattle.replay_core.proofs.Noting.{append_nil, notes_nothing, notes_then}
 
--- a contribution alone
-pub noted_add : (number : ℕ) (faulted : Bool) (place : ℕ) (key : List KeyPart) (z : ℤ) (old : PieceSeen) (table : List Aggregation) → functions_of table ≡ functions_of old.table
-    → ((before : List Contribution) → StandsFor old.table before → StandsFor table (before ++ contribution place key z ∷ []))
-    → (vars : Variables) → Notes number (left_by faulted (ef.Adds place key z ∷ []) vars) old (record { texts = old.texts; table = table; taken = old.taken; exit = old.exit })
-noted_add number true place key z old table same stands vars =
-    record { texts = append_nil old.texts; functions = same; table = stands; taken = refl; exit = or_none old.exit }
-noted_add number false place key z old table same stands vars =
-    record { texts = append_nil old.texts; functions = same; table = stands; taken = refl; exit = or_none old.exit }
+-- ---- effects and those after them
 
--- with the effects that are left a piece goes on as with all of them from the start
-pub record NotesOn (number : ℕ) (faulted : Bool) (all rest : List Effect) (old now : Piece) (exits : Bool) : Type 0 where
-  pub functions : functions_of now.table ≡ functions_of old.table
-  pub taken : now.taken.items ≡ old.taken.items
-  pub places : All (λ c. c.agg < length (functions_of old.table)) (contributions_in rest)
-  pub room : count_held now.table + length (contributions_in rest) ≤ count_held old.table + length (contributions_in all)
-  pub notes : (vars : Variables) (end : PieceSeen) → Notes number (left_by faulted rest vars) (piece_seen now) end
-      → Notes number (left_by faulted all vars) (piece_seen old) end
-  pub told : (exits || is_some (exit_in rest)) ≡ is_some (exit_in all)
+texts_then : (a b : List Effect) → texts_in (a ++ b) ≡ texts_in a ++ texts_in b
+texts_then [] b = refl
+texts_then (ef.Nothing ∷ a) b = texts_then a b
+texts_then (ef.Says text ∷ a) b = ap (λ l. text ∷ l) (texts_then a b)
+texts_then (ef.Adds place key z ∷ a) b = texts_then a b
+texts_then (ef.Exits status ∷ a) b = texts_then a b
 
-pub notes_on_start : (number : ℕ) (faulted : Bool) (all : List Effect) (p : Piece)
-    → All (λ c. c.agg < length (functions_of p.table)) (contributions_in all) → NotesOn number faulted all all p p false
-notes_on_start number faulted all p places = record { functions = refl; taken = refl; places = places; room = omega arith; notes = λ vars end h. h; told = refl }
+contributions_then : (a b : List Effect) → contributions_in (a ++ b) ≡ contributions_in a ++ contributions_in b
+contributions_then [] b = refl
+contributions_then (ef.Nothing ∷ a) b = contributions_then a b
+contributions_then (ef.Says text ∷ a) b = contributions_then a b
+contributions_then (ef.Adds place key z ∷ a) b = ap (λ l. contribution place key z ∷ l) (contributions_then a b)
+contributions_then (ef.Exits status ∷ a) b = contributions_then a b
 
--- an effect, and those after it
-effect_first : (faulted : Bool) (e : Effect) (rest : List Effect) (vars : Variables)
-    → left_by faulted (e ∷ rest) vars ≡ and_then (left_by faulted (e ∷ []) vars) (left_by faulted rest vars)
-effect_first true ef.Nothing rest vars = refl
-effect_first true (ef.Says text) rest vars = refl
-effect_first true (ef.Adds place key z) rest vars = refl
-effect_first true (ef.Exits status) rest vars = refl
-effect_first false ef.Nothing rest vars = refl
-effect_first false (ef.Says text) rest vars = refl
-effect_first false (ef.Adds place key z) rest vars = refl
-effect_first false (ef.Exits status) rest vars = refl
+exit_then : (a b : List Effect) → exit_in (a ++ b) ≡ option_or (exit_in a) (exit_in b)
+exit_then [] b = refl
+exit_then (ef.Nothing ∷ a) b = exit_then a b
+exit_then (ef.Says text ∷ a) b = exit_then a b
+exit_then (ef.Adds place key z ∷ a) b = exit_then a b
+exit_then (ef.Exits status ∷ a) b = refl
 
-first_some : (exits : Bool) (e : Effect) (rest : List Effect) → ((exits || is_some (exit_in (e ∷ []))) || is_some (exit_in rest)) ≡ (exits || is_some (exit_in (e ∷ rest)))
-first_some true e rest = refl
-first_some false ef.Nothing rest = refl
-first_some false (ef.Says text) rest = refl
-first_some false (ef.Adds place key z) rest = refl
-first_some false (ef.Exits status) rest = refl
+abbrev made_of : List (List ℕ) → List Contribution → Option ℕ → Variables → Made
+made_of texts contributions exit vars = record { texts = texts; contributions = contributions; exit = exit; variables = vars }
 
-after_first : {A : Type 0} (P : A → Type 0) (x : A) (xs : List A) → All P (x ∷ xs) → All P xs
-after_first P x xs all k d lt = all (suc k) d (omega arith)
+done_then : (a b : List Effect) (vars : Variables) → done_by (a ++ b) vars ≡ and_then (done_by a vars) (done_by b vars)
+done_then a b vars =
+    ap (λ t. made_of t (contributions_in (a ++ b)) (exit_in (a ++ b)) vars) (texts_then a b)
+    ∙ ap (λ c. made_of (texts_in a ++ texts_in b) c (exit_in (a ++ b)) vars) (contributions_then a b)
+    ∙ ap (λ e. made_of (texts_in a ++ texts_in b) (contributions_in a ++ contributions_in b) e vars) (exit_then a b)
 
-pub places_left : (n : ℕ) (e : Effect) (rest : List Effect) → All (λ c. c.agg < n) (contributions_in (e ∷ rest))
-    → All (λ c. c.agg < n) (contributions_in (e ∷ [])) × All (λ c. c.agg < n) (contributions_in rest)
-places_left n ef.Nothing rest all = (λ k d lt. absurd (omega arith), all)
-places_left n (ef.Says text) rest all = (λ k d lt. absurd (omega arith), all)
-places_left n (ef.Adds place key z) rest all = (one, after_first (λ c. c.agg < n) _ (contributions_in rest) all)
-  where
-    one : All (λ c. c.agg < n) (contributions_in (ef.Adds place key z ∷ []))
-    one zero d lt = all 0 d (omega arith)
-    one (suc k) d lt = absurd (omega arith)
-places_left n (ef.Exits status) rest all = (λ k d lt. absurd (omega arith), all)
+some_then : (a b : Option ℕ) → (is_some a || is_some b) ≡ is_some (option_or a b)
+some_then None b = refl
+some_then (Some s) b = refl
 
-pub one_more : (e : Effect) (rest : List Effect) → length (contributions_in (e ∷ rest)) ≡ length (contributions_in (e ∷ [])) + length (contributions_in rest)
-one_more ef.Nothing rest = omega arith
-one_more (ef.Says text) rest = omega arith
-one_more (ef.Adds place key z) rest = omega arith
-one_more (ef.Exits status) rest = omega arith
+-- ---- the statements so far
 
-pub notes_on_more : (number : ℕ) (faulted : Bool) (all : List Effect) (e : Effect) (rest : List Effect) (old now next : Piece) (exits more : Bool)
-    → NotesOn number faulted all (e ∷ rest) old now exits
-    → functions_of next.table ≡ functions_of now.table → next.taken.items ≡ now.taken.items
-    → ((vars : Variables) → Notes number (left_by faulted (e ∷ []) vars) (piece_seen now) (piece_seen next))
-    → count_held next.table ≤ count_held now.table + length (contributions_in (e ∷ []))
-    → more ≡ (exits || is_some (exit_in (e ∷ [])))
-    → NotesOn number faulted all rest old next more
-notes_on_more number faulted all e rest old now next exits more so_far same as_taken noted held more_is = record {
-  functions = same ∙ so_far.functions;
-  taken = as_taken ∙ so_far.taken;
-  places = (places_left (length (functions_of old.table)) e rest so_far.places).1;
-  room = let room = so_far.room in let long = one_more e rest in omega arith;
-  notes = λ vars end h. so_far.notes vars end
-      (subst (λ m. Notes number m (piece_seen now) end) (sym (effect_first faulted e rest vars))
-      (notes_then number (left_by faulted (e ∷ []) vars) (left_by faulted rest vars) (piece_seen now) (piece_seen next) end (noted vars) h));
-  told = ap (λ b. b || is_some (exit_in rest)) more_is ∙ first_some exits e rest ∙ so_far.told;
+-- what the statements before have done is noted, and those that are left do the rest of the whole
+pub record SoFar (number : ℕ) (whole left : Ran) (old now : PieceSeen) (exits : Bool) : Type 0 where
+  pub done : List Effect
+  pub is : whole ≡ ran (done ++ left.effects) left.faulted left.variables
+  pub notes : (vars : Variables) → Notes number (done_by done vars) old now
+  pub exited : exits ≡ is_some (exit_in done)
+
+pub none_yet : (number : ℕ) (whole : Ran) (p : PieceSeen) → SoFar number whole whole p p false
+none_yet number whole p = record { done = []; is = refl; notes = λ vars. notes_nothing number vars p; exited = refl }
+
+append_one : {A : Type 0} (a : List A) (x : A) (b : List A) → a ++ x ∷ b ≡ (a ++ x ∷ []) ++ b
+append_one [] x b = refl
+append_one (y ∷ a) x b = ap (λ l. y ∷ l) (append_one a x b)
+
+one_more : (number : ℕ) (whole left rest : Ran) (old now next : PieceSeen) (exits exited more : Bool) (effect : Effect)
+    → SoFar number whole left old now exits → left ≡ ran (effect ∷ rest.effects) rest.faulted rest.variables
+    → NotesEffect number effect now next → exited ≡ is_some (exit_in (effect ∷ [])) → more ≡ (exits || exited)
+    → SoFar number whole rest old next more
+one_more number whole left rest old now next exits exited more effect so_far is noted told more_is = record {
+  done = so_far.done ++ effect ∷ [];
+  is = so_far.is ∙ ap (λ (l : Ran). ran (so_far.done ++ l.effects) l.faulted l.variables) is
+      ∙ ap (λ es. ran es rest.faulted rest.variables) (append_one so_far.done effect rest.effects);
+  notes = λ vars. subst (λ m. Notes number m old next) (sym (done_then so_far.done (effect ∷ []) vars))
+      (notes_then number (done_by so_far.done vars) (done_by (effect ∷ []) vars) old now next (so_far.notes vars) (noted vars));
+  exited = more_is ∙ ap (λ b. b || exited) so_far.exited ∙ ap (λ b. is_some (exit_in so_far.done) || b) told
+      ∙ some_then (exit_in so_far.done) (exit_in (effect ∷ [])) ∙ ap is_some (sym (exit_then so_far.done (effect ∷ [])));
 }
 
-or_false : (b : Bool) → b ≡ (b || false)
-or_false true = refl
-or_false false = refl
+-- a statement more
+pub goes_on : (number : ℕ) (whole left : Ran) (o : Outcome Effect) (go : Variables → Ran) (old now next : PieceSeen) (vars : Variables) (exits exited more : Bool)
+    → SoFar number whole left old now exits → left ≡ followed o go → Performs number o now (Ok exited) next vars → more ≡ (exits || exited)
+    → SoFar number whole (go vars) old next more
+goes_on number whole left (Has effect after) go old now next vars exits exited more so_far is performs more_is =
+    one_more number whole left (go vars) old now next exits exited more effect so_far
+    (is ∙ ap (λ v. let rest = go v in ran (effect ∷ rest.effects) rest.faulted rest.variables) (sym performs.0)) performs.1 performs.2 more_is
+goes_on number whole left (Faults after) go old now next vars exits exited more so_far is performs more_is = absurd performs
 
-left_nothing : (faulted : Bool) (vars : Variables) → left_by faulted [] vars ≡ nothing vars
-left_nothing true vars = refl
-left_nothing false vars = refl
+-- the statements that were left are none
+pub ends : (number : ℕ) (line : List ℕ) (whole : Ran) (old now : PieceSeen) (vars : Variables) (exits : Bool)
+    → SoFar number whole (ran [] false vars) old now exits → NotesRun number (made line whole) old now vars exits
+ends number line whole old now vars exits so_far =
+    let all : whole ≡ ran so_far.done false vars = so_far.is ∙ ap (λ es. ran es false vars) (sym (append_nil so_far.done)) in
+    subst (λ (w : Ran). NotesRun number (made line w) old now vars exits) (sym all)
+    (record { notes = so_far.notes vars; variables = refl; exited = so_far.exited })
 
-pub notes_on_all : (number : ℕ) (faulted : Bool) (all : List Effect) (old now : Piece) (exits : Bool) → NotesOn number faulted all [] old now exits
-    → (vars : Variables) → Notes number (left_by faulted all vars) (piece_seen old) (piece_seen now)
-notes_on_all number faulted all old now exits c vars =
-    c.notes vars (piece_seen now) (subst (λ m. Notes number m (piece_seen now) (piece_seen now)) (sym (left_nothing faulted vars)) (notes_nothing number vars (piece_seen now)))
+-- ---- how a run ends
 
-pub told_all : (number : ℕ) (faulted : Bool) (all : List Effect) (old now : Piece) (exits : Bool) → NotesOn number faulted all [] old now exits
-    → exits ≡ is_some (exit_in all)
-told_all number faulted all old now exits c = or_false exits ∙ c.told
+take_front : {A : Type 0} (xs ys : List A) → take (length xs) (xs ++ ys) ≡ xs
+take_front [] ys = refl
+take_front (x ∷ xs) ys = ap (λ l. x ∷ l) (take_front xs ys)
 
-pub or_known : (a b : Bool) → a ≡ true → a ≡ (a || b)
-or_known true b e = refl
-or_known false b e = cc
+-- the piece with a fault's line in place of the run's texts
+abbrev with_line : ℕ → List ℕ → (old now : PieceSeen) → PieceSeen
+with_line number line old now = record { texts = old.texts ++ (number, line) ∷ []; table = now.table; taken = now.taken; exit = now.exit }
 
-pub or_open : (a b x : Bool) → a ≡ false → x ≡ b → x ≡ (a || b)
-or_open true b x e is = cc
-or_open false b x e is = is
+is_with_line : (number : ℕ) (line : List ℕ) (old now end : PieceSeen) → take (length old.texts) now.texts ≡ old.texts
+    → end.texts ≡ take (length old.texts) now.texts ++ (number, line) ∷ [] → end.table ≡ now.table → end.taken ≡ now.taken → end.exit ≡ now.exit
+    → with_line number line old now ≡ end
+is_with_line number line old now end cut texts table taken exit =
+    let seen : List (ℕ × List ℕ) → _ → List ℕ → Option (ℕ × ℕ) → PieceSeen = λ a b c d. record { texts = a; table = b; taken = c; exit = d } in
+    ap (λ t. seen t now.table now.taken now.exit) (sym (texts ∙ ap (λ l. l ++ (number, line) ∷ []) cut))
+    ∙ ap (λ t. seen end.texts t now.taken now.exit) (sym table)
+    ∙ ap (λ t. seen end.texts end.table t now.exit) (sym taken)
+    ∙ ap (λ t. seen end.texts end.table end.taken t) (sym exit)
 
--- ---- a run
+ends_faulted : (number : ℕ) (line : List ℕ) (whole left : Ran) (old now : PieceSeen) (vars : Variables) (exits : Bool)
+    → SoFar number whole left old now exits → left ≡ ran [] true vars → NotesRun number (made line whole) old (with_line number line old now) vars exits
+ends_faulted number line whole left old now vars exits so_far is =
+    let all : whole ≡ ran so_far.done true vars =
+    so_far.is ∙ ap (λ (l : Ran). ran (so_far.done ++ l.effects) l.faulted l.variables) is ∙ ap (λ es. ran es true vars) (sym (append_nil so_far.done)) in
+    let noted = so_far.notes vars in
+    subst (λ (w : Ran). NotesRun number (made line w) old (with_line number line old now) vars exits) (sym all)
+    (record {
+      notes = record { texts = refl; functions = noted.functions; table = noted.table; taken = noted.taken; exit = noted.exit };
+      variables = refl;
+      exited = so_far.exited;
+    })
 
--- a fault's line alone
-abbrev line_alone : List ℕ → Variables → Made
-line_alone line vars = record { texts = line ∷ []; contributions = []; exit = None; variables = vars }
+-- a statement faults, and the line is noted after the texts before the run
+pub faults : (number : ℕ) (line : List ℕ) (whole left : Ran) (o : Outcome Effect) (go : Variables → Ran) (old now next end : PieceSeen) (vars : Variables) (exits : Bool)
+    → SoFar number whole left old now exits → left ≡ followed o go → Performs number o now (Err fault.DivideByZero) next vars
+    → end.texts ≡ take (length old.texts) next.texts ++ (number, line) ∷ [] → end.table ≡ next.table → end.taken ≡ next.taken → end.exit ≡ next.exit
+    → NotesRun number (made line whole) old end vars exits
+faults number line whole left (Has effect after) go old now next end vars exits so_far is performs texts table taken exit = absurd performs
+faults number line whole left (Faults after) go old now next end vars exits so_far is performs texts table taken exit =
+    let cut : take (length old.texts) next.texts ≡ old.texts =
+    ap (λ (p : PieceSeen). take (length old.texts) p.texts) performs.1 ∙ ap (take (length old.texts)) (so_far.notes vars).texts
+    ∙ take_front old.texts (map (λ text. (number, text)) (texts_in so_far.done)) in
+    let faulted = ends_faulted number line whole left old now vars exits so_far (is ∙ ap (ran [] true) (sym performs.0)) in
+    let noted = subst (λ p. NotesRun number (made line whole) old (with_line number line old p) vars exits) (sym performs.1) faulted in
+    subst (λ p. NotesRun number (made line whole) old p vars exits) (is_with_line number line old next end cut texts table taken exit) noted
 
--- the line of a fault, and then what the effects leave
-pub noted_fault : (number : ℕ) (line : List ℕ) (effects : List Effect) (faulted : Bool) (old mid new : PieceSeen) → faulted ≡ true
-    → mid ≡ record { texts = old.texts ++ (number, line) ∷ []; table = old.table; taken = old.taken; exit = old.exit }
-    → ((vars : Variables) → Notes number (left_by faulted effects vars) mid new)
-    → (vars : Variables) → Notes number (made line (ran effects faulted vars)) old new
-noted_fault number line effects false old mid new e is noted vars = cc
-noted_fault number line effects true old mid new e is noted vars =
-    notes_then number (line_alone line vars) (left_by true effects vars) old mid new
-    (subst (λ m. Notes number (line_alone line vars) old m) (sym is)
-    (record { texts = refl; functions = refl; table = λ before stands. subst (StandsFor old.table) (append_nil before) stands; taken = refl; exit = or_none old.exit }))
-    (noted vars)
+-- the predicate faults
+pub predicate_faults : (number : ℕ) (line : List ℕ) (old end : PieceSeen) (vars : Variables)
+    → end.texts ≡ take (length old.texts) old.texts ++ (number, line) ∷ [] → end.table ≡ old.table → end.taken ≡ old.taken → end.exit ≡ old.exit
+    → NotesRun number (made line (ran [] true vars)) old end vars false
+predicate_faults number line old end vars texts table taken exit =
+    let cut : take (length old.texts) old.texts ≡ old.texts = ap (take (length old.texts)) (append_nil old.texts) ∙ take_front old.texts [] in
+    subst (λ p. NotesRun number (made line (ran [] true vars)) old p vars false) (is_with_line number line old old end cut texts table taken exit)
+    (ends_faulted number line (ran [] true vars) (ran [] true vars) old old vars false (none_yet number (ran [] true vars) old) refl)
 
--- the texts, where there is no fault
-pub noted_well : (number : ℕ) (line : List ℕ) (effects : List Effect) (faulted : Bool) (old mid new : PieceSeen) → faulted ≡ false → mid ≡ old
-    → ((vars : Variables) → Notes number (left_by faulted effects vars) mid new)
-    → (vars : Variables) → Notes number (made line (ran effects faulted vars)) old new
-noted_well number line effects true old mid new e is noted vars = cc
-noted_well number line effects false old mid new e is noted vars = subst (λ m. Notes number (left_by false effects vars) m new) is (noted vars)
+-- ---- one statement
+
+pub says : {A : Type 0} (number : ℕ) (o : Outcome A) (go : A → List ℕ) (x : A) (text : List ℕ) (old new : PieceSeen) (after : Variables)
+    → o ≡ Has x after → text ≡ go x → NotesEffect number (ef.Says text) old new → Performs number (with o (λ x. Has (ef.Says (go x)))) old (Ok false) new after
+says number o go x text old new after is same noted =
+    subst (λ q. Performs number (with q (λ x. Has (ef.Says (go x)))) old (Ok false) new after) (sym is)
+    (refl, subst (λ t. NotesEffect number (ef.Says t) old new) same noted, refl)
+
+pub adds : (number place : ℕ) (o : Outcome (List KeyPart)) (given : Variables → Outcome ℤ) (key : List KeyPart) (z : ℤ) (old new : PieceSeen) (between after : Variables)
+    → o ≡ Has key between → given between ≡ Has z after → NotesEffect number (ef.Adds place key z) old new
+    → Performs number (with o (λ key vars. with (given vars) (λ z. Has (ef.Adds place key z)))) old (Ok false) new after
+adds number place o given key z old new between after keyed is noted =
+    subst (λ q. Performs number (with q (λ key vars. with (given vars) (λ z. Has (ef.Adds place key z)))) old (Ok false) new after) (sym keyed)
+    (subst (λ q. Performs number (with q (λ z. Has (ef.Adds place key z))) old (Ok false) new after) (sym is) (refl, noted, refl))

@@ -12,3 +12,14 @@ pub mod DescriptionLemmas
 pub mod ExitLemmas
 pub mod GroupLemmas
 pub mod TreeLemmas
+pub mod Weights
+pub mod GroupSums
+pub mod Restricting
+pub mod NumberOrder
+pub mod GroupTexts
+pub mod GroupExits
+pub mod RunUnites
+pub mod Merging
+pub mod SamePieces
+pub mod PlaceSteps
+pub mod CollectSteps

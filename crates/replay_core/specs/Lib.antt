@@ -14,3 +14,8 @@ pub mod Effects
 pub mod Scripts
 pub mod Wholes
 pub mod Running
+pub mod Evaluation
+pub mod Uniting
+pub mod Tables
+pub mod PiecePlaces
+pub mod Collecting

@@ -1,9 +1,12 @@
 //! Clauses as engines run them.
 
-ghost use Rattle.std.specs.Prelude.{◌≡◌, ◌<◌, ◌≤◌, ℕ, All, IfOk, length};
+ghost use Rattle.std.specs.Prelude.{◌≡◌, ◌+◌, ◌≤◌, ◌^◌, ℕ, IfOk, length};
 
+use crate::evaluation::SpareKeys;
+use crate::piece::Piece;
+use crate::statements::run_clause;
 use d_parser::Description;
-use d_types::{Ran, TypedClause, run_clause};
+use d_types::TypedClause;
 use d_values::{ClauseLocals, ThreadTable};
 use firing_reader::Firing;
 use std::alloc::{AllocError, Global};
@@ -12,7 +15,10 @@ use std::alloc::{AllocError, Global};
 pub trait Clause {
     ghost use Rattle.d_types.specs.Typed.{ClauseMeant};
     ghost use Rattle.d_types.specs.Storage.{variables};
-    ghost use Rattle.d_types.specs.Clauses.{contributions_in, fault_line, made, ran, run_of};
+    ghost use Rattle.d_types.specs.Clauses.{run_of};
+    ghost use Rattle.aggregations.specs.Table.{count_held, functions_of};
+    ghost use Rattle.replay_core.specs.Effects.{NotesRun};
+    ghost use Rattle.replay_core.specs.Seen.{piece_seen};
 
     /// What it means.
     ghost means: { Self → ClauseMeant → Type 0 };
@@ -31,19 +37,26 @@ pub trait Clause {
         ensures meaning { (c : ClauseMeant) → means self.now c → result.now ≡ c.descriptions }
         ensures probes { length result.now ≡ probes self.now };
 
-    /// Runs it for a firing: what its statements do, and whether a division by 0 ended it.
+    /// Runs it for a firing: notes in the piece what its statements do, and answers whether it exits. At a division by 0 the
+    /// run ends, and a line that names the firing and the clause's place, from 1, stands in place of its texts.
     fn run(
         &self,
         alloc: Global,
         firing: &Firing,
+        place: u64,
         locals: &mut ClauseLocals,
         own: &mut ThreadTable,
-    ) -> Result<Ran, AllocError>
-        ensures meaning { IfOk result (λ r. (c : ClauseMeant) (place : ℕ) → means self.now c
-            → run_of firing.now place c (variables locals.old own.old)
-            ≡ made (fault_line firing.now.number place) (ran r.effects.items r.faulted (variables locals.new own.new))) }
-        ensures few { IfOk result (λ r. length (contributions_in r.effects.items) ≤ most self.now) }
-        ensures places { IfOk result (λ r. All (λ c. c.agg < places self.now) (contributions_in r.effects.items)) };
+        spare: &mut SpareKeys,
+        piece: &mut Piece,
+    ) -> Result<bool, AllocError>
+        requires places { places self.now ≤ length (functions_of piece.old.table) }
+        requires room { count_held piece.old.table + most self.now ≤ 2 ^ 52 }
+        ensures functions { functions_of piece.new.table ≡ functions_of piece.old.table }
+        ensures taken { piece.new.taken.items ≡ piece.old.taken.items }
+        ensures held { count_held piece.new.table ≤ count_held piece.old.table + most self.now }
+        ensures run { IfOk result (λ exits. (c : ClauseMeant) → means self.now c
+            → NotesRun firing.now.number (run_of firing.now place c (variables locals.old own.old))
+            (piece_seen piece.old) (piece_seen piece.new) (variables locals.new own.new) exits) };
 }
 
 // The tree of a clause, walked.
@@ -69,9 +82,12 @@ impl Clause for TypedClause {
         &self,
         alloc: Global,
         firing: &Firing,
+        place: u64,
         locals: &mut ClauseLocals,
         own: &mut ThreadTable,
-    ) -> Result<Ran, AllocError> {
-        run_clause(alloc, self, firing, locals, own)
+        spare: &mut SpareKeys,
+        piece: &mut Piece,
+    ) -> Result<bool, AllocError> {
+        run_clause(alloc, self, firing, place, locals, own, spare, piece)
     }
 }

@@ -13,6 +13,7 @@ ghost use Rattle.replay_core.specs.Meaning.{exit_of, history};
 
 use crate::clause::Clause;
 use crate::engine::Engine;
+use crate::evaluation::SpareKeys;
 use crate::piece::Piece;
 use crate::selection::Selections;
 use crate::tables::Tables;
@@ -29,6 +30,7 @@ pub struct Lane<'a, C: Clause> {
     clauses: &'a [C],
     selections: Selections<'a>,
     threads: IndexMap<i32, Tables>,
+    spare: SpareKeys,
     piece: Piece,
     // Memory was refused to a firing.
     spent: bool,
@@ -60,6 +62,7 @@ impl<'a, C: Clause> Lane<'a, C> {
             clauses,
             selections: Selections::new(alloc, descriptions),
             threads: IndexMap::new(alloc),
+            spare: SpareKeys::new(alloc),
             piece,
             spent: false,
         })
@@ -90,6 +93,7 @@ impl<'a, C: Clause> Lane<'a, C> {
             self.selections.places(),
             firing,
             &mut self.threads,
+            &mut self.spare,
             &mut self.piece,
         )
     }

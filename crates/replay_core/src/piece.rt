@@ -1,13 +1,12 @@
 //! What a lane's firings made.
 
-ghost use Rattle.std.specs.Prelude.{◌≡◌, ◌+◌, ◌<◌, ◌≤◌, ◌^◌, ◌++◌, ◌∷◌, [], All, IfOk, OnOk, is_some, length};
+ghost use Rattle.std.specs.Prelude.{◌≡◌, ◌+◌, ◌<◌, ◌≤◌, ◌^◌, ◌++◌, ◌∷◌, [], ℕ, IfOk, OnOk, length, take};
 ghost use Rattle.aggregations.specs.Table.{StandsFor, count_held, functions_of};
-ghost use Rattle.d_types.specs.Storage.{Variables};
-ghost use Rattle.d_types.specs.Clauses as clauses;
+ghost use Rattle.d_types.specs.declared.effect.Effect.{Effect};
+ghost use Rattle.d_types.specs.Clauses.{fault_line};
 
 use aggregations::{AggFn, AggTable};
-use d_types::{Effect, Ran, fault_line};
-use d_values::Text;
+use d_values::{Key, Text};
 use std::alloc::{AllocError, Global};
 
 /// What a lane's firings made.
@@ -24,8 +23,7 @@ pub struct Piece {
 }
 
 impl Piece {
-    ghost use Rattle.replay_core.specs.Effects.{left_by};
-    ghost use Rattle.replay_core.specs.Lanes.{Notes};
+    ghost use Rattle.replay_core.specs.Effects.{NotesEffect};
     ghost use Rattle.replay_core.specs.Seen.{IsEmptyPiece, piece_seen};
 
     /// Without any firing, with aggregations of these functions.
@@ -42,80 +40,71 @@ impl Piece {
         })
     }
 
-    /// Notes what a run of the clause at this place, from 1, did at the firing of this number, and answers whether it exited.
-    pub(crate) fn note(&mut self, number: u64, place: u64, ran: Ran) -> Result<bool, AllocError>
-        requires places { All (λ c. c.agg < length (functions_of self.old.table)) (clauses.contributions_in ran.effects.items) }
-        requires room { count_held self.old.table + length (clauses.contributions_in ran.effects.items) ≤ 2 ^ 52 }
-        ensures functions { functions_of self.new.table ≡ functions_of self.old.table }
-        ensures taken { self.new.taken.items ≡ self.old.taken.items }
-        ensures notes { OnOk result ((vars : Variables) →
-            Notes number (clauses.made (clauses.fault_line number place) (clauses.ran ran.effects.items ran.faulted vars)) (piece_seen self.old) (piece_seen self.new)) }
-        ensures held { OnOk result (count_held self.new.table ≤ count_held self.old.table + length (clauses.contributions_in ran.effects.items)) }
-        ensures exits { IfOk result (λ exits. exits ≡ is_some (clauses.exit_in ran.effects.items)) }
+    /// How many texts are noted.
+    pub fn texts_noted(&self) -> usize
+        ensures { result ≡ length (piece_seen self.now).texts }
     {
-        let Ran { effects, faulted } = ran;
-        if faulted {
-            let line = fault_line(*self.taken.allocator(), number, place)?;
-            self.texts.push((number, line))?;
-        }
-        self.note_effects(number, effects, faulted)
+        self.texts.len()
     }
 
-    // Notes effects. After a fault their texts are left out.
-    fn note_effects(
-        &mut self,
-        number: u64,
-        effects: Vec<Effect>,
-        faulted: bool,
-    ) -> Result<bool, AllocError>
-        requires places { All (λ c. c.agg < length (functions_of self.old.table)) (clauses.contributions_in effects.items) }
-        requires room { count_held self.old.table + length (clauses.contributions_in effects.items) ≤ 2 ^ 52 }
-        ensures functions { functions_of self.new.table ≡ functions_of self.old.table }
+    /// Notes a text at the firing of this number.
+    pub fn note_text(&mut self, number: u64, text: Text) -> Result<(), AllocError>
+        ensures table { self.new.table ≡ self.old.table }
         ensures taken { self.new.taken.items ≡ self.old.taken.items }
-        ensures notes { OnOk result ((vars : Variables) → Notes number (left_by faulted effects.items vars) (piece_seen self.old) (piece_seen self.new)) }
-        ensures held { OnOk result (count_held self.new.table ≤ count_held self.old.table + length (clauses.contributions_in effects.items)) }
-        ensures exits { IfOk result (λ exits. exits ≡ is_some (clauses.exit_in effects.items)) }
+        ensures notes { OnOk result (NotesEffect number (Effect.Says text) (piece_seen self.old) (piece_seen self.new)) }
     {
-        let mut exits = false;
-        for effect in effects {
-            let exited = self.note_effect(number, effect, faulted)?;
-            exits = exits || exited;
-        }
-        Ok(exits)
+        self.texts.push((number, text))?;
+        Ok(())
     }
 
-    fn note_effect(
+    /// Notes what an aggregation is given under a key.
+    pub fn note_contribution(
         &mut self,
-        number: u64,
-        effect: Effect,
-        faulted: bool,
-    ) -> Result<bool, AllocError>
-        requires places { All (λ c. c.agg < length (functions_of self.old.table)) (clauses.contributions_in (effect ∷ [])) }
-        requires room { count_held self.old.table + length (clauses.contributions_in (effect ∷ [])) ≤ 2 ^ 52 }
+        place: usize,
+        key: &Key,
+        argument: i64,
+    ) -> Result<(), AllocError>
+        requires place { place < length (functions_of self.old.table) }
+        requires room { count_held self.old.table < 2 ^ 52 }
         ensures functions { functions_of self.new.table ≡ functions_of self.old.table }
         ensures taken { self.new.taken.items ≡ self.old.taken.items }
-        ensures notes { OnOk result ((vars : Variables) → Notes number (left_by faulted (effect ∷ []) vars) (piece_seen self.old) (piece_seen self.new)) }
-        ensures held { OnOk result (count_held self.new.table ≤ count_held self.old.table + length (clauses.contributions_in (effect ∷ []))) }
-        ensures exits { IfOk result (λ exits. exits ≡ is_some (clauses.exit_in (effect ∷ []))) }
+        ensures held { count_held self.new.table ≤ count_held self.old.table + 1 }
+        ensures notes { OnOk result ((number : ℕ) → NotesEffect number (Effect.Adds place key.now argument) (piece_seen self.old) (piece_seen self.new)) }
     {
-        match effect {
-            Effect::Nothing => Ok(false),
-            Effect::Says(text) => {
-                if !faulted {
-                    self.texts.push((number, text))?;
-                }
-                Ok(false)
-            }
-            Effect::Adds(place, key, argument) => {
-                self.table.add(place, &key, argument)?;
-                Ok(false)
-            }
-            Effect::Exits(status) => {
-                if self.exit.is_none() {
-                    self.exit = Some((number, status));
-                }
-                Ok(true)
-            }
+        self.table.add(place, key, argument)
+    }
+
+    /// Notes an exit at the firing of this number: the first counts.
+    pub fn note_exit(&mut self, number: u64, status: u8)
+        ensures table { self.new.table ≡ self.old.table }
+        ensures taken { self.new.taken.items ≡ self.old.taken.items }
+        ensures notes { NotesEffect number (Effect.Exits status) (piece_seen self.old) (piece_seen self.new) }
+    {
+        if self.exit.is_none() {
+            self.exit = Some((number, status));
         }
     }
+
+    /// Notes a fault of the clause at this place, from 1, at the firing of this number: its line stands in place of the texts
+    /// after the first so many. Contributions and an exit stay.
+    pub fn note_fault(&mut self, number: u64, place: u64, before: usize) -> Result<(), AllocError>
+        ensures table { self.new.table ≡ self.old.table }
+        ensures taken { self.new.taken.items ≡ self.old.taken.items }
+        ensures exit { self.new.exit ≡ self.old.exit }
+        ensures texts { OnOk result (self.new.texts.items ≡ take before self.old.texts.items ++ (number, fault_line number place) ∷ []) }
+    {
+        self.texts.truncate(before);
+        let line = fault_line(*self.taken.allocator(), number, place)?;
+        self.texts.push((number, line))?;
+        Ok(())
+    }
+}
+
+// The line that stands for a division by 0, at the firing of this number in the clause at this
+// place of the script, from 1.
+fn fault_line(alloc: Global, number: u64, place: u64) -> Result<Text, AllocError>
+    ensures { IfOk result (λ t. t ≡ fault_line number place) }
+{
+    let line = format!(in alloc; "error: firing {number} clause {place}: divide-by-zero\n")?;
+    Text::from_slice(alloc, line.as_bytes())
 }

@@ -2,33 +2,33 @@
 
 ghost use Rattle.std.specs.Prelude.{◌≡◌, ◌↔◌, IfOk, IsTrue};
 
-use firing_reader::{Firing, Text};
-use std::alloc::AllocError;
+use firing_reader::{Firing, OwnedText};
+use std::alloc::{AllocError, Global};
 
 /// What fires: a probe by the four parts of its name.
 #[derive(Drop, Debug)]
 pub struct Probe {
     /// Who makes it known.
-    pub provider: Text,
+    pub provider: OwnedText,
     /// Where it is, such as a kernel module.
-    pub probemod: Text,
+    pub probemod: OwnedText,
     /// In which function.
-    pub probefunc: Text,
+    pub probefunc: OwnedText,
     /// What it is called, such as `entry`.
-    pub name: Text,
+    pub name: OwnedText,
 }
 
 impl Probe {
     ghost use Rattle.replay_core.specs.Patterns.{probe_of};
 
     /// That of the firing.
-    pub(crate) fn of(firing: &Firing) -> Result<Probe, AllocError>
+    pub(crate) fn of(alloc: Global, firing: &Firing) -> Result<Probe, AllocError>
         ensures { IfOk result (λ p. p ≡ probe_of firing.now) }
     {
-        let provider = firing.provider.clone()?;
-        let probemod = firing.probemod.clone()?;
-        let probefunc = firing.probefunc.clone()?;
-        let name = firing.name.clone()?;
+        let provider = OwnedText::new(alloc, &firing.provider)?;
+        let probemod = OwnedText::new(alloc, &firing.probemod)?;
+        let probefunc = OwnedText::new(alloc, &firing.probefunc)?;
+        let name = OwnedText::new(alloc, &firing.name)?;
         Ok(Probe {
             provider,
             probemod,
@@ -41,9 +41,9 @@ impl Probe {
     pub(crate) fn is_of(&self, firing: &Firing) -> bool
         ensures { IsTrue result ↔ (self.now ≡ probe_of firing.now) }
     {
-        self.name == firing.name
-            && self.probefunc == firing.probefunc
-            && self.probemod == firing.probemod
-            && self.provider == firing.provider
+        self.name.is(&firing.name)
+            && self.probefunc.is(&firing.probefunc)
+            && self.probemod.is(&firing.probemod)
+            && self.provider.is(&firing.provider)
     }
 }

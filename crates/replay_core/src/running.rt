@@ -15,7 +15,7 @@ ghost use Rattle.replay_core.specs.Seen.{whole_seen};
 
 use crate::engine::Engine;
 use crate::whole::Whole;
-use firing_reader::{Firing, Trace};
+use firing_reader::{Firing, Firings, Trace};
 use std::alloc::{AllocError, Global};
 
 /// Runs BEGIN, the rows of a trace up to the first that exits, and END, by one lane that has run nothing.
@@ -28,19 +28,19 @@ pub fn run_by<E: Engine + Drop>(
     requires fresh { (m : ScriptMeant) → E.runs lane m → IsLaneOf m [] (E.seen lane) }
     ensures { IfOk result (λ w. (m : ScriptMeant) → E.runs lane m → IsWholeOf m (firings_over m trace.now) one_group (whole_seen w)) }
 {
-    run_trace(alloc, &mut lane, trace)?;
+    run_trace(&mut lane, trace)?;
     Whole::of_one(alloc, lane.finish())
 }
 
-fn run_trace<E: Engine>(alloc: Global, lane: &mut E, trace: &Trace) -> Result<(), AllocError>
+fn run_trace<E: Engine>(lane: &mut E, trace: &Trace) -> Result<(), AllocError>
     requires script { (m : ScriptMeant) × E.runs lane.old m }
     requires fresh { (m : ScriptMeant) → E.runs lane.old m → IsLaneOf m [] (E.seen lane.old) }
     ensures script { (m : ScriptMeant) → E.runs lane.old m → E.runs lane.new m }
     ensures trace { OnOk result (IsTrace trace.now) }
     ensures run { OnOk result ((m : ScriptMeant) → E.runs lane.old m → IsLaneOf m (firings_over m trace.now) (E.seen lane.new)) }
 {
-    let begin = trace.begin(alloc)?;
-    let end = trace.end(alloc)?;
+    let begin = trace.begin();
+    let end = trace.end();
     run_between(lane, &begin, trace.firings(), &end)
 }
 
@@ -48,7 +48,7 @@ fn run_trace<E: Engine>(alloc: Global, lane: &mut E, trace: &Trace) -> Result<()
 fn run_between<E: Engine>(
     lane: &mut E,
     begin: &Firing,
-    rows: &[Firing],
+    rows: &Firings,
     end: &Firing,
 ) -> Result<(), AllocError>
     requires script { (m : ScriptMeant) × E.runs lane.old m }
@@ -68,7 +68,7 @@ fn run_between<E: Engine>(
 }
 
 // Runs rows up to the first that exits.
-fn run_rows<E: Engine>(lane: &mut E, rows: &[Firing]) -> Result<(), AllocError>
+fn run_rows<E: Engine>(lane: &mut E, rows: &Firings) -> Result<(), AllocError>
     requires script { (m : ScriptMeant) × E.runs lane.old m }
     requires ranges { All HasRanges rows.now }
     requires few { length (E.seen lane.old).piece.taken + length rows.now < 1_000_002 }
@@ -77,8 +77,8 @@ fn run_rows<E: Engine>(lane: &mut E, rows: &[Firing]) -> Result<(), AllocError>
     ensures run { OnOk result ((m : ScriptMeant) (before : List Firing) → E.runs lane.old m → IsLaneOf m before (E.seen lane.old)
         → IsLaneOf m (before ++ until_exit m rows.now (E.seen lane.old).threads) (E.seen lane.new)) }
 {
-    for row in rows {
-        if lane.fire(row)? {
+    for at in 0..rows.len() {
+        if lane.fire(&rows.get(at))? {
             break;
         }
     }

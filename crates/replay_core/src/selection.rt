@@ -122,7 +122,7 @@ impl<'a> Selections<'a> {
         ensures turned { OnOk result (places_at self.new.known.items self.new.last
             ≡ places_for (probe_of firing.now) 0 (map (λ d. d.now) self.new.descriptions.items)) }
     {
-        let probe = Probe::of(firing)?;
+        let probe = Probe::of(self.alloc, firing)?;
         let places = selected(self.alloc, &self.descriptions, firing)?;
         let place = self.known.len();
         self.known.push(Selection { probe, places })?;

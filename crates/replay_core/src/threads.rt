@@ -12,6 +12,7 @@ ghost use Rattle.replay_core.specs.Threads.{threads_in};
 ghost use Rattle.replay_core.specs.Turns.{turns};
 
 use crate::clause::Clause;
+use crate::evaluation::SpareKeys;
 use crate::piece::Piece;
 use crate::tables::Tables;
 use crate::turns::run_in_turn;
@@ -25,6 +26,7 @@ pub(crate) fn run_on_thread<C: Clause>(
     places: &[usize],
     firing: &Firing,
     threads: &mut IndexMap<i32, Tables>,
+    spare: &mut SpareKeys,
     piece: &mut Piece,
 ) -> Result<bool, AllocError>
     requires there { All (λ place. place < length clauses.now) places.now }
@@ -46,11 +48,11 @@ pub(crate) fn run_on_thread<C: Clause>(
     match threads.get_mut(&firing.thread) {
         Some(tables) => {
             tables.locals.reset();
-            run_in_turn(clauses, places, firing, tables, piece)
+            run_in_turn(clauses, places, firing, tables, spare, piece)
         }
         None => {
             let mut tables = Tables::new(*piece.taken.allocator());
-            let exits = run_in_turn(clauses, places, firing, &mut tables, piece)?;
+            let exits = run_in_turn(clauses, places, firing, &mut tables, spare, piece)?;
             threads.insert(firing.thread, tables)?;
             Ok(exits)
         }

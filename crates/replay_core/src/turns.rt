@@ -10,6 +10,7 @@ ghost use Rattle.replay_core.specs.Seen.{piece_seen};
 ghost use Rattle.replay_core.specs.Turns.{turns};
 
 use crate::clause::Clause;
+use crate::evaluation::SpareKeys;
 use crate::piece::Piece;
 use crate::tables::Tables;
 use firing_reader::Firing;
@@ -21,6 +22,7 @@ pub(crate) fn run_in_turn<C: Clause>(
     places: &[usize],
     firing: &Firing,
     tables: &mut Tables,
+    spare: &mut SpareKeys,
     piece: &mut Piece,
 ) -> Result<bool, AllocError>
     requires there { All (λ place. place < length clauses.now) places.now }
@@ -39,14 +41,16 @@ pub(crate) fn run_in_turn<C: Clause>(
     let mut exits = false;
     for place in places {
         let place = *place;
-        let ran = clauses[place].run(
+        let exited = clauses[place].run(
             *piece.taken.allocator(),
             firing,
+            place as u64 + 1,
             &mut tables.locals,
             &mut tables.own,
+            spare,
+            piece,
         )?;
-        let exited = piece.note(firing.number, place as u64 + 1, ran)?;
-        exits = exits || exited;
+        exits |= exited;
     }
     Ok(exits)
 }

@@ -1,8 +1,6 @@
 -- Columns of a fixed width. Widths count bytes, and nothing is cut.
 use Rattle.std.specs.Prelude.{ℕ, ◌-◌, ◌≤◌, List, ◌++◌, length, replicate}
-use Rattle.std.specs.Fmt.{signed_decimal}
-use Rattle.d_values.specs.declared.key.KeyPart.{KeyPart}
-use Rattle.d_values.specs.declared.key.KeyPart.TheVariants.{Number, Name}
+use Rattle.report.specs.Vocabulary.{KeyPart, Number, Name, signed_decimal}
 
 abbrev pub space : ℕ
 space = 32

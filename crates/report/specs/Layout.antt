@@ -1,12 +1,7 @@
 -- The bytes of an entry.
 use Rattle.std.specs.Prelude.{ℕ, List, [], ◌∷◌, ◌++◌, ℤ}
-use Rattle.std.specs.Fmt.{signed_decimal}
-use Rattle.std.specs.List.{flat_map}
-use Rattle.d_values.specs.declared.key.KeyPart.{KeyPart}
-use Rattle.d_values.specs.declared.key.KeyPart.TheVariants.{Number, Name}
-use Rattle.aggregations.specs.declared.held.Held.{Held}
-use Rattle.aggregations.specs.Figures.{Figure, figure_of}
-use Rattle.aggregations.specs.Figures.Figure.{Single, Distribution}
+use Rattle.report.specs.Vocabulary.{KeyPart, Number, Name, Held, Figure, Single, Distribution}
+use Rattle.report.specs.Vocabulary.{figure_of, signed_decimal, flat_map}
 use Rattle.report.specs.Columns.{space, line_feed, at_left, at_right}
 use Rattle.report.specs.Histograms.{histogram_bytes}
 

@@ -1,3 +1,4 @@
+pub mod Vocabulary
 pub mod Columns
 pub mod Faulty
 pub mod Histograms

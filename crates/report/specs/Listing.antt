@@ -1,14 +1,9 @@
 -- The entries of an aggregation in the order in which they are shown.
 use Rattle.std.specs.Prelude.{◌≡◌, ◌⊎◌, ◌<ℤ◌, ℕ, List, [], ◌∷◌, ◌++◌, ℤ}
-use Rattle.std.specs.List.{flat_map}
-use Rattle.std.specs.List.Sorted.{IsStrictlySortedBy}
-use Rattle.std.specs.Ordering.{int_cmp, ordering_then}
-use Rattle.std.specs.declared.cmp.Ordering.{Ordering}
-use Rattle.std.specs.declared.cmp.Ordering.TheVariants.{Less}
-use Rattle.d_values.specs.Keys.{key_cmp}
-use Rattle.aggregations.specs.declared.function.AggFn.{AggFn}
-use Rattle.aggregations.specs.Figures.{figure_of, rank_of}
-use Rattle.aggregations.specs.Table.{Contribution, AreEntries}
+use Rattle.std.specs.{List.Sorted.IsStrictlySortedBy, Ordering.int_cmp, Ordering.ordering_then}
+use Rattle.std.specs.declared.cmp.Ordering.{Ordering, TheVariants.Less}
+use Rattle.report.specs.Vocabulary.{AggFn, Contribution, AreEntries, figure_of, rank_of, key_cmp}
+use Rattle.report.specs.Vocabulary.{flat_map}
 use Rattle.report.specs.Columns.{line_feed}
 use Rattle.report.specs.Layout.{Entry, entry_bytes}
 

@@ -1,8 +1,6 @@
 -- All that a run shows.
 use Rattle.std.specs.Prelude.{◌≡◌, ℕ, List, ◌++◌, Some, length, slice_get}
-use Rattle.std.specs.List.{flat_map}
-use Rattle.aggregations.specs.declared.function.AggFn.{AggFn}
-use Rattle.aggregations.specs.Table.{Contribution}
+use Rattle.report.specs.Vocabulary.{AggFn, Contribution, flat_map}
 use Rattle.report.specs.Layout.{Entry}
 use Rattle.report.specs.Listing.{IsListing, listing_bytes}
 

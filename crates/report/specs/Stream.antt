@@ -1,4 +1,5 @@
--- What contracts see of a sink and a feed, and what calls do to the bytes that a sink holds and a feed has left.
+-- What contracts see of a sink and a feed, and what calls do to the bytes that a sink holds and a
+-- feed has left.
 use Rattle.std.specs.Prelude.{ℕ, ◌<◌, Bool, Option, List, length, take}
 use Rattle.std.specs.Io.KnownBytes.{Appends, Consumes}
 
@@ -19,7 +20,7 @@ pub record FeedSeen : Type 0 where
   pub calls : ℕ
   -- whether a call has failed
   pub has_failed : Bool
-  -- whether the last call told the end: it gave nothing, though there was room
+  -- whether the last call reported the end: it gave nothing, though there was room
   pub has_ended : Bool
 
 -- the sink's bytes grow by a beginning of bs that is not all of it

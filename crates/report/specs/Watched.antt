@@ -15,7 +15,7 @@ watched_calls w = w.good_calls + (if w.has_failed then 1 else 0)
 abbrev pub watched_has_failed : {T : Type 0} → Watched T → Bool
 watched_has_failed w = w.has_failed
 
--- whether the last read told the end
+-- whether the last read reported the end
 abbrev pub watched_has_ended : {T : Type 0} → Watched T → Bool
 watched_has_ended w = w.has_ended
 

@@ -1,15 +1,15 @@
 //! A reader or a writer that moves one byte a call and fails at one chosen call: for tests of what
-//! stands on streams.
+//! uses streams.
 ghost use Rattle.std.specs.Prelude.{◌≡◌, ◌+◌, ◌≤◌, IfOk, IsErrAnd, OnOk};
 ghost use Rattle.std.specs.Io.{ReadsAtMost, WritesAtMost};
-ghost use Rattle.std.specs.IoError.{error_kind};
 ghost use Rattle.std.specs.Io.KnownBytes.{ReadConsumes, WriteAppends};
+ghost use Rattle.std.specs.IoError.{error_kind};
 ghost use Rattle.report.specs.Faulty.{faulty_inner, faulty_good_calls};
 
 use std::io;
 use std::io::{ErrorKind, Read, Write};
 
-/// A std reader or writer of which a call moves one byte at most. The call behind the first
+/// A std reader or writer of which a call moves one byte at most. The call after the first
 /// `good_calls` is interrupted and moves none, as if a signal had come; later calls go well again.
 #[derive(Drop)]
 pub struct Faulty<T> {
@@ -19,6 +19,10 @@ pub struct Faulty<T> {
 
 impl<T> Faulty<T> {
     /// Lets this many calls of the reader or writer go well before one is interrupted.
+    ///
+    /// ```text
+    /// let mut reader = Faulty::new(b"abc".as_slice(), 2); // gives `a` and `b`, and then an error
+    /// ```
     pub fn new(inner: T, good_calls: u64) -> Faulty<T>
         ensures inner { faulty_inner result ≡ inner }
         ensures good_calls { faulty_good_calls result ≡ good_calls }
@@ -35,7 +39,8 @@ impl<T> Faulty<T> {
 
     // Counts a call, which is interrupted where no good one is left.
     fn begin(&mut self) -> io::Result<()>
-        ensures counted { OnOk result (faulty_good_calls self.new + 1 ≡ faulty_good_calls self.old) }
+        ensures counted { OnOk result
+            (faulty_good_calls self.new + 1 ≡ faulty_good_calls self.old) }
         ensures fails { faulty_good_calls self.old ≡ 0 →
             IsErrAnd result (λ e. error_kind e ≡ ErrorKind.Interrupted) }
         ensures inner { faulty_inner self.new ≡ faulty_inner self.old }
@@ -57,7 +62,8 @@ impl<R: Read> Read for Faulty<R> {
         ensures bytes { ReadConsumes (R.remaining (faulty_inner self.old))
             (R.remaining (faulty_inner self.new)) result buf.new }
         ensures one { IfOk result (λ n. n ≤ 1) }
-        ensures counted { OnOk result (faulty_good_calls self.new + 1 ≡ faulty_good_calls self.old) }
+        ensures counted { OnOk result
+            (faulty_good_calls self.new + 1 ≡ faulty_good_calls self.old) }
         ensures fails { faulty_good_calls self.old ≡ 0 →
             IsErrAnd result (λ e. error_kind e ≡ ErrorKind.Interrupted) }
     {
@@ -75,7 +81,8 @@ impl<W: Write> Write for Faulty<W> {
         ensures bytes { WriteAppends (W.contents (faulty_inner self.old))
             (W.contents (faulty_inner self.new)) result buf.now }
         ensures one { IfOk result (λ n. n ≤ 1) }
-        ensures counted { OnOk result (faulty_good_calls self.new + 1 ≡ faulty_good_calls self.old) }
+        ensures counted { OnOk result
+            (faulty_good_calls self.new + 1 ≡ faulty_good_calls self.old) }
         ensures fails { faulty_good_calls self.old ≡ 0 →
             IsErrAnd result (λ e. error_kind e ≡ ErrorKind.Interrupted) }
     {

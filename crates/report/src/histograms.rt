@@ -1,10 +1,8 @@
 //! The bytes of a histogram.
 
 ghost use Rattle.std.specs.Prelude.{◌≡◌, ◌<◌, ◌≤◌, ◌^◌, ◌+◌, ◌++◌, ℕ, OnOk, length, replicate, sum};
-ghost use Rattle.std.specs.Fmt.{decimal, signed_decimal};
-ghost use Rattle.std.specs.List.{flat_map};
-ghost use Rattle.aggregations.specs.Buckets.{buckets};
-ghost use Rattle.report.specs.Columns.{at_left, at_right};
+ghost use Rattle.report.specs.Vocabulary.{buckets, decimal, signed_decimal, flat_map};
+ghost use Rattle.report.specs.{Columns.at_left, Columns.at_right};
 ghost use Rattle.report.specs.Histograms as spec;
 
 use crate::columns::put_spaces;
@@ -53,6 +51,7 @@ fn put_rows(out: &mut Vec<u8>, histogram: &Histogram) -> Result<(), AllocError>
     Ok(())
 }
 
+// Puts the row of a bucket, whose count is a part of all arguments.
 fn put_row(
     out: &mut Vec<u8>,
     function: AggFn,
@@ -76,7 +75,7 @@ fn put_row(
     Ok(())
 }
 
-// What stands before the number of a bucket's label, and that number.
+// The mark before the number of a bucket's label, and that number.
 fn label(function: AggFn, bucket: u32) -> (&'static [u8], i64)
     requires { bucket < buckets function }
     ensures value { spec.label_bytes function bucket ≡ result.0.now ++ signed_decimal result.1 }
@@ -92,7 +91,10 @@ fn label(function: AggFn, bucket: u32) -> (&'static [u8], i64)
                 (b"".as_slice(), function.label(bucket))
             }
         }
-        _ => (b"".as_slice(), function.label(bucket)),
+        AggFn::Count | AggFn::Sum | AggFn::Min | AggFn::Max | AggFn::Avg | AggFn::Quantize => (
+            b"".as_slice(),
+            function.label(bucket),
+        ),
     }
 }
 
@@ -116,6 +118,7 @@ fn put_label(out: &mut Vec<u8>, function: AggFn, bucket: u32) -> Result<(), Allo
     Ok(())
 }
 
+// Puts a bar of so many signs.
 fn put_signs(out: &mut Vec<u8>, signs: usize) -> Result<(), AllocError>
     requires { signs ≤ 40 }
     ensures { OnOk result (out.new.items ≡ out.old.items ++ at_left 40 (replicate signs 64)) }
@@ -124,6 +127,7 @@ fn put_signs(out: &mut Vec<u8>, signs: usize) -> Result<(), AllocError>
     put_spaces(out, BAR_WIDTH - signs)
 }
 
+// Puts a count at the left of its column.
 fn put_count(out: &mut Vec<u8>, count: u64) -> Result<(), AllocError>
     ensures { OnOk result (out.new.items ≡ out.old.items ++ at_left 9 (decimal count)) }
 {

@@ -1,18 +1,12 @@
 //! What holds of every listing, of every output and of every entry's line.
 
-ghost use Rattle.std.specs.Prelude.{◌≡◌, ◌+◌, ◌<◌, ◌≤◌, ◌++◌, ℕ, ℤ, List, Some, All, length, slice_get, sum_by};
-ghost use Rattle.std.specs.Fmt.{signed_decimal};
-ghost use Rattle.d_values.specs.declared.key.KeyPart.{KeyPart};
-ghost use Rattle.d_values.specs.declared.key.KeyPart.TheVariants.{Name};
-ghost use Rattle.aggregations.specs.declared.function.AggFn.{AggFn};
-ghost use Rattle.aggregations.specs.declared.held.Held.{Held};
-ghost use Rattle.aggregations.specs.Figures.{figure_of};
-ghost use Rattle.aggregations.specs.Figures.Figure.{Single};
-ghost use Rattle.aggregations.specs.Table.{Contribution};
-ghost use Rattle.report.specs.Columns.{Fits, column_width, spaces};
-ghost use Rattle.report.specs.Layout.{Entry, number_bytes, part_bytes, entry_bytes};
-ghost use Rattle.report.specs.Listing.{IsListing, ComesBefore};
-ghost use Rattle.report.specs.Output.{IsOutput};
+ghost use Rattle.std.specs.Prelude.{◌≡◌, ◌+◌, ◌<◌, ◌≤◌, ◌++◌, ℕ, ℤ, List, Some, All};
+ghost use Rattle.std.specs.Prelude.{length, slice_get, sum_by};
+ghost use Rattle.report.specs.Vocabulary.{AggFn, Contribution, Held, KeyPart, Name, Single};
+ghost use Rattle.report.specs.Vocabulary.{figure_of, signed_decimal};
+ghost use Rattle.report.specs.{Columns.Fits, Columns.column_width, Columns.spaces, Layout.Entry};
+ghost use Rattle.report.specs.{Layout.number_bytes, Layout.part_bytes, Layout.entry_bytes};
+ghost use Rattle.report.specs.{Listing.IsListing, Listing.ComesBefore, Output.IsOutput};
 
 /// Contributions make one listing of an aggregation at most.
 pub fn one_listing()
@@ -38,12 +32,13 @@ pub fn has_output()
 
 /// Of two entries of a listing the first has the lower rank, or the same rank and the lower key.
 pub fn listings_ascend()
-    ensures { (function : AggFn) (agg : ℕ) (contributions : List Contribution) (entries : List Entry)
+    ensures { (function : AggFn) (agg : ℕ) (contributions : List Contribution)
+        (entries : List Entry)
         → IsListing function agg contributions entries → (i j : ℕ) (x y : Entry) → i < j
         → slice_get entries i ≡ Some x → slice_get entries j ≡ Some y → ComesBefore x y }
 {}
 
-/// Parts that fit stand in columns, and so does the number after them.
+/// Parts that fit fill columns, and so does the number after them.
 pub fn entries_stand_in_columns()
     ensures { (key : List KeyPart) (held : Held) (number : ℤ)
         → All Fits key → figure_of held ≡ Single number → length (signed_decimal number) ≤ 16

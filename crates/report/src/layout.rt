@@ -1,8 +1,7 @@
 //! The bytes of an entry.
 
 ghost use Rattle.std.specs.Prelude.{◌≡◌, ◌++◌, OnOk};
-ghost use Rattle.std.specs.List.{flat_map};
-ghost use Rattle.aggregations.specs.Figures.{figure_of};
+ghost use Rattle.report.specs.Vocabulary.{figure_of, flat_map};
 ghost use Rattle.report.specs.Layout.{number_bytes, part_bytes, value_bytes, entry_bytes};
 
 use crate::columns::put_spaces;
@@ -16,6 +15,7 @@ const NAME_WIDTH: usize = 50;
 
 const NUMBER_WIDTH: usize = 16;
 
+// Puts a text in its column.
 fn put_name(out: &mut Vec<u8>, text: &[u8]) -> Result<(), AllocError>
     ensures { OnOk result (out.new.items ≡ out.old.items ++ part_bytes (KeyPart.Name text.now)) }
 {
@@ -24,6 +24,7 @@ fn put_name(out: &mut Vec<u8>, text: &[u8]) -> Result<(), AllocError>
     put_spaces(out, NAME_WIDTH.saturating_sub(text.len()))
 }
 
+// Puts a number in its column.
 fn put_number(out: &mut Vec<u8>, number: i64) -> Result<(), AllocError>
     ensures { OnOk result (out.new.items ≡ out.old.items ++ number_bytes number) }
 {
@@ -35,6 +36,7 @@ fn put_number(out: &mut Vec<u8>, number: i64) -> Result<(), AllocError>
     Ok(())
 }
 
+// Puts a part of a key.
 fn put_part(out: &mut Vec<u8>, part: &KeyPart) -> Result<(), AllocError>
     ensures { OnOk result (out.new.items ≡ out.old.items ++ part_bytes part.now) }
 {

@@ -1,5 +1,5 @@
-//! What a run shows, and the way of its bytes out: the layout of aggregations, and streams that tell
-//! what went through them.
+//! What a run shows, and how its bytes are read and written: the layout of aggregations, and
+//! streams that report what went through them.
 #![tactic(auto)]
 
 mod columns;

@@ -2,23 +2,21 @@
 
 ghost use Rattle.std.specs.Prelude.{◌≡◌, ◌<◌, List, Some, IfOk, map, slice_get, length};
 ghost use Rattle.std.specs.Map.Iter.{deref_pair};
-ghost use Rattle.aggregations.specs.Table.{Contribution, StandsFor, functions_of};
-ghost use Rattle.aggregations.specs.declared.function.AggFn.{AggFn};
-ghost use Rattle.report.specs.Listing.{IsListing, entry_cmp};
+ghost use Rattle.report.specs.Vocabulary.{AggFn, Contribution, StandsFor, functions_of};
+ghost use Rattle.report.specs.Listing.{IsListing, entry_rank};
 
 use aggregations::{AggTable, Partial};
 use d_values::Key;
 use std::alloc::{AllocError, Global};
-use std::cmp::Ordering;
 
-// By rank, and entries of one rank by their keys.
-fn compare(x: &(&Key, &Partial), y: &(&Key, &Partial)) -> Ordering
-    ensures { result ≡ entry_cmp (deref_pair x.now) (deref_pair y.now) }
+// What an entry is ordered by: its rank, and then its key.
+fn rank_and_key<'a>(entry: &(&'a Key, &'a Partial)) -> (i128, &'a Key)
+    ensures { result ≡ (entry_rank (deref_pair entry.now), entry.now.0) }
 {
-    x.1.rank().cmp(&y.1.rank()).then_with(|| x.0.cmp(y.0))
+    (entry.1.rank(), entry.0)
 }
 
-/// The entries of an aggregation, each before the next.
+/// The entries of an aggregation, each before the next. The rank of each is worked out once.
 pub fn listing(
     alloc: Global,
     table: &AggTable,
@@ -30,6 +28,6 @@ pub fn listing(
         → IfOk result (λ es. IsListing function agg contributions (map deref_pair es.items)) }
 {
     let mut entries = table.entries(alloc, agg)?;
-    entries.sort_unstable_by(compare);
+    entries.sort_by_cached_key(rank_and_key)?;
     Ok(entries)
 }

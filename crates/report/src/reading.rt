@@ -25,6 +25,11 @@ pub const MOST_CALLS: u64 = 1 << 32;
 const ROOM: usize = 1 << 16;
 
 /// Reads all bytes that the feed has left. At a fault a beginning of them was read and is lost.
+///
+/// ```text
+/// let mut feed = Watched::new(b"number,cpu\n".as_slice());
+/// let bytes = read_to_end(alloc, &mut feed)?; // `number,cpu` and a line feed
+/// ```
 pub fn read_to_end<F: Feed>(alloc: Global, feed: &mut F) -> Result<Vec<u8>, ReadFault>
     requires { IsFalse (F.seen feed.old).has_failed }
     ensures bytes { IfOk result (λ v. IfSome (F.seen feed.old).remaining (λ all. v.items ≡ all)) }

@@ -1,13 +1,11 @@
 //! All that a run shows.
 
 ghost use Rattle.std.specs.Prelude.{◌≡◌, ◌<◌, ◌++◌, List, Some, OnOk, IfOk, map, slice_get, length};
-ghost use Rattle.std.specs.List.{flat_map};
+ghost use Rattle.report.specs.Vocabulary.{AggFn, Contribution, StandsFor, functions_of, flat_map};
+ghost use Rattle.report.specs.{Listing.AppendsListing, Listing.listing_bytes, Output.AppendsTables};
+ghost use Rattle.report.specs.{Output.IsOutput};
 ghost use Rattle.std.specs.Map.Iter.{deref_pair};
-ghost use Rattle.aggregations.specs.declared.function.AggFn.{AggFn};
-ghost use Rattle.aggregations.specs.Table.{Contribution, StandsFor, functions_of};
 ghost use Rattle.d_types.specs.TypedScripts.{typed_script_of};
-ghost use Rattle.report.specs.Listing.{AppendsListing, listing_bytes};
-ghost use Rattle.report.specs.Output.{AppendsTables, IsOutput};
 
 use crate::layout::put_entry;
 use crate::listing::listing;
@@ -17,9 +15,14 @@ use d_values::{Key, Text};
 use replay_core::Whole;
 use std::alloc::{AllocError, Global};
 
-/// The bytes that show what a run of the script made: its texts, and after them each aggregation that
-/// has entries, in the order of the script, its entries ascending by value and then by key (Dynamic
-/// Tracing Guide, "Aggregations"). The caller owes that the aggregations are the script's.
+/// The bytes that show what a run of the script made: its texts, and after them each aggregation
+/// that has entries, in the order of the script, its entries ascending by value and then by key
+/// (Dynamic Tracing Guide, "Aggregations"). The caller owes that the aggregations are the script's.
+///
+/// ```text
+/// let bytes = render(alloc, &script, &whole)?;
+/// emit(&mut sink, &bytes)?;
+/// ```
 pub fn render(alloc: Global, script: &TypedScript, whole: &Whole) -> Result<Vec<u8>, AllocError>
     requires { functions_of whole.now.table
         ≡ map (λ a. a.function) (typed_script_of script.now).aggregations }
@@ -35,6 +38,7 @@ pub fn render(alloc: Global, script: &TypedScript, whole: &Whole) -> Result<Vec<
     Ok(out)
 }
 
+// Puts the texts, one after the other.
 fn put_texts(out: &mut Vec<u8>, texts: &[(u64, Text)]) -> Result<(), AllocError>
     ensures { OnOk result (out.new.items ≡ out.old.items ++ flat_map (λ text. text.1) texts.now) }
 {
@@ -44,6 +48,7 @@ fn put_texts(out: &mut Vec<u8>, texts: &[(u64, Text)]) -> Result<(), AllocError>
     Ok(())
 }
 
+// Puts the aggregations, in the order of the script.
 fn put_tables(alloc: Global, out: &mut Vec<u8>, table: &AggTable) -> Result<(), AllocError>
     ensures { (contributions : List Contribution) → StandsFor table.now contributions
         → OnOk result

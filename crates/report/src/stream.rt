@@ -1,4 +1,4 @@
-//! Streams of bytes whose contracts tell which bytes went through, how many calls were made, and
+//! Streams of bytes whose contracts state which bytes went through, how many calls were made, and
 //! whether one has failed.
 ghost use Rattle.std.specs.Prelude.{◌≡◌, ◌↔◌, ◌+◌, ◌<◌, length, IfOk, IsErr, IsTrue, IsFalse};
 ghost use Rattle.std.specs.Io.{ReadsAtMost, WritesAtMost};
@@ -20,7 +20,7 @@ pub trait Sink {
     // What contracts see of it.
     ghost seen: { Self → SinkSeen };
 
-    /// Writes a beginning of the piece and answers its length, which is 0 for an empty piece alone.
+    /// Writes a beginning of the piece and returns its length, which is 0 for an empty piece alone.
     /// A failed call writes nothing.
     fn put(&mut self, piece: &[u8]) -> Result<usize, Failed>
         requires { IsFalse (seen self.old).has_failed }
@@ -36,13 +36,16 @@ pub trait Feed {
     // What contracts see of it.
     ghost seen: { Self → FeedSeen };
 
-    /// Puts the next bytes at the buffer's front and answers how many; what the buffer holds after
-    /// them is not said. None, where the buffer isn't empty, is the end. A failed call takes no byte.
+    /// Puts the next bytes at the buffer's front and returns how many; what the buffer holds after
+    /// them is not said. Zero, where the buffer isn't empty, is the end. A failed call takes no
+    /// byte.
     fn get(&mut self, buffer: &mut [u8]) -> Result<usize, Failed>
         requires { IsFalse (seen self.old).has_failed }
         ensures bound { ReadsAtMost result buffer.new }
-        ensures bytes { ReadConsumes (seen self.old).remaining (seen self.new).remaining result buffer.new }
+        ensures bytes { ReadConsumes (seen self.old).remaining (seen self.new).remaining
+            result buffer.new }
         ensures counted { (seen self.new).calls ≡ (seen self.old).calls + 1 }
         ensures failed { IsTrue (seen self.new).has_failed ↔ IsErr result }
-        ensures ended { IsTrue (seen self.new).has_ended ↔ (result ≡ Ok 0 × 0 < length buffer.new) };
+        ensures ended { IsTrue (seen self.new).has_ended
+            ↔ (result ≡ Ok 0 × 0 < length buffer.new) };
 }

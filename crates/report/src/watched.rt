@@ -1,6 +1,7 @@
 //! A std reader or writer as a stream that counts its calls and notes a failure.
 ghost use Rattle.std.specs.Prelude.{◌≡◌, ◌+◌, ◌<◌, IsFalse, true, false};
-ghost use Rattle.report.specs.Watched.{watched_inner, watched_calls, watched_has_failed, watched_has_ended, watched_feed, watched_sink};
+ghost use Rattle.report.specs.Watched.{watched_inner, watched_calls, watched_feed, watched_sink};
+ghost use Rattle.report.specs.Watched.{watched_has_failed, watched_has_ended};
 
 use crate::stream::{Failed, Feed, Sink};
 use std::io::{Read, Write};
@@ -18,6 +19,12 @@ pub struct Watched<T> {
 
 impl<T> Watched<T> {
     /// Watches a reader or a writer from here on.
+    ///
+    /// ```text
+    /// let mut sink = Watched::new(Vec::new(alloc));
+    /// emit(&mut sink, b"abc")?;
+    /// let bytes = sink.into_inner(); // `abc`
+    /// ```
     pub fn new(inner: T) -> Watched<T>
         ensures inner { watched_inner result ≡ inner }
         ensures calls { watched_calls result ≡ 0 }

@@ -13,10 +13,16 @@ pub struct WriteFault;
 
 /// Writes the bytes, each once and in order, and takes no memory. A fault comes exactly where the
 /// sink fails; what went out is then a beginning of the bytes, and not all of them.
+///
+/// ```text
+/// let mut sink = Watched::new(Vec::new(alloc));
+/// emit(&mut sink, b"  cat  1\n")?;
+/// ```
 pub fn emit<S: Sink>(sink: &mut S, bytes: &[u8]) -> Result<(), WriteFault>
     requires { IsFalse (S.seen sink.old).has_failed }
     ensures fault { IsErr result ↔ IsTrue (S.seen sink.new).has_failed }
-    ensures whole { OnOk result (Appends (S.seen sink.old).bytes (S.seen sink.new).bytes bytes.now) }
+    ensures whole { OnOk result
+        (Appends (S.seen sink.old).bytes (S.seen sink.new).bytes bytes.now) }
     ensures beginning { OnErr result
         (AppendsBeginning (S.seen sink.old).bytes (S.seen sink.new).bytes bytes.now) }
     ensures calls { (S.seen sink.new).calls ≤ (S.seen sink.old).calls + length bytes.now }

@@ -9,7 +9,7 @@ ghost use Rattle.shard_queue.specs.Groupings.{places_of, with_own};
 ghost use Rattle.shard_queue.specs.Groups.{grouping, places, AreOf};
 
 use crate::groups::Groups;
-use firing_reader::{Firing, Trace};
+use firing_reader::{Firings, Trace};
 use std::alloc::{AllocError, Global};
 
 impl Groups {
@@ -40,7 +40,7 @@ impl Groups {
     }
 
     // Notes the places of the firings, with BEGIN before them and END after them.
-    fn fill(&mut self, firings: &[Firing]) -> Result<(), AllocError>
+    fn fill(&mut self, firings: &Firings) -> Result<(), AllocError>
         requires empty { (g : ℕ) → places self.old g ≡ [] }
         requires few { length firings.now ≤ 1_000_000 }
         ensures grouping { OnOk result (grouping self.new ≡ grouping self.old) }
@@ -49,8 +49,8 @@ impl Groups {
     {
         self.add(0, 0)?;
         let mut place = 1;
-        for firing in firings {
-            self.add(firing.thread, place)?;
+        for at in 0..firings.len() {
+            self.add(firings.get(at).thread, place)?;
             place += 1;
         }
         self.add(0, place)?;

@@ -5,10 +5,9 @@ ghost use Rattle.std.specs.Str.Parse.{AllDigits, digits_value};
 ghost use Rattle.firing_reader.specs.Column.{signed_of, text_of};
 ghost use Rattle.firing_reader.specs.Plain.{BeginsWith, Closes, Passes, int_of, whole_of};
 
-use super::front::{after_comma, after_feed, after_minus, front, rest_after};
+use super::front::{after_comma, after_feed, after_minus, front, rest_after, word_front};
 use crate::columns::{negative, positive};
 use crate::text::Text;
-use crate::texts::Texts;
 
 // No number above this is read here: ten of it and a digit still have 64 bits.
 const LARGE: u64 = 1_844_674_407_370_955_160;
@@ -56,18 +55,40 @@ pub(crate) fn int(bytes: &[u8], least: u64) -> Option<(i32, &[u8])>
     Some((number as i32, rest))
 }
 
-// A text that a comma ends. The row before had `before` in its column.
-pub(crate) fn text<'a>(
-    texts: &mut Texts,
-    bytes: &'a [u8],
-    before: &Text,
-) -> Option<(Text, &'a [u8])>
+// A text that a comma ends.
+pub(crate) fn text(bytes: &[u8]) -> Option<(Text, &[u8])>
+    ensures { IfSome result (λ p. (field : List ℕ)
+        × Passes bytes.now (field ∷ []) p.1.now × (text_of field ≡ Some p.0)) }
+{
+    match word(bytes) {
+        Some(found) => Some(found),
+        None => any_text(bytes),
+    }
+}
+
+// A short text in ASCII that a comma ends: no byte of it needs a further look.
+fn word(bytes: &[u8]) -> Option<(Text, &[u8])>
+    ensures { IfSome result (λ p. (field : List ℕ)
+        × Passes bytes.now (field ∷ []) p.1.now × (text_of field ≡ Some p.0)) }
+{
+    let count = word_front(bytes);
+    if count > 255 {
+        return None;
+    }
+    let rest = after_comma(rest_after(bytes, count))?;
+    Some((Text::of(&bytes[..count]), rest))
+}
+
+// Any text that a comma ends.
+#[cold]
+#[inline(never)]
+fn any_text(bytes: &[u8]) -> Option<(Text, &[u8])>
     ensures { IfSome result (λ p. (field : List ℕ)
         × Passes bytes.now (field ∷ []) p.1.now × (text_of field ≡ Some p.0)) }
 {
     let count = front(bytes);
     let rest = after_comma(rest_after(bytes, count))?;
-    let text = texts.get(&bytes[..count], before).ok()??;
+    let text = Text::from_bytes(&bytes[..count])?;
     Some((text, rest))
 }
 
@@ -103,8 +124,19 @@ fn argument(bytes: &[u8]) -> Option<(i64, &[u8])>
     }
 }
 
-// An argument that a comma ends.
+// An argument that a comma ends. Most are empty.
 pub(crate) fn next_argument(bytes: &[u8]) -> Option<(i64, &[u8])>
+    ensures { IfSome result (λ p. (field : List ℕ)
+        × Passes bytes.now (field ∷ []) p.1.now × (signed_of field ≡ Some p.0)) }
+{
+    match after_comma(bytes) {
+        Some(rest) => Some((0, rest)),
+        None => longer_argument(bytes),
+    }
+}
+
+// The same, whatever its length.
+fn longer_argument(bytes: &[u8]) -> Option<(i64, &[u8])>
     ensures { IfSome result (λ p. (field : List ℕ)
         × Passes bytes.now (field ∷ []) p.1.now × (signed_of field ≡ Some p.0)) }
 {

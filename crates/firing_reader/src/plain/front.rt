@@ -1,7 +1,7 @@
 //! What bytes begin with, and what comes after it.
 
 ghost use Rattle.std.specs.Prelude.{◌≡◌, ◌≤◌, ◌∷◌, ◌++◌, true, false, ℕ, List, All, IfSome, length, take};
-ghost use Rattle.firing_reader.specs.Plain.{JoinsField};
+ghost use Rattle.firing_reader.specs.Plain.{IsWordByte, JoinsField};
 
 // What comes after a comma.
 pub(crate) fn after_comma(bytes: &[u8]) -> Option<&[u8]>
@@ -55,6 +55,26 @@ pub(crate) fn front(bytes: &[u8]) -> usize
 {
     for at in 0..bytes.len() {
         if is_mark(bytes[at]) {
+            return at;
+        }
+    }
+    bytes.len()
+}
+
+// Whether a byte is in ASCII, from the minus on.
+fn is_word_byte(b: u8) -> bool
+    ensures { result ≡ true → IsWordByte b }
+{
+    b'-' <= b && b < 128
+}
+
+// How many such bytes come first.
+pub(crate) fn word_front(bytes: &[u8]) -> usize
+    ensures count { result ≤ length bytes.now }
+    ensures words { All IsWordByte (take result bytes.now) }
+{
+    for at in 0..bytes.len() {
+        if !is_word_byte(bytes[at]) {
             return at;
         }
     }

@@ -1,13 +1,12 @@
 //! One plain row.
 
-ghost use Rattle.std.specs.Prelude.{IfSome};
+ghost use Rattle.std.specs.Prelude.{◌<◌, IfSome};
 ghost use Rattle.firing_reader.specs.Plain.{ReadsArguments, ReadsHead, ReadsNames, ReadsRow};
 
 use super::field::{int, last_argument, next_argument, text, whole};
 use super::front::{after_feed, starts_with_digit};
 use crate::firing::Firing;
 use crate::text::Text;
-use crate::texts::Texts;
 
 // The provider of no recorded firing.
 const RESERVED: &[u8] = b"dtrace";
@@ -23,13 +22,13 @@ struct Head {
 
 // The texts of a row, and its time.
 #[derive(Drop)]
-struct Names {
-    execname: Text,
+struct Names<'a> {
+    execname: Text<'a>,
     time: u64,
-    provider: Text,
-    probemod: Text,
-    probefunc: Text,
-    name: Text,
+    provider: Text<'a>,
+    probemod: Text<'a>,
+    probefunc: Text<'a>,
+    name: Text<'a>,
 }
 
 fn read_head(bytes: &[u8]) -> Option<(Head, &[u8])>
@@ -49,16 +48,16 @@ fn read_head(bytes: &[u8]) -> Option<(Head, &[u8])>
     Some((head, rest))
 }
 
-fn read_names<'a>(texts: &mut Texts, bytes: &'a [u8], before: &Firing) -> Option<(Names, &'a [u8])>
+fn read_names(bytes: &[u8]) -> Option<(Names, &[u8])>
     ensures { IfSome result (λ p. ReadsNames bytes.now p.1.now
         p.0.execname p.0.time p.0.provider p.0.probemod p.0.probefunc p.0.name) }
 {
-    let (execname, rest) = text(texts, bytes, &before.execname)?;
+    let (execname, rest) = text(bytes)?;
     let (time, rest) = whole(rest, 0, u64::MAX)?;
-    let (provider, rest) = text(texts, rest, &before.provider)?;
-    let (probemod, rest) = text(texts, rest, &before.probemod)?;
-    let (probefunc, rest) = text(texts, rest, &before.probefunc)?;
-    let (name, rest) = text(texts, rest, &before.name)?;
+    let (provider, rest) = text(rest)?;
+    let (probemod, rest) = text(rest)?;
+    let (probefunc, rest) = text(rest)?;
+    let (name, rest) = text(rest)?;
     let names = Names {
         execname,
         time,
@@ -86,35 +85,40 @@ fn arguments(bytes: &[u8]) -> Option<([i64; 10], &[u8])>
     Some(([a0, a1, a2, a3, a4, a5, a6, a7, a8, a9], rest))
 }
 
-// The row after a line feed, and what comes from its own line feed on. It follows the firing `before`.
-pub(crate) fn row<'a>(
-    texts: &mut Texts,
-    bytes: &'a [u8],
-    before: &Firing,
-) -> Option<(Firing, &'a [u8])>
-    ensures { IfSome result (λ p. ReadsRow bytes.now p.1.now before.now.number p.0) }
+// The row after a line feed, and what comes from its own line feed on. It follows a firing with the number `last`.
+pub(crate) fn row(bytes: &[u8], last: u64) -> Option<(Firing, &[u8])>
+    ensures row { IfSome result (λ p. ReadsRow bytes.now p.1.now p.0) }
+    ensures rises { IfSome result (λ p. last < p.0.number) }
 {
     let line = after_feed(bytes)?;
     if !starts_with_digit(line) {
         return None;
     }
     let (head, rest) = read_head(line)?;
-    let (names, rest) = read_names(texts, rest, before)?;
+    let (names, rest) = read_names(rest)?;
     let (args, rest) = arguments(rest)?;
-    if names.provider.as_bytes() == RESERVED || head.number <= before.number {
+    if names.provider.as_bytes() == RESERVED || head.number <= last {
         return None;
     }
+    let Names {
+        execname,
+        time,
+        provider,
+        probemod,
+        probefunc,
+        name,
+    } = names;
     let firing = Firing {
         number: head.number,
         cpu: head.cpu,
         thread: head.thread,
         pid: head.pid,
-        execname: names.execname,
-        time: names.time,
-        provider: names.provider,
-        probemod: names.probemod,
-        probefunc: names.probefunc,
-        name: names.name,
+        execname,
+        time,
+        provider,
+        probemod,
+        probefunc,
+        name,
         args,
     };
     Some((firing, rest))

@@ -8,7 +8,7 @@ use crate::writing::{WriteFault, emit};
 use std::alloc::Global;
 use std::test::Fail;
 
-// Writes to memory one byte a call. The contract has what a caller knows of it behind both wrappers.
+// Writes to memory one byte a call. The contract has what a caller knows of it after both wrappers.
 fn written(alloc: Global, bytes: &[u8], good_calls: u64) -> (Result<(), WriteFault>, Vec<u8>)
     ensures whole { OnOk result.0 (result.1.items ≡ bytes.now) }
     ensures beginning { OnErr result.0

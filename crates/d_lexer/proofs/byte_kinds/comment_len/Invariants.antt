@@ -1,5 +1,5 @@
 use Rattle.std.proofs.Common.{◌≡◌, ◌+◌, length}
-use Rattle.d_lexer.specs.Scan.{comment_from}
+use Rattle.d_lexer.specs.Steps.Scan.{comment_from}
 use Rattle.d_lexer.proofs.Steps.{longer}
 use Rattle.d_lexer.proofs.byte_kinds.comment_len.Given as goal
 

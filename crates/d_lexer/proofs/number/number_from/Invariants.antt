@@ -1,5 +1,5 @@
 use Rattle.std.proofs.Common.{◌≡◌, length}
-use Rattle.d_lexer.specs.Numbers.{number_from}
+use Rattle.d_lexer.specs.Steps.Numbers.{number_from}
 use Rattle.d_lexer.proofs.number.number_from.Given as goal
 
 abbrev pub invariant-loop-rest : goal.invariant-loop-rest

@@ -1,5 +1,5 @@
 use Rattle.std.proofs.Common.{◌≡◌, length}
-use Rattle.d_lexer.specs.OptionLine.{skip_spaces}
+use Rattle.d_lexer.specs.Steps.OptionLine.{skip_spaces}
 use Rattle.d_lexer.proofs.option_line.skip_spaces.Given as goal
 
 abbrev pub invariant-loop-rest : goal.invariant-loop-rest

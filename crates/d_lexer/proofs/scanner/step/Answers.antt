@@ -1,5 +1,5 @@
 use Rattle.std.proofs.Common.{sym, ap, refl, inr}
-use Rattle.d_lexer.specs.Lexing.{joined}
+use Rattle.d_lexer.specs.Steps.Lexing.{joined}
 use Rattle.d_lexer.proofs.Lexing.{gap_step, token_goes, fault_step}
 use Rattle.d_lexer.proofs.scanner.step.Goals as goal
 

@@ -1,5 +1,5 @@
 use Rattle.std.proofs.Common.{◌≡◌, ◌+◌, length, false}
-use Rattle.d_lexer.specs.Scan.{text_from}
+use Rattle.d_lexer.specs.Steps.Scan.{text_from}
 use Rattle.d_lexer.proofs.Steps.{behind_text}
 use Rattle.d_lexer.proofs.text_constant.text.Given as goal
 

@@ -1,27 +1,26 @@
-use Rattle.std.proofs.Common.{Result, Ok, Err, true, false, refl, ◌∙◌, arith, sym, length-append, ◌∷◌, [], ◌≡◌}
-use Rattle.std.proofs.lemmas.Bool.{cond-true, true≢false}
-use Rattle.std.specs.Prelude.{is_ok}
-use Rattle.std.specs.Result.{is_err}
+use Rattle.std.proofs.Common.{rules, refl, ◌∙◌, arith, sym, ◌≤◌, length, length-append, ◌++◌, ◌∷◌, [], ◌≡◌}
 use Rattle.firing_reader.proofs.PlainRows.{goes_none, goes_plain}
-use Rattle.firing_reader.proofs.Rows.{before_is}
+use Rattle.firing_reader.proofs.Rows.{last_push}
+use Rattle.firing_reader.proofs.PieceRows.{rows_push, rises_join}
+use Rattle.firing_reader.specs.Plain.{ReadsRows, Rises}
+use Rattle.firing_reader.specs.Trace.{last_number}
 use Rattle.firing_reader.proofs.plain.read_plain.Goals as goal
 
-ok_of : {A E : Type 0} (r : Result A E) → is_err r ≡ false → is_ok r ≡ true
-ok_of (Ok x) e = refl
-ok_of (Err x) e = absurd (true≢false e)
-
 pub loop-init : goal.loop-init
-loop-init c = record { feed = c.requires.feed; read = goes_none _ _ c.requires.empty; few = rw c.requires.empty (omega arith) }
+unfolding ReadsRows Rises
+loop-init c = record { feed = c.requires.feed; read = goes_none _ _ c.requires.empty; rows = rw c.requires.empty refl; rises = rw c.requires.empty refl; few = rw c.requires.empty (omega arith) }
 
 pub loop-preserved : goal.loop-preserved
+unfolding Rises
 loop-preserved c =
-    let found = rw c.deref.ensures.value at c.last.ensures.value in
-    let last = before_is c.loop.firings.items c.last.result _ _ found c.requires.none c.unwrap_or-before.ensures in
-    let pushed = c.push.ensures.items ∙ cond-true _ _ _ (ok_of c.push.result (sym c.if-is_err.ensures.value)) in
-    let row = rw last at c.in-Some.ensures in
-    let more = length-append c.loop.firings.items (c.in-Some.firing ∷ []) in
+    let pushed = c.in-Some-push.ensures in
+    let row = c.in-Some.ensures.row in
+    let rises = rw c.last_number.ensures at c.in-Some.ensures.rises in
+    let more = length-append c.loop.firings (c.in-Some.firing ∷ []) in
     record {
       feed = (row.after, row.is_rest);
-      read = rw pushed (goes_plain c.loop.firings.items c.in-Some.firing c.loop.rest.now c.in-Some.after.now c.args.bytes.now row (omega arith) c.loop.invariant.read);
+      read = rw pushed (goes_plain c.loop.firings c.in-Some.firing c.loop.rest.now c.in-Some.after.now c.args.bytes.now row rises (omega arith) c.loop.invariant.read);
+      rows = rw pushed (rows_push c.args.bytes.now c.loop.firings c.loop.rest.now c.in-Some.firing c.in-Some.after.now c.loop.invariant.rows row);
+      rises = rw (pushed, last_push c.loop.firings c.in-Some.firing) (rises_join 0 c.loop.firings (last_number c.loop.firings) (c.in-Some.firing ∷ []) c.in-Some.firing.number c.loop.invariant.rises (rises, refl));
       few = rw pushed (omega arith);
     }

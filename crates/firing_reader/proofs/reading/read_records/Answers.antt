@@ -18,4 +18,4 @@ returns-then-not-branch c =
 pub returns : goal.returns
 returns c =
     let taken = rw c.if-not-branch.false at c.in_ok-read.ensures.taken in
-    rw (has_header _ _ _ (sym c.new-records.ensures ∙ taken) (sym c.is_header.ensures ∙ c.if-not-is_header.false)) (rw (rows_after_none c.new-2.result.items c.read.new.self c.new-2.ensures.items) at c.read_rows.ensures)
+    rw (has_header _ _ _ (sym c.new-records.ensures ∙ taken) (sym c.is_header.ensures ∙ c.if-not-is_header.false)) (rw (rows_after_none _ c.read.new.self c.in_ok-new.ensures) at c.read_rows.ensures)

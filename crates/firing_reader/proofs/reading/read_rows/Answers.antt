@@ -3,35 +3,31 @@ use Rattle.std.proofs.lemmas.Result.{err_from_is_err_and}
 use Rattle.csv.specs.Records.{fields_of}
 use Rattle.firing_reader.specs.Plain.{rows_after}
 use Rattle.firing_reader.specs.Trace.{last_number}
-use Rattle.firing_reader.proofs.Rows.{before_is, goes_on, stops, ends, is_full, last_push}
+use Rattle.firing_reader.proofs.Rows.{goes_on, stops, ends, is_full, last_push}
 use Rattle.firing_reader.proofs.reading.read_rows.Goals as goal
 
 pub returns-then-not-branch : goal.returns-then-not-branch
 returns-then-not-branch c =
     let taken = rw c.if-not-branch.true at c.in_ok-read.ensures.taken in
-    ends c.loop-row.firings.items c.loop-row.row (last_number c.loop-row.firings.items) c.loop-row.records (rows_after c.args.before.items c.args.records.now) taken.0 c.loop-row.invariant
+    ends c.loop-row.firings c.loop-row.row (last_number c.loop-row.firings) c.loop-row.records (rows_after c.args.before c.args.records.now) taken.0 c.loop-row.invariant
 
 pub returns-in_err-firing : goal.returns-in_err-firing
 returns-in_err-firing c =
     let taken = rw c.if-not-branch.false at c.in_ok-read.ensures.taken in
-    let found = rw c.deref.ensures.value at c.last.ensures.value in
-    let last = before_is c.loop-row.firings.items c.last.result _ _ found c.requires.none c.unwrap_or-before.ensures in
     let p = err_from_is_err_and c.from_residual-in_err-firing.result c.from_residual-in_err-firing.ensures.1 in
-    rw (p.1, p.2) (stops c.loop-row.firings.items c.loop-row.row (last_number c.loop-row.firings.items) (fields_of c.read.new.fields) c.loop-row.records c.read.new.self c.in_err-firing.field-0.0 (rows_after c.args.before.items c.args.records.now) taken (rw last at c.in_err-firing.ensures) c.loop-row.invariant)
+    rw (p.1, p.2) (stops c.loop-row.firings c.loop-row.row (last_number c.loop-row.firings) (fields_of c.read.new.fields) c.loop-row.records c.read.new.self c.in_err-firing.field-0.0 (rows_after c.args.before c.args.records.now) taken (rw c.last_number.ensures at c.in_err-firing.ensures) c.loop-row.invariant)
 
 pub loop-row-preserved : goal.loop-row-preserved
 loop-row-preserved c =
     let taken = rw c.if-not-branch.false at c.in_ok-read.ensures.taken in
-    let found = rw c.deref.ensures.value at c.last.ensures.value in
-    let last = before_is c.loop-row.firings.items c.last.result _ _ found c.requires.none c.unwrap_or-before.ensures in
-    rw (c.in_ok-push.ensures.items, last_push c.loop-row.firings.items c.in_ok-firing.firing) (goes_on c.loop-row.firings.items c.loop-row.row (last_number c.loop-row.firings.items) (fields_of c.read.new.fields) c.loop-row.records c.read.new.self c.in_ok-firing.firing (rows_after c.args.before.items c.args.records.now) taken (rw last at c.in_ok-firing.ensures) c.loop-row.invariant)
+    rw (c.in-Some.ensures, last_push c.loop-row.firings c.in_ok-firing.firing) (goes_on c.loop-row.firings c.loop-row.row (last_number c.loop-row.firings) (fields_of c.read.new.fields) c.loop-row.records c.read.new.self c.in_ok-firing.firing (rows_after c.args.before c.args.records.now) taken (rw c.last_number.ensures at c.in_ok-firing.ensures) c.loop-row.invariant)
 
 pub returns-then-branch : goal.returns-then-branch
 returns-then-branch c =
     let taken = rw c.if-branch.true at c.in_ok-read-2.ensures.taken in
-    inr (is_full c.loop-row.firings.items c.loop-row.row (last_number c.loop-row.firings.items) (fields_of c.read-2.new.fields) c.loop-row.records c.read-2.new.self (rows_after c.args.before.items c.args.records.now) taken (omega arith) c.loop-row.invariant)
+    inr (is_full c.loop-row.firings c.loop-row.row (last_number c.loop-row.firings) (fields_of c.read-2.new.fields) c.loop-row.records c.read-2.new.self (rows_after c.args.before c.args.records.now) taken (omega arith) c.loop-row.invariant)
 
 pub returns : goal.returns
 returns c =
     let taken = rw c.if-branch.false at c.in_ok-read-2.ensures.taken in
-    ends c.loop-row.firings.items c.loop-row.row (last_number c.loop-row.firings.items) c.loop-row.records (rows_after c.args.before.items c.args.records.now) taken.0 c.loop-row.invariant
+    ends c.loop-row.firings c.loop-row.row (last_number c.loop-row.firings) c.loop-row.records (rows_after c.args.before c.args.records.now) taken.0 c.loop-row.invariant

@@ -5,5 +5,5 @@ use Rattle.firing_reader.proofs.reading.read_rows.Given as goal
 
 abbrev pub invariant-loop-row : goal.invariant-loop-row
 invariant-loop-row l =
-    with_front l.firings.items (rows_of l.row (last_number l.firings.items) l.records)
-    ≡ rows_after l.fn.before.items l.fn.records
+    with_front l.firings (rows_of l.row (last_number l.firings) l.records)
+    ≡ rows_after l.fn.before l.fn.records

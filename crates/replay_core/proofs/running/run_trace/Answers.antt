@@ -13,9 +13,9 @@ pub run_between-requires-clause-ranges : goal.run_between-requires-clause-ranges
 run_between-requires-clause-ranges g c =
     let is = c.firings.ensures.trace in
     let both = ends c.args.trace.now is in (
-      subst HasRanges (sym c.in_ok-begin.ensures) both.0,
+      subst HasRanges (sym c.begin-begin.ensures) both.0,
       subst (λ l. All HasRanges l) (sym c.firings.ensures.value) (λ k d lt. (is.firings k d lt).ranges),
-      subst HasRanges (sym c.in_ok-end.ensures) both.1,
+      subst HasRanges (sym c.end-end.ensures) both.1,
     )
 
 pub returns-clause-run : goal.returns-clause-run
@@ -23,8 +23,8 @@ returns-clause-run g c =
     let trace = c.args.trace.now in
     on_ok_weaker c.run_between.result (λ told m runs.
     subst (λ l. IsLaneOf m l (g.E.Engine.seen c.run_between.new.lane))
-    (ap (λ b. until_exit m (b ∷ c.firings.result.now) unassigned ++ c.in_ok-end.end ∷ []) c.in_ok-begin.ensures
-    ∙ ap (λ rows. until_exit m (begin_of trace ∷ rows) unassigned ++ c.in_ok-end.end ∷ []) c.firings.ensures.value
-    ∙ ap (λ e. until_exit m (begin_of trace ∷ trace) unassigned ++ e ∷ []) c.in_ok-end.ensures
+    (ap (λ b. until_exit m (b ∷ c.firings.result.now) unassigned ++ c.end-end.result ∷ []) c.begin-begin.ensures
+    ∙ ap (λ rows. until_exit m (begin_of trace ∷ rows) unassigned ++ c.end-end.result ∷ []) c.firings.ensures.value
+    ∙ ap (λ e. until_exit m (begin_of trace ∷ trace) unassigned ++ e ∷ []) c.end-end.ensures
     ∙ firings_are m trace c.firings.ensures.trace)
     (told m runs)) c.run_between.ensures.run

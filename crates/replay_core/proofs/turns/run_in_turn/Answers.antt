@@ -1,15 +1,13 @@
-use Rattle.std.specs.Prelude.{◌≡◌, ◌+◌, ◌*◌, ◌<◌, ◌≤◌, ◌∷◌, [], ℕ, length, ◌||◌, is_some, slice_get}
-use Rattle.std.proofs.Common.{refl, rules, arith, add-one, drop, get_or, subst, sym, ap, ◌∙◌}
+use Rattle.std.specs.Prelude.{◌≡◌, ◌+◌, ◌<◌, ◌≤◌, ◌∷◌, [], ℕ, length, ◌||◌, slice_get}
+use Rattle.std.proofs.Common.{rules, arith, add-one, drop, get_or, subst, sym, ap, ◌∙◌}
 use Rattle.std.proofs.Math.Seq.{drop-cons}
 use Rattle.std.proofs.lemmas.List.{drop_all}
-use Rattle.d_types.specs.Clauses.{contributions_in, exit_in, fault_line, made, ran}
+use Rattle.d_types.specs.Clauses.{run_of}
 use Rattle.d_types.specs.Storage.{variables}
 use Rattle.replay_core.specs.Seen.{piece_seen}
 use Rattle.replay_core.specs.Turns.{run_at}
-use Rattle.replay_core.proofs.EffectLemmas.{or_known, or_open}
-use Rattle.replay_core.proofs.Turning.{Continues, continues_more, continues_all, exits_all, zip_at}
+use Rattle.replay_core.proofs.Turning.{Continues, continues_more, continues_all, zip_at}
 use Rattle.replay_core.proofs.turns.run_in_turn.Goals as goal
-use Rattle.replay_core.proofs.turns.run_in_turn.Goals.{then-exits, else-exits}
 
 pub loop-place-preserved : goal.loop-place-preserved
 loop-place-preserved g c =
@@ -25,26 +23,21 @@ loop-place-preserved g c =
     let after = variables c.run.new.locals c.run.new.own in
     let most = c.requires.few place clause inside in
     let most_here : g.C.Clause.most clause ≤ 65536 = subst (λ x. g.C.Clause.most x ≤ 65536) (sym c.index-clauses-place.is) most in
-    let few = c.in_ok-ran.ensures.few in
-    let held = c.in_ok-exited.ensures.held in
+    let held = c.run.ensures.held in
     let before_held = c.loop-place.invariant.held in
     record {
-      functions = c.note.ensures.functions ∙ c.loop-place.invariant.functions;
-      taken = c.note.ensures.taken ∙ c.loop-place.invariant.taken;
-      held = omega (arith, most_here, few, held, before_held);
+      functions = c.run.ensures.functions ∙ c.loop-place.invariant.functions;
+      taken = c.run.ensures.taken ∙ c.loop-place.invariant.taken;
+      held = omega (arith, most_here, held, before_held);
       turns = λ cs zip.
           let at = zip_at g.C.Clause.means c.args.clauses.now cs place clause zip inside in
           let meant = subst (λ x. g.C.Clause.means x at.0) (sym c.index-clauses-place.is) at.2 in
-          let run = made (fault_line f.number (place + 1)) (ran c.in_ok-ran.ran.effects.items c.in_ok-ran.ran.faulted after) in
-          let is : run_at f place (slice_get cs place) now ≡ run = ap (λ o. run_at f place o now) at.1 ∙ c.in_ok-ran.ensures.meaning at.0 (place + 1) meant in
+          let ran = c.in_ok-exited.ensures.run at.0 meant in
+          let run = run_of f (place + 1) at.0 now in
+          let is : run_at f place (slice_get cs place) now ≡ run = ap (λ o. run_at f place o now) at.1 in
           let so_far = subst (λ l. Continues f cs all l before now (piece_seen c.args.piece.now) (piece_seen c.loop-place.piece) c.loop-place.exits) cut (c.loop-place.invariant.turns cs zip) in
-          let told = c.in_ok-exited.ensures.exits in
-          let more_is : c.if-exits.exits ≡ (c.loop-place.exits || is_some (exit_in c.in_ok-ran.ran.effects.items)) = elim c.if-exits.branch [
-            | then-exits w ↦ w.exits-is ∙ or_known _ _ w.if-exits.true
-            | else-exits w ↦ w.exits-is ∙ or_open _ _ _ w.if-exits.false told
-          ] in
-          continues_more f cs all (drop (i + 1) all) place before now after (piece_seen c.args.piece.now) (piece_seen c.loop-place.piece) (piece_seen c.note.new.self)
-          c.loop-place.exits c.if-exits.exits run so_far is refl (c.in_ok-exited.ensures.notes after) more_is;
+          continues_more f cs all (drop (i + 1) all) place before now after (piece_seen c.args.piece.now) (piece_seen c.loop-place.piece) (piece_seen c.run.new.piece)
+          c.loop-place.exits _ run so_far is (sym ran.variables) ran.notes (ap (λ b. c.loop-place.exits || b) ran.exited);
     }
 
 pub returns-clause-notes : goal.returns-clause-notes

@@ -1,4 +1,4 @@
-use Rattle.std.proofs.Common.{◌≡◌, ◌+◌, OnOk, rules, sym, subst, ap, ◌∙◌}
+use Rattle.std.proofs.Common.{◌≡◌, ◌+◌, OnOk, Some, None, rules, sym, subst, ap, ◌∙◌}
 use Rattle.std.specs.Prelude.{◌+ℤ◌, FitsSigned}
 use Rattle.std.specs.Int.{int_wrap, int_min, int_max}
 use mir.Syntax.{w64}
@@ -6,10 +6,11 @@ use Rattle.std.proofs.lemmas.Int.{wrapping_add_is, to_z-of_z}
 use Rattle.std.proofs.lemmas.Result.{on_ok_weaker}
 use Rattle.aggregations.specs.declared.held.Held.TheVariants.{Counted, Summed, Least, Greatest, Mean, Counts}
 use Rattle.aggregations.specs.Values.{IsValue, TakesBoth}
+use Rattle.aggregations.specs.Figures.{figure_of, histogram_in}
 use Rattle.aggregations.specs.Held.{count_of, number_of}
-use Rattle.aggregations.proofs.ValueLemmas.{both_as, counted_joined, summed_joined, smaller_joined, greater_joined, mean_joined, counts_joined, only_counts}
+use Rattle.aggregations.proofs.ValueLemmas.{both_as, counted_joined, summed_joined, smaller_joined, greater_joined, mean_joined, counts_joined, only_counts, held_histogram, no_histogram}
 use Rattle.aggregations.proofs.partial.Partial.join.Goals as goal
-use Rattle.aggregations.proofs.partial.Partial.join.Goals.{in-Counted, in-Summed, in-Least, in-Greatest, in-Mean, in-Counts+in-Counts-other, in-Counts+in_default}
+use Rattle.aggregations.proofs.partial.Partial.join.Goals.{in-Counted, in-Summed, in-Least, in-Greatest, in-Mean, in-Counts+in-Some, in-Counts+in-None}
 
 pub returns-clause-value : goal.returns-clause-value
 returns-clause-value c =
@@ -67,16 +68,18 @@ returns-clause-value c =
           ∙ ap (λ z. Mean (record { sum = z; count = n + w.count-in-Mean.result })) (wrapping_add_is w64 s w.number-in-Mean.result fits fits_more ∙ ap (λ z. int_wrap w64 (s +ℤ z)) more)
           ∙ ap (λ k. Mean (record { sum = int_wrap w64 (s +ℤ number_of other); count = n + k })) many)
           (λ f xs ys a b. mean_joined f s n other xs ys a b))
-      | in-Counts+in-Counts-other w ↦
+      | in-Counts+in-Some w ↦
           let h = w.in-Counts.histogram in
-          let more = w.in-Counts-other.more in
-          let is : other ≡ Counts more = search rules in
+          let more = w.in-Some.more.now in
+          let held : histogram_in (figure_of other) ≡ Some more = search rules in
+          let is : other ≡ Counts more = held_histogram other more held in
           subst (λ r. OnOk r (TakesBoth old other new)) (sym w.result-is)
           (on_ok_weaker w.join.result (λ step. both_as old other new (Counts h) (Counts w.join.new.self) (sym c.self.view_is ∙ w.in-Counts.is)
           (ap (λ p. p.held) w.self-inside-is) (λ f xs ys a b. counts_joined f h more w.join.new.self xs ys step a (subst (λ p. IsValue f p ys) is b))) w.join.ensures.value)
-      | in-Counts+in_default w ↦
+      | in-Counts+in-None w ↦
           let h = w.in-Counts.histogram in
+          let none : histogram_in (figure_of other) ≡ None = search rules in
           subst (λ r. OnOk r (TakesBoth old other new)) (sym w.result-is)
           (both_as old other new (Counts h) (Counts h) (sym c.self.view_is ∙ w.in-Counts.is) (ap (λ p. p.held) w.self-inside-is)
-          (λ f xs ys a b. absurd (only_counts f h other xs ys (λ x e. w.in_default.not-Counts x (c.other.view_is ∙ e)) a b)))
+          (λ f xs ys a b. absurd (only_counts f h other xs ys (no_histogram other none) a b)))
     ]

@@ -1,8 +1,8 @@
-use Rattle.std.proofs.Common.{rules}
+use Rattle.std.proofs.Common.{rules, refl, []}
+use Rattle.std.proofs.lemmas.List.Elements.{All-nil}
+use Rattle.firing_reader.specs.Plain.{JoinsField}
 use Rattle.firing_reader.proofs.PlainRows.{passes_one}
 use Rattle.firing_reader.proofs.plain.field.next_argument.Goals as goal
 
-pub returns : goal.returns
-returns c =
-    let (field, fronts, read) = c.in_ok-value.ensures in
-    (field, passes_one c.args.bytes.now field c.in_ok-after_comma.field-0.now (rw c.in_ok-after_comma.ensures at fronts), search (rules, read))
+pub returns-in-Some : goal.returns-in-Some
+returns-in-Some c = ([], passes_one c.args.bytes.now [] c.in-Some.rest.now (record { split = c.in-Some.ensures; plain = All-nil JoinsField }), refl)

@@ -8,8 +8,8 @@ use Rattle.firing_reader.proofs.PlainRows.{closes_more, row_read}
 use Rattle.firing_reader.proofs.PlainFirings.{firing_ok, fields}
 use Rattle.firing_reader.proofs.plain.row.row.Goals as goal
 
-pub returns : goal.returns
-returns c =
+pub returns-clause-row : goal.returns-clause-row
+returns-clause-row c =
     let f : Firing = record { number = c.in_ok-head.head.number; cpu = c.in_ok-head.head.cpu; thread = c.in_ok-head.head.thread; pid = c.in_ok-head.head.pid; execname = c.in_ok-names.names.execname; time = c.in_ok-names.names.time; provider = c.in_ok-names.names.provider; probemod = c.in_ok-names.names.probemod; probefunc = c.in_ok-names.names.probefunc; name = c.in_ok-names.names.name; args = c.in_ok-args.args } in
     let h = c.in_ok-head.ensures in
     let n = c.in_ok-names.ensures in
@@ -19,12 +19,11 @@ returns c =
     let (first, more, starts, joins) = c.starts_with_digit.ensures (search rules) in
     let (after, is_rest, read) = row_read c.args.bytes.now c.in_ok-line.line.now c.in_ok-args.rest.now _ first more c.in_ok-line.ensures starts joins line in
     let free : bytes_eq c.in_ok-names.names.provider (codes "dtrace") ≡ false = search rules in
-    let rises : c.args.before.now.number < c.in_ok-head.head.number = omega arith in
-    let done : ReadsRow c.args.bytes.now c.in_ok-args.rest.now c.args.before.now.number f = record {
+    let done : ReadsRow c.args.bytes.now c.in_ok-args.rest.now f = record {
       fields = fields f h n a;
       after = after;
       is_rest = is_rest;
       read = read;
-      firing = λ row few. firing_ok f h n a c.args.before.now.number row few free rises;
+      firing = firing_ok f h n a free;
     } in
     rw (to_z-of_z w32 c.in_ok-head.head.cpu (search rules), to_z-of_z w32 c.in_ok-head.head.thread (search rules), to_z-of_z w32 c.in_ok-head.head.pid (search rules)) done

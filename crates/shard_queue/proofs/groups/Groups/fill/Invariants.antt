@@ -5,10 +5,10 @@ use Rattle.shard_queue.specs.Groupings.{is_group}
 use Rattle.shard_queue.specs.Groups.{grouping, places, places_from}
 use Rattle.shard_queue.proofs.groups.Groups.fill.Given as goal
 
-abbrev pub invariant-loop-firing : goal.invariant-loop-firing
-invariant-loop-firing l = record {
-  place : l.place ≡ l.firing-index + 1;
+abbrev pub invariant-loop-at : goal.invariant-loop-at
+invariant-loop-at l = record {
+  place : l.place ≡ l.at + 1;
   stays : grouping l.self ≡ grouping l.fn.self;
-  places : (g : ℕ) → places l.self g ++ places_from (λ t. is_group g ((grouping l.fn.self).group t)) l.place (map thread_of (drop l.firing-index l.fn.firings) ++ thread_zero ∷ [])
+  places : (g : ℕ) → places l.self g ++ places_from (λ t. is_group g ((grouping l.fn.self).group t)) l.place (map thread_of (drop l.at l.fn.firings) ++ thread_zero ∷ [])
       ≡ places_from (λ t. is_group g ((grouping l.fn.self).group t)) 0 (run_threads l.fn.firings);
 }

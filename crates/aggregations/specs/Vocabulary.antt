@@ -1,0 +1,6 @@
+-- The words of the definitions, from one place: those of crates below, and of the functions.
+pub use Rattle.d_values.specs.{declared.key.KeyPart.KeyPart, Keys.same_key}
+pub use Rattle.aggregations.specs.declared.linear_range.LinearRange.{LinearRange}
+pub use Rattle.aggregations.specs.declared.function.AggFn.{AggFn}
+pub use Rattle.aggregations.specs.declared.function.AggFn.TheVariants.{Count, Sum, Min, Max, Avg}
+pub use Rattle.aggregations.specs.declared.function.AggFn.TheVariants.{Quantize, Lquantize}

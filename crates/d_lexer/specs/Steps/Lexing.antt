@@ -1,0 +1,32 @@
+-- What the functions of the scanner return, by the tokens from left to right.
+use Rattle.std.specs.Prelude.{◌≡◌, ℕ, ◌⊎◌, List, ◌++◌, Result, Ok, Err}
+use Rattle.d_lexer.specs.declared.{token.Token.Token, place.Place.Place}
+use Rattle.d_lexer.specs.declared.fault.LexFault.{LexFault}
+use Rattle.d_lexer.specs.declared.fault.LexFault.TheVariants as faults
+use Rattle.d_lexer.specs.{Tokens.End, Tokens.Clean, Tokens.Bad, Lexing.settle}
+use Rattle.d_lexer.specs.Steps.Scan.{Scanned}
+
+-- the fault at which the reading ends, unless memory was refused
+abbrev pub Stops : LexFault → End → Type 0
+Stops fault end = (fault ≡ faults.Memory) ⊎ (end ≡ Bad fault)
+
+-- what was read so far, and what comes
+abbrev pub joined : List Token → Scanned → Scanned
+joined ts s = (ts ++ s.0, s.1)
+
+-- what one step does: the tokens before it and after it, the result, and what the bytes had and
+-- have
+abbrev pub Steps : (old new : List Token) → Result (Place × ℕ) LexFault → Scanned
+    → (ℕ → Place → Scanned) → Type 0
+Steps old new (Ok r) s go = joined new (go r.1 r.0) ≡ joined old s
+Steps old new (Err e) s go = Stops e s.1
+
+-- all the bytes read, or a stop
+abbrev pub Answers : {X : Type 0} → (X → List Token) → Result X LexFault → Scanned → Type 0
+Answers view (Ok ts) s = s ≡ (view ts, Clean)
+Answers view (Err e) s = Stops e s.1
+
+-- the same with the slashes settled
+abbrev pub Lexed : {X : Type 0} → (X → List Token) → Result X LexFault → Scanned → Type 0
+Lexed view (Ok x) s = (settle s.0 ≡ view x) × (s.1 ≡ Clean)
+Lexed view (Err e) s = Stops e s.1

@@ -1,0 +1,120 @@
+-- Rows that are read piece by piece.
+use Rattle.std.proofs.Common.{◌≡◌, ◌<◌, ◌≤◌, ◌+◌, ◌-◌, ℕ, zero, suc, take, List, [], ◌∷◌, ◌++◌, length, length-append, Option, Some, None, Ok, refl, sym, ap, ◌∙◌, append_assoc, arith}
+use Rattle.std.specs.Prelude.{IfSome, slice_get}
+use Rattle.std.specs.Option.{option_map_or}
+use Rattle.std.proofs.lemmas.List.{append-nil}
+use Rattle.csv.specs.Machine.{next_record}
+use Rattle.csv.specs.Reading.{default_config}
+use Rattle.csv.specs.declared.parser.State.TheVariants as st
+use Rattle.firing_reader.specs.declared.firing.Firing.{Firing}
+use Rattle.firing_reader.specs.Left.{left_in}
+use Rattle.firing_reader.specs.Firings.{number_of}
+use Rattle.firing_reader.specs.Plain.{IsPiece, ReadsRow, ReadsRows, Rises, rows_in}
+use Rattle.firing_reader.specs.Trace.{last_number, next_of, rows_of}
+use Rattle.firing_reader.proofs.Left.{left_more, left_none}
+use Rattle.firing_reader.proofs.PlainRows.{skip_feed}
+
+row_tail : (a b t : List ℕ) (f : Firing) → ReadsRow a b f → ReadsRow (a ++ t) (b ++ t) f
+row_tail a b t f h = record {
+  fields = h.fields;
+  after = h.after ++ t;
+  is_rest = ap (λ (l : List ℕ). l ++ t) h.is_rest;
+  read = λ tail. rw (append_assoc a t tail, append_assoc h.after t tail) (h.read (t ++ tail));
+  firing = h.firing;
+}
+
+-- what comes after the rows changes none of them
+pub rows_tail : (a : List ℕ) (fs : List Firing) (b t : List ℕ) → ReadsRows a fs b → ReadsRows (a ++ t) fs (b ++ t)
+unfolding ReadsRows
+rows_tail a [] b t h = ap (λ (l : List ℕ). l ++ t) h
+rows_tail a (f ∷ fs) b t (mid, row, more) = (mid ++ t, row_tail a mid t f row, rows_tail mid fs b t more)
+
+pub rows_join : (a : List ℕ) (fs : List Firing) (b : List ℕ) (gs : List Firing) (c : List ℕ) → ReadsRows a fs b → ReadsRows b gs c → ReadsRows a (fs ++ gs) c
+unfolding ReadsRows
+rows_join a [] b gs c h k = rw h k
+rows_join a (f ∷ fs) b gs c (mid, row, more) k = (mid, row, rows_join mid fs b gs c more k)
+
+pub rows_push : (a : List ℕ) (fs : List Firing) (b : List ℕ) (f : Firing) (c : List ℕ) → ReadsRows a fs b → ReadsRow b c f → ReadsRows a (fs ++ f ∷ []) c
+unfolding ReadsRows
+rows_push a fs b f c h row = rows_join a fs b (f ∷ []) c h (c, row, refl)
+
+pub rises_join : (last : ℕ) (fs : List Firing) (mid : ℕ) (gs : List Firing) (end : ℕ) → Rises last fs mid → Rises mid gs end → Rises last (fs ++ gs) end
+unfolding Rises
+rises_join last [] mid gs end h k = rw h k
+rises_join last (f ∷ fs) mid gs end (first, more) k = (first, rises_join f.number fs mid gs end more k)
+
+-- two pieces of bytes that share the line feed between them, read apart
+pub pieces : (a : List ℕ) (fs : List Firing) (b : List ℕ) (gs : List Firing) (c : List ℕ) → ReadsRows a fs (10 ∷ []) → ReadsRows (10 ∷ b) gs c → ReadsRows (a ++ b) (fs ++ gs) c
+pieces a fs b gs c h k = rows_join (a ++ b) fs (10 ∷ b) gs c (rows_tail a fs (10 ∷ []) b h) k
+
+only_feed : next_record default_config st.StartRecord [] [] (10 ∷ []) ≡ None
+unfolding next_record
+only_feed = refl
+
+rises_from : (last : ℕ) (f : Firing) (fs : List Firing) (end : ℕ) → last < f.number → Rises 0 (f ∷ fs) end → Rises last (f ∷ fs) end
+unfolding Rises
+rises_from last f fs end first (any, more) = (first, more)
+
+-- bytes that are nothing but rows whose numbers rise read as their firings
+pub rows_all : (bytes : List ℕ) (fs : List Firing) (row last end : ℕ) → ReadsRows bytes fs (10 ∷ []) → Rises last fs end → row + length fs ≤ 1_000_001
+    → rows_of row last (left_in st.StartRecord (Some bytes)) ≡ Ok fs
+unfolding ReadsRows Rises rows_of
+rows_all bytes [] row last end is rises few = rw (is, left_none st.StartRecord (10 ∷ []) only_feed) refl
+rows_all bytes (f ∷ fs) row last end (mid, h, more) (first, rises) few =
+    let read : next_record default_config st.StartRecord [] [] bytes ≡ Some (h.fields, st.StartRecord, h.after) = rw (append-nil bytes, append-nil h.after) at (h.read []) in
+    let left = (left_more st.StartRecord bytes (h.fields, st.StartRecord, h.after) refl read).0 in
+    let after : left_in st.StartRecord (Some h.after) ≡ left_in st.StartRecord (Some mid) = sym (skip_feed h.after) ∙ ap (λ (l : List ℕ). left_in st.StartRecord (Some l)) (sym h.is_rest) in
+    rw (left, h.firing row last (omega arith) first, after, rows_all mid fs (row + 1) f.number end more rises (omega arith)) refl
+
+-- what is one byte and begins at a line feed is the line feed
+pub one_feed : (rest after : List ℕ) → rest ≡ 10 ∷ after → length rest ≡ 1 → rest ≡ 10 ∷ []
+one_feed rest [] is one = is
+one_feed rest (b ∷ more) is one = absurd (omega (arith, ap length is, one))
+
+-- a piece that is the whole
+pub whole_piece : (after : List ℕ) (fs : List Firing) → IsPiece (10 ∷ after) fs → length fs ≤ 1_000_000 → rows_in (10 ∷ after) ≡ Ok fs
+whole_piece after fs is few = rows_all (10 ∷ after) fs 1 0 (last_number fs) is.rows is.rises (omega arith)
+
+-- two pieces that share a line feed are one
+pub piece_join : (bytes left right after : List ℕ) (fs gs : List Firing) → right ≡ 10 ∷ after → bytes ≡ left ++ after → IsPiece left fs → IsPiece right gs
+    → Rises (last_number fs) gs (last_number (fs ++ gs)) → IsPiece bytes (fs ++ gs)
+piece_join bytes left right after fs gs is split h k goes = record {
+  rows = rw split (pieces left fs after gs (10 ∷ []) h.rows (rw is at k.rows));
+  rises = rises_join 0 fs (last_number fs) gs (last_number (fs ++ gs)) h.rises goes;
+}
+
+-- the same of firings that may not have been put together
+pub joined_piece : (bytes left right after : List ℕ) (fs gs : List Firing) (o : Option (List Firing)) → right ≡ 10 ∷ after → bytes ≡ left ++ after → IsPiece left fs → IsPiece right gs
+    → Rises (last_number fs) gs (last_number (fs ++ gs)) → IfSome o (λ all. all ≡ fs ++ gs) → IfSome o (λ all. IsPiece bytes all)
+joined_piece bytes left right after fs gs None is split h k goes joined = joined
+joined_piece bytes left right after fs gs (Some all) is split h k goes joined = rw joined (piece_join bytes left right after fs gs is split h k goes)
+
+pub take_more : (fs : List Firing) (i : ℕ) (f : Firing) → slice_get fs i ≡ Some f → take (suc i) fs ≡ take i fs ++ f ∷ []
+take_more [] i f is = absurd cc
+take_more (g ∷ gs) zero f is = let same : f ≡ g = cc in rw same refl
+take_more (g ∷ gs) (suc i) f is = ap (λ (l : List Firing). g ∷ l) (take_more gs i f is)
+
+-- ---- numbers from one piece to the next
+
+at_end : {X : Type 0} (xs ys : List X) (k n : ℕ) → k ≡ length xs + n → slice_get (xs ++ ys) k ≡ slice_get ys n
+at_end [] ys k n is = ap (λ (i : ℕ). slice_get ys i) (omega (arith, is))
+at_end (x ∷ xs) ys zero n is = absurd (omega (arith, is))
+at_end (x ∷ xs) ys (suc k) n is = at_end xs ys k n (omega (arith, is))
+
+last_more : (fs gs : List Firing) (g : Firing) → last_number (fs ++ g ∷ gs) ≡ last_number (g ∷ gs)
+last_more fs gs g =
+    let size = length-append fs (g ∷ gs) in
+    ap (λ (o : Option Firing). option_map_or number_of o 0) (at_end fs (g ∷ gs) (length (fs ++ g ∷ gs) - 1) (length (g ∷ gs) - 1) (omega (arith, size)))
+
+pub follows_none : (fs gs : List Firing) → length gs ≡ 0 → Rises (last_number fs) gs (last_number (fs ++ gs))
+unfolding Rises
+follows_none fs [] none = ap last_number (sym (append-nil fs))
+follows_none fs (g ∷ gs) none = absurd (omega (arith, none))
+
+-- numbers that rise from the start rise from any number below that of the first firing
+pub follows_first : (fs gs : List Firing) (first : Firing) → slice_get gs 0 ≡ Some first → last_number fs < first.number → Rises 0 gs (last_number gs)
+    → Rises (last_number fs) gs (last_number (fs ++ gs))
+follows_first fs [] first is lt h = absurd cc
+follows_first fs (g ∷ gs) first is lt h =
+    let same : first ≡ g = cc in
+    rw (last_more fs gs g) (rises_from (last_number fs) g gs (last_number (g ∷ gs)) (rw same at lt) h)

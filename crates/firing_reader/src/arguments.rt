@@ -1,0 +1,61 @@
+//! Arguments as they are stored: without the zeros at the end.
+
+ghost use Rattle.std.specs.Prelude.{◌≡◌, ◌≤◌, ◌+◌, ℕ, pos, IfSome, get_or, length, take, drop};
+ghost use Rattle.firing_reader.specs.Stored.{Extends, ten};
+
+/// Keeps the arguments up to the last that isn't 0: where they begin among all, and how many there are.
+pub(crate) fn keep_arguments(all: &mut Vec<i64>, args: &[i64; 10]) -> Option<(u32, u32)>
+    ensures grows { Extends all.old.items all.new.items }
+    ensures inside { IfSome result (λ p. p.0 + p.1 ≤ length all.new.items) }
+    ensures args { IfSome result (λ p. ten (take p.1 (drop p.0 all.new.items)) ≡ args.now) }
+{
+    let begin = u32::try_from(all.len()).ok()?;
+    let given = given(args);
+    all.extend_from_slice(&args[..given]).ok()?;
+    Some((begin, given as u32))
+}
+
+// How many arguments come before the zeros at the end.
+fn given(args: &[i64; 10]) -> usize
+    ensures few { result ≤ 10 }
+    ensures args { ten (take result args.now) ≡ args.now }
+{
+    given_of(args.as_slice())
+}
+
+// How many numbers come before the zeros at the end.
+fn given_of(args: &[i64]) -> usize
+    ensures few { result ≤ length args.now }
+    ensures zeros { (i : ℕ) → get_or (take result args.now) i (pos 0) ≡ get_or args.now i (pos 0) }
+{
+    match args {
+        [] => 0,
+        [before @ .., 0] => given_of(before),
+        _ => args.len(),
+    }
+}
+
+// One of them, or 0.
+fn one_of(given: &[i64], n: usize) -> i64
+    ensures { result ≡ get_or given.now n (pos 0) }
+{
+    *given.get(n).unwrap_or(&0)
+}
+
+/// Ten arguments: the given ones, and zeros after them.
+pub(crate) fn all_ten(given: &[i64]) -> [i64; 10]
+    ensures { result ≡ ten given.now }
+{
+    [
+        one_of(given, 0),
+        one_of(given, 1),
+        one_of(given, 2),
+        one_of(given, 3),
+        one_of(given, 4),
+        one_of(given, 5),
+        one_of(given, 6),
+        one_of(given, 7),
+        one_of(given, 8),
+        one_of(given, 9),
+    ]
+}

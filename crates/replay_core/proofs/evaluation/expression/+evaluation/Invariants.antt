@@ -1,0 +1,73 @@
+use Rattle.std.proofs.Common.{◌≡◌, ◌+◌, ◌*◌, ◌++◌, drop, take, length}
+use Rattle.d_types.specs.Typed.{typed_of, typeds_of}
+use Rattle.d_types.specs.Storage.{variables}
+use Rattle.d_types.specs.Expressions.{Has, with, keys_of}
+use Rattle.replay_core.proofs.Weights.{weight, weights}
+use Rattle.replay_core.proofs.evaluation.expression.+evaluation.Given as goal
+
+abbrev pub invariant-evaluate_key-loop-place : goal.invariant-evaluate_key-loop-place
+invariant-evaluate_key-loop-place l = record {
+  length : length l.key ≡ length l.keys;
+  parts : with (keys_of l.firing (typeds_of (drop l.place l.keys)) (variables l.locals l.own)) (λ key. Has (take l.place l.key ++ key))
+      ≡ keys_of l.firing (typeds_of l.keys) (variables l.fn.locals l.fn.own);
+}
+
+abbrev pub decreases-and : goal.decreases-and
+decreases-and l = 5 * (weight (typed_of l.a.now) + weight (typed_of l.b.now)) + 3
+
+abbrev pub decreases-assign : goal.decreases-assign
+decreases-assign l = 5 * (weights (typeds_of l.keys.now) + weight (typed_of l.right.now)) + 4
+
+abbrev pub decreases-assign_word : goal.decreases-assign_word
+decreases-assign_word l = 5 * (weights (typeds_of l.keys.now) + weight (typed_of l.a.now)) + 4
+
+abbrev pub decreases-choose : goal.decreases-choose
+decreases-choose l = 5 * (weight (typed_of l.test.now) + weight (typed_of l.first.now) + weight (typed_of l.second.now)) + 3
+
+abbrev pub decreases-choose_word : goal.decreases-choose_word
+decreases-choose_word l = 5 * (weight (typed_of l.test.now) + weight (typed_of l.first.now) + weight (typed_of l.second.now)) + 3
+
+abbrev pub decreases-compare_texts : goal.decreases-compare_texts
+decreases-compare_texts l = 5 * (weight (typed_of l.a.now) + weight (typed_of l.b.now)) + 3
+
+abbrev pub decreases-compare_words : goal.decreases-compare_words
+decreases-compare_words l = 5 * (weight (typed_of l.a.now) + weight (typed_of l.b.now)) + 3
+
+abbrev pub decreases-evaluate : goal.decreases-evaluate
+decreases-evaluate l = 5 * weight (typed_of l.e.now) + 1
+
+abbrev pub decreases-evaluate_key : goal.decreases-evaluate_key
+decreases-evaluate_key l = 5 * weights (typeds_of l.keys.now) + 3
+
+abbrev pub decreases-evaluate_text : goal.decreases-evaluate_text
+decreases-evaluate_text l = 5 * weight (typed_of l.e.now) + 2
+
+abbrev pub decreases-evaluate_word : goal.decreases-evaluate_word
+decreases-evaluate_word l = 5 * weight (typed_of l.e.now)
+
+abbrev pub decreases-join : goal.decreases-join
+decreases-join l = 5 * (weight (typed_of l.a.now) + weight (typed_of l.b.now)) + 3
+
+abbrev pub decreases-operate : goal.decreases-operate
+decreases-operate l = 5 * (weight (typed_of l.a.now) + weight (typed_of l.b.now)) + 3
+
+abbrev pub decreases-or : goal.decreases-or
+decreases-or l = 5 * (weight (typed_of l.a.now) + weight (typed_of l.b.now)) + 3
+
+abbrev pub decreases-read : goal.decreases-read
+decreases-read l = 5 * weights (typeds_of l.keys.now) + 4
+
+abbrev pub decreases-read_word : goal.decreases-read_word
+decreases-read_word l = 5 * weights (typeds_of l.keys.now) + 4
+
+abbrev pub decreases-step : goal.decreases-step
+decreases-step l = 5 * weights (typeds_of l.keys.now) + 4
+
+abbrev pub decreases-update : goal.decreases-update
+decreases-update l = 5 * (weights (typeds_of l.keys.now) + weight (typed_of l.a.now)) + 4
+
+abbrev pub decreases-xor : goal.decreases-xor
+decreases-xor l = 5 * (weight (typed_of l.a.now) + weight (typed_of l.b.now)) + 3
+
+abbrev pub decreases-evaluate_part : goal.decreases-evaluate_part
+decreases-evaluate_part l = 5 * weight (typed_of l.e.now) + 2

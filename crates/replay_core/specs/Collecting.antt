@@ -1,0 +1,42 @@
+-- What a whole has of the pieces of all groups.
+use Rattle.std.specs.Prelude.{◌≡◌, ◌≢◌, ℕ, ◌<◌, List, [], ◌∷◌, None, Some, All, Contains, map, length}
+use Rattle.std.specs.List.{flat_map}
+use Rattle.std.specs.List.Sorted.{IsPermutation}
+use Rattle.replay_core.specs.declared.piece.Piece.{Piece}
+use Rattle.replay_core.specs.declared.whole.Whole.{Whole}
+use Rattle.replay_core.specs.declared.collect_fault.CollectFault.{CollectFault}
+use Rattle.replay_core.specs.declared.collect_fault.CollectFault.TheVariants.{Missing, Memory}
+use Rattle.replay_core.specs.PiecePlaces.{first_bad, numbered}
+use Rattle.replay_core.specs.Tables.{Table, Serve}
+use Rattle.replay_core.specs.Uniting.{IsSorted, first_exit}
+
+-- the whole has the texts of these pieces, sorted by number, one table in place of theirs, the numbers
+-- of each piece, and the first exit
+pub record IsMadeOf (pieces : List Piece) (w : Whole) : Type 0 where
+  pub texts : IsSorted (flat_map (λ p. p.texts.items) pieces) w.texts.items
+  pub table : Serve (w.table ∷ []) (map (λ p. p.table) pieces)
+  pub ran : map (λ v. v.items) w.ran.items ≡ map (λ p. p.taken.items) pieces
+  pub exit : w.exit ≡ first_exit (map (λ p. p.exit) pieces)
+
+-- the pieces are one of each of n groups, in any order, and the whole is made of them, group by group
+pub record IsCollected (n : ℕ) (pieces : List (ℕ × Piece)) (w : Whole) : Type 0 where
+  pub sorted : List Piece
+  pub count : length sorted ≡ n
+  pub same : IsPermutation pieces (numbered 0 sorted)
+  pub whole : IsMadeOf sorted w
+
+-- the tables of pieces
+abbrev pub tables_of : List (ℕ × Piece) → List Table
+tables_of pieces = map (λ p. p.1.table) pieces
+
+-- the least group that has no piece
+pub record IsFirstMissing (n g : ℕ) (pieces : List (ℕ × Piece)) : Type 0 where
+  pub below : g < n
+  pub none : All (λ p. p.0 ≢ g) pieces
+  pub others : (less : ℕ) → less < g → (p : Piece) × Contains pieces (less, p)
+
+-- why the pieces are not one of each of n groups
+abbrev pub IsCollectFault : ℕ → List (ℕ × Piece) → CollectFault → Type 0
+IsCollectFault n pieces Memory = Unit {0}
+IsCollectFault n pieces (Missing g) = (first_bad n pieces ≡ None) × IsFirstMissing n g pieces
+IsCollectFault n pieces fault = first_bad n pieces ≡ Some fault

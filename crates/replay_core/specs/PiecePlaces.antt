@@ -1,0 +1,41 @@
+-- Which fault a list of pieces has, and where the pieces of a list without one stand.
+use Rattle.std.specs.Prelude.{◌≡◌, ℕ, ◌==◌, ◌+◌, Bool, true, false, List, [], ◌∷◌, Option, None, Some, if◌then◌else◌, nat_lt, is_some, slice_index_or}
+use Rattle.replay_core.specs.declared.collect_fault.CollectFault.{CollectFault}
+use Rattle.replay_core.specs.declared.collect_fault.CollectFault.TheVariants.{Twice, Stranger, Missing, Memory}
+
+module _ {P : Type 0} where
+  -- the first piece of a group that is not below n, or that is there or before it
+  abbrev pub first_bad_after : (ℕ → Bool) → ℕ → List (ℕ × P) → Option CollectFault
+  first_bad_after had n [] = None
+  first_bad_after had n (p ∷ ps) = if nat_lt p.0 n
+      then (if had p.0 then Some (Twice p.0)
+      else first_bad_after (λ g. if g == p.0 then true else had g) n ps)
+      else Some (Stranger p.0)
+
+  -- the first piece of a group that is not below n, or that an earlier piece is of
+  abbrev pub first_bad : ℕ → List (ℕ × P) → Option CollectFault
+  first_bad n pieces = first_bad_after (λ g. false) n pieces
+
+  abbrev pub filled : List (Option P) → ℕ → Bool
+  filled places g = is_some (slice_index_or places g None)
+
+  -- the pieces at the places, each with its place, counted from here
+  abbrev pub standing : ℕ → List (Option P) → List (ℕ × P)
+  standing g [] = []
+  standing g (None ∷ places) = standing (g + 1) places
+  standing g (Some p ∷ places) = (g, p) ∷ standing (g + 1) places
+
+  -- the pieces, each with its group, counted from here
+  abbrev pub numbered : ℕ → List P → List (ℕ × P)
+  numbered g [] = []
+  numbered g (p ∷ ps) = (g, p) ∷ numbered (g + 1) ps
+
+  -- the first place without a piece, counted from here
+  abbrev pub first_missing : ℕ → List (Option P) → Option CollectFault
+  first_missing g [] = None
+  first_missing g (None ∷ places) = Some (Missing g)
+  first_missing g (Some p ∷ places) = first_missing (g + 1) places
+
+abbrev pub IsFault : CollectFault → Option CollectFault → Type 0
+IsFault Memory bad = Unit {0}
+IsFault e bad = bad ≡ Some e

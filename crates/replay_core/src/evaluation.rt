@@ -1,0 +1,15 @@
+//! The plain evaluator of typed expressions. `docs/MEANING.md` tells what it computes.
+
+mod built_in;
+mod changes;
+mod expression;
+mod fault;
+mod lending;
+mod operators;
+mod spare;
+mod variables;
+
+pub(crate) use expression::{evaluate, evaluate_key, evaluate_word};
+pub(crate) use fault::EvalFault;
+pub use spare::SpareKeys;
+pub(crate) use variables::{bytes_in, word_in};

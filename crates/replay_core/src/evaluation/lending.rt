@@ -1,0 +1,51 @@
+//! Parts of keys without copies.
+
+ghost use Rattle.std.specs.Prelude.{◌≡◌, ◌<◌, IfSome, OnOk, OnErr, length, slice_set};
+ghost use Rattle.d_types.specs.Typed.{typed_of};
+ghost use Rattle.d_types.specs.Storage.{Variables};
+ghost use Rattle.d_types.specs.Expressions as spec;
+
+use crate::evaluation::built_in::built_in_text;
+use d_types::TypedExpr;
+use d_values::{Key, Value};
+use firing_reader::Firing;
+use std::alloc::AllocError;
+
+/// Lends the text of a constant or of a built-in variable; none of any other expression.
+pub(crate) fn lent<'a>(e: &'a TypedExpr, firing: &'a Firing) -> Option<&'a [u8]>
+    ensures { IfSome result (λ b. (vars : Variables) → spec.eval firing.now (typed_of e.now) vars ≡ spec.Has (Value.Text b.now) vars) }
+{
+    match e {
+        TypedExpr::Text(text) => Some(text.as_bytes()),
+        TypedExpr::BuiltIn(b) => built_in_text(*b, firing),
+        TypedExpr::Constant(_, _)
+        | TypedExpr::Read(_, _)
+        | TypedExpr::Unary(_, _, _)
+        | TypedExpr::Operate(_, _, _)
+        | TypedExpr::Compare(_, _, _, _)
+        | TypedExpr::CompareText(_, _, _)
+        | TypedExpr::Logic(_, _, _)
+        | TypedExpr::Choice(_, _, _, _)
+        | TypedExpr::Convert(_, _, _)
+        | TypedExpr::Assign(_, _, _)
+        | TypedExpr::Update(_, _, _, _)
+        | TypedExpr::Step(_, _, _, _)
+        | TypedExpr::Strlen(_)
+        | TypedExpr::Strjoin(_, _) => None,
+    }
+}
+
+/// Puts a value in the place of a key's part.
+pub(crate) fn set_part(key: &mut Key, place: usize, value: &Value) -> Result<(), AllocError>
+    requires { place < length key.old }
+    ensures ok { OnOk result (key.new ≡ slice_set key.old place (spec.part_of value.now)) }
+    ensures err { OnErr result (key.new ≡ key.old) }
+{
+    match value {
+        Value::Int(word) => {
+            key.set_number(place, word.cast_signed());
+            Ok(())
+        }
+        Value::Text(text) => key.set_name(place, text.as_bytes()),
+    }
+}

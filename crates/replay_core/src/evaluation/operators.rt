@@ -1,0 +1,71 @@
+//! Operators on the words of integers.
+
+ghost use Rattle.std.specs.Prelude.{◌≡◌, length};
+ghost use Rattle.d_values.specs.Words.{narrow};
+ghost use Rattle.d_types.specs.Expressions as spec;
+
+use d_parser::{Step, UnaryOperator};
+use d_types::{Answer, Operation};
+use d_values::{DType, IntType, OutOfZero, binary, complement, convert, negate, shift};
+
+/// An operator before its operand, of the type.
+pub(crate) fn unary(op: UnaryOperator, t: IntType, word: u64) -> u64
+    ensures { result ≡ spec.unary_of op t word }
+{
+    match op {
+        UnaryOperator::Not => u64::from(word == 0),
+        UnaryOperator::Complement => complement(t, word),
+        UnaryOperator::Negate => negate(t, word),
+        UnaryOperator::Keep => word,
+    }
+}
+
+/// The operator's word, refused where it divides by 0.
+pub(crate) fn operated(op: Operation, a: u64, b: u64) -> Result<u64, OutOfZero>
+    ensures { result ≡ spec.operation_of op a b }
+{
+    match op {
+        Operation::Arithmetic(op, t) => binary(op, t, a, b),
+        Operation::Shift(op, t) => Ok(shift(op, t, a, b)),
+    }
+}
+
+/// The word of a variable as one of the type that the operation works in.
+pub(crate) fn converted(op: Operation, word: u64) -> u64
+    ensures { result ≡ narrow (spec.works_in op) word }
+{
+    match op {
+        Operation::Arithmetic(_, t) => convert(word, t, t),
+        Operation::Shift(_, t) => convert(word, t, t),
+    }
+}
+
+/// The word as one of the variable's type.
+pub(crate) fn held(holds: DType, word: u64) -> u64
+    ensures { result ≡ spec.held holds word }
+{
+    match holds {
+        DType::Int(t) => convert(word, t, t),
+        DType::Text => word,
+    }
+}
+
+/// One more, or one less.
+pub(crate) fn stepped(step: Step, word: u64) -> u64
+    ensures { result ≡ spec.stepped step word }
+{
+    match step {
+        Step::Increment => word.wrapping_add(1),
+        Step::Decrement => word.wrapping_sub(1),
+    }
+}
+
+/// What `++` and `--` answer.
+pub(crate) fn answered(answer: Answer, old: u64, new: u64) -> u64
+    ensures { result ≡ spec.answered answer old new }
+{
+    match answer {
+        Answer::New => new,
+        Answer::Old => old,
+    }
+}

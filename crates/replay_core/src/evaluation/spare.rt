@@ -1,0 +1,54 @@
+//! Keys that are written again and again.
+
+ghost use Rattle.std.specs.Prelude.{◌≡◌, length, IfOk};
+
+use d_values::{Key, KeyPart};
+use std::alloc::{AllocError, Global};
+
+/// Keys that were used, kept so that the next of as many parts takes their room.
+#[derive(Drop)]
+pub struct SpareKeys {
+    keys: Vec<Key>,
+}
+
+impl SpareKeys {
+    /// None is kept.
+    pub fn new(alloc: Global) -> SpareKeys {
+        SpareKeys {
+            keys: Vec::new(alloc),
+        }
+    }
+
+    /// A key of so many parts, whatever they are: one that was kept, or else a new one.
+    pub fn take(&mut self, parts: usize) -> Result<Key, AllocError>
+        ensures { IfOk result (λ k. length k ≡ parts) }
+    {
+        if parts == 0 {
+            return Ok(Key::new(*self.keys.allocator()));
+        }
+        match self.keys.iter().position(|key| key.parts().len() == parts) {
+            Some(place) => Ok(self.keys.swap_remove(place)),
+            None => blank(*self.keys.allocator(), parts),
+        }
+    }
+
+    /// Keeps a key.
+    pub fn keep(&mut self, key: Key) -> Result<(), AllocError> {
+        if key.parts().is_empty() {
+            return Ok(());
+        }
+        self.keys.push(key)?;
+        Ok(())
+    }
+}
+
+// A key of zeros.
+fn blank(alloc: Global, parts: usize) -> Result<Key, AllocError>
+    ensures { IfOk result (λ k. length k ≡ parts) }
+{
+    let mut key = Key::new(alloc);
+    for _ in 0..parts {
+        key.push(KeyPart::Number(0))?;
+    }
+    Ok(key)
+}

@@ -1,0 +1,62 @@
+//! Pieces at the places of their groups.
+
+ghost use Rattle.std.specs.Prelude.{◌≡◌, ◌<◌, ◌^◌, map, vec_len, Some, None, IfOk, IfErr};
+ghost use Rattle.std.specs.List.Sorted.{IsPermutation};
+ghost use Rattle.replay_core.specs.PiecePlaces.{first_bad, first_missing, standing, IsFault};
+
+use crate::collect_fault::CollectFault;
+use crate::piece::Piece;
+use std::alloc::Global;
+
+/// Puts each piece into the place of its group.
+pub(crate) fn placed(
+    alloc: Global,
+    pieces: Vec<(u32, Piece)>,
+    n: u32,
+) -> Result<Vec<Option<Piece>>, CollectFault>
+    ensures ok { IfOk result (λ v. (vec_len v ≡ n) × (first_bad n pieces.items ≡ None)) }
+    ensures same { IfOk result (λ v. IsPermutation pieces.items (standing 0 v.items)) }
+    ensures err { IfErr result (λ e. IsFault e (first_bad n pieces.items)) }
+{
+    let mut places: Vec<Option<Piece>> = match Vec::with_capacity(alloc, n as usize) {
+        Ok(places) => places,
+        Err(_) => return Err(CollectFault::Memory),
+    };
+    'room: for _ in 0..n {
+        places.push_reserved(None);
+    }
+    'fill: for (group, piece) in pieces {
+        if group >= n {
+            return Err(CollectFault::Stranger { group });
+        }
+        if places[group as usize].is_some() {
+            return Err(CollectFault::Twice { group });
+        }
+        places[group as usize] = Some(piece);
+    }
+    Ok(places)
+}
+
+/// The pieces, where no place is empty.
+pub(crate) fn all_placed(
+    alloc: Global,
+    places: Vec<Option<Piece>>,
+) -> Result<Vec<Piece>, CollectFault>
+    requires { vec_len places < 2 ^ 32 }
+    ensures ok { IfOk result (λ v. map Some v.items ≡ places.items) }
+    ensures err { IfErr result (λ e. IsFault e (first_missing 0 places.items)) }
+{
+    let mut pieces = match Vec::with_capacity(alloc, places.len()) {
+        Ok(pieces) => pieces,
+        Err(_) => return Err(CollectFault::Memory),
+    };
+    let mut group = 0;
+    for place in places {
+        let Some(piece) = place else {
+            return Err(CollectFault::Missing { group });
+        };
+        pieces.push_reserved(piece);
+        group += 1;
+    }
+    Ok(pieces)
+}

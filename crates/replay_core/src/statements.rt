@@ -1,0 +1,8 @@
+//! Runs of a clause: its predicate and its statements. `docs/MEANING.md` tells what they make.
+
+mod clause;
+mod printing;
+mod statement;
+
+pub(crate) use clause::run_clause;
+pub use printing::{printed, traced};

@@ -1,0 +1,180 @@
+//! The texts of `trace` and `printf` (Dynamic Tracing Guide, "Output Formatting").
+
+ghost use Rattle.std.specs.Prelude.{◌≡◌, ◌++◌, ◌∷◌, [], IfOk, string_bytes, unsigned_abs};
+ghost use Rattle.std.specs.Fmt.{signed_decimal};
+ghost use Rattle.d_types.specs.Printing as spec;
+ghost use Rattle.d_types.specs.Storage.{word_of};
+
+use crate::evaluation::{bytes_in, word_in};
+use d_types::{Conversion, Letter, Piece};
+use d_values::{DType, IntType, Text, Value, convert};
+use std::alloc::{AllocError, Global};
+
+// Three parts in a row.
+fn joined(alloc: Global, a: &[u8], b: &[u8], c: &[u8]) -> Result<Text, AllocError>
+    ensures { IfOk result (λ t. t ≡ a.now ++ b.now ++ c.now) }
+{
+    let mut bytes = Vec::from_slice(alloc, a)?;
+    bytes.extend_from_slice(b)?;
+    bytes.extend_from_slice(c)?;
+    Ok(Text::from(bytes))
+}
+
+// A line of these bytes.
+fn line(alloc: Global, bytes: &[u8]) -> Result<Text, AllocError>
+    ensures { IfOk result (λ t. t ≡ bytes.now ++ 10 ∷ []) }
+{
+    let mut line = Vec::from_slice(alloc, bytes)?;
+    line.push(b'\n')?;
+    Ok(Text::from(line))
+}
+
+// Whether words of the type have a sign.
+fn is_signed(t: DType) -> bool
+    ensures { result ≡ spec.is_signed t }
+{
+    match t {
+        DType::Int(t) => t.signed,
+        DType::Text => false,
+    }
+}
+
+// A word in decimal, with its sign.
+fn decimal(alloc: Global, t: DType, word: u64) -> Result<String, AllocError>
+    ensures { IfOk result (λ s. string_bytes s ≡ signed_decimal (spec.number_in t word)) }
+{
+    if is_signed(t) {
+        let number = word.cast_signed();
+        format!(in alloc; "{number}")
+    } else {
+        format!(in alloc; "{word}")
+    }
+}
+
+/// The line that `trace` makes of a value.
+pub fn traced(alloc: Global, t: DType, value: &Value) -> Result<Text, AllocError>
+    ensures { IfOk result (λ x. x ≡ spec.traced t value.now) }
+{
+    match value {
+        Value::Int(word) => {
+            let number = decimal(alloc, t, *word)?;
+            line(alloc, number.as_bytes())
+        }
+        Value::Text(text) => line(alloc, text.as_bytes()),
+    }
+}
+
+// `-` before a number below 0.
+fn sign(t: DType, word: u64) -> &'static [u8]
+    ensures { result.now ≡ spec.sign_of (spec.number_in t word) }
+{
+    if is_signed(t) && word.cast_signed() < 0 {
+        b"-"
+    } else {
+        &[]
+    }
+}
+
+// How far a number is from 0.
+fn size(t: DType, word: u64) -> u64
+    ensures { result ≡ unsigned_abs (spec.number_in t word) }
+{
+    if is_signed(t) {
+        word.cast_signed().unsigned_abs()
+    } else {
+        word
+    }
+}
+
+// The word modulo 2 to the width of its type.
+fn low(t: DType, word: u64) -> u64
+    ensures { result ≡ spec.low_in t word }
+{
+    match t {
+        DType::Int(t) => convert(
+            word,
+            t,
+            IntType {
+                width: t.width,
+                signed: false,
+            },
+        ),
+        DType::Text => word,
+    }
+}
+
+// The digits of a number for a letter.
+fn digits(alloc: Global, letter: Letter, number: u64) -> Result<String, AllocError>
+    ensures { IfOk result (λ s. string_bytes s ≡ spec.digits_of letter number) }
+{
+    match letter {
+        Letter::Hexadecimal => format!(in alloc; "{number:x}"),
+        Letter::Octal => format!(in alloc; "{number:o}"),
+        _ => format!(in alloc; "{number}"),
+    }
+}
+
+// A sign and what follows it, in the conversion's width.
+fn placed(
+    alloc: Global,
+    c: Conversion,
+    zeros: bool,
+    sign: &[u8],
+    body: &[u8],
+) -> Result<Text, AllocError>
+    ensures { IfOk result (λ t. t ≡ spec.placed c zeros sign.now body.now) }
+{
+    let room = usize::from(c.width).saturating_sub(sign.len() + body.len());
+    let byte = if zeros && !c.left { b'0' } else { b' ' };
+    let filling = vec![in alloc; byte; room]?;
+    if c.left {
+        joined(alloc, sign, body, &filling)
+    } else if zeros {
+        joined(alloc, sign, &filling, body)
+    } else {
+        joined(alloc, &filling, sign, body)
+    }
+}
+
+// What `printf` writes of an argument.
+fn written(alloc: Global, c: Conversion, t: DType, value: &Value) -> Result<Text, AllocError>
+    ensures { IfOk result (λ x. x ≡ spec.written c.letter c t value.now) }
+{
+    match c.letter {
+        Letter::Text => placed(alloc, c, false, &[], bytes_in(value)),
+        Letter::Signed => {
+            let word = word_in(value);
+            let body = digits(alloc, Letter::Unsigned, size(t, word))?;
+            placed(alloc, c, c.zeros, sign(t, word), body.as_bytes())
+        }
+        letter => {
+            let body = digits(alloc, letter, low(t, word_in(value)))?;
+            placed(alloc, c, c.zeros, &[], body.as_bytes())
+        }
+    }
+}
+
+/// The text that `printf` makes of the pieces of its format and its arguments.
+pub fn printed(
+    alloc: Global,
+    format: &[Piece],
+    values: &[(DType, Value)],
+) -> Result<Text, AllocError>
+    ensures { IfOk result (λ x. x ≡ spec.printed format.now values.now) }
+{
+    let mut bytes = Vec::new(alloc);
+    let mut rest = values;
+    for piece in format {
+        match piece {
+            Piece::Byte(b) => bytes.push(*b)?,
+            Piece::Argument(c) => {
+                if let Some(((t, value), behind)) = rest.split_first() {
+                    let text = written(alloc, *c, *t, value)?;
+                    bytes.extend_from_slice(text.as_bytes())?;
+                    rest = behind;
+                }
+            }
+        }
+    }
+    Ok(Text::from(bytes))
+}

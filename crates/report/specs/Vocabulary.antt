@@ -1,0 +1,13 @@
+-- The words of the definitions that other crates have, from one place.
+pub use Rattle.std.specs.Fmt.{decimal, signed_decimal}
+pub use Rattle.std.specs.List.{enumerate_from, flat_map}
+pub use Rattle.d_values.specs.Keys.{key_cmp}
+pub use Rattle.d_values.specs.declared.key.KeyPart.{KeyPart, TheVariants.Number, TheVariants.Name}
+pub use Rattle.aggregations.specs.declared.{function.AggFn.AggFn, held.Held.Held}
+pub use Rattle.aggregations.specs.declared.function.AggFn.TheVariants.{Count, Sum, Min, Max, Avg}
+pub use Rattle.aggregations.specs.declared.function.AggFn.TheVariants.{Quantize, Lquantize}
+pub use Rattle.aggregations.specs.Buckets.{buckets, label}
+pub use Rattle.aggregations.specs.Histograms.{Histogram}
+pub use Rattle.aggregations.specs.Figures.{Figure, Figure.Single, Figure.Distribution}
+pub use Rattle.aggregations.specs.Figures.{figure_of, rank_of}
+pub use Rattle.aggregations.specs.Table.{Contribution, AreEntries, StandsFor, functions_of}
