@@ -1,0 +1,40 @@
+-- What a run of valid code comes to.
+use Rattle.std.specs.Prelude.{◌≡◌, ◌≤◌, ℕ, zero, suc, length}
+use Rattle.std.proofs.Common.{refl, ap, ◌∙◌, arith}
+use Rattle.d_values.specs.declared.value.Value.{Value}
+use Rattle.firing_reader.specs.declared.firing.Firing.{Firing}
+use Rattle.d_types.specs.Expressions.{Outcome, Has, Faults}
+use Rattle.d_types.specs.Storage.{Variables}
+use Rattle.dif_validate.specs.Objects.{Object}
+use Rattle.dif_validate.specs.Validity.{IsValid}
+use Rattle.dif_machine.specs.Frames.{Frame}
+use Rattle.dif_machine.specs.Frames.{start}
+use Rattle.dif_machine.specs.Runs.{End, Returns, Divides, Reaches, ends, faults, goes, Runs, steps}
+use Rattle.dif_machine.proofs.Ending.{is_over, one_end}
+use Rattle.dif_codegen.specs.Correct.{end_of}
+use Rattle.dif_codegen.specs.Meaning.{goes_on, within, value_of}
+
+abbrev outcome_of : End → Outcome Value
+outcome_of (Returns value vars) = Has value vars
+outcome_of (Divides vars) = Faults vars
+
+there_again : (z : Outcome Value) → outcome_of (end_of z) ≡ z
+there_again (Has value vars) = refl
+there_again (Faults vars) = refl
+
+module _ (f : Firing) (o : Object) where
+  within_is : (n : ℕ) (s : Frame) (vars : Variables) (end : End) (run : Reaches o f s vars end) → steps run ≤ n → within n f o s vars ≡ outcome_of end
+  within_is zero s vars end (ends value after e) few = absurd (omega arith)
+  within_is zero s vars end (faults after e) few = absurd (omega arith)
+  within_is zero s vars end (goes next after e rest) few = absurd (omega arith)
+  within_is (suc n) s vars end (ends value after e) few = ap (λ x. goes_on x vars (within n f o)) e
+  within_is (suc n) s vars end (faults after e) few = ap (λ x. goes_on x vars (within n f o)) e
+  within_is (suc n) s vars end (goes next after e rest) few =
+      ap (λ x. goes_on x vars (within n f o)) e ∙ within_is n next after end rest (omega arith)
+
+  pub value_is : (vars : Variables) (z : Outcome Value) → IsValid o → Runs o f vars (end_of z) → value_of f o vars ≡ z
+  value_is vars z valid run =
+      let over = is_over o valid f vars in
+      within_is (length o.code) start vars over.0 over.1 over.2
+      ∙ ap outcome_of (one_end o f start vars over.0 (end_of z) over.1 run)
+      ∙ there_again z

@@ -1,0 +1,124 @@
+-- Lists that are compiled one by one.
+use Rattle.std.specs.Prelude.{◌≡◌, ◌<◌, ◌≤◌, ℕ, zero, suc, ◌+◌, List, [], ◌∷◌, ◌++◌, All, length, map, drop, get_or, Option}
+use Rattle.std.specs.List.{AllZip}
+use Rattle.std.proofs.Common.{refl, sym, ap, ◌∙◌, subst, arith, append_assoc, append-nil}
+use Rattle.aggregations.specs.declared.function.AggFn.{AggFn}
+use Rattle.d_types.specs.declared.typed.TypedAggregation.{TypedAggregation}
+use Rattle.d_types.specs.declared.typed.TypedClause.{TypedClause}
+use Rattle.d_types.specs.declared.typed.TypedExpr.{TypedExpr}
+use Rattle.firing_reader.specs.declared.firing.Firing.{Firing}
+use Rattle.d_types.specs.Fitting.{Fits}
+use Rattle.d_types.specs.Held.{AreTyped, HasTypedBuiltIns, IsConsistent, Slots, slots_of}
+use Rattle.d_types.specs.Storage.{Variables}
+use Rattle.d_types.specs.Typed.{ClauseMeant, Typed, agg_of, meant_of, script_meant, typed_of, typeds_of, type_of}
+use Rattle.d_types.specs.Scripts.{IsMeant}
+use Rattle.d_types.specs.Wholes.{ClauseIs, ClausesAre, EachIs}
+use Rattle.d_types.proofs.ConsistentScripts.{script_is_consistent}
+use Rattle.d_types.proofs.Fitting.{typed_script_fits}
+use Rattle.d_types.proofs.HoldingRuns.{run_kept}
+use Rattle.d_types.proofs.Tables.{front}
+use Rattle.d_values.specs.declared.int_type.DType.{DType}
+use Rattle.dif_validate.specs.declared.instruction.Instr.{Instr}
+use Rattle.dif_validate.specs.declared.object.Difo.{Difo}
+use Rattle.dif_validate.specs.Objects as objects
+use Rattle.dif_validate.specs.Objects.{Object}
+use Rattle.dif_codegen.specs.declared.program.CompiledClause.{CompiledClause}
+use Rattle.dif_codegen.specs.declared.program.TypedObject.{TypedObject}
+use Rattle.dif_codegen.specs.Code.{object_of}
+use Rattle.dif_codegen.specs.Meaning.{Does, IsProgramOf, run_code}
+use Rattle.dif_codegen.specs.Programs.{ClauseCode, all_compiled, clause_code, compiled, compiled_clause}
+use Rattle.dif_codegen.proofs.Adding.{IsObject}
+use Rattle.dif_codegen.proofs.SameMeaning.{run_same}
+
+spent : {A : Type 0} (xs : List A) (n : ℕ) → length xs ≤ n → drop n xs ≡ []
+spent [] zero past = refl
+spent [] (suc n) past = refl
+spent (x ∷ xs) zero past = absurd (omega arith)
+spent (x ∷ xs) (suc n) past = spent xs n (omega arith)
+
+map-append : {A B : Type 0} (g : A → B) (xs ys : List A) → map g (xs ++ ys) ≡ map g xs ++ map g ys
+map-append g [] ys = refl
+map-append g (x ∷ xs) ys = ap (λ l. g x ∷ l) (map-append g xs ys)
+
+-- a clause that was compiled does what it means
+does : (slots : Slots) (c : CompiledClause) (m : ClauseMeant) → ClauseIs (IsConsistent slots) m → ClauseIs Fits m → clause_code c ≡ compiled_clause m → Does slots c m
+does slots c m is few same =
+    let runs = λ (f : Firing) (place : ℕ) (vars : Variables) (fit : HasTypedBuiltIns f) (good : AreTyped slots vars).
+    ap (λ c. run_code f place c vars) same ∙ run_same slots f fit place m vars is few good in
+    record {
+      descriptions = ap (λ (c : ClauseCode). c.descriptions) same;
+      runs = runs;
+      typed = λ f place vars fit good. subst (λ made. AreTyped slots made.variables) (sym (runs f place vars fit good)) (run_kept slots f fit place m vars is good);
+    }
+
+pub all_do : (slots : Slots) (cs : List CompiledClause) (ms : List ClauseMeant) → ClausesAre (IsConsistent slots) ms → ClausesAre Fits ms
+    → map clause_code cs ≡ map compiled_clause ms → AllZip (Does slots) cs ms
+all_do slots [] [] is few same = tt
+all_do slots [] (m ∷ ms) is few same = cc
+all_do slots (c ∷ cs) [] is few same = cc
+all_do slots (c ∷ cs) (m ∷ ms) is few same =
+    let first : clause_code c ≡ compiled_clause m = cc in
+    let others : map clause_code cs ≡ map compiled_clause ms = cc in
+    (does slots c m is.0 few.0 first, all_do slots cs ms is.1 few.1 others)
+
+pub clauses_are : (Is : Typed → Type 0) (ms : List ClauseMeant) → All (ClauseIs Is) ms → ClausesAre Is ms
+clauses_are Is [] all = tt
+clauses_are Is (m ∷ ms) all = (all 0 m (omega arith), clauses_are Is ms (λ k d less. all (suc k) d (omega arith)))
+
+-- ---- objects
+
+pub same_object : (e : Typed) (d : Difo) (o : Object) (t : DType) → IsObject e d → o ≡ objects.object_of d → t ≡ type_of e → record { object = o; returns = t } ≡ compiled e
+same_object e d o t h is same =
+    let made : o ≡ (compiled e).object =
+    is
+    ∙ ap (λ (l : List Instr). record { code = l; texts = d.texts.items; numbers = d.numbers.items }) h.code
+    ∙ ap (λ (l : List (List ℕ)). record { code = (object_of e).code; texts = l; numbers = d.numbers.items }) h.texts
+    ∙ ap (λ (l : List ℕ). record { code = (object_of e).code; texts = (object_of e).texts; numbers = l }) h.numbers in
+    ap (λ (o : Object). record { object = o; returns = t }) made ∙ ap (λ (t : DType). record { object = (compiled e).object; returns = t }) same
+
+-- ---- one after the other
+
+pub expressions_on : (all : List TypedExpr) (n : ℕ) (e : TypedExpr) (done : List TypedObject) (Is : Typed → Type 0) → n < length all → e ≡ get_or all n e
+    → EachIs Is (typeds_of (drop n all)) → Is (typed_of e) × EachIs Is (typeds_of (drop (n + 1) all))
+expressions_on all n e done Is less same each = subst (λ l. EachIs Is (typeds_of l)) (front all n e less same) each
+
+pub compiled_on : (all : List TypedExpr) (n : ℕ) (e : TypedExpr) (done : List TypedObject) → n < length all → e ≡ get_or all n e
+    → done ++ all_compiled (typeds_of (drop n all)) ≡ all_compiled (typeds_of all)
+    → (done ++ compiled (typed_of e) ∷ []) ++ all_compiled (typeds_of (drop (n + 1) all)) ≡ all_compiled (typeds_of all)
+compiled_on all n e done less same h =
+    append_assoc done (compiled (typed_of e) ∷ []) (all_compiled (typeds_of (drop (n + 1) all)))
+    ∙ ap (λ l. done ++ all_compiled (typeds_of l)) (sym (front all n e less same)) ∙ h
+
+pub compiled_end : (all : List TypedExpr) (n : ℕ) (done : List TypedObject) → length all ≤ n → done ++ all_compiled (typeds_of (drop n all)) ≡ all_compiled (typeds_of all)
+    → done ≡ all_compiled (typeds_of all)
+compiled_end all n done past h = sym (append-nil done) ∙ ap (λ l. done ++ all_compiled (typeds_of l)) (sym (spent all n past)) ∙ h
+
+-- a list that was mapped one by one
+pub mapped_on : {A B C : Type 0} (g : A → C) (h : B → C) (all : List B) (n : ℕ) (x : B) (y : A) (done : List A) → n < length all → x ≡ get_or all n x → g y ≡ h x
+    → map g done ++ map h (drop n all) ≡ map h all → map g (done ++ y ∷ []) ++ map h (drop (n + 1) all) ≡ map h all
+mapped_on g h all n x y done less same is e =
+    ap (λ l. l ++ map h (drop (n + 1) all)) (map-append g done (y ∷ []))
+    ∙ append_assoc (map g done) (g y ∷ []) (map h (drop (n + 1) all))
+    ∙ ap (λ z. map g done ++ z ∷ map h (drop (n + 1) all)) is
+    ∙ ap (λ l. map g done ++ map h l) (sym (front all n x less same))
+    ∙ e
+
+pub mapped_end : {A B C : Type 0} (g : A → C) (h : B → C) (all : List B) (n : ℕ) (done : List A) → length all ≤ n → map g done ++ map h (drop n all) ≡ map h all → map g done ≡ map h all
+mapped_end g h all n done past e = sym (append-nil (map g done)) ∙ ap (λ l. map g done ++ map h l) (sym (spent all n past)) ∙ e
+
+pub map-map : {A B C : Type 0} (g : A → B) (h : B → C) (xs : List A) → map (λ x. h (g x)) xs ≡ map h (map g xs)
+map-map g h [] = refl
+map-map g h (x ∷ xs) = ap (λ l. h (g x) ∷ l) (map-map g h xs)
+
+-- ---- the program
+
+pub is_program : (clauses : List TypedClause) (aggs : List TypedAggregation) (types : List (Option DType)) (made : List CompiledClause) (functions : List AggFn)
+    → ∥ IsMeant (script_meant clauses aggs types) ∥₁
+    → functions ≡ map (λ a. a.function) aggs → map clause_code made ≡ map compiled_clause (map meant_of clauses)
+    → IsProgramOf (script_meant clauses aggs types) made functions
+is_program clauses aggs types made functions meant same code =
+    let m = script_meant clauses aggs types in
+    record {
+      have_functions = same ∙ map-map agg_of (λ a. a.function) aggs;
+      do_the_same = all_do (slots_of m) made m.clauses (clauses_are (IsConsistent (slots_of m)) m.clauses (script_is_consistent m meant)) (typed_script_fits m meant) code;
+    }

@@ -1,0 +1,273 @@
+-- The code of an expression.
+use Rattle.std.specs.Prelude.{ℕ, zero, suc, ◌+◌, ◌-◌, Bool, true, false, ◌==◌, if◌then◌else◌}
+use Rattle.d_parser.specs.declared.operators.UnaryOperator.{UnaryOperator}
+use Rattle.d_parser.specs.declared.operators.UnaryOperator.TheVariants as un
+use Rattle.d_parser.specs.declared.operators.Step.{Step}
+use Rattle.d_parser.specs.declared.operators.Step.TheVariants as st
+use Rattle.d_values.specs.declared.int_type.IntType.{IntType}
+use Rattle.d_values.specs.declared.int_type.DType.{DType}
+use Rattle.d_values.specs.declared.int_type.DType.TheVariants as ty
+use Rattle.d_values.specs.declared.operators.ArithmeticOperator.{ArithmeticOperator}
+use Rattle.d_values.specs.declared.operators.ArithmeticOperator.TheVariants as ar
+use Rattle.d_values.specs.declared.operators.ComparisonOperator.{ComparisonOperator}
+use Rattle.d_values.specs.declared.operators.ComparisonOperator.TheVariants as co
+use Rattle.d_values.specs.declared.operators.ShiftOperator.{ShiftOperator}
+use Rattle.d_values.specs.declared.operators.ShiftOperator.TheVariants as sh
+use Rattle.d_values.specs.declared.variable.Var.{Var}
+use Rattle.d_types.specs.declared.typed.Answer.{Answer}
+use Rattle.d_types.specs.declared.typed.Answer.TheVariants as an
+use Rattle.d_types.specs.declared.typed.BuiltIn.{BuiltIn}
+use Rattle.d_types.specs.declared.typed.BuiltIn.TheVariants as bi
+use Rattle.d_types.specs.declared.typed.LogicOperator.TheVariants as lo
+use Rattle.d_types.specs.declared.typed.Operation.{Operation}
+use Rattle.d_types.specs.declared.typed.Operation.TheVariants as op
+use Rattle.d_types.specs.declared.typed.Space.{Space}
+use Rattle.d_types.specs.declared.typed.Space.TheVariants as sp
+use Rattle.d_types.specs.Expressions.{works_in}
+use Rattle.d_types.specs.Needs.{count}
+use Rattle.d_types.specs.Storage.{var_of}
+use Rattle.d_types.specs.Typed.{Typed, Constant, Text, Fixed, Read, Unary, Operate, Compare, CompareText, Logic, Choice, Convert, Assign, Update, Count, Strlen, Strjoin, Typeds, end, more, type_of}
+use Rattle.dif_validate.specs.declared.instruction.Condition.{Condition}
+use Rattle.dif_validate.specs.declared.instruction.Condition.TheVariants.{Equal, NotEqual, Greater, GreaterEqual, Less, LessEqual, Above, AboveEqual, Below, BelowEqual}
+use Rattle.dif_validate.specs.declared.instruction.Function.TheVariants as fu
+use Rattle.dif_validate.specs.declared.instruction.Instr.{Instr}
+use Rattle.dif_validate.specs.declared.instruction.Instr.TheVariants.{Alu, Not, Mov, Cmp, Tst, Scmp, Ldgs, Ldga, Ldts, Stts, Ldls, Stls, Pushtr, Pushtv, Flushts, Ldtaa, Sttaa, Call, Ret}
+use Rattle.dif_validate.specs.declared.instruction.Operator.{Operator}
+use Rattle.dif_validate.specs.declared.instruction.Operator.TheVariants.{Or, Xor, And, Sll, Srl, Sra, Sub, Add, Mul, Sdiv, Udiv, Srem, Urem}
+use Rattle.dif_validate.specs.declared.register.Reg.{Reg}
+use Rattle.dif_validate.specs.declared.register.Reg.TheVariants.{R0, R1, R2, R3, R4, R5, R6, R7}
+use Rattle.dif_codegen.specs.Pieces.{Piece, Maker, nothing, one, number, text, both, choice, bit_by}
+
+-- the register of a number below 8
+abbrev pub register : ℕ → Reg
+register zero = R0
+register (suc zero) = R1
+register (suc (suc zero)) = R2
+register (suc (suc (suc zero))) = R3
+register (suc (suc (suc (suc zero)))) = R4
+register (suc (suc (suc (suc (suc zero))))) = R5
+register (suc (suc (suc (suc (suc (suc zero)))))) = R6
+register (suc (suc (suc (suc (suc (suc (suc n))))))) = R7
+
+-- ---- operators
+
+abbrev pub operator_of : ArithmeticOperator → Bool → Operator
+operator_of ar.Multiply signed = Mul
+operator_of ar.Divide true = Sdiv
+operator_of ar.Divide false = Udiv
+operator_of ar.Remainder true = Srem
+operator_of ar.Remainder false = Urem
+operator_of ar.Add signed = Add
+operator_of ar.Subtract signed = Sub
+operator_of ar.BitAnd signed = And
+operator_of ar.BitXor signed = Xor
+operator_of ar.BitOr signed = Or
+
+abbrev pub condition_of : ComparisonOperator → Bool → Condition
+condition_of co.Equal signed = Equal
+condition_of co.NotEqual signed = NotEqual
+condition_of co.Less true = Less
+condition_of co.Less false = Below
+condition_of co.LessEqual true = LessEqual
+condition_of co.LessEqual false = BelowEqual
+condition_of co.Greater true = Greater
+condition_of co.Greater false = Above
+condition_of co.GreaterEqual true = GreaterEqual
+condition_of co.GreaterEqual false = AboveEqual
+
+abbrev pub shift_right : Bool → Operator
+shift_right true = Sra
+shift_right false = Srl
+
+-- to the left until the type's highest bit is the word's, and back with copies of the sign or with
+-- zeros
+abbrev pub shifts : ℕ → Bool → Reg → Maker
+shifts count signed d =
+    both (number count R7) (both (one (Alu Sll d R7 d)) (one (Alu (shift_right signed) d R7 d)))
+
+-- the word brought to its type; one of 64 bits is
+abbrev pub narrowing : IntType → Reg → Maker
+narrowing t d = if t.width == 64 then nothing else shifts (64 - t.width) t.signed d
+
+abbrev pub unary : UnaryOperator → IntType → Reg → Maker
+unary un.Not t d = bit_by (Tst d) Equal d
+unary un.Complement t d = both (one (Not d d)) (narrowing t d)
+unary un.Negate t d = both (one (Alu Sub R0 d d)) (narrowing t d)
+unary un.Keep t d = nothing
+
+abbrev pub shift_operator : ShiftOperator → Bool → Operator
+shift_operator sh.Left signed = Sll
+shift_operator sh.Right signed = shift_right signed
+
+-- a shift's count modulo the width, which is a power of two
+abbrev pub masking : IntType → Reg → Maker
+masking t c = both (number (t.width - 1) R7) (one (Alu And c R7 c))
+
+-- an operator on two registers, into the first
+abbrev pub operated : Operation → Reg → Reg → Maker
+operated (op.Arithmetic o t) a b = both (one (Alu (operator_of o t.signed) a b a)) (narrowing t a)
+operated (op.Shift o t) a b =
+    both (masking t b) (both (one (Alu (shift_operator o t.signed) a b a)) (narrowing t a))
+
+-- 1 where one of two registers is 0 and the other isn't, into the first
+abbrev pub differing : Reg → Reg → Maker
+differing a b = choice (Tst a) Equal (bit_by (Tst b) Equal a) (bit_by (Tst b) NotEqual a)
+
+-- ---- what is read and changed
+
+abbrev pub built_in : BuiltIn → Reg → Maker
+built_in (bi.Argument n) d = both (number n d) (one (Ldga 0 d d))
+built_in bi.Timestamp d = one (Ldgs 0 d)
+built_in bi.Cpu d = one (Ldgs 1 d)
+built_in bi.Pid d = one (Ldgs 2 d)
+built_in bi.Tid d = one (Ldgs 3 d)
+built_in bi.Execname d = one (Ldgs 4 d)
+built_in bi.Probeprov d = one (Ldgs 5 d)
+built_in bi.Probemod d = one (Ldgs 6 d)
+built_in bi.Probefunc d = one (Ldgs 7 d)
+built_in bi.Probename d = one (Ldgs 8 d)
+
+abbrev pub load_from : Space → Var → Reg → Instr
+load_from sp.Thread x d = Ldts x d
+load_from sp.Clause x d = Ldls x d
+
+abbrev pub store_to : Space → Var → Reg → Instr
+store_to sp.Thread x a = Stts x a
+store_to sp.Clause x a = Stls x a
+
+-- ---- keys
+
+-- a value as the next part of a key
+abbrev pub push_of : DType → Reg → Instr
+push_of (ty.Int t) a = Pushtv a
+push_of ty.Text a = Pushtr a
+
+-- the values in this register and those after it as the parts of a key
+abbrev pub pushing : Typeds → ℕ → Maker
+pushing end r = nothing
+pushing (more a rest) r = both (one (push_of (type_of a) (register r))) (pushing rest (r + 1))
+
+-- an instruction on an element, whose keys are in this register and those after it; the tuple is
+-- empty again after it
+abbrev pub keyed : Typeds → ℕ → Instr → Maker
+keyed keys r i = both (pushing keys r) (both (one i) (one Flushts))
+
+-- the value of a variable
+abbrev pub fetching : Space → Typeds → Var → ℕ → Reg → Maker
+fetching sp.Clause keys x r d = one (load_from sp.Clause x d)
+fetching sp.Thread end x r d = one (load_from sp.Thread x d)
+fetching sp.Thread (more k ks) x r d = keyed (more k ks) r (Ldtaa x d)
+
+-- a value into a variable
+abbrev pub saving : Space → Typeds → Var → ℕ → Reg → Maker
+saving sp.Clause keys x r a = one (store_to sp.Clause x a)
+saving sp.Thread end x r a = one (store_to sp.Thread x a)
+saving sp.Thread (more k ks) x r a = keyed (more k ks) r (Sttaa x a)
+
+-- from after the keys to where they began
+abbrev pub lowering : Typeds → Reg → Reg → Maker
+lowering end a d = nothing
+lowering (more k ks) a d = one (Mov a d)
+
+-- ---- changes
+
+-- the word as one of a variable's type
+abbrev pub holding : DType → Reg → Maker
+holding (ty.Int t) d = narrowing t d
+holding ty.Text d = nothing
+
+abbrev pub step_operator : Step → Operator
+step_operator st.Increment = Add
+step_operator st.Decrement = Sub
+
+abbrev pub opposite : Step → Step
+opposite st.Increment = st.Decrement
+opposite st.Decrement = st.Increment
+
+-- one more or one less
+abbrev pub stepping : Step → DType → Reg → Maker
+stepping step t d = both (number 1 R7) (both (one (Alu (step_operator step) d R7 d)) (holding t d))
+
+-- what is answered, from the new word
+abbrev pub answering : Answer → Step → DType → Reg → Maker
+answering an.New step t d = nothing
+answering an.Old step t d = stepping (opposite step) t d
+
+-- ---- functions of texts
+
+abbrev pub measuring : Reg → Maker
+measuring d = both (one (Pushtr d)) (both (one (Call fu.Strlen d)) (one Flushts))
+
+abbrev pub joining : Reg → Reg → Maker
+joining d a =
+    both (one (Pushtr d)) (both (one (Pushtr a)) (both (one (Call fu.Strjoin d)) (one Flushts)))
+
+-- ---- expressions
+
+-- the value of an expression into the register of this number, by it and those above
+abbrev mutual
+  pub code_of : Typed → ℕ → Maker
+  code_of (Constant t word) r = number word (register r)
+  code_of (Text bytes) r = text bytes (register r)
+  code_of (Fixed b) r = built_in b (register r)
+  code_of (Read x keys) r =
+      both (keys_code keys r) (fetching x.space keys (var_of x) r (register r))
+  code_of (Unary o t a) r = both (code_of a r) (unary o t (register r))
+  code_of (Operate o a b) r =
+      both (code_of a r) (both (code_of b (r + 1)) (operated o (register r) (register (r + 1))))
+  code_of (Compare o t a b) r =
+      both (code_of a r)
+      (both (code_of b (r + 1))
+      (bit_by (Cmp (register r) (register (r + 1))) (condition_of o t.signed) (register r)))
+  code_of (CompareText o a b) r =
+      both (code_of a r)
+      (both (code_of b (r + 1))
+      (bit_by (Scmp (register r) (register (r + 1))) (condition_of o false) (register r)))
+  code_of (Logic lo.Xor a b) r =
+      both (code_of a r) (both (code_of b (r + 1)) (differing (register r) (register (r + 1))))
+  code_of (Logic lo.And a b) r =
+      both (code_of a r)
+      (choice (Tst (register r)) Equal
+      (both (code_of b r) (bit_by (Tst (register r)) NotEqual (register r)))
+      (number 0 (register r)))
+  code_of (Logic lo.Or a b) r =
+      both (code_of a r)
+      (choice (Tst (register r)) Equal
+      (number 1 (register r))
+      (both (code_of b r) (bit_by (Tst (register r)) NotEqual (register r))))
+  code_of (Choice t c a b) r =
+      both (code_of c r) (choice (Tst (register r)) Equal (code_of a r) (code_of b r))
+  code_of (Convert t u a) r = both (code_of a r) (narrowing u (register r))
+  code_of (Assign x keys a) r =
+      both (keys_code keys r)
+      (both (code_of a (r + count keys))
+      (both (saving x.space keys (var_of x) r (register (r + count keys)))
+      (lowering keys (register (r + count keys)) (register r))))
+  code_of (Update o x keys a) r =
+      both (keys_code keys r)
+      (both (fetching x.space keys (var_of x) r (register (r + count keys)))
+      (both (narrowing (works_in o) (register (r + count keys)))
+      (both (code_of a (r + count keys + 1))
+      (both (operated o (register (r + count keys)) (register (r + count keys + 1)))
+      (both (holding x.holds (register (r + count keys)))
+      (both (saving x.space keys (var_of x) r (register (r + count keys)))
+      (lowering keys (register (r + count keys)) (register r))))))))
+  code_of (Count step answer x keys) r =
+      both (keys_code keys r)
+      (both (fetching x.space keys (var_of x) r (register (r + count keys)))
+      (both (stepping step x.holds (register (r + count keys)))
+      (both (saving x.space keys (var_of x) r (register (r + count keys)))
+      (both (answering answer step x.holds (register (r + count keys)))
+      (lowering keys (register (r + count keys)) (register r))))))
+  code_of (Strlen a) r = both (code_of a r) (measuring (register r))
+  code_of (Strjoin a b) r =
+      both (code_of a r) (both (code_of b (r + 1)) (joining (register r) (register (r + 1))))
+
+  -- keys into this register and those after it
+  pub keys_code : Typeds → ℕ → Maker
+  keys_code end r = nothing
+  keys_code (more a rest) r = both (code_of a r) (keys_code rest (r + 1))
+
+-- the whole object: the value into the first register, and its return
+abbrev pub object_of : Typed → Piece
+object_of e = both (code_of e 1) (one (Ret R1)) (record { at = 0; texts = 0; numbers = 0 })

@@ -1,0 +1,28 @@
+-- Objects that are being made.
+use Rattle.std.specs.Prelude.{◌≡◌, ℕ, ◌+◌, ◌++◌, length, slice_set}
+use Rattle.dif_validate.specs.declared.instruction.Condition.{Condition}
+use Rattle.dif_validate.specs.declared.instruction.Instr.TheVariants.{Ba, Branch}
+use Rattle.dif_validate.specs.declared.object.Difo.{Difo}
+use Rattle.dif_codegen.specs.Pieces.{Place, Maker}
+
+-- the place after all that was made so far
+abbrev pub end_of : Difo → Place
+end_of d = record {
+  at = length d.code.items;
+  texts = length d.texts.items;
+  numbers = length d.numbers.items;
+}
+
+-- a piece was put at the end
+pub record Adds (g : Maker) (old new : Difo) : Type 0 where
+  pub code : new.code.items ≡ old.code.items ++ (g (end_of old)).code
+  pub texts : new.texts.items ≡ old.texts.items ++ (g (end_of old)).texts
+  pub numbers : new.numbers.items ≡ old.numbers.items ++ (g (end_of old)).numbers
+
+-- a branch, and the jump that ends its first side, got their targets
+pub record Closes (branch : ℕ) (condition : Condition) (jump : ℕ) (old new : Difo) : Type 0 where
+  pub code : new.code.items
+      ≡ slice_set (slice_set old.code.items branch (Branch condition (jump + 1))) jump
+      (Ba (length old.code.items))
+  pub texts : new.texts.items ≡ old.texts.items
+  pub numbers : new.numbers.items ≡ old.numbers.items

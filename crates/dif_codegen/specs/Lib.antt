@@ -1,0 +1,6 @@
+pub mod Pieces
+pub mod Code
+pub mod Correct
+pub mod Drafts
+pub mod Programs
+pub mod Meaning

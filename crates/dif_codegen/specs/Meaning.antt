@@ -1,0 +1,85 @@
+-- What compiled clauses mean: the objects are run, and all else is as for typed trees.
+use Rattle.std.specs.Prelude.{◌≡◌, ℕ, zero, suc, List, [], ◌∷◌, length, map}
+use Rattle.std.specs.List.{AllZip}
+use Rattle.aggregations.specs.declared.function.AggFn.{AggFn}
+use Rattle.d_values.specs.declared.int_type.DType.{DType}
+use Rattle.d_values.specs.declared.key.KeyPart.{KeyPart}
+use Rattle.d_values.specs.declared.value.Value.{Value}
+use Rattle.firing_reader.specs.declared.firing.Firing.{Firing}
+use Rattle.d_types.specs.Clauses.{Evaluation, Made, fault_line, run_by, run_of}
+use Rattle.d_types.specs.Expressions.{Outcome, Has, Faults, with, part_of}
+use Rattle.d_types.specs.Held.{HasTypedBuiltIns, Slots, AreTyped, slots_of}
+use Rattle.d_types.specs.Storage.{Variables}
+use Rattle.d_types.specs.Typed.{ClauseMeant, ScriptMeant}
+use Rattle.dif_validate.specs.Objects.{Object}
+use Rattle.dif_machine.specs.Frames.{Frame}
+use Rattle.dif_machine.specs.Frames.{start}
+use Rattle.dif_machine.specs.Steps as steps
+use Rattle.dif_machine.specs.Steps.{Next, step_of}
+use Rattle.dif_codegen.specs.declared.program.CompiledClause.{CompiledClause}
+use Rattle.dif_codegen.specs.declared.program.TypedObject.{TypedObject}
+use Rattle.dif_codegen.specs.Programs.{ClauseCode, clause_code}
+
+-- ---- objects
+
+-- on from the next state, or the end
+abbrev pub goes_on : Next → Variables → (Frame → Variables → Outcome Value) → Outcome Value
+goes_on (steps.Goes s after) vars go = go s after
+goes_on (steps.Ends value after) vars go = Has value after
+goes_on (steps.Faults after) vars go = Faults after
+goes_on steps.Stuck vars go = Faults vars
+
+-- at most so many steps from a state
+abbrev pub within : ℕ → Firing → Object → Frame → Variables → Outcome Value
+within zero f o s vars = Faults vars
+within (suc n) f o s vars = goes_on (step_of o f s vars) vars (within n f o)
+
+-- a run of an object: valid code makes at most as many steps as it has instructions
+abbrev pub value_of : Firing → Object → Variables → Outcome Value
+value_of f o vars = within (length o.code) f o start vars
+
+-- ---- clauses
+
+abbrev pub values_of : Firing → List TypedObject → Variables → Outcome (List (DType × Value))
+values_of f [] vars = Has [] vars
+values_of f (x ∷ rest) vars =
+    with (value_of f x.object vars)
+    (λ v vars. with (values_of f rest vars) (λ vs. Has ((x.returns, v) ∷ vs)))
+
+abbrev pub key_of : Firing → List TypedObject → Variables → Outcome (List KeyPart)
+key_of f [] vars = Has [] vars
+key_of f (x ∷ rest) vars =
+    with (value_of f x.object vars)
+    (λ v vars. with (key_of f rest vars) (λ key. Has (part_of v ∷ key)))
+
+-- that of objects
+abbrev pub by_objects : Firing → Evaluation TypedObject (List TypedObject)
+by_objects f = record {
+  value = λ x. value_of f x.object;
+  values = values_of f;
+  key = key_of f;
+  type = λ x. x.returns;
+}
+
+-- a run of the compiled clause at this place among the program's, from 1
+abbrev pub run_code : Firing → ℕ → ClauseCode → Variables → Made
+run_code f place c vars =
+    run_by (by_objects f) (fault_line f.number place) c.predicate c.actions vars
+
+-- ---- programs
+
+-- a compiled clause is for the probes of a clause, and from any variables that hold values of their
+-- types each run makes what a run of the clause makes, and leaves such variables
+pub record Does (slots : Slots) (c : CompiledClause) (meant : ClauseMeant) : Type 0 where
+  pub descriptions : c.descriptions.items ≡ meant.descriptions
+  pub runs : (f : Firing) (place : ℕ) (vars : Variables) → HasTypedBuiltIns f → AreTyped slots vars
+      → run_code f place (clause_code c) vars ≡ run_of f place meant vars
+  pub typed : (f : Firing) (place : ℕ) (vars : Variables) → HasTypedBuiltIns f → AreTyped slots vars
+      → AreTyped slots (run_code f place (clause_code c) vars).variables
+
+-- a program has the functions of a script's aggregations and a clause for each of its clauses, in
+-- their order
+pub record IsProgramOf (m : ScriptMeant) (clauses : List CompiledClause) (functions : List AggFn)
+    : Type 0 where
+  pub have_functions : functions ≡ map (λ a. a.function) m.aggregations
+  pub do_the_same : AllZip (Does (slots_of m)) clauses m.clauses

@@ -1,0 +1,86 @@
+-- Pieces of code, and how they are put together.
+use Rattle.std.specs.Prelude.{ℕ, ◌+◌, List, [], ◌∷◌, ◌++◌, length}
+use Rattle.dif_validate.specs.declared.instruction.Condition.{Condition}
+use Rattle.dif_validate.specs.declared.instruction.Instr.{Instr}
+use Rattle.dif_validate.specs.declared.instruction.Instr.TheVariants.{Ba, Branch, Setx, Sets}
+use Rattle.dif_validate.specs.declared.register.Reg.{Reg}
+
+-- instructions, and what they add to the tables
+pub record Piece : Type 0 where
+  pub code : List Instr
+  pub texts : List (List ℕ)
+  pub numbers : List ℕ
+
+-- where a piece stands: how many instructions, texts and numbers come before it
+pub record Place : Type 0 where
+  pub at : ℕ
+  pub texts : ℕ
+  pub numbers : ℕ
+
+-- a piece for each place
+abbrev pub Maker : Type 0
+Maker = Place → Piece
+
+abbrev pub nothing : Maker
+nothing pl = record { code = []; texts = []; numbers = [] }
+
+abbrev pub one : Instr → Maker
+one i pl = record { code = i ∷ []; texts = []; numbers = [] }
+
+-- a constant into a register
+abbrev pub number : ℕ → Reg → Maker
+number word d pl = record { code = Setx pl.numbers d ∷ []; texts = []; numbers = word ∷ [] }
+
+abbrev pub text : List ℕ → Reg → Maker
+text bytes d pl = record { code = Sets pl.texts d ∷ []; texts = bytes ∷ []; numbers = [] }
+
+-- ---- one after the other
+
+abbrev pub joined : Piece → Piece → Piece
+joined p q = record {
+  code = p.code ++ q.code;
+  texts = p.texts ++ q.texts;
+  numbers = p.numbers ++ q.numbers;
+}
+
+abbrev pub behind : Place → Piece → Place
+behind pl p = record {
+  at = pl.at + length p.code;
+  texts = pl.texts + length p.texts;
+  numbers = pl.numbers + length p.numbers;
+}
+
+abbrev pub after : Piece → Maker → Maker
+after p h pl = joined p (h (behind pl p))
+
+abbrev pub both : Maker → Maker → Maker
+both g h pl = after (g pl) h pl
+
+-- ---- one or the other
+
+abbrev pub next : Place → Place
+next pl = record { at = pl.at + 1; texts = pl.texts; numbers = pl.numbers }
+
+-- the second where the branch is taken, else the first and a jump past the second
+abbrev pub forked : Condition → Place → Piece → Piece → Piece
+forked condition pl p q = record {
+  code =
+      Branch condition (pl.at + 2 + length p.code)
+      ∷ (p.code ++ Ba (pl.at + 2 + length p.code + length q.code) ∷ q.code);
+  texts = p.texts ++ q.texts;
+  numbers = p.numbers ++ q.numbers;
+}
+
+abbrev pub fork_after : Condition → Piece → Maker → Maker
+fork_after condition p h pl = forked condition pl p (h (next (behind (next pl) p)))
+
+abbrev pub fork : Condition → Maker → Maker → Maker
+fork condition g h pl = fork_after condition (g (next pl)) h pl
+
+-- after a test
+abbrev pub choice : Instr → Condition → Maker → Maker → Maker
+choice test condition g h = both (one test) (fork condition g h)
+
+-- 1 where the branch is taken, and else 0
+abbrev pub bit_by : Instr → Condition → Reg → Maker
+bit_by test condition d = choice test condition (number 0 d) (number 1 d)

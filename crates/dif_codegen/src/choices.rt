@@ -1,0 +1,109 @@
+//! Branches: their targets are written once both sides are made.
+
+ghost use Rattle.std.specs.Prelude.{◌≡◌, ◌<◌, false, length, OnOk};
+ghost use Rattle.dif_codegen.specs.Code as spec;
+ghost use Rattle.dif_codegen.specs.Drafts.{Adds, Closes};
+ghost use Rattle.dif_codegen.specs.Pieces as pieces;
+ghost use Rattle.dif_validate.specs.declared.instruction.Instr.TheVariants.{Cmp, Scmp};
+
+use crate::draft::{narrow, put, put_number};
+use crate::operators::condition_of;
+use d_parser::UnaryOperator;
+use d_values::{ComparisonOperator, IntType};
+use dif_validate::{Condition, Difo, Instr, Operator, Reg};
+use std::alloc::AllocError;
+
+/// Writes the targets of a branch and of the jump that ends its first side.
+pub(crate) fn close(draft: &mut Difo, branch: usize, condition: Condition, jump: usize)
+    requires first { branch < length draft.old.code.items }
+    requires second { jump < length draft.old.code.items }
+    ensures { Closes branch condition jump draft.old draft.new }
+{
+    draft.code[branch] = Instr::Branch(condition, jump + 1);
+    draft.code[jump] = Instr::Ba(draft.code.len());
+}
+
+/// Makes 1 where a branch after the test is taken, and else 0.
+pub(crate) fn put_bit(
+    draft: &mut Difo,
+    test: Instr,
+    condition: Condition,
+    d: Reg,
+) -> Result<(), AllocError>
+    ensures { OnOk result (Adds (pieces.bit_by test condition d) draft.old draft.new) }
+{
+    put(draft, test)?;
+    let branch = draft.code.len();
+    put(draft, Instr::Branch(condition, 0))?;
+    put_number(draft, 0, d)?;
+    let jump = draft.code.len();
+    put(draft, Instr::Ba(0))?;
+    put_number(draft, 1, d)?;
+    close(draft, branch, condition, jump);
+    Ok(())
+}
+
+/// Compares two integers of a type, with 1 or 0 in the first register.
+pub(crate) fn put_comparison(
+    draft: &mut Difo,
+    op: ComparisonOperator,
+    t: IntType,
+    a: Reg,
+    b: Reg,
+) -> Result<(), AllocError>
+    ensures { OnOk result
+        (Adds (pieces.bit_by (Cmp a b) (spec.condition_of op t.signed) a) draft.old draft.new) }
+{
+    put_bit(draft, Instr::Cmp(a, b), condition_of(op, t.signed), a)
+}
+
+/// Compares two texts, with 1 or 0 in the first register.
+pub(crate) fn put_text_comparison(
+    draft: &mut Difo,
+    op: ComparisonOperator,
+    a: Reg,
+    b: Reg,
+) -> Result<(), AllocError>
+    ensures { OnOk result
+        (Adds (pieces.bit_by (Scmp a b) (spec.condition_of op false) a) draft.old draft.new) }
+{
+    put_bit(draft, Instr::Scmp(a, b), condition_of(op, false), a)
+}
+
+/// Makes 1 where one of two registers is 0 and the other isn't, in the first.
+pub(crate) fn put_differing(draft: &mut Difo, a: Reg, b: Reg) -> Result<(), AllocError>
+    ensures { OnOk result (Adds (spec.differing a b) draft.old draft.new) }
+{
+    put(draft, Instr::Tst(a))?;
+    let branch = draft.code.len();
+    put(draft, Instr::Branch(Condition::Equal, 0))?;
+    put_bit(draft, Instr::Tst(b), Condition::Equal, a)?;
+    let jump = draft.code.len();
+    put(draft, Instr::Ba(0))?;
+    put_bit(draft, Instr::Tst(b), Condition::NotEqual, a)?;
+    close(draft, branch, Condition::Equal, jump);
+    Ok(())
+}
+
+/// Applies an operator to a register.
+pub(crate) fn put_unary(
+    draft: &mut Difo,
+    op: UnaryOperator,
+    t: IntType,
+    d: Reg,
+) -> Result<(), AllocError>
+    ensures { OnOk result (Adds (spec.unary op t d) draft.old draft.new) }
+{
+    match op {
+        UnaryOperator::Not => put_bit(draft, Instr::Tst(d), Condition::Equal, d),
+        UnaryOperator::Complement => {
+            put(draft, Instr::Not(d, d))?;
+            narrow(draft, t, d)
+        }
+        UnaryOperator::Negate => {
+            put(draft, Instr::Alu(Operator::Sub, Reg::R0, d, d))?;
+            narrow(draft, t, d)
+        }
+        UnaryOperator::Keep => Ok(()),
+    }
+}

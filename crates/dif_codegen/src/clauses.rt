@@ -1,0 +1,97 @@
+//! Statements, clauses and scripts to compiled ones.
+
+ghost use Rattle.std.specs.Prelude.{◌≡◌, IfOk, map};
+ghost use Rattle.d_types.specs.Fitting.{Fits};
+ghost use Rattle.d_types.specs.Held.{IsConsistent, Slots};
+ghost use Rattle.d_types.specs.Typed.{action_of, actions_of, meant_of};
+ghost use Rattle.d_types.specs.TypedScripts.{typed_script_of};
+ghost use Rattle.d_types.specs.Wholes.{ActionIs, ActionsAre, ClauseIs, ClausesAre};
+ghost use Rattle.dif_codegen.specs.Meaning.{IsProgramOf};
+ghost use Rattle.dif_codegen.specs.Programs.{action_code, clause_code};
+ghost use Rattle.dif_codegen.specs.Programs.{compiled_action, compiled_clause};
+
+use crate::compiling::{compile_expression, compile_expressions, compile_optional};
+use crate::program::{Action, CompiledClause, Program};
+use aggregations::AggFn;
+use d_types::{Piece, TypedAggregation, TypedClause, TypedScript, TypedStmt};
+use std::alloc::{AllocError, Global};
+
+fn compile_statement(alloc: Global, s: &TypedStmt) -> Result<Action, AllocError>
+    requires few { ActionIs Fits (action_of s.now) }
+    requires consistent { (slots : Slots) × ActionIs (IsConsistent slots) (action_of s.now) }
+    ensures { IfOk result (λ a. action_code a ≡ compiled_action (action_of s.now)) }
+{
+    match s {
+        TypedStmt::Evaluate(e) => Ok(Action::Plain(compile_expression(alloc, e)?)),
+        TypedStmt::Trace(e) => Ok(Action::Trace(compile_expression(alloc, e)?)),
+        TypedStmt::Print(format, arguments) => {
+            let arguments = compile_expressions(alloc, arguments)?;
+            let format: Vec<Piece> = format.to_vec(alloc)?;
+            Ok(Action::Printf(format, arguments))
+        }
+        TypedStmt::Exit(e) => Ok(Action::Exit(compile_expression(alloc, e)?)),
+        TypedStmt::Aggregate(place, keys, argument) => {
+            let keys = compile_expressions(alloc, keys)?;
+            let argument = compile_optional(alloc, argument)?;
+            Ok(Action::Aggregate(*place, keys, argument))
+        }
+    }
+}
+
+fn compile_statements(alloc: Global, all: &[TypedStmt]) -> Result<Vec<Action>, AllocError>
+    requires few { ActionsAre Fits (actions_of all.now) }
+    requires consistent { (slots : Slots) × ActionsAre (IsConsistent slots) (actions_of all.now) }
+    ensures { IfOk result (λ v. map action_code v.items
+        ≡ map compiled_action (actions_of all.now)) }
+{
+    let mut actions = Vec::new(alloc);
+    for s in all {
+        actions.push(compile_statement(alloc, s)?)?;
+    }
+    Ok(actions)
+}
+
+fn compile_clause(alloc: Global, c: &TypedClause) -> Result<CompiledClause, AllocError>
+    requires few { ClauseIs Fits (meant_of c.now) }
+    requires consistent { (slots : Slots) × ClauseIs (IsConsistent slots) (meant_of c.now) }
+    ensures { IfOk result (λ r. clause_code r ≡ compiled_clause (meant_of c.now)) }
+{
+    let descriptions = c.descriptions.clone()?;
+    let predicate = compile_optional(alloc, &c.predicate)?;
+    let actions = compile_statements(alloc, &c.statements)?;
+    Ok(CompiledClause {
+        descriptions,
+        predicate,
+        actions,
+    })
+}
+
+fn compile_clauses(alloc: Global, all: &[TypedClause]) -> Result<Vec<CompiledClause>, AllocError>
+    requires few { ClausesAre Fits (map meant_of all.now) }
+    requires consistent { (slots : Slots) × ClausesAre (IsConsistent slots) (map meant_of all.now) }
+    ensures { IfOk result (λ v. map clause_code v.items
+        ≡ map compiled_clause (map meant_of all.now)) }
+{
+    let mut clauses = Vec::new(alloc);
+    for c in all {
+        clauses.push(compile_clause(alloc, c)?)?;
+    }
+    Ok(clauses)
+}
+
+// The function of each aggregation.
+fn functions(alloc: Global, aggs: &[TypedAggregation]) -> Result<Vec<AggFn>, AllocError>
+    ensures { IfOk result (λ v. v.items ≡ map (λ a. a.function) aggs.now) }
+{
+    aggs.iter().map(|a| a.function).collect(alloc)
+}
+
+/// The program of a script: each expression is an object of its own. Refused for memory alone.
+pub fn compile(alloc: Global, script: &TypedScript) -> Result<Program, AllocError>
+    ensures { IfOk result
+        (λ p. IsProgramOf (typed_script_of script.now) p.clauses.items p.functions.items) }
+{
+    let functions = functions(alloc, script.aggs())?;
+    let clauses = compile_clauses(alloc, script.clauses())?;
+    Ok(Program { clauses, functions })
+}

@@ -1,0 +1,100 @@
+//! Variables, and elements by their keys in registers.
+
+ghost use Rattle.std.specs.Prelude.{◌≡◌, ◌≤◌, ◌+◌, OnOk};
+ghost use Rattle.d_types.specs.Needs.{count};
+ghost use Rattle.d_types.specs.Storage.{var_of};
+ghost use Rattle.d_types.specs.Typed.{typeds_of};
+ghost use Rattle.dif_codegen.specs.Code as spec;
+ghost use Rattle.dif_codegen.specs.Drafts.{Adds};
+
+use crate::draft::put;
+use crate::operators::{push_of, register, var_of};
+use d_types::{Space, TypedExpr, Variable};
+use dif_validate::{Difo, Instr, Reg};
+use std::alloc::AllocError;
+
+/// The number of the register after the keys.
+#[tactic(auto, using(crate::proofs::Adding::counted))]
+pub(crate) fn after(keys: &[TypedExpr], r: u8) -> u8
+    requires few { r + count (typeds_of keys.now) ≤ 7 }
+    ensures { result ≡ r + count (typeds_of keys.now) }
+{
+    r + keys.len() as u8
+}
+
+// Makes the values in this register and those after it the parts of a key.
+fn put_key(draft: &mut Difo, keys: &[TypedExpr], r: u8) -> Result<(), AllocError>
+    requires few { r + count (typeds_of keys.now) ≤ 8 }
+    ensures { OnOk result (Adds (spec.pushing (typeds_of keys.now) r) draft.old draft.new) }
+{
+    let mut q = r;
+    for key in keys {
+        put(draft, push_of(key.type_of(), register(q)))?;
+        q += 1;
+    }
+    Ok(())
+}
+
+// Puts an instruction on an element.
+fn put_keyed(draft: &mut Difo, keys: &[TypedExpr], r: u8, i: Instr) -> Result<(), AllocError>
+    requires few { r + count (typeds_of keys.now) ≤ 8 }
+    ensures { OnOk result (Adds (spec.keyed (typeds_of keys.now) r i) draft.old draft.new) }
+{
+    put_key(draft, keys, r)?;
+    put(draft, i)?;
+    put(draft, Instr::Flushts)
+}
+
+/// Loads a variable.
+pub(crate) fn fetch(
+    draft: &mut Difo,
+    x: Variable,
+    keys: &[TypedExpr],
+    r: u8,
+    d: Reg,
+) -> Result<(), AllocError>
+    requires few { r + count (typeds_of keys.now) ≤ 8 }
+    ensures { OnOk result
+        (Adds (spec.fetching x.space (typeds_of keys.now) (var_of x) r d) draft.old draft.new) }
+{
+    let var = var_of(x);
+    match x.space {
+        Space::Clause => put(draft, Instr::Ldls(var, d)),
+        Space::Thread => match keys {
+            [] => put(draft, Instr::Ldts(var, d)),
+            _ => put_keyed(draft, keys, r, Instr::Ldtaa(var, d)),
+        },
+    }
+}
+
+/// Stores a variable.
+pub(crate) fn save(
+    draft: &mut Difo,
+    x: Variable,
+    keys: &[TypedExpr],
+    r: u8,
+    a: Reg,
+) -> Result<(), AllocError>
+    requires few { r + count (typeds_of keys.now) ≤ 8 }
+    ensures { OnOk result
+        (Adds (spec.saving x.space (typeds_of keys.now) (var_of x) r a) draft.old draft.new) }
+{
+    let var = var_of(x);
+    match x.space {
+        Space::Clause => put(draft, Instr::Stls(var, a)),
+        Space::Thread => match keys {
+            [] => put(draft, Instr::Stts(var, a)),
+            _ => put_keyed(draft, keys, r, Instr::Sttaa(var, a)),
+        },
+    }
+}
+
+/// Brings a value from after the keys to where they began.
+pub(crate) fn lower(draft: &mut Difo, keys: &[TypedExpr], a: Reg, d: Reg) -> Result<(), AllocError>
+    ensures { OnOk result (Adds (spec.lowering (typeds_of keys.now) a d) draft.old draft.new) }
+{
+    match keys {
+        [] => Ok(()),
+        _ => put(draft, Instr::Mov(a, d)),
+    }
+}

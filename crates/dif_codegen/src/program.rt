@@ -1,0 +1,68 @@
+//! Compiled scripts.
+
+use aggregations::AggFn;
+use d_parser::Description;
+use d_types::Piece;
+use d_values::DType;
+use dif_validate::ValidDifo;
+
+/// The object of an expression.
+#[derive(Drop)]
+pub struct TypedObject {
+    /// Its code.
+    pub object: ValidDifo,
+    /// The type of the value that it returns.
+    pub returns: DType,
+}
+
+/// A compiled statement.
+#[derive(Drop)]
+pub enum Action {
+    /// An expression, for its assignments.
+    Plain(TypedObject),
+    /// `trace(value)`
+    Trace(TypedObject),
+    /// `printf(format, arguments)`
+    Printf(Vec<Piece>, Vec<TypedObject>),
+    /// `exit(status)`
+    Exit(TypedObject),
+    /// `@name[keys] = function(argument)`: the aggregation's place, its keys, and what its function
+    /// takes, if any.
+    Aggregate(usize, Vec<TypedObject>, Option<TypedObject>),
+}
+
+/// A compiled clause.
+#[derive(Drop)]
+pub struct CompiledClause {
+    /// The probes that it is for.
+    pub descriptions: Vec<Description>,
+    /// What has to be other than zero, if anything.
+    pub predicate: Option<TypedObject>,
+    /// What is done, in order.
+    pub actions: Vec<Action>,
+}
+
+/// A compiled script.
+#[derive(Drop)]
+pub struct Program {
+    pub(crate) clauses: Vec<CompiledClause>,
+    pub(crate) functions: Vec<AggFn>,
+}
+
+impl Program {
+    ghost use Rattle.std.specs.Prelude.{◌≡◌};
+
+    /// Its clauses, in the order of the script's.
+    pub fn clauses(&self) -> &[CompiledClause]
+        ensures { result.now ≡ self.now.clauses.items }
+    {
+        &self.clauses
+    }
+
+    /// The functions of the script's aggregations, in order of first appearance.
+    pub fn aggregations(&self) -> &[AggFn]
+        ensures { result.now ≡ self.now.functions.items }
+    {
+        &self.functions
+    }
+}

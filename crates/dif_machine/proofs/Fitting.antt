@@ -1,0 +1,183 @@
+-- A frame that has what is known.
+use Rattle.std.specs.Prelude.{◌≡◌, ◌≢◌, ◌<◌, ℕ, zero, suc, Bool, true, false, ◌||◌, List, [], ◌∷◌, length, Option, Some, None, slice_index_or, slice_set}
+use Rattle.std.proofs.Common.{refl, sym, ap, ◌∙◌, subst, ⊎_elim, arith}
+use Rattle.std.proofs.lemmas.Bool.{cases_eq}
+use Rattle.std.proofs.lemmas.List.{get_or-set_same, get_or-set_other}
+use Rattle.std.proofs.Math.ListN.{length-set}
+use Rattle.d_values.specs.Stores.{kind_of}
+use Rattle.d_values.specs.declared.key.KeyPart.{KeyPart}
+use Rattle.d_values.specs.declared.value.Kind.{Kind}
+use Rattle.d_values.specs.declared.value.Kind.TheVariants.{Number, Text}
+use Rattle.d_values.specs.declared.value.Value.{Value}
+use Rattle.d_values.specs.declared.value.Value.TheVariants as va
+use Rattle.dif_validate.specs.declared.asks.Asks.TheVariants.{Any, One, Two}
+use Rattle.dif_validate.specs.declared.register.Reg.{Reg}
+use Rattle.dif_validate.specs.declared.register.Reg.TheVariants.{R0, R1, R2, R3, R4, R5, R6, R7}
+use Rattle.dif_validate.specs.declared.shape.Shape.{Shape}
+use Rattle.dif_validate.specs.Asks.{finds_other, finds_unset}
+use Rattle.dif_validate.specs.Leaves.{with_register, with_comparison, with_tuple}
+use Rattle.dif_validate.specs.Registers.{number_of, at, put}
+use Rattle.dif_validate.specs.Shapes.{is_other, is_unset}
+use Rattle.dif_validate.proofs.Flowing.{Within}
+use Rattle.dif_machine.specs.declared.comparing.Comparison.{Comparison}
+use Rattle.dif_machine.specs.Frames.{Frame}
+use Rattle.dif_machine.specs.Frames as frames
+use Rattle.dif_machine.specs.Kinds.{kinds_of}
+use Rattle.dif_machine.specs.Steps.{Next, on, on_number, on_text, on_kind}
+
+-- a value of the kind is there
+pub record Holds (known : Option Value) (k : Kind) : Type 0 where
+  pub value : Value
+  pub is : known ≡ Some value
+  pub kind : kind_of value ≡ k
+
+pub record Fits (s : Shape) (f : Frame) : Type 0 where
+  pub registers : (r : Reg) (k : Kind) → at s.registers r ≡ Some k → Holds (at f.registers r) k
+  pub compared : s.compared ≡ true → f.comparison ≢ None
+  pub tuple : (ks : List Kind) → s.tuple ≡ Some ks → kinds_of f.tuple ≡ ks
+  pub long : length f.registers ≡ 8
+
+pub fits_within : (u t : Shape) (f : Frame) → Within u t → Fits t f → Fits u f
+fits_within u t f w h = record {
+  registers = λ r k e. h.registers r k (w.registers r k e);
+  compared = λ e. h.compared (w.compared e);
+  tuple = λ ks e. h.tuple ks (w.tuple ks e);
+  long = h.long;
+}
+
+-- ---- writes
+
+pub number_below : (r : Reg) → number_of r < 8
+number_below R0 = omega arith
+number_below R1 = omega arith
+number_below R2 = omega arith
+number_below R3 = omega arith
+number_below R4 = omega arith
+number_below R5 = omega arith
+number_below R6 = omega arith
+number_below R7 = omega arith
+
+pub set_found : {A : Type 0} (xs : List (Option A)) (n : ℕ) (x : Option A) (y : A) → slice_index_or (slice_set xs n x) n None ≡ Some y → x ≡ Some y
+set_found [] n x y h = cc
+set_found (z ∷ xs) zero x y h = h
+set_found (z ∷ xs) (suc n) x y h = set_found xs n x y h
+
+pub put_set : {A : Type 0} (xs : List (Option A)) (d : Reg) (x : Option A) → number_of d ≢ 0 → put xs d x ≡ slice_set xs (number_of d) x
+put_set xs R0 x h = absurd (h refl)
+put_set xs R1 x h = refl
+put_set xs R2 x h = refl
+put_set xs R3 x h = refl
+put_set xs R4 x h = refl
+put_set xs R5 x h = refl
+put_set xs R6 x h = refl
+put_set xs R7 x h = refl
+
+pub put_zero : {A : Type 0} (xs : List (Option A)) (d : Reg) (x : Option A) → number_of d ≡ 0 → put xs d x ≡ xs
+put_zero xs R0 x h = refl
+put_zero xs R1 x h = absurd (omega arith)
+put_zero xs R2 x h = absurd (omega arith)
+put_zero xs R3 x h = absurd (omega arith)
+put_zero xs R4 x h = absurd (omega arith)
+put_zero xs R5 x h = absurd (omega arith)
+put_zero xs R6 x h = absurd (omega arith)
+put_zero xs R7 x h = absurd (omega arith)
+
+pub put_long : {A : Type 0} (xs : List (Option A)) (d : Reg) (x : Option A) → length (put xs d x) ≡ length xs
+put_long xs R0 x = refl
+put_long xs R1 x = length-set xs 1 x
+put_long xs R2 x = length-set xs 2 x
+put_long xs R3 x = length-set xs 3 x
+put_long xs R4 x = length-set xs 4 x
+put_long xs R5 x = length-set xs 5 x
+put_long xs R6 x = length-set xs 6 x
+put_long xs R7 x = length-set xs 7 x
+
+-- what is known of a register after a write holds
+put_fits : (ks : List (Option Kind)) (vs : List (Option Value)) (d : Reg) (k : Option Kind) (v : Value) → length vs ≡ 8
+    → ((r : Reg) (j : Kind) → at ks r ≡ Some j → Holds (at vs r) j) → ((j : Kind) → k ≡ Some j → kind_of v ≡ j)
+    → (r : Reg) (j : Kind) → at (put ks d k) r ≡ Some j → Holds (at (put vs d (Some v)) r) j
+put_fits ks vs d k v long old new r j h =
+    ⊎_elim
+    (λ (z : number_of d ≡ 0).
+    subst (λ xs. Holds (at xs r) j) (sym (put_zero vs d (Some v) z)) (old r j (ap (λ xs. at xs r) (sym (put_zero ks d k z)) ∙ h)))
+    (λ (nz : number_of d ≡ 0 → ⊥).
+    let h' : slice_index_or (slice_set ks (number_of d) k) (number_of r) None ≡ Some j = ap (λ xs. at xs r) (sym (put_set ks d k nz)) ∙ h in
+    subst (λ xs. Holds (at xs r) j) (sym (put_set vs d (Some v) nz))
+    (⊎_elim
+    (λ (same : number_of r ≡ number_of d).
+    let inside : number_of d < length vs = omega (arith, number_below d) in
+    let found : k ≡ Some j = set_found ks (number_of d) k j (ap (λ n. slice_index_or (slice_set ks (number_of d) k) n None) (sym same) ∙ h') in
+    record { value = v; is = ap (λ n. slice_index_or (slice_set vs (number_of d) (Some v)) n None) same ∙ get_or-set_same vs (number_of d) (Some v) None inside; kind = new j found })
+    (λ (other : number_of r ≡ number_of d → ⊥).
+    let was = old r j (sym (get_or-set_other ks (number_of d) (number_of r) k None other) ∙ h') in
+    record { value = was.value; is = get_or-set_other vs (number_of d) (number_of r) (Some v) None other ∙ was.is; kind = was.kind })
+    (cases_eq (number_of r) (number_of d))))
+    (cases_eq (number_of d) 0)
+
+pub fits_value : (s : Shape) (f : Frame) (d : Reg) (k : Option Kind) (v : Value) → Fits s f → ((j : Kind) → k ≡ Some j → kind_of v ≡ j) → Fits (with_register s d k) (frames.with_value f d v)
+fits_value s f d k v h is = record {
+  registers = put_fits s.registers f.registers d k v h.long h.registers is;
+  compared = h.compared;
+  tuple = h.tuple;
+  long = put_long f.registers d (Some v) ∙ h.long;
+}
+
+pub fits_place : (s : Shape) (f : Frame) (pc : ℕ) → Fits s f → Fits s (frames.at_place f pc)
+fits_place s f pc h = record { registers = h.registers; compared = h.compared; tuple = h.tuple; long = h.long }
+
+pub fits_comparison : (s : Shape) (f : Frame) (known : Comparison) → Fits s f → Fits (with_comparison s) (frames.with_comparison f known)
+fits_comparison s f known h = record { registers = h.registers; compared = λ e n. cc; tuple = h.tuple; long = h.long }
+
+pub fits_tuple : (s : Shape) (f : Frame) (o : Option (List Kind)) (parts : List KeyPart) → Fits s f → ((ks : List Kind) → o ≡ Some ks → kinds_of parts ≡ ks) → Fits (with_tuple s o) (frames.with_tuple f parts)
+fits_tuple s f o parts h is = record { registers = h.registers; compared = h.compared; tuple = is; long = h.long }
+
+-- ---- what an instruction asks for is there
+
+other_or_unset : (k : Kind) (known : Option Kind) → is_other k known ≡ false → is_unset known ≡ false → known ≡ Some k
+other_or_unset k None a b = cc
+other_or_unset Number (Some Number) a b = refl
+other_or_unset Text (Some Text) a b = refl
+other_or_unset Number (Some Text) a b = cc
+other_or_unset Text (Some Number) a b = cc
+
+or_none : (a b : Bool) → (a || b) ≡ false → (a ≡ false) × (b ≡ false)
+or_none true b h = cc
+or_none false b h = (refl, h)
+
+pub one : (k : Kind) (a : Reg) (s : Shape) → finds_other (One k a) s ≡ false → finds_unset (One k a) s ≡ false → at s.registers a ≡ Some k
+one k a s x y = other_or_unset k (at s.registers a) x y
+
+pub two : (k : Kind) (a b : Reg) (s : Shape) → finds_other (Two k a b) s ≡ false → finds_unset (Two k a b) s ≡ false → (at s.registers a ≡ Some k) × (at s.registers b ≡ Some k)
+two k a b s x y =
+    let p = or_none (is_other k (at s.registers a)) _ x in
+    let q = or_none (is_unset (at s.registers a)) _ y in
+    (other_or_unset k (at s.registers a) p.0 q.0, other_or_unset k (at s.registers b) p.1 q.1)
+
+pub any : (a : Reg) (s : Shape) → finds_unset (Any a) s ≡ false → (k : Kind) × (at s.registers a ≡ Some k)
+any a s h = by (at s.registers a) refl h
+  where
+    by : (o : Option Kind) → at s.registers a ≡ o → is_unset o ≡ false → (k : Kind) × (at s.registers a ≡ Some k)
+    by None e h = cc
+    by (Some k) e h = (k, e)
+
+module _ (P : Next → Type 0) where
+  pub on_there : {A : Type 0} (o : Option A) (x : A) (go : A → Next) → o ≡ Some x → P (go x) → P (on o go)
+  on_there o x go e h = subst (λ o. P (on o go)) (sym e) h
+
+  by_number : (v : Value) (go : ℕ → Next) → kind_of v ≡ Number → ((n : ℕ) → P (go n)) → P (on_number (Some v) go)
+  by_number (va.Int n) go e h = h n
+  by_number (va.Text bytes) go e h = cc
+
+  by_text : (v : Value) (go : List ℕ → Next) → kind_of v ≡ Text → ((bytes : List ℕ) → P (go bytes)) → P (on_text (Some v) go)
+  by_text (va.Int n) go e h = cc
+  by_text (va.Text bytes) go e h = h bytes
+
+  pub number_there : (o : Option Value) (go : ℕ → Next) → Holds o Number → ((n : ℕ) → P (go n)) → P (on_number o go)
+  number_there o go has h = subst (λ o. P (on_number o go)) (sym has.is) (by_number has.value go has.kind h)
+
+  pub text_there : (o : Option Value) (go : List ℕ → Next) → Holds o Text → ((bytes : List ℕ) → P (go bytes)) → P (on_text o go)
+  text_there o go has h = subst (λ o. P (on_text o go)) (sym has.is) (by_text has.value go has.kind h)
+
+  pub kind_there : (k : Kind) (o : Option Value) (go : Value → Next) → Holds o k → ((v : Value) → kind_of v ≡ k → P (go v)) → P (on_kind k o go)
+  kind_there Number o go has h = number_there o (λ n. go (va.Int n)) has (λ n. h (va.Int n) refl)
+  kind_there Text o go has h = text_there o (λ bytes. go (va.Text bytes)) has (λ bytes. h (va.Text bytes) refl)

@@ -1,0 +1,5 @@
+pub mod Fitting
+pub mod Progress
+pub mod Ending
+pub mod Acting
+pub mod Changing

@@ -1,0 +1,70 @@
+-- What one instruction changes.
+use Rattle.std.specs.Prelude.{◌≡◌, ◌≢◌, ℕ, ◌+◌, Bool, true, false, Option, Some, None}
+use Rattle.dif_validate.specs.Flow.{target}
+use Rattle.dif_machine.specs.Vocabulary.{Instr, Alu, Not, Mov, Cmp, Tst, Scmp, Ba, Branch, Setx, Sets, Ldgs, Ldga, Ldts, Stts, Ldls, Stls, Pushtr, Pushtv, Flushts, Ldtaa, Sttaa, Call, Ret, Nop, Reg, at, Variables}
+use Rattle.dif_machine.specs.Frames.{Frame}
+use Rattle.dif_machine.specs.Steps.{Next, Goes, Ends, Faults, Stuck}
+
+-- the register that an instruction writes
+abbrev pub written : Instr → Option Reg
+written (Alu op a b d) = Some d
+written (Not a d) = Some d
+written (Mov a d) = Some d
+written (Cmp a b) = None
+written (Tst a) = None
+written (Scmp a b) = None
+written (Ba to) = None
+written (Branch condition to) = None
+written (Setx i d) = Some d
+written (Sets i d) = Some d
+written (Ldgs v d) = Some d
+written (Ldga v a d) = Some d
+written (Ldts x d) = Some d
+written (Stts x a) = None
+written (Ldls x d) = Some d
+written (Stls x a) = None
+written (Pushtr a) = None
+written (Pushtv a) = None
+written Flushts = None
+written (Ldtaa x d) = Some d
+written (Sttaa x a) = None
+written (Call function d) = Some d
+written (Ret a) = None
+written Nop = None
+
+-- it is a comparison
+abbrev pub compares : Instr → Bool
+compares (Cmp a b) = true
+compares (Tst a) = true
+compares (Scmp a b) = true
+compares _ = false
+
+-- it changes the tuple
+abbrev pub fills : Instr → Bool
+fills (Pushtr a) = true
+fills (Pushtv a) = true
+fills Flushts = true
+fills _ = false
+
+-- it writes a variable
+abbrev pub stores : Instr → Bool
+stores (Stts x a) = true
+stores (Stls x a) = true
+stores (Sttaa x a) = true
+stores _ = false
+
+-- from one state to the next: nothing else than what the instruction is for
+pub record IsChanged (i : Instr) (s : Frame) (vars : Variables) (t : Frame) (after : Variables)
+    : Type 0 where
+  pub place : t.pc ≢ s.pc + 1 → target i ≡ Some t.pc
+  pub registers : (r : Reg) → written i ≢ Some r → at t.registers r ≡ at s.registers r
+  pub comparison : compares i ≡ false → t.comparison ≡ s.comparison
+  pub tuple : fills i ≡ false → t.tuple ≡ s.tuple
+  pub variables : stores i ≡ false → after ≡ vars
+
+-- a step that ends the run changes no variable
+abbrev pub Changes : Instr → Frame → Variables → Next → Type 0
+Changes i s vars (Goes t after) = IsChanged i s vars t after
+Changes i s vars (Ends value after) = after ≡ vars
+Changes i s vars (Faults after) = after ≡ vars
+Changes i s vars Stuck = Unit {0}

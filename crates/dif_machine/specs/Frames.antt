@@ -1,0 +1,57 @@
+-- What changes from step to step, but for the variables.
+use Rattle.std.specs.Prelude.{ℕ, ◌+◌, List, [], ◌∷◌, Option, Some, None}
+use Rattle.dif_machine.specs.Vocabulary.{Comparison, KeyPart, Reg, put, Value, Int}
+
+-- the place of the instruction that is next, what each register holds (none where it is unset), how
+-- the two values compare that were compared last, and the tuple
+pub record Frame : Type 0 where
+  pub pc : ℕ
+  pub registers : List (Option Value)
+  pub comparison : Option Comparison
+  pub tuple : List KeyPart
+
+-- before the first instruction the first register is 0, and nothing else is set
+abbrev pub start : Frame
+start = record {
+  pc = 0;
+  registers = Some (Int 0) ∷ None ∷ None ∷ None ∷ None ∷ None ∷ None ∷ None ∷ [];
+  comparison = None;
+  tuple = [];
+}
+
+-- ---- on to another instruction
+
+abbrev pub at_place : Frame → ℕ → Frame
+at_place s pc = record {
+  pc = pc;
+  registers = s.registers;
+  comparison = s.comparison;
+  tuple = s.tuple;
+}
+
+abbrev pub with_content : Frame → Reg → Option Value → Frame
+with_content s d content = record {
+  pc = s.pc + 1;
+  registers = put s.registers d content;
+  comparison = s.comparison;
+  tuple = s.tuple;
+}
+
+abbrev pub with_value : Frame → Reg → Value → Frame
+with_value s d value = with_content s d (Some value)
+
+abbrev pub with_comparison : Frame → Comparison → Frame
+with_comparison s known = record {
+  pc = s.pc + 1;
+  registers = s.registers;
+  comparison = Some known;
+  tuple = s.tuple;
+}
+
+abbrev pub with_tuple : Frame → List KeyPart → Frame
+with_tuple s tuple = record {
+  pc = s.pc + 1;
+  registers = s.registers;
+  comparison = s.comparison;
+  tuple = tuple;
+}

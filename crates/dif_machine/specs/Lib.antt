@@ -1,0 +1,9 @@
+pub mod Vocabulary
+pub mod Operators
+pub mod Sources
+pub mod Kinds
+pub mod Held
+pub mod Frames
+pub mod Steps
+pub mod Runs
+pub mod Changes

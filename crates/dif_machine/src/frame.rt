@@ -1,0 +1,181 @@
+//! What changes from step to step, but for the variables.
+
+ghost use Rattle.std.specs.Prelude.{◌≡◌, ◌≢◌, ◌<◌, ◌+◌, ◌-◌, ◌^◌, ◌++◌, ◌∷◌, [], ℕ, List, Some, None, IfOk, OnOk};
+ghost use Rattle.d_values.specs.Stores.{lent_value};
+ghost use Rattle.dif_validate.specs.Objects.{Object, object_of};
+ghost use Rattle.dif_validate.specs.Registers.{at};
+ghost use Rattle.dif_machine.specs.Frames as spec;
+ghost use Rattle.dif_machine.specs.Held.{content, contents, frame_of};
+ghost use Rattle.firing_reader.specs.declared.firing.Firing as recorded;
+
+use crate::comparing::Comparison;
+use crate::held::Held;
+use crate::sources::{built_in, owned};
+use d_values::{Key, KeyPart, Value, ValueRef};
+use dif_validate::{Difo, Reg};
+use firing_reader::Firing;
+use std::alloc::{AllocError, Global};
+
+/// The place in the code, the registers, the comparison and the tuple.
+#[derive(Drop)]
+pub struct Frame {
+    /// The place of the instruction that is next.
+    pub pc: usize,
+    /// What each register holds.
+    pub registers: [Held; 8],
+    /// How the two values compare that were compared last.
+    pub comparison: Option<Comparison>,
+    /// The tuple.
+    pub tuple: Key,
+}
+
+impl Frame {
+    /// Before the first instruction.
+    pub(crate) fn start(alloc: Global) -> Frame
+        ensures { (o : Object) (f : recorded.Firing) → frame_of o f result ≡ spec.start }
+    {
+        Frame {
+            pc: 0,
+            registers: [
+                Held::Int(0),
+                Held::Unset,
+                Held::Unset,
+                Held::Unset,
+                Held::Unset,
+                Held::Unset,
+                Held::Unset,
+                Held::Unset,
+            ],
+            comparison: None,
+            tuple: Key::new(alloc),
+        }
+    }
+
+    /// Lends what a register holds.
+    pub(crate) fn lend<'a>(&'a self, difo: &'a Difo, firing: &'a Firing, a: Reg) -> ValueRef<'a>
+        requires { at (contents (object_of difo.now) firing.now self.now.registers) a ≢ None }
+        ensures { at (contents (object_of difo.now) firing.now self.now.registers) a
+            ≡ Some (lent_value result) }
+    {
+        match &self.registers[a.number()] {
+            Held::Unset => unreachable!(),
+            Held::Int(n) => ValueRef::Int(*n),
+            Held::Constant(i) => match difo.texts.get(*i) {
+                Some(text) => ValueRef::Text(text.as_bytes()),
+                None => unreachable!(),
+            },
+            Held::BuiltIn(v) => built_in(firing, *v),
+            Held::Text(text) => ValueRef::Text(text.as_bytes()),
+        }
+    }
+
+    /// The integer that a register holds.
+    pub(crate) fn number(&self, difo: &Difo, firing: &Firing, a: Reg) -> u64
+        requires set { at (contents (object_of difo.now) firing.now self.now.registers) a ≢ None }
+        requires number { (bytes : List ℕ)
+            → at (contents (object_of difo.now) firing.now self.now.registers) a
+            ≢ Some (Value.Text bytes) }
+        ensures { at (contents (object_of difo.now) firing.now self.now.registers) a
+            ≡ Some (Value.Int result) }
+    {
+        match self.lend(difo, firing, a) {
+            ValueRef::Int(n) => n,
+            ValueRef::Text(_) => unreachable!(),
+        }
+    }
+
+    /// The bytes of the text that a register holds.
+    pub(crate) fn text<'a>(&'a self, difo: &'a Difo, firing: &'a Firing, a: Reg) -> &'a [u8]
+        requires set { at (contents (object_of difo.now) firing.now self.now.registers) a ≢ None }
+        requires text { (n : ℕ)
+            → at (contents (object_of difo.now) firing.now self.now.registers) a
+            ≢ Some (Value.Int n) }
+        ensures { at (contents (object_of difo.now) firing.now self.now.registers) a
+            ≡ Some (Value.Text result.now) }
+    {
+        match self.lend(difo, firing, a) {
+            ValueRef::Int(_) => unreachable!(),
+            ValueRef::Text(bytes) => bytes,
+        }
+    }
+
+    /// A copy of what a register holds.
+    pub(crate) fn value(
+        &self,
+        alloc: Global,
+        difo: &Difo,
+        firing: &Firing,
+        a: Reg,
+    ) -> Result<Value, AllocError>
+        requires { at (contents (object_of difo.now) firing.now self.now.registers) a ≢ None }
+        ensures { IfOk result (λ value.
+            at (contents (object_of difo.now) firing.now self.now.registers) a ≡ Some value) }
+    {
+        owned(alloc, self.lend(difo, firing, a))
+    }
+
+    /// Copies what a register holds into another, and goes on. Only a text of the run's own is
+    /// copied.
+    pub(crate) fn copy(&mut self, a: Reg, d: Reg) -> Result<(), AllocError>
+        requires { self.old.pc < 2 ^ 64 - 1 }
+        ensures { OnOk result ((o : Object) (f : recorded.Firing) → frame_of o f self.new
+            ≡ spec.with_content (frame_of o f self.old) d
+            (at (contents o f self.old.registers) a)) }
+    {
+        let held = self.registers[a.number()].clone()?;
+        self.put(d, held);
+        Ok(())
+    }
+
+    /// Goes to the next instruction.
+    pub(crate) fn go_on(&mut self)
+        requires { self.old.pc < 2 ^ 64 - 1 }
+        ensures { (o : Object) (f : recorded.Firing) → frame_of o f self.new
+            ≡ spec.at_place (frame_of o f self.old) (self.old.pc + 1) }
+    {
+        self.pc += 1;
+    }
+
+    /// Puts something into a register, and goes on.
+    pub(crate) fn put(&mut self, d: Reg, held: Held)
+        requires { self.old.pc < 2 ^ 64 - 1 }
+        ensures { (o : Object) (f : recorded.Firing) → frame_of o f self.new
+            ≡ spec.with_content (frame_of o f self.old) d (content o f held) }
+    {
+        if d != Reg::R0 {
+            self.registers[d.number()] = held;
+        }
+        self.pc += 1;
+    }
+
+    /// Keeps a comparison, and goes on.
+    pub(crate) fn compare(&mut self, comparison: Comparison)
+        requires { self.old.pc < 2 ^ 64 - 1 }
+        ensures { (o : Object) (f : recorded.Firing) → frame_of o f self.new
+            ≡ spec.with_comparison (frame_of o f self.old) comparison }
+    {
+        self.comparison = Some(comparison);
+        self.pc += 1;
+    }
+
+    /// Adds a part to the tuple, and goes on.
+    pub(crate) fn push(&mut self, part: KeyPart) -> Result<(), AllocError>
+        requires { self.old.pc < 2 ^ 64 - 1 }
+        ensures { OnOk result ((o : Object) (f : recorded.Firing) → frame_of o f self.new
+            ≡ spec.with_tuple (frame_of o f self.old) (self.old.tuple ++ part ∷ [])) }
+    {
+        self.tuple.push(part)?;
+        self.pc += 1;
+        Ok(())
+    }
+
+    /// Empties the tuple, and goes on.
+    pub(crate) fn flush(&mut self, alloc: Global)
+        requires { self.old.pc < 2 ^ 64 - 1 }
+        ensures { (o : Object) (f : recorded.Firing) → frame_of o f self.new
+            ≡ spec.with_tuple (frame_of o f self.old) [] }
+    {
+        self.tuple = Key::new(alloc);
+        self.pc += 1;
+    }
+}

@@ -1,0 +1,84 @@
+//! Where values come from: the firing and the variables.
+
+ghost use Rattle.std.specs.Prelude.{◌≡◌, Some, IfOk};
+ghost use Rattle.std.specs.Int.{cast_unsigned, w64};
+ghost use Rattle.d_values.specs.Storage.{as_kind};
+ghost use Rattle.d_values.specs.Stores.{kind_of, lent_value, local_of, own_of};
+ghost use Rattle.d_values.specs.declared.value.Kind.{Kind};
+ghost use Rattle.dif_machine.specs.Sources as spec;
+
+use d_values::{ClauseLocals, Key, Text, ThreadTable, Value, ValueRef, Var};
+use firing_reader::Firing;
+use std::alloc::{AllocError, Global};
+
+// A signed integer.
+fn integer(number: i64) -> ValueRef<'static>
+    ensures { lent_value result ≡ Value.Int (cast_unsigned w64 number) }
+{
+    ValueRef::Int(number.cast_unsigned())
+}
+
+/// The built-in variable of this number.
+pub(crate) fn built_in<'a>(firing: &'a Firing, v: u8) -> ValueRef<'a>
+    ensures { lent_value result ≡ spec.built_in_of firing.now v }
+{
+    match v {
+        0 => ValueRef::Int(firing.time),
+        1 => integer(i64::from(firing.cpu)),
+        2 => integer(i64::from(firing.pid)),
+        3 => integer(i64::from(firing.thread)),
+        4 => ValueRef::Text(firing.execname.as_bytes()),
+        5 => ValueRef::Text(firing.provider.as_bytes()),
+        6 => ValueRef::Text(firing.probemod.as_bytes()),
+        7 => ValueRef::Text(firing.probefunc.as_bytes()),
+        _ => ValueRef::Text(firing.name.as_bytes()),
+    }
+}
+
+/// The firing's argument of this number, 0 past the last.
+pub(crate) fn argument(firing: &Firing, n: u64) -> u64
+    ensures { result ≡ spec.argument_of firing.now n }
+{
+    match firing.args.get(n as usize) {
+        Some(argument) => argument.cast_unsigned(),
+        None => 0,
+    }
+}
+
+/// A copy of what is lent.
+pub(crate) fn owned(alloc: Global, lent: ValueRef<'_>) -> Result<Value, AllocError>
+    ensures same { IfOk result (λ value. value ≡ lent_value lent.entry) }
+    ensures kind { IfOk result (λ value. (k : Kind) → kind_of (lent_value lent.entry) ≡ k
+        → value ≡ as_kind k (lent_value lent.entry)) }
+{
+    match lent {
+        ValueRef::Int(n) => Ok(Value::Int(n)),
+        ValueRef::Text(bytes) => {
+            let text = Text::from_slice(alloc, bytes)?;
+            Ok(Value::Text(text))
+        }
+    }
+}
+
+/// A copy of what a clause-local variable holds.
+pub(crate) fn load_local(
+    alloc: Global,
+    locals: &ClauseLocals,
+    var: Var,
+) -> Result<Value, AllocError>
+    ensures { IfOk result (λ value. value ≡ as_kind var.kind (local_of locals.now var)) }
+{
+    owned(alloc, locals.get(var))
+}
+
+/// A copy of what a variable of the thread holds at a key, which is empty for a scalar.
+pub(crate) fn load(
+    alloc: Global,
+    own: &ThreadTable,
+    var: Var,
+    key: &Key,
+) -> Result<Value, AllocError>
+    ensures { IfOk result (λ value. value ≡ as_kind var.kind (own_of own.now var key.now)) }
+{
+    owned(alloc, own.get(var, key))
+}

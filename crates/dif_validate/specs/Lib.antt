@@ -1,0 +1,11 @@
+pub mod Registers
+pub mod Objects
+pub mod Vocabulary
+pub mod Shapes
+pub mod Asks
+pub mod Leaves
+pub mod Flow
+pub mod Returns
+pub mod Faults
+pub mod Validity
+pub mod Pass

@@ -1,0 +1,24 @@
+-- The kind that an object returns.
+use Rattle.std.specs.Prelude.{ℕ, zero, suc, List, Option, Some, None, slice_get, length}
+use Rattle.std.specs.Option.{option_or}
+use Rattle.dif_validate.specs.Vocabulary.{Instr, Ret, Kind, Object, Shape, at}
+use Rattle.dif_validate.specs.Flow.{before}
+
+-- the kind that an instruction returns where this is known
+abbrev pub returns : Instr → Shape → Option Kind
+returns (Ret a) s = at s.registers a
+returns _ s = None
+
+-- if it is reached
+abbrev pub returned : Option Instr → Option Shape → Option Kind
+returned (Some i) (Some s) = returns i s
+returned _ _ = None
+
+-- what the first reached `ret` before n returns
+abbrev pub returned_before : List Instr → ℕ → Option Kind
+returned_before code zero = None
+returned_before code (suc pc) =
+    option_or (returned_before code pc) (returned (slice_get code pc) (before code pc))
+
+abbrev pub return_kind : Object → Option Kind
+return_kind o = returned_before o.code (length o.code)

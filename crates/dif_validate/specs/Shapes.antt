@@ -1,0 +1,55 @@
+-- What is known before an instruction, whichever way led there.
+use Rattle.std.specs.Prelude.{Bool, true, false, not, ◌&&◌, if◌then◌else◌, List, [], ◌∷◌, Option, Some, None}
+use Rattle.dif_validate.specs.Vocabulary.{Kind, Number, Text, Reg, R0, R1, R2, R3, R4, R5, R6, R7, Shape, at}
+
+-- ---- kinds
+
+abbrev pub is_same : Kind → Kind → Bool
+is_same Number Number = true
+is_same Text Text = true
+is_same _ _ = false
+
+abbrev pub are_same : List Kind → List Kind → Bool
+are_same [] [] = true
+are_same (k ∷ ks) (j ∷ js) = is_same k j && are_same ks js
+are_same _ _ = false
+
+-- a register that is set holds another kind
+abbrev pub is_other : Kind → Option Kind → Bool
+is_other kind None = false
+is_other kind (Some known) = not (is_same kind known)
+
+abbrev pub is_unset : Option Kind → Bool
+is_unset None = true
+is_unset (Some kind) = false
+
+-- ---- shapes
+
+-- at the start the first register is a number, all others are unset, nothing was compared, and the
+-- tuple is empty
+abbrev pub start : Shape
+start = record {
+  registers = Some Number ∷ None ∷ None ∷ None ∷ None ∷ None ∷ None ∷ None ∷ [];
+  compared = false;
+  tuple = Some [];
+}
+
+-- where ways meet, a kind is kept where they agree
+abbrev pub agreed : Option Kind → Option Kind → Option Kind
+agreed (Some k) (Some j) = if is_same k j then Some k else None
+agreed _ _ = None
+
+-- and so is the tuple
+abbrev pub agreed_tuple : Option (List Kind) → Option (List Kind) → Option (List Kind)
+agreed_tuple (Some t) (Some u) = if are_same t u then Some t else None
+agreed_tuple _ _ = None
+
+abbrev pub meet : Shape → Shape → Shape
+meet s t =
+    let both = λ (r : Reg). agreed (at s.registers r) (at t.registers r) in
+    record {
+      registers =
+          both R0 ∷ both R1 ∷ both R2 ∷ both R3 ∷ both R4 ∷ both R5 ∷ both R6 ∷ both R7 ∷ [];
+      compared = s.compared && t.compared;
+      tuple = agreed_tuple s.tuple t.tuple;
+    }

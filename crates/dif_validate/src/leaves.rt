@@ -1,0 +1,110 @@
+//! What is known after an instruction.
+
+ghost use Rattle.std.specs.Prelude.{◌≡◌};
+ghost use Rattle.dif_validate.specs.Leaves as spec;
+
+use crate::instruction::{Function, Instr};
+use crate::register::Reg;
+use crate::shape::{Shape, Tuple};
+use d_values::Kind;
+
+impl Shape {
+    // With a register of this kind.
+    fn with(mut self, r: Reg, kind: Option<Kind>) -> Shape
+        ensures { result ≡ spec.with_register self r kind }
+    {
+        if r != Reg::R0 {
+            self.registers[r.number()] = kind;
+        }
+        self
+    }
+
+    // With two values compared.
+    fn with_comparison(mut self) -> Shape
+        ensures { result ≡ spec.with_comparison self }
+    {
+        self.compared = true;
+        self
+    }
+
+    // With the tuple.
+    fn with_tuple(mut self, tuple: Option<Tuple>) -> Shape
+        ensures { result ≡ spec.with_tuple self tuple }
+    {
+        self.tuple = tuple;
+        self
+    }
+
+    // With one more at the end of the tuple.
+    fn with_pushed(mut self, kind: Kind) -> Shape
+        ensures { result ≡ spec.with_tuple self (spec.pushed self.tuple kind) }
+    {
+        let tuple = pushed(self.tuple.take(), kind);
+        self.with_tuple(tuple)
+    }
+
+    /// What is known after an instruction.
+    pub(crate) fn behind(self, i: Instr) -> Shape
+        ensures { result ≡ spec.leaves i self }
+    {
+        match i {
+            Instr::Alu(_, _, _, d) => self.with(d, Some(Kind::Number)),
+            Instr::Not(_, d) => self.with(d, Some(Kind::Number)),
+            Instr::Mov(a, d) => {
+                let kind = self.kind(a);
+                self.with(d, kind)
+            }
+            Instr::Cmp(_, _) => self.with_comparison(),
+            Instr::Tst(_) => self.with_comparison(),
+            Instr::Scmp(_, _) => self.with_comparison(),
+            Instr::Setx(_, d) => self.with(d, Some(Kind::Number)),
+            Instr::Sets(_, d) => self.with(d, Some(Kind::Text)),
+            Instr::Ldgs(v, d) => self.with(d, Some(kind_of_built_in(v))),
+            Instr::Ldga(_, _, d) => self.with(d, Some(Kind::Number)),
+            Instr::Ldts(x, d) => self.with(d, Some(x.kind)),
+            Instr::Ldls(x, d) => self.with(d, Some(x.kind)),
+            Instr::Pushtr(_) => self.with_pushed(Kind::Text),
+            Instr::Pushtv(_) => self.with_pushed(Kind::Number),
+            Instr::Flushts => self.with_tuple(Some(Tuple::new())),
+            Instr::Ldtaa(x, d) => self.with(d, Some(x.kind)),
+            Instr::Call(f, d) => self.with(d, Some(f.kind())),
+            _ => self,
+        }
+    }
+}
+
+impl Function {
+    /// The kind of its value.
+    pub(crate) fn kind(self) -> Kind
+        ensures { result ≡ spec.kind_of_function self }
+    {
+        match self {
+            Function::Strlen => Kind::Number,
+            Function::Strjoin => Kind::Text,
+        }
+    }
+}
+
+// The kind of a built-in variable.
+fn kind_of_built_in(v: u8) -> Kind
+    ensures { result ≡ spec.kind_of_built_in v }
+{
+    if v < 4 { Kind::Number } else { Kind::Text }
+}
+
+// A tuple with one more at its end.
+fn pushed(tuple: Option<Tuple>, kind: Kind) -> Option<Tuple>
+    ensures { result ≡ spec.pushed tuple kind }
+{
+    match tuple {
+        Some(mut tuple) => {
+            if tuple.kinds().len() < 8 {
+                tuple.push(kind);
+                Some(tuple)
+            } else {
+                None
+            }
+        }
+        None => None,
+    }
+}
