@@ -4,6 +4,7 @@ use Rattle.d_lexer.specs.Vocabulary.{Token, TokenKind, Head, LexFault}
 use Rattle.d_lexer.specs.declared.token.Mark.TheVariants as mark
 use Rattle.d_lexer.specs.declared.token.TokenKind.TheVariants as kind
 use Rattle.d_lexer.specs.declared.fault.LexFault.TheVariants as faults
+use Rattle.d_lexer.specs.declared.fault.TheConstants.{MOST_BYTES}
 use Rattle.d_lexer.specs.{Places.start, Tokens.Clean, Tokens.Bad, Tokens.Lexes}
 
 -- ---- the closing slash of a predicate
@@ -49,19 +50,15 @@ AreTokens bytes ts =
 abbrev pub IsFirstFault : List ℕ → LexFault → Type 0
 IsFirstFault bytes fault = (plain : List Token) × Lexes Head start bytes plain (Bad fault)
 
--- how many bytes a script may have
-abbrev pub most_bytes : ℕ
-most_bytes = 65536
-
 -- the script is within the limit, and these are its tokens
 abbrev pub IsLexed : List ℕ → List Token → Type 0
-IsLexed bytes ts = (length bytes ≤ most_bytes) × AreTokens bytes ts
+IsLexed bytes ts = (length bytes ≤ MOST_BYTES) × AreTokens bytes ts
 
 -- the script is too long, or else this is its first fault
 abbrev pub IsRefused : List ℕ → LexFault → Type 0
 IsRefused bytes fault =
-    ((fault ≡ faults.TooLong) × (most_bytes < length bytes))
-    ⊎ ((length bytes ≤ most_bytes) × IsFirstFault bytes fault)
+    ((fault ≡ faults.TooLong) × (MOST_BYTES < length bytes))
+    ⊎ ((length bytes ≤ MOST_BYTES) × IsFirstFault bytes fault)
 
 -- each script is one or the other
 abbrev pub HasOne : List ℕ → Type 0

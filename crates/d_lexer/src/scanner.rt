@@ -35,7 +35,7 @@ fn step(
     rest: &[u8],
     tokens: &mut Vec<Token>,
 ) -> Result<(Place, usize), LexFault>
-    requires at { pos.at + length rest.now < 65536 }
+    requires at { pos.at + length rest.now < MOST_BYTES }
     ensures is { steps.Steps tokens.old.items tokens.new.items result
         (scan.scan 0 place pos (b ∷ rest.now))
         (λ n q. scan.scan n q (places.passed pos b) rest.now) }
@@ -64,7 +64,7 @@ fn step(
 // Passes the byte and n more.
 #[tactic(auto, using(crate::proofs::Lexing::scan_from))]
 fn jump(pos: Position, b: u8, rest: &[u8], n: usize) -> (Position, &[u8])
-    requires at { pos.at + length rest.now < 65536 }
+    requires at { pos.at + length rest.now < MOST_BYTES }
     requires line { pos.line ≤ pos.at + 1 }
     requires n { n ≤ length rest.now }
     ensures is { (q : Place) → scan.scan 0 q result.0 result.1.now
@@ -78,7 +78,7 @@ fn jump(pos: Position, b: u8, rest: &[u8], n: usize) -> (Position, &[u8])
 
 // The tokens, whose slashes of a predicate are all read as closing ones.
 fn scan_tokens(alloc: Global, bytes: &[u8]) -> Result<Vec<Token>, LexFault>
-    requires { length bytes.now ≤ 65536 }
+    requires { length bytes.now ≤ MOST_BYTES }
     ensures { steps.Answers (λ ts. ts.items) result (scan.scan 0 Head places.start bytes.now) }
 {
     let mut tokens: Vec<Token> = Vec::new(alloc);
@@ -97,7 +97,7 @@ fn scan_tokens(alloc: Global, bytes: &[u8]) -> Result<Vec<Token>, LexFault>
 
 // The tokens, once it is known which slash closes a predicate.
 fn final_tokens(alloc: Global, bytes: &[u8]) -> Result<Vec<Token>, LexFault>
-    requires { length bytes.now ≤ 65536 }
+    requires { length bytes.now ≤ MOST_BYTES }
     ensures { steps.Lexed (λ ts. ts.items) result (scan.scan 0 Head places.start bytes.now) }
 {
     let mut tokens = scan_tokens(alloc, bytes)?;
@@ -114,7 +114,7 @@ fn final_tokens(alloc: Global, bytes: &[u8]) -> Result<Vec<Token>, LexFault>
 /// ```
 pub fn lex(alloc: Global, bytes: &[u8]) -> Result<Vec<Token>, LexFault>
     // Length is checked first: over 65,536 bytes are too long, whatever they hold.
-    ensures too_long { IsErrOf result LexFault.TooLong ↔ (65536 < length bytes.now) }
+    ensures too_long { IsErrOf result LexFault.TooLong ↔ (MOST_BYTES < length bytes.now) }
 
     // What is returned is so: these are the script's tokens, or this is its first fault.
     ensures ok { IfOk result (λ ts. spec.IsLexed bytes.now ts.items) }
@@ -125,7 +125,7 @@ pub fn lex(alloc: Global, bytes: &[u8]) -> Result<Vec<Token>, LexFault>
         → MatchResult result (λ v. v.items ≡ ts) (λ e. e ≡ LexFault.Memory) }
     ensures refused { (fault : LexFault) → spec.IsRefused bytes.now fault
         → IsErrAnd result (λ e. (e ≡ fault) ⊎ (e ≡ LexFault.Memory)) }
-    ensures few { IfOk result (λ ts. length ts.items ≤ 65536) }
+    ensures few { IfOk result (λ ts. length ts.items ≤ MOST_BYTES) }
     ensures small { IfOk result (λ ts. AreSmall ts.items) }
 {
     if bytes.len() > MOST_BYTES {

@@ -1,6 +1,6 @@
 -- The script of all tokens, and no other.
 use Rattle.std.proofs.Common.{List, Option, Some, Result, Ok, Err, subst}
-use Rattle.std.specs.Prelude.{IfOk, ℕ, Bool, ◌≤◌, length}
+use Rattle.std.specs.Prelude.{IfOk, ℕ, ◌≤◌, length}
 use Rattle.d_parser.specs.Limits.{OnlyLimits}
 use Rattle.d_parser.specs.Sizes.{IsWithin}
 use Rattle.d_parser.specs.declared.fault.ParseFault.TheVariants as faults
@@ -23,12 +23,12 @@ found_of (Err e) ts h = tt
 pub only_of : (r : Result Script ParseFault) (ts : List Token) → Gives script_of r (script ts) → (s : List ItemTree) → IsScript s ts → Gives script_of r (Some s)
 only_of r ts h s k = subst (λ (o : Option (List ItemTree)). Gives script_of r o) (script_complete s ts k) h
 
-pub passed_of : (r : Result Script ParseFault) (ts : List Token) (deep : Bool) (found : ℕ) → Gives script_of r (script ts) → OnlyLimits deep found r
-passed_of (Ok s) ts deep found h = tt
-passed_of (Err faults.TooDeep) ts deep found h = absurd h
-passed_of (Err faults.TooManyClauses) ts deep found h = absurd h
-passed_of (Err (faults.Syntax line)) ts deep found h = tt
-passed_of (Err faults.Memory) ts deep found h = tt
+pub passed_of : (r : Result Script ParseFault) (ts : List Token) → Gives script_of r (script ts) → OnlyLimits ts r
+passed_of (Ok s) ts h = tt
+passed_of (Err faults.TooDeep) ts h = absurd h
+passed_of (Err faults.TooManyClauses) ts h = absurd h
+passed_of (Err (faults.Syntax line)) ts h = tt
+passed_of (Err faults.Memory) ts h = tt
 
 pub few_of : (r : Result Script ParseFault) (ts : List Token) (n : ℕ) → length ts ≤ n → Gives script_of r (script ts) → IfOk r (λ s. IsWithin n (script_of s))
 few_of (Ok s) ts n le h = script_within (script_of s) ts n le (found_of (Ok s) ts h)

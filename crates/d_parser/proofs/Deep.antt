@@ -3,7 +3,8 @@ use Rattle.std.proofs.Common.{◌≡◌, ℕ, zero, suc, ◌+◌, ◌<◌, ◌�
 use Rattle.std.specs.Prelude.{◌||◌, ◌⊎◌, nat_lt}
 use Rattle.std.proofs.lemmas.Bool.{cases_lt, ltb-true, lt-ltb}
 use Rattle.d_lexer.specs.declared.token.Token.{Token}
-use Rattle.d_parser.specs.Limits.{Turn, Opens, Closes, Ends, Goes, turn, opens, closes, ends, opened, closed, ended, IsDeep, open_by, row_by, open_behind, row_with, is_deep}
+use Rattle.d_parser.specs.Limits.{Turn, Opens, Closes, Ends, Goes, turn, opens, closes, ends, opened, closed, ended, IsDeep}
+use Rattle.d_parser.specs.Depth.{open_by, row_by, open_after, row_with, is_deep}
 
 -- a stretch that is too deep, behind so many open brackets and so many tokens in a row
 abbrev Full : ℕ → ℕ → List Token → Type 0
@@ -59,7 +60,7 @@ here t p q ts e d = record { before = t ∷ []; stretch = p; behind = q; is = ap
 front : (t : Token) (p q ts : List Token) (b r : ℕ) → ts ≡ p ++ q → Full b r (t ∷ p) → Front b r (t ∷ ts)
 front t p q ts b r e f = record { p = t ∷ p; q = q; is = ap (λ (l : List Token). t ∷ l) e; full = f }
 
-step : (t : Token) (ts : List Token) (b r : ℕ) → Front (open_behind t.kind b) (row_with t.kind r) ts → Front b r (t ∷ ts) ⊎ IsDeep (t ∷ ts)
+step : (t : Token) (ts : List Token) (b r : ℕ) → Front (open_after t.kind b) (row_with t.kind r) ts → Front b r (t ∷ ts) ⊎ IsDeep (t ∷ ts)
 step t ts b r f =
     elim f.full [
       | inl d ↦ elim (deeper (turn t.kind) b (opened f.p) (closed f.p) d) [
@@ -79,10 +80,10 @@ deep_sound : (ts : List Token) (b r : ℕ) → is_deep b r ts ≡ true → Front
 unfolding is_deep
 deep_sound [] b r h = absurd (let c : false ≡ true = h in cc)
 deep_sound (t ∷ ts) b r h =
-    elim (one_of (nat_lt 64 (open_behind t.kind b)) (nat_lt 1024 (row_with t.kind r)) (is_deep (open_behind t.kind b) (row_with t.kind r) ts) h) [
-      | inl x ↦ step t ts b r (empty_front _ _ ts (inl (let l = ltb-true 64 (open_behind t.kind b) x in omega arith)))
+    elim (one_of (nat_lt 64 (open_after t.kind b)) (nat_lt 1024 (row_with t.kind r)) (is_deep (open_after t.kind b) (row_with t.kind r) ts) h) [
+      | inl x ↦ step t ts b r (empty_front _ _ ts (inl (let l = ltb-true 64 (open_after t.kind b) x in omega arith)))
       | inr (inl x) ↦ step t ts b r (empty_front _ _ ts (inr ((let l = ltb-true 1024 (row_with t.kind r) x in omega arith), refl)))
-      | inr (inr z) ↦ elim (deep_sound ts (open_behind t.kind b) (row_with t.kind r) z) [
+      | inr (inr z) ↦ elim (deep_sound ts (open_after t.kind b) (row_with t.kind r) z) [
         | inl f ↦ step t ts b r f
         | inr d ↦ inr (within t ts d)
       ]
@@ -101,11 +102,11 @@ not_over n k h = elim (cases_lt n k) [
   | inr le ↦ le
 ]
 
-go_on : (t : Token) (ts : List Token) (b r : ℕ) → (open_behind t.kind b ≤ 64 → row_with t.kind r ≤ 1024 → is_deep (open_behind t.kind b) (row_with t.kind r) ts ≡ true) → is_deep b r (t ∷ ts) ≡ true
+go_on : (t : Token) (ts : List Token) (b r : ℕ) → (open_after t.kind b ≤ 64 → row_with t.kind r ≤ 1024 → is_deep (open_after t.kind b) (row_with t.kind r) ts ≡ true) → is_deep b r (t ∷ ts) ≡ true
 unfolding is_deep
 go_on t ts b r h =
-    any_of (nat_lt 64 (open_behind t.kind b)) (nat_lt 1024 (row_with t.kind r)) (is_deep (open_behind t.kind b) (row_with t.kind r) ts)
-    (λ x y. h (not_over 64 (open_behind t.kind b) x) (not_over 1024 (row_with t.kind r) y))
+    any_of (nat_lt 64 (open_after t.kind b)) (nat_lt 1024 (row_with t.kind r)) (is_deep (open_after t.kind b) (row_with t.kind r) ts)
+    (λ x y. h (not_over 64 (open_after t.kind b) x) (not_over 1024 (row_with t.kind r) y))
 
 front_deep : (p q : List Token) (b r : ℕ) → b ≤ 64 → r ≤ 1024 → Full b r p → is_deep b r (p ++ q) ≡ true
 front_deep [] q b r le short f = elim f [
@@ -113,7 +114,7 @@ front_deep [] q b r le short f = elim f [
   | inr l ↦ (let one = l.0 in absurd (omega arith))
 ]
 front_deep (t ∷ p) q b r le short f =
-    go_on t (p ++ q) b r (λ le2 short2. front_deep p q (open_behind t.kind b) (row_with t.kind r) le2 short2 (elim f [
+    go_on t (p ++ q) b r (λ le2 short2. front_deep p q (open_after t.kind b) (row_with t.kind r) le2 short2 (elim f [
       | inl d ↦ inl (shallower (turn t.kind) b (opened p) (closed p) d)
       | inr l ↦ inr (shorter (turn t.kind) r (length p) (ended p) l.0 l.1)
     ]))
@@ -124,7 +125,7 @@ part_deep [] stretch behind b r le short d = front_deep stretch behind b r le sh
   | inr x ↦ inr ((let l = x.0 in omega arith), x.1)
 ])
 part_deep (t ∷ before) stretch behind b r le short d =
-    go_on t (before ++ stretch ++ behind) b r (λ le2 short2. part_deep before stretch behind (open_behind t.kind b) (row_with t.kind r) le2 short2 d)
+    go_on t (before ++ stretch ++ behind) b r (λ le2 short2. part_deep before stretch behind (open_after t.kind b) (row_with t.kind r) le2 short2 d)
 
 -- ---- both
 
@@ -148,3 +149,6 @@ deep_is ts h = elim (deep_sound ts 0 0 h) [
 
 pub is_deep_of : (ts : List Token) → IsDeep ts → is_deep 0 0 ts ≡ true
 is_deep_of ts d = rw d.is (part_deep d.before d.stretch d.behind 0 0 (omega arith) (omega arith) d.deep)
+
+pub not_deep : (ts : List Token) → is_deep 0 0 ts ≡ false → ¬ IsDeep ts
+not_deep ts shallow d = let deep = is_deep_of ts d in cc

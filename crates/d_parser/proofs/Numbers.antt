@@ -19,7 +19,7 @@ use Rattle.d_parser.specs.Tree.{StmtTree, Expression, Aggregation, DeclarationTr
 use Rattle.d_parser.specs.Grammar.{Part, Begins, Sign, Within, IsPhrase, rank, constant_kind, IsMember, IsVariable, IsTarget, Spells, SpellsKeys, SpellsList, SpellsMore}
 use Rattle.d_parser.specs.Marks.{level_of}
 use Rattle.d_parser.specs.Numbers.{IsSmall, HasSmall, HaveSmall, InPredicate, InStatement, InStatements, AreSmall}
-use Rattle.d_parser.specs.Script.{IsStmt, IsSlot, AreFurther, present, AreStmts, FurtherDescriptions, AreDescriptions, IsPredicate, IsClause, FurtherTypes, AreKeyTypes, IsDeclared, IsDeclaration, IsItem, IsScript}
+use Rattle.d_parser.specs.Script.{IsStmt, IsSlot, AreFurther, present, AreStmts, FurtherDescriptions, AreDescriptions, IsPredicate, IsClause, FurtherTypes, AreKeyTypes, IsDeclared, IsDeclaration, IsScript}
 
 abbrev Small : List Token → Type 0
 Small = token.AreSmall

@@ -1,5 +1,5 @@
 -- Which tokens spell an expression. In each relation the first list begins with the tokens meant, and the second is what comes behind them.
-use Rattle.std.specs.Prelude.{◌≡◌, ◌≤◌, ℕ, zero, suc, List, ◌∷◌, ◌++◌, Some}
+use Rattle.std.specs.Prelude.{◌≡◌, ◌≤◌, ◌+◌, ℕ, zero, suc, List, ◌∷◌, ◌++◌, Some}
 use Rattle.d_lexer.specs.declared.token.Mark.{Mark}
 use Rattle.d_lexer.specs.declared.token.Mark.TheVariants as m
 use Rattle.d_lexer.specs.declared.token.Token.{Token}
@@ -12,6 +12,7 @@ use Rattle.d_parser.specs.declared.tree.Variable.{Variable}
 use Rattle.d_parser.specs.declared.tree.Variable.TheVariants as v
 use Rattle.d_parser.specs.declared.words.WordKind.{WordKind}
 use Rattle.d_parser.specs.declared.words.WordKind.TheVariants as w
+use Rattle.d_parser.specs.declared.marks.TheConstants.{ASSIGNMENT, CONDITION, OR, UNARY}
 use Rattle.d_parser.specs.declared.marks.Prefix.TheVariants as p
 use Rattle.d_parser.specs.declared.marks.Follow.TheVariants as f
 use Rattle.d_parser.specs.Tree.{Tree, Known, Read, Call, Unary, Cast, Before, After, Binary, Choice, Assign, Trees, end, more}
@@ -49,13 +50,13 @@ pub record IsPhrase (Bare : Part) (own k : ℕ) (ts rest : List Token) : Type 0 
 
 -- the level of a tree that stands without parentheses
 abbrev pub rank : Tree → ℕ
-rank (Assign op x keys a) = 1
-rank (Choice test a b) = 2
+rank (Assign op x keys a) = ASSIGNMENT
+rank (Choice test a b) = CONDITION
 rank (Binary op a b) = level_of op
-rank (Unary line op a) = 14
-rank (Cast line to a) = 14
-rank (Before line step x keys) = 14
-rank t = 15
+rank (Unary line op a) = UNARY
+rank (Cast line to a) = UNARY
+rank (Before line step x keys) = UNARY
+rank t = UNARY + 1
 
 abbrev pub constant_kind : Constant → TokenKind
 constant_kind (c.Number value suffix) = kind.Number value suffix
@@ -119,8 +120,8 @@ abbrev mutual
   Spells (Call line name arguments) ts rest =
       (list : List Token) × IsPlain name line ts list × IsEnclosed m.OpenParenthesis m.CloseParenthesis (SpellsList arguments) list rest
   Spells (Unary line op a) ts rest =
-      (mark : Mark) × (operand : List Token) × (prefix_of mark ≡ p.Unary op) × Begins (kind.Mark mark) line ts operand × IsPhrase (Spells a) (rank a) 14 operand rest
-  Spells (Cast line to a) ts rest = (operand : List Token) × IsCast line to ts operand × IsPhrase (Spells a) (rank a) 14 operand rest
+      (mark : Mark) × (operand : List Token) × (prefix_of mark ≡ p.Unary op) × Begins (kind.Mark mark) line ts operand × IsPhrase (Spells a) (rank a) UNARY operand rest
+  Spells (Cast line to a) ts rest = (operand : List Token) × IsCast line to ts operand × IsPhrase (Spells a) (rank a) UNARY operand rest
   Spells (Before line step x keys) ts rest =
       (mark : Mark) × (target : List Token) × (prefix_of mark ≡ p.Step step) × Begins (kind.Mark mark) line ts target × IsTarget x keys (SpellsKeys keys) target rest
   Spells (After x keys step) ts rest =
@@ -130,32 +131,32 @@ abbrev mutual
       × IsPhrase (Spells a) (rank a) (level_of op) ts middle × Sign mark middle right × IsPhrase (Spells b) (rank b) (suc (level_of op)) right rest
   Spells (Choice test a b) ts rest =
       (question : List Token) × (first : List Token) × (colon : List Token) × (second : List Token)
-      × IsPhrase (Spells test) (rank test) 3 ts question × Sign m.Question question first × IsPhrase (Spells a) (rank a) 1 first colon
-      × Sign m.Colon colon second × IsPhrase (Spells b) (rank b) 2 second rest
+      × IsPhrase (Spells test) (rank test) OR ts question × Sign m.Question question first × IsPhrase (Spells a) (rank a) ASSIGNMENT first colon
+      × Sign m.Colon colon second × IsPhrase (Spells b) (rank b) CONDITION second rest
   Spells (Assign op x keys a) ts rest =
       (mark : Mark) × (behind : List Token) × (value : List Token) × (follow_of mark ≡ f.Assign op)
-      × IsTarget x keys (SpellsKeys keys) ts behind × Sign mark behind value × IsPhrase (Spells a) (rank a) 1 value rest
+      × IsTarget x keys (SpellsKeys keys) ts behind × Sign mark behind value × IsPhrase (Spells a) (rank a) ASSIGNMENT value rest
 
   -- keys in brackets, or nothing
   pub SpellsKeys : Trees → Part
   SpellsKeys end ts rest = ts ≡ rest
   SpellsKeys (more a keys) ts rest =
       (first : List Token) × (behind : List Token) × (close : List Token) × Sign m.OpenBracket ts first
-      × IsPhrase (Spells a) (rank a) 1 first behind × SpellsMore keys behind close × Sign m.CloseBracket close rest
+      × IsPhrase (Spells a) (rank a) ASSIGNMENT first behind × SpellsMore keys behind close × Sign m.CloseBracket close rest
 
   -- expressions with commas between, or nothing
   pub SpellsList : Trees → Part
   SpellsList end ts rest = ts ≡ rest
-  SpellsList (more a list) ts rest = (behind : List Token) × IsPhrase (Spells a) (rank a) 1 ts behind × SpellsMore list behind rest
+  SpellsList (more a list) ts rest = (behind : List Token) × IsPhrase (Spells a) (rank a) ASSIGNMENT ts behind × SpellsMore list behind rest
 
   -- expressions with a comma before each
   pub SpellsMore : Trees → Part
   SpellsMore end ts rest = ts ≡ rest
   SpellsMore (more a list) ts rest =
-      (first : List Token) × (behind : List Token) × Sign m.Comma ts first × IsPhrase (Spells a) (rank a) 1 first behind × SpellsMore list behind rest
+      (first : List Token) × (behind : List Token) × Sign m.Comma ts first × IsPhrase (Spells a) (rank a) ASSIGNMENT first behind × SpellsMore list behind rest
 
 abbrev pub IsPhraseOf : Tree → ℕ → Part
 IsPhraseOf t k ts rest = IsPhrase (Spells t) (rank t) k ts rest
 
 abbrev pub IsExpression : Tree → Part
-IsExpression t ts rest = IsPhrase (Spells t) (rank t) 1 ts rest
+IsExpression t ts rest = IsPhrase (Spells t) (rank t) ASSIGNMENT ts rest

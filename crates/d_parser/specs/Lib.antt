@@ -6,6 +6,7 @@ pub mod Reading
 pub mod Script
 pub mod ReadingScripts
 pub mod Limits
+pub mod Depth
 pub mod Symbols
 pub mod Lines
 pub mod Sizes

@@ -12,6 +12,7 @@ use Rattle.d_parser.specs.declared.operators.Step.TheVariants as s
 use Rattle.d_parser.specs.declared.operators.BinaryOperator.{BinaryOperator}
 use Rattle.d_parser.specs.declared.operators.BinaryOperator.TheVariants as b
 use Rattle.d_parser.specs.declared.operators.AssignOperator.TheVariants as a
+use Rattle.d_parser.specs.declared.marks.TheConstants.{OR}
 use Rattle.d_parser.specs.declared.marks.Prefix.{Prefix}
 use Rattle.d_parser.specs.declared.marks.Prefix.TheVariants as p
 use Rattle.d_parser.specs.declared.marks.Follow.{Follow}
@@ -66,9 +67,9 @@ follow_of m.OpenBracket = f.Bracket
 follow_of m.OpenParenthesis = f.Parenthesis
 follow_of mark = f.Other
 
--- How tightly operators bind. Levels of phrases: 1 an expression, 2 a condition, 3 to 13 operators, 14 a unary part, 15 any smaller part.
+-- How tightly operators bind: each has a level between a condition's and a unary part's.
 abbrev pub level_of : BinaryOperator → ℕ
-level_of b.Or = 3
+level_of b.Or = OR
 level_of b.Xor = 4
 level_of b.And = 5
 level_of b.BitOr = 6

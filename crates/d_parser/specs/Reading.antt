@@ -12,6 +12,7 @@ use Rattle.d_parser.specs.declared.tree.Variable.{Variable}
 use Rattle.d_parser.specs.declared.tree.Variable.TheVariants as v
 use Rattle.d_parser.specs.declared.words.WordKind.{WordKind}
 use Rattle.d_parser.specs.declared.words.WordKind.TheVariants as w
+use Rattle.d_parser.specs.declared.marks.TheConstants.{ASSIGNMENT, CONDITION, OR, UNARY}
 use Rattle.d_parser.specs.declared.marks.Prefix.{Prefix}
 use Rattle.d_parser.specs.declared.marks.Prefix.TheVariants as p
 use Rattle.d_parser.specs.declared.marks.Follow.{Follow}
@@ -113,7 +114,7 @@ pub record Readers : Type 0 where
 module _ (down : Readers) where
   -- expressions with commas between, and the mark that closes them
   unfoldable pub listed : Mark → Reader Trees
-  listed close ts = down.phrase 1 ts >>= λ first. down.further (more first.0 end) first.1 >>= λ all. after_mark close all.1 >>= λ rest. Some (all.0, rest)
+  listed close ts = down.phrase ASSIGNMENT ts >>= λ first. down.further (more first.0 end) first.1 >>= λ all. after_mark close all.1 >>= λ rest. Some (all.0, rest)
 
   abbrev pub keys_by : Follow → Reader Trees
   keys_by f.Bracket ts = listed m.CloseBracket (tail ts)
@@ -136,7 +137,7 @@ module _ (down : Readers) where
 
   abbrev pub follows_by : Follow → ℕ → Variable × Trees → Reader Tree
   follows_by (f.Step step) k x ts = Some (After x.0 x.1 step, tail ts)
-  follows_by (f.Assign op) k x ts = if nat_le k 1 then (down.phrase 1 (tail ts) >>= λ value. Some (Assign op x.0 x.1 value.0, value.1)) else Some (Read x.0 x.1, ts)
+  follows_by (f.Assign op) k x ts = if nat_le k ASSIGNMENT then (down.phrase ASSIGNMENT (tail ts) >>= λ value. Some (Assign op x.0 x.1 value.0, value.1)) else Some (Read x.0 x.1, ts)
   follows_by follow k x ts = Some (Read x.0 x.1, ts)
 
   -- what a target goes on as
@@ -152,14 +153,14 @@ module _ (down : Readers) where
 
   -- behind the opening parenthesis of a cast
   unfoldable pub casted : ℕ → Reader Tree
-  casted line ts = cast_type ts >>= λ to. down.phrase 14 to.1 >>= λ a. Some (Cast line to.0 a.0, a.1)
+  casted line ts = cast_type ts >>= λ to. down.phrase UNARY to.1 >>= λ a. Some (Cast line to.0 a.0, a.1)
 
   -- behind an opening parenthesis
   unfoldable pub parenthesised : ℕ → Reader Tree
   parenthesised line ts =
       if is_typed ts
       then casted line ts
-      else (down.phrase 1 ts >>= λ inner. after_mark m.CloseParenthesis inner.1 >>= λ rest. Some (inner.0, rest))
+      else (down.phrase ASSIGNMENT ts >>= λ inner. after_mark m.CloseParenthesis inner.1 >>= λ rest. Some (inner.0, rest))
 
   abbrev pub stepped_by : ℕ → Step → TokenKind → ℕ → Reader Tree
   stepped_by line step (kind.Word name) word_line ts = target (word_kind name) name word_line ts >>= λ x. Some (Before line step x.0.0 x.0.1, x.1)
@@ -171,7 +172,7 @@ module _ (down : Readers) where
   stepped line step (t ∷ ts) = stepped_by line step t.kind t.line ts
 
   abbrev pub prefixed_by : Prefix → ℕ → Reader Tree
-  prefixed_by (p.Unary op) line ts = down.phrase 14 ts >>= λ a. Some (Unary line op a.0, a.1)
+  prefixed_by (p.Unary op) line ts = down.phrase UNARY ts >>= λ a. Some (Unary line op a.0, a.1)
   prefixed_by (p.Step step) line ts = stepped line step ts
   prefixed_by p.Other line ts = None
 
@@ -204,7 +205,7 @@ module _ (down : Readers) where
 
   -- behind the question mark
   unfoldable pub chosen : Tree → Reader Tree
-  chosen test ts = down.phrase 1 ts >>= λ first. after_mark m.Colon first.1 >>= λ rest. down.phrase 2 rest >>= λ second. Some (Choice test first.0 second.0, second.1)
+  chosen test ts = down.phrase ASSIGNMENT ts >>= λ first. after_mark m.Colon first.1 >>= λ rest. down.phrase CONDITION rest >>= λ second. Some (Choice test first.0 second.0, second.1)
 
   abbrev pub choice_by : Follow → Tree → Reader Tree
   choice_by f.Question test ts = chosen test (tail ts)
@@ -212,11 +213,11 @@ module _ (down : Readers) where
 
   -- a condition goes on with a question mark
   unfoldable pub choice : ℕ → Tree → Reader Tree
-  choice k test ts = if nat_le k 2 then choice_by (follow_at ts) test ts else Some (test, ts)
+  choice k test ts = if nat_le k CONDITION then choice_by (follow_at ts) test ts else Some (test, ts)
 
   -- a first part, and what operators join to it
   unfoldable pub operand : ℕ → Reader Tree
-  operand k ts = part k ts >>= λ first. down.climb (max k 3) first.0 first.1
+  operand k ts = part k ts >>= λ first. down.climb (max k OR) first.0 first.1
 
   -- a phrase of level k
   unfoldable pub whole : ℕ → Reader Tree
@@ -224,7 +225,7 @@ module _ (down : Readers) where
 
   -- the expressions behind a comma
   unfoldable pub further_on : Trees → Reader Trees
-  further_on all ts = if is_at m.Comma ts then (down.phrase 1 (tail ts) >>= λ next. down.further (add all next.0) next.1) else Some (all, ts)
+  further_on all ts = if is_at m.Comma ts then (down.phrase ASSIGNMENT (tail ts) >>= λ next. down.further (add all next.0) next.1) else Some (all, ts)
 
 -- with at most so many levels below
 abbrev pub readers : ℕ → Readers

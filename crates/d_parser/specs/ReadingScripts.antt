@@ -4,6 +4,7 @@ use Rattle.d_lexer.specs.declared.token.Mark.TheVariants as m
 use Rattle.d_lexer.specs.declared.token.Token.{Token}
 use Rattle.d_lexer.specs.declared.token.TokenKind.{TokenKind}
 use Rattle.d_lexer.specs.declared.token.TokenKind.TheVariants as kind
+use Rattle.d_parser.specs.declared.marks.TheConstants.{ASSIGNMENT}
 use Rattle.d_parser.specs.declared.tree.DeclaredType.{DeclaredType}
 use Rattle.d_parser.specs.declared.tree.Description.{Description}
 use Rattle.d_parser.specs.declared.words.WordKind.{WordKind}
@@ -32,7 +33,7 @@ aggregation n line name ts =
     arguments (readers n) list >>= λ all. Some (Aggregation line name keys.0 word.0 all.0, all.1)
 
 abbrev pub expression : ℕ → Reader StmtTree
-expression n ts = (readers n).phrase 1 ts >>= λ x. Some (Expression x.0, x.1)
+expression n ts = (readers n).phrase ASSIGNMENT ts >>= λ x. Some (Expression x.0, x.1)
 
 abbrev pub stmt_by : ℕ → TokenKind → ℕ → List Token → Reader StmtTree
 stmt_by n (kind.AggregationName name) line behind ts = aggregation n line name behind
@@ -90,7 +91,7 @@ descriptions n ts = description ts >>= λ d. further_descriptions n (d.0 ∷ [])
 unfoldable pub predicate : ℕ → Reader (Option Tree)
 predicate n ts =
     if is_at m.Slash ts
-    then ((readers n).phrase 1 (tail ts) >>= λ x. after_mark m.ClosingSlash x.1 >>= λ rest. Some (Some x.0, rest))
+    then ((readers n).phrase ASSIGNMENT (tail ts) >>= λ x. after_mark m.ClosingSlash x.1 >>= λ rest. Some (Some x.0, rest))
     else Some (None, ts)
 
 unfoldable pub clause : ℕ → Reader ClauseTree

@@ -7,7 +7,7 @@ ghost use Rattle.d_parser.specs.ReadingScripts as spec;
 
 use crate::expression::phrase;
 use crate::fault::{AT_END, ParseFault};
-use crate::marks::{is_at, tail};
+use crate::marks::{ASSIGNMENT, is_at, tail};
 use crate::names::{after_mark, line_at};
 use crate::probe::description_of;
 use crate::statement::statements;
@@ -94,7 +94,7 @@ fn predicate(
     if !is_at(Mark::Slash, tokens) {
         return Ok((None, tokens));
     }
-    let (test, rest) = phrase(alloc, fuel, 1, tail(tokens))?;
+    let (test, rest) = phrase(alloc, fuel, ASSIGNMENT, tail(tokens))?;
     Ok((Some(test), after_mark(Mark::ClosingSlash, rest)?))
 }
 

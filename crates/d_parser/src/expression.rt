@@ -10,7 +10,9 @@ ghost use Rattle.d_parser.specs.Words as words;
 
 use crate::build;
 use crate::fault::{AT_END, ParseFault};
-use crate::marks::{Follow, Prefix, follow_at, is_at, prefix_of, tail};
+use crate::marks::{
+    ASSIGNMENT, CONDITION, Follow, OR, Prefix, UNARY, follow_at, is_at, prefix_of, tail,
+};
 use crate::names::{after_mark, cast_type, is_typed, line_at, variable};
 use crate::operators::Step;
 use crate::tree::{Constant, Expr, Target, Variable};
@@ -29,7 +31,7 @@ fn listed<'a>(
 ) -> Result<(Vec<Expr>, &'a [Token]), ParseFault>
     ensures { Gives (λ x. (trees_of x.0.items, x.1.now)) result (spec.listed (spec.readers fuel) close tokens.now) }
 {
-    let (first, rest) = phrase(alloc, fuel, 1, tokens)?;
+    let (first, rest) = phrase(alloc, fuel, ASSIGNMENT, tokens)?;
     let mut all = Vec::new(alloc);
     all.push(first)?;
     let (all, rest) = further(alloc, fuel, all, rest)?;
@@ -116,10 +118,10 @@ fn follows<'a>(
     match follow_at(tokens) {
         Follow::Step(step) => Ok((build::after(target, step), tail(tokens))),
         Follow::Assign(operator) => {
-            if 1 < level {
+            if level > ASSIGNMENT {
                 return Ok((build::read(target), tokens));
             }
-            let (value, rest) = phrase(alloc, fuel, 1, tail(tokens))?;
+            let (value, rest) = phrase(alloc, fuel, ASSIGNMENT, tail(tokens))?;
             Ok((build::assign(alloc, operator, target, value)?, rest))
         }
         _ => Ok((build::read(target), tokens)),
@@ -172,7 +174,7 @@ fn cast<'a>(
     ensures { Gives (λ x. (tree_of x.0, x.1.now)) result (spec.casted (spec.readers fuel) line tokens.now) }
 {
     let (to, rest) = cast_type(tokens)?;
-    let (operand, rest) = phrase(alloc, fuel, 14, rest)?;
+    let (operand, rest) = phrase(alloc, fuel, UNARY, rest)?;
     Ok((build::cast(alloc, line, to, operand)?, rest))
 }
 
@@ -191,7 +193,7 @@ fn parenthesised<'a>(
     if is_typed(tokens) {
         return cast(alloc, fuel, line, tokens);
     }
-    let (inner, rest) = phrase(alloc, fuel, 1, tokens)?;
+    let (inner, rest) = phrase(alloc, fuel, ASSIGNMENT, tokens)?;
     Ok((inner, after_mark(Mark::CloseParenthesis, rest)?))
 }
 
@@ -237,7 +239,7 @@ fn marked<'a>(
     }
     match prefix_of(mark) {
         Prefix::Unary(operator) => {
-            let (operand, rest) = phrase(alloc, fuel, 14, tokens)?;
+            let (operand, rest) = phrase(alloc, fuel, UNARY, tokens)?;
             Ok((build::unary(alloc, line, operator, operand)?, rest))
         }
         Prefix::Step(step) => stepped(alloc, fuel, line, step, tokens),
@@ -333,7 +335,7 @@ fn choice<'a>(
 ) -> Result<(Expr, &'a [Token]), ParseFault>
     ensures { Gives (λ x. (tree_of x.0, x.1.now)) result (spec.choice (spec.readers fuel) level (tree_of test) tokens.now) }
 {
-    if 2 < level {
+    if level > CONDITION {
         return Ok((test, tokens));
     }
     match follow_at(tokens) {
@@ -354,9 +356,9 @@ fn chosen<'a>(
 ) -> Result<(Expr, &'a [Token]), ParseFault>
     ensures { Gives (λ x. (tree_of x.0, x.1.now)) result (spec.chosen (spec.readers fuel) (tree_of test) tokens.now) }
 {
-    let (first, rest) = phrase(alloc, fuel, 1, tokens)?;
+    let (first, rest) = phrase(alloc, fuel, ASSIGNMENT, tokens)?;
     let rest = after_mark(Mark::Colon, rest)?;
-    let (second, rest) = phrase(alloc, fuel, 2, rest)?;
+    let (second, rest) = phrase(alloc, fuel, CONDITION, rest)?;
     Ok((build::choice(alloc, test, first, second)?, rest))
 }
 
@@ -390,7 +392,7 @@ fn whole<'a>(
     ensures { Gives (λ x. (tree_of x.0, x.1.now)) result (spec.whole (spec.readers fuel) level tokens.now) }
 {
     let (first, rest) = part(alloc, fuel, level, tokens)?;
-    let (joined, rest) = climb(alloc, fuel, level.max(3), first, rest)?;
+    let (joined, rest) = climb(alloc, fuel, level.max(OR), first, rest)?;
     choice(alloc, fuel, level, joined, rest)
 }
 
@@ -427,7 +429,7 @@ fn further_on<'a>(
         return Ok((all, tokens));
     }
     let mut all = all;
-    let (next, rest) = phrase(alloc, fuel, 1, tail(tokens))?;
+    let (next, rest) = phrase(alloc, fuel, ASSIGNMENT, tail(tokens))?;
     all.push(next)?;
     further(alloc, fuel, all, rest)
 }

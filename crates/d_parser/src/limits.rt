@@ -1,15 +1,16 @@
-//! The limits that are looked at before anything is read.
+//! The limits that are checked before anything is read.
 
 ghost use Rattle.std.specs.Prelude.{◌≡◌, ◌≤◌, ◌+◌};
-ghost use Rattle.d_parser.specs.Limits as spec;
+ghost use Rattle.d_parser.specs.Depth as depth;
+ghost use Rattle.d_parser.specs.Limits as limits;
 
 use crate::fault::{MOST_IN_A_ROW, MOST_OPEN};
 use d_lexer::{Mark, Token, TokenKind};
 
-fn open_behind(kind: &TokenKind, brackets: usize) -> usize
-    requires { brackets ≤ 64 }
-    ensures is { result ≡ spec.open_behind kind.now brackets }
-    ensures small { result ≤ 65 }
+fn open_after(kind: &TokenKind, brackets: usize) -> usize
+    requires { brackets ≤ MOST_OPEN }
+    ensures is { result ≡ depth.open_after kind.now brackets }
+    ensures small { result ≤ MOST_OPEN + 1 }
 {
     match kind {
         TokenKind::Mark(Mark::OpenParenthesis | Mark::OpenBracket) => brackets + 1,
@@ -19,9 +20,9 @@ fn open_behind(kind: &TokenKind, brackets: usize) -> usize
 }
 
 fn row_with(kind: &TokenKind, row: usize) -> usize
-    requires { row ≤ 1024 }
-    ensures is { result ≡ spec.row_with kind.now row }
-    ensures small { result ≤ 1025 }
+    requires { row ≤ MOST_IN_A_ROW }
+    ensures is { result ≡ depth.row_with kind.now row }
+    ensures small { result ≤ MOST_IN_A_ROW + 1 }
 {
     match kind {
         TokenKind::Mark(Mark::Semicolon | Mark::OpenBrace | Mark::CloseBrace) => 0,
@@ -29,16 +30,16 @@ fn row_with(kind: &TokenKind, row: usize) -> usize
     }
 }
 
-/// Whether too many brackets are open at some token, or too many tokens stand in a row.
-#[tactic(auto, unfolding(crate::specs::Limits::is_deep))]
+/// Whether too many brackets are open at some token, or too many tokens are in a row.
+#[tactic(auto, unfolding(crate::specs::Depth::is_deep))]
 pub(crate) fn is_deep(tokens: &[Token]) -> bool
-    ensures { result ≡ spec.is_deep 0 0 tokens.now }
+    ensures { result ≡ depth.is_deep 0 0 tokens.now }
 {
     let mut rest = tokens;
     let mut brackets: usize = 0;
     let mut row: usize = 0;
     while let [token, after @ ..] = rest {
-        brackets = open_behind(&token.kind, brackets);
+        brackets = open_after(&token.kind, brackets);
         row = row_with(&token.kind, row);
         if MOST_OPEN < brackets || MOST_IN_A_ROW < row {
             return true;
@@ -49,14 +50,14 @@ pub(crate) fn is_deep(tokens: &[Token]) -> bool
 }
 
 fn opens_clause(token: &Token) -> bool
-    ensures { result ≡ spec.opens_clause token.now.kind }
+    ensures { result ≡ limits.opens_clause token.now.kind }
 {
     matches!(token.kind, TokenKind::Mark(Mark::OpenBrace))
 }
 
 /// How many clauses are opened.
 pub(crate) fn clauses(tokens: &[Token]) -> usize
-    ensures { result ≡ spec.clauses tokens.now }
+    ensures { result ≡ limits.clauses tokens.now }
 {
     tokens.iter().filter(|token| opens_clause(token)).count()
 }

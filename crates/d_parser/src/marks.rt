@@ -1,10 +1,23 @@
 //! What marks do before and behind an operand.
 
-ghost use Rattle.std.specs.Prelude.{◌≡◌, ◌≤◌};
+ghost use Rattle.std.specs.Prelude.{◌≡◌, ◌<◌};
 ghost use Rattle.d_parser.specs.Marks as spec;
 
 use crate::operators::{AssignOperator, BinaryOperator, Step, UnaryOperator};
 use d_lexer::{Mark, Token, TokenKind};
+
+/// The level of an assignment, which each expression has at least. From level to level phrases bind
+/// tighter; operators have those from `OR` up to just before `UNARY`, and smaller parts the one after it.
+pub const ASSIGNMENT: u8 = 1;
+
+/// The level of a condition.
+pub const CONDITION: u8 = 2;
+
+/// The level of `||`, which binds loosest of the operators.
+pub const OR: u8 = 3;
+
+/// The level of a unary operator with its operand.
+pub const UNARY: u8 = 14;
 
 /// What a mark before an operand does.
 #[derive(Clone, Copy, Debug)]
@@ -97,13 +110,13 @@ pub(crate) fn follow_at(tokens: &[Token]) -> Follow
 }
 
 impl BinaryOperator {
-    /// How tightly it binds: 3 for `||` up to 13 for `*`.
+    /// How tightly it binds: from `||` up to `*`.
     pub(crate) fn level(self) -> u8
         ensures value { result ≡ spec.level_of self }
-        ensures small { result ≤ 13 }
+        ensures small { result < UNARY }
     {
         match self {
-            BinaryOperator::Or => 3,
+            BinaryOperator::Or => OR,
             BinaryOperator::Xor => 4,
             BinaryOperator::And => 5,
             BinaryOperator::BitOr => 6,

@@ -1,13 +1,12 @@
 //! From tokens to the tree.
 
-ghost use Rattle.std.specs.Prelude.{◌≡◌, ◌≤◌, ◌<◌, length, IfOk, Some, List, false, true, Err};
+ghost use Rattle.std.specs.Prelude.{◌≡◌, ◌≤◌, ◌<◌, length, IfOk, Some, List, Err};
 ghost use Rattle.d_lexer.specs.Small as token;
 ghost use Rattle.d_parser.specs.Tree as trees;
 ghost use Rattle.d_parser.specs.Tree.{script_of};
 ghost use Rattle.d_parser.specs.Script as grammar;
-ghost use Rattle.d_parser.specs.Limits as limits;
 ghost use Rattle.d_parser.specs.Reading.{Gives};
-ghost use Rattle.d_parser.specs.Limits.{OnlyLimits};
+ghost use Rattle.d_parser.specs.Limits.{IsDeep, OnlyLimits, clauses};
 ghost use Rattle.d_parser.specs.Numbers.{AreSmall};
 ghost use Rattle.d_parser.specs.Sizes.{IsWithin};
 ghost use Rattle.d_parser.specs.declared.fault.ParseFault.TheVariants as faults;
@@ -16,30 +15,33 @@ use crate::fault::{MOST_CLAUSES, ParseFault};
 use crate::limits::{clauses, is_deep};
 use crate::script::script;
 use crate::tree::Script;
-use d_lexer::Token;
+use d_lexer::{MOST_BYTES, Token};
 use std::alloc::Global;
 
 /// The tree of a script's tokens, as `d_lexer::lex` gives them.
 ///
 /// `TooDeep` is decided first, then `TooManyClauses`; `Syntax` comes exactly where the tokens have no tree.
-#[tactic(auto, using(crate::proofs::Answering::found_of, crate::proofs::Answering::only_of, crate::proofs::Answering::passed_of))]
+#[tactic(auto, using(crate::proofs::Answering::found_of, crate::proofs::Answering::only_of, crate::proofs::Answering::passed_of, crate::proofs::Deep::deep_is, crate::proofs::Deep::is_deep_of))]
 pub fn parse(alloc: Global, tokens: &[Token]) -> Result<Script, ParseFault>
-    requires few { length tokens.now ≤ 65536 }
+    requires few { length tokens.now ≤ MOST_BYTES }
     requires small { token.AreSmall tokens.now }
-    // Brackets and rows of tokens are looked at first.
-    ensures deep { limits.is_deep 0 0 tokens.now ≡ true → result ≡ Err faults.TooDeep }
+    // Brackets and rows of tokens are checked first.
+    ensures deep { IsDeep tokens.now → result ≡ Err faults.TooDeep }
     // Then clauses are counted.
-    ensures many { limits.is_deep 0 0 tokens.now ≡ false → 256 < limits.clauses tokens.now → result ≡ Err faults.TooManyClauses }
-    // A limit is told only where it is passed.
-    ensures passed { OnlyLimits (limits.is_deep 0 0 tokens.now) (limits.clauses tokens.now) result }
-    // What is answered is a tree of the tokens.
+    ensures many { ¬ IsDeep tokens.now → MOST_CLAUSES < clauses tokens.now
+        → result ≡ Err faults.TooManyClauses }
+    // A limit is reported only where it is passed.
+    ensures passed { OnlyLimits tokens.now result }
+    // What is returned is a tree of the tokens.
     ensures found { IfOk result (λ s. grammar.IsScript (script_of s) tokens.now) }
-    // Its descriptions, its statements, and its declarations with all places of variables are at most 65,536 each.
-    ensures few { IfOk result (λ s. IsWithin 65536 (script_of s)) }
+    // Its descriptions, its statements, and its declarations with all places of variables are each at
+    // most as many as a script may have bytes.
+    ensures few { IfOk result (λ s. IsWithin MOST_BYTES (script_of s)) }
     // Its numbers are below 2^64, as those of the tokens are.
     ensures small { IfOk result (λ s. AreSmall (script_of s)) }
-    // Where there is a tree it is answered, and no other, unless memory runs out.
-    ensures only { limits.is_deep 0 0 tokens.now ≡ false → limits.clauses tokens.now ≤ 256 → (s : List trees.ItemTree) → grammar.IsScript s tokens.now → Gives script_of result (Some s) }
+    // Where there is a tree it is returned, and no other, unless memory runs out.
+    ensures only { ¬ IsDeep tokens.now → clauses tokens.now ≤ MOST_CLAUSES
+        → (s : List trees.ItemTree) → grammar.IsScript s tokens.now → Gives script_of result (Some s) }
 {
     if is_deep(tokens) {
         return Err(ParseFault::TooDeep);

@@ -12,7 +12,7 @@ use crate::fault::{AT_END, ParseFault};
 use crate::names::{last_line, line_at};
 use crate::tree::{Declaration, Item, Script};
 use crate::words::{WordKind, word_kind};
-use d_lexer::{ByteString, Token, TokenKind};
+use d_lexer::{ByteString, MOST_BYTES, Token, TokenKind};
 use std::alloc::Global;
 
 /// What `self` or `this` declares.
@@ -77,7 +77,7 @@ fn items(alloc: Global, fuel: usize, tokens: &[Token]) -> Result<Vec<Item>, Pars
 /// The script that all tokens spell.
 #[tactic(auto, unfolding(crate::specs::ReadingScripts::script))]
 pub(crate) fn script(alloc: Global, tokens: &[Token]) -> Result<Script, ParseFault>
-    requires { length tokens.now ≤ 65536 }
+    requires { length tokens.now ≤ MOST_BYTES }
     ensures { Gives script_of result (spec.script tokens.now) }
 {
     match items(alloc, tokens.len() + 1, tokens) {

@@ -7,7 +7,7 @@ ghost use Rattle.d_parser.specs.ReadingScripts as spec;
 
 use crate::expression::{arguments, keys, phrase};
 use crate::fault::{AT_END, ParseFault};
-use crate::marks::{is_at, tail};
+use crate::marks::{ASSIGNMENT, is_at, tail};
 use crate::names::{after_mark, line_at};
 use crate::tree::Stmt;
 use d_lexer::{ByteString, Mark, Token, TokenKind};
@@ -59,7 +59,7 @@ fn expression<'a>(
 ) -> Result<(Stmt, &'a [Token]), ParseFault>
     ensures { Gives (λ x. (stmt_of x.0, x.1.now)) result (spec.expression fuel tokens.now) }
 {
-    let (expression, rest) = phrase(alloc, fuel, 1, tokens)?;
+    let (expression, rest) = phrase(alloc, fuel, ASSIGNMENT, tokens)?;
     Ok((Stmt::Expression(expression), rest))
 }
 

@@ -1,9 +1,9 @@
 -- Arguments, taken from the end.
-use Rattle.std.proofs.Common.{◌≡◌, ℕ, ◌==◌, Bool, true, false, List, [], ◌∷◌, ◌++◌, length, Option, Some, None, vec_len, refl, sym, ap, ◌∙◌, Vec, Global, arith}
+use Rattle.std.proofs.Common.{◌≡◌, ◌==◌, true, false, List, [], ◌∷◌, ◌++◌, length, Some, None, vec_len, refl, sym, ap, ◌∙◌, Vec, Global, arith}
 use Rattle.std.proofs.lemmas.List.{nil_from_length}
 use Rattle.std.proofs.lemmas.Bool.Decides.{nat_tests}
 use Rattle.d_types.specs.declared.typed.TypedExpr.{TypedExpr}
-use Rattle.d_types.specs.Typed.{Typed, Typeds, typed_of, typeds_of, type_of}
+use Rattle.d_types.specs.Typed.{typed_of, typeds_of, type_of}
 use Rattle.d_types.specs.Typing.{strjoin, only, strjoin_of}
 
 none_left : (v : Vec TypedExpr Global) → (vec_len v == 0) ≡ true → v.items ≡ []

@@ -1,5 +1,5 @@
 -- A part's fault is the whole's.
-use Rattle.std.proofs.Common.{◌≡◌, Result, refl}
+use Rattle.std.proofs.Common.{Result, refl}
 use Rattle.d_types.specs.declared.fault.TypeFault.{TypeFault}
 use Rattle.d_types.specs.declared.fault.TypeFault.TheVariants as f
 use Rattle.d_types.specs.Faults.{◌>>=◌, Fault, Fails}

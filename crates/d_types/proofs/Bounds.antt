@@ -1,6 +1,6 @@
 -- What an aggregating function is given fits into six registers, where its first argument does: the bounds and the step of
 -- lquantize are constants.
-use Rattle.std.proofs.Common.{◌≡◌, ℕ, ◌+◌, ◌≤◌, nat_le, Bool, true, false, ◌&&◌, if◌then◌else◌, Option, Some, None, refl, sym, subst, arith, ℤ}
+use Rattle.std.proofs.Common.{◌≡◌, ℕ, nat_le, Bool, true, false, ◌&&◌, if◌then◌else◌, Option, Some, None, refl, sym, subst, arith, ℤ}
 use Rattle.std.proofs.lemmas.Bool.Decides.{nat_tests}
 use Rattle.d_parser.specs.declared.operators.UnaryOperator.{UnaryOperator}
 use Rattle.d_parser.specs.declared.operators.UnaryOperator.TheVariants as un
@@ -15,7 +15,7 @@ use Rattle.d_types.specs.declared.words.Aggregating.{Aggregating}
 use Rattle.d_types.specs.declared.words.Aggregating.TheVariants as ag
 use Rattle.d_types.specs.Typed as typed
 use Rattle.d_types.specs.Typed.{Typed, Typeds, end, more}
-use Rattle.d_types.specs.Needs.{need, count}
+use Rattle.d_types.specs.Needs.{count}
 use Rattle.d_types.specs.Operators.{same_type, converted}
 use Rattle.d_types.specs.Typing.{constant}
 use Rattle.d_types.specs.Aggregations.{number, positive, negative, signed, bound, small, step, buckets, lquantize, function, integers, arguments_fit, first}

@@ -1,5 +1,5 @@
 -- The recursion answers each tree that the rules give.
-use Rattle.std.proofs.Common.{◌≡◌, ℕ, ◌⊎◌, inl, inr, List, [], ◌∷◌, ◌++◌, Bool, true, false, Option, Some, None, Result, Ok, Err, refl, sym, ap, ◌∙◌}
+use Rattle.std.proofs.Common.{◌≡◌, ℕ, inl, inr, List, Option, Some, Result, Ok, refl, sym, ap, ◌∙◌}
 use Rattle.d_parser.specs.declared.operators.Step.{Step}
 use Rattle.d_parser.specs.declared.tree.Variable.{Variable}
 use Rattle.d_parser.specs.declared.tree.Variable.TheVariants as v
@@ -20,7 +20,7 @@ use Rattle.d_types.specs.Words.{callee_named}
 use Rattle.d_types.specs.Typed.{Typed, Typeds, end, more, add, type_of}
 use Rattle.d_types.specs.Variables.{Rows, find, type_at}
 use Rattle.d_types.specs.Operators.{binary_sort, assign_sort, joined, choice, as_type}
-use Rattle.d_types.specs.Targets.{space_of, type_at_once, read, load_at, target, slot_for, assigned, step}
+use Rattle.d_types.specs.Targets.{space_of, read, load_at, target, slot_for, assigned, step}
 use Rattle.d_types.specs.Typing.{expr, exprs, call_of}
 use Rattle.d_types.specs.Rules.{Types, AllTypes, Joins, Chooses, Loads, Reads, Places, Targets, Fits, Stores, Steps, Calls}
 

@@ -1,5 +1,5 @@
 -- Expressions without division give a value.
-use Rattle.std.proofs.Common.{◌≡◌, ℕ, zero, suc, false, ◌||◌, ◌∷◌, take, ◌++◌, length, refl}
+use Rattle.std.proofs.Common.{◌≡◌, ℕ, zero, suc, false, ◌||◌, ◌∷◌, length, refl}
 use Rattle.d_values.specs.declared.value.Value.{Value}
 use Rattle.d_values.specs.declared.value.Value.TheVariants as va
 use Rattle.d_values.specs.Operators.{holds_of}

@@ -1,5 +1,5 @@
 -- What is typed fits into six registers.
-use Rattle.std.proofs.Common.{◌≡◌, ℕ, ◌≤◌, nat_le, List, [], ◌∷◌, ◌++◌, Bool, true, false, if◌then◌else◌, Option, Some, None, Result, Ok, Err, refl, sym, ap, ◌∙◌, subst, arith}
+use Rattle.std.proofs.Common.{◌≡◌, ℕ, nat_le, List, [], ◌∷◌, ◌++◌, Bool, true, false, if◌then◌else◌, Option, Some, None, Result, Ok, refl, subst, arith}
 use Rattle.std.proofs.Math.Bridge.{le_prop}
 use Rattle.std.proofs.Math.Logic.{∥∥₁_elim}
 use Rattle.std.proofs.lemmas.Bool.Decides.{nat_tests}
@@ -7,19 +7,16 @@ use Rattle.d_parser.specs.Tree as tree
 use Rattle.d_parser.specs.Tree.{Tree, Trees, StmtTree, ClauseTree, ItemTree}
 use Rattle.d_values.specs.declared.int_type.DType.{DType}
 use Rattle.d_values.specs.declared.int_type.DType.TheVariants.{Int, Text}
-use Rattle.aggregations.specs.declared.function.AggFn.{AggFn}
-use Rattle.d_types.specs.declared.typed.Piece.{Piece}
-use Rattle.d_types.specs.declared.words.Aggregating.{Aggregating}
 use Rattle.d_types.specs.declared.words.Callee.{Callee}
 use Rattle.d_types.specs.declared.words.Callee.TheVariants as f
 use Rattle.d_types.specs.Faults.{◌>>=◌, Fault, Cause, refuse, unless, Undeclared, Mismatch, NoRegister}
-use Rattle.d_types.specs.Words.{callee_named, aggregating_named}
-use Rattle.d_types.specs.Typed.{Typed, Typeds, end, more, add, type_of, Action, Evaluate, Trace, Print, Exit, Aggregate, Agg, Aggs, ClauseMeant, ScriptMeant}
+use Rattle.d_types.specs.Words.{aggregating_named}
+use Rattle.d_types.specs.Typed.{Typed, Typeds, end, more, add, Action, Evaluate, Trace, Print, Exit, Aggregate, Aggs, ClauseMeant, ScriptMeant}
 use Rattle.d_types.specs.Needs.{need}
 use Rattle.d_types.specs.Variables.{Rows, types_in}
 use Rattle.d_types.specs.Formats.{pieces, fit}
 use Rattle.d_types.specs.Typing.{line_of, only, expr, whole}
-use Rattle.d_types.specs.Statements.{wholes, trace, exit_by, exit, print_with, not_printed, text_of, print_by, print, evaluate, called, action}
+use Rattle.d_types.specs.Statements.{wholes, trace, exit_by, exit, print_with, not_printed, print_by, print, evaluate, called, action}
 use Rattle.d_types.specs.Aggregations.{arguments_fit, first, function, find_from, joined, aggregate}
 use Rattle.d_types.specs.Scripts.{declaration, tested, predicate, statement, statements, clause, item, items, script, IsMeant}
 use Rattle.d_types.specs.Fitting.{Fits, ScriptFits}

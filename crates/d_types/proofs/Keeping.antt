@@ -1,5 +1,5 @@
 -- Expressions without assignments leave the variables as they were.
-use Rattle.std.proofs.Common.{◌≡◌, ℕ, zero, suc, false, ◌||◌, ◌∷◌, take, ◌++◌, length, refl, sym, subst, Result, Ok, Err}
+use Rattle.std.proofs.Common.{◌≡◌, ℕ, zero, suc, false, ◌||◌, ◌∷◌, length, refl, sym, subst, Result, Ok, Err}
 use Rattle.d_values.specs.declared.arithmetic.OutOfZero.{OutOfZero}
 use Rattle.d_values.specs.declared.value.Value.{Value}
 use Rattle.d_values.specs.declared.value.Value.TheVariants as va

@@ -32,5 +32,6 @@ pub mod ConsistentScripts
 pub mod Proper
 pub mod Sizes
 pub mod Contributions
+pub mod Crossing
 mod Spelled
 mod Spelling

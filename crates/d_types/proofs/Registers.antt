@@ -1,5 +1,5 @@
 -- Needs of expressions with keys.
-use Rattle.std.proofs.Common.{◌≡◌, ℕ, ◌+◌, ◌≤◌, nat_le, max, Bool, true, false, ◌&&◌, length, refl, sym, ap, ◌∙◌, Vec, Global, arith}
+use Rattle.std.proofs.Common.{◌≡◌, ℕ, ◌+◌, nat_le, max, ◌&&◌, length, ap, ◌∙◌, Vec, Global, arith}
 use Rattle.std.proofs.lemmas.Bool.Decides.{nat_tests}
 use Rattle.d_parser.specs.declared.operators.Step.{Step}
 use Rattle.d_types.specs.declared.typed.Answer.{Answer}

@@ -1,8 +1,8 @@
 -- A row of typed trees as a list.
-use Rattle.std.proofs.Common.{◌≡◌, ℕ, ◌+◌, List, [], ◌∷◌, ◌++◌, length, refl, sym, ap, ◌∙◌, Vec, Global, arith}
+use Rattle.std.proofs.Common.{◌≡◌, List, [], ◌∷◌, ◌++◌, length, refl, ap, ◌∙◌, Vec, Global, arith}
 use Rattle.d_types.specs.declared.typed.TypedExpr.{TypedExpr, Row_of-TypedExpr, end_of-TypedExpr, more_of-TypedExpr, items-the_row-TypedExpr, items_hidden-the_row-TypedExpr-0}
 use Rattle.d_types.specs.declared.typed.TypedExpr.TheBlock.{hidden-the_row-TypedExpr-0}
-use Rattle.d_types.specs.Typed.{Typed, Typeds, more, add, typed_of, typeds_in, typeds_of}
+use Rattle.d_types.specs.Typed.{more, add, typed_of, typeds_in, typeds_of}
 use Rattle.d_types.specs.Needs.{count}
 
 row_is : {m : _} (row : Row_of-TypedExpr m) → typeds_in row ≡ typeds_of (items-the_row-TypedExpr m row)

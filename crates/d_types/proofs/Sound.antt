@@ -1,5 +1,5 @@
 -- What the recursion answers is well typed.
-use Rattle.std.proofs.Common.{◌≡◌, ℕ, nat_le, ◌⊎◌, inl, inr, List, [], ◌∷◌, ◌++◌, length, Bool, true, false, Option, Some, None, Result, Ok, Err, refl, sym, ap, ◌∙◌, subst, if◌then◌else◌}
+use Rattle.std.proofs.Common.{◌≡◌, ℕ, inl, inr, List, Bool, true, false, Option, Some, None, Result, Ok, Err, refl, sym, ap, ◌∙◌, subst, if◌then◌else◌}
 use Rattle.d_parser.specs.declared.operators.Step.{Step}
 use Rattle.d_parser.specs.declared.operators.UnaryOperator.{UnaryOperator}
 use Rattle.d_parser.specs.declared.tree.Variable.{Variable}
@@ -23,14 +23,13 @@ use Rattle.d_types.specs.declared.words.Callee.{Callee}
 use Rattle.d_types.specs.declared.words.Callee.TheVariants as f
 use Rattle.d_types.specs.Faults.{◌>>=◌, Fault, Cause, refuse}
 use Rattle.d_types.specs.Constants.{int_type}
-use Rattle.d_types.specs.Words.{built_in, callee_named}
+use Rattle.d_types.specs.Words.{callee_named}
 use Rattle.d_types.specs.Typed as typed
 use Rattle.d_types.specs.Typed.{Typed, Typeds, end, more, add, type_of}
-use Rattle.d_types.specs.Needs.{count}
 use Rattle.d_types.specs.Variables.{Rows, find, type_at, keys_fit}
 use Rattle.d_types.specs.Operators.{binary_sort, assign_sort, converted, unary, joined, choice, as_type}
-use Rattle.d_types.specs.Targets.{line_of_variable, most_keys, new_row, settled, space_of, type_at_once, plain, load, load_at, read, plain_target, slot_for, target, store, stored, assigned, step}
-use Rattle.d_types.specs.Typing.{line_of, strlen, strlen_of, strjoin, strjoin_of, only, call, call_of, beside, fitting, step_rest, expr, exprs}
+use Rattle.d_types.specs.Targets.{line_of_variable, settled, space_of, type_at_once, plain, load, load_at, read, plain_target, slot_for, target, store, stored, assigned, step}
+use Rattle.d_types.specs.Typing.{line_of, strlen, strjoin, call, call_of, beside, fitting, step_rest, expr, exprs}
 use Rattle.d_types.specs.Rules.{Types, AllTypes, IsInteger, IsText, Joins, Chooses, Loads, Reads, Places, Targets, Fits, Stores, Steps, Calls}
 use Rattle.d_types.proofs.Complete.{after, after-add, after-end}
 

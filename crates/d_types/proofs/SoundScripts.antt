@@ -1,6 +1,5 @@
 -- What the recursion answers of a script is well typed.
-use Rattle.std.proofs.Common.{◌≡◌, ℕ, ◌≤◌, nat_le, ◌⊎◌, inl, inr, List, [], ◌∷◌, ◌++◌, length, Bool, true, false, if◌then◌else◌, Option, Some, None, Result, Ok, Err, refl, sym, ap, ◌∙◌, subst, append_assoc, append-nil, arith}
-use Rattle.std.proofs.lemmas.Bool.Decides.{nat_tests}
+use Rattle.std.proofs.Common.{◌≡◌, ℕ, nat_le, inl, inr, List, [], ◌∷◌, ◌++◌, length, Bool, true, false, if◌then◌else◌, Option, Some, None, Result, Ok, Err, refl, sym, ap, ◌∙◌, subst, append_assoc, append-nil}
 use Rattle.d_parser.specs.declared.tree.DeclaredType.{DeclaredType}
 use Rattle.d_parser.specs.Tree as tree
 use Rattle.d_parser.specs.Tree.{Tree, Trees, StmtTree, DeclarationTree, ClauseTree, ItemTree}
@@ -8,15 +7,13 @@ use Rattle.d_values.specs.declared.int_type.IntType.{IntType}
 use Rattle.d_values.specs.declared.int_type.DType.{DType}
 use Rattle.d_values.specs.declared.int_type.DType.TheVariants.{Int, Text}
 use Rattle.aggregations.specs.declared.function.AggFn.{AggFn}
-use Rattle.d_types.specs.declared.typed.Piece.{Piece}
 use Rattle.d_types.specs.declared.typed.Space.{Space}
 use Rattle.d_types.specs.declared.typed.Space.TheVariants as s
-use Rattle.d_types.specs.declared.words.Aggregating.{Aggregating}
 use Rattle.d_types.specs.declared.words.Callee.{Callee}
 use Rattle.d_types.specs.declared.words.Callee.TheVariants as f
 use Rattle.d_types.specs.declared.fault.TypeFault.{TypeFault}
 use Rattle.std.proofs.Common.{IfOk}
-use Rattle.d_types.specs.Faults.{Gives, ◌>>=◌, Fault, Cause, refuse, unless, Undeclared, Mismatch, Keys, AggregationRedefined, LquantizeBounds, PrintfArguments, NoRegister}
+use Rattle.d_types.specs.Faults.{Gives, ◌>>=◌, Fault, refuse, unless, Undeclared, Mismatch, Keys, AggregationRedefined, LquantizeBounds, PrintfArguments, NoRegister}
 use Rattle.d_types.specs.Words.{callee_named, aggregating_named}
 use Rattle.d_types.specs.Typed.{Typed, Typeds, end, more, add, type_of, Action, Evaluate, Trace, Print, Exit, Aggregate, Agg, Aggs, ClauseMeant, ScriptMeant}
 use Rattle.d_types.specs.Needs.{need, count}
@@ -25,9 +22,9 @@ use Rattle.d_types.specs.Variables as variables
 use Rattle.d_types.specs.Formats.{pieces}
 use Rattle.d_types.specs.Formats as formats
 use Rattle.d_types.specs.Typing.{line_of, only, expr, whole}
-use Rattle.d_types.specs.Statements.{wholes, trace, exit_by, exit, print_with, not_printed, text_of, print_by, print, evaluate, called, action}
+use Rattle.d_types.specs.Statements.{wholes, trace, exit_by, exit, not_printed, text_of, print_by, print, evaluate, called, action}
 use Rattle.d_types.specs.Aggregations.{arguments_fit, first, function, find_from, is_again, defined, joined, aggregate}
-use Rattle.d_types.specs.Scripts.{declared, declared_kinds, declaration, tested, predicate, statement, statements, clause, item, items, script}
+use Rattle.d_types.specs.Scripts.{declared, declaration, tested, predicate, statement, statements, clause, item, items, script}
 use Rattle.d_types.specs.Fitting.{ScriptFits}
 use Rattle.d_types.specs.Rules.{Types, AllTypes, IsInteger}
 use Rattle.d_types.specs.WellTyped.{Evaluates, Prints, Acts, Stands, Joins, Aggregates, Declares, IsDeclared, Tests, Does, AllDo, Probes, AllItems, IsWell}

@@ -1,10 +1,10 @@
 -- A table in the code as a list of rows.
-use Rattle.std.proofs.Common.{◌≡◌, ℕ, zero, suc, ◌+◌, ◌<◌, ◌≤◌, List, [], ◌∷◌, ◌++◌, length, map, drop, get_or, slice_set, Bool, true, false, Option, Some, None, is_some, refl, sym, ap, ◌∙◌, arith, add-one}
+use Rattle.std.proofs.Common.{◌≡◌, ℕ, zero, suc, ◌+◌, ◌<◌, ◌≤◌, List, [], ◌∷◌, ◌++◌, length, drop, get_or, slice_set, false, Some, None, refl, sym, ap, ◌∙◌, arith, add-one}
 use Rattle.std.proofs.Math.Seq.{drop-cons}
 use Rattle.d_values.specs.declared.int_type.DType.{DType}
 use Rattle.d_types.specs.declared.variables.Entry.{Entry}
-use Rattle.d_types.specs.Typed.{Typed, Typeds}
-use Rattle.d_types.specs.Variables.{Row, Rows, row_of, rows_of, type_at, keys_fit, fit, set_type}
+use Rattle.d_types.specs.Typed.{Typeds}
+use Rattle.d_types.specs.Variables.{Rows, row_of, rows_of, type_at, keys_fit, fit, set_type}
 
 pub front : {A : Type 0} (xs : List A) (n : ℕ) (x : A) → n < length xs → x ≡ get_or xs n x → drop n xs ≡ x ∷ drop (n + 1) xs
 front xs n x h e = rw add-one (drop-cons xs n x h ∙ ap (λ y. y ∷ drop (suc n) xs) (sym e))

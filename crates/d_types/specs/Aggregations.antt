@@ -1,5 +1,5 @@
 -- The typed tree of an aggregation statement, or its first fault.
-use Rattle.std.specs.Prelude.{ℕ, ◌+◌, ◌==◌, ◌&&◌, nat_le, Bool, true, false, if◌then◌else◌, List, [], ◌∷◌, ◌++◌, length, map, Option, Some, None, Result, Ok, Err, ℤ, pos, neg_ℤ}
+use Rattle.std.specs.Prelude.{ℕ, ◌+◌, ◌==◌, ◌&&◌, nat_le, Bool, true, false, if◌then◌else◌, List, [], ◌∷◌, ◌++◌, length, Option, Some, None, Result, Ok, ℤ, pos, neg_ℤ}
 use Rattle.std.specs.Str.{bytes_eq}
 use Rattle.std.specs.Ordering.{int_eq}
 use Rattle.std.specs.Option.{option_map}
@@ -14,6 +14,7 @@ use Rattle.d_values.specs.declared.int_type.DType.{DType}
 use Rattle.d_values.specs.declared.int_type.DType.TheVariants.{Int, Text}
 use Rattle.aggregations.specs.declared.function.AggFn.{AggFn}
 use Rattle.aggregations.specs.declared.function.AggFn.TheVariants as fn
+use Rattle.d_types.specs.declared.variables.TheConstants.{MOST_KEYS}
 use Rattle.d_types.specs.declared.words.Aggregating.{Aggregating}
 use Rattle.d_types.specs.declared.words.Aggregating.TheVariants as ag
 use Rattle.d_types.specs.Faults.{Fault, ◌>>=◌, refuse, unless, Undeclared, Mismatch, Keys, AggregationRedefined, LquantizeBounds}
@@ -21,7 +22,6 @@ use Rattle.d_types.specs.Words.{aggregating_named}
 use Rattle.d_types.specs.Typed.{Typed, Typeds, end, more, type_of, Action, Aggregate, Agg, Aggs}
 use Rattle.d_types.specs.Needs.{count}
 use Rattle.d_types.specs.Variables.{Rows, kinds_of, fit}
-use Rattle.d_types.specs.Typing.{only}
 use Rattle.d_types.specs.Statements.{wholes}
 
 -- ---- bounds and steps, which are read from the text
@@ -133,7 +133,7 @@ defined name keys aggs f = Ok (length aggs, aggs ++ record { name = name; keys =
 -- the place of an aggregation, and all of them with it: the first statement fixes its keys and its function
 abbrev pub joined : ℕ → List ℕ → Typeds → Option AggFn → Aggs → Option (ℕ × Agg) → Result (ℕ × Aggs) Fault
 joined line name keys f aggs None =
-    if nat_le (count keys) 8 then (unless LquantizeBounds line f >>= defined name keys aggs) else refuse Keys line
+    if nat_le (count keys) MOST_KEYS then (unless LquantizeBounds line f >>= defined name keys aggs) else refuse Keys line
 joined line name keys f aggs (Some p) =
     if fit p.1.keys keys
     then (if is_again f p.1.function then Ok (p.0, aggs) else refuse AggregationRedefined line)

@@ -1,5 +1,5 @@
 -- The types that constants have, and those that words name.
-use Rattle.std.specs.Prelude.{ℕ, nat_le, nat_lt, if◌then◌else◌}
+use Rattle.std.specs.Prelude.{ℕ, nat_le, if◌then◌else◌}
 use Rattle.d_lexer.specs.declared.token.Suffix.{Suffix}
 use Rattle.d_lexer.specs.declared.token.Suffix.TheVariants as s
 use Rattle.d_parser.specs.declared.tree.IntegerType.{IntegerType}

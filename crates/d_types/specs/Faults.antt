@@ -20,6 +20,21 @@ pub record Fault : Type 0 where
   pub cause : Cause
   pub line : ℕ
 
+-- how a script's fault is reported
+abbrev pub fault_at : Cause → ℕ → TypeFault
+fault_at (GlobalAssignment name) line = f.GlobalAssignment name line
+fault_at Undeclared line = f.Undeclared line
+fault_at Mismatch line = f.Mismatch line
+fault_at Keys line = f.Keys line
+fault_at AggregationRedefined line = f.AggregationRedefined line
+fault_at LquantizeBounds line = f.LquantizeBounds line
+fault_at PrintfArguments line = f.PrintfArguments line
+fault_at ReadOnly line = f.ReadOnly line
+fault_at NoRegister line = f.NoRegister line
+
+abbrev pub fault_of : Fault → TypeFault
+fault_of first = fault_at first.cause first.line
+
 -- what comes first is refused first
 infixl 10 ◌>>=◌
 abbrev pub ◌>>=◌ : {A B : Type 0} → Result A Fault → (A → Result B Fault) → Result B Fault

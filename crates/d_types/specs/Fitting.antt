@@ -1,11 +1,12 @@
--- Every whole expression of a script needs six registers at most.
+-- Every whole expression of a script needs at most the registers that there are.
 use Rattle.std.specs.Prelude.{◌≤◌}
+use Rattle.d_types.specs.declared.needs.TheConstants.{REGISTERS}
 use Rattle.d_types.specs.Typed.{Typed, ScriptMeant}
 use Rattle.d_types.specs.Needs.{need}
 use Rattle.d_types.specs.Wholes.{ClausesAre}
 
 abbrev pub Fits : Typed → Type 0
-Fits x = need x ≤ 6
+Fits x = need x ≤ REGISTERS
 
 abbrev pub ScriptFits : ScriptMeant → Type 0
 ScriptFits m = ClausesAre Fits m.clauses

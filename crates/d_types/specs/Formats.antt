@@ -4,9 +4,9 @@ use Rattle.d_values.specs.declared.int_type.DType.{DType}
 use Rattle.d_values.specs.declared.int_type.DType.TheVariants.{Int, Text}
 use Rattle.d_types.specs.declared.typed.Letter.{Letter}
 use Rattle.d_types.specs.declared.typed.Letter.TheVariants as letter
-use Rattle.d_types.specs.declared.typed.Conversion.{Conversion}
 use Rattle.d_types.specs.declared.typed.Piece.{Piece}
 use Rattle.d_types.specs.declared.typed.Piece.TheVariants as piece
+use Rattle.d_types.specs.declared.format.TheConstants.{MOST_WIDTH}
 use Rattle.d_types.specs.declared.format.Flags.{Flags}
 use Rattle.d_types.specs.declared.format.Place.{Place}
 use Rattle.d_types.specs.declared.format.Place.TheVariants as at
@@ -47,11 +47,11 @@ at_length f b = if b == 104 then goes (at.Half f) else if b == 108 then goes (at
 abbrev pub is_digit : ℕ → Bool
 is_digit b = nat_le 48 b && nat_le b 57
 
--- before it perhaps a width of 255 at most
+-- before it perhaps a width
 abbrev pub at_width : Flags → ℕ → Turn
 at_width f b =
     if is_digit b
-    then (if nat_le (f.width * 10 + (b - 48)) 255 then goes (at.Width (record f { width = f.width * 10 + (b - 48) })) else None)
+    then (if nat_le (f.width * 10 + (b - 48)) MOST_WIDTH then goes (at.Width (record f { width = f.width * 10 + (b - 48) })) else None)
     else at_length f b
 
 -- before it perhaps flags: - and 0

@@ -1,7 +1,8 @@
 -- What statements ask of their expressions, whatever the types of the script's variables: kinds, places and counts.
-use Rattle.std.specs.Prelude.{◌≡◌, ◌<◌, ◌≤◌, ℕ, true, length, slice_get, All, Option, Some, None}
+use Rattle.std.specs.Prelude.{◌≡◌, ◌<◌, ◌≤◌, true, length, slice_get, All, Option, Some, None}
 use Rattle.aggregations.specs.declared.function.AggFn.{AggFn}
 use Rattle.aggregations.specs.declared.function.AggFn.TheVariants as fn
+use Rattle.d_types.specs.declared.variables.TheConstants.{MOST_KEYS}
 use Rattle.d_types.specs.Typed.{Typed, Typeds, type_of, Action, Evaluate, Trace, Print, Exit, Aggregate, Agg, Aggs, ClauseMeant, ScriptMeant}
 use Rattle.d_types.specs.Needs.{count}
 use Rattle.d_types.specs.Variables as variables
@@ -21,7 +22,7 @@ TakesArgument function (Some x) = IsInteger x
 -- keys of the aggregation's kinds, at most 8 of them, and what its function takes
 abbrev pub Suits : Option Agg → Typeds → Option Typed → Type 0
 Suits None keys argument = ⊥
-Suits (Some a) keys argument = (variables.fit a.keys keys ≡ true) × (count keys ≤ 8) × TakesArgument a.function argument
+Suits (Some a) keys argument = (variables.fit a.keys keys ≡ true) × (count keys ≤ MOST_KEYS) × TakesArgument a.function argument
 
 -- each part is of the kind that its place asks for, and an aggregation is one of the script's
 abbrev pub IsProperAction : Aggs → Action → Type 0

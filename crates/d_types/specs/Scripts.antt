@@ -1,5 +1,6 @@
 -- The typed tree of a script, or its first fault: declarations and clauses go in the order of the text.
 use Rattle.std.specs.Prelude.{◌≡◌, ℕ, nat_le, if◌then◌else◌, List, [], ◌∷◌, ◌++◌, length, map, Option, Some, None, Result, Ok}
+use Rattle.d_lexer.specs.declared.fault.TheConstants.{MOST_BYTES}
 use Rattle.d_parser.specs.declared.tree.DeclaredType.{DeclaredType}
 use Rattle.d_parser.specs.Numbers.{AreSmall}
 use Rattle.d_parser.specs.Sizes.{IsWithin}
@@ -8,6 +9,8 @@ use Rattle.d_parser.specs.Tree.{Tree, StmtTree, DeclarationTree, ClauseTree, Ite
 use Rattle.d_values.specs.declared.value.Kind.{Kind}
 use Rattle.d_values.specs.declared.int_type.DType.{DType}
 use Rattle.d_values.specs.declared.int_type.DType.TheVariants.{Int, Text}
+use Rattle.d_types.specs.declared.needs.TheConstants.{REGISTERS}
+use Rattle.d_types.specs.declared.variables.TheConstants.{MOST_KEYS}
 use Rattle.d_types.specs.declared.typed.Space.{Space}
 use Rattle.d_types.specs.declared.typed.Space.TheVariants as s
 use Rattle.d_types.specs.Faults.{Fault, ◌>>=◌, refuse, Mismatch, Keys, NoRegister}
@@ -27,7 +30,7 @@ declared_kinds all = map (λ t. kind_of (declared_type t)) all
 -- a variable is declared before it is assigned, and once
 abbrev pub declared : Space → ℕ → List ℕ → DeclaredType → List DeclaredType → Rows → Option ℕ → Result Rows Fault
 declared space line name t keys rows None =
-    if nat_le (length keys) 8
+    if nat_le (length keys) MOST_KEYS
     then Ok (rows ++ record { space = space; word = name; keys = declared_kinds keys; holds = Some (declared_type t) } ∷ [])
     else refuse Keys line
 declared space line name t keys rows (Some slot) = refuse Mismatch line
@@ -41,7 +44,7 @@ declaration rows (tree.OfClause line t name) = declared s.Clause line name t [] 
 -- a predicate is an integer
 abbrev pub tested : DType → Tree → Typed → Rows → Result (Option Typed × Rows) Fault
 tested Text t x rows = refuse Mismatch (line_of t)
-tested (Int u) t x rows = if nat_le (need x) 6 then Ok (Some x, rows) else refuse NoRegister (line_of t)
+tested (Int u) t x rows = if nat_le (need x) REGISTERS then Ok (Some x, rows) else refuse NoRegister (line_of t)
 
 abbrev pub predicate : Rows → Option Tree → Result (Option Typed × Rows) Fault
 predicate rows None = Ok (None, rows)
@@ -80,4 +83,4 @@ script all = items [] [] [] all >>= λ x. Ok (record { clauses = x.0; aggregatio
 -- some script means this, with at most 65,536 descriptions, statements, and declarations with places of variables, and with
 -- numbers below 2 ^ 64
 abbrev pub IsMeant : ScriptMeant → Type 0
-IsMeant m = (source : List ItemTree) × IsWithin 65536 source × AreSmall source × (script source ≡ Ok m)
+IsMeant m = (source : List ItemTree) × IsWithin MOST_BYTES source × AreSmall source × (script source ≡ Ok m)

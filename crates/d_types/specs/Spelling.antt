@@ -1,6 +1,7 @@
 -- What the text of a format means.
 use Rattle.std.specs.Prelude.{◌≡◌, ℕ, zero, suc, ◌≤◌, ◌==◌, ◌||◌, ◌⊎◌, Bool, false, if◌then◌else◌, List, [], ◌∷◌, ◌++◌, codes}
 use Rattle.std.specs.Fmt.{decimal}
+use Rattle.d_types.specs.declared.format.TheConstants.{MOST_WIDTH}
 use Rattle.d_types.specs.declared.typed.Letter.{Letter}
 use Rattle.d_types.specs.declared.typed.Letter.TheVariants as letter
 use Rattle.d_types.specs.declared.typed.Conversion.{Conversion}
@@ -41,7 +42,7 @@ abbrev pub IsConversion : Conversion → List ℕ → Type 0
 IsConversion c text =
     (flags : List ℕ) × (size : List ℕ) × (l : ℕ)
     × AreFlags flags × (c.left ≡ has 45 flags) × (c.zeros ≡ has 48 flags)
-    × (c.width ≤ 255) × IsOneOf size lengths × IsOneOf l (letters c.letter)
+    × (c.width ≤ MOST_WIDTH) × IsOneOf size lengths × IsOneOf l (letters c.letter)
     × (text ≡ codes "%" ++ (flags ++ (width_text c.width ++ (size ++ l ∷ []))))
 
 -- a byte stands for itself, but a percent sign is written twice

@@ -9,7 +9,7 @@ use Rattle.d_types.specs.declared.words.Callee.{Callee}
 use Rattle.d_types.specs.declared.words.Callee.TheVariants as f
 use Rattle.d_types.specs.Faults.{Fault, ◌>>=◌, refuse, unless, Mismatch, PrintfArguments}
 use Rattle.d_types.specs.Words.{callee_named}
-use Rattle.d_types.specs.Typed.{Typed, Typeds, end, more, add, type_of, Action, Evaluate, Trace, Print, Exit}
+use Rattle.d_types.specs.Typed.{Typed, Typeds, end, add, type_of, Action, Evaluate, Trace, Print, Exit}
 use Rattle.d_types.specs.Variables.{Rows}
 use Rattle.d_types.specs.Formats.{pieces, fit}
 use Rattle.d_types.specs.Typing.{only, whole}

@@ -1,11 +1,11 @@
 -- Variables that are read and assigned.
-use Rattle.std.specs.Prelude.{ℕ, ◌+◌, nat_le, Bool, true, false, if◌then◌else◌, List, [], ◌∷◌, ◌++◌, length, Option, Some, None, Result, Ok, Err}
+use Rattle.std.specs.Prelude.{ℕ, nat_le, Bool, true, false, if◌then◌else◌, List, [], ◌∷◌, ◌++◌, length, Option, Some, None, Result, Ok}
 use Rattle.d_parser.specs.declared.operators.Step.{Step}
 use Rattle.d_parser.specs.declared.tree.Variable.{Variable}
 use Rattle.d_parser.specs.declared.tree.Variable.TheVariants as v
 use Rattle.d_values.specs.declared.int_type.IntType.{IntType}
 use Rattle.d_values.specs.declared.int_type.DType.{DType}
-use Rattle.d_values.specs.declared.int_type.DType.TheVariants.{Int, Text}
+use Rattle.d_values.specs.declared.int_type.DType.TheVariants.{Int}
 use Rattle.d_values.specs.Types.{INT64, promoted_of, common_of}
 use Rattle.d_types.specs.declared.typed.Answer.{Answer}
 use Rattle.d_types.specs.declared.typed.BuiltIn.{BuiltIn}
@@ -13,6 +13,7 @@ use Rattle.d_types.specs.declared.typed.Space.{Space}
 use Rattle.d_types.specs.declared.typed.Space.TheVariants as s
 use Rattle.d_types.specs.declared.typed.Operation.{Operation}
 use Rattle.d_types.specs.declared.typed.Operation.TheVariants as o
+use Rattle.d_types.specs.declared.variables.TheConstants.{MOST_KEYS}
 use Rattle.d_types.specs.declared.operators.AssignSort.{AssignSort}
 use Rattle.d_types.specs.declared.operators.AssignSort.TheVariants as sg
 use Rattle.d_types.specs.Faults.{Fault, refuse, GlobalAssignment, Undeclared, Keys, ReadOnly}
@@ -62,7 +63,7 @@ plain_target line name (Some b) end = refuse ReadOnly line
 plain_target line name (Some b) (more y rest) = refuse Keys line
 
 abbrev pub most_keys : Space → ℕ
-most_keys s.Thread = 8
+most_keys s.Thread = MOST_KEYS
 most_keys s.Clause = 0
 
 -- gives a slot its type where it has none

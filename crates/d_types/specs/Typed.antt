@@ -153,6 +153,10 @@ pub record ScriptMeant : Type 0 where
   -- the type of each slot's variable
   pub slots : List (Option DType)
 
+-- the functions of a script's aggregations, in order
+abbrev pub functions_in : ScriptMeant → List AggFn
+functions_in m = map (λ a. a.function) m.aggregations
+
 abbrev pub argument_of : Option TypedExpr → Option Typed
 argument_of None = None
 argument_of (Some a) = Some (typed_of a)

@@ -1,8 +1,7 @@
 -- The typed tree of an expression, or its first fault: parts come first, from the left to the right, then the construct itself.
-use Rattle.std.specs.Prelude.{ℕ, nat_le, take, if◌then◌else◌, List, Option, Some, None, Result, Ok, Err}
+use Rattle.std.specs.Prelude.{ℕ, nat_le, take, if◌then◌else◌, Option, Some, None, Result, Ok}
 use Rattle.d_parser.specs.declared.operators.Step.{Step}
 use Rattle.d_parser.specs.declared.operators.AssignOperator.{AssignOperator}
-use Rattle.d_parser.specs.declared.operators.BinaryOperator.{BinaryOperator}
 use Rattle.d_parser.specs.declared.tree.Variable.{Variable}
 use Rattle.d_parser.specs.declared.tree.Constant.{Constant}
 use Rattle.d_parser.specs.declared.tree.Constant.TheVariants as c
@@ -14,6 +13,7 @@ use Rattle.d_values.specs.Texts.{longest}
 use Rattle.d_values.specs.Types.{INT64}
 use Rattle.d_types.specs.declared.typed.Answer.{Answer}
 use Rattle.d_types.specs.declared.typed.Answer.TheVariants as w
+use Rattle.d_types.specs.declared.needs.TheConstants.{REGISTERS}
 use Rattle.d_types.specs.declared.words.Callee.{Callee}
 use Rattle.d_types.specs.declared.words.Callee.TheVariants as f
 use Rattle.d_types.specs.Faults.{Fault, ◌>>=◌, refuse, unless, Undeclared, Mismatch, NoRegister}
@@ -122,11 +122,6 @@ assign_rest rows op v keys a =
     target rows v (type_at_once (assign_sort op)) keys >>= λ s. expr s.1 a >>= λ x.
     fitting (line_of_variable v) (assigned (assign_sort op) (space_of v) (type_at x.1 s.0) (type_of x.0) s.0 keys x.0 x.1)
 
--- an operator between two operands, once the left one is typed
-abbrev pub binary_rest : Rows → ℕ → BinaryOperator → Typed → Tree → Result (Typed × Rows) Fault
-binary_rest rows line op x b =
-    expr rows b >>= λ y. fitting line (beside y.1 (binary op (type_of x) (type_of y.0) x y.0))
-
--- an expression that is no part of another: it needs six registers at most
+-- an expression that isn't part of another, and that fits the registers
 abbrev pub whole : Rows → Tree → Result (Typed × Rows) Fault
-whole rows t = expr rows t >>= λ x. if nat_le (need x.0) 6 then Ok x else refuse NoRegister (line_of t)
+whole rows t = expr rows t >>= λ x. if nat_le (need x.0) REGISTERS then Ok x else refuse NoRegister (line_of t)

@@ -10,7 +10,7 @@ use Rattle.d_values.specs.declared.int_type.DType.{DType}
 use Rattle.d_values.specs.declared.int_type.DType.TheVariants as ty
 use Rattle.d_types.specs.declared.typed.Space.{Space}
 use Rattle.d_types.specs.declared.variables.Entry.{Entry}
-use Rattle.d_types.specs.Typed.{Typed, Typeds, end, more, type_of}
+use Rattle.d_types.specs.Typed.{Typeds, end, more, type_of}
 
 -- a variable; its keys are known before its type
 pub record Row : Type 0 where

@@ -8,6 +8,7 @@ use Rattle.aggregations.specs.declared.function.AggFn.{AggFn}
 use Rattle.d_types.specs.declared.typed.Piece.{Piece}
 use Rattle.d_types.specs.declared.typed.Space.{Space}
 use Rattle.d_types.specs.declared.typed.Space.TheVariants as s
+use Rattle.d_types.specs.declared.variables.TheConstants.{MOST_KEYS}
 use Rattle.d_types.specs.declared.words.Aggregating.{Aggregating}
 use Rattle.d_types.specs.declared.words.Callee.{Callee}
 use Rattle.d_types.specs.declared.words.Callee.TheVariants as f
@@ -53,7 +54,7 @@ Stands rows t a after = Evaluates rows t a after
 -- the place of an aggregation: new, or with the keys and the function that it had
 abbrev pub Joins : List ℕ → Typeds → Option AggFn → Aggs → ℕ → Aggs → Type 0
 Joins name ks g aggs place after =
-    ((h : AggFn) × (find_from 0 name aggs ≡ None) × (nat_le (count ks) 8 ≡ true) × (g ≡ Some h) × (place ≡ length aggs)
+    ((h : AggFn) × (find_from 0 name aggs ≡ None) × (nat_le (count ks) MOST_KEYS ≡ true) × (g ≡ Some h) × (place ≡ length aggs)
     × (after ≡ aggs ++ record { name = name; keys = kinds_of ks; function = h } ∷ []))
     ⊎ ((known : Agg) × (find_from 0 name aggs ≡ Some (place, known)) × (variables.fit known.keys ks ≡ true)
     × (is_again g known.function ≡ true) × (after ≡ aggs))
@@ -68,7 +69,7 @@ Aggregates name keys word args rows aggs a after known =
 
 abbrev pub Declares : Space → List ℕ → DeclaredType → List DeclaredType → Rows → Rows → Type 0
 Declares space name t keys rows after =
-    (find space name rows ≡ None) × (nat_le (length keys) 8 ≡ true)
+    (find space name rows ≡ None) × (nat_le (length keys) MOST_KEYS ≡ true)
     × (after ≡ rows ++ record { space = space; word = name; keys = declared_kinds keys; holds = Some (declared_type t) } ∷ [])
 
 abbrev pub IsDeclared : Rows → DeclarationTree → Rows → Type 0

@@ -13,7 +13,7 @@ use crate::action::wholes;
 use crate::fault::TypeFault;
 use crate::targets::copied;
 use crate::typed::{TypedAggregation, TypedExpr, TypedStmt};
-use crate::variables::{Entry, fit, kinds_of};
+use crate::variables::{Entry, MOST_KEYS, fit, kinds_of};
 use crate::words::{Aggregating, aggregating_named};
 use aggregations::{AggFn, LinearRange};
 use d_lexer::ByteString;
@@ -233,7 +233,7 @@ fn new_place(
 ) -> Result<usize, TypeFault>
     ensures { Gives (λ place. (place, aggs_of aggs.new.items)) result (spec.joined line name.now (typeds_of keys.now) function (aggs_of aggs.old.items) None) }
 {
-    if 8 < keys.len() {
+    if keys.len() > MOST_KEYS {
         return Err(TypeFault::Keys { line });
     }
     match function {

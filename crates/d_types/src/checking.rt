@@ -18,6 +18,7 @@ use crate::fault::TypeFault;
 use crate::typed::{TypedAggregation, TypedClause};
 use crate::typed_script::TypedScript;
 use crate::variables::{Entry, types_in};
+use d_lexer::MOST_BYTES;
 use d_parser::{Item, Script};
 use std::alloc::Global;
 
@@ -56,7 +57,7 @@ fn items(
 }
 
 fn checked(alloc: Global, script: Script) -> Result<TypedScript, TypeFault>
-    requires few { IsWithin 65536 (script_of script) }
+    requires few { IsWithin MOST_BYTES (script_of script) }
     requires small { AreSmall (script_of script) }
     ensures { Gives typed_script_of result (spec.script (script_of script)) }
 {
@@ -71,11 +72,11 @@ fn checked(alloc: Global, script: Script) -> Result<TypedScript, TypeFault>
     }
 }
 
-/// The typed script of a script that is well typed, with every register need at most 6, else its first fault: parts come
+/// The typed script of a script that is well typed, with every register need at most `REGISTERS`, else its first fault: parts come
 /// first, from the left to the right, then the construct itself, with the cause of lowest number. Every script that
 /// `parse` gives is small enough and has such numbers, and the typed script keeps that it does.
 pub fn check(alloc: Global, script: Script) -> Result<TypedScript, TypeFault>
-    requires few { IsWithin 65536 (script_of script) }
+    requires few { IsWithin MOST_BYTES (script_of script) }
     requires small { AreSmall (script_of script) }
     // What is answered is what the script means by the rules.
     ensures typed { IfOk result (λ s. IsWell (script_of script) (typed_script_of s) × ScriptFits (typed_script_of s)) }

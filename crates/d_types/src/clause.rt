@@ -11,7 +11,7 @@ use crate::action::action;
 use crate::aggregation::aggregate;
 use crate::expression::{expr, line_of};
 use crate::fault::TypeFault;
-use crate::needs::fits;
+use crate::needs::{REGISTERS, fits};
 use crate::typed::{TypedAggregation, TypedClause, TypedExpr, TypedStmt};
 use crate::variables::Entry;
 use d_parser::{Clause, Expr, Stmt};
@@ -24,7 +24,7 @@ fn tested(alloc: Global, table: &mut Vec<Entry>, e: &Expr) -> Result<Option<Type
     let x = expr(alloc, table, e)?;
     if x.type_of() == DType::Text {
         Err(TypeFault::Mismatch { line: line_of(e) })
-    } else if fits(&x, 6) {
+    } else if fits(&x, REGISTERS) {
         Ok(Some(x))
     } else {
         Err(TypeFault::NoRegister { line: line_of(e) })

@@ -12,7 +12,7 @@ use crate::constants::declared_type;
 use crate::fault::TypeFault;
 use crate::targets::copied;
 use crate::typed::Space;
-use crate::variables::{Entry, find, kind_of};
+use crate::variables::{Entry, MOST_KEYS, find, kind_of};
 use d_lexer::ByteString;
 use d_parser::{Declaration, DeclaredType};
 use d_values::Kind;
@@ -64,7 +64,7 @@ fn declare(
     match find(table, space, name.as_slice()) {
         Some(_) => Err(TypeFault::Mismatch { line }),
         None => {
-            if 8 < keys.len() {
+            if keys.len() > MOST_KEYS {
                 return Err(TypeFault::Keys { line });
             }
             add_declared(alloc, table, space, name, declared, keys)?;

@@ -14,14 +14,15 @@ use crate::build::{as_type, binary, choice, unary};
 use crate::calls::call;
 use crate::constants::{int_type, integer, type_of_constant};
 use crate::fault::TypeFault;
-use crate::needs::fits;
+use crate::needs::{REGISTERS, fits};
 use crate::operators::{assign_sort, binary_sort};
 use crate::targets::{line_of_variable, read, space_of, target};
 use crate::typed::{Answer, TypedExpr};
 use crate::variables::{Entry, type_at};
 use crate::words::callee_named;
 use d_parser::{
-    AssignOperator, BinaryOperator, Constant, Expr, IntegerType, Step, UnaryOperator, Variable,
+    AssignOperator, BinaryOperator, Constant, Expr, IntegerType, Step, Target, UnaryOperator,
+    Variable,
 };
 use d_values::{DType, join_text};
 use std::alloc::Global;
@@ -45,7 +46,7 @@ pub(crate) fn line_of(e: &Expr) -> usize
 }
 
 // A text is cut to its first 255 bytes.
-fn constant(alloc: Global, constant: &Constant) -> Result<TypedExpr, TypeFault>
+fn constant_expr(alloc: Global, constant: &Constant) -> Result<TypedExpr, TypeFault>
     ensures ok { IfOk result (λ x. typed_of x ≡ spec.constant constant.now) }
     ensures err { OnlyMemory result }
 {
@@ -63,11 +64,8 @@ pub(crate) fn expr(alloc: Global, table: &mut Vec<Entry>, e: &Expr) -> Result<Ty
     ensures { Gives (λ x. (typed_of x, rows_of table.new.items)) result (spec.expr (rows_of table.old.items) (tree_of e.now)) }
 {
     match e {
-        Expr::Constant {
-            constant: known,
-            ..
-        } => constant(alloc, known),
-        Expr::Read(target) => read_expr(alloc, table, &target.variable, &target.keys),
+        Expr::Constant { constant, .. } => constant_expr(alloc, constant),
+        Expr::Read(target) => read_expr(alloc, table, target),
         Expr::Call {
             line,
             function,
@@ -79,43 +77,23 @@ pub(crate) fn expr(alloc: Global, table: &mut Vec<Entry>, e: &Expr) -> Result<Ty
             operand,
         } => unary_expr(alloc, table, *line, *operator, operand),
         Expr::Cast { line, to, operand } => cast_expr(alloc, table, *line, *to, operand),
-        Expr::Before { line, step, target } => {
-            before_expr(alloc, table, *line, *step, &target.variable, &target.keys)
-        }
-        Expr::After { target, step } => {
-            after_expr(alloc, table, &target.variable, &target.keys, *step)
-        }
+        Expr::Before { line, step, target } => before_expr(alloc, table, *line, *step, target),
+        Expr::After { target, step } => after_expr(alloc, table, target, *step),
         Expr::Binary {
             operator,
             left,
             right,
-        } => {
-            let x = expr(alloc, table, left)?;
-            binary_rest(alloc, table, *operator, line_of(left), right, x)
-        }
+        } => binary_expr(alloc, table, *operator, left, right),
         Expr::Choice {
             test,
             first,
             second,
-        } => {
-            let x = expr(alloc, table, test)?;
-            let y = expr(alloc, table, first)?;
-            let z = expr(alloc, table, second)?;
-            match choice(alloc, x, y, z)? {
-                Some(typed) => Ok(typed),
-                None => Err(TypeFault::Mismatch {
-                    line: line_of(test),
-                }),
-            }
-        }
+        } => choice_expr(alloc, table, test, first, second),
         Expr::Assign {
             operator,
             target,
             value,
-        } => match exprs(alloc, table, &target.keys) {
-            Ok(keys) => assign_expr(alloc, table, *operator, &target.variable, value, keys),
-            Err(fault) => Err(fault),
-        },
+        } => assign_expr(alloc, table, *operator, target, value),
     }
 }
 
@@ -155,37 +133,34 @@ fn cast_expr(
     }
 }
 
-// An operator between two operands, once the left one is typed.
 #[cycle(typing)]
-fn binary_rest(
+fn binary_expr(
     alloc: Global,
     table: &mut Vec<Entry>,
     operator: BinaryOperator,
-    line: usize,
+    left: &Expr,
     right: &Expr,
-    x: TypedExpr,
 ) -> Result<TypedExpr, TypeFault>
-    ensures { Gives (λ z. (typed_of z, rows_of table.new.items)) result
-        (spec.binary_rest (rows_of table.old.items) line operator (typed_of x) (tree_of right.now)) }
+    ensures { Gives (λ x. (typed_of x, rows_of table.new.items)) result
+        (spec.expr (rows_of table.old.items) (tree.Binary operator (tree_of left.now) (tree_of right.now))) }
 {
+    let x = expr(alloc, table, left)?;
     let y = expr(alloc, table, right)?;
     match binary(alloc, binary_sort(operator), x, y)? {
         Some(typed) => Ok(typed),
-        None => Err(TypeFault::Mismatch { line }),
+        None => Err(TypeFault::Mismatch {
+            line: line_of(left),
+        }),
     }
 }
 
 #[cycle(typing)]
-fn read_expr(
-    alloc: Global,
-    table: &mut Vec<Entry>,
-    variable: &Variable,
-    keys: &[Expr],
-) -> Result<TypedExpr, TypeFault>
-    ensures { Gives (λ x. (typed_of x, rows_of table.new.items)) result (spec.expr (rows_of table.old.items) (tree.Read variable.now (trees_of keys.now))) }
+fn read_expr(alloc: Global, table: &mut Vec<Entry>, target: &Target) -> Result<TypedExpr, TypeFault>
+    ensures { Gives (λ x. (typed_of x, rows_of table.new.items)) result
+        (spec.expr (rows_of table.old.items) (tree.Read target.now.variable (trees_of target.now.keys.items))) }
 {
-    let keys = exprs(alloc, table, keys)?;
-    read(table, variable, keys)
+    let keys = exprs(alloc, table, &target.keys)?;
+    read(table, &target.variable, keys)
 }
 
 #[cycle(typing)]
@@ -234,26 +209,27 @@ fn before_expr(
     table: &mut Vec<Entry>,
     line: usize,
     by: Step,
-    variable: &Variable,
-    keys: &[Expr],
+    target: &Target,
 ) -> Result<TypedExpr, TypeFault>
-    ensures { Gives (λ x. (typed_of x, rows_of table.new.items)) result (spec.expr (rows_of table.old.items) (tree.Before line by variable.now (trees_of keys.now))) }
+    ensures { Gives (λ x. (typed_of x, rows_of table.new.items)) result
+        (spec.expr (rows_of table.old.items) (tree.Before line by target.now.variable (trees_of target.now.keys.items))) }
 {
-    let keys = exprs(alloc, table, keys)?;
-    step_rest(alloc, table, line, by, Answer::New, variable, keys)
+    let keys = exprs(alloc, table, &target.keys)?;
+    step_rest(alloc, table, line, by, Answer::New, &target.variable, keys)
 }
 
 #[cycle(typing)]
 fn after_expr(
     alloc: Global,
     table: &mut Vec<Entry>,
-    variable: &Variable,
-    keys: &[Expr],
+    target: &Target,
     by: Step,
 ) -> Result<TypedExpr, TypeFault>
-    ensures { Gives (λ x. (typed_of x, rows_of table.new.items)) result (spec.expr (rows_of table.old.items) (tree.After variable.now (trees_of keys.now) by)) }
+    ensures { Gives (λ x. (typed_of x, rows_of table.new.items)) result
+        (spec.expr (rows_of table.old.items) (tree.After target.now.variable (trees_of target.now.keys.items) by)) }
 {
-    let keys = exprs(alloc, table, keys)?;
+    let variable = &target.variable;
+    let keys = exprs(alloc, table, &target.keys)?;
     step_rest(
         alloc,
         table,
@@ -266,7 +242,46 @@ fn after_expr(
 }
 
 #[cycle(typing)]
+fn choice_expr(
+    alloc: Global,
+    table: &mut Vec<Entry>,
+    test: &Expr,
+    first: &Expr,
+    second: &Expr,
+) -> Result<TypedExpr, TypeFault>
+    ensures { Gives (λ x. (typed_of x, rows_of table.new.items)) result
+        (spec.expr (rows_of table.old.items) (tree.Choice (tree_of test.now) (tree_of first.now) (tree_of second.now))) }
+{
+    let x = expr(alloc, table, test)?;
+    let y = expr(alloc, table, first)?;
+    let z = expr(alloc, table, second)?;
+    match choice(alloc, x, y, z)? {
+        Some(typed) => Ok(typed),
+        None => Err(TypeFault::Mismatch {
+            line: line_of(test),
+        }),
+    }
+}
+
+#[cycle(typing)]
 fn assign_expr(
+    alloc: Global,
+    table: &mut Vec<Entry>,
+    operator: AssignOperator,
+    target: &Target,
+    value: &Expr,
+) -> Result<TypedExpr, TypeFault>
+    ensures { Gives (λ x. (typed_of x, rows_of table.new.items)) result
+        (spec.expr (rows_of table.old.items)
+        (tree.Assign operator target.now.variable (trees_of target.now.keys.items) (tree_of value.now))) }
+{
+    let keys = exprs(alloc, table, &target.keys)?;
+    assign_rest(alloc, table, operator, &target.variable, value, keys)
+}
+
+// An assignment, once its target's keys are typed.
+#[cycle(typing)]
+fn assign_rest(
     alloc: Global,
     table: &mut Vec<Entry>,
     operator: AssignOperator,
@@ -274,7 +289,8 @@ fn assign_expr(
     value: &Expr,
     keys: Vec<TypedExpr>,
 ) -> Result<TypedExpr, TypeFault>
-    ensures { Gives (λ x. (typed_of x, rows_of table.new.items)) result (spec.assign_rest (rows_of table.old.items) operator variable.now (typeds_of keys.items) (tree_of value.now)) }
+    ensures { Gives (λ x. (typed_of x, rows_of table.new.items)) result
+        (spec.assign_rest (rows_of table.old.items) operator variable.now (typeds_of keys.items) (tree_of value.now)) }
 {
     let sort = assign_sort(operator);
     let slot = target(alloc, table, variable, type_at_once(sort), &keys)?;
@@ -309,7 +325,7 @@ pub(crate) fn whole(alloc: Global, table: &mut Vec<Entry>, e: &Expr) -> Result<T
     ensures { Gives (λ x. (typed_of x, rows_of table.new.items)) result (spec.whole (rows_of table.old.items) (tree_of e.now)) }
 {
     let x = expr(alloc, table, e)?;
-    if fits(&x, 6) {
+    if fits(&x, REGISTERS) {
         Ok(x)
     } else {
         Err(TypeFault::NoRegister { line: line_of(e) })

@@ -10,6 +10,9 @@ use crate::typed::{Conversion, Letter, Piece, TypedExpr};
 use d_values::DType;
 use std::alloc::Global;
 
+/// The greatest width of a conversion.
+pub const MOST_WIDTH: u16 = 255;
+
 /// A conversion as far as it was read.
 #[derive(Clone, Copy)]
 pub struct Flags {
@@ -91,7 +94,7 @@ fn at_width(flags: Flags, byte: u8) -> Turn
 {
     if is_digit(byte) {
         let width = flags.width as u16 * 10 + byte.saturating_sub(48) as u16;
-        if width <= 255 {
+        if width <= MOST_WIDTH {
             let flags = Flags {
                 left: flags.left,
                 zeros: flags.zeros,

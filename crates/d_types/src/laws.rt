@@ -1,6 +1,7 @@
 //! Laws.
 
 ghost use Rattle.std.specs.Prelude.{◌≡◌, ◌≤◌, ◌^◌, ◌↔◌, ℕ, List, Ok, Some, length};
+ghost use Rattle.d_lexer.specs.declared.fault.TheConstants.{MOST_BYTES};
 ghost use Rattle.d_parser.specs.Sizes.{in_all};
 ghost use Rattle.d_parser.specs.Tree as trees;
 ghost use Rattle.firing_reader.specs.declared.firing.Firing.{Firing};
@@ -36,7 +37,7 @@ pub fn six_registers()
 
 /// A typed script has at most 65,536 descriptions, as many statements, and as many places of variables, all clauses together.
 pub fn sizes_kept()
-    ensures { (m : typed.ScriptMeant) → ∥ scripts.IsMeant m ∥₁ → sizes.HasAtMost 65536 m }
+    ensures { (m : typed.ScriptMeant) → ∥ scripts.IsMeant m ∥₁ → sizes.HasAtMost MOST_BYTES m }
 {}
 
 /// In a typed script predicates and statuses are integers, each conversion has an argument of its kind, and each aggregation

@@ -29,12 +29,13 @@ pub use aggregations::{AggFn, LinearRange};
 pub use checking::check;
 pub use effect::Effect;
 pub use fault::TypeFault;
+pub use needs::REGISTERS;
 pub use typed::{
     Answer, BuiltIn, Conversion, Letter, LogicOperator, Operation, Piece, Space, TypedAggregation,
     TypedClause, TypedExpr, TypedStmt, Variable,
 };
 pub use typed_script::TypedScript;
-pub use variables::kind_of;
+pub use variables::{MOST_KEYS, kind_of};
 
 #[cfg(test)]
 mod tests;

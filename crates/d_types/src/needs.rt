@@ -6,6 +6,9 @@ ghost use Rattle.d_types.specs.Needs as spec;
 
 use crate::typed::{LogicOperator, TypedExpr};
 
+/// The most registers that an expression may need.
+pub const REGISTERS: usize = 6;
+
 /// Whether the keys fit, each value waiting for the keys behind it.
 #[cycle(needs)]
 fn keys_fit(keys: &[TypedExpr], registers: usize) -> bool

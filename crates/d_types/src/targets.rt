@@ -10,7 +10,7 @@ ghost use Rattle.d_types.specs.Variables.{rows_of};
 
 use crate::fault::TypeFault;
 use crate::typed::{BuiltIn, Space, TypedExpr, Variable};
-use crate::variables::{Entry, find, keys_fit, kinds_of, set_type, type_at};
+use crate::variables::{Entry, MOST_KEYS, find, keys_fit, kinds_of, set_type, type_at};
 use crate::words::built_in;
 use d_lexer::ByteString;
 use d_values::DType;
@@ -140,7 +140,7 @@ fn most_keys(space: Space) -> usize
     ensures { result ≡ spec.most_keys space }
 {
     match space {
-        Space::Thread => 8,
+        Space::Thread => MOST_KEYS,
         Space::Clause => 0,
     }
 }

@@ -1,11 +1,13 @@
 //! Typed scripts.
 
-ghost use Rattle.std.specs.Prelude.{◌≡◌};
+ghost use Rattle.std.specs.Prelude.{◌≡◌, IfOk, map};
 ghost use Rattle.d_types.specs.Scripts.{IsMeant};
 ghost use Rattle.d_types.specs.Typed.{script_meant};
 
 use crate::typed::{TypedAggregation, TypedClause};
+use aggregations::AggFn;
 use d_values::DType;
+use std::alloc::{AllocError, Global};
 
 /// A script that is well typed, with every register need at most 6, with at most 65,536 descriptions,
 /// as many statements, and as many declarations and places of variables together, and with numbers
@@ -48,6 +50,13 @@ impl TypedScript {
         ensures { result.now ≡ self.now.aggregations.items }
     {
         &self.aggregations
+    }
+
+    /// The function of each aggregation, in order.
+    pub fn functions(&self, alloc: Global) -> Result<Vec<AggFn>, AllocError>
+        ensures { IfOk result (λ v. v.items ≡ map (λ a. a.function) self.now.aggregations.items) }
+    {
+        self.aggregations.iter().map(|a| a.function).collect(alloc)
     }
 
     /// The type of each variable, by its slot.

@@ -2,6 +2,7 @@
 #![tactic(auto)]
 
 mod arithmetic;
+mod bytes;
 mod cells;
 mod clause_locals;
 mod comparison;
@@ -18,6 +19,7 @@ mod variable;
 mod word;
 
 pub use arithmetic::{OutOfZero, binary};
+pub use bytes::split_at_first;
 pub use clause_locals::ClauseLocals;
 pub use comparison::{compare, compare_text};
 pub use int_type::{DType, IntType};

@@ -16,6 +16,9 @@ use indexmap::IndexMap;
 use std::alloc::{AllocError, Global};
 use std::marker::Model;
 
+// Up to so many variables of a thread take no more room than they need: most threads have few.
+const FEW: usize = 4;
+
 /// The thread-local variables of a thread (Guide, "Thread-Local Variables"), scalars under the
 /// empty key. What was never set reads as zero or the empty text.
 #[derive(Drop)]
@@ -133,6 +136,9 @@ fn start(
     }
     let elements = only(*variables.allocator(), key, value)?;
     variables.insert(var, elements)?;
+    if variables.len() <= FEW {
+        variables.shrink_to_fit();
+    }
     Ok(())
 }
 
@@ -143,5 +149,6 @@ fn only(alloc: Global, key: &Key, value: Value) -> Result<IndexMap<Key, Value>, 
 {
     let mut elements = IndexMap::new(alloc);
     elements.insert(key.clone()?, value)?;
+    elements.shrink_to_fit();
     Ok(elements)
 }

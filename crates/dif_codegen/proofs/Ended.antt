@@ -1,5 +1,5 @@
 -- What a run of valid code comes to.
-use Rattle.std.specs.Prelude.{◌≡◌, ◌≤◌, ℕ, zero, suc, length}
+use Rattle.std.specs.Prelude.{◌≡◌, ◌≤◌, ℕ, zero, suc, length, Result, Ok, Err}
 use Rattle.std.proofs.Common.{refl, ap, ◌∙◌, arith}
 use Rattle.d_values.specs.declared.value.Value.{Value}
 use Rattle.firing_reader.specs.declared.firing.Firing.{Firing}
@@ -7,11 +7,13 @@ use Rattle.d_types.specs.Expressions.{Outcome, Has, Faults}
 use Rattle.d_types.specs.Storage.{Variables}
 use Rattle.dif_validate.specs.Objects.{Object}
 use Rattle.dif_validate.specs.Validity.{IsValid}
+use Rattle.dif_machine.specs.declared.fault.MachineFault.{MachineFault}
+use Rattle.dif_machine.specs.declared.fault.MachineFault.TheVariants.{DivideByZero, Memory}
 use Rattle.dif_machine.specs.Frames.{Frame}
 use Rattle.dif_machine.specs.Frames.{start}
-use Rattle.dif_machine.specs.Runs.{End, Returns, Divides, Reaches, ends, faults, goes, Runs, steps}
+use Rattle.dif_machine.specs.Runs.{End, Returns, Divides, Reaches, ends, faults, goes, RunEnds, Runs, steps}
 use Rattle.dif_machine.proofs.Ending.{is_over, one_end}
-use Rattle.dif_codegen.specs.Correct.{end_of}
+use Rattle.dif_codegen.specs.Correct.{Gives, end_of}
 use Rattle.dif_codegen.specs.Meaning.{goes_on, within, value_of}
 
 abbrev outcome_of : End → Outcome Value
@@ -38,3 +40,9 @@ module _ (f : Firing) (o : Object) where
       within_is (length o.code) start vars over.0 over.1 over.2
       ∙ ap outcome_of (one_end o f start vars over.0 (end_of z) over.1 run)
       ∙ there_again z
+
+  -- what a run of valid code returns is its value
+  pub run_gives : (vars : Variables) (r : Result Value MachineFault) (after : Variables) → IsValid o → RunEnds o f vars r after → Gives (value_of f o vars) r after
+  run_gives vars (Ok value) after valid run = value_is vars (Has value after) valid run
+  run_gives vars (Err DivideByZero) after valid run = value_is vars (Faults after) valid run
+  run_gives vars (Err Memory) after valid run = tt

@@ -1,5 +1,5 @@
 -- Lists that are compiled one by one.
-use Rattle.std.specs.Prelude.{◌≡◌, ◌<◌, ◌≤◌, ℕ, zero, suc, ◌+◌, List, [], ◌∷◌, ◌++◌, All, length, map, drop, get_or, Option}
+use Rattle.std.specs.Prelude.{◌≡◌, ◌<◌, ◌≤◌, ℕ, zero, suc, ◌+◌, List, [], ◌∷◌, ◌++◌, All, length, map, drop, get_or, Option, Some, None}
 use Rattle.std.specs.List.{AllZip}
 use Rattle.std.proofs.Common.{refl, sym, ap, ◌∙◌, subst, arith, append_assoc, append-nil}
 use Rattle.aggregations.specs.declared.function.AggFn.{AggFn}
@@ -10,7 +10,7 @@ use Rattle.firing_reader.specs.declared.firing.Firing.{Firing}
 use Rattle.d_types.specs.Fitting.{Fits}
 use Rattle.d_types.specs.Held.{AreTyped, HasTypedBuiltIns, IsConsistent, Slots, slots_of}
 use Rattle.d_types.specs.Storage.{Variables}
-use Rattle.d_types.specs.Typed.{ClauseMeant, Typed, agg_of, meant_of, script_meant, typed_of, typeds_of, type_of}
+use Rattle.d_types.specs.Typed.{Action, Aggregate, ClauseMeant, Evaluate, Exit, Print, Trace, Typed, agg_of, meant_of, script_meant, typed_of, typeds_of, type_of}
 use Rattle.d_types.specs.Scripts.{IsMeant}
 use Rattle.d_types.specs.Wholes.{ClauseIs, ClausesAre, EachIs}
 use Rattle.d_types.proofs.ConsistentScripts.{script_is_consistent}
@@ -25,8 +25,8 @@ use Rattle.dif_validate.specs.Objects.{Object}
 use Rattle.dif_codegen.specs.declared.program.CompiledClause.{CompiledClause}
 use Rattle.dif_codegen.specs.declared.program.TypedObject.{TypedObject}
 use Rattle.dif_codegen.specs.Code.{object_of}
-use Rattle.dif_codegen.specs.Meaning.{Does, IsProgramOf, run_code}
-use Rattle.dif_codegen.specs.Programs.{ClauseCode, all_compiled, clause_code, compiled, compiled_clause}
+use Rattle.dif_codegen.specs.Meaning.{Does, IsProgramOf, aggregation_of, run_code}
+use Rattle.dif_codegen.specs.Programs.{ClauseCode, all_compiled, clause_code, compiled, compiled_action, compiled_clause}
 use Rattle.dif_codegen.proofs.Adding.{IsObject}
 use Rattle.dif_codegen.proofs.SameMeaning.{run_same}
 
@@ -40,6 +40,15 @@ map-append : {A B : Type 0} (g : A → B) (xs ys : List A) → map g (xs ++ ys) 
 map-append g [] ys = refl
 map-append g (x ∷ xs) ys = ap (λ l. g x ∷ l) (map-append g xs ys)
 
+-- statements are compiled with their aggregations
+same_aggregations : (all : List Action) → map (λ a. aggregation_of a) (map compiled_action all) ≡ map (λ a. aggregation_of a) all
+same_aggregations [] = refl
+same_aggregations (Evaluate x ∷ rest) = ap (λ l. None ∷ l) (same_aggregations rest)
+same_aggregations (Trace x ∷ rest) = ap (λ l. None ∷ l) (same_aggregations rest)
+same_aggregations (Print format arguments ∷ rest) = ap (λ l. None ∷ l) (same_aggregations rest)
+same_aggregations (Exit x ∷ rest) = ap (λ l. None ∷ l) (same_aggregations rest)
+same_aggregations (Aggregate place keys argument ∷ rest) = ap (λ l. Some place ∷ l) (same_aggregations rest)
+
 -- a clause that was compiled does what it means
 does : (slots : Slots) (c : CompiledClause) (m : ClauseMeant) → ClauseIs (IsConsistent slots) m → ClauseIs Fits m → clause_code c ≡ compiled_clause m → Does slots c m
 does slots c m is few same =
@@ -47,6 +56,7 @@ does slots c m is few same =
     ap (λ c. run_code f place c vars) same ∙ run_same slots f fit place m vars is few good in
     record {
       descriptions = ap (λ (c : ClauseCode). c.descriptions) same;
+      aggregations = ap (λ (c : ClauseCode). map (λ a. aggregation_of a) c.actions) same ∙ same_aggregations m.statements;
       runs = runs;
       typed = λ f place vars fit good. subst (λ made. AreTyped slots made.variables) (sym (runs f place vars fit good)) (run_kept slots f fit place m vars is good);
     }

@@ -1,5 +1,5 @@
 -- What compiled clauses mean: the objects are run, and all else is as for typed trees.
-use Rattle.std.specs.Prelude.{◌≡◌, ℕ, zero, suc, List, [], ◌∷◌, length, map}
+use Rattle.std.specs.Prelude.{◌≡◌, ℕ, zero, suc, List, [], ◌∷◌, length, map, Option, Some, None}
 use Rattle.std.specs.List.{AllZip}
 use Rattle.aggregations.specs.declared.function.AggFn.{AggFn}
 use Rattle.d_values.specs.declared.int_type.DType.{DType}
@@ -10,7 +10,7 @@ use Rattle.d_types.specs.Clauses.{Evaluation, Made, fault_line, run_by, run_of}
 use Rattle.d_types.specs.Expressions.{Outcome, Has, Faults, with, part_of}
 use Rattle.d_types.specs.Held.{HasTypedBuiltIns, Slots, AreTyped, slots_of}
 use Rattle.d_types.specs.Storage.{Variables}
-use Rattle.d_types.specs.Typed.{ClauseMeant, ScriptMeant}
+use Rattle.d_types.specs.Typed.{ActionOf, Evaluate, Trace, Print, Exit, Aggregate, ClauseMeant, ScriptMeant}
 use Rattle.dif_validate.specs.Objects.{Object}
 use Rattle.dif_machine.specs.Frames.{Frame}
 use Rattle.dif_machine.specs.Frames.{start}
@@ -66,12 +66,23 @@ abbrev pub run_code : Firing → ℕ → ClauseCode → Variables → Made
 run_code f place c vars =
     run_by (by_objects f) (fault_line f.number place) c.predicate c.actions vars
 
+-- the place of the aggregation that a statement adds to, if any
+abbrev pub aggregation_of : {E Es : Type 0} → ActionOf E Es → Option ℕ
+aggregation_of (Evaluate x) = None
+aggregation_of (Trace x) = None
+aggregation_of (Print format arguments) = None
+aggregation_of (Exit x) = None
+aggregation_of (Aggregate place keys argument) = Some place
+
 -- ---- programs
 
--- a compiled clause is for the probes of a clause, and from any variables that hold values of their
--- types each run makes what a run of the clause makes, and leaves such variables
+-- a compiled clause is for the probes of a clause, its actions add to the aggregations of the
+-- statements, and from any variables that hold values of their types each run makes what a run of
+-- the clause makes, and leaves such variables
 pub record Does (slots : Slots) (c : CompiledClause) (meant : ClauseMeant) : Type 0 where
   pub descriptions : c.descriptions.items ≡ meant.descriptions
+  pub aggregations : map (λ a. aggregation_of a) (clause_code c).actions
+      ≡ map (λ a. aggregation_of a) meant.statements
   pub runs : (f : Firing) (place : ℕ) (vars : Variables) → HasTypedBuiltIns f → AreTyped slots vars
       → run_code f place (clause_code c) vars ≡ run_of f place meant vars
   pub typed : (f : Firing) (place : ℕ) (vars : Variables) → HasTypedBuiltIns f → AreTyped slots vars

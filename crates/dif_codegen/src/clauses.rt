@@ -12,8 +12,7 @@ ghost use Rattle.dif_codegen.specs.Programs.{compiled_action, compiled_clause};
 
 use crate::compiling::{compile_expression, compile_expressions, compile_optional};
 use crate::program::{Action, CompiledClause, Program};
-use aggregations::AggFn;
-use d_types::{Piece, TypedAggregation, TypedClause, TypedScript, TypedStmt};
+use d_types::{Piece, TypedClause, TypedScript, TypedStmt};
 use std::alloc::{AllocError, Global};
 
 fn compile_statement(alloc: Global, s: &TypedStmt) -> Result<Action, AllocError>
@@ -79,19 +78,12 @@ fn compile_clauses(alloc: Global, all: &[TypedClause]) -> Result<Vec<CompiledCla
     Ok(clauses)
 }
 
-// The function of each aggregation.
-fn functions(alloc: Global, aggs: &[TypedAggregation]) -> Result<Vec<AggFn>, AllocError>
-    ensures { IfOk result (λ v. v.items ≡ map (λ a. a.function) aggs.now) }
-{
-    aggs.iter().map(|a| a.function).collect(alloc)
-}
-
 /// The program of a script: each expression is an object of its own. Refused for memory alone.
 pub fn compile(alloc: Global, script: &TypedScript) -> Result<Program, AllocError>
     ensures { IfOk result
         (λ p. IsProgramOf (typed_script_of script.now) p.clauses.items p.functions.items) }
 {
-    let functions = functions(alloc, script.aggs())?;
+    let functions = script.functions(alloc)?;
     let clauses = compile_clauses(alloc, script.clauses())?;
     Ok(Program { clauses, functions })
 }

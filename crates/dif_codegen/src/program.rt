@@ -3,8 +3,11 @@
 use aggregations::AggFn;
 use d_parser::Description;
 use d_types::Piece;
-use d_values::DType;
+use d_values::{ClauseLocals, DType, ThreadTable, Value};
+use dif_machine::{MachineFault, run};
 use dif_validate::ValidDifo;
+use firing_reader::Firing;
+use std::alloc::Global;
 
 /// The object of an expression.
 #[derive(Drop)]
@@ -13,6 +16,29 @@ pub struct TypedObject {
     pub object: ValidDifo,
     /// The type of the value that it returns.
     pub returns: DType,
+}
+
+impl TypedObject {
+    ghost use Rattle.d_values.specs.Storage.{variables};
+    ghost use Rattle.dif_codegen.specs.Correct.{Gives};
+    ghost use Rattle.dif_codegen.specs.Meaning.{value_of};
+
+    /// Runs it for a firing, and returns what it returns. The variables keep the writes so far, also
+    /// after a fault.
+    pub fn run(
+        &self,
+        alloc: Global,
+        firing: &Firing,
+        locals: &mut ClauseLocals,
+        own: &mut ThreadTable,
+    ) -> Result<Value, MachineFault>
+        ensures { Gives (value_of firing.now self.now.object (variables locals.old own.old))
+            result (variables locals.new own.new) }
+    {
+        // That it is valid.
+        let _ = self.object.difo();
+        run(alloc, &self.object, firing, locals, own)
+    }
 }
 
 /// A compiled statement.

@@ -1,5 +1,5 @@
 -- A valid object is never stuck.
-use Rattle.std.specs.Prelude.{◌≡◌, ◌≢◌, ◌≤◌, ◌<◌, ℕ, zero, suc, ◌+◌, ◌++◌, Bool, true, false, List, [], ◌∷◌, length, nat_lt, if◌then◌else◌, Option, Some, None, Result, Ok, Err, slice_get}
+use Rattle.std.specs.Prelude.{◌≡◌, ◌≢◌, ◌<◌, ℕ, zero, suc, ◌+◌, ◌++◌, Bool, true, false, List, [], ◌∷◌, length, nat_lt, if◌then◌else◌, Option, Some, None, Result, Ok, Err, slice_get}
 use Rattle.std.specs.Int.{cast_signed, w64}
 use Rattle.std.proofs.Common.{refl, sym, ap, ◌∙◌, subst, ⊎_elim, arith, cond}
 use Rattle.std.proofs.lemmas.List.{map-append, length-map}
@@ -41,7 +41,7 @@ use Rattle.dif_machine.specs.Frames.{Frame}
 use Rattle.dif_machine.specs.Frames as frames
 use Rattle.dif_machine.specs.Kinds.{kind_of_part, kinds_of}
 use Rattle.dif_machine.specs.Operators.{result_of, compared, texts_compared, holds, call_of}
-use Rattle.dif_machine.specs.Runs.{End, Returns, Divides, Reaches, ends, faults, goes, Comes, stays, steps_on, RunEnds}
+use Rattle.dif_machine.specs.Runs.{End, Reaches, ends, faults, goes, Comes, stays, steps_on, RunEnds}
 use Rattle.d_values.specs.Storage.{Variables, as_kind}
 use Rattle.dif_machine.specs.Sources.{built_in_of, local_in, own_in}
 use Rattle.dif_machine.specs.Steps.{Next, Goes, Ends, Faults, Stuck, on, on_key, puts_result, pushes, act, step_of, Stepped}

@@ -1,5 +1,5 @@
 -- What one instruction changes.
-use Rattle.std.specs.Prelude.{◌≡◌, ◌≢◌, ℕ, ◌+◌, Bool, true, false, Option, Some, None}
+use Rattle.std.specs.Prelude.{◌≡◌, ◌≢◌, ◌+◌, Bool, true, false, Option, Some, None}
 use Rattle.dif_validate.specs.Flow.{target}
 use Rattle.dif_machine.specs.Vocabulary.{Instr, Alu, Not, Mov, Cmp, Tst, Scmp, Ba, Branch, Setx, Sets, Ldgs, Ldga, Ldts, Stts, Ldls, Stls, Pushtr, Pushtv, Flushts, Ldtaa, Sttaa, Call, Ret, Nop, Reg, at, Variables}
 use Rattle.dif_machine.specs.Frames.{Frame}
@@ -34,24 +34,84 @@ written Nop = None
 
 -- it is a comparison
 abbrev pub compares : Instr → Bool
+compares (Alu op a b d) = false
+compares (Not a d) = false
+compares (Mov a d) = false
 compares (Cmp a b) = true
 compares (Tst a) = true
 compares (Scmp a b) = true
-compares _ = false
+compares (Ba to) = false
+compares (Branch condition to) = false
+compares (Setx i d) = false
+compares (Sets i d) = false
+compares (Ldgs v d) = false
+compares (Ldga v a d) = false
+compares (Ldts x d) = false
+compares (Stts x a) = false
+compares (Ldls x d) = false
+compares (Stls x a) = false
+compares (Pushtr a) = false
+compares (Pushtv a) = false
+compares Flushts = false
+compares (Ldtaa x d) = false
+compares (Sttaa x a) = false
+compares (Call function d) = false
+compares (Ret a) = false
+compares Nop = false
 
 -- it changes the tuple
 abbrev pub fills : Instr → Bool
+fills (Alu op a b d) = false
+fills (Not a d) = false
+fills (Mov a d) = false
+fills (Cmp a b) = false
+fills (Tst a) = false
+fills (Scmp a b) = false
+fills (Ba to) = false
+fills (Branch condition to) = false
+fills (Setx i d) = false
+fills (Sets i d) = false
+fills (Ldgs v d) = false
+fills (Ldga v a d) = false
+fills (Ldts x d) = false
+fills (Stts x a) = false
+fills (Ldls x d) = false
+fills (Stls x a) = false
 fills (Pushtr a) = true
 fills (Pushtv a) = true
 fills Flushts = true
-fills _ = false
+fills (Ldtaa x d) = false
+fills (Sttaa x a) = false
+fills (Call function d) = false
+fills (Ret a) = false
+fills Nop = false
 
 -- it writes a variable
 abbrev pub stores : Instr → Bool
+stores (Alu op a b d) = false
+stores (Not a d) = false
+stores (Mov a d) = false
+stores (Cmp a b) = false
+stores (Tst a) = false
+stores (Scmp a b) = false
+stores (Ba to) = false
+stores (Branch condition to) = false
+stores (Setx i d) = false
+stores (Sets i d) = false
+stores (Ldgs v d) = false
+stores (Ldga v a d) = false
+stores (Ldts x d) = false
 stores (Stts x a) = true
+stores (Ldls x d) = false
 stores (Stls x a) = true
+stores (Pushtr a) = false
+stores (Pushtv a) = false
+stores Flushts = false
+stores (Ldtaa x d) = false
 stores (Sttaa x a) = true
-stores _ = false
+stores (Call function d) = false
+stores (Ret a) = false
+stores Nop = false
 
 -- from one state to the next: nothing else than what the instruction is for
 pub record IsChanged (i : Instr) (s : Frame) (vars : Variables) (t : Frame) (after : Variables)

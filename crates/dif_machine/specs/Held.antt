@@ -1,9 +1,8 @@
 -- What the registers of a frame hold: constants and texts of the firing by their places.
 use Rattle.std.specs.Prelude.{List, Option, Some, None, map, option_map, slice_get}
-use Rattle.dif_machine.specs.declared.frame.Frame as memory
 use Rattle.dif_machine.specs.declared.held.Held.{Held}
 use Rattle.dif_machine.specs.declared.held.Held.TheVariants as held
-use Rattle.dif_machine.specs.Vocabulary.{Firing, Object, Value, Int, Text}
+use Rattle.dif_machine.specs.Vocabulary.{Firing, FrameInMemory, Object, Value, Int, Text}
 use Rattle.dif_machine.specs.Frames.{Frame}
 use Rattle.dif_machine.specs.Sources.{built_in_of}
 
@@ -18,7 +17,7 @@ abbrev pub contents : Object → Firing → List Held → List (Option Value)
 contents o f registers = map (content o f) registers
 
 -- the frame that stands in memory so
-abbrev pub frame_of : Object → Firing → memory.Frame → Frame
+abbrev pub frame_of : Object → Firing → FrameInMemory → Frame
 frame_of o f frame = record {
   pc = frame.pc;
   registers = contents o f frame.registers;

@@ -5,5 +5,6 @@ pub mod Kinds
 pub mod Held
 pub mod Frames
 pub mod Steps
+pub mod Instructions
 pub mod Runs
 pub mod Changes

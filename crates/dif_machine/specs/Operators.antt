@@ -49,5 +49,6 @@ holds BelowEqual known = holds_of IsLessEqual known.unsigned
 -- of the function's own tuple
 abbrev pub call_of : Function → List KeyPart → Option Value
 call_of Strlen (Name text ∷ []) = Some (Int (length text))
+call_of Strlen parts = None
 call_of Strjoin (Name a ∷ Name b ∷ []) = Some (Text (joined_text a b))
-call_of _ _ = None
+call_of Strjoin parts = None

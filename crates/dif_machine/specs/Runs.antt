@@ -1,6 +1,5 @@
 -- Whole runs.
 use Rattle.std.specs.Prelude.{◌≡◌, ◌≤◌, ℕ, suc, length, Result, Ok, Err}
-use Rattle.d_values.specs.Stores.{kind_of}
 use Rattle.dif_machine.specs.Vocabulary.{Firing, MachineFault, DivideByZero, Memory, Object, Value, Variables}
 use Rattle.dif_machine.specs.Frames.{Frame, start}
 use Rattle.dif_machine.specs.Steps.{Goes, Ends, Faults, step_of}

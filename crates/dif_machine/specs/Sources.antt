@@ -1,7 +1,6 @@
 -- Where values come from: the firing and the variables.
 use Rattle.std.specs.Prelude.{ℕ, zero, suc, List, Option, Some, None, ℤ, slice_get}
-use Rattle.std.specs.Int.{cast_unsigned, w64}
-use Rattle.dif_machine.specs.Vocabulary.{Firing, KeyPart, Value, Int, Text, Var, Variables, as_kind}
+use Rattle.dif_machine.specs.Vocabulary.{cast_unsigned, w64, Firing, KeyPart, Value, Int, Text, Var, Variables, as_kind}
 
 -- timestamp, cpu, pid, tid, execname, probeprov, probemod, probefunc, probename
 abbrev pub built_in_of : Firing → ℕ → Value

@@ -1,7 +1,6 @@
 -- The machine: what each instruction does.
 use Rattle.std.specs.Prelude.{◌≡◌, ℕ, ◌+◌, ◌++◌, List, [], ◌∷◌, length, nat_lt, if◌then◌else◌, Option, Some, None, Result, Ok, Err, slice_get}
-use Rattle.std.specs.Int.{cast_signed, w64}
-use Rattle.dif_machine.specs.Vocabulary.{Firing, Instr, Alu, Not, Mov, Cmp, Tst, Scmp, Ba, Branch, Setx, Sets, Ldgs, Ldga, Ldts, Stts, Ldls, Stls, Pushtr, Pushtv, Flushts, Ldtaa, Sttaa, Call, Ret, Nop, KeyPart, Number, Name, Kind, NumberKind, TextKind, MachineFault, DivideByZero, Memory, Object, OutOfZero, Reg, at, Value, Int, Text, Var, Variables, set_local, set_own}
+use Rattle.dif_machine.specs.Vocabulary.{cast_signed, w64, Firing, Instr, Alu, Not, Mov, Cmp, Tst, Scmp, Ba, Branch, Setx, Sets, Ldgs, Ldga, Ldts, Stts, Ldls, Stls, Pushtr, Pushtv, Flushts, Ldtaa, Sttaa, Call, Ret, Nop, KeyPart, Number, Name, Kind, NumberKind, TextKind, MachineFault, DivideByZero, Memory, Object, OutOfZero, Reg, at, Value, Int, Text, Var, Variables, set_local, set_own}
 use Rattle.dif_machine.specs.Frames.{Frame, at_place, with_value, with_comparison, with_tuple}
 use Rattle.dif_machine.specs.Operators.{result_of, complement, compared, texts_compared, holds, call_of}
 use Rattle.dif_machine.specs.Sources.{built_in_of, argument_of, local_in, own_in}
@@ -20,12 +19,14 @@ on None go = Stuck
 on (Some x) go = go x
 
 abbrev pub on_number : Option Value → (ℕ → Next) → Next
+on_number None go = Stuck
 on_number (Some (Int n)) go = go n
-on_number _ go = Stuck
+on_number (Some (Text bytes)) go = Stuck
 
 abbrev pub on_text : Option Value → (List ℕ → Next) → Next
+on_text None go = Stuck
+on_text (Some (Int n)) go = Stuck
 on_text (Some (Text bytes)) go = go bytes
-on_text _ go = Stuck
 
 abbrev pub on_kind : Kind → Option Value → (Value → Next) → Next
 on_kind NumberKind value go = on_number value (λ n. go (Int n))

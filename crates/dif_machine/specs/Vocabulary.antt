@@ -1,5 +1,8 @@
 -- The names that the definitions of the machine share, beside those of the validator.
+pub use Rattle.std.specs.Prelude.{◌≢◌}
+pub use Rattle.std.specs.Int.{cast_signed, cast_unsigned, w64}
 pub use Rattle.d_values.specs.Storage.{Variables, variables, set_local, set_own, as_kind}
+pub use Rattle.d_values.specs.Stores.{kind_of, lent_value, local_of, own_of}
 pub use Rattle.d_values.specs.declared.arithmetic.OutOfZero.{OutOfZero}
 pub use Rattle.d_values.specs.declared.key.KeyPart.{KeyPart}
 pub use Rattle.d_values.specs.declared.key.KeyPart.TheVariants.{Number, Name}
@@ -12,8 +15,10 @@ pub use Rattle.d_values.specs.declared.value.Value.{Value}
 pub use Rattle.d_values.specs.declared.value.Value.TheVariants.{Int, Text}
 pub use Rattle.d_values.specs.declared.variable.Var.{Var}
 pub use Rattle.firing_reader.specs.declared.firing.Firing.{Firing}
-pub use Rattle.dif_validate.specs.Objects.{Object}
+pub use Rattle.dif_validate.specs.Objects.{Object, object_of}
 pub use Rattle.dif_validate.specs.Registers.{at, put}
+pub use Rattle.dif_validate.specs.Returns.{return_kind}
+pub use Rattle.dif_validate.specs.Validity.{IsValid}
 pub use Rattle.dif_validate.specs.declared.instruction.Condition.{Condition}
 pub use Rattle.dif_validate.specs.declared.instruction.Condition.TheVariants.{Equal, NotEqual, Greater, GreaterEqual, Less, LessEqual, Above, AboveEqual, Below, BelowEqual}
 pub use Rattle.dif_validate.specs.declared.instruction.Function.{Function}
@@ -23,6 +28,8 @@ pub use Rattle.dif_validate.specs.declared.instruction.Instr.TheVariants.{Alu, N
 pub use Rattle.dif_validate.specs.declared.instruction.Operator.{Operator}
 pub use Rattle.dif_validate.specs.declared.instruction.Operator.TheVariants.{Or, Xor, And, Sll, Srl, Sra, Sub, Add, Mul, Sdiv, Udiv, Srem, Urem}
 pub use Rattle.dif_validate.specs.declared.register.Reg.{Reg}
+pub use Rattle.dif_validate.specs.declared.object.Difo.{Difo}
+pub use Rattle.dif_machine.specs.declared.frame.Frame.{Frame as FrameInMemory}
 pub use Rattle.dif_machine.specs.declared.comparing.Comparison.{Comparison}
 pub use Rattle.dif_machine.specs.declared.fault.MachineFault.{MachineFault}
 pub use Rattle.dif_machine.specs.declared.fault.MachineFault.TheVariants.{DivideByZero, Memory}

@@ -1,12 +1,8 @@
 //! What changes from step to step, but for the variables.
 
 ghost use Rattle.std.specs.Prelude.{◌≡◌, ◌≢◌, ◌<◌, ◌+◌, ◌-◌, ◌^◌, ◌++◌, ◌∷◌, [], ℕ, List, Some, None, IfOk, OnOk};
-ghost use Rattle.d_values.specs.Stores.{lent_value};
-ghost use Rattle.dif_validate.specs.Objects.{Object, object_of};
-ghost use Rattle.dif_validate.specs.Registers.{at};
-ghost use Rattle.dif_machine.specs.Frames as spec;
-ghost use Rattle.dif_machine.specs.Held.{content, contents, frame_of};
-ghost use Rattle.firing_reader.specs.declared.firing.Firing as recorded;
+ghost use Rattle.dif_machine.specs.Vocabulary.{Firing as Recorded, Object, at, lent_value, object_of};
+ghost use Rattle.dif_machine.specs.{Frames.at_place, Frames.start, Frames.with_comparison, Frames.with_content, Frames.with_tuple, Held.content, Held.contents, Held.frame_of};
 
 use crate::comparing::Comparison;
 use crate::held::Held;
@@ -32,7 +28,7 @@ pub struct Frame {
 impl Frame {
     /// Before the first instruction.
     pub(crate) fn start(alloc: Global) -> Frame
-        ensures { (o : Object) (f : recorded.Firing) → frame_of o f result ≡ spec.start }
+        ensures { (o : Object) (f : Recorded) → frame_of o f result ≡ start }
     {
         Frame {
             pc: 0,
@@ -118,8 +114,8 @@ impl Frame {
     /// copied.
     pub(crate) fn copy(&mut self, a: Reg, d: Reg) -> Result<(), AllocError>
         requires { self.old.pc < 2 ^ 64 - 1 }
-        ensures { OnOk result ((o : Object) (f : recorded.Firing) → frame_of o f self.new
-            ≡ spec.with_content (frame_of o f self.old) d
+        ensures { OnOk result ((o : Object) (f : Recorded) → frame_of o f self.new
+            ≡ with_content (frame_of o f self.old) d
             (at (contents o f self.old.registers) a)) }
     {
         let held = self.registers[a.number()].clone()?;
@@ -130,8 +126,8 @@ impl Frame {
     /// Goes to the next instruction.
     pub(crate) fn go_on(&mut self)
         requires { self.old.pc < 2 ^ 64 - 1 }
-        ensures { (o : Object) (f : recorded.Firing) → frame_of o f self.new
-            ≡ spec.at_place (frame_of o f self.old) (self.old.pc + 1) }
+        ensures { (o : Object) (f : Recorded) → frame_of o f self.new
+            ≡ at_place (frame_of o f self.old) (self.old.pc + 1) }
     {
         self.pc += 1;
     }
@@ -139,8 +135,8 @@ impl Frame {
     /// Puts something into a register, and goes on.
     pub(crate) fn put(&mut self, d: Reg, held: Held)
         requires { self.old.pc < 2 ^ 64 - 1 }
-        ensures { (o : Object) (f : recorded.Firing) → frame_of o f self.new
-            ≡ spec.with_content (frame_of o f self.old) d (content o f held) }
+        ensures { (o : Object) (f : Recorded) → frame_of o f self.new
+            ≡ with_content (frame_of o f self.old) d (content o f held) }
     {
         if d != Reg::R0 {
             self.registers[d.number()] = held;
@@ -151,8 +147,8 @@ impl Frame {
     /// Keeps a comparison, and goes on.
     pub(crate) fn compare(&mut self, comparison: Comparison)
         requires { self.old.pc < 2 ^ 64 - 1 }
-        ensures { (o : Object) (f : recorded.Firing) → frame_of o f self.new
-            ≡ spec.with_comparison (frame_of o f self.old) comparison }
+        ensures { (o : Object) (f : Recorded) → frame_of o f self.new
+            ≡ with_comparison (frame_of o f self.old) comparison }
     {
         self.comparison = Some(comparison);
         self.pc += 1;
@@ -161,8 +157,8 @@ impl Frame {
     /// Adds a part to the tuple, and goes on.
     pub(crate) fn push(&mut self, part: KeyPart) -> Result<(), AllocError>
         requires { self.old.pc < 2 ^ 64 - 1 }
-        ensures { OnOk result ((o : Object) (f : recorded.Firing) → frame_of o f self.new
-            ≡ spec.with_tuple (frame_of o f self.old) (self.old.tuple ++ part ∷ [])) }
+        ensures { OnOk result ((o : Object) (f : Recorded) → frame_of o f self.new
+            ≡ with_tuple (frame_of o f self.old) (self.old.tuple ++ part ∷ [])) }
     {
         self.tuple.push(part)?;
         self.pc += 1;
@@ -172,8 +168,8 @@ impl Frame {
     /// Empties the tuple, and goes on.
     pub(crate) fn flush(&mut self, alloc: Global)
         requires { self.old.pc < 2 ^ 64 - 1 }
-        ensures { (o : Object) (f : recorded.Firing) → frame_of o f self.new
-            ≡ spec.with_tuple (frame_of o f self.old) [] }
+        ensures { (o : Object) (f : Recorded) → frame_of o f self.new
+            ≡ with_tuple (frame_of o f self.old) [] }
     {
         self.tuple = Key::new(alloc);
         self.pc += 1;

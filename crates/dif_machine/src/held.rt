@@ -1,8 +1,7 @@
 //! What registers hold.
 
 ghost use Rattle.std.specs.Prelude.{◌≡◌, Some};
-ghost use Rattle.dif_validate.specs.Objects.{Object};
-ghost use Rattle.firing_reader.specs.declared.firing.Firing.{Firing};
+ghost use Rattle.dif_machine.specs.Vocabulary.{Firing, Object};
 ghost use Rattle.dif_machine.specs.Held.{content};
 
 use d_values::{Text, Value};

@@ -1,18 +1,8 @@
 //! Laws of runs.
 
 ghost use Rattle.std.specs.Prelude.{◌≡◌, Some, slice_get};
-ghost use Rattle.d_values.specs.Stores.{kind_of};
-ghost use Rattle.d_values.specs.declared.value.Value.{Value};
-ghost use Rattle.dif_validate.specs.Returns.{return_kind};
-ghost use Rattle.firing_reader.specs.declared.firing.Firing.{Firing};
-ghost use Rattle.dif_validate.specs.Objects.{Object};
-ghost use Rattle.dif_validate.specs.Validity.{IsValid};
-ghost use Rattle.dif_validate.specs.declared.instruction.Instr.{Instr};
-ghost use Rattle.dif_machine.specs.Changes.{Changes};
-ghost use Rattle.dif_machine.specs.Frames.{Frame};
-ghost use Rattle.dif_machine.specs.Steps.{step_of};
-ghost use Rattle.dif_machine.specs.Runs.{End, IsOver, Returns, Runs};
-ghost use Rattle.d_values.specs.Storage.{Variables};
+ghost use Rattle.dif_machine.specs.Vocabulary.{Firing, Instr, IsValid, Object, Value, Variables, kind_of, return_kind};
+ghost use Rattle.dif_machine.specs.{Changes.Changes, Frames.Frame, Steps.step_of, Runs.End, Runs.IsOver, Runs.Returns, Runs.Runs};
 
 /// An instruction goes to the next place or to its target. It changes the register that it writes,
 /// a comparison the comparison, a push or `flushts` the tuple and a store the variables, and

@@ -14,6 +14,12 @@ use std::alloc::Global;
 
 /// Runs an object from its first instruction to its end, and returns what it returns. The variables
 /// keep the writes so far, also after a fault.
+///
+/// ```text
+/// // setx 0, r1; stls n0, r1; ret r1, where the number is 5
+/// let value = run(alloc, &valid, &firing, &mut locals, &mut own)?; // Int(5)
+/// locals.get(x) // Int(5), where x is the integer of slot 0
+/// ```
 pub fn run(
     alloc: Global,
     valid: &ValidDifo,

@@ -1,10 +1,7 @@
 //! Where values come from: the firing and the variables.
 
 ghost use Rattle.std.specs.Prelude.{◌≡◌, Some, IfOk};
-ghost use Rattle.std.specs.Int.{cast_unsigned, w64};
-ghost use Rattle.d_values.specs.Storage.{as_kind};
-ghost use Rattle.d_values.specs.Stores.{kind_of, lent_value, local_of, own_of};
-ghost use Rattle.d_values.specs.declared.value.Kind.{Kind};
+ghost use Rattle.dif_machine.specs.Vocabulary.{Kind, as_kind, cast_unsigned, kind_of, lent_value, local_of, own_of, w64};
 ghost use Rattle.dif_machine.specs.Sources as spec;
 
 use d_values::{ClauseLocals, Key, Text, ThreadTable, Value, ValueRef, Var};

@@ -1,18 +1,19 @@
 //! One step of the machine.
 
-ghost use Rattle.std.specs.Prelude.{◌≡◌, ◌≢◌};
-ghost use Rattle.dif_validate.specs.Objects.{object_of};
-ghost use Rattle.d_values.specs.Storage.{variables};
-ghost use Rattle.dif_machine.specs.Held.{frame_of};
-ghost use Rattle.dif_machine.specs.Steps.{step_of, Stepped, Stuck};
+mod comparisons;
+mod integers;
+mod tuple;
+mod values;
+mod variables;
 
-use crate::comparing::{compare_numbers, compare_texts, holds};
+ghost use Rattle.std.specs.Prelude.{◌≢◌};
+ghost use Rattle.dif_machine.specs.Vocabulary.{object_of, variables};
+ghost use Rattle.dif_machine.specs.Steps.{step_of, Stepped, Stuck};
+ghost use Rattle.dif_machine.specs.{Held.frame_of, Instructions.CanExecuteOver, Instructions.ExecutesOver};
+
 use crate::fault::MachineFault;
 use crate::frame::Frame;
-use crate::held::Held;
-use crate::operating::{call, number_part, operate};
-use crate::sources::{argument, load, load_local};
-use d_values::{ClauseLocals, IntType, Key, KeyPart, Text, ThreadTable, Value, complement};
+use d_values::{ClauseLocals, ThreadTable, Value};
 use dif_validate::{Difo, Instr};
 use firing_reader::Firing;
 use std::alloc::Global;
@@ -34,143 +35,50 @@ pub(crate) fn step(
         (frame_of (object_of difo.now) firing.now frame.old) (variables locals.old own.old))
         result (frame_of (object_of difo.now) firing.now frame.new) (variables locals.new own.new) }
 {
-    let Some(instr) = difo.code.get(frame.pc) else {
-        unreachable!()
-    };
-    match *instr {
-        Instr::Alu(op, a, b, d) => match operate(
-            op,
-            frame.number(difo, firing, a),
-            frame.number(difo, firing, b),
-        ) {
-            Ok(word) => {
-                frame.put(d, Held::Int(word));
-                Ok(None)
-            }
-            Err(_) => Err(MachineFault::DivideByZero),
-        },
-        Instr::Not(a, d) => {
-            let word = complement(IntType::UINT64, frame.number(difo, firing, a));
-            frame.put(d, Held::Int(word));
-            Ok(None)
-        }
-        Instr::Mov(a, d) => {
-            frame.copy(a, d)?;
-            Ok(None)
-        }
-        Instr::Cmp(a, b) => {
-            let known = compare_numbers(
-                frame.number(difo, firing, a),
-                frame.number(difo, firing, b),
-            );
-            frame.compare(known);
-            Ok(None)
-        }
-        Instr::Tst(a) => {
-            let known = compare_numbers(frame.number(difo, firing, a), 0);
-            frame.compare(known);
-            Ok(None)
-        }
-        Instr::Scmp(a, b) => {
-            let known = compare_texts(frame.text(difo, firing, a), frame.text(difo, firing, b));
-            frame.compare(known);
-            Ok(None)
-        }
-        Instr::Ba(to) => {
-            frame.pc = to;
-            Ok(None)
-        }
-        Instr::Branch(condition, to) => {
-            let Some(known) = frame.comparison else {
-                unreachable!()
-            };
-            if holds(condition, known) {
-                frame.pc = to;
-                Ok(None)
-            } else {
-                frame.go_on();
-                Ok(None)
-            }
-        }
-        Instr::Setx(i, d) => {
-            let Some(word) = difo.numbers.get(i) else {
-                unreachable!()
-            };
-            frame.put(d, Held::Int(*word));
-            Ok(None)
-        }
-        Instr::Sets(i, d) => {
-            frame.put(d, Held::Constant(i));
-            Ok(None)
-        }
-        Instr::Ldgs(v, d) => {
-            frame.put(d, Held::BuiltIn(v));
-            Ok(None)
-        }
-        Instr::Ldga(_, a, d) => {
-            let word = argument(firing, frame.number(difo, firing, a));
-            frame.put(d, Held::Int(word));
-            Ok(None)
-        }
-        Instr::Ldts(x, d) => {
-            let value = load(alloc, own, x, &Key::new(alloc))?;
-            frame.put(d, Held::own(value));
-            Ok(None)
-        }
-        Instr::Stts(x, a) => {
-            let value = frame.value(alloc, difo, firing, a)?;
-            own.set(x, &Key::new(alloc), value)?;
-            frame.go_on();
-            Ok(None)
-        }
-        Instr::Ldls(x, d) => {
-            let value = load_local(alloc, locals, x)?;
-            frame.put(d, Held::own(value));
-            Ok(None)
-        }
-        Instr::Stls(x, a) => {
-            let value = frame.value(alloc, difo, firing, a)?;
-            locals.set(x, value)?;
-            frame.go_on();
-            Ok(None)
-        }
-        Instr::Pushtr(a) => {
-            let text = Text::from_slice(alloc, frame.text(difo, firing, a))?;
-            frame.push(KeyPart::Name(text))?;
-            Ok(None)
-        }
-        Instr::Pushtv(a) => {
-            let part = number_part(frame.number(difo, firing, a));
-            frame.push(part)?;
-            Ok(None)
-        }
-        Instr::Flushts => {
-            frame.flush(alloc);
-            Ok(None)
-        }
-        Instr::Ldtaa(x, d) => {
-            let value = load(alloc, own, x, &frame.tuple)?;
-            frame.put(d, Held::own(value));
-            Ok(None)
-        }
-        Instr::Sttaa(x, a) => {
-            let value = frame.value(alloc, difo, firing, a)?;
-            own.set(x, &frame.tuple, value)?;
-            frame.go_on();
-            Ok(None)
-        }
-        Instr::Call(f, d) => {
-            let value = call(alloc, f, &frame.tuple)?;
-            frame.put(d, Held::own(value));
-            Ok(None)
-        }
-        Instr::Ret(a) => {
-            let value = frame.value(alloc, difo, firing, a)?;
-            Ok(Some(value))
-        }
-        Instr::Nop => {
-            frame.go_on();
-            Ok(None)
-        }
+    match difo.code.get(frame.pc) {
+        Some(instr) => execute(alloc, *instr, difo, firing, frame, locals, own),
+        None => unreachable!(),
+    }
+}
+
+// What the instruction at the place does.
+fn execute(
+    alloc: Global,
+    instr: Instr,
+    difo: &Difo,
+    firing: &Firing,
+    frame: &mut Frame,
+    locals: &mut ClauseLocals,
+    own: &mut ThreadTable,
+) -> Result<Option<Value>, MachineFault>
+    requires { CanExecuteOver instr difo.now firing.now frame.old (variables locals.old own.old) }
+    ensures { ExecutesOver instr difo.now firing.now frame.old (variables locals.old own.old)
+        result frame.new (variables locals.new own.new) }
+{
+    match instr {
+        Instr::Alu(op, a, b, d) => integers::alu(difo, firing, frame, op, a, b, d),
+        Instr::Not(a, d) => integers::not(difo, firing, frame, a, d),
+        Instr::Mov(a, d) => values::mov(frame, a, d),
+        Instr::Cmp(a, b) => comparisons::cmp(difo, firing, frame, a, b),
+        Instr::Tst(a) => comparisons::tst(difo, firing, frame, a),
+        Instr::Scmp(a, b) => comparisons::scmp(difo, firing, frame, a, b),
+        Instr::Ba(to) => comparisons::ba(frame, to),
+        Instr::Branch(condition, to) => comparisons::branch(frame, condition, to),
+        Instr::Setx(i, d) => integers::setx(difo, frame, i, d),
+        Instr::Sets(i, d) => values::sets(frame, i, d),
+        Instr::Ldgs(v, d) => values::ldgs(frame, v, d),
+        Instr::Ldga(_, a, d) => integers::ldga(difo, firing, frame, a, d),
+        Instr::Ldts(x, d) => variables::ldts(alloc, frame, own, x, d),
+        Instr::Stts(x, a) => variables::stts(alloc, difo, firing, frame, own, x, a),
+        Instr::Ldls(x, d) => variables::ldls(alloc, frame, locals, x, d),
+        Instr::Stls(x, a) => variables::stls(alloc, difo, firing, frame, locals, x, a),
+        Instr::Pushtr(a) => tuple::pushtr(alloc, difo, firing, frame, a),
+        Instr::Pushtv(a) => tuple::pushtv(difo, firing, frame, a),
+        Instr::Flushts => tuple::flushts(alloc, frame),
+        Instr::Ldtaa(x, d) => variables::ldtaa(alloc, frame, own, x, d),
+        Instr::Sttaa(x, a) => variables::sttaa(alloc, difo, firing, frame, own, x, a),
+        Instr::Call(f, d) => tuple::call(alloc, frame, f, d),
+        Instr::Ret(a) => values::ret(alloc, difo, firing, frame, a),
+        Instr::Nop => values::nop(frame),
     }
 }

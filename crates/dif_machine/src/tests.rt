@@ -228,125 +228,127 @@ fn arguments_of_the_firing(rt: HostRuntime) -> Result<(), Fail> {
     Ok(())
 }
 
+// Code over the integers 1 and 2^64 - 1, and what it returns.
+const SINGLE_INSTRUCTIONS: [(&'static [Instr], u64); 16] = [
+    (&[Instr::Ba(2), Instr::Mov(R1, R2), Instr::Ret(R0)], 0),
+    (&[Instr::Ret(R0)], 0),
+    (&[Instr::Setx(0, R0), Instr::Ret(R0)], 0),
+    (&[Instr::Sets(0, R0), Instr::Ret(R0)], 0),
+    (&[Instr::Not(R0, R1), Instr::Ret(R1)], u64::MAX),
+    (
+        &[
+            Instr::Setx(0, R1),
+            Instr::Mov(R1, R2),
+            Instr::Mov(R0, R1),
+            Instr::Ret(R2),
+        ],
+        1,
+    ),
+    (&[Instr::Nop, Instr::Setx(0, R1), Instr::Ret(R1)], 1),
+    (
+        &[
+            Instr::Setx(1, R1),
+            Instr::Tst(R1),
+            Instr::Branch(Condition::Less, 4),
+            Instr::Ret(R0),
+            Instr::Ret(R1),
+        ],
+        u64::MAX,
+    ),
+    (
+        &[
+            Instr::Sets(0, R1),
+            Instr::Sets(1, R2),
+            Instr::Scmp(R1, R2),
+            Instr::Branch(Condition::Below, 5),
+            Instr::Ret(R0),
+            Instr::Setx(0, R1),
+            Instr::Ret(R1),
+        ],
+        1,
+    ),
+    (
+        &[
+            Instr::Sets(0, R1),
+            Instr::Sets(1, R2),
+            Instr::Scmp(R1, R2),
+            Instr::Branch(Condition::Less, 5),
+            Instr::Ret(R0),
+            Instr::Setx(0, R1),
+            Instr::Ret(R1),
+        ],
+        1,
+    ),
+    (
+        &[
+            Instr::Sets(0, R1),
+            Instr::Ldgs(4, R2),
+            Instr::Scmp(R1, R2),
+            Instr::Branch(Condition::Equal, 5),
+            Instr::Ret(R0),
+            Instr::Setx(0, R1),
+            Instr::Ret(R1),
+        ],
+        1,
+    ),
+    (
+        &[
+            Instr::Setx(0, R1),
+            Instr::Pushtv(R1),
+            Instr::Sttaa(COUNT, R1),
+            Instr::Ldtaa(COUNT, R2),
+            Instr::Ret(R2),
+        ],
+        1,
+    ),
+    (
+        &[
+            Instr::Setx(0, R1),
+            Instr::Pushtv(R1),
+            Instr::Sttaa(COUNT, R1),
+            Instr::Flushts,
+            Instr::Pushtv(R0),
+            Instr::Ldtaa(COUNT, R2),
+            Instr::Ret(R2),
+        ],
+        0,
+    ),
+    (
+        &[
+            Instr::Setx(0, R1),
+            Instr::Pushtv(R1),
+            Instr::Sttaa(COUNT, R1),
+            Instr::Pushtv(R1),
+            Instr::Ldtaa(COUNT, R2),
+            Instr::Ret(R2),
+        ],
+        0,
+    ),
+    (
+        &[
+            Instr::Setx(0, R1),
+            Instr::Pushtv(R1),
+            Instr::Sttaa(COUNT, R1),
+            Instr::Ldts(COUNT, R2),
+            Instr::Ret(R2),
+        ],
+        0,
+    ),
+    (
+        &[
+            Instr::Sets(1, R1),
+            Instr::Pushtr(R1),
+            Instr::Call(Function::Strlen, R1),
+            Instr::Ret(R1),
+        ],
+        300,
+    ),
+];
+
 #[test]
 fn single_instructions(rt: HostRuntime) -> Result<(), Fail> {
-    let rows: [(&[Instr], u64); 16] = [
-        (&[Instr::Ba(2), Instr::Mov(R1, R2), Instr::Ret(R0)], 0),
-        (&[Instr::Ret(R0)], 0),
-        (&[Instr::Setx(0, R0), Instr::Ret(R0)], 0),
-        (&[Instr::Sets(0, R0), Instr::Ret(R0)], 0),
-        (&[Instr::Not(R0, R1), Instr::Ret(R1)], u64::MAX),
-        (
-            &[
-                Instr::Setx(0, R1),
-                Instr::Mov(R1, R2),
-                Instr::Mov(R0, R1),
-                Instr::Ret(R2),
-            ],
-            1,
-        ),
-        (&[Instr::Nop, Instr::Setx(0, R1), Instr::Ret(R1)], 1),
-        (
-            &[
-                Instr::Setx(1, R1),
-                Instr::Tst(R1),
-                Instr::Branch(Condition::Less, 4),
-                Instr::Ret(R0),
-                Instr::Ret(R1),
-            ],
-            u64::MAX,
-        ),
-        (
-            &[
-                Instr::Sets(0, R1),
-                Instr::Sets(1, R2),
-                Instr::Scmp(R1, R2),
-                Instr::Branch(Condition::Below, 5),
-                Instr::Ret(R0),
-                Instr::Setx(0, R1),
-                Instr::Ret(R1),
-            ],
-            1,
-        ),
-        (
-            &[
-                Instr::Sets(0, R1),
-                Instr::Sets(1, R2),
-                Instr::Scmp(R1, R2),
-                Instr::Branch(Condition::Less, 5),
-                Instr::Ret(R0),
-                Instr::Setx(0, R1),
-                Instr::Ret(R1),
-            ],
-            1,
-        ),
-        (
-            &[
-                Instr::Sets(0, R1),
-                Instr::Ldgs(4, R2),
-                Instr::Scmp(R1, R2),
-                Instr::Branch(Condition::Equal, 5),
-                Instr::Ret(R0),
-                Instr::Setx(0, R1),
-                Instr::Ret(R1),
-            ],
-            1,
-        ),
-        (
-            &[
-                Instr::Setx(0, R1),
-                Instr::Pushtv(R1),
-                Instr::Sttaa(COUNT, R1),
-                Instr::Ldtaa(COUNT, R2),
-                Instr::Ret(R2),
-            ],
-            1,
-        ),
-        (
-            &[
-                Instr::Setx(0, R1),
-                Instr::Pushtv(R1),
-                Instr::Sttaa(COUNT, R1),
-                Instr::Flushts,
-                Instr::Pushtv(R0),
-                Instr::Ldtaa(COUNT, R2),
-                Instr::Ret(R2),
-            ],
-            0,
-        ),
-        (
-            &[
-                Instr::Setx(0, R1),
-                Instr::Pushtv(R1),
-                Instr::Sttaa(COUNT, R1),
-                Instr::Pushtv(R1),
-                Instr::Ldtaa(COUNT, R2),
-                Instr::Ret(R2),
-            ],
-            0,
-        ),
-        (
-            &[
-                Instr::Setx(0, R1),
-                Instr::Pushtv(R1),
-                Instr::Sttaa(COUNT, R1),
-                Instr::Ldts(COUNT, R2),
-                Instr::Ret(R2),
-            ],
-            0,
-        ),
-        (
-            &[
-                Instr::Sets(1, R1),
-                Instr::Pushtr(R1),
-                Instr::Call(Function::Strlen, R1),
-                Instr::Ret(R1),
-            ],
-            300,
-        ),
-    ];
-    for i in 0..rows.len() {
-        let (code, word) = rows[i];
+    for i in 0..SINGLE_INSTRUCTIONS.len() {
+        let (code, word) = SINGLE_INSTRUCTIONS[i];
         assert!(&rt; ran(rt.alloc(), code, &[1, u64::MAX])? == Shown::Number(word));
     }
     Ok(())

@@ -1,8 +1,8 @@
 -- The fault of an instruction at its place: of several the first in the order of `DifFault`.
 use Rattle.std.specs.Prelude.{ℕ, Bool, true, false, not, ◌||◌, nat_le, nat_lt, if◌then◌else◌, List, length, Option, Some, None, slice_get}
-use Rattle.dif_validate.specs.Vocabulary.{DifFault, Backward, OutOfCode, RegisterKind, Unset, TupleShape, TableIndex, Variable, Instr, Setx, Sets, Ldgs, Ldga, Ret, Kind, Object, Shape, at}
+use Rattle.dif_validate.specs.Vocabulary.{DifFault, Backward, OutOfCode, RegisterKind, Unset, TupleShape, TableIndex, Variable, Flow, Next, Jump, Either, End, Instr, Alu, Not, Mov, Cmp, Tst, Scmp, Ba, Branch, Setx, Sets, Ldgs, Ldga, Ldts, Stts, Ldls, Stls, Pushtr, Pushtv, Flushts, Ldtaa, Sttaa, Call, Ret, Nop, Kind, Object, Shape, at}
 use Rattle.dif_validate.specs.Asks.{asks, finds_other, finds_unset, lacks_comparison, takes}
-use Rattle.dif_validate.specs.Flow.{target, before}
+use Rattle.dif_validate.specs.Flow.{flow, target, before}
 use Rattle.dif_validate.specs.Returns.{returned_before}
 use Rattle.dif_validate.specs.Shapes.{is_other}
 
@@ -25,21 +25,69 @@ abbrev pub goes_out : Instr → ℕ → Bool
 goes_out i size = is_at_least (target i) size
 
 abbrev pub misses_table : Instr → Object → Bool
+misses_table (Alu op a b d) o = false
+misses_table (Not a d) o = false
+misses_table (Mov a d) o = false
+misses_table (Cmp a b) o = false
+misses_table (Tst a) o = false
+misses_table (Scmp a b) o = false
+misses_table (Ba to) o = false
+misses_table (Branch condition to) o = false
 misses_table (Setx i d) o = nat_le (length o.numbers) i
 misses_table (Sets i d) o = nat_le (length o.texts) i
-misses_table _ o = false
+misses_table (Ldgs v d) o = false
+misses_table (Ldga v a d) o = false
+misses_table (Ldts x d) o = false
+misses_table (Stts x a) o = false
+misses_table (Ldls x d) o = false
+misses_table (Stls x a) o = false
+misses_table (Pushtr a) o = false
+misses_table (Pushtv a) o = false
+misses_table Flushts o = false
+misses_table (Ldtaa x d) o = false
+misses_table (Sttaa x a) o = false
+misses_table (Call f d) o = false
+misses_table (Ret a) o = false
+misses_table Nop o = false
 
 abbrev pub misses_variable : Instr → Bool
+misses_variable (Alu op a b d) = false
+misses_variable (Not a d) = false
+misses_variable (Mov a d) = false
+misses_variable (Cmp a b) = false
+misses_variable (Tst a) = false
+misses_variable (Scmp a b) = false
+misses_variable (Ba to) = false
+misses_variable (Branch condition to) = false
+misses_variable (Setx i d) = false
+misses_variable (Sets i d) = false
 misses_variable (Ldgs v d) = nat_lt 8 v
 misses_variable (Ldga v a d) = nat_lt 0 v
-misses_variable _ = false
+misses_variable (Ldts x d) = false
+misses_variable (Stts x a) = false
+misses_variable (Ldls x d) = false
+misses_variable (Stls x a) = false
+misses_variable (Pushtr a) = false
+misses_variable (Pushtv a) = false
+misses_variable Flushts = false
+misses_variable (Ldtaa x d) = false
+misses_variable (Sttaa x a) = false
+misses_variable (Call f d) = false
+misses_variable (Ret a) = false
+misses_variable Nop = false
 
 -- ---- and with one that is reached
 
 -- it returns another kind than the first `ret`
+abbrev pub ends_other : Flow → Option Kind → Shape → Bool
+ends_other Next kind s = false
+ends_other (Jump to) kind s = false
+ends_other (Either to) kind s = false
+ends_other (End a) None s = false
+ends_other (End a) (Some kind) s = is_other kind (at s.registers a)
+
 abbrev pub returns_other : Instr → Option Kind → Shape → Bool
-returns_other (Ret a) (Some kind) s = is_other kind (at s.registers a)
-returns_other _ _ s = false
+returns_other i kind s = ends_other (flow i) kind s
 
 -- it can't take the tuple, or ways with different ones meet
 abbrev pub misses_tuple : Instr → Option (List Kind) → Bool

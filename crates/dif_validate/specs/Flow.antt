@@ -1,20 +1,55 @@
 -- Where an instruction leads, and what is known where ways lead to.
 use Rattle.std.specs.Prelude.{ℕ, zero, suc, ◌+◌, Bool, true, false, ◌&&◌, nat_eq, if◌then◌else◌, List, Option, Some, None, slice_get}
-use Rattle.dif_validate.specs.Vocabulary.{Instr, Ba, Branch, Ret, Shape}
+use Rattle.dif_validate.specs.Vocabulary.{Flow, Next, Jump, Either, End, Instr, Alu, Not, Mov, Cmp, Tst, Scmp, Ba, Branch, Setx, Sets, Ldgs, Ldga, Ldts, Stts, Ldls, Stls, Pushtr, Pushtv, Flushts, Ldtaa, Sttaa, Call, Ret, Nop, Shape}
 use Rattle.dif_validate.specs.Leaves.{leaves}
 use Rattle.dif_validate.specs.Shapes.{start, meet}
 
+-- where an instruction leads
+abbrev pub flow : Instr → Flow
+flow (Alu op a b d) = Next
+flow (Not a d) = Next
+flow (Mov a d) = Next
+flow (Cmp a b) = Next
+flow (Tst a) = Next
+flow (Scmp a b) = Next
+flow (Ba to) = Jump to
+flow (Branch condition to) = Either to
+flow (Setx i d) = Next
+flow (Sets i d) = Next
+flow (Ldgs v d) = Next
+flow (Ldga v a d) = Next
+flow (Ldts x d) = Next
+flow (Stts x a) = Next
+flow (Ldls x d) = Next
+flow (Stls x a) = Next
+flow (Pushtr a) = Next
+flow (Pushtv a) = Next
+flow Flushts = Next
+flow (Ldtaa x d) = Next
+flow (Sttaa x a) = Next
+flow (Call f d) = Next
+flow (Ret a) = End a
+flow Nop = Next
+
+abbrev pub has_next : Flow → Bool
+has_next Next = true
+has_next (Jump to) = false
+has_next (Either to) = true
+has_next (End a) = false
+
 -- the next instruction may follow
 abbrev pub falls : Instr → Bool
-falls (Ba to) = false
-falls (Ret a) = false
-falls _ = true
+falls i = has_next (flow i)
+
+abbrev pub target_of : Flow → Option ℕ
+target_of Next = None
+target_of (Jump to) = Some to
+target_of (Either to) = Some to
+target_of (End a) = None
 
 -- the place that it jumps to
 abbrev pub target : Instr → Option ℕ
-target (Ba to) = Some to
-target (Branch condition to) = Some to
-target _ = None
+target i = target_of (flow i)
 
 abbrev pub is_place : Option ℕ → ℕ → Bool
 is_place None pc = false

@@ -1,13 +1,18 @@
 -- The kind that an object returns.
 use Rattle.std.specs.Prelude.{ℕ, zero, suc, List, Option, Some, None, slice_get, length}
 use Rattle.std.specs.Option.{option_or}
-use Rattle.dif_validate.specs.Vocabulary.{Instr, Ret, Kind, Object, Shape, at}
-use Rattle.dif_validate.specs.Flow.{before}
+use Rattle.dif_validate.specs.Vocabulary.{Flow, Next, Jump, Either, End, Instr, Kind, Object, Shape, at}
+use Rattle.dif_validate.specs.Flow.{flow, before}
 
 -- the kind that an instruction returns where this is known
+abbrev pub returns_by : Flow → Shape → Option Kind
+returns_by Next s = None
+returns_by (Jump to) s = None
+returns_by (Either to) s = None
+returns_by (End a) s = at s.registers a
+
 abbrev pub returns : Instr → Shape → Option Kind
-returns (Ret a) s = at s.registers a
-returns _ s = None
+returns i s = returns_by (flow i) s
 
 -- if it is reached
 abbrev pub returned : Option Instr → Option Shape → Option Kind

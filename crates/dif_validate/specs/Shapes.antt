@@ -6,8 +6,9 @@ use Rattle.dif_validate.specs.Vocabulary.{Kind, Number, Text, Reg, R0, R1, R2, R
 
 abbrev pub is_same : Kind → Kind → Bool
 is_same Number Number = true
+is_same Number Text = false
+is_same Text Number = false
 is_same Text Text = true
-is_same _ _ = false
 
 abbrev pub are_same : List Kind → List Kind → Bool
 are_same [] [] = true

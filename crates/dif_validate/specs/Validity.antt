@@ -1,12 +1,19 @@
 -- Which objects are valid, and what the validator returns.
 use Rattle.std.specs.Prelude.{◌≡◌, ◌≢◌, ◌<◌, ℕ, ◌-◌, Bool, true, false, List, [], length, Option, Some, None, Result, Ok, Err, slice_get}
-use Rattle.dif_validate.specs.Vocabulary.{DifFault, Empty, NoReturn, Backward, OutOfCode, RegisterKind, Unset, TupleShape, TableIndex, Variable, Memory, Instr, Ret, Kind, Object}
+use Rattle.dif_validate.specs.Vocabulary.{DifFault, Empty, NoReturn, Backward, OutOfCode, RegisterKind, Unset, TupleShape, TableIndex, Variable, Memory, Flow, Next, Jump, Either, End, Instr, Kind, Object}
 use Rattle.dif_validate.specs.Faults.{fault_at}
+use Rattle.dif_validate.specs.Flow.{flow}
 use Rattle.dif_validate.specs.Returns.{return_kind}
 
+abbrev pub ends : Flow → Bool
+ends Next = false
+ends (Jump to) = false
+ends (Either to) = false
+ends (End a) = true
+
 abbrev pub is_return : Option Instr → Bool
-is_return (Some (Ret a)) = true
-is_return _ = false
+is_return None = false
+is_return (Some i) = ends (flow i)
 
 -- the last instruction returns
 abbrev pub is_closed : List Instr → Bool

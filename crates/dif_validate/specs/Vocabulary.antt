@@ -5,6 +5,8 @@ pub use Rattle.dif_validate.specs.declared.asks.Asks.{Asks}
 pub use Rattle.dif_validate.specs.declared.asks.Asks.TheVariants.{Nothing, Any, One, Two}
 pub use Rattle.dif_validate.specs.declared.fault.DifFault.{DifFault}
 pub use Rattle.dif_validate.specs.declared.fault.DifFault.TheVariants.{Empty, NoReturn, Backward, OutOfCode, RegisterKind, Unset, TupleShape, TableIndex, Variable, Memory}
+pub use Rattle.dif_validate.specs.declared.flow.Flow.{Flow}
+pub use Rattle.dif_validate.specs.declared.flow.Flow.TheVariants.{Next, Jump, Either, End}
 pub use Rattle.dif_validate.specs.declared.instruction.Condition.{Condition}
 pub use Rattle.dif_validate.specs.declared.instruction.Condition.TheVariants.{Equal, NotEqual, Greater, GreaterEqual, Less, LessEqual, Above, AboveEqual, Below, BelowEqual}
 pub use Rattle.dif_validate.specs.declared.instruction.Function.{Function}

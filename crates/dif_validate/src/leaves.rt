@@ -68,7 +68,13 @@ impl Shape {
             Instr::Flushts => self.with_tuple(Some(Tuple::new())),
             Instr::Ldtaa(x, d) => self.with(d, Some(x.kind)),
             Instr::Call(f, d) => self.with(d, Some(f.kind())),
-            _ => self,
+            Instr::Ba(_)
+            | Instr::Branch(_, _)
+            | Instr::Stts(_, _)
+            | Instr::Stls(_, _)
+            | Instr::Sttaa(_, _)
+            | Instr::Ret(_)
+            | Instr::Nop => self,
         }
     }
 }

@@ -2,12 +2,10 @@
 
 ghost use Rattle.std.specs.Prelude.{◌≡◌, ◌<◌, ◌+◌, ℕ, Some, None, true, IfOk, length, nat_eq, slice_index_or, if◌then◌else◌};
 ghost use Rattle.dif_validate.specs.Flow.{at_start, falls, further, join, target};
-ghost use Rattle.dif_validate.specs.Objects.{object_of};
-ghost use Rattle.dif_validate.specs.Pass.{Advances, Knows};
-ghost use Rattle.dif_validate.specs.Returns.{returned};
-ghost use Rattle.dif_validate.specs.Validity.{Finds, is_closed};
+ghost use Rattle.dif_validate.specs.{Objects.object_of, Pass.Advances, Pass.Knows, Returns.returned, Validity.Finds, Validity.is_closed};
 
 use crate::fault::DifFault;
+use crate::flow::Flow;
 use crate::instruction::Instr;
 use crate::object::Difo;
 use crate::shape::Shape;
@@ -67,9 +65,9 @@ impl Instr {
     fn returned(self, shape: &Shape) -> Option<Kind>
         ensures { result ≡ returned (Some self) (Some shape.now) }
     {
-        match self {
-            Instr::Ret(a) => shape.kind(a),
-            _ => None,
+        match self.flow() {
+            Flow::End(a) => shape.kind(a),
+            Flow::Next | Flow::Jump(_) | Flow::Either(_) => None,
         }
     }
 }

@@ -1,18 +1,15 @@
-//! Which objects are valid, row by row, and how instructions print. Each object has the text `a` and
+//! Which objects are valid, by tables, and how instructions print. Each object has the text `a` and
 //! the integer 1.
 use super::*;
+use crate::Instr::{
+    Alu, Ba, Branch, Call, Cmp, Flushts, Ldga, Ldgs, Ldls, Ldtaa, Ldts, Mov, Nop, Not, Pushtr,
+    Pushtv, Ret, Scmp, Sets, Setx, Stls, Sttaa, Stts, Tst,
+};
+use crate::Reg::{R0, R1, R2, R3};
 use d_values::{Kind, Text, Var};
 use std::alloc::{AllocError, Global};
 use std::process::Abort;
 use std::test::Fail;
-
-const R0: Reg = Reg::R0;
-
-const R1: Reg = Reg::R1;
-
-const R2: Reg = Reg::R2;
-
-const R3: Reg = Reg::R3;
 
 const NUMBER: Var = Var {
     slot: 0,
@@ -24,24 +21,33 @@ const TEXT: Var = Var {
     kind: Kind::Text,
 };
 
-const TEXT_IN_R1: Instr = Instr::Sets(0, R1);
+const TEXT_IN_R1: Instr = Sets(0, R1);
 
-const RETURN: Instr = Instr::Ret(R0);
+const RETURN: Instr = Ret(R0);
 
-const PUSH: Instr = Instr::Pushtv(R0);
+const IF_EQUAL_3: Instr = Branch(Condition::Equal, 3);
 
-const PUSH_TEXT: Instr = Instr::Pushtr(R1);
+const IF_EQUAL_4: Instr = Branch(Condition::Equal, 4);
 
-type Row<'a> = (&'a [Instr], DifFault);
+const IF_EQUAL_5: Instr = Branch(Condition::Equal, 5);
 
-// What the validator returns: the kind, or the fault.
-fn judged(alloc: Global, code: &[Instr]) -> Result<Result<Kind, DifFault>, AllocError> {
+const STRLEN: Instr = Call(Function::Strlen, R2);
+
+const STRJOIN: Instr = Call(Function::Strjoin, R2);
+
+const PUSH: Instr = Pushtv(R0);
+
+const PUSH_TEXT: Instr = Pushtr(R1);
+
+// What the validator returns for this code: the kind, or the fault.
+fn judgement(alloc: Global, code: &[Instr]) -> Result<Result<Kind, DifFault>, AllocError> {
     let mut texts = Vec::new(alloc);
     texts.push(Text::from_slice(alloc, b"a")?)?;
+    let numbers = Vec::from_slice(alloc, &[1])?;
     let difo = Difo {
         code: Vec::from_slice(alloc, code)?,
         texts,
-        numbers: Vec::from_slice(alloc, &[1])?,
+        numbers,
     };
     Ok(match validate(alloc, difo) {
         Ok(valid) => Ok(valid.kind()),
@@ -49,569 +55,374 @@ fn judged(alloc: Global, code: &[Instr]) -> Result<Result<Kind, DifFault>, Alloc
     })
 }
 
-// The first row whose object isn't refused by its fault.
-fn first_wrong(alloc: Global, rows: &[Row<'_>]) -> Result<Option<usize>, AllocError> {
-    for i in 0..rows.len() {
-        let (code, fault) = rows[i];
-        if judged(alloc, code)? != Err(fault) {
+// Objects that are judged alike: the judgement, and the code of each.
+type Table<'a> = (Result<Kind, DifFault>, &'a [&'a [Instr]]);
+
+// The first code that is judged otherwise.
+fn first_misjudged(
+    alloc: Global,
+    expected: Result<Kind, DifFault>,
+    codes: &[&[Instr]],
+) -> Result<Option<usize>, AllocError> {
+    for row in 0..codes.len() {
+        if judgement(alloc, codes[row])? != expected {
+            return Ok(Some(row));
+        }
+    }
+    Ok(None)
+}
+
+// The first object that is judged otherwise, by the number of its table and its number there.
+fn first_wrong(alloc: Global, tables: &[Table<'_>]) -> Result<Option<(usize, usize)>, AllocError> {
+    for table in 0..tables.len() {
+        let (expected, codes) = tables[table];
+        if let Some(row) = first_misjudged(alloc, expected, codes)? {
+            return Ok(Some((table, row)));
+        }
+    }
+    Ok(None)
+}
+
+// The first instruction that isn't refused so, where one instruction is before it and `ret r0`
+// after it.
+fn first_accepted(
+    alloc: Global,
+    before: Instr,
+    instrs: &[Instr],
+    fault: DifFault,
+) -> Result<Option<usize>, AllocError> {
+    for i in 0..instrs.len() {
+        if judgement(alloc, &[before, instrs[i], RETURN])? != Err(fault) {
             return Ok(Some(i));
         }
     }
     Ok(None)
 }
 
-// The first row whose object isn't valid, or returns another kind.
-fn first_refused(alloc: Global, rows: &[(&[Instr], Kind)]) -> Result<Option<usize>, AllocError> {
-    for i in 0..rows.len() {
-        let (code, kind) = rows[i];
-        if judged(alloc, code)? != Ok(kind) {
-            return Ok(Some(i));
-        }
-    }
-    Ok(None)
-}
+// Instructions of the other kind of register, where r1 has a text.
+const AFTER_A_TEXT: [Instr; 15] = [
+    Alu(Operator::Add, R1, R0, R2),
+    Alu(Operator::Add, R0, R1, R2),
+    Not(R1, R2),
+    Cmp(R1, R0),
+    Cmp(R0, R1),
+    Tst(R1),
+    Scmp(R0, R1),
+    Scmp(R1, R0),
+    Ldga(0, R1, R2),
+    Stts(NUMBER, R1),
+    Stls(NUMBER, R1),
+    Stts(TEXT, R0),
+    Stls(TEXT, R0),
+    Pushtv(R1),
+    Pushtr(R0),
+];
+
+const OF_AN_UNSET_REGISTER: [Instr; 15] = [
+    Alu(Operator::Sub, R1, R0, R2),
+    Alu(Operator::Sub, R0, R1, R2),
+    Not(R1, R2),
+    Mov(R1, R2),
+    Cmp(R1, R0),
+    Cmp(R0, R1),
+    Tst(R1),
+    Scmp(R1, R2),
+    Ldga(0, R1, R2),
+    Stts(NUMBER, R1),
+    Stls(TEXT, R1),
+    Pushtr(R1),
+    Pushtv(R1),
+    Branch(Condition::Equal, 2),
+    Ret(R1),
+];
 
 #[test]
-fn faults_of_the_whole(rt: HostRuntime) -> Result<(), Fail> {
-    let rows: [Row; 4] = [
-        (&[], DifFault::Empty),
-        (&[Instr::Nop], DifFault::NoReturn),
-        (&[RETURN, Instr::Nop], DifFault::NoReturn),
-        (&[Instr::Ba(0), Instr::Mov(R1, R2)], DifFault::NoReturn),
-    ];
-    assert!(&rt; first_wrong(rt.alloc(), &rows)? == None);
+fn faults_of_single_instructions(rt: HostRuntime) -> Result<(), Fail> {
+    let alloc = rt.alloc();
+    let kind = DifFault::RegisterKind { pc: 1 };
+    assert!(&rt; first_accepted(alloc, TEXT_IN_R1, &AFTER_A_TEXT, kind)? == None);
+    assert!(&rt;
+        first_accepted(alloc, Nop, &OF_AN_UNSET_REGISTER, DifFault::Unset { pc: 1 })? == None
+    );
+    let of_tuples = [Ldtaa(NUMBER, R1), Sttaa(NUMBER, R0), STRLEN, STRJOIN];
+    let tuple = DifFault::TupleShape { pc: 1 };
+    assert!(&rt; first_accepted(alloc, Nop, &of_tuples, tuple)? == None);
     Ok(())
 }
 
+const OBJECTS_WITH_A_FAULT: [Table<'static>; 15] = [
+    (Err(DifFault::Empty), &[&[]]),
+    (
+        Err(DifFault::NoReturn),
+        &[&[Nop], &[RETURN, Nop], &[Ba(0), Mov(R1, R2)]],
+    ),
+    (Err(DifFault::Backward { pc: 0 }), &[&[Ba(0), RETURN]]),
+    (
+        Err(DifFault::Backward { pc: 1 }),
+        &[
+            &[Nop, Ba(1), RETURN],
+            &[Nop, Ba(0), RETURN],
+            &[Tst(R0), Branch(Condition::Equal, 1), RETURN],
+        ],
+    ),
+    (
+        Err(DifFault::OutOfCode { pc: 0 }),
+        &[&[Ba(2), RETURN], &[Ba(5), RETURN]],
+    ),
+    (
+        Err(DifFault::OutOfCode { pc: 1 }),
+        &[&[Tst(R0), IF_EQUAL_3, RETURN]],
+    ),
+    (
+        Err(DifFault::RegisterKind { pc: 1 }),
+        &[&[PUSH, Sttaa(TEXT, R0), RETURN]],
+    ),
+    (
+        Err(DifFault::RegisterKind { pc: 4 }),
+        &[
+            &[TEXT_IN_R1, Tst(R0), IF_EQUAL_4, RETURN, Ret(R1)],
+            &[TEXT_IN_R1, Tst(R0), IF_EQUAL_4, Ret(R1), RETURN],
+        ],
+    ),
+    (
+        Err(DifFault::Unset { pc: 1 }),
+        &[&[PUSH, Sttaa(NUMBER, R1), RETURN]],
+    ),
+    (
+        Err(DifFault::TupleShape { pc: 2 }),
+        &[
+            &[PUSH, Flushts, Ldtaa(NUMBER, R1), RETURN],
+            &[TEXT_IN_R1, PUSH, STRLEN, RETURN],
+            &[TEXT_IN_R1, PUSH_TEXT, STRJOIN, RETURN],
+        ],
+    ),
+    (
+        Err(DifFault::TupleShape { pc: 3 }),
+        &[
+            &[TEXT_IN_R1, PUSH_TEXT, PUSH_TEXT, STRLEN, RETURN],
+            &[TEXT_IN_R1, PUSH_TEXT, PUSH, STRJOIN, RETURN],
+        ],
+    ),
+    (
+        Err(DifFault::TupleShape { pc: 8 }),
+        &[&[PUSH, PUSH, PUSH, PUSH, PUSH, PUSH, PUSH, PUSH, PUSH, RETURN]],
+    ),
+    (
+        Err(DifFault::TupleShape { pc: 9 }),
+        &[&[
+            TEXT_IN_R1, PUSH_TEXT, PUSH_TEXT, PUSH_TEXT, PUSH_TEXT, PUSH_TEXT, PUSH_TEXT,
+            PUSH_TEXT, PUSH_TEXT, PUSH_TEXT, RETURN,
+        ]],
+    ),
+    (
+        Err(DifFault::TableIndex { pc: 0 }),
+        &[&[Setx(1, R1), RETURN], &[Sets(1, R1), RETURN]],
+    ),
+    (
+        Err(DifFault::Variable { pc: 0 }),
+        &[&[Ldgs(9, R1), RETURN], &[Ldga(1, R0, R1), RETURN]],
+    ),
+];
+
 #[test]
-fn branches_go_forward_and_stay_inside(rt: HostRuntime) -> Result<(), Fail> {
-    let rows: [Row; 7] = [
-        (&[Instr::Ba(0), RETURN], DifFault::Backward { pc: 0 }),
-        (
-            &[Instr::Nop, Instr::Ba(1), RETURN],
-            DifFault::Backward { pc: 1 },
-        ),
-        (
-            &[Instr::Nop, Instr::Ba(0), RETURN],
-            DifFault::Backward { pc: 1 },
-        ),
-        (
-            &[Instr::Tst(R0), Instr::Branch(Condition::Equal, 1), RETURN],
-            DifFault::Backward { pc: 1 },
-        ),
-        (&[Instr::Ba(2), RETURN], DifFault::OutOfCode { pc: 0 }),
-        (&[Instr::Ba(5), RETURN], DifFault::OutOfCode { pc: 0 }),
-        (
-            &[Instr::Tst(R0), Instr::Branch(Condition::Equal, 3), RETURN],
-            DifFault::OutOfCode { pc: 1 },
-        ),
-    ];
-    assert!(&rt; first_wrong(rt.alloc(), &rows)? == None);
+fn faults_of_objects(rt: HostRuntime) -> Result<(), Fail> {
+    assert!(&rt; first_wrong(rt.alloc(), &OBJECTS_WITH_A_FAULT)? == None);
     Ok(())
 }
 
+const WAYS_THAT_MEET: [Table<'static>; 4] = [
+    (
+        Err(DifFault::Unset { pc: 6 }),
+        &[&[
+            Ldgs(1, R1),
+            Tst(R1),
+            IF_EQUAL_5,
+            Setx(0, R2),
+            Ba(6),
+            Sets(0, R2),
+            Ret(R2),
+        ]],
+    ),
+    (
+        Err(DifFault::Unset { pc: 3 }),
+        &[&[Tst(R0), IF_EQUAL_3, Setx(0, R2), Ret(R2)]],
+    ),
+    (
+        Err(DifFault::TupleShape { pc: 3 }),
+        &[&[Tst(R0), IF_EQUAL_3, PUSH, RETURN]],
+    ),
+    (
+        Err(DifFault::TupleShape { pc: 6 }),
+        &[&[
+            TEXT_IN_R1,
+            Tst(R0),
+            IF_EQUAL_5,
+            PUSH,
+            Ba(6),
+            PUSH_TEXT,
+            RETURN,
+        ]],
+    ),
+];
+
 #[test]
-fn registers_have_their_kinds(rt: HostRuntime) -> Result<(), Fail> {
-    let rows: [Row; 18] = [
-        (
-            &[TEXT_IN_R1, Instr::Alu(Operator::Add, R1, R0, R2), RETURN],
-            DifFault::RegisterKind { pc: 1 },
-        ),
-        (
-            &[TEXT_IN_R1, Instr::Alu(Operator::Add, R0, R1, R2), RETURN],
-            DifFault::RegisterKind { pc: 1 },
-        ),
-        (
-            &[TEXT_IN_R1, Instr::Not(R1, R2), RETURN],
-            DifFault::RegisterKind { pc: 1 },
-        ),
-        (
-            &[TEXT_IN_R1, Instr::Cmp(R1, R0), RETURN],
-            DifFault::RegisterKind { pc: 1 },
-        ),
-        (
-            &[TEXT_IN_R1, Instr::Cmp(R0, R1), RETURN],
-            DifFault::RegisterKind { pc: 1 },
-        ),
-        (
-            &[TEXT_IN_R1, Instr::Tst(R1), RETURN],
-            DifFault::RegisterKind { pc: 1 },
-        ),
-        (
-            &[TEXT_IN_R1, Instr::Scmp(R0, R1), RETURN],
-            DifFault::RegisterKind { pc: 1 },
-        ),
-        (
-            &[TEXT_IN_R1, Instr::Scmp(R1, R0), RETURN],
-            DifFault::RegisterKind { pc: 1 },
-        ),
-        (
-            &[TEXT_IN_R1, Instr::Ldga(0, R1, R2), RETURN],
-            DifFault::RegisterKind { pc: 1 },
-        ),
-        (
-            &[TEXT_IN_R1, Instr::Stts(NUMBER, R1), RETURN],
-            DifFault::RegisterKind { pc: 1 },
-        ),
-        (
-            &[TEXT_IN_R1, Instr::Stls(NUMBER, R1), RETURN],
-            DifFault::RegisterKind { pc: 1 },
-        ),
-        (
-            &[TEXT_IN_R1, Instr::Pushtv(R1), RETURN],
-            DifFault::RegisterKind { pc: 1 },
-        ),
-        (
-            &[TEXT_IN_R1, Instr::Stts(TEXT, R0), RETURN],
-            DifFault::RegisterKind { pc: 1 },
-        ),
-        (
-            &[TEXT_IN_R1, Instr::Stls(TEXT, R0), RETURN],
-            DifFault::RegisterKind { pc: 1 },
-        ),
-        (
-            &[TEXT_IN_R1, Instr::Pushtr(R0), RETURN],
-            DifFault::RegisterKind { pc: 1 },
-        ),
-        (
-            &[PUSH, Instr::Sttaa(TEXT, R0), RETURN],
-            DifFault::RegisterKind { pc: 1 },
-        ),
-        (
-            &[
-                TEXT_IN_R1,
-                Instr::Tst(R0),
-                Instr::Branch(Condition::Equal, 4),
-                RETURN,
-                Instr::Ret(R1),
-            ],
-            DifFault::RegisterKind { pc: 4 },
-        ),
-        (
-            &[
-                TEXT_IN_R1,
-                Instr::Tst(R0),
-                Instr::Branch(Condition::Equal, 4),
-                Instr::Ret(R1),
-                RETURN,
-            ],
-            DifFault::RegisterKind { pc: 4 },
-        ),
-    ];
-    assert!(&rt; first_wrong(rt.alloc(), &rows)? == None);
+fn where_ways_meet_only_what_they_agree_on_is_kept(rt: HostRuntime) -> Result<(), Fail> {
+    assert!(&rt; first_wrong(rt.alloc(), &WAYS_THAT_MEET)? == None);
     Ok(())
 }
 
+const SEVERAL_FAULTS: [Table<'static>; 11] = [
+    (
+        Err(DifFault::TableIndex { pc: 0 }),
+        &[&[Setx(3, R1), Ba(0), RETURN]],
+    ),
+    (
+        Err(DifFault::Variable { pc: 0 }),
+        &[&[Ldgs(9, R1), Ba(9), RETURN]],
+    ),
+    (
+        Err(DifFault::Unset { pc: 0 }),
+        &[
+            &[Mov(R1, R2), Ba(0), RETURN],
+            &[Ldga(1, R1, R2), RETURN],
+            &[Sttaa(NUMBER, R1), RETURN],
+        ],
+    ),
+    (
+        Err(DifFault::Unset { pc: 1 }),
+        &[&[Nop, Alu(Operator::Add, R1, R0, R2), Setx(7, R2), RETURN]],
+    ),
+    (
+        Err(DifFault::Backward { pc: 0 }),
+        &[&[Branch(Condition::Equal, 0), RETURN]],
+    ),
+    (
+        Err(DifFault::OutOfCode { pc: 0 }),
+        &[&[Branch(Condition::Equal, 2), RETURN]],
+    ),
+    (
+        Err(DifFault::RegisterKind { pc: 1 }),
+        &[
+            &[TEXT_IN_R1, Alu(Operator::Add, R1, R2, R3), RETURN],
+            &[TEXT_IN_R1, Ldga(1, R1, R2), RETURN],
+        ],
+    ),
+    (
+        Err(DifFault::RegisterKind { pc: 8 }),
+        &[&[
+            PUSH,
+            PUSH,
+            PUSH,
+            PUSH,
+            PUSH,
+            PUSH,
+            PUSH,
+            PUSH,
+            Pushtr(R0),
+            RETURN,
+        ]],
+    ),
+    (
+        Err(DifFault::Unset { pc: 8 }),
+        &[&[
+            PUSH,
+            PUSH,
+            PUSH,
+            PUSH,
+            PUSH,
+            PUSH,
+            PUSH,
+            PUSH,
+            Pushtv(R1),
+            RETURN,
+        ]],
+    ),
+    (
+        Err(DifFault::TupleShape { pc: 3 }),
+        &[
+            &[Tst(R0), IF_EQUAL_3, PUSH, Setx(5, R1), RETURN],
+            &[Tst(R0), IF_EQUAL_3, PUSH, Ldgs(9, R1), RETURN],
+        ],
+    ),
+    (Err(DifFault::NoReturn), &[&[Ba(0), Setx(3, R1)]]),
+];
+
 #[test]
-fn registers_are_set_before_they_are_read(rt: HostRuntime) -> Result<(), Fail> {
-    let rows: [Row; 16] = [
-        (
-            &[Instr::Alu(Operator::Sub, R1, R0, R2), RETURN],
-            DifFault::Unset { pc: 0 },
-        ),
-        (
-            &[Instr::Alu(Operator::Sub, R0, R1, R2), RETURN],
-            DifFault::Unset { pc: 0 },
-        ),
-        (&[Instr::Not(R1, R2), RETURN], DifFault::Unset { pc: 0 }),
-        (&[Instr::Mov(R1, R2), RETURN], DifFault::Unset { pc: 0 }),
-        (&[Instr::Cmp(R1, R0), RETURN], DifFault::Unset { pc: 0 }),
-        (&[Instr::Cmp(R0, R1), RETURN], DifFault::Unset { pc: 0 }),
-        (&[Instr::Tst(R1), RETURN], DifFault::Unset { pc: 0 }),
-        (&[Instr::Scmp(R1, R2), RETURN], DifFault::Unset { pc: 0 }),
-        (&[Instr::Ldga(0, R1, R2), RETURN], DifFault::Unset { pc: 0 }),
-        (
-            &[Instr::Stts(NUMBER, R1), RETURN],
-            DifFault::Unset { pc: 0 },
-        ),
-        (&[Instr::Stls(TEXT, R1), RETURN], DifFault::Unset { pc: 0 }),
-        (&[Instr::Pushtr(R1), RETURN], DifFault::Unset { pc: 0 }),
-        (&[Instr::Pushtv(R1), RETURN], DifFault::Unset { pc: 0 }),
-        (
-            &[Instr::Branch(Condition::Equal, 1), RETURN],
-            DifFault::Unset { pc: 0 },
-        ),
-        (&[Instr::Ret(R1)], DifFault::Unset { pc: 0 }),
-        (
-            &[PUSH, Instr::Sttaa(NUMBER, R1), RETURN],
-            DifFault::Unset { pc: 1 },
-        ),
-    ];
-    assert!(&rt; first_wrong(rt.alloc(), &rows)? == None);
+fn the_least_place_is_reported_and_there_the_lowest_number(rt: HostRuntime) -> Result<(), Fail> {
+    assert!(&rt; first_wrong(rt.alloc(), &SEVERAL_FAULTS)? == None);
     Ok(())
 }
 
-#[test]
-fn where_ways_meet_a_kind_is_kept_if_they_agree(rt: HostRuntime) -> Result<(), Fail> {
-    let rows: [Row; 4] = [
-        (
-            &[
-                Instr::Ldgs(1, R1),
-                Instr::Tst(R1),
-                Instr::Branch(Condition::Equal, 5),
-                Instr::Setx(0, R2),
-                Instr::Ba(6),
-                Instr::Sets(0, R2),
-                Instr::Ret(R2),
-            ],
-            DifFault::Unset { pc: 6 },
-        ),
-        (
-            &[
-                Instr::Tst(R0),
-                Instr::Branch(Condition::Equal, 3),
-                Instr::Setx(0, R2),
-                Instr::Ret(R2),
-            ],
-            DifFault::Unset { pc: 3 },
-        ),
-        (
-            &[
-                Instr::Tst(R0),
-                Instr::Branch(Condition::Equal, 3),
-                PUSH,
-                RETURN,
-            ],
-            DifFault::TupleShape { pc: 3 },
-        ),
-        (
-            &[
-                TEXT_IN_R1,
-                Instr::Tst(R0),
-                Instr::Branch(Condition::Equal, 5),
-                PUSH,
-                Instr::Ba(6),
-                PUSH_TEXT,
-                RETURN,
-            ],
-            DifFault::TupleShape { pc: 6 },
-        ),
-    ];
-    assert!(&rt; first_wrong(rt.alloc(), &rows)? == None);
-    Ok(())
-}
-
-#[test]
-fn tuples_have_their_shapes(rt: HostRuntime) -> Result<(), Fail> {
-    let rows: [Row; 10] = [
-        (
-            &[PUSH, PUSH, PUSH, PUSH, PUSH, PUSH, PUSH, PUSH, PUSH, RETURN],
-            DifFault::TupleShape { pc: 8 },
-        ),
-        (
-            &[
-                TEXT_IN_R1, PUSH_TEXT, PUSH_TEXT, PUSH_TEXT, PUSH_TEXT, PUSH_TEXT, PUSH_TEXT,
-                PUSH_TEXT, PUSH_TEXT, PUSH_TEXT, RETURN,
-            ],
-            DifFault::TupleShape { pc: 9 },
-        ),
-        (
-            &[Instr::Ldtaa(NUMBER, R1), RETURN],
-            DifFault::TupleShape { pc: 0 },
-        ),
-        (
-            &[Instr::Sttaa(NUMBER, R0), RETURN],
-            DifFault::TupleShape { pc: 0 },
-        ),
-        (
-            &[PUSH, Instr::Flushts, Instr::Ldtaa(NUMBER, R1), RETURN],
-            DifFault::TupleShape { pc: 2 },
-        ),
-        (
-            &[Instr::Call(Function::Strlen, R2), RETURN],
-            DifFault::TupleShape { pc: 0 },
-        ),
-        (
-            &[PUSH, Instr::Call(Function::Strlen, R2), RETURN],
-            DifFault::TupleShape { pc: 1 },
-        ),
-        (
-            &[
-                TEXT_IN_R1,
-                PUSH_TEXT,
-                PUSH_TEXT,
-                Instr::Call(Function::Strlen, R2),
-                RETURN,
-            ],
-            DifFault::TupleShape { pc: 3 },
-        ),
-        (
-            &[
-                TEXT_IN_R1,
-                PUSH_TEXT,
-                Instr::Call(Function::Strjoin, R2),
-                RETURN,
-            ],
-            DifFault::TupleShape { pc: 2 },
-        ),
-        (
-            &[
-                TEXT_IN_R1,
-                PUSH_TEXT,
-                PUSH,
-                Instr::Call(Function::Strjoin, R2),
-                RETURN,
-            ],
-            DifFault::TupleShape { pc: 3 },
-        ),
-    ];
-    assert!(&rt; first_wrong(rt.alloc(), &rows)? == None);
-    Ok(())
-}
-
-#[test]
-fn indexes_and_built_ins_exist(rt: HostRuntime) -> Result<(), Fail> {
-    let rows: [Row; 4] = [
-        (
-            &[Instr::Setx(1, R1), RETURN],
-            DifFault::TableIndex { pc: 0 },
-        ),
-        (
-            &[Instr::Sets(1, R1), RETURN],
-            DifFault::TableIndex { pc: 0 },
-        ),
-        (&[Instr::Ldgs(9, R1), RETURN], DifFault::Variable { pc: 0 }),
-        (
-            &[Instr::Ldga(1, R0, R1), RETURN],
-            DifFault::Variable { pc: 0 },
-        ),
-    ];
-    assert!(&rt; first_wrong(rt.alloc(), &rows)? == None);
-    Ok(())
-}
-
-#[test]
-fn the_least_place_comes_first(rt: HostRuntime) -> Result<(), Fail> {
-    let rows: [Row; 4] = [
-        (
-            &[Instr::Setx(3, R1), Instr::Ba(0), RETURN],
-            DifFault::TableIndex { pc: 0 },
-        ),
-        (
-            &[Instr::Mov(R1, R2), Instr::Ba(0), RETURN],
-            DifFault::Unset { pc: 0 },
-        ),
-        (
-            &[Instr::Ldgs(9, R1), Instr::Ba(9), RETURN],
-            DifFault::Variable { pc: 0 },
-        ),
-        (
-            &[
-                Instr::Nop,
-                Instr::Alu(Operator::Add, R1, R0, R2),
-                Instr::Setx(7, R2),
-                RETURN,
-            ],
-            DifFault::Unset { pc: 1 },
-        ),
-    ];
-    assert!(&rt; first_wrong(rt.alloc(), &rows)? == None);
-    Ok(())
-}
-
-#[test]
-fn at_one_place_the_lower_number_comes_first(rt: HostRuntime) -> Result<(), Fail> {
-    let rows: [Row; 10] = [
-        (
-            &[Instr::Branch(Condition::Equal, 0), RETURN],
-            DifFault::Backward { pc: 0 },
-        ),
-        (
-            &[Instr::Branch(Condition::Equal, 2), RETURN],
-            DifFault::OutOfCode { pc: 0 },
-        ),
-        (
-            &[TEXT_IN_R1, Instr::Alu(Operator::Add, R1, R2, R3), RETURN],
-            DifFault::RegisterKind { pc: 1 },
-        ),
-        (
-            &[TEXT_IN_R1, Instr::Ldga(1, R1, R2), RETURN],
-            DifFault::RegisterKind { pc: 1 },
-        ),
-        (&[Instr::Ldga(1, R1, R2), RETURN], DifFault::Unset { pc: 0 }),
-        (
-            &[
-                PUSH,
-                PUSH,
-                PUSH,
-                PUSH,
-                PUSH,
-                PUSH,
-                PUSH,
-                PUSH,
-                Instr::Pushtr(R0),
-                RETURN,
-            ],
-            DifFault::RegisterKind { pc: 8 },
-        ),
-        (
-            &[
-                PUSH,
-                PUSH,
-                PUSH,
-                PUSH,
-                PUSH,
-                PUSH,
-                PUSH,
-                PUSH,
-                Instr::Pushtv(R1),
-                RETURN,
-            ],
-            DifFault::Unset { pc: 8 },
-        ),
-        (
-            &[Instr::Sttaa(NUMBER, R1), RETURN],
-            DifFault::Unset { pc: 0 },
-        ),
-        (
-            &[
-                Instr::Tst(R0),
-                Instr::Branch(Condition::Equal, 3),
-                PUSH,
-                Instr::Setx(5, R1),
-                RETURN,
-            ],
-            DifFault::TupleShape { pc: 3 },
-        ),
-        (
-            &[
-                Instr::Tst(R0),
-                Instr::Branch(Condition::Equal, 3),
-                PUSH,
-                Instr::Ldgs(9, R1),
-                RETURN,
-            ],
-            DifFault::TupleShape { pc: 3 },
-        ),
-    ];
-    assert!(&rt; first_wrong(rt.alloc(), &rows)? == None);
-    Ok(())
-}
+const UNREACHED_FAULTS: [Table<'static>; 4] = [
+    (
+        Err(DifFault::TableIndex { pc: 1 }),
+        &[&[Ba(2), Setx(1, R1), RETURN]],
+    ),
+    (
+        Err(DifFault::Variable { pc: 1 }),
+        &[&[Ba(2), Ldgs(9, R1), RETURN]],
+    ),
+    (
+        Err(DifFault::Backward { pc: 1 }),
+        &[&[Ba(2), Ba(1), RETURN]],
+    ),
+    (
+        Err(DifFault::OutOfCode { pc: 1 }),
+        &[&[RETURN, Ba(3), RETURN]],
+    ),
+];
 
 #[test]
 fn faults_in_code_that_no_way_reaches(rt: HostRuntime) -> Result<(), Fail> {
-    let rows: [Row; 4] = [
-        (
-            &[Instr::Ba(2), Instr::Setx(1, R1), RETURN],
-            DifFault::TableIndex { pc: 1 },
-        ),
-        (
-            &[Instr::Ba(2), Instr::Ldgs(9, R1), RETURN],
-            DifFault::Variable { pc: 1 },
-        ),
-        (
-            &[Instr::Ba(2), Instr::Ba(1), RETURN],
-            DifFault::Backward { pc: 1 },
-        ),
-        (
-            &[RETURN, Instr::Ba(3), RETURN],
-            DifFault::OutOfCode { pc: 1 },
-        ),
-    ];
-    assert!(&rt; first_wrong(rt.alloc(), &rows)? == None);
+    assert!(&rt; first_wrong(rt.alloc(), &UNREACHED_FAULTS)? == None);
     Ok(())
 }
 
+const VALID: [Table<'static>; 2] = [
+    (
+        Ok(Kind::Number),
+        &[
+            &[RETURN],
+            &[Ba(1), RETURN],
+            &[Ba(2), Mov(R1, R2), RETURN],
+            &[Ba(2), Ret(R1), RETURN],
+            &[RETURN, Ret(R1)],
+            &[RETURN, Branch(Condition::Equal, 2), RETURN],
+            &[
+                PUSH, PUSH, PUSH, PUSH, PUSH, PUSH, PUSH, PUSH, Flushts, PUSH, RETURN,
+            ],
+            &[TEXT_IN_R1, PUSH_TEXT, STRLEN, Ret(R2)],
+            &[Sets(0, R0), Not(R0, R1), Ret(R1)],
+        ],
+    ),
+    (
+        Ok(Kind::Text),
+        &[
+            &[TEXT_IN_R1, Ret(R1)],
+            &[
+                PUSH,
+                PUSH,
+                PUSH,
+                PUSH,
+                PUSH,
+                PUSH,
+                PUSH,
+                PUSH,
+                Ldtaa(TEXT, R1),
+                Sttaa(TEXT, R1),
+                Ret(R1),
+            ],
+            &[TEXT_IN_R1, PUSH_TEXT, PUSH_TEXT, STRJOIN, Ret(R2)],
+            &[Setx(0, R1), Ldgs(8, R2), Ldga(0, R1, R1), Ret(R2)],
+            &[Ldgs(3, R1), Tst(R1), Ldgs(4, R1), Scmp(R1, R1), Ret(R1)],
+            &[Tst(R0), IF_EQUAL_4, TEXT_IN_R1, Ba(5), TEXT_IN_R1, Ret(R1)],
+        ],
+    ),
+];
+
 #[test]
-fn what_is_valid(rt: HostRuntime) -> Result<(), Fail> {
-    let rows: [(&[Instr], Kind); 15] = [
-        (&[RETURN], Kind::Number),
-        (&[Instr::Ba(1), RETURN], Kind::Number),
-        (&[TEXT_IN_R1, Instr::Ret(R1)], Kind::Text),
-        (&[Instr::Ba(2), Instr::Mov(R1, R2), RETURN], Kind::Number),
-        (&[Instr::Ba(2), Instr::Ret(R1), RETURN], Kind::Number),
-        (&[RETURN, Instr::Ret(R1)], Kind::Number),
-        (
-            &[RETURN, Instr::Branch(Condition::Equal, 2), RETURN],
-            Kind::Number,
-        ),
-        (
-            &[
-                PUSH,
-                PUSH,
-                PUSH,
-                PUSH,
-                PUSH,
-                PUSH,
-                PUSH,
-                PUSH,
-                Instr::Ldtaa(TEXT, R1),
-                Instr::Sttaa(TEXT, R1),
-                Instr::Ret(R1),
-            ],
-            Kind::Text,
-        ),
-        (
-            &[
-                PUSH,
-                PUSH,
-                PUSH,
-                PUSH,
-                PUSH,
-                PUSH,
-                PUSH,
-                PUSH,
-                Instr::Flushts,
-                PUSH,
-                RETURN,
-            ],
-            Kind::Number,
-        ),
-        (
-            &[
-                TEXT_IN_R1,
-                PUSH_TEXT,
-                PUSH_TEXT,
-                Instr::Call(Function::Strjoin, R2),
-                Instr::Ret(R2),
-            ],
-            Kind::Text,
-        ),
-        (
-            &[
-                TEXT_IN_R1,
-                PUSH_TEXT,
-                Instr::Call(Function::Strlen, R1),
-                Instr::Ret(R1),
-            ],
-            Kind::Number,
-        ),
-        (
-            &[
-                Instr::Setx(0, R1),
-                Instr::Ldgs(8, R2),
-                Instr::Ldga(0, R1, R1),
-                Instr::Ret(R2),
-            ],
-            Kind::Text,
-        ),
-        (
-            &[
-                Instr::Ldgs(3, R1),
-                Instr::Tst(R1),
-                Instr::Ldgs(4, R1),
-                Instr::Scmp(R1, R1),
-                Instr::Ret(R1),
-            ],
-            Kind::Text,
-        ),
-        (
-            &[
-                Instr::Tst(R0),
-                Instr::Branch(Condition::Equal, 4),
-                TEXT_IN_R1,
-                Instr::Ba(5),
-                TEXT_IN_R1,
-                Instr::Ret(R1),
-            ],
-            Kind::Text,
-        ),
-        (
-            &[Instr::Sets(0, R0), Instr::Not(R0, R1), Instr::Ret(R1)],
-            Kind::Number,
-        ),
-    ];
-    assert!(&rt; first_refused(rt.alloc(), &rows)? == None);
+fn valid_objects_return_their_kinds(rt: HostRuntime) -> Result<(), Fail> {
+    assert!(&rt; first_wrong(rt.alloc(), &VALID)? == None);
     Ok(())
 }
 
@@ -624,31 +435,31 @@ fn prints(alloc: Global, instr: Instr, text: &str) -> Result<bool, AllocError> {
 #[test]
 fn instructions_print_as_one_reads_them(rt: HostRuntime) -> Result<(), Fail> {
     let rows: [(Instr, &str); 25] = [
-        (Instr::Alu(Operator::Add, R1, R2, R3), "add r1, r2, r3"),
-        (Instr::Alu(Operator::Srem, R1, R0, R2), "srem r1, r0, r2"),
-        (Instr::Not(R1, R2), "not r1, r2"),
-        (Instr::Mov(R1, R2), "mov r1, r2"),
-        (Instr::Cmp(R1, R0), "cmp r1, r0"),
-        (Instr::Tst(R1), "tst r1"),
-        (Instr::Scmp(R1, R2), "scmp r1, r2"),
-        (Instr::Ba(5), "ba 5"),
-        (Instr::Branch(Condition::BelowEqual, 12), "bleu 12"),
-        (Instr::Setx(0, R1), "setx 0, r1"),
-        (Instr::Sets(3, R2), "sets 3, r2"),
-        (Instr::Ldgs(4, R1), "ldgs 4, r1"),
-        (Instr::Ldga(0, R1, R2), "ldga 0, r1, r2"),
-        (Instr::Ldts(NUMBER, R1), "ldts n0, r1"),
-        (Instr::Stts(TEXT, R1), "stts t3, r1"),
-        (Instr::Ldls(TEXT, R1), "ldls t3, r1"),
-        (Instr::Stls(NUMBER, R1), "stls n0, r1"),
-        (Instr::Pushtr(R1), "pushtr r1"),
-        (Instr::Pushtv(R0), "pushtv r0"),
-        (Instr::Flushts, "flushts"),
-        (Instr::Ldtaa(NUMBER, R1), "ldtaa n0, r1"),
-        (Instr::Sttaa(TEXT, R2), "sttaa t3, r2"),
-        (Instr::Call(Function::Strjoin, R1), "call strjoin, r1"),
-        (Instr::Ret(R0), "ret r0"),
-        (Instr::Nop, "nop"),
+        (Alu(Operator::Add, R1, R2, R3), "add r1, r2, r3"),
+        (Alu(Operator::Srem, R1, R0, R2), "srem r1, r0, r2"),
+        (Not(R1, R2), "not r1, r2"),
+        (Mov(R1, R2), "mov r1, r2"),
+        (Cmp(R1, R0), "cmp r1, r0"),
+        (Tst(R1), "tst r1"),
+        (Scmp(R1, R2), "scmp r1, r2"),
+        (Ba(5), "ba 5"),
+        (Branch(Condition::BelowEqual, 12), "bleu 12"),
+        (Setx(0, R1), "setx 0, r1"),
+        (Sets(3, R2), "sets 3, r2"),
+        (Ldgs(4, R1), "ldgs 4, r1"),
+        (Ldga(0, R1, R2), "ldga 0, r1, r2"),
+        (Ldts(NUMBER, R1), "ldts n0, r1"),
+        (Stts(TEXT, R1), "stts t3, r1"),
+        (Ldls(TEXT, R1), "ldls t3, r1"),
+        (Stls(NUMBER, R1), "stls n0, r1"),
+        (Pushtr(R1), "pushtr r1"),
+        (Pushtv(R0), "pushtv r0"),
+        (Flushts, "flushts"),
+        (Ldtaa(NUMBER, R1), "ldtaa n0, r1"),
+        (Sttaa(TEXT, R2), "sttaa t3, r2"),
+        (Call(Function::Strjoin, R1), "call strjoin, r1"),
+        (Ret(R0), "ret r0"),
+        (Nop, "nop"),
     ];
     for i in 0..rows.len() {
         let (instr, text) = rows[i];

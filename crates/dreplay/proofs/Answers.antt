@@ -1,5 +1,5 @@
 -- A script and a trace have one answer.
-use Rattle.std.proofs.Common.{◌≡◌, ◌<◌, ◌≤◌, ⊎_elim, ℕ, true, false, List, length, refl, sym, ap, ◌∙◌, subst, arith}
+use Rattle.std.proofs.Common.{◌≡◌, ◌<◌, ◌≤◌, ⊎_elim, ℕ, List, length, refl, sym, ap, ◌∙◌, subst, arith}
 use Rattle.std.specs.Prelude.{Result, Ok, Err}
 use Rattle.d_lexer.specs.declared.fault.LexFault.{LexFault}
 use Rattle.d_lexer.specs.declared.fault.LexFault.TheVariants as lex
@@ -8,12 +8,12 @@ use Rattle.d_lexer.specs.Lexing.{IsFirstFault, IsLexed, IsRefused}
 use Rattle.d_lexer.proofs.Public as lexer
 use Rattle.d_parser.specs.declared.fault.ParseFault.{ParseFault}
 use Rattle.d_parser.specs.declared.fault.ParseFault.TheVariants as parse
-use Rattle.d_parser.specs.Limits.{clauses, is_deep}
+use Rattle.d_parser.specs.Limits.{IsDeep, clauses}
 use Rattle.d_parser.specs.Script.{IsScript}
 use Rattle.d_parser.specs.Tree.{ItemTree}
 use Rattle.d_parser.proofs.CompleteScripts.{one_script}
 use Rattle.d_types.specs.declared.fault.TypeFault.{TypeFault}
-use Rattle.d_types.specs.Faults.{Fault}
+use Rattle.d_types.specs.Faults.{Fault, fault_of}
 use Rattle.d_types.specs.Scripts as typing
 use Rattle.d_types.specs.Typed.{ScriptMeant}
 use Rattle.d_types.specs.WellTyped.{IsWell}
@@ -21,9 +21,9 @@ use Rattle.d_types.proofs.CompleteScripts.{script_complete}
 use Rattle.d_types.proofs.OneMeaning.{one_well}
 use Rattle.report.proofs.Unique.{one_output}
 use Rattle.dreplay.specs.declared.refusal.Refusal.{Refusal}
-use Rattle.dreplay.specs.declared.refusal.Refusal.TheVariants.{Lex, Parse, Typing, Trace, Memory}
+use Rattle.dreplay.specs.declared.refusal.Refusal.TheVariants.{Lex, Parse, Typing, Trace, Group, Memory}
 use Rattle.dreplay.specs.Answer.{IsAnswer, IsSameAnswer, IsShown, Shown}
-use Rattle.dreplay.specs.Scripts.{HasTree, IsAccepted, IsMistyped, IsParseFault, IsUnread, told}
+use Rattle.dreplay.specs.Scripts.{HasTree, IsAccepted, IsMistyped, IsParseFault, IsUnread}
 
 -- ---- one tree
 
@@ -56,9 +56,7 @@ tree_not_refused : (script : List ℕ) (xs : List ItemTree) (e : Refusal) → Ha
 tree_not_refused script xs (Lex f) a r = lexed_not_refused script a.tokens f a.has.lexed r
 tree_not_refused script xs (Parse parse.TooDeep) a r =
     let tokens = same_tokens script r.0 a.tokens r.1 a.has.lexed in
-    let deep : is_deep 0 0 a.tokens ≡ true = subst (λ ts. is_deep 0 0 ts ≡ true) tokens r.2 in
-    let shallow = a.has.shallow in
-    cc
+    a.has.shallow (subst IsDeep tokens r.2)
 tree_not_refused script xs (Parse parse.TooManyClauses) a r =
     let tokens = same_tokens script r.0 a.tokens r.1 a.has.lexed in
     let many : 256 < clauses a.tokens = subst (λ ts. 256 < clauses ts) tokens r.3 in
@@ -70,6 +68,7 @@ tree_not_refused script xs (Parse (parse.Syntax line)) a r =
 tree_not_refused script xs (Parse parse.Memory) a r = r
 tree_not_refused script xs (Typing f) a r = r
 tree_not_refused script xs (Trace f) a r = r
+tree_not_refused script xs (Group f) a r = r
 tree_not_refused script xs Memory a r = r
 
 -- ---- one fault of the parser, but for the line
@@ -80,11 +79,8 @@ lexed_in script parse.TooManyClauses r = (r.0, r.1)
 lexed_in script (parse.Syntax line) r = (r.0, r.1.lexed)
 lexed_in script parse.Memory r = absurd r
 
-deep_alone : (script : List ℕ) (ts us : List Token) → IsLexed script ts → IsLexed script us → is_deep 0 0 ts ≡ true → is_deep 0 0 us ≡ false → ⊥
-deep_alone script ts us a b deep flat =
-    let tokens = same_tokens script ts us a b in
-    let both : is_deep 0 0 us ≡ true = subst (λ l. is_deep 0 0 l ≡ true) tokens deep in
-    cc
+deep_alone : (script : List ℕ) (ts us : List Token) → IsLexed script ts → IsLexed script us → IsDeep ts → ¬ IsDeep us → ⊥
+deep_alone script ts us a b deep shallow = shallow (subst IsDeep (same_tokens script ts us a b) deep)
 
 many_alone : (script : List ℕ) (ts us : List Token) → IsLexed script ts → IsLexed script us → 256 < clauses ts → clauses us ≤ 256 → ⊥
 many_alone script ts us a b many few =
@@ -122,7 +118,7 @@ same_type_fault script f g a b =
     let one = a.refused in
     let two : typing.script a.items ≡ Err b.first = subst (λ all. typing.script all ≡ Err b.first) (same_tree script b.items a.items b.tree a.tree) b.refused in
     let first : a.first ≡ b.first = cc in
-    a.is ∙ ap (λ (e : Fault). told e.cause e.line) first ∙ sym b.is
+    a.is ∙ ap fault_of first ∙ sym b.is
 
 abbrev IsScriptRefusal : Refusal → Type 0
 IsScriptRefusal (Lex f) = Unit {0}
@@ -136,6 +132,7 @@ accepted_not_refused script trace m (Lex f) a own r = tree_not_refused script a.
 accepted_not_refused script trace m (Parse f) a own r = tree_not_refused script a.items (Parse f) a.tree r
 accepted_not_refused script trace m (Typing f) a own r = accepted_not_mistyped script m f a r
 accepted_not_refused script trace m (Trace f) a own r = own
+accepted_not_refused script trace m (Group f) a own r = own
 accepted_not_refused script trace m Memory a own r = own
 
 -- ---- one run
@@ -162,24 +159,28 @@ one_answer script trace (Ok x) (Err (Lex f)) o p = absurd (accepted_not_refused 
 one_answer script trace (Ok x) (Err (Parse f)) o p = absurd (accepted_not_refused script trace o.0 (Parse f) o.2.accepted tt p)
 one_answer script trace (Ok x) (Err (Typing f)) o p = absurd (accepted_not_refused script trace o.0 (Typing f) o.2.accepted tt p)
 one_answer script trace (Ok x) (Err (Trace g)) o p = let read = o.2.reads in let refused = p.1 in cc
+one_answer script trace (Ok x) (Err (Group g)) o p = absurd p
 one_answer script trace (Ok x) (Err Memory) o p = absurd p
 one_answer script trace (Err (Lex f)) (Ok y) o p = absurd (accepted_not_refused script trace p.0 (Lex f) p.2.accepted tt o)
 one_answer script trace (Err (Lex f)) (Err (Lex g)) o p = lex_is f g (same_lex_fault script f g o p)
 one_answer script trace (Err (Lex f)) (Err (Parse g)) o p = let l = lexed_in script g p in absurd (lexed_not_refused script l.0 f l.1 o)
 one_answer script trace (Err (Lex f)) (Err (Typing g)) o p = absurd (tree_not_refused script p.items (Lex f) p.tree o)
 one_answer script trace (Err (Lex f)) (Err (Trace g)) o p = absurd (accepted_not_refused script trace p.0.0 (Lex f) p.0.1 tt o)
+one_answer script trace (Err (Lex f)) (Err (Group g)) o p = absurd p
 one_answer script trace (Err (Lex f)) (Err Memory) o p = absurd p
 one_answer script trace (Err (Parse f)) (Ok y) o p = absurd (accepted_not_refused script trace p.0 (Parse f) p.2.accepted tt o)
 one_answer script trace (Err (Parse f)) (Err (Lex g)) o p = let l = lexed_in script f o in absurd (lexed_not_refused script l.0 g l.1 p)
 one_answer script trace (Err (Parse f)) (Err (Parse g)) o p = same_parse_fault script f g o p
 one_answer script trace (Err (Parse f)) (Err (Typing g)) o p = absurd (tree_not_refused script p.items (Parse f) p.tree o)
 one_answer script trace (Err (Parse f)) (Err (Trace g)) o p = absurd (accepted_not_refused script trace p.0.0 (Parse f) p.0.1 tt o)
+one_answer script trace (Err (Parse f)) (Err (Group g)) o p = absurd p
 one_answer script trace (Err (Parse f)) (Err Memory) o p = absurd p
 one_answer script trace (Err (Typing f)) (Ok y) o p = absurd (accepted_not_refused script trace p.0 (Typing f) p.2.accepted tt o)
 one_answer script trace (Err (Typing f)) (Err (Lex g)) o p = absurd (tree_not_refused script o.items (Lex g) o.tree p)
 one_answer script trace (Err (Typing f)) (Err (Parse g)) o p = absurd (tree_not_refused script o.items (Parse g) o.tree p)
 one_answer script trace (Err (Typing f)) (Err (Typing g)) o p = ap Typing (same_type_fault script f g o p)
 one_answer script trace (Err (Typing f)) (Err (Trace g)) o p = absurd (accepted_not_refused script trace p.0.0 (Typing f) p.0.1 tt o)
+one_answer script trace (Err (Typing f)) (Err (Group g)) o p = absurd p
 one_answer script trace (Err (Typing f)) (Err Memory) o p = absurd p
 one_answer script trace (Err (Trace f)) (Ok y) o p = let refused = o.1 in let read = p.2.reads in cc
 one_answer script trace (Err (Trace f)) (Err (Lex g)) o p = absurd (accepted_not_refused script trace o.0.0 (Lex g) o.0.1 tt p)
@@ -190,5 +191,7 @@ one_answer script trace (Err (Trace f)) (Err (Trace g)) o p =
     let refused' = p.1 in
     let same : f ≡ g = cc in
     ap Trace same
+one_answer script trace (Err (Trace f)) (Err (Group g)) o p = absurd p
 one_answer script trace (Err (Trace f)) (Err Memory) o p = absurd p
+one_answer script trace (Err (Group f)) b o p = absurd o
 one_answer script trace (Err Memory) b o p = absurd o

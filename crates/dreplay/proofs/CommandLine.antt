@@ -1,12 +1,13 @@
-use Rattle.std.proofs.Common.{◌≡◌, ◌∙◌, ◌∷◌, ◌++◌, ◌≢◌, ◌==◌, refl, true, false, ap, subst, sym, codes, List, [], ℕ, Option, Some, None, Bool, rules}
-use Rattle.clap.specs.Words.{App, first_value, found_of, is_simple, is_simple_and_free, HasMatchesOf, fault_of, kind_of, takes}
+use Rattle.std.proofs.Common.{◌≡◌, ◌∙◌, ◌∷◌, ◌++◌, ◌≢◌, ◌==◌, refl, true, false, ap, subst, sym, codes, List, [], ℕ, Option, Some, None, Bool, rules, inr}
+use Rattle.clap.specs.Words.{App, Row, found_of, is_simple, is_simple_and_free, HasMatchesOf, fault_of, kind_of, matches_of, rows_of, takes}
 use Rattle.clap.specs.declared.error.Error.{Error}
 use Rattle.clap.specs.declared.parser.matches.ArgMatches.{ArgMatches}
 use Rattle.clap.specs.declared.error.kind.ErrorKind.TheVariants.{DisplayHelp, InvalidValue, OutOfMemory, UnknownArgument}
 use Rattle.clap.specs.declared.error.kind.ErrorKind.{ErrorKind}
 use Rattle.clap.proofs.OnLiterals.{clap_on_literals}
-use Rattle.clap.proofs.WalkLemmas.{first_value-rows}
-use Rattle.dreplay.specs.Words.{AsksHelp, IsOption, IsToldAs, Mistakes, Runs, file_in, program}
+use Rattle.dreplay.specs.Words.{Asks, AsksHelp, HasPlan, IsAskedIn, IsFaultOf, IsOption, IsPlanFault, IsPlanIn, IsToldAs, Mistakes, Runs, file_in, program}
+use Rattle.std.specs.Prelude.{IfErr, MatchResult, Result, Ok, Err}
+use Rattle.dreplay.specs.declared.words.Asked.{Asked}
 use Rattle.dreplay.specs.declared.words.UsageFault.{UsageFault}
 use Rattle.dreplay.specs.declared.words.UsageFault.TheVariants.{Help, Usage, Memory}
 
@@ -18,18 +19,36 @@ pub is_free_program : is_simple_and_free program ≡ true
 unfolding clap_on_literals
 is_free_program = refl
 
--- the matches of a command that is the program have the file of the words
-pub file_matched : (a : App) (words : List (List ℕ)) (m : ArgMatches) → a ≡ program → HasMatchesOf a words m
-    → first_value (found_of m) (codes "script") ≡ file_in words
-file_matched a words m same has =
+-- the rows of a command that is the program
+pub rows_matched : (a : App) (words : List (List ℕ)) (m : ArgMatches) → a ≡ program → HasMatchesOf a words m
+    → rows_of (found_of m) ≡ matches_of program words
+rows_matched a words m same has =
     let rows = has (ap is_simple same ∙ is_simple_program) in
-    rw (first_value-rows (found_of m) (codes "script"), rows.0, same) refl
+    rw (rows.0, same) refl
 
 -- and no fault is found
 pub no_fault : (a : App) (words : List (List ℕ)) → a ≡ program → (is_simple_and_free a ≡ true → fault_of a words ≡ [])
     → fault_of program words ≡ []
 no_fault a words same free =
     subst (λ (x : App). fault_of x words ≡ []) same (free (ap is_simple_and_free same ∙ is_free_program))
+
+-- what is asked in the matches is asked by the words
+pub asked : (rows : List Row) (words : List (List ℕ)) (r : Result Asked UsageFault) → fault_of program words ≡ []
+    → rows ≡ matches_of program words → MatchResult r (IsAskedIn rows) (IsPlanFault rows) → MatchResult r (Asks words) (IsFaultOf words)
+asked rows words (Ok x) none same named = record { accepted = none; named = subst (λ r. IsAskedIn r x) same named }
+asked rows words (Err (Help e)) none same fault = absurd fault
+asked rows words (Err (Usage e)) none same fault =
+    (fault.0, fault.1, inr (λ has. fault.2 has.0 (subst (λ r. IsPlanIn r has.0) (sym same) has.1)))
+asked rows words (Err Memory) none same fault = tt
+
+-- where they name a plan, only memory can be wanting
+pub asked_or_memory : (rows : List Row) (words : List (List ℕ)) (r : Result Asked UsageFault) → rows ≡ matches_of program words
+    → MatchResult r (IsAskedIn rows) (IsPlanFault rows) → HasPlan words → IfErr r (λ e. e ≡ Memory)
+asked_or_memory rows words (Ok x) same named has = tt
+asked_or_memory rows words (Err (Help e)) same fault has = absurd fault
+asked_or_memory rows words (Err (Usage e)) same fault has =
+    absurd (fault.2 has.0 (subst (λ r. IsPlanIn r has.0) (sym same) has.1))
+asked_or_memory rows words (Err Memory) same fault has = refl
 
 -- where clap promises that only memory can fail, the fault is told as Memory
 pub only_memory : (a : App) (words : List (List ℕ)) (error : Error) (fault : UsageFault) → a ≡ program → IsToldAs error fault
@@ -42,21 +61,21 @@ only_memory a words error fault same told promise taken =
     told_so error (Usage e) told memory = absurd (told.2 memory)
     told_so error Memory told memory = refl
 
-bundle_runs : (fault_of program [] ≡ []) × (file_in [] ≡ None)
+bundle_runs : (fault_of program [] ≡ []) × (file_in (matches_of program []) ≡ None)
 unfolding clap_on_literals
 bundle_runs = (refl, refl)
 
 -- of a file whose first byte is no hyphen
 plain_runs : (b : ℕ) (rest : List ℕ) → (b == 45) ≡ false
-    → (fault_of program (codes "-s" ∷ (b ∷ rest) ∷ []) ≡ []) × (file_in (codes "-s" ∷ (b ∷ rest) ∷ []) ≡ Some (b ∷ rest))
+    → (fault_of program (codes "-s" ∷ (b ∷ rest) ∷ []) ≡ []) × (file_in (matches_of program (codes "-s" ∷ (b ∷ rest) ∷ [])) ≡ Some (b ∷ rest))
 unfolding clap_on_literals
 plain_runs b rest other = (rw (other, other) refl, rw (other, other) refl)
 
-empty_runs : (fault_of program (codes "-s" ∷ [] ∷ []) ≡ []) × (file_in (codes "-s" ∷ [] ∷ []) ≡ Some [])
+empty_runs : (fault_of program (codes "-s" ∷ [] ∷ []) ≡ []) × (file_in (matches_of program (codes "-s" ∷ [] ∷ [])) ≡ Some [])
 unfolding clap_on_literals
 empty_runs = (refl, refl)
 
-hyphen_runs : (fault_of program (codes "-s" ∷ (45 ∷ []) ∷ []) ≡ []) × (file_in (codes "-s" ∷ (45 ∷ []) ∷ []) ≡ Some (45 ∷ []))
+hyphen_runs : (fault_of program (codes "-s" ∷ (45 ∷ []) ∷ []) ≡ []) × (file_in (matches_of program (codes "-s" ∷ (45 ∷ []) ∷ [])) ≡ Some (45 ∷ []))
 unfolding clap_on_literals
 hyphen_runs = (refl, refl)
 
@@ -67,7 +86,7 @@ help_asked _ AsksHelp.long = refl
 
 -- of a name behind -s in one word, but with an equals sign
 joined_runs : (b : ℕ) (rest : List ℕ) → (b == 61) ≡ false
-    → (fault_of program ((codes "-s" ++ b ∷ rest) ∷ []) ≡ []) × (file_in ((codes "-s" ++ b ∷ rest) ∷ []) ≡ Some (b ∷ rest))
+    → (fault_of program ((codes "-s" ++ b ∷ rest) ∷ []) ≡ []) × (file_in (matches_of program ((codes "-s" ++ b ∷ rest) ∷ [])) ≡ Some (b ∷ rest))
 unfolding clap_on_literals
 joined_runs b rest other = (rw other refl, rw other refl)
 
@@ -100,18 +119,18 @@ mistaken _ _ (Mistakes.stray (b ∷ rest) plain) = first_byte b rest plain (b ==
 
 -- of a file whose first byte is known to be a hyphen, or not
 script_runs : (b : ℕ) (rest : List ℕ) → ¬ IsOption (b ∷ rest) → (t : Bool) → (b == 45) ≡ t
-    → (fault_of program (codes "-s" ∷ (b ∷ rest) ∷ []) ≡ []) × (file_in (codes "-s" ∷ (b ∷ rest) ∷ []) ≡ Some (b ∷ rest))
+    → (fault_of program (codes "-s" ∷ (b ∷ rest) ∷ []) ≡ []) × (file_in (matches_of program (codes "-s" ∷ (b ∷ rest) ∷ [])) ≡ Some (b ∷ rest))
 script_runs b rest plain false other = plain_runs b rest other
 script_runs b [] plain true same = let e : b ≡ 45 = search rules in rw e hyphen_runs
 script_runs b (x ∷ rest) plain true same = absurd (plain (x, rest, ap (λ n. n ∷ x ∷ rest) (search rules)))
 
 name_runs : (b : ℕ) (rest : List ℕ) → b ≢ 61 → (t : Bool) → (b == 61) ≡ t
-    → (fault_of program ((codes "-s" ++ b ∷ rest) ∷ []) ≡ []) × (file_in ((codes "-s" ++ b ∷ rest) ∷ []) ≡ Some (b ∷ rest))
+    → (fault_of program ((codes "-s" ++ b ∷ rest) ∷ []) ≡ []) × (file_in (matches_of program ((codes "-s" ++ b ∷ rest) ∷ [])) ≡ Some (b ∷ rest))
 name_runs b rest other false differs = joined_runs b rest differs
 name_runs b rest other true same = absurd (other (search rules))
 
 pub runs : (words : List (List ℕ)) (file : Option (List ℕ)) → Runs words file
-    → (fault_of program words ≡ []) × (file_in words ≡ file)
+    → (fault_of program words ≡ []) × (file_in (matches_of program words) ≡ file)
 runs _ _ Runs.bundle = bundle_runs
 runs _ _ (Runs.script [] plain) = empty_runs
 runs _ _ (Runs.script (b ∷ rest) plain) = script_runs b rest plain (b == 45) refl

@@ -11,26 +11,27 @@ use Rattle.d_lexer.specs.declared.token.Token.{Token}
 use Rattle.d_lexer.specs.Lexing.{AreTokens, IsFirstFault, IsLexed}
 use Rattle.d_lexer.proofs.Public as lexer
 use Rattle.d_parser.specs.declared.fault.ParseFault.TheVariants as parse
-use Rattle.d_parser.specs.Limits.{clauses, is_deep}
+use Rattle.d_parser.specs.Depth.{is_deep}
+use Rattle.d_parser.specs.Limits.{clauses}
 use Rattle.d_parser.specs.ReadingScripts as reading
 use Rattle.d_parser.specs.Script.{IsScript}
 use Rattle.d_parser.specs.Tree.{ItemTree}
 use Rattle.d_parser.proofs.CompleteScripts as complete
+use Rattle.d_parser.proofs.Deep.{deep_is, not_deep}
 use Rattle.d_parser.proofs.Sound.{IfSome}
 use Rattle.d_parser.proofs.SoundScripts as sound
-use Rattle.d_types.specs.Faults.{Fault}
+use Rattle.d_types.specs.Faults.{Fault, fault_of}
 use Rattle.d_types.specs.Scripts as typing
-use Rattle.d_types.specs.Typed.{ScriptMeant}
+use Rattle.d_types.specs.Typed.{ScriptMeant, functions_in}
 use Rattle.d_types.proofs.Fitting.{script_fits}
 use Rattle.d_types.proofs.SoundScripts as types
 use Rattle.replay_core.specs.Exit.{exit_status, history_over}
 use Rattle.replay_core.specs.Meaning.{contributions_of, texts_of}
-use Rattle.replay_core.specs.Scripts.{functions_in}
 use Rattle.report.proofs.Outputs.{output_exists}
 use Rattle.dreplay.specs.declared.refusal.Refusal.{Refusal}
 use Rattle.dreplay.specs.declared.refusal.Refusal.TheVariants.{Lex, Parse, Typing, Trace}
 use Rattle.dreplay.specs.Answer.{IsAnswer, Shown}
-use Rattle.dreplay.specs.Scripts.{HasTokens, HasTree, IsAccepted, told}
+use Rattle.dreplay.specs.Scripts.{HasTokens, HasTree, IsAccepted}
 
 abbrev HasAnswer : (script trace : List ℕ) → Type 0
 HasAnswer script trace = (a : Result Shown Refusal) × IsAnswer script trace a
@@ -47,7 +48,7 @@ module _ (script trace : List ℕ) where
   of_tree items tree (Ok m) e =
       over_trace m (record { items = items; tree = tree; well = types.script_sound items m e; fits = script_fits items m e }) (trace_of trace) refl
   of_tree items tree (Err first) e =
-      (Err (Typing (told first.cause first.line)), record { items = items; tree = tree; first = first; refused = e; is = refl })
+      (Err (Typing (fault_of first)), record { items = items; tree = tree; first = first; refused = e; is = refl })
 
   read : (tokens : List Token) → HasTokens script tokens → (r : Option (List ItemTree)) → reading.script tokens ≡ r → HasAnswer script trace
   read tokens has None e =
@@ -57,10 +58,10 @@ module _ (script trace : List ℕ) where
       of_tree items (record { tokens = tokens; has = has; spelled = spelled }) (typing.script items) refl
 
   of_tokens : (tokens : List Token) → IsLexed script tokens → (deep : Bool) → is_deep 0 0 tokens ≡ deep → HasAnswer script trace
-  of_tokens tokens lexed true e = (Err (Parse parse.TooDeep), (tokens, lexed, e))
+  of_tokens tokens lexed true e = (Err (Parse parse.TooDeep), (tokens, lexed, deep_is tokens e))
   of_tokens tokens lexed false e = ⊎_elim
-      (λ (many : 256 < clauses tokens). (Err (Parse parse.TooManyClauses), (tokens, lexed, e, many)))
-      (λ (few : clauses tokens ≤ 256). read tokens (record { lexed = lexed; shallow = e; few = few }) (reading.script tokens) refl)
+      (λ (many : 256 < clauses tokens). (Err (Parse parse.TooManyClauses), (tokens, lexed, not_deep tokens e, many)))
+      (λ (few : clauses tokens ≤ 256). read tokens (record { lexed = lexed; shallow = not_deep tokens e; few = few }) (reading.script tokens) refl)
       (cases_lt 256 (clauses tokens))
 
   of_bytes : length script ≤ 65536 → HasAnswer script trace

@@ -3,6 +3,7 @@ pub mod CommandLine
 pub mod Dividing
 pub mod Divisions
 pub mod HasAnswer
+pub mod Options
 pub mod Refusing
-pub mod Serial
+pub mod Trees
 pub mod Unread

@@ -4,13 +4,12 @@ use Rattle.firing_reader.specs.declared.firing.Firing.{Firing}
 use Rattle.firing_reader.specs.Trace.{trace_of}
 use Rattle.d_lexer.specs.Lexing.{IsRefused}
 use Rattle.d_parser.specs.declared.fault.ParseFault.TheVariants.{Syntax}
-use Rattle.d_types.specs.Typed.{ScriptMeant}
+use Rattle.d_types.specs.Typed.{ScriptMeant, functions_in}
 use Rattle.replay_core.specs.Exit.{exit_status, history_over}
 use Rattle.replay_core.specs.Meaning.{contributions_of, texts_of}
-use Rattle.replay_core.specs.Scripts.{functions_in}
 use Rattle.report.specs.Output.{IsOutput}
 use Rattle.dreplay.specs.declared.refusal.Refusal.{Refusal}
-use Rattle.dreplay.specs.declared.refusal.Refusal.TheVariants.{Lex, Parse, Typing, Trace, Memory}
+use Rattle.dreplay.specs.declared.refusal.Refusal.TheVariants.{Lex, Parse, Typing, Trace, Group, Memory}
 use Rattle.dreplay.specs.Scripts.{IsAccepted, IsMistyped, IsParseFault}
 
 -- the script means this, and the trace has these firings
@@ -36,6 +35,7 @@ IsAnswer script trace (Err (Lex fault)) = IsRefused script fault
 IsAnswer script trace (Err (Parse fault)) = IsParseFault script fault
 IsAnswer script trace (Err (Typing fault)) = IsMistyped script fault
 IsAnswer script trace (Err (Trace fault)) = ((m : ScriptMeant) × IsAccepted script m) × (trace_of trace ≡ Err fault)
+IsAnswer script trace (Err (Group fault)) = ⊥
 IsAnswer script trace (Err Memory) = ⊥
 
 -- the refusal without the line of Syntax, which is no part of the answer

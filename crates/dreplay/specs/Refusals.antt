@@ -1,5 +1,6 @@
 -- What the program says of a refusal, and how it ends.
-use Rattle.std.specs.Prelude.{◌≡◌, ◌⊎◌, ℕ, List, [], ◌++◌, Result, Ok, Err, IsErr, codes, decimal}
+use Rattle.std.specs.Prelude.{◌≡◌, ◌⊎◌, ℕ, ℤ, List, [], ◌++◌, Result, Ok, Err, IsErr, codes, decimal}
+use Rattle.std.specs.Fmt.{signed_decimal}
 use Rattle.d_lexer.specs.declared.fault.LexFault.{LexFault}
 use Rattle.d_lexer.specs.declared.fault.LexFault.TheVariants as lex
 use Rattle.d_parser.specs.declared.fault.ParseFault.{ParseFault}
@@ -8,11 +9,13 @@ use Rattle.d_types.specs.declared.fault.TypeFault.{TypeFault}
 use Rattle.d_types.specs.declared.fault.TypeFault.TheVariants as types
 use Rattle.firing_reader.specs.declared.fault.TraceFault.{TraceFault}
 use Rattle.firing_reader.specs.declared.fault.TraceFault.TheVariants as trace
+use Rattle.shard_queue.specs.declared.fault.GroupFault.{GroupFault}
+use Rattle.shard_queue.specs.declared.fault.GroupFault.TheVariants as group
 use Rattle.dreplay.specs.declared.consuming.ConsumeFault.{ConsumeFault}
 use Rattle.dreplay.specs.declared.consuming.ConsumeFault.TheVariants.{Read, Refused, Write}
 use Rattle.dreplay.specs.declared.plan.Replayed.{Replayed}
 use Rattle.dreplay.specs.declared.refusal.Refusal.{Refusal}
-use Rattle.dreplay.specs.declared.refusal.Refusal.TheVariants.{Lex, Parse, Typing, Trace, Memory}
+use Rattle.dreplay.specs.declared.refusal.Refusal.TheVariants.{Lex, Parse, Typing, Trace, Group, Memory}
 
 -- want of memory is one thing, whichever part it was in
 abbrev pub plain : Refusal → Refusal
@@ -20,6 +23,7 @@ plain (Lex lex.Memory) = Memory
 plain (Parse parse.Memory) = Memory
 plain (Typing types.Memory) = Memory
 plain (Trace trace.Memory) = Memory
+plain (Group group.Memory) = Memory
 plain e = e
 
 -- ---- the program's line
@@ -71,12 +75,23 @@ trace_parts (trace.Reserved row) = codes "6" ++ row_part row
 trace_parts trace.TooMany = codes "7"
 trace_parts trace.Memory = []
 
+abbrev pub thread_part : ℤ → List ℕ
+thread_part thread = codes " thread " ++ signed_decimal thread
+
+abbrev pub group_parts : GroupFault → List ℕ
+group_parts (group.Missing thread) = codes "1" ++ thread_part thread
+group_parts (group.Doubled thread) = codes "2" ++ thread_part thread
+group_parts (group.Stranger thread) = codes "3" ++ thread_part thread
+group_parts group.TooMany = codes "4"
+group_parts group.Memory = []
+
 -- why there is no answer, of a plain refusal
 abbrev pub reason_of : Refusal → List ℕ
 reason_of (Lex f) = codes "script refused: Lex " ++ lex_parts f
 reason_of (Parse f) = codes "script refused: Parse " ++ parse_parts f
 reason_of (Typing f) = codes "script refused: Type " ++ type_parts f
 reason_of (Trace f) = codes "trace refused: Trace " ++ trace_parts f
+reason_of (Group f) = codes "groups refused: Group " ++ group_parts f
 reason_of Memory = codes "out of memory"
 
 abbrev pub line_of : Refusal → List ℕ
@@ -96,6 +111,7 @@ reason_status (Lex f) = 3
 reason_status (Parse f) = 3
 reason_status (Typing f) = 3
 reason_status (Trace f) = 4
+reason_status (Group f) = 4
 
 abbrev pub status_of : Refusal → ℕ
 status_of e = reason_status (plain e)

@@ -1,33 +1,48 @@
 -- What replay answers, under any plan.
-use Rattle.std.specs.Prelude.{◌≡◌, ℕ, List, Result, Ok, Err, length, map}
+use Rattle.std.specs.Prelude.{◌≡◌, ℕ, List, Result, Ok, Err, map, vec_len}
 use Rattle.std.specs.List.{flat_map}
 use Rattle.firing_reader.specs.declared.firing.Firing.{Firing}
 use Rattle.d_types.specs.Typed.{ScriptMeant}
 use Rattle.replay_core.specs.Exit.{firings_over}
 use Rattle.replay_core.specs.Groups.{Grouping, IsAllBelow, numbers_by_group}
+use Rattle.replay_core.specs.Pieces.{IsWholeOf}
+use Rattle.replay_core.specs.Seen.{whole_seen}
+use Rattle.replay_core.specs.declared.workers.Ran.{Ran}
 use Rattle.dreplay.specs.declared.plan.Plan.{Plan}
 use Rattle.dreplay.specs.declared.plan.Replayed.{Replayed}
 use Rattle.dreplay.specs.declared.refusal.Refusal.{Refusal}
-use Rattle.dreplay.specs.declared.refusal.Refusal.TheVariants.{Memory}
+use Rattle.dreplay.specs.declared.refusal.Refusal.TheVariants.{Group, Memory}
 use Rattle.dreplay.specs.Answer.{IsAnswer, IsShown, Means, Shown}
-use Rattle.dreplay.specs.Plans.{IsGroupedBy}
-
--- the plan's groups, and what was run in them by whom
-pub record RanBy (m : ScriptMeant) (firings : List Firing) (plan : Plan) (r : Replayed) : Type 0 where
-  pub grouping : Grouping
-  pub grouped : IsGroupedBy plan.groups firings grouping
-  -- each firing that counts once, in its thread's group
-  pub ran : map (λ v. v.items) r.ran.items ≡ numbers_by_group grouping (firings_over m firings)
-  -- each group once, by some worker
-  pub workers : length r.by_worker.items ≡ plan.workers
-  pub took : IsAllBelow grouping.count (flat_map (λ v. v.items) r.by_worker.items)
+use Rattle.dreplay.specs.Plans.{IsGroupedBy, IsMisgrouped}
 
 abbrev pub shown_in : Replayed → Shown
 shown_in r = record { bytes = r.bytes.items; status = r.status }
 
--- the answer, with what ran in which group by whom; or memory ran out
+-- a run of the script over these firings by so many workers: each group was taken by one of them
+pub record IsRunBy (m : ScriptMeant) (firings : List Firing) (grouping : Grouping) (workers : ℕ)
+    (ran : Ran) : Type 0 where
+  pub whole : IsWholeOf m (firings_over m firings) grouping (whole_seen ran.whole)
+  pub lists : vec_len ran.by_worker ≡ workers
+  pub took : IsAllBelow grouping.count (flat_map (λ list. list.items) ran.by_worker.items)
+
+-- what it shows, and what ran in which group
+pub record IsShownOf (m : ScriptMeant) (firings : List Firing) (grouping : Grouping) (workers : ℕ)
+    (r : Replayed) : Type 0 where
+  pub shown : IsShown m firings (shown_in r)
+  -- each firing that counts once, in its thread's group
+  pub ran : map (λ v. v.items) r.ran.items ≡ numbers_by_group grouping (firings_over m firings)
+  -- each group once, by some worker
+  pub lists : vec_len r.by_worker ≡ workers
+  pub took : IsAllBelow grouping.count (flat_map (λ list. list.items) r.by_worker.items)
+
+-- the answer, with what ran in which group by whom; the first reason for which there is none; or memory ran out
 abbrev pub IsReplay : (script trace : List ℕ) → Plan → Result Replayed Refusal → Type 0
 IsReplay script trace plan (Ok r) =
-    (m : ScriptMeant) × (firings : List Firing) × Means script trace m firings × IsShown m firings (shown_in r) × RanBy m firings plan r
+    (m : ScriptMeant) × (firings : List Firing) × (grouping : Grouping)
+    × Means script trace m firings × IsGroupedBy plan.groups firings grouping
+    × IsShownOf m firings grouping plan.workers r
+IsReplay script trace plan (Err (Group fault)) =
+    (m : ScriptMeant) × (firings : List Firing) × Means script trace m firings
+    × IsMisgrouped plan.groups firings fault
 IsReplay script trace plan (Err Memory) = Unit {0}
 IsReplay script trace plan (Err e) = IsAnswer script trace (Err e)

@@ -1,16 +1,15 @@
 -- From the bytes of a script to its tree and its types, or why it has none.
-use Rattle.std.specs.Prelude.{◌≡◌, ◌≤◌, ◌<◌, ℕ, true, false, List, Err}
+use Rattle.std.specs.Prelude.{◌≡◌, ◌≤◌, ◌<◌, ℕ, List, Err}
 use Rattle.d_lexer.specs.declared.token.Token.{Token}
 use Rattle.d_lexer.specs.Lexing.{IsLexed, IsRefused}
 use Rattle.d_parser.specs.declared.fault.ParseFault.{ParseFault}
 use Rattle.d_parser.specs.declared.fault.ParseFault.TheVariants as fault
-use Rattle.d_parser.specs.Limits.{is_deep, clauses}
+use Rattle.d_parser.specs.declared.fault.TheConstants.{MOST_CLAUSES}
+use Rattle.d_parser.specs.Limits.{IsDeep, clauses}
 use Rattle.d_parser.specs.Tree.{ItemTree}
 use Rattle.d_parser.specs.Script.{IsScript}
 use Rattle.d_types.specs.declared.fault.TypeFault.{TypeFault}
-use Rattle.d_types.specs.declared.fault.TypeFault.TheVariants as types
-use Rattle.d_types.specs.Faults as cause
-use Rattle.d_types.specs.Faults.{Cause, Fault}
+use Rattle.d_types.specs.Faults.{Fault, fault_of}
 use Rattle.d_types.specs.Fitting.{ScriptFits}
 use Rattle.d_types.specs.Scripts as typing
 use Rattle.d_types.specs.Typed.{ScriptMeant}
@@ -21,8 +20,8 @@ use Rattle.dreplay.specs.declared.refusal.Refusal.TheVariants.{Lex, Parse}
 -- these are the script's tokens, and no limit is passed
 pub record HasTokens (script : List ℕ) (tokens : List Token) : Type 0 where
   pub lexed : IsLexed script tokens
-  pub shallow : is_deep 0 0 tokens ≡ false
-  pub few : clauses tokens ≤ 256
+  pub shallow : ¬ IsDeep tokens
+  pub few : clauses tokens ≤ MOST_CLAUSES
 
 -- this is the script's tree
 pub record HasTree (script : List ℕ) (items : List ItemTree) : Type 0 where
@@ -32,9 +31,11 @@ pub record HasTree (script : List ℕ) (items : List ItemTree) : Type 0 where
 
 -- the first of these that holds
 abbrev pub IsParseFault : List ℕ → ParseFault → Type 0
-IsParseFault script fault.TooDeep = (tokens : List Token) × IsLexed script tokens × (is_deep 0 0 tokens ≡ true)
-IsParseFault script fault.TooManyClauses = (tokens : List Token) × IsLexed script tokens × (is_deep 0 0 tokens ≡ false) × (256 < clauses tokens)
-IsParseFault script (fault.Syntax line) = (tokens : List Token) × HasTokens script tokens × ((items : List ItemTree) → ¬ IsScript items tokens)
+IsParseFault script fault.TooDeep = (tokens : List Token) × IsLexed script tokens × IsDeep tokens
+IsParseFault script fault.TooManyClauses =
+    (tokens : List Token) × IsLexed script tokens × (¬ IsDeep tokens) × (MOST_CLAUSES < clauses tokens)
+IsParseFault script (fault.Syntax line) =
+    (tokens : List Token) × HasTokens script tokens × ((items : List ItemTree) → ¬ IsScript items tokens)
 IsParseFault script fault.Memory = ⊥
 
 -- why the script has no tree
@@ -45,25 +46,13 @@ IsUnread script e = ⊥
 
 -- ---- its types
 
--- a cause and its line, as they are told
-abbrev pub told : Cause → ℕ → TypeFault
-told (cause.GlobalAssignment name) line = types.GlobalAssignment name line
-told cause.Undeclared line = types.Undeclared line
-told cause.Mismatch line = types.Mismatch line
-told cause.Keys line = types.Keys line
-told cause.AggregationRedefined line = types.AggregationRedefined line
-told cause.LquantizeBounds line = types.LquantizeBounds line
-told cause.PrintfArguments line = types.PrintfArguments line
-told cause.ReadOnly line = types.ReadOnly line
-told cause.NoRegister line = types.NoRegister line
-
 -- the script has a tree, and this is the first fault of its types
 pub record IsMistyped (script : List ℕ) (fault : TypeFault) : Type 0 where
   pub items : List ItemTree
   pub tree : HasTree script items
   pub first : Fault
   pub refused : typing.script items ≡ Err first
-  pub is : fault ≡ told first.cause first.line
+  pub is : fault ≡ fault_of first
 
 -- the script is well typed with six registers, and this is what it means
 pub record IsAccepted (script : List ℕ) (m : ScriptMeant) : Type 0 where

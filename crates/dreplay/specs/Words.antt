@@ -1,8 +1,11 @@
 -- What the words after the program's name ask for.
-use Rattle.std.specs.Prelude.{◌≡◌, ◌≢◌, ◌⊎◌, ◌∷◌, ◌++◌, ℕ, List, [], Option, Some, None, codes, true}
-use Rattle.std.specs.Prelude.{option_map, string_bytes}
-use Rattle.clap.specs.Words.{App, IsAmong, Rule, fault_of, first_of, kind_of, matches_of, new_app}
-use Rattle.clap.specs.Words.{new_rule, with_rule}
+use Rattle.std.specs.Prelude.{◌≡◌, ◌≢◌, ◌⊎◌, ◌∷◌, ◌++◌, ◌≤◌, ℕ, List, [], Option, Some, None, IsSomeAnd}
+use Rattle.std.specs.Prelude.{codes, fold, if◌then◌else◌, option_and_then, option_map, pos, string_bytes, true}
+use Rattle.std.specs.Str.{bytes_eq}
+use Rattle.std.specs.Str.Parse.{IsNumeral, digits_value, without_leading_plus}
+use Rattle.clap.specs.Words.{App, IsAmong, Row, Rule, fault_of, first_of, kind_of, matches_of}
+use Rattle.clap.specs.Words.{new_app, new_rule, one_of, with_rule}
+use Rattle.clap.specs.declared.builder.value_parser.ValueParser.TheVariants.{Signed}
 use Rattle.clap.specs.declared.error.Error.{Error}
 use Rattle.clap.specs.declared.error.kind.ErrorKind.{ErrorKind}
 use Rattle.clap.specs.declared.error.kind.ErrorKind.TheVariants.{DisplayHelp, OutOfMemory}
@@ -10,34 +13,104 @@ use Rattle.clap.specs.declared.error.kind.ErrorKind.TheVariants.{InvalidValue, U
 use Rattle.dreplay.specs.declared.words.Asked.{Asked}
 use Rattle.dreplay.specs.declared.words.UsageFault.{UsageFault}
 use Rattle.dreplay.specs.declared.words.UsageFault.TheVariants.{Help, Usage, Memory}
-use Rattle.dreplay.specs.Plans.{IsSerial}
+use Rattle.dreplay.specs.declared.plan.EngineKind.{EngineKind}
+use Rattle.dreplay.specs.declared.plan.EngineKind.TheVariants.{Dif, Tree}
+use Rattle.dreplay.specs.declared.plan.GroupPlan.TheVariants.{Dealt}
+use Rattle.dreplay.specs.declared.plan.Plan.{Plan}
 
--- the option -s, whose value has one name in the help
-abbrev pub script_option : Rule
-script_option = record (new_rule (codes "script")) { short = Some 115; value_names = 1 }
+-- ---- the options
 
--- the program, which gets its words without its own name
-abbrev pub program : App
-program =
+-- an option of one letter, whose value has one name in the help
+abbrev pub option : (id : List ℕ) → (letter : ℕ) → Rule
+option id letter = record (new_rule id) { short = Some letter; value_names = 1 }
+
+-- one that has this value where it isn't given
+abbrev pub option_or : (id : List ℕ) → (letter : ℕ) → (default : List ℕ) → Rule
+option_or id letter default = record (option id letter) { defaults = default ∷ [] }
+
+-- one whose value is a number from 1 to the most
+abbrev pub number_option : (id : List ℕ) → (letter most : ℕ) → (default : List ℕ) → Rule
+number_option id letter most default =
+    record (option_or id letter default) { parser = Some (Signed (pos 1) (pos most)) }
+
+abbrev pub options : List Rule
+options = option (codes "script") 115
+    ∷ number_option (codes "workers") 119 16 (codes "4")
+    ∷ number_option (codes "groups") 103 4096 (codes "16")
+    ∷ option_or (codes "engine") 101 (codes "dif")
+    ∷ []
+
+-- a command of this name, which gets its words without that name
+abbrev pub bare : App
+bare =
     let app = new_app (codes "dreplay") in
-    with_rule (record app { top = record app.top { no_binary_name = true } }) script_option
+    record app { top = record app.top { no_binary_name = true } }
 
--- the value of -s in clap's matches of the words
-abbrev pub file_in : List (List ℕ) → Option (List ℕ)
-file_in words = first_of (codes "script") (matches_of program words)
+-- the program
+abbrev pub program : App
+program = fold with_rule bare options
 
--- clap finds no fault in the words, the file is the one that they name, the plan the one there is
+-- ---- their values in clap's matches
+
+-- the file of -s
+abbrev pub file_in : List Row → Option (List ℕ)
+file_in rows = first_of (codes "script") rows
+
+-- the engine of this name
+abbrev pub engine_called : List ℕ → Option EngineKind
+engine_called name =
+    if bytes_eq name (codes "dif") then Some Dif
+    else if bytes_eq name (codes "tree") then Some Tree else None
+
+abbrev pub engine_in : List Row → Option EngineKind
+engine_in rows = option_and_then engine_called (first_of (codes "engine") rows)
+
+-- an option's value is this number, in decimal and in these bounds
+abbrev pub IsNumberIn : (low high : ℕ) → List Row → (id : List ℕ) → ℕ → Type 0
+IsNumberIn low high rows id n = IsSomeAnd (one_of id rows) (λ text.
+    IsNumeral 10 (without_leading_plus text) × (digits_value 10 (without_leading_plus text) ≡ n)
+    × (low ≤ n) × (n ≤ high))
+
+-- the plan of -w, -g and -e
+pub record IsPlanIn (rows : List Row) (plan : Plan) : Type 0 where
+  pub workers : IsNumberIn 1 16 rows (codes "workers") plan.workers
+  pub groups : (n : ℕ) × (plan.groups ≡ Dealt n) × IsNumberIn 1 4096 rows (codes "groups") n
+  pub engine : engine_in rows ≡ Some plan.engine
+
+pub record IsAskedIn (rows : List Row) (asked : Asked) : Type 0 where
+  pub file : option_map string_bytes asked.file ≡ file_in rows
+  pub plan : IsPlanIn rows asked.plan
+
+-- ---- words
+
+-- clap finds no fault in the words, and they name the file and the plan
 pub record Asks (words : List (List ℕ)) (asked : Asked) : Type 0 where
   pub accepted : fault_of program words ≡ []
-  pub file : option_map string_bytes asked.file ≡ file_in words
-  pub plan : IsSerial asked.plan
+  pub named : IsAskedIn (matches_of program words) asked
 
--- the fault is one that clap finds in the words: help that they ask for, or a mistake
+-- the words name a plan
+abbrev pub HasPlan : List (List ℕ) → Type 0
+HasPlan words = (plan : Plan) × IsPlanIn (matches_of program words) plan
+
+-- a mistake of this kind
+abbrev pub IsMistake : ErrorKind → UsageFault → Type 0
+IsMistake kind (Help e) = ⊥
+IsMistake kind (Usage e) = kind_of e ≡ kind
+IsMistake kind Memory = ⊥
+
+-- one of the options has no such value
+abbrev pub IsPlanFault : List Row → UsageFault → Type 0
+IsPlanFault rows (Help e) = ⊥
+IsPlanFault rows (Usage e) = (kind_of e ≢ DisplayHelp) × (kind_of e ≢ OutOfMemory)
+    × ((plan : Plan) → ¬ IsPlanIn rows plan)
+IsPlanFault rows Memory = Unit {0}
+
+-- the fault is one that clap finds in the words: help that they ask for, or a mistake. Or they name no plan
 abbrev pub IsFaultOf : List (List ℕ) → UsageFault → Type 0
 IsFaultOf words (Help e) =
     (kind_of e ≡ DisplayHelp) × IsAmong DisplayHelp (fault_of program words)
 IsFaultOf words (Usage e) = (kind_of e ≢ DisplayHelp) × (kind_of e ≢ OutOfMemory)
-    × IsAmong (kind_of e) (fault_of program words)
+    × (IsAmong (kind_of e) (fault_of program words) ⊎ ¬ HasPlan words)
 IsFaultOf words Memory = Unit {0}
 
 -- clap's error is told as what it is

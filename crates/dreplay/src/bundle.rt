@@ -3,7 +3,7 @@
 ghost use Rattle.std.specs.Prelude.{◌≡◌, ◌↔◌, IsTrue};
 ghost use Rattle.dreplay.specs.Bundle.{Divides, IsDivider};
 
-use crate::bytes::split_at_first;
+use d_values::split_at_first;
 
 /// The two parts of a bundle.
 #[derive(Clone, Copy, Debug)]

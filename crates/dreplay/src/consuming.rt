@@ -3,7 +3,7 @@
 ghost use Rattle.std.specs.Prelude.{◌≡◌, ◌≢◌, List, ℕ, Err, IfErr, IsFalse};
 ghost use Rattle.dreplay.specs.Bundle.{Divides};
 ghost use Rattle.dreplay.specs.Consuming.{HoldsOfInput, IsReadToEnd, Shows, told_of};
-ghost use Rattle.dreplay.specs.Plans.{IsSerial};
+ghost use Rattle.dreplay.specs.Plans.{IsInBounds};
 
 use crate::bundle::{Division, divide};
 use crate::plan::{Plan, Replayed};
@@ -11,6 +11,8 @@ use crate::refusal::Refusal;
 use crate::replaying::replay;
 use report::{Feed, ReadFault, Sink, emit, read_to_end};
 use std::alloc::Global;
+use std::sync::Wait;
+use std::thread::Threads;
 use thiserror::Error;
 
 /// Why an answer was not written.
@@ -39,13 +41,14 @@ impl From<ReadFault> for ConsumeFault {
 }
 
 /// Reads a bundle to its end, runs its script over its trace, and writes what the script shows.
-pub fn consume<F: Feed, S: Sink>(
+pub fn consume<R: Threads + Wait + Sync, F: Feed, S: Sink>(
+    rt: &R,
     alloc: Global,
     feed: &mut F,
     sink: &mut S,
     plan: &Plan,
 ) -> Result<Replayed, ConsumeFault>
-    requires plan { IsSerial plan.now }
+    requires plan { IsInBounds plan.now }
     requires feed { IsFalse (F.seen feed.old).has_failed }
     requires sink { IsFalse (S.seen sink.old).has_failed }
     ensures read { IsReadToEnd (F.seen feed.old) (F.seen feed.new) result }
@@ -55,18 +58,19 @@ pub fn consume<F: Feed, S: Sink>(
     ensures untouched { result ≢ Err ConsumeFault.Write → IfErr result (λ e. sink.new ≡ sink.old) }
 {
     let bundle = read_to_end(alloc, feed)?;
-    show(alloc, divide(&bundle), sink, plan)
+    show(rt, alloc, divide(&bundle), sink, plan)
 }
 
 /// Reads a trace to its end, runs the script over it, and writes what the script shows.
-pub fn consume_trace<F: Feed, S: Sink>(
+pub fn consume_trace<R: Threads + Wait + Sync, F: Feed, S: Sink>(
+    rt: &R,
     alloc: Global,
     script: &[u8],
     feed: &mut F,
     sink: &mut S,
     plan: &Plan,
 ) -> Result<Replayed, ConsumeFault>
-    requires plan { IsSerial plan.now }
+    requires plan { IsInBounds plan.now }
     requires feed { IsFalse (F.seen feed.old).has_failed }
     requires sink { IsFalse (S.seen sink.old).has_failed }
     ensures read { IsReadToEnd (F.seen feed.old) (F.seen feed.new) result }
@@ -79,24 +83,25 @@ pub fn consume_trace<F: Feed, S: Sink>(
         script,
         trace: &trace,
     };
-    show(alloc, parts, sink, plan)
+    show(rt, alloc, parts, sink, plan)
 }
 
 // Runs a script over a trace, and writes what the script shows.
-fn show<S: Sink>(
+fn show<R: Threads + Wait + Sync, S: Sink>(
+    rt: &R,
     alloc: Global,
     parts: Division<'_>,
     sink: &mut S,
     plan: &Plan,
 ) -> Result<Replayed, ConsumeFault>
-    requires plan { IsSerial plan.now }
+    requires plan { IsInBounds plan.now }
     requires sink { IsFalse (S.seen sink.old).has_failed }
     ensures read { result ≢ Err ConsumeFault.Read }
     ensures shown { Shows parts.entry.script.now parts.entry.trace.now plan.now
         (S.seen sink.old) (S.seen sink.new) result }
     ensures untouched { result ≢ Err ConsumeFault.Write → IfErr result (λ e. sink.new ≡ sink.old) }
 {
-    match replay(alloc, parts.script, parts.trace, plan) {
+    match replay(rt, alloc, parts.script, parts.trace, plan) {
         Ok(replayed) => match emit(sink, &replayed.bytes) {
             Ok(_) => Ok(replayed),
             Err(_) => Err(ConsumeFault::Write),

@@ -1,7 +1,7 @@
 //! Laws of what bundles, scripts and answers mean: each holds of the definitions, and its function computes nothing.
 
 ghost use Rattle.std.specs.Prelude.{◌≡◌, ◌∷◌, [], ℕ, List, Option, Result};
-ghost use Rattle.clap.specs.Words.{fault_of};
+ghost use Rattle.clap.specs.Words.{fault_of, matches_of};
 ghost use Rattle.clap.specs.declared.error.kind.ErrorKind.{ErrorKind};
 ghost use Rattle.clap.specs.declared.error.kind.ErrorKind.TheVariants.{DisplayHelp};
 ghost use Rattle.dreplay.specs.declared.refusal.Refusal.{Refusal};
@@ -35,7 +35,7 @@ pub fn has_answer()
 /// Without words a bundle is run, and with `-s FILE` the script of that file.
 pub fn runs_accepted()
     ensures { (words : List (List ℕ)) (file : Option (List ℕ)) → Runs words file
-        → (fault_of program words ≡ []) × (file_in words ≡ file) }
+        → (fault_of program words ≡ []) × (file_in (matches_of program words) ≡ file) }
 {}
 
 /// `-h` and `--help` ask for help.

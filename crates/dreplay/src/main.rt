@@ -5,13 +5,13 @@
 ghost use Rattle.std.specs.Prelude.{IfOk};
 ghost use Rattle.std.specs.Process.{exit_status};
 ghost use Rattle.dreplay.specs.Refusals.{EndsWith};
-ghost use Rattle.dreplay.specs.Plans.{IsSerial};
+ghost use Rattle.dreplay.specs.Plans.{IsInBounds};
 ghost use Rattle.dreplay.specs.Words.{EndsUnasked};
 
 mod bundle;
-mod bytes;
 mod consuming;
 mod ending;
+mod grouping;
 pub mod laws;
 mod plan;
 mod refusal;
@@ -28,15 +28,17 @@ use refusal::Refusal;
 use report::{Watched, read_to_end};
 use std::env::args;
 use std::fs::File;
-use std::io::{ErrorKind, Write};
+use std::io::{ErrorKind, Read, Write};
 use std::process::ExitCode;
 use std::rt::{Env, Files};
+use std::sync::Wait;
+use std::thread::Threads;
 use words::{Asked, UsageFault, not_text, read_words};
 
 fn main(rt: HostRuntime) -> ExitCode {
     match asked(&rt) {
         Ok(asked) => {
-            let answer = run(&rt, &asked);
+            let answer = run(&rt, &asked, rt.stdin(), rt.stdout());
             end(&rt, &answer)
         }
         Err(fault) => explain(&rt, fault),
@@ -45,7 +47,7 @@ fn main(rt: HostRuntime) -> ExitCode {
 
 // What the program's words ask for.
 fn asked(rt: &(impl Env + AllocGlobal)) -> Result<Asked, UsageFault>
-    ensures { IfOk result (λ asked. IsSerial asked.plan) }
+    ensures { IfOk result (λ asked. IsInBounds asked.plan) }
 {
     let words = program_words(rt)?;
     let words: Vec<&str> = words.iter().map(|word| word.as_str()).collect(rt.alloc())?;
@@ -61,21 +63,28 @@ fn program_words(rt: &(impl Env + AllocGlobal)) -> Result<Vec<String>, UsageFaul
     }
 }
 
-// Runs what was asked for, over the standard streams.
-fn run(rt: &HostRuntime, asked: &Asked) -> Result<Replayed, ConsumeFault>
-    requires { IsSerial asked.now.plan }
+// Runs what was asked for, from the one stream to the other.
+fn run<R: Files + AllocGlobal + Threads + Wait + Sync, I: Read + Drop, O: Write + Drop>(
+    rt: &R,
+    asked: &Asked,
+    input: I,
+    output: O,
+) -> Result<Replayed, ConsumeFault>
+    requires { IsInBounds asked.now.plan }
 {
     let script = match &asked.file {
         Some(file) => Some(read_file(rt, file.as_str())?),
         None => None,
     };
-    let mut input = Watched::new(rt.stdin());
-    let mut output = Watched::new(rt.stdout());
+    let (alloc, plan) = (rt.alloc(), &asked.plan);
+    let mut input = Watched::new(input);
+    let mut output = Watched::new(output);
     let replayed = match &script {
-        Some(script) => consume_trace(rt.alloc(), script, &mut input, &mut output, &asked.plan)?,
-        None => consume(rt.alloc(), &mut input, &mut output, &asked.plan)?,
+        Some(script) => consume_trace(rt, alloc, script, &mut input, &mut output, plan)?,
+        None => consume(rt, alloc, &mut input, &mut output, plan)?,
     };
-    rt.stdout().flush().map_err(|_| ConsumeFault::Write)?;
+    let mut output = output.into_inner();
+    output.flush().map_err(|_| ConsumeFault::Write)?;
     Ok(replayed)
 }
 

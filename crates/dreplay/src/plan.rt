@@ -1,6 +1,6 @@
 //! How a run is carried out, and what it gave.
 
-/// How a run is carried out. Today one worker takes the groups of `Dealt(1)` and walks the tree; callers owe that.
+/// How a run is carried out. The answer is the same under every plan.
 #[derive(Debug, Drop, PartialEq, Eq)]
 pub struct Plan {
     /// How many workers there are, from 1 to 16.

@@ -1,17 +1,19 @@
 //! Why a script or a trace is refused, and what the program says of it.
 
 ghost use Rattle.std.specs.Prelude.{◌≡◌, IfOk, string_bytes};
-ghost use Rattle.dreplay.specs.declared.refusal.Refusal.TheVariants.{Lex, Memory, Parse, Trace, Typing};
+ghost use Rattle.dreplay.specs.declared.refusal.Refusal.TheVariants.{Group, Lex, Memory, Parse, Trace, Typing};
 ghost use Rattle.dreplay.specs.Refusals.{line_of, plain, status_of};
 
 use d_lexer::LexFault;
 use d_parser::ParseFault;
 use d_types::TypeFault;
 use firing_reader::TraceFault;
+use shard_queue::GroupFault;
 use std::alloc::{AllocError, AllocFailed, Global};
 use thiserror::Error;
 
-/// The first reason for which a script over a trace has no answer. The script is looked at before the trace.
+/// The first reason for which a script over a trace has no answer. The script is looked at before the
+/// trace, and the trace before the groups.
 #[derive(Debug, Drop, Error)]
 pub enum Refusal {
     /// Why the script has no tokens.
@@ -26,6 +28,9 @@ pub enum Refusal {
     /// The trace's first fault.
     #[error("{0}")]
     Trace(TraceFault),
+    /// Why the plan's lists are no groups of the trace's threads.
+    #[error("{0}")]
+    Group(GroupFault),
     /// Memory ran out.
     #[error("out of memory")]
     Memory,
@@ -91,6 +96,17 @@ impl From<TraceFault> for Refusal {
     }
 }
 
+impl From<GroupFault> for Refusal {
+    ghost from_gives = { λ fault e. e ≡ plain (Group fault) };
+
+    fn from(fault: GroupFault) -> Refusal {
+        match fault {
+            GroupFault::Memory => Refusal::Memory,
+            _ => Refusal::Group(fault),
+        }
+    }
+}
+
 /// The line that the program writes to standard error, without its line feed.
 pub fn refusal_text(alloc: Global, refusal: &Refusal) -> Result<String, AllocError>
     ensures { IfOk result (λ text. string_bytes text ≡ line_of refusal.now) }
@@ -100,6 +116,7 @@ pub fn refusal_text(alloc: Global, refusal: &Refusal) -> Result<String, AllocErr
         Refusal::Parse(fault) => parse_text(alloc, *fault),
         Refusal::Typing(fault) => type_text(alloc, fault),
         Refusal::Trace(fault) => trace_text(alloc, *fault),
+        Refusal::Group(fault) => group_text(alloc, *fault),
         Refusal::Memory => String::from_str(alloc, "dreplay: out of memory"),
     }
 }
@@ -202,6 +219,25 @@ fn trace_text(alloc: Global, fault: TraceFault) -> Result<String, AllocError>
     }
 }
 
+// A fault of a thread has its number.
+fn group_text(alloc: Global, fault: GroupFault) -> Result<String, AllocError>
+    ensures { IfOk result (λ text. string_bytes text ≡ line_of (Refusal.Group fault)) }
+{
+    match fault {
+        GroupFault::Missing { thread } => {
+            format!(in alloc; "dreplay: groups refused: Group 1 thread {thread}")
+        }
+        GroupFault::Doubled { thread } => {
+            format!(in alloc; "dreplay: groups refused: Group 2 thread {thread}")
+        }
+        GroupFault::Stranger { thread } => {
+            format!(in alloc; "dreplay: groups refused: Group 3 thread {thread}")
+        }
+        GroupFault::TooMany => format!(in alloc; "dreplay: groups refused: Group 4"),
+        GroupFault::Memory => String::from_str(alloc, "dreplay: out of memory"),
+    }
+}
+
 /// The status that the program ends with.
 pub fn refusal_status(refusal: &Refusal) -> u8
     ensures { result ≡ status_of refusal.now }
@@ -211,8 +247,9 @@ pub fn refusal_status(refusal: &Refusal) -> u8
         | Refusal::Parse(ParseFault::Memory)
         | Refusal::Typing(TypeFault::Memory)
         | Refusal::Trace(TraceFault::Memory)
+        | Refusal::Group(GroupFault::Memory)
         | Refusal::Memory => 1,
         Refusal::Lex(_) | Refusal::Parse(_) | Refusal::Typing(_) => 3,
-        Refusal::Trace(_) => 4,
+        Refusal::Trace(_) | Refusal::Group(_) => 4,
     }
 }

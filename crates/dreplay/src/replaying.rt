@@ -1,49 +1,108 @@
 //! The answer of a script over a trace.
 
-ghost use Rattle.std.specs.Prelude.{◌≡◌, [], ◌∷◌, IfOk, map, unwrap_or, option_map};
+ghost use Rattle.std.specs.Prelude.{◌≡◌, ◌≤◌, ℕ, IfOk, List, map, unwrap_or, option_map};
+ghost use Rattle.aggregations.specs.Table.{functions_of};
+ghost use Rattle.d_types.specs.Typed.{ScriptMeant, functions_in};
 ghost use Rattle.d_types.specs.TypedScripts.{typed_script_of};
-ghost use Rattle.replay_core.specs.Exit.{firings_over};
-ghost use Rattle.replay_core.specs.Groups.{numbers_by_group, one_group};
-ghost use Rattle.dreplay.specs.Answer.{IsShown};
-ghost use Rattle.dreplay.specs.Plans.{IsSerial};
-ghost use Rattle.dreplay.specs.Replaying.{IsReplay, shown_in};
+ghost use Rattle.firing_reader.specs.declared.firing.Firing.{Firing};
+ghost use Rattle.replay_core.specs.Groups.{Grouping};
+ghost use Rattle.shard_queue.specs.Groups.{AreOf, grouping};
+ghost use Rattle.shard_queue.specs.Threads.{run_threads};
+ghost use Rattle.dreplay.specs.Plans.{IsInBounds};
+ghost use Rattle.dreplay.specs.Replaying.{IsRunBy, IsReplay, IsShownOf};
 
-use crate::plan::{Plan, Replayed};
+use crate::grouping::groups_of;
+use crate::plan::{EngineKind, Plan, Replayed};
 use crate::refusal::Refusal;
 use crate::scripts::read_script;
 use d_types::{TypedScript, check};
+use dif_codegen::compile;
 use firing_reader::{Trace, read_trace};
-use replay_core::run_serially;
+use replay_core::{DifLanes, Gate, OpenGate, Ran, TreeLanes, run_all};
 use report::render;
+use shard_queue::Groups;
 use std::alloc::{AllocError, Global};
+use std::sync::Wait;
+use std::thread::Threads;
 
-/// Runs a script over a trace, between BEGIN and END. The script is refused before the trace.
-pub fn replay(alloc: Global, script: &[u8], trace: &[u8], plan: &Plan) -> Result<Replayed, Refusal>
-    requires { IsSerial plan.now }
+/// Runs a script over a trace, between BEGIN and END. The script is refused before the trace, and the trace before the groups.
+pub fn replay<R: Threads + Wait + Sync>(
+    rt: &R,
+    alloc: Global,
+    script: &[u8],
+    trace: &[u8],
+    plan: &Plan,
+) -> Result<Replayed, Refusal>
+    requires { IsInBounds plan.now }
+    ensures { IsReplay script.now trace.now plan.now result }
+{
+    replay_with(rt, alloc, script, trace, plan, &OpenGate)
+}
+
+/// Does the same, where each worker passes a gate before the first firing of each group that it took.
+pub fn replay_with<R: Threads + Wait + Sync, G: Gate + Sync>(
+    rt: &R,
+    alloc: Global,
+    script: &[u8],
+    trace: &[u8],
+    plan: &Plan,
+    gate: &G,
+) -> Result<Replayed, Refusal>
+    requires { IsInBounds plan.now }
     ensures { IsReplay script.now trace.now plan.now result }
 {
     let tree = read_script(alloc, script)?;
     let script = check(alloc, tree)?;
     let trace = read_trace(alloc, trace)?;
-    let replayed = run(alloc, &script, &trace)?;
+    let groups = groups_of(alloc, &plan.groups, &trace)?;
+    let ran = run(rt, alloc, &script, &trace, &groups, plan, gate)?;
+    let replayed = shown(alloc, &script, ran)?;
     Ok(replayed)
 }
 
-// Runs a script over a trace, by one worker that takes the group of the rows and that of BEGIN and END.
-fn run(alloc: Global, script: &TypedScript, trace: &Trace) -> Result<Replayed, AllocError>
-    ensures shown { IfOk result (λ r. IsShown (typed_script_of script.now) trace.now (shown_in r)) }
-    ensures took { IfOk result (λ r. map (λ v. v.items) r.by_worker.items ≡ (0 ∷ 1 ∷ []) ∷ []) }
-    ensures ran { IfOk result (λ r. map (λ v. v.items) r.ran.items
-        ≡ numbers_by_group one_group (firings_over (typed_script_of script.now) trace.now)) }
+// Runs a script over a trace, by the engine and the workers of a plan.
+fn run<R: Threads + Wait + Sync, G: Gate + Sync>(
+    rt: &R,
+    alloc: Global,
+    script: &TypedScript,
+    trace: &Trace,
+    groups: &Groups,
+    plan: &Plan,
+    gate: &G,
+) -> Result<Ran, AllocError>
+    requires plan { IsInBounds plan.now }
+    requires groups { AreOf groups.now (run_threads trace.now) }
+    requires few { (grouping groups.now).count ≤ 4097 }
+    ensures { IfOk result (IsRunBy (typed_script_of script.now) trace.now (grouping groups.now)
+        plan.now.workers) }
 {
-    let whole = run_serially(alloc, script, trace)?;
-    let bytes = render(alloc, script, &whole)?;
-    let groups = vec![in alloc; 0, 1]?;
+    let workers = plan.workers;
+    match plan.engine {
+        EngineKind::Tree => {
+            let lanes = TreeLanes::new(script);
+            run_all(rt, alloc, &lanes, trace, groups, workers, gate)
+        }
+        EngineKind::Dif => {
+            let program = compile(alloc, script)?;
+            let lanes = DifLanes::new(&program);
+            run_all(rt, alloc, &lanes, trace, groups, workers, gate)
+        }
+    }
+}
+
+// What a run shows.
+fn shown(alloc: Global, script: &TypedScript, ran: Ran) -> Result<Replayed, AllocError>
+    requires { functions_of ran.whole.table ≡ functions_in (typed_script_of script.now) }
+    ensures { (firings : List Firing) (grouping : Grouping) (workers : ℕ)
+        → IsRunBy (typed_script_of script.now) firings grouping workers ran
+        → IfOk result (IsShownOf (typed_script_of script.now) firings grouping workers) }
+{
+    let bytes = render(alloc, script, &ran.whole)?;
     Ok(Replayed {
         bytes,
-        by_worker: vec![in alloc; groups]?,
-        status: status(whole.exit),
-        ran: whole.ran,
+        by_worker: ran.by_worker,
+        status: status(ran.whole.exit),
+        ran: ran.whole.ran,
     })
 }
 

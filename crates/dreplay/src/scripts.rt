@@ -7,7 +7,7 @@ ghost use Rattle.d_parser.specs.Sizes.{IsWithin};
 ghost use Rattle.dreplay.specs.Scripts.{HasTree, IsUnread};
 
 use crate::refusal::Refusal;
-use d_lexer::lex;
+use d_lexer::{MOST_BYTES, lex};
 use d_parser::{Script, parse};
 use std::alloc::Global;
 
@@ -15,7 +15,7 @@ use std::alloc::Global;
 pub fn read_script(alloc: Global, script: &[u8]) -> Result<Script, Refusal>
     ensures read { MatchResult result (λ s. HasTree script.now (tree.script_of s))
         (λ e. (e ≡ Refusal.Memory) ⊎ IsUnread script.now e) }
-    ensures few { IfOk result (λ s. IsWithin 65536 (tree.script_of s)) }
+    ensures few { IfOk result (λ s. IsWithin MOST_BYTES (tree.script_of s)) }
     ensures small { IfOk result (λ s. AreSmall (tree.script_of s)) }
 {
     let tokens = lex(alloc, script)?;

@@ -1,20 +1,29 @@
-//! Calls that no run of the program shows: what ran, failing readers and writers, and what is said of each refusal.
+//! Calls that no run of the program shows: what ran in which group and by whom, groups as lists, gates, failing readers and
+//! writers, what is said of each refusal, and what words ask for.
 
-ghost use Rattle.dreplay.specs.Plans.{IsSerial};
+ghost use Rattle.std.specs.Prelude.{IfOk};
+ghost use Rattle.dreplay.specs.Plans.{IsInBounds};
 
 use crate::consuming::{ConsumeFault, consume, consume_trace};
 use crate::plan::{EngineKind, GroupPlan, Plan, Replayed};
 use crate::refusal::{Refusal, refusal_status, refusal_text};
-use crate::replaying::replay;
+use crate::replaying::{replay, replay_with};
+use crate::words::{UsageFault, read_words};
 use d_lexer::LexFault;
 use d_parser::ParseFault;
 use d_types::TypeFault;
 use firing_reader::TraceFault;
+use replay_core::Gate;
 use report::Watched;
 use report::faulty::Faulty;
-use std::alloc::Global;
+use shard_queue::GroupFault;
+use std::alloc::{AllocError, AllocGlobal, Global};
 use std::process::Abort;
+use std::sync::Wait;
+use std::sync::atomic::{AtomicU64, Ordering};
 use std::test::Fail;
+use std::thread;
+use std::thread::Threads;
 
 const SCRIPT: &[u8] = b"syscall::read:entry { @[execname] = count(); }";
 
@@ -40,7 +49,7 @@ arg0,arg1,arg2,arg3,arg4,arg5,arg6,arg7,arg8,arg9\n\
 20,0,1,1,a,0,p,,f,hit,0,0,0,0,0,0,0,0,0,0\n\
 40,0,1,1,a,0,p,,f,hit,3,0,0,0,0,0,0,0,0,0";
 
-const SAID: [(Refusal, u8, &str); 12] = [
+const SAID: [(Refusal, u8, &str); 17] = [
     (Refusal::Memory, 1, "dreplay: out of memory"),
     (Refusal::Lex(LexFault::Memory), 1, "dreplay: out of memory"),
     (
@@ -93,10 +102,35 @@ const SAID: [(Refusal, u8, &str); 12] = [
         4,
         "dreplay: trace refused: Trace 7",
     ),
+    (
+        Refusal::Group(GroupFault::Memory),
+        1,
+        "dreplay: out of memory",
+    ),
+    (
+        Refusal::Group(GroupFault::Missing { thread: 7 }),
+        4,
+        "dreplay: groups refused: Group 1 thread 7",
+    ),
+    (
+        Refusal::Group(GroupFault::Doubled { thread: 1 }),
+        4,
+        "dreplay: groups refused: Group 2 thread 1",
+    ),
+    (
+        Refusal::Group(GroupFault::Stranger { thread: -3 }),
+        4,
+        "dreplay: groups refused: Group 3 thread -3",
+    ),
+    (
+        Refusal::Group(GroupFault::TooMany),
+        4,
+        "dreplay: groups refused: Group 4",
+    ),
 ];
 
 fn serial() -> Plan
-    ensures { IsSerial result }
+    ensures { IsInBounds result }
 {
     Plan {
         workers: 1,
@@ -106,22 +140,26 @@ fn serial() -> Plan
 }
 
 // Consumes the bundle one byte a call, where these many calls of the reader and of the writer go well.
-fn consumed(alloc: Global, reads: u64, writes: u64) -> (Result<Replayed, ConsumeFault>, Vec<u8>) {
+fn consumed<R: AllocGlobal + Threads + Wait + Sync>(
+    rt: &R,
+    reads: u64,
+    writes: u64,
+) -> (Result<Replayed, ConsumeFault>, Vec<u8>) {
     let mut feed = Watched::new(Faulty::new(BUNDLE, reads));
-    let mut sink = Watched::new(Faulty::new(Vec::new(alloc), writes));
-    let answer = consume(alloc, &mut feed, &mut sink, &serial());
+    let mut sink = Watched::new(Faulty::new(Vec::new(rt.alloc()), writes));
+    let answer = consume(rt, rt.alloc(), &mut feed, &mut sink, &serial());
     (answer, sink.into_inner().into_inner())
 }
 
 // Consumes the trace, with its script apart, in the same way.
-fn consumed_apart(
-    alloc: Global,
+fn consumed_apart<R: AllocGlobal + Threads + Wait + Sync>(
+    rt: &R,
     reads: u64,
     writes: u64,
 ) -> (Result<Replayed, ConsumeFault>, Vec<u8>) {
     let mut feed = Watched::new(Faulty::new(TRACE, reads));
-    let mut sink = Watched::new(Faulty::new(Vec::new(alloc), writes));
-    let answer = consume_trace(alloc, SCRIPT, &mut feed, &mut sink, &serial());
+    let mut sink = Watched::new(Faulty::new(Vec::new(rt.alloc()), writes));
+    let answer = consume_trace(rt, rt.alloc(), SCRIPT, &mut feed, &mut sink, &serial());
     (answer, sink.into_inner().into_inner())
 }
 
@@ -136,7 +174,7 @@ fn expect_ran(rt: &impl Abort, replayed: &Replayed, rows: &[u64], ends: &[u64]) 
 
 #[test]
 fn each_firing_is_run_once(rt: HostRuntime) -> Result<(), Fail> {
-    let replayed = replay(rt.alloc(), SCRIPT, TRACE, &serial())?;
+    let replayed = replay(&rt, rt.alloc(), SCRIPT, TRACE, &serial())?;
     assert_eq!(rt; replayed.bytes.as_slice(), SHOWN);
     expect_ran(&rt, &replayed, &[1, 4], &[0, 5]);
     assert_eq!(rt; replayed.status, 0);
@@ -145,7 +183,7 @@ fn each_firing_is_run_once(rt: HostRuntime) -> Result<(), Fail> {
 
 #[test]
 fn firings_after_an_exit_do_not_run(rt: HostRuntime) -> Result<(), Fail> {
-    let replayed = replay(rt.alloc(), EXITING, FOUR_HITS, &serial())?;
+    let replayed = replay(&rt, rt.alloc(), EXITING, FOUR_HITS, &serial())?;
     assert_eq!(rt;
         replayed.bytes.as_slice(),
         b"end\n\n                2\n".as_slice()
@@ -158,11 +196,11 @@ fn firings_after_an_exit_do_not_run(rt: HostRuntime) -> Result<(), Fail> {
 #[test]
 fn nothing_is_written_after_a_failed_read(rt: HostRuntime) {
     for reads in 0..=BUNDLE.len() as u64 {
-        let (answer, out) = consumed(rt.alloc(), reads, 100);
+        let (answer, out) = consumed(&rt, reads, 100);
         assert!(rt; matches!(answer, Err(ConsumeFault::Read)), "at {reads}");
         assert!(rt; out.is_empty());
     }
-    let (answer, out) = consumed(rt.alloc(), BUNDLE.len() as u64 + 1, 100);
+    let (answer, out) = consumed(&rt, BUNDLE.len() as u64 + 1, 100);
     assert!(rt; answer.is_ok());
     assert_eq!(rt; out.as_slice(), SHOWN);
 }
@@ -170,11 +208,11 @@ fn nothing_is_written_after_a_failed_read(rt: HostRuntime) {
 #[test]
 fn nothing_is_written_after_a_failed_read_of_a_trace(rt: HostRuntime) {
     for reads in 0..=TRACE.len() as u64 {
-        let (answer, out) = consumed_apart(rt.alloc(), reads, 100);
+        let (answer, out) = consumed_apart(&rt, reads, 100);
         assert!(rt; matches!(answer, Err(ConsumeFault::Read)), "at {reads}");
         assert!(rt; out.is_empty());
     }
-    let (answer, out) = consumed_apart(rt.alloc(), TRACE.len() as u64 + 1, 100);
+    let (answer, out) = consumed_apart(&rt, TRACE.len() as u64 + 1, 100);
     assert!(rt; answer.is_ok());
     assert_eq!(rt; out.as_slice(), SHOWN);
 }
@@ -182,10 +220,10 @@ fn nothing_is_written_after_a_failed_read_of_a_trace(rt: HostRuntime) {
 #[test]
 fn a_beginning_is_written_before_a_failed_write(rt: HostRuntime) {
     for writes in 0..SHOWN.len() {
-        let (answer, out) = consumed(rt.alloc(), 1000, writes as u64);
+        let (answer, out) = consumed(&rt, 1000, writes as u64);
         assert!(rt; matches!(answer, Err(ConsumeFault::Write)), "at {writes}");
         assert_eq!(rt; out.as_slice(), &SHOWN[..writes]);
-        let (answer, out) = consumed_apart(rt.alloc(), 1000, writes as u64);
+        let (answer, out) = consumed_apart(&rt, 1000, writes as u64);
         assert!(rt; matches!(answer, Err(ConsumeFault::Write)), "at {writes}");
         assert_eq!(rt; out.as_slice(), &SHOWN[..writes]);
     }
@@ -199,4 +237,161 @@ fn each_refusal_has_its_line_and_status(rt: HostRuntime) -> Result<(), Fail> {
         assert_eq!(rt; refusal_status(&refusal), status);
     }
     Ok(())
+}
+
+// A plan whose groups are these lists, for two workers.
+fn listed(alloc: Global, lists: &[&[i32]]) -> Result<Plan, AllocError>
+    ensures { IfOk result IsInBounds }
+{
+    let mut groups = Vec::new(alloc);
+    for list in lists {
+        groups.push(Vec::from_slice(alloc, list)?)?;
+    }
+    Ok(Plan {
+        workers: 2,
+        groups: GroupPlan::Lists(groups),
+        engine: EngineKind::Dif,
+    })
+}
+
+// What becomes of the lists, of threads 7 and 8.
+const LISTS: [(&[&[i32]], Option<GroupFault>); 6] = [
+    (&[&[7, 8]], None),
+    (&[&[], &[8], &[], &[7]], None),
+    (&[&[7], &[8, 7]], Some(GroupFault::Doubled { thread: 7 })),
+    (&[&[7]], Some(GroupFault::Missing { thread: 8 })),
+    (
+        &[&[7], &[3], &[8]],
+        Some(GroupFault::Stranger { thread: 3 }),
+    ),
+    (&[], Some(GroupFault::Missing { thread: 7 })),
+];
+
+#[test]
+fn threads_are_grouped_by_lists(rt: HostRuntime) -> Result<(), Fail> {
+    for (lists, fault) in LISTS {
+        let plan = listed(rt.alloc(), lists)?;
+        match (replay(&rt, rt.alloc(), SCRIPT, TRACE, &plan), fault) {
+            (Ok(replayed), None) => assert_eq!(rt; replayed.bytes.as_slice(), SHOWN),
+            (Err(Refusal::Group(found)), Some(fault)) => assert_eq!(rt; found, fault),
+            _ => assert!(rt; false),
+        }
+    }
+    Ok(())
+}
+
+// Holds one group until another has begun, for so many looks at most.
+#[derive(Drop)]
+struct Holding {
+    held: u32,
+    until: u32,
+    begun: [AtomicU64; 3],
+    gave_up: AtomicU64,
+}
+
+const MOST_LOOKS: u32 = 100_000_000;
+
+impl Holding {
+    fn new(held: u32, until: u32) -> Holding {
+        Holding {
+            held,
+            until,
+            begun: [AtomicU64::new(0), AtomicU64::new(0), AtomicU64::new(0)],
+            gave_up: AtomicU64::new(0),
+        }
+    }
+
+    fn times_begun(&self, group: u32) -> u64 {
+        self.begun[group as usize % 3].load(Ordering::SeqCst)
+    }
+}
+
+impl Gate for Holding {
+    fn begun(&self, group: u32) {
+        let _ = self.begun[group as usize % 3].fetch_add(1, Ordering::SeqCst);
+        if group != self.held {
+            return;
+        }
+        for _ in 0..MOST_LOOKS {
+            if self.times_begun(self.until) > 0 {
+                return;
+            }
+            thread::yield_now();
+        }
+        self.gave_up.store(1, Ordering::SeqCst);
+    }
+}
+
+// Two groups run at the same time: the one goes on only after the other has begun.
+fn expect_held(rt: &(impl Abort + AllocGlobal + Threads + Wait + Sync), gate: &Holding) {
+    let plan = Plan {
+        workers: 2,
+        groups: GroupPlan::Dealt(2),
+        engine: EngineKind::Dif,
+    };
+    let answer = replay_with(rt, rt.alloc(), SCRIPT, TRACE, &plan, gate);
+    assert!(rt; answer.is_ok());
+    assert_eq!(rt; gate.gave_up.load(Ordering::SeqCst), 0);
+    for group in 0..3 {
+        assert_eq!(rt; gate.times_begun(group), 1);
+    }
+}
+
+#[test]
+fn gate_holds_group_0(rt: HostRuntime) {
+    expect_held(&rt, &Holding::new(0, 1));
+}
+
+#[test]
+fn gate_holds_group_1(rt: HostRuntime) {
+    expect_held(&rt, &Holding::new(1, 0));
+}
+
+const ASKED: [(&[&str], u32, u32, EngineKind); 4] = [
+    (&[], 4, 16, EngineKind::Dif),
+    (
+        &["-w", "16", "-g", "4096", "-e", "tree"],
+        16,
+        4096,
+        EngineKind::Tree,
+    ),
+    (&["-w1", "-g1", "-edif"], 1, 1, EngineKind::Dif),
+    (&["-g", "+7"], 4, 7, EngineKind::Dif),
+];
+
+#[test]
+fn words_name_a_plan(rt: HostRuntime) -> Result<(), Fail> {
+    for (words, workers, groups, engine) in ASKED {
+        match read_words(rt.alloc(), words) {
+            Ok(asked) => {
+                let plan = Plan {
+                    workers,
+                    groups: GroupPlan::Dealt(groups),
+                    engine,
+                };
+                assert!(rt; asked.plan == plan);
+                assert!(rt; asked.file.is_none());
+            }
+            Err(_) => assert!(rt; false),
+        }
+    }
+    Ok(())
+}
+
+const MISTAKES: [&[&str]; 7] = [
+    &["-w", "0"],
+    &["-w", "17"],
+    &["-g", "0"],
+    &["-g", "4097"],
+    &["-e", "jit"],
+    &["-e", ""],
+    &["-w"],
+];
+
+#[test]
+fn words_out_of_range_are_a_mistake(rt: HostRuntime) {
+    for words in MISTAKES {
+        let asked = read_words(rt.alloc(), words);
+        assert!(rt; matches!(asked, Err(UsageFault::Usage(_))));
+    }
 }

@@ -1,13 +1,14 @@
 //! The words after the program's name.
 
-ghost use Rattle.std.specs.Prelude.{◌≡◌, IfErr, IfOk, MatchResult, codes, map, option_map, string_bytes, true};
-ghost use Rattle.clap.specs.Words.{app_of, first_value, found_of, kind_of, takes};
+ghost use Rattle.std.specs.Prelude.{◌≡◌, ℕ, IfErr, IfOk, IfSome, MatchResult, None, codes, false, map, option_map, string_bytes, true};
+ghost use Rattle.clap.specs.Words.{app_of, found_of, kind_of, rows_of, rule_of, takes};
 ghost use Rattle.dreplay.specs.declared.words.UsageFault.TheVariants.{Memory};
-ghost use Rattle.dreplay.specs.Words.{Asks, IsFaultOf, IsToldAs, program};
+ghost use Rattle.dreplay.specs.Words as spec;
+ghost use Rattle.dreplay.specs.Words.{Asks, HasPlan, IsAskedIn, IsFaultOf, IsMistake, IsNumberIn, IsPlanFault, IsPlanIn, IsToldAs, engine_in, file_in, program};
 
 use crate::plan::{EngineKind, GroupPlan, Plan};
 use clap::error::ErrorKind;
-use clap::{Arg, ArgMatches, Command};
+use clap::{Arg, ArgMatches, Command, value_parser};
 use std::alloc::{AllocError, Global};
 use thiserror::Error;
 
@@ -47,6 +48,12 @@ and writes what the script shows";
 
 const SCRIPT: &str = "Take the script from FILE, and the trace alone from standard input";
 
+const WORKERS: &str = "Run groups of threads on N workers, from 1 to 16";
+
+const GROUPS: &str = "Deal the threads of the trace out into N groups, from 1 to 4096";
+
+const ENGINE: &str = "Run compiled code (dif), or walk the typed tree (tree)";
+
 const MORE: &str = "\
 Without -s, standard input is a bundle: a script, a line '---' and a trace.
 The script is in D, the language of DTrace. The trace is CSV, a header and a row for each firing,
@@ -72,20 +79,22 @@ dreplay-explain says what a refusal means, and what to do about it.";
 pub fn read_words<'a>(alloc: Global, words: &'a [&'a str]) -> Result<Asked, UsageFault>
     ensures exact { let given = map (λ w. w.now) words.now in
         MatchResult result (Asks given) (IsFaultOf given) }
-    ensures taken { takes program (map (λ w. w.now) words.now) ≡ true
-        → IfErr result (λ e. e ≡ Memory) }
+    ensures taken { let given = map (λ w. w.now) words.now in
+        takes program given ≡ true → HasPlan given → IfErr result (λ e. e ≡ Memory) }
 {
-    let command = command(alloc)?;
-    let matches = match command.try_get_matches_from(words) {
-        Ok(matches) => matches,
-        Err(error) => return Err(usage_fault(error)),
-    };
-    let file = file_named(alloc, &matches)?;
-    let plan = Plan {
-        workers: 1,
-        groups: GroupPlan::Dealt(1),
-        engine: EngineKind::Tree,
-    };
+    match command(alloc)?.try_get_matches_from(words) {
+        Ok(matches) => asked_in(alloc, &matches),
+        Err(error) => Err(usage_fault(error)),
+    }
+}
+
+// The file and the plan of clap's matches.
+fn asked_in(alloc: Global, matches: &ArgMatches<'_>) -> Result<Asked, UsageFault>
+    ensures { MatchResult result (IsAskedIn (rows_of (found_of matches.now)))
+        (IsPlanFault (rows_of (found_of matches.now))) }
+{
+    let file = file_named(alloc, matches)?;
+    let plan = plan_asked(alloc, matches)?;
     Ok(Asked { file, plan })
 }
 
@@ -93,25 +102,138 @@ pub fn read_words<'a>(alloc: Global, words: &'a [&'a str]) -> Result<Asked, Usag
 fn command<'a>(alloc: Global) -> Result<Command<'a>, AllocError>
     ensures { IfOk result (λ c. app_of c ≡ program) }
 {
-    let script = Arg::new(alloc, "script")
-        .short('s')
-        .value_name("FILE")
-        .help(SCRIPT);
     Command::new(alloc, "dreplay")
         .no_binary_name(true)
         .about(ABOUT)
         .after_help(MORE)
-        .arg(script)
+        .arg(option(alloc, "script", 's', "FILE", SCRIPT))?
+        .arg(number_option(alloc, "workers", 'w', 16, "4", WORKERS))?
+        .arg(number_option(alloc, "groups", 'g', 4096, "16", GROUPS))?
+        .arg(option_or(alloc, "engine", 'e', "ENGINE", "dif", ENGINE))
+}
+
+// An option of one letter.
+fn option<'a>(alloc: Global, id: &'a str, letter: char, value: &'a str, help: &'a str) -> Arg<'a>
+    ensures rule { rule_of result ≡ spec.option id.entry.now letter }
+    ensures local { result.global ≡ false }
+{
+    Arg::new(alloc, id)
+        .short(letter)
+        .value_name(value)
+        .help(help)
+}
+
+// One that has the value `default` where it isn't given.
+fn option_or<'a>(
+    alloc: Global,
+    id: &'a str,
+    letter: char,
+    value: &'a str,
+    default: &'a str,
+    help: &'a str,
+) -> Arg<'a>
+    ensures rule { rule_of result ≡ spec.option_or id.entry.now letter default.entry.now }
+    ensures local { result.global ≡ false }
+{
+    option(alloc, id, letter, value, help).default_value(default)
+}
+
+// One whose value is a number from 1 to `most`.
+fn number_option<'a>(
+    alloc: Global,
+    id: &'a str,
+    letter: char,
+    most: u32,
+    default: &'a str,
+    help: &'a str,
+) -> Arg<'a>
+    ensures rule { rule_of result ≡ spec.number_option id.entry.now letter most default.entry.now }
+    ensures local { result.global ≡ false }
+{
+    option_or(alloc, id, letter, "N", default, help).value_parser(value_parser!(u32).range(
+        1..=i64::from(most),
+    ))
 }
 
 // The file of the option -s, where it was given.
 fn file_named(alloc: Global, matches: &ArgMatches<'_>) -> Result<Option<String>, AllocError>
     ensures { IfOk result (λ file. option_map string_bytes file
-        ≡ first_value (found_of matches.now) (codes "script")) }
+        ≡ file_in (rows_of (found_of matches.now))) }
 {
     match matches.get_str("script") {
         Some(name) => Ok(Some(String::from_str(alloc, name)?)),
         None => Ok(None),
+    }
+}
+
+// How the run is to be carried out, by the options -w, -g and -e.
+fn plan_asked(alloc: Global, matches: &ArgMatches<'_>) -> Result<Plan, UsageFault>
+    ensures { MatchResult result (IsPlanIn (rows_of (found_of matches.now)))
+        (IsPlanFault (rows_of (found_of matches.now))) }
+{
+    let Some(workers) = number_named(matches, "workers", 1, 16) else {
+        return Err(out_of_range(alloc)?);
+    };
+    let Some(groups) = number_named(matches, "groups", 1, 4096) else {
+        return Err(out_of_range(alloc)?);
+    };
+    let Some(engine) = engine_named(matches) else {
+        return Err(no_engine(alloc)?);
+    };
+    Ok(Plan {
+        workers,
+        groups: GroupPlan::Dealt(groups),
+        engine,
+    })
+}
+
+// The mistake of a number that clap lets pass and that is none in its range. There is no such number.
+fn out_of_range(alloc: Global) -> Result<UsageFault, AllocError>
+    ensures { IfOk result (IsMistake ErrorKind.ValueValidation) }
+{
+    let error = command(alloc)?.error(ErrorKind::ValueValidation, "a number is out of range")?;
+    Ok(UsageFault::Usage(error))
+}
+
+// The mistake of a name that no engine has.
+fn no_engine(alloc: Global) -> Result<UsageFault, AllocError>
+    ensures { IfOk result (IsMistake ErrorKind.InvalidValue) }
+{
+    let error = command(alloc)?.error(ErrorKind::InvalidValue, "the engine is dif or tree")?;
+    Ok(UsageFault::Usage(error))
+}
+
+// The number of an option, where it has one in these bounds.
+fn number_named(matches: &ArgMatches<'_>, id: &str, low: u32, high: u32) -> Option<u32>
+    ensures some { IfSome result (IsNumberIn low high (rows_of (found_of matches.now)) id.now) }
+    ensures none { result ≡ None
+        → (n : ℕ) → ¬ IsNumberIn low high (rows_of (found_of matches.now)) id.now n }
+{
+    let number = matches.get_one::<u32>(id)?;
+    if low <= number && number <= high {
+        Some(number)
+    } else {
+        None
+    }
+}
+
+// The engine of the option -e, where there is one of that name.
+fn engine_named(matches: &ArgMatches<'_>) -> Option<EngineKind>
+    ensures { result ≡ engine_in (rows_of (found_of matches.now)) }
+{
+    let name = matches.get_str("engine")?;
+    engine_called(name)
+}
+
+fn engine_called(name: &str) -> Option<EngineKind>
+    ensures { result ≡ spec.engine_called name.now }
+{
+    if name == "dif" {
+        Some(EngineKind::Dif)
+    } else if name == "tree" {
+        Some(EngineKind::Tree)
+    } else {
+        None
     }
 }
 

@@ -118,3 +118,20 @@ follows_first fs [] first is lt h = absurd cc
 follows_first fs (g ∷ gs) first is lt h =
     let same : first ≡ g = cc in
     rw (last_more fs gs g) (rises_from (last_number fs) g gs (last_number (g ∷ gs)) (rw same at lt) h)
+
+-- ---- records
+
+-- where rows end, records end
+pub records_join : (a : List ℕ) (fs : List Firing) (b : List ℕ) → ReadsRows a fs (10 ∷ [])
+    → left_in st.StartRecord (Some (a ++ b)) ≡ left_in st.StartRecord (Some a) ++ left_in st.StartRecord (Some b)
+unfolding ReadsRows
+records_join a [] b is = rw (is, skip_feed b, left_none st.StartRecord (10 ∷ []) only_feed) refl
+records_join a (f ∷ fs) b (mid, h, more) =
+    let left = left_in st.StartRecord in
+    let read : next_record default_config st.StartRecord [] [] a ≡ Some (h.fields, st.StartRecord, h.after) = rw (append-nil a, append-nil h.after) at (h.read []) in
+    let one = (left_more st.StartRecord a (h.fields, st.StartRecord, h.after) refl read).0 in
+    let both = (left_more st.StartRecord (a ++ b) (h.fields, st.StartRecord, h.after ++ b) refl (h.read b)).0 in
+    let mid_is : left (Some mid) ≡ left (Some h.after) = ap (λ (l : List ℕ). left_in st.StartRecord (Some l)) h.is_rest ∙ skip_feed h.after in
+    let mid_both : left (Some (mid ++ b)) ≡ left (Some (h.after ++ b)) = ap (λ (l : List ℕ). left_in st.StartRecord (Some (l ++ b))) h.is_rest ∙ skip_feed (h.after ++ b) in
+    both ∙ ap (λ (l : List (List (List ℕ))). h.fields ∷ l) (sym mid_both ∙ records_join mid fs b more ∙ ap (λ (l : List (List (List ℕ))). l ++ left_in st.StartRecord (Some b)) mid_is)
+    ∙ sym (ap (λ (l : List (List (List ℕ))). l ++ left_in st.StartRecord (Some b)) one)

@@ -1,14 +1,13 @@
 -- The firings that count are those up to the first that exits.
-use Rattle.std.specs.Prelude.{◌≡◌, ℕ, zero, suc, ◌+◌, ◌-◌, ◌<◌, ◌≤◌, nat_le, List, [], ◌∷◌, ◌++◌, All, filter, map, length, slice_get, Bool, true, false, if◌then◌else◌, Option, None, Some, is_some, option_map}
+use Rattle.std.specs.Prelude.{◌≡◌, ℕ, suc, ◌-◌, ◌<◌, ◌≤◌, nat_le, List, [], ◌∷◌, ◌++◌, filter, map, length, slice_get, if◌then◌else◌, Option, None, Some, is_some, option_map}
 use Rattle.std.specs.List.Sorted.{IsStrictlyIncreasing}
 use Rattle.std.specs.Option.{option_map_or, option_or}
 use Rattle.std.proofs.Common.{refl, sym, ap, ◌∙◌, subst, arith, add-one}
 use Rattle.std.proofs.lemmas.Bool.{le-leb, lt-leb}
 use Rattle.std.proofs.lemmas.List.Elements.{All-get_or}
-use Rattle.d_types.specs.Clauses.{Made}
 use Rattle.d_types.specs.Typed.{ScriptMeant}
 use Rattle.firing_reader.specs.declared.firing.Firing.{Firing}
-use Rattle.firing_reader.specs.Ends.{begin_of, end_of, with_ends}
+use Rattle.firing_reader.specs.Ends.{begin_of, end_of}
 use Rattle.firing_reader.specs.Firings.{IsFiring, number_of}
 use Rattle.firing_reader.specs.Trace.{IsTrace, last_number}
 use Rattle.replay_core.specs.Exit.{firings_over, up_to}
@@ -20,7 +19,7 @@ abbrev pub Rises : ℕ → List Firing → Type 0
 Rises n [] = Unit {0}
 Rises n (f ∷ fs) = (n < f.number) × Rises f.number fs
 
-rises_less : (m n : ℕ) (fs : List Firing) → m ≤ n → Rises n fs → Rises m fs
+pub rises_less : (m n : ℕ) (fs : List Firing) → m ≤ n → Rises n fs → Rises m fs
 rises_less m n [] le r = tt
 rises_less m n (f ∷ fs) le r = (omega (arith, r.0), r.1)
 
@@ -32,7 +31,7 @@ none_up_to n (f ∷ fs) r =
     ∙ none_up_to n fs (rises_less n f.number fs (omega (arith, r.0)) r.1)
 
 -- an exit is at one of the firings, whose numbers are above n
-late : (m : ScriptMeant) (n : ℕ) (fs : List Firing) (threads : Threads) → Rises n fs → (x : ℕ × ℕ) → exit_of (history m fs threads) ≡ Some x → n < x.0
+pub late : (m : ScriptMeant) (n : ℕ) (fs : List Firing) (threads : Threads) → Rises n fs → (x : ℕ × ℕ) → exit_of (history m fs threads) ≡ Some x → n < x.0
 late m n [] threads r x e = cc
 late m n (f ∷ fs) threads r x e =
     elim (made_of m f (threads f.thread)).exit as (λ o. option_or (option_map (λ status. (f.number, status)) o) (exit_of (history m fs (threads_after m f threads))) ≡ Some x → n < x.0) [

@@ -10,8 +10,9 @@ pub mod RunLemmas
 pub mod PlaceLemmas
 pub mod DescriptionLemmas
 pub mod ExitLemmas
-pub mod GroupLemmas
 pub mod TreeLemmas
+pub mod FormLemmas
+pub mod ProgramLemmas
 pub mod Weights
 pub mod GroupSums
 pub mod Restricting
@@ -23,3 +24,13 @@ pub mod Merging
 pub mod SamePieces
 pub mod PlaceSteps
 pub mod CollectSteps
+pub mod GroupFirings
+pub mod TraceRuns
+pub mod WorkSteps
+pub mod Parts
+pub mod Collectable
+pub mod WholeOf
+pub mod WithoutExit
+pub mod BeginLemmas
+pub mod RoundOne
+pub mod Rounds

@@ -18,7 +18,7 @@ use Rattle.replay_core.specs.Running.{IsLaneOf, threads_over, until_exit}
 
 -- ---- a history in two parts
 
-history_append : (m : ScriptMeant) (fs gs : List Firing) (threads : Threads) → history m (fs ++ gs) threads ≡ history m fs threads ++ history m gs (threads_over m fs threads)
+pub history_append : (m : ScriptMeant) (fs gs : List Firing) (threads : Threads) → history m (fs ++ gs) threads ≡ history m fs threads ++ history m gs (threads_over m fs threads)
 history_append m [] gs threads = refl
 history_append m (f ∷ fs) gs threads = ap (λ r. (f, made_of m f (threads f.thread)) ∷ r) (history_append m fs gs (threads_after m f threads))
 
@@ -30,7 +30,7 @@ exit_first : {A : Type 0} (a b c : Option A) → option_or a (option_or b c) ≡
 exit_first None b c = refl
 exit_first (Some x) b c = refl
 
-exit_append : (r s : List (Firing × Made)) → exit_of (r ++ s) ≡ option_or (exit_of r) (exit_of s)
+pub exit_append : (r s : List (Firing × Made)) → exit_of (r ++ s) ≡ option_or (exit_of r) (exit_of s)
 exit_append [] s = refl
 exit_append (x ∷ r) s =
     ap (option_or (option_map (λ status. (x.0.number, status)) x.1.exit)) (exit_append r s)
@@ -58,54 +58,3 @@ fires_more m fs f old new lane fires =
     }
 
 -- ---- rows up to the first that exits
-
--- the rows that are left run as all did from the start
-pub record RowsRun (m : ScriptMeant) (before all left : List Firing) (old new : LaneSeen) : Type 0 where
-  pub run : IsLaneOf m before old → (end : LaneSeen)
-      → ((done : List Firing) → IsLaneOf m done new → IsLaneOf m (done ++ until_exit m left new.threads) end)
-      → IsLaneOf m (before ++ until_exit m all old.threads) end
-
-pub rows_start : (m : ScriptMeant) (before all : List Firing) (lane : LaneSeen) → RowsRun m before all all lane lane
-rows_start m before all lane = record { run = λ is end go. go before is }
-
-pub until_first : (m : ScriptMeant) (f : Firing) (fs : List Firing) (threads : Threads) → is_some (made_of m f (threads f.thread)).exit ≡ false
-    → until_exit m (f ∷ fs) threads ≡ f ∷ until_exit m fs (threads_after m f threads)
-until_first m f fs threads e = ap (λ b. f ∷ (if b then [] else until_exit m fs (threads_after m f threads))) e
-
-pub until_this : (m : ScriptMeant) (f : Firing) (fs : List Firing) (threads : Threads) → is_some (made_of m f (threads f.thread)).exit ≡ true
-    → until_exit m (f ∷ fs) threads ≡ f ∷ []
-until_this m f fs threads e = ap (λ b. f ∷ (if b then [] else until_exit m fs (threads_after m f threads))) e
-
--- one more row, which doesn't exit
-pub rows_more : (m : ScriptMeant) (before all left : List Firing) (f : Firing) (old new next : LaneSeen) → RowsRun m before all (f ∷ left) old new
-    → Fires m f new next → is_some (made_of m f (new.threads f.thread)).exit ≡ false → RowsRun m before all left old next
-rows_more m before all left f old new next so_far fires stays = record {
-  run = λ is end go. so_far.run is end (λ done lane.
-      subst (λ l. IsLaneOf m l end)
-      (append_assoc done (f ∷ []) (until_exit m left next.threads)
-      ∙ ap (λ t. done ++ f ∷ until_exit m left t) fires.threads
-      ∙ ap (λ l. done ++ l) (sym (until_first m f left new.threads stays)))
-      (go (done ++ f ∷ []) (fires_more m done f new next lane fires)));
-}
-
--- a row that exits is the last
-pub rows_exit : (m : ScriptMeant) (before all left : List Firing) (f : Firing) (old new next : LaneSeen) → RowsRun m before all (f ∷ left) old new
-    → Fires m f new next → is_some (made_of m f (new.threads f.thread)).exit ≡ true
-    → IsLaneOf m before old → IsLaneOf m (before ++ until_exit m all old.threads) next
-rows_exit m before all left f old new next so_far fires exits is =
-    so_far.run is next (λ done lane.
-    subst (λ l. IsLaneOf m l next) (ap (λ l. done ++ l) (sym (until_this m f left new.threads exits))) (fires_more m done f new next lane fires))
-
-append_nil : {A : Type 0} (xs : List A) → xs ≡ xs ++ []
-append_nil [] = refl
-append_nil (x ∷ xs) = ap (λ l. x ∷ l) (append_nil xs)
-
--- none is left
-pub rows_all : (m : ScriptMeant) (before all : List Firing) (old new : LaneSeen) → RowsRun m before all [] old new
-    → IsLaneOf m before old → IsLaneOf m (before ++ until_exit m all old.threads) new
-rows_all m before all old new so_far is = so_far.run is new (λ done lane. subst (λ l. IsLaneOf m l new) (append_nil done) lane)
-
--- what a lane answers is whether the firing exits
-pub exits_is : (m : ScriptMeant) (f : Firing) (threads : Threads) (exits : Bool) → exits ≡ is_some (exit_of (history m (f ∷ []) threads))
-    → is_some (made_of m f (threads f.thread)).exit ≡ exits
-exits_is m f threads exits e = some_same (λ status. (f.number, status)) (made_of m f (threads f.thread)).exit ∙ sym e

@@ -1,15 +1,26 @@
 -- The variables of threads, before and after a firing.
-use Rattle.std.specs.Prelude.{◌≡◌, ℕ, ℤ, List, [], Bool, true, false, if◌then◌else◌, Option, None, Some, IsSome}
+use Rattle.std.specs.Prelude.{◌≡◌, ℕ, zero, suc, ℤ, List, [], ◌∷◌, All, filter, map, Bool, true, false, if◌then◌else◌, Option, None, Some, IsSome}
 use Rattle.std.specs.Map.{lookup, set_value}
 use Rattle.std.specs.Ordering.{int_eq}
-use Rattle.std.proofs.Common.{refl, rules, sym, ap, ◌∙◌, subst}
+use Rattle.std.proofs.Common.{refl, arith, rules, sym, ap, ◌∙◌, subst}
 use Rattle.std.proofs.lemmas.Cmp.{int_eq_equiv}
+use Rattle.std.proofs.lemmas.List.Elements.{All-append}
 use Rattle.std.proofs.lemmas.Map.{lookup-set_value}
+use Rattle.d_parser.specs.declared.tree.Description.{Description}
+use Rattle.d_values.specs.declared.key.KeyPart.{KeyPart}
+use Rattle.d_values.specs.declared.value.Value.{Value}
+use Rattle.d_values.specs.declared.variable.Var.{Var}
 use Rattle.d_values.specs.Stores.{Locals, Own}
-use Rattle.d_types.specs.Clauses.{Made}
-use Rattle.d_types.specs.Storage.{variables}
+use Rattle.d_types.specs.Clauses.{Made, run_of}
+use Rattle.d_types.specs.Held.{AreTyped, AreTypedOwn, HasTypedBuiltIns, Slots, slots_of}
+use Rattle.d_types.specs.Storage.{Variables, variables}
+use Rattle.d_types.specs.Typed.{ClauseMeant, ScriptMeant}
+use Rattle.d_types.proofs.FiringValues.{locals_unassigned}
+use Rattle.firing_reader.specs.declared.firing.Firing.{Firing}
 use Rattle.replay_core.specs.declared.tables.Tables.{Tables}
-use Rattle.replay_core.specs.Meaning.{at_start}
+use Rattle.replay_core.specs.Meaning.{Threads, at_start, clauses_for, in_turn, made_of, threads_after}
+use Rattle.replay_core.specs.Patterns.{probe_of, selects}
+use Rattle.replay_core.specs.Scripts.{AreTypedThreads, Keeps}
 use Rattle.replay_core.specs.Threads.{own_in, threads_in}
 
 -- ---- how a firing begins
@@ -23,6 +34,9 @@ pub started_new : (entries : List (ℤ × Tables)) (thread : ℤ) (locals : Loca
     → variables locals own ≡ at_start (threads_in entries thread)
 started_new entries thread locals own had none empty =
     ap (λ l. variables l own) none ∙ ap (λ o. variables [] o) empty ∙ ap (λ o. at_start (own_in o)) (sym had)
+
+pub typed_start : (slots : Slots) (vars : Variables) (own : Var → List KeyPart → Value) → vars ≡ at_start own → AreTypedOwn slots own → AreTyped slots vars
+typed_start slots vars own is typed = subst (AreTyped slots) (sym is) (locals_unassigned slots, typed)
 
 -- ---- what it leaves
 
@@ -48,3 +62,37 @@ pub thread_written : (old new : List (ℤ × Tables)) (thread : ℤ) (tables : T
     → (t : ℤ) → threads_in new t ≡ (if int_eq t thread then made.variables.own else threads_in old t)
 thread_written old new thread tables made writes is t =
     ap own_in (writes t) ∙ own_chosen tables (lookup (int_eq t) old) made is (int_eq thread t) (int_eq t thread) (int_eq_equiv.symm thread t)
+
+-- ---- types
+
+module _ (slots : Slots) (f : Firing) (fit : HasTypedBuiltIns f) where
+  -- clauses that run one after the other keep the variables' types
+  abbrev AllKeep : List (ℕ × ClauseMeant) → Type 0
+  AllKeep cs = All (λ c. Keeps slots c.1) cs
+
+  turn_kept : (cs : List (ℕ × ClauseMeant)) (vars : Variables) → AllKeep cs → AreTyped slots vars → AreTyped slots (in_turn f cs vars).variables
+  turn_kept [] vars keep typed = typed
+  turn_kept (c ∷ cs) vars keep typed =
+      turn_kept cs (run_of f c.0 c.1 vars).variables (λ k d lt. keep (suc k) d (omega (arith, lt)))
+      (keep 0 c (omega arith) f c.0 vars fit typed)
+
+  same_kept : (place : ℕ) (c : ClauseMeant) (ds : List Description) → Keeps slots c → AllKeep (map (λ d. (place, c)) ds)
+  same_kept place c [] keep k d lt = absurd (omega arith)
+  same_kept place c (x ∷ ds) keep zero d lt = keep
+  same_kept place c (x ∷ ds) keep (suc k) d lt = same_kept place c ds keep k d (omega (arith, lt))
+
+  for_kept : (place : ℕ) (cs : List ClauseMeant) → All (Keeps slots) cs → AllKeep (clauses_for f place cs)
+  for_kept place [] keep = λ k d lt. absurd (omega arith)
+  for_kept place (c ∷ cs) keep =
+      All-append (λ x. Keeps slots x.1) (map (λ d. (place, c)) (filter (λ d. selects d (probe_of f)) c.descriptions)) (clauses_for f (suc place) cs)
+      (same_kept place c (filter (λ d. selects d (probe_of f)) c.descriptions) (keep 0 c (omega arith)))
+      (for_kept (suc place) cs (λ k d lt. keep (suc k) d (omega (arith, lt))))
+
+pub typed_after : (m : ScriptMeant) (f : Firing) (threads : Threads) → All (Keeps (slots_of m)) m.clauses → HasTypedBuiltIns f
+    → AreTypedThreads (slots_of m) threads → AreTypedThreads (slots_of m) (threads_after m f threads)
+typed_after m f threads keep fit typed thread =
+    elim (int_eq thread f.thread) as (λ b. AreTypedOwn (slots_of m) (if b then (made_of m f (threads f.thread)).variables.own else threads thread)) [
+      | true ↦ (turn_kept (slots_of m) f fit (clauses_for f 1 m.clauses) (at_start (threads f.thread)) (for_kept (slots_of m) f fit 1 m.clauses keep)
+          (locals_unassigned (slots_of m), typed f.thread)).1
+      | false ↦ typed thread
+    ]

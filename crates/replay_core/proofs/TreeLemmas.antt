@@ -1,7 +1,7 @@
 -- What each typed script keeps is what a lane asks for.
-use Rattle.std.specs.Prelude.{◌≡◌, ℕ, zero, suc, ◌+◌, ◌<◌, ◌≤◌, List, [], ◌∷◌, All, Option, length, map, max, sum_by}
+use Rattle.std.specs.Prelude.{◌≡◌, ℕ, zero, suc, ◌+◌, ◌<◌, ◌≤◌, List, [], ◌∷◌, All, Option, length, map, sum_by}
 use Rattle.std.specs.List.{AllZip}
-use Rattle.std.proofs.Common.{refl, sym, ap, ◌∙◌, subst, arith, get_or}
+use Rattle.std.proofs.Common.{refl, ap, ◌∙◌, subst, arith, get_or}
 use Rattle.std.proofs.Math.ListN as math
 use Rattle.std.proofs.lemmas.List.{length-map}
 use Rattle.std.proofs.lemmas.List.Sums.{sum_by-cons}
@@ -9,14 +9,19 @@ use Rattle.d_parser.specs.Sizes.{in_all}
 use Rattle.d_values.specs.declared.int_type.DType.{DType}
 use Rattle.d_types.specs.declared.typed.TypedAggregation.{TypedAggregation}
 use Rattle.d_types.specs.declared.typed.TypedClause.{TypedClause}
-use Rattle.d_types.specs.Proper.{IsProperAction, IsProperScript}
+use Rattle.d_types.specs.Proper.{IsProperAction}
 use Rattle.d_types.specs.Scripts.{IsMeant}
-use Rattle.d_types.specs.Sizes.{descriptions, statements, HasAtMost}
-use Rattle.d_types.specs.Typed.{Action, Aggregate, Aggs, Evaluate, Exit, Print, ScriptMeant, Trace, agg_of, meant_of, script_meant}
+use Rattle.d_types.specs.Sizes.{descriptions, statements}
+use Rattle.d_types.specs.Typed.{Action, Aggregate, Aggs, ClauseMeant, Evaluate, Exit, Print, ScriptMeant, Trace, agg_of, meant_of, script_meant}
+use Rattle.d_types.specs.Held.{IsConsistent, Slots, slots_of}
+use Rattle.d_types.specs.Wholes.{ClauseIs}
+use Rattle.d_types.proofs.ConsistentScripts.{script_is_consistent}
+use Rattle.d_types.proofs.HoldingRuns.{run_kept}
 use Rattle.d_types.proofs.Proper.{script_is_proper}
 use Rattle.d_types.proofs.Sizes.{typed_script_is_small}
 use Rattle.replay_core.specs.Bounds.{place_in, places_among, places_in}
-use Rattle.replay_core.specs.Scripts.{functions_in}
+use Rattle.replay_core.specs.Scripts.{Keeps}
+use Rattle.d_types.specs.Typed.{functions_in}
 
 place_below : (aggs : Aggs) (a : Action) → IsProperAction aggs a → place_in a ≤ length aggs
 place_below aggs (Evaluate x) is = omega arith
@@ -32,10 +37,13 @@ places_below aggs (a ∷ rest) are =
     let others = places_below aggs rest (λ k d lt. are (suc k) d (omega arith)) in
     omega (arith, first, others)
 
-one_of_all : {A : Type 0} (h : A → ℕ) (xs : List A) (k : ℕ) (d : A) → k < length xs → h (get_or xs k d) ≤ in_all h xs
+pub one_of_all : {A : Type 0} (h : A → ℕ) (xs : List A) (k : ℕ) (d : A) → k < length xs → h (get_or xs k d) ≤ in_all h xs
 one_of_all h [] k d lt = absurd (omega arith)
 one_of_all h (x ∷ xs) zero d lt = omega arith
 one_of_all h (x ∷ xs) (suc k) d lt = let less = one_of_all h xs k d (omega arith) in omega arith
+
+pub script_named : (m : ScriptMeant) → ∥ IsMeant m ∥₁ → All (λ c. places_in c ≤ length m.aggregations) m.clauses
+script_named m typed k d lt = places_below m.aggregations (get_or m.clauses k d).statements (script_is_proper m typed k d lt).statements
 
 -- the sum, by recursion from the front
 total : (cs : List TypedClause) → sum_by (λ c. length c.descriptions.items) cs ≡ in_all descriptions (map meant_of cs)
@@ -75,3 +83,11 @@ trees_mean (c ∷ cs) = (refl, trees_mean cs)
 pub functions_same : (clauses : List TypedClause) (aggs : List TypedAggregation) (slots : List (Option DType)) → map (λ a. a.function) aggs ≡ functions_in (script_meant clauses aggs slots)
 functions_same clauses [] slots = refl
 functions_same clauses (a ∷ aggs) slots = ap (λ l. a.function ∷ l) (functions_same clauses aggs slots)
+
+-- ---- types
+
+clauses_keep : (slots : Slots) (cs : List ClauseMeant) → All (ClauseIs (IsConsistent slots)) cs → All (Keeps slots) cs
+clauses_keep slots cs are k d lt f place vars fit typed = run_kept slots f fit place (get_or cs k d) vars (are k d lt) typed
+
+pub script_keeps : (m : ScriptMeant) → ∥ IsMeant m ∥₁ → All (Keeps (slots_of m)) m.clauses
+script_keeps m meant = clauses_keep (slots_of m) m.clauses (script_is_consistent m meant)

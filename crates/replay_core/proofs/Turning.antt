@@ -1,10 +1,10 @@
 -- The turns that are left, and those that were taken.
-use Rattle.std.specs.Prelude.{◌≡◌, ℕ, zero, suc, ◌+◌, ◌<◌, List, [], ◌∷◌, slice_get, Bool, true, false, ◌||◌, Option, None, Some, is_some, length}
+use Rattle.std.specs.Prelude.{◌≡◌, ℕ, zero, suc, ◌<◌, List, [], ◌∷◌, All, slice_get, Bool, true, false, ◌||◌, Option, None, Some, is_some, length}
 use Rattle.std.specs.Option.{option_or}
 use Rattle.std.specs.List.{AllZip}
 use Rattle.std.proofs.Common.{refl, sym, ap, ◌∙◌, subst, arith, get_or}
-use Rattle.d_types.specs.Clauses.{Made, run_of}
-use Rattle.d_types.specs.Clauses.{nothing, and_then}
+use Rattle.d_types.specs.Clauses.{Made}
+use Rattle.d_types.specs.Clauses.{and_then}
 use Rattle.d_types.specs.Storage.{Variables}
 use Rattle.d_types.specs.Typed.{ClauseMeant}
 use Rattle.firing_reader.specs.declared.firing.Firing.{Firing}
@@ -26,6 +26,14 @@ zip_at R [] ys i d zip lt = absurd (omega arith)
 zip_at R (x ∷ xs) [] i d zip lt = absurd zip
 zip_at R (x ∷ xs) (y ∷ ys) zero d zip lt = (y, refl, zip.0)
 zip_at R (x ∷ xs) (y ∷ ys) (suc i) d zip lt = zip_at R xs ys i d zip.1 (omega arith)
+
+-- and what is true of all that stands there
+pub zip_with_at : {A B : Type 0} (R : A → B → Type 0) (P : B → Type 0) (xs : List A) (ys : List B) (i : ℕ) (d : A) → AllZip R xs ys → All P ys
+    → i < length xs → (y : B) × (slice_get ys i ≡ Some y) × R (get_or xs i d) y × P y
+zip_with_at R P [] ys i d zip all lt = absurd (omega arith)
+zip_with_at R P (x ∷ xs) [] i d zip all lt = absurd zip
+zip_with_at R P (x ∷ xs) (y ∷ ys) zero d zip all lt = (y, refl, zip.0, all zero y (omega arith))
+zip_with_at R P (x ∷ xs) (y ∷ ys) (suc i) d zip all lt = zip_with_at R P xs ys i d zip.1 (λ k e less. all (suc k) e (omega (arith, less))) (omega arith)
 
 module _ (f : Firing) (cs : List ClauseMeant) where
   pub continues_start : (all : List ℕ) (vars : Variables) (p : PieceSeen) → Continues f cs all all vars vars p p false

@@ -1,6 +1,7 @@
 -- Which firings of a trace count, and how the run ends.
-use Rattle.std.specs.Prelude.{ℕ, nat_le, List, filter, Option, None, Some, option_map, unwrap_or}
-use Rattle.d_types.specs.Typed.{ScriptMeant}
+use Rattle.std.specs.Prelude.{ℕ, Bool, true, false, nat_le, List, filter, Option, None, Some, option_map, unwrap_or}
+use Rattle.std.specs.List.{list_any}
+use Rattle.d_types.specs.Typed.{Action, Exit, ScriptMeant}
 use Rattle.d_types.specs.Clauses.{Made}
 use Rattle.firing_reader.specs.declared.firing.Firing.{Firing}
 use Rattle.firing_reader.specs.Ends.{with_ends}
@@ -22,3 +23,13 @@ history_over m trace = history m (firings_over m trace) unassigned
 -- the status of its exit, or 0
 abbrev pub exit_status : List (Firing × Made) → ℕ
 exit_status h = unwrap_or (option_map (λ exit. exit.1) (exit_of h)) 0
+
+-- ---- scripts without an exit
+
+abbrev pub is_exit : Action → Bool
+is_exit (Exit a) = true
+is_exit a = false
+
+-- some statement of the script is an exit
+abbrev pub has_exit : ScriptMeant → Bool
+has_exit m = list_any (λ c. list_any is_exit c.statements) m.clauses

@@ -1,6 +1,5 @@
 -- Groups of threads, and what each has of a run.
-use Rattle.std.specs.Prelude.{ℕ, ◌<◌, List, All, IsSomeAnd, map, Some, pos, if◌then◌else◌}
-use Rattle.std.specs.Ordering.{int_eq}
+use Rattle.std.specs.Prelude.{ℕ, ◌<◌, List, All, IsSomeAnd, map}
 use Rattle.std.specs.List.{flat_map}
 use Rattle.firing_reader.specs.declared.firing.Firing.{Firing}
 use Rattle.firing_reader.specs.Firings.{number_of}
@@ -19,7 +18,3 @@ over_groups grouping given = flat_map given (below grouping.count)
 -- the numbers of each group's firings, group by group
 abbrev pub numbers_by_group : Grouping → List Firing → List (List ℕ)
 numbers_by_group grouping fs = map (λ g. map number_of (of_group grouping g fs)) (below grouping.count)
-
--- the threads of the rows in one group, and that of BEGIN and END in another after it
-abbrev pub one_group : Grouping
-one_group = record { count = 2; group = λ thread. Some (if int_eq thread (pos 0) then 1 else 0) }

@@ -11,11 +11,15 @@ pub mod Seen
 pub mod Threads
 pub mod Turns
 pub mod Effects
+pub mod Forms
 pub mod Scripts
-pub mod Wholes
+pub mod Compiled
 pub mod Running
 pub mod Evaluation
 pub mod Uniting
 pub mod Tables
 pub mod PiecePlaces
 pub mod Collecting
+pub mod Working
+pub mod Beginnings
+pub mod Crews

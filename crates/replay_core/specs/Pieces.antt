@@ -1,12 +1,12 @@
 -- What pieces and wholes are of.
 use Rattle.std.specs.Prelude.{◌≡◌, ℕ, List, map, Option}
+use Rattle.std.specs.List.{flat_map}
 use Rattle.aggregations.specs.Table.{Aggregation, StandsFor, functions_of}
-use Rattle.d_types.specs.Typed.{ScriptMeant}
-use Rattle.replay_core.specs.Scripts.{functions_in}
+use Rattle.d_types.specs.Typed.{ScriptMeant, functions_in}
 use Rattle.firing_reader.specs.declared.firing.Firing.{Firing}
 use Rattle.firing_reader.specs.Firings.{number_of}
 use Rattle.replay_core.specs.Meaning.{unassigned, history, texts_of, contributions_of, exit_of}
-use Rattle.replay_core.specs.Groups.{Grouping, numbers_by_group}
+use Rattle.replay_core.specs.Groups.{Grouping, SameItems, numbers_by_group}
 
 -- a lane's piece as contracts see it
 pub record PieceSeen : Type 0 where
@@ -40,3 +40,7 @@ pub record IsWholeOf (m : ScriptMeant) (fs : List Firing) (grouping : Grouping) 
   pub table : StandsFor w.table (contributions_of (history m fs unassigned))
   pub ran : w.ran ≡ numbers_by_group grouping fs
   pub exit : w.exit ≡ exit_of (history m fs unassigned)
+
+-- the whole has the number of each of these firings once
+abbrev pub RunsEachOnce : List Firing → WholeSeen → Type 0
+RunsEachOnce fs w = SameItems (flat_map (λ group. group) w.ran) (map number_of fs)

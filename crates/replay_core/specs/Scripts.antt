@@ -1,16 +1,35 @@
 -- When clauses of an engine are those of a script.
-use Rattle.std.specs.Prelude.{◌≡◌, List, map}
+use Rattle.std.specs.Prelude.{◌≡◌, ℕ, ℤ, List, All, map}
 use Rattle.std.specs.List.{AllZip}
 use Rattle.aggregations.specs.declared.function.AggFn.{AggFn}
 use Rattle.d_parser.specs.declared.tree.Description.{Description}
-use Rattle.d_types.specs.Typed.{ClauseMeant, ScriptMeant}
+use Rattle.d_types.specs.Clauses.{run_of}
+use Rattle.d_types.specs.Held.{AreTyped, AreTypedOwn, HasTypedBuiltIns, Slots, slots_of}
+use Rattle.d_types.specs.Storage.{Variables}
+use Rattle.d_types.specs.Typed.{ClauseMeant, ScriptMeant, functions_in}
+use Rattle.firing_reader.specs.declared.firing.Firing.{Firing}
+use Rattle.replay_core.specs.Meaning.{Threads}
 
--- the functions of a script's aggregations
-abbrev pub functions_in : ScriptMeant → List AggFn
-functions_in m = map (λ a. a.function) m.aggregations
+-- variables that hold values of their types do so after each run of the clause
+abbrev pub Keeps : Slots → ClauseMeant → Type 0
+Keeps slots c = (f : Firing) (place : ℕ) (vars : Variables) → HasTypedBuiltIns f
+    → AreTyped slots vars → AreTyped slots (run_of f place c vars).variables
 
--- each clause means the script's, with its descriptions, and the aggregations have the script's functions
-pub record RunsAs {C : Type 0} (means : C → ClauseMeant → Type 0) (clauses : List C) (descriptions : List (List Description)) (functions : List AggFn) (m : ScriptMeant) : Type 0 where
-  pub clauses_mean : AllZip means clauses m.clauses
+-- what each thread keeps is of the types of the variables
+abbrev pub AreTypedThreads : Slots → Threads → Type 0
+AreTypedThreads slots threads = (thread : ℤ) → AreTypedOwn slots (threads thread)
+
+-- an engine's clauses mean these, one by one, and these keep the types of the variables
+pub record AllMean {C : Type 0} (means : C → Slots → ClauseMeant → Type 0) (slots : Slots)
+    (clauses : List C) (cs : List ClauseMeant) : Type 0 where
+  pub each : AllZip (λ c. means c slots) clauses cs
+  pub keep : All (Keeps slots) cs
+
+-- each clause means the script's, with its descriptions, and the aggregations have the script's
+-- functions
+pub record RunsAs {C : Type 0} (means : C → Slots → ClauseMeant → Type 0) (clauses : List C)
+    (descriptions : List (List Description)) (functions : List AggFn) (m : ScriptMeant)
+    : Type 0 where
+  pub clauses_mean : AllMean means (slots_of m) clauses m.clauses
   pub are_described : descriptions ≡ map (λ c. c.descriptions) m.clauses
   pub have_functions : functions ≡ functions_in m

@@ -1,5 +1,5 @@
 -- Pieces and wholes as contracts see them.
-use Rattle.std.specs.Prelude.{◌≡◌, [], None, map}
+use Rattle.std.specs.Prelude.{◌≡◌, ◌≤◌, ◌*◌, ◌^◌, [], None, length, map}
 use Rattle.aggregations.specs.Table.{StandsFor, count_held}
 use Rattle.replay_core.specs.declared.piece.Piece.{Piece}
 use Rattle.replay_core.specs.declared.whole.Whole.{Whole}
@@ -9,7 +9,12 @@ abbrev pub piece_seen : Piece → PieceSeen
 piece_seen p = record { texts = p.texts.items; table = p.table; taken = p.taken.items; exit = p.exit }
 
 abbrev pub whole_seen : Whole → WholeSeen
-whole_seen w = record { texts = w.texts.items; table = w.table; ran = map (λ group. group.items) w.ran.items; exit = w.exit }
+whole_seen w = record {
+  texts = w.texts.items;
+  table = w.table;
+  ran = map (λ group. group.items) w.ran.items;
+  exit = w.exit;
+}
 
 -- a piece of no firing
 pub record IsEmptyPiece (p : Piece) : Type 0 where
@@ -18,3 +23,7 @@ pub record IsEmptyPiece (p : Piece) : Type 0 where
   pub held : count_held p.table ≡ 0
   pub taken : p.taken.items ≡ []
   pub exit : p.exit ≡ None
+
+-- a firing makes at most 2^32 contributions
+abbrev pub IsRoomy : Piece → Type 0
+IsRoomy p = count_held p.table ≤ 2 ^ 32 * length p.taken.items

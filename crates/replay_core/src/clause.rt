@@ -8,11 +8,13 @@ use crate::statements::run_clause;
 use d_parser::Description;
 use d_types::TypedClause;
 use d_values::{ClauseLocals, ThreadTable};
+use dif_codegen::CompiledClause;
 use firing_reader::Firing;
 use std::alloc::{AllocError, Global};
 
 /// A clause in the form in which an engine runs it.
 pub trait Clause {
+    ghost use Rattle.d_types.specs.Held.{AreTyped, HasTypedBuiltIns, Slots};
     ghost use Rattle.d_types.specs.Typed.{ClauseMeant};
     ghost use Rattle.d_types.specs.Storage.{variables};
     ghost use Rattle.d_types.specs.Clauses.{run_of};
@@ -20,8 +22,8 @@ pub trait Clause {
     ghost use Rattle.replay_core.specs.Effects.{NotesRun};
     ghost use Rattle.replay_core.specs.Seen.{piece_seen};
 
-    /// What it means.
-    ghost means: { Self → ClauseMeant → Type 0 };
+    /// What it means where variables have the types of these slots.
+    ghost means: { Self → Slots → ClauseMeant → Type 0 };
 
     /// How many contributions a run makes at most.
     ghost most: { Self → ℕ };
@@ -34,11 +36,13 @@ pub trait Clause {
 
     /// The probes that it is for.
     fn descriptions(&self) -> &[Description]
-        ensures meaning { (c : ClauseMeant) → means self.now c → result.now ≡ c.descriptions }
+        ensures meaning { (slots : Slots) (c : ClauseMeant) → means self.now slots c
+            → result.now ≡ c.descriptions }
         ensures probes { length result.now ≡ probes self.now };
 
-    /// Runs it for a firing: notes in the piece what its statements do, and answers whether it exits. At a division by 0 the
-    /// run ends, and a line that names the firing and the clause's place, from 1, stands in place of its texts.
+    /// Runs it for a firing: notes in the piece what its statements do, and returns whether it
+    /// exits. At a division by 0 the run ends, and a line that names the firing and the clause's
+    /// place, from 1, stands in place of its texts.
     fn run(
         &self,
         alloc: Global,
@@ -54,7 +58,8 @@ pub trait Clause {
         ensures functions { functions_of piece.new.table ≡ functions_of piece.old.table }
         ensures taken { piece.new.taken.items ≡ piece.old.taken.items }
         ensures held { count_held piece.new.table ≤ count_held piece.old.table + most self.now }
-        ensures run { IfOk result (λ exits. (c : ClauseMeant) → means self.now c
+        ensures run { IfOk result (λ exits. (slots : Slots) (c : ClauseMeant) → means self.now slots c
+            → HasTypedBuiltIns firing.now → AreTyped slots (variables locals.old own.old)
             → NotesRun firing.now.number (run_of firing.now place c (variables locals.old own.old))
             (piece_seen piece.old) (piece_seen piece.new) (variables locals.new own.new) exits) };
 }
@@ -66,7 +71,7 @@ impl Clause for TypedClause {
     ghost use Rattle.d_types.specs.Sizes.{statements};
     ghost use Rattle.replay_core.specs.Bounds.{places_in};
 
-    ghost means = { λ c meant. meant ≡ meant_of c };
+    ghost means = { λ c slots meant. meant ≡ meant_of c };
 
     ghost most = { λ c. statements (meant_of c) };
 
@@ -88,6 +93,59 @@ impl Clause for TypedClause {
         spare: &mut SpareKeys,
         piece: &mut Piece,
     ) -> Result<bool, AllocError> {
-        run_clause(alloc, self, firing, place, locals, own, spare, piece)
+        run_clause(
+            alloc,
+            &self.predicate,
+            &self.statements,
+            firing,
+            place,
+            locals,
+            own,
+            spare,
+            piece,
+        )
+    }
+}
+
+// The objects of a compiled clause, run by the machine.
+impl Clause for CompiledClause {
+    ghost use Rattle.std.specs.Prelude.{length, map};
+    ghost use Rattle.dif_codegen.specs.Meaning.{Does};
+    ghost use Rattle.dif_codegen.specs.Programs.{action_code};
+    ghost use Rattle.replay_core.specs.Bounds.{places_among};
+
+    ghost means = { λ c slots meant. Does slots c meant };
+
+    ghost most = { λ c. length c.actions.items };
+
+    ghost places = { λ c. places_among (map action_code c.actions.items) };
+
+    ghost probes = { λ c. length c.descriptions.items };
+
+    fn descriptions(&self) -> &[Description] {
+        &self.descriptions
+    }
+
+    fn run(
+        &self,
+        alloc: Global,
+        firing: &Firing,
+        place: u64,
+        locals: &mut ClauseLocals,
+        own: &mut ThreadTable,
+        spare: &mut SpareKeys,
+        piece: &mut Piece,
+    ) -> Result<bool, AllocError> {
+        run_clause(
+            alloc,
+            &self.predicate,
+            &self.actions,
+            firing,
+            place,
+            locals,
+            own,
+            spare,
+            piece,
+        )
     }
 }

@@ -1,6 +1,6 @@
 //! What runs firings.
 
-ghost use Rattle.std.specs.Prelude.{◌≡◌, ◌<◌, ◌↔◌, Bool, [], ◌∷◌, IfOk, IsErr, IsTrue, OnOk, is_some, length};
+ghost use Rattle.std.specs.Prelude.{◌≡◌, ◌<◌, ◌↔◌, Bool, [], ◌∷◌, IfOk, IsErr, IsFalse, IsTrue, OnOk, is_some, length};
 
 use crate::piece::Piece;
 use firing_reader::Firing;
@@ -12,7 +12,7 @@ pub trait Engine {
     ghost use Rattle.firing_reader.specs.Firings.{HasRanges};
     ghost use Rattle.replay_core.specs.Meaning.{exit_of, history};
     ghost use Rattle.replay_core.specs.Lanes.{Fires, LaneSeen};
-    ghost use Rattle.replay_core.specs.Seen.{piece_seen};
+    ghost use Rattle.replay_core.specs.Seen.{IsRoomy, piece_seen};
 
     /// What it runs means this.
     ghost runs: { Self → ScriptMeant → Type 0 };
@@ -36,5 +36,6 @@ pub trait Engine {
 
     /// What the firings made.
     fn finish(self) -> Piece
-        ensures { piece_seen result ≡ (seen self).piece };
+        ensures piece { piece_seen result ≡ (seen self).piece }
+        ensures held { IsFalse (is_spent self) → IsRoomy result };
 }

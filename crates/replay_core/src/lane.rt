@@ -3,8 +3,10 @@
 ghost use Rattle.std.specs.Prelude.{◌≡◌, ◌+◌, ◌*◌, ◌<◌, ◌≤◌, ◌^◌, ◌∷◌, [], List, All, IfOk, OnOk, false, true, is_some, length, map, sum_by};
 ghost use Rattle.aggregations.specs.Table.{count_held, functions_of};
 ghost use Rattle.std.specs.List.{AllZip};
-ghost use Rattle.d_types.specs.Typed.{ClauseMeant, ScriptMeant};
-ghost use Rattle.replay_core.specs.Scripts.{RunsAs, functions_in};
+ghost use Rattle.d_types.specs.Held.{Slots, slots_of};
+ghost use Rattle.d_types.specs.Typed.{ClauseMeant, ScriptMeant, functions_in};
+ghost use Rattle.firing_reader.specs.Firings.{HasRanges};
+ghost use Rattle.replay_core.specs.Scripts.{AllMean, AreTypedThreads, RunsAs};
 ghost use Rattle.replay_core.specs.Selecting.{IsSelection};
 ghost use Rattle.replay_core.specs.Seen.{piece_seen};
 ghost use Rattle.replay_core.specs.Threads.{threads_in};
@@ -52,9 +54,11 @@ impl<'a, C: Clause> Lane<'a, C> {
         requires named { All (λ c. C.places c ≤ length functions.items) clauses.now }
         requires few { All (λ c. C.most c ≤ 65536) clauses.now }
         requires few_descriptions { sum_by C.probes clauses.now ≤ 65536 }
-        ensures script { IfOk result (λ l. (m : ScriptMeant) → AllZip C.means clauses.now m.clauses → functions.items ≡ functions_in m
-            → RunsAs C.means l.clauses.now (map (λ d. d.now) l.selections.descriptions.items) (functions_of l.piece.table) m) }
-        ensures fresh { IfOk result (λ l. IsFresh (record { threads = threads_in l.threads.entries; piece = piece_seen l.piece })) }
+        ensures script { IfOk result (λ l. (m : ScriptMeant)
+            → AllMean C.means (slots_of m) clauses.now m.clauses → functions.items ≡ functions_in m
+            → ⟦<Lane<'a, C> as Engine>⟧.runs l m) }
+        ensures fresh { IfOk result (λ l. IsFresh (⟦<Lane<'a, C> as Engine>⟧.seen l)) }
+        ensures unspent { IfOk result (λ l. l.spent ≡ false) }
     {
         let piece = Piece::new(alloc, functions)?;
         let descriptions = descriptions(alloc, clauses)?;
@@ -70,6 +74,7 @@ impl<'a, C: Clause> Lane<'a, C> {
 
     // Takes the firing's number, and runs the clauses for it.
     fn run(&mut self, firing: &Firing) -> Result<bool, AllocError>
+        requires ranges { HasRanges firing.now }
         requires few { length self.old.piece.taken.items < 1_000_002 }
         requires room { count_held self.old.piece.table ≤ 2 ^ 32 * length self.old.piece.taken.items }
         requires spent { self.old.spent ≡ true }
@@ -80,10 +85,16 @@ impl<'a, C: Clause> Lane<'a, C> {
         ensures room { OnOk result (count_held self.new.piece.table ≤ 2 ^ 32 * length self.new.piece.taken.items) }
         ensures step { OnOk result ((m : ScriptMeant)
             → RunsAs C.means self.old.clauses.now (map (λ d. d.now) self.old.selections.descriptions.items) (functions_of self.old.piece.table) m
+            → AreTypedThreads (slots_of m) (threads_in self.old.threads.entries)
             → Fires m firing.now (record { threads = threads_in self.old.threads.entries; piece = piece_seen self.old.piece })
             (record { threads = threads_in self.new.threads.entries; piece = piece_seen self.new.piece })) }
+        ensures typed { OnOk result ((m : ScriptMeant)
+            → RunsAs C.means self.old.clauses.now (map (λ d. d.now) self.old.selections.descriptions.items) (functions_of self.old.piece.table) m
+            → AreTypedThreads (slots_of m) (threads_in self.old.threads.entries)
+            → AreTypedThreads (slots_of m) (threads_in self.new.threads.entries)) }
         ensures exits { IfOk result (λ exits. (m : ScriptMeant)
             → RunsAs C.means self.old.clauses.now (map (λ d. d.now) self.old.selections.descriptions.items) (functions_of self.old.piece.table) m
+            → AreTypedThreads (slots_of m) (threads_in self.old.threads.entries)
             → exits ≡ is_some (exit_of (history m (firing.now ∷ []) (threads_in self.old.threads.entries)))) }
     {
         self.piece.taken.push(firing.number)?;
@@ -106,7 +117,8 @@ fn descriptions<'a, C: Clause>(
 ) -> Result<Vec<&'a [Description]>, AllocError>
     ensures each { IfOk result (λ v. length v.items ≡ length clauses.now) }
     ensures probes { IfOk result (λ v. sum_by length (map (λ d. d.now) v.items) ≡ sum_by C.probes clauses.now) }
-    ensures meaning { IfOk result (λ v. (cs : List ClauseMeant) → AllZip C.means clauses.now cs
+    ensures meaning { IfOk result (λ v. (slots : Slots) (cs : List ClauseMeant)
+        → AllZip (λ c. C.means c slots) clauses.now cs
         → map (λ d. d.now) v.items ≡ map (λ c. c.descriptions) cs) }
 {
     let mut all = Vec::new(alloc);
@@ -119,11 +131,14 @@ fn descriptions<'a, C: Clause>(
 impl<'a, C: Clause> Engine for Lane<'a, C> {
     ghost use Rattle.std.specs.Prelude.{map};
     ghost use Rattle.aggregations.specs.Table.{functions_of};
-    ghost use Rattle.replay_core.specs.Scripts.{RunsAs};
+    ghost use Rattle.d_types.specs.Held.{slots_of};
+    ghost use Rattle.replay_core.specs.Scripts.{AreTypedThreads, RunsAs};
     ghost use Rattle.replay_core.specs.Seen.{piece_seen};
     ghost use Rattle.replay_core.specs.Threads.{threads_in};
 
-    ghost runs = { λ l m. RunsAs C.means l.clauses.now (map (λ d. d.now) l.selections.descriptions.items) (functions_of l.piece.table) m };
+    ghost runs = { λ l m.
+        RunsAs C.means l.clauses.now (map (λ d. d.now) l.selections.descriptions.items) (functions_of l.piece.table) m
+        × (l.spent ≡ false → AreTypedThreads (slots_of m) (threads_in l.threads.entries)) };
 
     ghost seen = { λ l. record { threads = threads_in l.threads.entries; piece = piece_seen l.piece } };
 

@@ -2,38 +2,53 @@
 //! trace collects.
 #![tactic(auto)]
 
-mod bytes;
 mod clause;
 mod collect_fault;
 mod collector;
+mod compiled;
+mod crew;
 mod engine;
 mod evaluation;
+mod gate;
 mod lane;
+mod lanes;
 pub mod laws;
 mod matching;
 mod merge;
 mod piece;
 mod placing;
 mod probe;
-mod running;
+mod round;
+mod run_firings;
 mod selection;
 mod sorting;
+mod source;
+mod span;
 mod statements;
 mod tables;
 mod threads;
 mod tree;
 mod turns;
+mod until;
 mod whole;
+mod worker;
+mod workers;
 
 pub use clause::Clause;
 pub use collect_fault::CollectFault;
 pub use collector::collect;
+pub use compiled::{DifLane, DifLanes, dif_lane};
 pub use engine::Engine;
 pub use evaluation::SpareKeys;
+pub use gate::{Gate, OpenGate};
 pub use lane::Lane;
+pub use lanes::Lanes;
 pub use piece::Piece;
 pub use probe::Probe;
-pub use running::run_by;
+pub use source::{Exits, Source};
 pub use statements::{printed, traced};
-pub use tree::{TreeLane, run_serially, tree_lane};
+pub use tree::{TreeLane, TreeLanes, tree_lane};
+pub use until::work_until;
 pub use whole::Whole;
+pub use worker::work;
+pub use workers::{Ran, run_all};

@@ -4,8 +4,8 @@ ghost use Rattle.std.specs.Prelude.{◌≡◌, ◌≢◌, ◌≤◌, ◌-◌, �
 ghost use Rattle.std.specs.List.{list_all, zip};
 ghost use Rattle.replay_core.specs.Patterns.{Matches, field_matches, is_plain, is_same_or_question, probe_of, selects};
 
-use crate::bytes::split_at_first;
 use d_parser::Description;
+use d_values::split_at_first;
 use firing_reader::Firing;
 
 /// Whether each field of the description matches the firing's probe.

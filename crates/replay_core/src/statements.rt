@@ -1,8 +1,11 @@
 //! Runs of a clause: its predicate and its statements. `docs/MEANING.md` tells what they make.
 
 mod clause;
+mod expression;
+mod objects;
 mod printing;
 mod statement;
+mod trees;
 
 pub(crate) use clause::run_clause;
 pub use printing::{printed, traced};

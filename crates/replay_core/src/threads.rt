@@ -1,12 +1,13 @@
 //! The clauses of a firing on the variables of its thread.
 
 ghost use Rattle.std.specs.Prelude.{◌≡◌, ◌+◌, ◌*◌, ◌<◌, ◌≤◌, ◌^◌, ℕ, ℤ, List, All, IfOk, OnOk, is_some, length, if◌then◌else◌};
-ghost use Rattle.std.specs.List.{AllZip};
 ghost use Rattle.std.specs.Ordering.{int_eq};
 ghost use Rattle.aggregations.specs.Table.{count_held, functions_of};
+ghost use Rattle.d_types.specs.Held.{AreTypedOwn, HasTypedBuiltIns, Slots};
 ghost use Rattle.d_types.specs.Typed.{ClauseMeant};
 ghost use Rattle.replay_core.specs.Lanes.{Notes};
 ghost use Rattle.replay_core.specs.Meaning.{at_start};
+ghost use Rattle.replay_core.specs.Scripts.{AllMean};
 ghost use Rattle.replay_core.specs.Seen.{piece_seen};
 ghost use Rattle.replay_core.specs.Threads.{threads_in};
 ghost use Rattle.replay_core.specs.Turns.{turns};
@@ -35,14 +36,26 @@ pub(crate) fn run_on_thread<C: Clause>(
     requires room { count_held piece.old.table + 65536 * length places.now ≤ 2 ^ 52 }
     ensures functions { functions_of piece.new.table ≡ functions_of piece.old.table }
     ensures taken { piece.new.taken.items ≡ piece.old.taken.items }
-    ensures notes { OnOk result ((cs : List ClauseMeant) → AllZip C.means clauses.now cs →
-        Notes firing.now.number (turns firing.now cs places.now (at_start (threads_in threads.old.entries firing.now.thread))) (piece_seen piece.old) (piece_seen piece.new)) }
-    ensures threads { OnOk result ((cs : List ClauseMeant) → AllZip C.means clauses.now cs → (thread : ℤ) →
-        threads_in threads.new.entries thread ≡ (if int_eq thread firing.now.thread
-        then (turns firing.now cs places.now (at_start (threads_in threads.old.entries firing.now.thread))).variables.own
+    ensures notes { OnOk result ((slots : Slots) (cs : List ClauseMeant)
+        → AllMean C.means slots clauses.now cs → HasTypedBuiltIns firing.now
+        → AreTypedOwn slots (threads_in threads.old.entries firing.now.thread) →
+        let start = at_start (threads_in threads.old.entries firing.now.thread) in
+        let made = turns firing.now cs places.now start in
+        Notes firing.now.number made (piece_seen piece.old) (piece_seen piece.new)) }
+    ensures threads { OnOk result ((slots : Slots) (cs : List ClauseMeant)
+        → AllMean C.means slots clauses.now cs → HasTypedBuiltIns firing.now
+        → AreTypedOwn slots (threads_in threads.old.entries firing.now.thread) →
+        let start = at_start (threads_in threads.old.entries firing.now.thread) in
+        let made = turns firing.now cs places.now start in
+        (thread : ℤ) → threads_in threads.new.entries thread
+        ≡ (if int_eq thread firing.now.thread then made.variables.own
         else threads_in threads.old.entries thread)) }
-    ensures exits { IfOk result (λ exits. (cs : List ClauseMeant) → AllZip C.means clauses.now cs →
-        exits ≡ is_some (turns firing.now cs places.now (at_start (threads_in threads.old.entries firing.now.thread))).exit) }
+    ensures exits { IfOk result (λ exits. (slots : Slots) (cs : List ClauseMeant)
+        → AllMean C.means slots clauses.now cs → HasTypedBuiltIns firing.now
+        → AreTypedOwn slots (threads_in threads.old.entries firing.now.thread) →
+        let start = at_start (threads_in threads.old.entries firing.now.thread) in
+        let made = turns firing.now cs places.now start in
+        exits ≡ is_some made.exit) }
     ensures held { OnOk result (count_held piece.new.table ≤ count_held piece.old.table + 65536 * length places.now) }
 {
     match threads.get_mut(&firing.thread) {

@@ -1,23 +1,14 @@
 //! Lanes that walk the trees of a script.
 
-ghost use Rattle.std.specs.Prelude.{◌≡◌, IfOk, map};
-ghost use Rattle.aggregations.specs.Table.{functions_of};
-ghost use Rattle.d_types.specs.Typed.{meant_of};
+ghost use Rattle.std.specs.Prelude.{◌≡◌, IfOk, false};
+ghost use Rattle.d_types.specs.Typed.{ScriptMeant};
 ghost use Rattle.d_types.specs.TypedScripts.{typed_script_of};
-ghost use Rattle.replay_core.specs.Exit.{firings_over};
-ghost use Rattle.replay_core.specs.Groups.{one_group};
 ghost use Rattle.replay_core.specs.Lanes.{IsFresh};
-ghost use Rattle.replay_core.specs.Pieces.{IsWholeOf};
-ghost use Rattle.replay_core.specs.Scripts.{RunsAs, functions_in};
-ghost use Rattle.replay_core.specs.Seen.{piece_seen, whole_seen};
-ghost use Rattle.replay_core.specs.Threads.{threads_in};
 
+use crate::engine::Engine;
 use crate::lane::Lane;
-use crate::running::run_by;
-use crate::whole::Whole;
-use aggregations::AggFn;
-use d_types::{TypedAggregation, TypedClause, TypedScript};
-use firing_reader::Trace;
+use crate::lanes::Lanes;
+use d_types::{TypedClause, TypedScript};
 use std::alloc::{AllocError, Global};
 
 /// A lane that walks the trees of a script.
@@ -25,25 +16,39 @@ pub type TreeLane<'a> = Lane<'a, TypedClause>;
 
 /// A lane of the script that has run no firing.
 pub fn tree_lane(alloc: Global, script: &TypedScript) -> Result<TreeLane<'_>, AllocError>
-    ensures script { IfOk result (λ l. RunsAs (λ c meant. meant ≡ meant_of c) l.clauses.now (map (λ d. d.now) l.selections.descriptions.items)
-        (functions_of l.piece.table) (typed_script_of script.now)) }
-    ensures fresh { IfOk result (λ l. IsFresh (record { threads = threads_in l.threads.entries; piece = piece_seen l.piece })) }
+    ensures script { IfOk result (λ l. (m : ScriptMeant) → m ≡ typed_script_of script.now
+        → ⟦<TreeLane<'static> as Engine>⟧.runs l m) }
+    ensures fresh { IfOk result (λ l. IsFresh (⟦<TreeLane<'static> as Engine>⟧.seen l)) }
+    ensures unspent { IfOk result (λ l. l.spent ≡ false) }
 {
-    let functions = functions(alloc, script.aggs())?;
+    let functions = script.functions(alloc)?;
     Lane::new(alloc, script.clauses(), functions)
 }
 
-// The function of each aggregation.
-fn functions(alloc: Global, aggs: &[TypedAggregation]) -> Result<Vec<AggFn>, AllocError>
-    ensures { IfOk result (λ v. v.items ≡ map (λ a. a.function) aggs.now) }
-{
-    aggs.iter().map(|a| a.function).collect(alloc)
+/// Gives lanes that walk the trees of a script.
+#[derive(Drop)]
+pub struct TreeLanes<'a> {
+    script: &'a TypedScript,
 }
 
-/// Runs a script over a trace by one worker: BEGIN, the rows up to the first that exits, and END.
-pub fn run_serially(alloc: Global, script: &TypedScript, trace: &Trace) -> Result<Whole, AllocError>
-    ensures { IfOk result (λ w. IsWholeOf (typed_script_of script.now) (firings_over (typed_script_of script.now) trace.now) one_group (whole_seen w)) }
-{
-    let lane = tree_lane(alloc, script)?;
-    run_by(alloc, lane, trace)
+impl<'a> TreeLanes<'a> {
+    /// Lanes of this script.
+    pub fn new(script: &'a TypedScript) -> TreeLanes<'a>
+        ensures { result.script.now ≡ script.now }
+    {
+        TreeLanes { script }
+    }
+}
+
+impl<'a> Lanes for TreeLanes<'a> {
+    ghost use Rattle.std.specs.Prelude.{◌≡◌};
+    ghost use Rattle.d_types.specs.TypedScripts.{typed_script_of};
+
+    type Lane = TreeLane<'a>;
+
+    ghost runs = { λ l m. m ≡ typed_script_of l.script.now };
+
+    fn lane(&self, alloc: Global) -> Result<TreeLane<'a>, AllocError> {
+        tree_lane(alloc, self.script)
+    }
 }

@@ -7,7 +7,7 @@ use Rattle.shard_queue.specs.declared.knowledge.Hand.{Hand}
 use Rattle.std.specs.Prelude.{sum_by, Contains}
 use Rattle.std.proofs.lemmas.List.Sums.{sum_by-append}
 use Rattle.shard_queue.specs.Numbers.{below}
-use Rattle.shard_queue.specs.Hands.{hand, gathered, empty_hand, total, seats_of, told_of, Fits, IsHandOut}
+use Rattle.shard_queue.specs.Hands.{hand, joint_hand, empty_hand, total, seats_of, told_of, Fits, IsHandOut}
 use Rattle.shard_queue.specs.Marks.{count_up, Deals, Took}
 use Rattle.shard_queue.proofs.Totals.{total_set, total_snoc, total_le, one_le_total, total_one, alone, sum_by-ones, sum_by-below, below-ones, weight_of, below-times, not_there, fits_set, fits_snoc}
 
@@ -223,9 +223,9 @@ deals_split put seats front left items views id e n d at =
 
 -- a view takes in another, which counts a seat
 pub deals_join : (put seats front left : ℕ) (items : List ℕ) (views : List Hand) (id : ℕ) (v : Hand) (other : ℕ) (w : Hand) → 0 < w.seats → Deals put seats front left items views → get_elem? views id ≡ some v → (other ≡ id → ⊥)
-    → get_elem? (set views id (gathered v w)) other ≡ some w → Deals put seats front left items (set (set views id (gathered v w)) other empty_hand)
+    → get_elem? (set views id (joint_hand v w)) other ≡ some w → Deals put seats front left items (set (set views id (joint_hand v w)) other empty_hand)
 deals_join put seats front left items views id v other w some_seat d at apart at' =
-    let both = gathered v w in
+    let both = joint_hand v w in
     let vs = set views id both in
     let was : get_elem? views other ≡ some w = ⊎_elim (λ (x : (other ≡ id) × (both ≡ w)). absurd (apart x.0)) (λ (x : (other ≢ id) × (get_elem? views other ≡ some w)). x.1) (at_set views id other both w at') in
     let mine = d.fit id v at in

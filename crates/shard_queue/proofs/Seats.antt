@@ -2,7 +2,7 @@
 use Rattle.std.proofs.Common.{◌≡◌, ℕ, min, ◌≤◌, ◌+◌, List, [], ◌∷◌, ◌++◌, sym, ap, ◌∙◌, subst, arith, append_assoc, append-nil, if◌then◌else◌, length-append}
 use Rattle.shard_queue.specs.declared.knowledge.BoardView.{BoardView}
 use Rattle.shard_queue.specs.declared.claim_seat.ClaimSeat.{ClaimSeat}
-use Rattle.shard_queue.specs.Hands.{hand, gathered, IsHandOut}
+use Rattle.shard_queue.specs.Hands.{hand, joint_hand, IsHandOut}
 use Rattle.shard_queue.specs.Least.{no_number}
 use Rattle.shard_queue.specs.BoardRule.{both}
 use Rattle.shard_queue.specs.Boards.{drawn_of, told_in, lowered, seen, least_lowered, least_seen, Counts}
@@ -29,7 +29,7 @@ lowered-small (x ∷ ss) = let more = lowered-small ss in omega arith
 
 pub counts_more : (ss : List ClaimSeat) (v : BoardView) (s : ClaimSeat) (u : BoardView) → Counts ss v → s.seat.me.0.hand ≡ hand s.end 1 (if s.told then 1 else 0) s.taken.items → u ≡ both v s.seat.me.0 → Counts (ss ++ s ∷ []) u
 counts_more ss v s u c is new =
-    let its : u.hand ≡ gathered v.hand (hand s.end 1 (if s.told then 1 else 0) s.taken.items) = ap (λ (x : BoardView). x.hand) new ∙ ap (gathered v.hand) is in
+    let its : u.hand ≡ joint_hand v.hand (hand s.end 1 (if s.told then 1 else 0) s.taken.items) = ap (λ (x : BoardView). x.hand) new ∙ ap (joint_hand v.hand) is in
     let len = length-append ss (s ∷ []) in
     let told = told_in-more ss s in
     let a = c.seats in

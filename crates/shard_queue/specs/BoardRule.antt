@@ -1,12 +1,9 @@
--- The rule of a board: the first word hands out the numbers, the second is the least that was lowered.
+-- The rule of a board: the first word hands out the numbers, the second is the least that was
+-- lowered.
 use Rattle.std.specs.Prelude.{◌≡◌, ℕ, ◌≤◌, min, map, length, slice_index}
-use mathlib.Core.Option.{some}
-use lib.ListN.{get_elem?}
+use Rattle.shard_queue.specs.Vocabulary.{BoardView, Hand, Low, get_elem?, some}
 use Rattle.atomic_table.specs.Table.{State, Me}
-use Rattle.shard_queue.specs.declared.knowledge.Hand.{Hand}
-use Rattle.shard_queue.specs.declared.knowledge.Low.{Low}
-use Rattle.shard_queue.specs.declared.knowledge.BoardView.{BoardView}
-use Rattle.shard_queue.specs.Hands.{empty_hand, gathered}
+use Rattle.shard_queue.specs.Hands.{empty_hand, joint_hand}
 use Rattle.shard_queue.specs.Drawing.{Draws, Drawn}
 use Rattle.shard_queue.specs.Least.{no_number, low, lesser, nothing_lowered, IsLeast}
 
@@ -21,7 +18,7 @@ low_of v = v.low
 
 -- what two views know, and what the second one knows afterwards
 abbrev pub both : BoardView → BoardView → BoardView
-both v w = view (gathered v.hand w.hand) (lesser v.low w.low)
+both v w = view (joint_hand v.hand w.hand) (lesser v.low w.low)
 
 abbrev pub spent : BoardView
 spent = view empty_hand nothing_lowered

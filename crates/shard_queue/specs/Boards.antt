@@ -1,6 +1,6 @@
 -- Which seat is at which board, and what a list of seats knows.
 use Rattle.std.specs.Prelude.{◌≡◌, ℕ, length, min, false, List, [], ◌∷◌, ◌+◌, ◌++◌, if◌then◌else◌}
-use Rattle.shard_queue.specs.declared.knowledge.BoardView.{BoardView}
+use Rattle.shard_queue.specs.Vocabulary.{BoardView}
 use Rattle.shard_queue.specs.declared.board.ClaimBoard.{ClaimBoard}
 use Rattle.shard_queue.specs.declared.claim_seat.ClaimSeat.{ClaimSeat}
 use Rattle.shard_queue.specs.Least.{no_number}

@@ -1,11 +1,8 @@
 -- Why lists group no threads.
 use Rattle.std.specs.Prelude.{◌≡◌, ◌<◌, ◌≤◌, ◌⊎◌, ℕ, ℤ, not, List, [], ◌∷◌, ◌++◌, length, flat_map, find, if◌then◌else◌, option_map, Option, Some, None}
-use Rattle.std.specs.Option.{option_or}
-use Rattle.firing_reader.specs.declared.firing.Firing.{Firing}
-use Rattle.shard_queue.specs.declared.fault.GroupFault.{GroupFault}
-use Rattle.shard_queue.specs.declared.fault.GroupFault.TheVariants.{Missing, Doubled, Stranger, TooMany}
+use Rattle.shard_queue.specs.Vocabulary.{Doubled, Firing, GroupFault, Missing, Stranger, TooMany, option_or}
 use Rattle.shard_queue.specs.Threads.{has, AreThreads}
-use Rattle.shard_queue.specs.Groupings.{Grouping, listed}
+use Rattle.shard_queue.specs.Groupings.{Grouping, grouping_by_lists}
 
 -- all that the lists have, list after list
 abbrev pub all_of : List (List ℤ) → List ℤ
@@ -34,7 +31,7 @@ pub record IsListed (lists : List (List ℤ)) (trace : List Firing) (groups : Gr
   pub threads : List ℤ
   pub fired : AreThreads trace threads
   pub faultless : thread_fault threads lists ≡ None
-  pub is : groups ≡ listed lists
+  pub is : groups ≡ grouping_by_lists lists
 
 -- they don't, since there are too many of them, or else since a thread is wrong or missing
 abbrev pub IsListFault : List (List ℤ) → List Firing → GroupFault → Type 0

@@ -1,8 +1,6 @@
 -- Groupings: how many groups there are, and which thread is in which.
 use Rattle.std.specs.Prelude.{◌≡◌, ℕ, suc, ◌+◌, ◌%◌, ◌==◌, ℤ, Bool, false, List, [], ◌∷◌, length, filter, if◌then◌else◌, option_map, Option, Some, None}
-use Rattle.std.specs.Ordering.{int_eq}
-use Rattle.std.specs.List.{position_from}
-use Rattle.firing_reader.specs.declared.firing.Firing.{Firing}
+use Rattle.shard_queue.specs.Vocabulary.{Firing, int_eq, position_from}
 use Rattle.shard_queue.specs.Threads.{thread_zero, has, AreThreads}
 
 -- the groups are numbered from 0; a thread that no group has is a stranger
@@ -18,8 +16,8 @@ with_own count group = record {
 }
 
 -- dealt into so many groups: the i-th thread goes to group i modulo their number
-abbrev pub dealt : ℕ → List ℤ → Grouping
-dealt count threads =
+abbrev pub grouping_in_turn : ℕ → List ℤ → Grouping
+grouping_in_turn count threads =
     with_own count (λ t. option_map (λ i. i % count) (position_from (int_eq t) 0 threads))
 
 -- the first of these lists that has the thread
@@ -27,14 +25,14 @@ abbrev pub list_of : List (List ℤ) → ℤ → Option ℕ
 list_of lists t = position_from (λ list. has list t) 0 lists
 
 -- a group for each list. No list at all is read as one empty list
-abbrev pub listed : List (List ℤ) → Grouping
-listed [] = with_own 1 (list_of ([] ∷ []))
-listed (list ∷ lists) = with_own (length lists + 1) (list_of (list ∷ lists))
+abbrev pub grouping_by_lists : List (List ℤ) → Grouping
+grouping_by_lists [] = with_own 1 (list_of ([] ∷ []))
+grouping_by_lists (list ∷ lists) = with_own (length lists + 1) (list_of (list ∷ lists))
 
 -- the trace's threads, ascending, dealt into so many groups
 abbrev pub IsDealt : ℕ → List Firing → Grouping → Type 0
 IsDealt count trace grouping =
-    (threads : List ℤ) × AreThreads trace threads × (grouping ≡ dealt count threads)
+    (threads : List ℤ) × AreThreads trace threads × (grouping ≡ grouping_in_turn count threads)
 
 -- whether this is group g
 abbrev pub is_group : ℕ → Option ℕ → Bool

@@ -1,8 +1,6 @@
 -- What the groups of a trace keep.
 use Rattle.std.specs.Prelude.{◌≡◌, ◌<◌, ℕ, ℤ, List, [], All, IsSomeAnd, slice_index_or, map}
-use Rattle.std.specs.Ordering.{int_eq}
-use Rattle.std.specs.List.{zip}
-use Rattle.std.specs.Map.{lookup}
+use Rattle.shard_queue.specs.Vocabulary.{int_eq, lookup, zip}
 use Rattle.shard_queue.specs.declared.groups.Groups.{Groups}
 pub use Rattle.shard_queue.specs.Groupings.{places_from, places_of}
 use Rattle.shard_queue.specs.Groupings.{Grouping, with_own}

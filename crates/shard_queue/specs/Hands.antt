@@ -1,16 +1,14 @@
 -- What was handed to the seats of a board or a queue, added up.
 use Rattle.std.specs.Prelude.{◌≡◌, ℕ, ◌+◌, ◌-◌, ◌≤◌, ◌<◌, List, [], ◌∷◌, ◌++◌}
-use mathlib.Core.Option.{some}
-use lib.ListN.{get_elem?}
-use Rattle.shard_queue.specs.declared.knowledge.Hand.{Hand}
+use Rattle.shard_queue.specs.Vocabulary.{Hand, get_elem?, some}
 use Rattle.shard_queue.specs.Numbers.{IsAllBelow}
 
 abbrev pub hand : ℕ → ℕ → ℕ → List ℕ → Hand
 hand end seats told drawn = record { end = end; seats = seats; told = told; drawn = drawn }
 
 -- one view that knows what two did
-abbrev pub gathered : Hand → Hand → Hand
-gathered v w = hand w.end (v.seats + w.seats) (v.told + w.told) (v.drawn ++ w.drawn)
+abbrev pub joint_hand : Hand → Hand → Hand
+joint_hand v w = hand w.end (v.seats + w.seats) (v.told + w.told) (v.drawn ++ w.drawn)
 
 -- a seat is cut off
 abbrev pub one_less : Hand → Hand
@@ -39,7 +37,8 @@ pub record Fits (n : ℕ) (v : Hand) : Type 0 where
 abbrev pub AllFit : ℕ → List Hand → Type 0
 AllFit n views = (by : ℕ) (v : Hand) → get_elem? views by ≡ some v → Fits n v
 
--- what was drawn is the numbers below some front, each once: all below n if someone was told the end
+-- what was drawn is the numbers below some front, each once: all below n if someone was told the
+-- end
 abbrev pub IsHandOut : ℕ → ℕ → List ℕ → Type 0
 IsHandOut n told drawn =
     (front : ℕ) × (front ≤ n) × (0 < told → front ≡ n) × IsAllBelow front drawn

@@ -1,8 +1,6 @@
 -- The rule of a board's second word: it is the least number that was lowered.
 use Rattle.std.specs.Prelude.{◌≡◌, ℕ, ◌≤◌, ◌⊎◌, min, List}
-use mathlib.Core.Option.{some}
-use lib.ListN.{get_elem?}
-use Rattle.shard_queue.specs.declared.knowledge.Low.{Low}
+use Rattle.shard_queue.specs.Vocabulary.{Low, get_elem?, some}
 
 -- 2^64 - 1: where no number was lowered, or shown
 abbrev pub no_number : ℕ

@@ -1,3 +1,4 @@
+pub mod Vocabulary
 pub mod Numbers
 pub mod Hands
 pub mod Drawing

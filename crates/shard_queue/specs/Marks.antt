@@ -1,7 +1,7 @@
--- The rule of a queue. It holds the numbers from the front on, and after them an end mark for each seat:
--- who takes one of those is told the end.
+-- The rule of a queue. It holds the numbers from the front on, and after them an end mark for each
+-- seat: who takes one of those is told the end.
 use Rattle.std.specs.Prelude.{◌≡◌, ℕ, zero, suc, ◌+◌, ◌-◌, ◌≤◌, ◌<◌, ◌⊎◌, min, List, [], ◌∷◌, ◌++◌, length, sum_by, Contains}
-use Rattle.shard_queue.specs.declared.knowledge.Hand.{Hand}
+use Rattle.shard_queue.specs.Vocabulary.{Hand}
 use Rattle.shard_queue.specs.Numbers.{below}
 use Rattle.shard_queue.specs.Hands.{hand, total, seats_of, told_of, AllFit}
 
@@ -20,7 +20,8 @@ pub record Deals (put seats front left : ℕ) (items : List ℕ) (views : List H
   pub drawn : (h : ℕ → ℕ)
       → total (λ v. sum_by h v.drawn) views ≡ sum_by h (below (min (put - seats) front))
 
--- one take among so many seats: the number joins what was drawn, or it is a mark: the seat is told the end
+-- one take among so many seats: the number joins what was drawn, or it is a mark: the seat is told
+-- the end
 abbrev pub Took : ℕ → Hand → ℕ → Hand → Type 0
 Took seats v x w =
     ((x + seats < v.end) × (w ≡ hand v.end v.seats v.told (v.drawn ++ x ∷ []))

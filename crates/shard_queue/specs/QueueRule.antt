@@ -1,10 +1,7 @@
 -- What the seats of a queue know: what was handed to them, and how many seats there are.
 use Rattle.std.specs.Prelude.{◌≡◌, ℕ, ◌+◌, ◌-◌, ◌≤◌, ◌<◌, List, [], map, length}
-use mathlib.Core.Option.{some}
-use lib.ListN.{get_elem?}
-use Rattle.shard_queue.specs.declared.knowledge.Hand.{Hand}
-use Rattle.shard_queue.specs.declared.knowledge.QueueView.{QueueView}
-use Rattle.shard_queue.specs.Hands.{hand, empty_hand, gathered, one_less, IsHandOut}
+use Rattle.shard_queue.specs.Vocabulary.{Hand, QueueView, get_elem?, some}
+use Rattle.shard_queue.specs.Hands.{hand, empty_hand, joint_hand, one_less, IsHandOut}
 use Rattle.shard_queue.specs.Marks.{Deals, Took}
 
 abbrev pub among : ℕ → Hand → QueueView
@@ -41,7 +38,7 @@ abbrev pub one_seat : QueueView → QueueView
 one_seat v = among v.seats (hand v.hand.end 1 0 [])
 
 abbrev pub joint : QueueView → QueueView → QueueView
-joint v w = among w.seats (gathered v.hand w.hand)
+joint v w = among w.seats (joint_hand v.hand w.hand)
 
 abbrev pub Taken : QueueView → ℕ → QueueView → Type 0
 Taken v x w = (w.seats ≡ v.seats) × Took v.seats v.hand x w.hand

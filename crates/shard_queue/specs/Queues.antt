@@ -1,7 +1,6 @@
 -- Which seat is at which queue, and what a list of seats knows.
 use Rattle.std.specs.Prelude.{◌≡◌, ℕ, ◌+◌, ◌++◌, List, [], ◌∷◌, length, false, if◌then◌else◌, Option, None, Some}
-use Rattle.crossbeam_queue.specs.Passes.{IsPassOf, Pass, view}
-use Rattle.shard_queue.specs.declared.knowledge.QueueView.{QueueView}
+use Rattle.shard_queue.specs.Vocabulary.{IsPassOf, Pass, QueueView, pass_view}
 use Rattle.shard_queue.specs.Hands.{hand}
 use Rattle.shard_queue.specs.QueueRule.{among}
 use Rattle.shard_queue.specs.declared.queue.GroupQueue.{GroupQueue}
@@ -28,7 +27,7 @@ told_by (s ∷ ss) = (if s.told then 1 else 0) + told_by ss
 -- the pass is of the queue, counts these seats and knows what they know
 pub record Sums (queue : GroupQueue) (ss : List QueueSeat) (p : Pass ℕ QueueView) : Type 0 where
   pub pass : IsPassOf queue.queue p
-  pub view : view p ≡ among queue.workers
+  pub view : pass_view p ≡ among queue.workers
       (hand (queue.end + queue.workers) (length ss) (told_by ss) (taken_by ss))
 
 -- the same, where there are seats

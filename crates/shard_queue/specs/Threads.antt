@@ -1,11 +1,6 @@
 -- The threads of a trace.
 use Rattle.std.specs.Prelude.{ℤ, pos, Bool, Vec, List, [], ◌∷◌, ◌++◌, map, Contains, ◌↔◌}
-use Rattle.std.specs.declared.alloc.Global.{Global}
-use Rattle.std.specs.Ordering.{int_eq, int_cmp}
-use Rattle.std.specs.List.{list_any}
-use Rattle.std.specs.List.Sorted.{IsStrictlySortedBy}
-use Rattle.firing_reader.specs.declared.firing.Firing.{Firing}
-use Rattle.firing_reader.specs.Firings.{thread_of}
+use Rattle.shard_queue.specs.Vocabulary.{Firing, Global, IsStrictlySortedBy, int_cmp, int_eq, list_any, thread_of}
 
 -- the thread of BEGIN and END
 abbrev pub thread_zero : ℤ

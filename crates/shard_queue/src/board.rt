@@ -1,9 +1,8 @@
-//! A board of two words. From the first each seat claims numbers; the second is the least number that
-//! a seat lowered.
+//! A board of two words. From the first each seat claims numbers; the second is the least number
+//! that a seat lowered.
+
 ghost use Rattle.std.specs.Prelude.{◌≡◌, ◌<◌, ◌≤◌, ◌-◌, [], map, All, vec_len, vec_capacity, IfOk};
-ghost use Rattle.shard_queue.specs.Hands.{hand, IsHandOut};
-ghost use Rattle.shard_queue.specs.Least.{nothing_lowered};
-ghost use Rattle.shard_queue.specs.BoardRule.{view};
+ghost use Rattle.shard_queue.specs.{BoardRule.view, Hands.IsHandOut, Hands.hand, Least.nothing_lowered};
 
 use crate::board_rule::{Arrives, Claims, Gathers, OneSeat};
 use crate::claim_seat::ClaimSeat;
@@ -21,7 +20,8 @@ pub struct ClaimBoard {
     ghost key_is: { table.shared.key ≡ (end, workers) },
 }
 
-/// What a board had at its end: the numbers that each seat claimed, and the least that a seat lowered.
+/// What a board had at its end: the numbers that each seat claimed, and the least that a seat
+/// lowered.
 #[derive(Drop)]
 pub struct Closed {
     pub lists: Vec<Vec<u32>>,
@@ -31,7 +31,12 @@ pub struct Closed {
 impl ClaimBoard {
     ghost use Rattle.shard_queue.specs.Boards.{IsAt, IsNew, drawn_of, told_in, least_lowered, least_seen};
 
-    /// A board of the numbers below `end`, and a seat for each worker. Err where memory was refused.
+    /// A board of the numbers below `end`, and a seat for each worker. Err where memory was
+    /// refused.
+    ///
+    /// ```text
+    /// let (board, seats) = ClaimBoard::open(alloc, 3, 2)?; // the numbers 0, 1 and 2, two seats
+    /// ```
     pub fn open(
         alloc: Global,
         end: u32,
@@ -42,12 +47,13 @@ impl ClaimBoard {
         ensures seats { IfOk result
             (λ r. (vec_len r.1 ≡ workers) × All (λ s. IsAt r.0 s × IsNew s) r.1.items) }
     {
-        let (board, rest) = ClaimBoard::laid(alloc, end, workers)?;
+        let (board, rest) = ClaimBoard::start(alloc, end, workers)?;
         let seats = board.seats(alloc, rest)?;
         Ok((board, seats))
     }
 
-    fn laid(
+    // A board with nothing claimed, and the view that counts all its seats.
+    fn start(
         alloc: Global,
         end: u32,
         workers: usize,
@@ -108,8 +114,13 @@ impl ClaimBoard {
         }
     }
 
-    /// Each seat's list, and the least number. With all seats, the lists have the numbers below some
-    /// front, each once, and all if a seat was told the end. Err where memory was refused.
+    /// Each seat's list, and the least number. With all seats, the lists have the numbers below
+    /// some front, each once, and all if a seat was told the end. Err where memory was refused.
+    ///
+    /// ```text
+    /// let closed = board.close(alloc, seats)?;
+    /// closed.lists // as [[0, 2], [1]], where the first seat claimed 0 and 2
+    /// ```
     pub fn close(self, alloc: Global, seats: Vec<ClaimSeat>) -> Result<Closed, AllocError>
         requires at { All (IsAt self) seats.items }
         requires every { vec_len seats ≡ self.workers }

@@ -22,8 +22,14 @@ pub struct ClaimSeat {
 impl ClaimBoard {
     ghost use Rattle.shard_queue.specs.Boards.{IsAt, lowered, seen};
 
-    /// The next number, which no seat had before, or `None` at the end. A seat that was told the end is
-    /// told it again, without a step.
+    /// The next number, which no seat had before, or `None` at the end. A seat that was told the
+    /// end is told it again, without a step.
+    ///
+    /// ```text
+    /// while let Some(group) = board.claim(&mut seat) {
+    ///     // no other seat has this group
+    /// }
+    /// ```
     pub fn claim(&self, seat: &mut ClaimSeat) -> Option<u32>
         requires { IsAt self.now seat.old }
         ensures seat { IsAt self.now seat.new }
@@ -50,6 +56,10 @@ impl ClaimBoard {
     }
 
     /// The least number of the board becomes the lesser of itself and this one.
+    ///
+    /// ```text
+    /// board.lower(&mut seat, 7); // the firing of number 7 exits
+    /// ```
     pub fn lower(&self, seat: &mut ClaimSeat, number: u64)
         requires { IsAt self.now seat.old }
         ensures seat { IsAt self.now seat.new }
@@ -63,8 +73,13 @@ impl ClaimBoard {
             .fetch_min::<Lowers>(&mut seat.seat, 1, number);
     }
 
-    /// The least number that some seat lowered, 2^64 - 1 without any. It is no more than what this seat
-    /// lowered or was shown.
+    /// The least number that some seat lowered, 2^64 - 1 without any. It is no more than what this
+    /// seat lowered or was shown.
+    ///
+    /// ```text
+    /// board.lower(&mut seat, 7);
+    /// board.least(&mut seat) // 7, or less where another seat lowered a lesser one
+    /// ```
     pub fn least(&self, seat: &mut ClaimSeat) -> u64
         requires { IsAt self.now seat.old }
         ensures seat { IsAt self.now seat.new }

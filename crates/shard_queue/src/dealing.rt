@@ -1,32 +1,34 @@
 //! Threads dealt out into groups.
 
 ghost use Rattle.std.specs.Prelude.{◌≡◌, ◌<◌, ◌≤◌, ◌%◌, map, IfOk};
-ghost use Rattle.shard_queue.specs.Threads.{run_threads};
-ghost use Rattle.shard_queue.specs.Groupings.{IsDealt};
-ghost use Rattle.shard_queue.specs.Groups.{grouping, AreOf};
-ghost use Rattle.shard_queue.specs.Numbers.{below};
+ghost use Rattle.shard_queue.specs.{Groupings.IsDealt, Groups.AreOf, Groups.grouping, Numbers.below, Threads.run_threads};
 
 use crate::groups::Groups;
 use firing_reader::Trace;
 use std::alloc::{AllocError, Global};
 
 impl Groups {
-    /// So many groups of the trace's threads, and after them one of thread 0: the i-th thread, ascending,
-    /// goes to group `i` modulo their number. Err where memory was refused.
+    /// So many groups of the trace's threads, and after them one of thread 0: the i-th thread,
+    /// ascending, goes to group `i` modulo their number. Err where memory was refused.
+    ///
+    /// ```text
+    /// let groups = Groups::deal(alloc, &trace, 2)?; // of a trace whose threads are 9, 3, 9, 5
+    /// groups.group_of(9) // Some(0), as of 3, 5 and 9 it is the third
+    /// ```
     pub fn deal(alloc: Global, trace: &Trace, groups: u32) -> Result<Groups, AllocError>
         requires { (0 < groups) × (groups ≤ 4096) }
         ensures dealt { IfOk result (λ r. IsDealt groups trace.now (grouping r)) }
         ensures of { IfOk result (λ r. AreOf r (run_threads trace.now)) }
     {
         let threads = trace.threads(alloc)?;
-        let numbers = dealt_numbers(alloc, threads.len(), groups)?;
-        let dealt = Groups::numbered(alloc, trace, threads, numbers, groups)?;
+        let numbers = numbers_in_turn(alloc, threads.len(), groups)?;
+        let dealt = Groups::with_numbers(alloc, trace, threads, numbers, groups)?;
         Ok(dealt)
     }
 }
 
 // 0, 1 and so on to the last group, again and again.
-fn dealt_numbers(alloc: Global, count: usize, groups: u32) -> Result<Vec<u32>, AllocError>
+fn numbers_in_turn(alloc: Global, count: usize, groups: u32) -> Result<Vec<u32>, AllocError>
     requires { 0 < groups }
     ensures { IfOk result (λ v. v.items ≡ map (λ i. i % groups) (below count)) }
 {

@@ -6,8 +6,8 @@ ghost use Rattle.shard_queue.specs.declared.fault.GroupFault.TheVariants.{Memory
 use std::alloc::AllocError;
 use thiserror::Error;
 
-/// The first fault of lists of threads: `TooMany`, else the first thread, in the order of the lists, that
-/// is `Stranger` or `Doubled`, else the least that is `Missing`.
+/// The first fault of lists of threads: `TooMany`, else the first thread, in the order of the
+/// lists, that is `Stranger` or `Doubled`, else the least that is `Missing`.
 #[derive(Clone, Copy, Debug, PartialEq, Eq, Error)]
 pub enum GroupFault {
     /// A thread that fired and is in no list.

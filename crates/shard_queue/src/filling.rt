@@ -1,20 +1,17 @@
 //! The places of each group's firings, noted in one pass over the trace.
 
 ghost use Rattle.std.specs.Prelude.{◌≡◌, ◌<◌, ◌≤◌, ◌+◌, ℕ, [], All, map, length, slice_index_or, IfOk, OnOk, vec_len};
-ghost use Rattle.std.specs.Ordering.{int_eq};
-ghost use Rattle.std.specs.List.{zip};
-ghost use Rattle.std.specs.Map.{lookup};
-ghost use Rattle.shard_queue.specs.Threads.{run_threads, AreThreads};
-ghost use Rattle.shard_queue.specs.Groupings.{places_of, with_own};
-ghost use Rattle.shard_queue.specs.Groups.{grouping, places, AreOf};
+ghost use Rattle.shard_queue.specs.Vocabulary.{int_eq, lookup, zip};
+ghost use Rattle.shard_queue.specs.{Groupings.places_of, Groupings.with_own, Groups.AreOf, Groups.grouping, Groups.places, Threads.AreThreads, Threads.run_threads};
 
 use crate::groups::Groups;
 use firing_reader::{Firings, Trace};
 use std::alloc::{AllocError, Global};
 
 impl Groups {
-    // Groups in which each of the trace's threads has the number at its place, and thread 0 has `own`.
-    pub(crate) fn numbered(
+    // Groups in which each of the trace's threads has the number at its place, and thread 0 has
+    // `own`.
+    pub(crate) fn with_numbers(
         alloc: Global,
         trace: &Trace,
         threads: Vec<i32>,

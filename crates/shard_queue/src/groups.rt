@@ -1,15 +1,13 @@
 //! Groups of threads.
 
 ghost use Rattle.std.specs.Prelude.{◌≡◌, ◌<◌, ◌+◌, ◌∷◌, ◌++◌, [], ℕ, All, IfSome, OnOk, if◌then◌else◌, vec_len};
-ghost use Rattle.std.specs.Ordering.{int_cmp};
-ghost use Rattle.std.specs.List.Sorted.{IsStrictlySortedBy, IsStrictlySortedBy-prop};
-ghost use Rattle.shard_queue.specs.Groupings.{is_group};
+ghost use Rattle.shard_queue.specs.{Groupings.is_group, Vocabulary.IsStrictlySortedBy, Vocabulary.IsStrictlySortedBy-prop, Vocabulary.int_cmp};
 
 use crate::threads::place_of;
 use std::alloc::AllocError;
 
-/// Which thread is in which group, and for each group the places of its firings in the run: BEGIN has
-/// place 0, the rows of the trace follow, and END is the last.
+/// Which thread is in which group, and for each group the places of its firings in the run: BEGIN
+/// has place 0, the rows of the trace follow, and END is the last.
 #[derive(Drop)]
 pub struct Groups {
     // the threads of the trace, and at the same index the group of each
@@ -28,6 +26,10 @@ impl Groups {
     ghost use Rattle.shard_queue.specs.Groups.{grouping, places};
 
     /// How many groups there are, that of thread 0 among them.
+    ///
+    /// ```text
+    /// Groups::deal(alloc, &trace, 2)?.len() // 3
+    /// ```
     pub fn len(&self) -> usize
         ensures { result ≡ (grouping self.now).count }
     {
@@ -35,6 +37,13 @@ impl Groups {
     }
 
     /// The group of a thread, `None` for a stranger.
+    ///
+    /// ```text
+    /// // the threads 9, 3, 9 and 5, dealt into two groups
+    /// groups.group_of(5) // Some(1)
+    /// groups.group_of(0) // Some(2)
+    /// groups.group_of(4) // None
+    /// ```
     pub fn group_of(&self, thread: i32) -> Option<u32>
         ensures group { result ≡ (grouping self.now).group thread }
         ensures below { IfSome result (λ g. g < (grouping self.now).count) }
@@ -47,6 +56,12 @@ impl Groups {
     }
 
     /// The places of a group's firings, ascending.
+    ///
+    /// ```text
+    /// // the threads 9, 3, 9 and 5, dealt into two groups
+    /// groups.places(0) // [1, 2, 3]
+    /// groups.places(2) // [0, 5], those of BEGIN and END
+    /// ```
     pub fn places(&self, group: u32) -> &[u32]
         requires { group < (grouping self.now).count }
         ensures { result.now ≡ places self.now group }

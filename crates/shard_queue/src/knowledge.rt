@@ -2,8 +2,8 @@
 
 use std::collections::LinkedList;
 
-/// What was handed to some seats: the end, how many seats these are, how many of them were told the end,
-/// and the numbers that they drew.
+/// What was handed to some seats: the end, how many seats these are, how many of them were told the
+/// end, and the numbers that they drew.
 pub struct Hand {
     pub end: u64,
     pub seats: u64,
@@ -11,7 +11,8 @@ pub struct Hand {
     pub drawn: LinkedList<u32>,
 }
 
-/// The least number that some seats lowered, and the least that they were shown; 2^64 - 1 where none.
+/// The least number that some seats lowered, and the least that they were shown; 2^64 - 1 where
+/// none.
 pub struct Low {
     pub lowered: u64,
     pub seen: u64,

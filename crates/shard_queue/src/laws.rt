@@ -1,11 +1,9 @@
-//! What the definitions of groups and of numbers say in other words: each law is the contract of a function that has
-//! nothing to do.
+//! What the definitions of groups and of numbers say in other words: each law is the contract of a
+//! function that has nothing to do.
 
 ghost use Rattle.std.specs.Prelude.{◌≡◌, ◌<◌, ◌≤◌, ◌==◌, ℕ, ℤ, Some, List, All, IsSomeAnd, map, length, count_by, flat_map, slice_get};
-ghost use Rattle.firing_reader.specs.declared.firing.Firing.{Firing};
-ghost use Rattle.firing_reader.specs.Firings.{thread_of};
-ghost use Rattle.shard_queue.specs.Numbers.{below, IsAllBelow};
-ghost use Rattle.shard_queue.specs.Groupings.{Grouping, of_group, places_of};
+ghost use Rattle.shard_queue.specs.Vocabulary.{Firing, thread_of};
+ghost use Rattle.shard_queue.specs.{Groupings.Grouping, Groupings.of_group, Groupings.places_of, Numbers.IsAllBelow, Numbers.below};
 
 /// A list that has the numbers below `n`, each once, has no others.
 pub fn each_number_once()
@@ -16,11 +14,13 @@ pub fn each_number_once()
         → count_by (λ y. y == x) xs ≡ 0 }
 {}
 
-/// Where each thread has a group, the places of all groups together are those of the whole run, each once.
+/// Where each thread has a group, the places of all groups together are those of the whole run,
+/// each once.
 pub fn each_place_in_one_group()
     ensures { (grouping : Grouping) (threads : List ℤ)
         → All (λ t. IsSomeAnd (grouping.group t) (λ g. g < grouping.count)) threads
-        → IsAllBelow (length threads) (flat_map (λ g. places_of grouping g threads) (below grouping.count)) }
+        → IsAllBelow (length threads)
+        (flat_map (λ g. places_of grouping g threads) (below grouping.count)) }
 {}
 
 /// At a group's places are the firings of its threads, in their order.

@@ -1,13 +1,8 @@
 //! Threads grouped by lists.
 
 ghost use Rattle.std.specs.Prelude.{◌≡◌, ◌<◌, ◌≤◌, ◌+◌, ◌++◌, ◌⊎◌, ℕ, ℤ, true, false, Some, None, [], List, map, take, set, length, slice_get, slice_index_or, is_some, IfOk, OnOk, IfErr, MatchResult};
-ghost use Rattle.std.specs.Ordering.{int_cmp};
-ghost use Rattle.std.specs.List.Sorted.{IsStrictlySortedBy};
-ghost use Rattle.shard_queue.specs.Threads.{has, items_of, run_threads};
-ghost use Rattle.shard_queue.specs.Groupings.{list_of};
-ghost use Rattle.shard_queue.specs.Faults.{all_of, first_wrong, first_missing, first_unfound, thread_fault, IsListed, IsListFault};
-ghost use Rattle.shard_queue.specs.Groups.{grouping, AreOf};
-ghost use Rattle.shard_queue.specs.declared.fault.GroupFault.TheVariants.{Doubled, Stranger, Memory};
+ghost use Rattle.shard_queue.specs.Faults.{IsListFault, IsListed, all_of, first_missing, first_unfound, first_wrong, thread_fault};
+ghost use Rattle.shard_queue.specs.{Groupings.list_of, Groups.AreOf, Groups.grouping, Threads.has, Threads.items_of, Threads.run_threads, Vocabulary.Doubled, Vocabulary.IsStrictlySortedBy, Vocabulary.Memory, Vocabulary.Stranger, Vocabulary.int_cmp};
 
 use crate::fault::GroupFault;
 use crate::groups::Groups;
@@ -19,9 +14,15 @@ use std::alloc::{AllocError, Global};
 pub const MOST_GROUPS: u32 = 4096;
 
 impl Groups {
-    /// A group for each list, of the threads in it, and after them one of thread 0. Each of the trace's
-    /// threads has to be in one list, and no others may be: else the first fault is returned. No list at
-    /// all is read as one empty list.
+    /// A group for each list, of the threads in it, and after them one of thread 0. Each of the
+    /// trace's threads has to be in one list, and no others may be: else the first fault is
+    /// returned. No list at all is read as one empty list.
+    ///
+    /// ```text
+    /// // of a trace whose threads are 1 and 2
+    /// Groups::from_lists(alloc, &trace, &[[2], [1]]) // 2 in group 0, 1 in group 1
+    /// Groups::from_lists(alloc, &trace, &[[1], [2, 1]]) // Err(Doubled { thread: 1 })
+    /// ```
     pub fn from_lists(
         alloc: Global,
         trace: &Trace,
@@ -36,19 +37,15 @@ impl Groups {
             return Err(GroupFault::TooMany);
         }
         let threads = trace.threads(alloc)?;
-        let numbers = listed_numbers(alloc, &threads, lists)?;
+        let numbers = list_numbers(alloc, &threads, lists)?;
         let own = lists.len().max(1) as u32;
-        let listed = Groups::numbered(alloc, trace, threads, numbers, own)?;
+        let listed = Groups::with_numbers(alloc, trace, threads, numbers, own)?;
         Ok(listed)
     }
 }
 
 // The number of each thread's list.
-fn listed_numbers(
-    alloc: Global,
-    threads: &[i32],
-    lists: &[Vec<i32>],
-) -> Result<Vec<u32>, GroupFault>
+fn list_numbers(alloc: Global, threads: &[i32], lists: &[Vec<i32>]) -> Result<Vec<u32>, GroupFault>
     requires ascending { IsStrictlySortedBy int_cmp threads.now }
     requires few { length lists.now ≤ 4096 }
     ensures right { OnOk result (first_wrong threads.now [] (all_of (items_of lists.now)) ≡ None) }
@@ -58,16 +55,16 @@ fn listed_numbers(
     ensures fault { IfErr result
         (λ e. (e ≡ Memory) ⊎ (thread_fault threads.now (items_of lists.now) ≡ Some e)) }
 {
-    let mut found = none_found(alloc, threads)?;
+    let mut found = no_numbers(alloc, threads)?;
     for list in 0..lists.len() {
         note_list(threads, &mut found, lists, list)?;
     }
-    let numbers = all_found(alloc, threads, &found)?;
+    let numbers = every_number(alloc, threads, &found)?;
     Ok(numbers)
 }
 
 // No thread has a number yet.
-fn none_found(alloc: Global, threads: &[i32]) -> Result<Vec<Option<u32>>, AllocError>
+fn no_numbers(alloc: Global, threads: &[i32]) -> Result<Vec<Option<u32>>, AllocError>
     ensures { IfOk result (λ v. v.items ≡ map (λ t. None) threads.now) }
 {
     threads.iter().map(|_| None).collect(alloc)
@@ -126,7 +123,11 @@ fn note(
 }
 
 // The number of each thread's list, where every thread is in one.
-fn all_found(alloc: Global, threads: &[i32], found: &[Option<u32>]) -> Result<Vec<u32>, GroupFault>
+fn every_number(
+    alloc: Global,
+    threads: &[i32],
+    found: &[Option<u32>],
+) -> Result<Vec<u32>, GroupFault>
     requires { length found.now ≡ length threads.now }
     ensures all { IfOk result (λ v. map Some v.items ≡ found.now) }
     ensures missing { IfErr result

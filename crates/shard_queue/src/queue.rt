@@ -1,8 +1,7 @@
 //! A queue of numbers, from which each seat takes. After them comes an end mark for each seat.
+
 ghost use Rattle.std.specs.Prelude.{◌≡◌, ◌<◌, ◌≤◌, ◌+◌, ◌-◌, [], None, Some, map, length, All, IfOk, IfSome, vec_len, vec_capacity};
-ghost use Rattle.crossbeam_queue.specs.Passes.{view, IsPassOf};
-ghost use Rattle.shard_queue.specs.Hands.{hand, IsHandOut};
-ghost use Rattle.shard_queue.specs.QueueRule.{among, joint};
+ghost use Rattle.shard_queue.specs.{Hands.IsHandOut, Hands.hand, QueueRule.among, QueueRule.joint, Vocabulary.IsPassOf, Vocabulary.pass_view};
 
 use crate::knowledge::QueueView;
 use crate::queue_rule::{Deals, Gathers, Grows, OneSeat, Puts};
@@ -23,7 +22,12 @@ pub struct GroupQueue {
 impl GroupQueue {
     ghost use Rattle.shard_queue.specs.Queues.{IsIn, IsUnused, Sums, SumsIf, taken_by, told_by};
 
-    /// A queue of the numbers below `end`, and a seat for each worker. Err where memory was refused.
+    /// A queue of the numbers below `end`, and a seat for each worker. Err where memory was
+    /// refused.
+    ///
+    /// ```text
+    /// let (queue, seats) = GroupQueue::open(&rt, alloc, 3, 2)?; // the numbers 0 to 2, two seats
+    /// ```
     pub fn open<R: Wait>(
         rt: &R,
         alloc: Global,
@@ -35,14 +39,15 @@ impl GroupQueue {
         ensures seats { IfOk result
             (λ r. (vec_len r.1 ≡ workers) × All (λ s. IsIn r.0 s × IsUnused s) r.1.items) }
     {
-        let (queue, first) = GroupQueue::laid(alloc, end, workers)?;
-        let grown = queue.grown(first);
-        let full = queue.filled(rt, grown);
+        let (queue, first) = GroupQueue::start(alloc, end, workers)?;
+        let all = queue.count_seats(first);
+        let full = queue.fill(rt, all);
         let seats = queue.seats(alloc, full)?;
         Ok((queue, seats))
     }
 
-    fn laid(
+    // A queue with room for all that is put, and the pass of one seat.
+    fn start(
         alloc: Global,
         end: u32,
         workers: u32,
@@ -50,7 +55,7 @@ impl GroupQueue {
         requires { (end ≤ 4097) × (0 < workers) × (workers ≤ 16) }
         ensures queue { IfOk result (λ r. (r.0.end ≡ end) × (r.0.workers ≡ workers)) }
         ensures pass { IfOk result
-            (λ r. IsPassOf r.0.queue r.1 × (view r.1 ≡ among 1 (hand 0 1 0 []))) }
+            (λ r. IsPassOf r.0.queue r.1 × (pass_view r.1 ≡ among 1 (hand 0 1 0 []))) }
     {
         let (queue, pass) = RuledArrayQueue::ruled(alloc, end as usize + workers as usize)?;
         Ok((
@@ -64,10 +69,10 @@ impl GroupQueue {
     }
 
     // Counts all seats.
-    fn grown(&self, mut pass: Pass<u32, QueueView>) -> Pass<u32, QueueView>
-        requires { IsPassOf self.now.queue pass × (view pass ≡ among 1 (hand 0 1 0 [])) }
+    fn count_seats(&self, mut pass: Pass<u32, QueueView>) -> Pass<u32, QueueView>
+        requires { IsPassOf self.now.queue pass × (pass_view pass ≡ among 1 (hand 0 1 0 [])) }
         ensures { IsPassOf self.now.queue result
-            × (view result ≡ among self.now.workers (hand 0 self.now.workers 0 [])) }
+            × (pass_view result ≡ among self.now.workers (hand 0 self.now.workers 0 [])) }
     {
         for _ in 1..self.workers {
             self.queue.another::<Grows>(&mut pass);
@@ -76,12 +81,12 @@ impl GroupQueue {
     }
 
     // Puts each number, and the marks.
-    fn filled<R: Wait>(&self, rt: &R, mut pass: Pass<u32, QueueView>) -> Pass<u32, QueueView>
+    fn fill<R: Wait>(&self, rt: &R, mut pass: Pass<u32, QueueView>) -> Pass<u32, QueueView>
         requires end { (self.now.end ≤ 4097) × (self.now.workers ≤ 16) }
         requires pass { IsPassOf self.now.queue pass
-            × (view pass ≡ among self.now.workers (hand 0 self.now.workers 0 [])) }
+            × (pass_view pass ≡ among self.now.workers (hand 0 self.now.workers 0 [])) }
         ensures { let seats = self.now.workers in IsPassOf self.now.queue result
-            × (view result ≡ among seats (hand (self.now.end + seats) seats 0 [])) }
+            × (pass_view result ≡ among seats (hand (self.now.end + seats) seats 0 [])) }
     {
         let mut next = 0;
         for _ in rt.forever() {
@@ -101,7 +106,7 @@ impl GroupQueue {
         mut rest: Pass<u32, QueueView>,
     ) -> Result<Vec<QueueSeat>, AllocError>
         requires { let seats = self.now.workers in IsPassOf self.now.queue rest
-            × (view rest ≡ among seats (hand (self.now.end + seats) seats 0 [])) }
+            × (pass_view rest ≡ among seats (hand (self.now.end + seats) seats 0 [])) }
         ensures { IfOk result (λ v. (vec_len v ≡ self.now.workers)
             × All (λ s. IsIn self.now s × IsUnused s) v.items) }
     {
@@ -116,7 +121,7 @@ impl GroupQueue {
 
     fn seat(&self, pass: Pass<u32, QueueView>, taken: Vec<u32>) -> QueueSeat
         requires pass { let seats = self.now.workers in IsPassOf self.now.queue pass
-            × (view pass ≡ among seats (hand (self.now.end + seats) 1 0 [])) }
+            × (pass_view pass ≡ among seats (hand (self.now.end + seats) 1 0 [])) }
         requires room { (taken.items ≡ []) × (self.now.end ≤ vec_capacity taken) }
         ensures { IsIn self.now result × IsUnused result }
     {
@@ -129,8 +134,12 @@ impl GroupQueue {
         }
     }
 
-    /// Each seat's list. With all seats, they have the numbers below some front, each once, and all if a
-    /// seat was told the end. Err where memory was refused.
+    /// Each seat's list. With all seats, they have the numbers below some front, each once, and all
+    /// if a seat was told the end. Err where memory was refused.
+    ///
+    /// ```text
+    /// queue.close(alloc, seats)? // as [[0, 2], [1]], where the first seat took 0 and 2
+    /// ```
     pub fn close(self, alloc: Global, seats: Vec<QueueSeat>) -> Result<Vec<Vec<u32>>, AllocError>
         requires at { All (IsIn self) seats.items }
         requires every { vec_len seats ≡ self.workers }
@@ -148,7 +157,7 @@ impl GroupQueue {
                 workers: _,
                 told: _,
             } = place;
-            all = Some(self.gathered(all, pass));
+            all = Some(self.join(all, pass));
             lists.push_reserved(taken);
         }
         if let Some(mut pass) = all {
@@ -158,16 +167,16 @@ impl GroupQueue {
     }
 
     // One pass that knows what two know.
-    fn gathered(
+    fn join(
         &self,
         all: Option<Pass<u32, QueueView>>,
         pass: Pass<u32, QueueView>,
     ) -> Pass<u32, QueueView>
         requires all { IfSome all (IsPassOf self.now.queue) }
-        requires pass { IsPassOf self.now.queue pass × (0 < (view pass).hand.seats) }
+        requires pass { IsPassOf self.now.queue pass × (0 < (pass_view pass).hand.seats) }
         ensures pass { IsPassOf self.now.queue result }
-        ensures one { all ≡ None → view result ≡ view pass }
-        ensures both { IfSome all (λ p. view result ≡ joint (view p) (view pass)) }
+        ensures one { all ≡ None → pass_view result ≡ pass_view pass }
+        ensures both { IfSome all (λ p. pass_view result ≡ joint (pass_view p) (pass_view pass)) }
     {
         let Some(mut all) = all else {
             return pass;

@@ -1,8 +1,7 @@
 //! A worker's place at a queue.
+
 ghost use Rattle.std.specs.Prelude.{◌≡◌, ◌<◌, ◌≤◌, ◌+◌, ◌++◌, ◌∷◌, [], true, false, if◌then◌else◌, vec_capacity, Contains, IsSome, IfSome, IfNone};
-ghost use Rattle.crossbeam_queue.specs.Passes.{view};
-ghost use Rattle.shard_queue.specs.Hands.{hand};
-ghost use Rattle.shard_queue.specs.QueueRule.{among};
+ghost use Rattle.shard_queue.specs.{Hands.hand, QueueRule.among, Vocabulary.pass_view};
 
 use crate::knowledge::QueueView;
 use crate::queue::GroupQueue;
@@ -18,7 +17,7 @@ pub struct QueueSeat {
     pub(crate) end: u32,
     pub(crate) workers: u32,
     pub(crate) told: bool,
-    ghost knows: { view pass
+    ghost knows: { pass_view pass
         ≡ among workers (hand (end + workers) 1 (if told then 1 else 0) taken.items) },
     ghost room: { end ≤ vec_capacity taken },
 }
@@ -27,6 +26,12 @@ impl GroupQueue {
     ghost use Rattle.shard_queue.specs.Queues.{IsIn};
 
     /// The next number, which no seat had before, or `None` at the end.
+    ///
+    /// ```text
+    /// while let Some(group) = queue.take(&rt, &mut seat) {
+    ///     // no other seat has this group
+    /// }
+    /// ```
     pub fn take<R: Wait>(&self, rt: &R, seat: &mut QueueSeat) -> Option<u32>
         requires { IsIn self.now seat.old }
         ensures seat { IsIn self.now seat.new }

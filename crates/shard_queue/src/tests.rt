@@ -33,7 +33,8 @@ fn lists_of(alloc: Global, lists: &[&[i32]]) -> Result<Vec<Vec<i32>>, AllocError
     Ok(all)
 }
 
-// Threads that fired, into how many groups they are dealt, a thread, its group, and that group's places.
+// Threads that fired, into how many groups they are dealt, a thread, its group, and that group's
+// places.
 const DEALT: [(&[i32], u32, i32, Option<u32>, &[u32]); 12] = [
     (&[9, 3, 9, 5], 2, 3, Some(0), &[1, 2, 3]),
     (&[9, 3, 9, 5], 2, 5, Some(1), &[4]),

@@ -1,9 +1,7 @@
 //! Threads in ascending order.
 
 ghost use Rattle.std.specs.Prelude.{◌≡◌, false, Some, MatchOption, slice_get};
-ghost use Rattle.std.specs.Ordering.{int_cmp};
-ghost use Rattle.std.specs.List.Sorted.{IsStrictlySortedBy};
-ghost use Rattle.shard_queue.specs.Threads.{has};
+ghost use Rattle.shard_queue.specs.{Threads.has, Vocabulary.IsStrictlySortedBy, Vocabulary.int_cmp};
 
 // The place of a thread among these, if it is there.
 pub(crate) fn place_of(threads: &[i32], thread: i32) -> Option<usize>

@@ -1,27 +1,25 @@
 //! A run of a clause.
 
-ghost use Rattle.std.specs.Prelude.{◌≡◌, ◌+◌, ◌≤◌, ◌^◌, IfOk, OnOk, length};
+ghost use Rattle.std.specs.Prelude.{◌≡◌, ◌+◌, ◌≤◌, ◌^◌, IfOk, OnOk, length, map};
 ghost use Rattle.aggregations.specs.Table.{count_held, functions_of};
-ghost use Rattle.d_types.specs.Typed.{actions_of, meant_of};
-ghost use Rattle.d_types.specs.Sizes as sizes;
 ghost use Rattle.d_types.specs.Storage.{variables};
 ghost use Rattle.d_types.specs.Clauses as spec;
-ghost use Rattle.replay_core.specs.Bounds.{places_among, places_in};
+ghost use Rattle.replay_core.specs.Bounds.{places_among};
 ghost use Rattle.replay_core.specs.Effects.{NotesRun};
 ghost use Rattle.replay_core.specs.Seen.{piece_seen};
 
-use crate::evaluation::{EvalFault, SpareKeys, evaluate_word};
+use crate::evaluation::{EvalFault, SpareKeys};
 use crate::piece::Piece;
-use crate::statements::statement::perform;
-use d_types::{TypedClause, TypedStmt};
+use crate::statements::expression::Expression;
+use crate::statements::statement::Statement;
 use d_values::{ClauseLocals, ThreadTable};
 use firing_reader::Firing;
 use std::alloc::{AllocError, Global};
 
 // The statements, in order, up to the first that faults: its line then stands in place of the texts of all.
-fn run_statements(
+fn run_statements<X: Expression, S: Statement<X>>(
     alloc: Global,
-    statements: &[TypedStmt],
+    statements: &[S],
     firing: &Firing,
     place: u64,
     locals: &mut ClauseLocals,
@@ -29,19 +27,19 @@ fn run_statements(
     spare: &mut SpareKeys,
     piece: &mut Piece,
 ) -> Result<bool, AllocError>
-    requires places { places_among (actions_of statements.now) ≤ length (functions_of piece.old.table) }
+    requires places { places_among (map S.form statements.now) ≤ length (functions_of piece.old.table) }
     requires room { count_held piece.old.table + length statements.now ≤ 2 ^ 52 }
     ensures functions { functions_of piece.new.table ≡ functions_of piece.old.table }
     ensures taken { piece.new.taken.items ≡ piece.old.taken.items }
     ensures held { count_held piece.new.table ≤ count_held piece.old.table + length statements.now }
     ensures run { IfOk result (NotesRun firing.now.number
-        (spec.made (spec.fault_line firing.now.number place) (spec.statements_of firing.now (actions_of statements.now) (variables locals.old own.old)))
+        (spec.made (spec.fault_line firing.now.number place) (spec.statements_by (X.by firing.now) (map S.form statements.now) (variables locals.old own.old)))
         (piece_seen piece.old) (piece_seen piece.new) (variables locals.new own.new)) }
 {
     let before = piece.texts.len();
     let mut exits = false;
     for statement in statements {
-        match perform(alloc, statement, firing, locals, own, spare, piece) {
+        match statement.perform(alloc, firing, locals, own, spare, piece) {
             Ok(exited) => exits |= exited,
             Err(EvalFault::DivideByZero) => {
                 piece.note_fault(firing.number, place, before)?;
@@ -54,11 +52,12 @@ fn run_statements(
 }
 
 /// Runs a clause for a firing that its description matches: the predicate, and the statements where
-/// that isn't 0 (Dynamic Tracing Guide, "Predicates"). Answers whether it exits. The place is that
+/// that isn't 0 (Dynamic Tracing Guide, "Predicates"). Returns whether it exits. The place is that
 /// among the script's clauses, from 1.
-pub(crate) fn run_clause(
+pub(crate) fn run_clause<X: Expression, S: Statement<X>>(
     alloc: Global,
-    clause: &TypedClause,
+    predicate: &Option<X>,
+    statements: &[S],
     firing: &Firing,
     place: u64,
     locals: &mut ClauseLocals,
@@ -66,16 +65,18 @@ pub(crate) fn run_clause(
     spare: &mut SpareKeys,
     piece: &mut Piece,
 ) -> Result<bool, AllocError>
-    requires places { places_in (meant_of clause.now) ≤ length (functions_of piece.old.table) }
-    requires room { count_held piece.old.table + sizes.statements (meant_of clause.now) ≤ 2 ^ 52 }
+    requires places { places_among (map S.form statements.now) ≤ length (functions_of piece.old.table) }
+    requires room { count_held piece.old.table + length statements.now ≤ 2 ^ 52 }
     ensures functions { functions_of piece.new.table ≡ functions_of piece.old.table }
     ensures taken { piece.new.taken.items ≡ piece.old.taken.items }
-    ensures held { count_held piece.new.table ≤ count_held piece.old.table + sizes.statements (meant_of clause.now) }
-    ensures run { IfOk result (NotesRun firing.now.number (spec.run_of firing.now place (meant_of clause.now) (variables locals.old own.old))
+    ensures held { count_held piece.new.table ≤ count_held piece.old.table + length statements.now }
+    ensures run { IfOk result (NotesRun firing.now.number
+        (spec.run_by (X.by firing.now) (spec.fault_line firing.now.number place) predicate.now
+        (map S.form statements.now) (variables locals.old own.old))
         (piece_seen piece.old) (piece_seen piece.new) (variables locals.new own.new)) }
 {
-    if let Some(predicate) = &clause.predicate {
-        match evaluate_word(alloc, predicate, firing, locals, own, spare) {
+    if let Some(predicate) = predicate {
+        match predicate.evaluate_word(alloc, firing, locals, own, spare) {
             Ok(0) => return Ok(false),
             Ok(_) => {}
             Err(EvalFault::DivideByZero) => {
@@ -86,14 +87,5 @@ pub(crate) fn run_clause(
             Err(EvalFault::Memory) => return Err(AllocError),
         }
     }
-    run_statements(
-        alloc,
-        &clause.statements,
-        firing,
-        place,
-        locals,
-        own,
-        spare,
-        piece,
-    )
+    run_statements(alloc, statements, firing, place, locals, own, spare, piece)
 }

@@ -1,4 +1,4 @@
-use Rattle.std.proofs.Common.{◌≡◌, ap, ◌∙◌}
+use Rattle.std.proofs.Common.{ap, ◌∙◌}
 use Rattle.d_parser.specs.Tree.{tree_of}
 use Rattle.d_types.proofs.Trees.{call_is}
 use Rattle.d_types.proofs.action.action.Goals as goal

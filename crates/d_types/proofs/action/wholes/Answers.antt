@@ -1,4 +1,3 @@
-use Rattle.std.proofs.Common.{◌≡◌, sym, ap, ◌∙◌}
 use Rattle.d_types.proofs.Rows.{typeds_push}
 use Rattle.d_types.proofs.Tables.{front}
 use Rattle.d_types.proofs.action.wholes.Goals as goal

@@ -3,12 +3,12 @@ use Rattle.d_types.specs.Typed.{aggs_of}
 use Rattle.d_types.proofs.NewAggregations.{agg_refused, agg_within}
 use Rattle.d_types.proofs.aggregation.new_place.Goals as goal
 
-pub returns-then-keys-gt8 : goal.returns-then-keys-gt8
-returns-then-keys-gt8 c = agg_refused c.args.line c.args.name.now c.args.keys.now c.args.function (aggs_of c.args.aggs.now.items) c.if-keys-gt8.true
+pub returns-then-keys-gt-MOST_KEYS : goal.returns-then-keys-gt-MOST_KEYS
+returns-then-keys-gt-MOST_KEYS c = agg_refused c.args.line c.args.name.now c.args.keys.now c.args.function (aggs_of c.args.aggs.now.items) c.if-keys-gt-MOST_KEYS.true
 
 pub returns-in-None : goal.returns-in-None
-returns-in-None c = rw (agg_within c.args.line c.args.name.now c.args.keys.now c.args.function (aggs_of c.args.aggs.now.items) c.if-keys-gt8.false, c.in-None.is) refl
+returns-in-None c = rw (agg_within c.args.line c.args.name.now c.args.keys.now c.args.function (aggs_of c.args.aggs.now.items) c.if-keys-gt-MOST_KEYS.false, c.in-None.is) refl
 
 pub returns-in_ok-place-in-Some : goal.returns-in_ok-place-in-Some
 returns-in_ok-place-in-Some c =
-    rw (agg_within c.args.line c.args.name.now c.args.keys.now c.args.function (aggs_of c.args.aggs.now.items) c.if-keys-gt8.false, c.in-Some.is, c.in_ok-place-in-Some.ensures.place, c.in_ok-place-in-Some.ensures.added) refl
+    rw (agg_within c.args.line c.args.name.now c.args.keys.now c.args.function (aggs_of c.args.aggs.now.items) c.if-keys-gt-MOST_KEYS.false, c.in-Some.is, c.in_ok-place-in-Some.ensures.place, c.in_ok-place-in-Some.ensures.added) refl

@@ -1,9 +1,8 @@
-use Rattle.std.proofs.Common.{◌≡◌, sym, ap, ◌∙◌}
+use Rattle.std.proofs.Common.{ap, ◌∙◌}
 use Rattle.d_parser.specs.Tree.{tree_of}
 use Rattle.d_types.proofs.Trees.{read_is, call_is, before_is, after_is, assign_is}
 use Rattle.d_types.proofs.Rows.{typeds_push}
 use Rattle.d_types.proofs.Tables.{front}
-use Rattle.d_types.proofs.Binds.{fails_bind}
 use Rattle.d_types.proofs.expression.+typing.Goals as goal
 
 pub exprs-loop-e-preserved : goal.exprs-loop-e-preserved
@@ -12,19 +11,16 @@ exprs-loop-e-preserved t c =
     rw (c.in_ok-push.ensures.items, typeds_push) inv
 
 pub expr-returns-in-Read : goal.expr-returns-in-Read
-expr-returns-in-Read t c = rw (ap tree_of c.in-Read.is ∙ read_is c.in-Read.target, ← c.deref.ensures.value) c.read_expr.ensures
+expr-returns-in-Read t c = rw (ap tree_of c.in-Read.is ∙ read_is c.in-Read.target) c.read_expr.ensures
 
 pub expr-returns-in-Call : goal.expr-returns-in-Call
-expr-returns-in-Call t c = rw (ap tree_of c.in-Call.is ∙ call_is c.in-Call.line c.in-Call.function c.in-Call.arguments, ← c.as_slice.ensures, ← c.deref-in-Call.ensures.value) c.call_expr.ensures
+expr-returns-in-Call t c = rw (ap tree_of c.in-Call.is ∙ call_is c.in-Call.line c.in-Call.function c.in-Call.arguments, ← c.as_slice.ensures, ← c.deref.ensures.value) c.call_expr.ensures
 
 pub expr-returns-in-Before : goal.expr-returns-in-Before
-expr-returns-in-Before t c = rw (ap tree_of c.in-Before.is ∙ before_is c.in-Before.line c.in-Before.step c.in-Before.target, ← c.deref-in-Before.ensures.value) c.before_expr.ensures
+expr-returns-in-Before t c = rw (ap tree_of c.in-Before.is ∙ before_is c.in-Before.line c.in-Before.step c.in-Before.target) c.before_expr.ensures
 
 pub expr-returns-in-After : goal.expr-returns-in-After
-expr-returns-in-After t c = rw (ap tree_of c.in-After.is ∙ after_is c.in-After.target c.in-After.step, ← c.deref-in-After.ensures.value) c.after_expr.ensures
+expr-returns-in-After t c = rw (ap tree_of c.in-After.is ∙ after_is c.in-After.target c.in-After.step) c.after_expr.ensures
 
-pub expr-returns-in-Err : goal.expr-returns-in-Err
-expr-returns-in-Err t c = rw (ap tree_of c.in-Assign.is ∙ assign_is c.in-Assign.operator c.in-Assign.target c.in-Assign.value, ← c.deref-in-Assign.ensures.value) (fails_bind _ _ _ c.in-Err.ensures)
-
-pub expr-returns-in-Ok : goal.expr-returns-in-Ok
-expr-returns-in-Ok t c = rw (ap tree_of c.in-Assign.is ∙ assign_is c.in-Assign.operator c.in-Assign.target c.in-Assign.value, ← c.deref-in-Assign.ensures.value, c.in-Ok.ensures, ← c.deref-in-Ok.ensures) c.assign_expr.ensures
+pub expr-returns-in-Assign : goal.expr-returns-in-Assign
+expr-returns-in-Assign t c = rw (ap tree_of c.in-Assign.is ∙ assign_is c.in-Assign.operator c.in-Assign.target c.in-Assign.value, ← c.deref-in-Assign.ensures) c.assign_expr.ensures

@@ -1,4 +1,4 @@
-use Rattle.std.proofs.Common.{◌≡◌, ◌+◌, nat_le, ap, ◌∙◌}
+use Rattle.std.proofs.Common.{nat_le, ap, ◌∙◌}
 use Rattle.d_types.specs.Typed.{typed_of}
 use Rattle.d_types.specs.Needs.{need}
 use Rattle.d_types.proofs.Registers.{read_need, step_need, assign_fits, update_fits}

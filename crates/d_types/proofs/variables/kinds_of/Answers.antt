@@ -1,7 +1,5 @@
-use Rattle.std.proofs.Common.{◌≡◌, ◌+◌, ◌++◌, ◌∷◌, [], drop, refl, sym, ap, ◌∙◌, append_assoc, append-nil}
+use Rattle.std.proofs.Common.{append_assoc, append-nil}
 use Rattle.std.proofs.lemmas.List.{drop_all}
-use Rattle.d_types.specs.Typed.{typeds_of}
-use Rattle.d_types.specs.Variables as spec
 use Rattle.d_types.proofs.Tables.{front}
 use Rattle.d_types.proofs.variables.kinds_of.Goals as goal
 

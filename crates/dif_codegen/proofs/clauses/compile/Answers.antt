@@ -26,5 +26,5 @@ pub returns : goal.returns
 returns c =
     let s = c.args.script.now in
     is_program s.clauses.items s.aggregations.items s.slots.items _ _ s.typed
-    (c.in_ok-functions.ensures ∙ ap (map (λ a. a.function)) c.aggs.ensures)
+    c.in_ok-functions.ensures
     (c.in_ok-clauses.ensures ∙ ap (λ l. map compiled_clause (map meant_of l)) c.clauses.ensures)

@@ -14,10 +14,10 @@ loop-clause-preserved g c =
     record {
       each = one_longer old new c.descriptions.result c.in_ok-push.ensures.items ∙ ap (λ n. n + 1) inv.each;
       probes = probes_more (λ d. d.now) g.C.Clause.probes xs i c.clause-item.result old new c.descriptions.result inside c.clause-item.is c.in_ok-push.ensures.items c.descriptions.ensures.probes inv.probes;
-      meaning = λ cs zip.
-          meaning_more (λ d. d.now) g.C.Clause.means xs cs i c.clause-item.result old new c.descriptions.result inside c.clause-item.is c.in_ok-push.ensures.items c.descriptions.ensures.meaning zip (inv.meaning cs zip);
+      meaning = λ slots cs zip.
+          meaning_more (λ d. d.now) (λ c. g.C.Clause.means c slots) xs cs i c.clause-item.result old new c.descriptions.result inside c.clause-item.is c.in_ok-push.ensures.items (c.descriptions.ensures.meaning slots) zip (inv.meaning slots cs zip);
     }
 
 pub returns-clause-meaning : goal.returns-clause-meaning
-returns-clause-meaning g c = λ cs zip.
-    meaning_all (λ d. d.now) g.C.Clause.means c.args.clauses.now cs c.loop-clause.clause-index c.loop-clause.all.items (omega arith) zip (c.loop-clause.invariant.meaning cs zip)
+returns-clause-meaning g c = λ slots cs zip.
+    meaning_all (λ d. d.now) (λ x. g.C.Clause.means x slots) c.args.clauses.now cs c.loop-clause.clause-index c.loop-clause.all.items (omega arith) zip (c.loop-clause.invariant.meaning slots cs zip)

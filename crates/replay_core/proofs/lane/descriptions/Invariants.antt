@@ -1,6 +1,7 @@
 use Rattle.std.proofs.Common.{◌≡◌, length, map, take}
 use Rattle.std.specs.Prelude.{List, sum_by}
 use Rattle.std.specs.List.{AllZip}
+use Rattle.d_types.specs.Held.{Slots}
 use Rattle.d_types.specs.Typed.{ClauseMeant}
 use Rattle.replay_core.proofs.lane.descriptions.Given as goal
 
@@ -8,5 +9,5 @@ abbrev pub invariant-loop-clause : goal.invariant-loop-clause
 invariant-loop-clause g l = record {
   each : length l.all.items ≡ l.clause-index;
   probes : sum_by length (map (λ d. d.now) l.all.items) ≡ sum_by g.C.Clause.probes (take l.clause-index l.clauses);
-  meaning : (cs : List ClauseMeant) → AllZip g.C.Clause.means l.clauses cs → map (λ d. d.now) l.all.items ≡ take l.clause-index (map (λ c. c.descriptions) cs);
+  meaning : (slots : Slots) (cs : List ClauseMeant) → AllZip (λ c. g.C.Clause.means c slots) l.clauses cs → map (λ d. d.now) l.all.items ≡ take l.clause-index (map (λ c. c.descriptions) cs);
 }

@@ -7,14 +7,14 @@ use Rattle.d_types.specs.Sizes.{statements}
 use Rattle.d_types.specs.Typed.{meant_of}
 use Rattle.d_types.specs.TypedScripts.{typed_script_of}
 use Rattle.replay_core.specs.Bounds.{places_in}
-use Rattle.replay_core.proofs.TreeLemmas.{all_few, all_named, few_probes, functions_same, trees_mean}
+use Rattle.replay_core.proofs.TreeLemmas.{all_few, all_named, few_probes, functions_same, script_keeps, trees_mean}
 use Rattle.replay_core.proofs.tree.tree_lane.Goals as goal
 
 pub new-requires-clause-named : goal.new-requires-clause-named
 new-requires-clause-named c =
     let s = c.args.script.now in
     let many : length c.in_ok-functions.functions.items ≡ length s.aggregations.items =
-    ap length (c.in_ok-functions.ensures ∙ ap (map (λ a. a.function)) c.aggs.ensures) ∙ length-map s.aggregations.items (λ a. a.function) in
+    ap length c.in_ok-functions.ensures ∙ length-map s.aggregations.items (λ a. a.function) in
     subst (λ l. All (λ x. places_in (meant_of x) ≤ length c.in_ok-functions.functions.items) l) (sym c.clauses.ensures)
     (subst (λ n. All (λ x. places_in (meant_of x) ≤ n) s.clauses.items) (sym many) (all_named s.clauses.items s.aggregations.items s.slots.items s.typed))
 
@@ -31,6 +31,7 @@ new-requires-clause-few_descriptions c =
 pub returns-clause-script : goal.returns-clause-script
 returns-clause-script c =
     let s = c.args.script.now in
+    let m = typed_script_of s in
     let trees = subst (λ l. AllZip (λ x meant. meant ≡ meant_of x) l (map meant_of s.clauses.items)) (sym c.clauses.ensures) (trees_mean s.clauses.items) in
-    let functions = c.in_ok-functions.ensures ∙ ap (map (λ a. a.function)) c.aggs.ensures ∙ functions_same s.clauses.items s.aggregations.items s.slots.items in
-    IfOk-weaker c.new.result _ _ (λ l made. made (typed_script_of s) trees functions) c.new.ensures.script
+    let functions = c.in_ok-functions.ensures ∙ functions_same s.clauses.items s.aggregations.items s.slots.items in
+    IfOk-weaker c.new.result _ _ (λ l made n same. rw same (made m (record { each = trees; keep = script_keeps m s.typed }) functions)) c.new.ensures.script

@@ -3,10 +3,12 @@ use Rattle.std.proofs.Common.{rules, arith, add-one, drop, get_or, subst, sym, a
 use Rattle.std.proofs.Math.Seq.{drop-cons}
 use Rattle.std.proofs.lemmas.List.{drop_all}
 use Rattle.d_types.specs.Clauses.{run_of}
+use Rattle.d_types.specs.Held.{AreTyped}
 use Rattle.d_types.specs.Storage.{variables}
+use Rattle.replay_core.specs.Scripts.{Keeps}
 use Rattle.replay_core.specs.Seen.{piece_seen}
 use Rattle.replay_core.specs.Turns.{run_at}
-use Rattle.replay_core.proofs.Turning.{Continues, continues_more, continues_all, zip_at}
+use Rattle.replay_core.proofs.Turning.{Continues, continues_more, continues_all, zip_with_at}
 use Rattle.replay_core.proofs.turns.run_in_turn.Goals as goal
 
 pub loop-place-preserved : goal.loop-place-preserved
@@ -29,20 +31,23 @@ loop-place-preserved g c =
       functions = c.run.ensures.functions ∙ c.loop-place.invariant.functions;
       taken = c.run.ensures.taken ∙ c.loop-place.invariant.taken;
       held = omega (arith, most_here, held, before_held);
-      turns = λ cs zip.
-          let at = zip_at g.C.Clause.means c.args.clauses.now cs place clause zip inside in
-          let meant = subst (λ x. g.C.Clause.means x at.0) (sym c.index-clauses-place.is) at.2 in
-          let ran = c.in_ok-exited.ensures.run at.0 meant in
+      turns = λ slots cs mean fit good.
+          let at = zip_with_at (λ x. g.C.Clause.means x slots) (Keeps slots) c.args.clauses.now cs place clause mean.each mean.keep inside in
+          let meant = subst (λ x. g.C.Clause.means x slots at.0) (sym c.index-clauses-place.is) at.2 in
+          let (typed, so_far_all) = c.loop-place.invariant.turns slots cs mean fit good in
+          let ran = c.in_ok-exited.ensures.run slots at.0 meant fit typed in
           let run = run_of f (place + 1) at.0 now in
           let is : run_at f place (slice_get cs place) now ≡ run = ap (λ o. run_at f place o now) at.1 in
-          let so_far = subst (λ l. Continues f cs all l before now (piece_seen c.args.piece.now) (piece_seen c.loop-place.piece) c.loop-place.exits) cut (c.loop-place.invariant.turns cs zip) in
-          continues_more f cs all (drop (i + 1) all) place before now after (piece_seen c.args.piece.now) (piece_seen c.loop-place.piece) (piece_seen c.run.new.piece)
-          c.loop-place.exits _ run so_far is (sym ran.variables) ran.notes (ap (λ b. c.loop-place.exits || b) ran.exited);
+          let so_far = subst (λ l. Continues f cs all l before now (piece_seen c.args.piece.now) (piece_seen c.loop-place.piece) c.loop-place.exits) cut so_far_all in (
+            subst (AreTyped slots) (sym ran.variables) (at.3 f (place + 1) now fit typed),
+            continues_more f cs all (drop (i + 1) all) place before now after (piece_seen c.args.piece.now) (piece_seen c.loop-place.piece) (piece_seen c.run.new.piece)
+                c.loop-place.exits _ run so_far is (sym ran.variables) ran.notes (ap (λ b. c.loop-place.exits || b) ran.exited),
+          );
     }
 
 pub returns-clause-notes : goal.returns-clause-notes
-returns-clause-notes g c = λ cs zip.
+returns-clause-notes g c = λ slots cs mean fit good.
     let none : drop c.loop-place.place-index c.args.places.now ≡ [] = drop_all c.loop-place.place-index c.args.places.now (omega arith) in
     continues_all c.args.firing.now cs _ _ _ _ _ c.loop-place.exits
     (subst (λ l. Continues c.args.firing.now cs c.args.places.now l (variables c.args.tables.now.locals c.args.tables.now.own) (variables c.loop-place.tables.locals c.loop-place.tables.own) (piece_seen c.args.piece.now) (piece_seen c.loop-place.piece) c.loop-place.exits)
-    none (c.loop-place.invariant.turns cs zip))
+    none (c.loop-place.invariant.turns slots cs mean fit good).1)

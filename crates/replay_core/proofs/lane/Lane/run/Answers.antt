@@ -1,17 +1,18 @@
-use Rattle.std.specs.Prelude.{◌≡◌, ◌+◌, ◌*◌, ◌<◌, ◌≤◌, ℕ, ℤ, All, length, map, if◌then◌else◌, is_some, sum_by}
+use Rattle.std.specs.Prelude.{◌≡◌, ◌+◌, ◌<◌, All, length, map, if◌then◌else◌, is_some}
 use Rattle.std.specs.Ordering.{int_eq}
-use Rattle.std.proofs.Common.{rules, refl, arith, subst, sym, ap, ◌∙◌}
+use Rattle.std.proofs.Common.{rules, arith, subst, sym, ap, ◌∙◌}
 use Rattle.std.proofs.lemmas.List.{length-map}
 use Rattle.std.proofs.lemmas.Result.{on_ok_weaker, IfOk-weaker}
-use Rattle.aggregations.specs.Table.{count_held}
-use Rattle.replay_core.specs.Meaning.{at_start, made_of}
+use Rattle.d_types.specs.Held.{AreTypedOwn, slots_of}
+use Rattle.d_types.proofs.FiringValues.{firing_is}
+use Rattle.replay_core.specs.Meaning.{at_start, made_of, threads_after}
 use Rattle.replay_core.specs.Patterns.{probe_of}
 use Rattle.replay_core.specs.Places.{places_for}
 use Rattle.replay_core.specs.Seen.{piece_seen}
 use Rattle.replay_core.specs.Threads.{threads_in}
 use Rattle.replay_core.specs.Turns.{turns}
 use Rattle.replay_core.proofs.FiringLemmas.{both, goes_on, places_few, places_within, some_same, turns_are}
-use Rattle.replay_core.proofs.Noting.{or_none}
+use Rattle.replay_core.proofs.ThreadLemmas.{typed_after}
 use Rattle.replay_core.proofs.lane.Lane.run.Goals as goal
 
 pub run_on_thread-requires-clause-there : goal.run_on_thread-requires-clause-there
@@ -54,14 +55,15 @@ returns-clause-step g c =
     let threads = threads_in c.args.self.now.threads.entries in
     let places_are : c.places.result.now ≡ places_for (probe_of f) 0 ds = search rules in
     let start = at_start (threads f.thread) in
-    on_ok_weaker c.run_on_thread.result (λ (notes, others) m runs.
+    let fit = firing_is f c.requires.ranges in
+    on_ok_weaker c.run_on_thread.result (λ (notes, others) m runs typed.
     let made = turns f m.clauses c.places.result.now start in
     let is : made ≡ made_of m f (threads f.thread) =
     ap (λ l. turns f m.clauses l start) (places_are ∙ ap (places_for (probe_of f) 0) runs.are_described) ∙ turns_are m f start in
     record {
-      threads = λ i thread. (others m.clauses runs.clauses_mean thread ∙ ap (λ r. if int_eq thread f.thread then r.variables.own else threads thread) is) i;
+      threads = λ i thread. (others (slots_of m) m.clauses runs.clauses_mean fit (typed f.thread) thread ∙ ap (λ r. if int_eq thread f.thread then r.variables.own else threads thread) is) i;
       piece = goes_on m f threads made (piece_seen c.args.self.now.piece) _ (piece_seen c.run_on_thread.new.piece) is
-          (search rules) (notes m.clauses runs.clauses_mean);
+          (search rules) (notes (slots_of m) m.clauses runs.clauses_mean fit (typed f.thread));
     }) (both _ _ c.run_on_thread.result c.run_on_thread.ensures.notes c.run_on_thread.ensures.threads)
 
 pub returns-clause-exits : goal.returns-clause-exits
@@ -71,7 +73,23 @@ returns-clause-exits g c =
     let threads = threads_in c.args.self.now.threads.entries in
     let places_are : c.places.result.now ≡ places_for (probe_of f) 0 ds = search rules in
     let start = at_start (threads f.thread) in
-    IfOk-weaker c.run_on_thread.result _ _ (λ exits told m runs.
+    let fit = firing_is f c.requires.ranges in
+    IfOk-weaker c.run_on_thread.result _ _ (λ exits told m runs typed.
     let is : turns f m.clauses c.places.result.now start ≡ made_of m f (threads f.thread) =
     ap (λ l. turns f m.clauses l start) (places_are ∙ ap (places_for (probe_of f) 0) runs.are_described) ∙ turns_are m f start in
-    told m.clauses runs.clauses_mean ∙ ap (λ r. is_some r.exit) is ∙ some_same (λ status. (f.number, status)) (made_of m f (threads f.thread)).exit) c.run_on_thread.ensures.exits
+    told (slots_of m) m.clauses runs.clauses_mean fit (typed f.thread) ∙ ap (λ r. is_some r.exit) is ∙ some_same (λ status. (f.number, status)) (made_of m f (threads f.thread)).exit) c.run_on_thread.ensures.exits
+
+pub returns-clause-typed : goal.returns-clause-typed
+returns-clause-typed g c =
+    let f = c.args.firing.now in
+    let ds = map (λ d. d.now) c.args.self.now.selections.descriptions.items in
+    let threads = threads_in c.args.self.now.threads.entries in
+    let places_are : c.places.result.now ≡ places_for (probe_of f) 0 ds = search rules in
+    let start = at_start (threads f.thread) in
+    let fit = firing_is f c.requires.ranges in
+    on_ok_weaker c.run_on_thread.result (λ others m runs typed thread.
+    let is : turns f m.clauses c.places.result.now start ≡ made_of m f (threads f.thread) =
+    ap (λ l. turns f m.clauses l start) (places_are ∙ ap (places_for (probe_of f) 0) runs.are_described) ∙ turns_are m f start in
+    let left : threads_in c.run_on_thread.new.threads.entries thread ≡ threads_after m f threads thread =
+    others (slots_of m) m.clauses runs.clauses_mean fit (typed f.thread) thread ∙ ap (λ r. if int_eq thread f.thread then r.variables.own else threads thread) is in
+    subst (AreTypedOwn (slots_of m)) (sym left) (typed_after m f threads runs.clauses_mean.keep fit typed thread)) c.run_on_thread.ensures.threads

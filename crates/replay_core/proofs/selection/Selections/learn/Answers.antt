@@ -1,5 +1,5 @@
-use Rattle.std.specs.Prelude.{◌≡◌, map, All, ◌++◌, [], ◌∷◌}
-use Rattle.std.proofs.Common.{rules, subst, sym, ap, ◌∙◌}
+use Rattle.std.specs.Prelude.{map}
+use Rattle.std.proofs.Common.{rules, ap, ◌∙◌}
 use Rattle.replay_core.specs.declared.selection.Selection.{Selection}
 use Rattle.replay_core.specs.Places.{places_for}
 use Rattle.replay_core.specs.Selecting.{IsSelection, places_at}

@@ -1,17 +1,16 @@
-use Rattle.std.proofs.Common.{◌≡◌, ◌+◌, ◌≤◌, drop}
+use Rattle.std.proofs.Common.{◌≡◌, ◌+◌, ◌≤◌, drop, map}
 use Rattle.aggregations.specs.Table.{count_held, functions_of}
-use Rattle.d_types.specs.Typed.{actions_of}
 use Rattle.d_types.specs.Storage.{variables}
-use Rattle.d_types.specs.Clauses.{statements_of}
+use Rattle.d_types.specs.Clauses.{statements_by}
 use Rattle.replay_core.specs.Seen.{piece_seen}
 use Rattle.replay_core.proofs.EffectLemmas.{SoFar}
 use Rattle.replay_core.proofs.statements.clause.run_statements.Given as goal
 
 abbrev pub invariant-loop-statement : goal.invariant-loop-statement
-invariant-loop-statement l = record {
+invariant-loop-statement g l = record {
   functions : functions_of l.piece.table ≡ functions_of l.fn.piece.table;
   taken : l.piece.taken.items ≡ l.fn.piece.taken.items;
   held : count_held l.piece.table ≤ count_held l.fn.piece.table + l.statement-index;
-  so_far : SoFar l.firing.number (statements_of l.firing (actions_of l.statements) (variables l.fn.locals l.fn.own))
-      (statements_of l.firing (actions_of (drop l.statement-index l.statements)) (variables l.locals l.own)) (piece_seen l.fn.piece) (piece_seen l.piece) l.exits;
+  so_far : SoFar l.firing.number (statements_by (g.X.Expression.by l.firing) (map g.S.Statement.form l.statements) (variables l.fn.locals l.fn.own))
+      (statements_by (g.X.Expression.by l.firing) (map g.S.Statement.form (drop l.statement-index l.statements)) (variables l.locals l.own)) (piece_seen l.fn.piece) (piece_seen l.piece) l.exits;
 }

@@ -1,16 +1,15 @@
 use Rattle.std.proofs.Common.{rules}
-use Rattle.d_types.specs.Typed.{typed_of, type_of}
 use Rattle.d_types.specs.Storage.{variables}
-use Rattle.d_types.specs.Expressions.{eval}
 use Rattle.d_types.specs.Printing.{traced}
 use Rattle.replay_core.specs.Seen.{piece_seen}
 use Rattle.replay_core.proofs.EffectLemmas.{says}
 use Rattle.replay_core.proofs.statements.statement.trace.Goals as goal
 
 pub returns-clause-effect : goal.returns-clause-effect
-returns-clause-effect c =
+returns-clause-effect g c =
     let f = c.args.firing.now in
+    let by = g.X.Expression.by f in
     let vars = variables c.args.locals.now c.args.own.now in
-    says f.number (eval f (typed_of c.args.e.now) vars) (traced (type_of (typed_of c.args.e.now))) c.in_ok-value.value c.in_ok-text.text
+    says f.number (by.value c.args.e.now vars) (traced (by.type c.args.e.now)) c.in_ok-value.value c.in_ok-text.text
     (piece_seen c.args.piece.now) (piece_seen c.note_text.new.self) (variables c.evaluate.new.locals c.evaluate.new.own)
     c.in_ok-value.ensures (search rules) c.in_ok-note_text.ensures.notes

@@ -9,8 +9,8 @@ use Rattle.shard_queue.proofs.Lists.{fun_ext}
 use Rattle.shard_queue.proofs.Places.{dealt_lookup, dealt_below}
 use Rattle.shard_queue.proofs.groups.Groups.deal.Goals as goal
 
-pub numbered-requires-clause-numbers : goal.numbered-requires-clause-numbers
-numbered-requires-clause-numbers c =
+pub with_numbers-requires-clause-numbers : goal.with_numbers-requires-clause-numbers
+with_numbers-requires-clause-numbers c =
     let threads = c.in_ok-threads.threads in
     let n = c.args.groups in
     let numbers = c.in_ok-numbers.numbers in

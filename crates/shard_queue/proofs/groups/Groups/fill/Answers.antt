@@ -1,4 +1,4 @@
-use Rattle.std.proofs.Common.{rules, arith, refl, ap, sym, ◌∙◌, ◌++◌, ◌∷◌, [], ◌+◌, cond, map}
+use Rattle.std.proofs.Common.{rules, arith, refl, ap, ◌∙◌, ◌++◌, ◌∷◌, [], ◌+◌, cond, map}
 use Rattle.std.proofs.lemmas.Int.{to_z-of_z}
 use Rattle.std.proofs.lemmas.Option.{get_or_from_slice_get}
 use mir.Val.{SFits}

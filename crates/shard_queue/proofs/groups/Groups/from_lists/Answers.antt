@@ -35,8 +35,8 @@ returns-in_err-numbers-clause-fault c =
 numbers_are : (threads found : List ℤ) (lists : List (List ℤ)) (numbers : List ℕ) → found ≡ threads → map Some numbers ≡ map (list_of lists) found → map Some numbers ≡ map (list_of lists) threads
 numbers_are threads found lists numbers same are = are ∙ ap (map (list_of lists)) same
 
-pub numbered-requires-clause-numbers : goal.numbered-requires-clause-numbers
-numbered-requires-clause-numbers c =
+pub with_numbers-requires-clause-numbers : goal.with_numbers-requires-clause-numbers
+with_numbers-requires-clause-numbers c =
     let threads = c.in_ok-threads.threads in
     let numbers = c.in_ok-numbers.numbers in
     let lists = map (λ v. v.items) c.args.lists.now in

@@ -12,8 +12,8 @@ use Rattle.shard_queue.proofs.queue.GroupQueue.close.Goals.{in-Some-all, in_defa
 pub loop-place-preserved : goal.loop-place-preserved
 loop-place-preserved c =
     let i = c.loop-place.invariant in
-    let g = c.gathered.ensures in record {
-      sums = sums_more c.args.self c.loop-place.yielded c.in-Some.place c.loop-place.all c.gathered.result (all_head (IsIn c.args.self) _ _ _ i.each c.in-Some.ensures.steps.0) i.sums g.pass g.one g.both;
+    let g = c.join.ensures in record {
+      sums = sums_more c.args.self c.loop-place.yielded c.in-Some.place c.loop-place.all c.join.result (all_head (IsIn c.args.self) _ _ _ i.each c.in-Some.ensures.steps.0) i.sums g.pass g.one g.both;
       lists = c.push_reserved.ensures.items ∙ ap (λ xs. xs ++ c.in-Some.place.taken ∷ []) i.lists ∙ sym (map-append (λ s. s.taken) c.loop-place.yielded (c.in-Some.place ∷ []));
       len = let l = c.push_reserved.ensures.len in let n = length-append c.loop-place.yielded (c.in-Some.place ∷ []) in let m = i.len in omega arith;
       room = let l = c.push_reserved.ensures.capacity in let m = i.room in omega arith;

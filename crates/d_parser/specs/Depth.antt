@@ -1,0 +1,30 @@
+-- Depth token by token: the function on lists that leads from `Limits` to the code.
+use Rattle.std.specs.Prelude.{◌-◌, nat_lt, ℕ, suc, Bool, false, ◌||◌, List, [], ◌∷◌}
+use Rattle.d_lexer.specs.declared.token.Token.{Token}
+use Rattle.d_lexer.specs.declared.token.TokenKind.{TokenKind}
+use Rattle.d_parser.specs.declared.fault.TheConstants.{MOST_OPEN, MOST_IN_A_ROW}
+use Rattle.d_parser.specs.Limits.{Turn, Opens, Closes, Ends, turn}
+
+-- the brackets that are open after a token; one that closes nothing changes nothing
+abbrev pub open_by : Turn → ℕ → ℕ
+open_by Opens before = suc before
+open_by Closes before = before - 1
+open_by u before = before
+
+abbrev pub open_after : TokenKind → ℕ → ℕ
+open_after t before = open_by (turn t) before
+
+-- the tokens in a row up to this one
+abbrev pub row_by : Turn → ℕ → ℕ
+row_by Ends before = 0
+row_by u before = suc before
+
+abbrev pub row_with : TokenKind → ℕ → ℕ
+row_with t before = row_by (turn t) before
+
+-- at some token more are open, or more are in a row, than may be: the same as IsDeep, where none are open before
+unfoldable pub is_deep : ℕ → ℕ → List Token → Bool
+is_deep open_before row [] = false
+is_deep open_before row (t ∷ ts) =
+    nat_lt MOST_OPEN (open_after t.kind open_before) || nat_lt MOST_IN_A_ROW (row_with t.kind row)
+    || is_deep (open_after t.kind open_before) (row_with t.kind row) ts

@@ -1,0 +1,10 @@
+use Rattle.dif_machine.specs.Vocabulary.{object_of}
+use Rattle.dif_machine.specs.Held.{frame_of}
+use Rattle.dif_machine.proofs.Acting as acting
+use Rattle.dif_machine.proofs.stepping.integers.ldga.Goals as goal
+
+pub returns : goal.returns
+returns c =
+    let o = object_of c.args.difo.now in
+    let f = c.args.firing.now in
+    λ vars. acting.ldga o f (frame_of o f c.args.frame.now) vars 0 _ _ _ _ _ c.number.ensures c.argument-word.ensures (c.put.ensures o f)

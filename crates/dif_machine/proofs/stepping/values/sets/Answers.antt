@@ -1,0 +1,8 @@
+use Rattle.dif_machine.specs.Vocabulary.{object_of}
+use Rattle.dif_machine.specs.Held.{frame_of}
+use Rattle.dif_machine.proofs.Acting as acting
+use Rattle.dif_machine.proofs.stepping.values.sets.Goals as goal
+
+pub returns : goal.returns
+returns c =
+    λ difo f may vars. let o = object_of difo in acting.sets o f (frame_of o f c.args.frame.now) vars _ _ _ may.0 may.1.1 (c.put.ensures o f)

@@ -1,0 +1,89 @@
+//! Instructions that compare, and branches.
+
+ghost use Rattle.std.specs.Prelude.{◌≢◌, None};
+ghost use Rattle.dif_machine.specs.Vocabulary.{Cmp, Tst, Scmp, Ba, Branch};
+ghost use Rattle.dif_machine.specs.Instructions.{CanExecute, Executes, ExecutesAnywhere, HasNext};
+
+use crate::comparing::{compare_numbers, compare_texts, holds};
+use crate::fault::MachineFault;
+use crate::frame::Frame;
+use d_values::Value;
+use dif_validate::{Condition, Difo, Reg};
+use firing_reader::Firing;
+
+/// `cmp a, b`: compares two integers.
+pub(super) fn cmp(
+    difo: &Difo,
+    firing: &Firing,
+    frame: &mut Frame,
+    a: Reg,
+    b: Reg,
+) -> Result<Option<Value>, MachineFault>
+    requires { CanExecute (Cmp a b) difo.now firing.now frame.old }
+    ensures { Executes (Cmp a b) difo.now firing.now frame.old result frame.new }
+{
+    let known = compare_numbers(frame.number(difo, firing, a), frame.number(difo, firing, b));
+    frame.compare(known);
+    Ok(None)
+}
+
+/// `tst a`: compares an integer with 0.
+pub(super) fn tst(
+    difo: &Difo,
+    firing: &Firing,
+    frame: &mut Frame,
+    a: Reg,
+) -> Result<Option<Value>, MachineFault>
+    requires { CanExecute (Tst a) difo.now firing.now frame.old }
+    ensures { Executes (Tst a) difo.now firing.now frame.old result frame.new }
+{
+    let known = compare_numbers(frame.number(difo, firing, a), 0);
+    frame.compare(known);
+    Ok(None)
+}
+
+/// `scmp a, b`: compares two texts.
+pub(super) fn scmp(
+    difo: &Difo,
+    firing: &Firing,
+    frame: &mut Frame,
+    a: Reg,
+    b: Reg,
+) -> Result<Option<Value>, MachineFault>
+    requires { CanExecute (Scmp a b) difo.now firing.now frame.old }
+    ensures { Executes (Scmp a b) difo.now firing.now frame.old result frame.new }
+{
+    let known = compare_texts(frame.text(difo, firing, a), frame.text(difo, firing, b));
+    frame.compare(known);
+    Ok(None)
+}
+
+/// `ba to`: goes to a place.
+pub(super) fn ba(frame: &mut Frame, to: usize) -> Result<Option<Value>, MachineFault>
+    ensures { ExecutesAnywhere (Ba to) frame.old result frame.new }
+{
+    frame.pc = to;
+    Ok(None)
+}
+
+/// `bCOND to`: goes to a place where the last comparison is so.
+pub(super) fn branch(
+    frame: &mut Frame,
+    condition: Condition,
+    to: usize,
+) -> Result<Option<Value>, MachineFault>
+    requires next { HasNext frame.old }
+    requires compared { frame.old.comparison ≢ None }
+    ensures { ExecutesAnywhere (Branch condition to) frame.old result frame.new }
+{
+    let Some(known) = frame.comparison else {
+        unreachable!()
+    };
+    if holds(condition, known) {
+        frame.pc = to;
+        Ok(None)
+    } else {
+        frame.go_on();
+        Ok(None)
+    }
+}

@@ -1,0 +1,121 @@
+//! Instructions that load and store variables.
+
+ghost use Rattle.dif_machine.specs.Vocabulary.{Ldts, Stts, Ldls, Stls, Ldtaa, Sttaa};
+ghost use Rattle.dif_machine.specs.Instructions.{CanExecute, ExecutesOnLocals, ExecutesOnOwn, HasNext, LoadsLocal, LoadsOwn};
+
+use crate::fault::MachineFault;
+use crate::frame::Frame;
+use crate::held::Held;
+use crate::sources::{load, load_local};
+use d_values::{ClauseLocals, Key, ThreadTable, Value, Var};
+use dif_validate::{Difo, Reg};
+use firing_reader::Firing;
+use std::alloc::Global;
+
+/// `ldts x, d`: loads a variable of the thread.
+pub(super) fn ldts(
+    alloc: Global,
+    frame: &mut Frame,
+    own: &ThreadTable,
+    x: Var,
+    d: Reg,
+) -> Result<Option<Value>, MachineFault>
+    requires { HasNext frame.old }
+    ensures { LoadsOwn (Ldts x d) frame.old own.now result frame.new }
+{
+    let value = load(alloc, own, x, &Key::new(alloc))?;
+    frame.put(d, Held::own(value));
+    Ok(None)
+}
+
+/// `stts x, a`: stores a value in a variable of the thread.
+pub(super) fn stts(
+    alloc: Global,
+    difo: &Difo,
+    firing: &Firing,
+    frame: &mut Frame,
+    own: &mut ThreadTable,
+    x: Var,
+    a: Reg,
+) -> Result<Option<Value>, MachineFault>
+    requires { CanExecute (Stts x a) difo.now firing.now frame.old }
+    ensures { ExecutesOnOwn (Stts x a) difo.now firing.now frame.old own.old
+        result frame.new own.new }
+{
+    let value = frame.value(alloc, difo, firing, a)?;
+    own.set(x, &Key::new(alloc), value)?;
+    frame.go_on();
+    Ok(None)
+}
+
+/// `ldls x, d`: loads a variable of the clause.
+pub(super) fn ldls(
+    alloc: Global,
+    frame: &mut Frame,
+    locals: &ClauseLocals,
+    x: Var,
+    d: Reg,
+) -> Result<Option<Value>, MachineFault>
+    requires { HasNext frame.old }
+    ensures { LoadsLocal (Ldls x d) frame.old locals.now result frame.new }
+{
+    let value = load_local(alloc, locals, x)?;
+    frame.put(d, Held::own(value));
+    Ok(None)
+}
+
+/// `stls x, a`: stores a value in a variable of the clause.
+pub(super) fn stls(
+    alloc: Global,
+    difo: &Difo,
+    firing: &Firing,
+    frame: &mut Frame,
+    locals: &mut ClauseLocals,
+    x: Var,
+    a: Reg,
+) -> Result<Option<Value>, MachineFault>
+    requires { CanExecute (Stls x a) difo.now firing.now frame.old }
+    ensures { ExecutesOnLocals (Stls x a) difo.now firing.now frame.old locals.old
+        result frame.new locals.new }
+{
+    let value = frame.value(alloc, difo, firing, a)?;
+    locals.set(x, value)?;
+    frame.go_on();
+    Ok(None)
+}
+
+/// `ldtaa x, d`: loads the element at the tuple.
+pub(super) fn ldtaa(
+    alloc: Global,
+    frame: &mut Frame,
+    own: &ThreadTable,
+    x: Var,
+    d: Reg,
+) -> Result<Option<Value>, MachineFault>
+    requires { HasNext frame.old }
+    ensures { LoadsOwn (Ldtaa x d) frame.old own.now result frame.new }
+{
+    let value = load(alloc, own, x, &frame.tuple)?;
+    frame.put(d, Held::own(value));
+    Ok(None)
+}
+
+/// `sttaa x, a`: stores a value in the element at the tuple.
+pub(super) fn sttaa(
+    alloc: Global,
+    difo: &Difo,
+    firing: &Firing,
+    frame: &mut Frame,
+    own: &mut ThreadTable,
+    x: Var,
+    a: Reg,
+) -> Result<Option<Value>, MachineFault>
+    requires { CanExecute (Sttaa x a) difo.now firing.now frame.old }
+    ensures { ExecutesOnOwn (Sttaa x a) difo.now firing.now frame.old own.old
+        result frame.new own.new }
+{
+    let value = frame.value(alloc, difo, firing, a)?;
+    own.set(x, &frame.tuple, value)?;
+    frame.go_on();
+    Ok(None)
+}

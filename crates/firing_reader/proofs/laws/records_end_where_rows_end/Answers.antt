@@ -1,0 +1,5 @@
+use Rattle.firing_reader.proofs.PieceRows.{records_join}
+use Rattle.firing_reader.proofs.laws.records_end_where_rows_end.Goals as goal
+
+pub returns : goal.returns
+returns c = λ rows after fs. records_join rows fs after

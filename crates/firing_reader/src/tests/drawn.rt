@@ -1,0 +1,196 @@
+//! Traces drawn by chance, each read in every way: in one pass, by csv alone, and in pieces.
+
+ghost use Rattle.std.specs.Prelude.{◌≤◌};
+
+use super::{HEADER, is_same, joined};
+use crate::{read_trace, read_trace_by};
+use std::alloc::{AllocError, Global};
+use std::test::Fail;
+
+/// How many traces are drawn.
+const TRACES: u64 = 600;
+
+// Draws numbers by chance. The same seed gives the same numbers.
+#[derive(Drop)]
+struct Chance {
+    state: u64,
+}
+
+impl Chance {
+    // A number below this, or 0.
+    fn below(&mut self, most: usize) -> usize
+        ensures { result ≤ most }
+    {
+        self.state = self
+            .state
+            .wrapping_mul(6_364_136_223_846_793_005)
+            .wrapping_add(1_442_695_040_888_963_407);
+        let drawn = (self.state >> 33) as usize;
+        if most == 0 { 0 } else { drawn % most }
+    }
+
+    // One of these.
+    fn one_of(&mut self, choices: &[&'static str]) -> &'static str {
+        let at = self.below(choices.len());
+        *choices.get(at).unwrap_or(&"")
+    }
+}
+
+// A field that a plain row has in a column.
+fn plain(chance: &mut Chance, column: usize) -> &'static str {
+    match column {
+        2 | 4 => chance.one_of(&["0", "1", "007", "2147483647"]),
+        3 => chance.one_of(&["1", "2", "19", "2147483647"]),
+        6 => chance.one_of(&["0", "5", "18446744073709551609"]),
+        7 => chance.one_of(&["syscall", "fbt", "p"]),
+        5 | 8 | 9 | 10 => chance.one_of(&["", "a", "read", "ext4_file_read_iter", "a b", "µ-é"]),
+        _ => chance.one_of(&[
+            "",
+            "",
+            "0",
+            "-1",
+            "42",
+            "00",
+            "9223372036854775807",
+            "-9223372036854775808",
+        ]),
+    }
+}
+
+// A field that is quoted, at a limit, or faulty.
+fn other(chance: &mut Chance, column: usize) -> &'static str {
+    match column {
+        1 => chance.one_of(&[
+            "0",
+            "",
+            "x",
+            "-1",
+            "4611686018427387905",
+            "99999999999999999999",
+        ]),
+        2 | 3 | 4 => chance.one_of(&["\"1\"", "2147483648", "", "+1", " 1", "1\""]),
+        6 => chance.one_of(&["18446744073709551615", "18446744073709551616", "\"7\"", ""]),
+        7 => chance.one_of(&["dtrace", "\"dtrace\"", "dtrace\0"]),
+        5 | 8 | 9 | 10 => chance.one_of(&[
+            "\"a,b\"",
+            "\"x\"\"y\"",
+            "\"two\nlines\"",
+            "a\0b",
+            "a\"b",
+            "\"open",
+        ]),
+        _ => chance.one_of(&[
+            "\"-7\"",
+            "-",
+            "9223372036854775808",
+            "-9223372036854775809",
+            "1 ",
+            "\"\"",
+        ]),
+    }
+}
+
+// Adds a row with this number. One field in `rare` is no plain one, and so is the end of one row in `rare`.
+fn add_row(
+    bytes: &mut Vec<u8>,
+    chance: &mut Chance,
+    number: &str,
+    rare: usize,
+) -> Result<(), AllocError> {
+    if chance.below(rare) == 1 {
+        bytes.extend_from_slice(b"\xef\xbb\xbf")?;
+    }
+    let fields = if chance.below(rare) == 1 {
+        19 + chance.below(3)
+    } else {
+        20
+    };
+    for column in 1..fields + 1 {
+        let field = if chance.below(rare) == 1 {
+            other(chance, column)
+        } else if column == 1 {
+            number
+        } else {
+            plain(chance, column)
+        };
+        bytes.extend_from_slice(field.as_bytes())?;
+        if column < fields {
+            bytes.push(b',')?;
+        }
+    }
+    let end = if chance.below(rare) == 1 {
+        chance.one_of(&["\r\n", "\n\n", "\r", "", ",\n"])
+    } else {
+        "\n"
+    };
+    bytes.extend_from_slice(end.as_bytes())?;
+    Ok(())
+}
+
+// A trace of up to 40 rows.
+fn drawn(alloc: Global, seed: u64) -> Result<Vec<u8>, AllocError> {
+    let mut chance = Chance { state: seed };
+    let rare = match seed % 4 {
+        0 => 1,
+        1 => 1000,
+        2 => 300,
+        _ => 60,
+    };
+    let mut bytes = joined(alloc, HEADER, b"", b"")?;
+    let mut number: u64 = 0;
+    for _ in 0..chance.below(41) {
+        let same = chance.below(rare) == 1;
+        number = number.wrapping_add(if same { 0 } else { 1 + chance.below(3) as u64 });
+        add_row(&mut bytes, &mut chance, &number.to_string(alloc)?, rare)?;
+    }
+    Ok(bytes)
+}
+
+// A byte order mark before the header leaves all of a trace to csv.
+#[test]
+fn drawn_traces_read_the_same_in_every_way(rt: HostRuntime) -> Result<(), Fail> {
+    let mut refused: u32 = 0;
+    for seed in 0..TRACES {
+        let bytes = drawn(rt.alloc(), seed)?;
+        let marked = joined(rt.alloc(), b"\xef\xbb\xbf", &bytes, b"")?;
+        let found = read_trace(rt.alloc(), &bytes);
+        let alone = read_trace(rt.alloc(), &marked);
+        assert!(rt; is_same(&found, &alone), "trace {seed}");
+        for workers in 1..9 {
+            let parted = read_trace_by(&rt, rt.alloc(), &bytes, workers);
+            assert!(rt;
+                is_same(&found, &parted),
+                "trace {seed} by {workers} workers"
+            );
+        }
+        if found.is_err() {
+            refused = refused.wrapping_add(1);
+        }
+    }
+    assert!(rt; 100 < refused && refused < 500, "{refused} refused");
+    Ok(())
+}
+
+// How many rows are cut.
+const ROWS: u64 = 200;
+
+// A trace of so many rows, all plain.
+fn plain_rows(alloc: Global) -> Result<Vec<u8>, AllocError> {
+    let mut bytes = joined(alloc, HEADER, b"", b"")?;
+    for number in 1..ROWS + 1 {
+        bytes.extend_from_slice(number.to_string(alloc)?.as_bytes())?;
+        bytes.extend_from_slice(b",0,1,1,a,0,p,,f,hit,0,7,,,,,,,,\n")?;
+    }
+    Ok(bytes)
+}
+
+#[test]
+fn cut_rows_read_the_same_in_four_pieces(rt: HostRuntime) -> Result<(), Fail> {
+    let bytes = plain_rows(rt.alloc())?;
+    for end in HEADER.len()..bytes.len() + 1 {
+        let found = read_trace(rt.alloc(), &bytes[..end]);
+        let parted = read_trace_by(&rt, rt.alloc(), &bytes[..end], 4);
+        assert!(rt; is_same(&found, &parted), "{end} bytes");
+    }
+    Ok(())
+}

@@ -1,0 +1,47 @@
+-- Trees are run as what they stand for.
+use Rattle.std.specs.Prelude.{◌≡◌, ℕ, List, [], ◌∷◌, map, max, Option, None, Some}
+use Rattle.std.proofs.Common.{refl, ap, ◌∙◌}
+use Rattle.d_types.specs.Clauses.{by_trees, effect_by, followed, guarded_by, made, run_by, statements_by}
+use Rattle.d_types.specs.Storage.{Variables}
+use Rattle.d_types.specs.Typed.{action_of, actions_of, argument_of}
+use Rattle.d_types.specs.declared.typed.TypedExpr.{TypedExpr}
+use Rattle.d_types.specs.declared.typed.TypedStmt.{TypedStmt}
+use Rattle.d_types.specs.declared.typed.TypedStmt.TheVariants as s
+use Rattle.firing_reader.specs.declared.firing.Firing.{Firing}
+use Rattle.replay_core.specs.Bounds.{place_in, places_among}
+use Rattle.replay_core.specs.Forms.{by_expressions, statement_form}
+
+place_same : (x : TypedStmt) → place_in (statement_form x) ≡ place_in (action_of x)
+place_same (s.Evaluate e) = refl
+place_same (s.Trace e) = refl
+place_same (s.Print format arguments) = refl
+place_same (s.Exit e) = refl
+place_same (s.Aggregate place keys argument) = refl
+
+pub places_same : (all : List TypedStmt) → places_among (map statement_form all) ≡ places_among (actions_of all)
+places_same [] = refl
+places_same (x ∷ rest) =
+    ap (λ n. max n (places_among (map statement_form rest))) (place_same x)
+    ∙ ap (λ n. max (place_in (action_of x)) n) (places_same rest)
+
+module _ (f : Firing) where
+  effect_same : (x : TypedStmt) (vars : Variables) → effect_by (by_expressions f) (statement_form x) vars ≡ effect_by (by_trees f) (action_of x) vars
+  effect_same (s.Evaluate e) vars = refl
+  effect_same (s.Trace e) vars = refl
+  effect_same (s.Print format arguments) vars = refl
+  effect_same (s.Exit e) vars = refl
+  effect_same (s.Aggregate place keys None) vars = refl
+  effect_same (s.Aggregate place keys (Some e)) vars = refl
+
+  statements_same : (all : List TypedStmt) (vars : Variables)
+      → statements_by (by_expressions f) (map statement_form all) vars ≡ statements_by (by_trees f) (actions_of all) vars
+  statements_same [] vars = refl
+  statements_same (x ∷ rest) vars =
+      ap (λ o. followed o (statements_by (by_expressions f) (map statement_form rest))) (effect_same x vars)
+      ∙ ap (followed (effect_by (by_trees f) (action_of x) vars)) (λ i v. statements_same rest v i)
+
+  pub run_same : (line : List ℕ) (predicate : Option TypedExpr) (all : List TypedStmt) (vars : Variables)
+      → run_by (by_expressions f) line predicate (map statement_form all) vars ≡ run_by (by_trees f) line (argument_of predicate) (actions_of all) vars
+  run_same line None all vars = ap (made line) (statements_same all vars)
+  run_same line (Some e) all vars =
+      ap (λ go. made line (guarded_by (by_expressions f) (Some e) go vars)) (λ i v. statements_same all v i)

@@ -1,0 +1,155 @@
+-- What workers gave back, one worker after the other.
+use Rattle.std.proofs.Common.{All, List, None, Option, Some, Vec, [], ap, append-nil, append_assoc, ap₂, arith, get_or, if◌then◌else◌, length, map, min, refl, subst, suc, sym, zero, ℕ, ◌++◌, ◌+◌, ◌<◌, ◌∙◌, ◌∷◌, ◌≡◌, ◌≤◌}
+use Rattle.std.specs.List.{flat_map}
+use Rattle.std.specs.declared.alloc.Global.{Global}
+use Rattle.std.proofs.lemmas.List.{map-append}
+use Rattle.std.proofs.lemmas.List.Elements.{All-append}
+use Rattle.d_types.specs.Typed.{ScriptMeant}
+use Rattle.firing_reader.specs.declared.firing.Firing.{Firing}
+use Rattle.firing_reader.specs.Ends.{with_ends}
+use Rattle.shard_queue.specs.Least.{no_number}
+use Rattle.shard_queue.specs.declared.groups.Groups.{Groups}
+use Rattle.shard_queue.specs.Groups.{grouping}
+use Rattle.shard_queue.specs.declared.claim_seat.ClaimSeat.{ClaimSeat}
+use Rattle.shard_queue.specs.declared.board.ClaimBoard.{ClaimBoard}
+use Rattle.shard_queue.specs.Boards.{IsAt, drawn_of, least_lowered, least_seen, lowered, seen, told_in}
+use Rattle.shard_queue.specs.Hands.{IsHandOut}
+use Rattle.shard_queue.proofs.Lists.{all_push, all_cons}
+use Rattle.replay_core.specs.declared.piece.Piece.{Piece}
+use Rattle.replay_core.specs.Groups.{IsAllBelow}
+use Rattle.replay_core.specs.declared.round.Round.{Round}
+use Rattle.replay_core.specs.declared.span.Span.{Span}
+use Rattle.replay_core.specs.Crews.{AreParts, GivesBegun, GivesPieces, IsRound, IsWork, Part}
+use Rattle.replay_core.specs.Beginnings.{AreBegun, IsBegunOf, least_exit, lowered_by}
+use Rattle.replay_core.specs.Seen.{IsRoomy}
+use Rattle.replay_core.specs.Working.{AreOfGroups, IsOfGroup, firings_in}
+use Rattle.replay_core.proofs.BeginLemmas.{seen_less}
+
+pub no_parts : (P : Part → Type 0) (pieces : List (ℕ × Piece)) (seats : List ClaimSeat) → pieces ≡ [] → seats ≡ [] → AreParts P pieces seats
+no_parts P pieces seats a b = record { parts = []; each = λ k d lt. absurd (omega arith); all = a; seated = b }
+
+pieces_more : (ps : List Part) (p : Part) → flat_map (λ q. q.0.items) (ps ++ p ∷ []) ≡ flat_map (λ q. q.0.items) ps ++ p.0.items
+pieces_more [] p = append-nil p.0.items
+pieces_more (q ∷ ps) p = ap (λ xs. q.0.items ++ xs) (pieces_more ps p) ∙ sym (append_assoc q.0.items (flat_map (λ r. r.0.items) ps) p.0.items)
+
+pub parts_more : (P : Part → Type 0) (pieces new : List (ℕ × Piece)) (seats more : List ClaimSeat) (part : Vec (ℕ × Piece) Global) (seat : ClaimSeat) → AreParts P pieces seats → P (part, seat)
+    → new ≡ pieces ++ part.items → more ≡ seats ++ seat ∷ [] → AreParts P new more
+parts_more P pieces new seats more part seat are one a b = record {
+  parts = are.parts ++ (part, seat) ∷ [];
+  each = all_push P are.parts _ (part, seat) are.each one refl;
+  all = a ∙ ap (λ xs. xs ++ part.items) are.all ∙ sym (pieces_more are.parts (part, seat));
+  seated = b ∙ ap (λ xs. xs ++ seat ∷ []) are.seated ∙ sym (map-append (λ p. p.1) are.parts ((part, seat) ∷ []));
+}
+
+-- what seats have drawn, as their lists
+pub drawn_lists : (ss : List ClaimSeat) → flat_map (λ v. v.items) (map (λ s. s.taken) ss) ≡ drawn_of ss
+drawn_lists [] = refl
+drawn_lists (s ∷ ss) = ap (λ l. s.taken.items ++ l) (drawn_lists ss)
+
+module _ (P : Part → Type 0) (board : ClaimBoard) where
+  abbrev Works : Part → Type 0
+  Works = IsWork P board
+
+  seats_at : (ps : List Part) → All Works ps → All (IsAt board) (map (λ p. p.1) ps)
+  seats_at [] each = λ k d lt. absurd (omega arith)
+  seats_at (p ∷ ps) each = all_cons (IsAt board) p.1 (map (λ q. q.1) ps) (each 0 p (omega arith)).at (seats_at ps (λ k d lt. each (suc k) d (omega arith)))
+
+  pub all_at : (pieces : List (ℕ × Piece)) (seats : List ClaimSeat) → AreParts Works pieces seats → All (IsAt board) seats
+  all_at pieces seats are = subst (λ ss. All (IsAt board) ss) (sym are.seated) (seats_at are.parts are.each)
+
+  all_told : (ps : List Part) → All Works ps → told_in (map (λ p. p.1) ps) ≡ length (map (λ p. p.1) ps)
+  all_told [] each = refl
+  all_told (p ∷ ps) each =
+      let here : (if p.1.told then 1 else 0) ≡ 1 = ap (λ b. if b then 1 else 0) (each 0 p (omega arith)).told in
+      let more = all_told ps (λ k d lt. each (suc k) d (omega arith)) in
+      let up : 1 + length (map (λ q. q.1) ps) ≡ suc (length (map (λ q. q.1) ps)) = omega arith in
+      ap (λ k. k + told_in (map (λ q. q.1) ps)) here ∙ ap (λ k. 1 + k) more ∙ up
+
+  all_ordered : (ps : List Part) → All Works ps → map (λ p. p.0) (flat_map (λ p. p.0.items) ps) ≡ drawn_of (map (λ p. p.1) ps)
+  all_ordered [] each = refl
+  all_ordered (p ∷ ps) each = map-append (λ q. q.0) p.0.items (flat_map (λ q. q.0.items) ps)
+      ∙ ap₂ (λ xs ys. xs ++ ys) (each 0 p (omega arith)).order (all_ordered ps (λ k d lt. each (suc k) d (omega arith)))
+
+  all_give : (ps : List Part) → All Works ps → All P ps
+  all_give ps each k d lt = (each k d lt).gives
+
+  -- so a closed board has all groups, each once
+  pub whole_round : (n : ℕ) (r : Round) (seats : List ClaimSeat) → AreParts Works r.pieces.items seats → 0 < length seats → board.end ≡ n
+      → IsHandOut board.end (told_in seats) (drawn_of seats) → flat_map (λ list. list.items) r.lists.items ≡ drawn_of seats
+      → r.least ≡ least_lowered seats → r.least ≤ least_seen seats → IsRound P n r
+  whole_round n r seats are some end out same low seen_low =
+      let told : told_in seats ≡ length seats = ap told_in are.seated ∙ all_told are.parts are.each ∙ sym (ap length are.seated) in
+      let order : map (λ p. p.0) r.pieces.items ≡ drawn_of seats = ap (map (λ p. p.0)) are.all ∙ all_ordered are.parts are.each ∙ sym (ap drawn_of are.seated) in
+      let front : out.0 ≡ n = out.2 (omega arith) ∙ end in
+      let drawn : IsAllBelow n (drawn_of seats) = subst (λ k. IsAllBelow k (drawn_of seats)) front out.3 in
+      record {
+        once = subst (λ (xs : List ℕ). IsAllBelow n xs) (sym order) drawn;
+        taken = subst (λ (xs : List ℕ). IsAllBelow n xs) (sym same) drawn;
+        seats = seats;
+        parts = record { parts = are.parts; each = all_give are.parts are.each; all = are.all; seated = are.seated };
+        lowered = low;
+        seen = seen_low;
+      }
+
+-- what holds of each worker's pieces holds of all
+all_flat : (Q : ℕ × Piece → Type 0) (ps : List Part) → All (λ p. All Q p.0.items) ps → All Q (flat_map (λ p. p.0.items) ps)
+all_flat Q [] each = λ k d lt. absurd (omega arith)
+all_flat Q (p ∷ ps) each = All-append Q p.0.items (flat_map (λ q. q.0.items) ps) (each 0 p (omega arith)) (all_flat Q ps (λ k d lt. each (suc k) d (omega arith)))
+
+pub given_pieces : (s : Span) (runs : ScriptMeant → Type 0) (groups : Groups) (trace : List Firing) (pieces : List (ℕ × Piece)) (seats : List ClaimSeat)
+    → AreParts (GivesPieces s runs groups trace) pieces seats → AreOfGroups runs (grouping groups) (firings_in s trace) pieces
+given_pieces s runs groups trace pieces seats are = record {
+  each = λ m is. subst (λ ps. All (IsOfGroup m (grouping groups) (firings_in s trace)) ps) (sym are.all) (all_flat (IsOfGroup m (grouping groups) (firings_in s trace)) are.parts (λ k d lt. (are.each k d lt).each m is));
+  roomy = subst (λ ps. All (λ p. IsRoomy p.1) ps) (sym are.all) (all_flat (λ p. IsRoomy p.1) are.parts (λ k d lt. (are.each k d lt).roomy));
+}
+
+-- ---- round one
+
+least_append : (xs ys : List (ℕ × Piece)) → least_exit (xs ++ ys) ≡ min (least_exit xs) (least_exit ys)
+least_append [] ys = under ys
+  where
+    under : (zs : List (ℕ × Piece)) → least_exit zs ≡ min no_number (least_exit zs)
+    under [] = omega arith
+    under (z ∷ zs) = here z.1.exit (under zs)
+      where
+        here : (e : Option (ℕ × ℕ)) → least_exit zs ≡ min no_number (least_exit zs) → lowered_by (least_exit zs) e ≡ min no_number (lowered_by (least_exit zs) e)
+        here None more = more
+        here (Some e) more = omega arith
+least_append (x ∷ xs) ys = here x.1.exit (least_append xs ys)
+  where
+    here : (e : Option (ℕ × ℕ)) → least_exit (xs ++ ys) ≡ min (least_exit xs) (least_exit ys) → lowered_by (least_exit (xs ++ ys)) e ≡ min (lowered_by (least_exit xs) e) (least_exit ys)
+    here None more = more
+    here (Some e) more = omega arith
+
+seen_at : (ss : List ClaimSeat) (k : ℕ) (d : ClaimSeat) → k < length ss → least_seen ss ≤ seen (get_or ss k d)
+seen_at [] k d lt = absurd (omega arith)
+seen_at (s ∷ ss) zero d lt = omega arith
+seen_at (s ∷ ss) (suc k) d lt = let more = seen_at ss k d (omega arith) in omega arith
+
+module _ (runs : ScriptMeant → Type 0) (groups : Groups) (trace : List Firing) where
+  lowered_least : (ps : List Part) → All (GivesBegun runs groups trace) ps → least_lowered (map (λ p. p.1) ps) ≡ least_exit (flat_map (λ p. p.0.items) ps)
+  lowered_least [] each = refl
+  lowered_least (p ∷ ps) each =
+      let here = (each 0 p (omega arith)).1 in
+      let more = lowered_least ps (λ k d lt. each (suc k) d (omega arith)) in
+      ap (λ n. min n (least_lowered (map (λ q. q.1) ps))) here ∙ ap (λ n. min (least_exit p.0.items) n) more ∙ sym (least_append p.0.items (flat_map (λ q. q.0.items) ps))
+
+  begun_each : (m : ScriptMeant) → runs m → (least : ℕ) (ps : List Part) → least ≤ least_seen (map (λ p. p.1) ps) → All (GivesBegun runs groups trace) ps
+      → All (λ p. All (IsBegunOf m least (grouping groups) (with_ends trace trace)) p.0.items) ps
+  begun_each m is least [] le each = λ k d lt. absurd (omega arith)
+  begun_each m is least (p ∷ ps) le each =
+      all_cons (λ q. All (IsBegunOf m least (grouping groups) (with_ends trace trace)) q.0.items) p ps
+      (λ j e in'. seen_less m (seen p.1) least _ _ (omega arith) ((each 0 p (omega arith)).0.each m is j e in'))
+      (begun_each m is least ps (omega arith) (λ j e in'. each (suc j) e (omega arith)))
+
+  -- round one's pieces are beginnings by the least number, and that is the least of their exits
+  pub given_begun : (least : ℕ) (pieces : List (ℕ × Piece)) (seats : List ClaimSeat) → AreParts (GivesBegun runs groups trace) pieces seats
+      → least ≡ least_lowered seats → least ≤ least_seen seats → AreBegun runs least (grouping groups) (with_ends trace trace) pieces × (least ≡ least_exit pieces)
+  given_begun least pieces seats are low seen_low = (
+    record {
+      each = λ m is. subst (λ ps. All (IsBegunOf m least (grouping groups) (with_ends trace trace)) ps) (sym are.all)
+          (all_flat (IsBegunOf m least (grouping groups) (with_ends trace trace)) are.parts (begun_each m is least are.parts (subst (λ ss. least ≤ least_seen ss) are.seated seen_low) are.each));
+      roomy = subst (λ ps. All (λ p. IsRoomy p.1) ps) (sym are.all) (all_flat (λ p. IsRoomy p.1) are.parts (λ k d lt. (are.each k d lt).0.roomy));
+    },
+    low ∙ ap least_lowered are.seated ∙ lowered_least are.parts are.each ∙ sym (ap least_exit are.all),
+  )

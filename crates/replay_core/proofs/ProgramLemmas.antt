@@ -1,0 +1,82 @@
+-- What each program of a typed script keeps is what a lane asks for.
+use Rattle.std.specs.Prelude.{◌≡◌, ℕ, ◌+◌, ◌≤◌, List, [], ◌∷◌, All, Option, None, Some, length, map, max, sum_by}
+use Rattle.std.specs.List.{AllZip}
+use Rattle.std.proofs.Common.{refl, sym, ap, ◌∙◌, subst, arith, get_or}
+use Rattle.std.proofs.lemmas.List.{length-map}
+use Rattle.std.proofs.lemmas.List.Sums.{sum_by-cons}
+use Rattle.d_parser.specs.Sizes.{in_all}
+use Rattle.d_types.specs.Held.{Slots, slots_of}
+use Rattle.d_types.specs.Scripts.{IsMeant}
+use Rattle.d_types.specs.Sizes.{descriptions, statements}
+use Rattle.d_types.specs.Typed.{ActionOf, Aggregate, ClauseMeant, Evaluate, Exit, Print, ScriptMeant, Trace}
+use Rattle.d_types.proofs.Sizes.{typed_script_is_small}
+use Rattle.dif_codegen.specs.Meaning.{Does, aggregation_of}
+use Rattle.dif_codegen.specs.Programs.{action_code}
+use Rattle.dif_codegen.specs.declared.program.CompiledClause.{CompiledClause}
+use Rattle.replay_core.specs.Bounds.{place_in, places_among, places_in}
+use Rattle.replay_core.proofs.TreeLemmas.{one_of_all, script_named}
+use Rattle.replay_core.proofs.Turning.{zip_with_at}
+
+-- above the place of the aggregation, if there is one
+abbrev above : Option ℕ → ℕ
+above None = 0
+above (Some place) = place + 1
+
+abbrev above_all : List (Option ℕ) → ℕ
+above_all [] = 0
+above_all (place ∷ places) = max (above place) (above_all places)
+
+place_above : {E Es : Type 0} (a : ActionOf E Es) → place_in a ≡ above (aggregation_of a)
+place_above (Evaluate x) = refl
+place_above (Trace x) = refl
+place_above (Print format arguments) = refl
+place_above (Exit x) = refl
+place_above (Aggregate place keys argument) = refl
+
+places_above : {E Es : Type 0} (all : List (ActionOf E Es)) → places_among all ≡ above_all (map (λ a. aggregation_of a) all)
+places_above [] = refl
+places_above (a ∷ rest) =
+    ap (λ n. max n (places_among rest)) (place_above a) ∙ ap (λ n. max (above (aggregation_of a)) n) (places_above rest)
+
+module _ (slots : Slots) where
+  same_places : (c : CompiledClause) (m : ClauseMeant) → Does slots c m → places_among (map action_code c.actions.items) ≡ places_in m
+  same_places c m does =
+      places_above (map action_code c.actions.items) ∙ ap above_all does.aggregations ∙ sym (places_above m.statements)
+
+  same_statements : (c : CompiledClause) (m : ClauseMeant) → Does slots c m → length c.actions.items ≡ statements m
+  same_statements c m does =
+      sym (length-map c.actions.items action_code) ∙ sym (length-map (map action_code c.actions.items) (λ a. aggregation_of a))
+      ∙ ap length does.aggregations ∙ length-map m.statements (λ a. aggregation_of a)
+
+  same_probes : (cs : List CompiledClause) (ms : List ClauseMeant) → AllZip (Does slots) cs ms
+      → sum_by (λ c. length c.descriptions.items) cs ≡ in_all descriptions ms
+  same_probes [] [] zip = refl
+  same_probes [] (m ∷ ms) zip = absurd zip
+  same_probes (c ∷ cs) [] zip = absurd zip
+  same_probes (c ∷ cs) (m ∷ ms) zip =
+      sum_by-cons (λ (c : CompiledClause). length c.descriptions.items) c cs
+      ∙ ap (λ n. n + sum_by (λ (c : CompiledClause). length c.descriptions.items) cs) (ap length zip.0.descriptions)
+      ∙ ap (λ n. length m.descriptions + n) (same_probes cs ms zip.1)
+
+module _ (m : ScriptMeant) (typed : ∥ IsMeant m ∥₁) (cs : List CompiledClause) (zip : AllZip (Does (slots_of m)) cs m.clauses) where
+  pub program_named : All (λ c. places_among (map action_code c.actions.items) ≤ length m.aggregations) cs
+  program_named k d lt =
+      let at = zip_with_at (Does (slots_of m)) (λ c. places_in c ≤ length m.aggregations) cs m.clauses k d zip (script_named m typed) lt in
+      subst (λ n. n ≤ length m.aggregations) (sym (same_places (slots_of m) (get_or cs k d) at.0 at.2)) at.3
+
+  few_here : All (λ c. statements c ≤ 65536) m.clauses
+  few_here k d lt =
+      let small = (typed_script_is_small m typed).few_statements in
+      let one = one_of_all statements m.clauses k d lt in
+      omega (arith, small, one)
+
+  pub program_few : All (λ c. length c.actions.items ≤ 65536) cs
+  program_few k d lt =
+      let at = zip_with_at (Does (slots_of m)) (λ c. statements c ≤ 65536) cs m.clauses k d zip few_here lt in
+      subst (λ n. n ≤ 65536) (sym (same_statements (slots_of m) (get_or cs k d) at.0 at.2)) at.3
+
+  pub program_few_probes : sum_by (λ c. length c.descriptions.items) cs ≤ 65536
+  program_few_probes =
+      let small = (typed_script_is_small m typed).few_descriptions in
+      let same = same_probes (slots_of m) cs m.clauses zip in
+      omega (arith, small, same)

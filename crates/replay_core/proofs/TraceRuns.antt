@@ -1,0 +1,213 @@
+-- The firings of a run over a trace.
+use Rattle.std.proofs.Common.{add-one, eq-eqb, false, ne_eqb, None, Option, ◌≡◌, ℕ, ◌-◌, Some, slice_get, zero, suc, ◌+◌, ◌<◌, ◌≤◌, ◌==◌, ◌||◌, Bool, true, cond, List, [], ◌∷◌, ◌++◌, All, map, filter, length, refl, sym, ap, ◌∙◌, subst, arith, length-append}
+use Rattle.std.specs.Prelude.{ℤ, IsSomeAnd, nat_le}
+use Rattle.std.specs.List.Sorted.{IsStrictlyIncreasing}
+use Rattle.std.proofs.lemmas.Bool.{le-leb}
+use Rattle.std.proofs.lemmas.List.{map-append}
+use Rattle.std.proofs.lemmas.List.Elements.{All-append, All-get_or}
+use Rattle.std.proofs.lemmas.Option.{slice_get-get_or}
+use Rattle.d_types.specs.Typed.{ScriptMeant}
+use Rattle.firing_reader.specs.declared.firing.Firing.{Firing}
+use Rattle.firing_reader.specs.Ends.{begin_of, end_of, with_ends}
+use Rattle.firing_reader.specs.Firings.{HasRanges, IsFiring, number_of, thread_of}
+use Rattle.firing_reader.specs.Trace.{IsTrace, last_number}
+use Rattle.firing_reader.proofs.EndRanges.{ends}
+use Rattle.shard_queue.specs.declared.groups.Groups.{Groups}
+use Rattle.shard_queue.specs.Groups.{AreOf, grouping}
+use Rattle.shard_queue.specs.Least.{no_number}
+use Rattle.shard_queue.specs.Threads.{run_threads, thread_zero}
+use Rattle.shard_queue.proofs.Lists.{all_cons}
+use Rattle.replay_core.specs.declared.span.Span.{Span}
+use Rattle.replay_core.specs.Exit.{firings_over, up_to}
+use Rattle.replay_core.specs.Meaning.{exit_of, history, unassigned}
+use Rattle.replay_core.specs.Groups.{AreGrouped, Grouping}
+use Rattle.replay_core.specs.Working.{firings_in, is_in}
+use Rattle.replay_core.specs.declared.span.Span.TheVariants as span
+use Rattle.replay_core.proofs.ExitLemmas.{Rises, rises_less, trace_rises}
+
+pub threads_are : (trace : List Firing) → map thread_of (with_ends trace trace) ≡ run_threads trace
+threads_are trace = ap (λ l. thread_zero ∷ l) (map-append thread_of trace (end_of trace ∷ []))
+
+pub all_range : (trace : List Firing) → IsTrace trace → All HasRanges (with_ends trace trace)
+all_range trace is =
+    let both = ends trace is in
+    all_cons HasRanges (begin_of trace) (trace ++ end_of trace ∷ []) both.0
+    (All-append HasRanges trace (end_of trace ∷ []) (λ k d lt. (is.firings k d lt).ranges) (all_cons HasRanges (end_of trace) [] both.1 (λ k d lt. absurd (omega arith))))
+
+pub run_few : (trace : List Firing) → IsTrace trace → length (with_ends trace trace) ≤ 1000002
+run_few trace is = let few = is.few in let len = length-append trace (end_of trace ∷ []) in omega arith
+
+-- all firings count
+pub all_count : (fs : List Firing) → filter (is_in span.All) fs ≡ fs
+all_count [] = refl
+all_count (f ∷ fs) = ap (λ l. f ∷ l) (all_count fs)
+
+-- ---- places
+
+in_front : (xs ys : List Firing) (k : ℕ) (f : Firing) → slice_get xs k ≡ Some f → slice_get (xs ++ ys) k ≡ Some f
+in_front [] ys zero f e = absurd cc
+in_front [] ys (suc k) f e = absurd cc
+in_front (x ∷ xs) ys zero f e = e
+in_front (x ∷ xs) ys (suc k) f e = in_front xs ys k f e
+
+pub at_row : (trace : List Firing) (place : ℕ) (f : Firing) → 0 < place → slice_get trace (place - 1) ≡ Some f → slice_get (with_ends trace trace) place ≡ Some f
+at_row trace zero f some e = absurd (omega arith)
+at_row trace (suc k) f some e =
+    let same : suc k - 1 ≡ k = omega arith in
+    in_front trace (end_of trace ∷ []) k f (subst (λ j. slice_get trace j ≡ Some f) same e)
+
+at_last : (xs : List Firing) (k : ℕ) (f : Firing) → k ≡ length xs → slice_get (xs ++ f ∷ []) k ≡ Some f
+at_last [] zero f e = refl
+at_last [] (suc k) f e = absurd (omega arith)
+at_last (x ∷ xs) zero f e = absurd (omega arith)
+at_last (x ∷ xs) (suc k) f e = at_last xs k f (omega arith)
+
+pub at_end : (trace : List Firing) (place : ℕ) → place ≡ length trace + 1 → slice_get (with_ends trace trace) place ≡ Some (end_of trace)
+at_end trace zero e = absurd (omega arith)
+at_end trace (suc k) e = at_last trace k (end_of trace) (omega arith)
+
+-- ---- firings that count
+
+-- numbers rise
+abbrev pub Rising : List Firing → Type 0
+Rising [] = Unit {0}
+Rising (f ∷ fs) = Rises f.number fs
+
+rises_kept : (p : Firing → Bool) (n : ℕ) (fs : List Firing) → Rises n fs → Rises n (filter p fs)
+rises_kept p n [] r = tt
+rises_kept p n (f ∷ fs) r = here (p f) (rises_kept p f.number fs r.1)
+  where
+    here : (b : Bool) → Rises f.number (filter p fs) → Rises n (cond b (f ∷ filter p fs) (filter p fs))
+    here true more = (r.0, more)
+    here false more = rises_less n f.number (filter p fs) (let lt = r.0 in omega arith) more
+
+rising_after : (n : ℕ) (fs : List Firing) → Rises n fs → Rising fs
+rising_after n [] r = tt
+rising_after n (f ∷ fs) r = r.1
+
+pub rising_kept : (p : Firing → Bool) (fs : List Firing) → Rising fs → Rising (filter p fs)
+rising_kept p [] r = tt
+rising_kept p (f ∷ fs) r = here (p f) (rises_kept p f.number fs r)
+  where
+    here : (b : Bool) → Rises f.number (filter p fs) → Rising (cond b (f ∷ filter p fs) (filter p fs))
+    here true more = more
+    here false more = rising_after f.number (filter p fs) more
+
+pub rising_rest : (fs rest : List Firing) → Rising (fs ++ rest) → Rising rest
+rising_rest [] rest up = up
+rising_rest (f ∷ fs) rest up = rising_rest fs rest (rising_after f.number (fs ++ rest) up)
+
+increases : (n : ℕ) (fs : List Firing) → Rises n fs → IsStrictlyIncreasing (n ∷ map number_of fs)
+increases n [] r k within = absurd (omega arith)
+increases n (f ∷ fs) r zero within = r.0
+increases n (f ∷ fs) r (suc k) within = rw add-one (rw add-one at (increases f.number fs r.1 k (omega arith)))
+
+climbing : (fs : List Firing) → Rising fs → IsStrictlyIncreasing (map number_of fs)
+climbing [] r = λ k within. absurd (omega arith)
+climbing (f ∷ fs) r = increases f.number fs r
+
+pub counted_rise : (s : Span) (trace : List Firing) → IsTrace trace → IsStrictlyIncreasing (map number_of (firings_in s trace))
+counted_rise s trace is = climbing (firings_in s trace) (rising_kept (is_in s) (with_ends trace trace) (trace_rises trace is))
+
+pub few_kept : (p : Firing → Bool) (fs : List Firing) → length (filter p fs) ≤ length fs
+few_kept p [] = omega arith
+few_kept p (f ∷ fs) = here (p f) (few_kept p fs)
+  where
+    here : (b : Bool) → length (filter p fs) ≤ length fs → length (cond b (f ∷ filter p fs) (filter p fs)) ≤ suc (length fs)
+    here true le = omega arith
+    here false le = omega arith
+
+pub counted_few : (s : Span) (trace : List Firing) → IsTrace trace → length (firings_in s trace) ≤ 1000002
+counted_few s trace is = let some = few_kept (is_in s) (with_ends trace trace) in let all = run_few trace is in omega arith
+
+-- ---- their groups
+
+grouped_by_threads : (grouping : Grouping) (fs : List Firing) → All (λ t. IsSomeAnd (grouping.group t) (λ g. g < grouping.count)) (map thread_of fs) → AreGrouped grouping fs
+grouped_by_threads grouping [] each = λ k d lt. absurd (omega arith)
+grouped_by_threads grouping (f ∷ fs) each =
+    all_cons (λ f. IsSomeAnd (grouping.group f.thread) (λ g. g < grouping.count)) f fs (each 0 f.thread (omega arith)) (grouped_by_threads grouping fs (λ k d lt. each (suc k) d (omega arith)))
+
+grouped_kept : (grouping : Grouping) (p : Firing → Bool) (fs : List Firing) → AreGrouped grouping fs → AreGrouped grouping (filter p fs)
+grouped_kept grouping p [] each = λ k d lt. absurd (omega arith)
+grouped_kept grouping p (f ∷ fs) each = here (p f) (grouped_kept grouping p fs (λ k d lt. each (suc k) d (omega arith)))
+  where
+    here : (b : Bool) → AreGrouped grouping (filter p fs) → AreGrouped grouping (cond b (f ∷ filter p fs) (filter p fs))
+    here true more = all_cons (λ f. IsSomeAnd (grouping.group f.thread) (λ g. g < grouping.count)) f (filter p fs) (each 0 f (omega arith)) more
+    here false more = more
+
+pub counted_grouped : (s : Span) (groups : Groups) (trace : List Firing) → AreOf groups (run_threads trace) → AreGrouped (grouping groups) (firings_in s trace)
+counted_grouped s groups trace are =
+    let P = λ (t : ℤ). IsSomeAnd ((grouping groups).group t) (λ g. g < (grouping groups).count) in
+    grouped_kept (grouping groups) (is_in s) (with_ends trace trace) (grouped_by_threads (grouping groups) (with_ends trace trace) (subst (λ (ts : List ℤ). All P ts) (sym (threads_are trace)) are.each))
+
+-- where there is a firing there is a group
+pub some_group : (groups : Groups) (trace : List Firing) → AreOf groups (run_threads trace) → 0 < (grouping groups).count
+some_group groups trace are = here ((grouping groups).group thread_zero) (are.each 0 thread_zero (omega arith))
+  where
+    here : (x : Option ℕ) → IsSomeAnd x (λ g. g < (grouping groups).count) → 0 < (grouping groups).count
+    here None h = absurd h
+    here (Some g) h = omega arith
+
+-- ---- up to an exit
+
+-- numbers before the end are not the end's
+before_end : (n : ℕ) (fs : List Firing) (e : Firing) → Rises n (fs ++ e ∷ []) → n < e.number
+before_end n [] e r = r.0
+before_end n (f ∷ fs) e r = let lt = r.0 in let more = before_end f.number fs e r.1 in omega arith
+
+up_to_end : (last n : ℕ) (fs : List Firing) (e : Firing) → Rises n (fs ++ e ∷ []) → filter (is_in (span.UpTo last e.number)) (fs ++ e ∷ []) ≡ filter (λ f. nat_le f.number last) fs ++ e ∷ []
+up_to_end last n [] e r = ap (λ b. cond (nat_le e.number last || b) (e ∷ []) []) (eq-eqb e.number e.number refl) ∙ here (nat_le e.number last)
+  where
+    here : (b : Bool) → cond (b || true) (e ∷ []) [] ≡ e ∷ []
+    here true = refl
+    here false = refl
+up_to_end last n (f ∷ fs) e r =
+    let lt = before_end f.number fs e r.1 in
+    let more = up_to_end last f.number fs e r.1 in
+    ap (λ b. cond (nat_le f.number last || b) (f ∷ filter (is_in (span.UpTo last e.number)) (fs ++ e ∷ [])) (filter (is_in (span.UpTo last e.number)) (fs ++ e ∷ []))) (ne_eqb f.number e.number (λ same. omega arith))
+    ∙ ap (λ l. cond (nat_le f.number last || false) (f ∷ l) l) more
+    ∙ here (nat_le f.number last)
+  where
+    here : (b : Bool) → cond (b || false) (f ∷ (filter (λ g. nat_le g.number last) fs ++ e ∷ [])) (filter (λ g. nat_le g.number last) fs ++ e ∷ []) ≡ cond b (f ∷ filter (λ g. nat_le g.number last) fs) (filter (λ g. nat_le g.number last) fs) ++ e ∷ []
+    here true = refl
+    here false = refl
+
+-- the firings up to an exit, and END
+pub counted_up_to : (exit : ℕ × ℕ) (trace : List Firing) → IsTrace trace → firings_in (span.UpTo exit.0 (end_of trace).number) trace ≡ with_ends trace (up_to (Some exit) trace)
+counted_up_to exit trace is =
+    let rest = filter (is_in (span.UpTo exit.0 (end_of trace).number)) (trace ++ end_of trace ∷ []) in
+    ap (λ b. cond (b || (0 == (end_of trace).number)) (begin_of trace ∷ rest) rest) (le-leb 0 exit.0 (omega arith))
+    ∙ ap (λ l. begin_of trace ∷ l) (up_to_end exit.0 0 trace (end_of trace) (trace_rises trace is))
+
+-- where no firing exits all count, and else those up to the exit
+pub over_all : (m : ScriptMeant) (trace fs : List Firing) (exit : Option (ℕ × ℕ)) → fs ≡ with_ends trace trace → exit ≡ exit_of (history m fs unassigned) → exit ≡ None → fs ≡ firings_over m trace
+over_all m trace fs exit all is none = all ∙ ap (λ o. with_ends trace (up_to o trace)) (sym none ∙ is ∙ ap (λ l. exit_of (history m l unassigned)) all)
+
+pub over_exit : (m : ScriptMeant) (trace fs : List Firing) (exit : Option (ℕ × ℕ)) (some : ℕ × ℕ) → fs ≡ with_ends trace trace → exit ≡ exit_of (history m fs unassigned) → exit ≡ Some some
+    → with_ends trace (up_to (Some some) trace) ≡ firings_over m trace
+over_exit m trace fs exit some all is exits = ap (λ o. with_ends trace (up_to o trace)) (sym exits ∙ is ∙ ap (λ l. exit_of (history m l unassigned)) all)
+
+-- ---- numbers
+
+number_small : (trace : List Firing) → IsTrace trace → last_number trace < 4611686018427387905
+number_small [] is = omega arith
+number_small (f ∷ fs) is =
+    let last = length (f ∷ fs) - 1 in
+    let inside : last < length (f ∷ fs) = omega arith in
+    let small = (All-get_or IsFiring (f ∷ fs) last f inside is.firings).number.1 in
+    rw (slice_get-get_or (f ∷ fs) last f inside) (omega (arith, small))
+
+pub numbers_small : (trace : List Firing) → IsTrace trace → All (λ f. f.number < no_number) (with_ends trace trace)
+numbers_small trace is =
+    let P = λ (f : Firing). f.number < no_number in
+    all_cons P (begin_of trace) (trace ++ end_of trace ∷ []) (omega arith)
+    (All-append P trace (end_of trace ∷ []) (λ k d lt. let le = (is.firings k d lt).number.1 in omega arith)
+    (all_cons P (end_of trace) [] (let le = number_small trace is in omega arith) (λ k d lt. absurd (omega arith))))
+
+pub all_kept : (P : Firing → Type 0) (p : Firing → Bool) (fs : List Firing) → All P fs → All P (filter p fs)
+all_kept P p [] each = λ k d lt. absurd (omega arith)
+all_kept P p (f ∷ fs) each = here (p f) (all_kept P p fs (λ k d lt. each (suc k) d (omega arith)))
+  where
+    here : (b : Bool) → All P (filter p fs) → All P (cond b (f ∷ filter p fs) (filter p fs))
+    here true more = all_cons P f (filter p fs) (each 0 f (omega arith)) more
+    here false more = more

@@ -1,0 +1,95 @@
+-- What the groups' pieces have, collected, is what the run means.
+use Rattle.std.proofs.Common.{◌≡◌, ℕ, suc, ◌+◌, List, [], ◌∷◌, ◌++◌, All, map, length, sum_by, refl, sym, ap, ap₂, ◌∙◌, subst, arith, append-nil}
+use Rattle.std.specs.List.{flat_map, range_with_len}
+use Rattle.std.specs.List.Sorted.{IsStrictlyIncreasing}
+use Rattle.std.proofs.lemmas.List.Sorted.{All-permutation}
+use Rattle.aggregations.specs.Table.{StandsFor}
+use Rattle.aggregations.proofs.OrderLemmas.{stands_same}
+use Rattle.d_types.specs.Typed.{ScriptMeant}
+use Rattle.firing_reader.specs.declared.firing.Firing.{Firing}
+use Rattle.firing_reader.specs.Firings.{number_of}
+use Rattle.replay_core.specs.declared.piece.Piece.{Piece}
+use Rattle.replay_core.specs.declared.whole.Whole.{Whole}
+use Rattle.replay_core.specs.Groups.{AreGrouped, Grouping, of_group}
+use Rattle.replay_core.specs.Meaning.{contributions_of, exit_of, history, texts_of, unassigned}
+use Rattle.replay_core.specs.PiecePlaces.{numbered}
+use Rattle.replay_core.specs.Pieces.{IsWholeOf, RunsEachOnce}
+use Rattle.d_types.specs.Typed.{functions_in}
+use Rattle.replay_core.specs.Seen.{whole_seen}
+use Rattle.replay_core.specs.Tables.{AllHave, StandFor}
+use Rattle.replay_core.specs.Uniting.{IsSorted, first_exit, group_history}
+use Rattle.replay_core.specs.Collecting.{IsCollected}
+use Rattle.replay_core.specs.Working.{IsOfGroup}
+use Rattle.replay_core.proofs.GroupSums.{flat_same, parts_read}
+use Rattle.replay_core.proofs.NumberOrder.{sorted_once}
+use Rattle.replay_core.proofs.RunUnites.{groups_unite}
+
+module _ (m : ScriptMeant) (grouping : Grouping) (fs : List Firing) where
+  -- pieces of the groups from a on
+  abbrev AllPieces : ℕ → List Piece → Type 0
+  AllPieces a ps = All (IsOfGroup m grouping fs) (numbered a ps)
+
+  texts_joined : (a : ℕ) (ps : List Piece) → AllPieces a ps → flat_map (λ p. p.texts.items) ps ≡ flat_map (λ g. texts_of (group_history m grouping fs g)) (range_with_len a (length ps))
+  texts_joined a [] each = refl
+  texts_joined a (p ∷ ps) each = ap₂ (λ xs ys. xs ++ ys) (each 0 (a, p) (omega arith)).texts (texts_joined (a + 1) ps (λ k d lt. each (suc k) d (omega arith)))
+
+  ran_joined : (a : ℕ) (ps : List Piece) → AllPieces a ps → map (λ p. p.taken.items) ps ≡ map (λ g. map number_of (of_group grouping g fs)) (range_with_len a (length ps))
+  ran_joined a [] each = refl
+  ran_joined a (p ∷ ps) each = ap₂ (λ x xs. x ∷ xs) (each 0 (a, p) (omega arith)).taken (ran_joined (a + 1) ps (λ k d lt. each (suc k) d (omega arith)))
+
+  tables_joined : (a : ℕ) (ps : List Piece) → AllPieces a ps → StandFor (map (λ p. p.table) ps) (flat_map (λ g. contributions_of (group_history m grouping fs g)) (range_with_len a (length ps)))
+  tables_joined a [] each = refl
+  tables_joined a (p ∷ ps) each = (
+    contributions_of (group_history m grouping fs a),
+    flat_map (λ g. contributions_of (group_history m grouping fs g)) (range_with_len (a + 1) (length ps)),
+    refl,
+    (each 0 (a, p) (omega arith)).table,
+    tables_joined (a + 1) ps (λ k d lt. each (suc k) d (omega arith)),
+  )
+
+  exits_joined : (a : ℕ) (ps : List Piece) → AllPieces a ps → map (λ p. p.exit) ps ≡ map (λ g. exit_of (group_history m grouping fs g)) (range_with_len a (length ps))
+  exits_joined a [] each = refl
+  exits_joined a (p ∷ ps) each = ap₂ (λ x xs. x ∷ xs) (each 0 (a, p) (omega arith)).exit (exits_joined (a + 1) ps (λ k d lt. each (suc k) d (omega arith)))
+
+  all_functions : (a : ℕ) (ps : List Piece) → AllPieces a ps → AllHave (functions_in m) (map (λ p. p.table) ps)
+  all_functions a [] each = tt
+  all_functions a (p ∷ ps) each = ((each 0 (a, p) (omega arith)).functions, all_functions (a + 1) ps (λ k d lt. each (suc k) d (omega arith)))
+
+  pub whole_of : (pieces : List (ℕ × Piece)) (w : Whole) → AreGrouped grouping fs → IsStrictlyIncreasing (map number_of fs) → All (IsOfGroup m grouping fs) pieces
+      → IsCollected grouping.count pieces w → IsWholeOf m fs grouping (whole_seen w)
+  whole_of pieces w grouped rises each c =
+      let sorted = c.sorted in
+      let all : AllPieces 0 sorted = All-permutation (IsOfGroup m grouping fs) pieces (numbered 0 sorted) c.same each in
+      let unite = groups_unite m grouping fs grouped rises in
+      let texts = λ (n : ℕ). flat_map (λ g. texts_of (group_history m grouping fs g)) (range_with_len 0 n) in
+      let parts = λ (n : ℕ). flat_map (λ g. contributions_of (group_history m grouping fs g)) (range_with_len 0 n) in
+      let items : flat_map (λ p. p.texts.items) sorted ≡ texts grouping.count = texts_joined 0 sorted all ∙ ap texts c.count in
+      let stood = c.whole.table.stand (parts (length sorted)) (tables_joined 0 sorted all) in
+      let one : StandsFor w.table (parts (length sorted)) = subst (λ cs. StandsFor w.table cs) (sym (stood.2 ∙ ap (λ l. stood.0 ++ l) stood.4 ∙ append-nil stood.0)) stood.3 in
+      record {
+        texts = sorted_once (texts grouping.count) w.texts.items (texts_of (history m fs unassigned)) (subst (λ l. IsSorted l w.texts.items) items c.whole.texts) unite.texts;
+        functions = (c.whole.table.functions (functions_in m) (all_functions 0 sorted all)).0;
+        table = stands_same w.table (parts grouping.count) (contributions_of (history m fs unassigned)) unite.contributions (subst (λ n. StandsFor w.table (parts n)) c.count one);
+        ran = c.whole.ran ∙ ran_joined 0 sorted all ∙ ap (λ n. map (λ g. map number_of (of_group grouping g fs)) (range_with_len 0 n)) c.count;
+        exit = c.whole.exit ∙ ap first_exit (exits_joined 0 sorted all ∙ ap (λ n. map (λ g. exit_of (group_history m grouping fs g)) (range_with_len 0 n)) c.count) ∙ unite.exit;
+      }
+
+  -- so it has the number of each firing once
+  pub each_once : (w : Whole) → AreGrouped grouping fs → IsWholeOf m fs grouping (whole_seen w) → RunsEachOnce fs (whole_seen w)
+  each_once w grouped whole = λ h.
+      ap (λ l. sum_by h (flat_map (λ (group : List ℕ). group) l)) whole.ran
+      ∙ ap (sum_by h) (joined (λ g. map number_of (of_group grouping g fs)) (range_with_len 0 grouping.count)
+      ∙ flat_same (λ g. map number_of (of_group grouping g fs)) (λ g. flat_map own_number (of_group grouping g fs)) (range_with_len 0 grouping.count) (λ g. one_each (of_group grouping g fs)))
+      ∙ parts_read (λ (f : Firing). grouping.group f.thread) own_number grouping.count h fs grouped
+      ∙ ap (sum_by h) (sym (one_each fs))
+    where
+      own_number : Firing → List ℕ
+      own_number f = f.number ∷ []
+
+      joined : (f : ℕ → List ℕ) (gs : List ℕ) → flat_map (λ (group : List ℕ). group) (map f gs) ≡ flat_map f gs
+      joined f [] = refl
+      joined f (g ∷ gs) = ap (λ l. f g ++ l) (joined f gs)
+
+      one_each : (xs : List Firing) → map number_of xs ≡ flat_map own_number xs
+      one_each [] = refl
+      one_each (x ∷ xs) = ap (λ l. x.number ∷ l) (one_each xs)

@@ -1,0 +1,130 @@
+-- Without an exit every firing counts.
+use Rattle.std.specs.Prelude.{◌≡◌, ℕ, zero, suc, List, [], ◌∷◌, ◌++◌, filter, map, Bool, true, false, ◌||◌, if◌then◌else◌, Option, None, Some, is_some, option_map, unwrap_or}
+use Rattle.std.specs.List.{list_any}
+use Rattle.std.specs.Option.{option_or}
+use Rattle.std.proofs.Common.{refl, sym, ap, ◌∙◌, subst}
+use Rattle.d_types.specs.declared.effect.Effect.{Effect}
+use Rattle.d_types.specs.declared.effect.Effect.TheVariants as ef
+use Rattle.d_types.specs.Typed.{Typed, Typeds, ActionOf, Action, Evaluate, Trace, Print, Exit, Aggregate, ClauseMeant, ScriptMeant}
+use Rattle.d_types.specs.Storage.{Variables}
+use Rattle.d_types.specs.Expressions.{Outcome, Has, Faults, with, number}
+use Rattle.d_types.specs.Clauses.{Evaluation, Made, Ran, by_trees, effect_by, exit_in, followed, given_by, guarded_by, run_of, statements_by, where_true}
+use Rattle.firing_reader.specs.declared.firing.Firing.{Firing}
+use Rattle.firing_reader.specs.Ends.{begin_of, end_of, with_ends}
+use Rattle.firing_reader.specs.Trace.{IsTrace}
+use Rattle.replay_core.specs.Exit.{exit_status, firings_over, has_exit, history_over, is_exit, up_to}
+use Rattle.replay_core.specs.Meaning.{Threads, clauses_for, exit_of, history, in_turn, made_of, threads_after, unassigned}
+use Rattle.replay_core.specs.Patterns.{probe_of, selects}
+use Rattle.replay_core.specs.Running.{until_exit}
+use Rattle.replay_core.proofs.ExitLemmas.{firings_are}
+
+either : (a b : Bool) → (a || b) ≡ false → (a ≡ false) × (b ≡ false)
+either true b e = absurd (let c : true ≡ false = e in cc)
+either false b e = (refl, e)
+
+-- ---- a run of a clause
+
+-- an effect that is no exit
+abbrev Stays : Effect → Type 0
+Stays (ef.Exits status) = ⊥
+Stays e = Unit {0}
+
+abbrev Goes : Outcome Effect → Type 0
+Goes (Has effect vars) = Stays effect
+Goes (Faults vars) = Unit {0}
+
+goes_with : {A : Type 0} (o : Outcome A) (go : A → Variables → Outcome Effect) → ((x : A) (vars : Variables) → Goes (go x vars)) → Goes (with o go)
+goes_with (Has x vars) go goes = goes x vars
+goes_with (Faults vars) go goes = tt
+
+skipped : (e : Effect) (rest : List Effect) → Stays e → exit_in (e ∷ rest) ≡ exit_in rest
+skipped ef.Nothing rest stays = refl
+skipped (ef.Says text) rest stays = refl
+skipped (ef.Adds place key z) rest stays = refl
+skipped (ef.Exits status) rest stays = absurd stays
+
+module _ (by : Evaluation Typed Typeds) where
+  effect_goes : (a : Action) (vars : Variables) → is_exit a ≡ false → Goes (effect_by by a vars)
+  effect_goes (Evaluate a) vars without = goes_with (by.value a vars) _ (λ x vars. tt)
+  effect_goes (Trace a) vars without = goes_with (by.value a vars) _ (λ x vars. tt)
+  effect_goes (Print format arguments) vars without = goes_with (by.values arguments vars) _ (λ x vars. tt)
+  effect_goes (Exit a) vars without = absurd (let c : true ≡ false = without in cc)
+  effect_goes (Aggregate place keys argument) vars without =
+      goes_with (by.key keys vars) _ (λ key vars. goes_with (given_by by argument vars) _ (λ z vars. tt))
+
+  followed_goes : (o : Outcome Effect) (go : Variables → Ran) → Goes o → ((vars : Variables) → exit_in (go vars).effects ≡ None) → exit_in (followed o go).effects ≡ None
+  followed_goes (Has effect vars) go goes none = skipped effect (go vars).effects goes ∙ none vars
+  followed_goes (Faults vars) go goes none = refl
+
+  statements_go : (all : List Action) (vars : Variables) → list_any is_exit all ≡ false → exit_in (statements_by by all vars).effects ≡ None
+  statements_go [] vars without = refl
+  statements_go (a ∷ rest) vars without =
+      let both = either (is_exit a) (list_any is_exit rest) without in
+      followed_goes (effect_by by a vars) (statements_by by rest) (effect_goes a vars both.0) (λ vars. statements_go rest vars both.1)
+
+  where_goes : (o : Outcome ℕ) (go : Variables → Ran) → ((vars : Variables) → exit_in (go vars).effects ≡ None) → exit_in (where_true o go).effects ≡ None
+  where_goes (Has zero vars) go none = refl
+  where_goes (Has (suc n) vars) go none = none vars
+  where_goes (Faults vars) go none = refl
+
+  guarded_goes : (predicate : Option Typed) (all : List Action) (vars : Variables) → list_any is_exit all ≡ false → exit_in (guarded_by by predicate (statements_by by all) vars).effects ≡ None
+  guarded_goes None all vars without = statements_go all vars without
+  guarded_goes (Some a) all vars without = where_goes (number (by.value a vars)) (statements_by by all) (λ vars. statements_go all vars without)
+
+-- ---- a firing
+
+abbrev AllGo : List (ℕ × ClauseMeant) → Type 0
+AllGo [] = Unit {0}
+AllGo (c ∷ cs) = (list_any is_exit c.1.statements ≡ false) × AllGo cs
+
+all_append : (xs ys : List (ℕ × ClauseMeant)) → AllGo xs → AllGo ys → AllGo (xs ++ ys)
+all_append [] ys a b = b
+all_append (x ∷ xs) ys a b = (a.0, all_append xs ys a.1 b)
+
+all_placed : {D : Type 0} (place : ℕ) (c : ClauseMeant) (ds : List D) → list_any is_exit c.statements ≡ false → AllGo (map (λ d. (place, c)) ds)
+all_placed place c [] without = tt
+all_placed place c (d ∷ ds) without = (without, all_placed place c ds without)
+
+clauses_go : (f : Firing) (place : ℕ) (cs : List ClauseMeant) → list_any (λ c. list_any is_exit c.statements) cs ≡ false → AllGo (clauses_for f place cs)
+clauses_go f place [] without = tt
+clauses_go f place (c ∷ cs) without =
+    let both = either (list_any is_exit c.statements) (list_any (λ c. list_any is_exit c.statements) cs) without in
+    all_append (map (λ d. (place, c)) (filter (λ d. selects d (probe_of f)) c.descriptions)) (clauses_for f (suc place) cs)
+    (all_placed place c (filter (λ d. selects d (probe_of f)) c.descriptions) both.0) (clauses_go f (suc place) cs both.1)
+
+turn_goes : (f : Firing) (cs : List (ℕ × ClauseMeant)) (vars : Variables) → AllGo cs → (in_turn f cs vars).exit ≡ None
+turn_goes f [] vars all = refl
+turn_goes f (c ∷ cs) vars all =
+    let first = run_of f c.0 c.1 vars in
+    let none : first.exit ≡ None = guarded_goes (by_trees f) c.1.predicate c.1.statements vars all.0 in
+    ap (λ o. option_or o (in_turn f cs first.variables).exit) none ∙ turn_goes f cs first.variables all.1
+
+-- ---- a run
+
+history_goes : (m : ScriptMeant) (fs : List Firing) (threads : Threads) → has_exit m ≡ false → exit_of (history m fs threads) ≡ None
+history_goes m [] threads without = refl
+history_goes m (f ∷ fs) threads without =
+    let none : (made_of m f (threads f.thread)).exit ≡ None = turn_goes f (clauses_for f 1 m.clauses) _ (clauses_go f 1 m.clauses without) in
+    ap (λ o. option_or (option_map (λ status. (f.number, status)) o) (exit_of (history m fs (threads_after m f threads)))) none
+    ∙ history_goes m fs (threads_after m f threads) without
+
+pub script_goes : (m : ScriptMeant) (trace : List Firing) → has_exit m ≡ false → (firings_over m trace ≡ with_ends trace trace) × (exit_status (history_over m trace) ≡ 0)
+script_goes m trace without = (
+  ap (λ o. with_ends trace (up_to o trace)) (history_goes m (with_ends trace trace) unassigned without),
+  ap (λ (o : Option (ℕ × ℕ)). unwrap_or (option_map (λ exit. exit.1) o) 0) (history_goes m (firings_over m trace) unassigned without),
+)
+
+-- all firings run where none of them exits
+all_run : (m : ScriptMeant) (fs : List Firing) (threads : Threads) → exit_of (history m fs threads) ≡ None → until_exit m fs threads ≡ fs
+all_run m [] threads none = refl
+all_run m (f ∷ fs) threads none =
+    elim (made_of m f (threads f.thread)).exit
+    as (λ o. option_or (option_map (λ status. (f.number, status)) o) (exit_of (history m fs (threads_after m f threads))) ≡ None
+    → f ∷ (if is_some o then [] else until_exit m fs (threads_after m f threads)) ≡ f ∷ fs) [
+      | None ↦ λ later. ap (λ l. f ∷ l) (all_run m fs (threads_after m f threads) later)
+      | Some status ↦ λ e. absurd (let c : ◌≡◌ {A = Option (ℕ × ℕ)} (Some (f.number, status)) None = e in cc)
+    ] none
+
+pub trace_goes : (m : ScriptMeant) (trace : List Firing) → IsTrace trace → exit_of (history m (begin_of trace ∷ trace) unassigned) ≡ None → firings_over m trace ≡ with_ends trace trace
+trace_goes m trace is none =
+    sym (firings_are m trace is) ∙ ap (λ l. l ++ end_of trace ∷ []) (all_run m (begin_of trace ∷ trace) unassigned none)

@@ -1,0 +1,73 @@
+-- Steps of a worker.
+use Rattle.std.proofs.Common.{◌≡◌, ℕ, zero, suc, ◌+◌, ◌<◌, ◌≤◌, Bool, true, false, cond, List, [], ◌∷◌, ◌++◌, Some, All, map, filter, length, take, drop, get_or, slice_get, refl, sym, ap, ◌∙◌, subst, arith, append-nil}
+use Rattle.std.specs.List.{flat_map}
+use Rattle.std.proofs.lemmas.List.{map-append}
+use Rattle.std.proofs.lemmas.List.Concat.{flat_map-append}
+use Rattle.std.proofs.lemmas.List.Elements.{filter-append}
+use Rattle.d_types.specs.Typed.{ScriptMeant}
+use Rattle.firing_reader.specs.declared.firing.Firing.{Firing}
+use Rattle.shard_queue.proofs.Lists.{take_next}
+use Rattle.replay_core.specs.declared.piece.Piece.{Piece}
+use Rattle.replay_core.specs.declared.span.Span.{Span}
+use Rattle.replay_core.specs.Lanes.{LaneSeen}
+use Rattle.replay_core.specs.Running.{IsLaneOf}
+use Rattle.replay_core.specs.Working.{firings_at, is_in}
+use Rattle.replay_core.proofs.TraceRuns.{few_kept}
+
+-- ---- places
+
+pub at_of : {X : Type 0} (P : X → Type 0) (xs : List X) (k : ℕ) (x : X) → All P xs → slice_get xs k ≡ Some x → P x
+at_of P [] zero x all e = absurd cc
+at_of P [] (suc k) x all e = absurd cc
+at_of P (y ∷ xs) zero x all e = let same : y ≡ x = cc in subst P same (all 0 y (omega arith))
+at_of P (y ∷ xs) (suc k) x all e = at_of P xs k x (λ j d lt. all (suc j) d (omega arith)) e
+
+pub one_at : (fs : List Firing) (place : ℕ) (f : Firing) → slice_get fs place ≡ Some f → take 1 (drop place fs) ≡ f ∷ []
+one_at [] zero f e = absurd cc
+one_at [] (suc k) f e = absurd cc
+one_at (x ∷ fs) zero f e = let same : x ≡ f = cc in ap (λ y. y ∷ []) same
+one_at (x ∷ fs) (suc k) f e = one_at fs k f e
+
+-- one place more
+pub at_more : (fs : List Firing) (places : List ℕ) (i place : ℕ) (f : Firing) → i < length places → get_or places i place ≡ place → slice_get fs place ≡ Some f
+    → firings_at fs (take (i + 1) places) ≡ firings_at fs (take i places) ++ f ∷ []
+at_more fs places i place f lt item is =
+    ap (firings_at fs) (take_next places i place lt item)
+    ∙ flat_map-append (λ p. take 1 (drop p fs)) (take i places) (place ∷ [])
+    ∙ ap (λ l. firings_at fs (take i places) ++ (l ++ [])) (one_at fs place f is)
+
+pub kept_more : (span : Span) (fs : List Firing) (places : List ℕ) (i place : ℕ) (f : Firing) → i < length places → get_or places i place ≡ place → slice_get fs place ≡ Some f
+    → filter (is_in span) (firings_at fs (take (i + 1) places)) ≡ filter (is_in span) (firings_at fs (take i places)) ++ filter (is_in span) (f ∷ [])
+kept_more span fs places i place f lt item is =
+    ap (filter (is_in span)) (at_more fs places i place f lt item is)
+    ∙ filter-append (is_in span) (firings_at fs (take i places)) (f ∷ [])
+
+pub few_at : (fs : List Firing) (i : ℕ) (places : List ℕ) → length (firings_at fs (take i places)) ≤ i
+few_at fs zero places = omega arith
+few_at fs (suc i) [] = omega arith
+few_at fs (suc i) (p ∷ places) = first (drop p fs) (few_at fs i places)
+  where
+    first : (l : List Firing) → length (firings_at fs (take i places)) ≤ i → length (take 1 l ++ firings_at fs (take i places)) ≤ suc i
+    first [] le = omega arith
+    first (x ∷ l) le = omega arith
+
+pub few_run : (span : Span) (fs : List Firing) (i : ℕ) (places : List ℕ) → length (filter (is_in span) (firings_at fs (take i places))) ≤ i
+few_run span fs i places =
+    let a = few_kept (is_in span) (firings_at fs (take i places)) in
+    let b = few_at fs i places in
+    omega arith
+
+-- ---- a firing that counts, and one that doesn't
+
+pub counts : (m : ScriptMeant) (span : Span) (before : List Firing) (f : Firing) (lane : LaneSeen) → is_in span f ≡ true → IsLaneOf m (before ++ f ∷ []) lane
+    → IsLaneOf m (before ++ filter (is_in span) (f ∷ [])) lane
+counts m span before f lane e is = subst (λ l. IsLaneOf m (before ++ l) lane) (sym (ap (λ b. cond b (f ∷ []) []) e)) is
+
+pub passes : (m : ScriptMeant) (span : Span) (before : List Firing) (f : Firing) (lane : LaneSeen) → is_in span f ≡ false → IsLaneOf m before lane
+    → IsLaneOf m (before ++ filter (is_in span) (f ∷ [])) lane
+passes m span before f lane e is = subst (λ l. IsLaneOf m l lane) (sym (append-nil before) ∙ ap (λ l. before ++ l) (sym (ap (λ b. cond b (f ∷ []) []) e))) is
+
+-- ---- pieces
+
+pub groups_more : (ps new : List (ℕ × Piece)) (p : ℕ × Piece) (list longer : List ℕ) → new ≡ ps ++ p ∷ [] → map (λ q. q.0) ps ≡ list → longer ≡ list ++ p.0 ∷ [] → map (λ q. q.0) new ≡ longer
+groups_more ps new p list longer pushed are more = ap (map (λ q. q.0)) pushed ∙ map-append (λ q. q.0) ps (p ∷ []) ∙ ap (λ gs. gs ++ p.0 ∷ []) are ∙ sym more

@@ -1,0 +1,18 @@
+use Rattle.std.specs.Prelude.{◌≡◌, map}
+use Rattle.std.proofs.Common.{rules, ap, subst, sym, ◌∙◌}
+use Rattle.d_types.specs.Held.{AreTypedOwn, slots_of}
+use Rattle.d_types.proofs.FiringValues.{own_unassigned}
+use Rattle.replay_core.specs.Meaning.{unassigned}
+use Rattle.replay_core.specs.Threads.{threads_in}
+use Rattle.replay_core.proofs.lane.Lane.new.Goals as goal
+
+pub returns-clause-script : goal.returns-clause-script
+returns-clause-script g c = λ m mean functions.
+    let none : threads_in c.new-3.result.entries ≡ unassigned = search rules in (
+      record {
+        clauses_mean = mean;
+        are_described = ap (map (λ d. d.now)) c.new-2.ensures.descriptions ∙ c.in_ok-descriptions.ensures.meaning (slots_of m) m.clauses mean.each;
+        have_functions = c.in_ok-piece.ensures.functions ∙ functions;
+      },
+      λ fresh thread. subst (λ t. AreTypedOwn (slots_of m) (t thread)) (sym none) (own_unassigned (slots_of m)),
+    )

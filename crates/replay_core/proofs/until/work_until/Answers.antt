@@ -1,0 +1,30 @@
+use Rattle.std.proofs.Common.{◌≤◌, sym, ap, ◌∙◌, arith}
+use Rattle.firing_reader.specs.Ends.{with_ends}
+use Rattle.shard_queue.specs.Groups.{grouping}
+use Rattle.shard_queue.proofs.Lists.{all_push}
+use Rattle.replay_core.specs.Beginnings.{IsBegunOf, least_exit, lowered_by}
+use Rattle.replay_core.specs.Seen.{IsRoomy}
+use Rattle.replay_core.proofs.WorkSteps.{groups_more}
+use Rattle.replay_core.proofs.BeginLemmas.{seen_less, least_more}
+use Rattle.replay_core.proofs.until.work_until.Goals as goal
+
+pub loop-preserved : goal.loop-preserved
+loop-preserved g c =
+    let i = c.loop.invariant in
+    let t = c.args.trace.now in
+    let groups = grouping c.args.groups.now in
+    let pushed = c.in_ok-push.ensures.items in
+    let taken = c.in-Some-take.ensures in
+    let made = c.in_ok-piece.ensures in
+    let now = g.S.Source.seen c.piece_until.new.seat in
+    let less : now ≤ g.S.Source.seen c.loop.seat = let a = made.seen in let b = taken.least.1 in omega arith in
+    record {
+      at = made.seat.0;
+      groups = groups_more _ _ _ _ _ pushed i.groups (made.seat.1 ∙ taken.some.2);
+      pieces = record {
+        each = λ m runs. all_push (IsBegunOf m now groups (with_ends t t)) _ _ _
+            (λ k d lt. seen_less m (g.S.Source.seen c.loop.seat) now _ _ less (i.pieces.each m runs k d lt)) (made.piece m runs) pushed;
+        roomy = all_push (λ p. IsRoomy p.1) _ _ _ i.pieces.roomy made.roomy pushed;
+      };
+      least = made.least ∙ ap (λ n. lowered_by n c.in_ok-piece.piece.exit) (taken.least.0 ∙ i.least) ∙ sym (ap least_exit pushed ∙ least_more c.loop.pieces.items (c.in-Some-take.group, c.in_ok-piece.piece));
+    }

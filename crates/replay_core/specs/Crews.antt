@@ -1,0 +1,77 @@
+-- What the workers of a board give back.
+use Rattle.std.specs.Prelude.{◌≡◌, ◌≤◌, ℕ, true, List, map, All, Vec}
+use Rattle.std.specs.List.{flat_map}
+use Rattle.std.specs.declared.alloc.Global.{Global}
+use Rattle.d_types.specs.Typed.{ScriptMeant}
+use Rattle.firing_reader.specs.declared.firing.Firing.{Firing}
+use Rattle.firing_reader.specs.Ends.{with_ends}
+use Rattle.shard_queue.specs.declared.board.ClaimBoard.{ClaimBoard}
+use Rattle.shard_queue.specs.declared.claim_seat.ClaimSeat.{ClaimSeat}
+use Rattle.shard_queue.specs.declared.groups.Groups.{Groups}
+use Rattle.shard_queue.specs.Boards.{IsAt, least_lowered, least_seen, lowered, seen}
+use Rattle.shard_queue.specs.Groups.{grouping}
+use Rattle.replay_core.specs.declared.piece.Piece.{Piece}
+use Rattle.replay_core.specs.declared.round.Round.{Round}
+use Rattle.replay_core.specs.declared.span.Span.{Span}
+use Rattle.replay_core.specs.declared.span.Span.TheVariants as span
+use Rattle.replay_core.specs.Beginnings.{AreBegun, least_exit}
+use Rattle.replay_core.specs.Exit.{firings_over}
+use Rattle.replay_core.specs.Groups.{IsAllBelow}
+use Rattle.replay_core.specs.Seen.{IsRoomy}
+use Rattle.replay_core.specs.Working.{AreOfGroups, IsOfGroup, firings_in}
+
+-- a worker's pieces, each with its group, and its seat
+abbrev pub Part : Type 0
+Part = Vec (ℕ × Piece) Global × ClaimSeat
+
+-- the pieces are of the groups of the seat's list, in its order, and the seat was told the end
+pub record IsWork (Gives : Part → Type 0) (board : ClaimBoard) (part : Part) : Type 0 where
+  pub at : IsAt board part.1
+  pub told : part.1.told ≡ true
+  pub order : map (λ p. p.0) part.0.items ≡ part.1.taken.items
+  pub gives : Gives part
+
+-- the pieces are what the firings of their groups make that count
+abbrev pub GivesPieces : Span → (ScriptMeant → Type 0) → Groups → List Firing → Part → Type 0
+GivesPieces span runs groups trace part =
+    AreOfGroups runs (grouping groups) (firings_in span trace) part.0.items
+
+-- the pieces are what beginnings make, and the seat lowered the least number of their exits
+abbrev pub GivesBegun : (ScriptMeant → Type 0) → Groups → List Firing → Part → Type 0
+GivesBegun runs groups trace part =
+    AreBegun runs (seen part.1) (grouping groups) (with_ends trace trace) part.0.items
+    × (lowered part.1 ≡ least_exit part.0.items)
+
+abbrev pub Gives : Span → (ScriptMeant → Type 0) → Groups → List Firing → Part → Type 0
+Gives span.All runs groups trace = GivesPieces span.All runs groups trace
+Gives (span.UpTo last end) runs groups trace = GivesPieces (span.UpTo last end) runs groups trace
+Gives span.UntilExit runs groups trace = GivesBegun runs groups trace
+
+-- the pieces and the seats are those of these workers, one worker after the other
+pub record AreParts (P : Part → Type 0) (pieces : List (ℕ × Piece)) (seats : List ClaimSeat)
+    : Type 0 where
+  pub parts : List Part
+  pub each : All P parts
+  pub all : pieces ≡ flat_map (λ p. p.0.items) parts
+  pub seated : seats ≡ map (λ p. p.1) parts
+
+-- each of n groups has one piece, and stands in one worker's list, and this holds of what each
+-- worker gave. The least number is the least that one of their seats lowered, and no more than one
+-- was shown
+pub record IsRound (P : Part → Type 0) (n : ℕ) (r : Round) : Type 0 where
+  pub once : IsAllBelow n (map (λ p. p.0) r.pieces.items)
+  pub taken : IsAllBelow n (flat_map (λ list. list.items) r.lists.items)
+  pub seats : List ClaimSeat
+  pub parts : AreParts P r.pieces.items seats
+  pub lowered : r.least ≡ least_lowered seats
+  pub seen : r.least ≤ least_seen seats
+
+-- each of the groups has one piece, and stands in one worker's list, and each piece is what its
+-- group's firings make that count
+pub record IsRun (runs : ScriptMeant → Type 0) (groups : Groups) (trace : List Firing) (r : Round)
+    : Type 0 where
+  pub once : IsAllBelow (grouping groups).count (map (λ p. p.0) r.pieces.items)
+  pub taken : IsAllBelow (grouping groups).count (flat_map (λ list. list.items) r.lists.items)
+  pub each : (m : ScriptMeant) → runs m
+      → All (IsOfGroup m (grouping groups) (firings_over m trace)) r.pieces.items
+  pub roomy : All (λ p. IsRoomy p.1) r.pieces.items

@@ -1,0 +1,25 @@
+-- Expressions and statements in the form in which an engine runs them: trees as they stand in memory.
+use Rattle.std.specs.Prelude.{List}
+use Rattle.d_types.specs.Clauses.{Evaluation, values_of}
+use Rattle.d_types.specs.Expressions.{eval, keys_of}
+use Rattle.d_types.specs.Typed.{ActionOf, Evaluate, Trace, Print, Exit, Aggregate, type_of, typed_of, typeds_of}
+use Rattle.d_types.specs.declared.typed.TypedExpr.{TypedExpr}
+use Rattle.d_types.specs.declared.typed.TypedStmt.{TypedStmt}
+use Rattle.d_types.specs.declared.typed.TypedStmt.TheVariants as s
+use Rattle.firing_reader.specs.declared.firing.Firing.{Firing}
+
+-- trees are evaluated as what they stand for
+abbrev pub by_expressions : Firing → Evaluation TypedExpr (List TypedExpr)
+by_expressions f = record {
+  value = λ e. eval f (typed_of e);
+  values = λ all. values_of f (typeds_of all);
+  key = λ all. keys_of f (typeds_of all);
+  type = λ e. type_of (typed_of e);
+}
+
+abbrev pub statement_form : TypedStmt → ActionOf TypedExpr (List TypedExpr)
+statement_form (s.Evaluate e) = Evaluate e
+statement_form (s.Trace e) = Trace e
+statement_form (s.Print format arguments) = Print format.items arguments.items
+statement_form (s.Exit e) = Exit e
+statement_form (s.Aggregate place keys argument) = Aggregate place keys.items argument

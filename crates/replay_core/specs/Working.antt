@@ -1,0 +1,45 @@
+-- What a worker makes of the groups that it takes.
+use Rattle.std.specs.Prelude.{◌==◌, ◌||◌, ℕ, nat_le, Bool, true, List, All, filter, take, drop}
+use Rattle.std.specs.List.{flat_map}
+use Rattle.d_types.specs.Typed.{ScriptMeant}
+use Rattle.firing_reader.specs.declared.firing.Firing.{Firing}
+use Rattle.firing_reader.specs.Ends.{with_ends}
+use Rattle.shard_queue.specs.declared.groups.Groups.{Groups}
+use Rattle.shard_queue.specs.Groups.{AreOf}
+use Rattle.shard_queue.specs.Threads.{run_threads}
+use Rattle.replay_core.specs.declared.piece.Piece.{Piece}
+use Rattle.replay_core.specs.declared.span.Span.{Span}
+use Rattle.replay_core.specs.declared.span.Span.TheVariants as span
+use Rattle.replay_core.specs.Groups.{Grouping, of_group}
+use Rattle.replay_core.specs.Pieces.{IsPieceOf}
+use Rattle.replay_core.specs.Seen.{IsRoomy, piece_seen}
+
+-- the firings at these places
+abbrev pub firings_at : List Firing → List ℕ → List Firing
+firings_at fs places = flat_map (λ place. take 1 (drop place fs)) places
+
+-- all, or those up to the last number, and END
+abbrev pub is_in : Span → Firing → Bool
+is_in span.All f = true
+is_in span.UntilExit f = true
+is_in (span.UpTo last end) f = nat_le f.number last || (f.number == end)
+
+-- BEGIN, the rows of a trace and END, as far as they count
+abbrev pub firings_in : Span → List Firing → List Firing
+firings_in span trace = filter (is_in span) (with_ends trace trace)
+
+-- the piece is what the script makes of its group's firings
+abbrev pub IsOfGroup : ScriptMeant → Grouping → List Firing → ℕ × Piece → Type 0
+IsOfGroup m grouping fs p = IsPieceOf m (of_group grouping p.0 fs) (piece_seen p.1)
+
+-- each piece is so for each meaning of the script, and holds few enough contributions
+pub record AreOfGroups (runs : ScriptMeant → Type 0) (grouping : Grouping) (fs : List Firing)
+    (pieces : List (ℕ × Piece)) : Type 0 where
+  pub each : (m : ScriptMeant) → runs m → All (IsOfGroup m grouping fs) pieces
+  pub roomy : All (λ p. IsRoomy p.1) pieces
+
+-- the script means something, and the groups are those of this trace
+pub record IsReady (runs : ScriptMeant → Type 0) (groups : Groups) (trace : List Firing)
+    : Type 0 where
+  pub script : (m : ScriptMeant) × runs m
+  pub placed : AreOf groups (run_threads trace)

@@ -1,0 +1,54 @@
+//! Lanes that run compiled scripts.
+
+ghost use Rattle.std.specs.Prelude.{◌≡◌, IfOk, false};
+ghost use Rattle.d_types.specs.Typed.{ScriptMeant};
+ghost use Rattle.replay_core.specs.Compiled.{IsCompiled};
+ghost use Rattle.replay_core.specs.Lanes.{IsFresh};
+
+use crate::engine::Engine;
+use crate::lane::Lane;
+use crate::lanes::Lanes;
+use dif_codegen::{CompiledClause, Program};
+use std::alloc::{AllocError, Global};
+
+/// A lane that runs the objects of a program.
+pub type DifLane<'a> = Lane<'a, CompiledClause>;
+
+/// A lane that has run no firing, over what a script was compiled to.
+pub fn dif_lane(alloc: Global, program: &Program) -> Result<DifLane<'_>, AllocError>
+    requires { (m : ScriptMeant) × IsCompiled m program.now }
+    ensures script { IfOk result (λ l. (m : ScriptMeant) → IsCompiled m program.now
+        → ⟦<DifLane<'static> as Engine>⟧.runs l m) }
+    ensures fresh { IfOk result (λ l. IsFresh (⟦<DifLane<'static> as Engine>⟧.seen l)) }
+    ensures unspent { IfOk result (λ l. l.spent ≡ false) }
+{
+    let functions = Vec::from_slice(alloc, program.aggregations())?;
+    Lane::new(alloc, program.clauses(), functions)
+}
+
+/// Gives lanes that run a program's objects.
+#[derive(Drop)]
+pub struct DifLanes<'a> {
+    program: &'a Program,
+}
+
+impl<'a> DifLanes<'a> {
+    /// Lanes of this program.
+    pub fn new(program: &'a Program) -> DifLanes<'a>
+        ensures { result.program.now ≡ program.now }
+    {
+        DifLanes { program }
+    }
+}
+
+impl<'a> Lanes for DifLanes<'a> {
+    ghost use Rattle.replay_core.specs.Compiled.{IsCompiled};
+
+    type Lane = DifLane<'a>;
+
+    ghost runs = { λ l m. IsCompiled m l.program.now };
+
+    fn lane(&self, alloc: Global) -> Result<DifLane<'a>, AllocError> {
+        dif_lane(alloc, self.program)
+    }
+}

@@ -1,0 +1,163 @@
+//! Workers at a board, each in a thread of its own.
+
+ghost use Rattle.std.specs.Prelude.{◌≡◌, All, vec_len, IfOk};
+ghost use Rattle.shard_queue.specs.Boards.{IsAt, IsNew};
+ghost use Rattle.shard_queue.specs.Groups.{grouping};
+ghost use Rattle.replay_core.specs.Crews.{AreParts, Gives, IsWork};
+ghost use Rattle.replay_core.specs.Working.{IsReady};
+
+use crate::gate::Gate;
+use crate::lanes::Lanes;
+use crate::piece::Piece;
+use crate::span::Span;
+use crate::until::work_until;
+use crate::worker::{Shift, work_on};
+use firing_reader::Trace;
+use shard_queue::{ClaimBoard, ClaimSeat, Groups};
+use std::alloc::{AllocError, Global};
+use std::sync::Wait;
+use std::thread;
+use std::thread::{Promise, Threads};
+
+/// What a worker gives back: its pieces, each with its group, and its seat.
+pub(crate) type Worked = Result<(Vec<(u32, Piece)>, ClaimSeat), AllocError>;
+
+/// That a worker gives back the pieces of the groups that it took.
+#[derive(Drop)]
+pub(crate) struct Works<'a, L> {
+    board: &'a ClaimBoard,
+    lanes: &'a L,
+    trace: &'a Trace,
+    groups: &'a Groups,
+    span: Span,
+}
+
+impl<'a, L: Lanes> Promise<Worked> for Works<'a, L> {
+    ghost use Rattle.std.specs.Prelude.{IfOk};
+    ghost use Rattle.replay_core.specs.Crews.{Gives, IsWork};
+
+    ghost kept_by = { λ p r. IfOk r
+        (IsWork (Gives p.span (L.runs p.lanes.now) p.groups.now p.trace.now) p.board.now) };
+}
+
+/// Runs a worker for each seat, all at once, and joins them. Where one can't be started the others are
+/// joined too.
+pub(crate) fn in_threads<R: Threads + Wait + Sync, L: Lanes + Sync, G: Gate + Sync>(
+    rt: &R,
+    alloc: Global,
+    board: &ClaimBoard,
+    seats: Vec<ClaimSeat>,
+    lanes: &L,
+    trace: &Trace,
+    groups: &Groups,
+    gate: &G,
+    span: Span,
+) -> Result<Vec<Worked>, AllocError>
+    requires seats { All (λ s. IsAt board.now s × IsNew s) seats.items }
+    requires end { board.now.end ≡ (grouping groups.now).count }
+    requires ready { IsReady (L.runs lanes.now) groups.now trace.now }
+    ensures len { IfOk result (λ v. vec_len v ≡ vec_len seats) }
+    ensures works { IfOk result (λ v. All (λ r. IfOk r
+        (IsWork (Gives span (L.runs lanes.now) groups.now trace.now) board.now)) v.items) }
+{
+    thread::scope(
+        thread::scope_env(),
+        rt,
+        |scope| -> Result<Vec<Worked>, AllocError>
+            requires seats { All (λ s. IsAt board.now s × IsNew s) seats.items }
+            requires end { board.now.end ≡ (grouping groups.now).count }
+            requires ready { IsReady (L.runs lanes.now) groups.now trace.now }
+            ensures len { IfOk result (λ v. vec_len v ≡ vec_len seats) }
+            ensures works { IfOk result (λ v. All (λ r. IfOk r
+                (IsWork (Gives span (L.runs lanes.entry.now) groups.entry.now trace.entry.now)
+                board.entry.now)) v.items) }
+        {
+            let mut handles = Vec::with_capacity(alloc, seats.len())?;
+            for seat in seats {
+                let promise = Works {
+                    board,
+                    lanes,
+                    trace,
+                    groups,
+                    span,
+                };
+                let child = scope.spawn_with(
+                    promise,
+                    move || -> Worked
+                        requires seat { IsAt board.now seat × IsNew seat }
+                        requires end { board.now.end ≡ (grouping groups.now).count }
+                        requires ready { IsReady (L.runs lanes.now) groups.now trace.now }
+                        ensures { IfOk result
+                            (IsWork (Gives span (L.runs lanes.entry.now) groups.entry.now
+                            trace.entry.now) board.entry.now) }
+                    { at_board(rt, alloc, board, seat, lanes, trace, groups, gate, span) },
+                )?;
+                handles.push_reserved(child);
+            }
+            match thread::join_promised(rt, handles) {
+                Ok(results) => Ok(results),
+                Err(_) => Err(AllocError),
+            }
+        },
+    )
+}
+
+// One worker at the board.
+fn at_board<R: Wait, L: Lanes, G: Gate>(
+    rt: &R,
+    alloc: Global,
+    board: &ClaimBoard,
+    seat: ClaimSeat,
+    lanes: &L,
+    trace: &Trace,
+    groups: &Groups,
+    gate: &G,
+    span: Span,
+) -> Worked
+    requires seat { IsAt board.now seat × IsNew seat }
+    requires end { board.now.end ≡ (grouping groups.now).count }
+    requires ready { IsReady (L.runs lanes.now) groups.now trace.now }
+    ensures { IfOk result (IsWork
+        (Gives span (L.runs lanes.entry.now) groups.entry.now trace.entry.now) board.entry.now) }
+{
+    match span {
+        Span::UntilExit => work_until(rt, alloc, board, seat, lanes, trace, groups, gate),
+        Span::All | Span::UpTo { .. } => {
+            let shift = Shift {
+                lanes,
+                trace,
+                groups,
+                gate,
+                span,
+            };
+            work_on(rt, alloc, board, seat, &shift)
+        }
+    }
+}
+
+/// All pieces and all seats, where every worker came to its end.
+pub(crate) fn gathered<L: Lanes>(
+    alloc: Global,
+    board: &ClaimBoard,
+    results: Vec<Worked>,
+    lanes: &L,
+    trace: &Trace,
+    groups: &Groups,
+    span: Span,
+) -> Result<(Vec<(u32, Piece)>, Vec<ClaimSeat>), AllocError>
+    requires { All (λ r. IfOk r
+        (IsWork (Gives span (L.runs lanes.now) groups.now trace.now) board.now)) results.items }
+    ensures len { IfOk result (λ r. vec_len r.1 ≡ vec_len results) }
+    ensures parts { IfOk result (λ r. AreParts
+        (IsWork (Gives span (L.runs lanes.now) groups.now trace.now) board.now)
+        r.0.items r.1.items) }
+{
+    let mut pieces = Vec::new(alloc);
+    let mut seats = Vec::new(alloc);
+    for worked in results {
+        let (mut part, seat) = worked?;
+        pieces.append(&mut part)?;
+        seats.push(seat)?;
+    }
+    Ok((pieces, seats))
+}

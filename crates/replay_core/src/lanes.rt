@@ -1,0 +1,26 @@
+//! Where lanes come from.
+
+ghost use Rattle.std.specs.Prelude.{IfOk, IsFalse, []};
+
+use crate::engine::Engine;
+use std::alloc::{AllocError, Global};
+
+/// Gives fresh lanes of one script.
+pub trait Lanes {
+    ghost use Rattle.d_types.specs.Typed.{ScriptMeant};
+    ghost use Rattle.replay_core.specs.Running.{IsLaneOf};
+
+    type Lane: Engine + Drop + Send;
+
+    /// What its lanes run means this.
+    ghost runs: { Self → ScriptMeant → Type 0 };
+
+    /// A lane that has run no firing.
+    fn lane(&self, alloc: Global) -> Result<Self::Lane, AllocError>
+        requires { (m : ScriptMeant) × runs self.now m }
+        ensures script { IfOk result
+            (λ l. (m : ScriptMeant) → runs self.now m → Self.Lane.runs l m) }
+        ensures fresh { IfOk result
+            (λ l. (m : ScriptMeant) → Self.Lane.runs l m → IsLaneOf m [] (Self.Lane.seen l)) }
+        ensures unspent { IfOk result (λ l. IsFalse (Self.Lane.is_spent l)) };
+}

@@ -1,0 +1,55 @@
+//! One round: every group by one of the workers.
+
+ghost use Rattle.std.specs.Prelude.{◌≡◌, ◌<◌, ◌≤◌, IfOk, vec_len};
+ghost use Rattle.shard_queue.specs.Groups.{grouping};
+ghost use Rattle.replay_core.specs.Crews.{Gives, IsRound};
+ghost use Rattle.replay_core.specs.Working.{IsReady};
+
+use crate::crew::{gathered, in_threads};
+use crate::gate::Gate;
+use crate::lanes::Lanes;
+use crate::piece::Piece;
+use crate::span::Span;
+use firing_reader::Trace;
+use shard_queue::{ClaimBoard, Groups};
+use std::alloc::{AllocError, Global};
+use std::sync::Wait;
+use std::thread::Threads;
+
+/// What a round gave: the pieces, each with its group, the groups that each worker took, and the
+/// least number that one lowered.
+#[derive(Drop)]
+pub(crate) struct Round {
+    pub(crate) pieces: Vec<(u32, Piece)>,
+    pub(crate) lists: Vec<Vec<u32>>,
+    pub(crate) least: u64,
+}
+
+/// Runs so many workers over all groups.
+pub(crate) fn in_round<R: Threads + Wait + Sync, L: Lanes + Sync, G: Gate + Sync>(
+    rt: &R,
+    alloc: Global,
+    lanes: &L,
+    trace: &Trace,
+    groups: &Groups,
+    workers: u32,
+    gate: &G,
+    span: Span,
+) -> Result<Round, AllocError>
+    requires ready { IsReady (L.runs lanes.now) groups.now trace.now }
+    requires few { (grouping groups.now).count ≤ 4097 }
+    requires workers { (0 < workers) × (workers ≤ 16) }
+    ensures lists { IfOk result (λ r. vec_len r.lists ≡ workers) }
+    ensures round { IfOk result (IsRound
+        (Gives span (L.runs lanes.now) groups.now trace.now) (grouping groups.now).count) }
+{
+    let (board, seats) = ClaimBoard::open(alloc, groups.len() as u32, workers as usize)?;
+    let results = in_threads(rt, alloc, &board, seats, lanes, trace, groups, gate, span)?;
+    let (pieces, seats) = gathered(alloc, &board, results, lanes, trace, groups, span)?;
+    let closed = board.close(alloc, seats)?;
+    Ok(Round {
+        pieces,
+        lists: closed.lists,
+        least: closed.least,
+    })
+}

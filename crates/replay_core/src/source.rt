@@ -1,0 +1,115 @@
+//! Where workers get their groups.
+
+ghost use Rattle.std.specs.Prelude.{◌≡◌, ℕ, ◌<◌, ◌≤◌, min, Bool, true, List, [], ◌∷◌, ◌++◌, Contains, IfSome, IfNone};
+
+use shard_queue::{ClaimBoard, ClaimSeat, GroupQueue, QueueSeat};
+use std::sync::Wait;
+
+/// Hands out the numbers below its end, each once.
+pub trait Source {
+    type Seat;
+
+    /// The numbers are below this.
+    ghost end: { Self → ℕ };
+
+    /// The seat is at this source.
+    ghost is_at: { Self → Self.Seat → Type 0 };
+
+    /// What a seat was given.
+    ghost list: { Self.Seat → List ℕ };
+
+    /// Whether a seat was told the end.
+    ghost told: { Self.Seat → Bool };
+
+    /// The least number that a seat lowered, 2^64 - 1 without any.
+    ghost lowered: { Self.Seat → ℕ };
+
+    /// The least number that a seat was shown, 2^64 - 1 without any.
+    ghost seen: { Self.Seat → ℕ };
+
+    /// The next number, which no seat had before, or `None` at the end.
+    fn take<R: Wait>(&self, rt: &R, seat: &mut Self::Seat) -> Option<u32>
+        requires { is_at self.now seat.old }
+        ensures seat { is_at self.now seat.new }
+        ensures some { IfSome result (λ g. (g < end self.now) × ¬ (Contains (list seat.old) g)
+            × (list seat.new ≡ list seat.old ++ g ∷ [])) }
+        ensures none { IfNone result ((told seat.new ≡ true) × (list seat.new ≡ list seat.old)) }
+        ensures least { (lowered seat.new ≡ lowered seat.old) × (seen seat.new ≡ seen seat.old) };
+}
+
+/// A source whose seats also share the least number that any of them lowered.
+pub trait Exits: Source {
+    /// The least number becomes the lesser of itself and this one.
+    fn lower(&self, seat: &mut Self::Seat, number: u64)
+        requires { Self.is_at self.now seat.old }
+        ensures seat { Self.is_at self.now seat.new }
+        ensures lowered { Self.lowered seat.new ≡ min (Self.lowered seat.old) number }
+        ensures seen { Self.seen seat.new ≡ Self.seen seat.old }
+        ensures others { (Self.list seat.new ≡ Self.list seat.old)
+            × (Self.told seat.new ≡ Self.told seat.old) };
+
+    /// The least number, which is no more than what this seat lowered or was shown.
+    fn least(&self, seat: &mut Self::Seat) -> u64
+        requires { Self.is_at self.now seat.old }
+        ensures seat { Self.is_at self.now seat.new }
+        ensures own { (result ≤ Self.lowered seat.old) × (result ≤ Self.seen seat.old) }
+        ensures lowered { Self.lowered seat.new ≡ Self.lowered seat.old }
+        ensures seen { Self.seen seat.new ≡ result }
+        ensures others { (Self.list seat.new ≡ Self.list seat.old)
+            × (Self.told seat.new ≡ Self.told seat.old) };
+}
+
+impl Source for ClaimBoard {
+    ghost use Rattle.shard_queue.specs.Boards.{IsAt, lowered, seen};
+
+    type Seat = ClaimSeat;
+
+    ghost end = { λ board. board.end };
+
+    ghost is_at = { IsAt };
+
+    ghost list = { λ seat. seat.taken.items };
+
+    ghost told = { λ seat. seat.told };
+
+    ghost lowered = { lowered };
+
+    ghost seen = { seen };
+
+    fn take<R: Wait>(&self, _rt: &R, seat: &mut ClaimSeat) -> Option<u32> {
+        self.claim(seat)
+    }
+}
+
+impl Exits for ClaimBoard {
+    fn lower(&self, seat: &mut ClaimSeat, number: u64) {
+        ClaimBoard::lower(self, seat, number)
+    }
+
+    fn least(&self, seat: &mut ClaimSeat) -> u64 {
+        ClaimBoard::least(self, seat)
+    }
+}
+
+impl Source for GroupQueue {
+    ghost use Rattle.shard_queue.specs.Queues.{IsIn};
+    ghost use Rattle.shard_queue.specs.Least.{no_number};
+
+    type Seat = QueueSeat;
+
+    ghost end = { λ queue. queue.end };
+
+    ghost is_at = { IsIn };
+
+    ghost list = { λ seat. seat.taken.items };
+
+    ghost told = { λ seat. seat.told };
+
+    ghost lowered = { λ seat. no_number };
+
+    ghost seen = { λ seat. no_number };
+
+    fn take<R: Wait>(&self, rt: &R, seat: &mut QueueSeat) -> Option<u32> {
+        GroupQueue::take(self, rt, seat)
+    }
+}

@@ -1,0 +1,31 @@
+//! Which firings of a run count.
+
+ghost use Rattle.std.specs.Prelude.{◌≡◌};
+
+use firing_reader::Firing;
+
+/// Which firings of a run count.
+#[derive(Clone, Copy)]
+pub(crate) enum Span {
+    /// All of them.
+    All,
+    /// Those up to a number, and END, which has the other number.
+    UpTo { last: u64, end: u64 },
+    /// Of each group those up to its first that exits, or to the first exit that another worker
+    /// found.
+    UntilExit,
+}
+
+impl Span {
+    ghost use Rattle.replay_core.specs.Working.{is_in};
+
+    /// Whether a firing counts.
+    pub(crate) fn has(self, firing: &Firing) -> bool
+        ensures { result ≡ is_in self firing.now }
+    {
+        match self {
+            Span::All | Span::UntilExit => true,
+            Span::UpTo { last, end } => firing.number <= last || firing.number == end,
+        }
+    }
+}

@@ -1,0 +1,125 @@
+//! One worker that watches for exits.
+
+ghost use Rattle.std.specs.Prelude.{◌≡◌, ◌<◌, ◌≤◌, true, [], List, map, length, All, IfOk, OnOk, IsFalse};
+ghost use Rattle.d_types.specs.Typed.{ScriptMeant};
+ghost use Rattle.firing_reader.specs.Ends.{with_ends};
+ghost use Rattle.shard_queue.specs.Groups.{AreOf, grouping};
+ghost use Rattle.shard_queue.specs.Least.{no_number};
+ghost use Rattle.shard_queue.specs.Threads.{run_threads};
+ghost use Rattle.replay_core.specs.Beginnings.{AreBegun, IsBegunOf, RunsBeginning, least_exit, lowered_by};
+ghost use Rattle.replay_core.specs.Running.{IsLaneOf};
+ghost use Rattle.replay_core.specs.Seen.{IsRoomy};
+ghost use Rattle.replay_core.specs.Working.{firings_at};
+
+use crate::engine::Engine;
+use crate::gate::Gate;
+use crate::lanes::Lanes;
+use crate::piece::Piece;
+use crate::run_firings::firing_at;
+use crate::source::Exits;
+use firing_reader::Trace;
+use shard_queue::Groups;
+use std::alloc::{AllocError, Global};
+use std::sync::Wait;
+
+/// Takes groups until it is told the end, and makes a piece of a beginning of each. A beginning ends
+/// after a firing that exits, and before one whose number is over the least that a worker found to
+/// exit.
+pub fn work_until<R: Wait, S: Exits, L: Lanes, G: Gate>(
+    rt: &R,
+    alloc: Global,
+    source: &S,
+    mut seat: S::Seat,
+    lanes: &L,
+    trace: &Trace,
+    groups: &Groups,
+    gate: &G,
+) -> Result<(Vec<(u32, Piece)>, S::Seat), AllocError>
+where
+    S::Seat: Drop,
+    requires seat { S.is_at source.now seat × (S.list seat ≡ []) }
+    requires new { S.lowered seat ≡ no_number }
+    requires end { S.end source.now ≡ (grouping groups.now).count }
+    requires script { (m : ScriptMeant) × L.runs lanes.now m }
+    requires groups { AreOf groups.now (run_threads trace.now) }
+    ensures seat { IfOk result (λ r. S.is_at source.entry.now r.1 × (S.told r.1 ≡ true)) }
+    ensures groups { IfOk result (λ r. map (λ p. p.0) r.0.items ≡ S.list r.1) }
+    ensures pieces { IfOk result (λ r. AreBegun (L.runs lanes.entry.now) (S.seen r.1)
+        (grouping groups.entry.now)
+        (with_ends trace.entry.now trace.entry.now) r.0.items) }
+    ensures least { IfOk result (λ r. S.lowered r.1 ≡ least_exit r.0.items) }
+{
+    let mut pieces = Vec::new(alloc);
+    for _ in rt.forever() {
+        let Some(group) = source.take(rt, &mut seat) else {
+            return Ok((pieces, seat));
+        };
+        gate.begun(group);
+        let piece = piece_until(alloc, source, &mut seat, lanes, trace, groups, group)?;
+        pieces.push((group, piece))?;
+    }
+    unreachable!()
+}
+
+// What a beginning of a group's firings makes.
+fn piece_until<S: Exits, L: Lanes>(
+    alloc: Global,
+    source: &S,
+    seat: &mut S::Seat,
+    lanes: &L,
+    trace: &Trace,
+    groups: &Groups,
+    group: u32,
+) -> Result<Piece, AllocError>
+    requires seat { S.is_at source.now seat.old }
+    requires group { group < (grouping groups.now).count }
+    requires script { (m : ScriptMeant) × L.runs lanes.now m }
+    requires groups { AreOf groups.now (run_threads trace.now) }
+    ensures seat { OnOk result (S.is_at source.now seat.new × (S.list seat.new ≡ S.list seat.old)) }
+    ensures seen { OnOk result (S.seen seat.new ≤ S.seen seat.old) }
+    ensures piece { IfOk result (λ p. (m : ScriptMeant) → L.runs lanes.now m
+        → IsBegunOf m (S.seen seat.new) (grouping groups.now)
+        (with_ends trace.now trace.now) (group, p)) }
+    ensures roomy { IfOk result IsRoomy }
+    ensures least { IfOk result (λ p. S.lowered seat.new ≡ lowered_by (S.lowered seat.old) p.exit) }
+{
+    let mut lane = lanes.lane(alloc)?;
+    run_until(source, seat, &mut lane, trace, groups.places(group))?;
+    Ok(lane.finish())
+}
+
+// Runs a beginning of the firings at these places.
+fn run_until<S: Exits, E: Engine>(
+    source: &S,
+    seat: &mut S::Seat,
+    lane: &mut E,
+    trace: &Trace,
+    places: &[u32],
+) -> Result<(), AllocError>
+    requires seat { S.is_at source.now seat.old }
+    requires script { (m : ScriptMeant) × E.runs lane.old m }
+    requires fresh { (m : ScriptMeant) → E.runs lane.old m → IsLaneOf m [] (E.seen lane.old) }
+    requires unspent { IsFalse (E.is_spent lane.old) }
+    requires places { All (λ place. place < length (with_ends trace.now trace.now)) places.now }
+    requires few { length places.now ≤ length (with_ends trace.now trace.now) }
+    ensures seat { OnOk result (S.is_at source.now seat.new × (S.list seat.new ≡ S.list seat.old)) }
+    ensures seen { OnOk result (S.seen seat.new ≤ S.seen seat.old) }
+    ensures unspent { OnOk result (IsFalse (E.is_spent lane.new)) }
+    ensures run { OnOk result ((m : ScriptMeant) → E.runs lane.old m
+        → RunsBeginning m (S.seen seat.new)
+        (firings_at (with_ends trace.now trace.now) places.now) (E.seen lane.new)) }
+    ensures least { OnOk result ((m : ScriptMeant) → E.runs lane.old m
+        → S.lowered seat.new ≡ lowered_by (S.lowered seat.old) (E.seen lane.new).piece.exit) }
+{
+    for place in places {
+        let firing = firing_at(trace, *place);
+        if source.least(seat) < firing.number {
+            return Ok(());
+        }
+        if lane.fire(&firing)? {
+            source.lower(seat, firing.number);
+            return Ok(());
+        }
+    }
+    Ok(())
+}

@@ -1,0 +1,160 @@
+//! One worker.
+
+ghost use Rattle.std.specs.Prelude.{◌≡◌, ◌<◌, ◌≤◌, ◌∷◌, ◌++◌, true, [], List, map, filter, length, All, IfOk, OnOk, IsFalse};
+ghost use Rattle.d_types.specs.Typed.{ScriptMeant};
+ghost use Rattle.firing_reader.specs.declared.firing.Firing.{Firing};
+ghost use Rattle.firing_reader.specs.Ends.{with_ends};
+ghost use Rattle.firing_reader.specs.Firings.{HasRanges};
+ghost use Rattle.shard_queue.specs.Groups.{AreOf, grouping};
+ghost use Rattle.shard_queue.specs.Threads.{run_threads};
+ghost use Rattle.replay_core.specs.Running.{IsLaneOf};
+ghost use Rattle.replay_core.specs.Seen.{IsRoomy};
+ghost use Rattle.replay_core.specs.Working.{AreOfGroups, IsOfGroup, IsReady, firings_at, firings_in, is_in};
+
+use crate::engine::Engine;
+use crate::gate::Gate;
+use crate::lanes::Lanes;
+use crate::piece::Piece;
+use crate::run_firings::firing_at;
+use crate::source::Source;
+use crate::span::Span;
+use firing_reader::{Firing, Trace};
+use shard_queue::Groups;
+use std::alloc::{AllocError, Global};
+use std::sync::Wait;
+
+/// Takes groups until it is told the end, and makes a piece of each: what the script makes of BEGIN,
+/// the rows and END on the group's threads.
+pub fn work<R: Wait, S: Source, L: Lanes, G: Gate>(
+    rt: &R,
+    alloc: Global,
+    source: &S,
+    seat: S::Seat,
+    lanes: &L,
+    trace: &Trace,
+    groups: &Groups,
+    gate: &G,
+) -> Result<(Vec<(u32, Piece)>, S::Seat), AllocError>
+where
+    S::Seat: Drop,
+    requires seat { S.is_at source.now seat × (S.list seat ≡ []) }
+    requires end { S.end source.now ≡ (grouping groups.now).count }
+    requires script { (m : ScriptMeant) × L.runs lanes.now m }
+    requires groups { AreOf groups.now (run_threads trace.now) }
+    ensures seat { IfOk result (λ r. S.is_at source.entry.now r.1 × (S.told r.1 ≡ true)) }
+    ensures groups { IfOk result (λ r. map (λ p. p.0) r.0.items ≡ S.list r.1) }
+    ensures pieces { IfOk result (λ r. AreOfGroups (L.runs lanes.entry.now)
+        (grouping groups.entry.now)
+        (with_ends trace.entry.now trace.entry.now) r.0.items) }
+{
+    let shift = Shift {
+        lanes,
+        trace,
+        groups,
+        gate,
+        span: Span::All,
+    };
+    let made = work_on(rt, alloc, source, seat, &shift)?;
+    Ok(made)
+}
+
+/// What each worker of a run is lent: the script's lanes, the trace and its groups, the gate, and
+/// which firings count.
+#[derive(Drop)]
+pub(crate) struct Shift<'a, L, G> {
+    pub(crate) lanes: &'a L,
+    pub(crate) trace: &'a Trace,
+    pub(crate) groups: &'a Groups,
+    pub(crate) gate: &'a G,
+    pub(crate) span: Span,
+}
+
+/// Takes groups until it is told the end, and makes a piece of each.
+pub(crate) fn work_on<R: Wait, S: Source, L: Lanes, G: Gate>(
+    rt: &R,
+    alloc: Global,
+    source: &S,
+    mut seat: S::Seat,
+    shift: &Shift<L, G>,
+) -> Result<(Vec<(u32, Piece)>, S::Seat), AllocError>
+where
+    S::Seat: Drop,
+    requires seat { S.is_at source.now seat × (S.list seat ≡ []) }
+    requires end { S.end source.now ≡ (grouping shift.now.groups.now).count }
+    requires ready { IsReady (L.runs shift.now.lanes.now) shift.now.groups.now shift.now.trace.now }
+    ensures seat { IfOk result (λ r. S.is_at source.entry.now r.1 × (S.told r.1 ≡ true)) }
+    ensures groups { IfOk result (λ r. map (λ p. p.0) r.0.items ≡ S.list r.1) }
+    ensures pieces { IfOk result (λ r. AreOfGroups (L.runs shift.entry.now.lanes.now)
+        (grouping shift.entry.now.groups.now)
+        (firings_in shift.entry.now.span shift.entry.now.trace.now) r.0.items) }
+{
+    let mut pieces = Vec::new(alloc);
+    for _ in rt.forever() {
+        let Some(group) = source.take(rt, &mut seat) else {
+            return Ok((pieces, seat));
+        };
+        shift.gate.begun(group);
+        let piece = shift.piece_of(alloc, group)?;
+        pieces.push((group, piece))?;
+    }
+    unreachable!()
+}
+
+impl<'a, L: Lanes, G> Shift<'a, L, G> {
+    // What the firings of a group make that count.
+    fn piece_of(&self, alloc: Global, group: u32) -> Result<Piece, AllocError>
+        requires group { group < (grouping self.now.groups.now).count }
+        requires ready { IsReady
+            (L.runs self.now.lanes.now) self.now.groups.now self.now.trace.now }
+        ensures piece { IfOk result (λ p. (m : ScriptMeant) → L.runs self.now.lanes.now m
+            → IsOfGroup m (grouping self.now.groups.now)
+            (firings_in self.now.span self.now.trace.now) (group, p)) }
+        ensures roomy { IfOk result IsRoomy }
+    {
+        let places = self.groups.places(group);
+        let lane = run_at(self.lanes.lane(alloc)?, self.trace, places, self.span)?;
+        Ok(lane.finish())
+    }
+}
+
+// Runs those of the firings at these places that count.
+fn run_at<E: Engine + Drop>(
+    mut lane: E,
+    trace: &Trace,
+    places: &[u32],
+    span: Span,
+) -> Result<E, AllocError>
+    requires script { (m : ScriptMeant) × E.runs lane m }
+    requires fresh { (m : ScriptMeant) → E.runs lane m → IsLaneOf m [] (E.seen lane) }
+    requires unspent { IsFalse (E.is_spent lane) }
+    requires places { All (λ place. place < length (with_ends trace.now trace.now)) places.now }
+    requires few { length places.now ≤ length (with_ends trace.now trace.now) }
+    ensures script { IfOk result (λ l. (m : ScriptMeant) → E.runs lane m → E.runs l m) }
+    ensures unspent { IfOk result (λ l. IsFalse (E.is_spent l)) }
+    ensures run { IfOk result (λ l. (m : ScriptMeant) → E.runs lane m
+        → IsLaneOf m (filter (is_in span)
+        (firings_at (with_ends trace.now trace.now) places.now)) (E.seen l)) }
+{
+    for place in places {
+        run_one(&mut lane, &firing_at(trace, *place), span)?;
+    }
+    Ok(lane)
+}
+
+// Runs a firing, if it counts.
+fn run_one<E: Engine>(lane: &mut E, firing: &Firing, span: Span) -> Result<(), AllocError>
+    requires ranges { HasRanges firing.now }
+    requires few { length (E.seen lane.old).piece.taken < 1_000_002 }
+    requires unspent { IsFalse (E.is_spent lane.old) }
+    ensures script { (m : ScriptMeant) → E.runs lane.old m → E.runs lane.new m }
+    ensures unspent { OnOk result (IsFalse (E.is_spent lane.new)) }
+    ensures run { OnOk result ((m : ScriptMeant) (before : List Firing) → E.runs lane.old m
+        → IsLaneOf m before (E.seen lane.old)
+        → IsLaneOf m (before ++ filter (is_in span) (firing.now ∷ [])) (E.seen lane.new)) }
+{
+    if !span.has(firing) {
+        return Ok(());
+    }
+    let _ = lane.fire(firing)?;
+    Ok(())
+}

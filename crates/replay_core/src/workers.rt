@@ -1,0 +1,104 @@
+//! A run by several workers.
+
+ghost use Rattle.std.specs.Prelude.{◌≡◌, ◌<◌, ◌≤◌, IfOk, vec_len};
+ghost use Rattle.std.specs.List.{flat_map};
+ghost use Rattle.d_types.specs.Typed.{ScriptMeant};
+ghost use Rattle.firing_reader.specs.Trace.{IsTrace};
+ghost use Rattle.shard_queue.specs.Groups.{AreOf, grouping};
+ghost use Rattle.shard_queue.specs.Threads.{run_threads};
+ghost use Rattle.replay_core.specs.Crews.{IsRun};
+ghost use Rattle.replay_core.specs.Exit.{firings_over};
+ghost use Rattle.replay_core.specs.Groups.{IsAllBelow};
+ghost use Rattle.replay_core.specs.Pieces.{IsWholeOf, RunsEachOnce};
+ghost use Rattle.replay_core.specs.Seen.{whole_seen};
+ghost use Rattle.replay_core.specs.Working.{IsReady};
+
+use crate::collect_fault::CollectFault;
+use crate::collector::collect;
+use crate::gate::Gate;
+use crate::lanes::Lanes;
+use crate::round::{Round, in_round};
+use crate::span::Span;
+use crate::whole::Whole;
+use firing_reader::Trace;
+use shard_queue::Groups;
+use std::alloc::{AllocError, Global};
+use std::sync::Wait;
+use std::thread::Threads;
+
+/// What a run by several workers gave.
+#[derive(Drop)]
+pub struct Ran {
+    /// What the run made.
+    pub whole: Whole,
+    /// The groups that each worker took.
+    pub by_worker: Vec<Vec<u32>>,
+}
+
+/// Runs a script over a trace by so many workers, each group by one of them, and makes one whole of
+/// what they made. Where a firing exits, the run ends with the first that does, and END.
+pub fn run_all<R: Threads + Wait + Sync, L: Lanes + Sync, G: Gate + Sync>(
+    rt: &R,
+    alloc: Global,
+    lanes: &L,
+    trace: &Trace,
+    groups: &Groups,
+    workers: u32,
+    gate: &G,
+) -> Result<Ran, AllocError>
+    requires script { (m : ScriptMeant) × L.runs lanes.now m }
+    requires groups { AreOf groups.now (run_threads trace.now) }
+    requires few { (grouping groups.now).count ≤ 4097 }
+    requires workers { (0 < workers) × (workers ≤ 16) }
+    ensures whole { IfOk result (λ r. (m : ScriptMeant) → L.runs lanes.now m
+        → IsWholeOf m (firings_over m trace.now) (grouping groups.now) (whole_seen r.whole)) }
+    ensures once { IfOk result (λ r. (m : ScriptMeant) → L.runs lanes.now m
+        → RunsEachOnce (firings_over m trace.now) (whole_seen r.whole)) }
+    ensures workers { IfOk result (λ r. vec_len r.by_worker ≡ workers) }
+    ensures taken { IfOk result (λ r. IsAllBelow (grouping groups.now).count
+        (flat_map (λ list. list.items) r.by_worker.items)) }
+{
+    let round = in_rounds(rt, alloc, lanes, trace, groups, workers, gate)?;
+    match collect(alloc, round.pieces, groups.len() as u32) {
+        Ok(whole) => Ok(Ran {
+            whole,
+            by_worker: round.lists,
+        }),
+        Err(CollectFault::Memory) => Err(AllocError),
+        Err(CollectFault::Twice { group: _ }) => unreachable!(),
+        Err(CollectFault::Stranger { group: _ }) => unreachable!(),
+        Err(CollectFault::Missing { group: _ }) => unreachable!(),
+    }
+}
+
+// One round, in which workers watch for exits. Where a firing exits, a second one over the firings
+// up to the first that does, and END.
+fn in_rounds<R: Threads + Wait + Sync, L: Lanes + Sync, G: Gate + Sync>(
+    rt: &R,
+    alloc: Global,
+    lanes: &L,
+    trace: &Trace,
+    groups: &Groups,
+    workers: u32,
+    gate: &G,
+) -> Result<Round, AllocError>
+    requires ready { IsReady (L.runs lanes.now) groups.now trace.now }
+    requires few { (grouping groups.now).count ≤ 4097 }
+    requires workers { (0 < workers) × (workers ≤ 16) }
+    ensures workers { IfOk result (λ r. vec_len r.lists ≡ workers) }
+    ensures trace { IfOk result (λ _. IsTrace trace.now) }
+    ensures run { IfOk result (IsRun (L.runs lanes.now) groups.now trace.now) }
+{
+    let end = trace.firings().last_number() + 1;
+    let until = Span::UntilExit;
+    let first = in_round(rt, alloc, lanes, trace, groups, workers, gate, until)?;
+    if first.least == u64::MAX {
+        return Ok(first);
+    }
+    let counted = Span::UpTo {
+        last: first.least,
+        end,
+    };
+    let second = in_round(rt, alloc, lanes, trace, groups, workers, gate, counted)?;
+    Ok(second)
+}
