@@ -9,7 +9,7 @@
 #                   completions and examples in PREFIX/share; it builds nothing if the program is there
 #   make uninstall  removes all of that
 #   make dist       packs it into an archive and a Debian package in dist/, which need no toolchain
-#   make bench      measures it beside mawk, and the lexer, the parser and a thread's variables alone
+#   make bench      measures it beside mawk, and the lexer, the parser, the reader and a thread's variables alone
 #   make clean      removes what was built and proved
 #   make help       prints this
 
@@ -92,6 +92,7 @@ bench: build
 	@bench/run
 	@bench/lexer/run
 	@bench/parser/run
+	@bench/reading/run
 	@bench/variables/run
 
 clean:

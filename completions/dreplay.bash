@@ -4,7 +4,7 @@ _dreplay_words() { mapfile -t COMPREPLY < <(compgen -W "$1" -- "$2"); }
 _dreplay() {
     local word=${COMP_WORDS[COMP_CWORD]} before=${COMP_WORDS[COMP_CWORD - 1]} tool=${COMP_WORDS[0]##*/} options
     case $tool in
-    dreplay) options='-s -h --help' ;;
+    dreplay) options='-s -w -g -e -h --help' ;;
     dreplay-from-strace) options='-n --name --only --since --rows --threads -h --help' ;;
     dreplay-from-perf | dreplay-from-ftrace) options='-h --help' ;;
     dreplay-record) options='-o -p -e --raw --keep --rows -h --help' ;;
@@ -15,7 +15,8 @@ _dreplay() {
     dreplay-show:-f) _dreplay_words 'table csv json markdown bars svg' "$word"; return ;;
     dreplay-show:--unit | dreplay-show:--value-unit) _dreplay_words 'ns bytes' "$word"; return ;;
     dreplay-record:-p) _dreplay_words "$(cd /proc && echo [0-9]*)" "$word"; return ;;
-    dreplay:-h | dreplay:--help) return ;;
+    dreplay:-e) _dreplay_words 'dif tree' "$word"; return ;;
+    dreplay:-[wgh] | dreplay:--help) return ;;
     esac
     if [[ $word == -* ]]; then
         _dreplay_words "$options" "$word"

@@ -3,6 +3,9 @@ for tool in dreplay dreplay-from-strace dreplay-from-perf dreplay-from-ftrace dr
     complete -c $tool -s h -l help -d 'Write a short help'
 end
 complete -c dreplay -s s -r -d 'Take the script from a file'
+complete -c dreplay -s w -x -d 'Workers, from 1 to 16'
+complete -c dreplay -s g -x -d 'Groups, from 1 to 4096'
+complete -c dreplay -s e -x -a 'dif tree' -d 'What evaluates the script'
 complete -c dreplay-from-strace -s n -l name -x -d 'execname until an execve'
 complete -c dreplay-from-strace -l only -x -d 'These calls alone'
 complete -c dreplay-from-strace -l since -x -d 'Leave out the first seconds'

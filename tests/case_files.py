@@ -50,7 +50,7 @@ def case_of(name, parts, folder):
     """Makes a case of its parts; a part NAME.sh is a script of sh that prints the part NAME."""
     prints = {blocks.stem(part): printed(text, folder) for part, text in parts.items() if part.endswith(".sh")}
     parts = {**parts, **prints}
-    if not {"bundle", "script", "trace", "rows", "words", "run"} & {*parts}:
+    if not {"bundle", "script", "trace", "rows", "words", "plans", "run"} & {*parts}:
         raise blocks.BadCase("the program is given nothing")
     expected = harness.Result(int(parts.get("status", b"0")), parts.get("stdout", b""), parts.get("stderr", b""))
     plans = [shlex.split(line) for line in parts["plans"].decode().splitlines()] if "plans" in parts else harness.PLANS

@@ -1,14 +1,26 @@
 """What the test scripts share: the built programs, one run of a case, and the count of what passed and failed."""
 import argparse
+import itertools
 import os
+import random
 import subprocess
 from dataclasses import dataclass
 
 TOP = os.path.dirname(os.path.dirname(os.path.abspath(__file__)))
 # The gate leaves the program twice: as LLVM builds it, and as Rattle's own compiler does.
 PROGRAMS = [f"{TOP}/crates/dreplay/out/dreplay", f"{TOP}/crates/dreplay/out/dreplay.by-rattle"]
-# The words that the answer doesn't depend on: tests/run, tests/differential and tests/fuzz run the program under each.
-PLANS = [[]]
+
+
+def plans(workers, groups, engines):
+    """The words of each plan of so many workers, so many groups and such an engine."""
+    return [["-w", f"{w}", "-g", f"{g}", "-e", e] for w, g, e in itertools.product(workers, groups, engines)]
+
+
+# The answer doesn't depend on these words. tests/run runs each case under all of them, tests/differential and tests/fuzz run
+# each bundle under the one that drawn_plan draws.
+PLANS = plans((1, 2, 16), (1, 2, 4096), ("dif", "tree"))
+# Enough where a call fails: each engine, with one worker and with two.
+FEW_PLANS = plans((1, 2), (2,), ("dif", "tree"))
 SECONDS = 120
 
 
@@ -40,6 +52,11 @@ class Case:
             words = ["sh", "-c", self.shell, "sh", *words]
         ran = subprocess.run(words, input=self.bundle, capture_output=True, cwd=self.folder, timeout=SECONDS, **how)
         return Result(ran.returncode, ran.stdout, ran.stderr)
+
+
+def drawn_plan(seed, place):
+    """The plan for one place in the list that a seed stands for."""
+    return random.Random(f"{seed} {place} plan").choice(PLANS)
 
 
 def run_name(program, plan=()):

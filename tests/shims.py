@@ -18,12 +18,12 @@ def built(source):
         yield shim
 
 
-def run(case, program, shim, told):
-    """Runs a case with a library that is told what to refuse. Returns what it left, and whether anything was refused."""
+def run(case, program, plan, shim, told):
+    """Runs a case under a plan with a library that is told what to refuse. Returns what it left, and whether anything was refused."""
     reads, writes = os.pipe()
     environment = {**os.environ, "LD_PRELOAD": shim, "REFUSED": str(writes), **told}
     try:
-        result = case.run(program, env=environment, pass_fds=[writes])
+        result = case.run(program, plan, env=environment, pass_fds=[writes])
     finally:
         os.close(writes)
         with os.fdopen(reads, "rb") as refused:

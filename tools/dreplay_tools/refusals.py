@@ -161,8 +161,9 @@ SYSTEM = [
             "A beginning of the answer may have gone out. With `| head` it is no fault.", ()),
 ]
 
-USAGE = Refusal("error", 0, "error:", "", "The command line is wrong: a word that is no option, a `-s` without its file, a second `-s`, or a "
-                "word that isn't UTF-8.", "`dreplay --help` lists the options. The trace comes by `<`: `dreplay -s SCRIPT < TRACE`.", ())
+USAGE = Refusal("error", 0, "error:", "", "The command line is wrong: a word that is no option, an option without its value or given twice, a "
+                "number of workers outside 1 to 16 or of groups outside 1 to 4096, an engine other than `dif` and `tree`, or a word "
+                "that isn't UTF-8.", "`dreplay --help` lists the options. The trace comes by `<`: `dreplay -s SCRIPT < TRACE`.", ())
 
 GROUPS = [
     Group("The command line", 2, "", [USAGE]),
