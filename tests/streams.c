@@ -1,7 +1,7 @@
 // Preloaded into the program under test: its reads of standard input and writes of standard output and standard error fail
 // or are short, as the environment says. READ, WRITE and ERROR are for the descriptors 0, 1 and 2. Each is three numbers: the
-// most bytes that a call takes (0: all), which call fails (0: none), and its errno (0: the call takes nothing). A call that
-// failed is told by one byte on the descriptor REFUSED.
+// most bytes that a call takes (0: all), which call fails (0: none), and its errno (0: the call takes nothing). RANDOM is the
+// same for calls of getentropy. A call that failed is told by one byte on the descriptor REFUSED.
 #define _GNU_SOURCE
 #include <dlfcn.h>
 #include <errno.h>
@@ -13,28 +13,27 @@ struct stream {
     unsigned long most, failing, error, calls;
 };
 
-static struct stream streams[3];
+static struct stream streams[4];
 static ssize_t (*real_read)(int, void *, size_t);
 static ssize_t (*real_write)(int, const void *, size_t);
+static int (*real_getentropy)(void *, size_t);
 
 __attribute__((constructor)) static void start(void)
 {
-    const char *names[] = {"READ", "WRITE", "ERROR"};
-    for (int i = 0; i < 3; i++) {
+    const char *names[] = {"READ", "WRITE", "ERROR", "RANDOM"};
+    for (int i = 0; i < 4; i++) {
         const char *told = getenv(names[i]);
         if (told)
             sscanf(told, "%lu %lu %lu", &streams[i].most, &streams[i].failing, &streams[i].error);
     }
     real_read = (ssize_t(*)(int, void *, size_t))dlsym(RTLD_NEXT, "read");
     real_write = (ssize_t(*)(int, const void *, size_t))dlsym(RTLD_NEXT, "write");
+    real_getentropy = (int (*)(void *, size_t))dlsym(RTLD_NEXT, "getentropy");
 }
 
-// Whether this call of a descriptor fails. Where it doesn't, the size is made as short as it may be.
-static int fails(int fd, size_t *size)
+// Whether this call fails. Where it doesn't, the size is made as short as it may be.
+static int call_fails(struct stream *it, size_t *size)
 {
-    if (fd < 0 || fd > 2)
-        return 0;
-    struct stream *it = &streams[fd];
     if (++it->calls == it->failing) {
         if (real_write(atoi(getenv("REFUSED")), "!", 1) != 1)
             abort();
@@ -44,6 +43,19 @@ static int fails(int fd, size_t *size)
     if (it->most && *size > it->most)
         *size = it->most;
     return 0;
+}
+
+// Whether this call of a descriptor fails.
+static int fails(int fd, size_t *size)
+{
+    return fd >= 0 && fd <= 2 && call_fails(&streams[fd], size);
+}
+
+int getentropy(void *to, size_t size)
+{
+    if (call_fails(&streams[3], &size))
+        return -1;
+    return real_getentropy(to, size);
 }
 
 ssize_t read(int fd, void *to, size_t size)

@@ -1,5 +1,5 @@
 -- Values of lists joined, and of lists with one more argument.
-use Rattle.std.proofs.Common.{◌≡◌, ◌≢◌, ℕ, ◌+◌, List, [], ◌∷◌, ◌++◌, length, refl, sym, ap, ◌∙◌, subst, arith, length-append, sum, map, count_by, Some, None}
+use Rattle.std.proofs.Common.{◌≡◌, ◌≢◌, ◌≤◌, ℕ, ◌+◌, List, [], ◌∷◌, ◌++◌, length, refl, sym, ap, ◌∙◌, subst, arith, length-append, sum, map, count_by, Some, None}
 use Rattle.std.specs.List.{range_with_len}
 use Rattle.std.proofs.lemmas.List.Sums.{sum_by-cons}
 use Rattle.std.specs.Prelude.{ℤ, ◌+ℤ◌, ◌≤ℤ◌, ◌<ℤ◌}
@@ -13,8 +13,8 @@ use Rattle.aggregations.specs.declared.held.Held.{Held}
 use Rattle.aggregations.specs.declared.held.Held.TheVariants.{Counted, Summed, Least, Greatest, Mean, Counts}
 use Rattle.aggregations.specs.Histograms.{Histogram, histogram_of}
 use Rattle.aggregations.specs.Buckets.{HasBuckets, buckets, counts_of, is_in}
-use Rattle.aggregations.specs.Values.{total, IsSum, IsLeast, IsGreatest, IsValue, TakesOne, TakesBoth}
-use Rattle.aggregations.specs.Held.{count_of, number_of}
+use Rattle.aggregations.specs.Values.{total, IsSum, IsLeast, IsGreatest, IsValue, TakesOne, TakesBoth, count_in}
+use Rattle.aggregations.specs.Held.{after, count_of, number_of}
 use Rattle.aggregations.specs.Figures.{figure_of, histogram_in}
 use Rattle.std.proofs.lemmas.Option.{same_Some}
 
@@ -157,6 +157,32 @@ only_counts (Lquantize r) h (Counts x) xs ys none a b = none x refl
 only_counts Quantize h _ xs ys none a b = b
 only_counts (Lquantize r) h _ xs ys none a b = b
 only_counts _ h other xs ys none a b = a
+
+-- ---- what is held after more, where that is no histogram
+
+pub one_after : (p : Held) (x : ℤ) → ((h : Histogram) → p ≡ Counts h → ⊥) → TakesOne p x (after p x 1)
+one_after (Counted n) x number f xs is = counted_noted n x f xs is
+one_after (Summed s) x number f xs is = summed_noted f s x xs is
+one_after (Least m) x number f xs is = smaller_noted f m x xs is
+one_after (Greatest m) x number f xs is = greater_noted f m x xs is
+one_after (Mean m) x number f xs is = mean_noted f m.sum x m.count xs is
+one_after (Counts h) x number f xs is = absurd (number h refl)
+
+pub both_after : (p q : Held) → ((h : Histogram) → p ≡ Counts h → ⊥) → TakesBoth p q (after p (number_of q) (count_of q))
+both_after (Counted n) q number f xs ys a b = counted_joined f n q xs ys a b
+both_after (Summed s) q number f xs ys a b = summed_joined f s q xs ys a b
+both_after (Least m) q number f xs ys a b = smaller_joined f m q xs ys a b
+both_after (Greatest m) q number f xs ys a b = greater_joined f m q xs ys a b
+both_after (Mean m) q number f xs ys a b = mean_joined f m.sum m.count q xs ys a b
+both_after (Counts h) q number f xs ys a b = absurd (number h refl)
+
+pub count_after : (p : Held) (x : ℤ) (k : ℕ) → count_in (after p x k) ≤ count_in p + k
+count_after (Counted n) x k = omega arith
+count_after (Summed s) x k = omega arith
+count_after (Least m) x k = omega arith
+count_after (Greatest m) x k = omega arith
+count_after (Mean m) x k = omega arith
+count_after (Counts h) x k = omega arith
 
 -- ---- there is a value
 

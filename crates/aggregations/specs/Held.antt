@@ -1,5 +1,6 @@
 -- The one count and the one number of what is held.
-use Rattle.std.specs.Prelude.{ℕ, ℤ, pos}
+use Rattle.std.specs.Prelude.{ℕ, ◌+◌, ℤ, pos, ◌+ℤ◌}
+use Rattle.std.specs.Int.{int_wrap, int_min, int_max, w64}
 use Rattle.aggregations.specs.declared.held.Held.{Held}
 use Rattle.aggregations.specs.declared.held.Held.TheVariants.{
   Counted,
@@ -27,3 +28,14 @@ number_of (Least m) = m
 number_of (Greatest m) = m
 number_of (Mean m) = m.sum
 number_of (Counts h) = pos 0
+
+-- what is held after so many arguments more, of which this is the number; a histogram takes them by
+-- itself
+abbrev pub after : Held → ℤ → ℕ → Held
+after (Counted n) number count = Counted (n + count)
+after (Summed s) number count = Summed (int_wrap w64 (s +ℤ number))
+after (Least m) number count = Least (int_min m number)
+after (Greatest m) number count = Greatest (int_max m number)
+after (Mean m) number count =
+    Mean (record { sum = int_wrap w64 (m.sum +ℤ number); count = m.count + count })
+after (Counts h) number count = Counts h

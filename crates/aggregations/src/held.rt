@@ -1,6 +1,6 @@
 //! What an entry holds of its arguments.
 
-ghost use Rattle.std.specs.Prelude.{◌≡◌, option_copied};
+ghost use Rattle.std.specs.Prelude.{◌≡◌, ◌+◌, ◌≤◌, ◌^◌, option_copied};
 ghost use Rattle.aggregations.specs.Figures.{figure_of, histogram_in};
 ghost use Rattle.aggregations.specs.Held as spec;
 
@@ -50,6 +50,24 @@ impl Held {
             Held::Summed(x) | Held::Least(x) | Held::Greatest(x) => *x,
             Held::Mean(mean) => mean.sum,
             Held::Counted(_) | Held::Counts(_) => 0,
+        }
+    }
+
+    // Takes so many arguments more, of which this is the number. A histogram stays as it is.
+    pub(crate) fn take(&mut self, number: i64, count: u64)
+        requires { spec.count_of self.old + count ≤ 2 ^ 52 }
+        ensures { self.new ≡ spec.after self.old number count }
+    {
+        match self {
+            Held::Counted(n) => *n += count,
+            Held::Summed(sum) => *sum = sum.wrapping_add(number),
+            Held::Least(least) => *least = (*least).min(number),
+            Held::Greatest(greatest) => *greatest = (*greatest).max(number),
+            Held::Mean(mean) => {
+                mean.sum = mean.sum.wrapping_add(number);
+                mean.count += count;
+            }
+            Held::Counts(_) => {}
         }
     }
 

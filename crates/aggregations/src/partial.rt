@@ -72,30 +72,11 @@ impl Partial {
         ensures count { count_in self.new ≤ count_in self.old + 1 }
         ensures err { OnErr result (self.new ≡ self.old) }
     {
-        match &mut self.held {
-            Held::Counted(n) => {
-                *n += 1;
-                Ok(())
-            }
-            Held::Summed(sum) => {
-                *sum = sum.wrapping_add(arg);
-                Ok(())
-            }
-            Held::Least(least) => {
-                *least = (*least).min(arg);
-                Ok(())
-            }
-            Held::Greatest(greatest) => {
-                *greatest = (*greatest).max(arg);
-                Ok(())
-            }
-            Held::Mean(mean) => {
-                mean.sum = mean.sum.wrapping_add(arg);
-                mean.count += 1;
-                Ok(())
-            }
-            Held::Counts(histogram) => histogram.note(arg),
+        if let Held::Counts(histogram) = &mut self.held {
+            return histogram.note(arg);
         }
+        self.held.take(arg, 1);
+        Ok(())
     }
 
     // Takes the arguments of another entry of the function too.
@@ -105,33 +86,14 @@ impl Partial {
         ensures count { count_in self.new ≤ count_in self.old + count_in other.now }
     {
         let other = &other.held;
-        match &mut self.held {
-            Held::Counted(n) => {
-                *n += other.count();
-                Ok(())
-            }
-            Held::Summed(sum) => {
-                *sum = sum.wrapping_add(other.number());
-                Ok(())
-            }
-            Held::Least(least) => {
-                *least = (*least).min(other.number());
-                Ok(())
-            }
-            Held::Greatest(greatest) => {
-                *greatest = (*greatest).max(other.number());
-                Ok(())
-            }
-            Held::Mean(mean) => {
-                mean.sum = mean.sum.wrapping_add(other.number());
-                mean.count += other.count();
-                Ok(())
-            }
-            Held::Counts(histogram) => match other.histogram() {
+        if let Held::Counts(histogram) = &mut self.held {
+            return match other.histogram() {
                 Some(more) => histogram.join(more),
                 None => Ok(()),
-            },
+            };
         }
+        self.held.take(other.number(), other.count());
+        Ok(())
     }
 
     /// The number that the entry shows. None for a histogram.

@@ -12,13 +12,13 @@ use Rattle.d_lexer.specs.Places.{start, passed, moved, after}
 use Rattle.d_lexer.specs.Faults.{on_line}
 use Rattle.d_lexer.specs.Tokens.{Past, here, past, Spells, End, Clean, Bad, EndsAs, Lexes}
 use Rattle.d_lexer.specs.Lexing.{settle, settled, opens_body, AreTokens, IsFirstFault}
-use Rattle.d_lexer.specs.Spans.{line_behind, Stands, AreInOrder, TellsItsLine}
+use Rattle.d_lexer.specs.Spans.{line_after, IsInPlace, AreInOrder, HasItsLine}
 use Rattle.d_lexer.proofs.Complete.{token_reads, fault_fails}
 
 -- the position is the one behind these bytes
 record IsBehind (before : List ℕ) (pos : Position) : Type 0 where
   at : pos.at ≡ length before
-  line : pos.line ≡ line_behind before
+  line : pos.line ≡ line_after before
 
 one_line : (pos : Position) (b : ℕ) → (passed pos b).line ≡ pos.line + count_by (λ c. eqb c 10) (b ∷ [])
 one_line pos b = by (eqb b 10) where
@@ -61,10 +61,10 @@ past_behind p Then P all from k before {pos = pos} {bytes = bytes} is at low (pa
 
 -- all of them stand in the bytes, in order from this offset on
 record AllStand (all : List ℕ) (from : ℕ) (ts : List Token) : Type 0 where
-  each : AllByRecursion (Stands all) ts
+  each : AllByRecursion (IsInPlace all) ts
   order : AreInOrder from ts
 
-stand_more : (all : List ℕ) (from : ℕ) (t : Token) (ts : List Token) → Stands all t → from ≤ t.start → t.start < t.stop → AllStand all t.stop ts → AllStand all from (t ∷ ts)
+stand_more : (all : List ℕ) (from : ℕ) (t : Token) (ts : List Token) → IsInPlace all t → from ≤ t.start → t.start < t.stop → AllStand all t.stop ts → AllStand all from (t ∷ ts)
 stand_more all from t ts s low nonempty more = record { each = (s, more.each); order = (low, nonempty, more.order) }
 
 stand : (ts : List Token) (end : End) (p : Place) (all before : List ℕ) (pos : Position) (bytes : List ℕ) (from : ℕ) → all ≡ before ++ bytes → IsBehind before pos → from ≤ pos.at →
@@ -90,11 +90,11 @@ at_start : IsBehind [] start
 at_start = record { at = refl; line = refl }
 
 -- settling leaves spans and lines
-settled_stands : (all : List ℕ) (t : Token) (b : Bool) → Stands all t → Stands all (settled t b)
+settled_stands : (all : List ℕ) (t : Token) (b : Bool) → IsInPlace all t → IsInPlace all (settled t b)
 settled_stands all t true s = s
 settled_stands all t false s = record { before = s.before; own = s.own; behind = s.behind; is = s.is; start = s.start; stop = s.stop; line = s.line }
 
-settle_stands : (all : List ℕ) (ts : List Token) → AllByRecursion (Stands all) ts → AllByRecursion (Stands all) (settle ts)
+settle_stands : (all : List ℕ) (ts : List Token) → AllByRecursion (IsInPlace all) ts → AllByRecursion (IsInPlace all) (settle ts)
 settle_stands all [] h = tt
 settle_stands all (t ∷ ts) h = (settled_stands all t (opens_body ts) h.0, settle_stands all ts h.1)
 
@@ -109,26 +109,26 @@ settle_order from (t ∷ ts) h = settled_order from t (opens_body ts) (settle ts
 all_stand : (bytes : List ℕ) (ts : List Token) (end : End) → Lexes Head start bytes ts end → AllStand bytes 0 ts
 all_stand bytes ts end h = stand ts end Head bytes [] start bytes 0 refl at_start (omega arith) h
 
-pub tokens_stand : (bytes : List ℕ) (ts : List Token) → AreTokens bytes ts → AllByRecursion (Stands bytes) ts
-tokens_stand bytes ts a = rw a.2 (settle_stands bytes a.0 (all_stand bytes a.0 Clean a.1).each)
+pub tokens_are_in_place : (bytes : List ℕ) (ts : List Token) → AreTokens bytes ts → AllByRecursion (IsInPlace bytes) ts
+tokens_are_in_place bytes ts a = rw a.2 (settle_stands bytes a.0 (all_stand bytes a.0 Clean a.1).each)
 
 pub tokens_in_order : (bytes : List ℕ) (ts : List Token) → AreTokens bytes ts → AreInOrder 0 ts
 tokens_in_order bytes ts a = rw a.2 (settle_order 0 a.0 (all_stand bytes a.0 Clean a.1).order)
 
 -- ---- faults
 
-told : (ts : List Token) (fault : LexFault) (p : Place) (all before : List ℕ) (pos : Position) (bytes : List ℕ) → all ≡ before ++ bytes → IsBehind before pos → Lexes p pos bytes ts (Bad fault) → TellsItsLine all fault
+told : (ts : List Token) (fault : LexFault) (p : Place) (all before : List ℕ) (pos : Position) (bytes : List ℕ) → all ≡ before ++ bytes → IsBehind before pos → Lexes p pos bytes ts (Bad fault) → HasItsLine all fault
 told [] fault p all before pos bytes is at h =
-    past_behind p (EndsAs p (Bad fault)) (TellsItsLine all fault) all 0
+    past_behind p (EndsAs p (Bad fault)) (HasItsLine all fault) all 0
     (λ b q z cut here_at _ e.
     let r = fault_fails p q z e.0 e.1 in
     record { before = b; first = r.first; behind = r.others; flaw = e.0; is = cut ∙ ap (λ (xs : List ℕ). b ++ xs) r.is; told = e.2 ∙ ap (on_line e.0) here_at.line })
     before is at (omega arith) h
 told (t ∷ ts) fault p all before pos bytes is at h =
-    past_behind p _ (TellsItsLine all fault) all 0
+    past_behind p _ (HasItsLine all fault) all 0
     (λ b q z cut here_at _ e.
     told ts fault (after p t.kind) all (b ++ e.0) (moved q e.0) e.1 (cut_more all b z e.0 e.1 cut e.2) (behind_more b e.0 q here_at) e.7)
     before is at (omega arith) h
 
-pub fault_told : (bytes : List ℕ) (fault : LexFault) → IsFirstFault bytes fault → TellsItsLine bytes fault
-fault_told bytes fault a = told a.0 fault Head bytes [] start bytes refl at_start a.1
+pub fault_has_its_line : (bytes : List ℕ) (fault : LexFault) → IsFirstFault bytes fault → HasItsLine bytes fault
+fault_has_its_line bytes fault a = told a.0 fault Head bytes [] start bytes refl at_start a.1

@@ -1,17 +1,14 @@
 -- The tokens of a script, and why it has none.
 use Rattle.std.specs.Prelude.{◌≡◌, ℕ, ◌<◌, ◌≤◌, ◌⊎◌, Bool, true, false, List, [], ◌∷◌, length}
-use Rattle.d_lexer.specs.Vocabulary.{Token, TokenKind, Head, LexFault}
-use Rattle.d_lexer.specs.declared.token.Mark.TheVariants as mark
-use Rattle.d_lexer.specs.declared.token.TokenKind.TheVariants as kind
-use Rattle.d_lexer.specs.declared.fault.LexFault.TheVariants as faults
-use Rattle.d_lexer.specs.declared.fault.TheConstants.{MOST_BYTES}
-use Rattle.d_lexer.specs.{Places.start, Tokens.Clean, Tokens.Bad, Tokens.Lexes}
+use Rattle.d_lexer.specs.Vocabulary.{Token, TokenKind, Head, LexFault, Mark, MOST_BYTES}
+use Rattle.d_lexer.specs.Places.{start}
+use Rattle.d_lexer.specs.Tokens.{Clean, Bad, Lexes}
 
 -- ---- the closing slash of a predicate
 
 -- the token is an opening brace
 abbrev pub is_brace : TokenKind → Bool
-is_brace (kind.Mark mark.OpenBrace) = true
+is_brace (TokenKind.Mark Mark.OpenBrace) = true
 is_brace t = false
 
 -- the first of the tokens is
@@ -21,12 +18,12 @@ opens_body (t ∷ ts) = is_brace t.kind
 
 -- the token is a slash that was read as the closing one
 abbrev pub is_closing : TokenKind → Bool
-is_closing (kind.Mark mark.ClosingSlash) = true
+is_closing (TokenKind.Mark Mark.ClosingSlash) = true
 is_closing t = false
 
 -- such a slash made a division
 abbrev pub open_kind : TokenKind → TokenKind
-open_kind (kind.Mark mark.ClosingSlash) = kind.Mark mark.Slash
+open_kind (TokenKind.Mark Mark.ClosingSlash) = TokenKind.Mark Mark.Slash
 open_kind t = t
 
 -- a slash of a predicate is the closing one exactly where the next token is an opening brace
@@ -57,7 +54,7 @@ IsLexed bytes ts = (length bytes ≤ MOST_BYTES) × AreTokens bytes ts
 -- the script is too long, or else this is its first fault
 abbrev pub IsRefused : List ℕ → LexFault → Type 0
 IsRefused bytes fault =
-    ((fault ≡ faults.TooLong) × (MOST_BYTES < length bytes))
+    ((fault ≡ LexFault.TooLong) × (MOST_BYTES < length bytes))
     ⊎ ((length bytes ≤ MOST_BYTES) × IsFirstFault bytes fault)
 
 -- each script is one or the other

@@ -1,10 +1,6 @@
 -- Where in the bytes, and in which of the four places.
-use Rattle.std.specs.Prelude.{ℕ, ◌+◌, ◌==◌, Bool, true, false, ◌&&◌, ◌||◌, if◌then◌else◌}
-use Rattle.std.specs.Prelude.{List, [], ◌∷◌}
-use Rattle.d_lexer.specs.Vocabulary.{Mark, TokenKind, Place, Head, Declaration, Predicate, Body}
-use Rattle.d_lexer.specs.Vocabulary.{Position}
-use Rattle.d_lexer.specs.declared.token.Mark.TheVariants as mark
-use Rattle.d_lexer.specs.declared.token.TokenKind.TheVariants as kind
+use Rattle.std.specs.Prelude.{ℕ, ◌+◌, ◌==◌, Bool, true, false, ◌&&◌, ◌||◌, if◌then◌else◌, List, [], ◌∷◌}
+use Rattle.d_lexer.specs.Vocabulary.{Mark, TokenKind, Place, Head, Declaration, Predicate, Body, Position}
 use Rattle.d_lexer.specs.Bytes.{line_feed, hash, is_space, next_is}
 
 -- ---- positions
@@ -47,20 +43,20 @@ is_hash p pos b = is_head p && pos.fresh && b == hash
 
 -- braces, a slash of the head and a semicolon of a declaration lead elsewhere
 abbrev pub after_mark : Place → Mark → Place
-after_mark p mark.OpenBrace = Body
-after_mark p mark.CloseBrace = Head
-after_mark Head mark.Slash = Predicate
-after_mark Declaration mark.Semicolon = Head
+after_mark p Mark.OpenBrace = Body
+after_mark p Mark.CloseBrace = Head
+after_mark Head Mark.Slash = Predicate
+after_mark Declaration Mark.Semicolon = Head
 after_mark p k = p
 
 -- a word of the head is self or this
 abbrev pub after : Place → TokenKind → Place
-after p (kind.Mark k) = after_mark p k
-after Head (kind.Word w) = Declaration
-after Declaration (kind.Word w) = Declaration
-after Predicate (kind.Word w) = Predicate
-after Body (kind.Word w) = Body
-after p (kind.DescriptionRun w) = p
-after p (kind.AggregationName w) = p
-after p (kind.Number n s) = p
-after p (kind.TextConstant w) = p
+after p (TokenKind.Mark k) = after_mark p k
+after Head (TokenKind.Word w) = Declaration
+after Declaration (TokenKind.Word w) = Declaration
+after Predicate (TokenKind.Word w) = Predicate
+after Body (TokenKind.Word w) = Body
+after p (TokenKind.DescriptionRun w) = p
+after p (TokenKind.AggregationName w) = p
+after p (TokenKind.Number n s) = p
+after p (TokenKind.TextConstant w) = p

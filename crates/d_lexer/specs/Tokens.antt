@@ -1,18 +1,10 @@
 -- Which tokens a script has, and which fault.
-use Rattle.std.specs.Prelude.{◌≡◌, ℕ, ◌+◌, ◌≤◌, ◌⊎◌, Bool, true, false, ◌&&◌, ◌||◌, ◌==◌}
-use Rattle.std.specs.{Prelude.Some, Prelude.None, Prelude.List, Prelude.[], Prelude.◌∷◌}
-use Rattle.std.specs.{Prelude.◌++◌, Prelude.length, Prelude.codes, List.AllByRecursion}
-use Rattle.std.specs.{Char.is_ascii_digit}
-use Rattle.d_lexer.specs.Vocabulary.{Mark, Token, TokenKind, Place, Head, Declaration, Predicate}
-use Rattle.d_lexer.specs.Vocabulary.{Body, Position, Flaw, LexFault}
-use Rattle.d_lexer.specs.declared.token.TokenKind.TheVariants as kind
-use Rattle.d_lexer.specs.declared.fault.Flaw.TheVariants as flaw
-use Rattle.d_lexer.specs.Bytes.{line_feed, quote, hash, star, slash, at_sign, backslash, underscore}
-use Rattle.d_lexer.specs.Bytes.{next_is, is_blank, is_word_start, is_word_byte, is_run_byte}
-use Rattle.d_lexer.specs.Bytes.{is_inside, is_plain, begins_comment, escape_of, is_declaring}
-use Rattle.d_lexer.specs.{Numbers.IsNumber, Numbers.IsNoNumber, Marks.mark_of, Places.moved}
-use Rattle.d_lexer.specs.{Places.is_head, Places.is_first, Places.is_hash, Places.after}
-use Rattle.d_lexer.specs.{Faults.on_line, OptionLine.IsOptionLine}
+use Rattle.std.specs.Prelude.{◌≡◌, ℕ, ◌+◌, ◌≤◌, ◌⊎◌, Bool, true, false, ◌&&◌, ◌||◌, ◌==◌, Some, None, List, [], ◌∷◌, ◌++◌, length, codes}
+use Rattle.d_lexer.specs.Vocabulary.{AllByRecursion, is_ascii_digit, Mark, Token, TokenKind, Place, Head, Declaration, Predicate, Body, Position, Flaw, LexFault}
+use Rattle.d_lexer.specs.Bytes.{line_feed, quote, hash, star, slash, at_sign, backslash, underscore, next_is, is_blank, is_word_start, is_word_byte, is_run_byte, is_inside, is_plain, begins_comment, escape_of, is_declaring}
+use Rattle.d_lexer.specs.Numbers.{IsNumber, IsNoNumber}
+use Rattle.d_lexer.specs.Places.{moved, is_head, is_first, is_hash, after}
+use Rattle.d_lexer.specs.{Marks.mark_of, Faults.on_line, OptionLine.IsOptionLine}
 
 -- ---- what separates tokens
 
@@ -83,25 +75,25 @@ SpellsAggregation own rest w =
 
 -- a token of a declaration, a predicate or a body
 abbrev pub SpellsInside : Place → (own rest : List ℕ) → TokenKind → Type 0
-SpellsInside p own rest (kind.DescriptionRun w) = ⊥
-SpellsInside p own rest (kind.Word w) = (w ≡ own) × IsRunOf is_word_start is_word_byte own rest
-SpellsInside p own rest (kind.AggregationName w) = SpellsAggregation own rest w
-SpellsInside p own rest (kind.Number n s) =
+SpellsInside p own rest (TokenKind.DescriptionRun w) = ⊥
+SpellsInside p own rest (TokenKind.Word w) = (w ≡ own) × IsRunOf is_word_start is_word_byte own rest
+SpellsInside p own rest (TokenKind.AggregationName w) = SpellsAggregation own rest w
+SpellsInside p own rest (TokenKind.Number n s) =
     IsNumber own n s × IsRunOf is_ascii_digit is_word_byte own rest
-SpellsInside p own rest (kind.TextConstant w) =
+SpellsInside p own rest (TokenKind.TextConstant w) =
     (body : List ℕ) × (own ≡ quote ∷ (body ++ quote ∷ [])) × SpellsText body w
-SpellsInside p own rest (kind.Mark k) = IsMark p own rest k
+SpellsInside p own rest (TokenKind.Mark k) = IsMark p own rest k
 
 -- a token of the head: self and this are words
 abbrev pub SpellsHead : (own rest : List ℕ) → TokenKind → Type 0
-SpellsHead own rest (kind.DescriptionRun w) =
+SpellsHead own rest (TokenKind.DescriptionRun w) =
     (w ≡ own) × (is_declaring own ≡ false) × IsRunOf is_run_byte is_run_byte own rest
-SpellsHead own rest (kind.Word w) =
+SpellsHead own rest (TokenKind.Word w) =
     (w ≡ own) × (is_declaring own ≡ true) × IsRunOf is_run_byte is_run_byte own rest
-SpellsHead own rest (kind.AggregationName w) = ⊥
-SpellsHead own rest (kind.Number n s) = ⊥
-SpellsHead own rest (kind.TextConstant w) = ⊥
-SpellsHead own rest (kind.Mark k) = IsMark Head own rest k
+SpellsHead own rest (TokenKind.AggregationName w) = ⊥
+SpellsHead own rest (TokenKind.Number n s) = ⊥
+SpellsHead own rest (TokenKind.TextConstant w) = ⊥
+SpellsHead own rest (TokenKind.Mark k) = IsMark Head own rest k
 
 -- own is the longest spelling of the token at the front of own ++ rest
 abbrev pub Spells : Place → (own rest : List ℕ) → TokenKind → Type 0
@@ -135,13 +127,13 @@ pub record IsStray (p : Place) (pos : Position) (b : ℕ) (z : List ℕ) : Type 
 
 -- what is wrong after good bytes of a text constant
 abbrev pub StopsText : Flaw → List ℕ → Type 0
-StopsText flaw.BadByte rest = (z : List ℕ) × (rest ≡ 0 ∷ z)
-StopsText flaw.Unclosed rest =
+StopsText Flaw.BadByte rest = (z : List ℕ) × (rest ≡ 0 ∷ z)
+StopsText Flaw.Unclosed rest =
     (rest ≡ []) ⊎ ((z : List ℕ) × (rest ≡ line_feed ∷ z)) ⊎ (rest ≡ backslash ∷ [])
-StopsText flaw.Escape rest =
+StopsText Flaw.Escape rest =
     (e : ℕ) × (z : List ℕ) × (rest ≡ backslash ∷ (e ∷ z)) × (escape_of e ≡ None)
-StopsText flaw.Constant rest = ⊥
-StopsText flaw.OptionLine rest = ⊥
+StopsText Flaw.Constant rest = ⊥
+StopsText Flaw.OptionLine rest = ⊥
 
 -- good bytes of a text constant, and then what is wrong
 abbrev pub BreaksText : List ℕ → Flaw → Type 0
@@ -152,18 +144,18 @@ BreaksText z g =
 -- the fault at the front of the bytes
 pub data IsFault (p : Place) (pos : Position) : List ℕ → Flaw → Type 0 where
   stray : {bytes : List ℕ} (b : ℕ) (z : List ℕ) → bytes ≡ b ∷ z → IsStray p pos b z
-      → IsFault p pos bytes flaw.BadByte
+      → IsFault p pos bytes Flaw.BadByte
   open_comment : {bytes : List ℕ} (z : List ℕ) → bytes ≡ codes "/*" ++ z → HasNoEnd z
-      → IsFault p pos bytes flaw.Unclosed
+      → IsFault p pos bytes Flaw.Unclosed
   text : {bytes : List ℕ} {g : Flaw} (z : List ℕ) → is_head p ≡ false → bytes ≡ quote ∷ z
       → BreaksText z g → IsFault p pos bytes g
   number : {bytes : List ℕ} (own rest : List ℕ) → is_head p ≡ false → bytes ≡ own ++ rest
       → IsRunOf is_ascii_digit is_word_byte own rest → IsNoNumber own
-      → IsFault p pos bytes flaw.Constant
+      → IsFault p pos bytes Flaw.Constant
   other_option : {bytes : List ℕ} (w rest : List ℕ) → bytes ≡ hash ∷ (w ++ rest)
       → is_first pos hash (w ++ rest) ≡ false → is_hash p pos hash ≡ true
       → (IsOptionLine (hash ∷ w) → ⊥) → Fills is_inside w rest
-      → IsFault p pos bytes flaw.OptionLine
+      → IsFault p pos bytes Flaw.OptionLine
 
 -- ---- all of the bytes
 

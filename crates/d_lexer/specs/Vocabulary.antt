@@ -1,8 +1,17 @@
 -- The words of the definitions that the code declares, from one place.
-pub use Rattle.d_lexer.specs.declared.token.{Mark.Mark, Suffix.Suffix, Token.Token}
-pub use Rattle.d_lexer.specs.declared.token.TokenKind.{TokenKind}
+pub use Rattle.std.specs.Char.{is_ascii_digit}
+pub use Rattle.std.specs.List.{AllByRecursion}
+pub use Rattle.d_lexer.specs.declared.fault.Flaw.{Flaw}
+pub use Rattle.d_lexer.specs.declared.fault.Flaw.TheVariants.{BadByte, Unclosed, Constant, Escape, OptionLine}
+pub use Rattle.d_lexer.specs.declared.fault.LexFault.{LexFault}
+pub use Rattle.d_lexer.specs.declared.fault.Stop.{Stop}
+pub use Rattle.d_lexer.specs.declared.fault.TheConstants.{MOST_BYTES}
+pub use Rattle.d_lexer.specs.declared.front.Front.{Front}
+pub use Rattle.d_lexer.specs.declared.front.Front.TheVariants.{Gap}
 pub use Rattle.d_lexer.specs.declared.place.Place.{Place}
 pub use Rattle.d_lexer.specs.declared.place.Place.TheVariants.{Head, Declaration, Predicate, Body}
 pub use Rattle.d_lexer.specs.declared.position.Position.{Position}
-pub use Rattle.d_lexer.specs.declared.front.Front.{Front}
-pub use Rattle.d_lexer.specs.declared.fault.{Flaw.Flaw, LexFault.LexFault, Stop.Stop}
+pub use Rattle.d_lexer.specs.declared.token.Mark.{Mark}
+pub use Rattle.d_lexer.specs.declared.token.Suffix.{Suffix}
+pub use Rattle.d_lexer.specs.declared.token.Token.{Token}
+pub use Rattle.d_lexer.specs.declared.token.TokenKind.{TokenKind}

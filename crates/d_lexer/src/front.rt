@@ -1,9 +1,8 @@
 //! What is at the front of the bytes.
 
 ghost use Rattle.std.specs.Prelude.{◌≡◌, ◌≤◌, ◌<◌, length, take, [], ◌∷◌, IfOk, true, false};
-ghost use Rattle.std.specs.Char.{is_ascii_digit};
+ghost use Rattle.d_lexer.specs.{Vocabulary.is_ascii_digit, Steps.Scan.Fits, Steps.Scan.Gives, Steps.Scan.comment_from, Steps.Scan.comment_front, Steps.Scan.front_at, Steps.Scan.head_at, Steps.Scan.inside_at, Steps.Scan.mark_at, Steps.Scan.mark_front, Steps.Scan.option_front, Steps.Scan.run_number, Steps.Scan.tail, Steps.Scan.text_from, Steps.Scan.text_front, Steps.Scan.token_at};
 ghost use Rattle.d_lexer.specs.Places as spec;
-ghost use Rattle.d_lexer.specs.Steps.Scan as scan;
 
 use crate::byte_kinds::{
     comment_len, is_blank, is_run_byte, is_word_start, line_len, next_is, word_len,
@@ -28,7 +27,7 @@ pub enum Front {
 
 fn number_front(b: u8, rest: &[u8]) -> Result<Front, Stop>
     requires { is_ascii_digit b ≡ true }
-    ensures { scan.Gives result (scan.run_number b rest.now) }
+    ensures { Gives result (run_number b rest.now) }
 {
     let n = word_len(rest);
     match number_of(b, &rest[..n]) {
@@ -38,14 +37,14 @@ fn number_front(b: u8, rest: &[u8]) -> Result<Front, Stop>
 }
 
 fn text_front(alloc: Global, rest: &[u8]) -> Result<Front, Stop>
-    ensures { scan.Gives result (scan.text_front (scan.text_from false rest.now)) }
+    ensures { Gives result (text_front (text_from false rest.now)) }
 {
     let (value, n) = text(alloc, rest)?;
     Ok(Front::Token(TokenKind::TextConstant(value), n))
 }
 
 fn mark_front(place: Place, b: u8, rest: &[u8]) -> Result<Front, Stop>
-    ensures { scan.Gives result (scan.mark_front (scan.mark_at place b rest.now)) }
+    ensures { Gives result (mark_front (mark_at place b rest.now)) }
 {
     match mark_at(place, b, rest) {
         Some((mark, n)) => Ok(Front::Token(TokenKind::Mark(mark), n)),
@@ -55,7 +54,7 @@ fn mark_front(place: Place, b: u8, rest: &[u8]) -> Result<Front, Stop>
 
 #[tactic(auto, unfolding(crate::specs::Steps::Scan::inside_at))]
 fn inside_at(alloc: Global, place: Place, b: u8, rest: &[u8]) -> Result<Front, Stop>
-    ensures { scan.Gives result (scan.inside_at place b rest.now) }
+    ensures { Gives result (inside_at place b rest.now) }
 {
     if is_word_start(b) {
         word_front(alloc, b, rest)
@@ -72,7 +71,7 @@ fn inside_at(alloc: Global, place: Place, b: u8, rest: &[u8]) -> Result<Front, S
 
 #[tactic(auto, unfolding(crate::specs::Steps::Scan::head_at))]
 fn head_at(alloc: Global, b: u8, rest: &[u8]) -> Result<Front, Stop>
-    ensures { scan.Gives result (scan.head_at b rest.now) }
+    ensures { Gives result (head_at b rest.now) }
 {
     if is_run_byte(b) {
         run_front(alloc, b, rest)
@@ -83,7 +82,7 @@ fn head_at(alloc: Global, b: u8, rest: &[u8]) -> Result<Front, Stop>
 
 #[tactic(auto, unfolding(crate::specs::Steps::Scan::token_at))]
 fn token_at(alloc: Global, place: Place, b: u8, rest: &[u8]) -> Result<Front, Stop>
-    ensures { scan.Gives result (scan.token_at place b rest.now) }
+    ensures { Gives result (token_at place b rest.now) }
 {
     match place {
         Place::Head => head_at(alloc, b, rest),
@@ -93,7 +92,7 @@ fn token_at(alloc: Global, place: Place, b: u8, rest: &[u8]) -> Result<Front, St
 
 fn comment_front(rest: &[u8]) -> Result<Front, Stop>
     requires { length rest.now ≤ MOST_BYTES }
-    ensures { scan.Gives result (scan.comment_front (scan.comment_from rest.now)) }
+    ensures { Gives result (comment_front (comment_from rest.now)) }
 {
     match comment_len(rest) {
         Some(n) => Ok(Front::Gap(n + 1)),
@@ -102,7 +101,7 @@ fn comment_front(rest: &[u8]) -> Result<Front, Stop>
 }
 
 fn option_front(rest: &[u8]) -> Result<Front, Stop>
-    ensures { scan.Gives result (scan.option_front rest.now) }
+    ensures { Gives result (option_front rest.now) }
 {
     let n = line_len(rest);
     if is_option(&rest[..n]) {
@@ -113,7 +112,7 @@ fn option_front(rest: &[u8]) -> Result<Front, Stop>
 }
 
 fn tail(bytes: &[u8]) -> &[u8]
-    ensures { result.now ≡ scan.tail bytes.now }
+    ensures { result.now ≡ tail bytes.now }
 {
     match bytes {
         [_, rest @ ..] => rest,
@@ -136,7 +135,7 @@ fn is_hash(place: Place, pos: Position, b: u8) -> bool
 #[tactic(auto, unfolding(crate::specs::Steps::Scan::front_at))]
 fn front_at(alloc: Global, place: Place, pos: Position, b: u8, rest: &[u8]) -> Result<Front, Stop>
     requires { length rest.now ≤ MOST_BYTES }
-    ensures { scan.Gives result (scan.front_at place pos b rest.now) }
+    ensures { Gives result (front_at place pos b rest.now) }
 {
     if is_blank(b) {
         Ok(Front::Gap(0))
@@ -160,8 +159,8 @@ pub(crate) fn look(
     rest: &[u8],
 ) -> Result<Front, Stop>
     requires { length rest.now ≤ MOST_BYTES }
-    ensures is { scan.Gives result (scan.front_at place pos b rest.now) }
-    ensures fits { IfOk result (λ f. scan.Fits f (length rest.now)) }
+    ensures is { Gives result (front_at place pos b rest.now) }
+    ensures fits { IfOk result (λ f. Fits f (length rest.now)) }
 {
     front_at(alloc, place, pos, b, rest)
 }

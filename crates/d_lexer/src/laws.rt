@@ -1,11 +1,8 @@
 //! What holds of every script's tokens and first fault.
 
-ghost use Rattle.std.specs.{Prelude.◌≡◌, Prelude.◌≢◌, Prelude.ℕ, Prelude.List, List.AllByRecursion};
-ghost use Rattle.d_lexer.specs.Vocabulary.{Body, LexFault, Mark, Place, Token};
-ghost use Rattle.d_lexer.specs.{Lexing.AreTokens, Lexing.HasOne, Lexing.IsFirstFault};
-ghost use Rattle.d_lexer.specs.{Marks.mark_of, Small.AreSmall, Spans.AreInOrder, Spans.Stands};
-ghost use Rattle.d_lexer.specs.{Spans.TellsItsLine, Spelling.spelling};
-ghost use Rattle.d_lexer.specs.declared.token.Mark.TheVariants as marks;
+ghost use Rattle.std.specs.Prelude.{◌≡◌, ◌≢◌, ℕ, List};
+ghost use Rattle.d_lexer.specs.Vocabulary.{AllByRecursion, Body, LexFault, Mark, Place, Token};
+ghost use Rattle.d_lexer.specs.{Lexing.AreTokens, Lexing.HasOne, Lexing.IsFirstFault, Marks.mark_of, Small.AreSmall, Spans.AreInOrder, Spans.IsInPlace, Spans.HasItsLine, Spelling.spelling};
 
 /// A script has one list of tokens at most.
 pub fn one_list()
@@ -32,9 +29,9 @@ pub fn has_one()
 
 /// Each token has the bytes from its start to its stop, and its line is one more than the line
 /// feeds before it.
-pub fn tokens_stand()
+pub fn tokens_are_in_place()
     ensures { (bytes : List ℕ) (ts : List Token)
-        → AreTokens bytes ts → AllByRecursion (Stands bytes) ts }
+        → AreTokens bytes ts → AllByRecursion (IsInPlace bytes) ts }
 {}
 
 /// No token is empty or begins before the one in front of it stops.
@@ -43,9 +40,9 @@ pub fn tokens_in_order()
 {}
 
 /// The first fault has the line on which what is refused begins.
-pub fn fault_told()
+pub fn fault_has_its_line()
     ensures { (bytes : List ℕ) (fault : LexFault)
-        → IsFirstFault bytes fault → TellsItsLine bytes fault }
+        → IsFirstFault bytes fault → HasItsLine bytes fault }
 {}
 
 /// What is read as a mark is its spelling.
@@ -55,7 +52,7 @@ pub fn marks_are_spelled()
 
 /// Each mark's spelling is that mark in a body; a closing slash is in a predicate alone.
 pub fn spellings_are_marks()
-    ensures { (k : Mark) → k ≢ marks.ClosingSlash → mark_of Body (spelling k) ≡ Some k }
+    ensures { (k : Mark) → k ≢ Mark.ClosingSlash → mark_of Body (spelling k) ≡ Some k }
 {}
 
 /// Numbers are below 2^64.

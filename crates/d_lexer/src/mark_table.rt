@@ -1,10 +1,8 @@
 //! Marks, the longest first. A table for each length is looked up by the first byte.
 
 ghost use Rattle.std.specs.Prelude.{◌≡◌, ◌≤◌, length, [], ◌∷◌};
-ghost use Rattle.d_lexer.specs.Bytes.{entry_of};
+ghost use Rattle.d_lexer.specs.{Bytes.entry_of, Vocabulary.Body, Steps.Scan.mark_at, Steps.Scan.one_at, Steps.Scan.three_at, Steps.Scan.two_at};
 ghost use Rattle.d_lexer.specs.Marks as spec;
-ghost use Rattle.d_lexer.specs.Steps.Scan as scan;
-ghost use Rattle.d_lexer.specs.declared.place.Place.TheVariants.{Body};
 
 use crate::place::Place;
 use crate::token::Mark;
@@ -146,7 +144,7 @@ fn mark_three(place: Place, a: u8, b: u8, c: u8) -> Option<Mark>
 
 #[tactic(auto, unfolding(crate::specs::Marks::mark_of))]
 fn one_at(place: Place, a: u8) -> Option<(Mark, usize)>
-    ensures { result ≡ scan.one_at place a }
+    ensures { result ≡ one_at place a }
 {
     match mark_one(place, a) {
         Some(mark) => Some((mark, 0)),
@@ -156,7 +154,7 @@ fn one_at(place: Place, a: u8) -> Option<(Mark, usize)>
 
 #[tactic(auto, unfolding(crate::specs::Marks::mark_of))]
 fn two_at(place: Place, a: u8, b: u8) -> Option<(Mark, usize)>
-    ensures { result ≡ scan.two_at place a b }
+    ensures { result ≡ two_at place a b }
 {
     match mark_two(place, a, b) {
         Some(mark) => Some((mark, 1)),
@@ -166,7 +164,7 @@ fn two_at(place: Place, a: u8, b: u8) -> Option<(Mark, usize)>
 
 #[tactic(auto, unfolding(crate::specs::Marks::mark_of))]
 fn three_at(place: Place, a: u8, b: u8, c: u8) -> Option<(Mark, usize)>
-    ensures { result ≡ scan.three_at place a b c }
+    ensures { result ≡ three_at place a b c }
 {
     match mark_three(place, a, b, c) {
         Some(mark) => Some((mark, 2)),
@@ -177,7 +175,7 @@ fn three_at(place: Place, a: u8, b: u8, c: u8) -> Option<(Mark, usize)>
 /// The longest mark at the front, and how many bytes more than one it has.
 #[tactic(auto, unfolding(crate::specs::Steps::Scan::mark_at))]
 pub(crate) fn mark_at(place: Place, a: u8, rest: &[u8]) -> Option<(Mark, usize)>
-    ensures { result ≡ scan.mark_at place a rest.now }
+    ensures { result ≡ mark_at place a rest.now }
 {
     match rest {
         [] => one_at(place, a),

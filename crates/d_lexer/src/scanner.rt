@@ -1,14 +1,8 @@
 //! From the bytes to the tokens.
 
-ghost use Rattle.std.specs.Prelude.{◌≡◌, ◌↔◌, ℕ, List, ◌+◌, ◌≤◌, ◌<◌, ◌⊎◌, [], ◌∷◌, ◌++◌, length};
-ghost use Rattle.std.specs.Prelude.{IfOk, IfErr, IsErrAnd, IsErrOf, MatchResult};
-ghost use Rattle.d_lexer.specs.{Small.AreSmall};
+ghost use Rattle.std.specs.Prelude.{◌≡◌, ◌↔◌, ℕ, List, ◌+◌, ◌≤◌, ◌<◌, ◌⊎◌, [], ◌∷◌, ◌++◌, length, IfOk, IfErr, IsErrAnd, IsErrOf, MatchResult};
+ghost use Rattle.d_lexer.specs.{Small.AreSmall, Vocabulary.Head, Vocabulary.LexFault, Vocabulary.Place, Vocabulary.Token, Steps.Lexing.Answers, Steps.Lexing.Lexed, Steps.Lexing.Steps, Steps.Scan.scan, Places.passed, Places.start};
 ghost use Rattle.d_lexer.specs.Lexing as spec;
-ghost use Rattle.d_lexer.specs.Places as places;
-ghost use Rattle.d_lexer.specs.{Vocabulary.Head};
-ghost use Rattle.d_lexer.specs.Steps.Lexing as steps;
-ghost use Rattle.d_lexer.specs.Steps.Scan as scan;
-ghost use Rattle.d_lexer.specs.{Vocabulary.LexFault, Vocabulary.Place, Vocabulary.Token};
 
 use crate::closing_slash::settle;
 use crate::fault::{LexFault, MOST_BYTES, Stop};
@@ -36,9 +30,9 @@ fn step(
     tokens: &mut Vec<Token>,
 ) -> Result<(Place, usize), LexFault>
     requires at { pos.at + length rest.now < MOST_BYTES }
-    ensures is { steps.Steps tokens.old.items tokens.new.items result
-        (scan.scan 0 place pos (b ∷ rest.now))
-        (λ n q. scan.scan n q (places.passed pos b) rest.now) }
+    ensures is { Steps tokens.old.items tokens.new.items result
+        (scan 0 place pos (b ∷ rest.now))
+        (λ n q. scan n q (passed pos b) rest.now) }
     ensures fits { IfOk result (λ r. r.1 ≤ length rest.now) }
 {
     match look(alloc, place, pos, b, rest) {
@@ -67,8 +61,8 @@ fn jump(pos: Position, b: u8, rest: &[u8], n: usize) -> (Position, &[u8])
     requires at { pos.at + length rest.now < MOST_BYTES }
     requires line { pos.line ≤ pos.at + 1 }
     requires n { n ≤ length rest.now }
-    ensures is { (q : Place) → scan.scan 0 q result.0 result.1.now
-        ≡ scan.scan n q (places.passed pos b) rest.now }
+    ensures is { (q : Place) → scan 0 q result.0 result.1.now
+        ≡ scan n q (passed pos b) rest.now }
     ensures at { result.0.at + length result.1.now ≡ pos.at + 1 + length rest.now }
     ensures less { length result.1.now ≤ length rest.now }
     ensures line { result.0.line ≤ result.0.at + 1 }
@@ -79,7 +73,7 @@ fn jump(pos: Position, b: u8, rest: &[u8], n: usize) -> (Position, &[u8])
 // The tokens, whose slashes of a predicate are all read as closing ones.
 fn scan_tokens(alloc: Global, bytes: &[u8]) -> Result<Vec<Token>, LexFault>
     requires { length bytes.now ≤ MOST_BYTES }
-    ensures { steps.Answers (λ ts. ts.items) result (scan.scan 0 Head places.start bytes.now) }
+    ensures { Answers (λ ts. ts.items) result (scan 0 Head start bytes.now) }
 {
     let mut tokens: Vec<Token> = Vec::new(alloc);
     let mut rest = bytes;
@@ -98,7 +92,7 @@ fn scan_tokens(alloc: Global, bytes: &[u8]) -> Result<Vec<Token>, LexFault>
 // The tokens, once it is known which slash closes a predicate.
 fn final_tokens(alloc: Global, bytes: &[u8]) -> Result<Vec<Token>, LexFault>
     requires { length bytes.now ≤ MOST_BYTES }
-    ensures { steps.Lexed (λ ts. ts.items) result (scan.scan 0 Head places.start bytes.now) }
+    ensures { Lexed (λ ts. ts.items) result (scan 0 Head start bytes.now) }
 {
     let mut tokens = scan_tokens(alloc, bytes)?;
     settle(&mut tokens);

@@ -58,7 +58,8 @@ const TOKENS: [(&[u8], &str); 19] = [
     // a declaration
     (
         b"self int x[char, long];this string s;self:a",
-        "word:self word:int word:x OpenBracket word:char Comma word:long CloseBracket Semicolon word:this word:string word:s Semicolon run:self:a ",
+        "word:self word:int word:x OpenBracket word:char Comma word:long CloseBracket Semicolon \
+        word:this word:string word:s Semicolon run:self:a ",
     ),
     (
         b"self @x 1 \"a\"+{a",
@@ -71,7 +72,8 @@ const TOKENS: [(&[u8], &str); 19] = [
     // a predicate
     (
         b"hit/@n == 0x1F && \"s\" != x/{",
-        "run:hit Slash @n Equal 31:Absent AndAnd text:[115] NotEqual word:x ClosingSlash OpenBrace ",
+        "run:hit Slash @n Equal 31:Absent AndAnd text:[115] NotEqual word:x ClosingSlash \
+        OpenBrace ",
     ),
     (
         b"hit/a / b/c/ /* c */ {",
@@ -88,28 +90,36 @@ const TOKENS: [(&[u8], &str); 19] = [
     ),
     (
         b"a{0 00 017 0u 9L 0x1f 0XAbUl 1uLL 0X1FUL 5ll",
-        "run:a OpenBrace 0:Absent 0:Absent 15:Absent 0:Unsigned 9:Long 31:Absent 171:UnsignedLong 1:UnsignedLong 31:UnsignedLong 5:Long ",
+        "run:a OpenBrace 0:Absent 0:Absent 15:Absent 0:Unsigned 9:Long 31:Absent 171:UnsignedLong \
+        1:UnsignedLong 31:UnsignedLong 5:Long ",
     ),
     (
         b"a{18446744073709551615 01777777777777777777777u 0xffffffffffffffffLL",
-        "run:a OpenBrace 18446744073709551615:Absent 18446744073709551615:Unsigned 18446744073709551615:Long ",
+        "run:a OpenBrace 18446744073709551615:Absent 18446744073709551615:Unsigned \
+        18446744073709551615:Long ",
     ),
     (
         b"a{\"\" \"a\\a\\b\\f\\n\\r\\t\\v\\\\\\\"\\'\\?\" \"\r/*\"",
-        "run:a OpenBrace text:[] text:[97, 7, 8, 12, 10, 13, 9, 11, 92, 34, 39, 63] text:[13, 47, 42] ",
+        "run:a OpenBrace text:[] text:[97, 7, 8, 12, 10, 13, 9, 11, 92, 34, 39, 63] \
+        text:[13, 47, 42] ",
     ),
     // marks, apart and beside longer ones
     (
         b"a{<<= << < <= >>= >> > >= -> -- -= - ++ += + == = != !",
-        "run:a OpenBrace ShiftLeftAssign ShiftLeft Less LessEqual ShiftRightAssign ShiftRight Greater GreaterEqual Arrow Decrement SubtractAssign Minus Increment AddAssign Plus Equal Assign NotEqual Not ",
+        "run:a OpenBrace ShiftLeftAssign ShiftLeft Less LessEqual ShiftRightAssign ShiftRight \
+        Greater GreaterEqual Arrow Decrement SubtractAssign Minus Increment AddAssign Plus Equal \
+        Assign NotEqual Not ",
     ),
     (
         b"a{&& &= & || |= | ^^ ^= ^ *= * %= % /= / ~ ? : ( ) [ ] , ; { }",
-        "run:a OpenBrace AndAnd AndAssign And OrOr OrAssign Or XorXor XorAssign Xor MultiplyAssign Star RemainderAssign Percent DivideAssign Slash Tilde Question Colon OpenParenthesis CloseParenthesis OpenBracket CloseBracket Comma Semicolon OpenBrace CloseBrace ",
+        "run:a OpenBrace AndAnd AndAssign And OrOr OrAssign Or XorXor XorAssign Xor MultiplyAssign \
+        Star RemainderAssign Percent DivideAssign Slash Tilde Question Colon OpenParenthesis \
+        CloseParenthesis OpenBracket CloseBracket Comma Semicolon OpenBrace CloseBrace ",
     ),
     (
         b"a{<<<=>>>>=--->+++===!==&&&|||^^^^=",
-        "run:a OpenBrace ShiftLeft LessEqual ShiftRight ShiftRightAssign Decrement Arrow Increment AddAssign Equal NotEqual Assign AndAnd And OrOr Or XorXor XorXor Assign ",
+        "run:a OpenBrace ShiftLeft LessEqual ShiftRight ShiftRightAssign Decrement Arrow Increment \
+        AddAssign Equal NotEqual Assign AndAnd And OrOr Or XorXor XorXor Assign ",
     ),
 ];
 

@@ -26,10 +26,10 @@ use Rattle.d_parser.specs.declared.marks.Prefix.TheVariants as p
 use Rattle.d_parser.specs.declared.marks.Follow.{Follow}
 use Rattle.d_parser.specs.declared.marks.Follow.TheVariants as f
 use Rattle.d_parser.specs.Tree.{Tree, Known, Read, Call, Unary, Cast, Before, After, Binary, Choice, Assign, Trees, end, more, add}
-use Rattle.d_parser.specs.Words.{word_kind, kind_of, begins_type, only_integer, type_from, integer_type, is_word, AreWords, run, behind_run}
+use Rattle.d_parser.specs.Words.{word_kind, kind_of, begins_type, only_integer, type_from, integer_type, is_word, AreWords, run, after_run}
 use Rattle.d_parser.specs.Marks.{prefix_of, follow_of, level_of, follow_at, kind_is, is_at, same_mark, tail}
 use Rattle.d_parser.specs.Grammar.{token, Begins, Sign, Within, IsPhrase, rank, IsPlain, IsTarget, IsEnclosed, Spells, SpellsKeys, SpellsList, SpellsMore}
-use Rattle.d_parser.specs.Reading.{after_mark, plain_word, member, variable, typed_by, is_typed, cast_type, calls, begins_call, readers, listed, keys_by, keys, arguments, with_keys, target, follows_by, follows, named, casted, parenthesised, stepped, marked, part_by, part, climb_by, climb_on, choice_by, chosen, choice, operand, whole, further_on}
+use Rattle.d_parser.specs.Reading.{after_mark, plain_word, member, variable, typed_by, is_typed, cast_type, calls, begins_call, readers, closed_list, keys_by, keys, arguments, with_keys, target, follows_by, follows, part_at_name, part_at_cast, part_in_parentheses, part_at_step, part_at_mark, part_by, part, climb_by, climb_on, choice_by, alternatives, choice, operand, whole, further_on}
 use Rattle.d_parser.proofs.Takes.{sign_one, takes, phrase_takes, keys_take, target_takes}
 use Rattle.d_parser.proofs.Runs.{run_is, behind_is}
 
@@ -214,7 +214,7 @@ typed_kind n k w.Unsigned follow name line ts h = (refl, refl)
 typed_kind n k (w.Fixed t) follow name line ts h = (refl, refl)
 
 typed_part : (n k : ℕ) (t : TokenKind) (line : ℕ) (ts : List Token) → typed_by t ≡ true → part_by (readers n) k t line ts ≡ None
-unfolding named target
+unfolding part_at_name target
 typed_part n k (kind.Word name) line ts h = let e = typed_kind n k (word_kind name) (follow_at ts) name line ts h in rw (e.0, e.1) refl
 typed_part n k (kind.DescriptionRun name) line ts h = refl
 typed_part n k (kind.AggregationName name) line ts h = refl
@@ -233,8 +233,8 @@ untyped_by : (b : Bool) (n k : ℕ) (ts : List Token) (x : Tree × List Token) �
 untyped_by true n k ts x h e = let none = typed_none n k ts h in absurd cc
 untyped_by false n k ts x h e = refl
 
-parens_read : (n k line : ℕ) (t : Tree) (inner close rest : List Token) → (readers n).phrase 1 inner ≡ Some (t, close) → Sign m.CloseParenthesis close rest → marked (readers n) m.OpenParenthesis line inner ≡ Some (t, rest)
-unfolding marked parenthesised
+parens_read : (n k line : ℕ) (t : Tree) (inner close rest : List Token) → (readers n).phrase 1 inner ≡ Some (t, close) → Sign m.CloseParenthesis close rest → part_at_mark (readers n) m.OpenParenthesis line inner ≡ Some (t, rest)
+unfolding part_at_mark part_in_parentheses
 parens_read n k line t inner close rest e h =
     rw (untyped_by (is_typed inner) n 1 inner (t, close) refl e) (rw e (rw (after_sign m.CloseParenthesis close rest refl h) refl))
 
@@ -331,16 +331,16 @@ not_open : (mark : Mark) (x : Prefix) → prefix_of mark ≡ x → (x ≡ p.Othe
 not_open mark x h other = open_is (same_mark mark m.OpenParenthesis) mark x refl h other
 
 unary_part : (line : ℕ) (op : UnaryOperator) (a : Tree) → Reads a → IsPart (Unary line op a)
-unfolding part marked
+unfolding part part_at_mark
 unary_part line op a r n k ts rest s len e free =
     let one : length ts ≡ suc (length s.1) = ap length s.3.is in
     rw (s.3.is, not_open s.0 (p.Unary op) s.2 (λ h. absurd cc), s.2) (rw (phrase_of a r n 14 s.1 rest s.4 (omega arith) (omega (arith, below_unary (follow_at rest) e))) refl)
 
 cast_read : (n line : ℕ) (to : IntegerType) (words close rest : List Token) → AreWords words → integer_type words ≡ Some to → Sign m.CloseParenthesis close rest → cast_type (words ++ close) ≡ Some (to, rest)
-unfolding cast_type run behind_run
+unfolding cast_type run after_run
 cast_read n line to words close rest h t s =
     let run_close : run close ≡ [] = rw s.begins.is refl in
-    let behind_close : behind_run close ≡ close = rw s.begins.is refl in
+    let behind_close : after_run close ≡ close = rw s.begins.is refl in
     rw (run_is words close h ∙ (ap (λ (xs : List Token). words ++ xs) run_close ∙ append-nil words), behind_is words close h ∙ behind_close, t, after_sign m.CloseParenthesis close rest refl s) refl
 
 typed_from : (word : WordKind) (ts : List Token) (to : IntegerType) → only_integer (type_from word ts) ≡ Some to → begins_type word ≡ true
@@ -378,7 +378,7 @@ typed_words [] close to h e = absurd cc
 typed_words (t ∷ ts) close to h e = typed_word t.kind h.0 (typed_from (kind_of t.kind) ts to e)
 
 cast_part : (line : ℕ) (to : IntegerType) (a : Tree) → Reads a → IsPart (Cast line to a)
-unfolding part marked parenthesised casted
+unfolding part part_at_mark part_in_parentheses part_at_cast
 cast_part line to a r n k ts rest s len e free =
     let one : length ts ≡ suc (length (s.1.words ++ s.1.close)) = ap length s.1.opens.is in
     let two = length-append s.1.words s.1.close in
@@ -440,8 +440,8 @@ furthers_more a l r g (suc n) acc ts rest s len h e =
     let quiet = more_reach l s.1 rest s.4 e in
     further_goes n acc a ts s.0 s.1 s.2 (phrase_of a r n 1 s.0 s.1 s.3 (omega arith) (omega arith)) ∙ g n (add acc a) s.1 rest s.4 (omega arith) h e
 
-listed_read : (n : ℕ) (close : Mark) (a : Tree) (l : Trees) (ts behind closing rest : List Token) → Reads a → Furthers l → IsPhrase (Spells a) (rank a) 1 ts behind → SpellsMore l behind closing → Sign close closing rest → same_mark close close ≡ true → same_mark close m.Comma ≡ false → follow_of close ≡ f.Other → length ts < n → listed (readers n) close ts ≡ Some (more a l, rest)
-unfolding listed
+listed_read : (n : ℕ) (close : Mark) (a : Tree) (l : Trees) (ts behind closing rest : List Token) → Reads a → Furthers l → IsPhrase (Spells a) (rank a) 1 ts behind → SpellsMore l behind closing → Sign close closing rest → same_mark close close ≡ true → same_mark close m.Comma ≡ false → follow_of close ≡ f.Other → length ts < n → closed_list (readers n) close ts ≡ Some (more a l, rest)
+unfolding closed_list
 listed_read n close a l ts behind closing rest r g h hs s self comma other len =
     let less = phrase_takes a 1 (takes a) ts behind h in
     let ends = sign_reach close closing rest f.Other s other in
@@ -469,7 +469,7 @@ keys_read n (more a l) r ts rest s len h =
 
 -- no expression begins with a closing parenthesis
 close_none : (n k : ℕ) (ts rest : List Token) → Sign m.CloseParenthesis ts rest → (readers n).phrase k ts ≡ None
-unfolding whole operand part marked
+unfolding whole operand part part_at_mark
 close_none zero k ts rest h = refl
 close_none (suc n) k ts rest h = rw h.begins.is refl
 
@@ -576,7 +576,7 @@ target_at n (v.Clause line name) all r ts rest s len h =
 
 -- a part that begins with a target
 named_read : (n k : ℕ) (x : Variable) (all : Trees) (ts rest : List Token) → TargetAt n x all ts rest → part (readers n) k ts ≡ follows (readers n) k (x, all) rest
-unfolding part named
+unfolding part part_at_name
 named_read n k x all ts rest h = rw (h.begins.is, h.no_call) (rw h.read refl)
 
 free_follow : (follow : Follow) → reach_of follow < 15 → opens_of follow ≡ false
@@ -608,18 +608,18 @@ after_part x all step r n k ts rest s len e free =
     let there = sign_follow s.0 s.1 rest s.4 ∙ s.2 in
     named_read n k x all ts s.1 (target_at n x all r ts s.1 s.3 (omega arith) (ap opens_of there)) ∙ rw (there, sign_tail s.0 s.1 rest s.4) refl
 
-stepped_read : (n line : ℕ) (step : Step) (x : Variable) (all : Trees) (ts rest : List Token) → TargetAt n x all ts rest → stepped (readers n) line step ts ≡ Some (Before line step x all, rest)
-unfolding stepped
+stepped_read : (n line : ℕ) (step : Step) (x : Variable) (all : Trees) (ts rest : List Token) → TargetAt n x all ts rest → part_at_step (readers n) line step ts ≡ Some (Before line step x all, rest)
+unfolding part_at_step
 stepped_read n line step x all ts rest h = rw h.begins.is (rw h.read refl)
 
 before_part : (line : ℕ) (step : Step) (x : Variable) (all : Trees) → ReadsAll all → IsPart (Before line step x all)
-unfolding part marked
+unfolding part part_at_mark
 before_part line step x all r n k ts rest s len e free =
     let one : length ts ≡ suc (length s.1) = ap length s.3.is in
     rw (s.3.is, not_open s.0 (p.Step step) s.2 (λ h. absurd cc), s.2) (stepped_read n line step x all s.1 rest (target_at n x all r s.1 rest s.4 (omega arith) (free_follow (follow_at rest) e)))
 
 call_part : (line : ℕ) (name : List ℕ) (all : Trees) → ReadsAll all → IsPart (Call line name all)
-unfolding part named
+unfolding part part_at_name
 call_part line name all r n k ts rest s len e free =
     let one : length ts ≡ suc (length s.0) = ap length s.1.begins.is in
     let there = sign_follow m.OpenParenthesis s.0 s.2.inner s.2.opens in
@@ -672,7 +672,7 @@ binary_climbs op a b ra rb n k l ts rest s low most high le len e free =
 -- ---- choice
 
 choice_goes : (n k : ℕ) (test a b : Tree) (question first colon second rest : List Token) → k ≤ 2 → Sign m.Question question first → (readers n).phrase 1 first ≡ Some (a, colon) → Sign m.Colon colon second → (readers n).phrase 2 second ≡ Some (b, rest) → choice (readers n) k test question ≡ Some (Choice test a b, rest)
-unfolding choice chosen
+unfolding choice alternatives
 choice_goes n k test a b question first colon second rest le q e s g =
     rw (le-leb k 2 le, sign_follow m.Question question first q, sign_tail m.Question question first q) (rw e (rw (after_sign m.Colon colon second refl s) (rw g refl)))
 

@@ -13,12 +13,12 @@ use Rattle.d_parser.specs.declared.tree.Description.{Description}
 use Rattle.d_parser.specs.declared.words.WordKind.{WordKind}
 use Rattle.d_parser.specs.declared.words.WordKind.TheVariants as w
 use Rattle.d_parser.specs.Tree.{Tree, Trees, StmtTree, Expression, Aggregation, DeclarationTree, OfThread, OfClause, ClauseTree, ItemTree, Declared, Probing}
-use Rattle.d_parser.specs.Words.{word_kind, run, behind_run}
+use Rattle.d_parser.specs.Words.{word_kind, run, after_run}
 use Rattle.d_parser.specs.Marks.{prefix_of, is_at, same_mark, tail}
 use Rattle.d_parser.specs.Grammar.{token, Begins, Sign}
 use Rattle.d_parser.specs.Script.{IsAggregation, IsStmt, IsSlot, AreFurther, present, AreStmts, IsDescription, FurtherDescriptions, AreDescriptions, IsPredicate, IsClause, IsType, FurtherTypes, AreKeyTypes, IsDeclared, IsItem, IsScript}
-use Rattle.d_parser.specs.Reading.{◌>>=◌, readers, arguments, part, marked, operand, whole}
-use Rattle.d_parser.specs.ReadingScripts.{any_word, aggregation, stmt_by, stmt, ends_stmt, slot, further_stmts, stmts, description, descriptions_on, further_descriptions, descriptions, predicate, clause, whole_type, types_on, further_types, key_types, last_apart, typed_name, of_thread, of_clause, declared_by, item, items, script}
+use Rattle.d_parser.specs.Reading.{◌>>=◌, readers, arguments, part, part_at_mark, operand, whole}
+use Rattle.d_parser.specs.ReadingScripts.{any_word, aggregation, stmt_by, stmt, ends_stmt, slot, further_stmts, stmts, description, descriptions_on, further_descriptions, descriptions, predicate, clause, whole_type, types_on, further_types, key_types, last_apart, typed_name, of_thread, of_clause, declaration_by, item, items, script}
 use Rattle.d_parser.proofs.Takes.{sign_one, takes, phrase_takes, keys_take, list_takes}
 use Rattle.d_parser.proofs.Complete.{reach, opens_of, sign_there, sign_follow, sign_tail, sign_at, sign_reach, after_sign, reads, reads_all, phrase_of, keys_read, arguments_read}
 use Rattle.d_parser.proofs.Runs.{run_is, behind_is}
@@ -27,7 +27,7 @@ use Rattle.d_parser.proofs.Runs.{run_is, behind_is}
 
 -- no expression begins with such a mark
 mark_none : (n k : ℕ) (mark : Mark) (ts rest : List Token) → prefix_of mark ≡ p.Other → same_mark mark m.OpenParenthesis ≡ false → Sign mark ts rest → (readers n).phrase k ts ≡ None
-unfolding whole operand part marked
+unfolding whole operand part part_at_mark
 mark_none zero k mark ts rest e o h = refl
 mark_none (suc n) k mark ts rest e o h = rw h.begins.is (rw (o, e) refl)
 
@@ -223,17 +223,17 @@ clause_takes c ts rest h =
 -- no word comes next
 pub record NoWord (ts : List Token) : Type 0 where
   pub none : run ts ≡ []
-  pub same : behind_run ts ≡ ts
+  pub same : after_run ts ≡ ts
 
 sign_no_word : (mark : Mark) (ts rest : List Token) → Sign mark ts rest → NoWord ts
-unfolding run behind_run
+unfolding run after_run
 sign_no_word mark ts rest h = record { none = ap run h.begins.is; same = rw h.begins.is refl }
 
 type_read : (t : DeclaredType) (ts rest : List Token) → IsType t ts rest → NoWord rest → whole_type ts ≡ Some (t, rest)
 unfolding whole_type
 type_read t ts rest h quiet =
     let own : run ts ≡ h.words = ap run h.is ∙ (run_is h.words rest h.are_words ∙ (ap (λ (xs : List Token). h.words ++ xs) quiet.none ∙ append-nil h.words)) in
-    let behind : behind_run ts ≡ rest = ap behind_run h.is ∙ (behind_is h.words rest h.are_words ∙ quiet.same) in
+    let behind : after_run ts ≡ rest = ap after_run h.is ∙ (behind_is h.words rest h.are_words ∙ quiet.same) in
     rw (own, behind, h.spells) refl
 
 type_takes : (t : DeclaredType) (ts rest : List Token) → IsType t ts rest → length rest ≤ length ts
@@ -270,16 +270,16 @@ last_read : (words : List Token) (t : Token) → last_apart (words ++ t ∷ []) 
 last_read [] t = refl
 last_read (a ∷ words) t = rw (last_read words t) refl
 
-word_run : (name : List ℕ) (line : ℕ) (ts rest : List Token) (h : Begins (kind.Word name) line ts rest) → NoWord rest → (run ts ≡ token (kind.Word name) h.start h.stop line ∷ []) × (behind_run ts ≡ rest)
-unfolding run behind_run
-word_run name line ts rest h quiet = (ap run h.is ∙ ap (λ (xs : List Token). token (kind.Word name) h.start h.stop line ∷ xs) quiet.none, ap behind_run h.is ∙ quiet.same)
+word_run : (name : List ℕ) (line : ℕ) (ts rest : List Token) (h : Begins (kind.Word name) line ts rest) → NoWord rest → (run ts ≡ token (kind.Word name) h.start h.stop line ∷ []) × (after_run ts ≡ rest)
+unfolding run after_run
+word_run name line ts rest h quiet = (ap run h.is ∙ ap (λ (xs : List Token). token (kind.Word name) h.start h.stop line ∷ xs) quiet.none, ap after_run h.is ∙ quiet.same)
 
 typed_name_read : (t : DeclaredType) (name : List ℕ) (line : ℕ) (ts at_name rest : List Token) → IsType t ts at_name → Begins (kind.Word name) line at_name rest → NoWord rest → typed_name ts ≡ Some ((t, name), rest)
 unfolding typed_name
 typed_name_read t name line ts at_name rest h b quiet =
     let last = word_run name line at_name rest b quiet in
     let own : run ts ≡ h.words ++ token (kind.Word name) b.start b.stop line ∷ [] = ap run h.is ∙ (run_is h.words at_name h.are_words ∙ ap (λ (xs : List Token). h.words ++ xs) last.0) in
-    let behind : behind_run ts ≡ rest = ap behind_run h.is ∙ (behind_is h.words at_name h.are_words ∙ last.1) in
+    let behind : after_run ts ≡ rest = ap after_run h.is ∙ (behind_is h.words at_name h.are_words ∙ last.1) in
     rw (own, behind) (rw (last_read h.words (token (kind.Word name) b.start b.stop line)) (rw h.spells refl))
 
 declared_length : (which : WordKind) (line : ℕ) (t : DeclaredType) (name : List ℕ) (all : List DeclaredType) (ts rest : List Token) (h : IsDeclared which line t name all ts rest) → length h.at_keys < length ts
@@ -327,7 +327,7 @@ clause_local_read line t name ts rest h =
 
 -- ---- scripts
 
-declared_item : (n line : ℕ) (first : List ℕ) (which : WordKind) (d : DeclarationTree) (ts behind rest : List Token) → Begins (kind.Word first) line ts behind → word_kind first ≡ which → declared_by which n line behind ≡ Some (d, rest) → item n ts ≡ Some (Declared d, rest)
+declared_item : (n line : ℕ) (first : List ℕ) (which : WordKind) (d : DeclarationTree) (ts behind rest : List Token) → Begins (kind.Word first) line ts behind → word_kind first ≡ which → declaration_by which n line behind ≡ Some (d, rest) → item n ts ≡ Some (Declared d, rest)
 unfolding item
 declared_item n line first which d ts behind rest h w e = rw h.is (rw w (rw e refl))
 

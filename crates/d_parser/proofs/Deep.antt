@@ -3,12 +3,12 @@ use Rattle.std.proofs.Common.{◌≡◌, ℕ, zero, suc, ◌+◌, ◌<◌, ◌�
 use Rattle.std.specs.Prelude.{◌||◌, ◌⊎◌, nat_lt}
 use Rattle.std.proofs.lemmas.Bool.{cases_lt, ltb-true, lt-ltb}
 use Rattle.d_lexer.specs.declared.token.Token.{Token}
-use Rattle.d_parser.specs.Limits.{Turn, Opens, Closes, Ends, Goes, turn, opens, closes, ends, opened, closed, ended, IsDeep}
+use Rattle.d_parser.specs.Limits.{Turn, Opens, Closes, Ends, Goes, turn, opens, closes, ends, openings, closings, endings, IsDeep}
 use Rattle.d_parser.specs.Depth.{open_by, row_by, open_after, row_with, is_deep}
 
 -- a stretch that is too deep, behind so many open brackets and so many tokens in a row
 abbrev Full : ℕ → ℕ → List Token → Type 0
-Full b r p = (64 + closed p < b + opened p) ⊎ ((1024 < r + length p) × (ended p ≡ 0))
+Full b r p = (64 + closings p < b + openings p) ⊎ ((1024 < r + length p) × (endings p ≡ 0))
 
 -- such a stretch at the front
 record Front (b r : ℕ) (ts : List Token) : Type 0 where
@@ -54,7 +54,7 @@ one_of false false z h = inr (inr h)
 within : (t : Token) (ts : List Token) → IsDeep ts → IsDeep (t ∷ ts)
 within t ts d = record { before = t ∷ d.before; stretch = d.stretch; behind = d.behind; is = ap (λ (l : List Token). t ∷ l) d.is; deep = d.deep }
 
-here : (t : Token) (p q ts : List Token) → ts ≡ p ++ q → (64 + closed p < opened p) ⊎ ((1024 < length p) × (ended p ≡ 0)) → IsDeep (t ∷ ts)
+here : (t : Token) (p q ts : List Token) → ts ≡ p ++ q → (64 + closings p < openings p) ⊎ ((1024 < length p) × (endings p ≡ 0)) → IsDeep (t ∷ ts)
 here t p q ts e d = record { before = t ∷ []; stretch = p; behind = q; is = ap (λ (l : List Token). t ∷ l) e; deep = d }
 
 front : (t : Token) (p q ts : List Token) (b r : ℕ) → ts ≡ p ++ q → Full b r (t ∷ p) → Front b r (t ∷ ts)
@@ -63,11 +63,11 @@ front t p q ts b r e f = record { p = t ∷ p; q = q; is = ap (λ (l : List Toke
 step : (t : Token) (ts : List Token) (b r : ℕ) → Front (open_after t.kind b) (row_with t.kind r) ts → Front b r (t ∷ ts) ⊎ IsDeep (t ∷ ts)
 step t ts b r f =
     elim f.full [
-      | inl d ↦ elim (deeper (turn t.kind) b (opened f.p) (closed f.p) d) [
+      | inl d ↦ elim (deeper (turn t.kind) b (openings f.p) (closings f.p) d) [
         | inl w ↦ inl (front t f.p f.q ts b r f.is (inl w))
         | inr w ↦ inr (here t f.p f.q ts f.is (inl w))
       ]
-      | inr l ↦ elim (longer (turn t.kind) r (length f.p) (ended f.p) l.0 l.1) [
+      | inr l ↦ elim (longer (turn t.kind) r (length f.p) (endings f.p) l.0 l.1) [
         | inl w ↦ inl (front t f.p f.q ts b r f.is (inr w))
         | inr w ↦ inr (here t f.p f.q ts f.is (inr (w, l.1)))
       ]
@@ -115,11 +115,11 @@ front_deep [] q b r le short f = elim f [
 ]
 front_deep (t ∷ p) q b r le short f =
     go_on t (p ++ q) b r (λ le2 short2. front_deep p q (open_after t.kind b) (row_with t.kind r) le2 short2 (elim f [
-      | inl d ↦ inl (shallower (turn t.kind) b (opened p) (closed p) d)
-      | inr l ↦ inr (shorter (turn t.kind) r (length p) (ended p) l.0 l.1)
+      | inl d ↦ inl (shallower (turn t.kind) b (openings p) (closings p) d)
+      | inr l ↦ inr (shorter (turn t.kind) r (length p) (endings p) l.0 l.1)
     ]))
 
-part_deep : (before stretch behind : List Token) (b r : ℕ) → b ≤ 64 → r ≤ 1024 → (64 + closed stretch < opened stretch) ⊎ ((1024 < length stretch) × (ended stretch ≡ 0)) → is_deep b r (before ++ stretch ++ behind) ≡ true
+part_deep : (before stretch behind : List Token) (b r : ℕ) → b ≤ 64 → r ≤ 1024 → (64 + closings stretch < openings stretch) ⊎ ((1024 < length stretch) × (endings stretch ≡ 0)) → is_deep b r (before ++ stretch ++ behind) ≡ true
 part_deep [] stretch behind b r le short d = front_deep stretch behind b r le short (elim d [
   | inl x ↦ inl (omega arith)
   | inr x ↦ inr ((let l = x.0 in omega arith), x.1)

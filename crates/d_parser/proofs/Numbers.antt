@@ -76,14 +76,14 @@ mutual
   spells_small (Known line k) ts rest s h = let all = begins_small (constant_kind k) line ts rest s h in (constant_small k all.0, all.1)
   spells_small (Read x keys) ts rest s h = target_small x keys (keys_small keys) ts rest s h
   spells_small (Call line name arguments) ts rest s h =
-      let named = (begins_small _ line ts h.0 s h.1.begins).1 in
-      let opened = sign_small _ h.0 h.2.inner named h.2.opens in
-      let inside = list_small arguments h.2.inner h.2.behind opened h.2.inside in
+      let part_at_name = (begins_small _ line ts h.0 s h.1.begins).1 in
+      let openings = sign_small _ h.0 h.2.inner part_at_name h.2.opens in
+      let inside = list_small arguments h.2.inner h.2.behind openings h.2.inside in
       (inside.0, sign_small _ h.2.behind rest inside.1 h.2.closes)
   spells_small (Unary line op a) ts rest s h = phrase_small a 14 (spells_small a) h.1 rest (begins_small _ line ts h.1 s h.3).1 h.4
   spells_small (Cast line to a) ts rest s h =
-      let opened = (begins_small _ line ts (h.1.words ++ h.1.close) s h.1.opens).1 in
-      phrase_small a 14 (spells_small a) h.0 rest (sign_small _ h.1.close h.0 (behind_small h.1.words h.1.close opened) h.1.closes) h.2
+      let openings = (begins_small _ line ts (h.1.words ++ h.1.close) s h.1.opens).1 in
+      phrase_small a 14 (spells_small a) h.0 rest (sign_small _ h.1.close h.0 (behind_small h.1.words h.1.close openings) h.1.closes) h.2
   spells_small (Before line step x keys) ts rest s h = target_small x keys (keys_small keys) h.1 rest (begins_small _ line ts h.1 s h.3).1 h.4
   spells_small (After x keys step) ts rest s h =
       let all = target_small x keys (keys_small keys) ts h.1 s h.3 in
@@ -199,8 +199,8 @@ declaration_small (OfClause line t name) ts rest s h = declared_small _ line t n
 
 clause_small : (k : ClauseTree) → Keeps (InPredicate k.predicate × InStatements k.statements) (IsClause k)
 clause_small k ts rest s h =
-    let described = descriptions_small k.descriptions ts h.at_predicate s h.descriptions in
-    let one = predicate_small k.predicate h.at_predicate h.at_brace described h.predicate in
+    let description_with = descriptions_small k.descriptions ts h.at_predicate s h.descriptions in
+    let one = predicate_small k.predicate h.at_predicate h.at_brace description_with h.predicate in
     let two = stmts_small k.statements h.at_stmts rest (sign_small _ h.at_brace h.at_stmts one.1 h.opens) h.stmts in
     ((one.0, two.0), two.1)
 

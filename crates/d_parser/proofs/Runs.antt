@@ -1,16 +1,16 @@
 -- The words at the front of a list.
 use Rattle.std.proofs.Common.{◌≡◌, suc, ◌-◌, ◌≤◌, Bool, true, false, cond, List, [], ◌∷◌, ◌++◌, length, take, drop, refl, ap, arith}
 use Rattle.d_lexer.specs.declared.token.Token.{Token}
-use Rattle.d_parser.specs.Words.{is_word, AreWords, run, behind_run}
+use Rattle.d_parser.specs.Words.{is_word, AreWords, run, after_run}
 
 short_by : (b : Bool) (t : Token) (ts behind : List Token) → length behind ≤ length ts → length (cond b behind (t ∷ ts)) ≤ length (t ∷ ts)
 short_by true t ts behind h = omega arith
 short_by false t ts behind h = omega arith
 
-pub behind_short : (ts : List Token) → length (behind_run ts) ≤ length ts
-unfolding behind_run
+pub behind_short : (ts : List Token) → length (after_run ts) ≤ length ts
+unfolding after_run
 behind_short [] = omega arith
-behind_short (t ∷ ts) = short_by (is_word t.kind) t ts (behind_run ts) (behind_short ts)
+behind_short (t ∷ ts) = short_by (is_word t.kind) t ts (after_run ts) (behind_short ts)
 
 taken_by : (b : Bool) (t : Token) (ts own behind : List Token) → length behind ≤ length ts → take (length ts - length behind) ts ≡ own → take (length (t ∷ ts) - length (cond b behind (t ∷ ts))) (t ∷ ts) ≡ cond b (t ∷ own) []
 taken_by true t ts own behind short e =
@@ -18,10 +18,10 @@ taken_by true t ts own behind short e =
     rw n (ap (λ (xs : List Token). t ∷ xs) e)
 taken_by false t ts own behind short e = let n : length (t ∷ ts) - length (t ∷ ts) ≡ 0 = omega arith in rw n refl
 
-pub run_taken : (ts : List Token) → take (length ts - length (behind_run ts)) ts ≡ run ts
-unfolding run behind_run
+pub run_taken : (ts : List Token) → take (length ts - length (after_run ts)) ts ≡ run ts
+unfolding run after_run
 run_taken [] = refl
-run_taken (t ∷ ts) = taken_by (is_word t.kind) t ts (run ts) (behind_run ts) (behind_short ts) (run_taken ts)
+run_taken (t ∷ ts) = taken_by (is_word t.kind) t ts (run ts) (after_run ts) (behind_short ts) (run_taken ts)
 
 dropped_by : (b : Bool) (t : Token) (ts behind : List Token) → length behind ≤ length ts → drop (length ts - length behind) ts ≡ behind → drop (length (t ∷ ts) - length (cond b behind (t ∷ ts))) (t ∷ ts) ≡ cond b behind (t ∷ ts)
 dropped_by true t ts behind short e =
@@ -29,18 +29,18 @@ dropped_by true t ts behind short e =
     rw n e
 dropped_by false t ts behind short e = let n : length (t ∷ ts) - length (t ∷ ts) ≡ 0 = omega arith in rw n refl
 
-pub run_dropped : (ts : List Token) → drop (length ts - length (behind_run ts)) ts ≡ behind_run ts
-unfolding run behind_run
+pub run_dropped : (ts : List Token) → drop (length ts - length (after_run ts)) ts ≡ after_run ts
+unfolding run after_run
 run_dropped [] = refl
-run_dropped (t ∷ ts) = dropped_by (is_word t.kind) t ts (behind_run ts) (behind_short ts) (run_dropped ts)
+run_dropped (t ∷ ts) = dropped_by (is_word t.kind) t ts (after_run ts) (behind_short ts) (run_dropped ts)
 
 pub run_is : (words rest : List Token) → AreWords words → run (words ++ rest) ≡ words ++ run rest
 unfolding run
 run_is [] rest h = refl
 run_is (t ∷ words) rest h = rw h.0 (ap (λ (xs : List Token). t ∷ xs) (run_is words rest h.1))
 
-pub behind_is : (words rest : List Token) → AreWords words → behind_run (words ++ rest) ≡ behind_run rest
-unfolding behind_run
+pub behind_is : (words rest : List Token) → AreWords words → after_run (words ++ rest) ≡ after_run rest
+unfolding after_run
 behind_is [] rest h = refl
 behind_is (t ∷ words) rest h = rw h.0 (behind_is words rest h.1)
 
@@ -57,7 +57,7 @@ joined_by : (b : Bool) (t : Token) (ts own behind : List Token) → ts ≡ own +
 joined_by true t ts own behind e = ap (λ (xs : List Token). t ∷ xs) e
 joined_by false t ts own behind e = refl
 
-pub run_joined : (ts : List Token) → ts ≡ run ts ++ behind_run ts
-unfolding run behind_run
+pub run_joined : (ts : List Token) → ts ≡ run ts ++ after_run ts
+unfolding run after_run
 run_joined [] = refl
-run_joined (t ∷ ts) = joined_by (is_word t.kind) t ts (run ts) (behind_run ts) (run_joined ts)
+run_joined (t ∷ ts) = joined_by (is_word t.kind) t ts (run ts) (after_run ts) (run_joined ts)

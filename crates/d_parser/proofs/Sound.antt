@@ -22,10 +22,10 @@ use Rattle.d_parser.specs.declared.marks.Prefix.TheVariants as p
 use Rattle.d_parser.specs.declared.marks.Follow.{Follow}
 use Rattle.d_parser.specs.declared.marks.Follow.TheVariants as f
 use Rattle.d_parser.specs.Tree.{Tree, Known, Read, Call, Unary, Cast, Before, After, Binary, Choice, Assign, Trees, end, more, add}
-use Rattle.d_parser.specs.Words.{word_kind, integer_type, run, behind_run}
+use Rattle.d_parser.specs.Words.{word_kind, integer_type, run, after_run}
 use Rattle.d_parser.specs.Marks.{prefix_of, follow_of, level_of, follow_kind, follow_at, is_at, same_mark, tail}
 use Rattle.d_parser.specs.Grammar.{token, Begins, Sign, IsPhrase, rank, IsPlain, IsVariable, MayHave, IsTarget, IsEnclosed, IsCast, Spells, SpellsKeys, SpellsList, SpellsMore}
-use Rattle.d_parser.specs.Reading.{◌>>=◌, after_mark, if_plain, plain_word, plain_by, member, variable, is_typed, cast_type, calls, begins_call, Readers, readers, listed, keys_by, keys, arguments, with_keys, target, follows_by, follows, named, casted, parenthesised, stepped_by, stepped, prefixed_by, marked, part_by, part, climb_by, climb_on, choice_by, chosen, choice, operand, whole, further_on}
+use Rattle.d_parser.specs.Reading.{◌>>=◌, after_mark, if_plain, plain_word, plain_by, member, variable, is_typed, cast_type, calls, begins_call, Readers, readers, closed_list, keys_by, keys, arguments, with_keys, target, follows_by, follows, part_at_name, part_at_cast, part_in_parentheses, part_at_step_by, part_at_step, prefixed_by, part_at_mark, part_by, part, climb_by, climb_on, choice_by, alternatives, choice, operand, whole, further_on}
 use Rattle.d_parser.proofs.Complete.{level_high, level_below, sign_there, join, join_more}
 use Rattle.d_parser.proofs.Runs.{are_words, run_joined}
 
@@ -207,9 +207,9 @@ integer_by (Some to) ts e = e
 cast_sound : (line : ℕ) (start ts : List Token) → Begins (kind.Mark m.OpenParenthesis) line start ts → IfSome (λ x. IsCast line x.0 start x.1) (cast_type ts)
 unfolding cast_type
 cast_sound line start ts h =
-    then_sound (λ to. integer_type (run ts) ≡ Some to) (λ x. IsCast line x.0 start x.1) (integer_type (run ts)) (λ to. after_mark m.CloseParenthesis (behind_run ts) >>= λ rest. Some (to, rest)) (integer_by (integer_type (run ts)) ts refl)
-    (λ to e. then_sound (λ rest. Sign m.CloseParenthesis (behind_run ts) rest) (λ x. IsCast line x.0 start x.1) (after_mark m.CloseParenthesis (behind_run ts)) (λ rest. Some (to, rest)) (after_sound m.CloseParenthesis (behind_run ts))
-    (λ rest s. record { words = run ts; close = behind_run ts; opens = subst (λ (xs : List Token). Begins (kind.Mark m.OpenParenthesis) line start xs) (run_joined ts) h; are_words = are_words ts; spells = e; closes = s }))
+    then_sound (λ to. integer_type (run ts) ≡ Some to) (λ x. IsCast line x.0 start x.1) (integer_type (run ts)) (λ to. after_mark m.CloseParenthesis (after_run ts) >>= λ rest. Some (to, rest)) (integer_by (integer_type (run ts)) ts refl)
+    (λ to e. then_sound (λ rest. Sign m.CloseParenthesis (after_run ts) rest) (λ x. IsCast line x.0 start x.1) (after_mark m.CloseParenthesis (after_run ts)) (λ rest. Some (to, rest)) (after_sound m.CloseParenthesis (after_run ts))
+    (λ rest s. record { words = run ts; close = after_run ts; opens = subst (λ (xs : List Token). Begins (kind.Mark m.OpenParenthesis) line start xs) (run_joined ts) h; are_words = are_words ts; spells = e; closes = s }))
 
 -- ---- marks
 
@@ -264,8 +264,8 @@ abbrev CastOf : ℕ → List Token → IntegerType × List Token → Type 0
 CastOf line ts x = IsCast line x.0 ts x.1
 
 module _ (down : Readers) (sound : Sound down) where
-  listed_sound : (close : Mark) (ts : List Token) → IfSome (Listed close ts) (listed down close ts)
-  unfolding listed
+  listed_sound : (close : Mark) (ts : List Token) → IfSome (Listed close ts) (closed_list down close ts)
+  unfolding closed_list
   listed_sound close ts =
       then_sound (Whole 1 ts) (Listed close ts) (down.phrase 1 ts) (λ first. down.further (more first.0 end) first.1 >>= λ all. after_mark close all.1 >>= λ rest. Some (all.0, rest)) (sound.phrase 1 ts (lit≤ tt) (lit≤ tt))
       (λ first h. then_sound (Further (more first.0 end) first.1) (Listed close ts) (down.further (more first.0 end) first.1) (λ all. after_mark close all.1 >>= λ rest. Some (all.0, rest)) (sound.further (more first.0 end) first.1)
@@ -274,7 +274,7 @@ module _ (down : Readers) (sound : Sound down) where
 
   keys_by_sound : (follow : Follow) (ts : List Token) → follow_at ts ≡ follow → IfSome (KeysOf ts) (keys_by down follow ts)
   keys_by_sound f.Bracket ts e =
-      weaken (Listed m.CloseBracket (tail ts)) (KeysOf ts) (listed down m.CloseBracket (tail ts))
+      weaken (Listed m.CloseBracket (tail ts)) (KeysOf ts) (closed_list down m.CloseBracket (tail ts))
       (λ x h. subst (λ (l : Trees). SpellsKeys l ts x.1) (sym h.is) (tail ts, h.behind, h.closing, mark_sign m.OpenBracket f.Bracket ts bracket_is e (λ h. absurd cc), h.phrase, h.spells, h.closes))
       (listed_sound m.CloseBracket (tail ts))
   keys_by_sound (f.Infix op) ts e = refl
@@ -291,9 +291,9 @@ module _ (down : Readers) (sound : Sound down) where
   pub arguments_sound : (list : List Token) → Sign m.OpenParenthesis list (tail list) → IfSome (ArgumentsOf list) (arguments down (tail list))
   unfolding arguments
   arguments_sound list s =
-      test_sound (ArgumentsOf list) (is_at m.CloseParenthesis (tail list)) (Some (end, tail (tail list))) (listed down m.CloseParenthesis (tail list))
+      test_sound (ArgumentsOf list) (is_at m.CloseParenthesis (tail list)) (Some (end, tail (tail list))) (closed_list down m.CloseParenthesis (tail list))
       (λ h. record { inner = tail list; behind = tail list; opens = s; inside = refl; closes = sign_there m.CloseParenthesis (tail list) h })
-      (λ h. weaken (Listed m.CloseParenthesis (tail list)) (ArgumentsOf list) (listed down m.CloseParenthesis (tail list))
+      (λ h. weaken (Listed m.CloseParenthesis (tail list)) (ArgumentsOf list) (closed_list down m.CloseParenthesis (tail list))
       (λ x g. record { inner = tail list; behind = g.closing; opens = s; inside = subst (λ (l : Trees). SpellsList l (tail list) g.closing) (sym g.is) (g.behind, g.phrase, g.spells); closes = g.closes })
       (listed_sound m.CloseParenthesis (tail list)))
 
@@ -349,30 +349,30 @@ module _ (down : Readers) (sound : Sound down) where
       then_sound (ArgumentsOf ts) (Fits j start) (arguments down (tail ts)) (λ all. Some (Call line name all.0, all.1)) (arguments_sound ts (mark_sign m.OpenParenthesis f.Parenthesis ts parenthesis_is both.1 (λ h. absurd cc)))
       (λ all g. bare_fits (Call line name all.0) j start all.1 le (lit≤ tt) (ts, record { begins = h; plain = both.0 }, g))
 
-  named_sound : (j : ℕ) (name : List ℕ) (line : ℕ) (start ts : List Token) → j ≤ 14 → Begins (kind.Word name) line start ts → IfSome (Fits j start) (named down j name line ts)
-  unfolding named
+  named_sound : (j : ℕ) (name : List ℕ) (line : ℕ) (start ts : List Token) → j ≤ 14 → Begins (kind.Word name) line start ts → IfSome (Fits j start) (part_at_name down j name line ts)
+  unfolding part_at_name
   named_sound j name line start ts le h =
       test_sound (Fits j start) (begins_call name ts) (arguments down (tail ts) >>= λ all. Some (Call line name all.0, all.1)) (target down (word_kind name) name line ts >>= λ x. follows down j x.0 x.1)
       (λ e. call_sound j name line start ts le h e)
       (λ e. then_sound (TargetOf start) (Fits j start) (target down (word_kind name) name line ts) (λ x. follows down j x.0 x.1) (target_sound name line start ts h) (λ x g. follows_sound j x.0 start x.1 le g))
 
-  casted_sound : (j line : ℕ) (start ts : List Token) → j ≤ 14 → Begins (kind.Mark m.OpenParenthesis) line start ts → IfSome (Fits j start) (casted down line ts)
-  unfolding casted
+  casted_sound : (j line : ℕ) (start ts : List Token) → j ≤ 14 → Begins (kind.Mark m.OpenParenthesis) line start ts → IfSome (Fits j start) (part_at_cast down line ts)
+  unfolding part_at_cast
   casted_sound j line start ts le h =
       then_sound (CastOf line start) (Fits j start) (cast_type ts) (λ to. down.phrase 14 to.1 >>= λ a. Some (Cast line to.0 a.0, a.1)) (cast_sound line start ts h)
       (λ to g. then_sound (Whole 14 to.1) (Fits j start) (down.phrase 14 to.1) (λ a. Some (Cast line to.0 a.0, a.1)) (sound.phrase 14 to.1 (lit≤ tt) (lit≤ tt))
       (λ a k. bare_fits (Cast line to.0 a.0) j start a.1 le (lit≤ tt) (to.1, g, k.phrase)))
 
-  parens_sound : (j line : ℕ) (start ts : List Token) → j ≤ 14 → Begins (kind.Mark m.OpenParenthesis) line start ts → IfSome (Fits j start) (parenthesised down line ts)
-  unfolding parenthesised
+  parens_sound : (j line : ℕ) (start ts : List Token) → j ≤ 14 → Begins (kind.Mark m.OpenParenthesis) line start ts → IfSome (Fits j start) (part_in_parentheses down line ts)
+  unfolding part_in_parentheses
   parens_sound j line start ts le h =
-      test_sound (Fits j start) (is_typed ts) (casted down line ts) (down.phrase 1 ts >>= λ inner. after_mark m.CloseParenthesis inner.1 >>= λ rest. Some (inner.0, rest))
+      test_sound (Fits j start) (is_typed ts) (part_at_cast down line ts) (down.phrase 1 ts >>= λ inner. after_mark m.CloseParenthesis inner.1 >>= λ rest. Some (inner.0, rest))
       (λ e. casted_sound j line start ts le h)
       (λ e. then_sound (Whole 1 ts) (Fits j start) (down.phrase 1 ts) (λ inner. after_mark m.CloseParenthesis inner.1 >>= λ rest. Some (inner.0, rest)) (sound.phrase 1 ts (lit≤ tt) (lit≤ tt))
       (λ inner g. then_sound (SignOf m.CloseParenthesis inner.1) (Fits j start) (after_mark m.CloseParenthesis inner.1) (λ rest. Some (inner.0, rest)) (after_sound m.CloseParenthesis inner.1)
       (λ rest s. any_fits inner.0 j start rest le (λ l high. in_parens inner.0 1 l start ts inner.1 rest (record { line = line; begins = h }) g.phrase s))))
 
-  stepped_by_sound : (t : TokenKind) (begin stop word_line : ℕ) (j line : ℕ) (step : Step) (mark : Mark) (start ts : List Token) → j ≤ 14 → prefix_of mark ≡ p.Step step → Begins (kind.Mark mark) line start (token t begin stop word_line ∷ ts) → IfSome (Fits j start) (stepped_by down line step t word_line ts)
+  stepped_by_sound : (t : TokenKind) (begin stop word_line : ℕ) (j line : ℕ) (step : Step) (mark : Mark) (start ts : List Token) → j ≤ 14 → prefix_of mark ≡ p.Step step → Begins (kind.Mark mark) line start (token t begin stop word_line ∷ ts) → IfSome (Fits j start) (part_at_step_by down line step t word_line ts)
   stepped_by_sound (kind.Word name) begin stop word_line j line step mark start ts le e h =
       then_sound (TargetOf (token (kind.Word name) begin stop word_line ∷ ts)) (Fits j start) (target down (word_kind name) name word_line ts) (λ x. Some (Before line step x.0.0 x.0.1, x.1)) (target_sound name word_line (token (kind.Word name) begin stop word_line ∷ ts) ts (record { start = begin; stop = stop; is = refl }))
       (λ x g. bare_fits (Before line step x.0.0 x.0.1) j start x.1 le (lit≤ tt) (mark, token (kind.Word name) begin stop word_line ∷ ts, e, h, g))
@@ -382,8 +382,8 @@ module _ (down : Readers) (sound : Sound down) where
   stepped_by_sound (kind.TextConstant bytes) begin stop word_line j line step mark start ts le e h = tt
   stepped_by_sound (kind.Mark found) begin stop word_line j line step mark start ts le e h = tt
 
-  stepped_sound : (j line : ℕ) (step : Step) (mark : Mark) (start ts : List Token) → j ≤ 14 → prefix_of mark ≡ p.Step step → Begins (kind.Mark mark) line start ts → IfSome (Fits j start) (stepped down line step ts)
-  unfolding stepped
+  stepped_sound : (j line : ℕ) (step : Step) (mark : Mark) (start ts : List Token) → j ≤ 14 → prefix_of mark ≡ p.Step step → Begins (kind.Mark mark) line start ts → IfSome (Fits j start) (part_at_step down line step ts)
+  unfolding part_at_step
   stepped_sound j line step mark start [] le e h = tt
   stepped_sound j line step mark start (t ∷ ts) le e h = stepped_by_sound t.kind t.start t.stop t.line j line step mark start ts le e h
 
@@ -394,10 +394,10 @@ module _ (down : Readers) (sound : Sound down) where
   prefixed_sound (p.Step step) j line mark start ts le e h = stepped_sound j line step mark start ts le e h
   prefixed_sound p.Other j line mark start ts le e h = tt
 
-  marked_sound : (j line : ℕ) (mark : Mark) (start ts : List Token) → j ≤ 14 → Begins (kind.Mark mark) line start ts → IfSome (Fits j start) (marked down mark line ts)
-  unfolding marked
+  marked_sound : (j line : ℕ) (mark : Mark) (start ts : List Token) → j ≤ 14 → Begins (kind.Mark mark) line start ts → IfSome (Fits j start) (part_at_mark down mark line ts)
+  unfolding part_at_mark
   marked_sound j line mark start ts le h =
-      test_sound (Fits j start) (same_mark mark m.OpenParenthesis) (parenthesised down line ts) (prefixed_by down (prefix_of mark) line ts)
+      test_sound (Fits j start) (same_mark mark m.OpenParenthesis) (part_in_parentheses down line ts) (prefixed_by down (prefix_of mark) line ts)
       (λ e. parens_sound j line start ts le (subst (λ (k : Mark). Begins (kind.Mark k) line start ts) (same_true the_type (search rules) mark m.OpenParenthesis e) h))
       (λ e. prefixed_sound (prefix_of mark) j line mark start ts le refl h)
 
@@ -450,8 +450,8 @@ module _ (down : Readers) (sound : Sound down) where
   -- ---- choice
 
   choice_of_sound : (k : ℕ) (test : Tree) (start ts : List Token) → k ≤ 2 → 1 ≤ k → Fits k start (test, ts) → follow_at ts ≡ f.Question
-      → IfSome (Whole k start) (chosen down test (tail ts))
-  unfolding chosen
+      → IfSome (Whole k start) (alternatives down test (tail ts))
+  unfolding alternatives
   choice_of_sound k test start ts le pos h e =
       let s = mark_sign m.Question f.Question ts question_is e (λ h. absurd cc) in
       let is : joins ts ≡ 2 = ap joins_of e in

@@ -10,12 +10,12 @@ use Rattle.d_parser.specs.declared.tree.Description.{Description}
 use Rattle.d_parser.specs.declared.words.WordKind.{WordKind}
 use Rattle.d_parser.specs.declared.words.WordKind.TheVariants as w
 use Rattle.d_parser.specs.Tree.{Tree, StmtTree, Expression, Aggregation, DeclarationTree, OfThread, OfClause, ClauseTree, ItemTree, Declared, Probing}
-use Rattle.d_parser.specs.Words.{word_kind, is_word, type_of, AreWords, run, behind_run}
+use Rattle.d_parser.specs.Words.{word_kind, is_word, type_of, AreWords, run, after_run}
 use Rattle.d_parser.specs.Marks.{is_at, tail}
 use Rattle.d_parser.specs.Grammar.{token, Begins, Sign}
 use Rattle.d_parser.specs.Script.{IsStmt, IsSlot, AreFurther, present, AreStmts, description_of, IsDescription, FurtherDescriptions, AreDescriptions, IsPredicate, IsClause, IsType, FurtherTypes, AreKeyTypes, IsDeclaration, IsItem, IsScript}
 use Rattle.d_parser.specs.Reading.{◌>>=◌, after_mark, readers, keys, arguments}
-use Rattle.d_parser.specs.ReadingScripts.{word_by, any_word, aggregation, stmt_by, stmt, ends_stmt, slot, further_stmts, stmts, with_rest, description_by, description, descriptions_on, further_descriptions, descriptions, predicate, clause, whole_type, types_on, further_types, key_types, last_by, last_apart, word_of, typed_name, of_thread, of_clause, declared_by, item_by, item, items, script}
+use Rattle.d_parser.specs.ReadingScripts.{word_by, any_word, aggregation, stmt_by, stmt, ends_stmt, slot, further_stmts, stmts, with_rest, description_by, description, descriptions_on, further_descriptions, descriptions, predicate, clause, whole_type, types_on, further_types, key_types, last_by, last_apart, word_of, typed_name, of_thread, of_clause, declaration_by, item_by, item, items, script}
 use Rattle.d_parser.proofs.Complete.{sign_there}
 use Rattle.d_parser.proofs.Sound.{IfSome, then_sound, test_sound, weaken, after_sound, Whole, KeysOf, ArgumentsOf, SignOf, keys_sound, arguments_sound, readers_sound}
 use Rattle.d_parser.proofs.Runs.{are_words, run_joined}
@@ -41,12 +41,12 @@ word_sound (t ∷ ts) = word_by_sound t.kind t.start t.stop t.line ts
 abbrev StmtOf : List Token → StmtTree × List Token → Type 0
 StmtOf ts x = IsStmt x.0 ts x.1
 
-opened : (ts : List Token) (rest : List Token) → Sign m.OpenParenthesis ts rest → tail ts ≡ rest
-opened ts rest h = ap tail h.begins.is
+openings : (ts : List Token) (rest : List Token) → Sign m.OpenParenthesis ts rest → tail ts ≡ rest
+openings ts rest h = ap tail h.begins.is
 
 arguments_at : (n : ℕ) (open_at list : List Token) → Sign m.OpenParenthesis open_at list → IfSome (ArgumentsOf open_at) (arguments (readers n) list)
 arguments_at n open_at list s =
-    let e = opened open_at list s in
+    let e = openings open_at list s in
     subst (λ (xs : List Token). IfSome (ArgumentsOf open_at) (arguments (readers n) xs)) e (arguments_sound (readers n) (readers_sound n) open_at (subst (λ (xs : List Token). Sign m.OpenParenthesis open_at xs) (sym e) s))
 
 aggregation_sound : (n line : ℕ) (name : List ℕ) (start ts : List Token) → Begins (kind.AggregationName name) line start ts → IfSome (StmtOf start) (aggregation n line name ts)
@@ -199,7 +199,7 @@ clause_sound n ts =
 abbrev TypeOf : List Token → DeclaredType × List Token → Type 0
 TypeOf ts x = IsType x.0 ts x.1
 
-type_by_sound : (o : Option DeclaredType) (ts : List Token) → type_of (run ts) ≡ o → IfSome (TypeOf ts) (with_rest (behind_run ts) o)
+type_by_sound : (o : Option DeclaredType) (ts : List Token) → type_of (run ts) ≡ o → IfSome (TypeOf ts) (with_rest (after_run ts) o)
 type_by_sound None ts e = tt
 type_by_sound (Some t) ts e = record { words = run ts; is = run_joined ts; are_words = are_words ts; spells = e }
 
@@ -280,28 +280,28 @@ some_type : (o : Option DeclaredType) (words : List Token) → type_of words ≡
 some_type None words e = tt
 some_type (Some t) words e = e
 
-named_type : (ts words : List Token) (last : Token) (t : DeclaredType) → run ts ≡ words ++ last ∷ [] → type_of words ≡ Some t → TypedName ts ((t, word_of last.kind), behind_run ts)
+named_type : (ts words : List Token) (last : Token) (t : DeclaredType) → run ts ≡ words ++ last ∷ [] → type_of words ≡ Some t → TypedName ts ((t, word_of last.kind), after_run ts)
 named_type ts words last t e h =
     let apart = words_apart words last (subst AreWords e (are_words ts)) in
-    let whole : ts ≡ words ++ (last ∷ behind_run ts) = run_joined ts ∙ (ap (λ (xs : List Token). xs ++ behind_run ts) e ∙ append_assoc words (last ∷ []) (behind_run ts)) in
+    let whole : ts ≡ words ++ (last ∷ after_run ts) = run_joined ts ∙ (ap (λ (xs : List Token). xs ++ after_run ts) e ∙ append_assoc words (last ∷ []) (after_run ts)) in
     record {
-      at_name = last ∷ behind_run ts;
+      at_name = last ∷ after_run ts;
       line = last.line;
       spells = record { words = words; is = whole; are_words = apart.0; spells = h };
-      word = record { start = last.start; stop = last.stop; is = ap (λ (k : TokenKind). token k last.start last.stop last.line ∷ behind_run ts) (word_is last.kind apart.1) };
+      word = record { start = last.start; stop = last.stop; is = ap (λ (k : TokenKind). token k last.start last.stop last.line ∷ after_run ts) (word_is last.kind apart.1) };
     }
 
 typed_name_sound : (ts : List Token) → IfSome (TypedName ts) (typed_name ts)
 unfolding typed_name
 typed_name_sound ts =
-    then_sound (Apart (run ts)) (TypedName ts) (last_apart (run ts)) (λ x. type_of x.0 >>= λ t. Some ((t, word_of x.1.kind), behind_run ts)) (apart_sound (run ts))
-    (λ x e. then_sound (λ t. type_of x.0 ≡ Some t) (TypedName ts) (type_of x.0) (λ t. Some ((t, word_of x.1.kind), behind_run ts)) (some_type (type_of x.0) x.0 refl)
+    then_sound (Apart (run ts)) (TypedName ts) (last_apart (run ts)) (λ x. type_of x.0 >>= λ t. Some ((t, word_of x.1.kind), after_run ts)) (apart_sound (run ts))
+    (λ x e. then_sound (λ t. type_of x.0 ≡ Some t) (TypedName ts) (type_of x.0) (λ t. Some ((t, word_of x.1.kind), after_run ts)) (some_type (type_of x.0) x.0 refl)
     (λ t h. named_type ts x.0 x.1 t e h))
 
 abbrev DeclarationOf : List Token → DeclarationTree × List Token → Type 0
 DeclarationOf ts x = IsDeclaration x.0 ts x.1
 
-thread_sound : (n line : ℕ) (name : List ℕ) (start ts : List Token) → word_kind name ≡ w.Thread → Begins (kind.Word name) line start ts → IfSome (DeclarationOf start) (declared_by w.Thread n line ts)
+thread_sound : (n line : ℕ) (name : List ℕ) (start ts : List Token) → word_kind name ≡ w.Thread → Begins (kind.Word name) line start ts → IfSome (DeclarationOf start) (declaration_by w.Thread n line ts)
 unfolding of_thread
 thread_sound n line name start ts e h =
     then_sound (TypedName ts) (DeclarationOf start) (typed_name ts) (λ x. key_types n x.1 >>= λ k. after_mark m.Semicolon k.1 >>= λ rest. Some (OfThread line x.0.0 x.0.1 k.0, rest)) (typed_name_sound ts)
@@ -309,14 +309,14 @@ thread_sound n line name start ts e h =
     (λ k a. then_sound (SignOf m.Semicolon k.1) (DeclarationOf start) (after_mark m.Semicolon k.1) (λ rest. Some (OfThread line x.0.0 x.0.1 k.0, rest)) (after_sound m.Semicolon k.1)
     (λ rest s. record { first = name; at_type = ts; at_name = g.at_name; at_keys = x.1; at_end = k.1; name_line = g.line; begins = h; reserved = e; spells = g.spells; word = g.word; key_types = a; ends = s })))
 
-clause_local_sound : (n line : ℕ) (name : List ℕ) (start ts : List Token) → word_kind name ≡ w.Clause → Begins (kind.Word name) line start ts → IfSome (DeclarationOf start) (declared_by w.Clause n line ts)
+clause_local_sound : (n line : ℕ) (name : List ℕ) (start ts : List Token) → word_kind name ≡ w.Clause → Begins (kind.Word name) line start ts → IfSome (DeclarationOf start) (declaration_by w.Clause n line ts)
 unfolding of_clause
 clause_local_sound n line name start ts e h =
     then_sound (TypedName ts) (DeclarationOf start) (typed_name ts) (λ x. after_mark m.Semicolon x.1 >>= λ rest. Some (OfClause line x.0.0 x.0.1, rest)) (typed_name_sound ts)
     (λ x g. then_sound (SignOf m.Semicolon x.1) (DeclarationOf start) (after_mark m.Semicolon x.1) (λ rest. Some (OfClause line x.0.0 x.0.1, rest)) (after_sound m.Semicolon x.1)
     (λ rest s. record { first = name; at_type = ts; at_name = g.at_name; at_keys = x.1; at_end = x.1; name_line = g.line; begins = h; reserved = e; spells = g.spells; word = g.word; key_types = refl; ends = s }))
 
-declared_sound : (word : WordKind) (n line : ℕ) (name : List ℕ) (start ts : List Token) → word_kind name ≡ word → Begins (kind.Word name) line start ts → IfSome (DeclarationOf start) (declared_by word n line ts)
+declared_sound : (word : WordKind) (n line : ℕ) (name : List ℕ) (start ts : List Token) → word_kind name ≡ word → Begins (kind.Word name) line start ts → IfSome (DeclarationOf start) (declaration_by word n line ts)
 declared_sound w.Thread n line name start ts e h = thread_sound n line name start ts e h
 declared_sound w.Clause n line name start ts e h = clause_local_sound n line name start ts e h
 declared_sound w.Plain n line name start ts e h = tt
@@ -339,7 +339,7 @@ probing_sound n ts = then_sound (ClauseOf ts) (ItemOf ts) (clause n ts) (λ c. S
 
 item_by_sound : (n : ℕ) (t : TokenKind) (start stop line : ℕ) (ts : List Token) → IfSome (ItemOf (token t start stop line ∷ ts)) (item_by n t line ts (token t start stop line ∷ ts))
 item_by_sound n (kind.Word word) start stop line ts =
-    then_sound (DeclarationOf (token (kind.Word word) start stop line ∷ ts)) (ItemOf (token (kind.Word word) start stop line ∷ ts)) (declared_by (word_kind word) n line ts) (λ d. Some (Declared d.0, d.1))
+    then_sound (DeclarationOf (token (kind.Word word) start stop line ∷ ts)) (ItemOf (token (kind.Word word) start stop line ∷ ts)) (declaration_by (word_kind word) n line ts) (λ d. Some (Declared d.0, d.1))
     (declared_sound (word_kind word) n line word (token (kind.Word word) start stop line ∷ ts) ts refl (record { start = start; stop = stop; is = refl })) (λ d h. h)
 item_by_sound n (kind.AggregationName name) start stop line ts = probing_sound n (token (kind.AggregationName name) start stop line ∷ ts)
 item_by_sound n (kind.DescriptionRun name) start stop line ts = probing_sound n (token (kind.DescriptionRun name) start stop line ∷ ts)

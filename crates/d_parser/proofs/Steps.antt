@@ -8,7 +8,7 @@ use Rattle.d_parser.specs.declared.tree.Description.{Description}
 use Rattle.d_parser.specs.Tree.{StmtTree}
 use Rattle.d_parser.specs.Marks.{is_at, tail}
 use Rattle.d_parser.specs.Reading.{after_mark, readers, whole, climb_on, further_on}
-use Rattle.d_parser.specs.Words.{run, behind_run, type_of}
+use Rattle.d_parser.specs.Words.{run, after_run, type_of}
 use Rattle.d_parser.specs.Tree.{ItemTree}
 use Rattle.d_parser.specs.ReadingScripts.{last_apart, word_of, typed_name, item, items, slot, further_stmts, further_types, types_on, further_descriptions, descriptions_on}
 
@@ -78,7 +78,7 @@ last_taken (t ∷ (u ∷ ts)) x h e =
     let below = last_taken (u ∷ ts) x (omega arith) (rw n at e) in
     rw (n, below) refl
 
-pub typed_some : (ts words rest : List Token) (x : Token) (t : DeclaredType) → words ≡ run ts → rest ≡ behind_run ts → 1 ≤ length words → x ≡ get_or words (length words - 1) x → type_of (take (length words - 1) words) ≡ Some t → typed_name ts ≡ Some ((t, word_of x.kind), rest)
+pub typed_some : (ts words rest : List Token) (x : Token) (t : DeclaredType) → words ≡ run ts → rest ≡ after_run ts → 1 ≤ length words → x ≡ get_or words (length words - 1) x → type_of (take (length words - 1) words) ≡ Some t → typed_name ts ≡ Some ((t, word_of x.kind), rest)
 unfolding typed_name
 typed_some ts words rest x t own behind len last e = rw (← own, ← behind) (rw (last_taken words x len last) (rw e refl))
 

@@ -22,7 +22,8 @@ row_by u before = suc before
 abbrev pub row_with : TokenKind → ℕ → ℕ
 row_with t before = row_by (turn t) before
 
--- at some token more are open, or more are in a row, than may be: the same as IsDeep, where none are open before
+-- at some token more are open, or more are in a row, than may be: the same as IsDeep, where none
+-- are open before
 unfoldable pub is_deep : ℕ → ℕ → List Token → Bool
 is_deep open_before row [] = false
 is_deep open_before row (t ∷ ts) =

@@ -1,20 +1,7 @@
--- Which tokens spell an expression. In each relation the first list begins with the tokens meant, and the second is what comes behind them.
+-- Which tokens spell an expression. In each relation the first list begins with the tokens meant,
+-- and the second is what comes after them.
 use Rattle.std.specs.Prelude.{◌≡◌, ◌≤◌, ◌+◌, ℕ, zero, suc, List, ◌∷◌, ◌++◌, Some}
-use Rattle.d_lexer.specs.declared.token.Mark.{Mark}
-use Rattle.d_lexer.specs.declared.token.Mark.TheVariants as m
-use Rattle.d_lexer.specs.declared.token.Token.{Token}
-use Rattle.d_lexer.specs.declared.token.TokenKind.{TokenKind}
-use Rattle.d_lexer.specs.declared.token.TokenKind.TheVariants as kind
-use Rattle.d_parser.specs.declared.tree.Constant.{Constant}
-use Rattle.d_parser.specs.declared.tree.Constant.TheVariants as c
-use Rattle.d_parser.specs.declared.tree.IntegerType.{IntegerType}
-use Rattle.d_parser.specs.declared.tree.Variable.{Variable}
-use Rattle.d_parser.specs.declared.tree.Variable.TheVariants as v
-use Rattle.d_parser.specs.declared.words.WordKind.{WordKind}
-use Rattle.d_parser.specs.declared.words.WordKind.TheVariants as w
-use Rattle.d_parser.specs.declared.marks.TheConstants.{ASSIGNMENT, CONDITION, OR, UNARY}
-use Rattle.d_parser.specs.declared.marks.Prefix.TheVariants as p
-use Rattle.d_parser.specs.declared.marks.Follow.TheVariants as f
+use Rattle.d_parser.specs.Vocabulary.{Mark, Token, TokenKind, Constant, IntegerType, Variable, WordKind, ASSIGNMENT, CONDITION, OR, UNARY, Prefix, Follow}
 use Rattle.d_parser.specs.Tree.{Tree, Known, Read, Call, Unary, Cast, Before, After, Binary, Choice, Assign, Trees, end, more}
 use Rattle.d_parser.specs.Words.{word_kind, integer_type, AreWords}
 use Rattle.d_parser.specs.Marks.{prefix_of, follow_of, level_of}
@@ -35,14 +22,17 @@ pub record Begins (k : TokenKind) (line : ℕ) (ts rest : List Token) : Type 0 w
 -- this mark, on any line
 pub record Sign (mark : Mark) (ts rest : List Token) : Type 0 where
   pub line : ℕ
-  pub begins : Begins (kind.Mark mark) line ts rest
+  pub begins : Begins (TokenKind.Mark mark) line ts rest
 
 -- so many pairs of parentheses round a part
 abbrev pub Within : ℕ → Part → Part
 Within zero Inner ts rest = Inner ts rest
-Within (suc n) Inner ts rest = (inner : List Token) × (close : List Token) × Sign m.OpenParenthesis ts inner × Within n Inner inner close × Sign m.CloseParenthesis close rest
+Within (suc n) Inner ts rest =
+    (inner : List Token) × (close : List Token) × Sign Mark.OpenParenthesis ts inner
+    × Within n Inner inner close × Sign Mark.CloseParenthesis close rest
 
--- A phrase of level k: parentheses round any expression, or without them what has that level at least.
+-- A phrase of level k: parentheses round any expression, or without them what has that level at
+-- least.
 pub record IsPhrase (Bare : Part) (own k : ℕ) (ts rest : List Token) : Type 0 where
   pub pairs : ℕ
   pub high : pairs ≡ 0 → k ≤ own
@@ -59,33 +49,34 @@ rank (Before line step x keys) = UNARY
 rank t = UNARY + 1
 
 abbrev pub constant_kind : Constant → TokenKind
-constant_kind (c.Number value suffix) = kind.Number value suffix
-constant_kind (c.Text bytes) = kind.TextConstant bytes
+constant_kind (Constant.Number value suffix) = TokenKind.Number value suffix
+constant_kind (Constant.Text bytes) = TokenKind.TextConstant bytes
 
 -- a word that isn't reserved
 pub record IsPlain (name : List ℕ) (line : ℕ) (ts rest : List Token) : Type 0 where
-  pub begins : Begins (kind.Word name) line ts rest
-  pub plain : word_kind name ≡ w.Plain
+  pub begins : Begins (TokenKind.Word name) line ts rest
+  pub plain : word_kind name ≡ WordKind.Plain
 
 -- `self` or `this` on this line, an arrow and a word
-pub record IsMember (which : WordKind) (word : List ℕ) (line : ℕ) (ts rest : List Token) : Type 0 where
+pub record IsMember (which : WordKind) (word : List ℕ) (line : ℕ)
+    (ts rest : List Token) : Type 0 where
   pub first : List ℕ
   pub at_arrow : List Token
   pub at_name : List Token
   pub name_line : ℕ
-  pub begins : Begins (kind.Word first) line ts at_arrow
+  pub begins : Begins (TokenKind.Word first) line ts at_arrow
   pub reserved : word_kind first ≡ which
-  pub arrow : Sign m.Arrow at_arrow at_name
+  pub arrow : Sign Mark.Arrow at_arrow at_name
   pub name : IsPlain word name_line at_name rest
 
 abbrev pub IsVariable : Variable → Part
-IsVariable (v.Plain line name) ts rest = IsPlain name line ts rest
-IsVariable (v.Thread line name) ts rest = IsMember w.Thread name line ts rest
-IsVariable (v.Clause line name) ts rest = IsMember w.Clause name line ts rest
+IsVariable (Variable.Plain line name) ts rest = IsPlain name line ts rest
+IsVariable (Variable.Thread line name) ts rest = IsMember WordKind.Thread name line ts rest
+IsVariable (Variable.Clause line name) ts rest = IsMember WordKind.Clause name line ts rest
 
 -- clause-local variables have no keys
 abbrev pub MayHave : Variable → Trees → Type 0
-MayHave (v.Clause line name) keys = keys ≡ end
+MayHave (Variable.Clause line name) keys = keys ≡ end
 MayHave x keys = Unit {0}
 
 -- a variable and its keys
@@ -107,10 +98,10 @@ pub record IsEnclosed (opening closing : Mark) (Inner : Part) (ts rest : List To
 pub record IsCast (line : ℕ) (to : IntegerType) (ts rest : List Token) : Type 0 where
   pub words : List Token
   pub close : List Token
-  pub opens : Begins (kind.Mark m.OpenParenthesis) line ts (words ++ close)
+  pub opens : Begins (TokenKind.Mark Mark.OpenParenthesis) line ts (words ++ close)
   pub are_words : AreWords words
   pub spells : integer_type words ≡ Some to
-  pub closes : Sign m.CloseParenthesis close rest
+  pub closes : Sign Mark.CloseParenthesis close rest
 
 abbrev mutual
   -- the tokens spell the tree, with no parentheses round it
@@ -118,42 +109,58 @@ abbrev mutual
   Spells (Known line constant) ts rest = Begins (constant_kind constant) line ts rest
   Spells (Read x keys) ts rest = IsTarget x keys (SpellsKeys keys) ts rest
   Spells (Call line name arguments) ts rest =
-      (list : List Token) × IsPlain name line ts list × IsEnclosed m.OpenParenthesis m.CloseParenthesis (SpellsList arguments) list rest
+      (list : List Token) × IsPlain name line ts list
+      × IsEnclosed Mark.OpenParenthesis Mark.CloseParenthesis (SpellsList arguments) list rest
   Spells (Unary line op a) ts rest =
-      (mark : Mark) × (operand : List Token) × (prefix_of mark ≡ p.Unary op) × Begins (kind.Mark mark) line ts operand × IsPhrase (Spells a) (rank a) UNARY operand rest
-  Spells (Cast line to a) ts rest = (operand : List Token) × IsCast line to ts operand × IsPhrase (Spells a) (rank a) UNARY operand rest
+      (mark : Mark) × (operand : List Token) × (prefix_of mark ≡ Prefix.Unary op) × Begins
+      (TokenKind.Mark mark) line ts operand × IsPhrase (Spells a) (rank a) UNARY operand rest
+  Spells (Cast line to a) ts rest =
+      (operand : List Token) × IsCast line to ts operand
+      × IsPhrase (Spells a) (rank a) UNARY operand rest
   Spells (Before line step x keys) ts rest =
-      (mark : Mark) × (target : List Token) × (prefix_of mark ≡ p.Step step) × Begins (kind.Mark mark) line ts target × IsTarget x keys (SpellsKeys keys) target rest
+      (mark : Mark) × (target : List Token) × (prefix_of mark ≡ Prefix.Step step)
+      × Begins (TokenKind.Mark mark) line ts target × IsTarget x keys (SpellsKeys keys) target rest
   Spells (After x keys step) ts rest =
-      (mark : Mark) × (behind : List Token) × (follow_of mark ≡ f.Step step) × IsTarget x keys (SpellsKeys keys) ts behind × Sign mark behind rest
+      (mark : Mark) × (behind : List Token) × (follow_of mark ≡ Follow.Step step)
+      × IsTarget x keys (SpellsKeys keys) ts behind × Sign mark behind rest
   Spells (Binary op a b) ts rest =
-      (mark : Mark) × (middle : List Token) × (right : List Token) × (follow_of mark ≡ f.Infix op)
-      × IsPhrase (Spells a) (rank a) (level_of op) ts middle × Sign mark middle right × IsPhrase (Spells b) (rank b) (suc (level_of op)) right rest
+      (mark : Mark) × (middle : List Token) × (right : List Token)
+      × (follow_of mark ≡ Follow.Infix op)
+      × IsPhrase (Spells a) (rank a) (level_of op) ts middle × Sign mark middle right
+      × IsPhrase (Spells b) (rank b) (suc (level_of op)) right rest
   Spells (Choice test a b) ts rest =
       (question : List Token) × (first : List Token) × (colon : List Token) × (second : List Token)
-      × IsPhrase (Spells test) (rank test) OR ts question × Sign m.Question question first × IsPhrase (Spells a) (rank a) ASSIGNMENT first colon
-      × Sign m.Colon colon second × IsPhrase (Spells b) (rank b) CONDITION second rest
+      × IsPhrase (Spells test) (rank test) OR ts question × Sign Mark.Question question first
+      × IsPhrase (Spells a) (rank a) ASSIGNMENT first colon
+      × Sign Mark.Colon colon second × IsPhrase (Spells b) (rank b) CONDITION second rest
   Spells (Assign op x keys a) ts rest =
-      (mark : Mark) × (behind : List Token) × (value : List Token) × (follow_of mark ≡ f.Assign op)
-      × IsTarget x keys (SpellsKeys keys) ts behind × Sign mark behind value × IsPhrase (Spells a) (rank a) ASSIGNMENT value rest
+      (mark : Mark) × (behind : List Token) × (value : List Token)
+      × (follow_of mark ≡ Follow.Assign op)
+      × IsTarget x keys (SpellsKeys keys) ts behind × Sign mark behind value
+      × IsPhrase (Spells a) (rank a) ASSIGNMENT value rest
 
   -- keys in brackets, or nothing
   pub SpellsKeys : Trees → Part
   SpellsKeys end ts rest = ts ≡ rest
   SpellsKeys (more a keys) ts rest =
-      (first : List Token) × (behind : List Token) × (close : List Token) × Sign m.OpenBracket ts first
-      × IsPhrase (Spells a) (rank a) ASSIGNMENT first behind × SpellsMore keys behind close × Sign m.CloseBracket close rest
+      (first : List Token) × (behind : List Token) × (close : List Token)
+      × Sign Mark.OpenBracket ts first
+      × IsPhrase (Spells a) (rank a) ASSIGNMENT first behind × SpellsMore keys behind close
+      × Sign Mark.CloseBracket close rest
 
   -- expressions with commas between, or nothing
   pub SpellsList : Trees → Part
   SpellsList end ts rest = ts ≡ rest
-  SpellsList (more a list) ts rest = (behind : List Token) × IsPhrase (Spells a) (rank a) ASSIGNMENT ts behind × SpellsMore list behind rest
+  SpellsList (more a list) ts rest =
+      (behind : List Token) × IsPhrase (Spells a) (rank a) ASSIGNMENT ts behind
+      × SpellsMore list behind rest
 
   -- expressions with a comma before each
   pub SpellsMore : Trees → Part
   SpellsMore end ts rest = ts ≡ rest
   SpellsMore (more a list) ts rest =
-      (first : List Token) × (behind : List Token) × Sign m.Comma ts first × IsPhrase (Spells a) (rank a) ASSIGNMENT first behind × SpellsMore list behind rest
+      (first : List Token) × (behind : List Token) × Sign Mark.Comma ts first
+      × IsPhrase (Spells a) (rank a) ASSIGNMENT first behind × SpellsMore list behind rest
 
 abbrev pub IsPhraseOf : Tree → ℕ → Part
 IsPhraseOf t k ts rest = IsPhrase (Spells t) (rank t) k ts rest

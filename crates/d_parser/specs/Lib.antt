@@ -1,3 +1,4 @@
+pub mod Vocabulary
 pub mod Tree
 pub mod Words
 pub mod Marks

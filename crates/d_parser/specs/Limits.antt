@@ -1,12 +1,6 @@
 -- How deep and how long tokens may be, and how many clauses there may be.
 use Rattle.std.specs.Prelude.{◌≡◌, ◌<◌, ◌+◌, ◌⊎◌, ℕ, Bool, true, false, List, [], ◌∷◌, ◌++◌, length, count_by, Result, Ok, Err}
-use Rattle.d_lexer.specs.declared.token.Mark.TheVariants as m
-use Rattle.d_lexer.specs.declared.token.Token.{Token}
-use Rattle.d_lexer.specs.declared.token.TokenKind.{TokenKind}
-use Rattle.d_lexer.specs.declared.token.TokenKind.TheVariants as kind
-use Rattle.d_parser.specs.declared.fault.ParseFault.{ParseFault}
-use Rattle.d_parser.specs.declared.fault.ParseFault.TheVariants as faults
-use Rattle.d_parser.specs.declared.fault.TheConstants.{MOST_OPEN, MOST_IN_A_ROW, MOST_CLAUSES}
+use Rattle.d_parser.specs.Vocabulary.{Mark, Token, TokenKind, ParseFault, MOST_OPEN, MOST_IN_A_ROW, MOST_CLAUSES}
 
 -- what a token does to the brackets that are open, and to the row that it is in
 pub data Turn : Type 0 where
@@ -16,13 +10,13 @@ pub data Turn : Type 0 where
   Goes : Turn
 
 abbrev pub turn : TokenKind → Turn
-turn (kind.Mark m.OpenParenthesis) = Opens
-turn (kind.Mark m.OpenBracket) = Opens
-turn (kind.Mark m.CloseParenthesis) = Closes
-turn (kind.Mark m.CloseBracket) = Closes
-turn (kind.Mark m.Semicolon) = Ends
-turn (kind.Mark m.OpenBrace) = Ends
-turn (kind.Mark m.CloseBrace) = Ends
+turn (TokenKind.Mark Mark.OpenParenthesis) = Opens
+turn (TokenKind.Mark Mark.OpenBracket) = Opens
+turn (TokenKind.Mark Mark.CloseParenthesis) = Closes
+turn (TokenKind.Mark Mark.CloseBracket) = Closes
+turn (TokenKind.Mark Mark.Semicolon) = Ends
+turn (TokenKind.Mark Mark.OpenBrace) = Ends
+turn (TokenKind.Mark Mark.CloseBrace) = Ends
 turn t = Goes
 
 abbrev pub opens : Turn → ℕ
@@ -38,18 +32,18 @@ ends Ends = 1
 ends u = 0
 
 -- how many parentheses and brackets these tokens open, and how many they close
-abbrev pub opened : List Token → ℕ
-opened [] = 0
-opened (t ∷ ts) = opens (turn t.kind) + opened ts
+abbrev pub openings : List Token → ℕ
+openings [] = 0
+openings (t ∷ ts) = opens (turn t.kind) + openings ts
 
-abbrev pub closed : List Token → ℕ
-closed [] = 0
-closed (t ∷ ts) = closes (turn t.kind) + closed ts
+abbrev pub closings : List Token → ℕ
+closings [] = 0
+closings (t ∷ ts) = closes (turn t.kind) + closings ts
 
 -- how many of them are semicolons and braces
-abbrev pub ended : List Token → ℕ
-ended [] = 0
-ended (t ∷ ts) = ends (turn t.kind) + ended ts
+abbrev pub endings : List Token → ℕ
+endings [] = 0
+endings (t ∷ ts) = ends (turn t.kind) + endings ts
 
 -- Somewhere in the list a stretch of tokens opens over 64 more brackets than it closes, or is over
 -- 1,024 tokens long with no semicolon or brace.
@@ -59,11 +53,11 @@ pub record IsDeep (ts : List Token) : Type 0 where
   pub behind : List Token
   pub is : ts ≡ before ++ stretch ++ behind
   pub deep :
-      (MOST_OPEN + closed stretch < opened stretch)
-      ⊎ ((MOST_IN_A_ROW < length stretch) × (ended stretch ≡ 0))
+      (MOST_OPEN + closings stretch < openings stretch)
+      ⊎ ((MOST_IN_A_ROW < length stretch) × (endings stretch ≡ 0))
 
 abbrev pub opens_clause : TokenKind → Bool
-opens_clause (kind.Mark m.OpenBrace) = true
+opens_clause (TokenKind.Mark Mark.OpenBrace) = true
 opens_clause t = false
 
 -- how many clauses they open
@@ -73,7 +67,7 @@ clauses ts = count_by (λ t. opens_clause t.kind) ts
 -- TooDeep and TooManyClauses are reported only where that limit is passed
 abbrev pub OnlyLimits : {X : Type 0} → List Token → Result X ParseFault → Type 0
 OnlyLimits ts (Ok x) = Unit {0}
-OnlyLimits ts (Err faults.TooDeep) = IsDeep ts
-OnlyLimits ts (Err faults.TooManyClauses) = MOST_CLAUSES < clauses ts
-OnlyLimits ts (Err (faults.Syntax line)) = Unit {0}
-OnlyLimits ts (Err faults.Memory) = Unit {0}
+OnlyLimits ts (Err ParseFault.TooDeep) = IsDeep ts
+OnlyLimits ts (Err ParseFault.TooManyClauses) = MOST_CLAUSES < clauses ts
+OnlyLimits ts (Err (ParseFault.Syntax line)) = Unit {0}
+OnlyLimits ts (Err ParseFault.Memory) = Unit {0}

@@ -1,13 +1,11 @@
 -- Scripts whose numbers are below 2 ^ 64, as in each text.
 use Rattle.std.specs.Prelude.{◌<◌, ◌^◌, List, [], ◌∷◌, Option, Some, None}
-use Rattle.d_parser.specs.declared.tree.Constant.{Constant}
-use Rattle.d_parser.specs.declared.tree.Constant.TheVariants as c
-use Rattle.d_parser.specs.Tree.{Tree, Known, Read, Call, Unary, Cast, Before, After, Binary, Choice, Assign, Trees, end, more}
-use Rattle.d_parser.specs.Tree.{StmtTree, Expression, Aggregation, ItemTree, Declared, Probing}
+use Rattle.d_parser.specs.Vocabulary.{Constant}
+use Rattle.d_parser.specs.Tree.{Tree, Known, Read, Call, Unary, Cast, Before, After, Binary, Choice, Assign, Trees, end, more, StmtTree, Expression, Aggregation, ItemTree, Declared, Probing}
 
 abbrev pub IsSmall : Constant → Type 0
-IsSmall (c.Number value suffix) = value < 2 ^ 64
-IsSmall (c.Text bytes) = Unit {0}
+IsSmall (Constant.Number value suffix) = value < 2 ^ 64
+IsSmall (Constant.Text bytes) = Unit {0}
 
 abbrev mutual
   pub HasSmall : Tree → Type 0

@@ -1,26 +1,8 @@
 -- The tree at the front of a list, and what is left, read from left to right.
 use Rattle.std.specs.Prelude.{◌≡◌, ℕ, zero, suc, max, nat_le, Bool, true, false, if◌then◌else◌, List, [], ◌∷◌, Option, Some, None, Result, Ok, Err}
-use Rattle.d_lexer.specs.declared.token.Mark.{Mark}
-use Rattle.d_lexer.specs.declared.token.Mark.TheVariants as m
-use Rattle.d_lexer.specs.declared.token.Token.{Token}
-use Rattle.d_lexer.specs.declared.token.TokenKind.{TokenKind}
-use Rattle.d_lexer.specs.declared.token.TokenKind.TheVariants as kind
-use Rattle.d_parser.specs.declared.operators.Step.{Step}
-use Rattle.d_parser.specs.declared.tree.IntegerType.{IntegerType}
-use Rattle.d_parser.specs.declared.tree.Constant.TheVariants as c
-use Rattle.d_parser.specs.declared.tree.Variable.{Variable}
-use Rattle.d_parser.specs.declared.tree.Variable.TheVariants as v
-use Rattle.d_parser.specs.declared.words.WordKind.{WordKind}
-use Rattle.d_parser.specs.declared.words.WordKind.TheVariants as w
-use Rattle.d_parser.specs.declared.marks.TheConstants.{ASSIGNMENT, CONDITION, OR, UNARY}
-use Rattle.d_parser.specs.declared.marks.Prefix.{Prefix}
-use Rattle.d_parser.specs.declared.marks.Prefix.TheVariants as p
-use Rattle.d_parser.specs.declared.marks.Follow.{Follow}
-use Rattle.d_parser.specs.declared.marks.Follow.TheVariants as f
-use Rattle.d_parser.specs.declared.fault.ParseFault.{ParseFault}
-use Rattle.d_parser.specs.declared.fault.ParseFault.TheVariants as faults
+use Rattle.d_parser.specs.Vocabulary.{Mark, Token, TokenKind, Step, IntegerType, Constant, Variable, WordKind, ASSIGNMENT, CONDITION, OR, UNARY, Prefix, Follow, ParseFault}
 use Rattle.d_parser.specs.Tree.{Tree, Known, Read, Call, Unary, Cast, Before, After, Binary, Choice, Assign, Trees, end, more, add}
-use Rattle.d_parser.specs.Words.{word_kind, begins_type, integer_type, run, behind_run}
+use Rattle.d_parser.specs.Words.{word_kind, begins_type, integer_type, run, after_run}
 use Rattle.d_parser.specs.Marks.{prefix_of, level_of, follow_at, is_at, same_mark, tail}
 
 infixl 10 ◌>>=◌
@@ -30,10 +12,10 @@ None >>= f = None
 
 -- What a function returned, seen by view, is what reading gives, unless memory ran out.
 abbrev pub Fails : {Y : Type 0} → ParseFault → Option Y → Type 0
-Fails faults.Memory read = Unit {0}
-Fails (faults.Syntax line) read = read ≡ None
-Fails faults.TooDeep read = ⊥
-Fails faults.TooManyClauses read = ⊥
+Fails ParseFault.Memory read = Unit {0}
+Fails (ParseFault.Syntax line) read = read ≡ None
+Fails ParseFault.TooDeep read = ⊥
+Fails ParseFault.TooManyClauses read = ⊥
 
 abbrev pub Gives : {X Y : Type 0} → (X → Y) → Result X ParseFault → Option Y → Type 0
 Gives view (Ok x) read = read ≡ Some (view x)
@@ -42,23 +24,23 @@ Gives view (Err e) read = Fails e read
 -- only memory is a reason to fail
 abbrev pub OnlyMemory : {X : Type 0} → Result X ParseFault → Type 0
 OnlyMemory (Ok x) = Unit {0}
-OnlyMemory (Err e) = e ≡ faults.Memory
+OnlyMemory (Err e) = e ≡ ParseFault.Memory
 
 abbrev pub Reader : Type 0 → Type 0
 Reader A = List Token → Option (A × List Token)
 
--- the tokens behind the mark
+-- the tokens after the mark
 abbrev pub after_mark : Mark → List Token → Option (List Token)
 after_mark mark ts = if is_at mark ts then Some (tail ts) else None
 
 -- ---- words
 
 abbrev pub if_plain : WordKind → List ℕ → Reader (List ℕ)
-if_plain w.Plain name ts = Some (name, ts)
+if_plain WordKind.Plain name ts = Some (name, ts)
 if_plain k name ts = None
 
 abbrev pub plain_by : TokenKind → Reader (List ℕ)
-plain_by (kind.Word name) ts = if_plain (word_kind name) name ts
+plain_by (TokenKind.Word name) ts = if_plain (word_kind name) name ts
 plain_by k ts = None
 
 -- a word that isn't reserved
@@ -66,19 +48,19 @@ unfoldable pub plain_word : Reader (List ℕ)
 plain_word [] = None
 plain_word (t ∷ ts) = plain_by t.kind ts
 
--- the word behind an arrow
+-- the word after an arrow
 unfoldable pub member : Reader (List ℕ)
-member ts = after_mark m.Arrow ts >>= λ rest. plain_word rest
+member ts = after_mark Mark.Arrow ts >>= λ rest. plain_word rest
 
 -- the variable that a word begins
 unfoldable pub variable : WordKind → List ℕ → ℕ → Reader Variable
-variable w.Plain name line ts = Some (v.Plain line name, ts)
-variable w.Thread name line ts = member ts >>= λ x. Some (v.Thread line x.0, x.1)
-variable w.Clause name line ts = member ts >>= λ x. Some (v.Clause line x.0, x.1)
+variable WordKind.Plain name line ts = Some (Variable.Plain line name, ts)
+variable WordKind.Thread name line ts = member ts >>= λ x. Some (Variable.Thread line x.0, x.1)
+variable WordKind.Clause name line ts = member ts >>= λ x. Some (Variable.Clause line x.0, x.1)
 variable k name line ts = None
 
 abbrev pub typed_by : TokenKind → Bool
-typed_by (kind.Word word) = begins_type (word_kind word)
+typed_by (TokenKind.Word word) = begins_type (word_kind word)
 typed_by k = false
 
 -- a word of a type is at the front
@@ -86,12 +68,14 @@ abbrev pub is_typed : List Token → Bool
 is_typed [] = false
 is_typed (t ∷ ts) = typed_by t.kind
 
--- the type in a cast, behind its opening parenthesis
+-- the type in a cast, after its opening parenthesis
 unfoldable pub cast_type : Reader IntegerType
-cast_type ts = integer_type (run ts) >>= λ to. after_mark m.CloseParenthesis (behind_run ts) >>= λ rest. Some (to, rest)
+cast_type ts =
+    integer_type (run ts) >>= λ to. after_mark Mark.CloseParenthesis (after_run ts) >>= λ rest.
+    Some (to, rest)
 
 abbrev pub calls : WordKind → Follow → Bool
-calls w.Plain f.Parenthesis = true
+calls WordKind.Plain Follow.Parenthesis = true
 calls k follow = false
 
 -- a word and a parenthesis begin a call
@@ -99,12 +83,13 @@ abbrev pub begins_call : List ℕ → List Token → Bool
 begins_call name ts = calls (word_kind name) (follow_at ts)
 
 abbrev pub is_clause_local : Variable → Bool
-is_clause_local (v.Clause line name) = true
+is_clause_local (Variable.Clause line name) = true
 is_clause_local x = false
 
 -- ---- expressions
 
--- What reads phrases of a level, what operators of a level or more join to a left part, and the rest of a list.
+-- What reads phrases of a level, what operators of a level or more join to a left part, and the
+-- rest of a list.
 pub record Readers : Type 0 where
   pub phrase : ℕ → Reader Tree
   pub climb : ℕ → Tree → Reader Tree
@@ -113,31 +98,39 @@ pub record Readers : Type 0 where
 -- Below, `down` reads what lies one level deeper.
 module _ (down : Readers) where
   -- expressions with commas between, and the mark that closes them
-  unfoldable pub listed : Mark → Reader Trees
-  listed close ts = down.phrase ASSIGNMENT ts >>= λ first. down.further (more first.0 end) first.1 >>= λ all. after_mark close all.1 >>= λ rest. Some (all.0, rest)
+  unfoldable pub closed_list : Mark → Reader Trees
+  closed_list close ts =
+      down.phrase ASSIGNMENT ts >>= λ first. down.further (more first.0 end) first.1 >>= λ all.
+      after_mark close all.1 >>= λ rest. Some (all.0, rest)
 
   abbrev pub keys_by : Follow → Reader Trees
-  keys_by f.Bracket ts = listed m.CloseBracket (tail ts)
+  keys_by Follow.Bracket ts = closed_list Mark.CloseBracket (tail ts)
   keys_by follow ts = Some (end, ts)
 
   unfoldable pub keys : Reader Trees
   keys ts = keys_by (follow_at ts) ts
 
-  -- behind the opening parenthesis of a call
+  -- after the opening parenthesis of a call
   unfoldable pub arguments : Reader Trees
-  arguments ts = if is_at m.CloseParenthesis ts then Some (end, tail ts) else listed m.CloseParenthesis ts
+  arguments ts =
+      if is_at Mark.CloseParenthesis ts then Some (end, tail ts)
+      else closed_list Mark.CloseParenthesis ts
 
   -- a variable with the keys that it may have
   unfoldable pub with_keys : Variable → Reader (Variable × Trees)
-  with_keys x ts = if is_clause_local x then Some ((x, end), ts) else (keys ts >>= λ k. Some ((x, k.0), k.1))
+  with_keys x ts =
+      if is_clause_local x then Some ((x, end), ts) else (keys ts >>= λ k. Some ((x, k.0), k.1))
 
   -- a target, by its first word
   unfoldable pub target : WordKind → List ℕ → ℕ → Reader (Variable × Trees)
   target k name line ts = variable k name line ts >>= λ x. with_keys x.0 x.1
 
   abbrev pub follows_by : Follow → ℕ → Variable × Trees → Reader Tree
-  follows_by (f.Step step) k x ts = Some (After x.0 x.1 step, tail ts)
-  follows_by (f.Assign op) k x ts = if nat_le k ASSIGNMENT then (down.phrase ASSIGNMENT (tail ts) >>= λ value. Some (Assign op x.0 x.1 value.0, value.1)) else Some (Read x.0 x.1, ts)
+  follows_by (Follow.Step step) k x ts = Some (After x.0 x.1 step, tail ts)
+  follows_by (Follow.Assign op) k x ts =
+      if nat_le k ASSIGNMENT
+      then (down.phrase ASSIGNMENT (tail ts) >>= λ value. Some (Assign op x.0 x.1 value.0, value.1))
+      else Some (Read x.0 x.1, ts)
   follows_by follow k x ts = Some (Read x.0 x.1, ts)
 
   -- what a target goes on as
@@ -145,46 +138,53 @@ module _ (down : Readers) where
   follows k x ts = follows_by (follow_at ts) k x ts
 
   -- a call, or what a target begins
-  unfoldable pub named : ℕ → List ℕ → ℕ → Reader Tree
-  named k name line ts =
+  unfoldable pub part_at_name : ℕ → List ℕ → ℕ → Reader Tree
+  part_at_name k name line ts =
       if begins_call name ts
       then (arguments (tail ts) >>= λ all. Some (Call line name all.0, all.1))
       else (target (word_kind name) name line ts >>= λ x. follows k x.0 x.1)
 
-  -- behind the opening parenthesis of a cast
-  unfoldable pub casted : ℕ → Reader Tree
-  casted line ts = cast_type ts >>= λ to. down.phrase UNARY to.1 >>= λ a. Some (Cast line to.0 a.0, a.1)
+  -- after the opening parenthesis of a cast
+  unfoldable pub part_at_cast : ℕ → Reader Tree
+  part_at_cast line ts =
+      cast_type ts >>= λ to. down.phrase UNARY to.1 >>= λ a. Some (Cast line to.0 a.0, a.1)
 
-  -- behind an opening parenthesis
-  unfoldable pub parenthesised : ℕ → Reader Tree
-  parenthesised line ts =
+  -- after an opening parenthesis
+  unfoldable pub part_in_parentheses : ℕ → Reader Tree
+  part_in_parentheses line ts =
       if is_typed ts
-      then casted line ts
-      else (down.phrase ASSIGNMENT ts >>= λ inner. after_mark m.CloseParenthesis inner.1 >>= λ rest. Some (inner.0, rest))
+      then part_at_cast line ts
+      else (down.phrase ASSIGNMENT ts >>= λ inner.
+      after_mark Mark.CloseParenthesis inner.1 >>= λ rest. Some (inner.0, rest))
 
-  abbrev pub stepped_by : ℕ → Step → TokenKind → ℕ → Reader Tree
-  stepped_by line step (kind.Word name) word_line ts = target (word_kind name) name word_line ts >>= λ x. Some (Before line step x.0.0 x.0.1, x.1)
-  stepped_by line step k word_line ts = None
+  abbrev pub part_at_step_by : ℕ → Step → TokenKind → ℕ → Reader Tree
+  part_at_step_by line step (TokenKind.Word name) word_line ts =
+      target (word_kind name) name word_line ts >>= λ x. Some (Before line step x.0.0 x.0.1, x.1)
+  part_at_step_by line step k word_line ts = None
 
-  -- the target behind `++` or `--`
-  unfoldable pub stepped : ℕ → Step → Reader Tree
-  stepped line step [] = None
-  stepped line step (t ∷ ts) = stepped_by line step t.kind t.line ts
+  -- the target after `++` or `--`
+  unfoldable pub part_at_step : ℕ → Step → Reader Tree
+  part_at_step line step [] = None
+  part_at_step line step (t ∷ ts) = part_at_step_by line step t.kind t.line ts
 
   abbrev pub prefixed_by : Prefix → ℕ → Reader Tree
-  prefixed_by (p.Unary op) line ts = down.phrase UNARY ts >>= λ a. Some (Unary line op a.0, a.1)
-  prefixed_by (p.Step step) line ts = stepped line step ts
-  prefixed_by p.Other line ts = None
+  prefixed_by (Prefix.Unary op) line ts =
+      down.phrase UNARY ts >>= λ a. Some (Unary line op a.0, a.1)
+  prefixed_by (Prefix.Step step) line ts = part_at_step line step ts
+  prefixed_by Prefix.Other line ts = None
 
-  -- behind a mark that begins a part
-  unfoldable pub marked : Mark → ℕ → Reader Tree
-  marked mark line ts = if same_mark mark m.OpenParenthesis then parenthesised line ts else prefixed_by (prefix_of mark) line ts
+  -- after a mark that begins a part
+  unfoldable pub part_at_mark : Mark → ℕ → Reader Tree
+  part_at_mark mark line ts =
+      if same_mark mark Mark.OpenParenthesis then part_in_parentheses line ts
+      else prefixed_by (prefix_of mark) line ts
 
   abbrev pub part_by : ℕ → TokenKind → ℕ → Reader Tree
-  part_by k (kind.Number value suffix) line ts = Some (Known line (c.Number value suffix), ts)
-  part_by k (kind.TextConstant bytes) line ts = Some (Known line (c.Text bytes), ts)
-  part_by k (kind.Word name) line ts = named k name line ts
-  part_by k (kind.Mark mark) line ts = marked mark line ts
+  part_by k (TokenKind.Number value suffix) line ts =
+      Some (Known line (Constant.Number value suffix), ts)
+  part_by k (TokenKind.TextConstant bytes) line ts = Some (Known line (Constant.Text bytes), ts)
+  part_by k (TokenKind.Word name) line ts = part_at_name k name line ts
+  part_by k (TokenKind.Mark mark) line ts = part_at_mark mark line ts
   part_by k other line ts = None
 
   -- a unary part, or where the level allows it an assignment
@@ -193,9 +193,10 @@ module _ (down : Readers) where
   part k (t ∷ ts) = part_by k t.kind t.line ts
 
   abbrev pub climb_by : Follow → ℕ → Tree → Reader Tree
-  climb_by (f.Infix op) k left ts =
+  climb_by (Follow.Infix op) k left ts =
       if nat_le k (level_of op)
-      then (down.phrase (suc (level_of op)) (tail ts) >>= λ right. down.climb k (Binary op left right.0) right.1)
+      then (down.phrase (suc (level_of op)) (tail ts) >>= λ right.
+      down.climb k (Binary op left right.0) right.1)
       else Some (left, ts)
   climb_by follow k left ts = Some (left, ts)
 
@@ -203,17 +204,20 @@ module _ (down : Readers) where
   unfoldable pub climb_on : ℕ → Tree → Reader Tree
   climb_on k left ts = climb_by (follow_at ts) k left ts
 
-  -- behind the question mark
-  unfoldable pub chosen : Tree → Reader Tree
-  chosen test ts = down.phrase ASSIGNMENT ts >>= λ first. after_mark m.Colon first.1 >>= λ rest. down.phrase CONDITION rest >>= λ second. Some (Choice test first.0 second.0, second.1)
+  -- after the question mark
+  unfoldable pub alternatives : Tree → Reader Tree
+  alternatives test ts =
+      down.phrase ASSIGNMENT ts >>= λ first. after_mark Mark.Colon first.1 >>= λ rest.
+      down.phrase CONDITION rest >>= λ second. Some (Choice test first.0 second.0, second.1)
 
   abbrev pub choice_by : Follow → Tree → Reader Tree
-  choice_by f.Question test ts = chosen test (tail ts)
+  choice_by Follow.Question test ts = alternatives test (tail ts)
   choice_by follow test ts = Some (test, ts)
 
   -- a condition goes on with a question mark
   unfoldable pub choice : ℕ → Tree → Reader Tree
-  choice k test ts = if nat_le k CONDITION then choice_by (follow_at ts) test ts else Some (test, ts)
+  choice k test ts =
+      if nat_le k CONDITION then choice_by (follow_at ts) test ts else Some (test, ts)
 
   -- a first part, and what operators join to it
   unfoldable pub operand : ℕ → Reader Tree
@@ -223,11 +227,18 @@ module _ (down : Readers) where
   unfoldable pub whole : ℕ → Reader Tree
   whole k ts = operand k ts >>= λ joined. choice k joined.0 joined.1
 
-  -- the expressions behind a comma
+  -- the expressions after a comma
   unfoldable pub further_on : Trees → Reader Trees
-  further_on all ts = if is_at m.Comma ts then (down.phrase ASSIGNMENT (tail ts) >>= λ next. down.further (add all next.0) next.1) else Some (all, ts)
+  further_on all ts =
+      if is_at Mark.Comma ts
+      then (down.phrase ASSIGNMENT (tail ts) >>= λ next. down.further (add all next.0) next.1)
+      else Some (all, ts)
 
 -- with at most so many levels below
 abbrev pub readers : ℕ → Readers
 readers zero = record { phrase = λ k ts. None; climb = λ k left ts. None; further = λ all ts. None }
-readers (suc n) = record { phrase = whole (readers n); climb = climb_on (readers n); further = further_on (readers n) }
+readers (suc n) = record {
+  phrase = whole (readers n);
+  climb = climb_on (readers n);
+  further = further_on (readers n);
+}

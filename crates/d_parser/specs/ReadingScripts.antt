@@ -1,24 +1,15 @@
 -- The script that a list of tokens spells, read from left to right.
 use Rattle.std.specs.Prelude.{ℕ, zero, suc, ◌+◌, Bool, true, if◌then◌else◌, List, [], ◌∷◌, ◌++◌, length, Option, Some, None}
-use Rattle.d_lexer.specs.declared.token.Mark.TheVariants as m
-use Rattle.d_lexer.specs.declared.token.Token.{Token}
-use Rattle.d_lexer.specs.declared.token.TokenKind.{TokenKind}
-use Rattle.d_lexer.specs.declared.token.TokenKind.TheVariants as kind
-use Rattle.d_parser.specs.declared.marks.TheConstants.{ASSIGNMENT}
-use Rattle.d_parser.specs.declared.tree.DeclaredType.{DeclaredType}
-use Rattle.d_parser.specs.declared.tree.Description.{Description}
-use Rattle.d_parser.specs.declared.words.WordKind.{WordKind}
-use Rattle.d_parser.specs.declared.words.WordKind.TheVariants as w
+use Rattle.d_parser.specs.Vocabulary.{Mark, Token, TokenKind, ASSIGNMENT, DeclaredType, Description, WordKind}
 use Rattle.d_parser.specs.Tree.{Tree, StmtTree, Expression, Aggregation, DeclarationTree, OfThread, OfClause, ClauseTree, ItemTree, Declared, Probing}
-use Rattle.d_parser.specs.Words.{word_kind, type_of, run, behind_run}
-use Rattle.d_parser.specs.Marks.{is_at, tail}
-use Rattle.d_parser.specs.Script.{description_of}
+use Rattle.d_parser.specs.Words.{word_kind, type_of, run, after_run}
 use Rattle.d_parser.specs.Reading.{◌>>=◌, Reader, after_mark, readers, keys, arguments}
+use Rattle.d_parser.specs.{Marks.is_at, Marks.tail, Script.description_of}
 
 -- ---- statements
 
 abbrev pub word_by : TokenKind → Reader (List ℕ)
-word_by (kind.Word word) ts = Some (word, ts)
+word_by (TokenKind.Word word) ts = Some (word, ts)
 word_by t ts = None
 
 -- a word, reserved or not
@@ -26,17 +17,18 @@ unfoldable pub any_word : Reader (List ℕ)
 any_word [] = None
 any_word (t ∷ ts) = word_by t.kind ts
 
--- behind the name of an aggregation
+-- after the name of an aggregation
 unfoldable pub aggregation : ℕ → ℕ → List ℕ → Reader StmtTree
 aggregation n line name ts =
-    keys (readers n) ts >>= λ keys. after_mark m.Assign keys.1 >>= λ rest. any_word rest >>= λ word. after_mark m.OpenParenthesis word.1 >>= λ list.
+    keys (readers n) ts >>= λ keys. after_mark Mark.Assign keys.1 >>= λ rest.
+    any_word rest >>= λ word. after_mark Mark.OpenParenthesis word.1 >>= λ list.
     arguments (readers n) list >>= λ all. Some (Aggregation line name keys.0 word.0 all.0, all.1)
 
 abbrev pub expression : ℕ → Reader StmtTree
 expression n ts = (readers n).phrase ASSIGNMENT ts >>= λ x. Some (Expression x.0, x.1)
 
 abbrev pub stmt_by : ℕ → TokenKind → ℕ → List Token → Reader StmtTree
-stmt_by n (kind.AggregationName name) line behind ts = aggregation n line name behind
+stmt_by n (TokenKind.AggregationName name) line behind ts = aggregation n line name behind
 stmt_by n t line behind ts = expression n ts
 
 unfoldable pub stmt : ℕ → Reader StmtTree
@@ -45,19 +37,21 @@ stmt n (t ∷ ts) = stmt_by n t.kind t.line ts (t ∷ ts)
 
 -- a semicolon or a brace ends a statement
 abbrev pub ends_stmt : List Token → Bool
-ends_stmt ts = if is_at m.Semicolon ts then true else is_at m.CloseBrace ts
+ends_stmt ts = if is_at Mark.Semicolon ts then true else is_at Mark.CloseBrace ts
 
 -- with the statement at the front, if there is one
 unfoldable pub slot : ℕ → List StmtTree → Reader (List StmtTree)
-slot n all ts = if ends_stmt ts then Some (all, ts) else (stmt n ts >>= λ s. Some (all ++ s.0 ∷ [], s.1))
+slot n all ts =
+    if ends_stmt ts then Some (all, ts) else (stmt n ts >>= λ s. Some (all ++ s.0 ∷ [], s.1))
 
--- the statements behind semicolons, in at most so many turns
+-- the statements after semicolons, in at most so many turns
 unfoldable pub further_stmts : ℕ → ℕ → List StmtTree → Reader (List StmtTree)
 further_stmts n zero all ts = None
 further_stmts n (suc turns) all ts =
-    if is_at m.CloseBrace ts
+    if is_at Mark.CloseBrace ts
     then Some (all, tail ts)
-    else (after_mark m.Semicolon ts >>= λ rest. slot n all rest >>= λ x. further_stmts n turns x.0 x.1)
+    else (after_mark Mark.Semicolon ts >>= λ rest. slot n all rest >>= λ x.
+    further_stmts n turns x.0 x.1)
 
 unfoldable pub stmts : ℕ → Reader (List StmtTree)
 stmts n ts = slot n [] ts >>= λ x. further_stmts n n x.0 x.1
@@ -69,16 +63,19 @@ with_rest ts None = None
 with_rest ts (Some x) = Some (x, ts)
 
 abbrev pub description_by : TokenKind → Reader Description
-description_by (kind.DescriptionRun run) ts = with_rest ts (description_of run)
+description_by (TokenKind.DescriptionRun run) ts = with_rest ts (description_of run)
 description_by t ts = None
 
 unfoldable pub description : Reader Description
 description [] = None
 description (t ∷ ts) = description_by t.kind ts
 
--- the description behind a comma, and then the next ones
-unfoldable pub descriptions_on : (List Description → Reader (List Description)) → List Description → Reader (List Description)
-descriptions_on next all ts = if is_at m.Comma ts then (description (tail ts) >>= λ d. next (all ++ d.0 ∷ []) d.1) else Some (all, ts)
+-- the description after a comma, and then the next ones
+unfoldable pub descriptions_on : (List Description → Reader (List Description)) → List Description
+    → Reader (List Description)
+descriptions_on next all ts =
+    if is_at Mark.Comma ts then (description (tail ts) >>= λ d. next (all ++ d.0 ∷ []) d.1)
+    else Some (all, ts)
 
 -- in at most so many turns
 abbrev pub further_descriptions : ℕ → List Description → Reader (List Description)
@@ -90,27 +87,30 @@ descriptions n ts = description ts >>= λ d. further_descriptions n (d.0 ∷ [])
 
 unfoldable pub predicate : ℕ → Reader (Option Tree)
 predicate n ts =
-    if is_at m.Slash ts
-    then ((readers n).phrase ASSIGNMENT (tail ts) >>= λ x. after_mark m.ClosingSlash x.1 >>= λ rest. Some (Some x.0, rest))
+    if is_at Mark.Slash ts
+    then ((readers n).phrase ASSIGNMENT (tail ts) >>= λ x.
+    after_mark Mark.ClosingSlash x.1 >>= λ rest. Some (Some x.0, rest))
     else Some (None, ts)
 
 unfoldable pub clause : ℕ → Reader ClauseTree
 clause n ts =
-    descriptions n ts >>= λ d. predicate n d.1 >>= λ p. after_mark m.OpenBrace p.1 >>= λ rest. stmts n rest >>= λ s.
+    descriptions n ts >>= λ d. predicate n d.1 >>= λ p. after_mark Mark.OpenBrace p.1 >>= λ rest.
+    stmts n rest >>= λ s.
     Some (record { descriptions = d.0; predicate = p.0; statements = s.0 }, s.1)
 
 -- ---- declarations
 
 -- the type that the words at the front spell
 unfoldable pub whole_type : Reader DeclaredType
-whole_type ts = with_rest (behind_run ts) (type_of (run ts))
+whole_type ts = with_rest (after_run ts) (type_of (run ts))
 
--- the type behind a comma, and then the next ones
-unfoldable pub types_on : (List DeclaredType → Reader (List DeclaredType)) → List DeclaredType → Reader (List DeclaredType)
+-- the type after a comma, and then the next ones
+unfoldable pub types_on : (List DeclaredType → Reader (List DeclaredType)) → List DeclaredType
+    → Reader (List DeclaredType)
 types_on next all ts =
-    if is_at m.Comma ts
+    if is_at Mark.Comma ts
     then (whole_type (tail ts) >>= λ t. next (all ++ t.0 ∷ []) t.1)
-    else (after_mark m.CloseBracket ts >>= λ rest. Some (all, rest))
+    else (after_mark Mark.CloseBracket ts >>= λ rest. Some (all, rest))
 
 -- in at most so many turns
 abbrev pub further_types : ℕ → List DeclaredType → Reader (List DeclaredType)
@@ -118,7 +118,9 @@ further_types zero all ts = None
 further_types (suc turns) all ts = types_on (further_types turns) all ts
 
 unfoldable pub key_types : ℕ → Reader (List DeclaredType)
-key_types n ts = if is_at m.OpenBracket ts then (whole_type (tail ts) >>= λ t. further_types n (t.0 ∷ []) t.1) else Some ([], ts)
+key_types n ts =
+    if is_at Mark.OpenBracket ts then (whole_type (tail ts) >>= λ t. further_types n (t.0 ∷ []) t.1)
+    else Some ([], ts)
 
 -- all words but the last, and the last
 abbrev pub last_by : Token → Option (List Token × Token) → Option (List Token × Token)
@@ -130,7 +132,7 @@ last_apart [] = None
 last_apart (t ∷ ts) = last_by t (last_apart ts)
 
 abbrev pub word_of : TokenKind → List ℕ
-word_of (kind.Word word) = word
+word_of (TokenKind.Word word) = word
 word_of t = []
 
 abbrev pub some_word : TokenKind → Option (List ℕ)
@@ -138,26 +140,32 @@ some_word t = Some (word_of t)
 
 -- a type and a word
 unfoldable pub typed_name : Reader (DeclaredType × List ℕ)
-typed_name ts = last_apart (run ts) >>= λ x. type_of x.0 >>= λ t. Some ((t, word_of x.1.kind), behind_run ts)
+typed_name ts =
+    last_apart (run ts) >>= λ x. type_of x.0 >>= λ t. Some ((t, word_of x.1.kind), after_run ts)
 
--- behind `self`
+-- after `self`
 unfoldable pub of_thread : ℕ → ℕ → Reader DeclarationTree
-of_thread n line ts = typed_name ts >>= λ x. key_types n x.1 >>= λ k. after_mark m.Semicolon k.1 >>= λ rest. Some (OfThread line x.0.0 x.0.1 k.0, rest)
+of_thread n line ts =
+    typed_name ts >>= λ x. key_types n x.1 >>= λ k. after_mark Mark.Semicolon k.1 >>= λ rest.
+    Some (OfThread line x.0.0 x.0.1 k.0, rest)
 
--- behind `this`
+-- after `this`
 unfoldable pub of_clause : ℕ → Reader DeclarationTree
-of_clause line ts = typed_name ts >>= λ x. after_mark m.Semicolon x.1 >>= λ rest. Some (OfClause line x.0.0 x.0.1, rest)
+of_clause line ts =
+    typed_name ts >>= λ x. after_mark Mark.Semicolon x.1 >>= λ rest.
+    Some (OfClause line x.0.0 x.0.1, rest)
 
 -- by the kind of the first word
-abbrev pub declared_by : WordKind → ℕ → ℕ → Reader DeclarationTree
-declared_by w.Thread n line ts = of_thread n line ts
-declared_by w.Clause n line ts = of_clause line ts
-declared_by k n line ts = None
+abbrev pub declaration_by : WordKind → ℕ → ℕ → Reader DeclarationTree
+declaration_by WordKind.Thread n line ts = of_thread n line ts
+declaration_by WordKind.Clause n line ts = of_clause line ts
+declaration_by k n line ts = None
 
 -- ---- scripts
 
 abbrev pub item_by : ℕ → TokenKind → ℕ → List Token → Reader ItemTree
-item_by n (kind.Word word) line behind ts = declared_by (word_kind word) n line behind >>= λ d. Some (Declared d.0, d.1)
+item_by n (TokenKind.Word word) line behind ts =
+    declaration_by (word_kind word) n line behind >>= λ d. Some (Declared d.0, d.1)
 item_by n t line behind ts = clause n ts >>= λ c. Some (Probing c.0, c.1)
 
 unfoldable pub item : ℕ → Reader ItemTree

@@ -1,35 +1,33 @@
--- Which tokens spell a script: its declarations, and its clauses with their descriptions, predicate and statements.
+-- Which tokens spell a script: its declarations, and its clauses with their descriptions, predicate
+-- and statements.
 use Rattle.std.specs.Prelude.{◌≡◌, ◌==◌, ◌&&◌, nat_le, ℕ, zero, suc, Bool, if◌then◌else◌, List, [], ◌∷◌, ◌++◌, Option, Some, None}
-pub use Rattle.std.specs.List.{list_all}
-use Rattle.d_lexer.specs.declared.token.Mark.TheVariants as m
-use Rattle.d_lexer.specs.declared.token.Token.{Token}
-use Rattle.d_lexer.specs.declared.token.TokenKind.TheVariants as kind
-use Rattle.d_parser.specs.declared.tree.DeclaredType.{DeclaredType}
-use Rattle.d_parser.specs.declared.tree.Description.{Description}
-use Rattle.d_parser.specs.declared.words.WordKind.{WordKind}
-use Rattle.d_parser.specs.declared.words.WordKind.TheVariants as w
+use Rattle.d_parser.specs.Vocabulary.{Mark, Token, TokenKind, DeclaredType, Description, WordKind}
 use Rattle.d_parser.specs.Tree.{Tree, Trees, StmtTree, Expression, Aggregation, DeclarationTree, OfThread, OfClause, ClauseTree, ItemTree, Declared, Probing}
 use Rattle.d_parser.specs.Words.{word_kind, type_of, AreWords}
 use Rattle.d_parser.specs.Grammar.{Part, Begins, Sign, IsEnclosed, IsExpression, SpellsKeys, SpellsList}
+pub use Rattle.std.specs.List.{list_all}
 
 -- ---- statements
 
 -- `@name[keys] = function(arguments)`
-pub record IsAggregation (line : ℕ) (name : List ℕ) (keys : Trees) (function : List ℕ) (arguments : Trees) (ts rest : List Token) : Type 0 where
+pub record IsAggregation (line : ℕ) (name : List ℕ) (keys : Trees) (function : List ℕ)
+    (arguments : Trees) (ts rest : List Token) : Type 0 where
   pub at_keys : List Token
   pub at_assign : List Token
   pub at_word : List Token
   pub at_open : List Token
   pub word_line : ℕ
-  pub begins : Begins (kind.AggregationName name) line ts at_keys
+  pub begins : Begins (TokenKind.AggregationName name) line ts at_keys
   pub spells_keys : SpellsKeys keys at_keys at_assign
-  pub assigns : Sign m.Assign at_assign at_word
-  pub word : Begins (kind.Word function) word_line at_word at_open
-  pub spells_arguments : IsEnclosed m.OpenParenthesis m.CloseParenthesis (SpellsList arguments) at_open rest
+  pub assigns : Sign Mark.Assign at_assign at_word
+  pub word : Begins (TokenKind.Word function) word_line at_word at_open
+  pub spells_arguments : IsEnclosed Mark.OpenParenthesis Mark.CloseParenthesis
+      (SpellsList arguments) at_open rest
 
 abbrev pub IsStmt : StmtTree → Part
 IsStmt (Expression t) ts rest = IsExpression t ts rest
-IsStmt (Aggregation line name keys function arguments) ts rest = IsAggregation line name keys function arguments ts rest
+IsStmt (Aggregation line name keys function arguments) ts rest =
+    IsAggregation line name keys function arguments ts rest
 
 -- a statement, or none
 abbrev pub IsSlot : Option StmtTree → Part
@@ -38,8 +36,10 @@ IsSlot (Some s) ts rest = IsStmt s ts rest
 
 -- a semicolon before each, and then `}`
 abbrev pub AreFurther : List (Option StmtTree) → Part
-AreFurther [] ts rest = Sign m.CloseBrace ts rest
-AreFurther (slot ∷ slots) ts rest = (first : List Token) × (behind : List Token) × Sign m.Semicolon ts first × IsSlot slot first behind × AreFurther slots behind rest
+AreFurther [] ts rest = Sign Mark.CloseBrace ts rest
+AreFurther (slot ∷ slots) ts rest =
+    (first : List Token) × (behind : List Token) × Sign Mark.Semicolon ts first
+    × IsSlot slot first behind × AreFurther slots behind rest
 
 -- those that are there
 abbrev pub present : List (Option StmtTree) → List StmtTree
@@ -66,10 +66,10 @@ unfoldable pub before_colon : List ℕ → List ℕ
 before_colon [] = []
 before_colon (b ∷ bytes) = if b == colon then [] else b ∷ before_colon bytes
 
--- those behind it, if there is one
-unfoldable pub behind_colon : List ℕ → Option (List ℕ)
-behind_colon [] = None
-behind_colon (b ∷ bytes) = if b == colon then Some bytes else behind_colon bytes
+-- those after it, if there is one
+unfoldable pub after_colon : List ℕ → Option (List ℕ)
+after_colon [] = None
+after_colon (b ∷ bytes) = if b == colon then Some bytes else after_colon bytes
 
 -- one field before others, where there are such
 abbrev pub with_first : List ℕ → Option (List (List ℕ)) → Option (List (List ℕ))
@@ -80,46 +80,55 @@ with_first field (Some others) = Some (field ∷ others)
 abbrev pub fields : ℕ → Option (List ℕ) → Option (List (List ℕ))
 fields n None = Some []
 fields zero (Some bytes) = None
-fields (suc n) (Some bytes) = with_first (before_colon bytes) (fields n (behind_colon bytes))
+fields (suc n) (Some bytes) = with_first (before_colon bytes) (fields n (after_colon bytes))
 
-abbrev pub described : (a b c d : List ℕ) → Description
-described a b c d = record { provider = a; «module» = b; function = c; name = d }
+abbrev pub description_with : (a b c d : List ℕ) → Description
+description_with a b c d = record { provider = a; «module» = b; function = c; name = d }
 
 -- the fields read from the right
-abbrev pub placed : Option (List (List ℕ)) → Option Description
-placed (Some (a ∷ [])) = Some (record { provider = []; «module» = []; function = []; name = a })
-placed (Some (a ∷ (b ∷ []))) = Some (record { provider = []; «module» = []; function = a; name = b })
-placed (Some (a ∷ (b ∷ (c ∷ [])))) = Some (record { provider = []; «module» = a; function = b; name = c })
-placed (Some (a ∷ (b ∷ (c ∷ (d ∷ []))))) = Some (record { provider = a; «module» = b; function = c; name = d })
-placed other = None
+abbrev pub description_from : Option (List (List ℕ)) → Option Description
+description_from (Some (a ∷ [])) =
+    Some (record { provider = []; «module» = []; function = []; name = a })
+description_from (Some (a ∷ (b ∷ []))) =
+    Some (record { provider = []; «module» = []; function = a; name = b })
+description_from (Some (a ∷ (b ∷ (c ∷ [])))) =
+    Some (record { provider = []; «module» = a; function = b; name = c })
+description_from (Some (a ∷ (b ∷ (c ∷ (d ∷ []))))) =
+    Some (record { provider = a; «module» = b; function = c; name = d })
+description_from other = None
 
 abbrev pub is_digit : ℕ → Bool
 is_digit b = nat_le 48 b && nat_le b 57
 
 -- at most four fields, and not digits alone
 abbrev pub description_of : List ℕ → Option Description
-description_of run = if list_all is_digit run then None else placed (fields 4 (Some run))
+description_of run = if list_all is_digit run then None else description_from (fields 4 (Some run))
 
 pub record IsDescription (d : Description) (ts rest : List Token) : Type 0 where
   pub run : List ℕ
   pub line : ℕ
-  pub begins : Begins (kind.DescriptionRun run) line ts rest
+  pub begins : Begins (TokenKind.DescriptionRun run) line ts rest
   pub is : description_of run ≡ Some d
 
 -- a comma before each
 abbrev pub FurtherDescriptions : List Description → Part
 FurtherDescriptions [] ts rest = ts ≡ rest
-FurtherDescriptions (d ∷ ds) ts rest = (first : List Token) × (behind : List Token) × Sign m.Comma ts first × IsDescription d first behind × FurtherDescriptions ds behind rest
+FurtherDescriptions (d ∷ ds) ts rest =
+    (first : List Token) × (behind : List Token) × Sign Mark.Comma ts first
+    × IsDescription d first behind × FurtherDescriptions ds behind rest
 
 -- one at least, with commas between
 abbrev pub AreDescriptions : List Description → Part
 AreDescriptions [] ts rest = ⊥
-AreDescriptions (d ∷ ds) ts rest = (behind : List Token) × IsDescription d ts behind × FurtherDescriptions ds behind rest
+AreDescriptions (d ∷ ds) ts rest =
+    (behind : List Token) × IsDescription d ts behind × FurtherDescriptions ds behind rest
 
 -- an expression between slashes, or nothing
 abbrev pub IsPredicate : Option Tree → Part
 IsPredicate None ts rest = ts ≡ rest
-IsPredicate (Some t) ts rest = (first : List Token) × (close : List Token) × Sign m.Slash ts first × IsExpression t first close × Sign m.ClosingSlash close rest
+IsPredicate (Some t) ts rest =
+    (first : List Token) × (close : List Token) × Sign Mark.Slash ts first
+    × IsExpression t first close × Sign Mark.ClosingSlash close rest
 
 pub record IsClause (c : ClauseTree) (ts rest : List Token) : Type 0 where
   pub at_predicate : List Token
@@ -127,7 +136,7 @@ pub record IsClause (c : ClauseTree) (ts rest : List Token) : Type 0 where
   pub at_stmts : List Token
   pub descriptions : AreDescriptions c.descriptions ts at_predicate
   pub predicate : IsPredicate c.predicate at_predicate at_brace
-  pub opens : Sign m.OpenBrace at_brace at_stmts
+  pub opens : Sign Mark.OpenBrace at_brace at_stmts
   pub stmts : AreStmts c.statements at_stmts rest
 
 -- ---- declarations
@@ -141,32 +150,39 @@ pub record IsType (t : DeclaredType) (ts rest : List Token) : Type 0 where
 
 -- a comma before each, and then `]`
 abbrev pub FurtherTypes : List DeclaredType → Part
-FurtherTypes [] ts rest = Sign m.CloseBracket ts rest
-FurtherTypes (t ∷ all) ts rest = (first : List Token) × (behind : List Token) × Sign m.Comma ts first × IsType t first behind × FurtherTypes all behind rest
+FurtherTypes [] ts rest = Sign Mark.CloseBracket ts rest
+FurtherTypes (t ∷ all) ts rest =
+    (first : List Token) × (behind : List Token) × Sign Mark.Comma ts first × IsType t first behind
+    × FurtherTypes all behind rest
 
 -- types in brackets, or nothing
 abbrev pub AreKeyTypes : List DeclaredType → Part
 AreKeyTypes [] ts rest = ts ≡ rest
-AreKeyTypes (t ∷ all) ts rest = (first : List Token) × (behind : List Token) × Sign m.OpenBracket ts first × IsType t first behind × FurtherTypes all behind rest
+AreKeyTypes (t ∷ all) ts rest =
+    (first : List Token) × (behind : List Token) × Sign Mark.OpenBracket ts first
+    × IsType t first behind × FurtherTypes all behind rest
 
--- `self` or `this` on this line, a type, a word that may be reserved, perhaps key types, and a semicolon
-pub record IsDeclared (which : WordKind) (line : ℕ) (t : DeclaredType) (name : List ℕ) (keys : List DeclaredType) (ts rest : List Token) : Type 0 where
+-- `self` or `this` on this line, a type, a word that may be reserved, perhaps key types, and a
+-- semicolon
+pub record IsDeclared (which : WordKind) (line : ℕ) (t : DeclaredType) (name : List ℕ)
+    (keys : List DeclaredType) (ts rest : List Token) : Type 0 where
   pub first : List ℕ
   pub at_type : List Token
   pub at_name : List Token
   pub at_keys : List Token
   pub at_end : List Token
   pub name_line : ℕ
-  pub begins : Begins (kind.Word first) line ts at_type
+  pub begins : Begins (TokenKind.Word first) line ts at_type
   pub reserved : word_kind first ≡ which
   pub spells : IsType t at_type at_name
-  pub word : Begins (kind.Word name) name_line at_name at_keys
+  pub word : Begins (TokenKind.Word name) name_line at_name at_keys
   pub key_types : AreKeyTypes keys at_keys at_end
-  pub ends : Sign m.Semicolon at_end rest
+  pub ends : Sign Mark.Semicolon at_end rest
 
 abbrev pub IsDeclaration : DeclarationTree → Part
-IsDeclaration (OfThread line t name keys) ts rest = IsDeclared w.Thread line t name keys ts rest
-IsDeclaration (OfClause line t name) ts rest = IsDeclared w.Clause line t name [] ts rest
+IsDeclaration (OfThread line t name keys) ts rest =
+    IsDeclared WordKind.Thread line t name keys ts rest
+IsDeclaration (OfClause line t name) ts rest = IsDeclared WordKind.Clause line t name [] ts rest
 
 -- ---- scripts
 

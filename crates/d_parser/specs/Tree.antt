@@ -1,25 +1,6 @@
 -- Trees, without where they lie in memory.
 use Rattle.std.specs.Prelude.{ℕ, List, [], ◌∷◌, map, Option, Some, None}
-use Rattle.d_parser.specs.declared.operators.UnaryOperator.{UnaryOperator}
-use Rattle.d_parser.specs.declared.operators.BinaryOperator.{BinaryOperator}
-use Rattle.d_parser.specs.declared.operators.AssignOperator.{AssignOperator}
-use Rattle.d_parser.specs.declared.operators.Step.{Step}
-use Rattle.d_parser.specs.declared.tree.IntegerType.{IntegerType}
-use Rattle.d_parser.specs.declared.tree.Variable.{Variable}
-use Rattle.d_parser.specs.declared.tree.Target.{Target}
-use Rattle.d_parser.specs.declared.tree.Constant.{Constant}
-use Rattle.d_parser.specs.declared.tree.Expr.{Expr, Row_of-Expr, end_of-Expr, more_of-Expr}
-use Rattle.d_parser.specs.declared.tree.Expr.TheVariants as e
-use Rattle.d_parser.specs.declared.tree.DeclaredType.{DeclaredType}
-use Rattle.d_parser.specs.declared.tree.Description.{Description}
-use Rattle.d_parser.specs.declared.tree.Declaration.{Declaration}
-use Rattle.d_parser.specs.declared.tree.Declaration.TheVariants as d
-use Rattle.d_parser.specs.declared.tree.Stmt.{Stmt}
-use Rattle.d_parser.specs.declared.tree.Stmt.TheVariants as s
-use Rattle.d_parser.specs.declared.tree.Clause.{Clause}
-use Rattle.d_parser.specs.declared.tree.Item.{Item}
-use Rattle.d_parser.specs.declared.tree.Item.TheVariants as i
-use Rattle.d_parser.specs.declared.tree.Script.{Script}
+use Rattle.d_parser.specs.Vocabulary.{UnaryOperator, BinaryOperator, AssignOperator, Step, IntegerType, Variable, Target, Constant, Expr, Row_of-Expr, end_of-Expr, more_of-Expr, DeclaredType, Description, Declaration, Stmt, Clause, Item, Script}
 
 -- an expression; numbers are lines
 mutual
@@ -42,16 +23,16 @@ mutual
 
 abbrev mutual
   pub tree_of : Expr → Tree
-  tree_of (e.Constant line c) = Known line c
-  tree_of (e.Read' v shape keys) = Read v (trees_in keys)
-  tree_of (e.Call' line f shape all) = Call line f (trees_in all)
-  tree_of (e.Unary' line op p a) = Unary line op (tree_of a)
-  tree_of (e.Cast' line to p a) = Cast line to (tree_of a)
-  tree_of (e.Before' line step v shape keys) = Before line step v (trees_in keys)
-  tree_of (e.After' v shape keys step) = After v (trees_in keys) step
-  tree_of (e.Binary' op p a q b) = Binary op (tree_of a) (tree_of b)
-  tree_of (e.Choice' p c q a r b) = Choice (tree_of c) (tree_of a) (tree_of b)
-  tree_of (e.Assign' op v shape keys p a) = Assign op v (trees_in keys) (tree_of a)
+  tree_of (Expr.Constant line c) = Known line c
+  tree_of (Expr.Read' v shape keys) = Read v (trees_in keys)
+  tree_of (Expr.Call' line f shape all) = Call line f (trees_in all)
+  tree_of (Expr.Unary' line op p a) = Unary line op (tree_of a)
+  tree_of (Expr.Cast' line to p a) = Cast line to (tree_of a)
+  tree_of (Expr.Before' line step v shape keys) = Before line step v (trees_in keys)
+  tree_of (Expr.After' v shape keys step) = After v (trees_in keys) step
+  tree_of (Expr.Binary' op p a q b) = Binary op (tree_of a) (tree_of b)
+  tree_of (Expr.Choice' p c q a r b) = Choice (tree_of c) (tree_of a) (tree_of b)
+  tree_of (Expr.Assign' op v shape keys p a) = Assign op v (trees_in keys) (tree_of a)
 
   pub trees_in : {m : _} → Row_of-Expr m → Trees
   trees_in end_of-Expr = end
@@ -73,10 +54,12 @@ add (more b rest) a = more b (add rest a)
 
 pub data StmtTree : Type 0 where
   Expression : Tree → StmtTree
-  Aggregation : (line : ℕ) (name : List ℕ) (keys : Trees) (function : List ℕ) (arguments : Trees) → StmtTree
+  Aggregation : (line : ℕ) (name : List ℕ) (keys : Trees) (function : List ℕ) (arguments : Trees)
+      → StmtTree
 
 pub data DeclarationTree : Type 0 where
-  OfThread : (line : ℕ) (declared : DeclaredType) (name : List ℕ) (keys : List DeclaredType) → DeclarationTree
+  OfThread : (line : ℕ) (declared : DeclaredType) (name : List ℕ) (keys : List DeclaredType)
+      → DeclarationTree
   OfClause : (line : ℕ) (declared : DeclaredType) (name : List ℕ) → DeclarationTree
 
 pub record ClauseTree : Type 0 where
@@ -89,12 +72,13 @@ pub data ItemTree : Type 0 where
   Probing : ClauseTree → ItemTree
 
 abbrev pub stmt_of : Stmt → StmtTree
-stmt_of (s.Expression t) = Expression (tree_of t)
-stmt_of (s.Aggregation line name keys function arguments) = Aggregation line name (trees_of keys.items) function (trees_of arguments.items)
+stmt_of (Stmt.Expression t) = Expression (tree_of t)
+stmt_of (Stmt.Aggregation line name keys function arguments) =
+    Aggregation line name (trees_of keys.items) function (trees_of arguments.items)
 
 abbrev pub declaration_of : Declaration → DeclarationTree
-declaration_of (d.Thread line declared name keys) = OfThread line declared name keys.items
-declaration_of (d.Clause line declared name) = OfClause line declared name
+declaration_of (Declaration.Thread line declared name keys) = OfThread line declared name keys.items
+declaration_of (Declaration.Clause line declared name) = OfClause line declared name
 
 abbrev pub predicate_of : Option Expr → Option Tree
 predicate_of None = None
@@ -104,11 +88,15 @@ abbrev pub stmts_of : List Stmt → List StmtTree
 stmts_of all = map stmt_of all
 
 abbrev pub clause_of : Clause → ClauseTree
-clause_of c = record { descriptions = c.descriptions.items; predicate = predicate_of c.predicate; statements = stmts_of c.statements.items }
+clause_of c = record {
+  descriptions = c.descriptions.items;
+  predicate = predicate_of c.predicate;
+  statements = stmts_of c.statements.items;
+}
 
 abbrev pub item_of : Item → ItemTree
-item_of (i.Declaration d) = Declared (declaration_of d)
-item_of (i.Clause c) = Probing (clause_of c)
+item_of (Item.Declaration d) = Declared (declaration_of d)
+item_of (Item.Clause c) = Probing (clause_of c)
 
 abbrev pub script_of : Script → List ItemTree
 script_of script = map item_of script.items.items

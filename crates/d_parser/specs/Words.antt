@@ -1,31 +1,35 @@
 -- Reserved words, and the types that words spell.
 use Rattle.std.specs.Prelude.{◌≡◌, ℕ, Bool, true, false, if◌then◌else◌, List, [], ◌∷◌, Option, Some, None, codes}
-use Rattle.std.specs.Str.{bytes_eq}
-use Rattle.d_lexer.specs.declared.token.Token.{Token}
-use Rattle.d_lexer.specs.declared.token.TokenKind.{TokenKind}
-use Rattle.d_lexer.specs.declared.token.TokenKind.TheVariants as kind
-use Rattle.d_parser.specs.declared.words.WordKind.{WordKind}
-use Rattle.d_parser.specs.declared.words.WordKind.TheVariants as w
-use Rattle.d_parser.specs.declared.tree.IntegerType.{IntegerType}
-use Rattle.d_parser.specs.declared.tree.IntegerType.TheVariants as i
-use Rattle.d_parser.specs.declared.tree.DeclaredType.{DeclaredType}
-use Rattle.d_parser.specs.declared.tree.DeclaredType.TheVariants as d
+use Rattle.d_parser.specs.Vocabulary.{bytes_eq, Token, TokenKind, WordKind, IntegerType, DeclaredType}
 
 -- ---- reserved words
 
 abbrev pub kind_among : List (List ℕ × WordKind) → List ℕ → WordKind
-kind_among [] word = w.Plain
-kind_among (entry ∷ entries) word = if bytes_eq word entry.0 then entry.1 else kind_among entries word
+kind_among [] word = WordKind.Plain
+kind_among (entry ∷ entries) word =
+    if bytes_eq word entry.0 then entry.1 else kind_among entries word
 
 abbrev pub fixed_words : List (List ℕ × WordKind)
 fixed_words =
-    (codes "int8_t", w.Fixed i.Int8) ∷ (codes "int16_t", w.Fixed i.Int16) ∷ (codes "int32_t", w.Fixed i.Int32) ∷ (codes "int64_t", w.Fixed i.Int64)
-    ∷ (codes "uint8_t", w.Fixed i.Uint8) ∷ (codes "uint16_t", w.Fixed i.Uint16) ∷ (codes "uint32_t", w.Fixed i.Uint32) ∷ (codes "uint64_t", w.Fixed i.Uint64) ∷ []
+    (codes "int8_t", WordKind.Fixed IntegerType.Int8) ∷ (
+      codes "int16_t",
+      WordKind.Fixed IntegerType.Int16,
+    ) ∷ (codes "int32_t", WordKind.Fixed IntegerType.Int32)
+    ∷ (codes "int64_t", WordKind.Fixed IntegerType.Int64)
+    ∷ (codes "uint8_t", WordKind.Fixed IntegerType.Uint8) ∷ (
+      codes "uint16_t",
+      WordKind.Fixed IntegerType.Uint16,
+    ) ∷ (codes "uint32_t", WordKind.Fixed IntegerType.Uint32)
+    ∷ (codes "uint64_t", WordKind.Fixed IntegerType.Uint64) ∷ []
 
 abbrev pub reserved_words : List (List ℕ × WordKind)
 reserved_words =
-    (codes "self", w.Thread) ∷ (codes "this", w.Clause) ∷ (codes "string", w.Text) ∷ (codes "char", w.Char) ∷ (codes "short", w.Short)
-    ∷ (codes "int", w.Int) ∷ (codes "long", w.Long) ∷ (codes "signed", w.Signed) ∷ (codes "unsigned", w.Unsigned) ∷ fixed_words
+    (codes "self", WordKind.Thread) ∷ (codes "this", WordKind.Clause) ∷ (
+      codes "string",
+      WordKind.Text,
+    ) ∷ (codes "char", WordKind.Char) ∷ (codes "short", WordKind.Short)
+    ∷ (codes "int", WordKind.Int) ∷ (codes "long", WordKind.Long)
+    ∷ (codes "signed", WordKind.Signed) ∷ (codes "unsigned", WordKind.Unsigned) ∷ fixed_words
 
 -- what a word stands for
 abbrev pub word_kind : List ℕ → WordKind
@@ -33,37 +37,38 @@ word_kind word = kind_among reserved_words word
 
 -- the words that begin a type
 abbrev pub begins_type : WordKind → Bool
-begins_type w.Plain = false
-begins_type w.Thread = false
-begins_type w.Clause = false
+begins_type WordKind.Plain = false
+begins_type WordKind.Thread = false
+begins_type WordKind.Clause = false
 begins_type k = true
 
 -- ---- types
 
 -- the signed and the unsigned type of a width, by its words
 abbrev pub widths_of : WordKind → List WordKind → Option (IntegerType × IntegerType)
-widths_of w.Char [] = Some (i.Int8, i.Uint8)
-widths_of w.Short [] = Some (i.Int16, i.Uint16)
-widths_of w.Short (w.Int ∷ []) = Some (i.Int16, i.Uint16)
-widths_of w.Int [] = Some (i.Int32, i.Uint32)
-widths_of w.Long [] = Some (i.Int64, i.Uint64)
-widths_of w.Long (w.Int ∷ []) = Some (i.Int64, i.Uint64)
-widths_of w.Long (w.Long ∷ []) = Some (i.Int64, i.Uint64)
-widths_of w.Long (w.Long ∷ (w.Int ∷ [])) = Some (i.Int64, i.Uint64)
+widths_of WordKind.Char [] = Some (IntegerType.Int8, IntegerType.Uint8)
+widths_of WordKind.Short [] = Some (IntegerType.Int16, IntegerType.Uint16)
+widths_of WordKind.Short (WordKind.Int ∷ []) = Some (IntegerType.Int16, IntegerType.Uint16)
+widths_of WordKind.Int [] = Some (IntegerType.Int32, IntegerType.Uint32)
+widths_of WordKind.Long [] = Some (IntegerType.Int64, IntegerType.Uint64)
+widths_of WordKind.Long (WordKind.Int ∷ []) = Some (IntegerType.Int64, IntegerType.Uint64)
+widths_of WordKind.Long (WordKind.Long ∷ []) = Some (IntegerType.Int64, IntegerType.Uint64)
+widths_of WordKind.Long (WordKind.Long ∷ (WordKind.Int ∷ [])) =
+    Some (IntegerType.Int64, IntegerType.Uint64)
 widths_of k ks = None
 
 abbrev pub signed_of : Option (IntegerType × IntegerType) → Option DeclaredType
 signed_of None = None
-signed_of (Some both) = Some (d.Integer both.0)
+signed_of (Some both) = Some (DeclaredType.Integer both.0)
 
 abbrev pub unsigned_of : Option (IntegerType × IntegerType) → Option DeclaredType
 unsigned_of None = None
-unsigned_of (Some both) = Some (d.Integer both.1)
+unsigned_of (Some both) = Some (DeclaredType.Integer both.1)
 
 -- what a token's word stands for
 abbrev pub kind_of : TokenKind → WordKind
-kind_of (kind.Word word) = word_kind word
-kind_of t = w.Plain
+kind_of (TokenKind.Word word) = word_kind word
+kind_of t = WordKind.Plain
 
 -- the same of a first word and the others' tokens
 abbrev pub widths_with : WordKind → List Token → Option (IntegerType × IntegerType)
@@ -74,12 +79,12 @@ widths_with k ts = None
 
 -- the type that words spell, by the first and the others
 abbrev pub type_from : WordKind → List Token → Option DeclaredType
-type_from (w.Fixed t) [] = Some (d.Integer t)
-type_from w.Text [] = Some d.Text
-type_from w.Signed [] = Some (d.Integer i.Int32)
-type_from w.Signed (a ∷ ts) = signed_of (widths_with (kind_of a.kind) ts)
-type_from w.Unsigned [] = Some (d.Integer i.Uint32)
-type_from w.Unsigned (a ∷ ts) = unsigned_of (widths_with (kind_of a.kind) ts)
+type_from (WordKind.Fixed t) [] = Some (DeclaredType.Integer t)
+type_from WordKind.Text [] = Some DeclaredType.Text
+type_from WordKind.Signed [] = Some (DeclaredType.Integer IntegerType.Int32)
+type_from WordKind.Signed (a ∷ ts) = signed_of (widths_with (kind_of a.kind) ts)
+type_from WordKind.Unsigned [] = Some (DeclaredType.Integer IntegerType.Uint32)
+type_from WordKind.Unsigned (a ∷ ts) = unsigned_of (widths_with (kind_of a.kind) ts)
 type_from k ts = signed_of (widths_with k ts)
 
 abbrev pub type_of : List Token → Option DeclaredType
@@ -87,7 +92,7 @@ type_of [] = None
 type_of (t ∷ ts) = type_from (kind_of t.kind) ts
 
 abbrev pub only_integer : Option DeclaredType → Option IntegerType
-only_integer (Some (d.Integer t)) = Some t
+only_integer (Some (DeclaredType.Integer t)) = Some t
 only_integer o = None
 
 abbrev pub integer_type : List Token → Option IntegerType
@@ -96,18 +101,18 @@ integer_type ts = only_integer (type_of ts)
 -- ---- runs of words
 
 abbrev pub is_word : TokenKind → Bool
-is_word (kind.Word word) = true
+is_word (TokenKind.Word word) = true
 is_word t = false
 
 abbrev pub AreWords : List Token → Type 0
 AreWords [] = Unit {0}
 AreWords (t ∷ ts) = (is_word t.kind ≡ true) × AreWords ts
 
--- the words at the front, and what comes behind them
+-- the words at the front, and what comes after them
 unfoldable pub run : List Token → List Token
 run [] = []
 run (t ∷ ts) = if is_word t.kind then t ∷ run ts else []
 
-unfoldable pub behind_run : List Token → List Token
-behind_run [] = []
-behind_run (t ∷ ts) = if is_word t.kind then behind_run ts else t ∷ ts
+unfoldable pub after_run : List Token → List Token
+after_run [] = []
+after_run (t ∷ ts) = if is_word t.kind then after_run ts else t ∷ ts

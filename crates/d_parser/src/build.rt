@@ -1,9 +1,8 @@
 //! Small trees put together.
 
 ghost use Rattle.std.specs.Prelude.{◌≡◌, IfOk};
-ghost use Rattle.d_parser.specs.Reading.{OnlyMemory};
+ghost use Rattle.d_parser.specs.{Reading.OnlyMemory, Vocabulary.Constant};
 ghost use Rattle.d_parser.specs.Tree as spec;
-ghost use Rattle.d_parser.specs.declared.tree.Constant.TheVariants as constant;
 
 use crate::fault::ParseFault;
 use crate::operators::{AssignOperator, BinaryOperator, Step, UnaryOperator};
@@ -33,8 +32,9 @@ pub(crate) fn read(target: Target) -> Expr
     Expr::Read(target)
 }
 
-fn assigned(operator: AssignOperator, target: Target, value: Box<Expr>) -> Expr
-    ensures { spec.tree_of result ≡ spec.Assign operator (spec.target_of target).0 (spec.target_of target).1 (spec.tree_of value.value) }
+fn assignment(operator: AssignOperator, target: Target, value: Box<Expr>) -> Expr
+    ensures { spec.tree_of result ≡ spec.Assign operator (spec.target_of target).0
+        (spec.target_of target).1 (spec.tree_of value.value) }
 {
     Expr::Assign {
         operator,
@@ -49,27 +49,30 @@ pub(crate) fn assign(
     target: Target,
     value: Expr,
 ) -> Result<Expr, ParseFault>
-    ensures ok { IfOk result (λ e. spec.tree_of e ≡ spec.Assign operator (spec.target_of target).0 (spec.target_of target).1 (spec.tree_of value)) }
+    ensures ok { IfOk result (λ e. spec.tree_of e ≡ spec.Assign operator (spec.target_of target).0
+        (spec.target_of target).1 (spec.tree_of value)) }
     ensures err { OnlyMemory result }
 {
     let value = Box::new(alloc, value)?;
-    Ok(assigned(operator, target, value))
+    Ok(assignment(operator, target, value))
 }
 
 pub(crate) fn before(line: usize, step: Step, target: Target) -> Expr
-    ensures { spec.tree_of result ≡ spec.Before line step (spec.target_of target).0 (spec.target_of target).1 }
+    ensures { spec.tree_of result
+        ≡ spec.Before line step (spec.target_of target).0 (spec.target_of target).1 }
 {
     Expr::Before { line, step, target }
 }
 
 pub(crate) fn after(target: Target, step: Step) -> Expr
-    ensures { spec.tree_of result ≡ spec.After (spec.target_of target).0 (spec.target_of target).1 step }
+    ensures { spec.tree_of result
+        ≡ spec.After (spec.target_of target).0 (spec.target_of target).1 step }
 {
     Expr::After { target, step }
 }
 
 pub(crate) fn number(line: usize, value: u64, suffix: Suffix) -> Expr
-    ensures { spec.tree_of result ≡ spec.Known line (constant.Number value suffix) }
+    ensures { spec.tree_of result ≡ spec.Known line (Constant.Number value suffix) }
 {
     Expr::Constant {
         line,
@@ -78,7 +81,7 @@ pub(crate) fn number(line: usize, value: u64, suffix: Suffix) -> Expr
 }
 
 pub(crate) fn text(line: usize, bytes: ByteString) -> Expr
-    ensures { spec.tree_of result ≡ spec.Known line (constant.Text bytes) }
+    ensures { spec.tree_of result ≡ spec.Known line (Constant.Text bytes) }
 {
     Expr::Constant {
         line,
@@ -92,7 +95,8 @@ pub(crate) fn unary(
     operator: UnaryOperator,
     operand: Expr,
 ) -> Result<Expr, ParseFault>
-    ensures ok { IfOk result (λ e. spec.tree_of e ≡ spec.Unary line operator (spec.tree_of operand)) }
+    ensures ok { IfOk result
+        (λ e. spec.tree_of e ≡ spec.Unary line operator (spec.tree_of operand)) }
     ensures err { OnlyMemory result }
 {
     let operand = Box::new(alloc, operand)?;
@@ -122,7 +126,8 @@ pub(crate) fn binary(
     left: Expr,
     right: Expr,
 ) -> Result<Expr, ParseFault>
-    ensures ok { IfOk result (λ e. spec.tree_of e ≡ spec.Binary operator (spec.tree_of left) (spec.tree_of right)) }
+    ensures ok { IfOk result
+        (λ e. spec.tree_of e ≡ spec.Binary operator (spec.tree_of left) (spec.tree_of right)) }
     ensures err { OnlyMemory result }
 {
     let left = Box::new(alloc, left)?;
@@ -140,7 +145,8 @@ pub(crate) fn choice(
     first: Expr,
     second: Expr,
 ) -> Result<Expr, ParseFault>
-    ensures ok { IfOk result (λ e. spec.tree_of e ≡ spec.Choice (spec.tree_of test) (spec.tree_of first) (spec.tree_of second)) }
+    ensures ok { IfOk result (λ e. spec.tree_of e
+        ≡ spec.Choice (spec.tree_of test) (spec.tree_of first) (spec.tree_of second)) }
     ensures err { OnlyMemory result }
 {
     let test = Box::new(alloc, test)?;

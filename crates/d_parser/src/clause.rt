@@ -1,15 +1,14 @@
 //! Clauses: descriptions, predicate and statements.
 
 ghost use Rattle.std.specs.Prelude.{◌≡◌, Some};
-ghost use Rattle.d_parser.specs.Tree.{clause_of, predicate_of};
-ghost use Rattle.d_parser.specs.Reading.{Gives};
+ghost use Rattle.d_parser.specs.{Tree.clause_of, Tree.predicate_of, Reading.Gives};
 ghost use Rattle.d_parser.specs.ReadingScripts as spec;
 
+use crate::description::description_of;
 use crate::expression::phrase;
 use crate::fault::{AT_END, ParseFault};
 use crate::marks::{ASSIGNMENT, is_at, tail};
 use crate::names::{after_mark, line_at};
-use crate::probe::description_of;
 use crate::statement::statements;
 use crate::tree::{Clause, Description, Expr};
 use d_lexer::{Mark, Token, TokenKind};
@@ -31,7 +30,7 @@ fn description(alloc: Global, tokens: &[Token]) -> Result<(Description, &[Token]
     }
 }
 
-/// The descriptions behind commas.
+/// The descriptions after commas.
 #[cycle(descriptions)]
 #[tactic(auto, using(crate::proofs::Steps::descriptions_step, crate::proofs::Steps::descriptions_none))]
 fn further_descriptions<'a>(
@@ -40,7 +39,8 @@ fn further_descriptions<'a>(
     all: Vec<Description>,
     tokens: &'a [Token],
 ) -> Result<(Vec<Description>, &'a [Token]), ParseFault>
-    ensures { Gives (λ x. (x.0.items, x.1.now)) result (spec.further_descriptions turns all.items tokens.now) }
+    ensures { Gives (λ x. (x.0.items, x.1.now)) result
+        (spec.further_descriptions turns all.items tokens.now) }
 {
     if turns == 0 {
         return Err(ParseFault::Syntax {
@@ -58,7 +58,8 @@ fn descriptions_on<'a>(
     all: Vec<Description>,
     tokens: &'a [Token],
 ) -> Result<(Vec<Description>, &'a [Token]), ParseFault>
-    ensures { Gives (λ x. (x.0.items, x.1.now)) result (spec.descriptions_on (spec.further_descriptions turns) all.items tokens.now) }
+    ensures { Gives (λ x. (x.0.items, x.1.now)) result
+        (spec.descriptions_on (spec.further_descriptions turns) all.items tokens.now) }
 {
     if !is_at(Mark::Comma, tokens) {
         return Ok((all, tokens));

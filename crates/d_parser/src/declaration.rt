@@ -1,13 +1,12 @@
 //! Declarations.
 
 ghost use Rattle.std.specs.Prelude.{◌≡◌};
-ghost use Rattle.d_parser.specs.Tree.{declaration_of};
-ghost use Rattle.d_parser.specs.Reading.{Gives};
+ghost use Rattle.d_parser.specs.{Tree.declaration_of, Reading.Gives};
 ghost use Rattle.d_parser.specs.ReadingScripts as spec;
 
 use crate::fault::ParseFault;
 use crate::marks::{is_at, tail};
-use crate::names::{after_mark, line_at, line_behind};
+use crate::names::{after_mark, line_after, line_at};
 use crate::tree::{Declaration, DeclaredType};
 use crate::words::{split_run, type_length, type_of};
 use d_lexer::{ByteString, Mark, Token, TokenKind};
@@ -22,12 +21,12 @@ fn whole_type(tokens: &[Token]) -> Result<(DeclaredType, &[Token]), ParseFault>
     match type_of(words) {
         Some(declared) => Ok((declared, rest)),
         None => Err(ParseFault::Syntax {
-            line: line_behind(type_length(words), tokens),
+            line: line_after(type_length(words), tokens),
         }),
     }
 }
 
-/// The types behind commas, and the closing bracket.
+/// The types after commas, and the closing bracket.
 #[cycle(types)]
 #[tactic(auto, using(crate::proofs::Steps::types_step, crate::proofs::Steps::types_none))]
 fn further_types(
@@ -35,7 +34,8 @@ fn further_types(
     all: Vec<DeclaredType>,
     tokens: &[Token],
 ) -> Result<(Vec<DeclaredType>, &[Token]), ParseFault>
-    ensures { Gives (λ x. (x.0.items, x.1.now)) result (spec.further_types turns all.items tokens.now) }
+    ensures { Gives (λ x. (x.0.items, x.1.now)) result
+        (spec.further_types turns all.items tokens.now) }
 {
     if turns == 0 {
         return Err(ParseFault::Syntax {
@@ -52,7 +52,8 @@ fn types_on(
     all: Vec<DeclaredType>,
     tokens: &[Token],
 ) -> Result<(Vec<DeclaredType>, &[Token]), ParseFault>
-    ensures { Gives (λ x. (x.0.items, x.1.now)) result (spec.types_on (spec.further_types turns) all.items tokens.now) }
+    ensures { Gives (λ x. (x.0.items, x.1.now)) result
+        (spec.types_on (spec.further_types turns) all.items tokens.now) }
 {
     if !is_at(Mark::Comma, tokens) {
         return Ok((all, after_mark(Mark::CloseBracket, tokens)?));
@@ -94,9 +95,9 @@ fn word_of(alloc: Global, token: &Token) -> Result<ByteString, ParseFault>
 fn line_without_name(words: &[Token], tokens: &[Token]) -> usize {
     let count = type_length(words);
     if count == 0 || count == words.len() {
-        line_behind(count, tokens)
+        line_after(count, tokens)
     } else {
-        line_behind(count + 1, tokens)
+        line_after(count + 1, tokens)
     }
 }
 
@@ -130,7 +131,8 @@ pub(crate) fn of_thread<'a>(
     line: usize,
     tokens: &'a [Token],
 ) -> Result<(Declaration, &'a [Token]), ParseFault>
-    ensures { Gives (λ x. (declaration_of x.0, x.1.now)) result (spec.of_thread fuel line tokens.now) }
+    ensures { Gives (λ x. (declaration_of x.0, x.1.now)) result
+        (spec.of_thread fuel line tokens.now) }
 {
     let (declared, name, rest) = typed_name(alloc, tokens)?;
     let (keys, rest) = key_types(alloc, fuel, rest)?;

@@ -1,12 +1,10 @@
-//! Expressions, by precedence climbing. `fuel` bounds how deep the calls go; a list never needs more than its length.
-//! Functions that aren't inlined keep what one level takes of the stack small: the deepest tree fits in 2 MiB.
+//! Expressions, by precedence climbing. `fuel` bounds how deep the calls go; a list never needs
+//! more than its length. Functions that aren't inlined keep what one level takes of the stack
+//! small: the deepest tree fits in 2 MiB.
 
 ghost use Rattle.std.specs.Prelude.{◌≡◌, ◌≤◌, IfOk};
-ghost use Rattle.d_parser.specs.Tree as trees;
-ghost use Rattle.d_parser.specs.Tree.{tree_of, trees_of, target_of};
+ghost use Rattle.d_parser.specs.{Tree.tree_of, Tree.trees_of, Tree.target_of, Reading.Gives, Words.word_kind};
 ghost use Rattle.d_parser.specs.Reading as spec;
-ghost use Rattle.d_parser.specs.Reading.{Gives};
-ghost use Rattle.d_parser.specs.Words as words;
 
 use crate::build;
 use crate::fault::{AT_END, ParseFault};
@@ -22,14 +20,15 @@ use std::alloc::Global;
 
 /// Expressions with commas between, and the mark that closes them.
 #[cycle(expression)]
-#[tactic(auto, unfolding(crate::specs::Reading::listed))]
-fn listed<'a>(
+#[tactic(auto, unfolding(crate::specs::Reading::closed_list))]
+fn closed_list<'a>(
     alloc: Global,
     fuel: usize,
     close: Mark,
     tokens: &'a [Token],
 ) -> Result<(Vec<Expr>, &'a [Token]), ParseFault>
-    ensures { Gives (λ x. (trees_of x.0.items, x.1.now)) result (spec.listed (spec.readers fuel) close tokens.now) }
+    ensures { Gives (λ x. (trees_of x.0.items, x.1.now)) result
+        (spec.closed_list (spec.readers fuel) close tokens.now) }
 {
     let (first, rest) = phrase(alloc, fuel, ASSIGNMENT, tokens)?;
     let mut all = Vec::new(alloc);
@@ -45,15 +44,16 @@ pub(crate) fn keys<'a>(
     fuel: usize,
     tokens: &'a [Token],
 ) -> Result<(Vec<Expr>, &'a [Token]), ParseFault>
-    ensures { Gives (λ x. (trees_of x.0.items, x.1.now)) result (spec.keys (spec.readers fuel) tokens.now) }
+    ensures { Gives (λ x. (trees_of x.0.items, x.1.now)) result
+        (spec.keys (spec.readers fuel) tokens.now) }
 {
     match follow_at(tokens) {
-        Follow::Bracket => listed(alloc, fuel, Mark::CloseBracket, tail(tokens)),
+        Follow::Bracket => closed_list(alloc, fuel, Mark::CloseBracket, tail(tokens)),
         _ => Ok((Vec::new(alloc), tokens)),
     }
 }
 
-/// The arguments of a call, behind its opening parenthesis.
+/// The arguments of a call, after its opening parenthesis.
 #[cycle(expression)]
 #[tactic(auto, unfolding(crate::specs::Reading::arguments))]
 pub(crate) fn arguments<'a>(
@@ -61,12 +61,13 @@ pub(crate) fn arguments<'a>(
     fuel: usize,
     tokens: &'a [Token],
 ) -> Result<(Vec<Expr>, &'a [Token]), ParseFault>
-    ensures { Gives (λ x. (trees_of x.0.items, x.1.now)) result (spec.arguments (spec.readers fuel) tokens.now) }
+    ensures { Gives (λ x. (trees_of x.0.items, x.1.now)) result
+        (spec.arguments (spec.readers fuel) tokens.now) }
 {
     if is_at(Mark::CloseParenthesis, tokens) {
         return Ok((Vec::new(alloc), tail(tokens)));
     }
-    listed(alloc, fuel, Mark::CloseParenthesis, tokens)
+    closed_list(alloc, fuel, Mark::CloseParenthesis, tokens)
 }
 
 #[cycle(expression)]
@@ -77,7 +78,8 @@ fn with_keys<'a>(
     variable: Variable,
     tokens: &'a [Token],
 ) -> Result<(Target, &'a [Token]), ParseFault>
-    ensures { Gives (λ x. (target_of x.0, x.1.now)) result (spec.with_keys (spec.readers fuel) variable tokens.now) }
+    ensures { Gives (λ x. (target_of x.0, x.1.now)) result
+        (spec.with_keys (spec.readers fuel) variable tokens.now) }
 {
     if variable.is_clause_local() {
         return Ok((build::target(variable, Vec::new(alloc)), tokens));
@@ -96,7 +98,8 @@ fn target<'a>(
     line: usize,
     tokens: &'a [Token],
 ) -> Result<(Target, &'a [Token]), ParseFault>
-    ensures { Gives (λ x. (target_of x.0, x.1.now)) result (spec.target (spec.readers fuel) (words.word_kind name.now) name.now line tokens.now) }
+    ensures { Gives (λ x. (target_of x.0, x.1.now)) result
+        (spec.target (spec.readers fuel) (word_kind name.now) name.now line tokens.now) }
 {
     let (variable, rest) = variable(alloc, name, line, tokens)?;
     with_keys(alloc, fuel, variable, rest)
@@ -113,7 +116,8 @@ fn follows<'a>(
     target: Target,
     tokens: &'a [Token],
 ) -> Result<(Expr, &'a [Token]), ParseFault>
-    ensures { Gives (λ x. (tree_of x.0, x.1.now)) result (spec.follows (spec.readers fuel) level (target_of target) tokens.now) }
+    ensures { Gives (λ x. (tree_of x.0, x.1.now)) result
+        (spec.follows (spec.readers fuel) level (target_of target) tokens.now) }
 {
     match follow_at(tokens) {
         Follow::Step(step) => Ok((build::after(target, step), tail(tokens))),
@@ -131,8 +135,8 @@ fn follows<'a>(
 /// A call, or what a target begins.
 #[cycle(expression)]
 #[inline(never)]
-#[tactic(auto, unfolding(crate::specs::Reading::named))]
-fn named<'a>(
+#[tactic(auto, unfolding(crate::specs::Reading::part_at_name))]
+fn part_at_name<'a>(
     alloc: Global,
     fuel: usize,
     level: u8,
@@ -140,7 +144,8 @@ fn named<'a>(
     line: usize,
     tokens: &'a [Token],
 ) -> Result<(Expr, &'a [Token]), ParseFault>
-    ensures { Gives (λ x. (tree_of x.0, x.1.now)) result (spec.named (spec.readers fuel) level name.now line tokens.now) }
+    ensures { Gives (λ x. (tree_of x.0, x.1.now)) result
+        (spec.part_at_name (spec.readers fuel) level name.now line tokens.now) }
 {
     if begins_call(name, tokens) {
         let (all, rest) = arguments(alloc, fuel, tail(tokens))?;
@@ -164,31 +169,33 @@ fn begins_call(name: &ByteString, tokens: &[Token]) -> bool
 
 #[cycle(expression)]
 #[inline(never)]
-#[tactic(auto, unfolding(crate::specs::Reading::casted))]
+#[tactic(auto, unfolding(crate::specs::Reading::part_at_cast))]
 fn cast<'a>(
     alloc: Global,
     fuel: usize,
     line: usize,
     tokens: &'a [Token],
 ) -> Result<(Expr, &'a [Token]), ParseFault>
-    ensures { Gives (λ x. (tree_of x.0, x.1.now)) result (spec.casted (spec.readers fuel) line tokens.now) }
+    ensures { Gives (λ x. (tree_of x.0, x.1.now)) result
+        (spec.part_at_cast (spec.readers fuel) line tokens.now) }
 {
     let (to, rest) = cast_type(tokens)?;
     let (operand, rest) = phrase(alloc, fuel, UNARY, rest)?;
     Ok((build::cast(alloc, line, to, operand)?, rest))
 }
 
-/// A cast or an expression, behind the opening parenthesis.
+/// A cast or an expression, after the opening parenthesis.
 #[cycle(expression)]
 #[inline(never)]
-#[tactic(auto, unfolding(crate::specs::Reading::parenthesised))]
-fn parenthesised<'a>(
+#[tactic(auto, unfolding(crate::specs::Reading::part_in_parentheses))]
+fn part_in_parentheses<'a>(
     alloc: Global,
     fuel: usize,
     line: usize,
     tokens: &'a [Token],
 ) -> Result<(Expr, &'a [Token]), ParseFault>
-    ensures { Gives (λ x. (tree_of x.0, x.1.now)) result (spec.parenthesised (spec.readers fuel) line tokens.now) }
+    ensures { Gives (λ x. (tree_of x.0, x.1.now)) result
+        (spec.part_in_parentheses (spec.readers fuel) line tokens.now) }
 {
     if is_typed(tokens) {
         return cast(alloc, fuel, line, tokens);
@@ -197,17 +204,18 @@ fn parenthesised<'a>(
     Ok((inner, after_mark(Mark::CloseParenthesis, rest)?))
 }
 
-/// The target behind `++` or `--`.
+/// The target after `++` or `--`.
 #[cycle(expression)]
-#[tactic(auto, unfolding(crate::specs::Reading::stepped))]
-fn stepped<'a>(
+#[tactic(auto, unfolding(crate::specs::Reading::part_at_step))]
+fn part_at_step<'a>(
     alloc: Global,
     fuel: usize,
     line: usize,
     step: Step,
     tokens: &'a [Token],
 ) -> Result<(Expr, &'a [Token]), ParseFault>
-    ensures { Gives (λ x. (tree_of x.0, x.1.now)) result (spec.stepped (spec.readers fuel) line step tokens.now) }
+    ensures { Gives (λ x. (tree_of x.0, x.1.now)) result
+        (spec.part_at_step (spec.readers fuel) line step tokens.now) }
 {
     let [token, rest @ ..] = tokens else {
         return Err(ParseFault::Syntax { line: AT_END });
@@ -224,25 +232,26 @@ fn stepped<'a>(
 /// Behind a mark that begins a part.
 #[cycle(expression)]
 #[inline(never)]
-#[tactic(auto, unfolding(crate::specs::Reading::marked))]
-fn marked<'a>(
+#[tactic(auto, unfolding(crate::specs::Reading::part_at_mark))]
+fn part_at_mark<'a>(
     alloc: Global,
     fuel: usize,
     mark: Mark,
     line: usize,
     tokens: &'a [Token],
 ) -> Result<(Expr, &'a [Token]), ParseFault>
-    ensures { Gives (λ x. (tree_of x.0, x.1.now)) result (spec.marked (spec.readers fuel) mark line tokens.now) }
+    ensures { Gives (λ x. (tree_of x.0, x.1.now)) result
+        (spec.part_at_mark (spec.readers fuel) mark line tokens.now) }
 {
     if mark == Mark::OpenParenthesis {
-        return parenthesised(alloc, fuel, line, tokens);
+        return part_in_parentheses(alloc, fuel, line, tokens);
     }
     match prefix_of(mark) {
         Prefix::Unary(operator) => {
             let (operand, rest) = phrase(alloc, fuel, UNARY, tokens)?;
             Ok((build::unary(alloc, line, operator, operand)?, rest))
         }
-        Prefix::Step(step) => stepped(alloc, fuel, line, step, tokens),
+        Prefix::Step(step) => part_at_step(alloc, fuel, line, step, tokens),
         Prefix::Other => Err(ParseFault::Syntax { line }),
     }
 }
@@ -256,7 +265,8 @@ fn part<'a>(
     level: u8,
     tokens: &'a [Token],
 ) -> Result<(Expr, &'a [Token]), ParseFault>
-    ensures { Gives (λ x. (tree_of x.0, x.1.now)) result (spec.part (spec.readers fuel) level tokens.now) }
+    ensures { Gives (λ x. (tree_of x.0, x.1.now)) result
+        (spec.part (spec.readers fuel) level tokens.now) }
 {
     let [token, rest @ ..] = tokens else {
         return Err(ParseFault::Syntax { line: AT_END });
@@ -272,8 +282,8 @@ fn part<'a>(
                 rest,
             ))
         }
-        TokenKind::Word(name) => named(alloc, fuel, level, name, token.line, rest),
-        TokenKind::Mark(mark) => marked(alloc, fuel, *mark, token.line, rest),
+        TokenKind::Word(name) => part_at_name(alloc, fuel, level, name, token.line, rest),
+        TokenKind::Mark(mark) => part_at_mark(alloc, fuel, *mark, token.line, rest),
         _ => Err(ParseFault::Syntax { line: token.line }),
     }
 }
@@ -288,7 +298,8 @@ fn climb<'a>(
     left: Expr,
     tokens: &'a [Token],
 ) -> Result<(Expr, &'a [Token]), ParseFault>
-    ensures { Gives (λ x. (tree_of x.0, x.1.now)) result ((spec.readers fuel).climb level (tree_of left) tokens.now) }
+    ensures { Gives (λ x. (tree_of x.0, x.1.now)) result
+        ((spec.readers fuel).climb level (tree_of left) tokens.now) }
 {
     if fuel == 0 {
         return Err(ParseFault::Syntax {
@@ -308,7 +319,8 @@ fn climb_on<'a>(
     left: Expr,
     tokens: &'a [Token],
 ) -> Result<(Expr, &'a [Token]), ParseFault>
-    ensures { Gives (λ x. (tree_of x.0, x.1.now)) result (spec.climb_on (spec.readers fuel) level (tree_of left) tokens.now) }
+    ensures { Gives (λ x. (tree_of x.0, x.1.now)) result
+        (spec.climb_on (spec.readers fuel) level (tree_of left) tokens.now) }
 {
     match follow_at(tokens) {
         Follow::Infix(operator) => {
@@ -333,28 +345,30 @@ fn choice<'a>(
     test: Expr,
     tokens: &'a [Token],
 ) -> Result<(Expr, &'a [Token]), ParseFault>
-    ensures { Gives (λ x. (tree_of x.0, x.1.now)) result (spec.choice (spec.readers fuel) level (tree_of test) tokens.now) }
+    ensures { Gives (λ x. (tree_of x.0, x.1.now)) result
+        (spec.choice (spec.readers fuel) level (tree_of test) tokens.now) }
 {
     if level > CONDITION {
         return Ok((test, tokens));
     }
     match follow_at(tokens) {
-        Follow::Question => chosen(alloc, fuel, test, tail(tokens)),
+        Follow::Question => alternatives(alloc, fuel, test, tail(tokens)),
         _ => Ok((test, tokens)),
     }
 }
 
-/// What stands behind the question mark.
+/// What stands after the question mark.
 #[cycle(expression)]
 #[inline(never)]
-#[tactic(auto, unfolding(crate::specs::Reading::chosen))]
-fn chosen<'a>(
+#[tactic(auto, unfolding(crate::specs::Reading::alternatives))]
+fn alternatives<'a>(
     alloc: Global,
     fuel: usize,
     test: Expr,
     tokens: &'a [Token],
 ) -> Result<(Expr, &'a [Token]), ParseFault>
-    ensures { Gives (λ x. (tree_of x.0, x.1.now)) result (spec.chosen (spec.readers fuel) (tree_of test) tokens.now) }
+    ensures { Gives (λ x. (tree_of x.0, x.1.now)) result
+        (spec.alternatives (spec.readers fuel) (tree_of test) tokens.now) }
 {
     let (first, rest) = phrase(alloc, fuel, ASSIGNMENT, tokens)?;
     let rest = after_mark(Mark::Colon, rest)?;
@@ -371,7 +385,8 @@ pub(crate) fn phrase<'a>(
     level: u8,
     tokens: &'a [Token],
 ) -> Result<(Expr, &'a [Token]), ParseFault>
-    ensures { Gives (λ x. (tree_of x.0, x.1.now)) result ((spec.readers fuel).phrase level tokens.now) }
+    ensures { Gives (λ x. (tree_of x.0, x.1.now)) result
+        ((spec.readers fuel).phrase level tokens.now) }
 {
     if fuel == 0 {
         return Err(ParseFault::Syntax {
@@ -389,14 +404,15 @@ fn whole<'a>(
     level: u8,
     tokens: &'a [Token],
 ) -> Result<(Expr, &'a [Token]), ParseFault>
-    ensures { Gives (λ x. (tree_of x.0, x.1.now)) result (spec.whole (spec.readers fuel) level tokens.now) }
+    ensures { Gives (λ x. (tree_of x.0, x.1.now)) result
+        (spec.whole (spec.readers fuel) level tokens.now) }
 {
     let (first, rest) = part(alloc, fuel, level, tokens)?;
     let (joined, rest) = climb(alloc, fuel, level.max(OR), first, rest)?;
     choice(alloc, fuel, level, joined, rest)
 }
 
-/// The expressions behind a comma.
+/// The expressions after a comma.
 #[cycle(expression)]
 #[tactic(auto, using(crate::proofs::Steps::further_step, crate::proofs::Steps::further_none))]
 fn further<'a>(
@@ -405,7 +421,8 @@ fn further<'a>(
     all: Vec<Expr>,
     tokens: &'a [Token],
 ) -> Result<(Vec<Expr>, &'a [Token]), ParseFault>
-    ensures { Gives (λ x. (trees_of x.0.items, x.1.now)) result ((spec.readers fuel).further (trees_of all.items) tokens.now) }
+    ensures { Gives (λ x. (trees_of x.0.items, x.1.now)) result
+        ((spec.readers fuel).further (trees_of all.items) tokens.now) }
 {
     if fuel == 0 {
         return Err(ParseFault::Syntax {
@@ -423,7 +440,8 @@ fn further_on<'a>(
     all: Vec<Expr>,
     tokens: &'a [Token],
 ) -> Result<(Vec<Expr>, &'a [Token]), ParseFault>
-    ensures { Gives (λ x. (trees_of x.0.items, x.1.now)) result (spec.further_on (spec.readers fuel) (trees_of all.items) tokens.now) }
+    ensures { Gives (λ x. (trees_of x.0.items, x.1.now)) result
+        (spec.further_on (spec.readers fuel) (trees_of all.items) tokens.now) }
 {
     if !is_at(Mark::Comma, tokens) {
         return Ok((all, tokens));

@@ -4,6 +4,7 @@
 mod build;
 mod clause;
 mod declaration;
+mod description;
 mod expression;
 mod fault;
 pub mod laws;
@@ -12,7 +13,6 @@ mod marks;
 mod names;
 mod operators;
 mod parser;
-mod probe;
 mod script;
 mod show;
 mod statement;

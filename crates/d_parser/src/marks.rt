@@ -1,4 +1,4 @@
-//! What marks do before and behind an operand.
+//! What marks do before and after an operand.
 
 ghost use Rattle.std.specs.Prelude.{◌≡◌, ◌<◌};
 ghost use Rattle.d_parser.specs.Marks as spec;
@@ -7,7 +7,8 @@ use crate::operators::{AssignOperator, BinaryOperator, Step, UnaryOperator};
 use d_lexer::{Mark, Token, TokenKind};
 
 /// The level of an assignment, which each expression has at least. From level to level phrases bind
-/// tighter; operators have those from `OR` up to just before `UNARY`, and smaller parts the one after it.
+/// tighter; operators have those from `OR` up to just before `UNARY`, and smaller parts the one
+/// after it.
 pub const ASSIGNMENT: u8 = 1;
 
 /// The level of a condition.
@@ -27,7 +28,7 @@ pub enum Prefix {
     Other,
 }
 
-/// What a mark behind an operand does.
+/// What a mark after an operand does.
 #[derive(Clone, Copy, Debug)]
 pub enum Follow {
     Infix(BinaryOperator),

@@ -1,9 +1,8 @@
 //! Marks, words and variables at the front of a list.
 
 ghost use Rattle.std.specs.Prelude.{◌≡◌};
+ghost use Rattle.d_parser.specs.{Reading.Gives, Words.word_kind};
 ghost use Rattle.d_parser.specs.Reading as spec;
-ghost use Rattle.d_parser.specs.Reading.{Gives};
-ghost use Rattle.d_parser.specs.Words as words;
 
 use crate::fault::{AT_END, ParseFault};
 use crate::marks::{is_at, tail};
@@ -12,8 +11,8 @@ use crate::words::{WordKind, integer_type, kind_of, split_run, type_length, word
 use d_lexer::{ByteString, Mark, Token, TokenKind};
 use std::alloc::Global;
 
-/// The line of the token behind so many others.
-pub(crate) fn line_behind(count: usize, tokens: &[Token]) -> usize {
+/// The line of the token after so many others.
+pub(crate) fn line_after(count: usize, tokens: &[Token]) -> usize {
     match tokens.get(count) {
         Some(token) => token.line,
         None => AT_END,
@@ -22,7 +21,7 @@ pub(crate) fn line_behind(count: usize, tokens: &[Token]) -> usize {
 
 /// The line on which the rest begins.
 pub(crate) fn line_at(tokens: &[Token]) -> usize {
-    line_behind(0, tokens)
+    line_after(0, tokens)
 }
 
 /// The line at which all tokens end; 1 where there are none.
@@ -33,7 +32,7 @@ pub(crate) fn last_line(tokens: &[Token]) -> usize {
     }
 }
 
-/// The tokens behind a mark that has to stand there.
+/// The tokens after a mark that has to stand there.
 pub(crate) fn after_mark(mark: Mark, tokens: &[Token]) -> Result<&[Token], ParseFault>
     ensures { Gives (λ rest. rest.now) result (spec.after_mark mark tokens.now) }
 {
@@ -63,7 +62,7 @@ fn plain_word(alloc: Global, tokens: &[Token]) -> Result<(ByteString, &[Token]),
     }
 }
 
-/// The word behind an arrow.
+/// The word after an arrow.
 #[tactic(auto, unfolding(crate::specs::Reading::member))]
 fn member(alloc: Global, tokens: &[Token]) -> Result<(ByteString, &[Token]), ParseFault>
     ensures { Gives (λ x. (x.0, x.1.now)) result (spec.member tokens.now) }
@@ -79,7 +78,8 @@ pub(crate) fn variable<'a>(
     line: usize,
     tokens: &'a [Token],
 ) -> Result<(Variable, &'a [Token]), ParseFault>
-    ensures { Gives (λ x. (x.0, x.1.now)) result (spec.variable (words.word_kind name.now) name.now line tokens.now) }
+    ensures { Gives (λ x. (x.0, x.1.now)) result
+        (spec.variable (word_kind name.now) name.now line tokens.now) }
 {
     match word_kind(name.as_slice()) {
         WordKind::Plain => {
@@ -115,11 +115,11 @@ pub(crate) fn is_typed(tokens: &[Token]) -> bool
 fn line_without_cast(words: &[Token], tokens: &[Token]) -> usize {
     match words {
         [first, ..] if matches!(kind_of(first), WordKind::Text) => line_at(tokens),
-        _ => line_behind(type_length(words), tokens),
+        _ => line_after(type_length(words), tokens),
     }
 }
 
-/// The type in a cast, behind its opening parenthesis.
+/// The type in a cast, after its opening parenthesis.
 #[tactic(auto, unfolding(crate::specs::Reading::cast_type))]
 pub(crate) fn cast_type(tokens: &[Token]) -> Result<(IntegerType, &[Token]), ParseFault>
     ensures { Gives (λ x. (x.0, x.1.now)) result (spec.cast_type tokens.now) }

@@ -65,7 +65,7 @@ pub enum BinaryOperator {
     Or,
 }
 
-/// `=`, or an operator with `=` behind it.
+/// `=`, or an operator with `=` after it.
 #[derive(Clone, Copy, Debug, PartialEq, Eq)]
 pub enum AssignOperator {
     /// `=`

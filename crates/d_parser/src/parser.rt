@@ -1,15 +1,8 @@
 //! From tokens to the tree.
 
 ghost use Rattle.std.specs.Prelude.{◌≡◌, ◌≤◌, ◌<◌, length, IfOk, Some, List, Err};
+ghost use Rattle.d_parser.specs.{Tree.script_of, Tree.ItemTree, Reading.Gives, Limits.IsDeep, Limits.OnlyLimits, Limits.clauses, Numbers.AreSmall, Sizes.IsWithin, Script.IsScript, Vocabulary.ParseFault};
 ghost use Rattle.d_lexer.specs.Small as token;
-ghost use Rattle.d_parser.specs.Tree as trees;
-ghost use Rattle.d_parser.specs.Tree.{script_of};
-ghost use Rattle.d_parser.specs.Script as grammar;
-ghost use Rattle.d_parser.specs.Reading.{Gives};
-ghost use Rattle.d_parser.specs.Limits.{IsDeep, OnlyLimits, clauses};
-ghost use Rattle.d_parser.specs.Numbers.{AreSmall};
-ghost use Rattle.d_parser.specs.Sizes.{IsWithin};
-ghost use Rattle.d_parser.specs.declared.fault.ParseFault.TheVariants as faults;
 
 use crate::fault::{MOST_CLAUSES, ParseFault};
 use crate::limits::{clauses, is_deep};
@@ -20,28 +13,35 @@ use std::alloc::Global;
 
 /// The tree of a script's tokens, as `d_lexer::lex` gives them.
 ///
-/// `TooDeep` is decided first, then `TooManyClauses`; `Syntax` comes exactly where the tokens have no tree.
+/// `TooDeep` is decided first, then `TooManyClauses`; `Syntax` comes exactly where the tokens have
+/// no tree.
+///
+/// ```text
+/// let tokens = lex(alloc, b"hit { trace(1 + 2 * 3); }")?;
+/// let script = parse(alloc, &tokens)?; // one clause, with one statement
+/// parse(alloc, &lex(alloc, b"hit {\n 1 + }")?); // Err(ParseFault::Syntax { line: 2 })
+/// ```
 #[tactic(auto, using(crate::proofs::Answering::found_of, crate::proofs::Answering::only_of, crate::proofs::Answering::passed_of, crate::proofs::Deep::deep_is, crate::proofs::Deep::is_deep_of))]
 pub fn parse(alloc: Global, tokens: &[Token]) -> Result<Script, ParseFault>
     requires few { length tokens.now ≤ MOST_BYTES }
     requires small { token.AreSmall tokens.now }
     // Brackets and rows of tokens are checked first.
-    ensures deep { IsDeep tokens.now → result ≡ Err faults.TooDeep }
+    ensures deep { IsDeep tokens.now → result ≡ Err ParseFault.TooDeep }
     // Then clauses are counted.
     ensures many { ¬ IsDeep tokens.now → MOST_CLAUSES < clauses tokens.now
-        → result ≡ Err faults.TooManyClauses }
+        → result ≡ Err ParseFault.TooManyClauses }
     // A limit is reported only where it is passed.
     ensures passed { OnlyLimits tokens.now result }
     // What is returned is a tree of the tokens.
-    ensures found { IfOk result (λ s. grammar.IsScript (script_of s) tokens.now) }
-    // Its descriptions, its statements, and its declarations with all places of variables are each at
-    // most as many as a script may have bytes.
+    ensures found { IfOk result (λ s. IsScript (script_of s) tokens.now) }
+    // Its descriptions, its statements, and its declarations with all places of variables are each
+    // at most as many as a script may have bytes.
     ensures few { IfOk result (λ s. IsWithin MOST_BYTES (script_of s)) }
     // Its numbers are below 2^64, as those of the tokens are.
     ensures small { IfOk result (λ s. AreSmall (script_of s)) }
     // Where there is a tree it is returned, and no other, unless memory runs out.
     ensures only { ¬ IsDeep tokens.now → clauses tokens.now ≤ MOST_CLAUSES
-        → (s : List trees.ItemTree) → grammar.IsScript s tokens.now → Gives script_of result (Some s) }
+        → (s : List ItemTree) → IsScript s tokens.now → Gives script_of result (Some s) }
 {
     if is_deep(tokens) {
         return Err(ParseFault::TooDeep);

@@ -1,10 +1,8 @@
 //! Scripts: declarations and clauses up to the end.
 
 ghost use Rattle.std.specs.Prelude.{◌≡◌, ◌≤◌, length, map, []};
-ghost use Rattle.d_parser.specs.Tree.{item_of, declaration_of, script_of};
-ghost use Rattle.d_parser.specs.Reading.{Gives};
+ghost use Rattle.d_parser.specs.{Tree.item_of, Tree.declaration_of, Tree.script_of, Reading.Gives, Words.word_kind};
 ghost use Rattle.d_parser.specs.ReadingScripts as spec;
-ghost use Rattle.d_parser.specs.Words as words;
 
 use crate::clause::clause;
 use crate::declaration::{of_clause, of_thread};
@@ -16,14 +14,15 @@ use d_lexer::{ByteString, MOST_BYTES, Token, TokenKind};
 use std::alloc::Global;
 
 /// What `self` or `this` declares.
-fn declared<'a>(
+fn declaration<'a>(
     alloc: Global,
     fuel: usize,
     word: &ByteString,
     line: usize,
     tokens: &'a [Token],
 ) -> Result<(Declaration, &'a [Token]), ParseFault>
-    ensures { Gives (λ x. (declaration_of x.0, x.1.now)) result (spec.declared_by (words.word_kind word.now) fuel line tokens.now) }
+    ensures { Gives (λ x. (declaration_of x.0, x.1.now)) result
+        (spec.declaration_by (word_kind word.now) fuel line tokens.now) }
 {
     match word_kind(word.as_slice()) {
         WordKind::Thread => of_thread(alloc, fuel, line, tokens),
@@ -45,7 +44,7 @@ fn item<'a>(
     };
     match &token.kind {
         TokenKind::Word(word) => {
-            let (declaration, rest) = declared(alloc, fuel, word, token.line, rest)?;
+            let (declaration, rest) = declaration(alloc, fuel, word, token.line, rest)?;
             Ok((Item::Declaration(declaration), rest))
         }
         _ => {

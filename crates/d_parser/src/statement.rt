@@ -1,8 +1,7 @@
 //! Statements.
 
 ghost use Rattle.std.specs.Prelude.{◌≡◌};
-ghost use Rattle.d_parser.specs.Tree.{stmt_of, stmts_of};
-ghost use Rattle.d_parser.specs.Reading.{Gives};
+ghost use Rattle.d_parser.specs.{Tree.stmt_of, Tree.stmts_of, Reading.Gives};
 ghost use Rattle.d_parser.specs.ReadingScripts as spec;
 
 use crate::expression::{arguments, keys, phrase};
@@ -27,7 +26,7 @@ fn any_word(alloc: Global, tokens: &[Token]) -> Result<(ByteString, &[Token]), P
     }
 }
 
-/// An aggregation statement, behind its name.
+/// An aggregation statement, after its name.
 #[tactic(auto, unfolding(crate::specs::ReadingScripts::aggregation))]
 fn aggregation<'a>(
     alloc: Global,
@@ -36,7 +35,8 @@ fn aggregation<'a>(
     name: &ByteString,
     tokens: &'a [Token],
 ) -> Result<(Stmt, &'a [Token]), ParseFault>
-    ensures { Gives (λ x. (stmt_of x.0, x.1.now)) result (spec.aggregation fuel line name.now tokens.now) }
+    ensures { Gives (λ x. (stmt_of x.0, x.1.now)) result
+        (spec.aggregation fuel line name.now tokens.now) }
 {
     let (keys, rest) = keys(alloc, fuel, tokens)?;
     let (function, rest) = any_word(alloc, after_mark(Mark::Assign, rest)?)?;
@@ -88,7 +88,8 @@ fn slot<'a>(
     all: Vec<Stmt>,
     tokens: &'a [Token],
 ) -> Result<(Vec<Stmt>, &'a [Token]), ParseFault>
-    ensures { Gives (λ x. (stmts_of x.0.items, x.1.now)) result (spec.slot fuel (stmts_of all.items) tokens.now) }
+    ensures { Gives (λ x. (stmts_of x.0.items, x.1.now)) result
+        (spec.slot fuel (stmts_of all.items) tokens.now) }
 {
     if is_at(Mark::Semicolon, tokens) || is_at(Mark::CloseBrace, tokens) {
         return Ok((all, tokens));
@@ -99,7 +100,7 @@ fn slot<'a>(
     Ok((all, rest))
 }
 
-/// The statements behind semicolons, and the closing brace.
+/// The statements after semicolons, and the closing brace.
 #[tactic(auto, using(crate::proofs::Steps::stmts_stop, crate::proofs::Steps::stmts_goes, crate::proofs::Steps::stmts_fail, crate::proofs::Steps::stmts_fail_slot, crate::proofs::Steps::stmts_end))]
 fn further<'a>(
     alloc: Global,
@@ -107,7 +108,8 @@ fn further<'a>(
     all: Vec<Stmt>,
     tokens: &'a [Token],
 ) -> Result<(Vec<Stmt>, &'a [Token]), ParseFault>
-    ensures { Gives (λ x. (stmts_of x.0.items, x.1.now)) result (spec.further_stmts fuel fuel (stmts_of all.items) tokens.now) }
+    ensures { Gives (λ x. (stmts_of x.0.items, x.1.now)) result
+        (spec.further_stmts fuel fuel (stmts_of all.items) tokens.now) }
 {
     let mut all = all;
     let mut rest = tokens;
@@ -125,7 +127,7 @@ fn further<'a>(
     })
 }
 
-/// The statements of a clause, behind its opening brace.
+/// The statements of a clause, after its opening brace.
 #[tactic(auto, unfolding(crate::specs::ReadingScripts::stmts))]
 pub(crate) fn statements<'a>(
     alloc: Global,

@@ -17,7 +17,8 @@ pub(crate) fn shown(alloc: Global, script: &[u8]) -> Result<String, AllocError> 
     }
 }
 
-// Expressions, and how their operators join: each pair of neighbouring levels both ways, each level from its side.
+// Expressions, and how their operators join: each pair of neighbouring levels both ways, each level
+// from its side.
 const EXPRESSIONS: [(&str, &str); 60] = [
     ("a * b / c % d", "(((a * b) / c) % d)"),
     ("a * b + c % d", "((a * b) + (c % d))"),
@@ -91,7 +92,8 @@ const EXPRESSIONS: [(&str, &str); 60] = [
         "((int64_t)((int64_t)((int64_t)((int64_t)((int64_t)a)))))",
     ),
     (
-        "(unsigned long)(unsigned long int)(unsigned long long)(unsigned long long int)(int64_t)(uint64_t)a",
+        "(unsigned long)(unsigned long int)(unsigned long long)\
+        (unsigned long long int)(int64_t)(uint64_t)a",
         "((uint64_t)((uint64_t)((uint64_t)((uint64_t)((int64_t)((uint64_t)a))))))",
     ),
     ("f()", "f()"),

@@ -5,7 +5,8 @@ use std::alloc::{AllocError, Global};
 use std::test::Fail;
 use std::thread;
 
-// Times, what is opened, stands inside and is closed so many times in trace( and ), and how that prints: at a limit.
+// Times, what is opened, stands inside and is closed so many times in trace( and ), and how that
+// prints: at a limit.
 const DEEPEST: [(usize, [&str; 3], [&str; 3]); 6] = [
     // 1,024 tokens in a row, with trace, its parentheses and what stands inside
     (1020, ["~", "5", ""], ["(~", "5", ")"]),
@@ -18,14 +19,14 @@ const DEEPEST: [(usize, [&str; 3], [&str; 3]); 6] = [
 ];
 
 fn nested(alloc: Global, times: usize, parts: [&str; 3]) -> Result<String, AllocError> {
-    let [opened, inside, closed] = parts;
+    let [opening, inside, closing] = parts;
     let mut text = String::new(alloc);
     for _ in 0..times {
-        text.push_str(opened)?;
+        text.push_str(opening)?;
     }
     text.push_str(inside)?;
     for _ in 0..times {
-        text.push_str(closed)?;
+        text.push_str(closing)?;
     }
     Ok(text)
 }
@@ -36,7 +37,8 @@ fn traced(alloc: Global, times: usize, parts: [&str; 3]) -> Result<String, Alloc
     shown(alloc, script.as_bytes())
 }
 
-// What the deepest trees print as, and what one step more answers; nothing where all is as it should be.
+// What the deepest trees print as, and what one step more answers; nothing where all is as it
+// should be.
 fn deepest(alloc: Global) -> Result<String, AllocError> {
     for (times, parts, printed) in DEEPEST {
         let inner = nested(alloc, times, printed)?;

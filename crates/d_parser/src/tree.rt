@@ -189,7 +189,7 @@ pub enum Expr {
 /// A constant in an expression.
 #[derive(Drop)]
 pub enum Constant {
-    /// An integer: its value, and the letters behind its digits.
+    /// An integer: its value, and the letters after its digits.
     Number { value: u64, suffix: Suffix },
     /// The bytes of a text, with the escapes decoded.
     Text(ByteString),

@@ -102,10 +102,10 @@ fn is_word(token: &Token) -> bool
     matches!(token.kind, TokenKind::Word(_))
 }
 
-/// The tokens behind the words at the front.
-#[tactic(auto, unfolding(crate::specs::Words::behind_run))]
-fn behind_run(tokens: &[Token]) -> &[Token]
-    ensures is { result.now ≡ spec.behind_run tokens.now }
+/// The tokens after the words at the front.
+#[tactic(auto, unfolding(crate::specs::Words::after_run))]
+fn after_run(tokens: &[Token]) -> &[Token]
+    ensures is { result.now ≡ spec.after_run tokens.now }
     ensures shorter { length result.now ≤ length tokens.now }
 {
     let mut rest = tokens;
@@ -118,13 +118,13 @@ fn behind_run(tokens: &[Token]) -> &[Token]
     rest
 }
 
-/// The words at the front, and what comes behind them.
+/// The words at the front, and what comes after them.
 #[tactic(auto, using(crate::proofs::Runs::run_taken, crate::proofs::Runs::run_dropped))]
 pub(crate) fn split_run(tokens: &[Token]) -> (&[Token], &[Token])
     ensures words { result.0.now ≡ spec.run tokens.now }
-    ensures behind { result.1.now ≡ spec.behind_run tokens.now }
+    ensures behind { result.1.now ≡ spec.after_run tokens.now }
 {
-    let rest = behind_run(tokens);
+    let rest = after_run(tokens);
     tokens.split_at(tokens.len() - rest.len())
 }
 

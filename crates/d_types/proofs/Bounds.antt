@@ -18,7 +18,7 @@ use Rattle.d_types.specs.Typed.{Typed, Typeds, end, more}
 use Rattle.d_types.specs.Needs.{count}
 use Rattle.d_types.specs.Operators.{same_type, converted}
 use Rattle.d_types.specs.Typing.{constant}
-use Rattle.d_types.specs.Aggregations.{number, positive, negative, signed, bound, small, step, buckets, lquantize, function, integers, arguments_fit, first}
+use Rattle.d_types.specs.Aggregations.{number, positive, negative, minus_bound, bound, small, step, buckets, lquantize, function, integers, arguments_fit, first}
 use Rattle.d_types.specs.Fitting.{Fits}
 use Rattle.d_types.proofs.Fitting.{AllFit, OneFits}
 use Rattle.d_types.specs.Rules.{Types, AllTypes}
@@ -59,7 +59,7 @@ small_of : (o : Option ℕ) (n : ℕ) → small o ≡ Some n → (v : ℕ) × (o
 small_of None n h = cc
 small_of (Some v) n h = (v, refl)
 
-signed_of : (op : UnaryOperator) (a : Tree) (z : ℤ) → signed op a ≡ Some z → (v : ℕ) × (number a ≡ Some v)
+signed_of : (op : UnaryOperator) (a : Tree) (z : ℤ) → minus_bound op a ≡ Some z → (v : ℕ) × (number a ≡ Some v)
 signed_of un.Negate a z h = negative_of (number a) z h
 signed_of un.Not a z h = cc
 signed_of un.Complement a z h = cc

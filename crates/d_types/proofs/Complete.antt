@@ -19,8 +19,8 @@ use Rattle.d_types.specs.Faults.{Fault}
 use Rattle.d_types.specs.Words.{callee_named}
 use Rattle.d_types.specs.Typed.{Typed, Typeds, end, more, add, type_of}
 use Rattle.d_types.specs.Variables.{Rows, find, type_at}
-use Rattle.d_types.specs.Operators.{binary_sort, assign_sort, joined, choice, as_type}
-use Rattle.d_types.specs.Targets.{space_of, read, load_at, target, slot_for, assigned, step}
+use Rattle.d_types.specs.Operators.{binary_sort, assign_sort, operation_by, choice, as_type}
+use Rattle.d_types.specs.Targets.{space_of, read, load_at, target, slot_for, assignment, step}
 use Rattle.d_types.specs.Typing.{expr, exprs, call_of}
 use Rattle.d_types.specs.Rules.{Types, AllTypes, Joins, Chooses, Loads, Reads, Places, Targets, Fits, Stores, Steps, Calls}
 
@@ -37,7 +37,7 @@ pub after-end : (done : Typeds) → after done end ≡ done
 after-end end = refl
 after-end (more y rest) = ap (more y) (after-end rest)
 
-joins_complete : (sort : BinarySort) (x y z : Typed) → Joins sort x y z → joined sort (type_of x) (type_of y) x y ≡ Some z
+joins_complete : (sort : BinarySort) (x y z : Typed) → Joins sort x y z → operation_by sort (type_of x) (type_of y) x y ≡ Some z
 joins_complete (bs.Arithmetic op) x y z h = rw (h.2, h.3, h.4) refl
 joins_complete (bs.Shift op) x y z h = rw (h.2, h.3, h.4) refl
 joins_complete (bs.Compare op) x y z (inl h) = rw (h.2, h.3, h.4) refl
@@ -73,7 +73,7 @@ fits_complete x (Int u) y h = rw (h.1, h.2) refl
 fits_complete x Text y h = rw (h.0, h.1) refl
 
 stores_complete : (sort : AssignSort) (space : Space) (slot : ℕ) (ks : Typeds) (x : Typed) (rows : Rows) (z : Typed) (last : Rows) →
-    Stores sort space slot ks x rows z last → assigned sort space (type_at rows slot) (type_of x) slot ks x rows ≡ Some (z, last)
+    Stores sort space slot ks x rows z last → assignment sort space (type_at rows slot) (type_of x) slot ks x rows ≡ Some (z, last)
 stores_complete sg.Set space slot ks x rows z last (inl h) = rw (h.0, h.1, h.2) refl
 stores_complete sg.Set space slot ks x rows z last (inr h) = rw (h.2, fits_complete x h.0 h.1 h.3, h.4, h.5) refl
 stores_complete (sg.Arithmetic op) space slot ks x rows z last h = rw (h.2, h.3, h.4, h.5) refl

@@ -14,9 +14,9 @@ use Rattle.d_types.specs.Typed.{Typed, Typeds, end, more, add, Action, Aggs, Cla
 use Rattle.d_types.specs.Needs.{need}
 use Rattle.d_types.specs.Variables.{Rows, find}
 use Rattle.d_types.specs.Typing.{whole}
-use Rattle.d_types.specs.Statements.{wholes, evaluate, print, called, action}
-use Rattle.d_types.specs.Aggregations.{is_again, first, find_from, joined, aggregate}
-use Rattle.d_types.specs.Scripts.{declared, declaration, predicate, statement, statements, clause, items, script}
+use Rattle.d_types.specs.Statements.{wholes, evaluate, print, call_statement, action}
+use Rattle.d_types.specs.Aggregations.{is_again, first, find_from, place_for, aggregate}
+use Rattle.d_types.specs.Scripts.{declare, declaration, predicate, statement, statements, clause, items, script}
 use Rattle.d_types.specs.Fitting.{Fits, ScriptFits}
 use Rattle.d_types.proofs.Fitting.{AllFit, OneFits, ActionFits, ActionsFit, ClauseFits, ClausesFit}
 use Rattle.d_types.specs.Rules.{Types, AllTypes}
@@ -45,7 +45,7 @@ prints_complete line rows (tree.more t rest) a last h d =
     rw (h.3, wholes_complete end rows rest h.2 last h.4 (subst ActionFits h.7 d), spelled_is_read h.0 h.1 h.5, h.6, h.7) refl
 
 acts_complete : (o : Option Callee) (line : ℕ) (name : List ℕ) (rows : Rows) (ts : Trees) (a : Action) (last : Rows) → Acts o line name rows ts a last → ActionFits a →
-    called o line name rows ts ≡ Ok (a, last)
+    call_statement o line name rows ts ≡ Ok (a, last)
 acts_complete (Some f.Trace) line name rows ts a last h d = rw (wholes_complete end rows ts (more h.0 end) last h.1 (subst ActionFits h.2 d, tt), h.2) refl
 acts_complete (Some f.Exit) line name rows ts a last h d = rw (wholes_complete end rows ts (more h.0 end) last h.2 (subst ActionFits h.4 d, tt), h.3, h.4) refl
 acts_complete (Some f.Printf) line name rows ts a last h d = prints_complete line rows ts a last h d
@@ -66,7 +66,7 @@ stands_complete rows (tree.Choice c d e) a last h fit = evaluates_complete rows 
 stands_complete rows (tree.Assign op x keys e) a last h fit = evaluates_complete rows (tree.Assign op x keys e) a last h fit
 
 joins_complete : (line : ℕ) (name : List ℕ) (ks : Typeds) (g : Option AggFn) (aggs : Aggs) (place : ℕ) (known : Aggs) → Joins name ks g aggs place known →
-    joined line name ks g aggs (find_from 0 name aggs) ≡ Ok (place, known)
+    place_for line name ks g aggs (find_from 0 name aggs) ≡ Ok (place, known)
 joins_complete line name ks g aggs place known (inl h) = rw (h.1, h.2, h.3, h.4, h.5) refl
 joins_complete line name ks g aggs place known (inr h) = rw (h.1, h.2, h.3, h.4) refl
 
@@ -87,7 +87,7 @@ aggregates_complete line name keys word args rows aggs a last known h d =
     rw (wholes_complete end rows keys h.0 h.4 h.5 fit.0, h.6, wholes_complete end h.4 args h.1 last h.7 small, h.8, joins_complete line name h.0 _ aggs h.3 known h.9, h.10) refl
 
 declares_complete : (space : Space) (line : ℕ) (name : List ℕ) (t : DeclaredType) (keys : List DeclaredType) (rows last : Rows) → Declares space name t keys rows last →
-    declared space line name t keys rows (find space name rows) ≡ Ok last
+    declare space line name t keys rows (find space name rows) ≡ Ok last
 declares_complete space line name t keys rows last h = rw (h.0, h.1, h.2) refl
 
 declared_complete : (rows : Rows) (d : DeclarationTree) (last : Rows) → IsDeclared rows d last → declaration rows d ≡ Ok last

@@ -16,9 +16,9 @@ use Rattle.d_types.specs.Needs.{need}
 use Rattle.d_types.specs.Variables.{Rows, types_in}
 use Rattle.d_types.specs.Formats.{pieces, fit}
 use Rattle.d_types.specs.Typing.{line_of, only, expr, whole}
-use Rattle.d_types.specs.Statements.{wholes, trace, exit_by, exit, print_with, not_printed, print_by, print, evaluate, called, action}
-use Rattle.d_types.specs.Aggregations.{arguments_fit, first, function, find_from, joined, aggregate}
-use Rattle.d_types.specs.Scripts.{declaration, tested, predicate, statement, statements, clause, item, items, script, IsMeant}
+use Rattle.d_types.specs.Statements.{wholes, trace, exit_by, exit, print_with, not_printed, print_by, print, evaluate, call_statement, action}
+use Rattle.d_types.specs.Aggregations.{arguments_fit, first, function, find_from, place_for, aggregate}
+use Rattle.d_types.specs.Scripts.{declaration, test_of, predicate, statement, statements, clause, item, items, script, IsMeant}
 use Rattle.d_types.specs.Fitting.{Fits, ScriptFits}
 use Rattle.d_types.specs.Wholes.{EachIs, AnyIs, ActionIs, ActionsAre, ClauseIs, ClausesAre}
 use Rattle.d_types.proofs.Sound.{bound}
@@ -117,7 +117,7 @@ evaluate_fits rows t r h =
     let p = bound (whole rows t) _ _ h in
     answered (Evaluate p.0.0) p.0.1 r p.2 (whole_fits rows t p.0 p.1)
 
-called_fits : (o : Option Callee) (line : ℕ) (name : List ℕ) (rows : Rows) (ts : Trees) (r : Action × Rows) → called o line name rows ts ≡ Ok r → ActionFits r.0
+called_fits : (o : Option Callee) (line : ℕ) (name : List ℕ) (rows : Rows) (ts : Trees) (r : Action × Rows) → call_statement o line name rows ts ≡ Ok r → ActionFits r.0
 called_fits (Some f.Trace) line name rows ts r h = trace_fits line rows ts r h
 called_fits (Some f.Exit) line name rows ts r h = exit_fits line rows ts r h
 called_fits (Some f.Printf) line name rows ts r h = print_fits line rows ts r h
@@ -155,7 +155,7 @@ aggregate_fits line name keys g args rows aggs r h =
     let k = bound (wholes end rows keys) _ _ h in
     let a = bound (unless Undeclared line (aggregating_named g)) _ _ k.2 in
     let x = bound (wholes end k.0.1 args) _ _ a.2 in
-    joined_fits (arguments_fit a.0 x.0.0) line k.0.0 x.0.0 (joined line name k.0.0 (function a.0 args) aggs (find_from 0 name aggs)) x.0.1 r
+    joined_fits (arguments_fit a.0 x.0.0) line k.0.0 x.0.0 (place_for line name k.0.0 (function a.0 args) aggs (find_from 0 name aggs)) x.0.1 r
     (all_fit rows keys k.0 k.1) (all_fit k.0.1 args x.0 x.1) x.2
 
 statement_fits : (rows : Rows) (aggs : Aggs) (t : StmtTree) (r : Action × (Rows × Aggs)) → statement rows aggs t ≡ Ok r → ActionFits r.0
@@ -178,7 +178,7 @@ statements_fit done rows aggs (t ∷ rest) r d h =
     let p = bound (statement rows aggs t) _ _ h in
     statements_fit (done ++ p.0.0 ∷ []) p.0.1.0 p.0.1.1 rest r (last_fits done p.0.0 d (statement_fits rows aggs t p.0 p.1)) p.2
 
-tested_fits : (t : DType) (e : Tree) (x : Typed) (rows : Rows) (r : Option Typed × Rows) → tested t e x rows ≡ Ok r → OneFits r.0
+tested_fits : (t : DType) (e : Tree) (x : Typed) (rows : Rows) (r : Option Typed × Rows) → test_of t e x rows ≡ Ok r → OneFits r.0
 tested_fits Text e x rows r h = cc
 tested_fits (Int u) e x rows r h =
     let q = within NoRegister (line_of e) (nat_le (need x) 6) (Some x, rows) r h in

@@ -27,8 +27,8 @@ use Rattle.d_types.specs.Words.{callee_named}
 use Rattle.d_types.specs.Typed as typed
 use Rattle.d_types.specs.Typed.{Typed, Typeds, end, more, add, type_of}
 use Rattle.d_types.specs.Variables.{Rows, find, type_at, keys_fit}
-use Rattle.d_types.specs.Operators.{binary_sort, assign_sort, converted, unary, joined, choice, as_type}
-use Rattle.d_types.specs.Targets.{line_of_variable, settled, space_of, type_at_once, plain, load, load_at, read, plain_target, slot_for, target, store, stored, assigned, step}
+use Rattle.d_types.specs.Operators.{binary_sort, assign_sort, converted, unary, operation_by, choice, as_type}
+use Rattle.d_types.specs.Targets.{line_of_variable, settled, space_of, type_at_once, plain, load, load_at, read, plain_target, slot_for, target, store, stored, assignment, step}
 use Rattle.d_types.specs.Typing.{line_of, strlen, strjoin, call, call_of, beside, fitting, step_rest, expr, exprs}
 use Rattle.d_types.specs.Rules.{Types, AllTypes, IsInteger, IsText, Joins, Chooses, Loads, Reads, Places, Targets, Fits, Stores, Steps, Calls}
 use Rattle.d_types.proofs.Complete.{after, after-add, after-end}
@@ -65,7 +65,7 @@ cast_sound : (to : IntType) (k : DType) (x z : Typed) → type_of x ≡ k → as
 cast_sound to (Int t) x z p e = (t, p, sym (some_is _ _ e))
 cast_sound to Text x z p e = cc
 
-joins_sound : (sort : BinarySort) (k l : DType) (x y z : Typed) → type_of x ≡ k → type_of y ≡ l → joined sort k l x y ≡ Some z → Joins sort x y z
+joins_sound : (sort : BinarySort) (k l : DType) (x y z : Typed) → type_of x ≡ k → type_of y ≡ l → operation_by sort k l x y ≡ Some z → Joins sort x y z
 joins_sound (bs.Arithmetic op) (Int t) (Int u) x y z p q e = (t, u, p, q, sym (some_is _ _ e))
 joins_sound (bs.Arithmetic op) Text l x y z p q e = cc
 joins_sound (bs.Arithmetic op) (Int t) Text x y z p q e = cc
@@ -173,7 +173,7 @@ set_sound space (Some t) slot ks x rows z last p h =
     inr (t, q.0, p, fits_sound x _ t q.0 refl q.1, q.2, q.3)
 
 stores_sound : (sort : AssignSort) (space : Space) (o : Option DType) (k : DType) (slot : ℕ) (ks : Typeds) (x : Typed) (rows : Rows) (z : Typed) (last : Rows) →
-    type_at rows slot ≡ o → type_of x ≡ k → assigned sort space o k slot ks x rows ≡ Some (z, last) → Stores sort space slot ks x rows z last
+    type_at rows slot ≡ o → type_of x ≡ k → assignment sort space o k slot ks x rows ≡ Some (z, last) → Stores sort space slot ks x rows z last
 stores_sound sg.Set space o k slot ks x rows z last p q h = set_sound space o slot ks x rows z last p h
 stores_sound (sg.Arithmetic op) space (Some (Int t)) (Int u) slot ks x rows z last p q h = let r = two _ z rows last h in (t, u, p, q, r.0, r.1)
 stores_sound (sg.Arithmetic op) space None k slot ks x rows z last p q h = cc
@@ -272,7 +272,7 @@ mutual
   sound rows (tree.Binary op a b) z last h =
       let p = bound (expr rows a) _ _ h in
       let q = bound (expr p.0.1 b) _ _ p.2 in
-      let f = fitted (line_of a) q.0.1 (joined (binary_sort op) (type_of p.0.0) (type_of q.0.0) p.0.0 q.0.0) z last q.2 in (
+      let f = fitted (line_of a) q.0.1 (operation_by (binary_sort op) (type_of p.0.0) (type_of q.0.0) p.0.0 q.0.0) z last q.2 in (
         p.0.0,
         q.0.0,
         p.0.1,
@@ -309,7 +309,7 @@ mutual
         targets_sound p.0.1 x _ p.0.0 q.0.0 q.0.1 q.1,
         sound q.0.1 a r.0.0 r.0.1 r.1,
         stores_sound (assign_sort op) (space_of x) _ _ q.0.0 p.0.0 r.0.0 r.0.1 z last refl refl
-            (fitted_pair (line_of_variable x) (assigned (assign_sort op) (space_of x) (type_at r.0.1 q.0.0) (type_of r.0.0) q.0.0 p.0.0 r.0.0 r.0.1) z last r.2),
+            (fitted_pair (line_of_variable x) (assignment (assign_sort op) (space_of x) (type_at r.0.1 q.0.0) (type_of r.0.0) q.0.0 p.0.0 r.0.0 r.0.1) z last r.2),
       )
 
   all_sound : (done : Typeds) (rows : Rows) (ts : Trees) (ks : Typeds) (last : Rows) → exprs done rows ts ≡ Ok (ks, last) →

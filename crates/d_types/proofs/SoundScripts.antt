@@ -22,9 +22,9 @@ use Rattle.d_types.specs.Variables as variables
 use Rattle.d_types.specs.Formats.{pieces}
 use Rattle.d_types.specs.Formats as formats
 use Rattle.d_types.specs.Typing.{line_of, only, expr, whole}
-use Rattle.d_types.specs.Statements.{wholes, trace, exit_by, exit, not_printed, text_of, print_by, print, evaluate, called, action}
-use Rattle.d_types.specs.Aggregations.{arguments_fit, first, function, find_from, is_again, defined, joined, aggregate}
-use Rattle.d_types.specs.Scripts.{declared, declaration, tested, predicate, statement, statements, clause, item, items, script}
+use Rattle.d_types.specs.Statements.{wholes, trace, exit_by, exit, not_printed, text_of, print_by, print, evaluate, call_statement, action}
+use Rattle.d_types.specs.Aggregations.{arguments_fit, first, function, find_from, is_again, new_aggregation, place_for, aggregate}
+use Rattle.d_types.specs.Scripts.{declare, declaration, test_of, predicate, statement, statements, clause, item, items, script}
 use Rattle.d_types.specs.Fitting.{ScriptFits}
 use Rattle.d_types.specs.Rules.{Types, AllTypes, IsInteger}
 use Rattle.d_types.specs.WellTyped.{Evaluates, Prints, Acts, Stands, Joins, Aggregates, Declares, IsDeclared, Tests, Does, AllDo, Probes, AllItems, IsWell}
@@ -109,7 +109,7 @@ prints_sound : (line : ℕ) (rows : Rows) (ts : Trees) (r : Action × Rows) → 
 prints_sound line rows tree.end r h = not_printed_never line rows tree.end r h
 prints_sound line rows (tree.more t ts) r h = print_by_sound _ line rows t ts r refl h
 
-acts_sound : (o : Option Callee) (line : ℕ) (name : List ℕ) (rows : Rows) (ts : Trees) (r : Action × Rows) → called o line name rows ts ≡ Ok r → Acts o line name rows ts r.0 r.1
+acts_sound : (o : Option Callee) (line : ℕ) (name : List ℕ) (rows : Rows) (ts : Trees) (r : Action × Rows) → call_statement o line name rows ts ≡ Ok r → Acts o line name rows ts r.0 r.1
 acts_sound (Some f.Trace) line name rows ts r h = trace_sound line name rows ts r h
 acts_sound (Some f.Exit) line name rows ts r h = exit_sound line name rows ts r h
 acts_sound (Some f.Printf) line name rows ts r h = prints_sound line rows ts r h
@@ -132,10 +132,10 @@ stands_sound rows (tree.Assign op x keys e) r h = evaluates_sound rows (tree.Ass
 -- ---- aggregation statements
 
 joins_sound : (line : ℕ) (name : List ℕ) (ks : Typeds) (g : Option AggFn) (aggs : Aggs) (o : Option (ℕ × Agg)) (r : ℕ × Aggs) →
-    find_from 0 name aggs ≡ o → joined line name ks g aggs o ≡ Ok r → Joins name ks g aggs r.0 r.1
+    find_from 0 name aggs ≡ o → place_for line name ks g aggs o ≡ Ok r → Joins name ks g aggs r.0 r.1
 joins_sound line name ks g aggs None r e h = fresh (nat_le (count ks) 8) refl h
   where
-    fresh : (b : Bool) → nat_le (count ks) 8 ≡ b → (if b then (unless LquantizeBounds line g >>= defined name ks aggs) else refuse Keys line) ≡ Ok r → Joins name ks g aggs r.0 r.1
+    fresh : (b : Bool) → nat_le (count ks) 8 ≡ b → (if b then (unless LquantizeBounds line g >>= new_aggregation name ks aggs) else refuse Keys line) ≡ Ok r → Joins name ks g aggs r.0 r.1
     fresh false d k = cc
     fresh true d k =
         let q = bound (unless LquantizeBounds line g) _ _ k in
@@ -162,7 +162,7 @@ aggregates_sound line name keys word args rows aggs r h =
     let k = bound (wholes end rows keys) _ _ h in
     let g = bound (unless Undeclared line (aggregating_named word)) _ _ k.2 in
     let x = bound (wholes end k.0.1 args) _ _ g.2 in
-    let j = joined_sound (arguments_fit g.0 x.0.0) line k.0.0 x.0.0 (joined line name k.0.0 (function g.0 args) aggs (find_from 0 name aggs)) x.0.1 r x.2 in
+    let j = joined_sound (arguments_fit g.0 x.0.0) line k.0.0 x.0.0 (place_for line name k.0.0 (function g.0 args) aggs (find_from 0 name aggs)) x.0.1 r x.2 in
     subst (λ (y : Action × (Rows × Aggs)). Aggregates name keys word args rows aggs y.0 y.1.0 y.1.1) j.3 (
       k.0.0,
       x.0.0,
@@ -180,7 +180,7 @@ aggregates_sound line name keys word args rows aggs r h =
 -- ---- declarations and clauses
 
 declares_sound : (space : Space) (line : ℕ) (name : List ℕ) (t : DeclaredType) (keys : List DeclaredType) (rows : Rows) (o : Option ℕ) (last : Rows) →
-    find space name rows ≡ o → declared space line name t keys rows o ≡ Ok last → Declares space name t keys rows last
+    find space name rows ≡ o → declare space line name t keys rows o ≡ Ok last → Declares space name t keys rows last
 declares_sound space line name t keys rows None last e h =
     let w = within Keys line (nat_le (length keys) 8) _ last h in
     (e, w.0, sym w.1)
@@ -190,7 +190,7 @@ declared_sound : (rows : Rows) (d : DeclarationTree) (last : Rows) → declarati
 declared_sound rows (tree.OfThread line t name keys) last h = declares_sound s.Thread line name t keys rows _ last refl h
 declared_sound rows (tree.OfClause line t name) last h = declares_sound s.Clause line name t [] rows _ last refl h
 
-tested_sound : (k : DType) (t : Tree) (x : Typed) (rows : Rows) (r : Option Typed × Rows) → type_of x ≡ k → tested k t x rows ≡ Ok r →
+tested_sound : (k : DType) (t : Tree) (x : Typed) (rows : Rows) (r : Option Typed × Rows) → type_of x ≡ k → test_of k t x rows ≡ Ok r →
     (u : IntType) × IsInteger x u × ((Some x, rows) ≡ r)
 tested_sound Text t x rows r p h = cc
 tested_sound (Int u) t x rows r p h =

@@ -1,38 +1,20 @@
 -- The typed tree of an aggregation statement, or its first fault.
 use Rattle.std.specs.Prelude.{ℕ, ◌+◌, ◌==◌, ◌&&◌, nat_le, Bool, true, false, if◌then◌else◌, List, [], ◌∷◌, ◌++◌, length, Option, Some, None, Result, Ok, ℤ, pos, neg_ℤ}
-use Rattle.std.specs.Str.{bytes_eq}
-use Rattle.std.specs.Ordering.{int_eq}
-use Rattle.std.specs.Option.{option_map}
-use Rattle.aggregations.specs.LinearRanges.{linear_range}
-use Rattle.d_parser.specs.declared.operators.UnaryOperator.{UnaryOperator}
-use Rattle.d_parser.specs.declared.operators.UnaryOperator.TheVariants as un
-use Rattle.d_parser.specs.declared.tree.Constant.{Constant}
-use Rattle.d_parser.specs.declared.tree.Constant.TheVariants as c
-use Rattle.d_parser.specs.Tree as tree
-use Rattle.d_parser.specs.Tree.{Tree, Trees}
-use Rattle.d_values.specs.declared.int_type.DType.{DType}
-use Rattle.d_values.specs.declared.int_type.DType.TheVariants.{Int, Text}
-use Rattle.aggregations.specs.declared.function.AggFn.{AggFn}
-use Rattle.aggregations.specs.declared.function.AggFn.TheVariants as fn
-use Rattle.d_types.specs.declared.variables.TheConstants.{MOST_KEYS}
-use Rattle.d_types.specs.declared.words.Aggregating.{Aggregating}
-use Rattle.d_types.specs.declared.words.Aggregating.TheVariants as ag
+use Rattle.d_types.specs.Vocabulary.{bytes_eq, int_eq, option_map, Int, Text, linear_range, UnaryOperator, Constant, Tree, Trees, DType, AggFn, MOST_KEYS, Aggregating}
 use Rattle.d_types.specs.Faults.{Fault, ◌>>=◌, refuse, unless, Undeclared, Mismatch, Keys, AggregationRedefined, LquantizeBounds}
-use Rattle.d_types.specs.Words.{aggregating_named}
 use Rattle.d_types.specs.Typed.{Typed, Typeds, end, more, type_of, Action, Aggregate, Agg, Aggs}
-use Rattle.d_types.specs.Needs.{count}
 use Rattle.d_types.specs.Variables.{Rows, kinds_of, fit}
-use Rattle.d_types.specs.Statements.{wholes}
+use Rattle.d_types.specs.{Words.aggregating_named, Needs.count, Statements.wholes}
 
 -- ---- bounds and steps, which are read from the text
 
 abbrev pub number_in : Constant → Option ℕ
-number_in (c.Number v suffix) = Some v
-number_in (c.Text bytes) = None
+number_in (Constant.Number v suffix) = Some v
+number_in (Constant.Text bytes) = None
 
 -- a constant's value, the type aside
 abbrev pub number : Tree → Option ℕ
-number (tree.Known line c) = number_in c
+number (Tree.Known line c) = number_in c
 number t = None
 
 abbrev pub positive : Option ℕ → Option ℤ
@@ -43,13 +25,13 @@ abbrev pub negative : Option ℕ → Option ℤ
 negative None = None
 negative (Some v) = if nat_le v 2147483648 then Some (neg_ℤ (pos v)) else None
 
-abbrev pub signed : UnaryOperator → Tree → Option ℤ
-signed un.Negate a = negative (number a)
-signed op a = None
+abbrev pub minus_bound : UnaryOperator → Tree → Option ℤ
+minus_bound UnaryOperator.Negate a = negative (number a)
+minus_bound op a = None
 
 -- a constant from -2^31 to 2^31 - 1, perhaps with one minus
 abbrev pub bound : Tree → Option ℤ
-bound (tree.Unary line op a) = signed op a
+bound (Tree.Unary line op a) = minus_bound op a
 bound t = positive (number t)
 
 abbrev pub small : Option ℕ → Option ℕ
@@ -60,24 +42,26 @@ abbrev pub step : Tree → Option ℕ
 step t = small (number t)
 
 abbrev pub buckets : Option ℤ → Option ℤ → Option ℕ → Option AggFn
-buckets (Some lower) (Some upper) (Some s) = option_map fn.Lquantize (linear_range lower upper s)
+buckets (Some lower) (Some upper) (Some s) = option_map AggFn.Lquantize (linear_range lower upper s)
 buckets lower upper s = None
 
 -- `lquantize(e, lower, upper)` has steps of 1, and `lquantize(e, lower, upper, step)` its own
 abbrev pub lquantize : Trees → Option AggFn
-lquantize (tree.more e (tree.more lower (tree.more upper tree.end))) = buckets (bound lower) (bound upper) (Some 1)
-lquantize (tree.more e (tree.more lower (tree.more upper (tree.more s tree.end)))) = buckets (bound lower) (bound upper) (step s)
+lquantize (Trees.more e (Trees.more lower (Trees.more upper Trees.end))) =
+    buckets (bound lower) (bound upper) (Some 1)
+lquantize (Trees.more e (Trees.more lower (Trees.more upper (Trees.more s Trees.end)))) =
+    buckets (bound lower) (bound upper) (step s)
 lquantize args = None
 
 -- a function with its bounds, where they are in range
 abbrev pub function : Aggregating → Trees → Option AggFn
-function ag.Count args = Some fn.Count
-function ag.Sum args = Some fn.Sum
-function ag.Min args = Some fn.Min
-function ag.Max args = Some fn.Max
-function ag.Avg args = Some fn.Avg
-function ag.Quantize args = Some fn.Quantize
-function ag.Lquantize args = lquantize args
+function Aggregating.Count args = Some AggFn.Count
+function Aggregating.Sum args = Some AggFn.Sum
+function Aggregating.Min args = Some AggFn.Min
+function Aggregating.Max args = Some AggFn.Max
+function Aggregating.Avg args = Some AggFn.Avg
+function Aggregating.Quantize args = Some AggFn.Quantize
+function Aggregating.Lquantize args = lquantize args
 
 -- ---- arguments
 
@@ -91,9 +75,13 @@ integers (more x rest) = is_integer (type_of x) && integers rest
 
 -- count() takes nothing, lquantize three or four arguments, the others one
 abbrev pub takes : Aggregating → ℕ → Bool
-takes ag.Count n = nat_le n 0
-takes ag.Lquantize n = nat_le 3 n && nat_le n 4
-takes f n = nat_le 1 n && nat_le n 1
+takes Aggregating.Count n = nat_le n 0
+takes Aggregating.Lquantize n = nat_le 3 n && nat_le n 4
+takes Aggregating.Sum n = nat_le 1 n && nat_le n 1
+takes Aggregating.Min n = nat_le 1 n && nat_le n 1
+takes Aggregating.Max n = nat_le 1 n && nat_le n 1
+takes Aggregating.Avg n = nat_le 1 n && nat_le n 1
+takes Aggregating.Quantize n = nat_le 1 n && nat_le n 1
 
 -- integers, of the number that the function takes
 abbrev pub arguments_fit : Aggregating → Typeds → Bool
@@ -109,17 +97,19 @@ first (more x rest) = Some x
 -- the place of an aggregation, in a list whose first place is n, and what it is
 abbrev pub find_from : ℕ → List ℕ → Aggs → Option (ℕ × Agg)
 find_from n name [] = None
-find_from n name (a ∷ rest) = if bytes_eq a.name name then Some (n, a) else find_from (n + 1) name rest
+find_from n name (a ∷ rest) =
+    if bytes_eq a.name name then Some (n, a) else find_from (n + 1) name rest
 
 -- the same function, with the same bounds and step
 abbrev pub same : AggFn → AggFn → Bool
-same fn.Count fn.Count = true
-same fn.Sum fn.Sum = true
-same fn.Min fn.Min = true
-same fn.Max fn.Max = true
-same fn.Avg fn.Avg = true
-same fn.Quantize fn.Quantize = true
-same (fn.Lquantize a) (fn.Lquantize b) = int_eq a.lower b.lower && int_eq a.upper b.upper && (a.step == b.step)
+same AggFn.Count AggFn.Count = true
+same AggFn.Sum AggFn.Sum = true
+same AggFn.Min AggFn.Min = true
+same AggFn.Max AggFn.Max = true
+same AggFn.Avg AggFn.Avg = true
+same AggFn.Quantize AggFn.Quantize = true
+same (AggFn.Lquantize a) (AggFn.Lquantize b) =
+    int_eq a.lower b.lower && int_eq a.upper b.upper && (a.step == b.step)
 same f g = false
 
 -- bounds out of range are other bounds than all known ones
@@ -127,22 +117,30 @@ abbrev pub is_again : Option AggFn → AggFn → Bool
 is_again None g = false
 is_again (Some f) g = same f g
 
-abbrev pub defined : List ℕ → Typeds → Aggs → AggFn → Result (ℕ × Aggs) Fault
-defined name keys aggs f = Ok (length aggs, aggs ++ record { name = name; keys = kinds_of keys; function = f } ∷ [])
+abbrev pub new_aggregation : List ℕ → Typeds → Aggs → AggFn → Result (ℕ × Aggs) Fault
+new_aggregation name keys aggs f =
+    Ok (length aggs, aggs ++ record { name = name; keys = kinds_of keys; function = f } ∷ [])
 
--- the place of an aggregation, and all of them with it: the first statement fixes its keys and its function
-abbrev pub joined : ℕ → List ℕ → Typeds → Option AggFn → Aggs → Option (ℕ × Agg) → Result (ℕ × Aggs) Fault
-joined line name keys f aggs None =
-    if nat_le (count keys) MOST_KEYS then (unless LquantizeBounds line f >>= defined name keys aggs) else refuse Keys line
-joined line name keys f aggs (Some p) =
+-- the place of an aggregation, and all of them with it: the first statement fixes its keys and its
+-- function
+abbrev pub place_for : ℕ → List ℕ → Typeds → Option AggFn → Aggs → Option (ℕ × Agg)
+    → Result (ℕ × Aggs) Fault
+place_for line name keys f aggs None =
+    if nat_le (count keys) MOST_KEYS
+    then (unless LquantizeBounds line f >>= new_aggregation name keys aggs)
+    else refuse Keys line
+place_for line name keys f aggs (Some p) =
     if fit p.1.keys keys
     then (if is_again f p.1.function then Ok (p.0, aggs) else refuse AggregationRedefined line)
     else refuse Keys line
 
 -- keys, the function's name, arguments, and then the statement itself
-abbrev pub aggregate : ℕ → List ℕ → Trees → List ℕ → Trees → Rows → Aggs → Result (Action × (Rows × Aggs)) Fault
+abbrev pub aggregate : ℕ → List ℕ → Trees → List ℕ → Trees → Rows → Aggs
+    → Result (Action × (Rows × Aggs)) Fault
 aggregate line name keys f args rows aggs =
-    wholes end rows keys >>= λ k. unless Undeclared line (aggregating_named f) >>= λ g. wholes end k.1 args >>= λ x.
+    wholes end rows keys >>= λ k. unless Undeclared line (aggregating_named f) >>= λ g.
+    wholes end k.1 args >>= λ x.
     if arguments_fit g x.0
-    then (joined line name k.0 (function g args) aggs (find_from 0 name aggs) >>= λ a. Ok (Aggregate a.0 k.0 (first x.0), (x.1, a.1)))
+    then (place_for line name k.0 (function g args) aggs (find_from 0 name aggs) >>= λ a.
+    Ok (Aggregate a.0 k.0 (first x.0), (x.1, a.1)))
     else refuse Mismatch line

@@ -1,23 +1,15 @@
 -- What a run of a clause means: the texts, contributions, exit and variables that it makes.
 use Rattle.std.specs.Prelude.{ℕ, zero, suc, ◌%◌, List, [], ◌∷◌, ◌++◌, Option, Some, None, Bool, true, false, if◌then◌else◌, ℤ, pos, codes}
-use Rattle.std.specs.Fmt.{decimal}
-use Rattle.std.specs.Int.{cast_signed, w64}
 use Rattle.std.specs.Option.{option_or}
-use Rattle.aggregations.specs.Table.{Contribution, contribution}
-use Rattle.d_values.specs.declared.int_type.DType.{DType}
-use Rattle.d_values.specs.declared.key.KeyPart.{KeyPart}
-use Rattle.d_values.specs.declared.value.Value.{Value}
-use Rattle.firing_reader.specs.declared.firing.Firing.{Firing}
-use Rattle.d_types.specs.declared.effect.Effect.{Effect}
-use Rattle.d_types.specs.declared.effect.Effect.TheVariants as ef
+use Rattle.d_types.specs.Vocabulary.{decimal, cast_signed, w64, Contribution, contribution, DType, KeyPart, Value, Firing, Effect}
 use Rattle.d_types.specs.Typed.{Typed, Typeds, end, more, type_of, ActionOf, Action, Evaluate, Trace, Print, Exit, Aggregate, ClauseMeant}
-use Rattle.d_types.specs.Storage.{Variables}
 use Rattle.d_types.specs.Expressions.{Outcome, Has, Faults, with, number, eval, keys_of}
-use Rattle.d_types.specs.Printing.{traced, printed}
+use Rattle.d_types.specs.{Storage.Variables, Printing.traced, Printing.printed}
 
 -- ---- evaluation
 
--- how expressions and lists of them are evaluated: from left to right, each going on with the variables that the one before left
+-- how expressions and lists of them are evaluated: from left to right, each going on with the
+-- variables that the one before left
 pub record Evaluation (E Es : Type 0) : Type 0 where
   pub value : E → Variables → Outcome Value
   -- printf's arguments, each with its type
@@ -28,7 +20,8 @@ pub record Evaluation (E Es : Type 0) : Type 0 where
 
 abbrev pub values_of : Firing → Typeds → Variables → Outcome (List (DType × Value))
 values_of f end vars = Has [] vars
-values_of f (more a rest) vars = with (eval f a vars) (λ x vars. with (values_of f rest vars) (λ xs. Has ((type_of a, x) ∷ xs)))
+values_of f (more a rest) vars =
+    with (eval f a vars) (λ x vars. with (values_of f rest vars) (λ xs. Has ((type_of a, x) ∷ xs)))
 
 -- that of typed trees
 abbrev pub by_trees : Firing → Evaluation Typed Typeds
@@ -44,12 +37,15 @@ module _ {E Es : Type 0} (by : Evaluation E Es) where
 
   -- what a statement does beside its assignments, or the fault
   abbrev pub effect_by : ActionOf E Es → Variables → Outcome Effect
-  effect_by (Evaluate a) vars = with (by.value a vars) (λ x. Has ef.Nothing)
-  effect_by (Trace a) vars = with (by.value a vars) (λ x. Has (ef.Says (traced (by.type a) x)))
-  effect_by (Print format arguments) vars = with (by.values arguments vars) (λ values. Has (ef.Says (printed format values)))
-  effect_by (Exit a) vars = with (number (by.value a vars)) (λ word. Has (ef.Exits (word % 256)))
+  effect_by (Evaluate a) vars = with (by.value a vars) (λ x. Has Effect.Nothing)
+  effect_by (Trace a) vars = with (by.value a vars) (λ x. Has (Effect.Says (traced (by.type a) x)))
+  effect_by (Print format arguments) vars =
+      with (by.values arguments vars) (λ values. Has (Effect.Says (printed format values)))
+  effect_by (Exit a) vars =
+      with (number (by.value a vars)) (λ word. Has (Effect.Exits (word % 256)))
   effect_by (Aggregate place keys argument) vars =
-      with (by.key keys vars) (λ key vars. with (given_by argument vars) (λ z. Has (ef.Adds place key z)))
+      with (by.key keys vars)
+      (λ key vars. with (given_by argument vars) (λ z. Has (Effect.Adds place key z)))
 
 -- ---- statements
 
@@ -62,13 +58,15 @@ pub record Ran : Type 0 where
 abbrev pub ran : List Effect → Bool → Variables → Ran
 ran effects faulted vars = record { effects = effects; faulted = faulted; variables = vars }
 
--- an effect, and then those of the statements behind; or the fault, which ends them
+-- an effect, and then those of the statements after; or the fault, which ends them
 abbrev pub followed : Outcome Effect → (Variables → Ran) → Ran
-followed (Has effect vars) go = let rest = go vars in ran (effect ∷ rest.effects) rest.faulted rest.variables
+followed (Has effect vars) go =
+    let rest = go vars in ran (effect ∷ rest.effects) rest.faulted rest.variables
 followed (Faults vars) go = ran [] true vars
 
 -- the statements in order, up to the first that faults
-abbrev pub statements_by : {E Es : Type 0} → Evaluation E Es → List (ActionOf E Es) → Variables → Ran
+abbrev pub statements_by : {E Es : Type 0} → Evaluation E Es → List (ActionOf E Es) → Variables
+    → Ran
 statements_by by [] vars = ran [] false vars
 statements_by by (action ∷ rest) vars = followed (effect_by by action vars) (statements_by by rest)
 
@@ -78,7 +76,8 @@ where_true (Has zero vars) go = ran [] false vars
 where_true (Has (suc n) vars) go = go vars
 where_true (Faults vars) go = ran [] true vars
 
-abbrev pub guarded_by : {E Es : Type 0} → Evaluation E Es → Option E → (Variables → Ran) → Variables → Ran
+abbrev pub guarded_by : {E Es : Type 0} → Evaluation E Es → Option E → (Variables → Ran) → Variables
+    → Ran
 guarded_by by None go vars = go vars
 guarded_by by (Some a) go vars = where_true (number (by.value a vars)) go
 
@@ -94,23 +93,24 @@ pub record Made : Type 0 where
 
 abbrev pub texts_in : List Effect → List (List ℕ)
 texts_in [] = []
-texts_in (ef.Says text ∷ rest) = text ∷ texts_in rest
+texts_in (Effect.Says text ∷ rest) = text ∷ texts_in rest
 texts_in (_ ∷ rest) = texts_in rest
 
 abbrev pub contributions_in : List Effect → List Contribution
 contributions_in [] = []
-contributions_in (ef.Adds place key z ∷ rest) = contribution place key z ∷ contributions_in rest
+contributions_in (Effect.Adds place key z ∷ rest) = contribution place key z ∷ contributions_in rest
 contributions_in (_ ∷ rest) = contributions_in rest
 
 abbrev pub exit_in : List Effect → Option ℕ
 exit_in [] = None
-exit_in (ef.Exits status ∷ rest) = Some status
+exit_in (Effect.Exits status ∷ rest) = Some status
 exit_in (_ ∷ rest) = exit_in rest
 
 -- the line that stands for a fault at the firing of this number in the clause at this place
 abbrev pub fault_line : ℕ → ℕ → List ℕ
 fault_line number place =
-    codes "error: firing " ++ (decimal number ++ (codes " clause " ++ (decimal place ++ codes ": divide-by-zero\n")))
+    codes "error: firing "
+    ++ (decimal number ++ (codes " clause " ++ (decimal place ++ codes ": divide-by-zero\n")))
 
 -- a fault's line stands in place of all texts
 abbrev pub made : List ℕ → Ran → Made
@@ -125,7 +125,8 @@ made line all = record {
 abbrev pub nothing : Variables → Made
 nothing vars = record { texts = []; contributions = []; exit = None; variables = vars }
 
--- what two runs made, one after the other: the first exit counts, and the variables are those after the second
+-- what two runs made, one after the other: the first exit counts, and the variables are those after
+-- the second
 abbrev pub and_then : Made → Made → Made
 and_then a b = record {
   texts = a.texts ++ b.texts;
@@ -134,9 +135,11 @@ and_then a b = record {
   variables = b.variables;
 }
 
--- a run of statements behind a predicate, where this line stands for a fault
-abbrev pub run_by : {E Es : Type 0} → Evaluation E Es → List ℕ → Option E → List (ActionOf E Es) → Variables → Made
-run_by by line predicate statements vars = made line (guarded_by by predicate (statements_by by statements) vars)
+-- a run of statements after a predicate, where this line stands for a fault
+abbrev pub run_by : {E Es : Type 0} → Evaluation E Es → List ℕ → Option E → List (ActionOf E Es)
+    → Variables → Made
+run_by by line predicate statements vars =
+    made line (guarded_by by predicate (statements_by by statements) vars)
 
 -- ---- typed trees
 
@@ -151,4 +154,5 @@ statements_of f = statements_by (by_trees f)
 
 -- a run of the clause at this place among the script's, from 1
 abbrev pub run_of : Firing → ℕ → ClauseMeant → Variables → Made
-run_of f place clause vars = run_by (by_trees f) (fault_line f.number place) clause.predicate clause.statements vars
+run_of f place clause vars =
+    run_by (by_trees f) (fault_line f.number place) clause.predicate clause.statements vars

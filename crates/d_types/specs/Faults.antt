@@ -1,7 +1,6 @@
 -- The first fault, and what a function may answer.
 use Rattle.std.specs.Prelude.{◌≡◌, ℕ, List, Option, Some, None, Result, Ok, Err}
-use Rattle.d_types.specs.declared.fault.TypeFault.{TypeFault}
-use Rattle.d_types.specs.declared.fault.TypeFault.TheVariants as f
+use Rattle.d_types.specs.Vocabulary.{TypeFault}
 
 -- why a construct is refused; where several causes hold, the first of them tells
 pub data Cause : Type 0 where
@@ -22,15 +21,15 @@ pub record Fault : Type 0 where
 
 -- how a script's fault is reported
 abbrev pub fault_at : Cause → ℕ → TypeFault
-fault_at (GlobalAssignment name) line = f.GlobalAssignment name line
-fault_at Undeclared line = f.Undeclared line
-fault_at Mismatch line = f.Mismatch line
-fault_at Keys line = f.Keys line
-fault_at AggregationRedefined line = f.AggregationRedefined line
-fault_at LquantizeBounds line = f.LquantizeBounds line
-fault_at PrintfArguments line = f.PrintfArguments line
-fault_at ReadOnly line = f.ReadOnly line
-fault_at NoRegister line = f.NoRegister line
+fault_at (GlobalAssignment name) line = TypeFault.GlobalAssignment name line
+fault_at Undeclared line = TypeFault.Undeclared line
+fault_at Mismatch line = TypeFault.Mismatch line
+fault_at Keys line = TypeFault.Keys line
+fault_at AggregationRedefined line = TypeFault.AggregationRedefined line
+fault_at LquantizeBounds line = TypeFault.LquantizeBounds line
+fault_at PrintfArguments line = TypeFault.PrintfArguments line
+fault_at ReadOnly line = TypeFault.ReadOnly line
+fault_at NoRegister line = TypeFault.NoRegister line
 
 abbrev pub fault_of : Fault → TypeFault
 fault_of first = fault_at first.cause first.line
@@ -51,16 +50,16 @@ unless cause line (Some x) = Ok x
 
 -- What a function refused is what is asked for, unless memory ran out.
 abbrev pub Fails : {Y : Type 0} → TypeFault → Result Y Fault → Type 0
-Fails (f.GlobalAssignment name line) r = r ≡ refuse (GlobalAssignment name) line
-Fails (f.Undeclared line) r = r ≡ refuse Undeclared line
-Fails (f.Mismatch line) r = r ≡ refuse Mismatch line
-Fails (f.Keys line) r = r ≡ refuse Keys line
-Fails (f.AggregationRedefined line) r = r ≡ refuse AggregationRedefined line
-Fails (f.LquantizeBounds line) r = r ≡ refuse LquantizeBounds line
-Fails (f.PrintfArguments line) r = r ≡ refuse PrintfArguments line
-Fails (f.ReadOnly line) r = r ≡ refuse ReadOnly line
-Fails (f.NoRegister line) r = r ≡ refuse NoRegister line
-Fails f.Memory r = Unit {0}
+Fails (TypeFault.GlobalAssignment name line) r = r ≡ refuse (GlobalAssignment name) line
+Fails (TypeFault.Undeclared line) r = r ≡ refuse Undeclared line
+Fails (TypeFault.Mismatch line) r = r ≡ refuse Mismatch line
+Fails (TypeFault.Keys line) r = r ≡ refuse Keys line
+Fails (TypeFault.AggregationRedefined line) r = r ≡ refuse AggregationRedefined line
+Fails (TypeFault.LquantizeBounds line) r = r ≡ refuse LquantizeBounds line
+Fails (TypeFault.PrintfArguments line) r = r ≡ refuse PrintfArguments line
+Fails (TypeFault.ReadOnly line) r = r ≡ refuse ReadOnly line
+Fails (TypeFault.NoRegister line) r = r ≡ refuse NoRegister line
+Fails TypeFault.Memory r = Unit {0}
 
 -- What a function returned, seen by view, is what is asked for, unless memory ran out.
 abbrev pub Gives : {X Y : Type 0} → (X → Y) → Result X TypeFault → Result Y Fault → Type 0
@@ -70,4 +69,4 @@ Gives view (Err e) r = Fails e r
 -- only memory is a reason to fail
 abbrev pub OnlyMemory : {X : Type 0} → Result X TypeFault → Type 0
 OnlyMemory (Ok x) = Unit {0}
-OnlyMemory (Err e) = e ≡ f.Memory
+OnlyMemory (Err e) = e ≡ TypeFault.Memory

@@ -1,15 +1,6 @@
 -- The formats of printf: bytes, and conversions that begin with a percent sign.
 use Rattle.std.specs.Prelude.{ℕ, ◌+◌, ◌*◌, ◌-◌, ◌==◌, ◌&&◌, ◌||◌, nat_le, Bool, true, false, if◌then◌else◌, List, [], ◌∷◌, ◌++◌, Option, Some, None}
-use Rattle.d_values.specs.declared.int_type.DType.{DType}
-use Rattle.d_values.specs.declared.int_type.DType.TheVariants.{Int, Text}
-use Rattle.d_types.specs.declared.typed.Letter.{Letter}
-use Rattle.d_types.specs.declared.typed.Letter.TheVariants as letter
-use Rattle.d_types.specs.declared.typed.Piece.{Piece}
-use Rattle.d_types.specs.declared.typed.Piece.TheVariants as piece
-use Rattle.d_types.specs.declared.format.TheConstants.{MOST_WIDTH}
-use Rattle.d_types.specs.declared.format.Flags.{Flags}
-use Rattle.d_types.specs.declared.format.Place.{Place}
-use Rattle.d_types.specs.declared.format.Place.TheVariants as at
+use Rattle.d_types.specs.Vocabulary.{Int, Text, DType, Letter, Piece, MOST_WIDTH, Flags, Place}
 use Rattle.d_types.specs.Typed.{Typeds, end, more, type_of}
 
 -- what a byte does: where the next byte stands, and the piece that it ends, if any
@@ -20,21 +11,22 @@ abbrev pub goes : Place → Turn
 goes place = Some (place, None)
 
 abbrev pub ends : Piece → Turn
-ends p = Some (at.Outside, Some p)
+ends p = Some (Place.Outside, Some p)
 
 -- d i u x o s
 abbrev pub letter_of : ℕ → Option Letter
 letter_of b =
-    if b == 100 || b == 105 then Some letter.Signed
-    else if b == 117 then Some letter.Unsigned
-    else if b == 120 then Some letter.Hexadecimal
-    else if b == 111 then Some letter.Octal
-    else if b == 115 then Some letter.Text
+    if b == 100 || b == 105 then Some Letter.Signed
+    else if b == 117 then Some Letter.Unsigned
+    else if b == 120 then Some Letter.Hexadecimal
+    else if b == 111 then Some Letter.Octal
+    else if b == 115 then Some Letter.Text
     else None
 
 abbrev pub with_letter : Flags → Option Letter → Turn
 with_letter f None = None
-with_letter f (Some l) = ends (piece.Argument (record { left = f.left; zeros = f.zeros; width = f.width; letter = l }))
+with_letter f (Some l) =
+    ends (Piece.Argument (record { left = f.left; zeros = f.zeros; width = f.width; letter = l }))
 
 -- a conversion ends with its letter
 abbrev pub at_letter : Flags → ℕ → Turn
@@ -42,7 +34,9 @@ at_letter f b = with_letter f (letter_of b)
 
 -- before it perhaps a length: h, hh, l or ll
 abbrev pub at_length : Flags → ℕ → Turn
-at_length f b = if b == 104 then goes (at.Half f) else if b == 108 then goes (at.Long f) else at_letter f b
+at_length f b =
+    if b == 104 then goes (Place.Half f) else if b == 108 then goes (Place.Long f)
+    else at_letter f b
 
 abbrev pub is_digit : ℕ → Bool
 is_digit b = nat_le 48 b && nat_le b 57
@@ -51,14 +45,16 @@ is_digit b = nat_le 48 b && nat_le b 57
 abbrev pub at_width : Flags → ℕ → Turn
 at_width f b =
     if is_digit b
-    then (if nat_le (f.width * 10 + (b - 48)) MOST_WIDTH then goes (at.Width (record f { width = f.width * 10 + (b - 48) })) else None)
+    then (if nat_le (f.width * 10 + (b - 48)) MOST_WIDTH
+    then goes (Place.Width (record f { width = f.width * 10 + (b - 48) }))
+    else None)
     else at_length f b
 
 -- before it perhaps flags: - and 0
 abbrev pub at_flags : Flags → ℕ → Turn
 at_flags f b =
-    if b == 45 then goes (at.Flagged (record f { left = true }))
-    else if b == 48 then goes (at.Flagged (record f { zeros = true }))
+    if b == 45 then goes (Place.Flagged (record f { left = true }))
+    else if b == 48 then goes (Place.Flagged (record f { zeros = true }))
     else at_width f b
 
 abbrev pub no_flags : Flags
@@ -66,20 +62,20 @@ no_flags = record { left = false; zeros = false; width = 0 }
 
 -- a percent sign begins a conversion, and two of them stand for one
 abbrev pub turn : Place → ℕ → Turn
-turn at.Outside b = if b == 37 then goes at.Opened else ends (piece.Byte b)
-turn at.Opened b = if b == 37 then ends (piece.Byte 37) else at_flags no_flags b
-turn (at.Flagged f) b = at_flags f b
-turn (at.Width f) b = at_width f b
-turn (at.Half f) b = if b == 104 then goes (at.Sized f) else at_letter f b
-turn (at.Long f) b = if b == 108 then goes (at.Sized f) else at_letter f b
-turn (at.Sized f) b = at_letter f b
+turn Place.Outside b = if b == 37 then goes Place.Opened else ends (Piece.Byte b)
+turn Place.Opened b = if b == 37 then ends (Piece.Byte 37) else at_flags no_flags b
+turn (Place.Flagged f) b = at_flags f b
+turn (Place.Width f) b = at_width f b
+turn (Place.Half f) b = if b == 104 then goes (Place.Sized f) else at_letter f b
+turn (Place.Long f) b = if b == 108 then goes (Place.Sized f) else at_letter f b
+turn (Place.Sized f) b = at_letter f b
 
 abbrev pub with_piece : List Piece → Option Piece → List Piece
 with_piece done None = done
 with_piece done (Some p) = done ++ p ∷ []
 
 abbrev pub is_outside : Place → Bool
-is_outside at.Outside = true
+is_outside Place.Outside = true
 is_outside place = false
 
 -- nothing is left open
@@ -90,26 +86,33 @@ abbrev pub provided : {A B : Type 0} → Option A → (A → Option B) → Optio
 provided None go = None
 provided (Some x) go = go x
 
--- the pieces of the rest, behind those that are done
+-- the pieces of the rest, after those that are done
 abbrev pub pieces_from : List Piece → Place → List ℕ → Option (List Piece)
 pieces_from done place [] = closed place done
-pieces_from done place (b ∷ bs) = provided (turn place b) λ t. pieces_from (with_piece done t.1) t.0 bs
+pieces_from done place (b ∷ bs) =
+    provided (turn place b) λ t. pieces_from (with_piece done t.1) t.0 bs
 
 -- the pieces of a format, if it has only known conversions
 abbrev pub pieces : List ℕ → Option (List Piece)
-pieces bs = pieces_from [] at.Outside bs
+pieces bs = pieces_from [] Place.Outside bs
 
 -- %s takes a text, the others an integer
 abbrev pub takes : Letter → DType → Bool
-takes letter.Text Text = true
-takes letter.Text (Int t) = false
-takes l Text = false
-takes l (Int t) = true
+takes Letter.Text Text = true
+takes Letter.Text (Int t) = false
+takes Letter.Signed Text = false
+takes Letter.Signed (Int t) = true
+takes Letter.Unsigned Text = false
+takes Letter.Unsigned (Int t) = true
+takes Letter.Hexadecimal Text = false
+takes Letter.Hexadecimal (Int t) = true
+takes Letter.Octal Text = false
+takes Letter.Octal (Int t) = true
 
 -- an argument for each conversion, of its kind
 abbrev pub fit : List Piece → Typeds → Bool
 fit [] end = true
 fit [] (more x rest) = false
-fit (piece.Byte b ∷ ps) args = fit ps args
-fit (piece.Argument c ∷ ps) end = false
-fit (piece.Argument c ∷ ps) (more x rest) = takes c.letter (type_of x) && fit ps rest
+fit (Piece.Byte b ∷ ps) args = fit ps args
+fit (Piece.Argument c ∷ ps) end = false
+fit (Piece.Argument c ∷ ps) (more x rest) = takes c.letter (type_of x) && fit ps rest

@@ -1,29 +1,15 @@
 -- What evaluation never does, by what stands in the expression.
 use Rattle.std.specs.Prelude.{◌≡◌, ℕ, Bool, true, false, ◌||◌, List}
-use Rattle.d_parser.specs.declared.operators.Step.{Step}
-use Rattle.d_parser.specs.declared.operators.Step.TheVariants as st
-use Rattle.d_values.specs.declared.int_type.IntType.{IntType}
-use Rattle.d_values.specs.declared.key.KeyPart.{KeyPart}
-use Rattle.d_values.specs.declared.operators.ArithmeticOperator.{ArithmeticOperator}
-use Rattle.d_values.specs.declared.operators.ArithmeticOperator.TheVariants as ao
-use Rattle.d_values.specs.declared.value.Value.{Value}
-use Rattle.d_values.specs.declared.value.Value.TheVariants as va
-use Rattle.d_values.specs.Types.{INT32, common_of}
-use Rattle.d_values.specs.Words.{divides}
-use Rattle.firing_reader.specs.declared.firing.Firing.{Firing}
-use Rattle.d_types.specs.declared.typed.Operation.{Operation}
-use Rattle.d_types.specs.declared.typed.Operation.TheVariants as op
-use Rattle.d_types.specs.declared.typed.Variable.{Variable}
+use Rattle.d_types.specs.Vocabulary.{Step, IntType, KeyPart, ArithmeticOperator, Value, INT32, common_of, divides, Firing, Operation, Variable}
 use Rattle.d_types.specs.Typed.{Typed, Constant, Text, Fixed, Read, Unary, Operate, Compare, CompareText, Logic, Choice, Convert, Assign, Update, Count, Strlen, Strjoin, Typeds, end, more}
 use Rattle.d_types.specs.Storage.{Variables, value_at}
 use Rattle.d_types.specs.Expressions.{Outcome, Has, Faults, with, works_in, keys_of}
-use Rattle.d_types.specs.Held.{IsOf}
-use Rattle.d_types.specs.Operators.{converted}
+use Rattle.d_types.specs.{Held.IsOf, Operators.converted}
 
 -- `/` or `%`
 abbrev pub is_division : Operation → Bool
-is_division (op.Arithmetic o t) = divides o
-is_division (op.Shift o t) = false
+is_division (Operation.Arithmetic o t) = divides o
+is_division (Operation.Shift o t) = false
 
 abbrev mutual
   -- an assignment, `++` or `--` stands in it
@@ -87,28 +73,31 @@ is_fault (Faults vars) = true
 -- evaluating the keys a second time gives the same key, and leaves the variables as they are
 abbrev pub AreRepeatable : Firing → Typeds → Variables → Type 0
 AreRepeatable f keys vars =
-    (key : List KeyPart) (after : Variables) → keys_of f keys vars ≡ Has key after → keys_of f keys after ≡ Has key after
+    (key : List KeyPart) (after : Variables) → keys_of f keys vars ≡ Has key after
+    → keys_of f keys after ≡ Has key after
 
 -- once its keys are evaluated, the variable or element holds a value of its type
 abbrev pub HoldsItsType : Firing → Variable → Typeds → Variables → Type 0
 HoldsItsType f x keys vars =
-    (key : List KeyPart) (after : Variables) → keys_of f keys vars ≡ Has key after → IsOf x.holds (value_at after x key)
+    (key : List KeyPart) (after : Variables) → keys_of f keys vars ≡ Has key after
+    → IsOf x.holds (value_at after x key)
 
 -- `x[keys] op e` as a value of the type t of x
 abbrev pub in_place : Operation → IntType → Variable → Typeds → Typed → Typed
-in_place o t x keys e = converted (works_in o) t (Operate o (converted t (works_in o) (Read x keys)) e)
+in_place o t x keys e =
+    converted (works_in o) t (Operate o (converted t (works_in o) (Read x keys)) e)
 
 -- the operator of `++` and of `--`
 abbrev pub operator_of : Step → ArithmeticOperator
-operator_of st.Increment = ao.Add
-operator_of st.Decrement = ao.Subtract
+operator_of Step.Increment = ArithmeticOperator.Add
+operator_of Step.Decrement = ArithmeticOperator.Subtract
 
 -- `x[keys] += 1` or `x[keys] -= 1`, of a variable of type t
 abbrev pub one_more : Step → IntType → Variable → Typeds → Typed
 one_more by t x keys =
-    Update (op.Arithmetic (operator_of by) (common_of t INT32)) x keys
+    Update (Operation.Arithmetic (operator_of by) (common_of t INT32)) x keys
     (converted INT32 (common_of t INT32) (Constant INT32 1))
 
 -- what there is, as an integer, with these variables after it
 abbrev pub with_after : Variables → Outcome ℕ → Outcome Value
-with_after after o = with o (λ word vars. Has (va.Int word) after)
+with_after after o = with o (λ word vars. Has (Value.Int word) after)

@@ -1,3 +1,4 @@
+pub mod Vocabulary
 pub mod Typed
 pub mod Needs
 pub mod Faults

@@ -1,7 +1,6 @@
 -- How many registers an expression needs.
 use Rattle.std.specs.Prelude.{ℕ, ◌+◌, max}
-use Rattle.d_types.specs.declared.typed.LogicOperator.{LogicOperator}
-use Rattle.d_types.specs.declared.typed.LogicOperator.TheVariants as lo
+use Rattle.d_types.specs.Vocabulary.{LogicOperator}
 use Rattle.d_types.specs.Typed.{Typed, Constant, Text, Fixed, Read, Unary, Operate, Compare, CompareText, Logic, Choice, Convert, Assign, Update, Count, Strlen, Strjoin, Typeds, end, more}
 
 abbrev pub count : Typeds → ℕ
@@ -14,7 +13,7 @@ need_of_two a b = max a (1 + b)
 
 -- && and || go on with nothing kept
 abbrev pub need_of_logic : LogicOperator → ℕ → ℕ → ℕ
-need_of_logic lo.Xor a b = need_of_two a b
+need_of_logic LogicOperator.Xor a b = need_of_two a b
 need_of_logic _ a b = max a b
 
 abbrev mutual

@@ -1,21 +1,12 @@
 -- The texts that trace and printf make of values.
 use Rattle.std.specs.Prelude.{ℕ, ◌+◌, ◌-◌, ◌%◌, ◌^◌, List, [], ◌∷◌, ◌++◌, length, replicate, Bool, false, if◌then◌else◌, ℤ, pos, int_lt, unsigned_abs}
-use Rattle.std.specs.Int.{cast_signed, w64}
-use Rattle.std.specs.Fmt.{decimal, signed_decimal, digits}
-use Rattle.d_values.specs.declared.int_type.DType.{DType}
-use Rattle.d_values.specs.declared.int_type.DType.TheVariants as ty
-use Rattle.d_values.specs.declared.value.Value.{Value}
-use Rattle.d_values.specs.declared.value.Value.TheVariants as va
-use Rattle.d_types.specs.declared.typed.Conversion.{Conversion}
-use Rattle.d_types.specs.declared.typed.Letter.{Letter}
-use Rattle.d_types.specs.declared.typed.Letter.TheVariants as le
-use Rattle.d_types.specs.declared.typed.Piece.{Piece}
-use Rattle.d_types.specs.declared.typed.Piece.TheVariants as pi
+use Rattle.std.specs.Fmt.{signed_decimal, digits}
+use Rattle.d_types.specs.Vocabulary.{cast_signed, w64, decimal, DType, Value, Conversion, Letter, Piece}
 use Rattle.d_types.specs.Storage.{word_of, bytes_of}
 
 abbrev pub is_signed : DType → Bool
-is_signed (ty.Int t) = t.signed
-is_signed ty.Text = false
+is_signed (DType.Int t) = t.signed
+is_signed DType.Text = false
 
 -- the number that a word of the type is
 abbrev pub number_in : DType → ℕ → ℤ
@@ -23,14 +14,14 @@ number_in t word = if is_signed t then cast_signed w64 word else pos word
 
 -- a word modulo 2 ^ width of its type
 abbrev pub low_in : DType → ℕ → ℕ
-low_in (ty.Int t) word = word % 2 ^ t.width
-low_in ty.Text word = word
+low_in (DType.Int t) word = word % 2 ^ t.width
+low_in DType.Text word = word
 
 -- ---- trace: the number in decimal with its sign, or the text, and a line feed
 
 abbrev pub shown : DType → Value → List ℕ
-shown t (va.Int word) = signed_decimal (number_in t word)
-shown t (va.Text bytes) = bytes
+shown t (Value.Int word) = signed_decimal (number_in t word)
+shown t (Value.Text bytes) = bytes
 
 abbrev pub traced : DType → Value → List ℕ
 traced t value = shown t value ++ 10 ∷ []
@@ -40,7 +31,8 @@ traced t value = shown t value ++ 10 ∷ []
 abbrev pub sign_of : ℤ → List ℕ
 sign_of n = if int_lt n (pos 0) then 45 ∷ [] else []
 
--- in the conversion's width: put left, or right behind zeros after the sign, or right behind spaces
+-- in the conversion's width: put left, or right after zeros that follow the sign, or right after
+-- spaces
 abbrev pub placed : Conversion → Bool → List ℕ → List ℕ → List ℕ
 placed c zeros sign body =
     let room = c.width - (length sign + length body) in
@@ -52,19 +44,20 @@ abbrev pub number_placed : Conversion → ℤ → List ℕ
 number_placed c n = placed c c.zeros (sign_of n) (decimal (unsigned_abs n))
 
 abbrev pub digits_of : Letter → ℕ → List ℕ
-digits_of le.Hexadecimal n = digits 16 false n
-digits_of le.Octal n = digits 8 false n
+digits_of Letter.Hexadecimal n = digits 16 false n
+digits_of Letter.Octal n = digits 8 false n
 digits_of _ n = decimal n
 
 -- an argument by the conversion's letter
 abbrev pub written : Letter → Conversion → DType → Value → List ℕ
-written le.Signed c t value = number_placed c (number_in t (word_of value))
-written le.Text c t value = placed c false [] (bytes_of value)
+written Letter.Signed c t value = number_placed c (number_in t (word_of value))
+written Letter.Text c t value = placed c false [] (bytes_of value)
 written letter c t value = placed c c.zeros [] (digits_of letter (low_in t (word_of value)))
 
 -- the pieces of the format, each conversion with the next argument
 abbrev pub printed : List Piece → List (DType × Value) → List ℕ
 printed [] values = []
-printed (pi.Byte b ∷ format) values = b ∷ printed format values
-printed (pi.Argument c ∷ format) [] = printed format []
-printed (pi.Argument c ∷ format) ((t, value) ∷ values) = written c.letter c t value ++ printed format values
+printed (Piece.Byte b ∷ format) values = b ∷ printed format values
+printed (Piece.Argument c ∷ format) [] = printed format []
+printed (Piece.Argument c ∷ format) ((t, value) ∷ values) =
+    written c.letter c t value ++ printed format values

@@ -1,28 +1,28 @@
--- What statements ask of their expressions, whatever the types of the script's variables: kinds, places and counts.
+-- What statements ask of their expressions, whatever the types of the script's variables: kinds,
+-- places and counts.
 use Rattle.std.specs.Prelude.{◌≡◌, ◌<◌, ◌≤◌, true, length, slice_get, All, Option, Some, None}
-use Rattle.aggregations.specs.declared.function.AggFn.{AggFn}
-use Rattle.aggregations.specs.declared.function.AggFn.TheVariants as fn
-use Rattle.d_types.specs.declared.variables.TheConstants.{MOST_KEYS}
-use Rattle.d_types.specs.Typed.{Typed, Typeds, type_of, Action, Evaluate, Trace, Print, Exit, Aggregate, Agg, Aggs, ClauseMeant, ScriptMeant}
-use Rattle.d_types.specs.Needs.{count}
+use Rattle.d_types.specs.Vocabulary.{AggFn, MOST_KEYS}
 use Rattle.d_types.specs.Variables as variables
 use Rattle.d_types.specs.Formats as formats
-use Rattle.d_types.specs.Aggregations.{is_integer}
+use Rattle.d_types.specs.Typed.{Typed, Typeds, type_of, Action, Evaluate, Trace, Print, Exit, Aggregate, Agg, Aggs, ClauseMeant, ScriptMeant}
+use Rattle.d_types.specs.{Needs.count, Aggregations.is_integer}
 
 abbrev pub IsInteger : Typed → Type 0
 IsInteger x = is_integer (type_of x) ≡ true
 
 -- count() takes nothing, and each other function an integer
 abbrev pub TakesArgument : AggFn → Option Typed → Type 0
-TakesArgument fn.Count None = Unit {0}
-TakesArgument fn.Count (Some x) = ⊥
+TakesArgument AggFn.Count None = Unit {0}
+TakesArgument AggFn.Count (Some x) = ⊥
 TakesArgument function None = ⊥
 TakesArgument function (Some x) = IsInteger x
 
 -- keys of the aggregation's kinds, at most 8 of them, and what its function takes
 abbrev pub Suits : Option Agg → Typeds → Option Typed → Type 0
 Suits None keys argument = ⊥
-Suits (Some a) keys argument = (variables.fit a.keys keys ≡ true) × (count keys ≤ MOST_KEYS) × TakesArgument a.function argument
+Suits (Some a) keys argument =
+    (variables.fit a.keys keys ≡ true) × (count keys ≤ MOST_KEYS)
+    × TakesArgument a.function argument
 
 -- each part is of the kind that its place asks for, and an aggregation is one of the script's
 abbrev pub IsProperAction : Aggs → Action → Type 0
@@ -30,7 +30,8 @@ IsProperAction aggs (Evaluate x) = Unit {0}
 IsProperAction aggs (Trace x) = Unit {0}
 IsProperAction aggs (Print format args) = formats.fit format args ≡ true
 IsProperAction aggs (Exit x) = IsInteger x
-IsProperAction aggs (Aggregate place keys argument) = (place < length aggs) × Suits (slice_get aggs place) keys argument
+IsProperAction aggs (Aggregate place keys argument) =
+    (place < length aggs) × Suits (slice_get aggs place) keys argument
 
 abbrev pub IsProperPredicate : Option Typed → Type 0
 IsProperPredicate None = Unit {0}

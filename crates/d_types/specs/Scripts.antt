@@ -1,26 +1,11 @@
--- The typed tree of a script, or its first fault: declarations and clauses go in the order of the text.
+-- The typed tree of a script, or its first fault: declarations and clauses go in the order of the
+-- text.
 use Rattle.std.specs.Prelude.{◌≡◌, ℕ, nat_le, if◌then◌else◌, List, [], ◌∷◌, ◌++◌, length, map, Option, Some, None, Result, Ok}
-use Rattle.d_lexer.specs.declared.fault.TheConstants.{MOST_BYTES}
-use Rattle.d_parser.specs.declared.tree.DeclaredType.{DeclaredType}
-use Rattle.d_parser.specs.Numbers.{AreSmall}
-use Rattle.d_parser.specs.Sizes.{IsWithin}
-use Rattle.d_parser.specs.Tree as tree
-use Rattle.d_parser.specs.Tree.{Tree, StmtTree, DeclarationTree, ClauseTree, ItemTree}
-use Rattle.d_values.specs.declared.value.Kind.{Kind}
-use Rattle.d_values.specs.declared.int_type.DType.{DType}
-use Rattle.d_values.specs.declared.int_type.DType.TheVariants.{Int, Text}
-use Rattle.d_types.specs.declared.needs.TheConstants.{REGISTERS}
-use Rattle.d_types.specs.declared.variables.TheConstants.{MOST_KEYS}
-use Rattle.d_types.specs.declared.typed.Space.{Space}
-use Rattle.d_types.specs.declared.typed.Space.TheVariants as s
+use Rattle.d_types.specs.Vocabulary.{Int, Text, MOST_BYTES, DeclaredType, AreSmall, IsWithin, DeclarationTree, StmtTree, ItemTree, Tree, ClauseTree, Kind, DType, REGISTERS, MOST_KEYS, Space}
 use Rattle.d_types.specs.Faults.{Fault, ◌>>=◌, refuse, Mismatch, Keys, NoRegister}
-use Rattle.d_types.specs.Constants.{declared_type}
 use Rattle.d_types.specs.Typed.{Typed, type_of, Action, Aggs, ClauseMeant, ScriptMeant}
-use Rattle.d_types.specs.Needs.{need}
 use Rattle.d_types.specs.Variables.{Rows, kind_of, find, types_in}
-use Rattle.d_types.specs.Typing.{line_of, expr}
-use Rattle.d_types.specs.Statements.{action}
-use Rattle.d_types.specs.Aggregations.{aggregate}
+use Rattle.d_types.specs.{Constants.declared_type, Needs.need, Typing.line_of, Typing.expr, Statements.action, Aggregations.aggregate}
 
 -- ---- declarations
 
@@ -28,36 +13,48 @@ abbrev pub declared_kinds : List DeclaredType → List Kind
 declared_kinds all = map (λ t. kind_of (declared_type t)) all
 
 -- a variable is declared before it is assigned, and once
-abbrev pub declared : Space → ℕ → List ℕ → DeclaredType → List DeclaredType → Rows → Option ℕ → Result Rows Fault
-declared space line name t keys rows None =
+abbrev pub declare : Space → ℕ → List ℕ → DeclaredType → List DeclaredType → Rows → Option ℕ
+    → Result Rows Fault
+declare space line name t keys rows None =
     if nat_le (length keys) MOST_KEYS
-    then Ok (rows ++ record { space = space; word = name; keys = declared_kinds keys; holds = Some (declared_type t) } ∷ [])
+    then Ok (rows ++ record {
+      space = space;
+      word = name;
+      keys = declared_kinds keys;
+      holds = Some (declared_type t);
+    } ∷ [])
     else refuse Keys line
-declared space line name t keys rows (Some slot) = refuse Mismatch line
+declare space line name t keys rows (Some slot) = refuse Mismatch line
 
 abbrev pub declaration : Rows → DeclarationTree → Result Rows Fault
-declaration rows (tree.OfThread line t name keys) = declared s.Thread line name t keys rows (find s.Thread name rows)
-declaration rows (tree.OfClause line t name) = declared s.Clause line name t [] rows (find s.Clause name rows)
+declaration rows (DeclarationTree.OfThread line t name keys) =
+    declare Space.Thread line name t keys rows (find Space.Thread name rows)
+declaration rows (DeclarationTree.OfClause line t name) =
+    declare Space.Clause line name t [] rows (find Space.Clause name rows)
 
 -- ---- clauses
 
 -- a predicate is an integer
-abbrev pub tested : DType → Tree → Typed → Rows → Result (Option Typed × Rows) Fault
-tested Text t x rows = refuse Mismatch (line_of t)
-tested (Int u) t x rows = if nat_le (need x) REGISTERS then Ok (Some x, rows) else refuse NoRegister (line_of t)
+abbrev pub test_of : DType → Tree → Typed → Rows → Result (Option Typed × Rows) Fault
+test_of Text t x rows = refuse Mismatch (line_of t)
+test_of (Int u) t x rows =
+    if nat_le (need x) REGISTERS then Ok (Some x, rows) else refuse NoRegister (line_of t)
 
 abbrev pub predicate : Rows → Option Tree → Result (Option Typed × Rows) Fault
 predicate rows None = Ok (None, rows)
-predicate rows (Some t) = expr rows t >>= λ x. tested (type_of x.0) t x.0 x.1
+predicate rows (Some t) = expr rows t >>= λ x. test_of (type_of x.0) t x.0 x.1
 
 abbrev pub statement : Rows → Aggs → StmtTree → Result (Action × (Rows × Aggs)) Fault
-statement rows aggs (tree.Expression t) = action rows t >>= λ a. Ok (a.0, (a.1, aggs))
-statement rows aggs (tree.Aggregation line name keys f args) = aggregate line name keys f args rows aggs
+statement rows aggs (StmtTree.Expression t) = action rows t >>= λ a. Ok (a.0, (a.1, aggs))
+statement rows aggs (StmtTree.Aggregation line name keys f args) =
+    aggregate line name keys f args rows aggs
 
--- the statements behind those that are done
-abbrev pub statements : List Action → Rows → Aggs → List StmtTree → Result (List Action × (Rows × Aggs)) Fault
+-- the statements after those that are done
+abbrev pub statements : List Action → Rows → Aggs → List StmtTree
+    → Result (List Action × (Rows × Aggs)) Fault
 statements done rows aggs [] = Ok (done, (rows, aggs))
-statements done rows aggs (t ∷ rest) = statement rows aggs t >>= λ a. statements (done ++ a.0 ∷ []) a.1.0 a.1.1 rest
+statements done rows aggs (t ∷ rest) =
+    statement rows aggs t >>= λ a. statements (done ++ a.0 ∷ []) a.1.0 a.1.1 rest
 
 -- a clause's predicate comes before its statements
 abbrev pub clause : Rows → Aggs → ClauseTree → Result (ClauseMeant × (Rows × Aggs)) Fault
@@ -67,20 +64,25 @@ clause rows aggs c =
 
 -- ---- scripts
 
--- a declaration, or a clause behind those that are done
-abbrev pub item : List ClauseMeant → Rows → Aggs → ItemTree → Result (List ClauseMeant × (Rows × Aggs)) Fault
-item done rows aggs (tree.Declared d) = declaration rows d >>= λ r. Ok (done, (r, aggs))
-item done rows aggs (tree.Probing c) = clause rows aggs c >>= λ a. Ok (done ++ a.0 ∷ [], a.1)
+-- a declaration, or a clause after those that are done
+abbrev pub item : List ClauseMeant → Rows → Aggs → ItemTree
+    → Result (List ClauseMeant × (Rows × Aggs)) Fault
+item done rows aggs (ItemTree.Declared d) = declaration rows d >>= λ r. Ok (done, (r, aggs))
+item done rows aggs (ItemTree.Probing c) = clause rows aggs c >>= λ a. Ok (done ++ a.0 ∷ [], a.1)
 
-abbrev pub items : List ClauseMeant → Rows → Aggs → List ItemTree → Result (List ClauseMeant × (Rows × Aggs)) Fault
+abbrev pub items : List ClauseMeant → Rows → Aggs → List ItemTree
+    → Result (List ClauseMeant × (Rows × Aggs)) Fault
 items done rows aggs [] = Ok (done, (rows, aggs))
 items done rows aggs (t ∷ rest) = item done rows aggs t >>= λ a. items a.0 a.1.0 a.1.1 rest
 
 -- what a script means, or its first fault
 abbrev pub script : List ItemTree → Result ScriptMeant Fault
-script all = items [] [] [] all >>= λ x. Ok (record { clauses = x.0; aggregations = x.1.1; slots = types_in x.1.0 })
+script all =
+    items [] [] [] all >>= λ x.
+    Ok (record { clauses = x.0; aggregations = x.1.1; slots = types_in x.1.0 })
 
--- some script means this, with at most 65,536 descriptions, statements, and declarations with places of variables, and with
--- numbers below 2 ^ 64
+-- some script means this, with at most 65,536 descriptions, statements, and declarations with
+-- places of variables, and with numbers below 2 ^ 64
 abbrev pub IsMeant : ScriptMeant → Type 0
-IsMeant m = (source : List ItemTree) × IsWithin MOST_BYTES source × AreSmall source × (script source ≡ Ok m)
+IsMeant m =
+    (source : List ItemTree) × IsWithin MOST_BYTES source × AreSmall source × (script source ≡ Ok m)

@@ -1,12 +1,6 @@
 -- What the text of a format means.
 use Rattle.std.specs.Prelude.{◌≡◌, ℕ, zero, suc, ◌≤◌, ◌==◌, ◌||◌, ◌⊎◌, Bool, false, if◌then◌else◌, List, [], ◌∷◌, ◌++◌, codes}
-use Rattle.std.specs.Fmt.{decimal}
-use Rattle.d_types.specs.declared.format.TheConstants.{MOST_WIDTH}
-use Rattle.d_types.specs.declared.typed.Letter.{Letter}
-use Rattle.d_types.specs.declared.typed.Letter.TheVariants as letter
-use Rattle.d_types.specs.declared.typed.Conversion.{Conversion}
-use Rattle.d_types.specs.declared.typed.Piece.{Piece}
-use Rattle.d_types.specs.declared.typed.Piece.TheVariants as piece
+use Rattle.d_types.specs.Vocabulary.{decimal, MOST_WIDTH, Letter, Conversion, Piece}
 
 abbrev pub IsOneOf : {A : Type 0} → A → List A → Type 0
 IsOneOf x [] = ⊥
@@ -31,11 +25,11 @@ abbrev pub lengths : List (List ℕ)
 lengths = codes "" ∷ codes "h" ∷ codes "hh" ∷ codes "l" ∷ codes "ll" ∷ []
 
 abbrev pub letters : Letter → List ℕ
-letters letter.Signed = codes "di"
-letters letter.Unsigned = codes "u"
-letters letter.Hexadecimal = codes "x"
-letters letter.Octal = codes "o"
-letters letter.Text = codes "s"
+letters Letter.Signed = codes "di"
+letters Letter.Unsigned = codes "u"
+letters Letter.Hexadecimal = codes "x"
+letters Letter.Octal = codes "o"
+letters Letter.Text = codes "s"
 
 -- a percent sign, flags, a width of 255 at most, a length and a letter
 abbrev pub IsConversion : Conversion → List ℕ → Type 0
@@ -47,10 +41,11 @@ IsConversion c text =
 
 -- a byte stands for itself, but a percent sign is written twice
 abbrev pub IsPiece : Piece → List ℕ → Type 0
-IsPiece (piece.Byte b) text = text ≡ (if b == 37 then codes "%%" else b ∷ [])
-IsPiece (piece.Argument c) text = IsConversion c text
+IsPiece (Piece.Byte b) text = text ≡ (if b == 37 then codes "%%" else b ∷ [])
+IsPiece (Piece.Argument c) text = IsConversion c text
 
--- the format is the pieces' texts, one behind the other
+-- the format is the pieces' texts, one after another
 abbrev pub Spells : List Piece → List ℕ → Type 0
 Spells [] format = format ≡ []
-Spells (p ∷ ps) format = (text : List ℕ) × (rest : List ℕ) × IsPiece p text × Spells ps rest × (format ≡ text ++ rest)
+Spells (p ∷ ps) format =
+    (text : List ℕ) × (rest : List ℕ) × IsPiece p text × Spells ps rest × (format ≡ text ++ rest)

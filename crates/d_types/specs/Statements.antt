@@ -1,29 +1,22 @@
 -- The typed tree of a statement, or its first fault.
 use Rattle.std.specs.Prelude.{ℕ, if◌then◌else◌, List, Option, Some, None, Result, Ok}
-use Rattle.d_parser.specs.declared.tree.Constant.TheVariants as c
-use Rattle.d_parser.specs.Tree as tree
-use Rattle.d_parser.specs.Tree.{Tree, Trees}
-use Rattle.d_values.specs.declared.int_type.DType.{DType}
-use Rattle.d_values.specs.declared.int_type.DType.TheVariants.{Int, Text}
-use Rattle.d_types.specs.declared.words.Callee.{Callee}
-use Rattle.d_types.specs.declared.words.Callee.TheVariants as f
+use Rattle.d_types.specs.Vocabulary.{Int, Text, Constant, Trees, Tree, DType, Callee}
 use Rattle.d_types.specs.Faults.{Fault, ◌>>=◌, refuse, unless, Mismatch, PrintfArguments}
-use Rattle.d_types.specs.Words.{callee_named}
 use Rattle.d_types.specs.Typed.{Typed, Typeds, end, add, type_of, Action, Evaluate, Trace, Print, Exit}
-use Rattle.d_types.specs.Variables.{Rows}
 use Rattle.d_types.specs.Formats.{pieces, fit}
-use Rattle.d_types.specs.Typing.{only, whole}
+use Rattle.d_types.specs.{Words.callee_named, Variables.Rows, Typing.only, Typing.whole}
 
--- expressions that are no parts of others, behind those that are typed
+-- expressions that are no parts of others, after those that are typed
 abbrev pub wholes : Typeds → Rows → Trees → Result (Typeds × Rows) Fault
-wholes done rows tree.end = Ok (done, rows)
-wholes done rows (tree.more a rest) = whole rows a >>= λ x. wholes (add done x.0) x.1 rest
+wholes done rows Trees.end = Ok (done, rows)
+wholes done rows (Trees.more a rest) = whole rows a >>= λ x. wholes (add done x.0) x.1 rest
 
 -- ---- actions
 
 -- one value of any type
 abbrev pub trace : ℕ → Rows → Trees → Result (Action × Rows) Fault
-trace line rows args = wholes end rows args >>= λ k. unless Mismatch line (only k.0) >>= λ x. Ok (Trace x, k.1)
+trace line rows args =
+    wholes end rows args >>= λ k. unless Mismatch line (only k.0) >>= λ x. Ok (Trace x, k.1)
 
 abbrev pub exit_by : ℕ → DType → Typed → Rows → Result (Action × Rows) Fault
 exit_by line (Int t) x rows = Ok (Exit x, rows)
@@ -31,7 +24,9 @@ exit_by line Text x rows = refuse Mismatch line
 
 -- one integer
 abbrev pub exit : ℕ → Rows → Trees → Result (Action × Rows) Fault
-exit line rows args = wholes end rows args >>= λ k. unless Mismatch line (only k.0) >>= λ x. exit_by line (type_of x) x k.1
+exit line rows args =
+    wholes end rows args >>= λ k. unless Mismatch line (only k.0) >>= λ x.
+    exit_by line (type_of x) x k.1
 
 -- a format with only known conversions, and an argument for each of them
 abbrev pub print_with : ℕ → Rows → List ℕ → Trees → Result (Action × Rows) Fault
@@ -43,30 +38,30 @@ abbrev pub not_printed : ℕ → Rows → Trees → Result (Action × Rows) Faul
 not_printed line rows args = wholes end rows args >>= λ k. refuse PrintfArguments line
 
 abbrev pub text_of : Tree → Option (List ℕ)
-text_of (tree.Known l (c.Text bytes)) = Some bytes
+text_of (Tree.Known l (Constant.Text bytes)) = Some bytes
 text_of t = None
 
 abbrev pub print_by : Option (List ℕ) → ℕ → Rows → Tree → Trees → Result (Action × Rows) Fault
 print_by (Some format) line rows first rest = print_with line rows format rest
-print_by None line rows first rest = not_printed line rows (tree.more first rest)
+print_by None line rows first rest = not_printed line rows (Trees.more first rest)
 
 -- the format is a text constant, which is no value
 abbrev pub print : ℕ → Rows → Trees → Result (Action × Rows) Fault
-print line rows tree.end = not_printed line rows tree.end
-print line rows (tree.more first rest) = print_by (text_of first) line rows first rest
+print line rows Trees.end = not_printed line rows Trees.end
+print line rows (Trees.more first rest) = print_by (text_of first) line rows first rest
 
 -- an expression for what it assigns
 abbrev pub evaluate : Rows → Tree → Result (Action × Rows) Fault
 evaluate rows t = whole rows t >>= λ x. Ok (Evaluate x.0, x.1)
 
 -- a call that stands as a whole statement is an action
-abbrev pub called : Option Callee → ℕ → List ℕ → Rows → Trees → Result (Action × Rows) Fault
-called (Some f.Trace) line name rows args = trace line rows args
-called (Some f.Exit) line name rows args = exit line rows args
-called (Some f.Printf) line name rows args = print line rows args
-called callee line name rows args = evaluate rows (tree.Call line name args)
+abbrev pub call_statement : Option Callee → ℕ → List ℕ → Rows → Trees → Result (Action × Rows) Fault
+call_statement (Some Callee.Trace) line name rows args = trace line rows args
+call_statement (Some Callee.Exit) line name rows args = exit line rows args
+call_statement (Some Callee.Printf) line name rows args = print line rows args
+call_statement callee line name rows args = evaluate rows (Tree.Call line name args)
 
 -- an expression that stands as a statement
 abbrev pub action : Rows → Tree → Result (Action × Rows) Fault
-action rows (tree.Call line name args) = called (callee_named name) line name rows args
+action rows (Tree.Call line name args) = call_statement (callee_named name) line name rows args
 action rows t = evaluate rows t

@@ -1,57 +1,38 @@
--- The typed tree of an expression, or its first fault: parts come first, from the left to the right, then the construct itself.
+-- The typed tree of an expression, or its first fault: parts come first, from the left to the
+-- right, then the construct itself.
 use Rattle.std.specs.Prelude.{ℕ, nat_le, take, if◌then◌else◌, Option, Some, None, Result, Ok}
-use Rattle.d_parser.specs.declared.operators.Step.{Step}
-use Rattle.d_parser.specs.declared.operators.AssignOperator.{AssignOperator}
 use Rattle.d_parser.specs.declared.tree.Variable.{Variable}
-use Rattle.d_parser.specs.declared.tree.Constant.{Constant}
-use Rattle.d_parser.specs.declared.tree.Constant.TheVariants as c
-use Rattle.d_parser.specs.Tree as tree
-use Rattle.d_parser.specs.Tree.{Tree, Trees}
-use Rattle.d_values.specs.declared.int_type.DType.{DType}
-use Rattle.d_values.specs.declared.int_type.DType.TheVariants.{Int, Text}
-use Rattle.d_values.specs.Texts.{longest}
-use Rattle.d_values.specs.Types.{INT64}
-use Rattle.d_types.specs.declared.typed.Answer.{Answer}
-use Rattle.d_types.specs.declared.typed.Answer.TheVariants as w
-use Rattle.d_types.specs.declared.needs.TheConstants.{REGISTERS}
-use Rattle.d_types.specs.declared.words.Callee.{Callee}
-use Rattle.d_types.specs.declared.words.Callee.TheVariants as f
+use Rattle.d_types.specs.Vocabulary.{Int, Text, Step, AssignOperator, Constant, Tree, Trees, DType, longest, INT64, Answer, REGISTERS, Callee}
 use Rattle.d_types.specs.Faults.{Fault, ◌>>=◌, refuse, unless, Undeclared, Mismatch, NoRegister}
-use Rattle.d_types.specs.Constants.{type_of_constant, int_type}
-use Rattle.d_types.specs.Words.{callee_named}
-use Rattle.d_types.specs.Typed as typed
-use Rattle.d_types.specs.Typed.{Typed, Typeds, end, more, add, type_of}
-use Rattle.d_types.specs.Needs.{need}
-use Rattle.d_types.specs.Variables.{Rows, type_at}
-use Rattle.d_types.specs.Operators.{assign_sort, as_type, unary, binary, choice}
-use Rattle.d_types.specs.Targets.{line_of_variable, space_of, read, target, type_at_once, assigned, step}
+use Rattle.d_types.specs.Targets.{line_of_variable, space_of, read, target, type_at_once, assignment, step}
+use Rattle.d_types.specs.{Constants.type_of_constant, Constants.int_type, Words.callee_named, Typed.Typed, Typed.Typeds, Typed.end, Typed.more, Typed.add, Typed.type_of, Needs.need, Variables.Rows, Variables.type_at, Operators.assign_sort, Operators.as_type, Operators.unary, Operators.binary, Operators.choice}
 
 -- the line of the first token
 abbrev pub line_of : Tree → ℕ
-line_of (tree.Known line c) = line
-line_of (tree.Read v keys) = line_of_variable v
-line_of (tree.Call line f args) = line
-line_of (tree.Unary line op a) = line
-line_of (tree.Cast line t a) = line
-line_of (tree.Before line by v keys) = line
-line_of (tree.After v keys by) = line_of_variable v
-line_of (tree.Binary op a b) = line_of a
-line_of (tree.Choice c a b) = line_of c
-line_of (tree.Assign op v keys a) = line_of_variable v
+line_of (Tree.Known line c) = line
+line_of (Tree.Read v keys) = line_of_variable v
+line_of (Tree.Call line f args) = line
+line_of (Tree.Unary line op a) = line
+line_of (Tree.Cast line t a) = line
+line_of (Tree.Before line by v keys) = line
+line_of (Tree.After v keys by) = line_of_variable v
+line_of (Tree.Binary op a b) = line_of a
+line_of (Tree.Choice c a b) = line_of c
+line_of (Tree.Assign op v keys a) = line_of_variable v
 
 -- a text is cut to its first bytes
 abbrev pub constant : Constant → Typed
-constant (c.Number v suffix) = typed.Constant (type_of_constant v suffix) v
-constant (c.Text bytes) = typed.Text (take longest bytes)
+constant (Constant.Number v suffix) = Typed.Constant (type_of_constant v suffix) v
+constant (Constant.Text bytes) = Typed.Text (take longest bytes)
 
 -- ---- calls
 
 abbrev pub strlen : DType → Typed → Option Typed
-strlen Text x = Some (typed.Strlen x)
+strlen Text x = Some (Typed.Strlen x)
 strlen (Int t) x = None
 
 abbrev pub strjoin : DType → DType → Typed → Typed → Option Typed
-strjoin Text Text x y = Some (typed.Strjoin x y)
+strjoin Text Text x y = Some (Typed.Strjoin x y)
 strjoin t u x y = None
 
 -- the only argument
@@ -69,8 +50,8 @@ strjoin_of args = None
 
 -- an action has no value
 abbrev pub call : Callee → Typeds → Option Typed
-call f.Strlen args = strlen_of (only args)
-call f.Strjoin args = strjoin_of args
+call Callee.Strlen args = strlen_of (only args)
+call Callee.Strjoin args = strjoin_of args
 call action args = None
 
 abbrev pub beside : Rows → Option Typed → Option (Typed × Rows)
@@ -90,38 +71,50 @@ call_of line (Some f) args rows = fitting line (beside rows (call f args))
 -- `++` and `--`, once the keys are typed
 abbrev pub step_rest : Rows → ℕ → Step → Answer → Variable → Typeds → Result (Typed × Rows) Fault
 step_rest rows line by answer v keys =
-    target rows v (Some (Int INT64)) keys >>= λ s. fitting line (beside s.1 (step by answer (space_of v) (type_at s.1 s.0) s.0 keys))
+    target rows v (Some (Int INT64)) keys >>= λ s.
+    fitting line (beside s.1 (step by answer (space_of v) (type_at s.1 s.0) s.0 keys))
 
 abbrev mutual
   pub expr : Rows → Tree → Result (Typed × Rows) Fault
-  expr rows (tree.Known line c) = Ok (constant c, rows)
-  expr rows (tree.Read v keys) = exprs end rows keys >>= λ k. read k.1 v k.0 >>= λ y. Ok (y, k.1)
-  expr rows (tree.Call line f args) = exprs end rows args >>= λ k. call_of line (callee_named f) k.0 k.1
-  expr rows (tree.Unary line op a) = expr rows a >>= λ x. fitting line (beside x.1 (unary op (type_of x.0) x.0))
-  expr rows (tree.Cast line t a) = expr rows a >>= λ x. fitting line (beside x.1 (as_type (type_of x.0) (Int (int_type t)) x.0))
-  expr rows (tree.Before line by v keys) = exprs end rows keys >>= λ k. step_rest k.1 line by w.New v k.0
-  expr rows (tree.After v keys by) = exprs end rows keys >>= λ k. step_rest k.1 (line_of_variable v) by w.Old v k.0
-  expr rows (tree.Binary op a b) =
+  expr rows (Tree.Known line c) = Ok (constant c, rows)
+  expr rows (Tree.Read v keys) = exprs end rows keys >>= λ k. read k.1 v k.0 >>= λ y. Ok (y, k.1)
+  expr rows (Tree.Call line f args) =
+      exprs end rows args >>= λ k. call_of line (callee_named f) k.0 k.1
+  expr rows (Tree.Unary line op a) =
+      expr rows a >>= λ x. fitting line (beside x.1 (unary op (type_of x.0) x.0))
+  expr rows (Tree.Cast line t a) =
+      expr rows a >>= λ x. fitting line (beside x.1 (as_type (type_of x.0) (Int (int_type t)) x.0))
+  expr rows (Tree.Before line by v keys) =
+      exprs end rows keys >>= λ k. step_rest k.1 line by Answer.New v k.0
+  expr rows (Tree.After v keys by) =
+      exprs end rows keys >>= λ k. step_rest k.1 (line_of_variable v) by Answer.Old v k.0
+  expr rows (Tree.Binary op a b) =
       expr rows a >>= λ x. expr x.1 b >>= λ y.
       fitting (line_of a) (beside y.1 (binary op (type_of x.0) (type_of y.0) x.0 y.0))
-  expr rows (tree.Choice c a b) =
+  expr rows (Tree.Choice c a b) =
       expr rows c >>= λ x. expr x.1 a >>= λ y. expr y.1 b >>= λ z.
-      fitting (line_of c) (beside z.1 (choice (type_of x.0) (type_of y.0) (type_of z.0) x.0 y.0 z.0))
-  expr rows (tree.Assign op v keys a) =
-      exprs end rows keys >>= λ k. target k.1 v (type_at_once (assign_sort op)) k.0 >>= λ s. expr s.1 a >>= λ x.
-      fitting (line_of_variable v) (assigned (assign_sort op) (space_of v) (type_at x.1 s.0) (type_of x.0) s.0 k.0 x.0 x.1)
+      fitting (line_of c)
+      (beside z.1 (choice (type_of x.0) (type_of y.0) (type_of z.0) x.0 y.0 z.0))
+  expr rows (Tree.Assign op v keys a) =
+      exprs end rows keys >>= λ k. target k.1 v (type_at_once (assign_sort op)) k.0 >>= λ s.
+      expr s.1 a >>= λ x.
+      fitting (line_of_variable v)
+      (assignment (assign_sort op) (space_of v) (type_at x.1 s.0) (type_of x.0) s.0 k.0 x.0 x.1)
 
-  -- a list, behind those that are typed
+  -- a list, after those that are typed
   pub exprs : Typeds → Rows → Trees → Result (Typeds × Rows) Fault
-  exprs done rows tree.end = Ok (done, rows)
-  exprs done rows (tree.more a rest) = expr rows a >>= λ x. exprs (add done x.0) x.1 rest
+  exprs done rows Trees.end = Ok (done, rows)
+  exprs done rows (Trees.more a rest) = expr rows a >>= λ x. exprs (add done x.0) x.1 rest
 
 -- an assignment, once its target's keys are typed
-abbrev pub assign_rest : Rows → AssignOperator → Variable → Typeds → Tree → Result (Typed × Rows) Fault
+abbrev pub assign_rest : Rows → AssignOperator → Variable → Typeds → Tree
+    → Result (Typed × Rows) Fault
 assign_rest rows op v keys a =
     target rows v (type_at_once (assign_sort op)) keys >>= λ s. expr s.1 a >>= λ x.
-    fitting (line_of_variable v) (assigned (assign_sort op) (space_of v) (type_at x.1 s.0) (type_of x.0) s.0 keys x.0 x.1)
+    fitting (line_of_variable v)
+    (assignment (assign_sort op) (space_of v) (type_at x.1 s.0) (type_of x.0) s.0 keys x.0 x.1)
 
 -- an expression that isn't part of another, and that fits the registers
 abbrev pub whole : Rows → Tree → Result (Typed × Rows) Fault
-whole rows t = expr rows t >>= λ x. if nat_le (need x.0) REGISTERS then Ok x else refuse NoRegister (line_of t)
+whole rows t =
+    expr rows t >>= λ x. if nat_le (need x.0) REGISTERS then Ok x else refuse NoRegister (line_of t)

@@ -1,15 +1,9 @@
 -- The table of variables.
 use Rattle.std.specs.Prelude.{ℕ, zero, suc, ◌+◌, Bool, true, false, ◌&&◌, if◌then◌else◌, List, [], ◌∷◌, map, Option, Some, None}
-use Rattle.std.specs.Str.{bytes_eq}
 use denote.Enum.Bare.{sameb}
+use Rattle.d_types.specs.Vocabulary.{bytes_eq, Kind, DType, Space, Entry}
 use Rattle.d_types.specs.contracts.typed.Space as space
 use Rattle.d_values.specs.contracts.value.Kind as kind
-use Rattle.d_values.specs.declared.value.Kind.{Kind}
-use Rattle.d_values.specs.declared.value.Kind.TheVariants as k
-use Rattle.d_values.specs.declared.int_type.DType.{DType}
-use Rattle.d_values.specs.declared.int_type.DType.TheVariants as ty
-use Rattle.d_types.specs.declared.typed.Space.{Space}
-use Rattle.d_types.specs.declared.variables.Entry.{Entry}
 use Rattle.d_types.specs.Typed.{Typeds, end, more, type_of}
 
 -- a variable; its keys are known before its type
@@ -30,8 +24,8 @@ abbrev pub rows_of : List Entry → Rows
 rows_of es = map row_of es
 
 abbrev pub kind_of : DType → Kind
-kind_of (ty.Int t) = k.Number
-kind_of ty.Text = k.Text
+kind_of (DType.Int t) = Kind.Number
+kind_of DType.Text = Kind.Text
 
 abbrev pub is_named : Space → List ℕ → Row → Bool
 is_named s w r = sameb space.the_type r.space s && bytes_eq r.word w

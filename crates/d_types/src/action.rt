@@ -1,14 +1,8 @@
 //! Expressions that stand as statements, and actions.
 
 ghost use Rattle.std.specs.Prelude.{◌≡◌, IfOk, option_map};
-ghost use Rattle.d_parser.specs.Tree as tree;
-ghost use Rattle.d_parser.specs.Tree.{tree_of, trees_of};
-ghost use Rattle.d_types.specs.Faults.{Gives};
+ghost use Rattle.d_types.specs.{Vocabulary.tree_of, Vocabulary.trees_of, Vocabulary.Tree, Faults.Gives, Typed.typed_of, Typed.typeds_of, Typed.action_of, Typed.Typeds, Variables.rows_of, Words.callee_named};
 ghost use Rattle.d_types.specs.Statements as spec;
-ghost use Rattle.d_types.specs.Typed as typed;
-ghost use Rattle.d_types.specs.Typed.{typed_of, typeds_of, action_of};
-ghost use Rattle.d_types.specs.Variables.{rows_of};
-ghost use Rattle.d_types.specs.Words as words;
 
 use crate::calls::only;
 use crate::expression::whole;
@@ -29,7 +23,8 @@ pub(crate) fn wholes(
     table: &mut Vec<Entry>,
     list: &[Expr],
 ) -> Result<Vec<TypedExpr>, TypeFault>
-    ensures { Gives (λ xs. (typeds_of xs.items, rows_of table.new.items)) result (spec.wholes typed.end (rows_of table.old.items) (trees_of list.now)) }
+    ensures { Gives (λ xs. (typeds_of xs.items, rows_of table.new.items)) result
+        (spec.wholes Typeds.end (rows_of table.old.items) (trees_of list.now)) }
 {
     let mut done = Vec::new(alloc);
     for e in list {
@@ -46,7 +41,8 @@ fn trace(
     line: usize,
     args: &[Expr],
 ) -> Result<TypedStmt, TypeFault>
-    ensures { Gives (λ s. (action_of s, rows_of table.new.items)) result (spec.trace line (rows_of table.old.items) (trees_of args.now)) }
+    ensures { Gives (λ s. (action_of s, rows_of table.new.items)) result
+        (spec.trace line (rows_of table.old.items) (trees_of args.now)) }
 {
     let args = wholes(alloc, table, args)?;
     match only(args) {
@@ -62,7 +58,8 @@ fn exit(
     line: usize,
     args: &[Expr],
 ) -> Result<TypedStmt, TypeFault>
-    ensures { Gives (λ s. (action_of s, rows_of table.new.items)) result (spec.exit line (rows_of table.old.items) (trees_of args.now)) }
+    ensures { Gives (λ s. (action_of s, rows_of table.new.items)) result
+        (spec.exit line (rows_of table.old.items) (trees_of args.now)) }
 {
     let args = wholes(alloc, table, args)?;
     let Some(x) = only(args) else {
@@ -82,7 +79,8 @@ fn print_with(
     format: &ByteString,
     args: &[Expr],
 ) -> Result<TypedStmt, TypeFault>
-    ensures { Gives (λ s. (action_of s, rows_of table.new.items)) result (spec.print_with line (rows_of table.old.items) format.now (trees_of args.now)) }
+    ensures { Gives (λ s. (action_of s, rows_of table.new.items)) result
+        (spec.print_with line (rows_of table.old.items) format.now (trees_of args.now)) }
 {
     let args = wholes(alloc, table, args)?;
     let Some(format) = pieces(alloc, format.as_slice())? else {
@@ -101,7 +99,8 @@ fn print(
     line: usize,
     args: &[Expr],
 ) -> Result<TypedStmt, TypeFault>
-    ensures { Gives (λ s. (action_of s, rows_of table.new.items)) result (spec.print line (rows_of table.old.items) (trees_of args.now)) }
+    ensures { Gives (λ s. (action_of s, rows_of table.new.items)) result
+        (spec.print line (rows_of table.old.items) (trees_of args.now)) }
 {
     if let [first, rest @ ..] = args {
         if let Some(format) = text_of(first) {
@@ -126,13 +125,14 @@ fn text_of(e: &Expr) -> Option<&ByteString>
 }
 
 fn evaluate(alloc: Global, table: &mut Vec<Entry>, e: &Expr) -> Result<TypedStmt, TypeFault>
-    ensures { Gives (λ s. (action_of s, rows_of table.new.items)) result (spec.evaluate (rows_of table.old.items) (tree_of e.now)) }
+    ensures { Gives (λ s. (action_of s, rows_of table.new.items)) result
+        (spec.evaluate (rows_of table.old.items) (tree_of e.now)) }
 {
     let x = whole(alloc, table, e)?;
     Ok(TypedStmt::Evaluate(x))
 }
 
-fn called(
+fn call_statement(
     alloc: Global,
     table: &mut Vec<Entry>,
     line: usize,
@@ -140,8 +140,9 @@ fn called(
     args: &[Expr],
     e: &Expr,
 ) -> Result<TypedStmt, TypeFault>
-    requires { tree_of e.now ≡ tree.Call line name.now (trees_of args.now) }
-    ensures { Gives (λ s. (action_of s, rows_of table.new.items)) result (spec.called (words.callee_named name.now) line name.now (rows_of table.old.items) (trees_of args.now)) }
+    requires { tree_of e.now ≡ Tree.Call line name.now (trees_of args.now) }
+    ensures { Gives (λ s. (action_of s, rows_of table.new.items)) result (spec.call_statement
+        (callee_named name.now) line name.now (rows_of table.old.items) (trees_of args.now)) }
 {
     match callee_named(name) {
         Some(Callee::Trace) => trace(alloc, table, line, args),
@@ -157,14 +158,15 @@ pub(crate) fn action(
     table: &mut Vec<Entry>,
     e: &Expr,
 ) -> Result<TypedStmt, TypeFault>
-    ensures { Gives (λ s. (action_of s, rows_of table.new.items)) result (spec.action (rows_of table.old.items) (tree_of e.now)) }
+    ensures { Gives (λ s. (action_of s, rows_of table.new.items)) result
+        (spec.action (rows_of table.old.items) (tree_of e.now)) }
 {
     match e {
         Expr::Call {
             line,
             function,
             arguments,
-        } => called(alloc, table, *line, function.as_slice(), arguments, e),
+        } => call_statement(alloc, table, *line, function.as_slice(), arguments, e),
         _ => evaluate(alloc, table, e),
     }
 }

@@ -1,17 +1,12 @@
 //! Aggregation statements.
 
 ghost use Rattle.std.specs.Prelude.{◌≡◌, ◌++◌, ◌∷◌, [], IfOk, OnOk, Some, None, length, option_map};
-ghost use Rattle.d_parser.specs.Tree.{tree_of, trees_of};
+ghost use Rattle.d_types.specs.{Vocabulary.tree_of, Vocabulary.trees_of, Faults.Gives, Faults.OnlyMemory, Typed.typed_of, Typed.typeds_of, Typed.action_of, Typed.aggs_of, Typed.Aggs, Typed.agg_of, Variables.rows_of, Variables.kinds_of};
 ghost use Rattle.d_types.specs.Aggregations as spec;
-ghost use Rattle.d_types.specs.Faults.{Gives, OnlyMemory};
-ghost use Rattle.d_types.specs.Typed as typed;
-ghost use Rattle.d_types.specs.Typed.{typed_of, typeds_of, action_of, aggs_of};
-ghost use Rattle.d_types.specs.Variables as table_spec;
-ghost use Rattle.d_types.specs.Variables.{rows_of};
 
 use crate::action::wholes;
 use crate::fault::TypeFault;
-use crate::targets::copied;
+use crate::targets::copy_of;
 use crate::typed::{TypedAggregation, TypedExpr, TypedStmt};
 use crate::variables::{Entry, MOST_KEYS, fit, kinds_of};
 use crate::words::{Aggregating, aggregating_named};
@@ -141,7 +136,11 @@ fn takes(aggregating: Aggregating, n: usize) -> bool
     match aggregating {
         Aggregating::Count => n <= 0,
         Aggregating::Lquantize => 3 <= n && n <= 4,
-        _ => 1 <= n && n <= 1,
+        Aggregating::Sum
+        | Aggregating::Min
+        | Aggregating::Max
+        | Aggregating::Avg
+        | Aggregating::Quantize => 1 <= n && n <= 1,
     }
 }
 
@@ -171,7 +170,8 @@ fn first(args: Vec<TypedExpr>) -> Option<TypedExpr>
 
 /// The place of an aggregation, and what it is.
 fn find<'a>(aggs: &'a [TypedAggregation], name: &[u8]) -> Option<(usize, &'a TypedAggregation)>
-    ensures { option_map (λ p. (p.0, typed.agg_of p.1.now)) result ≡ spec.find_from 0 name.now (aggs_of aggs.now) }
+    ensures { option_map (λ p. (p.0, agg_of p.1.now)) result
+        ≡ spec.find_from 0 name.now (aggs_of aggs.now) }
 {
     for (place, aggregation) in aggs.iter().enumerate() {
         if aggregation.name.as_slice() == name {
@@ -181,7 +181,7 @@ fn find<'a>(aggs: &'a [TypedAggregation], name: &[u8]) -> Option<(usize, &'a Typ
     None
 }
 
-fn again(
+fn known_place(
     place: usize,
     known: &TypedAggregation,
     line: usize,
@@ -189,7 +189,8 @@ fn again(
     keys: &[TypedExpr],
     function: Option<AggFn>,
 ) -> Result<usize, TypeFault>
-    ensures { (aggs : typed.Aggs) → Gives (λ p. (p, aggs)) result (spec.joined line name.now (typeds_of keys.now) function aggs (Some (place, typed.agg_of known.now))) }
+    ensures { (aggs : Aggs) → Gives (λ p. (p, aggs)) result (spec.place_for line name.now
+        (typeds_of keys.now) function aggs (Some (place, agg_of known.now))) }
 {
     if !fit(&known.keys, keys) {
         Err(TypeFault::Keys { line })
@@ -209,11 +210,13 @@ fn define(
     function: AggFn,
 ) -> Result<usize, TypeFault>
     ensures place { IfOk result (λ place. place ≡ length (aggs_of aggs.old.items)) }
-    ensures added { OnOk result (aggs_of aggs.new.items ≡ aggs_of aggs.old.items ++ record { name = name.now; keys = table_spec.kinds_of (typeds_of keys.now); function = function } ∷ []) }
+    ensures added { OnOk result (aggs_of aggs.new.items ≡ aggs_of aggs.old.items
+        ++ record { name = name.now; keys = kinds_of (typeds_of keys.now); function = function }
+        ∷ []) }
     ensures err { OnlyMemory result }
 {
     let place = aggs.len();
-    let name = copied(alloc, name)?;
+    let name = copy_of(alloc, name)?;
     let keys = kinds_of(alloc, keys)?;
     aggs.push(TypedAggregation {
         name,
@@ -231,7 +234,8 @@ fn new_place(
     keys: &[TypedExpr],
     function: Option<AggFn>,
 ) -> Result<usize, TypeFault>
-    ensures { Gives (λ place. (place, aggs_of aggs.new.items)) result (spec.joined line name.now (typeds_of keys.now) function (aggs_of aggs.old.items) None) }
+    ensures { Gives (λ place. (place, aggs_of aggs.new.items)) result
+        (spec.place_for line name.now (typeds_of keys.now) function (aggs_of aggs.old.items) None) }
 {
     if keys.len() > MOST_KEYS {
         return Err(TypeFault::Keys { line });
@@ -246,7 +250,7 @@ fn new_place(
 }
 
 /// The place of an aggregation. The first statement fixes its keys and its function.
-fn joined(
+fn place_for(
     alloc: Global,
     aggs: &mut Vec<TypedAggregation>,
     line: usize,
@@ -254,10 +258,12 @@ fn joined(
     keys: &[TypedExpr],
     function: Option<AggFn>,
 ) -> Result<usize, TypeFault>
-    ensures { Gives (λ place. (place, aggs_of aggs.new.items)) result (spec.joined line name.now (typeds_of keys.now) function (aggs_of aggs.old.items) (spec.find_from 0 name.now (aggs_of aggs.old.items))) }
+    ensures { Gives (λ place. (place, aggs_of aggs.new.items)) result
+        (spec.place_for line name.now (typeds_of keys.now) function (aggs_of aggs.old.items)
+        (spec.find_from 0 name.now (aggs_of aggs.old.items))) }
 {
     match find(aggs, name.as_slice()) {
-        Some((place, known)) => again(place, known, line, name, keys, function),
+        Some((place, known)) => known_place(place, known, line, name, keys, function),
         None => new_place(alloc, aggs, line, name, keys, function),
     }
 }
@@ -273,7 +279,9 @@ pub(crate) fn aggregate(
     function: &[u8],
     args: &[Expr],
 ) -> Result<TypedStmt, TypeFault>
-    ensures { Gives (λ s. (action_of s, (rows_of table.new.items, aggs_of aggs.new.items))) result (spec.aggregate line name.now (trees_of keys.now) function.now (trees_of args.now) (rows_of table.old.items) (aggs_of aggs.old.items)) }
+    ensures { Gives (λ s. (action_of s, (rows_of table.new.items, aggs_of aggs.new.items))) result
+        (spec.aggregate line name.now (trees_of keys.now) function.now (trees_of args.now)
+        (rows_of table.old.items) (aggs_of aggs.old.items)) }
 {
     let keys = wholes(alloc, table, keys)?;
     let Some(aggregating) = aggregating_named(function) else {
@@ -283,7 +291,7 @@ pub(crate) fn aggregate(
     if !arguments_fit(aggregating, &values) {
         return Err(TypeFault::Mismatch { line });
     }
-    let place = joined(
+    let place = place_for(
         alloc,
         aggs,
         line,

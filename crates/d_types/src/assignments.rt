@@ -1,16 +1,12 @@
 //! Assignments to a slot. None where the types don't fit.
 
 ghost use Rattle.std.specs.Prelude.{◌≡◌, IfOk, option_map};
-ghost use Rattle.d_types.specs.Faults.{OnlyMemory};
+ghost use Rattle.d_types.specs.{Faults.OnlyMemory, Typed.typed_of, Typed.typeds_of, Typed.Typed, Typed.type_of, Variables.rows_of, Variables.type_at};
 ghost use Rattle.d_types.specs.Targets as spec;
-ghost use Rattle.d_types.specs.Typed as typed;
-ghost use Rattle.d_types.specs.Typed.{typed_of, typeds_of};
-ghost use Rattle.d_types.specs.Variables as table_spec;
-ghost use Rattle.d_types.specs.Variables.{rows_of};
 
-use crate::build::{as_type, convert};
 use crate::constants::integer;
 use crate::fault::TypeFault;
+use crate::operations::{as_type, convert};
 use crate::operators::AssignSort;
 use crate::targets::variable_at;
 use crate::typed::{Answer, Operation, Space, TypedExpr, Variable};
@@ -35,7 +31,8 @@ fn assign_of(
     keys: Vec<TypedExpr>,
     x: TypedExpr,
 ) -> Result<TypedExpr, TypeFault>
-    ensures ok { IfOk result (λ y. typed_of y ≡ typed.Assign variable (typeds_of keys.items) (typed_of x)) }
+    ensures ok { IfOk result
+        (λ y. typed_of y ≡ Typed.Assign variable (typeds_of keys.items) (typed_of x)) }
     ensures err { OnlyMemory result }
 {
     let x = Box::new(alloc, x)?;
@@ -49,7 +46,8 @@ fn update_of(
     keys: Vec<TypedExpr>,
     x: TypedExpr,
 ) -> Result<TypedExpr, TypeFault>
-    ensures ok { IfOk result (λ y. typed_of y ≡ typed.Update operation variable (typeds_of keys.items) (typed_of x)) }
+    ensures ok { IfOk result
+        (λ y. typed_of y ≡ Typed.Update operation variable (typeds_of keys.items) (typed_of x)) }
     ensures err { OnlyMemory result }
 {
     let x = Box::new(alloc, x)?;
@@ -57,7 +55,7 @@ fn update_of(
 }
 
 fn step_of(step: Step, answer: Answer, variable: Variable, keys: Vec<TypedExpr>) -> TypedExpr
-    ensures { typed_of result ≡ typed.Count step answer variable (typeds_of keys.items) }
+    ensures { typed_of result ≡ Typed.Count step answer variable (typeds_of keys.items) }
 {
     TypedExpr::Step(step, answer, variable, keys)
 }
@@ -70,7 +68,9 @@ fn store(
     keys: Vec<TypedExpr>,
     x: TypedExpr,
 ) -> Result<Option<TypedExpr>, TypeFault>
-    ensures ok { IfOk result (λ y. option_map (λ z. (typed_of z, rows_of table.new)) y ≡ spec.store space (table_spec.type_at (rows_of table.old) slot) slot (typeds_of keys.items) (typed_of x) (rows_of table.old)) }
+    ensures ok { IfOk result (λ y. option_map (λ z. (typed_of z, rows_of table.new)) y
+        ≡ spec.store space (type_at (rows_of table.old) slot) slot (typeds_of keys.items)
+        (typed_of x) (rows_of table.old)) }
     ensures err { OnlyMemory result }
 {
     match type_at(table, slot) {
@@ -91,7 +91,7 @@ fn store(
 }
 
 /// An assignment of a value to a slot.
-pub(crate) fn assigned(
+pub(crate) fn assignment(
     alloc: Global,
     table: &mut [Entry],
     sort: AssignSort,
@@ -100,7 +100,9 @@ pub(crate) fn assigned(
     keys: Vec<TypedExpr>,
     x: TypedExpr,
 ) -> Result<Option<TypedExpr>, TypeFault>
-    ensures ok { IfOk result (λ y. option_map (λ z. (typed_of z, rows_of table.new)) y ≡ spec.assigned sort space (table_spec.type_at (rows_of table.old) slot) (typed.type_of (typed_of x)) slot (typeds_of keys.items) (typed_of x) (rows_of table.old)) }
+    ensures ok { IfOk result (λ y. option_map (λ z. (typed_of z, rows_of table.new)) y
+        ≡ spec.assignment sort space (type_at (rows_of table.old) slot) (type_of (typed_of x)) slot
+        (typeds_of keys.items) (typed_of x) (rows_of table.old)) }
     ensures err { OnlyMemory result }
 {
     match (sort, type_at(table, slot), x.type_of()) {
@@ -129,7 +131,8 @@ pub(crate) fn step(
     slot: usize,
     keys: Vec<TypedExpr>,
 ) -> Result<Option<TypedExpr>, TypeFault>
-    ensures ok { IfOk result (λ y. option_map typed_of y ≡ spec.step by answer space (table_spec.type_at (rows_of table.now) slot) slot (typeds_of keys.items)) }
+    ensures ok { IfOk result (λ y. option_map typed_of y ≡ spec.step by answer space
+        (type_at (rows_of table.now) slot) slot (typeds_of keys.items)) }
     ensures err { OnlyMemory result }
 {
     match type_at(table, slot) {

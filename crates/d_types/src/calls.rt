@@ -1,10 +1,8 @@
 //! Calls in expressions. None where the arguments don't fit.
 
 ghost use Rattle.std.specs.Prelude.{◌≡◌, IfOk, option_map};
-ghost use Rattle.d_types.specs.Faults.{OnlyMemory};
+ghost use Rattle.d_types.specs.{Faults.OnlyMemory, Typed.typed_of, Typed.typeds_of, Typed.type_of};
 ghost use Rattle.d_types.specs.Typing as spec;
-ghost use Rattle.d_types.specs.Typed as typed;
-ghost use Rattle.d_types.specs.Typed.{typed_of, typeds_of};
 
 use crate::fault::TypeFault;
 use crate::typed::TypedExpr;
@@ -13,7 +11,8 @@ use d_values::DType;
 use std::alloc::Global;
 
 fn length_of(alloc: Global, x: TypedExpr) -> Result<Option<TypedExpr>, TypeFault>
-    ensures ok { IfOk result (λ y. option_map typed_of y ≡ spec.strlen (typed.type_of (typed_of x)) (typed_of x)) }
+    ensures ok { IfOk result
+        (λ y. option_map typed_of y ≡ spec.strlen (type_of (typed_of x)) (typed_of x)) }
     ensures err { OnlyMemory result }
 {
     match x.type_of() {
@@ -23,7 +22,8 @@ fn length_of(alloc: Global, x: TypedExpr) -> Result<Option<TypedExpr>, TypeFault
 }
 
 fn join(alloc: Global, x: TypedExpr, y: TypedExpr) -> Result<Option<TypedExpr>, TypeFault>
-    ensures ok { IfOk result (λ z. option_map typed_of z ≡ spec.strjoin (typed.type_of (typed_of x)) (typed.type_of (typed_of y)) (typed_of x) (typed_of y)) }
+    ensures ok { IfOk result (λ z. option_map typed_of z
+        ≡ spec.strjoin (type_of (typed_of x)) (type_of (typed_of y)) (typed_of x) (typed_of y)) }
     ensures err { OnlyMemory result }
 {
     match (x.type_of(), y.type_of()) {
@@ -50,7 +50,8 @@ pub(crate) fn only(args: Vec<TypedExpr>) -> Option<TypedExpr>
 }
 
 fn strlen(alloc: Global, args: Vec<TypedExpr>) -> Result<Option<TypedExpr>, TypeFault>
-    ensures ok { IfOk result (λ y. option_map typed_of y ≡ spec.strlen_of (spec.only (typeds_of args.items))) }
+    ensures ok { IfOk result
+        (λ y. option_map typed_of y ≡ spec.strlen_of (spec.only (typeds_of args.items))) }
     ensures err { OnlyMemory result }
 {
     match only(args) {
@@ -82,7 +83,8 @@ pub(crate) fn call(
     callee: Callee,
     args: Vec<TypedExpr>,
 ) -> Result<Option<TypedExpr>, TypeFault>
-    ensures ok { IfOk result (λ y. option_map typed_of y ≡ spec.call callee (typeds_of args.items)) }
+    ensures ok { IfOk result
+        (λ y. option_map typed_of y ≡ spec.call callee (typeds_of args.items)) }
     ensures err { OnlyMemory result }
 {
     match callee {

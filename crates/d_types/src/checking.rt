@@ -1,16 +1,8 @@
 //! From scripts to typed scripts.
 
 ghost use Rattle.std.specs.Prelude.{◌≡◌, [], map, IfOk};
-ghost use Rattle.d_parser.specs.Numbers.{AreSmall};
-ghost use Rattle.d_parser.specs.Sizes.{IsWithin};
-ghost use Rattle.d_parser.specs.Tree.{item_of, script_of};
-ghost use Rattle.d_types.specs.Faults.{Gives};
-ghost use Rattle.d_types.specs.Fitting.{ScriptFits};
+ghost use Rattle.d_types.specs.{Vocabulary.AreSmall, Vocabulary.IsWithin, Vocabulary.item_of, Vocabulary.script_of, Faults.Gives, Fitting.ScriptFits, Typed.ScriptMeant, Typed.meant_of, Typed.aggs_of, TypedScripts.typed_script_of, Variables.rows_of, WellTyped.IsWell};
 ghost use Rattle.d_types.specs.Scripts as spec;
-ghost use Rattle.d_types.specs.Typed.{ScriptMeant, meant_of, aggs_of};
-ghost use Rattle.d_types.specs.TypedScripts.{typed_script_of};
-ghost use Rattle.d_types.specs.Variables.{rows_of};
-ghost use Rattle.d_types.specs.WellTyped.{IsWell};
 
 use crate::clause::clause;
 use crate::declaration::declaration;
@@ -29,7 +21,10 @@ fn item(
     done: &mut Vec<TypedClause>,
     item: &Item,
 ) -> Result<(), TypeFault>
-    ensures { Gives (λ x. (map meant_of done.new.items, (rows_of table.new.items, aggs_of aggs.new.items))) result (spec.item (map meant_of done.old.items) (rows_of table.old.items) (aggs_of aggs.old.items) (item_of item.now)) }
+    ensures { Gives
+        (λ x. (map meant_of done.new.items, (rows_of table.new.items, aggs_of aggs.new.items)))
+        result (spec.item (map meant_of done.old.items) (rows_of table.old.items)
+        (aggs_of aggs.old.items) (item_of item.now)) }
 {
     match item {
         Item::Declaration(declared) => declaration(alloc, table, declared),
@@ -47,7 +42,9 @@ fn items(
     aggs: &mut Vec<TypedAggregation>,
     list: &[Item],
 ) -> Result<Vec<TypedClause>, TypeFault>
-    ensures { Gives (λ all. (map meant_of all.items, (rows_of table.new.items, aggs_of aggs.new.items))) result (spec.items [] (rows_of table.old.items) (aggs_of aggs.old.items) (map item_of list.now)) }
+    ensures { Gives
+        (λ all. (map meant_of all.items, (rows_of table.new.items, aggs_of aggs.new.items))) result
+        (spec.items [] (rows_of table.old.items) (aggs_of aggs.old.items) (map item_of list.now)) }
 {
     let mut done = Vec::new(alloc);
     for next in list {
@@ -56,7 +53,7 @@ fn items(
     Ok(done)
 }
 
-fn checked(alloc: Global, script: Script) -> Result<TypedScript, TypeFault>
+fn typed_script(alloc: Global, script: Script) -> Result<TypedScript, TypeFault>
     requires few { IsWithin MOST_BYTES (script_of script) }
     requires small { AreSmall (script_of script) }
     ensures { Gives typed_script_of result (spec.script (script_of script)) }
@@ -72,18 +69,28 @@ fn checked(alloc: Global, script: Script) -> Result<TypedScript, TypeFault>
     }
 }
 
-/// The typed script of a script that is well typed, with every register need at most `REGISTERS`, else its first fault: parts come
-/// first, from the left to the right, then the construct itself, with the cause of lowest number. Every script that
-/// `parse` gives is small enough and has such numbers, and the typed script keeps that it does.
+/// The typed script of a script that is well typed, with every register need at most `REGISTERS`,
+/// else its first fault: parts come first, from the left to the right, then the construct itself,
+/// with the cause of lowest number. Every script that `parse` gives is small enough and has such
+/// numbers, and the typed script keeps that it does.
+///
+/// ```text
+/// let script = parse(alloc, &lex(alloc, b"hit { self->x = 1; }")?)?;
+/// check(alloc, script)?; // a clause with one statement, and one variable: an int
+/// let script = parse(alloc, &lex(alloc, b"hit { pid = 1; }")?)?;
+/// check(alloc, script); // Err(TypeFault::ReadOnly { line: 1 })
+/// ```
 pub fn check(alloc: Global, script: Script) -> Result<TypedScript, TypeFault>
     requires few { IsWithin MOST_BYTES (script_of script) }
     requires small { AreSmall (script_of script) }
-    // What is answered is what the script means by the rules.
-    ensures typed { IfOk result (λ s. IsWell (script_of script) (typed_script_of s) × ScriptFits (typed_script_of s)) }
-    // Where the rules give a meaning it is answered, and no other, unless memory runs out.
-    ensures only { (m : ScriptMeant) → IsWell (script_of script) m → ScriptFits m → Gives {Y = ScriptMeant} typed_script_of result (Ok m) }
+    // What is returned is what the script means by the rules.
+    ensures typed { IfOk result
+        (λ s. IsWell (script_of script) (typed_script_of s) × ScriptFits (typed_script_of s)) }
+    // Where the rules give a meaning it is returned, and no other, unless memory runs out.
+    ensures only { (m : ScriptMeant) → IsWell (script_of script) m → ScriptFits m
+        → Gives {Y = ScriptMeant} typed_script_of result (Ok m) }
     // A fault is the first one, on its line, unless memory runs out.
     ensures first { Gives typed_script_of result (spec.script (script_of script)) }
 {
-    checked(alloc, script)
+    typed_script(alloc, script)
 }

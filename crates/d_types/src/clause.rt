@@ -1,11 +1,8 @@
 //! Clauses and their statements.
 
 ghost use Rattle.std.specs.Prelude.{[], Some};
-ghost use Rattle.d_parser.specs.Tree.{tree_of, stmt_of, stmts_of, predicate_of, clause_of};
-ghost use Rattle.d_types.specs.Faults.{Gives};
+ghost use Rattle.d_types.specs.{Vocabulary.tree_of, Vocabulary.stmt_of, Vocabulary.stmts_of, Vocabulary.predicate_of, Vocabulary.clause_of, Faults.Gives, Typed.typed_of, Typed.action_of, Typed.actions_of, Typed.argument_of, Typed.meant_of, Typed.aggs_of, Variables.rows_of};
 ghost use Rattle.d_types.specs.Scripts as spec;
-ghost use Rattle.d_types.specs.Typed.{typed_of, action_of, actions_of, argument_of, meant_of, aggs_of};
-ghost use Rattle.d_types.specs.Variables.{rows_of};
 
 use crate::action::action;
 use crate::aggregation::aggregate;
@@ -18,8 +15,9 @@ use d_parser::{Clause, Expr, Stmt};
 use d_values::DType;
 use std::alloc::Global;
 
-fn tested(alloc: Global, table: &mut Vec<Entry>, e: &Expr) -> Result<Option<TypedExpr>, TypeFault>
-    ensures { Gives (λ p. (argument_of p, rows_of table.new.items)) result (spec.predicate (rows_of table.old.items) (Some (tree_of e.now))) }
+fn test_of(alloc: Global, table: &mut Vec<Entry>, e: &Expr) -> Result<Option<TypedExpr>, TypeFault>
+    ensures { Gives (λ p. (argument_of p, rows_of table.new.items)) result
+        (spec.predicate (rows_of table.old.items) (Some (tree_of e.now))) }
 {
     let x = expr(alloc, table, e)?;
     if x.type_of() == DType::Text {
@@ -36,10 +34,11 @@ fn predicate(
     table: &mut Vec<Entry>,
     predicate: &Option<Expr>,
 ) -> Result<Option<TypedExpr>, TypeFault>
-    ensures { Gives (λ p. (argument_of p, rows_of table.new.items)) result (spec.predicate (rows_of table.old.items) (predicate_of predicate.now)) }
+    ensures { Gives (λ p. (argument_of p, rows_of table.new.items)) result
+        (spec.predicate (rows_of table.old.items) (predicate_of predicate.now)) }
 {
     match predicate {
-        Some(e) => tested(alloc, table, e),
+        Some(e) => test_of(alloc, table, e),
         None => Ok(None),
     }
 }
@@ -50,7 +49,9 @@ fn statement(
     aggs: &mut Vec<TypedAggregation>,
     statement: &Stmt,
 ) -> Result<TypedStmt, TypeFault>
-    ensures { Gives (λ s. (action_of s, (rows_of table.new.items, aggs_of aggs.new.items))) result (spec.statement (rows_of table.old.items) (aggs_of aggs.old.items) (stmt_of statement.now)) }
+    ensures { Gives (λ s. (action_of s, (rows_of table.new.items, aggs_of aggs.new.items))) result
+        (spec.statement (rows_of table.old.items) (aggs_of aggs.old.items)
+        (stmt_of statement.now)) }
 {
     match statement {
         Stmt::Expression(e) => action(alloc, table, e),
@@ -73,7 +74,10 @@ fn statements(
     aggs: &mut Vec<TypedAggregation>,
     list: &[Stmt],
 ) -> Result<Vec<TypedStmt>, TypeFault>
-    ensures { Gives (λ all. (actions_of all.items, (rows_of table.new.items, aggs_of aggs.new.items))) result (spec.statements [] (rows_of table.old.items) (aggs_of aggs.old.items) (stmts_of list.now)) }
+    ensures { Gives
+        (λ all. (actions_of all.items, (rows_of table.new.items, aggs_of aggs.new.items))) result
+        (spec.statements [] (rows_of table.old.items) (aggs_of aggs.old.items)
+        (stmts_of list.now)) }
 {
     let mut done = Vec::new(alloc);
     for stmt in list {
@@ -90,7 +94,8 @@ pub(crate) fn clause(
     aggs: &mut Vec<TypedAggregation>,
     clause: &Clause,
 ) -> Result<TypedClause, TypeFault>
-    ensures { Gives (λ c. (meant_of c, (rows_of table.new.items, aggs_of aggs.new.items))) result (spec.clause (rows_of table.old.items) (aggs_of aggs.old.items) (clause_of clause.now)) }
+    ensures { Gives (λ c. (meant_of c, (rows_of table.new.items, aggs_of aggs.new.items))) result
+        (spec.clause (rows_of table.old.items) (aggs_of aggs.old.items) (clause_of clause.now)) }
 {
     let predicate = predicate(alloc, table, &clause.predicate)?;
     let statements = statements(alloc, table, aggs, &clause.statements)?;

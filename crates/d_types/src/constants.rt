@@ -1,8 +1,8 @@
 //! The types that constants have, and those that words name.
 
 ghost use Rattle.std.specs.Prelude.{◌≡◌};
+ghost use Rattle.d_types.specs.Vocabulary.{DType};
 ghost use Rattle.d_types.specs.Constants as spec;
-ghost use Rattle.d_values.specs.declared.int_type.DType.TheVariants as ty;
 
 use d_lexer::Suffix;
 use d_parser::{DeclaredType, IntegerType};
@@ -13,8 +13,8 @@ const INT_MAX: u64 = 2147483647;
 /// The greatest value of `long`.
 const LONG_MAX: u64 = 9223372036854775807;
 
-fn unsuffixed(value: u64) -> IntType
-    ensures { result ≡ spec.unsuffixed value }
+fn unsuffixed_type(value: u64) -> IntType
+    ensures { result ≡ spec.unsuffixed_type value }
 {
     if value <= INT_MAX {
         IntType::INT32
@@ -30,10 +30,10 @@ pub(crate) fn type_of_constant(value: u64, suffix: Suffix) -> IntType
     ensures { result ≡ spec.type_of_constant value suffix }
 {
     match suffix {
-        Suffix::Absent => unsuffixed(value),
+        Suffix::Absent => unsuffixed_type(value),
         Suffix::Unsigned if value <= INT_MAX => IntType::UINT32,
         Suffix::Long if value <= LONG_MAX => IntType::INT64,
-        _ => IntType::UINT64,
+        Suffix::Unsigned | Suffix::Long | Suffix::UnsignedLong => IntType::UINT64,
     }
 }
 
@@ -54,7 +54,7 @@ pub(crate) fn int_type(named: IntegerType) -> IntType
 }
 
 pub(crate) fn integer(named: IntegerType) -> DType
-    ensures { result ≡ ty.Int (spec.int_type named) }
+    ensures { result ≡ DType.Int (spec.int_type named) }
 {
     DType::Int(int_type(named))
 }

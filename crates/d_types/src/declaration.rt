@@ -1,16 +1,12 @@
 //! Declarations of variables.
 
 ghost use Rattle.std.specs.Prelude.{◌≡◌, ◌++◌, ◌∷◌, [], IfOk, OnOk, Some};
-ghost use Rattle.d_parser.specs.Tree.{declaration_of};
-ghost use Rattle.d_types.specs.Constants as constants;
-ghost use Rattle.d_types.specs.Faults.{Gives, OnlyMemory};
+ghost use Rattle.d_types.specs.{Vocabulary.declaration_of, Faults.Gives, Faults.OnlyMemory, Variables.rows_of, Variables.find, Constants.declared_type};
 ghost use Rattle.d_types.specs.Scripts as spec;
-ghost use Rattle.d_types.specs.Variables as table_spec;
-ghost use Rattle.d_types.specs.Variables.{rows_of};
 
 use crate::constants::declared_type;
 use crate::fault::TypeFault;
-use crate::targets::copied;
+use crate::targets::copy_of;
 use crate::typed::Space;
 use crate::variables::{Entry, MOST_KEYS, find, kind_of};
 use d_lexer::ByteString;
@@ -35,10 +31,16 @@ fn add_declared(
     declared: DeclaredType,
     keys: &[DeclaredType],
 ) -> Result<(), TypeFault>
-    ensures added { OnOk result (rows_of table.new.items ≡ rows_of table.old.items ++ record { space = space; word = name.now; keys = spec.declared_kinds keys.now; holds = Some (constants.declared_type declared) } ∷ []) }
+    ensures added { OnOk result (rows_of table.new.items ≡ rows_of table.old.items
+        ++ record {
+          space = space;
+          word = name.now;
+          keys = spec.declared_kinds keys.now;
+          holds = Some (declared_type declared);
+        } ∷ []) }
     ensures err { OnlyMemory result }
 {
-    let name = copied(alloc, name)?;
+    let name = copy_of(alloc, name)?;
     let keys = declared_kinds(alloc, keys)?;
     let holds = Some(declared_type(declared));
     table.push(Entry {
@@ -59,7 +61,9 @@ fn declare(
     declared: DeclaredType,
     keys: &[DeclaredType],
 ) -> Result<(), TypeFault>
-    ensures { Gives (λ x. rows_of table.new.items) result (spec.declared space line name.now declared keys.now (rows_of table.old.items) (table_spec.find space name.now (rows_of table.old.items))) }
+    ensures { Gives (λ x. rows_of table.new.items) result
+        (spec.declare space line name.now declared keys.now (rows_of table.old.items)
+        (find space name.now (rows_of table.old.items))) }
 {
     match find(table, space, name.as_slice()) {
         Some(_) => Err(TypeFault::Mismatch { line }),
@@ -79,7 +83,8 @@ pub(crate) fn declaration(
     table: &mut Vec<Entry>,
     declaration: &Declaration,
 ) -> Result<(), TypeFault>
-    ensures { Gives (λ x. rows_of table.new.items) result (spec.declaration (rows_of table.old.items) (declaration_of declaration.now)) }
+    ensures { Gives (λ x. rows_of table.new.items) result
+        (spec.declaration (rows_of table.old.items) (declaration_of declaration.now)) }
 {
     match declaration {
         Declaration::Thread {

@@ -1,20 +1,15 @@
 //! From trees of expressions to typed ones.
 
 ghost use Rattle.std.specs.Prelude.{◌≡◌, IfOk};
-ghost use Rattle.d_parser.specs.Tree as tree;
-ghost use Rattle.d_parser.specs.Tree.{tree_of, trees_of};
-ghost use Rattle.d_types.specs.Faults.{Gives, OnlyMemory};
-ghost use Rattle.d_types.specs.Typed as typed;
-ghost use Rattle.d_types.specs.Typed.{typed_of, typeds_of};
+ghost use Rattle.d_types.specs.{Vocabulary.tree_of, Vocabulary.trees_of, Vocabulary.Tree, Faults.Gives, Faults.OnlyMemory, Typed.typed_of, Typed.typeds_of, Typed.Typeds, Variables.rows_of};
 ghost use Rattle.d_types.specs.Typing as spec;
-ghost use Rattle.d_types.specs.Variables.{rows_of};
 
-use crate::assignments::{assigned, step, type_at_once};
-use crate::build::{as_type, binary, choice, unary};
+use crate::assignments::{assignment, step, type_at_once};
 use crate::calls::call;
 use crate::constants::{int_type, integer, type_of_constant};
 use crate::fault::TypeFault;
 use crate::needs::{REGISTERS, fits};
+use crate::operations::{as_type, binary, choice, unary};
 use crate::operators::{assign_sort, binary_sort};
 use crate::targets::{line_of_variable, read, space_of, target};
 use crate::typed::{Answer, TypedExpr};
@@ -61,7 +56,8 @@ fn constant_expr(alloc: Global, constant: &Constant) -> Result<TypedExpr, TypeFa
 /// The typed tree of a part.
 #[cycle(typing)]
 pub(crate) fn expr(alloc: Global, table: &mut Vec<Entry>, e: &Expr) -> Result<TypedExpr, TypeFault>
-    ensures { Gives (λ x. (typed_of x, rows_of table.new.items)) result (spec.expr (rows_of table.old.items) (tree_of e.now)) }
+    ensures { Gives (λ x. (typed_of x, rows_of table.new.items)) result
+        (spec.expr (rows_of table.old.items) (tree_of e.now)) }
 {
     match e {
         Expr::Constant { constant, .. } => constant_expr(alloc, constant),
@@ -106,7 +102,7 @@ fn unary_expr(
     operand: &Expr,
 ) -> Result<TypedExpr, TypeFault>
     ensures { Gives (λ x. (typed_of x, rows_of table.new.items)) result
-        (spec.expr (rows_of table.old.items) (tree.Unary line operator (tree_of operand.now))) }
+        (spec.expr (rows_of table.old.items) (Tree.Unary line operator (tree_of operand.now))) }
 {
     let x = expr(alloc, table, operand)?;
     match unary(alloc, operator, x)? {
@@ -124,7 +120,7 @@ fn cast_expr(
     operand: &Expr,
 ) -> Result<TypedExpr, TypeFault>
     ensures { Gives (λ x. (typed_of x, rows_of table.new.items)) result
-        (spec.expr (rows_of table.old.items) (tree.Cast line to (tree_of operand.now))) }
+        (spec.expr (rows_of table.old.items) (Tree.Cast line to (tree_of operand.now))) }
 {
     let x = expr(alloc, table, operand)?;
     match as_type(alloc, DType::Int(int_type(to)), x)? {
@@ -142,7 +138,8 @@ fn binary_expr(
     right: &Expr,
 ) -> Result<TypedExpr, TypeFault>
     ensures { Gives (λ x. (typed_of x, rows_of table.new.items)) result
-        (spec.expr (rows_of table.old.items) (tree.Binary operator (tree_of left.now) (tree_of right.now))) }
+        (spec.expr (rows_of table.old.items)
+        (Tree.Binary operator (tree_of left.now) (tree_of right.now))) }
 {
     let x = expr(alloc, table, left)?;
     let y = expr(alloc, table, right)?;
@@ -157,7 +154,8 @@ fn binary_expr(
 #[cycle(typing)]
 fn read_expr(alloc: Global, table: &mut Vec<Entry>, target: &Target) -> Result<TypedExpr, TypeFault>
     ensures { Gives (λ x. (typed_of x, rows_of table.new.items)) result
-        (spec.expr (rows_of table.old.items) (tree.Read target.now.variable (trees_of target.now.keys.items))) }
+        (spec.expr (rows_of table.old.items)
+        (Tree.Read target.now.variable (trees_of target.now.keys.items))) }
 {
     let keys = exprs(alloc, table, &target.keys)?;
     read(table, &target.variable, keys)
@@ -171,7 +169,8 @@ fn call_expr(
     function: &[u8],
     args: &[Expr],
 ) -> Result<TypedExpr, TypeFault>
-    ensures { Gives (λ x. (typed_of x, rows_of table.new.items)) result (spec.expr (rows_of table.old.items) (tree.Call line function.now (trees_of args.now))) }
+    ensures { Gives (λ x. (typed_of x, rows_of table.new.items)) result
+        (spec.expr (rows_of table.old.items) (Tree.Call line function.now (trees_of args.now))) }
 {
     let args = exprs(alloc, table, args)?;
     let Some(callee) = callee_named(function) else {
@@ -193,7 +192,8 @@ fn step_rest(
     variable: &Variable,
     keys: Vec<TypedExpr>,
 ) -> Result<TypedExpr, TypeFault>
-    ensures { Gives (λ x. (typed_of x, rows_of table.new.items)) result (spec.step_rest (rows_of table.old.items) line by answer variable.now (typeds_of keys.items)) }
+    ensures { Gives (λ x. (typed_of x, rows_of table.new.items)) result (spec.step_rest
+        (rows_of table.old.items) line by answer variable.now (typeds_of keys.items)) }
 {
     let long = Some(integer(IntegerType::Int64));
     let slot = target(alloc, table, variable, long, &keys)?;
@@ -212,7 +212,8 @@ fn before_expr(
     target: &Target,
 ) -> Result<TypedExpr, TypeFault>
     ensures { Gives (λ x. (typed_of x, rows_of table.new.items)) result
-        (spec.expr (rows_of table.old.items) (tree.Before line by target.now.variable (trees_of target.now.keys.items))) }
+        (spec.expr (rows_of table.old.items)
+        (Tree.Before line by target.now.variable (trees_of target.now.keys.items))) }
 {
     let keys = exprs(alloc, table, &target.keys)?;
     step_rest(alloc, table, line, by, Answer::New, &target.variable, keys)
@@ -226,7 +227,8 @@ fn after_expr(
     by: Step,
 ) -> Result<TypedExpr, TypeFault>
     ensures { Gives (λ x. (typed_of x, rows_of table.new.items)) result
-        (spec.expr (rows_of table.old.items) (tree.After target.now.variable (trees_of target.now.keys.items) by)) }
+        (spec.expr (rows_of table.old.items)
+        (Tree.After target.now.variable (trees_of target.now.keys.items) by)) }
 {
     let variable = &target.variable;
     let keys = exprs(alloc, table, &target.keys)?;
@@ -250,7 +252,8 @@ fn choice_expr(
     second: &Expr,
 ) -> Result<TypedExpr, TypeFault>
     ensures { Gives (λ x. (typed_of x, rows_of table.new.items)) result
-        (spec.expr (rows_of table.old.items) (tree.Choice (tree_of test.now) (tree_of first.now) (tree_of second.now))) }
+        (spec.expr (rows_of table.old.items)
+        (Tree.Choice (tree_of test.now) (tree_of first.now) (tree_of second.now))) }
 {
     let x = expr(alloc, table, test)?;
     let y = expr(alloc, table, first)?;
@@ -273,7 +276,8 @@ fn assign_expr(
 ) -> Result<TypedExpr, TypeFault>
     ensures { Gives (λ x. (typed_of x, rows_of table.new.items)) result
         (spec.expr (rows_of table.old.items)
-        (tree.Assign operator target.now.variable (trees_of target.now.keys.items) (tree_of value.now))) }
+        (Tree.Assign operator target.now.variable (trees_of target.now.keys.items)
+        (tree_of value.now))) }
 {
     let keys = exprs(alloc, table, &target.keys)?;
     assign_rest(alloc, table, operator, &target.variable, value, keys)
@@ -290,12 +294,13 @@ fn assign_rest(
     keys: Vec<TypedExpr>,
 ) -> Result<TypedExpr, TypeFault>
     ensures { Gives (λ x. (typed_of x, rows_of table.new.items)) result
-        (spec.assign_rest (rows_of table.old.items) operator variable.now (typeds_of keys.items) (tree_of value.now)) }
+        (spec.assign_rest (rows_of table.old.items) operator variable.now (typeds_of keys.items)
+        (tree_of value.now)) }
 {
     let sort = assign_sort(operator);
     let slot = target(alloc, table, variable, type_at_once(sort), &keys)?;
     let x = expr(alloc, table, value)?;
-    match assigned(alloc, table, sort, space_of(variable), slot, keys, x)? {
+    match assignment(alloc, table, sort, space_of(variable), slot, keys, x)? {
         Some(typed) => Ok(typed),
         None => Err(TypeFault::Mismatch {
             line: line_of_variable(variable),
@@ -310,7 +315,8 @@ pub(crate) fn exprs(
     table: &mut Vec<Entry>,
     list: &[Expr],
 ) -> Result<Vec<TypedExpr>, TypeFault>
-    ensures { Gives (λ xs. (typeds_of xs.items, rows_of table.new.items)) result (spec.exprs typed.end (rows_of table.old.items) (trees_of list.now)) }
+    ensures { Gives (λ xs. (typeds_of xs.items, rows_of table.new.items)) result
+        (spec.exprs Typeds.end (rows_of table.old.items) (trees_of list.now)) }
 {
     let mut done = Vec::new(alloc);
     for e in list {
@@ -322,7 +328,8 @@ pub(crate) fn exprs(
 
 /// The typed tree of an expression that is no part of another.
 pub(crate) fn whole(alloc: Global, table: &mut Vec<Entry>, e: &Expr) -> Result<TypedExpr, TypeFault>
-    ensures { Gives (λ x. (typed_of x, rows_of table.new.items)) result (spec.whole (rows_of table.old.items) (tree_of e.now)) }
+    ensures { Gives (λ x. (typed_of x, rows_of table.new.items)) result
+        (spec.whole (rows_of table.old.items) (tree_of e.now)) }
 {
     let x = expr(alloc, table, e)?;
     if fits(&x, REGISTERS) {

@@ -16,7 +16,8 @@ pub enum TypeFault {
     /// A word that names nothing, or a variable that is read before its type is known.
     #[error("line {line}: not declared")]
     Undeclared { line: usize },
-    /// Operands or arguments of another kind or number than the construct takes, or a second declaration.
+    /// Operands or arguments of another kind or number than the construct takes, or a second
+    /// declaration.
     #[error("line {line}: of the wrong type")]
     Mismatch { line: usize },
     /// Keys of another number or kind than before, or more than eight.
@@ -28,7 +29,8 @@ pub enum TypeFault {
     /// Bounds or a step of `lquantize` that aren't constants in range.
     #[error("line {line}: bounds of lquantize")]
     LquantizeBounds { line: usize },
-    /// A format that isn't a text constant, has an unknown conversion, or doesn't fit its arguments.
+    /// A format that isn't a text constant, has an unknown conversion, or doesn't fit its
+    /// arguments.
     #[error("line {line}: the format and its arguments")]
     PrintfArguments { line: usize },
     /// A built-in variable is assigned.

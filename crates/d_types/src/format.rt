@@ -1,9 +1,8 @@
 //! The formats of printf.
 
 ghost use Rattle.std.specs.Prelude.{◌≡◌, IfOk, OnOk, option_map, []};
-ghost use Rattle.d_types.specs.Faults.{OnlyMemory};
+ghost use Rattle.d_types.specs.{Faults.OnlyMemory, Typed.typeds_of};
 ghost use Rattle.d_types.specs.Formats as spec;
-ghost use Rattle.d_types.specs.Typed.{typeds_of};
 
 use crate::fault::TypeFault;
 use crate::typed::{Conversion, Letter, Piece, TypedExpr};
@@ -38,7 +37,8 @@ pub enum Place {
     Sized(Flags),
 }
 
-/// What a byte does: where the next one stands, and the piece that it ends. None where it can't stand there.
+/// What a byte does: where the next one stands, and the piece that it ends. None where it can't
+/// stand there.
 type Turn = Option<(Place, Option<Piece>)>;
 
 fn letter_of(byte: u8) -> Option<Letter>
@@ -192,11 +192,11 @@ pub(crate) fn pieces(alloc: Global, format: &[u8]) -> Result<Option<Vec<Piece>>,
 fn takes(letter: Letter, t: DType) -> bool
     ensures { result ≡ spec.takes letter t }
 {
-    match (letter, t) {
-        (Letter::Text, DType::Text) => true,
-        (Letter::Text, DType::Int(_)) => false,
-        (_, DType::Text) => false,
-        (_, DType::Int(_)) => true,
+    match letter {
+        Letter::Signed | Letter::Unsigned | Letter::Hexadecimal | Letter::Octal => {
+            matches!(t, DType::Int(_))
+        }
+        Letter::Text => matches!(t, DType::Text),
     }
 }
 

@@ -15,7 +15,11 @@ fn type_of_built_in(built_in: BuiltIn) -> DType
         BuiltIn::Argument(_) => integer(IntegerType::Int64),
         BuiltIn::Timestamp => integer(IntegerType::Uint64),
         BuiltIn::Cpu | BuiltIn::Pid | BuiltIn::Tid => integer(IntegerType::Int32),
-        _ => DType::Text,
+        BuiltIn::Execname
+        | BuiltIn::Probeprov
+        | BuiltIn::Probemod
+        | BuiltIn::Probefunc
+        | BuiltIn::Probename => DType::Text,
     }
 }
 

@@ -1,10 +1,10 @@
-//! From trees to typed scripts: types, variables, and the registers that expressions need. `docs/LANGUAGE.md` has the rules.
+//! From trees to typed scripts: types, variables, and the registers that expressions need.
+//! `docs/LANGUAGE.md` has the rules.
 #![tactic(auto)]
 
 mod action;
 mod aggregation;
 mod assignments;
-mod build;
 mod calls;
 mod checking;
 mod clause;
@@ -18,6 +18,7 @@ mod kinds;
 pub mod laws;
 pub mod meaning;
 mod needs;
+mod operations;
 mod operators;
 mod targets;
 mod typed;

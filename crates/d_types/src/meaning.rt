@@ -1,79 +1,69 @@
 //! Laws of what expressions mean.
 
 ghost use Rattle.std.specs.Prelude.{◌≡◌, ◌↔◌, ℕ, false, All};
-ghost use Rattle.d_values.specs.declared.int_type.IntType.{IntType};
-ghost use Rattle.d_values.specs.Stores.{blank};
-ghost use Rattle.d_values.specs.Words.{narrow};
-ghost use Rattle.firing_reader.specs.declared.firing.Firing.{Firing};
-ghost use Rattle.firing_reader.specs.Firings.{HasRanges};
-ghost use Rattle.d_types.specs.Typed as typed;
-ghost use Rattle.d_parser.specs.declared.operators.Step.{Step};
-ghost use Rattle.d_types.specs.declared.typed.Answer.{Answer};
-ghost use Rattle.d_types.specs.declared.typed.Operation.{Operation};
-ghost use Rattle.d_types.specs.declared.typed.Variable.{Variable};
-ghost use Rattle.d_values.specs.declared.int_type.DType.{DType};
-ghost use Rattle.d_types.specs.Typed.{Typed, Typeds, type_of, ClauseMeant, ScriptMeant};
-ghost use Rattle.d_types.specs.Storage.{Variables};
-ghost use Rattle.d_types.specs.Clauses.{run_of};
-ghost use Rattle.d_types.specs.Wholes.{ClauseIs};
-ghost use Rattle.d_types.specs.Expressions.{number, eval};
-ghost use Rattle.d_types.specs.Held as held;
+ghost use Rattle.d_types.specs.{Vocabulary.IntType, Vocabulary.blank, Vocabulary.narrow, Vocabulary.Firing, Vocabulary.HasRanges, Vocabulary.Step, Vocabulary.Answer, Vocabulary.Operation, Vocabulary.Variable, Vocabulary.DType, Typed.Typed, Typed.Typeds, Typed.type_of, Typed.ClauseMeant, Typed.ScriptMeant, Storage.Variables, Clauses.run_of, Wholes.ClauseIs, Expressions.number, Expressions.eval, Laws.in_place, Scripts.IsMeant, Held.AreTyped, Held.AreTypedLocals, Held.AreTypedOwn, Held.Ends, Held.HasTypedBuiltIns, Held.IsConsistent, Held.IsOf, Held.IsWord, Held.Slots, Held.slots_of};
 ghost use Rattle.d_types.specs.Laws as spec;
-ghost use Rattle.d_types.specs.Laws.{in_place};
-ghost use Rattle.d_types.specs.Scripts.{IsMeant};
 
 /// Where no assignment, `++` or `--` stands, evaluation leaves the variables as they were.
 pub fn only_assignments_change_variables()
-    ensures { (f : Firing) (e : Typed) (vars : Variables) → spec.assigns e ≡ false → spec.variables_after (eval f e vars) ≡ vars }
+    ensures { (f : Firing) (e : Typed) (vars : Variables) → spec.assigns e ≡ false
+        → spec.variables_after (eval f e vars) ≡ vars }
 {}
 
 /// Where no `/` or `%` stands, evaluation gives a value.
 pub fn only_divisions_fault()
-    ensures { (f : Firing) (e : Typed) (vars : Variables) → spec.has_division e ≡ false → spec.is_fault (eval f e vars) ≡ false }
+    ensures { (f : Firing) (e : Typed) (vars : Variables) → spec.has_division e ≡ false
+        → spec.is_fault (eval f e vars) ≡ false }
 {}
 
-/// A value of an integer type is the word of a number of that type, and a value of type text a text of at most 255 bytes.
-/// Variables that hold values of their types do so after the expression, also after a fault. The words of a type are those
-/// that conversion to it leaves as they are.
+/// A value of an integer type is the word of a number of that type, and a value of type text a text
+/// of at most 255 bytes. Variables that hold values of their types do so after the expression, also
+/// after a fault. The words of a type are those that conversion to it leaves as they are.
 pub fn values_are_of_their_types()
-    ensures values { (slots : held.Slots) (f : Firing) (e : Typed) (vars : Variables)
-        → held.HasTypedBuiltIns f → held.IsConsistent slots e → held.AreTyped slots vars
-        → held.Ends slots (held.IsOf (type_of e)) (eval f e vars) }
-    ensures words { (t : IntType) (word : ℕ) → held.IsWord t word ↔ (narrow t word ≡ word) }
+    ensures values { (slots : Slots) (f : Firing) (e : Typed) (vars : Variables)
+        → HasTypedBuiltIns f → IsConsistent slots e → AreTyped slots vars
+        → Ends slots (IsOf (type_of e)) (eval f e vars) }
+    ensures words { (t : IntType) (word : ℕ) → IsWord t word ↔ (narrow t word ≡ word) }
 {}
 
-/// Variables that hold values of their types do so after each run of a clause. Those of one storage do so before anything was
-/// assigned to it. The built-ins of a firing, of a row and of BEGIN and END, are values of their types.
+/// Variables that hold values of their types do so after each run of a clause. Those of one storage
+/// do so before anything was assigned to it. The built-ins of a firing, of a row and of BEGIN and
+/// END, are values of their types.
 pub fn variables_keep_their_types()
-    ensures run { (slots : held.Slots) (f : Firing) (place : ℕ) (clause : ClauseMeant) (vars : Variables)
-        → held.HasTypedBuiltIns f → ClauseIs (held.IsConsistent slots) clause → held.AreTyped slots vars
-        → held.AreTyped slots (run_of f place clause vars).variables }
-    ensures locals { (slots : held.Slots) → held.AreTypedLocals slots (λ var. blank var.kind) }
-    ensures own { (slots : held.Slots) → held.AreTypedOwn slots (λ var key. blank var.kind) }
-    ensures firing { (f : Firing) → HasRanges f → held.HasTypedBuiltIns f }
+    ensures run { (slots : Slots) (f : Firing) (place : ℕ) (clause : ClauseMeant) (vars : Variables)
+        → HasTypedBuiltIns f → ClauseIs (IsConsistent slots) clause → AreTyped slots vars
+        → AreTyped slots (run_of f place clause vars).variables }
+    ensures locals { (slots : Slots) → AreTypedLocals slots (λ var. blank var.kind) }
+    ensures own { (slots : Slots) → AreTypedOwn slots (λ var key. blank var.kind) }
+    ensures firing { (f : Firing) → HasRanges f → HasTypedBuiltIns f }
 {}
 
 /// The trees of a typed script are consistent with the types of its variables.
 pub fn scripts_are_consistent()
-    ensures { (m : ScriptMeant) → ∥ IsMeant m ∥₁ → All (ClauseIs (held.IsConsistent (held.slots_of m))) m.clauses }
+    ensures { (m : ScriptMeant) → ∥ IsMeant m ∥₁
+        → All (ClauseIs (IsConsistent (slots_of m))) m.clauses }
 {}
 
-/// `x[keys] op= e`, of an integer variable that holds values of its type, is `x[keys] = x[keys] op e`, where evaluating the
-/// keys twice is evaluating them once: so it is where nothing is assigned in them, as in constants, built-ins, variables and
-/// operators on them, and where there are none. `x[keys]` is read before e is evaluated, and both are converted as in the
-/// operation. `++x[keys]` is `x[keys] += 1`, and `--x[keys]` is `x[keys] -= 1`, whatever the keys. After x they change it
+/// `x[keys] op= e`, of an integer variable that holds values of its type, is `x[keys] = x[keys] op
+/// e`, where evaluating the keys twice is evaluating them once: so it is where nothing is assigned
+/// in them, as in constants, built-ins, variables and operators on them, and where there are none.
+/// `x[keys]` is read before e is evaluated, and both are converted as in the operation. `++x[keys]`
+/// is `x[keys] += 1`, and `--x[keys]` is `x[keys] -= 1`, whatever the keys. After x they change it
 /// likewise, and have the value that it had.
 pub fn changes_in_place_are_assignments()
-    ensures update { (f : Firing) (t : IntType) (o : Operation) (x : Variable) (keys : Typeds) (e : Typed) (vars : Variables)
+    ensures update { (f : Firing) (t : IntType) (o : Operation) (x : Variable) (keys : Typeds)
+        (e : Typed) (vars : Variables)
         → x.holds ≡ DType.Int t → spec.AreRepeatable f keys vars → spec.HoldsItsType f x keys vars
-        → eval f (typed.Update o x keys e) vars ≡ eval f (typed.Assign x keys (in_place o t x keys e)) vars }
+        → eval f (Typed.Update o x keys e) vars
+        ≡ eval f (Typed.Assign x keys (in_place o t x keys e)) vars }
     ensures repeatable { (f : Firing) (keys : Typeds) (vars : Variables)
         → spec.assigns_in keys ≡ false → spec.AreRepeatable f keys vars }
-    ensures new { (f : Firing) (t : IntType) (by : Step) (x : Variable) (keys : Typeds) (vars : Variables)
+    ensures new { (f : Firing) (t : IntType) (by : Step) (x : Variable) (keys : Typeds)
+        (vars : Variables)
         → x.holds ≡ DType.Int t
-        → eval f (typed.Count by Answer.New x keys) vars ≡ eval f (spec.one_more by t x keys) vars }
+        → eval f (Typed.Count by Answer.New x keys) vars ≡ eval f (spec.one_more by t x keys) vars }
     ensures old { (f : Firing) (by : Step) (x : Variable) (keys : Typeds) (vars : Variables)
-        → eval f (typed.Count by Answer.Old x keys) vars
-        ≡ spec.with_after (spec.variables_after (eval f (typed.Count by Answer.New x keys) vars))
-        (number (eval f (typed.Read x keys) vars)) }
+        → eval f (Typed.Count by Answer.Old x keys) vars
+        ≡ spec.with_after (spec.variables_after (eval f (Typed.Count by Answer.New x keys) vars))
+        (number (eval f (Typed.Read x keys) vars)) }
 {}

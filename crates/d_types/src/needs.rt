@@ -9,7 +9,7 @@ use crate::typed::{LogicOperator, TypedExpr};
 /// The most registers that an expression may need.
 pub const REGISTERS: usize = 6;
 
-/// Whether the keys fit, each value waiting for the keys behind it.
+/// Whether the keys fit, each value waiting for the keys after it.
 #[cycle(needs)]
 fn keys_fit(keys: &[TypedExpr], registers: usize) -> bool
     ensures { result ≡ nat_le (spec.need_of_keys 0 (typeds_of keys.now)) registers }
@@ -32,7 +32,8 @@ fn read_fits(keys: &[TypedExpr], registers: usize) -> bool
 #[cycle(needs)]
 #[tactic(auto, using(crate::proofs::Rows::count_is))]
 fn step_fits(keys: &[TypedExpr], registers: usize) -> bool
-    ensures { result ≡ nat_le (max (spec.need_of_keys 0 (typeds_of keys.now)) (spec.count (typeds_of keys.now) + 1)) registers }
+    ensures { result ≡ nat_le (max (spec.need_of_keys 0 (typeds_of keys.now))
+        (spec.count (typeds_of keys.now) + 1)) registers }
 {
     keys_fit(keys, registers) && keys.len() < registers
 }

@@ -1,12 +1,8 @@
 //! Variables that are read and assigned.
 
 ghost use Rattle.std.specs.Prelude.{◌≡◌, ◌≤◌, ◌++◌, ◌∷◌, [], IfOk, OnOk, length};
-ghost use Rattle.d_types.specs.Faults.{Gives, OnlyMemory};
+ghost use Rattle.d_types.specs.{Faults.Gives, Faults.OnlyMemory, Typed.typed_of, Typed.typeds_of, Typed.Typed, Variables.rows_of, Variables.Rows, Variables.find, Variables.type_at};
 ghost use Rattle.d_types.specs.Targets as spec;
-ghost use Rattle.d_types.specs.Typed as typed;
-ghost use Rattle.d_types.specs.Typed.{typed_of, typeds_of};
-ghost use Rattle.d_types.specs.Variables as table_spec;
-ghost use Rattle.d_types.specs.Variables.{rows_of};
 
 use crate::fault::TypeFault;
 use crate::typed::{BuiltIn, Space, TypedExpr, Variable};
@@ -33,7 +29,7 @@ pub(crate) fn space_of(variable: &d_parser::Variable) -> Space
 {
     match variable {
         d_parser::Variable::Clause { .. } => Space::Clause,
-        _ => Space::Thread,
+        d_parser::Variable::Plain { .. } | d_parser::Variable::Thread { .. } => Space::Thread,
     }
 }
 
@@ -50,7 +46,7 @@ pub(crate) fn variable_at(space: Space, slot: usize, holds: DType) -> Result<Var
 }
 
 fn read_of(variable: Variable, keys: Vec<TypedExpr>) -> TypedExpr
-    ensures { typed_of result ≡ typed.Read variable (typeds_of keys.items) }
+    ensures { typed_of result ≡ Typed.Read variable (typeds_of keys.items) }
 {
     TypedExpr::Read(variable, keys)
 }
@@ -72,7 +68,8 @@ fn load_at(
     found: Option<usize>,
     keys: Vec<TypedExpr>,
 ) -> Result<TypedExpr, TypeFault>
-    ensures { Gives typed_of result (spec.load_at space line (rows_of table.now) found (typeds_of keys.items)) }
+    ensures { Gives typed_of result
+        (spec.load_at space line (rows_of table.now) found (typeds_of keys.items)) }
 {
     let Some(slot) = found else {
         return Err(TypeFault::Undeclared { line });
@@ -94,7 +91,8 @@ pub(crate) fn read(
     variable: &d_parser::Variable,
     keys: Vec<TypedExpr>,
 ) -> Result<TypedExpr, TypeFault>
-    ensures { Gives typed_of result (spec.read (rows_of table.now) variable.now (typeds_of keys.items)) }
+    ensures { Gives typed_of result
+        (spec.read (rows_of table.now) variable.now (typeds_of keys.items)) }
 {
     match variable {
         d_parser::Variable::Plain { line, name } => plain(*line, built_in(name.as_slice()), &keys),
@@ -110,7 +108,7 @@ pub(crate) fn read(
 }
 
 /// A copy of a name.
-pub(crate) fn copied(alloc: Global, name: &ByteString) -> Result<ByteString, TypeFault>
+pub(crate) fn copy_of(alloc: Global, name: &ByteString) -> Result<ByteString, TypeFault>
     ensures ok { IfOk result (λ w. w ≡ name.now) }
     ensures err { OnlyMemory result }
 {
@@ -124,11 +122,12 @@ fn plain_target(
     named: Option<BuiltIn>,
     keys: &[TypedExpr],
 ) -> Result<usize, TypeFault>
-    ensures { (rows : table_spec.Rows) → Gives (λ slot. (slot, rows)) result (spec.plain_target line name.now named (typeds_of keys.now)) }
+    ensures { (rows : Rows) → Gives (λ slot. (slot, rows)) result
+        (spec.plain_target line name.now named (typeds_of keys.now)) }
 {
     match (named, keys) {
         (None, _) => {
-            let name = copied(alloc, name)?;
+            let name = copy_of(alloc, name)?;
             Err(TypeFault::GlobalAssignment { name, line })
         }
         (Some(_), []) => Err(TypeFault::ReadOnly { line }),
@@ -146,7 +145,8 @@ fn most_keys(space: Space) -> usize
 }
 
 fn settle(table: &mut [Entry], slot: usize, holds: Option<DType>)
-    ensures { rows_of table.new ≡ spec.settled (table_spec.type_at (rows_of table.old) slot) slot holds (rows_of table.old) }
+    ensures { rows_of table.new
+        ≡ spec.settled (type_at (rows_of table.old) slot) slot holds (rows_of table.old) }
 {
     if type_at(table, slot).is_none() {
         if let Some(holds) = holds {
@@ -165,11 +165,12 @@ fn add_entry(
     keys: &[TypedExpr],
 ) -> Result<usize, TypeFault>
     ensures slot { IfOk result (λ slot. slot ≡ length (rows_of table.old.items)) }
-    ensures added { OnOk result (rows_of table.new.items ≡ rows_of table.old.items ++ spec.new_row space name.now holds (typeds_of keys.now) ∷ []) }
+    ensures added { OnOk result (rows_of table.new.items ≡ rows_of table.old.items
+        ++ spec.new_row space name.now holds (typeds_of keys.now) ∷ []) }
     ensures err { OnlyMemory result }
 {
     let slot = table.len();
-    let name = copied(alloc, name)?;
+    let name = copy_of(alloc, name)?;
     let keys = kinds_of(alloc, keys)?;
     table.push(Entry {
         space,
@@ -189,7 +190,9 @@ fn slot_for(
     holds: Option<DType>,
     keys: &[TypedExpr],
 ) -> Result<usize, TypeFault>
-    ensures { Gives (λ slot. (slot, rows_of table.new.items)) result (spec.slot_for space line name.now (rows_of table.old.items) holds (typeds_of keys.now) (table_spec.find space name.now (rows_of table.old.items))) }
+    ensures { Gives (λ slot. (slot, rows_of table.new.items)) result
+        (spec.slot_for space line name.now (rows_of table.old.items) holds (typeds_of keys.now)
+        (find space name.now (rows_of table.old.items))) }
 {
     match find(table, space, name.as_slice()) {
         None => {
@@ -217,7 +220,8 @@ pub(crate) fn target(
     holds: Option<DType>,
     keys: &[TypedExpr],
 ) -> Result<usize, TypeFault>
-    ensures { Gives (λ slot. (slot, rows_of table.new.items)) result (spec.target (rows_of table.old.items) variable.now holds (typeds_of keys.now)) }
+    ensures { Gives (λ slot. (slot, rows_of table.new.items)) result
+        (spec.target (rows_of table.old.items) variable.now holds (typeds_of keys.now)) }
 {
     match variable {
         d_parser::Variable::Plain { line, name } => {

@@ -8,7 +8,7 @@ use std::process::Abort;
 use std::test::Fail;
 
 // The typed script of a text, or what its fault says.
-fn typed(alloc: Global, script: &[u8]) -> Result<Result<TypedScript, String>, AllocError> {
+fn typed_script(alloc: Global, script: &[u8]) -> Result<Result<TypedScript, String>, AllocError> {
     let tokens = match lex(alloc, script) {
         Ok(tokens) => tokens,
         Err(fault) => return Ok(Err(format!(in alloc; "{fault:?}")?)),
@@ -24,8 +24,8 @@ fn typed(alloc: Global, script: &[u8]) -> Result<Result<TypedScript, String>, Al
 }
 
 // "typed" for a script that is well typed, else its fault.
-fn answered(alloc: Global, script: &[u8]) -> Result<String, AllocError> {
-    match typed(alloc, script)? {
+fn answer_to(alloc: Global, script: &[u8]) -> Result<String, AllocError> {
+    match typed_script(alloc, script)? {
         Ok(_) => format!(in alloc; "typed"),
         Err(fault) => Ok(fault),
     }
@@ -52,16 +52,16 @@ hit { pid = 1; } => line 1: can't be assigned
 hit { self->a[1,2,3,4,5,6] = arg0; } => line 1: the expression is too deep";
 
 // Each row is a script, an arrow and what is told of it; an empty line parts rows.
-fn as_told(rt: &impl Abort, alloc: Global, table: &str) -> Result<(), Fail> {
+fn check_rows(rt: &impl Abort, alloc: Global, table: &str) -> Result<(), Fail> {
     for row in table.split("\n\n") {
-        let (script, told) = row.split_once(" => ").unwrap_or((row, ""));
-        let answer = answered(alloc, script.as_bytes())?;
-        assert_eq!(rt; answer.as_str(), told, "of {script}");
+        let (script, expected) = row.split_once(" => ").unwrap_or((row, ""));
+        let answer = answer_to(alloc, script.as_bytes())?;
+        assert_eq!(rt; answer.as_str(), expected, "of {script}");
     }
     Ok(())
 }
 
 #[test]
 fn texts_of_faults(rt: HostRuntime) -> Result<(), Fail> {
-    as_told(&rt, rt.alloc(), FAULTS)
+    check_rows(&rt, rt.alloc(), FAULTS)
 }

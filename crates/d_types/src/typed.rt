@@ -1,4 +1,5 @@
-//! Typed trees: conversions are nodes of their own, variables are slots, and each word is what it names.
+//! Typed trees: conversions are nodes of their own, variables are slots, and each word is what it
+//! names.
 
 use aggregations::AggFn;
 use d_lexer::ByteString;
@@ -70,7 +71,7 @@ pub enum LogicOperator {
     Or,
 }
 
-/// What `++` and `--` answer: before a variable its new value, behind it the old one.
+/// What `++` and `--` answer: before a variable its new value, after it the old one.
 #[derive(Clone, Copy, Debug, PartialEq, Eq)]
 pub enum Answer {
     /// `++x`, `--x`
@@ -164,7 +165,8 @@ pub enum TypedStmt {
     Print(Vec<Piece>, Vec<TypedExpr>),
     /// `exit(status)`
     Exit(TypedExpr),
-    /// `@name[keys] = function(argument)`: the aggregation's place, its keys, and what its function takes, if any.
+    /// `@name[keys] = function(argument)`: the aggregation's place, its keys, and what its function
+    /// takes, if any.
     Aggregate(usize, Vec<TypedExpr>, Option<TypedExpr>),
 }
 
@@ -179,10 +181,11 @@ pub struct TypedClause {
     pub statements: Vec<TypedStmt>,
 }
 
-/// An aggregation of a script: its name (`_` where it has none), the kinds of its keys, and its function.
+/// An aggregation of a script: its name (`_` where it has none), the kinds of its keys, and its
+/// function.
 #[derive(Drop)]
 pub struct TypedAggregation {
-    /// The word behind its `@`.
+    /// The word after its `@`.
     pub name: ByteString,
     /// The kind of each key, from left to right.
     pub keys: Vec<Kind>,

@@ -9,9 +9,9 @@ use aggregations::AggFn;
 use d_values::DType;
 use std::alloc::{AllocError, Global};
 
-/// A script that is well typed, with every register need at most 6, with at most 65,536 descriptions,
-/// as many statements, and as many declarations and places of variables together, and with numbers
-/// below 2^64.
+/// A script that is well typed, with every register need at most 6, with at most 65,536
+/// descriptions, as many statements, and as many declarations and places of variables together, and
+/// with numbers below 2^64.
 #[derive(Drop)]
 pub struct TypedScript {
     clauses: Vec<TypedClause>,

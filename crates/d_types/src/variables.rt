@@ -1,9 +1,8 @@
 //! The table of variables.
 
 ghost use Rattle.std.specs.Prelude.{◌≡◌, ◌≤◌, ◌<◌, ◌^◌, ◌++◌, ◌∷◌, [], Some, None, OnOk, IfOk, IfSome, length, map};
+ghost use Rattle.d_types.specs.{Variables.rows_of, Typed.typeds_of};
 ghost use Rattle.d_types.specs.Variables as spec;
-ghost use Rattle.d_types.specs.Variables.{rows_of};
-ghost use Rattle.d_types.specs.Typed.{typeds_of};
 
 use crate::typed::{Space, TypedExpr};
 use d_lexer::ByteString;

@@ -1,21 +1,14 @@
 -- When keys are the same, and their order.
 use Rattle.std.specs.Prelude.{◌≡◌, ◌≢◌, ℕ, Bool, false, List, [], ◌∷◌, ◌++◌}
-use Rattle.std.specs.Cmp.Lexicographic.{pointwise, slice_cmp}
-use Rattle.std.specs.Ordering.{int_cmp, int_eq}
-use Rattle.std.specs.Hash.{i64}
-use Rattle.std.specs.Int.{cast_signed, w64}
-use Rattle.std.specs.declared.cmp.Ordering.{Ordering}
-use Rattle.std.specs.declared.cmp.Ordering.TheVariants.{Less, Greater}
-use Rattle.d_values.specs.Texts.{text_cmp, same_text}
-use Rattle.d_values.specs.declared.key.KeyPart.{KeyPart}
+use Rattle.std.specs.{Ordering.int_eq, Hash.i64}
+use Rattle.d_values.specs.Vocabulary.{pointwise, slice_cmp, int_cmp, cast_signed, w64, Ordering, Less, Greater, KeyPart, Value}
 use Rattle.d_values.specs.declared.key.KeyPart.TheVariants.{Number, Name}
-use Rattle.d_values.specs.declared.value.Value.{Value}
-use Rattle.d_values.specs.declared.value.Value.TheVariants as v
+use Rattle.d_values.specs.Texts.{text_cmp, same_text}
 
 -- an integer is a signed number as a part of a key, and a text its bytes
 abbrev pub part_of : Value → KeyPart
-part_of (v.Int word) = Number (cast_signed w64 word)
-part_of (v.Text bytes) = Name bytes
+part_of (Value.Int word) = Number (cast_signed w64 word)
+part_of (Value.Text bytes) = Name bytes
 
 -- parts: integers as signed numbers, texts by their bytes, and an integer before a text
 abbrev pub part_cmp : KeyPart → KeyPart → Ordering
@@ -24,11 +17,13 @@ part_cmp (Number x) (Name y) = Less
 part_cmp (Name x) (Number y) = Greater
 part_cmp (Name x) (Name y) = text_cmp x y
 
--- keys by their parts, from left to right: the first part that differs decides, and a beginning comes first
+-- keys by their parts, from left to right: the first part that differs decides, and a beginning
+-- comes first
 abbrev pub key_cmp : List KeyPart → List KeyPart → Ordering
 key_cmp = slice_cmp part_cmp
 
--- an order of two keys in words: a beginning comes first, and else the first part that differs decides
+-- an order of two keys in words: a beginning comes first, and else the first part that differs
+-- decides
 pub record DecidesByFirstDifference (a b : List KeyPart) (order : Ordering) : Type 0 where
   pub beginning : (p : KeyPart) (more : List KeyPart) → b ≡ a ++ p ∷ more → order ≡ Less
   pub longer : (p : KeyPart) (more : List KeyPart) → a ≡ b ++ p ∷ more → order ≡ Greater

@@ -1,3 +1,4 @@
+pub mod Vocabulary
 pub mod Texts
 pub mod Keys
 pub mod KeyLaws

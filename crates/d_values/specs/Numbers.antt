@@ -1,10 +1,8 @@
 -- The numbers that words stand for, and the operators on numbers.
 use Rattle.std.specs.Prelude.{◌≡◌, ℕ, ◌-◌, ◌^◌, ℤ, pos, neg_ℤ, ◌+ℤ◌, ◌-ℤ◌, ◌*ℤ◌, ◌≤ℤ◌, ◌<ℤ◌, Bool, ◌&&◌, nat_le, if◌then◌else◌, bit_and, bit_or, bit_xor, int_div, int_rem, unsigned_abs}
-use Rattle.std.specs.Int.{int_rem_euclid, int_shr, cast_signed, w64}
-use Rattle.d_values.specs.declared.int_type.IntType.{IntType}
-use Rattle.d_values.specs.declared.operators.ArithmeticOperator.{ArithmeticOperator}
+use Rattle.std.specs.Int.{int_rem_euclid}
+use Rattle.d_values.specs.Vocabulary.{int_shr, cast_signed, w64, IntType, ArithmeticOperator, ShiftOperator}
 use Rattle.d_values.specs.declared.operators.ArithmeticOperator.TheVariants.{Multiply, Divide, Remainder, Add, Subtract, BitAnd, BitXor, BitOr}
-use Rattle.d_values.specs.declared.operators.ShiftOperator.{ShiftOperator}
 use Rattle.d_values.specs.declared.operators.ShiftOperator.TheVariants.{Left, Right}
 
 -- the number that a word is, read with a sign or without
@@ -23,7 +21,8 @@ modulo z m = unsigned_abs (int_rem_euclid z (pos m))
 
 -- the number of the type whose lowest bits are these
 abbrev pub typed : IntType → ℕ → ℤ
-typed t low = if t.signed && nat_le (2 ^ (t.width - 1)) low then pos low -ℤ pos (2 ^ t.width) else pos low
+typed t low =
+    if t.signed && nat_le (2 ^ (t.width - 1)) low then pos low -ℤ pos (2 ^ t.width) else pos low
 
 -- the one number of the type that equals z modulo 2 ^ width
 abbrev pub wrap : IntType → ℤ → ℤ

@@ -1,11 +1,7 @@
 -- The variables that an evaluation reads and changes.
 use Rattle.std.specs.Prelude.{ℕ, List, []}
-use Rattle.d_values.specs.declared.key.KeyPart.{KeyPart}
-use Rattle.d_values.specs.declared.value.Kind.{Kind}
-use Rattle.d_values.specs.declared.value.Kind.TheVariants as k
-use Rattle.d_values.specs.declared.value.Value.{Value}
+use Rattle.d_values.specs.Vocabulary.{KeyPart, Kind, Value, Var}
 use Rattle.d_values.specs.declared.value.Value.TheVariants.{Int, Text}
-use Rattle.d_values.specs.declared.variable.Var.{Var}
 use Rattle.d_values.specs.Stores.{Locals, Own, local_of, with_local, own_of, with_own}
 
 -- ---- values
@@ -22,13 +18,13 @@ bytes_of (Text bytes) = bytes
 
 -- a value of the kind as it is
 abbrev pub as_kind : Kind → Value → Value
-as_kind k.Number value = Int (word_of value)
-as_kind k.Text value = Text (bytes_of value)
+as_kind Kind.Number value = Int (word_of value)
+as_kind Kind.Text value = Text (bytes_of value)
 
 -- ---- variables
 
--- what the clauses of a firing share, and what the firing's thread keeps: each variable's value, and for the thread's at each
--- key, zero or the empty text where nothing was assigned
+-- what the clauses of a firing share, and what the firing's thread keeps: each variable's value,
+-- and for the thread's at each key, zero or the empty text where nothing was assigned
 pub record Variables : Type 0 where
   pub locals : Var → Value
   pub own : Var → List KeyPart → Value

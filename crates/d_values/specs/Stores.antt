@@ -1,25 +1,18 @@
 -- What variables hold.
 use Rattle.std.specs.Prelude.{◌≡◌, ℕ, Bool, true, false, ◌&&◌, ◌==◌, if◌then◌else◌, List, [], ◌∷◌, Option, None, Some, unwrap_or, option_and_then}
-use Rattle.std.specs.Map.{lookup}
-use Rattle.d_values.specs.declared.key.KeyPart.{KeyPart}
-use Rattle.d_values.specs.declared.value.Kind.{Kind}
-use Rattle.d_values.specs.declared.value.Kind.TheVariants as k
-use Rattle.d_values.specs.declared.value.Value.{Value}
+use Rattle.d_values.specs.Vocabulary.{lookup, KeyPart, Kind, Value, ValueRef, Var}
 use Rattle.d_values.specs.declared.value.Value.TheVariants.{Int, Text}
-use Rattle.d_values.specs.declared.value.ValueRef.{ValueRef}
-use Rattle.d_values.specs.declared.value.ValueRef.TheVariants as r
-use Rattle.d_values.specs.declared.variable.Var.{Var}
 use Rattle.d_values.specs.Keys.{same_key}
 use Rattle.d_values.specs.Variables.{same_var}
 
 abbrev pub kind_of : Value → Kind
-kind_of (Int n) = k.Number
-kind_of (Text bytes) = k.Text
+kind_of (Int n) = Kind.Number
+kind_of (Text bytes) = Kind.Text
 
 -- zero, or the empty text
 abbrev pub blank : Kind → Value
-blank k.Number = Int 0
-blank k.Text = Text []
+blank Kind.Number = Int 0
+blank Kind.Text = Text []
 
 abbrev pub is_blank : Value → Bool
 is_blank (Int n) = n == 0
@@ -31,8 +24,8 @@ abbrev pub kept : Value → Option Value
 kept value = if is_blank value then None else Some value
 
 abbrev pub lent_value : ValueRef → Value
-lent_value (r.Int n) = Int n
-lent_value (r.Text bytes) = Text bytes.now
+lent_value (ValueRef.Int n) = Int n
+lent_value (ValueRef.Text bytes) = Text bytes.now
 
 -- ---- clause-local variables: those that are set, each with its value
 

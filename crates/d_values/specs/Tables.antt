@@ -1,10 +1,6 @@
 -- A map from variables to maps.
 use Rattle.std.specs.Prelude.{◌≡◌, List, Option, None, Some, map}
-use Rattle.std.specs.Map.{lookup}
-use Rattle.indexmap.specs.IndexMap.{IndexMap}
-use Rattle.d_values.specs.declared.key.KeyPart.{KeyPart}
-use Rattle.d_values.specs.declared.value.Value.{Value}
-use Rattle.d_values.specs.declared.variable.Var.{Var}
+use Rattle.d_values.specs.Vocabulary.{lookup, IndexMap, KeyPart, Value, Var}
 use Rattle.d_values.specs.Keys.{same_key}
 use Rattle.d_values.specs.Variables.{same_var}
 use Rattle.d_values.specs.Stores.{Own, with_own}

@@ -10,7 +10,8 @@ use Rattle.std.specs.declared.cmp.Ordering.{Ordering}
 abbrev pub same_text : List ℕ → List ℕ → Bool
 same_text = pointwise nat_eq
 
--- texts by their bytes, from left to right: the first byte that differs decides, and a beginning comes first
+-- texts by their bytes, from left to right: the first byte that differs decides, and a beginning
+-- comes first
 abbrev pub text_cmp : List ℕ → List ℕ → Ordering
 text_cmp = slice_cmp nat_cmp
 

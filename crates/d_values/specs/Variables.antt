@@ -1,12 +1,8 @@
 -- When variables are the same.
 use Rattle.std.specs.Prelude.{◌≡◌, ℕ, ◌+◌, ◌*◌, Bool, ◌==◌}
-use Rattle.std.proofs.Common.{ap, ◌∙◌, refl, arith}
-use Rattle.std.proofs.lemmas.Bool.Decides.{Decides-eqb}
-use Rattle.std.specs.Bool.{Decides}
-use Rattle.std.specs.Cmp.{IsEquivalence, decided}
-use Rattle.d_values.specs.declared.value.Kind.{Kind}
+use Rattle.std.proofs.{Common.ap, Common.◌∙◌, Common.refl, Common.arith, lemmas.Bool.Decides.Decides-eqb}
+use Rattle.d_values.specs.Vocabulary.{Decides, IsEquivalence, decided, Kind, Var}
 use Rattle.d_values.specs.declared.value.Kind.TheVariants.{Number, Text}
-use Rattle.d_values.specs.declared.variable.Var.{Var}
 
 -- a number for each variable
 abbrev pub code_of : Var → ℕ
@@ -16,15 +12,21 @@ code_of v = elim v.kind [ Number ↦ 2 * v.slot | Text ↦ 2 * v.slot + 1 ]
 abbrev pub same_var : Var → Var → Bool
 same_var v w = code_of v == code_of w
 
-same_parts : (m n : ℕ) (k l : Kind) → code_of (record { slot = m; kind = k }) ≡ code_of (record { slot = n; kind = l })
+same_parts : (m n : ℕ) (k l : Kind)
+    → code_of (record { slot = m; kind = k }) ≡ code_of (record { slot = n; kind = l })
     → ◌≡◌ {A = Var} (record { slot = m; kind = k }) (record { slot = n; kind = l })
-same_parts m n Number Number e = let s : m ≡ n = omega arith in ap (λ i. record { slot = i; kind = Number }) s
+same_parts m n Number Number e =
+    let s : m ≡ n = omega arith in ap (λ i. record { slot = i; kind = Number }) s
 same_parts m n Number Text e = absurd (omega arith)
 same_parts m n Text Number e = absurd (omega arith)
-same_parts m n Text Text e = let s : m ≡ n = omega arith in ap (λ i. record { slot = i; kind = Text }) s
+same_parts m n Text Text e =
+    let s : m ≡ n = omega arith in ap (λ i. record { slot = i; kind = Text }) s
 
 pub same_var_decides : (v w : Var) → Decides (same_var v w) (v ≡ w)
-same_var_decides v w = (λ e. same_parts v.slot w.slot v.kind w.kind ((Decides-eqb (code_of v) (code_of w)).0 e), λ e. (Decides-eqb (code_of v) (code_of w)).1 (ap code_of e))
+same_var_decides v w = (
+  λ e. same_parts v.slot w.slot v.kind w.kind ((Decides-eqb (code_of v) (code_of w)).0 e),
+  λ e. (Decides-eqb (code_of v) (code_of w)).1 (ap code_of e),
+)
 
 pub same_var_equiv : IsEquivalence same_var
 same_var_equiv = decided same_var same_var_decides

@@ -1,14 +1,9 @@
 -- Integers as 64-bit words.
 use Rattle.std.specs.Prelude.{ℕ, ◌+◌, ◌-◌, ◌*◌, ◌/◌, ◌%◌, ◌^◌, Bool, true, false, ◌&&◌, ◌==◌, nat_le, if◌then◌else◌, Result, Ok, Err, bit_and, bit_or, bit_xor, int_div, int_rem}
-use Rattle.std.specs.Int.{int_shr, cast_signed, cast_unsigned, w64}
-use Rattle.std.specs.Ordering.{nat_cmp, int_cmp}
-use Rattle.std.specs.declared.cmp.Ordering.{Ordering}
-use Rattle.d_values.specs.declared.int_type.IntType.{IntType}
-use Rattle.d_values.specs.declared.operators.ArithmeticOperator.{ArithmeticOperator}
+use Rattle.std.specs.Int.{cast_unsigned}
+use Rattle.d_values.specs.Vocabulary.{int_shr, cast_signed, w64, nat_cmp, int_cmp, Ordering, IntType, ArithmeticOperator, ShiftOperator, OutOfZero}
 use Rattle.d_values.specs.declared.operators.ArithmeticOperator.TheVariants.{Multiply, Divide, Remainder, Add, Subtract, BitAnd, BitXor, BitOr}
-use Rattle.d_values.specs.declared.operators.ShiftOperator.{ShiftOperator}
 use Rattle.d_values.specs.declared.operators.ShiftOperator.TheVariants.{Left, Right}
-use Rattle.d_values.specs.declared.arithmetic.OutOfZero.{OutOfZero}
 
 -- the lowest bits of a type as a word: ones above them where their sign is set
 abbrev pub extended : IntType → ℕ → ℕ
@@ -44,7 +39,8 @@ left_of a count = (a * 2 ^ count) % 2 ^ 64
 
 -- with copies of the sign, or with zeros
 abbrev pub right_of : Bool → ℕ → ℕ → ℕ
-right_of signed a count = if signed then cast_unsigned w64 (int_shr (cast_signed w64 a) count) else a / 2 ^ count
+right_of signed a count =
+    if signed then cast_unsigned w64 (int_shr (cast_signed w64 a) count) else a / 2 ^ count
 
 -- an operator on words, signed or not
 abbrev pub operate : ArithmeticOperator → Bool → ℕ → ℕ → ℕ
@@ -66,7 +62,8 @@ divides Remainder = true
 divides _ = false
 
 abbrev pub binary_of : ArithmeticOperator → IntType → ℕ → ℕ → Result ℕ OutOfZero
-binary_of op t a b = if divides op && (b == 0) then Err (record {}) else Ok (narrow t (operate op t.signed a b))
+binary_of op t a b =
+    if divides op && (b == 0) then Err (record {}) else Ok (narrow t (operate op t.signed a b))
 
 abbrev pub shifted : ShiftOperator → Bool → ℕ → ℕ → ℕ
 shifted Left signed a count = left_of a count

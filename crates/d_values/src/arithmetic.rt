@@ -6,7 +6,7 @@ ghost use Rattle.d_values.specs.Words.{divides, operate, quotient_of, remainder_
 
 use crate::int_type::IntType;
 use crate::operators::ArithmeticOperator;
-use crate::word::narrowed;
+use crate::word::narrow_word;
 
 /// The refusal of `/` and `%` by zero.
 #[derive(Clone, Copy, Debug, PartialEq, Eq)]
@@ -14,6 +14,11 @@ pub struct OutOfZero;
 
 /// The operator's result in the type that both operands have. Refused exactly where `/` or `%` has
 /// 0 on its right.
+///
+/// ```text
+/// binary(ArithmeticOperator::Divide, IntType::INT32, 7, 2); // Ok(3)
+/// binary(ArithmeticOperator::Divide, IntType::INT32, 7, 0); // Err(OutOfZero)
+/// ```
 pub fn binary(op: ArithmeticOperator, t: IntType, a: u64, b: u64) -> Result<u64, OutOfZero>
     ensures word { result ≡ binary_of op t a b }
     ensures number { IfOk result (λ r.
@@ -23,7 +28,7 @@ pub fn binary(op: ArithmeticOperator, t: IntType, a: u64, b: u64) -> Result<u64,
     if op.divides() && b == 0 {
         return Err(OutOfZero);
     }
-    Ok(narrowed(t, operated(op, t.signed, a, b)))
+    Ok(narrow_word(t, operate(op, t.signed, a, b)))
 }
 
 impl ArithmeticOperator {
@@ -39,7 +44,7 @@ impl ArithmeticOperator {
 }
 
 // The operator's result in 64 bits.
-fn operated(op: ArithmeticOperator, signed: bool, a: u64, b: u64) -> u64
+fn operate(op: ArithmeticOperator, signed: bool, a: u64, b: u64) -> u64
     requires { divides op ≡ true → b ≢ 0 }
     ensures { result ≡ operate op signed a b }
 {

@@ -1,11 +1,10 @@
 //! Clause-local variables.
 
 ghost use Rattle.std.specs.Prelude.{◌≡◌, [], OnOk, OnErr};
-ghost use Rattle.indexmap.specs.IndexMap.{Updates};
-ghost use Rattle.d_values.specs.Variables.{same_var};
 ghost use Rattle.d_values.specs.Stores.{kind_of, kept, lent_value, local_entry, local_of, with_local};
+ghost use Rattle.d_values.specs.{Vocabulary.Updates, Variables.same_var};
 
-use crate::cells::{lend, replaced};
+use crate::sparse_map::{lend, replace_known};
 use crate::value::{Value, ValueRef};
 use crate::variable::Var;
 use indexmap::IndexMap;
@@ -55,6 +54,15 @@ impl ClauseLocals {
     }
 
     /// Sets the variable, to a value of its kind.
+    ///
+    /// ```text
+    /// let mut locals = ClauseLocals::new(alloc);
+    /// let var = Var { slot: 0, kind: Kind::Number };
+    /// locals.set(var, Value::Int(5))?;
+    /// locals.get(var); // ValueRef::Int(5)
+    /// locals.reset();
+    /// locals.get(var); // ValueRef::Int(0)
+    /// ```
     pub fn set(&mut self, var: Var, value: Value) -> Result<(), AllocError>
         requires { kind_of value ≡ var.kind }
         ensures ok { OnOk result (local_of self.new ≡ with_local (local_of self.old) var value) }
@@ -73,7 +81,7 @@ fn put(map: &mut IndexMap<Var, Value>, var: Var, value: Value) -> Result<(), All
     ensures ok { OnOk result (Updates same_var map.old map.new var (kept value)) }
     ensures err { OnErr result (map.new.entries ≡ map.old.entries) }
 {
-    if let Some(value) = replaced(map, &var, value) {
+    if let Some(value) = replace_known(map, &var, value) {
         map.insert(var, value)?;
     }
     Ok(())

@@ -1,11 +1,8 @@
 //! The order of integers and of texts.
 
 ghost use Rattle.std.specs.Prelude.{◌≡◌};
-ghost use Rattle.std.specs.Ordering.{int_cmp};
-ghost use Rattle.d_values.specs.Numbers.{number_of};
-ghost use Rattle.d_values.specs.Words.{order_of};
-ghost use Rattle.d_values.specs.Operators.{holds_of};
-ghost use Rattle.d_values.specs.Texts.{text_cmp};
+ghost use Rattle.d_values.specs.Vocabulary.{int_cmp};
+ghost use Rattle.d_values.specs.{Numbers.number_of, Words.order_of, Operators.holds_of, Texts.text_cmp};
 
 use crate::int_type::IntType;
 use crate::operators::ComparisonOperator;
@@ -13,6 +10,10 @@ use std::cmp::Ordering;
 
 impl ComparisonOperator {
     /// Whether it holds between two operands that stand in this order.
+    ///
+    /// ```text
+    /// ComparisonOperator::LessEqual.holds(Ordering::Equal); // true
+    /// ```
     pub fn holds(self, order: Ordering) -> bool
         ensures { result ≡ holds_of self order }
     {
@@ -28,6 +29,11 @@ impl ComparisonOperator {
 }
 
 /// The order of two integers of a type, both words of it.
+///
+/// ```text
+/// compare(IntType::INT64, u64::MAX, 0); // Less: the word is that of -1
+/// compare(IntType::UINT64, u64::MAX, 0); // Greater
+/// ```
 pub fn compare(t: IntType, a: u64, b: u64) -> Ordering
     ensures word { result ≡ order_of t a b }
     ensures number { result ≡ int_cmp (number_of t a) (number_of t b) }
@@ -40,6 +46,11 @@ pub fn compare(t: IntType, a: u64, b: u64) -> Ordering
 }
 
 /// The order of two texts: the first byte that differs decides, and a beginning comes first.
+///
+/// ```text
+/// compare_text(b"ab", b"b"); // Less
+/// compare_text(b"ab", b"a"); // Greater
+/// ```
 pub fn compare_text(a: &[u8], b: &[u8]) -> Ordering
     ensures { result ≡ text_cmp a.now b.now }
 {

@@ -2,11 +2,7 @@
 
 ghost use Rattle.std.specs.Prelude.{◌≡◌, ◌↔◌, ◌<◌, ◌++◌, ◌∷◌, [], length, OnOk, OnErr, IsTrue, slice_set};
 ghost use Rattle.std.proofs.Common.{refl, ap};
-ghost use Rattle.std.specs.Cmp.{partial_equiv_from_equiv, po};
-ghost use Rattle.std.specs.List.{flat_map};
-ghost use Rattle.std.specs.Ordering.{as_partial_cmp};
-ghost use Rattle.d_values.specs.Keys.{part_cmp, key_cmp, same_part, same_key, part_writes, DecidesByFirstDifference};
-ghost use Rattle.d_values.specs.KeyLaws.{same_part_decides, same_part_equiv, part_cmp_total, part_cmp_ties, same_key_decides, same_key_equiv, key_cmp_total, key_cmp_ties};
+ghost use Rattle.d_values.specs.{Vocabulary.partial_equiv_from_equiv, Vocabulary.po, Vocabulary.flat_map, Vocabulary.as_partial_cmp, Keys.part_cmp, Keys.key_cmp, Keys.same_part, Keys.same_key, Keys.part_writes, Keys.DecidesByFirstDifference, KeyLaws.same_part_decides, KeyLaws.same_part_equiv, KeyLaws.part_cmp_total, KeyLaws.part_cmp_ties, KeyLaws.same_key_decides, KeyLaws.same_key_equiv, KeyLaws.key_cmp_total, KeyLaws.key_cmp_ties};
 
 use crate::text::Text;
 use std::alloc::{AllocError, Global};
@@ -123,7 +119,8 @@ impl Hash for KeyPart {
     }
 }
 
-/// The key of an entry: its parts from left to right. Contracts see the list of its parts, so equal keys are `≡`.
+/// The key of an entry: its parts from left to right. Contracts see the list of its parts, so equal
+/// keys are `≡`.
 #[derive(Drop, Debug)]
 pub struct Key {
     parts: Vec<KeyPart>,
@@ -140,6 +137,12 @@ impl Model for Key {
 
 impl Key {
     /// The key of no parts, which a scalar has.
+    ///
+    /// ```text
+    /// let mut key = Key::new(alloc);
+    /// key.push(KeyPart::Number(7))?;
+    /// key.parts(); // [KeyPart::Number(7)]
+    /// ```
     pub fn new(alloc: Global) -> Key
         ensures { result ≡ [] }
     {

@@ -1,12 +1,8 @@
 //! What holds of all numbers and variables, in other words than the definitions'.
 
 ghost use Rattle.std.specs.Prelude.{◌≡◌, ◌≢◌, ◌/◌, ◌<◌, ℤ, pos, ◌+ℤ◌, ◌*ℤ◌, int_div, int_rem, unsigned_abs, List};
-ghost use Rattle.d_values.specs.Numbers.{wrap, IsWrapped};
-ghost use Rattle.d_values.specs.Stores.{with_local, with_own};
-ghost use Rattle.d_values.specs.declared.int_type.IntType.{IntType};
-ghost use Rattle.d_values.specs.declared.key.KeyPart.{KeyPart};
-ghost use Rattle.d_values.specs.declared.value.Value.{Value};
-ghost use Rattle.d_values.specs.declared.variable.Var.{Var};
+ghost use Rattle.d_values.specs.Vocabulary.{IntType, KeyPart, Value, Var};
+ghost use Rattle.d_values.specs.{Numbers.wrap, Numbers.IsWrapped, Stores.with_local, Stores.with_own};
 
 /// What is wrapped into a type is a number of it, and the same modulo two to the width.
 pub fn wrapped()
@@ -19,7 +15,8 @@ pub fn one_number()
 {}
 
 /// A quotient times the divisor, and the remainder, are what was divided; the remainder is nearer
-/// to zero than the divisor, and the quotient is cut toward zero, as that of the distances from zero is.
+/// to zero than the divisor, and the quotient is cut toward zero, as that of the distances from
+/// zero is.
 pub fn division()
     ensures whole { (x y : ℤ) → int_div x y *ℤ y +ℤ int_rem x y ≡ x }
     ensures rest { (x y : ℤ) → 0 < unsigned_abs y

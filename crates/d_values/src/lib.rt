@@ -3,7 +3,6 @@
 
 mod arithmetic;
 mod bytes;
-mod cells;
 mod clause_locals;
 mod comparison;
 mod int_type;
@@ -12,6 +11,7 @@ pub mod laws;
 mod operators;
 mod promotion;
 mod shifts;
+mod sparse_map;
 mod text;
 mod thread_table;
 mod value;

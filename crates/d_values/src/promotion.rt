@@ -6,6 +6,10 @@ ghost use Rattle.d_values.specs.Types.{promoted_of, common_of, rank_of};
 use crate::int_type::IntType;
 
 /// What an operand of the type is brought to: `int` below 32 bits, else the type itself.
+///
+/// ```text
+/// promoted(IntType::UINT8); // INT32
+/// ```
 pub fn promoted(t: IntType) -> IntType
     ensures { result ≡ promoted_of t }
 {
@@ -21,6 +25,11 @@ fn rank(t: IntType) -> u8
 
 /// The type that two operands of an operator are brought to: of their promoted types the one of
 /// higher rank. The ranks rise: `int`, `unsigned int`, `long`, `unsigned long`.
+///
+/// ```text
+/// common(IntType::INT32, IntType::UINT32); // UINT32
+/// common(IntType::INT64, IntType::UINT32); // INT64
+/// ```
 pub fn common(a: IntType, b: IntType) -> IntType
     ensures { result ≡ common_of a b }
 {

@@ -1,16 +1,20 @@
 //! `<<` and `>>` on words.
 
 ghost use Rattle.std.specs.Prelude.{◌≡◌, ◌<◌, ◌%◌};
-ghost use Rattle.d_values.specs.declared.int_type.IntType.{IntType};
 ghost use Rattle.d_values.specs.Numbers.{number_of, modulo, wrap, whole_shift_of};
-ghost use Rattle.d_values.specs.Words.{shifted, right_of, shift_of};
+ghost use Rattle.d_values.specs.{Vocabulary.IntType, Words.shifted, Words.right_of, Words.shift_of};
 
 use crate::int_type::IntType;
 use crate::operators::ShiftOperator;
-use crate::word::narrowed;
+use crate::word::narrow_word;
 
 /// The left operand, of the type, moved by the count modulo the type's width. A right shift of a
 /// signed one copies its sign.
+///
+/// ```text
+/// shift(ShiftOperator::Left, IntType::INT32, 1, 33); // 2
+/// shift(ShiftOperator::Right, IntType::INT64, u64::MAX, 1); // u64::MAX: -1 stays -1
+/// ```
 pub fn shift(op: ShiftOperator, t: IntType, a: u64, count: u64) -> u64
     ensures word { result ≡ shift_of op t a count }
     ensures number { number_of t result
@@ -19,25 +23,25 @@ pub fn shift(op: ShiftOperator, t: IntType, a: u64, count: u64) -> u64
     // Of whatever type the count is.
     ensures counted { (c : IntType) → count % t.width ≡ modulo (number_of c count) t.width }
 {
-    narrowed(
+    narrow_word(
         t,
-        moved(op, t.signed, a, (count % u64::from(t.width)) as u32),
+        shift_word(op, t.signed, a, (count % u64::from(t.width)) as u32),
     )
 }
 
 // The shift in 64 bits.
-fn moved(op: ShiftOperator, signed: bool, a: u64, count: u32) -> u64
+fn shift_word(op: ShiftOperator, signed: bool, a: u64, count: u32) -> u64
     requires { count < 64 }
     ensures { result ≡ shifted op signed a count }
 {
     match op {
         ShiftOperator::Left => a.wrapping_shl(count),
-        ShiftOperator::Right => moved_right(signed, a, count),
+        ShiftOperator::Right => shift_word_right(signed, a, count),
     }
 }
 
 // To the right, with copies of the sign or with zeros.
-fn moved_right(signed: bool, a: u64, count: u32) -> u64
+fn shift_word_right(signed: bool, a: u64, count: u32) -> u64
     requires { count < 64 }
     ensures { result ≡ right_of signed a count }
 {

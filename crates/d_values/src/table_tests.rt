@@ -1,6 +1,7 @@
-//! Variables, set and read. A refused allocation leaves them as they were: a test then ends as out of memory, once it has
-//! seen that; let the first allocation fail, then the second, and so on.
+//! Variables, set and read. A refused allocation leaves them as they were: a test then ends as out
+//! of memory, once it has seen that; let the first allocation fail, then the second, and so on.
 use super::*;
+use keyed_hash::HashKey;
 use std::alloc::{AllocError, Global};
 use std::process::Abort;
 use std::test::Fail;
@@ -97,7 +98,7 @@ fn locals_keep_values(rt: HostRuntime) -> Result<(), Fail> {
 fn threads_keep_values(rt: HostRuntime) -> Result<(), Fail> {
     let alloc = rt.alloc();
     let keys = [Key::new(alloc), long_key(alloc, 2)?];
-    let mut table = ThreadTable::new(alloc);
+    let mut table = ThreadTable::new(alloc, HashKey::of_seed(&[]));
     let rows: [(Var, usize, Value, [u64; 6]); 9] = [
         (COUNT, 0, Value::Int(5), [5, 0, 1000, 1000, 0, 0]),
         (COUNT, 1, Value::Int(6), [5, 6, 1000, 1000, 0, 0]),
@@ -129,7 +130,7 @@ fn threads_keep_values(rt: HostRuntime) -> Result<(), Fail> {
 fn every_part_counts(rt: HostRuntime) -> Result<(), Fail> {
     let alloc = rt.alloc();
     let keys = [long_key(alloc, 1)?, long_key(alloc, 2)?];
-    let mut table = ThreadTable::new(alloc);
+    let mut table = ThreadTable::new(alloc, HashKey::of_seed(&[]));
     table.set(COUNT, &keys[0], Value::Int(1))?;
     assert_eq!(rt; read_own(&table, &keys), [1, 0, 1000, 1000, 0, 0]);
     table.set(COUNT, &keys[1], Value::Int(2))?;

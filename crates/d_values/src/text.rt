@@ -2,16 +2,15 @@
 
 ghost use Rattle.std.specs.Prelude.{◌≡◌, ◌↔◌, [], ◌∷◌, IfOk, OnOk, OnErr, IsTrue};
 ghost use Rattle.std.proofs.Common.{refl, ap};
-ghost use Rattle.std.specs.Cmp.{partial_equiv_from_equiv, po};
-ghost use Rattle.std.specs.Ordering.{as_partial_cmp};
-ghost use Rattle.d_values.specs.Texts.{same_text, text_cmp, same_text_decides, same_text_equiv, text_cmp_total, text_cmp_ties, joined_text};
+ghost use Rattle.d_values.specs.{Vocabulary.partial_equiv_from_equiv, Vocabulary.po, Vocabulary.as_partial_cmp, Texts.same_text, Texts.text_cmp, Texts.same_text_decides, Texts.same_text_equiv, Texts.text_cmp_total, Texts.text_cmp_ties, Texts.joined_text};
 
 use std::alloc::{AllocError, Global};
 use std::cmp::Ordering;
 use std::hash::{Hash, Hasher};
 use std::marker::Model;
 
-/// A byte string. Contracts see the list of its bytes: how it lies in memory is no part of its value.
+/// A byte string. Contracts see the list of its bytes: how it lies in memory is no part of its
+/// value.
 #[derive(Drop, Debug)]
 pub struct Text {
     bytes: Vec<u8>,
@@ -74,6 +73,10 @@ impl Text {
 const TEXT_LIMIT: usize = 255;
 
 /// Both texts joined, cut to the first 255 bytes.
+///
+/// ```text
+/// join_text(alloc, b"sys", b"call")?; // the text "syscall"
+/// ```
 pub fn join_text(alloc: Global, a: &[u8], b: &[u8]) -> Result<Text, AllocError>
     ensures { IfOk result (λ t. t ≡ joined_text a.now b.now) }
 {

@@ -1,20 +1,20 @@
 //! Thread-local variables.
 
 ghost use Rattle.std.specs.Prelude.{◌≡◌, [], List, Some, None, unwrap_or, if◌then◌else◌, IfOk, OnOk, OnErr};
-ghost use Rattle.indexmap.specs.IndexMap.{get, Updates};
-ghost use Rattle.d_values.specs.declared.key.KeyPart.{KeyPart};
-ghost use Rattle.d_values.specs.Keys.{same_key};
 ghost use Rattle.d_values.specs.Stores.{blank, kind_of, kept, lent_value, own_entry, own_of, with_own, AreOwn};
-ghost use Rattle.d_values.specs.Tables.{pairs_of, value_at, Sets};
-ghost use Rattle.d_values.specs.Variables.{same_var};
+ghost use Rattle.d_values.specs.{Vocabulary.get, Vocabulary.Updates, Vocabulary.KeyPart, Keys.same_key, Tables.pairs_of, Tables.value_at, Tables.Sets, Variables.same_var};
 
-use crate::cells::{lend, replaced};
 use crate::key::Key;
+use crate::sparse_map::{lend, replace_known};
 use crate::value::{Value, ValueRef};
 use crate::variable::Var;
 use indexmap::IndexMap;
+use keyed_hash::HashKey;
 use std::alloc::{AllocError, Global};
 use std::marker::Model;
+
+// What a variable holds under its keys.
+type Elements = IndexMap<Key, Value, HashKey>;
 
 // Up to so many variables of a thread take no more room than they need: most threads have few.
 const FEW: usize = 4;
@@ -23,7 +23,7 @@ const FEW: usize = 4;
 /// empty key. What was never set reads as zero or the empty text.
 #[derive(Drop)]
 pub struct ThreadTable {
-    variables: IndexMap<Var, IndexMap<Key, Value>>,
+    variables: IndexMap<Var, Elements, HashKey>,
 }
 
 impl Model for ThreadTable {
@@ -38,12 +38,12 @@ impl Model for ThreadTable {
 }
 
 impl ThreadTable {
-    /// Nothing is set.
-    pub fn new(alloc: Global) -> ThreadTable
+    /// Nothing is set, in maps whose hashes have this key.
+    pub fn new(alloc: Global, hash_key: HashKey) -> ThreadTable
         ensures { result ≡ [] }
     {
         ThreadTable {
-            variables: IndexMap::new(alloc),
+            variables: IndexMap::with_hasher(alloc, hash_key),
         }
     }
 
@@ -57,6 +57,13 @@ impl ThreadTable {
 
     /// Sets the variable under the key, to a value of its kind. The key is cloned only where
     /// nothing was set.
+    ///
+    /// ```text
+    /// let mut table = ThreadTable::new(alloc);
+    /// let var = Var { slot: 0, kind: Kind::Number };
+    /// table.set(var, &key, Value::Int(5))?;
+    /// table.get(var, &key); // ValueRef::Int(5)
+    /// ```
     pub fn set(&mut self, var: Var, key: &Key, value: Value) -> Result<(), AllocError>
         requires { kind_of value ≡ var.kind }
         ensures ok { OnOk result
@@ -72,7 +79,7 @@ impl ThreadTable {
 
     /// Lends the map that holds it all: the pairs of the maps in it are exactly what is set. Takes
     /// no memory.
-    pub fn map(&self) -> &IndexMap<Var, IndexMap<Key, Value>>
+    pub fn map(&self) -> &IndexMap<Var, Elements, HashKey>
         ensures pairs { pairs_of result.now.entries ≡ self.now }
         ensures set { AreOwn self.now }
     {
@@ -81,7 +88,7 @@ impl ThreadTable {
 }
 
 // What a variable has at a key.
-fn find<'a>(variables: &'a IndexMap<Var, IndexMap<Key, Value>>, var: Var, key: &Key) -> ValueRef<'a>
+fn find<'a>(variables: &'a IndexMap<Var, Elements, HashKey>, var: Var, key: &Key) -> ValueRef<'a>
     ensures { lent_value result
         ≡ unwrap_or (value_at variables.now.entries var key.now) (blank var.kind) }
 {
@@ -93,7 +100,7 @@ fn find<'a>(variables: &'a IndexMap<Var, IndexMap<Key, Value>>, var: Var, key: &
 
 // Sets what a variable has at a key.
 fn put(
-    variables: &mut IndexMap<Var, IndexMap<Key, Value>>,
+    variables: &mut IndexMap<Var, Elements, HashKey>,
     var: Var,
     key: &Key,
     value: Value,
@@ -109,11 +116,11 @@ fn put(
 }
 
 // Sets a key's value.
-fn replace(elements: &mut IndexMap<Key, Value>, key: &Key, value: Value) -> Result<(), AllocError>
+fn replace(elements: &mut Elements, key: &Key, value: Value) -> Result<(), AllocError>
     ensures ok { OnOk result (Updates same_key elements.old elements.new key.now (kept value)) }
     ensures err { OnErr result (elements.new.entries ≡ elements.old.entries) }
 {
-    if let Some(value) = replaced(elements, key, value) {
+    if let Some(value) = replace_known(elements, key, value) {
         elements.insert(key.clone()?, value)?;
     }
     Ok(())
@@ -121,7 +128,7 @@ fn replace(elements: &mut IndexMap<Key, Value>, key: &Key, value: Value) -> Resu
 
 // Sets what a variable has at a key that has had nothing at any.
 fn start(
-    variables: &mut IndexMap<Var, IndexMap<Key, Value>>,
+    variables: &mut IndexMap<Var, Elements, HashKey>,
     var: Var,
     key: &Key,
     value: Value,
@@ -134,7 +141,7 @@ fn start(
     if value.is_blank() {
         return Ok(());
     }
-    let elements = only(*variables.allocator(), key, value)?;
+    let elements = only(*variables.allocator(), *variables.hasher(), key, value)?;
     variables.insert(var, elements)?;
     if variables.len() <= FEW {
         variables.shrink_to_fit();
@@ -143,11 +150,11 @@ fn start(
 }
 
 // A map of one pair.
-fn only(alloc: Global, key: &Key, value: Value) -> Result<IndexMap<Key, Value>, AllocError>
+fn only(alloc: Global, hash_key: HashKey, key: &Key, value: Value) -> Result<Elements, AllocError>
     ensures { IfOk result (λ m. (k : List KeyPart)
         → get same_key m k ≡ (if same_key key.now k then Some value else None)) }
 {
-    let mut elements = IndexMap::new(alloc);
+    let mut elements = IndexMap::with_hasher(alloc, hash_key);
     elements.insert(key.clone()?, value)?;
     elements.shrink_to_fit();
     Ok(elements)

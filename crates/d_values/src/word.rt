@@ -7,7 +7,7 @@ ghost use Rattle.d_values.specs.Words.{narrow, opposite_of, complement_of};
 use crate::int_type::IntType;
 
 /// The word of the type whose lowest bits are those of this one.
-pub(crate) fn narrowed(t: IntType, word: u64) -> u64
+pub(crate) fn narrow_word(t: IntType, word: u64) -> u64
     ensures { result ≡ narrow t word }
 {
     if t.width == 64 {
@@ -23,11 +23,16 @@ pub(crate) fn narrowed(t: IntType, word: u64) -> u64
 }
 
 /// The value of one type as a value of another (Guide, "Type Conversions").
+///
+/// ```text
+/// convert(255, IntType::UINT8, IntType::INT8); // u64::MAX, the word of -1
+/// convert(300, IntType::INT32, IntType::UINT8); // 44
+/// ```
 pub fn convert(value: u64, from: IntType, to: IntType) -> u64
     ensures word { result ≡ narrow to value }
     ensures number { number_of to result ≡ wrap to (number_of from value) }
 {
-    narrowed(to, value)
+    narrow_word(to, value)
 }
 
 /// `-a` in the type.
@@ -35,7 +40,7 @@ pub fn negate(t: IntType, a: u64) -> u64
     ensures word { result ≡ opposite_of t a }
     ensures number { number_of t result ≡ wrap t (neg_ℤ (number_of t a)) }
 {
-    narrowed(t, 0u64.wrapping_sub(a))
+    narrow_word(t, 0u64.wrapping_sub(a))
 }
 
 /// `~a` in the type.
@@ -43,5 +48,5 @@ pub fn complement(t: IntType, a: u64) -> u64
     ensures word { result ≡ complement_of t a }
     ensures number { number_of t result ≡ wrap t (neg_ℤ (number_of t a) -ℤ pos 1) }
 {
-    narrowed(t, !a)
+    narrow_word(t, !a)
 }

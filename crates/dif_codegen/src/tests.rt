@@ -1,4 +1,5 @@
-//! What scripts are compiled to: listings worked out by hand, in a table for each kind of construct.
+//! What scripts are compiled to: listings worked out by hand, in a table for each kind of
+//! construct.
 
 use crate::compile;
 use d_lexer::lex;

@@ -3,6 +3,7 @@ use super::*;
 use d_values::{ClauseLocals, Key, Kind, Text, ThreadTable, Value, ValueRef, Var};
 use dif_validate::{Condition, Difo, Function, Instr, Operator, Reg, validate};
 use firing_reader::{Firing, Text as Recorded};
+use keyed_hash::HashKey;
 use std::alloc::{AllocError, Global};
 use std::process::Abort;
 use std::test::Fail;
@@ -93,7 +94,7 @@ fn ran_over(
 // Runs the code over variables that aren't set.
 fn ran(alloc: Global, code: &[Instr], numbers: &[u64]) -> Result<Shown, AllocError> {
     let mut locals = ClauseLocals::new(alloc);
-    let mut own = ThreadTable::new(alloc);
+    let mut own = ThreadTable::new(alloc, HashKey::of_seed(&[]));
     ran_over(alloc, code, numbers, &mut locals, &mut own)
 }
 
@@ -376,7 +377,7 @@ fn joined_texts_are_cut(rt: HostRuntime) -> Result<(), Fail> {
 fn variables_keep_what_was_written_before_a_division_by_zero(rt: HostRuntime) -> Result<(), Fail> {
     let alloc = rt.alloc();
     let mut locals = ClauseLocals::new(alloc);
-    let mut own = ThreadTable::new(alloc);
+    let mut own = ThreadTable::new(alloc, HashKey::of_seed(&[]));
     let code = [
         Instr::Setx(0, R1),
         Instr::Stts(COUNT, R1),

@@ -39,20 +39,24 @@ const PUSH: Instr = Pushtv(R0);
 
 const PUSH_TEXT: Instr = Pushtr(R1);
 
-// What the validator returns for this code: the kind, or the fault.
+// What the validator returns: the kind, or the fault.
+fn judged(alloc: Global, difo: Difo) -> Result<Kind, DifFault> {
+    match validate(alloc, difo) {
+        Ok(valid) => Ok(valid.kind()),
+        Err(fault) => Err(fault),
+    }
+}
+
+// What the validator returns for this code.
 fn judgement(alloc: Global, code: &[Instr]) -> Result<Result<Kind, DifFault>, AllocError> {
     let mut texts = Vec::new(alloc);
     texts.push(Text::from_slice(alloc, b"a")?)?;
-    let numbers = Vec::from_slice(alloc, &[1])?;
     let difo = Difo {
         code: Vec::from_slice(alloc, code)?,
         texts,
-        numbers,
+        numbers: Vec::from_slice(alloc, &[1])?,
     };
-    Ok(match validate(alloc, difo) {
-        Ok(valid) => Ok(valid.kind()),
-        Err(fault) => Err(fault),
-    })
+    Ok(judged(alloc, difo))
 }
 
 // Objects that are judged alike: the judgement, and the code of each.
@@ -150,7 +154,22 @@ fn faults_of_single_instructions(rt: HostRuntime) -> Result<(), Fail> {
     Ok(())
 }
 
-const OBJECTS_WITH_A_FAULT: [Table<'static>; 15] = [
+#[test]
+fn tables_of_no_entries(rt: HostRuntime) -> Result<(), Fail> {
+    let alloc = rt.alloc();
+    let loads = [Setx(0, R1), Sets(0, R1)];
+    for i in 0..loads.len() {
+        let difo = Difo {
+            code: Vec::from_slice(alloc, &[loads[i], RETURN])?,
+            texts: Vec::new(alloc),
+            numbers: Vec::new(alloc),
+        };
+        assert!(&rt; judged(alloc, difo) == Err(DifFault::TableIndex { pc: 0 }));
+    }
+    Ok(())
+}
+
+const OBJECTS_WITH_A_FAULT: [Table<'static>; 16] = [
     (Err(DifFault::Empty), &[&[]]),
     (
         Err(DifFault::NoReturn),
@@ -167,7 +186,11 @@ const OBJECTS_WITH_A_FAULT: [Table<'static>; 15] = [
     ),
     (
         Err(DifFault::OutOfCode { pc: 0 }),
-        &[&[Ba(2), RETURN], &[Ba(5), RETURN]],
+        &[
+            &[Ba(2), RETURN],
+            &[Ba(5), RETURN],
+            &[Ba(usize::MAX), RETURN],
+        ],
     ),
     (
         Err(DifFault::OutOfCode { pc: 1 }),
@@ -201,7 +224,12 @@ const OBJECTS_WITH_A_FAULT: [Table<'static>; 15] = [
         &[
             &[TEXT_IN_R1, PUSH_TEXT, PUSH_TEXT, STRLEN, RETURN],
             &[TEXT_IN_R1, PUSH_TEXT, PUSH, STRJOIN, RETURN],
+            &[TEXT_IN_R1, PUSH, PUSH_TEXT, STRJOIN, RETURN],
         ],
+    ),
+    (
+        Err(DifFault::TupleShape { pc: 4 }),
+        &[&[TEXT_IN_R1, PUSH_TEXT, PUSH_TEXT, PUSH_TEXT, STRJOIN, RETURN]],
     ),
     (
         Err(DifFault::TupleShape { pc: 8 }),
@@ -216,11 +244,20 @@ const OBJECTS_WITH_A_FAULT: [Table<'static>; 15] = [
     ),
     (
         Err(DifFault::TableIndex { pc: 0 }),
-        &[&[Setx(1, R1), RETURN], &[Sets(1, R1), RETURN]],
+        &[
+            &[Setx(1, R1), RETURN],
+            &[Sets(1, R1), RETURN],
+            &[Setx(usize::MAX, R1), RETURN],
+        ],
     ),
     (
         Err(DifFault::Variable { pc: 0 }),
-        &[&[Ldgs(9, R1), RETURN], &[Ldga(1, R0, R1), RETURN]],
+        &[
+            &[Ldgs(9, R1), RETURN],
+            &[Ldgs(255, R1), RETURN],
+            &[Ldga(1, R0, R1), RETURN],
+            &[Ldga(255, R0, R1), RETURN],
+        ],
     ),
 ];
 
@@ -271,7 +308,53 @@ fn where_ways_meet_only_what_they_agree_on_is_kept(rt: HostRuntime) -> Result<()
     Ok(())
 }
 
-const SEVERAL_FAULTS: [Table<'static>; 11] = [
+const FAULTS_AT_TWO_PLACES: [Table<'static>; 9] = [
+    (
+        Err(DifFault::Backward { pc: 1 }),
+        &[&[Nop, Ba(0), Setx(1, R1), RETURN]],
+    ),
+    (
+        Err(DifFault::OutOfCode { pc: 0 }),
+        &[&[Ba(9), Ba(0), RETURN]],
+    ),
+    (
+        Err(DifFault::RegisterKind { pc: 0 }),
+        &[
+            &[Pushtr(R0), Mov(R1, R2), RETURN],
+            &[Pushtr(R0), Ba(0), RETURN],
+        ],
+    ),
+    (
+        Err(DifFault::Unset { pc: 0 }),
+        &[&[Mov(R1, R2), Pushtr(R0), RETURN]],
+    ),
+    (
+        Err(DifFault::TupleShape { pc: 0 }),
+        &[
+            &[STRLEN, Ba(0), RETURN],
+            &[STRLEN, Mov(R1, R2), RETURN],
+            &[STRLEN, Pushtr(R0), RETURN],
+        ],
+    ),
+    (
+        Err(DifFault::TableIndex { pc: 1 }),
+        &[&[Ba(2), Setx(1, R1), Mov(R2, R1), RETURN]],
+    ),
+    (
+        Err(DifFault::Variable { pc: 0 }),
+        &[
+            &[Ldgs(9, R1), Setx(1, R2), RETURN],
+            &[Ldgs(9, R1), STRLEN, RETURN],
+        ],
+    ),
+    (
+        Err(DifFault::Unset { pc: 2 }),
+        &[&[Ba(2), Mov(R1, R2), Mov(R3, R1), RETURN]],
+    ),
+    (Err(DifFault::NoReturn), &[&[Setx(1, R1), Nop]]),
+];
+
+const SEVERAL_FAULTS: [Table<'static>; 13] = [
     (
         Err(DifFault::TableIndex { pc: 0 }),
         &[&[Setx(3, R1), Ba(0), RETURN]],
@@ -344,11 +427,20 @@ const SEVERAL_FAULTS: [Table<'static>; 11] = [
             &[Tst(R0), IF_EQUAL_3, PUSH, Ldgs(9, R1), RETURN],
         ],
     ),
+    (
+        Err(DifFault::Backward { pc: 3 }),
+        &[&[Tst(R0), IF_EQUAL_3, PUSH, Ba(0), RETURN]],
+    ),
+    (
+        Err(DifFault::OutOfCode { pc: 3 }),
+        &[&[Tst(R0), IF_EQUAL_3, PUSH, IF_EQUAL_5, RETURN]],
+    ),
     (Err(DifFault::NoReturn), &[&[Ba(0), Setx(3, R1)]]),
 ];
 
 #[test]
 fn the_least_place_is_reported_and_there_the_lowest_number(rt: HostRuntime) -> Result<(), Fail> {
+    assert!(&rt; first_wrong(rt.alloc(), &FAULTS_AT_TWO_PLACES)? == None);
     assert!(&rt; first_wrong(rt.alloc(), &SEVERAL_FAULTS)? == None);
     Ok(())
 }
@@ -356,11 +448,14 @@ fn the_least_place_is_reported_and_there_the_lowest_number(rt: HostRuntime) -> R
 const UNREACHED_FAULTS: [Table<'static>; 4] = [
     (
         Err(DifFault::TableIndex { pc: 1 }),
-        &[&[Ba(2), Setx(1, R1), RETURN]],
+        &[&[Ba(2), Setx(1, R1), RETURN], &[Ba(2), Sets(1, R1), RETURN]],
     ),
     (
         Err(DifFault::Variable { pc: 1 }),
-        &[&[Ba(2), Ldgs(9, R1), RETURN]],
+        &[
+            &[Ba(2), Ldgs(9, R1), RETURN],
+            &[Ba(2), Ldga(1, R0, R1), RETURN],
+        ],
     ),
     (
         Err(DifFault::Backward { pc: 1 }),
@@ -385,7 +480,11 @@ const VALID: [Table<'static>; 2] = [
             &[RETURN],
             &[Ba(1), RETURN],
             &[Ba(2), Mov(R1, R2), RETURN],
+            &[Ba(2), Pushtr(R0), RETURN],
+            &[Ba(2), STRLEN, RETURN],
             &[Ba(2), Ret(R1), RETURN],
+            &[Ba(3), TEXT_IN_R1, Ret(R1), RETURN],
+            &[RETURN, TEXT_IN_R1, Ret(R1)],
             &[RETURN, Ret(R1)],
             &[RETURN, Branch(Condition::Equal, 2), RETURN],
             &[

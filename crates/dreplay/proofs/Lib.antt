@@ -2,6 +2,7 @@ pub mod Answers
 pub mod CommandLine
 pub mod Dividing
 pub mod Divisions
+pub mod EmptyPieces
 pub mod HasAnswer
 pub mod Options
 pub mod Refusing

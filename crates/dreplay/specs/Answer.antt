@@ -24,17 +24,22 @@ pub record Shown : Type 0 where
 
 -- it is that of the run over BEGIN, these firings and END, up to the one that exits
 pub record IsShown (m : ScriptMeant) (firings : List Firing) (shown : Shown) : Type 0 where
-  pub bytes : IsOutput (functions_in m) (texts_of (history_over m firings)) (contributions_of (history_over m firings)) shown.bytes
+  pub bytes : IsOutput (functions_in m) (texts_of (history_over m firings))
+      (contributions_of (history_over m firings)) shown.bytes
   pub status : shown.status ≡ exit_status (history_over m firings)
 
--- What is shown, or the first refusal: why the script has no tokens, no tree or no types, and then the trace's fault.
+-- What is shown, or the first refusal: why the script has no tokens, no tree or no types, and then
+-- the trace's fault.
 -- The line of a script that has no tree may be any.
 abbrev pub IsAnswer : (script trace : List ℕ) → Result Shown Refusal → Type 0
-IsAnswer script trace (Ok shown) = (m : ScriptMeant) × (firings : List Firing) × Means script trace m firings × IsShown m firings shown
+IsAnswer script trace (Ok shown) =
+    (m : ScriptMeant) × (firings : List Firing)
+    × Means script trace m firings × IsShown m firings shown
 IsAnswer script trace (Err (Lex fault)) = IsRefused script fault
 IsAnswer script trace (Err (Parse fault)) = IsParseFault script fault
 IsAnswer script trace (Err (Typing fault)) = IsMistyped script fault
-IsAnswer script trace (Err (Trace fault)) = ((m : ScriptMeant) × IsAccepted script m) × (trace_of trace ≡ Err fault)
+IsAnswer script trace (Err (Trace fault)) =
+    ((m : ScriptMeant) × IsAccepted script m) × (trace_of trace ≡ Err fault)
 IsAnswer script trace (Err (Group fault)) = ⊥
 IsAnswer script trace (Err Memory) = ⊥
 

@@ -11,7 +11,8 @@ IsDivider line = (line ≡ codes "---") ⊎ (line ≡ codes "---\r")
 
 -- the first dividing line parts the bundle; without one all of it is the script
 pub data Divides : (bundle script trace : List ℕ) → Type 0 where
-  before : (line rest script trace : List ℕ) → IsLine line → ¬ IsDivider line → Divides rest script trace → Divides (line ++ 10 ∷ rest) (line ++ 10 ∷ script) trace
+  before : (line rest script trace : List ℕ) → IsLine line → ¬ IsDivider line
+      → Divides rest script trace → Divides (line ++ 10 ∷ rest) (line ++ 10 ∷ script) trace
   divider : (line trace : List ℕ) → IsDivider line → Divides (line ++ 10 ∷ trace) [] trace
   last_divider : (line : List ℕ) → IsDivider line → Divides line [] []
   last_line : (line : List ℕ) → IsLine line → ¬ IsDivider line → Divides line line []

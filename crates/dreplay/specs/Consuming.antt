@@ -14,10 +14,13 @@ use Rattle.dreplay.specs.declared.plan.Plan.{Plan}
 use Rattle.dreplay.specs.declared.plan.Replayed.{Replayed}
 use Rattle.dreplay.specs.Replaying.{IsReplay}
 
--- The reader was read to its end, or the fault says why not. It, and only it, is blamed where it failed or had not ended.
+-- The reader was read to its end, or the fault says why not. It, and only it, is blamed where it
+-- failed or had not ended.
 pub record IsReadToEnd (old new : FeedSeen) (result : Result Replayed ConsumeFault) : Type 0 where
-  pub blamed : result ≡ Err Read → IsTrue new.has_failed ⊎ (IsFalse new.has_ended × (new.calls ≡ old.calls + MOST_CALLS))
-  pub whole : result ≢ Err Read → IsFalse new.has_failed × ((result ≡ Err (Refused Memory)) ⊎ IsTrue new.has_ended)
+  pub blamed : result ≡ Err Read
+      → IsTrue new.has_failed ⊎ (IsFalse new.has_ended × (new.calls ≡ old.calls + MOST_CALLS))
+  pub whole : result ≢ Err Read
+      → IsFalse new.has_failed × ((result ≡ Err (Refused Memory)) ⊎ IsTrue new.has_ended)
   pub few : new.calls ≤ old.calls + MOST_CALLS
 
 -- this holds of the bytes that were to be read; where these are not known, of some
@@ -26,17 +29,22 @@ pub record HoldsOfInput (remaining : Option (List ℕ)) (Holds : List ℕ → Ty
   pub read : IfSome remaining (λ bytes. input ≡ bytes)
   pub holds : Holds input
 
--- The answer goes out; where there is none, nothing does. The writer, and only it, is blamed where it failed.
-abbrev pub Writes : Result Replayed Refusal → (old new : SinkSeen) → Result Replayed ConsumeFault → Type 0
+-- The answer goes out; where there is none, nothing does. The writer, and only it, is blamed where
+-- it failed.
+abbrev pub Writes : Result Replayed Refusal → (old new : SinkSeen)
+    → Result Replayed ConsumeFault → Type 0
 Writes (Err e) old new result = (new ≡ old) × (result ≡ Err (Refused e))
-Writes (Ok r) old new (Ok given) = (given ≡ r) × IsFalse new.has_failed × Appends old.bytes new.bytes r.bytes.items
+Writes (Ok r) old new (Ok given) =
+    (given ≡ r) × IsFalse new.has_failed × Appends old.bytes new.bytes r.bytes.items
     × (new.calls ≤ old.calls + length r.bytes.items)
-Writes (Ok r) old new (Err Write) = IsTrue new.has_failed × AppendsBeginning old.bytes new.bytes r.bytes.items
+Writes (Ok r) old new (Err Write) =
+    IsTrue new.has_failed × AppendsBeginning old.bytes new.bytes r.bytes.items
     × (new.calls ≤ old.calls + length r.bytes.items)
 Writes (Ok r) old new (Err e) = ⊥
 
 -- what replay answers to the script over the trace is what goes out
-pub record Shows (script trace : List ℕ) (plan : Plan) (old new : SinkSeen) (result : Result Replayed ConsumeFault) : Type 0 where
+pub record Shows (script trace : List ℕ) (plan : Plan) (old new : SinkSeen)
+    (result : Result Replayed ConsumeFault) : Type 0 where
   pub answer : Result Replayed Refusal
   pub is : IsReplay script trace plan answer
   pub out : Writes answer old new result

@@ -125,4 +125,5 @@ status_at_end (Err Write) = 1
 
 -- it ends so; or, where the line of a fault had no room, as for want of memory
 abbrev pub EndsWith : Result Replayed ConsumeFault → ℕ → Type 0
-EndsWith answer status = (status ≡ status_at_end answer) ⊎ (IsErr answer × (status ≡ status_of Memory))
+EndsWith answer status =
+    (status ≡ status_at_end answer) ⊎ (IsErr answer × (status ≡ status_of Memory))

@@ -35,7 +35,8 @@ pub record IsShownOf (m : ScriptMeant) (firings : List Firing) (grouping : Group
   pub lists : vec_len r.by_worker ≡ workers
   pub took : IsAllBelow grouping.count (flat_map (λ list. list.items) r.by_worker.items)
 
--- the answer, with what ran in which group by whom; the first reason for which there is none; or memory ran out
+-- the answer, with what ran in which group by whom; the first reason for which there is none; or
+-- memory ran out
 abbrev pub IsReplay : (script trace : List ℕ) → Plan → Result Replayed Refusal → Type 0
 IsReplay script trace plan (Ok r) =
     (m : ScriptMeant) × (firings : List Firing) × (grouping : Grouping)

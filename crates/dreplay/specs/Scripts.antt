@@ -33,9 +33,11 @@ pub record HasTree (script : List ℕ) (items : List ItemTree) : Type 0 where
 abbrev pub IsParseFault : List ℕ → ParseFault → Type 0
 IsParseFault script fault.TooDeep = (tokens : List Token) × IsLexed script tokens × IsDeep tokens
 IsParseFault script fault.TooManyClauses =
-    (tokens : List Token) × IsLexed script tokens × (¬ IsDeep tokens) × (MOST_CLAUSES < clauses tokens)
+    (tokens : List Token) × IsLexed script tokens
+    × (¬ IsDeep tokens) × (MOST_CLAUSES < clauses tokens)
 IsParseFault script (fault.Syntax line) =
-    (tokens : List Token) × HasTokens script tokens × ((items : List ItemTree) → ¬ IsScript items tokens)
+    (tokens : List Token) × HasTokens script tokens
+    × ((items : List ItemTree) → ¬ IsScript items tokens)
 IsParseFault script fault.Memory = ⊥
 
 -- why the script has no tree

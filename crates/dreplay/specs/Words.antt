@@ -105,7 +105,8 @@ IsPlanFault rows (Usage e) = (kind_of e ≢ DisplayHelp) × (kind_of e ≢ OutOf
     × ((plan : Plan) → ¬ IsPlanIn rows plan)
 IsPlanFault rows Memory = Unit {0}
 
--- the fault is one that clap finds in the words: help that they ask for, or a mistake. Or they name no plan
+-- the fault is one that clap finds in the words: help that they ask for, or a mistake. Or they name
+-- no plan
 abbrev pub IsFaultOf : List (List ℕ) → UsageFault → Type 0
 IsFaultOf words (Help e) =
     (kind_of e ≡ DisplayHelp) × IsAmong DisplayHelp (fault_of program words)
@@ -141,7 +142,8 @@ pub data Mistakes : List (List ℕ) → ErrorKind → Type 0 where
   no_file : Mistakes (codes "-s" ∷ []) InvalidValue
   stray : (word : List ℕ) → ¬ IsOption word → Mistakes (word ∷ []) UnknownArgument
 
--- how the program ends without a run: help was shown, or could not be; the words are a mistake; or memory ran out
+-- how the program ends without a run: help was shown, or could not be; the words are a mistake; or
+-- memory ran out
 abbrev pub EndsUnasked : UsageFault → ℕ → Type 0
 EndsUnasked (Help e) status = (status ≡ 0) ⊎ (status ≡ 1)
 EndsUnasked (Usage e) status = status ≡ 2

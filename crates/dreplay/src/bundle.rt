@@ -14,8 +14,8 @@ pub struct Division<'a> {
     pub trace: &'a [u8],
 }
 
-/// Divides a bundle at its first line that is `---`, with or without a carriage return. Without such a line
-/// all of it is the script, and the trace is empty.
+/// Divides a bundle at its first line that is `---`, with or without a carriage return. Without
+/// such a line all of it is the script, and the trace is empty.
 pub fn divide(bundle: &[u8]) -> Division<'_>
     ensures { Divides bundle.now result.script.now result.trace.now }
 {

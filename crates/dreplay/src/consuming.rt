@@ -11,6 +11,7 @@ use crate::refusal::Refusal;
 use crate::replaying::replay;
 use report::{Feed, ReadFault, Sink, emit, read_to_end};
 use std::alloc::Global;
+use std::random::RandomSource;
 use std::sync::Wait;
 use std::thread::Threads;
 use thiserror::Error;
@@ -41,7 +42,7 @@ impl From<ReadFault> for ConsumeFault {
 }
 
 /// Reads a bundle to its end, runs its script over its trace, and writes what the script shows.
-pub fn consume<R: Threads + Wait + Sync, F: Feed, S: Sink>(
+pub fn consume<R: RandomSource + Threads + Wait + Sync, F: Feed, S: Sink>(
     rt: &R,
     alloc: Global,
     feed: &mut F,
@@ -52,7 +53,8 @@ pub fn consume<R: Threads + Wait + Sync, F: Feed, S: Sink>(
     requires feed { IsFalse (F.seen feed.old).has_failed }
     requires sink { IsFalse (S.seen sink.old).has_failed }
     ensures read { IsReadToEnd (F.seen feed.old) (F.seen feed.new) result }
-    ensures shown { result ≢ Err ConsumeFault.Read → HoldsOfInput (F.seen feed.old).remaining (λ bundle.
+    ensures shown { result ≢ Err ConsumeFault.Read
+        → HoldsOfInput (F.seen feed.old).remaining (λ bundle.
         (script trace : List ℕ) × Divides bundle script trace
         × Shows script trace plan.now (S.seen sink.old) (S.seen sink.new) result) }
     ensures untouched { result ≢ Err ConsumeFault.Write → IfErr result (λ e. sink.new ≡ sink.old) }
@@ -62,7 +64,7 @@ pub fn consume<R: Threads + Wait + Sync, F: Feed, S: Sink>(
 }
 
 /// Reads a trace to its end, runs the script over it, and writes what the script shows.
-pub fn consume_trace<R: Threads + Wait + Sync, F: Feed, S: Sink>(
+pub fn consume_trace<R: RandomSource + Threads + Wait + Sync, F: Feed, S: Sink>(
     rt: &R,
     alloc: Global,
     script: &[u8],
@@ -74,7 +76,8 @@ pub fn consume_trace<R: Threads + Wait + Sync, F: Feed, S: Sink>(
     requires feed { IsFalse (F.seen feed.old).has_failed }
     requires sink { IsFalse (S.seen sink.old).has_failed }
     ensures read { IsReadToEnd (F.seen feed.old) (F.seen feed.new) result }
-    ensures shown { result ≢ Err ConsumeFault.Read → HoldsOfInput (F.seen feed.old).remaining (λ trace.
+    ensures shown { result ≢ Err ConsumeFault.Read
+        → HoldsOfInput (F.seen feed.old).remaining (λ trace.
         Shows script.now trace plan.now (S.seen sink.old) (S.seen sink.new) result) }
     ensures untouched { result ≢ Err ConsumeFault.Write → IfErr result (λ e. sink.new ≡ sink.old) }
 {
@@ -87,7 +90,7 @@ pub fn consume_trace<R: Threads + Wait + Sync, F: Feed, S: Sink>(
 }
 
 // Runs a script over a trace, and writes what the script shows.
-fn show<R: Threads + Wait + Sync, S: Sink>(
+fn show<R: RandomSource + Threads + Wait + Sync, S: Sink>(
     rt: &R,
     alloc: Global,
     parts: Division<'_>,

@@ -19,7 +19,8 @@ pub fn fault_text(alloc: Global, fault: &ConsumeFault) -> Result<String, AllocEr
     }
 }
 
-/// The status that the program ends with: the script's own where it exits, 0 where it doesn't, and otherwise the fault's.
+/// The status that the program ends with: the script's own where it exits, 0 where it doesn't, and
+/// otherwise the fault's.
 pub fn status_at_end(answer: &Result<Replayed, ConsumeFault>) -> u8
     ensures { result ≡ status_at_end answer.now }
 {

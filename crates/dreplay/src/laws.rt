@@ -1,4 +1,5 @@
-//! Laws of what bundles, scripts and answers mean: each holds of the definitions, and its function computes nothing.
+//! Laws of what bundles, scripts and answers mean: each holds of the definitions, and its function
+//! computes nothing.
 
 ghost use Rattle.std.specs.Prelude.{◌≡◌, ◌∷◌, [], ℕ, List, Option, Result};
 ghost use Rattle.clap.specs.Words.{fault_of, matches_of};
@@ -20,8 +21,8 @@ pub fn has_division()
     ensures { (bundle : List ℕ) → (script trace : List ℕ) × Divides bundle script trace }
 {}
 
-/// A script and a trace have one answer at most: bytes and a status, or a refusal, whose line is no part of it where there
-/// is no tree.
+/// A script and a trace have one answer at most: bytes and a status, or a refusal, whose line is no
+/// part of it where there is no tree.
 pub fn one_answer()
     ensures { (script trace : List ℕ) (a b : Result Shown Refusal) → IsAnswer script trace a
         → IsAnswer script trace b → IsSameAnswer a b }

@@ -1,5 +1,6 @@
-//! Replays a D script over a recorded trace of probe firings, and writes to standard output what the script shows. It reads
-//! a bundle from standard input: a script, a line `---` and a trace; or the script from the file of the option `-s`.
+//! Replays a D script over a recorded trace of probe firings, and writes to standard output what
+//! the script shows. It reads a bundle from standard input: a script, a line `---` and a trace; or
+//! the script from the file of the option `-s`.
 #![tactic(auto)]
 
 ghost use Rattle.std.specs.Prelude.{IfOk};
@@ -19,6 +20,8 @@ mod replaying;
 mod scripts;
 #[cfg(test)]
 mod tests;
+#[cfg(test)]
+mod tests_of_workers;
 mod words;
 
 use consuming::{ConsumeFault, consume, consume_trace};
@@ -30,6 +33,7 @@ use std::env::args;
 use std::fs::File;
 use std::io::{ErrorKind, Read, Write};
 use std::process::ExitCode;
+use std::random::RandomSource;
 use std::rt::{Env, Files};
 use std::sync::Wait;
 use std::thread::Threads;
@@ -64,12 +68,11 @@ fn program_words(rt: &(impl Env + AllocGlobal)) -> Result<Vec<String>, UsageFaul
 }
 
 // Runs what was asked for, from the one stream to the other.
-fn run<R: Files + AllocGlobal + Threads + Wait + Sync, I: Read + Drop, O: Write + Drop>(
-    rt: &R,
-    asked: &Asked,
-    input: I,
-    output: O,
-) -> Result<Replayed, ConsumeFault>
+fn run<
+    R: Files + AllocGlobal + RandomSource + Threads + Wait + Sync,
+    I: Read + Drop,
+    O: Write + Drop,
+>(rt: &R, asked: &Asked, input: I, output: O) -> Result<Replayed, ConsumeFault>
     requires { IsInBounds asked.now.plan }
 {
     let script = match &asked.file {

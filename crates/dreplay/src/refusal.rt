@@ -12,8 +12,8 @@ use shard_queue::GroupFault;
 use std::alloc::{AllocError, AllocFailed, Global};
 use thiserror::Error;
 
-/// The first reason for which a script over a trace has no answer. The script is looked at before the
-/// trace, and the trace before the groups.
+/// The first reason for which a script over a trace has no answer. The script is looked at before
+/// the trace, and the trace before the groups.
 #[derive(Debug, Drop, Error)]
 pub enum Refusal {
     /// Why the script has no tokens.

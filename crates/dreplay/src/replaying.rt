@@ -18,15 +18,18 @@ use crate::scripts::read_script;
 use d_types::{TypedScript, check};
 use dif_codegen::compile;
 use firing_reader::{Trace, read_trace};
+use keyed_hash::HashKey;
 use replay_core::{DifLanes, Gate, OpenGate, Ran, TreeLanes, run_all};
 use report::render;
 use shard_queue::Groups;
 use std::alloc::{AllocError, Global};
+use std::random::RandomSource;
 use std::sync::Wait;
 use std::thread::Threads;
 
-/// Runs a script over a trace, between BEGIN and END. The script is refused before the trace, and the trace before the groups.
-pub fn replay<R: Threads + Wait + Sync>(
+/// Runs a script over a trace, between BEGIN and END. The script is refused before the trace, and
+/// the trace before the groups.
+pub fn replay<R: RandomSource + Threads + Wait + Sync>(
     rt: &R,
     alloc: Global,
     script: &[u8],
@@ -39,8 +42,9 @@ pub fn replay<R: Threads + Wait + Sync>(
     replay_with(rt, alloc, script, trace, plan, &OpenGate)
 }
 
-/// Does the same, where each worker passes a gate before the first firing of each group that it took.
-pub fn replay_with<R: Threads + Wait + Sync, G: Gate + Sync>(
+/// Does the same, where each worker passes a gate before the first firing of each group that it
+/// took.
+pub fn replay_with<R: RandomSource + Threads + Wait + Sync, G: Gate + Sync>(
     rt: &R,
     alloc: Global,
     script: &[u8],
@@ -53,15 +57,15 @@ pub fn replay_with<R: Threads + Wait + Sync, G: Gate + Sync>(
 {
     let tree = read_script(alloc, script)?;
     let script = check(alloc, tree)?;
-    let trace = read_trace(alloc, trace)?;
+    let trace = read_trace(alloc, HashKey::random(rt), trace)?;
     let groups = groups_of(alloc, &plan.groups, &trace)?;
     let ran = run(rt, alloc, &script, &trace, &groups, plan, gate)?;
-    let replayed = shown(alloc, &script, ran)?;
+    let replayed = shown(rt, alloc, &script, ran)?;
     Ok(replayed)
 }
 
 // Runs a script over a trace, by the engine and the workers of a plan.
-fn run<R: Threads + Wait + Sync, G: Gate + Sync>(
+fn run<R: RandomSource + Threads + Wait + Sync, G: Gate + Sync>(
     rt: &R,
     alloc: Global,
     script: &TypedScript,
@@ -77,27 +81,33 @@ fn run<R: Threads + Wait + Sync, G: Gate + Sync>(
         plan.now.workers) }
 {
     let workers = plan.workers;
+    let hash_key = HashKey::random(rt);
     match plan.engine {
         EngineKind::Tree => {
-            let lanes = TreeLanes::new(script);
+            let lanes = TreeLanes::new(hash_key, script);
             run_all(rt, alloc, &lanes, trace, groups, workers, gate)
         }
         EngineKind::Dif => {
             let program = compile(alloc, script)?;
-            let lanes = DifLanes::new(&program);
+            let lanes = DifLanes::new(hash_key, &program);
             run_all(rt, alloc, &lanes, trace, groups, workers, gate)
         }
     }
 }
 
 // What a run shows.
-fn shown(alloc: Global, script: &TypedScript, ran: Ran) -> Result<Replayed, AllocError>
+fn shown<R: Threads + Sync>(
+    rt: &R,
+    alloc: Global,
+    script: &TypedScript,
+    ran: Ran,
+) -> Result<Replayed, AllocError>
     requires { functions_of ran.whole.table ≡ functions_in (typed_script_of script.now) }
     ensures { (firings : List Firing) (grouping : Grouping) (workers : ℕ)
         → IsRunBy (typed_script_of script.now) firings grouping workers ran
         → IfOk result (IsShownOf (typed_script_of script.now) firings grouping workers) }
 {
-    let bytes = render(alloc, script, &ran.whole)?;
+    let bytes = render(rt, alloc, script, &ran.whole)?;
     Ok(Replayed {
         bytes,
         by_worker: ran.by_worker,

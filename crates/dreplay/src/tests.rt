@@ -1,5 +1,5 @@
-//! Calls that no run of the program shows: what ran in which group and by whom, groups as lists, gates, failing readers and
-//! writers, what is said of each refusal, and what words ask for.
+//! Calls that no run of the program shows: what ran in which group and by whom, groups as lists,
+//! gates, failing readers and writers, what is said of each refusal, and what words ask for.
 
 ghost use Rattle.std.specs.Prelude.{IfOk};
 ghost use Rattle.dreplay.specs.Plans.{IsInBounds};
@@ -19,6 +19,7 @@ use report::faulty::Faulty;
 use shard_queue::GroupFault;
 use std::alloc::{AllocError, AllocGlobal, Global};
 use std::process::Abort;
+use std::random::RandomSource;
 use std::sync::Wait;
 use std::sync::atomic::{AtomicU64, Ordering};
 use std::test::Fail;
@@ -139,8 +140,9 @@ fn serial() -> Plan
     }
 }
 
-// Consumes the bundle one byte a call, where these many calls of the reader and of the writer go well.
-fn consumed<R: AllocGlobal + Threads + Wait + Sync>(
+// Consumes the bundle one byte a call, where these many calls of the reader and of the writer go
+// well.
+fn consumed<R: AllocGlobal + RandomSource + Threads + Wait + Sync>(
     rt: &R,
     reads: u64,
     writes: u64,
@@ -152,7 +154,7 @@ fn consumed<R: AllocGlobal + Threads + Wait + Sync>(
 }
 
 // Consumes the trace, with its script apart, in the same way.
-fn consumed_apart<R: AllocGlobal + Threads + Wait + Sync>(
+fn consumed_apart<R: AllocGlobal + RandomSource + Threads + Wait + Sync>(
     rt: &R,
     reads: u64,
     writes: u64,
@@ -323,7 +325,10 @@ impl Gate for Holding {
 }
 
 // Two groups run at the same time: the one goes on only after the other has begun.
-fn expect_held(rt: &(impl Abort + AllocGlobal + Threads + Wait + Sync), gate: &Holding) {
+fn expect_held(
+    rt: &(impl Abort + AllocGlobal + RandomSource + Threads + Wait + Sync),
+    gate: &Holding,
+) {
     let plan = Plan {
         workers: 2,
         groups: GroupPlan::Dealt(2),

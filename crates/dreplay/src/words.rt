@@ -15,7 +15,8 @@ use thiserror::Error;
 /// What the words ask for.
 #[derive(Debug, Drop)]
 pub struct Asked {
-    /// The file that holds the script. Standard input is then the trace alone; without it, a bundle.
+    /// The file that holds the script. Standard input is then the trace alone; without it, a
+    /// bundle.
     pub file: Option<String>,
     /// How the run is carried out.
     pub plan: Plan,
@@ -187,7 +188,8 @@ fn plan_asked(alloc: Global, matches: &ArgMatches<'_>) -> Result<Plan, UsageFaul
     })
 }
 
-// The mistake of a number that clap lets pass and that is none in its range. There is no such number.
+// The mistake of a number that clap lets pass and that is none in its range. There is no such
+// number.
 fn out_of_range(alloc: Global) -> Result<UsageFault, AllocError>
     ensures { IfOk result (IsMistake ErrorKind.ValueValidation) }
 {

@@ -3,7 +3,7 @@ use Rattle.std.proofs.Common.{zero, suc, get_or, take, ◌≡◌, ◌<◌, ◌�
 use Rattle.std.specs.Prelude.{IfSome}
 use Rattle.std.specs.Int.{IsInRange}
 use Rattle.std.specs.Str.Parse.{digits_value, AllDigits}
-use Rattle.std.proofs.lemmas.Str.Parse.{digit_at}
+use Rattle.std.proofs.lemmas.Str.Parse.{digit_at, digits_value_short}
 use Rattle.std.proofs.lemmas.Bool.{le-leb, lt-ltb}
 use Rattle.std.proofs.lemmas.List.Elements.{All-cons, All-nil, All-head, All-tail}
 use Rattle.firing_reader.proofs.Numerals.{all_read, digits}
@@ -32,6 +32,14 @@ positive_read [] n all value = rw value refl
 positive_read (b ∷ rest) n all value =
     let d = digit_at (b ∷ rest) 0 all (omega arith) in
     rw (is_not b 45 (λ e. absurd (omega (arith, d.0, d.1, e))), decimal_digits (b ∷ rest) (omega arith) all, value) refl
+
+-- the field that writes 0
+pub zero_joins : All JoinsField (48 ∷ [])
+zero_joins = All-cons JoinsField 48 [] (digit_joins 48 (omega arith, omega arith)) (All-nil JoinsField)
+
+-- few digits write a number of few digits
+pub few_digits : (xs : List ℕ) → AllDigits 10 xs → length xs ≤ 18 → digits_value 10 xs < 10 ^ 18
+few_digits xs all few = digits_value_short (record { to = λ ds p. p; from = λ ds p. p; same = λ ds p. refl }) xs 18 all few
 
 minus_joins : JoinsField 45
 minus_joins = (λ e. absurd (omega (arith, e)), λ e. absurd (omega (arith, e)), λ e. absurd (omega (arith, e)), λ e. absurd (omega (arith, e)))

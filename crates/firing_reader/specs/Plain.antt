@@ -1,10 +1,12 @@
--- Plain rows, which are read where they lie in a trace: their fields have no quote, comma or end of a line in them.
+-- Plain rows, which are read where they lie in a trace: their fields have no quote, comma or end of
+-- a line in them.
 use Rattle.std.specs.Prelude.{◌≡◌, ◌≢◌, ◌<◌, ◌+◌, ◌≤◌, ◌^◌, ℕ, List, [], ◌∷◌, ◌++◌, length, All, Option, Some, codes, option_and_then, option_map, map, Result, Ok, pos, ℤ}
 use Rattle.csv.specs.Machine.{next_record}
 use Rattle.csv.specs.Reading.{default_config}
 use Rattle.csv.specs.declared.parser.State.TheVariants as st
 use Rattle.firing_reader.specs.declared.fault.TraceFault.{TraceFault}
 use Rattle.firing_reader.specs.declared.firing.Firing.{Firing}
+use Rattle.firing_reader.specs.declared.reading.TheConstants.{MOST_ROWS}
 use Rattle.firing_reader.specs.Column.{decimal_of, signed_of, text_of}
 use Rattle.firing_reader.specs.Left.{left_in}
 use Rattle.firing_reader.specs.Row.{◌>>=◌, within}
@@ -23,13 +25,14 @@ pub record BeginsWith (bytes field rest : List ℕ) : Type 0 where
 abbrev pub IsWordByte : ℕ → Type 0
 IsWordByte b = (45 ≤ b) × (b < 128)
 
--- csv takes these fields off the bytes, whatever comes after them, and goes on at the start of a field
+-- csv takes these fields off the bytes, whatever comes after them, and goes on where a field starts
 abbrev pub Passes : List ℕ → List (List ℕ) → List ℕ → Type 0
 Passes bytes fields rest = (before : List (List ℕ)) (tail : List ℕ) →
     next_record default_config st.StartField before [] (bytes ++ tail)
     ≡ next_record default_config st.StartField (before ++ fields) [] (rest ++ tail)
 
--- csv takes these fields off the bytes, whatever comes after them, and they end a record: the rest begins at its line feed
+-- csv takes these fields off the bytes, whatever comes after them, and they end a record: the rest
+-- begins at its line feed
 abbrev pub Closes : List ℕ → List (List ℕ) → List ℕ → Type 0
 Closes bytes fields rest = (after : List ℕ) × (rest ≡ 10 ∷ after)
     × ((before : List (List ℕ)) (tail : List ℕ) →
@@ -96,7 +99,7 @@ pub record ReadsRow (bytes rest : List ℕ) (f : Firing) : Type 0 where
   pub is_rest : rest ≡ 10 ∷ after
   pub read : (tail : List ℕ) → next_record default_config st.StartRecord [] [] (bytes ++ tail)
       ≡ Some (fields, st.StartRecord, after ++ tail)
-  pub firing : (row last : ℕ) → row ≤ 1_000_000 → last < f.number
+  pub firing : (row last : ℕ) → row ≤ MOST_ROWS → last < f.number
       → next_of row last fields ≡ Ok f
 
 -- after a record the bytes hold the rows of these firings, whatever comes after them
@@ -109,7 +112,8 @@ unfoldable pub Rises : ℕ → List Firing → ℕ → Type 0
 Rises last [] end = last ≡ end
 Rises last (f ∷ fs) end = (last < f.number) × Rises f.number fs end
 
--- the bytes are nothing but the rows of these firings, from a line feed to a line feed, and their numbers rise
+-- the bytes are nothing but the rows of these firings, from a line feed to a line feed, and their
+-- numbers rise
 pub record IsPiece (bytes : List ℕ) (fs : List Firing) : Type 0 where
   pub rows : ReadsRows bytes fs (10 ∷ [])
   pub rises : Rises 0 fs (last_number fs)
@@ -133,4 +137,6 @@ GoesOn firings rest bytes = rows_after firings (left_in st.StartRecord (Some res
 
 -- the header, as it is mostly written
 abbrev pub header_line : List ℕ
-header_line = codes "number,cpu,thread,pid,execname,time,provider,module,function,name,arg0,arg1,arg2,arg3,arg4,arg5,arg6,arg7,arg8,arg9"
+header_line =
+    codes "number,cpu,thread,pid,execname,time,provider,module,function,name,"
+    ++ codes "arg0,arg1,arg2,arg3,arg4,arg5,arg6,arg7,arg8,arg9"

@@ -1,4 +1,4 @@
--- Firings as a trace stores them: rows of small fixed size, a pool of texts, and a list of arguments.
+-- Firings as a trace stores them: rows of small fixed size, a pool of texts, a list of arguments.
 use Rattle.std.specs.Prelude.{◌≡◌, ◌<◌, ◌≤◌, ◌+◌, ℕ, ℤ, pos, List, [], ◌∷◌, ◌++◌, length, get_or, take, drop}
 use Rattle.firing_reader.specs.declared.firing.Firing.{Firing}
 use Rattle.firing_reader.specs.declared.firings.Row.{Row}

@@ -3,7 +3,8 @@
 ghost use Rattle.std.specs.Prelude.{◌≡◌, ◌≤◌, ◌+◌, ℕ, pos, IfSome, get_or, length, take, drop};
 ghost use Rattle.firing_reader.specs.Stored.{Extends, ten};
 
-/// Keeps the arguments up to the last that isn't 0: where they begin among all, and how many there are.
+/// Keeps the arguments up to the last that isn't 0: where they begin among all, and how many there
+/// are.
 pub(crate) fn keep_arguments(all: &mut Vec<i64>, args: &[i64; 10]) -> Option<(u32, u32)>
     ensures grows { Extends all.old.items all.new.items }
     ensures inside { IfSome result (λ p. p.0 + p.1 ≤ length all.new.items) }

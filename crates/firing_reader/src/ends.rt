@@ -17,7 +17,8 @@ impl Trace {
         own(0, first_time(self.firings()), b"BEGIN")
     }
 
-    /// END, which comes after the rows: the number after the last, thread 0, and the time of the last row.
+    /// END, which comes after the rows: the number after the last, thread 0, and the time of the
+    /// last row.
     pub fn end(&self) -> Firing
         ensures { result ≡ end_of self.now }
     {

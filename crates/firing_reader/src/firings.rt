@@ -1,5 +1,5 @@
-//! The firings of a trace, as they are stored: rows of small fixed size, each distinct text once, and of the arguments no
-//! zeros at the end.
+//! The firings of a trace, as they are stored: rows of small fixed size, each distinct text once,
+//! and of the arguments no zeros at the end.
 
 ghost use Rattle.std.specs.Prelude.{◌≡◌, ◌<◌, ◌++◌, ◌∷◌, [], true, false, Some, IfOk, MatchOption, slice_get, length};
 ghost use Rattle.firing_reader.specs.Trace.{last_number as last_number_of};
@@ -8,11 +8,12 @@ use crate::arguments::{all_ten, keep_arguments};
 use crate::firing::Firing;
 use crate::places::{Places, keep_texts};
 use crate::texts::Texts;
+use keyed_hash::HashKey;
 use std::alloc::{AllocError, Global};
 use std::marker::Model;
 
-// A firing: its texts by their places in the pool, and its arguments by where they begin among those of all, and how many
-// there are. Those after them are 0.
+// A firing: its texts by their places in the pool, and its arguments by where they begin among
+// those of all, and how many there are. Those after them are 0.
 #[derive(Clone, Copy)]
 pub(crate) struct Row {
     number: u64,
@@ -29,7 +30,8 @@ pub(crate) struct Row {
     given: u32,
 }
 
-/// The firings of a trace. Each is made when it is asked for, and takes no memory. Contracts see the list of them.
+/// The firings of a trace. Each is made when it is asked for, and takes no memory. Contracts see
+/// the list of them.
 #[derive(Drop)]
 pub struct Firings {
     texts: Texts,
@@ -50,10 +52,10 @@ impl Model for Firings {
 }
 
 impl Firings {
-    pub(crate) fn new(alloc: Global) -> Result<Firings, AllocError>
+    pub(crate) fn new(alloc: Global, hash_key: HashKey) -> Result<Firings, AllocError>
         ensures { IfOk result (λ s. s ≡ []) }
     {
-        let texts = Texts::new(alloc)?;
+        let texts = Texts::new(alloc, hash_key)?;
         Ok(Firings {
             texts,
             args: Vec::new(alloc),

@@ -1,11 +1,12 @@
 //! Recorded probe firings, read from CSV.
 //!
-//! The first record is the header, and each record after it is one firing. `read_trace` answers the trace that the bytes
-//! write, exactly as `specs/Trace.antt` defines it, or its first fault. Rows are read where they lie in the bytes up to the
-//! first that has a quote, a carriage return or a fault; from there on `csv` reads them.
+//! The first record is the header, and each record after it is one firing. `read_trace` answers the
+//! trace that the bytes write, exactly as `specs/Trace.antt` defines it, or its first fault. Rows
+//! are read where they lie in the bytes up to the first that has a quote, a carriage return or a
+//! fault; from there on `csv` reads them.
 //!
 //! ```text
-//! let trace = read_trace(rt.alloc(), &bytes)?;
+//! let trace = read_trace(rt.alloc(), hash_key, &bytes)?;
 //! for at in 0..trace.firings().len() {
 //!     let firing = trace.firings().get(at);
 //!     println!(rt; "{} on thread {}", firing.number, firing.thread)?;
@@ -36,8 +37,8 @@ pub use fault::TraceFault;
 pub use firing::Firing;
 pub use firings::Firings;
 pub use owned_text::OwnedText;
-pub use reading::MOST;
-pub use text::Text;
+pub use reading::MOST_ROWS;
+pub use text::{TEXT_LIMIT, Text};
 pub use trace::{Trace, read_trace, read_trace_by};
 
 #[cfg(test)]

@@ -7,7 +7,8 @@ use std::alloc::{AllocError, Global};
 use std::fmt;
 use std::marker::Model;
 
-/// A text of a firing that has its own bytes, and outlives the trace. Contracts see it as they see a `Text`.
+/// A text of a firing that has its own bytes, and outlives the trace. Contracts see it as they see
+/// a `Text`.
 #[derive(Drop)]
 pub struct OwnedText {
     bytes: Vec<u8>,

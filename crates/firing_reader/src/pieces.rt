@@ -1,4 +1,5 @@
-//! Reading plain rows by several workers: each reads a piece of the bytes, and two pieces share the line feed between them.
+//! Reading plain rows by several workers: each reads a piece of the bytes, and two pieces share the
+//! line feed between them.
 
 ghost use Rattle.std.specs.Prelude.{◌≡◌, ◌∷◌, ◌++◌, true, ℕ, List, IfSome, Ok};
 ghost use Rattle.std.specs.Thread.{IsSync};
@@ -9,16 +10,17 @@ use crate::firings::Firings;
 use crate::header::after_header;
 use crate::plain::front::after_feed;
 use crate::plain::read_plain;
-use crate::reading::MOST;
+use crate::reading::MOST_ROWS;
+use keyed_hash::HashKey;
 use std::alloc::Global;
 use std::thread::{Threads, join};
 
 // The firings of bytes that are nothing but plain rows.
-fn read_piece(alloc: Global, bytes: &[u8]) -> Option<Firings>
+fn read_piece(alloc: Global, hash_key: HashKey, bytes: &[u8]) -> Option<Firings>
     requires { (after : List ℕ) × (bytes.now ≡ 10 ∷ after) }
     ensures { IfSome result (λ fs. IsPiece bytes.now fs) }
 {
-    let mut firings = Firings::new(alloc).ok()?;
+    let mut firings = Firings::new(alloc, hash_key).ok()?;
     let rest = read_plain(&mut firings, bytes);
     if rest.len() != 1 {
         return None;
@@ -63,6 +65,7 @@ fn joined(first: Firings, second: &Firings) -> Option<Firings>
 fn read_pieces<R: Threads + Sync>(
     rt: &R,
     alloc: Global,
+    hash_key: HashKey,
     bytes: &[u8],
     workers: u32,
 ) -> Option<Firings>
@@ -70,7 +73,7 @@ fn read_pieces<R: Threads + Sync>(
     ensures { IfSome result (λ fs. IsPiece bytes.now fs) }
 {
     if workers < 2 {
-        return read_piece(alloc, bytes);
+        return read_piece(alloc, hash_key, bytes);
     }
     let few = workers / 2;
     let others = workers - few;
@@ -82,11 +85,11 @@ fn read_pieces<R: Threads + Sync>(
         || -> Option<Firings>
             requires { IsSync R.row × (after : List ℕ) × (left.now ≡ 10 ∷ after) }
             ensures { IfSome result (λ fs. IsPiece left.entry.now fs) }
-        { read_pieces(rt, alloc, left, few) },
+        { read_pieces(rt, alloc, hash_key, left, few) },
         || -> Option<Firings>
             requires { IsSync R.row × (after : List ℕ) × (right.now ≡ 10 ∷ after) }
             ensures { IfSome result (λ fs. IsPiece right.entry.now fs) }
-        { read_pieces(rt, alloc, right, others) },
+        { read_pieces(rt, alloc, hash_key, right, others) },
     );
     let first = first?;
     let second = second?;
@@ -100,14 +103,15 @@ fn read_pieces<R: Threads + Sync>(
 pub(crate) fn read_plain_trace<R: Threads + Sync>(
     rt: &R,
     alloc: Global,
+    hash_key: HashKey,
     bytes: &[u8],
     workers: u32,
 ) -> Option<Firings>
     ensures { IfSome result (λ fs. trace_of bytes.now ≡ Ok fs) }
 {
     let rows = after_header(bytes)?;
-    let firings = read_pieces(rt, alloc, rows, workers)?;
-    if firings.len() > MOST as usize {
+    let firings = read_pieces(rt, alloc, hash_key, rows, workers)?;
+    if firings.len() > MOST_ROWS as usize {
         return None;
     }
     Some(firings)

@@ -1,19 +1,21 @@
-//! Plain rows, without quotes and carriage returns, read where they lie in the trace. csv reads all others.
+//! Plain rows, without quotes and carriage returns, read where they lie in the trace. csv reads all
+//! others.
 
 ghost use Rattle.std.specs.Prelude.{◌≡◌, ◌≤◌, ◌∷◌, [], ℕ, List, length};
 ghost use Rattle.firing_reader.specs.Plain.{GoesOn, ReadsRows, Rises};
 ghost use Rattle.firing_reader.specs.Trace.{last_number};
 
 use crate::firings::Firings;
-use crate::reading::MOST;
+use crate::reading::MOST_ROWS;
 use row::row;
 
 mod field;
 pub(crate) mod front;
 mod row;
 
-/// Reads the rows after a line feed, as long as they are plain, and returns what is left. That begins at a line feed too,
-/// so that csv drops no byte order mark from the row after it.
+/// Reads the rows after a line feed, as long as they are plain, and returns what is left. That
+/// begins at a line feed too, so that csv drops no byte order mark from the row after it.
+#[inline(never)]
 pub(crate) fn read_plain<'a>(firings: &mut Firings, bytes: &'a [u8]) -> &'a [u8]
     requires empty { firings.old ≡ [] }
     requires feed { (after : List ℕ) × (bytes.now ≡ 10 ∷ after) }
@@ -21,10 +23,10 @@ pub(crate) fn read_plain<'a>(firings: &mut Firings, bytes: &'a [u8]) -> &'a [u8]
     ensures read { GoesOn firings.new result.now bytes.now }
     ensures rows { ReadsRows bytes.now firings.new result.now }
     ensures rises { Rises 0 firings.new (last_number firings.new) }
-    ensures few { length firings.new ≤ MOST }
+    ensures few { length firings.new ≤ MOST_ROWS }
 {
     let mut rest = bytes;
-    for _ in 0..MOST {
+    for _ in 0..MOST_ROWS {
         let Some((firing, after)) = row(rest, firings.last_number()) else {
             return rest;
         };

@@ -14,15 +14,16 @@ use crate::plain::read_plain;
 use crate::records::Records;
 use crate::row::read_row;
 use csv::ByteRecord;
+use keyed_hash::HashKey;
 use std::alloc::Global;
 
-/// The most firings that a trace has.
-pub const MOST: u32 = 1_000_000;
+/// The most rows that a trace has.
+pub const MOST_ROWS: u32 = 1_000_000;
 
 // The firing of a row that follows another.
 #[tactic(auto, unfolding(crate::specs::Trace::next_of))]
 fn read_next(fields: &ByteRecord, row: u32, last: u64) -> Result<Firing, TraceFault>
-    requires { row ≤ MOST }
+    requires { row ≤ MOST_ROWS }
     ensures { Gives result (next_of row last (fields_of fields.now)) }
 {
     let firing = read_row(fields, row)?;
@@ -38,12 +39,12 @@ fn read_rows(
     fields: &mut ByteRecord,
     before: Firings,
 ) -> Result<Firings, TraceFault>
-    requires few { length before ≤ MOST }
+    requires few { length before ≤ MOST_ROWS }
     ensures { Gives result (rows_after before records.old) }
 {
     let mut firings = before;
     let first = firings.len() as u32 + 1;
-    for row in first..MOST + 1 {
+    for row in first..MOST_ROWS + 1 {
         if !records.read(fields)? {
             return Ok(firings);
         }
@@ -58,13 +59,13 @@ fn read_rows(
     Ok(firings)
 }
 
-// The firings of the rows after a header, whose line feed is the first byte. From the first row on that isn't plain csv
-// reads, and it alone decides what is faulty.
-fn read_after_header(alloc: Global, bytes: &[u8]) -> Result<Firings, TraceFault>
+// The firings of the rows after a header, whose line feed is the first byte. From the first row on
+// that isn't plain csv reads, and it alone decides what is faulty.
+fn read_after_header(alloc: Global, hash_key: HashKey, bytes: &[u8]) -> Result<Firings, TraceFault>
     requires { (after : List ℕ) × (bytes.now ≡ 10 ∷ after) }
     ensures { Gives result (rows_in bytes.now) }
 {
-    let mut firings = Firings::new(alloc)?;
+    let mut firings = Firings::new(alloc, hash_key)?;
     let rest = read_plain(&mut firings, bytes);
     let mut records = Records::new(alloc, rest);
     let mut fields = ByteRecord::new(alloc);
@@ -72,7 +73,7 @@ fn read_after_header(alloc: Global, bytes: &[u8]) -> Result<Firings, TraceFault>
 }
 
 // The firings that the bytes of a trace write, all read by csv.
-fn read_records(alloc: Global, bytes: &[u8]) -> Result<Firings, TraceFault>
+fn read_records(alloc: Global, hash_key: HashKey, bytes: &[u8]) -> Result<Firings, TraceFault>
     ensures { Gives result (trace_of bytes.now) }
 {
     let mut records = Records::new(alloc, bytes);
@@ -80,15 +81,19 @@ fn read_records(alloc: Global, bytes: &[u8]) -> Result<Firings, TraceFault>
     if !records.read(&mut fields)? || !is_header(&fields) {
         return Err(TraceFault::Header);
     }
-    read_rows(&mut records, &mut fields, Firings::new(alloc)?)
+    read_rows(&mut records, &mut fields, Firings::new(alloc, hash_key)?)
 }
 
 // The firings that the bytes of a trace write.
-pub(crate) fn read_firings(alloc: Global, bytes: &[u8]) -> Result<Firings, TraceFault>
+pub(crate) fn read_firings(
+    alloc: Global,
+    hash_key: HashKey,
+    bytes: &[u8],
+) -> Result<Firings, TraceFault>
     ensures { Gives result (trace_of bytes.now) }
 {
     match after_header(bytes) {
-        Some(rest) => read_after_header(alloc, rest),
-        None => read_records(alloc, bytes),
+        Some(rest) => read_after_header(alloc, hash_key, rest),
+        None => read_records(alloc, hash_key, bytes),
     }
 }

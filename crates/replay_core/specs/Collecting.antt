@@ -10,15 +10,15 @@ use Rattle.replay_core.specs.PiecePlaces.{first_bad, numbered}
 use Rattle.replay_core.specs.Tables.{Table, Serve}
 use Rattle.replay_core.specs.Uniting.{IsSorted, first_exit}
 
--- the whole has the texts of these pieces, sorted by number, one table in place of theirs, the numbers
--- of each piece, and the first exit
+-- the whole has the texts of these pieces, sorted by number, one table in place of theirs, the
+-- numbers of each piece, and the first exit
 pub record IsMadeOf (pieces : List Piece) (w : Whole) : Type 0 where
   pub texts : IsSorted (flat_map (λ p. p.texts.items) pieces) w.texts.items
   pub table : Serve (w.table ∷ []) (map (λ p. p.table) pieces)
   pub ran : map (λ v. v.items) w.ran.items ≡ map (λ p. p.taken.items) pieces
   pub exit : w.exit ≡ first_exit (map (λ p. p.exit) pieces)
 
--- the pieces are one of each of n groups, in any order, and the whole is made of them, group by group
+-- the pieces are one of each of n groups, in any order, and the whole is made of them by group
 pub record IsCollected (n : ℕ) (pieces : List (ℕ × Piece)) (w : Whole) : Type 0 where
   pub sorted : List Piece
   pub count : length sorted ≡ n

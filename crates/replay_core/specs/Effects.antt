@@ -20,10 +20,12 @@ done_by effects vars = record {
 
 -- an effect is noted, whatever the variables are
 abbrev pub NotesEffect : ℕ → Effect → (old new : PieceSeen) → Type 0
-NotesEffect number effect old new = (vars : Variables) → Notes number (done_by (effect ∷ []) vars) old new
+NotesEffect number effect old new =
+    (vars : Variables) → Notes number (done_by (effect ∷ []) vars) old new
 
 -- a statement's effect is noted, and whether it exits is answered; at its fault nothing is noted
-abbrev pub Performs : ℕ → Outcome Effect → PieceSeen → Result Bool EvalFault → PieceSeen → Variables → Type 0
+abbrev pub Performs : ℕ → Outcome Effect → PieceSeen → Result Bool EvalFault → PieceSeen
+    → Variables → Type 0
 Performs number o old (Err ef.Memory) new vars = Unit {0}
 Performs number (Has effect after) old (Ok exits) new vars =
     (vars ≡ after) × NotesEffect number effect old new × (exits ≡ is_some (exit_in (effect ∷ [])))
@@ -32,7 +34,8 @@ Performs number (Faults after) old (Ok exits) new vars = ⊥
 Performs number (Faults after) old (Err ef.DivideByZero) new vars = (vars ≡ after) × (new ≡ old)
 
 -- a run is noted, and whether it exits is answered
-pub record NotesRun (number : ℕ) (made : Made) (old new : PieceSeen) (vars : Variables) (exits : Bool) : Type 0 where
+pub record NotesRun (number : ℕ) (made : Made) (old new : PieceSeen) (vars : Variables)
+    (exits : Bool) : Type 0 where
   pub notes : Notes number made old new
   pub variables : vars ≡ made.variables
   pub exited : exits ≡ is_some made.exit

@@ -14,7 +14,8 @@ up_to (Some exit) fs = filter (λ f. nat_le f.number exit.0) fs
 
 -- BEGIN, the trace's firings up to the first of all that exits, END
 abbrev pub firings_over : ScriptMeant → List Firing → List Firing
-firings_over m trace = with_ends trace (up_to (exit_of (history m (with_ends trace trace) unassigned)) trace)
+firings_over m trace =
+    with_ends trace (up_to (exit_of (history m (with_ends trace trace) unassigned)) trace)
 
 -- the run of a script over a trace
 abbrev pub history_over : ScriptMeant → List Firing → List (Firing × Made)

@@ -1,4 +1,4 @@
--- Expressions and statements in the form in which an engine runs them: trees as they stand in memory.
+-- Expressions and statements in the form in which an engine runs them: trees as they are kept.
 use Rattle.std.specs.Prelude.{List}
 use Rattle.d_types.specs.Clauses.{Evaluation, values_of}
 use Rattle.d_types.specs.Expressions.{eval, keys_of}

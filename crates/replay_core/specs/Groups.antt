@@ -17,4 +17,5 @@ over_groups grouping given = flat_map given (below grouping.count)
 
 -- the numbers of each group's firings, group by group
 abbrev pub numbers_by_group : Grouping → List Firing → List (List ℕ)
-numbers_by_group grouping fs = map (λ g. map number_of (of_group grouping g fs)) (below grouping.count)
+numbers_by_group grouping fs =
+    map (λ g. map number_of (of_group grouping g fs)) (below grouping.count)

@@ -25,7 +25,8 @@ pub record IsFresh (lane : LaneSeen) : Type 0 where
 pub record GoesOnBy (r : List (Firing × Made)) (old new : PieceSeen) : Type 0 where
   pub texts : new.texts ≡ old.texts ++ texts_of r
   pub functions : functions_of new.table ≡ functions_of old.table
-  pub table : (before : List Contribution) → StandsFor old.table before → StandsFor new.table (before ++ contributions_of r)
+  pub table : (before : List Contribution) → StandsFor old.table before
+      → StandsFor new.table (before ++ contributions_of r)
   pub taken : new.taken ≡ old.taken ++ numbers_of r
   pub exit : new.exit ≡ option_or old.exit (exit_of r)
 
@@ -33,7 +34,8 @@ pub record GoesOnBy (r : List (Firing × Made)) (old new : PieceSeen) : Type 0 w
 pub record Notes (number : ℕ) (made : Made) (old new : PieceSeen) : Type 0 where
   pub texts : new.texts ≡ old.texts ++ map (λ text. (number, text)) made.texts
   pub functions : functions_of new.table ≡ functions_of old.table
-  pub table : (before : List Contribution) → StandsFor old.table before → StandsFor new.table (before ++ made.contributions)
+  pub table : (before : List Contribution) → StandsFor old.table before
+      → StandsFor new.table (before ++ made.contributions)
   pub taken : new.taken ≡ old.taken
   pub exit : new.exit ≡ option_or old.exit (option_map (λ status. (number, status)) made.exit)
 

@@ -25,16 +25,19 @@ unassigned thread var key = blank var.kind
 
 -- ---- a firing
 
--- the clauses that run, each with its place from 1: in the script's order, once for each description that selects the firing's probe
+-- the clauses that run, each with its place from 1: in the script's order, once for each
+-- description that selects the firing's probe
 abbrev pub clauses_for : Firing → ℕ → List ClauseMeant → List (ℕ × ClauseMeant)
 clauses_for f place [] = []
 clauses_for f place (c ∷ cs) =
-    map (λ d. (place, c)) (filter (λ d. selects d (probe_of f)) c.descriptions) ++ clauses_for f (suc place) cs
+    map (λ d. (place, c)) (filter (λ d. selects d (probe_of f)) c.descriptions)
+    ++ clauses_for f (suc place) cs
 
 -- they run one after the other
 abbrev pub in_turn : Firing → List (ℕ × ClauseMeant) → Variables → Made
 in_turn f [] vars = nothing vars
-in_turn f (c ∷ cs) vars = let first = run_of f c.0 c.1 vars in and_then first (in_turn f cs first.variables)
+in_turn f (c ∷ cs) vars =
+    let first = run_of f c.0 c.1 vars in and_then first (in_turn f cs first.variables)
 
 -- a firing begins with its thread's variables, and with clause-locals that are zero or empty
 abbrev pub at_start : (Var → List KeyPart → Value) → Variables
@@ -49,12 +52,15 @@ made_of m f own = in_turn f (clauses_for f 1 m.clauses) (at_start own)
 -- the firing's thread has new variables, and each other thread those that it had
 abbrev pub threads_after : ScriptMeant → Firing → Threads → Threads
 threads_after m f threads thread =
-    if int_eq thread f.thread then (made_of m f (threads f.thread)).variables.own else threads thread
+    if int_eq thread f.thread
+    then (made_of m f (threads f.thread)).variables.own
+    else threads thread
 
 -- each firing with what it makes, over one map of the threads' variables
 abbrev pub history : ScriptMeant → List Firing → Threads → List (Firing × Made)
 history m [] threads = []
-history m (f ∷ fs) threads = (f, made_of m f (threads f.thread)) ∷ history m fs (threads_after m f threads)
+history m (f ∷ fs) threads =
+    (f, made_of m f (threads f.thread)) ∷ history m fs (threads_after m f threads)
 
 -- the texts, each with its firing's number
 abbrev pub texts_of : List (Firing × Made) → List (ℕ × List ℕ)

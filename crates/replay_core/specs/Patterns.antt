@@ -6,7 +6,12 @@ use Rattle.replay_core.specs.declared.probe.Probe.{Probe}
 
 -- the probe that fired
 abbrev pub probe_of : Firing → Probe
-probe_of f = record { provider = f.provider; probemod = f.probemod; probefunc = f.probefunc; name = f.name }
+probe_of f = record {
+  provider = f.provider;
+  probemod = f.probemod;
+  probefunc = f.probefunc;
+  name = f.name;
+}
 
 abbrev pub star : ℕ
 star = 42
@@ -14,7 +19,8 @@ star = 42
 abbrev pub question : ℕ
 question = 63
 
--- the bytes that one byte of a pattern takes: a star any, none included, a question mark one, and any other byte itself
+-- the bytes that one byte of a pattern takes: a star any, none included, a question mark one, and
+-- any other byte itself
 pub data Takes (p : ℕ) (own : List ℕ) : Type 0 where
   any : p ≡ star → Takes p own
   one : (b : ℕ) → p ≡ question → own ≡ b ∷ [] → Takes p own
@@ -23,7 +29,8 @@ pub data Takes (p : ℕ) (own : List ℕ) : Type 0 where
 -- the bytes of the pattern take those of the text, one after the other
 abbrev pub Matches : (pattern text : List ℕ) → Type 0
 Matches [] text = text ≡ []
-Matches (p ∷ pattern) text = (own : List ℕ) × (rest : List ℕ) × (text ≡ own ++ rest) × Takes p own × Matches pattern rest
+Matches (p ∷ pattern) text =
+    (own : List ℕ) × (rest : List ℕ) × (text ≡ own ++ rest) × Takes p own × Matches pattern rest
 
 -- an empty field matches everything
 abbrev pub MatchesField : (pattern text : List ℕ) → Type 0
@@ -58,11 +65,16 @@ passes_after_one p test (b ∷ text) = is_same_or_question (p, b) && test text
 abbrev pub matches : (pattern text : List ℕ) → Bool
 matches [] [] = true
 matches [] (b ∷ text) = false
-matches (p ∷ pattern) text = if p == star then passes_after (matches pattern) text else passes_after_one p (matches pattern) text
+matches (p ∷ pattern) text =
+    if p == star
+    then passes_after (matches pattern) text
+    else passes_after_one p (matches pattern) text
 
 abbrev pub field_matches : (pattern text : List ℕ) → Bool
 field_matches [] text = true
 field_matches (p ∷ pattern) text = matches (p ∷ pattern) text
 
 abbrev pub selects : Description → Probe → Bool
-selects d p = field_matches d.provider p.provider && field_matches d.«module» p.probemod && field_matches d.function p.probefunc && field_matches d.name p.name
+selects d p =
+    field_matches d.provider p.provider && field_matches d.«module» p.probemod
+    && field_matches d.function p.probefunc && field_matches d.name p.name

@@ -34,7 +34,8 @@ pub record IsPieceOf (m : ScriptMeant) (fs : List Firing) (p : PieceSeen) : Type
   pub exit : p.exit ≡ exit_of (history m fs unassigned)
 
 -- so is the whole, which has the numbers of each group's firings
-pub record IsWholeOf (m : ScriptMeant) (fs : List Firing) (grouping : Grouping) (w : WholeSeen) : Type 0 where
+pub record IsWholeOf (m : ScriptMeant) (fs : List Firing) (grouping : Grouping)
+    (w : WholeSeen) : Type 0 where
   pub texts : w.texts ≡ texts_of (history m fs unassigned)
   pub functions : functions_of w.table ≡ functions_in m
   pub table : StandsFor w.table (contributions_of (history m fs unassigned))

@@ -7,4 +7,5 @@ use Rattle.replay_core.specs.Patterns.{selects}
 -- the places from the given one on: each once for each description that selects the probe
 abbrev pub places_for : Probe → ℕ → List (List Description) → List ℕ
 places_for p place [] = []
-places_for p place (ds ∷ rest) = map (λ d. place) (filter (λ d. selects d p) ds) ++ places_for p (place + 1) rest
+places_for p place (ds ∷ rest) =
+    map (λ d. place) (filter (λ d. selects d p) ds) ++ places_for p (place + 1) rest

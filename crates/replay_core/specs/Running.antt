@@ -19,4 +19,7 @@ pub record IsLaneOf (m : ScriptMeant) (fs : List Firing) (lane : LaneSeen) : Typ
 -- the firings up to the first that exits
 abbrev pub until_exit : ScriptMeant → List Firing → Threads → List Firing
 until_exit m [] threads = []
-until_exit m (f ∷ fs) threads = f ∷ (if is_some (made_of m f (threads f.thread)).exit then [] else until_exit m fs (threads_after m f threads))
+until_exit m (f ∷ fs) threads =
+    f ∷ (if is_some (made_of m f (threads f.thread)).exit
+    then []
+    else until_exit m fs (threads_after m f threads))

@@ -6,7 +6,12 @@ use Rattle.replay_core.specs.declared.whole.Whole.{Whole}
 use Rattle.replay_core.specs.Pieces.{PieceSeen, WholeSeen}
 
 abbrev pub piece_seen : Piece → PieceSeen
-piece_seen p = record { texts = p.texts.items; table = p.table; taken = p.taken.items; exit = p.exit }
+piece_seen p = record {
+  texts = p.texts.items;
+  table = p.table;
+  taken = p.taken.items;
+  exit = p.exit;
+}
 
 abbrev pub whole_seen : Whole → WholeSeen
 whole_seen w = record {

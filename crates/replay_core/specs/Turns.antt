@@ -14,4 +14,6 @@ run_at f place (Some c) vars = run_of f (place + 1) c vars
 -- the clauses at these places, one after the other
 abbrev pub turns : Firing → List ClauseMeant → List ℕ → Variables → Made
 turns f cs [] vars = nothing vars
-turns f cs (place ∷ rest) vars = let first = run_at f place (slice_get cs place) vars in and_then first (turns f cs rest first.variables)
+turns f cs (place ∷ rest) vars =
+    let first = run_at f place (slice_get cs place) vars in
+    and_then first (turns f cs rest first.variables)

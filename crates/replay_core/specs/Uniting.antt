@@ -55,7 +55,8 @@ first_exit (exit ∷ exits) = sooner exit (first_exit exits)
 pub record Unite (m : ScriptMeant) (grouping : Grouping) (fs : List Firing) : Type 0 where
   pub texts : IsSorted (over_groups grouping (λ g. texts_of (group_history m grouping fs g)))
       (texts_of (history m fs unassigned))
-  pub contributions : SameItems (over_groups grouping (λ g. contributions_of (group_history m grouping fs g)))
+  pub contributions : SameItems
+      (over_groups grouping (λ g. contributions_of (group_history m grouping fs g)))
       (contributions_of (history m fs unassigned))
   pub numbers : SameItems (over_groups grouping (λ g. numbers_of (group_history m grouping fs g)))
       (numbers_of (history m fs unassigned))

@@ -58,7 +58,8 @@ pub trait Clause {
         ensures functions { functions_of piece.new.table ≡ functions_of piece.old.table }
         ensures taken { piece.new.taken.items ≡ piece.old.taken.items }
         ensures held { count_held piece.new.table ≤ count_held piece.old.table + most self.now }
-        ensures run { IfOk result (λ exits. (slots : Slots) (c : ClauseMeant) → means self.now slots c
+        ensures run { IfOk result (λ exits.
+            (slots : Slots) (c : ClauseMeant) → means self.now slots c
             → HasTypedBuiltIns firing.now → AreTyped slots (variables locals.old own.old)
             → NotesRun firing.now.number (run_of firing.now place c (variables locals.old own.old))
             (piece_seen piece.old) (piece_seen piece.new) (variables locals.new own.new) exits) };

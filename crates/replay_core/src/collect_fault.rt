@@ -6,8 +6,8 @@ ghost use Rattle.replay_core.specs.declared.collect_fault.CollectFault.TheVarian
 use std::alloc::AllocError;
 use thiserror::Error;
 
-/// Why pieces are no whole: the first piece in the list that is `Twice` or `Stranger` decides, else the
-/// least group without a piece.
+/// Why pieces are no whole: the first piece in the list that is `Twice` or `Stranger` decides, else
+/// the least group without a piece.
 #[derive(Clone, Copy, Debug, PartialEq, Eq, Error)]
 pub enum CollectFault {
     /// A second piece of a group.

@@ -13,7 +13,8 @@ use crate::sorting::by_number;
 use crate::whole::Whole;
 use std::alloc::{AllocError, Global};
 
-/// Makes one whole of the pieces of so many groups, each with its group's number. They come in any order.
+/// Makes one whole of the pieces of so many groups, each with its group's number. They come in any
+/// order.
 pub fn collect(alloc: Global, pieces: Vec<(u32, Piece)>, n: u32) -> Result<Whole, CollectFault>
     requires n { 0 < n }
     requires tables { CanMerge (tables_of pieces.items) }

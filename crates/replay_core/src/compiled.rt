@@ -9,13 +9,18 @@ use crate::engine::Engine;
 use crate::lane::Lane;
 use crate::lanes::Lanes;
 use dif_codegen::{CompiledClause, Program};
+use keyed_hash::HashKey;
 use std::alloc::{AllocError, Global};
 
 /// A lane that runs the objects of a program.
 pub type DifLane<'a> = Lane<'a, CompiledClause>;
 
 /// A lane that has run no firing, over what a script was compiled to.
-pub fn dif_lane(alloc: Global, program: &Program) -> Result<DifLane<'_>, AllocError>
+pub fn dif_lane(
+    alloc: Global,
+    hash_key: HashKey,
+    program: &Program,
+) -> Result<DifLane<'_>, AllocError>
     requires { (m : ScriptMeant) × IsCompiled m program.now }
     ensures script { IfOk result (λ l. (m : ScriptMeant) → IsCompiled m program.now
         → ⟦<DifLane<'static> as Engine>⟧.runs l m) }
@@ -23,21 +28,22 @@ pub fn dif_lane(alloc: Global, program: &Program) -> Result<DifLane<'_>, AllocEr
     ensures unspent { IfOk result (λ l. l.spent ≡ false) }
 {
     let functions = Vec::from_slice(alloc, program.aggregations())?;
-    Lane::new(alloc, program.clauses(), functions)
+    Lane::new(alloc, hash_key, program.clauses(), functions)
 }
 
 /// Gives lanes that run a program's objects.
 #[derive(Drop)]
 pub struct DifLanes<'a> {
+    hash_key: HashKey,
     program: &'a Program,
 }
 
 impl<'a> DifLanes<'a> {
-    /// Lanes of this program.
-    pub fn new(program: &'a Program) -> DifLanes<'a>
+    /// Lanes of this program. The hashes of their maps have this key.
+    pub fn new(hash_key: HashKey, program: &'a Program) -> DifLanes<'a>
         ensures { result.program.now ≡ program.now }
     {
-        DifLanes { program }
+        DifLanes { hash_key, program }
     }
 }
 
@@ -49,6 +55,6 @@ impl<'a> Lanes for DifLanes<'a> {
     ghost runs = { λ l m. IsCompiled m l.program.now };
 
     fn lane(&self, alloc: Global) -> Result<DifLane<'a>, AllocError> {
-        dif_lane(alloc, self.program)
+        dif_lane(alloc, self.hash_key, self.program)
     }
 }

@@ -40,8 +40,8 @@ impl<'a, L: Lanes> Promise<Worked> for Works<'a, L> {
         (IsWork (Gives p.span (L.runs p.lanes.now) p.groups.now p.trace.now) p.board.now) };
 }
 
-/// Runs a worker for each seat, all at once, and joins them. Where one can't be started the others are
-/// joined too.
+/// Runs a worker for each seat, all at once, and joins them. Where one can't be started the others
+/// are joined too.
 pub(crate) fn in_threads<R: Threads + Wait + Sync, L: Lanes + Sync, G: Gate + Sync>(
     rt: &R,
     alloc: Global,

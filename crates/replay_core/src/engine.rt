@@ -23,15 +23,19 @@ pub trait Engine {
     /// Memory was refused to a firing.
     ghost is_spent: { Self → Bool };
 
-    /// Runs the clauses for a firing, and answers whether it exits. Once memory was refused, each later call is refused too.
+    /// Runs the clauses for a firing, and answers whether it exits. Once memory was refused, each
+    /// later call is refused too.
     fn fire(&mut self, firing: &Firing) -> Result<bool, AllocError>
         requires ranges { HasRanges firing.now }
         requires few { length (seen self.old).piece.taken < 1_000_002 }
-        ensures step { (m : ScriptMeant) → runs self.old m → OnOk result (Fires m firing.now (seen self.old) (seen self.new)) }
+        ensures step { (m : ScriptMeant) → runs self.old m
+            → OnOk result (Fires m firing.now (seen self.old) (seen self.new)) }
         ensures exits { (m : ScriptMeant) → runs self.old m
-            → IfOk result (λ exits. exits ≡ is_some (exit_of (history m (firing.now ∷ []) (seen self.old).threads))) }
+            → IfOk result (λ exits. exits
+            ≡ is_some (exit_of (history m (firing.now ∷ []) (seen self.old).threads))) }
         ensures script { (m : ScriptMeant) → runs self.old m → runs self.new m }
-        ensures spent { IsTrue (is_spent self.old) → IsErr result × ((seen self.new).piece.taken ≡ (seen self.old).piece.taken) }
+        ensures spent { IsTrue (is_spent self.old) → IsErr result
+            × ((seen self.new).piece.taken ≡ (seen self.old).piece.taken) }
         ensures err { IsTrue (is_spent self.new) ↔ IsErr result };
 
     /// What the firings made.

@@ -24,6 +24,7 @@ use aggregations::AggFn;
 use d_parser::Description;
 use firing_reader::Firing;
 use indexmap::IndexMap;
+use keyed_hash::HashKey;
 use std::alloc::{AllocError, Global};
 
 /// Runs firings through the clauses of a script. An engine adds only how one clause is run.
@@ -31,7 +32,7 @@ use std::alloc::{AllocError, Global};
 pub struct Lane<'a, C: Clause> {
     clauses: &'a [C],
     selections: Selections<'a>,
-    threads: IndexMap<i32, Tables>,
+    threads: IndexMap<i32, Tables, HashKey>,
     spare: SpareKeys,
     piece: Piece,
     // Memory was refused to a firing.
@@ -39,15 +40,19 @@ pub struct Lane<'a, C: Clause> {
     ghost named: { All (λ c. C.places c ≤ length (functions_of piece.table)) clauses.now },
     ghost few: { All (λ c. C.most c ≤ 65536) clauses.now },
     ghost described: { length selections.descriptions.items ≡ length clauses.now },
-    ghost few_descriptions: { sum_by length (map (λ d. d.now) selections.descriptions.items) ≤ 65536 },
-    ghost known: { All (IsSelection (map (λ d. d.now) selections.descriptions.items)) selections.known.items },
+    ghost few_descriptions: { sum_by length (map (λ d. d.now) selections.descriptions.items)
+        ≤ 65536 },
+    ghost known: { All
+        (IsSelection (map (λ d. d.now) selections.descriptions.items)) selections.known.items },
     ghost room: { spent ≡ false → count_held piece.table ≤ 2 ^ 32 * length piece.taken.items },
 }
 
 impl<'a, C: Clause> Lane<'a, C> {
-    /// A lane that has run no firing, over clauses and the functions of the aggregations that they name.
+    /// A lane that has run no firing, over clauses and the functions of the aggregations that they
+    /// name. The hashes of its maps have this key.
     pub fn new(
         alloc: Global,
+        hash_key: HashKey,
         clauses: &'a [C],
         functions: Vec<AggFn>,
     ) -> Result<Lane<'a, C>, AllocError>
@@ -60,12 +65,12 @@ impl<'a, C: Clause> Lane<'a, C> {
         ensures fresh { IfOk result (λ l. IsFresh (⟦<Lane<'a, C> as Engine>⟧.seen l)) }
         ensures unspent { IfOk result (λ l. l.spent ≡ false) }
     {
-        let piece = Piece::new(alloc, functions)?;
+        let piece = Piece::new(alloc, hash_key, functions)?;
         let descriptions = descriptions(alloc, clauses)?;
         Ok(Lane {
             clauses,
-            selections: Selections::new(alloc, descriptions),
-            threads: IndexMap::new(alloc),
+            selections: Selections::new(alloc, hash_key, descriptions),
+            threads: IndexMap::with_hasher(alloc, hash_key),
             spare: SpareKeys::new(alloc),
             piece,
             spent: false,
@@ -76,26 +81,40 @@ impl<'a, C: Clause> Lane<'a, C> {
     fn run(&mut self, firing: &Firing) -> Result<bool, AllocError>
         requires ranges { HasRanges firing.now }
         requires few { length self.old.piece.taken.items < 1_000_002 }
-        requires room { count_held self.old.piece.table ≤ 2 ^ 32 * length self.old.piece.taken.items }
+        requires room { count_held self.old.piece.table
+            ≤ 2 ^ 32 * length self.old.piece.taken.items }
         requires spent { self.old.spent ≡ true }
         ensures spent { self.new.spent ≡ true }
         ensures script { (m : ScriptMeant)
-            → RunsAs C.means self.old.clauses.now (map (λ d. d.now) self.old.selections.descriptions.items) (functions_of self.old.piece.table) m
-            → RunsAs C.means self.new.clauses.now (map (λ d. d.now) self.new.selections.descriptions.items) (functions_of self.new.piece.table) m }
-        ensures room { OnOk result (count_held self.new.piece.table ≤ 2 ^ 32 * length self.new.piece.taken.items) }
+            → RunsAs C.means self.old.clauses.now
+            (map (λ d. d.now) self.old.selections.descriptions.items)
+            (functions_of self.old.piece.table) m
+            → RunsAs C.means self.new.clauses.now
+            (map (λ d. d.now) self.new.selections.descriptions.items)
+            (functions_of self.new.piece.table) m }
+        ensures room { OnOk result (count_held self.new.piece.table
+            ≤ 2 ^ 32 * length self.new.piece.taken.items) }
         ensures step { OnOk result ((m : ScriptMeant)
-            → RunsAs C.means self.old.clauses.now (map (λ d. d.now) self.old.selections.descriptions.items) (functions_of self.old.piece.table) m
+            → RunsAs C.means self.old.clauses.now
+            (map (λ d. d.now) self.old.selections.descriptions.items)
+            (functions_of self.old.piece.table) m
             → AreTypedThreads (slots_of m) (threads_in self.old.threads.entries)
-            → Fires m firing.now (record { threads = threads_in self.old.threads.entries; piece = piece_seen self.old.piece })
+            → Fires m firing.now
+            (record { threads = threads_in self.old.threads.entries; piece = piece_seen self.old.piece })
             (record { threads = threads_in self.new.threads.entries; piece = piece_seen self.new.piece })) }
         ensures typed { OnOk result ((m : ScriptMeant)
-            → RunsAs C.means self.old.clauses.now (map (λ d. d.now) self.old.selections.descriptions.items) (functions_of self.old.piece.table) m
+            → RunsAs C.means self.old.clauses.now
+            (map (λ d. d.now) self.old.selections.descriptions.items)
+            (functions_of self.old.piece.table) m
             → AreTypedThreads (slots_of m) (threads_in self.old.threads.entries)
             → AreTypedThreads (slots_of m) (threads_in self.new.threads.entries)) }
         ensures exits { IfOk result (λ exits. (m : ScriptMeant)
-            → RunsAs C.means self.old.clauses.now (map (λ d. d.now) self.old.selections.descriptions.items) (functions_of self.old.piece.table) m
+            → RunsAs C.means self.old.clauses.now
+            (map (λ d. d.now) self.old.selections.descriptions.items)
+            (functions_of self.old.piece.table) m
             → AreTypedThreads (slots_of m) (threads_in self.old.threads.entries)
-            → exits ≡ is_some (exit_of (history m (firing.now ∷ []) (threads_in self.old.threads.entries)))) }
+            → exits ≡ is_some
+            (exit_of (history m (firing.now ∷ []) (threads_in self.old.threads.entries)))) }
     {
         self.piece.taken.push(firing.number)?;
         self.selections.turn_to(firing)?;
@@ -116,7 +135,8 @@ fn descriptions<'a, C: Clause>(
     clauses: &'a [C],
 ) -> Result<Vec<&'a [Description]>, AllocError>
     ensures each { IfOk result (λ v. length v.items ≡ length clauses.now) }
-    ensures probes { IfOk result (λ v. sum_by length (map (λ d. d.now) v.items) ≡ sum_by C.probes clauses.now) }
+    ensures probes { IfOk result (λ v.
+        sum_by length (map (λ d. d.now) v.items) ≡ sum_by C.probes clauses.now) }
     ensures meaning { IfOk result (λ v. (slots : Slots) (cs : List ClauseMeant)
         → AllZip (λ c. C.means c slots) clauses.now cs
         → map (λ d. d.now) v.items ≡ map (λ c. c.descriptions) cs) }
@@ -137,7 +157,8 @@ impl<'a, C: Clause> Engine for Lane<'a, C> {
     ghost use Rattle.replay_core.specs.Threads.{threads_in};
 
     ghost runs = { λ l m.
-        RunsAs C.means l.clauses.now (map (λ d. d.now) l.selections.descriptions.items) (functions_of l.piece.table) m
+        RunsAs C.means l.clauses.now (map (λ d. d.now) l.selections.descriptions.items)
+        (functions_of l.piece.table) m
         × (l.spent ≡ false → AreTypedThreads (slots_of m) (threads_in l.threads.entries)) };
 
     ghost seen = { λ l. record { threads = threads_in l.threads.entries; piece = piece_seen l.piece } };

@@ -20,7 +20,8 @@ pub fn selected_is_matched()
     ensures { (d : Description) (p : Probe) → IsTrue (selects d p) ↔ Selects d p }
 {}
 
-/// A firing's thread belongs to one group: what a group's firings make alone is what the run makes of them.
+/// A firing's thread belongs to one group: what a group's firings make alone is what the run makes
+/// of them.
 pub fn group_runs_as_in_the_run()
     ensures { (m : ScriptMeant) (grouping : Grouping) (fs : List Firing) (g : ℕ)
         → group_history m grouping fs g ≡ made_in_group grouping g (history m fs unassigned) }
@@ -41,7 +42,8 @@ pub fn sorted_in_one_way()
 /// statement exits the status is 0 besides.
 pub fn without_exit()
     ensures script { (m : ScriptMeant) (trace : List Firing) → has_exit m ≡ false
-        → (firings_over m trace ≡ with_ends trace trace) × (exit_status (history_over m trace) ≡ 0) }
+        → (firings_over m trace ≡ with_ends trace trace)
+        × (exit_status (history_over m trace) ≡ 0) }
     ensures rows { (m : ScriptMeant) (trace : List Firing) → IsTrace trace
         → exit_of (history m (begin_of trace ∷ trace) unassigned) ≡ None
         → firings_over m trace ≡ with_ends trace trace }

@@ -1,5 +1,5 @@
-//! What a run means and makes: which clauses a firing runs, what they make of the threads' variables, and what a run over a
-//! trace collects.
+//! What a run means and makes: which clauses a firing runs, what they make of the threads'
+//! variables, and what a run over a trace collects.
 #![tactic(auto)]
 
 mod clause;

@@ -41,8 +41,9 @@ fn is_literal(pattern: &[u8]) -> bool
     pattern.iter().all(|p| *p != b'*' && *p != b'?')
 }
 
-// What stands before the first star has one place. Behind it a run between two stars takes the first place where it
-// fits: wherever the rest of the pattern matches behind a later place, it also matches behind the first.
+// What stands before the first star has one place. Behind it a run between two stars takes the
+// first place where it fits: wherever the rest of the pattern matches behind a later place, it also
+// matches behind the first.
 fn is_wild_match(pattern: &[u8], text: &[u8]) -> bool
     ensures { IsTrue result ↔ Matches pattern.now text.now }
 {
@@ -72,7 +73,8 @@ fn is_match_anywhere(pattern: &[u8], text: &[u8]) -> bool
 fn behind_first<'a>(run: &[u8], text: &'a [u8]) -> Option<&'a [u8]>
     requires { All (λ p. p ≢ 42) run.now }
     ensures { MatchOption result ((after : List ℕ) → ¬ Matches (42 ∷ (run.now ++ after)) text.now)
-        (λ rest. (after : List ℕ) → Matches (42 ∷ (run.now ++ 42 ∷ after)) text.now ↔ Matches (42 ∷ after) rest.now) }
+        (λ rest. (after : List ℕ) → Matches (42 ∷ (run.now ++ 42 ∷ after)) text.now
+        ↔ Matches (42 ∷ after) rest.now) }
 {
     let mut rest = text;
     while !begins(run, rest) {
@@ -86,14 +88,17 @@ fn behind_first<'a>(run: &[u8], text: &'a [u8]) -> Option<&'a [u8]>
 
 fn begins(run: &[u8], text: &[u8]) -> bool
     requires { All (λ p. p ≢ 42) run.now }
-    ensures { IsTrue result ↔ ((length run.now ≤ length text.now) × Matches run.now (take (length run.now) text.now)) }
+    ensures { IsTrue result
+        ↔ ((length run.now ≤ length text.now) × Matches run.now (take (length run.now) text.now)) }
 {
     run.len() <= text.len() && fits(run, &text[..run.len()])
 }
 
 fn ends(run: &[u8], text: &[u8]) -> bool
     requires { All (λ p. p ≢ 42) run.now }
-    ensures { IsTrue result ↔ ((length run.now ≤ length text.now) × Matches run.now (drop (length text.now - length run.now) text.now)) }
+    ensures { IsTrue result
+        ↔ ((length run.now ≤ length text.now)
+        × Matches run.now (drop (length text.now - length run.now) text.now)) }
 {
     run.len() <= text.len() && fits(run, &text[text.len() - run.len()..])
 }

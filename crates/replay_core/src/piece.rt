@@ -7,6 +7,7 @@ ghost use Rattle.d_types.specs.Clauses.{fault_line};
 
 use aggregations::{AggFn, AggTable};
 use d_values::{Key, Text};
+use keyed_hash::HashKey;
 use std::alloc::{AllocError, Global};
 
 /// What a lane's firings made.
@@ -27,11 +28,15 @@ impl Piece {
     ghost use Rattle.replay_core.specs.Seen.{IsEmptyPiece, piece_seen};
 
     /// Without any firing, with aggregations of these functions.
-    pub(crate) fn new(alloc: Global, functions: Vec<AggFn>) -> Result<Piece, AllocError>
+    pub(crate) fn new(
+        alloc: Global,
+        hash_key: HashKey,
+        functions: Vec<AggFn>,
+    ) -> Result<Piece, AllocError>
         ensures functions { IfOk result (λ p. functions_of p.table ≡ functions.items) }
         ensures empty { IfOk result IsEmptyPiece }
     {
-        let table = AggTable::new(alloc, functions)?;
+        let table = AggTable::new(alloc, hash_key, functions)?;
         Ok(Piece {
             texts: Vec::new(alloc),
             table,
@@ -51,7 +56,8 @@ impl Piece {
     pub fn note_text(&mut self, number: u64, text: Text) -> Result<(), AllocError>
         ensures table { self.new.table ≡ self.old.table }
         ensures taken { self.new.taken.items ≡ self.old.taken.items }
-        ensures notes { OnOk result (NotesEffect number (Effect.Says text) (piece_seen self.old) (piece_seen self.new)) }
+        ensures notes { OnOk result
+            (NotesEffect number (Effect.Says text) (piece_seen self.old) (piece_seen self.new)) }
     {
         self.texts.push((number, text))?;
         Ok(())
@@ -69,7 +75,9 @@ impl Piece {
         ensures functions { functions_of self.new.table ≡ functions_of self.old.table }
         ensures taken { self.new.taken.items ≡ self.old.taken.items }
         ensures held { count_held self.new.table ≤ count_held self.old.table + 1 }
-        ensures notes { OnOk result ((number : ℕ) → NotesEffect number (Effect.Adds place key.now argument) (piece_seen self.old) (piece_seen self.new)) }
+        ensures notes { OnOk result ((number : ℕ)
+            → NotesEffect number (Effect.Adds place key.now argument) (piece_seen self.old)
+            (piece_seen self.new)) }
     {
         self.table.add(place, key, argument)
     }
@@ -78,20 +86,22 @@ impl Piece {
     pub fn note_exit(&mut self, number: u64, status: u8)
         ensures table { self.new.table ≡ self.old.table }
         ensures taken { self.new.taken.items ≡ self.old.taken.items }
-        ensures notes { NotesEffect number (Effect.Exits status) (piece_seen self.old) (piece_seen self.new) }
+        ensures notes { NotesEffect number (Effect.Exits status) (piece_seen self.old)
+            (piece_seen self.new) }
     {
         if self.exit.is_none() {
             self.exit = Some((number, status));
         }
     }
 
-    /// Notes a fault of the clause at this place, from 1, at the firing of this number: its line stands in place of the texts
-    /// after the first so many. Contributions and an exit stay.
+    /// Notes a fault of the clause at this place, from 1, at the firing of this number: its line
+    /// stands in place of the texts after the first so many. Contributions and an exit stay.
     pub fn note_fault(&mut self, number: u64, place: u64, before: usize) -> Result<(), AllocError>
         ensures table { self.new.table ≡ self.old.table }
         ensures taken { self.new.taken.items ≡ self.old.taken.items }
         ensures exit { self.new.exit ≡ self.old.exit }
-        ensures texts { OnOk result (self.new.texts.items ≡ take before self.old.texts.items ++ (number, fault_line number place) ∷ []) }
+        ensures texts { OnOk result (self.new.texts.items
+            ≡ take before self.old.texts.items ++ (number, fault_line number place) ∷ []) }
     {
         self.texts.truncate(before);
         let line = fault_line(*self.taken.allocator(), number, place)?;

@@ -9,10 +9,11 @@ use crate::probe::Probe;
 use d_parser::Description;
 use firing_reader::Firing;
 use indexmap::IndexMap;
+use keyed_hash::HashKey;
 use std::alloc::{AllocError, Global};
 
-/// The clauses that run for a probe, by their places among the script's: in the script's order, each once for each of its
-/// descriptions that selects the probe.
+/// The clauses that run for a probe, by their places among the script's: in the script's order,
+/// each once for each of its descriptions that selects the probe.
 #[derive(Drop)]
 pub(crate) struct Selection {
     probe: Probe,
@@ -27,7 +28,7 @@ pub(crate) struct Selections<'a> {
     descriptions: Vec<&'a [Description]>,
     known: Vec<Selection>,
     // The place among those known that was last filled or found under the probe's name.
-    named: IndexMap<Vec<u8>, usize>,
+    named: IndexMap<Vec<u8>, usize, HashKey>,
     // The name of the probe that is looked for.
     name: Vec<u8>,
     // The place among those known of the selection for the probe that fired last.
@@ -38,15 +39,20 @@ impl<'a> Selections<'a> {
     ghost use Rattle.replay_core.specs.Selecting.{IsSelection, places_at};
 
     /// None yet, of clauses with these descriptions.
-    pub(crate) fn new(alloc: Global, descriptions: Vec<&'a [Description]>) -> Selections<'a>
+    pub(crate) fn new(
+        alloc: Global,
+        hash_key: HashKey,
+        descriptions: Vec<&'a [Description]>,
+    ) -> Selections<'a>
         ensures descriptions { result.descriptions.items ≡ descriptions.entry.items }
-        ensures known { All (IsSelection (map (λ d. d.now) result.descriptions.items)) result.known.items }
+        ensures known { All
+            (IsSelection (map (λ d. d.now) result.descriptions.items)) result.known.items }
     {
         Selections {
             alloc,
             descriptions,
             known: Vec::new(alloc),
-            named: IndexMap::new(alloc),
+            named: IndexMap::with_hasher(alloc, hash_key),
             name: Vec::new(alloc),
             last: 0,
         }
@@ -54,9 +60,11 @@ impl<'a> Selections<'a> {
 
     /// Turns to the selection for the firing's probe.
     pub(crate) fn turn_to(&mut self, firing: &Firing) -> Result<(), AllocError>
-        requires { All (IsSelection (map (λ d. d.now) self.old.descriptions.items)) self.old.known.items }
+        requires { All
+            (IsSelection (map (λ d. d.now) self.old.descriptions.items)) self.old.known.items }
         ensures descriptions { self.new.descriptions.items ≡ self.old.descriptions.items }
-        ensures known { All (IsSelection (map (λ d. d.now) self.new.descriptions.items)) self.new.known.items }
+        ensures known { All
+            (IsSelection (map (λ d. d.now) self.new.descriptions.items)) self.new.known.items }
         ensures turned { OnOk result (places_at self.new.known.items self.new.last
             ≡ places_for (probe_of firing.now) 0 (map (λ d. d.now) self.new.descriptions.items)) }
     {
@@ -86,7 +94,8 @@ impl<'a> Selections<'a> {
 
     // Whether the selection at the place is for the firing's probe.
     fn is_at(&self, place: usize, firing: &Firing) -> bool
-        requires { All (IsSelection (map (λ d. d.now) self.now.descriptions.items)) self.now.known.items }
+        requires { All
+            (IsSelection (map (λ d. d.now) self.now.descriptions.items)) self.now.known.items }
         ensures { result ≡ true → places_at self.now.known.items place
             ≡ places_for (probe_of firing.now) 0 (map (λ d. d.now) self.now.descriptions.items) }
     {
@@ -116,9 +125,11 @@ impl<'a> Selections<'a> {
 
     // Adds the selection for the firing's probe, under the name that was written.
     fn learn(&mut self, firing: &Firing) -> Result<(), AllocError>
-        requires { All (IsSelection (map (λ d. d.now) self.old.descriptions.items)) self.old.known.items }
+        requires { All
+            (IsSelection (map (λ d. d.now) self.old.descriptions.items)) self.old.known.items }
         ensures descriptions { self.new.descriptions.items ≡ self.old.descriptions.items }
-        ensures known { All (IsSelection (map (λ d. d.now) self.new.descriptions.items)) self.new.known.items }
+        ensures known { All
+            (IsSelection (map (λ d. d.now) self.new.descriptions.items)) self.new.known.items }
         ensures turned { OnOk result (places_at self.new.known.items self.new.last
             ≡ places_for (probe_of firing.now) 0 (map (λ d. d.now) self.new.descriptions.items)) }
     {
@@ -138,7 +149,8 @@ fn selected(
     descriptions: &[&[Description]],
     firing: &Firing,
 ) -> Result<Vec<usize>, AllocError>
-    ensures { IfOk result (λ places. places.items ≡ places_for (probe_of firing.now) 0 (map (λ d. d.now) descriptions.now)) }
+    ensures { IfOk result (λ places. places.items
+        ≡ places_for (probe_of firing.now) 0 (map (λ d. d.now) descriptions.now)) }
 {
     let mut places = Vec::new(alloc);
     for (place, descriptions) in descriptions.iter().enumerate() {
@@ -154,7 +166,9 @@ fn add_selected(
     descriptions: &[Description],
     firing: &Firing,
 ) -> Result<(), AllocError>
-    ensures { OnOk result (places.new.items ≡ places.old.items ++ map (λ d. place) (filter (λ d. selects d (probe_of firing.now)) descriptions.now)) }
+    ensures { OnOk result (places.new.items
+        ≡ places.old.items ++ map (λ d.
+        place) (filter (λ d. selects d (probe_of firing.now)) descriptions.now)) }
 {
     for description in descriptions {
         if is_selected(description, firing) {

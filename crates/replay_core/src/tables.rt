@@ -3,6 +3,7 @@
 ghost use Rattle.std.specs.Prelude.{◌≡◌, []};
 
 use d_values::{ClauseLocals, ThreadTable};
+use keyed_hash::HashKey;
 use std::alloc::Global;
 
 /// The tables in which the clauses of a thread's firings find their variables.
@@ -16,13 +17,13 @@ pub(crate) struct Tables {
 
 impl Tables {
     /// Nothing is assigned.
-    pub(crate) fn new(alloc: Global) -> Tables
+    pub(crate) fn new(alloc: Global, hash_key: HashKey) -> Tables
         ensures locals { result.locals ≡ [] }
         ensures own { result.own ≡ [] }
     {
         Tables {
             locals: ClauseLocals::new(alloc),
-            own: ThreadTable::new(alloc),
+            own: ThreadTable::new(alloc, hash_key),
         }
     }
 }

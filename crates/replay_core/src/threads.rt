@@ -19,14 +19,16 @@ use crate::tables::Tables;
 use crate::turns::run_in_turn;
 use firing_reader::Firing;
 use indexmap::IndexMap;
+use keyed_hash::HashKey;
 use std::alloc::AllocError;
 
-/// Runs the clauses at these places for a firing, on its thread's variables, and answers whether one exited.
+/// Runs the clauses at these places for a firing, on its thread's variables, and answers whether
+/// one exited.
 pub(crate) fn run_on_thread<C: Clause>(
     clauses: &[C],
     places: &[usize],
     firing: &Firing,
-    threads: &mut IndexMap<i32, Tables>,
+    threads: &mut IndexMap<i32, Tables, HashKey>,
     spare: &mut SpareKeys,
     piece: &mut Piece,
 ) -> Result<bool, AllocError>
@@ -56,7 +58,8 @@ pub(crate) fn run_on_thread<C: Clause>(
         let start = at_start (threads_in threads.old.entries firing.now.thread) in
         let made = turns firing.now cs places.now start in
         exits ≡ is_some made.exit) }
-    ensures held { OnOk result (count_held piece.new.table ≤ count_held piece.old.table + 65536 * length places.now) }
+    ensures held { OnOk result (count_held piece.new.table
+        ≤ count_held piece.old.table + 65536 * length places.now) }
 {
     match threads.get_mut(&firing.thread) {
         Some(tables) => {
@@ -64,7 +67,7 @@ pub(crate) fn run_on_thread<C: Clause>(
             run_in_turn(clauses, places, firing, tables, spare, piece)
         }
         None => {
-            let mut tables = Tables::new(*piece.taken.allocator());
+            let mut tables = Tables::new(*threads.allocator(), *threads.hasher());
             let exits = run_in_turn(clauses, places, firing, &mut tables, spare, piece)?;
             threads.insert(firing.thread, tables)?;
             Ok(exits)

@@ -9,34 +9,40 @@ use crate::engine::Engine;
 use crate::lane::Lane;
 use crate::lanes::Lanes;
 use d_types::{TypedClause, TypedScript};
+use keyed_hash::HashKey;
 use std::alloc::{AllocError, Global};
 
 /// A lane that walks the trees of a script.
 pub type TreeLane<'a> = Lane<'a, TypedClause>;
 
 /// A lane of the script that has run no firing.
-pub fn tree_lane(alloc: Global, script: &TypedScript) -> Result<TreeLane<'_>, AllocError>
+pub fn tree_lane(
+    alloc: Global,
+    hash_key: HashKey,
+    script: &TypedScript,
+) -> Result<TreeLane<'_>, AllocError>
     ensures script { IfOk result (λ l. (m : ScriptMeant) → m ≡ typed_script_of script.now
         → ⟦<TreeLane<'static> as Engine>⟧.runs l m) }
     ensures fresh { IfOk result (λ l. IsFresh (⟦<TreeLane<'static> as Engine>⟧.seen l)) }
     ensures unspent { IfOk result (λ l. l.spent ≡ false) }
 {
     let functions = script.functions(alloc)?;
-    Lane::new(alloc, script.clauses(), functions)
+    Lane::new(alloc, hash_key, script.clauses(), functions)
 }
 
 /// Gives lanes that walk the trees of a script.
 #[derive(Drop)]
 pub struct TreeLanes<'a> {
+    hash_key: HashKey,
     script: &'a TypedScript,
 }
 
 impl<'a> TreeLanes<'a> {
-    /// Lanes of this script.
-    pub fn new(script: &'a TypedScript) -> TreeLanes<'a>
+    /// Lanes of this script. The hashes of their maps have this key.
+    pub fn new(hash_key: HashKey, script: &'a TypedScript) -> TreeLanes<'a>
         ensures { result.script.now ≡ script.now }
     {
-        TreeLanes { script }
+        TreeLanes { hash_key, script }
     }
 }
 
@@ -49,6 +55,6 @@ impl<'a> Lanes for TreeLanes<'a> {
     ghost runs = { λ l m. m ≡ typed_script_of l.script.now };
 
     fn lane(&self, alloc: Global) -> Result<TreeLane<'a>, AllocError> {
-        tree_lane(alloc, self.script)
+        tree_lane(alloc, self.hash_key, self.script)
     }
 }

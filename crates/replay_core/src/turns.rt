@@ -43,7 +43,8 @@ pub(crate) fn run_in_turn<C: Clause>(
         → AreTyped slots (variables tables.old.locals tables.old.own) →
         let made = turns firing.now cs places.now (variables tables.old.locals tables.old.own) in
         exits ≡ is_some made.exit) }
-    ensures held { OnOk result (count_held piece.new.table ≤ count_held piece.old.table + 65536 * length places.now) }
+    ensures held { OnOk result (count_held piece.new.table
+        ≤ count_held piece.old.table + 65536 * length places.now) }
 {
     let mut exits = false;
     for place in places {

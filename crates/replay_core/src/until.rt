@@ -22,9 +22,9 @@ use shard_queue::Groups;
 use std::alloc::{AllocError, Global};
 use std::sync::Wait;
 
-/// Takes groups until it is told the end, and makes a piece of a beginning of each. A beginning ends
-/// after a firing that exits, and before one whose number is over the least that a worker found to
-/// exit.
+/// Takes groups until it is told the end, and makes a piece of a beginning of each. A beginning
+/// ends after a firing that exits, and before one whose number is over the least that a worker
+/// found to exit.
 pub fn work_until<R: Wait, S: Exits, L: Lanes, G: Gate>(
     rt: &R,
     alloc: Global,

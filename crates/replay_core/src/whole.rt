@@ -10,7 +10,8 @@ pub struct Whole {
     pub texts: Vec<(u64, Text)>,
     /// The aggregations.
     pub table: AggTable,
-    /// For each group the numbers of its firings, in order. BEGIN and END are a group of their own, the last.
+    /// For each group the numbers of its firings, in order. BEGIN and END are a group of their own,
+    /// the last.
     pub ran: Vec<Vec<u64>>,
     /// The number of the first firing that exited, and its status.
     pub exit: Option<(u64, u8)>,

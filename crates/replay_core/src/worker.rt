@@ -23,8 +23,8 @@ use shard_queue::Groups;
 use std::alloc::{AllocError, Global};
 use std::sync::Wait;
 
-/// Takes groups until it is told the end, and makes a piece of each: what the script makes of BEGIN,
-/// the rows and END on the group's threads.
+/// Takes groups until it is told the end, and makes a piece of each: what the script makes of
+/// BEGIN, the rows and END on the group's threads.
 pub fn work<R: Wait, S: Source, L: Lanes, G: Gate>(
     rt: &R,
     alloc: Global,

@@ -2,8 +2,8 @@
 
 ghost use Rattle.std.specs.Prelude.{◌≡◌, ◌<◌, ◌++◌, List, Some, OnOk, IfOk, map, slice_get, length};
 ghost use Rattle.report.specs.Vocabulary.{AggFn, Contribution, StandsFor, functions_of, flat_map};
-ghost use Rattle.report.specs.{Listing.AppendsListing, Listing.listing_bytes, Output.AppendsTables};
-ghost use Rattle.report.specs.{Output.IsOutput};
+ghost use Rattle.report.specs.{Layout.entry_bytes, Listing.AppendsListing, Listing.listing_bytes};
+ghost use Rattle.report.specs.{Output.AppendsTables, Output.IsOutput};
 ghost use Rattle.std.specs.Map.Iter.{deref_pair};
 ghost use Rattle.d_types.specs.TypedScripts.{typed_script_of};
 
@@ -12,18 +12,35 @@ use crate::listing::listing;
 use aggregations::{AggTable, Partial};
 use d_types::TypedScript;
 use d_values::{Key, Text};
+use rayon::prelude::*;
 use replay_core::Whole;
 use std::alloc::{AllocError, Global};
+use std::thread::Threads;
+
+// How many entries are a piece of work. A thread that rayon starts is given two pieces at least.
+const BLOCK: usize = 512;
+
+// With fewer entries threads cost more than they save.
+const LEAST_FOR_THREADS: usize = 4 * BLOCK;
+
+// How many entries are shared at once, so that their bytes stand twice in memory for so many alone.
+const ROUND: usize = 64 * BLOCK;
 
 /// The bytes that show what a run of the script made: its texts, and after them each aggregation
 /// that has entries, in the order of the script, its entries ascending by value and then by key
 /// (Dynamic Tracing Guide, "Aggregations"). The caller owes that the aggregations are the script's.
+/// Threads share the work where there are many entries.
 ///
 /// ```text
-/// let bytes = render(alloc, &script, &whole)?;
+/// let bytes = render(&rt, alloc, &script, &whole)?;
 /// emit(&mut sink, &bytes)?;
 /// ```
-pub fn render(alloc: Global, script: &TypedScript, whole: &Whole) -> Result<Vec<u8>, AllocError>
+pub fn render<R: Threads + Sync>(
+    rt: &R,
+    alloc: Global,
+    script: &TypedScript,
+    whole: &Whole,
+) -> Result<Vec<u8>, AllocError>
     requires { functions_of whole.now.table
         ≡ map (λ a. a.function) (typed_script_of script.now).aggregations }
     ensures { (contributions : List Contribution) → StandsFor whole.now.table contributions
@@ -34,7 +51,7 @@ pub fn render(alloc: Global, script: &TypedScript, whole: &Whole) -> Result<Vec<
     let _ = script;
     let mut out = Vec::new(alloc);
     put_texts(&mut out, &whole.texts)?;
-    put_tables(alloc, &mut out, &whole.table)?;
+    put_tables(rt, alloc, &mut out, &whole.table)?;
     Ok(out)
 }
 
@@ -49,19 +66,25 @@ fn put_texts(out: &mut Vec<u8>, texts: &[(u64, Text)]) -> Result<(), AllocError>
 }
 
 // Puts the aggregations, in the order of the script.
-fn put_tables(alloc: Global, out: &mut Vec<u8>, table: &AggTable) -> Result<(), AllocError>
+fn put_tables<R: Threads + Sync>(
+    rt: &R,
+    alloc: Global,
+    out: &mut Vec<u8>,
+    table: &AggTable,
+) -> Result<(), AllocError>
     ensures { (contributions : List Contribution) → StandsFor table.now contributions
         → OnOk result
         (AppendsTables (functions_of table.now) contributions out.old.items out.new.items) }
 {
     for agg in 0..table.len() {
-        put_aggregation(alloc, out, table, agg)?;
+        put_aggregation(rt, alloc, out, table, agg)?;
     }
     Ok(())
 }
 
 // Puts what shows one aggregation.
-fn put_aggregation(
+fn put_aggregation<R: Threads + Sync>(
+    rt: &R,
     alloc: Global,
     out: &mut Vec<u8>,
     table: &AggTable,
@@ -73,11 +96,16 @@ fn put_aggregation(
         → OnOk result (AppendsListing function agg contributions out.old.items out.new.items) }
 {
     let entries = listing(alloc, table, agg)?;
-    put_entries(out, &entries)
+    put_entries(rt, alloc, out, &entries)
 }
 
 // Puts a line feed and the entries, where there are any.
-fn put_entries(out: &mut Vec<u8>, entries: &[(&Key, &Partial)]) -> Result<(), AllocError>
+fn put_entries<R: Threads + Sync>(
+    rt: &R,
+    alloc: Global,
+    out: &mut Vec<u8>,
+    entries: &[(&Key, &Partial)],
+) -> Result<(), AllocError>
     ensures { OnOk result (out.new.items
         ≡ out.old.items ++ listing_bytes (map deref_pair entries.now)) }
 {
@@ -85,8 +113,77 @@ fn put_entries(out: &mut Vec<u8>, entries: &[(&Key, &Partial)]) -> Result<(), Al
         return Ok(());
     }
     out.push(b'\n')?;
+    put_lines(rt, alloc, out, entries)
+}
+
+// Puts entries. Threads share the work where there are many.
+fn put_lines<R: Threads + Sync>(
+    rt: &R,
+    alloc: Global,
+    out: &mut Vec<u8>,
+    entries: &[(&Key, &Partial)],
+) -> Result<(), AllocError>
+    ensures { OnOk result (out.new.items
+        ≡ out.old.items ++ flat_map (λ e. entry_bytes (deref_pair e)) entries.now) }
+{
+    if entries.len() < LEAST_FOR_THREADS {
+        return put_each(out, entries);
+    }
+    for round in entries.chunks(ROUND) {
+        let made = blocks(rt, alloc, round)?;
+        put_blocks(out, &made)?;
+    }
+    Ok(())
+}
+
+// Puts entries, one after the other.
+fn put_each(out: &mut Vec<u8>, entries: &[(&Key, &Partial)]) -> Result<(), AllocError>
+    ensures { OnOk result (out.new.items
+        ≡ out.old.items ++ flat_map (λ e. entry_bytes (deref_pair e)) entries.now) }
+{
     for entry in entries {
         put_entry(out, entry.0, entry.1)?;
+    }
+    Ok(())
+}
+
+// The bytes of all entries, in blocks that threads make.
+fn blocks<R: Threads + Sync>(
+    rt: &R,
+    alloc: Global,
+    entries: &[(&Key, &Partial)],
+) -> Result<Vec<Vec<u8>>, AllocError>
+    ensures { IfOk result (λ blocks. flat_map (λ block. block.items) blocks.items
+        ≡ flat_map (λ e. entry_bytes (deref_pair e)) entries.now) }
+{
+    entries
+        .par_chunks(BLOCK)
+        .map(
+            |entries: &[(&Key, &Partial)]| -> Result<Vec<u8>, AllocError>
+                ensures { IfOk result (λ block. block.items
+                    ≡ flat_map (λ e. entry_bytes (deref_pair e)) entries.now) }
+            { block(alloc, entries) },
+        )
+        .collect::<Result<Vec<Vec<u8>>, AllocError>>(rt, alloc)?
+}
+
+// The bytes of one block.
+fn block(alloc: Global, entries: &[(&Key, &Partial)]) -> Result<Vec<u8>, AllocError>
+    ensures { IfOk result (λ block. block.items
+        ≡ flat_map (λ e. entry_bytes (deref_pair e)) entries.now) }
+{
+    let mut out = Vec::new(alloc);
+    put_each(&mut out, entries)?;
+    Ok(out)
+}
+
+// Puts blocks, one after the other.
+fn put_blocks(out: &mut Vec<u8>, blocks: &[Vec<u8>]) -> Result<(), AllocError>
+    ensures { OnOk result (out.new.items
+        ≡ out.old.items ++ flat_map (λ block. block.items) blocks.now) }
+{
+    for block in blocks {
+        out.extend_from_slice(block)?;
     }
     Ok(())
 }

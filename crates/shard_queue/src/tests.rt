@@ -5,6 +5,7 @@ ghost use Rattle.shard_queue.specs.Queues.{IsIn};
 
 use crate::{ClaimBoard, ClaimSeat, GroupFault, GroupQueue, Groups, QueueSeat};
 use firing_reader::{Trace, read_trace};
+use keyed_hash::HashKey;
 use std::alloc::{AllocError, Global};
 use std::process::Abort;
 use std::sync::Wait;
@@ -21,7 +22,8 @@ fn trace_of(rt: &impl Abort, alloc: Global, threads: &[i32]) -> Result<Trace, Al
         let row = format!(in alloc; "{i}1,0,{thread},1,a,0,p,,f,hit,,,,,,,,,,\n")?;
         text.push_str(&row)?;
     }
-    Ok(read_trace(alloc, text.as_bytes()).expect(rt, "a trace"))
+    let hash_key = HashKey::of_seed(&[]);
+    Ok(read_trace(alloc, hash_key, text.as_bytes()).expect(rt, "a trace"))
 }
 
 fn lists_of(alloc: Global, lists: &[&[i32]]) -> Result<Vec<Vec<i32>>, AllocError> {

@@ -1,30 +1,15 @@
 -- The tokens from left to right.
-use Rattle.std.specs.Prelude.{◌≡◌, ℕ, zero, suc, ◌+◌, ◌≤◌, ◌==◌}
-use Rattle.std.specs.Prelude.{Bool, true, false, ◌&&◌, if◌then◌else◌, Option, Some, None, Result}
-use Rattle.std.specs.Prelude.{Ok, Err}
-use Rattle.std.specs.{Prelude.List, Prelude.[], Prelude.◌∷◌, Prelude.length, Prelude.take}
-use Rattle.std.specs.{Prelude.take_while, Char.is_ascii_digit}
-use Rattle.d_lexer.specs.Vocabulary.{Mark, Suffix, Token, TokenKind, Place, Head, Declaration}
-use Rattle.d_lexer.specs.Vocabulary.{Predicate, Body, Position, Front, Flaw, Stop}
-use Rattle.d_lexer.specs.declared.token.TokenKind.TheVariants as kind
-use Rattle.d_lexer.specs.declared.{front.Front.TheVariants.Gap}
-use Rattle.d_lexer.specs.declared.front.Front.TheVariants as front
-use Rattle.d_lexer.specs.declared.{fault.Flaw.TheVariants.BadByte, fault.Flaw.TheVariants.Unclosed}
-use Rattle.d_lexer.specs.declared.{fault.Flaw.TheVariants.Constant, fault.Flaw.TheVariants.Escape}
-use Rattle.d_lexer.specs.declared.{fault.Flaw.TheVariants.OptionLine}
-use Rattle.d_lexer.specs.declared.fault.Stop.TheVariants as stops
-use Rattle.d_lexer.specs.{Bytes.next_is, Bytes.is_blank, Bytes.is_word_start, Bytes.is_word_byte}
-use Rattle.d_lexer.specs.{Bytes.is_run_byte, Bytes.is_inside, Bytes.begins_comment, Bytes.escape_of}
-use Rattle.d_lexer.specs.{Bytes.is_declaring, Bytes.line_feed, Bytes.quote, Bytes.backslash}
-use Rattle.d_lexer.specs.{Bytes.at_sign, Bytes.star, Bytes.slash, Bytes.underscore, Bytes.hash}
-use Rattle.d_lexer.specs.{Steps.Numbers.number_of, Marks.mark_of, Places.passed, Places.is_first}
-use Rattle.d_lexer.specs.{Places.is_hash, Places.after, Faults.on_line, Steps.OptionLine.is_option}
-use Rattle.d_lexer.specs.{Tokens.End, Tokens.Clean, Tokens.Bad, Outcomes.Gives as GivesBy}
+use Rattle.std.specs.Prelude.{◌≡◌, ℕ, zero, suc, ◌+◌, ◌≤◌, ◌==◌, Bool, true, false, ◌&&◌, if◌then◌else◌, Option, Some, None, Result, Ok, Err, List, [], ◌∷◌, length, take, take_while}
+use Rattle.d_lexer.specs.Vocabulary.{is_ascii_digit, Mark, Suffix, Token, TokenKind, Place, Head, Declaration, Predicate, Body, Position, Front, Flaw, Stop, Gap, BadByte, Unclosed, Constant, Escape, OptionLine}
+use Rattle.d_lexer.specs.Bytes.{next_is, is_blank, is_word_start, is_word_byte, is_run_byte, is_inside, begins_comment, escape_of, is_declaring, line_feed, quote, backslash, at_sign, star, slash, underscore, hash}
+use Rattle.d_lexer.specs.Places.{passed, is_first, is_hash, after}
+use Rattle.d_lexer.specs.Tokens.{End, Clean, Bad}
+use Rattle.d_lexer.specs.{Steps.Numbers.number_of, Marks.mark_of, Faults.on_line, Steps.OptionLine.is_option, Outcomes.Gives as GivesBy}
 
 -- the flaw for which a step stops, none where memory was refused
 abbrev pub flaw_of : Stop → Option Flaw
-flaw_of stops.Memory = None
-flaw_of (stops.Flawed g) = Some g
+flaw_of Stop.Memory = None
+flaw_of (Stop.Flawed g) = Some g
 
 -- what was read, unless memory was refused
 abbrev pub Gives : {X : Type 0} → Result X Stop → Result X Flaw → Type 0
@@ -113,19 +98,19 @@ mark_at p a (b ∷ c ∷ z) = three_at p a b c
 -- no more bytes than there are
 abbrev pub Fits : Front → ℕ → Type 0
 Fits (Gap n) len = n ≤ len
-Fits (front.Token k n) len = n ≤ len
+Fits (Front.Token k n) len = n ≤ len
 
 -- ---- what is at the front: a gap or a token, with how many bytes more than one it has
 
 -- a mark, or a byte that begins nothing
 abbrev pub mark_front : Option (Mark × ℕ) → Result Front Flaw
 mark_front None = Err BadByte
-mark_front (Some k) = Ok (front.Token (kind.Mark k.0) k.1)
+mark_front (Some k) = Ok (Front.Token (TokenKind.Mark k.0) k.1)
 
 -- a number, or a constant that is none
 abbrev pub number_front : Option (ℕ × Suffix) → ℕ → Result Front Flaw
 number_front None len = Err Constant
-number_front (Some n) len = Ok (front.Token (kind.Number n.0 n.1) len)
+number_front (Some n) len = Ok (Front.Token (TokenKind.Number n.0 n.1) len)
 
 -- a comment, or one without an end
 abbrev pub comment_front : Option ℕ → Result Front Flaw
@@ -134,12 +119,12 @@ comment_front (Some n) = Ok (Gap (suc n))
 
 -- self and this are words, and every other run is a description run
 abbrev pub head_kind : List ℕ → TokenKind
-head_kind w = if is_declaring w then kind.Word w else kind.DescriptionRun w
+head_kind w = if is_declaring w then TokenKind.Word w else TokenKind.DescriptionRun w
 
 -- a word
 abbrev pub word_front : ℕ → List ℕ → Result Front Flaw
 word_front b z =
-    Ok (front.Token (kind.Word (b ∷ run_of is_word_byte z)) (run_len is_word_byte z))
+    Ok (Front.Token (TokenKind.Word (b ∷ run_of is_word_byte z)) (run_len is_word_byte z))
 
 -- a run that begins with a digit
 abbrev pub run_number : ℕ → List ℕ → Result Front Flaw
@@ -149,17 +134,17 @@ run_number b z =
 -- a run of the head
 abbrev pub run_front : ℕ → List ℕ → Result Front Flaw
 run_front b z =
-    Ok (front.Token (head_kind (b ∷ run_of is_run_byte z)) (run_len is_run_byte z))
+    Ok (Front.Token (head_kind (b ∷ run_of is_run_byte z)) (run_len is_run_byte z))
 
 -- @ alone
 abbrev pub bare_name : Result Front Flaw
-bare_name = Ok (front.Token (kind.AggregationName (underscore ∷ [])) 0)
+bare_name = Ok (Front.Token (TokenKind.AggregationName (underscore ∷ [])) 0)
 
 -- @ and a word
 abbrev pub whole_name : ℕ → List ℕ → Result Front Flaw
 whole_name b z =
     let word = b ∷ run_of is_word_byte z in
-    Ok (front.Token (kind.AggregationName word) (suc (run_len is_word_byte z)))
+    Ok (Front.Token (TokenKind.AggregationName word) (suc (run_len is_word_byte z)))
 
 -- an aggregation name, from after its @
 abbrev pub aggregation_front : List ℕ → Result Front Flaw
@@ -168,7 +153,7 @@ aggregation_front (b ∷ z) = if is_word_start b then whole_name b z else bare_n
 
 -- a text constant, or what is wrong with it
 abbrev pub text_front : Result (List ℕ × ℕ) Flaw → Result Front Flaw
-text_front (Ok t) = Ok (front.Token (kind.TextConstant t.0) t.1)
+text_front (Ok t) = Ok (Front.Token (TokenKind.TextConstant t.0) t.1)
 text_front (Err f) = Err f
 
 -- a token of a declaration, a predicate or a body
@@ -222,7 +207,7 @@ token_from pos t n = record { kind = t; start = pos.at; stop = pos.at + suc n; l
 abbrev pub scan_by : (go : ℕ → Place → Scanned) → Place → Position → Result Front Flaw → Scanned
 scan_by go p pos (Err g) = ([], Bad (on_line g pos.line))
 scan_by go p pos (Ok (Gap n)) = go n p
-scan_by go p pos (Ok (front.Token t n)) =
+scan_by go p pos (Ok (Front.Token t n)) =
     with_first (token_from pos t n) (go n (after p t))
 
 -- the tokens of the bytes, once the first n are passed

@@ -1,19 +1,77 @@
-//! The fields of a plain row: each value and what comes after it, or None where csv has to read the row.
+//! The fields of a plain row: each value and what comes after it, or None where csv has to read the
+//! row.
 
-ghost use Rattle.std.specs.Prelude.{◌≡◌, ◌≤◌, ◌∷◌, [], ℕ, List, IfSome, Some, take, length};
+ghost use Rattle.std.specs.Prelude.{◌≡◌, ◌<◌, ◌≤◌, ◌+◌, ◌*◌, ◌^◌, ◌∷◌, [], ℕ, List, IfSome, Some, take, length};
 ghost use Rattle.std.specs.Str.Parse.{AllDigits, digits_value};
 ghost use Rattle.firing_reader.specs.Column.{signed_of, text_of};
 ghost use Rattle.firing_reader.specs.Plain.{BeginsWith, Closes, Passes, int_of, whole_of};
 
-use super::front::{after_comma, after_feed, after_minus, front, rest_after, word_front};
+use super::front::{
+    after_comma, after_feed, after_minus, after_zero, front, rest_after, word_front,
+};
 use crate::columns::{negative, positive};
-use crate::text::Text;
+use crate::text::{TEXT_LIMIT, Text};
 
 // No number above this is read here: ten of it and a digit still have 64 bits.
 const LARGE: u64 = 1_844_674_407_370_955_160;
 
+// So many digits write a number of 64 bits.
+const SHORT: usize = 19;
+
+// A number with one more digit after it.
+fn longer(number: u64, digit: u8) -> u64
+    requires few { number < 10 ^ 18 }
+    requires digit { digit < 10 }
+    ensures { result ≡ number * 10 + digit }
+{
+    number * 10 + u64::from(digit)
+}
+
+// How many of these bytes a short number has at most.
+fn short_of(bytes: &[u8]) -> usize
+    ensures inside { result ≤ length bytes.now }
+    ensures few { result ≤ 19 }
+{
+    if bytes.len() < SHORT {
+        bytes.len()
+    } else {
+        SHORT
+    }
+}
+
 // The digits at the front: the number that they write, and how many there are.
 fn digits(bytes: &[u8]) -> Option<(u64, usize)>
+    ensures count { IfSome result (λ p. p.1 ≤ length bytes.now) }
+    ensures digits { IfSome result (λ p. AllDigits 10 (take p.1 bytes.now)) }
+    ensures value { IfSome result (λ p. p.0 ≡ digits_value 10 (take p.1 bytes.now)) }
+{
+    let most = short_of(bytes);
+    let mut number: u64 = 0;
+    for at in 0..most {
+        let b = bytes[at];
+        if !b.is_ascii_digit() {
+            return Some((number, at));
+        }
+        number = longer(number, b - b'0');
+    }
+    if has_digit(bytes, most) {
+        return many_digits(bytes);
+    }
+    Some((number, most))
+}
+
+// Whether there is a digit at a place.
+fn has_digit(bytes: &[u8], at: usize) -> bool {
+    match bytes.get(at) {
+        Some(b) => b.is_ascii_digit(),
+        None => false,
+    }
+}
+
+// The same, whatever their number.
+#[cold]
+#[inline(never)]
+fn many_digits(bytes: &[u8]) -> Option<(u64, usize)>
     ensures count { IfSome result (λ p. p.1 ≤ length bytes.now) }
     ensures digits { IfSome result (λ p. AllDigits 10 (take p.1 bytes.now)) }
     ensures value { IfSome result (λ p. p.0 ≡ digits_value 10 (take p.1 bytes.now)) }
@@ -72,7 +130,7 @@ fn word(bytes: &[u8]) -> Option<(Text, &[u8])>
         × Passes bytes.now (field ∷ []) p.1.now × (text_of field ≡ Some p.0)) }
 {
     let count = word_front(bytes);
-    if count > 255 {
+    if count > TEXT_LIMIT {
         return None;
     }
     let rest = after_comma(rest_after(bytes, count))?;
@@ -93,6 +151,7 @@ fn any_text(bytes: &[u8]) -> Option<(Text, &[u8])>
 }
 
 // An argument without a minus.
+#[inline(always)]
 fn above_zero(bytes: &[u8]) -> Option<(i64, &[u8])>
     ensures { IfSome result (λ p. (field : List ℕ)
         × BeginsWith bytes.now field p.1.now × (signed_of field ≡ Some p.0)) }
@@ -102,6 +161,7 @@ fn above_zero(bytes: &[u8]) -> Option<(i64, &[u8])>
 }
 
 // An argument whose minus comes before these bytes.
+#[inline(always)]
 fn below_zero(bytes: &[u8]) -> Option<(i64, &[u8])>
     ensures { IfSome result (λ p. (field : List ℕ)
         × BeginsWith bytes.now field p.1.now × (signed_of (45 ∷ field) ≡ Some p.0)) }
@@ -114,6 +174,7 @@ fn below_zero(bytes: &[u8]) -> Option<(i64, &[u8])>
 }
 
 // An argument, whatever ends it.
+#[inline(always)]
 fn argument(bytes: &[u8]) -> Option<(i64, &[u8])>
     ensures { IfSome result (λ p. (field : List ℕ)
         × BeginsWith bytes.now field p.1.now × (signed_of field ≡ Some p.0)) }
@@ -124,8 +185,21 @@ fn argument(bytes: &[u8]) -> Option<(i64, &[u8])>
     }
 }
 
-// An argument that a comma ends. Most are empty.
+// An argument that a comma ends. Most are 0.
+#[inline(always)]
 pub(crate) fn next_argument(bytes: &[u8]) -> Option<(i64, &[u8])>
+    ensures { IfSome result (λ p. (field : List ℕ)
+        × Passes bytes.now (field ∷ []) p.1.now × (signed_of field ≡ Some p.0)) }
+{
+    match after_zero(bytes) {
+        Some(rest) => Some((0, rest)),
+        None => other_argument(bytes),
+    }
+}
+
+// The same, whatever it is.
+#[inline(never)]
+fn other_argument(bytes: &[u8]) -> Option<(i64, &[u8])>
     ensures { IfSome result (λ p. (field : List ℕ)
         × Passes bytes.now (field ∷ []) p.1.now × (signed_of field ≡ Some p.0)) }
 {
@@ -135,7 +209,8 @@ pub(crate) fn next_argument(bytes: &[u8]) -> Option<(i64, &[u8])>
     }
 }
 
-// The same, whatever its length.
+// One that isn't left out.
+#[inline(always)]
 fn longer_argument(bytes: &[u8]) -> Option<(i64, &[u8])>
     ensures { IfSome result (λ p. (field : List ℕ)
         × Passes bytes.now (field ∷ []) p.1.now × (signed_of field ≡ Some p.0)) }

@@ -85,7 +85,8 @@ fn arguments(bytes: &[u8]) -> Option<([i64; 10], &[u8])>
     Some(([a0, a1, a2, a3, a4, a5, a6, a7, a8, a9], rest))
 }
 
-// The row after a line feed, and what comes from its own line feed on. It follows a firing with the number `last`.
+// The row after a line feed, and what comes from its own line feed on. It follows a firing with the
+// number `last`.
 pub(crate) fn row(bytes: &[u8], last: u64) -> Option<(Firing, &[u8])>
     ensures row { IfSome result (λ p. ReadsRow bytes.now p.1.now p.0) }
     ensures rises { IfSome result (λ p. last < p.0.number) }

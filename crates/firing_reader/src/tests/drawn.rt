@@ -4,6 +4,7 @@ ghost use Rattle.std.specs.Prelude.{◌≤◌};
 
 use super::{HEADER, is_same, joined};
 use crate::{read_trace, read_trace_by};
+use keyed_hash::HashKey;
 use std::alloc::{AllocError, Global};
 use std::test::Fail;
 
@@ -90,7 +91,8 @@ fn other(chance: &mut Chance, column: usize) -> &'static str {
     }
 }
 
-// Adds a row with this number. One field in `rare` is no plain one, and so is the end of one row in `rare`.
+// Adds a row with this number. One field in `rare` is no plain one, and so is the end of one row in
+// `rare`.
 fn add_row(
     bytes: &mut Vec<u8>,
     chance: &mut Chance,
@@ -153,11 +155,11 @@ fn drawn_traces_read_the_same_in_every_way(rt: HostRuntime) -> Result<(), Fail> 
     for seed in 0..TRACES {
         let bytes = drawn(rt.alloc(), seed)?;
         let marked = joined(rt.alloc(), b"\xef\xbb\xbf", &bytes, b"")?;
-        let found = read_trace(rt.alloc(), &bytes);
-        let alone = read_trace(rt.alloc(), &marked);
+        let found = read_trace(rt.alloc(), HashKey::random(&rt), &bytes);
+        let alone = read_trace(rt.alloc(), HashKey::random(&rt), &marked);
         assert!(rt; is_same(&found, &alone), "trace {seed}");
         for workers in 1..9 {
-            let parted = read_trace_by(&rt, rt.alloc(), &bytes, workers);
+            let parted = read_trace_by(&rt, rt.alloc(), HashKey::random(&rt), &bytes, workers);
             assert!(rt;
                 is_same(&found, &parted),
                 "trace {seed} by {workers} workers"
@@ -188,8 +190,8 @@ fn plain_rows(alloc: Global) -> Result<Vec<u8>, AllocError> {
 fn cut_rows_read_the_same_in_four_pieces(rt: HostRuntime) -> Result<(), Fail> {
     let bytes = plain_rows(rt.alloc())?;
     for end in HEADER.len()..bytes.len() + 1 {
-        let found = read_trace(rt.alloc(), &bytes[..end]);
-        let parted = read_trace_by(&rt, rt.alloc(), &bytes[..end], 4);
+        let found = read_trace(rt.alloc(), HashKey::random(&rt), &bytes[..end]);
+        let parted = read_trace_by(&rt, rt.alloc(), HashKey::random(&rt), &bytes[..end], 4);
         assert!(rt; is_same(&found, &parted), "{end} bytes");
     }
     Ok(())

@@ -29,7 +29,8 @@ pub(crate) fn built_in_word(built_in: BuiltIn, firing: &Firing) -> u64
 
 /// Lends the text of a built-in variable; none of an integer.
 pub(crate) fn built_in_text<'a>(built_in: BuiltIn, firing: &'a Firing) -> Option<&'a [u8]>
-    ensures { MatchOption result (spec.built_in_of firing.now built_in ≡ Value.Int (word_of (spec.built_in_of firing.now built_in)))
+    ensures { MatchOption result (spec.built_in_of firing.now built_in
+        ≡ Value.Int (word_of (spec.built_in_of firing.now built_in)))
         (λ b. spec.built_in_of firing.now built_in ≡ Value.Text b.now) }
 {
     match built_in {

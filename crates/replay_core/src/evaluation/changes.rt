@@ -13,7 +13,8 @@ use d_types::{Answer, Operation, Variable};
 use d_values::{ClauseLocals, Key, ThreadTable, Value};
 use std::alloc::Global;
 
-/// Gives a variable the operation's result on the word that it had and the right side's, and answers the word that it then has.
+/// Gives a variable the operation's result on the word that it had and the right side's, and
+/// answers the word that it then has.
 pub(crate) fn updated(
     alloc: Global,
     op: Operation,
@@ -24,7 +25,10 @@ pub(crate) fn updated(
     locals: &mut ClauseLocals,
     own: &mut ThreadTable,
 ) -> Result<u64, EvalFault>
-    ensures { Meets (spec.number (spec.with (spec.given (spec.operation_of op (narrow (spec.works_in op) old) right) (variables locals.old own.old)) (spec.updated x key.now)))
+    ensures { Meets
+        (spec.number (spec.with
+        (spec.given (spec.operation_of op (narrow (spec.works_in op) old) right)
+        (variables locals.old own.old)) (spec.updated x key.now)))
         result (variables locals.new own.new) }
 {
     match operated(op, converted(op, old), right) {
@@ -48,7 +52,9 @@ pub(crate) fn moved(
     locals: &mut ClauseLocals,
     own: &mut ThreadTable,
 ) -> Result<u64, EvalFault>
-    ensures { Meets (spec.number (spec.moved step answer x key.now old (variables locals.old own.old))) result (variables locals.new own.new) }
+    ensures { Meets
+        (spec.number (spec.moved step answer x key.now old (variables locals.old own.old)))
+        result (variables locals.new own.new) }
 {
     let new = held(x.holds, stepped(step, old));
     set(alloc, x, key, Value::Int(new), locals, own)?;

@@ -41,7 +41,8 @@ pub(crate) fn evaluate(
     own: &mut ThreadTable,
     spare: &mut SpareKeys,
 ) -> Result<Value, EvalFault>
-    ensures { Meets (spec.eval firing.now (typed_of e.now) (variables locals.old own.old)) result (variables locals.new own.new) }
+    ensures { Meets (spec.eval firing.now (typed_of e.now) (variables locals.old own.old))
+        result (variables locals.new own.new) }
 {
     match e {
         TypedExpr::Text(text) => {
@@ -82,7 +83,9 @@ pub(crate) fn evaluate_word(
     own: &mut ThreadTable,
     spare: &mut SpareKeys,
 ) -> Result<u64, EvalFault>
-    ensures { Meets (spec.number (spec.eval firing.now (typed_of e.now) (variables locals.old own.old))) result (variables locals.new own.new) }
+    ensures { Meets
+        (spec.number (spec.eval firing.now (typed_of e.now) (variables locals.old own.old)))
+        result (variables locals.new own.new) }
 {
     match e {
         TypedExpr::Constant(_, word) => Ok(*word),
@@ -140,7 +143,9 @@ pub(crate) fn evaluate_text(
     own: &mut ThreadTable,
     spare: &mut SpareKeys,
 ) -> Result<Text, EvalFault>
-    ensures { Meets (spec.text (spec.eval firing.now (typed_of e.now) (variables locals.old own.old))) result (variables locals.new own.new) }
+    ensures { Meets
+        (spec.text (spec.eval firing.now (typed_of e.now) (variables locals.old own.old)))
+        result (variables locals.new own.new) }
 {
     let value = evaluate(alloc, e, firing, locals, own, spare)?;
     Ok(bytes(alloc, value))
@@ -156,7 +161,8 @@ pub(crate) fn evaluate_key(
     own: &mut ThreadTable,
     spare: &mut SpareKeys,
 ) -> Result<Key, EvalFault>
-    ensures { Meets (spec.keys_of firing.now (typeds_of keys.now) (variables locals.old own.old)) result (variables locals.new own.new) }
+    ensures { Meets (spec.keys_of firing.now (typeds_of keys.now) (variables locals.old own.old))
+        result (variables locals.new own.new) }
 {
     let mut key = spare.take(keys.len())?;
     for (place, part) in keys.iter().enumerate() {
@@ -179,7 +185,9 @@ fn evaluate_part(
 ) -> Result<(), EvalFault>
     requires { place < length key.old }
     ensures length { length key.new ≡ length key.old }
-    ensures part { Leaves (spec.with (spec.eval firing.now (typed_of e.now) (variables locals.old own.old)) (λ x. spec.Has (slice_set key.old place (spec.part_of x))))
+    ensures part { Leaves
+        (spec.with (spec.eval firing.now (typed_of e.now) (variables locals.old own.old)) (λ x.
+        spec.Has (slice_set key.old place (spec.part_of x))))
         result key.new (variables locals.new own.new) }
 {
     match lent(&*e, &*firing) {
@@ -206,7 +214,9 @@ fn read(
     own: &mut ThreadTable,
     spare: &mut SpareKeys,
 ) -> Result<Value, EvalFault>
-    ensures { Meets (spec.eval firing.now (typed.Read x (typeds_of keys.now)) (variables locals.old own.old)) result (variables locals.new own.new) }
+    ensures { Meets
+        (spec.eval firing.now (typed.Read x (typeds_of keys.now)) (variables locals.old own.old))
+        result (variables locals.new own.new) }
 {
     let key = evaluate_key(alloc, keys, firing, locals, own, spare)?;
     let value = value_at(alloc, x, &key, locals, own)?;
@@ -225,7 +235,9 @@ fn read_word(
     own: &mut ThreadTable,
     spare: &mut SpareKeys,
 ) -> Result<u64, EvalFault>
-    ensures { Meets (spec.number (spec.eval firing.now (typed.Read x (typeds_of keys.now)) (variables locals.old own.old))) result (variables locals.new own.new) }
+    ensures { Meets
+        (spec.number (spec.eval firing.now (typed.Read x (typeds_of keys.now))
+        (variables locals.old own.old))) result (variables locals.new own.new) }
 {
     let key = evaluate_key(alloc, keys, firing, locals, own, spare)?;
     let word = word_at(x, &key, locals, own);
@@ -245,7 +257,9 @@ fn operate(
     own: &mut ThreadTable,
     spare: &mut SpareKeys,
 ) -> Result<u64, EvalFault>
-    ensures { Meets (spec.number (spec.eval firing.now (typed.Operate op (typed_of a.now) (typed_of b.now)) (variables locals.old own.old))) result (variables locals.new own.new) }
+    ensures { Meets
+        (spec.number (spec.eval firing.now (typed.Operate op (typed_of a.now) (typed_of b.now))
+        (variables locals.old own.old))) result (variables locals.new own.new) }
 {
     let left = evaluate_word(alloc, a, firing, locals, own, spare)?;
     let right = evaluate_word(alloc, b, firing, locals, own, spare)?;
@@ -268,7 +282,9 @@ fn compare_words(
     own: &mut ThreadTable,
     spare: &mut SpareKeys,
 ) -> Result<u64, EvalFault>
-    ensures { Meets (spec.number (spec.eval firing.now (typed.Compare op t (typed_of a.now) (typed_of b.now)) (variables locals.old own.old))) result (variables locals.new own.new) }
+    ensures { Meets
+        (spec.number (spec.eval firing.now (typed.Compare op t (typed_of a.now) (typed_of b.now))
+        (variables locals.old own.old))) result (variables locals.new own.new) }
 {
     let x = evaluate_word(alloc, a, firing, locals, own, spare)?;
     let y = evaluate_word(alloc, b, firing, locals, own, spare)?;
@@ -287,7 +303,9 @@ fn compare_texts(
     own: &mut ThreadTable,
     spare: &mut SpareKeys,
 ) -> Result<u64, EvalFault>
-    ensures { Meets (spec.number (spec.eval firing.now (typed.CompareText op (typed_of a.now) (typed_of b.now)) (variables locals.old own.old))) result (variables locals.new own.new) }
+    ensures { Meets
+        (spec.number (spec.eval firing.now (typed.CompareText op (typed_of a.now) (typed_of b.now))
+        (variables locals.old own.old))) result (variables locals.new own.new) }
 {
     let x = evaluate_text(alloc, a, firing, locals, own, spare)?;
     let y = evaluate_text(alloc, b, firing, locals, own, spare)?;
@@ -305,7 +323,10 @@ fn and(
     own: &mut ThreadTable,
     spare: &mut SpareKeys,
 ) -> Result<u64, EvalFault>
-    ensures { Meets (spec.number (spec.eval firing.now (typed.Logic LogicOperator.And (typed_of a.now) (typed_of b.now)) (variables locals.old own.old))) result (variables locals.new own.new) }
+    ensures { Meets
+        (spec.number (spec.eval firing.now
+        (typed.Logic LogicOperator.And (typed_of a.now) (typed_of b.now))
+        (variables locals.old own.old))) result (variables locals.new own.new) }
 {
     if evaluate_word(alloc, a, firing, locals, own, spare)? == 0 {
         return Ok(0);
@@ -325,7 +346,10 @@ fn or(
     own: &mut ThreadTable,
     spare: &mut SpareKeys,
 ) -> Result<u64, EvalFault>
-    ensures { Meets (spec.number (spec.eval firing.now (typed.Logic LogicOperator.Or (typed_of a.now) (typed_of b.now)) (variables locals.old own.old))) result (variables locals.new own.new) }
+    ensures { Meets
+        (spec.number (spec.eval firing.now
+        (typed.Logic LogicOperator.Or (typed_of a.now) (typed_of b.now))
+        (variables locals.old own.old))) result (variables locals.new own.new) }
 {
     if evaluate_word(alloc, a, firing, locals, own, spare)? != 0 {
         return Ok(1);
@@ -345,7 +369,10 @@ fn xor(
     own: &mut ThreadTable,
     spare: &mut SpareKeys,
 ) -> Result<u64, EvalFault>
-    ensures { Meets (spec.number (spec.eval firing.now (typed.Logic LogicOperator.Xor (typed_of a.now) (typed_of b.now)) (variables locals.old own.old))) result (variables locals.new own.new) }
+    ensures { Meets
+        (spec.number (spec.eval firing.now
+        (typed.Logic LogicOperator.Xor (typed_of a.now) (typed_of b.now))
+        (variables locals.old own.old))) result (variables locals.new own.new) }
 {
     let x = evaluate_word(alloc, a, firing, locals, own, spare)?;
     let y = evaluate_word(alloc, b, firing, locals, own, spare)?;
@@ -364,7 +391,12 @@ fn choose(
     own: &mut ThreadTable,
     spare: &mut SpareKeys,
 ) -> Result<Value, EvalFault>
-    ensures { Meets (spec.with (spec.number (spec.eval firing.now (typed_of test.now) (variables locals.old own.old))) (λ x vars. spec.at_zero x (spec.eval firing.now (typed_of second.now) vars) (spec.eval firing.now (typed_of first.now) vars))) result (variables locals.new own.new) }
+    ensures { Meets
+        (spec.with (spec.number
+        (spec.eval firing.now (typed_of test.now) (variables locals.old own.old)))
+        (λ x vars. spec.at_zero x (spec.eval firing.now (typed_of second.now) vars)
+        (spec.eval firing.now (typed_of first.now) vars)))
+        result (variables locals.new own.new) }
 {
     if evaluate_word(alloc, test, firing, locals, own, spare)? == 0 {
         evaluate(alloc, second, firing, locals, own, spare)
@@ -385,7 +417,13 @@ fn choose_word(
     own: &mut ThreadTable,
     spare: &mut SpareKeys,
 ) -> Result<u64, EvalFault>
-    ensures { Meets (spec.number (spec.with (spec.number (spec.eval firing.now (typed_of test.now) (variables locals.old own.old))) (λ x vars. spec.at_zero x (spec.eval firing.now (typed_of second.now) vars) (spec.eval firing.now (typed_of first.now) vars)))) result (variables locals.new own.new) }
+    ensures { Meets
+        (spec.number (spec.with
+        (spec.number (spec.eval firing.now (typed_of test.now)
+        (variables locals.old own.old)))
+        (λ x vars. spec.at_zero x (spec.eval firing.now (typed_of second.now) vars)
+        (spec.eval firing.now (typed_of first.now) vars))))
+        result (variables locals.new own.new) }
 {
     if evaluate_word(alloc, test, firing, locals, own, spare)? == 0 {
         evaluate_word(alloc, second, firing, locals, own, spare)
@@ -406,7 +444,9 @@ fn assign(
     own: &mut ThreadTable,
     spare: &mut SpareKeys,
 ) -> Result<Value, EvalFault>
-    ensures { Meets (spec.eval firing.now (typed.Assign x (typeds_of keys.now) (typed_of right.now)) (variables locals.old own.old)) result (variables locals.new own.new) }
+    ensures { Meets
+        (spec.eval firing.now (typed.Assign x (typeds_of keys.now) (typed_of right.now))
+        (variables locals.old own.old)) result (variables locals.new own.new) }
 {
     let at = evaluate_key(alloc, keys, firing, locals, own, spare)?;
     let value = evaluate(alloc, right, firing, locals, own, spare)?;
@@ -428,7 +468,9 @@ fn assign_word(
     own: &mut ThreadTable,
     spare: &mut SpareKeys,
 ) -> Result<u64, EvalFault>
-    ensures { Meets (spec.number (spec.eval firing.now (typed.Assign x (typeds_of keys.now) (typed_of a.now)) (variables locals.old own.old))) result (variables locals.new own.new) }
+    ensures { Meets
+        (spec.number (spec.eval firing.now (typed.Assign x (typeds_of keys.now) (typed_of a.now))
+        (variables locals.old own.old))) result (variables locals.new own.new) }
 {
     let key = evaluate_key(alloc, keys, firing, locals, own, spare)?;
     let value = evaluate(alloc, a, firing, locals, own, spare)?;
@@ -451,7 +493,9 @@ fn update(
     own: &mut ThreadTable,
     spare: &mut SpareKeys,
 ) -> Result<u64, EvalFault>
-    ensures { Meets (spec.number (spec.eval firing.now (typed.Update op x (typeds_of keys.now) (typed_of a.now)) (variables locals.old own.old))) result (variables locals.new own.new) }
+    ensures { Meets
+        (spec.number (spec.eval firing.now (typed.Update op x (typeds_of keys.now) (typed_of a.now))
+        (variables locals.old own.old))) result (variables locals.new own.new) }
 {
     let key = evaluate_key(alloc, keys, firing, locals, own, spare)?;
     let old = word_at(x, &key, locals, own);
@@ -474,7 +518,9 @@ fn step(
     own: &mut ThreadTable,
     spare: &mut SpareKeys,
 ) -> Result<u64, EvalFault>
-    ensures { Meets (spec.number (spec.eval firing.now (typed.Count by answer x (typeds_of keys.now)) (variables locals.old own.old))) result (variables locals.new own.new) }
+    ensures { Meets
+        (spec.number (spec.eval firing.now (typed.Count by answer x (typeds_of keys.now))
+        (variables locals.old own.old))) result (variables locals.new own.new) }
 {
     let key = evaluate_key(alloc, keys, firing, locals, own, spare)?;
     let old = word_at(x, &key, locals, own);
@@ -494,7 +540,9 @@ fn join(
     own: &mut ThreadTable,
     spare: &mut SpareKeys,
 ) -> Result<Value, EvalFault>
-    ensures { Meets (spec.eval firing.now (typed.Strjoin (typed_of a.now) (typed_of b.now)) (variables locals.old own.old)) result (variables locals.new own.new) }
+    ensures { Meets
+        (spec.eval firing.now (typed.Strjoin (typed_of a.now) (typed_of b.now))
+        (variables locals.old own.old)) result (variables locals.new own.new) }
 {
     let x = evaluate_text(alloc, a, firing, locals, own, spare)?;
     let y = evaluate_text(alloc, b, firing, locals, own, spare)?;

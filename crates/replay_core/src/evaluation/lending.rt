@@ -13,7 +13,9 @@ use std::alloc::AllocError;
 
 /// Lends the text of a constant or of a built-in variable; none of any other expression.
 pub(crate) fn lent<'a>(e: &'a TypedExpr, firing: &'a Firing) -> Option<&'a [u8]>
-    ensures { IfSome result (λ b. (vars : Variables) → spec.eval firing.now (typed_of e.now) vars ≡ spec.Has (Value.Text b.now) vars) }
+    ensures { IfSome result (λ b.
+        (vars : Variables) → spec.eval firing.now (typed_of e.now) vars
+        ≡ spec.Has (Value.Text b.now) vars) }
 {
     match e {
         TypedExpr::Text(text) => Some(text.as_bytes()),

@@ -16,7 +16,8 @@ use d_values::{ClauseLocals, ThreadTable};
 use firing_reader::Firing;
 use std::alloc::{AllocError, Global};
 
-// The statements, in order, up to the first that faults: its line then stands in place of the texts of all.
+// The statements, in order, up to the first that faults: its line then stands in place of the texts
+// of all.
 fn run_statements<X: Expression, S: Statement<X>>(
     alloc: Global,
     statements: &[S],
@@ -27,13 +28,16 @@ fn run_statements<X: Expression, S: Statement<X>>(
     spare: &mut SpareKeys,
     piece: &mut Piece,
 ) -> Result<bool, AllocError>
-    requires places { places_among (map S.form statements.now) ≤ length (functions_of piece.old.table) }
+    requires places { places_among (map S.form statements.now)
+        ≤ length (functions_of piece.old.table) }
     requires room { count_held piece.old.table + length statements.now ≤ 2 ^ 52 }
     ensures functions { functions_of piece.new.table ≡ functions_of piece.old.table }
     ensures taken { piece.new.taken.items ≡ piece.old.taken.items }
     ensures held { count_held piece.new.table ≤ count_held piece.old.table + length statements.now }
     ensures run { IfOk result (NotesRun firing.now.number
-        (spec.made (spec.fault_line firing.now.number place) (spec.statements_by (X.by firing.now) (map S.form statements.now) (variables locals.old own.old)))
+        (spec.made (spec.fault_line firing.now.number place)
+        (spec.statements_by (X.by firing.now) (map S.form statements.now)
+        (variables locals.old own.old)))
         (piece_seen piece.old) (piece_seen piece.new) (variables locals.new own.new)) }
 {
     let before = piece.texts.len();
@@ -65,7 +69,8 @@ pub(crate) fn run_clause<X: Expression, S: Statement<X>>(
     spare: &mut SpareKeys,
     piece: &mut Piece,
 ) -> Result<bool, AllocError>
-    requires places { places_among (map S.form statements.now) ≤ length (functions_of piece.old.table) }
+    requires places { places_among (map S.form statements.now)
+        ≤ length (functions_of piece.old.table) }
     requires room { count_held piece.old.table + length statements.now ≤ 2 ^ 52 }
     ensures functions { functions_of piece.new.table ≡ functions_of piece.old.table }
     ensures taken { piece.new.taken.items ≡ piece.old.taken.items }

@@ -27,7 +27,8 @@ fn evaluate_argument<X: Expression>(
     own: &mut ThreadTable,
     spare: &mut SpareKeys,
 ) -> Result<i64, EvalFault>
-    ensures { Meets (spec.given_by (X.by firing.now) argument.now (variables locals.old own.old)) result (variables locals.new own.new) }
+    ensures { Meets (spec.given_by (X.by firing.now) argument.now (variables locals.old own.old))
+        result (variables locals.new own.new) }
 {
     match argument {
         None => Ok(0),
@@ -48,7 +49,8 @@ pub(crate) fn plain<X: Expression>(
     spare: &mut SpareKeys,
     piece: &Piece,
 ) -> Result<bool, EvalFault>
-    ensures { Performs firing.now.number (spec.effect_by (X.by firing.now) (typed.Evaluate e.now) (variables locals.old own.old))
+    ensures { Performs firing.now.number
+        (spec.effect_by (X.by firing.now) (typed.Evaluate e.now) (variables locals.old own.old))
         (piece_seen piece.now) result (piece_seen piece.now) (variables locals.new own.new) }
 {
     let _word = e.evaluate_word(alloc, firing, locals, own, spare)?;
@@ -67,7 +69,8 @@ pub(crate) fn trace<X: Expression>(
 ) -> Result<bool, EvalFault>
     ensures table { piece.new.table ≡ piece.old.table }
     ensures taken { piece.new.taken.items ≡ piece.old.taken.items }
-    ensures effect { Performs firing.now.number (spec.effect_by (X.by firing.now) (typed.Trace e.now) (variables locals.old own.old))
+    ensures effect { Performs firing.now.number
+        (spec.effect_by (X.by firing.now) (typed.Trace e.now) (variables locals.old own.old))
         (piece_seen piece.old) result (piece_seen piece.new) (variables locals.new own.new) }
 {
     let value = e.evaluate(alloc, firing, locals, own, spare)?;
@@ -89,7 +92,9 @@ pub(crate) fn print<X: Expression>(
 ) -> Result<bool, EvalFault>
     ensures table { piece.new.table ≡ piece.old.table }
     ensures taken { piece.new.taken.items ≡ piece.old.taken.items }
-    ensures effect { Performs firing.now.number (spec.effect_by (X.by firing.now) (typed.Print format.now arguments.now) (variables locals.old own.old))
+    ensures effect { Performs firing.now.number
+        (spec.effect_by (X.by firing.now) (typed.Print format.now arguments.now)
+        (variables locals.old own.old))
         (piece_seen piece.old) result (piece_seen piece.new) (variables locals.new own.new) }
 {
     let arguments = X::evaluate_arguments(alloc, arguments, firing, locals, own, spare)?;
@@ -110,7 +115,8 @@ pub(crate) fn exit<X: Expression>(
 ) -> Result<bool, EvalFault>
     ensures table { piece.new.table ≡ piece.old.table }
     ensures taken { piece.new.taken.items ≡ piece.old.taken.items }
-    ensures effect { Performs firing.now.number (spec.effect_by (X.by firing.now) (typed.Exit e.now) (variables locals.old own.old))
+    ensures effect { Performs firing.now.number
+        (spec.effect_by (X.by firing.now) (typed.Exit e.now) (variables locals.old own.old))
         (piece_seen piece.old) result (piece_seen piece.new) (variables locals.new own.new) }
 {
     let word = e.evaluate_word(alloc, firing, locals, own, spare)?;
@@ -135,7 +141,9 @@ pub(crate) fn aggregate<X: Expression>(
     ensures held { count_held piece.new.table ≤ count_held piece.old.table + 1 }
     ensures functions { functions_of piece.new.table ≡ functions_of piece.old.table }
     ensures taken { piece.new.taken.items ≡ piece.old.taken.items }
-    ensures effect { Performs firing.now.number (spec.effect_by (X.by firing.now) (typed.Aggregate place keys.now argument.now) (variables locals.old own.old))
+    ensures effect { Performs firing.now.number
+        (spec.effect_by (X.by firing.now) (typed.Aggregate place keys.now argument.now)
+        (variables locals.old own.old))
         (piece_seen piece.old) result (piece_seen piece.new) (variables locals.new own.new) }
 {
     let key = X::evaluate_key(alloc, keys, firing, locals, own, spare)?;

@@ -23,7 +23,9 @@ fn evaluate_arguments(
     own: &mut ThreadTable,
     spare: &mut SpareKeys,
 ) -> Result<Arguments, EvalFault>
-    ensures { Meets (spec.values_of firing.now (typeds_of arguments.now) (variables locals.old own.old)) result (variables locals.new own.new) }
+    ensures { Meets
+        (spec.values_of firing.now (typeds_of arguments.now) (variables locals.old own.old))
+        result (variables locals.new own.new) }
 {
     let mut values = Vec::new(alloc);
     for argument in arguments {

@@ -10,8 +10,8 @@ decreases-cast l = 9 * l.fuel + 1
 abbrev pub decreases-choice : goal.decreases-choice
 decreases-choice l = 9 * l.fuel + 2
 
-abbrev pub decreases-chosen : goal.decreases-chosen
-decreases-chosen l = 9 * l.fuel + 1
+abbrev pub decreases-alternatives : goal.decreases-alternatives
+decreases-alternatives l = 9 * l.fuel + 1
 
 abbrev pub decreases-climb : goal.decreases-climb
 decreases-climb l = 9 * l.fuel
@@ -31,17 +31,17 @@ decreases-further_on l = 9 * l.fuel + 1
 abbrev pub decreases-keys : goal.decreases-keys
 decreases-keys l = 9 * l.fuel + 2
 
-abbrev pub decreases-listed : goal.decreases-listed
-decreases-listed l = 9 * l.fuel + 1
+abbrev pub decreases-closed_list : goal.decreases-closed_list
+decreases-closed_list l = 9 * l.fuel + 1
 
-abbrev pub decreases-marked : goal.decreases-marked
-decreases-marked l = 9 * l.fuel + 6
+abbrev pub decreases-part_at_mark : goal.decreases-part_at_mark
+decreases-part_at_mark l = 9 * l.fuel + 6
 
-abbrev pub decreases-named : goal.decreases-named
-decreases-named l = 9 * l.fuel + 5
+abbrev pub decreases-part_at_name : goal.decreases-part_at_name
+decreases-part_at_name l = 9 * l.fuel + 5
 
-abbrev pub decreases-parenthesised : goal.decreases-parenthesised
-decreases-parenthesised l = 9 * l.fuel + 2
+abbrev pub decreases-part_in_parentheses : goal.decreases-part_in_parentheses
+decreases-part_in_parentheses l = 9 * l.fuel + 2
 
 abbrev pub decreases-part : goal.decreases-part
 decreases-part l = 9 * l.fuel + 7
@@ -49,8 +49,8 @@ decreases-part l = 9 * l.fuel + 7
 abbrev pub decreases-phrase : goal.decreases-phrase
 decreases-phrase l = 9 * l.fuel
 
-abbrev pub decreases-stepped : goal.decreases-stepped
-decreases-stepped l = 9 * l.fuel + 5
+abbrev pub decreases-part_at_step : goal.decreases-part_at_step
+decreases-part_at_step l = 9 * l.fuel + 5
 
 abbrev pub decreases-target : goal.decreases-target
 decreases-target l = 9 * l.fuel + 4

@@ -6,5 +6,5 @@ use Rattle.d_values.proofs.word.negate.Goals as goal
 
 pub returns-clause-number : goal.returns-clause-number
 returns-clause-number c =
-    let word : c.narrowed.result ≡ opposite_of c.args.t c.args.a = search rules in
+    let word : c.narrow_word.result ≡ opposite_of c.args.t c.args.a = search rules in
     ap (number_of c.args.t) word ∙ opposites c.args.t c.args.a c.ranges.a.fits

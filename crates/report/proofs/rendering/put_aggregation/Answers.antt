@@ -5,7 +5,7 @@ use Rattle.report.specs.Listing.{listing_bytes}
 use Rattle.report.proofs.rendering.put_aggregation.Goals as goal
 
 pub returns : goal.returns
-returns c contributions function stands at =
+returns g c contributions function stands at =
     on_ok_weaker c.put_entries.result (λ is. record {
       entries = map deref_pair c.in_ok-entries.entries.items;
       listing = c.in_ok-entries.ensures contributions function stands at;

@@ -4,5 +4,5 @@ use Rattle.report.specs.Output.{AppendsTables}
 use Rattle.report.proofs.rendering.put_tables.Given as goal
 
 abbrev pub invariant-loop-agg : goal.invariant-loop-agg
-invariant-loop-agg l = (contributions : List Contribution) → StandsFor l.table contributions
+invariant-loop-agg g l = (contributions : List Contribution) → StandsFor l.table contributions
     → AppendsTables (take l.agg (functions_of l.table)) contributions l.fn.out.items l.out.items

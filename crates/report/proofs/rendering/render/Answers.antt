@@ -6,7 +6,7 @@ use Rattle.report.proofs.Outputs.{output_after}
 use Rattle.report.proofs.rendering.render.Goals as goal
 
 pub returns : goal.returns
-returns c contributions stands =
+returns g c contributions stands =
     let texts = c.args.whole.now.texts.items in
     let functions = functions_of c.args.whole.now.table in
     let bytes = c.put_tables.new.out.items in

@@ -8,7 +8,7 @@ use Rattle.replay_core.proofs.lane.Lane.new.Goals as goal
 
 pub returns-clause-script : goal.returns-clause-script
 returns-clause-script g c = λ m mean functions.
-    let none : threads_in c.new-3.result.entries ≡ unassigned = search rules in (
+    let none : threads_in c.with_hasher.result.entries ≡ unassigned = search rules in (
       record {
         clauses_mean = mean;
         are_described = ap (map (λ d. d.now)) c.new-2.ensures.descriptions ∙ c.in_ok-descriptions.ensures.meaning (slots_of m) m.clauses mean.each;

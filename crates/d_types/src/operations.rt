@@ -1,0 +1,146 @@
+//! What operators make of typed operands. None where they don't take such operands.
+
+ghost use Rattle.std.specs.Prelude.{◌≡◌, IfOk, option_map, Some};
+ghost use Rattle.d_types.specs.{Faults.OnlyMemory, Typed.typed_of, Typed.Typed, Typed.type_of};
+ghost use Rattle.d_types.specs.Operators as spec;
+
+use crate::fault::TypeFault;
+use crate::operators::BinarySort;
+use crate::typed::{Operation, TypedExpr};
+use d_parser::UnaryOperator;
+use d_values::{DType, IntType, common, promoted};
+use std::alloc::Global;
+
+/// An integer as one of another type.
+pub(crate) fn convert(
+    alloc: Global,
+    from: IntType,
+    to: IntType,
+    x: TypedExpr,
+) -> Result<TypedExpr, TypeFault>
+    ensures ok { IfOk result (λ y. typed_of y ≡ spec.converted from to (typed_of x)) }
+    ensures err { OnlyMemory result }
+{
+    if from == to {
+        Ok(x)
+    } else {
+        Ok(TypedExpr::Convert(from, to, Box::new(alloc, x)?))
+    }
+}
+
+/// A value as one of a type.
+pub(crate) fn as_type(
+    alloc: Global,
+    to: DType,
+    x: TypedExpr,
+) -> Result<Option<TypedExpr>, TypeFault>
+    ensures ok { IfOk result
+        (λ y. option_map typed_of y ≡ spec.as_type (type_of (typed_of x)) to (typed_of x)) }
+    ensures err { OnlyMemory result }
+{
+    match (x.type_of(), to) {
+        (DType::Int(t), DType::Int(u)) => Ok(Some(convert(alloc, t, u, x)?)),
+        (DType::Text, DType::Text) => Ok(Some(x)),
+        _ => Ok(None),
+    }
+}
+
+pub(crate) fn unary(
+    alloc: Global,
+    operator: UnaryOperator,
+    x: TypedExpr,
+) -> Result<Option<TypedExpr>, TypeFault>
+    ensures ok { IfOk result
+        (λ y. option_map typed_of y ≡ spec.unary operator (type_of (typed_of x)) (typed_of x)) }
+    ensures err { OnlyMemory result }
+{
+    match x.type_of() {
+        DType::Int(t) => {
+            let x = convert(alloc, t, promoted(t), x)?;
+            Ok(Some(TypedExpr::Unary(operator, promoted(t), Box::new(alloc, x)?)))
+        }
+        DType::Text => Ok(None),
+    }
+}
+
+fn operate(
+    alloc: Global,
+    operation: Operation,
+    x: TypedExpr,
+    y: TypedExpr,
+) -> Result<Option<TypedExpr>, TypeFault>
+    ensures ok { IfOk result
+        (λ z. option_map typed_of z ≡ Some (Typed.Operate operation (typed_of x) (typed_of y))) }
+    ensures err { OnlyMemory result }
+{
+    let x = Box::new(alloc, x)?;
+    Ok(Some(TypedExpr::Operate(operation, x, Box::new(alloc, y)?)))
+}
+
+/// What an operator makes of two operands.
+pub(crate) fn binary(
+    alloc: Global,
+    sort: BinarySort,
+    x: TypedExpr,
+    y: TypedExpr,
+) -> Result<Option<TypedExpr>, TypeFault>
+    ensures ok { IfOk result
+        (λ z. option_map typed_of z ≡ spec.operation_by sort (type_of (typed_of x))
+        (type_of (typed_of y)) (typed_of x) (typed_of y)) }
+    ensures err { OnlyMemory result }
+{
+    match (sort, x.type_of(), y.type_of()) {
+        (BinarySort::Arithmetic(op), DType::Int(t), DType::Int(u)) => {
+            let x = convert(alloc, t, common(t, u), x)?;
+            let y = convert(alloc, u, common(t, u), y)?;
+            operate(alloc, Operation::Arithmetic(op, common(t, u)), x, y)
+        }
+        (BinarySort::Shift(op), DType::Int(t), DType::Int(_)) => {
+            let x = convert(alloc, t, promoted(t), x)?;
+            operate(alloc, Operation::Shift(op, promoted(t)), x, y)
+        }
+        (BinarySort::Compare(op), DType::Int(t), DType::Int(u)) => {
+            let x = convert(alloc, t, common(t, u), x)?;
+            let y = convert(alloc, u, common(t, u), y)?;
+            let x = Box::new(alloc, x)?;
+            Ok(Some(TypedExpr::Compare(op, common(t, u), x, Box::new(alloc, y)?)))
+        }
+        (BinarySort::Compare(op), DType::Text, DType::Text) => {
+            let x = Box::new(alloc, x)?;
+            Ok(Some(TypedExpr::CompareText(op, x, Box::new(alloc, y)?)))
+        }
+        (BinarySort::Logic(op), DType::Int(_), DType::Int(_)) => {
+            let x = Box::new(alloc, x)?;
+            Ok(Some(TypedExpr::Logic(op, x, Box::new(alloc, y)?)))
+        }
+        _ => Ok(None),
+    }
+}
+
+/// `x ? y : z`
+pub(crate) fn choice(
+    alloc: Global,
+    x: TypedExpr,
+    y: TypedExpr,
+    z: TypedExpr,
+) -> Result<Option<TypedExpr>, TypeFault>
+    ensures ok { IfOk result (λ w. option_map typed_of w ≡ spec.choice (type_of (typed_of x))
+        (type_of (typed_of y)) (type_of (typed_of z)) (typed_of x) (typed_of y) (typed_of z)) }
+    ensures err { OnlyMemory result }
+{
+    match (x.type_of(), y.type_of(), z.type_of()) {
+        (DType::Int(_), DType::Int(t), DType::Int(u)) => {
+            let y = convert(alloc, t, common(t, u), y)?;
+            let z = convert(alloc, u, common(t, u), z)?;
+            let x = Box::new(alloc, x)?;
+            let y = Box::new(alloc, y)?;
+            Ok(Some(TypedExpr::Choice(DType::Int(common(t, u)), x, y, Box::new(alloc, z)?)))
+        }
+        (DType::Int(_), DType::Text, DType::Text) => {
+            let x = Box::new(alloc, x)?;
+            let y = Box::new(alloc, y)?;
+            Ok(Some(TypedExpr::Choice(DType::Text, x, y, Box::new(alloc, z)?)))
+        }
+        _ => Ok(None),
+    }
+}

@@ -1,0 +1,74 @@
+//! Hashers that begin at a secret state.
+
+ghost use Rattle.std.specs.Prelude.{◌≡◌, ℕ, List};
+ghost use Rattle.keyed_hash.specs.Hashing.{key_of};
+
+use std::hash::{BuildHasher, FoldHasher, Hasher};
+use std::random::RandomSource;
+
+/// A hasher that takes eight bytes at a time, and marks the end of each `write` by fewer. Given
+/// more at once, `FoldHasher` multiplies bytes with bytes, and a trace could choose a product of 0.
+#[derive(Clone, Copy)]
+pub struct KeyedHasher {
+    state: FoldHasher,
+}
+
+impl Hasher for KeyedHasher {
+    ghost use Rattle.keyed_hash.specs.Hashing.{after_bytes, hash_of};
+
+    ghost write = { after_bytes };
+
+    ghost finish = { hash_of };
+
+    fn finish(&self) -> u64 {
+        self.state.finish()
+    }
+
+    fn write(&mut self, bytes: &[u8]) {
+        let words = bytes.len() / 8;
+        for word in 0..words {
+            self.state.write(&bytes[8 * word..8 * word + 8]);
+        }
+        self.state.write(&bytes[8 * words..]);
+    }
+}
+
+/// What the hashes of a table's keys depend on beside the keys. A table answers the same whatever
+/// it is.
+#[derive(Clone, Copy)]
+pub struct HashKey {
+    initial: KeyedHasher,
+}
+
+impl HashKey {
+    /// The key that a seed makes.
+    pub fn of_seed(seed: &[u8]) -> HashKey
+        ensures { result ≡ key_of seed.now }
+    {
+        let mut initial = KeyedHasher {
+            state: FoldHasher::default(),
+        };
+        initial.write(seed);
+        HashKey { initial }
+    }
+
+    /// A key that nobody can guess, of eight random bytes. Where the source fails, it may be the
+    /// same in each run.
+    pub fn random(source: &impl RandomSource) -> HashKey
+        ensures { (seed : List ℕ) × (result ≡ key_of seed) }
+    {
+        let mut seed = [0; 8];
+        let _ = source.fill_bytes(&mut seed);
+        HashKey::of_seed(&seed)
+    }
+}
+
+impl BuildHasher for HashKey {
+    type Hasher = KeyedHasher;
+
+    ghost build_hasher = { λ key. key.initial };
+
+    fn build_hasher(&self) -> KeyedHasher {
+        self.initial
+    }
+}

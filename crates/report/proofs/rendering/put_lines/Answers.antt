@@ -1,0 +1,32 @@
+use Rattle.std.proofs.Common.{◌≡◌, List, Bor, ◌++◌, sym, ap, ◌∙◌, rules, append_assoc, append-nil}
+use Rattle.std.specs.List.{flat_map}
+use Rattle.std.specs.Map.Iter.{deref_pair}
+use Rattle.std.specs.Slice.Iter.{chunks_rest}
+use Rattle.std.proofs.lemmas.List.{nil_from_length}
+use Rattle.std.proofs.lemmas.List.Concat.{flat_map-append}
+use Rattle.report.specs.Layout.{entry_bytes}
+use Rattle.report.specs.Vocabulary.{Held, KeyPart}
+use Rattle.report.proofs.rendering.put_lines.Goals as goal
+
+pub loop-round-init : goal.loop-round-init
+loop-round-init g c = (search rules, tt, search rules)
+
+pub loop-round-preserved : goal.loop-round-preserved
+loop-round-preserved g c =
+    let bytes = λ (e : Bor (List KeyPart) × Bor Held). entry_bytes (deref_pair e) in
+    let out = c.loop-round.out.items in
+    let round = c.in-Some.round.now in
+    let after = chunks_rest c.next.new.self in
+    let parts = c.in-Some.ensures.steps.1.0 in
+    let put : c.put_blocks.new.out.items ≡ out ++ flat_map bytes round = c.in_ok-put_blocks.ensures ∙ ap (λ l. out ++ flat_map (λ block. block.items) l) c.deref.ensures.value ∙ ap (λ l. out ++ l) c.in_ok-made.ensures in (
+      search rules,
+      tt,
+      ap (λ l. l ++ flat_map bytes after) put ∙ append_assoc out (flat_map bytes round) (flat_map bytes after)
+          ∙ ap (λ l. out ++ l) (sym (flat_map-append bytes round after) ∙ ap (flat_map bytes) (sym parts)) ∙ c.loop-round.invariant.2,
+    )
+
+pub returns : goal.returns
+returns g c =
+    let out = c.loop-round.out.items in
+    let none = nil_from_length _ c.in-None.ensures.steps.1.0 in
+    sym (append-nil out) ∙ ap (λ l. out ++ flat_map (λ (e : Bor (List KeyPart) × Bor Held). entry_bytes (deref_pair e)) l) (sym none) ∙ c.loop-round.invariant.2
