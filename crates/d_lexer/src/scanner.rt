@@ -20,21 +20,28 @@ fn put(tokens: &mut Vec<Token>, token: Token) -> Result<(), LexFault>
     tokens.push(token).map_err(|_| LexFault::Memory)
 }
 
+// Where the scanner is: in which part of the script, and at which position.
+#[derive(Clone, Copy)]
+struct Cursor {
+    place: Place,
+    pos: Position,
+}
+
 // Reads what is at the front: where the script goes on, and how many bytes more than one were read.
 fn step(
     alloc: Global,
-    place: Place,
-    pos: Position,
+    cursor: Cursor,
     b: u8,
     rest: &[u8],
     tokens: &mut Vec<Token>,
 ) -> Result<(Place, usize), LexFault>
-    requires at { pos.at + length rest.now < MOST_BYTES }
+    requires at { cursor.pos.at + length rest.now < MOST_BYTES }
     ensures is { Steps tokens.old.items tokens.new.items result
-        (scan 0 place pos (b ∷ rest.now))
-        (λ n q. scan n q (passed pos b) rest.now) }
+        (scan 0 cursor.place cursor.pos (b ∷ rest.now))
+        (λ n q. scan n q (passed cursor.pos b) rest.now) }
     ensures fits { IfOk result (λ r. r.1 ≤ length rest.now) }
 {
+    let Cursor { place, pos } = cursor;
     match look(alloc, place, pos, b, rest) {
         Ok(Front::Gap(n)) => Ok((place, n)),
         Ok(Front::Token(kind, n)) => {
@@ -80,7 +87,7 @@ fn scan_tokens(alloc: Global, bytes: &[u8]) -> Result<Vec<Token>, LexFault>
     let mut pos = Position::start();
     let mut place = Place::Head;
     while let [b, after @ ..] = rest {
-        let (next, n) = step(alloc, place, pos, *b, after, &mut tokens)?;
+        let (next, n) = step(alloc, Cursor { place, pos }, *b, after, &mut tokens)?;
         let (there, left) = jump(pos, *b, after, n);
         pos = there;
         rest = left;

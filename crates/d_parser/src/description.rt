@@ -4,7 +4,7 @@ ghost use Rattle.std.specs.Prelude.{◌≡◌, ◌<◌, length, MatchOption, Som
 ghost use Rattle.d_parser.specs.Reading.{Gives};
 ghost use Rattle.d_parser.specs.Script as spec;
 
-use crate::fault::ParseFault;
+use crate::fault::{AT_END, ParseFault};
 use crate::tree::Description;
 use d_lexer::ByteString;
 use std::alloc::Global;
@@ -71,14 +71,13 @@ fn after_three_fields(
     b: &[u8],
     c: &[u8],
     bytes: &[u8],
-    line: usize,
 ) -> Result<Description, ParseFault>
     ensures { Gives (λ d. d) result (spec.description_from (spec.with_first a.now
         (spec.with_first b.now (spec.with_first c.now (spec.fields 1 (Some bytes.now)))))) }
 {
     let (d, rest) = cut(bytes);
     match rest {
-        Some(_) => Err(ParseFault::Syntax { line }),
+        Some(_) => Err(ParseFault::Syntax { line: AT_END }),
         None => new_description(alloc, a, b, c, d),
     }
 }
@@ -88,40 +87,34 @@ fn after_two_fields(
     a: &[u8],
     b: &[u8],
     bytes: &[u8],
-    line: usize,
 ) -> Result<Description, ParseFault>
     ensures { Gives (λ d. d) result (spec.description_from
         (spec.with_first a.now (spec.with_first b.now (spec.fields 2 (Some bytes.now))))) }
 {
     let (c, rest) = cut(bytes);
     match rest {
-        Some(rest) => after_three_fields(alloc, a, b, c, rest, line),
+        Some(rest) => after_three_fields(alloc, a, b, c, rest),
         None => new_description(alloc, b"", a, b, c),
     }
 }
 
-fn after_one_field(
-    alloc: Global,
-    a: &[u8],
-    bytes: &[u8],
-    line: usize,
-) -> Result<Description, ParseFault>
+fn after_one_field(alloc: Global, a: &[u8], bytes: &[u8]) -> Result<Description, ParseFault>
     ensures { Gives (λ d. d) result
         (spec.description_from (spec.with_first a.now (spec.fields 3 (Some bytes.now)))) }
 {
     let (b, rest) = cut(bytes);
     match rest {
-        Some(rest) => after_two_fields(alloc, a, b, rest, line),
+        Some(rest) => after_two_fields(alloc, a, b, rest),
         None => new_description(alloc, b"", b"", a, b),
     }
 }
 
-fn fields(alloc: Global, run: &[u8], line: usize) -> Result<Description, ParseFault>
+fn fields(alloc: Global, run: &[u8]) -> Result<Description, ParseFault>
     ensures { Gives (λ d. d) result (spec.description_from (spec.fields 4 (Some run.now))) }
 {
     let (a, rest) = cut(run);
     match rest {
-        Some(rest) => after_one_field(alloc, a, rest, line),
+        Some(rest) => after_one_field(alloc, a, rest),
         None => new_description(alloc, b"", b"", b"", a),
     }
 }
@@ -137,5 +130,8 @@ pub(crate) fn description_of(
     if is_number(run) {
         return Err(ParseFault::Syntax { line });
     }
-    fields(alloc, run, line)
+    match fields(alloc, run) {
+        Ok(description) => Ok(description),
+        Err(fault) => Err(fault.ending_on(line)),
+    }
 }

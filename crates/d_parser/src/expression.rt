@@ -11,7 +11,7 @@ use crate::fault::{AT_END, ParseFault};
 use crate::marks::{
     ASSIGNMENT, CONDITION, Follow, OR, Prefix, UNARY, follow_at, is_at, prefix_of, tail,
 };
-use crate::names::{after_mark, cast_type, is_typed, line_at, variable};
+use crate::names::{Word, after_mark, cast_type, is_typed, line_at, variable};
 use crate::operators::Step;
 use crate::tree::{Constant, Expr, Target, Variable};
 use crate::words::{WordKind, word_kind};
@@ -94,14 +94,15 @@ fn with_keys<'a>(
 fn target<'a>(
     alloc: Global,
     fuel: usize,
-    name: &ByteString,
-    line: usize,
+    word: Word<'_>,
     tokens: &'a [Token],
 ) -> Result<(Target, &'a [Token]), ParseFault>
     ensures { Gives (λ x. (target_of x.0, x.1.now)) result
-        (spec.target (spec.readers fuel) (word_kind name.now) name.now line tokens.now) }
+        (spec.target (spec.readers fuel)
+        (word_kind word.entry.name.now) word.entry.name.now word.entry.line
+        tokens.now) }
 {
-    let (variable, rest) = variable(alloc, name, line, tokens)?;
+    let (variable, rest) = variable(alloc, word, tokens)?;
     with_keys(alloc, fuel, variable, rest)
 }
 
@@ -140,21 +141,25 @@ fn part_at_name<'a>(
     alloc: Global,
     fuel: usize,
     level: u8,
-    name: &ByteString,
-    line: usize,
+    word: Word<'_>,
     tokens: &'a [Token],
 ) -> Result<(Expr, &'a [Token]), ParseFault>
     ensures { Gives (λ x. (tree_of x.0, x.1.now)) result
-        (spec.part_at_name (spec.readers fuel) level name.now line tokens.now) }
+        (spec.part_at_name
+        (spec.readers fuel) level word.entry.name.now word.entry.line tokens.now) }
 {
-    if begins_call(name, tokens) {
+    if begins_call(word.name, tokens) {
         let (all, rest) = arguments(alloc, fuel, tail(tokens))?;
         return Ok((
-            build::call(line, ByteString::from_slice(alloc, name.as_slice())?, all),
+            build::call(
+                word.line,
+                ByteString::from_slice(alloc, word.name.as_slice())?,
+                all,
+            ),
             rest,
         ));
     }
-    let (target, rest) = target(alloc, fuel, name, line, tokens)?;
+    let (target, rest) = target(alloc, fuel, word, tokens)?;
     follows(alloc, fuel, level, target, rest)
 }
 
@@ -222,7 +227,11 @@ fn part_at_step<'a>(
     };
     match &token.kind {
         TokenKind::Word(name) => {
-            let (target, rest) = target(alloc, fuel, name, token.line, rest)?;
+            let word = Word {
+                name,
+                line: token.line,
+            };
+            let (target, rest) = target(alloc, fuel, word, rest)?;
             Ok((build::before(line, step, target), rest))
         }
         _ => Err(ParseFault::Syntax { line: token.line }),
@@ -282,7 +291,13 @@ fn part<'a>(
                 rest,
             ))
         }
-        TokenKind::Word(name) => part_at_name(alloc, fuel, level, name, token.line, rest),
+        TokenKind::Word(name) => {
+            let word = Word {
+                name,
+                line: token.line,
+            };
+            part_at_name(alloc, fuel, level, word, rest)
+        }
         TokenKind::Mark(mark) => part_at_mark(alloc, fuel, *mark, token.line, rest),
         _ => Err(ParseFault::Syntax { line: token.line }),
     }

@@ -34,11 +34,11 @@ pub const MOST_IN_A_ROW: usize = 1024;
 /// The most clauses that a script may have.
 pub const MOST_CLAUSES: usize = 256;
 
-/// Stands for the line at which the tokens end, until that is filled in.
+/// Stands for a line that isn't known yet, until `ending_on` fills it in.
 pub(crate) const AT_END: usize = 0;
 
 impl ParseFault {
-    /// The same fault, with the line at which the tokens end.
+    /// The same fault, with this line where it has none yet.
     pub(crate) fn ending_on(self, line: usize) -> ParseFault
         ensures { result ≡ ending_on line self }
     {

@@ -70,20 +70,28 @@ fn member(alloc: Global, tokens: &[Token]) -> Result<(ByteString, &[Token]), Par
     plain_word(alloc, after_mark(Mark::Arrow, tokens)?)
 }
 
+/// A word of the script, and its line.
+#[derive(Clone, Copy)]
+pub(crate) struct Word<'a> {
+    pub(crate) name: &'a ByteString,
+    pub(crate) line: usize,
+}
+
 /// The variable that a word begins.
 #[tactic(auto, unfolding(crate::specs::Reading::variable))]
 pub(crate) fn variable<'a>(
     alloc: Global,
-    name: &ByteString,
-    line: usize,
+    word: Word<'_>,
     tokens: &'a [Token],
 ) -> Result<(Variable, &'a [Token]), ParseFault>
     ensures { Gives (λ x. (x.0, x.1.now)) result
-        (spec.variable (word_kind name.now) name.now line tokens.now) }
+        (spec.variable
+        (word_kind word.entry.name.now) word.entry.name.now word.entry.line tokens.now) }
 {
-    match word_kind(name.as_slice()) {
+    let line = word.line;
+    match word_kind(word.name.as_slice()) {
         WordKind::Plain => {
-            let name = ByteString::from_slice(alloc, name.as_slice())?;
+            let name = ByteString::from_slice(alloc, word.name.as_slice())?;
             Ok((Variable::Plain { line, name }, tokens))
         }
         WordKind::Thread => {

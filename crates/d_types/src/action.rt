@@ -132,18 +132,26 @@ fn evaluate(alloc: Global, table: &mut Vec<Entry>, e: &Expr) -> Result<TypedStmt
     Ok(TypedStmt::Evaluate(x))
 }
 
+/// A call that stands as a statement.
+#[derive(Clone, Copy)]
+struct Call<'a> {
+    line: usize,
+    name: &'a [u8],
+    args: &'a [Expr],
+}
+
 fn call_statement(
     alloc: Global,
     table: &mut Vec<Entry>,
-    line: usize,
-    name: &[u8],
-    args: &[Expr],
+    call: Call<'_>,
     e: &Expr,
 ) -> Result<TypedStmt, TypeFault>
-    requires { tree_of e.now ≡ Tree.Call line name.now (trees_of args.now) }
-    ensures { Gives (λ s. (action_of s, rows_of table.new.items)) result (spec.call_statement
-        (callee_named name.now) line name.now (rows_of table.old.items) (trees_of args.now)) }
+    requires { tree_of e.now ≡ Tree.Call call.line call.name.now (trees_of call.args.now) }
+    ensures { Gives (λ s. (action_of s, rows_of table.new.items)) result
+        (spec.call_statement (callee_named call.entry.name.now) call.entry.line
+        call.entry.name.now (rows_of table.old.items) (trees_of call.entry.args.now)) }
 {
+    let Call { line, name, args } = call;
     match callee_named(name) {
         Some(Callee::Trace) => trace(alloc, table, line, args),
         Some(Callee::Exit) => exit(alloc, table, line, args),
@@ -166,7 +174,14 @@ pub(crate) fn action(
             line,
             function,
             arguments,
-        } => call_statement(alloc, table, *line, function.as_slice(), arguments, e),
+        } => {
+            let call = Call {
+                line: *line,
+                name: function.as_slice(),
+                args: arguments,
+            };
+            call_statement(alloc, table, call, e)
+        }
         _ => evaluate(alloc, table, e),
     }
 }

@@ -181,20 +181,30 @@ fn find<'a>(aggs: &'a [TypedAggregation], name: &[u8]) -> Option<(usize, &'a Typ
     None
 }
 
+/// What a statement says of its aggregation, once the keys are typed. No function where the bounds
+/// aren't in range.
+#[derive(Clone, Copy)]
+struct AggregationUse<'a> {
+    line: usize,
+    name: &'a ByteString,
+    keys: &'a [TypedExpr],
+    function: Option<AggFn>,
+}
+
 fn known_place(
     place: usize,
     known: &TypedAggregation,
-    line: usize,
-    name: &ByteString,
-    keys: &[TypedExpr],
-    function: Option<AggFn>,
+    usage: AggregationUse<'_>,
 ) -> Result<usize, TypeFault>
-    ensures { (aggs : Aggs) → Gives (λ p. (p, aggs)) result (spec.place_for line name.now
-        (typeds_of keys.now) function aggs (Some (place, agg_of known.now))) }
+    ensures { (aggs : Aggs) → Gives (λ p. (p, aggs)) result
+        (spec.place_for usage.entry.line usage.entry.name.now
+        (typeds_of usage.entry.keys.now) usage.entry.function aggs
+        (Some (place, agg_of known.now))) }
 {
-    if !fit(&known.keys, keys) {
+    let line = usage.line;
+    if !fit(&known.keys, usage.keys) {
         Err(TypeFault::Keys { line })
-    } else if is_again(function, known.function) {
+    } else if is_again(usage.function, known.function) {
         Ok(place)
     } else {
         Err(TypeFault::AggregationRedefined { line })
@@ -229,20 +239,21 @@ fn define(
 fn new_place(
     alloc: Global,
     aggs: &mut Vec<TypedAggregation>,
-    line: usize,
-    name: &ByteString,
-    keys: &[TypedExpr],
-    function: Option<AggFn>,
+    usage: AggregationUse<'_>,
 ) -> Result<usize, TypeFault>
     ensures { Gives (λ place. (place, aggs_of aggs.new.items)) result
-        (spec.place_for line name.now (typeds_of keys.now) function (aggs_of aggs.old.items) None) }
+        (spec.place_for usage.entry.line usage.entry.name.now
+        (typeds_of usage.entry.keys.now) usage.entry.function
+        (aggs_of aggs.old.items) None) }
 {
+    let line = usage.line;
+    let keys = usage.keys;
     if keys.len() > MOST_KEYS {
         return Err(TypeFault::Keys { line });
     }
-    match function {
+    match usage.function {
         Some(function) => {
-            let place = define(alloc, aggs, name, keys, function)?;
+            let place = define(alloc, aggs, usage.name, keys, function)?;
             Ok(place)
         }
         None => Err(TypeFault::LquantizeBounds { line }),
@@ -253,19 +264,27 @@ fn new_place(
 fn place_for(
     alloc: Global,
     aggs: &mut Vec<TypedAggregation>,
-    line: usize,
-    name: &ByteString,
-    keys: &[TypedExpr],
-    function: Option<AggFn>,
+    usage: AggregationUse<'_>,
 ) -> Result<usize, TypeFault>
     ensures { Gives (λ place. (place, aggs_of aggs.new.items)) result
-        (spec.place_for line name.now (typeds_of keys.now) function (aggs_of aggs.old.items)
-        (spec.find_from 0 name.now (aggs_of aggs.old.items))) }
+        (spec.place_for usage.entry.line usage.entry.name.now
+        (typeds_of usage.entry.keys.now) usage.entry.function
+        (aggs_of aggs.old.items) (spec.find_from 0 usage.entry.name.now (aggs_of aggs.old.items))) }
 {
-    match find(aggs, name.as_slice()) {
-        Some((place, known)) => known_place(place, known, line, name, keys, function),
-        None => new_place(alloc, aggs, line, name, keys, function),
+    match find(aggs, usage.name.as_slice()) {
+        Some((place, known)) => known_place(place, known, usage),
+        None => new_place(alloc, aggs, usage),
     }
+}
+
+/// An aggregation statement, as it is written.
+#[derive(Clone, Copy)]
+pub(crate) struct WrittenAggregation<'a> {
+    pub(crate) line: usize,
+    pub(crate) name: &'a ByteString,
+    pub(crate) keys: &'a [Expr],
+    pub(crate) function: &'a [u8],
+    pub(crate) arguments: &'a [Expr],
 }
 
 /// `@name[keys] = function(arguments)`
@@ -273,31 +292,28 @@ pub(crate) fn aggregate(
     alloc: Global,
     table: &mut Vec<Entry>,
     aggs: &mut Vec<TypedAggregation>,
-    line: usize,
-    name: &ByteString,
-    keys: &[Expr],
-    function: &[u8],
-    args: &[Expr],
+    written: WrittenAggregation<'_>,
 ) -> Result<TypedStmt, TypeFault>
     ensures { Gives (λ s. (action_of s, (rows_of table.new.items, aggs_of aggs.new.items))) result
-        (spec.aggregate line name.now (trees_of keys.now) function.now (trees_of args.now)
+        (spec.aggregate written.entry.line written.entry.name.now (trees_of written.entry.keys.now)
+        written.entry.function.now (trees_of written.entry.arguments.now)
         (rows_of table.old.items) (aggs_of aggs.old.items)) }
 {
-    let keys = wholes(alloc, table, keys)?;
-    let Some(aggregating) = aggregating_named(function) else {
+    let line = written.line;
+    let keys = wholes(alloc, table, written.keys)?;
+    let Some(aggregating) = aggregating_named(written.function) else {
         return Err(TypeFault::Undeclared { line });
     };
-    let values = wholes(alloc, table, args)?;
+    let values = wholes(alloc, table, written.arguments)?;
     if !arguments_fit(aggregating, &values) {
         return Err(TypeFault::Mismatch { line });
     }
-    let place = place_for(
-        alloc,
-        aggs,
+    let usage = AggregationUse {
         line,
-        name,
-        &keys,
-        function_of(aggregating, args),
-    )?;
+        name: written.name,
+        keys: &keys,
+        function: function_of(aggregating, written.arguments),
+    };
+    let place = place_for(alloc, aggs, usage)?;
     Ok(TypedStmt::Aggregate(place, keys, first(values)))
 }

@@ -15,6 +15,14 @@ use d_parser::{IntegerType, Step};
 use d_values::{DType, common, promoted};
 use std::alloc::Global;
 
+/// What is assigned: the variable of a slot, under its keys.
+#[derive(Drop)]
+pub(crate) struct Assignee {
+    pub(crate) space: Space,
+    pub(crate) slot: usize,
+    pub(crate) keys: Vec<TypedExpr>,
+}
+
 /// The type that an assignment gives its target at once.
 pub(crate) fn type_at_once(sort: AssignSort) -> Option<DType>
     ensures { result ≡ spec.type_at_once sort }
@@ -63,16 +71,15 @@ fn step_of(step: Step, answer: Answer, variable: Variable, keys: Vec<TypedExpr>)
 fn store(
     alloc: Global,
     table: &mut [Entry],
-    space: Space,
-    slot: usize,
-    keys: Vec<TypedExpr>,
+    to: Assignee,
     x: TypedExpr,
 ) -> Result<Option<TypedExpr>, TypeFault>
     ensures ok { IfOk result (λ y. option_map (λ z. (typed_of z, rows_of table.new)) y
-        ≡ spec.store space (type_at (rows_of table.old) slot) slot (typeds_of keys.items)
-        (typed_of x) (rows_of table.old)) }
+        ≡ spec.store to.space (type_at (rows_of table.old) to.slot) to.slot
+        (typeds_of to.keys.items) (typed_of x) (rows_of table.old)) }
     ensures err { OnlyMemory result }
 {
+    let Assignee { space, slot, keys } = to;
     match type_at(table, slot) {
         None => {
             let holds = x.type_of();
@@ -95,18 +102,18 @@ pub(crate) fn assignment(
     alloc: Global,
     table: &mut [Entry],
     sort: AssignSort,
-    space: Space,
-    slot: usize,
-    keys: Vec<TypedExpr>,
+    to: Assignee,
     x: TypedExpr,
 ) -> Result<Option<TypedExpr>, TypeFault>
     ensures ok { IfOk result (λ y. option_map (λ z. (typed_of z, rows_of table.new)) y
-        ≡ spec.assignment sort space (type_at (rows_of table.old) slot) (type_of (typed_of x)) slot
-        (typeds_of keys.items) (typed_of x) (rows_of table.old)) }
+        ≡ spec.assignment sort to.space (type_at (rows_of table.old) to.slot)
+        (type_of (typed_of x)) to.slot (typeds_of to.keys.items) (typed_of x)
+        (rows_of table.old)) }
     ensures err { OnlyMemory result }
 {
+    let Assignee { space, slot, keys } = to;
     match (sort, type_at(table, slot), x.type_of()) {
-        (AssignSort::Set, _, _) => store(alloc, table, space, slot, keys, x),
+        (AssignSort::Set, _, _) => store(alloc, table, Assignee { space, slot, keys }, x),
         (AssignSort::Arithmetic(op), Some(DType::Int(t)), DType::Int(u)) => {
             let x = convert(alloc, u, common(t, u), x)?;
             let variable = variable_at(space, slot, DType::Int(t))?;
@@ -127,14 +134,13 @@ pub(crate) fn step(
     table: &[Entry],
     by: Step,
     answer: Answer,
-    space: Space,
-    slot: usize,
-    keys: Vec<TypedExpr>,
+    to: Assignee,
 ) -> Result<Option<TypedExpr>, TypeFault>
-    ensures ok { IfOk result (λ y. option_map typed_of y ≡ spec.step by answer space
-        (type_at (rows_of table.now) slot) slot (typeds_of keys.items)) }
+    ensures ok { IfOk result (λ y. option_map typed_of y ≡ spec.step by answer to.space
+        (type_at (rows_of table.now) to.slot) to.slot (typeds_of to.keys.items)) }
     ensures err { OnlyMemory result }
 {
+    let Assignee { space, slot, keys } = to;
     match type_at(table, slot) {
         Some(DType::Int(t)) => {
             let variable = variable_at(space, slot, DType::Int(t))?;

@@ -5,7 +5,7 @@ ghost use Rattle.d_types.specs.{Vocabulary.tree_of, Vocabulary.stmt_of, Vocabula
 ghost use Rattle.d_types.specs.Scripts as spec;
 
 use crate::action::action;
-use crate::aggregation::aggregate;
+use crate::aggregation::{WrittenAggregation, aggregate};
 use crate::expression::{expr, line_of};
 use crate::fault::TypeFault;
 use crate::needs::{REGISTERS, fits};
@@ -62,8 +62,14 @@ fn statement(
             function,
             arguments,
         } => {
-            let function = function.as_slice();
-            aggregate(alloc, table, aggs, *line, name, keys, function, arguments)
+            let written = WrittenAggregation {
+                line: *line,
+                name,
+                keys,
+                function: function.as_slice(),
+                arguments,
+            };
+            aggregate(alloc, table, aggs, written)
         }
     }
 }

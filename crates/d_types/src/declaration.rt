@@ -6,10 +6,9 @@ ghost use Rattle.d_types.specs.Scripts as spec;
 
 use crate::constants::declared_type;
 use crate::fault::TypeFault;
-use crate::targets::copy_of;
+use crate::targets::{VariableName, copy_of};
 use crate::typed::Space;
 use crate::variables::{Entry, MOST_KEYS, find, kind_of};
-use d_lexer::ByteString;
 use d_parser::{Declaration, DeclaredType};
 use d_values::Kind;
 use std::alloc::{AllocError, Global};
@@ -26,21 +25,21 @@ fn declared_kinds(alloc: Global, keys: &[DeclaredType]) -> Result<Vec<Kind>, All
 fn add_declared(
     alloc: Global,
     table: &mut Vec<Entry>,
-    space: Space,
-    name: &ByteString,
+    variable: VariableName<'_>,
     declared: DeclaredType,
     keys: &[DeclaredType],
 ) -> Result<(), TypeFault>
     ensures added { OnOk result (rows_of table.new.items ≡ rows_of table.old.items
         ++ record {
-          space = space;
-          word = name.now;
+          space = variable.entry.space;
+          word = variable.entry.name.now;
           keys = spec.declared_kinds keys.now;
           holds = Some (declared_type declared);
         } ∷ []) }
     ensures err { OnlyMemory result }
 {
-    let name = copy_of(alloc, name)?;
+    let space = variable.space;
+    let name = copy_of(alloc, variable.name)?;
     let keys = declared_kinds(alloc, keys)?;
     let holds = Some(declared_type(declared));
     table.push(Entry {
@@ -55,23 +54,24 @@ fn add_declared(
 fn declare(
     alloc: Global,
     table: &mut Vec<Entry>,
-    space: Space,
-    line: usize,
-    name: &ByteString,
+    variable: VariableName<'_>,
     declared: DeclaredType,
     keys: &[DeclaredType],
 ) -> Result<(), TypeFault>
     ensures { Gives (λ x. rows_of table.new.items) result
-        (spec.declare space line name.now declared keys.now (rows_of table.old.items)
-        (find space name.now (rows_of table.old.items))) }
+        (spec.declare variable.entry.space variable.entry.line variable.entry.name.now declared
+        keys.now
+        (rows_of table.old.items)
+        (find variable.entry.space variable.entry.name.now (rows_of table.old.items))) }
 {
-    match find(table, space, name.as_slice()) {
+    let line = variable.line;
+    match find(table, variable.space, variable.name.as_slice()) {
         Some(_) => Err(TypeFault::Mismatch { line }),
         None => {
             if keys.len() > MOST_KEYS {
                 return Err(TypeFault::Keys { line });
             }
-            add_declared(alloc, table, space, name, declared, keys)?;
+            add_declared(alloc, table, variable, declared, keys)?;
             Ok(())
         }
     }
@@ -92,11 +92,29 @@ pub(crate) fn declaration(
             declared,
             name,
             keys,
-        } => declare(alloc, table, Space::Thread, *line, name, *declared, keys),
+        } => {
+            let (space, line) = (Space::Thread, *line);
+            declare(
+                alloc,
+                table,
+                VariableName { space, line, name },
+                *declared,
+                keys,
+            )
+        }
         Declaration::Clause {
             line,
             declared,
             name,
-        } => declare(alloc, table, Space::Clause, *line, name, *declared, &[]),
+        } => {
+            let (space, line) = (Space::Clause, *line);
+            declare(
+                alloc,
+                table,
+                VariableName { space, line, name },
+                *declared,
+                &[],
+            )
+        }
     }
 }

@@ -4,7 +4,7 @@ ghost use Rattle.std.specs.Prelude.{◌≡◌, IfOk};
 ghost use Rattle.d_types.specs.{Vocabulary.tree_of, Vocabulary.trees_of, Vocabulary.Tree, Faults.Gives, Faults.OnlyMemory, Typed.typed_of, Typed.typeds_of, Typed.Typeds, Variables.rows_of};
 ghost use Rattle.d_types.specs.Typing as spec;
 
-use crate::assignments::{assignment, step, type_at_once};
+use crate::assignments::{Assignee, assignment, step, type_at_once};
 use crate::calls::call;
 use crate::constants::{int_type, integer, type_of_constant};
 use crate::fault::TypeFault;
@@ -182,22 +182,38 @@ fn call_expr(
     }
 }
 
+// What is assigned, once its keys are typed.
+#[derive(Drop)]
+struct TypedTarget<'a> {
+    variable: &'a Variable,
+    keys: Vec<TypedExpr>,
+}
+
+// `++` or `--`: the line that it is on, and which value it gives.
+#[derive(Clone, Copy)]
+struct StepOperator {
+    line: usize,
+    by: Step,
+    answer: Answer,
+}
+
 // `++` and `--`, once the keys are typed.
 fn step_rest(
     alloc: Global,
     table: &mut Vec<Entry>,
-    line: usize,
-    by: Step,
-    answer: Answer,
-    variable: &Variable,
-    keys: Vec<TypedExpr>,
+    operator: StepOperator,
+    to: TypedTarget<'_>,
 ) -> Result<TypedExpr, TypeFault>
-    ensures { Gives (λ x. (typed_of x, rows_of table.new.items)) result (spec.step_rest
-        (rows_of table.old.items) line by answer variable.now (typeds_of keys.items)) }
+    ensures { Gives (λ x. (typed_of x, rows_of table.new.items)) result
+        (spec.step_rest (rows_of table.old.items) operator.line operator.by operator.answer
+        to.entry.variable.now (typeds_of to.entry.keys.items)) }
 {
+    let TypedTarget { variable, keys } = to;
+    let StepOperator { line, by, answer } = operator;
+    let space = space_of(variable);
     let long = Some(integer(IntegerType::Int64));
     let slot = target(alloc, table, variable, long, &keys)?;
-    match step(table, by, answer, space_of(variable), slot, keys)? {
+    match step(table, by, answer, Assignee { space, slot, keys })? {
         Some(typed) => Ok(typed),
         None => Err(TypeFault::Mismatch { line }),
     }
@@ -215,8 +231,11 @@ fn before_expr(
         (spec.expr (rows_of table.old.items)
         (Tree.Before line by target.now.variable (trees_of target.now.keys.items))) }
 {
+    let variable = &target.variable;
     let keys = exprs(alloc, table, &target.keys)?;
-    step_rest(alloc, table, line, by, Answer::New, &target.variable, keys)
+    let answer = Answer::New;
+    let operator = StepOperator { line, by, answer };
+    step_rest(alloc, table, operator, TypedTarget { variable, keys })
 }
 
 #[cycle(typing)]
@@ -232,15 +251,10 @@ fn after_expr(
 {
     let variable = &target.variable;
     let keys = exprs(alloc, table, &target.keys)?;
-    step_rest(
-        alloc,
-        table,
-        line_of_variable(variable),
-        by,
-        Answer::Old,
-        variable,
-        keys,
-    )
+    let line = line_of_variable(variable);
+    let answer = Answer::Old;
+    let operator = StepOperator { line, by, answer };
+    step_rest(alloc, table, operator, TypedTarget { variable, keys })
 }
 
 #[cycle(typing)]
@@ -280,7 +294,14 @@ fn assign_expr(
         (tree_of value.now))) }
 {
     let keys = exprs(alloc, table, &target.keys)?;
-    assign_rest(alloc, table, operator, &target.variable, value, keys)
+    let variable = &target.variable;
+    assign_rest(
+        alloc,
+        table,
+        operator,
+        TypedTarget { variable, keys },
+        value,
+    )
 }
 
 // An assignment, once its target's keys are typed.
@@ -289,18 +310,19 @@ fn assign_rest(
     alloc: Global,
     table: &mut Vec<Entry>,
     operator: AssignOperator,
-    variable: &Variable,
+    to: TypedTarget<'_>,
     value: &Expr,
-    keys: Vec<TypedExpr>,
 ) -> Result<TypedExpr, TypeFault>
     ensures { Gives (λ x. (typed_of x, rows_of table.new.items)) result
-        (spec.assign_rest (rows_of table.old.items) operator variable.now (typeds_of keys.items)
-        (tree_of value.now)) }
+        (spec.assign_rest (rows_of table.old.items) operator to.entry.variable.now
+        (typeds_of to.entry.keys.items) (tree_of value.now)) }
 {
+    let TypedTarget { variable, keys } = to;
     let sort = assign_sort(operator);
     let slot = target(alloc, table, variable, type_at_once(sort), &keys)?;
     let x = expr(alloc, table, value)?;
-    match assignment(alloc, table, sort, space_of(variable), slot, keys, x)? {
+    let space = space_of(variable);
+    match assignment(alloc, table, sort, Assignee { space, slot, keys }, x)? {
         Some(typed) => Ok(typed),
         None => Err(TypeFault::Mismatch {
             line: line_of_variable(variable),

@@ -155,22 +155,31 @@ fn settle(table: &mut [Entry], slot: usize, holds: Option<DType>)
     }
 }
 
+/// A variable of a thread or of the clauses, as the script names it.
+#[derive(Clone, Copy)]
+pub(crate) struct VariableName<'a> {
+    pub(crate) space: Space,
+    pub(crate) line: usize,
+    pub(crate) name: &'a ByteString,
+}
+
 // A new variable, and its slot.
 fn add_entry(
     alloc: Global,
     table: &mut Vec<Entry>,
-    space: Space,
-    name: &ByteString,
+    variable: VariableName<'_>,
     holds: Option<DType>,
     keys: &[TypedExpr],
 ) -> Result<usize, TypeFault>
     ensures slot { IfOk result (λ slot. slot ≡ length (rows_of table.old.items)) }
     ensures added { OnOk result (rows_of table.new.items ≡ rows_of table.old.items
-        ++ spec.new_row space name.now holds (typeds_of keys.now) ∷ []) }
+        ++ spec.new_row variable.entry.space variable.entry.name.now holds (typeds_of keys.now)
+        ∷ []) }
     ensures err { OnlyMemory result }
 {
     let slot = table.len();
-    let name = copy_of(alloc, name)?;
+    let space = variable.space;
+    let name = copy_of(alloc, variable.name)?;
     let keys = kinds_of(alloc, keys)?;
     table.push(Entry {
         space,
@@ -184,27 +193,31 @@ fn add_entry(
 fn slot_for(
     alloc: Global,
     table: &mut Vec<Entry>,
-    space: Space,
-    line: usize,
-    name: &ByteString,
+    variable: VariableName<'_>,
     holds: Option<DType>,
     keys: &[TypedExpr],
 ) -> Result<usize, TypeFault>
     ensures { Gives (λ slot. (slot, rows_of table.new.items)) result
-        (spec.slot_for space line name.now (rows_of table.old.items) holds (typeds_of keys.now)
-        (find space name.now (rows_of table.old.items))) }
+        (spec.slot_for variable.entry.space variable.entry.line variable.entry.name.now
+        (rows_of table.old.items)
+        holds (typeds_of keys.now)
+        (find variable.entry.space variable.entry.name.now (rows_of table.old.items))) }
 {
-    match find(table, space, name.as_slice()) {
+    match find(table, variable.space, variable.name.as_slice()) {
         None => {
-            if most_keys(space) < keys.len() {
-                return Err(TypeFault::Keys { line });
+            if most_keys(variable.space) < keys.len() {
+                return Err(TypeFault::Keys {
+                    line: variable.line,
+                });
             }
-            let added = add_entry(alloc, table, space, name, holds, keys)?;
+            let added = add_entry(alloc, table, variable, holds, keys)?;
             Ok(added)
         }
         Some(slot) => {
             if !keys_fit(table, slot, keys) {
-                return Err(TypeFault::Keys { line });
+                return Err(TypeFault::Keys {
+                    line: variable.line,
+                });
             }
             settle(table, slot, holds);
             Ok(slot)
@@ -228,10 +241,24 @@ pub(crate) fn target(
             plain_target(alloc, *line, name, built_in(name.as_slice()), keys)
         }
         d_parser::Variable::Thread { line, name } => {
-            slot_for(alloc, table, Space::Thread, *line, name, holds, keys)
+            let (space, line) = (Space::Thread, *line);
+            slot_for(
+                alloc,
+                table,
+                VariableName { space, line, name },
+                holds,
+                keys,
+            )
         }
         d_parser::Variable::Clause { line, name } => {
-            slot_for(alloc, table, Space::Clause, *line, name, holds, keys)
+            let (space, line) = (Space::Clause, *line);
+            slot_for(
+                alloc,
+                table,
+                VariableName { space, line, name },
+                holds,
+                keys,
+            )
         }
     }
 }

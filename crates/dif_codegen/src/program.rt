@@ -3,8 +3,8 @@
 use aggregations::AggFn;
 use d_parser::Description;
 use d_types::Piece;
-use d_values::{ClauseLocals, DType, ThreadTable, Value};
-use dif_machine::{MachineFault, run};
+use d_values::{ClauseLocals, DType, ThreadTable, ValueRef};
+use dif_machine::{Frame, MachineFault, run_in};
 use dif_validate::ValidDifo;
 use firing_reader::Firing;
 use std::alloc::Global;
@@ -22,22 +22,24 @@ impl TypedObject {
     ghost use Rattle.d_values.specs.Storage.{variables};
     ghost use Rattle.dif_codegen.specs.Correct.{Gives};
     ghost use Rattle.dif_codegen.specs.Meaning.{value_of};
+    ghost use Rattle.dif_machine.specs.Runs.{value_result};
 
-    /// Runs it for a firing, and returns what it returns. The variables keep the writes so far, also
-    /// after a fault.
-    pub fn run(
-        &self,
+    /// Runs it for a firing, in a frame that may have served other runs, and lends what it returns.
+    /// The variables keep the writes so far, also after a fault.
+    pub fn run_in<'a>(
+        &'a self,
         alloc: Global,
-        firing: &Firing,
+        firing: &'a Firing,
+        frame: &'a mut Frame,
         locals: &mut ClauseLocals,
         own: &mut ThreadTable,
-    ) -> Result<Value, MachineFault>
+    ) -> Result<ValueRef<'a>, MachineFault>
         ensures { Gives (value_of firing.now self.now.object (variables locals.old own.old))
-            result (variables locals.new own.new) }
+            (value_result result) (variables locals.new own.new) }
     {
         // That it is valid.
         let _ = self.object.difo();
-        run(alloc, &self.object, firing, locals, own)
+        run_in(alloc, &self.object, firing, frame, locals, own)
     }
 }
 

@@ -124,9 +124,14 @@ module _ (o : Object) (f : Firing) (s : Frame) (vars : Variables) where
       ap (λ x. on x (λ value. puts s d value vars)) c
       ∙ goes_to (with_value s d value) t e
 
-  pub ret : (a : Reg) (value : Value) → at s.registers a ≡ Some value
-      → act (Ret a) o f s vars ≡ Ends value vars
-  ret a value p = ap (λ x. on x (λ value. Ends value vars)) p
+  pub ret : (a : Reg) (some : Variables) → act (Ret a) o f s some ≢ Stuck
+      → (value : Value) × (at s.registers a ≡ Some value) × (act (Ret a) o f s vars ≡ Ends value vars)
+  ret a some runs = by (at s.registers a) refl runs
+    where
+      by : (x : Option Value) → at s.registers a ≡ x → on x (λ value. Ends value some) ≢ Stuck
+          → (value : Value) × (at s.registers a ≡ Some value) × (act (Ret a) o f s vars ≡ Ends value vars)
+      by None e runs = absurd (runs refl)
+      by (Some value) e runs = (value, e, ap (λ x. on x (λ value. Ends value vars)) e)
 
   -- ---- branches
 

@@ -11,7 +11,7 @@ use Rattle.dif_machine.specs.Vocabulary.{Comparison, Firing, Instr, Alu, Not, Mo
 use Rattle.dif_machine.specs.Changes.{written, compares, fills, stores, Changes}
 use Rattle.dif_machine.specs.Frames.{Frame, at_place, with_value, with_comparison, with_tuple}
 use Rattle.dif_machine.specs.Operators.{result_of, compared, texts_compared, holds, call_of}
-use Rattle.dif_machine.specs.Steps.{Next, Goes, Stuck, on, on_number, on_text, on_kind, on_key, puts_result, act, step_of}
+use Rattle.dif_machine.specs.Steps.{Next, Goes, Ends, Stuck, on, on_number, on_text, on_kind, on_key, puts_result, act, step_of}
 use Rattle.dif_machine.proofs.Fitting.{put_set, put_zero}
 
 abbrev register_of : ℕ → Reg
@@ -146,3 +146,11 @@ acts o f s vars Nop = go s vars Nop (s.pc + 1) (λ ne. absurd (ne refl))
 
 pub step_changes : (o : Object) (f : Firing) (s : Frame) (vars : Variables) (i : Instr) → slice_get o.code s.pc ≡ Some i → Changes i s vars (step_of o f s vars)
 step_changes o f s vars i there = subst (λ x. Changes i s vars (on x (λ j. act j o f s vars))) (sym there) (acts o f s vars i)
+
+-- a step that ends the run changes no variable
+pub end_keeps : (o : Object) (f : Firing) (s : Frame) (vars after : Variables) (value : Value) → step_of o f s vars ≡ Ends value after → after ≡ vars
+end_keeps o f s vars after value e = by (slice_get o.code s.pc) e
+  where
+    by : (x : Option Instr) → on x (λ i. act i o f s vars) ≡ Ends value after → after ≡ vars
+    by None h = cc
+    by (Some i) h = subst (Changes i s vars) h (acts o f s vars i)

@@ -4,3 +4,6 @@ pub mod Ending
 pub mod Acting
 pub mod Executing
 pub mod Changing
+pub mod Clearing
+pub mod Arriving
+pub mod Loading

@@ -1,5 +1,5 @@
 -- What the registers of a frame hold: constants and texts of the firing by their places.
-use Rattle.std.specs.Prelude.{List, Option, Some, None, map, option_map, slice_get}
+use Rattle.std.specs.Prelude.{List, [], ◌∷◌, Option, Some, None, map, option_map, slice_get}
 use Rattle.dif_machine.specs.declared.held.Held.{Held}
 use Rattle.dif_machine.specs.declared.held.Held.TheVariants as held
 use Rattle.dif_machine.specs.Vocabulary.{Firing, FrameInMemory, Object, Value, Int, Text}
@@ -15,6 +15,13 @@ content o f (held.Text text) = Some (Text text)
 
 abbrev pub contents : Object → Firing → List Held → List (Option Value)
 contents o f registers = map (content o f) registers
+
+-- the registers before the first instruction
+abbrev pub blank_registers : List Held
+blank_registers =
+    held.Int 0
+    ∷ held.Unset ∷ held.Unset ∷ held.Unset ∷ held.Unset ∷ held.Unset ∷ held.Unset ∷ held.Unset
+    ∷ []
 
 -- the frame that stands in memory so
 abbrev pub frame_of : Object → Firing → FrameInMemory → Frame

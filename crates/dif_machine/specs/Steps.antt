@@ -105,11 +105,12 @@ act Nop o f s vars = Goes (at_place s (s.pc + 1)) vars
 abbrev pub step_of : Object → Firing → Frame → Variables → Next
 step_of o f s vars = on (slice_get o.code s.pc) (λ i. act i o f s vars)
 
--- what a call that makes a step from these variables returns and leaves; where memory ran out, all
--- as it was
-abbrev pub Stepped : Variables → Next → Result (Option Value) MachineFault → Frame → Variables
+-- what a call that makes a step from these variables returns and leaves; where the step ends the
+-- run, the value is in a register; where memory ran out, all as it was
+abbrev pub Stepped : Variables → Next → Result (Option Reg) MachineFault → Frame → Variables
     → Type 0
 Stepped vars next (Ok None) s after = next ≡ Goes s after
-Stepped vars next (Ok (Some value)) s after = next ≡ Ends value after
+Stepped vars next (Ok (Some a)) s after =
+    (value : Value) × (at s.registers a ≡ Some value) × (next ≡ Ends value after)
 Stepped vars next (Err DivideByZero) s after = next ≡ Faults after
 Stepped vars next (Err Memory) s after = after ≡ vars

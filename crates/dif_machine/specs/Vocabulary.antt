@@ -12,6 +12,7 @@ pub use Rattle.d_values.specs.declared.operators.ShiftOperator.TheVariants.{Left
 pub use Rattle.d_values.specs.declared.value.Kind.{Kind}
 pub use Rattle.d_values.specs.declared.value.Kind.TheVariants.{Number as NumberKind, Text as TextKind}
 pub use Rattle.d_values.specs.declared.value.Value.{Value}
+pub use Rattle.d_values.specs.declared.value.ValueRef.{ValueRef}
 pub use Rattle.d_values.specs.declared.value.Value.TheVariants.{Int, Text}
 pub use Rattle.d_values.specs.declared.variable.Var.{Var}
 pub use Rattle.firing_reader.specs.declared.firing.Firing.{Firing}

@@ -2,15 +2,16 @@
 
 ghost use Rattle.std.specs.Prelude.{◌≡◌, ◌≢◌, ◌<◌, ◌+◌, ◌-◌, ◌^◌, ◌++◌, ◌∷◌, [], ℕ, List, Some, None, IfOk, OnOk};
 ghost use Rattle.dif_machine.specs.Vocabulary.{Firing as Recorded, Object, at, lent_value, object_of};
-ghost use Rattle.dif_machine.specs.{Frames.at_place, Frames.start, Frames.with_comparison, Frames.with_content, Frames.with_tuple, Held.content, Held.contents, Held.frame_of};
+ghost use Rattle.dif_machine.specs.{Frames.at_place, Frames.start, Frames.with_comparison, Frames.with_content, Frames.with_tuple, Held.content, Held.contents, Held.frame_of, Held.blank_registers};
 
 use crate::comparing::Comparison;
 use crate::held::Held;
 use crate::sources::{built_in, owned};
-use d_values::{Key, KeyPart, Value, ValueRef};
+use d_values::{Key, KeyPart, Text, Value, ValueRef};
 use dif_validate::{Difo, Reg};
 use firing_reader::Firing;
 use std::alloc::{AllocError, Global};
+use std::mem;
 
 /// The place in the code, the registers, the comparison and the tuple.
 #[derive(Drop)]
@@ -23,11 +24,13 @@ pub struct Frame {
     pub comparison: Option<Comparison>,
     /// The tuple.
     pub tuple: Key,
+    /// Texts of earlier tuples, kept so that the next take their room.
+    pub spare: Vec<Text>,
 }
 
 impl Frame {
-    /// Before the first instruction.
-    pub(crate) fn start(alloc: Global) -> Frame
+    /// A frame for any number of runs, one after another.
+    pub fn new(alloc: Global) -> Frame
         ensures { (o : Object) (f : Recorded) → frame_of o f result ≡ start }
     {
         Frame {
@@ -44,7 +47,18 @@ impl Frame {
             ],
             comparison: None,
             tuple: Key::new(alloc),
+            spare: Vec::new(alloc),
         }
+    }
+
+    /// Before the first instruction, whatever an earlier run left.
+    pub(crate) fn restart(&mut self, alloc: Global)
+        ensures { (o : Object) (f : Recorded) → frame_of o f self.new ≡ start }
+    {
+        self.pc = 0;
+        clear(&mut self.registers);
+        self.comparison = None;
+        empty(alloc, &mut self.tuple);
     }
 
     /// Lends what a register holds.
@@ -165,13 +179,69 @@ impl Frame {
         Ok(())
     }
 
-    /// Empties the tuple, and goes on.
-    pub(crate) fn flush(&mut self, alloc: Global)
+    /// Empties the tuple, keeps its room, and goes on.
+    pub(crate) fn flush(&mut self, alloc: Global) -> Result<(), AllocError>
         requires { self.old.pc < 2 ^ 64 - 1 }
-        ensures { (o : Object) (f : Recorded) → frame_of o f self.new
-            ≡ with_tuple (frame_of o f self.old) [] }
+        ensures { OnOk result ((o : Object) (f : Recorded) → frame_of o f self.new
+            ≡ with_tuple (frame_of o f self.old) []) }
     {
-        self.tuple = Key::new(alloc);
+        let tuple = mem::replace(&mut self.tuple, Key::new(alloc));
+        self.tuple = without_parts(tuple, &mut self.spare)?;
         self.pc += 1;
+        Ok(())
+    }
+}
+
+// Sets the first register to 0, and no other.
+fn clear(registers: &mut [Held; 8])
+    ensures { registers.new ≡ blank_registers }
+{
+    registers[0] = Held::Int(0);
+    unset(&mut registers[1]);
+    unset(&mut registers[2]);
+    unset(&mut registers[3]);
+    unset(&mut registers[4]);
+    unset(&mut registers[5]);
+    unset(&mut registers[6]);
+    unset(&mut registers[7]);
+}
+
+// Lets go what a register holds. Most hold nothing, which a look tells sooner than a write.
+fn unset(held: &mut Held)
+    ensures { held.new ≡ Held.Unset }
+{
+    if !matches!(held, Held::Unset) {
+        *held = Held::Unset;
+    }
+}
+
+// Takes the parts out of a key that a run left.
+fn empty(alloc: Global, key: &mut Key)
+    ensures { key.new ≡ [] }
+{
+    if !key.parts().is_empty() {
+        *key = Key::new(alloc);
+    }
+}
+
+// A key of no parts in the room of another, whose texts are kept.
+fn without_parts(key: Key, spare: &mut Vec<Text>) -> Result<Key, AllocError>
+    ensures { IfOk result (λ k. k ≡ []) }
+{
+    let mut parts = key.into_parts();
+    for _ in 0..parts.len() {
+        if let Some(KeyPart::Name(text)) = parts.pop() {
+            spare.push(text)?;
+        }
+    }
+    parts.clear();
+    Ok(Key::from(parts))
+}
+
+/// A text to be written anew: one that was kept, or else a new one.
+pub(crate) fn spare_text(alloc: Global, spare: &mut Vec<Text>) -> Text {
+    match spare.pop() {
+        Some(text) => text,
+        None => Text::new(alloc),
     }
 }

@@ -15,7 +15,7 @@ pub use comparing::Comparison;
 pub use fault::MachineFault;
 pub use frame::Frame;
 pub use held::Held;
-pub use running::run;
+pub use running::{run, run_in};
 
 #[cfg(test)]
 mod tests;

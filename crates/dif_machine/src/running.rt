@@ -1,16 +1,138 @@
 //! Whole runs.
 
-ghost use Rattle.std.specs.Prelude.{◌≡◌};
-ghost use Rattle.dif_machine.specs.Runs.{RunEnds};
+ghost use Rattle.std.specs.Prelude.{◌≡◌, IfSome};
+ghost use Rattle.d_values.specs.Stores.{kind_of};
+ghost use Rattle.dif_validate.specs.declared.register.Reg.TheVariants.{R1};
+ghost use Rattle.dif_machine.specs.Frames.{start, with_value};
+ghost use Rattle.dif_machine.specs.Steps.{Goes, act};
+ghost use Rattle.dif_machine.specs.Vocabulary.{NumberKind, lent_value, object_of};
+ghost use Rattle.dif_machine.specs.Held.{frame_of};
+ghost use Rattle.dif_machine.specs.Runs.{Returns, RunEnds, RunLeaves, Runs, value_result};
 ghost use Rattle.d_values.specs.Storage.{variables};
 
 use crate::fault::MachineFault;
 use crate::frame::Frame;
+use crate::sources::{built_in, owned};
 use crate::stepping::step;
-use d_values::{ClauseLocals, ThreadTable, Value};
-use dif_validate::ValidDifo;
+use d_values::{ClauseLocals, Key, ThreadTable, Value, ValueRef};
+use dif_validate::{Difo, Instr, Reg, ValidDifo};
 use firing_reader::Firing;
 use std::alloc::Global;
+
+// Runs an object to its end. The register that is returned holds what the object returns.
+fn run_to_end(
+    alloc: Global,
+    valid: &ValidDifo,
+    firing: &Firing,
+    frame: &mut Frame,
+    locals: &mut ClauseLocals,
+    own: &mut ThreadTable,
+) -> Result<Reg, MachineFault>
+    ensures { RunLeaves valid.now firing.now (variables locals.old own.old)
+        result (frame_of valid.now firing.now frame.new) (variables locals.new own.new) }
+{
+    let difo = valid.difo();
+    frame.restart(alloc);
+    loop {
+        match step(alloc, difo, firing, frame, locals, own) {
+            Ok(Some(register)) => return Ok(register),
+            Ok(None) => {}
+            Err(fault) => return Err(fault),
+        }
+    }
+}
+
+// An integer as one that needs no loan, and no text.
+fn integer_of(value: ValueRef<'_>) -> Option<ValueRef<'static>>
+    ensures { IfSome result (λ lent. (lent_value lent ≡ lent_value value.entry)
+        × (kind_of (lent_value lent) ≡ NumberKind)) }
+{
+    match value {
+        ValueRef::Int(word) => Some(ValueRef::Int(word)),
+        ValueRef::Text(_) => None,
+    }
+}
+
+// What an instruction loads into the first free register where no copy of it is needed.
+fn source<'a>(
+    alloc: Global,
+    instr: Instr,
+    difo: &'a Difo,
+    firing: &'a Firing,
+    locals: &ClauseLocals,
+    own: &ThreadTable,
+) -> Option<ValueRef<'a>>
+    ensures { IfSome result (λ lent.
+        act instr (object_of difo.now) firing.now start (variables locals.now own.now)
+        ≡ Goes (with_value start R1 (lent_value lent)) (variables locals.now own.now)) }
+{
+    if let Instr::Ldgs(v, Reg::R1) = instr {
+        return Some(built_in(firing, v));
+    }
+    if let Instr::Ldls(x, Reg::R1) = instr {
+        return integer_of(locals.get(x));
+    }
+    if let Instr::Ldts(x, Reg::R1) = instr {
+        return integer_of(own.get(x, &Key::new(alloc)));
+    }
+    if let Instr::Sets(i, Reg::R1) = instr {
+        let text = difo.texts.get(i)?;
+        return Some(ValueRef::Text(text.as_bytes()));
+    }
+    if let Instr::Setx(i, Reg::R1) = instr {
+        let word = difo.numbers.get(i)?;
+        return Some(ValueRef::Int(*word));
+    }
+    None
+}
+
+// What an object lends that only loads it. This needs no frame.
+fn loaded<'a>(
+    alloc: Global,
+    difo: &'a Difo,
+    firing: &'a Firing,
+    locals: &ClauseLocals,
+    own: &ThreadTable,
+) -> Option<ValueRef<'a>>
+    ensures { IfSome result (λ lent.
+        Runs (object_of difo.now) firing.now (variables locals.now own.now)
+        (Returns (lent_value lent) (variables locals.now own.now))) }
+{
+    let Some(Instr::Ret(Reg::R1)) = difo.code.get(1) else {
+        return None;
+    };
+    match difo.code.get(0) {
+        Some(first) => source(alloc, *first, difo, firing, locals, own),
+        None => None,
+    }
+}
+
+/// Runs an object from its first instruction to its end, in a frame that may have served other
+/// runs, and lends what it returns. The variables keep the writes so far, also after a fault.
+///
+/// ```text
+/// let mut frame = Frame::new(alloc);
+/// // ldgs 4, r1; ret r1
+/// let value = run_in(alloc, &valid, &firing, &mut frame, &mut locals, &mut own)?; // Text(b"cat")
+/// ```
+pub fn run_in<'a>(
+    alloc: Global,
+    valid: &'a ValidDifo,
+    firing: &'a Firing,
+    frame: &'a mut Frame,
+    locals: &mut ClauseLocals,
+    own: &mut ThreadTable,
+) -> Result<ValueRef<'a>, MachineFault>
+    ensures { RunEnds valid.now firing.now (variables locals.old own.old)
+        (value_result result) (variables locals.new own.new) }
+{
+    let difo = valid.difo();
+    if let Some(lent) = loaded(alloc, difo, firing, &*locals, &*own) {
+        return Ok(lent);
+    }
+    let register = run_to_end(alloc, valid, firing, frame, locals, own)?;
+    Ok(frame.lend(difo, firing, register))
+}
 
 /// Runs an object from its first instruction to its end, and returns what it returns. The variables
 /// keep the writes so far, also after a fault.
@@ -30,13 +152,8 @@ pub fn run(
     ensures { RunEnds valid.now firing.now (variables locals.old own.old)
         result (variables locals.new own.new) }
 {
-    let difo = valid.difo();
-    let mut frame = Frame::start(alloc);
-    loop {
-        match step(alloc, difo, firing, &mut frame, locals, own) {
-            Ok(Some(value)) => return Ok(value),
-            Ok(None) => {}
-            Err(fault) => return Err(fault),
-        }
-    }
+    let mut frame = Frame::new(alloc);
+    let lent = run_in(alloc, valid, firing, &mut frame, locals, own)?;
+    let value = owned(alloc, lent)?;
+    Ok(value)
 }

@@ -13,12 +13,12 @@ ghost use Rattle.dif_machine.specs.{Held.frame_of, Instructions.CanExecuteOver, 
 
 use crate::fault::MachineFault;
 use crate::frame::Frame;
-use d_values::{ClauseLocals, ThreadTable, Value};
-use dif_validate::{Difo, Instr};
+use d_values::{ClauseLocals, ThreadTable};
+use dif_validate::{Difo, Instr, Reg};
 use firing_reader::Firing;
 use std::alloc::Global;
 
-/// One instruction. Returns the value where it ends the run.
+/// One instruction. Returns the register that has the value where it ends the run.
 pub(crate) fn step(
     alloc: Global,
     difo: &Difo,
@@ -26,7 +26,7 @@ pub(crate) fn step(
     frame: &mut Frame,
     locals: &mut ClauseLocals,
     own: &mut ThreadTable,
-) -> Result<Option<Value>, MachineFault>
+) -> Result<Option<Reg>, MachineFault>
     requires { step_of (object_of difo.now) firing.now
         (frame_of (object_of difo.now) firing.now frame.old) (variables locals.old own.old)
         ≢ Stuck }
@@ -36,26 +36,27 @@ pub(crate) fn step(
         result (frame_of (object_of difo.now) firing.now frame.new) (variables locals.new own.new) }
 {
     match difo.code.get(frame.pc) {
-        Some(instr) => execute(alloc, *instr, difo, firing, frame, locals, own),
+        Some(instr) => execute(alloc, instr, difo, firing, frame, locals, own),
         None => unreachable!(),
     }
 }
 
-// What the instruction at the place does.
+// What the instruction at the place does. It is read where it lies: no instruction uses all fields.
 fn execute(
     alloc: Global,
-    instr: Instr,
+    instr: &Instr,
     difo: &Difo,
     firing: &Firing,
     frame: &mut Frame,
     locals: &mut ClauseLocals,
     own: &mut ThreadTable,
-) -> Result<Option<Value>, MachineFault>
-    requires { CanExecuteOver instr difo.now firing.now frame.old (variables locals.old own.old) }
-    ensures { ExecutesOver instr difo.now firing.now frame.old (variables locals.old own.old)
+) -> Result<Option<Reg>, MachineFault>
+    requires { CanExecuteOver instr.now difo.now firing.now frame.old
+        (variables locals.old own.old) }
+    ensures { ExecutesOver instr.now difo.now firing.now frame.old (variables locals.old own.old)
         result frame.new (variables locals.new own.new) }
 {
-    match instr {
+    match *instr {
         Instr::Alu(op, a, b, d) => integers::alu(difo, firing, frame, op, a, b, d),
         Instr::Not(a, d) => integers::not(difo, firing, frame, a, d),
         Instr::Mov(a, d) => values::mov(frame, a, d),
@@ -78,7 +79,7 @@ fn execute(
         Instr::Ldtaa(x, d) => variables::ldtaa(alloc, frame, own, x, d),
         Instr::Sttaa(x, a) => variables::sttaa(alloc, difo, firing, frame, own, x, a),
         Instr::Call(f, d) => tuple::call(alloc, frame, f, d),
-        Instr::Ret(a) => values::ret(alloc, difo, firing, frame, a),
+        Instr::Ret(a) => values::ret(a),
         Instr::Nop => values::nop(frame),
     }
 }

@@ -408,3 +408,67 @@ fn a_variable_is_its_slot_and_its_kind(rt: HostRuntime) -> Result<(), Fail> {
     assert!(&rt; ran(alloc, &code, &[7])? == Shown::Bytes(Vec::from_slice(alloc, b"cat")?));
     Ok(())
 }
+
+// Runs the code in this frame, over variables that aren't set.
+fn ran_in(
+    alloc: Global,
+    frame: &mut Frame,
+    code: &[Instr],
+    numbers: &[u64],
+) -> Result<Shown, AllocError> {
+    let Ok(valid) = validate(alloc, object(alloc, code, numbers)?) else {
+        return Ok(Shown::Invalid);
+    };
+    let Some(firing) = firing() else {
+        return Ok(Shown::Invalid);
+    };
+    let mut locals = ClauseLocals::new(alloc);
+    let mut own = ThreadTable::new(alloc, HashKey::of_seed(&[]));
+    match run_in(alloc, &valid, &firing, frame, &mut locals, &mut own) {
+        Ok(ValueRef::Int(word)) => Ok(Shown::Number(word)),
+        Ok(ValueRef::Text(bytes)) => Ok(Shown::Bytes(Vec::from_slice(alloc, bytes)?)),
+        Err(fault) => Ok(Shown::Fault(fault)),
+    }
+}
+
+// One frame for runs that leave texts in registers and in the tuple, that fault, and that use none.
+#[test]
+fn a_frame_serves_many_runs(rt: HostRuntime) -> Result<(), Fail> {
+    let alloc = rt.alloc();
+    let mut frame = Frame::new(alloc);
+    let join = [
+        Instr::Sets(0, R1),
+        Instr::Ldgs(7, R2),
+        Instr::Pushtr(R1),
+        Instr::Pushtr(R2),
+        Instr::Call(Function::Strjoin, R3),
+        Instr::Ret(R3),
+    ];
+    let measure = [
+        Instr::Ldgs(7, R1),
+        Instr::Pushtr(R1),
+        Instr::Call(Function::Strlen, R2),
+        Instr::Flushts,
+        Instr::Ret(R2),
+    ];
+    let divide = [
+        Instr::Setx(0, R1),
+        Instr::Ldgs(7, R2),
+        Instr::Pushtr(R2),
+        Instr::Alu(Operator::Udiv, R1, R0, R1),
+        Instr::Ret(R1),
+    ];
+    let name = [Instr::Ldgs(4, R1), Instr::Ret(R1)];
+    let constant = [Instr::Sets(0, R1), Instr::Ret(R1)];
+    for _ in 0..3 {
+        let joined = ran_in(alloc, &mut frame, &join, &[])?;
+        assert!(&rt; joined == Shown::Bytes(Vec::from_slice(alloc, b"catread")?));
+        assert!(&rt; ran_in(alloc, &mut frame, &measure, &[])? == Shown::Number(4));
+        let divided = ran_in(alloc, &mut frame, &divide, &[7])?;
+        assert!(&rt; divided == Shown::Fault(MachineFault::DivideByZero));
+        let cat = Shown::Bytes(Vec::from_slice(alloc, b"cat")?);
+        assert!(&rt; ran_in(alloc, &mut frame, &name, &[])? == cat);
+        assert!(&rt; ran_in(alloc, &mut frame, &constant, &[])? == cat);
+    }
+    Ok(())
+}

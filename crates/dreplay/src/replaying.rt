@@ -17,7 +17,7 @@ use crate::refusal::Refusal;
 use crate::scripts::read_script;
 use d_types::{TypedScript, check};
 use dif_codegen::compile;
-use firing_reader::{Trace, read_trace};
+use firing_reader::{Trace, read_trace_by};
 use keyed_hash::HashKey;
 use replay_core::{DifLanes, Gate, OpenGate, Ran, TreeLanes, run_all};
 use report::render;
@@ -57,7 +57,7 @@ pub fn replay_with<R: RandomSource + Threads + Wait + Sync, G: Gate + Sync>(
 {
     let tree = read_script(alloc, script)?;
     let script = check(alloc, tree)?;
-    let trace = read_trace(alloc, HashKey::random(rt), trace)?;
+    let trace = read_trace_by(rt, alloc, HashKey::random(rt), trace, plan.workers)?;
     let groups = groups_of(alloc, &plan.groups, &trace)?;
     let ran = run(rt, alloc, &script, &trace, &groups, plan, gate)?;
     let replayed = shown(rt, alloc, &script, ran)?;

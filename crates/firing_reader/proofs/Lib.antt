@@ -14,3 +14,4 @@ pub mod PlainFirings
 pub mod PlainHeader
 pub mod PieceRows
 pub mod Stored
+pub mod Moved

@@ -1,5 +1,5 @@
 -- Rows that are read piece by piece.
-use Rattle.std.proofs.Common.{◌≡◌, ◌<◌, ◌≤◌, ◌+◌, ◌-◌, ℕ, zero, suc, take, List, [], ◌∷◌, ◌++◌, length, length-append, Option, Some, None, Ok, refl, sym, ap, ◌∙◌, append_assoc, arith}
+use Rattle.std.proofs.Common.{◌≡◌, ◌<◌, ◌≤◌, ◌+◌, ◌-◌, ℕ, zero, suc, List, [], ◌∷◌, ◌++◌, length, length-append, Option, Some, None, Ok, refl, sym, ap, ◌∙◌, append_assoc, arith}
 use Rattle.std.specs.Prelude.{IfSome, slice_get}
 use Rattle.std.specs.Option.{option_map_or}
 use Rattle.std.proofs.lemmas.List.{append-nil}
@@ -10,7 +10,7 @@ use Rattle.firing_reader.specs.declared.firing.Firing.{Firing}
 use Rattle.firing_reader.specs.Left.{left_in}
 use Rattle.firing_reader.specs.Firings.{number_of}
 use Rattle.firing_reader.specs.Plain.{IsPiece, ReadsRow, ReadsRows, Rises, rows_in}
-use Rattle.firing_reader.specs.Trace.{last_number, next_of, rows_of}
+use Rattle.firing_reader.specs.Trace.{last_number, rows_of}
 use Rattle.firing_reader.proofs.Left.{left_more, left_none}
 use Rattle.firing_reader.proofs.PlainRows.{skip_feed}
 
@@ -88,11 +88,6 @@ pub joined_piece : (bytes left right after : List ℕ) (fs gs : List Firing) (o 
     → Rises (last_number fs) gs (last_number (fs ++ gs)) → IfSome o (λ all. all ≡ fs ++ gs) → IfSome o (λ all. IsPiece bytes all)
 joined_piece bytes left right after fs gs None is split h k goes joined = joined
 joined_piece bytes left right after fs gs (Some all) is split h k goes joined = rw joined (piece_join bytes left right after fs gs is split h k goes)
-
-pub take_more : (fs : List Firing) (i : ℕ) (f : Firing) → slice_get fs i ≡ Some f → take (suc i) fs ≡ take i fs ++ f ∷ []
-take_more [] i f is = absurd cc
-take_more (g ∷ gs) zero f is = let same : f ≡ g = cc in rw same refl
-take_more (g ∷ gs) (suc i) f is = ap (λ (l : List Firing). g ∷ l) (take_more gs i f is)
 
 -- ---- numbers from one piece to the next
 

@@ -1,14 +1,14 @@
 -- Firings as a trace stores them.
-use Rattle.std.proofs.Common.{◌≡◌, ◌<◌, ◌≤◌, ◌+◌, ◌-◌, ℕ, ℤ, pos, zero, suc, List, [], ◌∷◌, ◌++◌, length, get_or, take, drop, map, All, Option, Some, None, refl, sym, ap, ◌∙◌, arith, length-append, inl, inr, w32, append_assoc}
+use Rattle.std.proofs.Common.{◌≡◌, ◌<◌, ◌≤◌, ◌+◌, ℕ, ℤ, pos, zero, suc, List, [], ◌∷◌, ◌++◌, length, get_or, take, drop, map, All, Some, refl, sym, ap, ◌∙◌, arith, length-append, append_assoc}
 use Rattle.std.specs.Prelude.{slice_get}
 use Rattle.std.proofs.Math.ListN.{get_or-append}
 use Rattle.std.proofs.Math.Seq.{drop-append_seam}
 use Rattle.std.proofs.lemmas.List.{map-append, drop-append-le, append-nil}
-use Rattle.std.proofs.lemmas.List.Elements.{All-head, All-tail, All-cons, All-nil, All-append}
+use Rattle.std.proofs.lemmas.List.Elements.{All-head, All-tail}
 use Rattle.std.proofs.lemmas.Option.{slice_get_within, get_or_from_slice_get}
 use Rattle.firing_reader.specs.declared.firing.Firing.{Firing}
 use Rattle.firing_reader.specs.declared.firings.Row.{Row}
-use Rattle.firing_reader.specs.Stored.{Extends, IsRowIn, given_in, firing_in, ten}
+use Rattle.firing_reader.specs.Stored.{Extends, IsRowIn, firing_in, ten}
 
 pub extends_same : {X : Type 0} (xs : List X) → Extends xs xs
 extends_same xs = ([], sym (append-nil xs))

@@ -1,5 +1,5 @@
 -- Firings as a trace stores them: rows of small fixed size, a pool of texts, a list of arguments.
-use Rattle.std.specs.Prelude.{◌≡◌, ◌<◌, ◌≤◌, ◌+◌, ℕ, ℤ, pos, List, [], ◌∷◌, ◌++◌, length, get_or, take, drop}
+use Rattle.std.specs.Prelude.{◌≡◌, ◌<◌, ◌≤◌, ◌+◌, ◌^◌, ℕ, ℤ, pos, List, [], ◌∷◌, ◌++◌, Some, length, get_or, slice_get, map, take, drop}
 use Rattle.firing_reader.specs.declared.firing.Firing.{Firing}
 use Rattle.firing_reader.specs.declared.firings.Row.{Row}
 
@@ -41,3 +41,27 @@ pub record IsRowIn (texts : List (List ℕ)) (args : List ℤ) (r : Row) : Type 
   pub probefunc : r.probefunc < length texts
   pub name : r.name < length texts
   pub inside : r.args + r.given ≤ length args
+
+-- the places in a pool where these other texts are, one for each
+abbrev pub ArePlaces : List (List ℕ) → List ℕ → List (List ℕ) → Type 0
+ArePlaces texts places others = map (slice_get texts) places ≡ map (λ t. Some t) others
+
+-- a row with the places of its texts in another pool, and with arguments that begin so much later
+abbrev pub moved_row : List ℕ → ℕ → Row → Row
+moved_row places shift r = record r {
+  execname = get_or places r.execname 0;
+  provider = get_or places r.provider 0;
+  probemod = get_or places r.probemod 0;
+  probefunc = get_or places r.probefunc 0;
+  name = get_or places r.name 0;
+  args = r.args + shift;
+}
+
+-- there is a place for each text that the row names, and for its first argument
+pub record IsMovable (places : List ℕ) (shift : ℕ) (r : Row) : Type 0 where
+  pub execname : r.execname < length places
+  pub provider : r.provider < length places
+  pub probemod : r.probemod < length places
+  pub probefunc : r.probefunc < length places
+  pub name : r.name < length places
+  pub args : r.args + shift < 2 ^ 32

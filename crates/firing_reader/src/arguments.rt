@@ -1,6 +1,6 @@
 //! Arguments as they are stored: without the zeros at the end.
 
-ghost use Rattle.std.specs.Prelude.{◌≡◌, ◌≤◌, ◌+◌, ℕ, pos, IfSome, get_or, length, take, drop};
+ghost use Rattle.std.specs.Prelude.{◌≡◌, ◌<◌, ◌≤◌, ◌+◌, ◌^◌, ◌++◌, ℕ, pos, IfSome, get_or, length, take, drop};
 ghost use Rattle.firing_reader.specs.Stored.{Extends, ten};
 
 /// Keeps the arguments up to the last that isn't 0: where they begin among all, and how many there
@@ -14,6 +14,18 @@ pub(crate) fn keep_arguments(all: &mut Vec<i64>, args: &[i64; 10]) -> Option<(u3
     let given = given(args);
     all.extend_from_slice(&args[..given]).ok()?;
     Some((begin, given as u32))
+}
+
+/// Adds the arguments of other firings to all: the place of the first of them.
+pub(crate) fn add_arguments(all: &mut Vec<i64>, others: &[i64]) -> Option<u32>
+    ensures place { IfSome result (λ place. place ≡ length all.old.items) }
+    ensures args { IfSome result (λ _. all.new.items ≡ all.old.items ++ others.now) }
+    ensures few { IfSome result (λ _. length all.new.items < 2 ^ 32) }
+{
+    let place = u32::try_from(all.len()).ok()?;
+    all.extend_from_slice(others).ok()?;
+    u32::try_from(all.len()).ok()?;
+    Some(place)
 }
 
 // How many arguments come before the zeros at the end.

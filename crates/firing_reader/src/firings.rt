@@ -1,10 +1,11 @@
 //! The firings of a trace, as they are stored: rows of small fixed size, each distinct text once,
 //! and of the arguments no zeros at the end.
 
-ghost use Rattle.std.specs.Prelude.{◌≡◌, ◌<◌, ◌++◌, ◌∷◌, [], true, false, Some, IfOk, MatchOption, slice_get, length};
+ghost use Rattle.std.specs.Prelude.{◌≡◌, ◌<◌, ◌++◌, ◌∷◌, [], true, false, All, Some, IfOk, IfSome, MatchOption, slice_get, length, map};
+ghost use Rattle.firing_reader.specs.Stored.{IsMovable, moved_row as moved_row_of};
 ghost use Rattle.firing_reader.specs.Trace.{last_number as last_number_of};
 
-use crate::arguments::{all_ten, keep_arguments};
+use crate::arguments::{add_arguments, all_ten, keep_arguments};
 use crate::firing::Firing;
 use crate::places::{Places, keep_texts};
 use crate::texts::Texts;
@@ -135,6 +136,22 @@ impl Firings {
             None
         }
     }
+
+    /// These firings, and after them others: each distinct text of theirs is looked up once, and no
+    /// firing is made. It returns None where memory is refused.
+    pub(crate) fn followed_by(self, others: &Firings) -> Option<Firings>
+        ensures { IfSome result (λ all. all ≡ self ++ others.now) }
+    {
+        let Firings {
+            mut texts,
+            mut args,
+            mut rows,
+        } = self;
+        let places = texts.places_of(&others.texts)?;
+        let shift = add_arguments(&mut args, &others.args)?;
+        add_rows(&mut rows, &others.rows, &places, shift)?;
+        Some(Firings { texts, args, rows })
+    }
 }
 
 // Whether memory was there for one row more.
@@ -143,6 +160,36 @@ fn push_row(rows: &mut Vec<Row>, row: Row) -> bool
     ensures refused { result ≡ false → rows.new.items ≡ rows.old.items }
 {
     rows.push(row).is_ok()
+}
+
+// Adds rows, with the places of their texts in another pool, and with arguments that begin so much
+// later.
+fn add_rows(rows: &mut Vec<Row>, others: &[Row], places: &[u32], shift: u32) -> Option<()>
+    requires { All (IsMovable places.now shift) others.now }
+    ensures { IfSome result (λ _.
+        rows.new.items ≡ rows.old.items ++ map (moved_row_of places.now shift) others.now) }
+{
+    rows.reserve_exact(others.len()).ok()?;
+    for row in others {
+        rows.push(moved_row(row, places, shift)).ok()?;
+    }
+    Some(())
+}
+
+// One such row.
+fn moved_row(row: &Row, places: &[u32], shift: u32) -> Row
+    requires { IsMovable places.now shift row.now }
+    ensures { result ≡ moved_row_of places.now shift row.now }
+{
+    Row {
+        execname: places[row.execname as usize],
+        provider: places[row.provider as usize],
+        probemod: places[row.probemod as usize],
+        probefunc: places[row.probefunc as usize],
+        name: places[row.name as usize],
+        args: row.args + shift,
+        ..*row
+    }
 }
 
 // The places of a row's texts.

@@ -50,17 +50,6 @@ fn follows(first: &Firings, second: &Firings) -> bool
     second.len() == 0 || first.last_number() < second.get(0).number
 }
 
-// The firings of the first, and after them those of the second.
-fn joined(first: Firings, second: &Firings) -> Option<Firings>
-    ensures { IfSome result (λ all. all ≡ first ++ second.now) }
-{
-    let mut all = first;
-    for at in 0..second.len() {
-        all.push(&second.get(at))?;
-    }
-    Some(all)
-}
-
 // The firings of bytes that are nothing but plain rows, read by so many workers.
 fn read_pieces<R: Threads + Sync>(
     rt: &R,
@@ -96,7 +85,7 @@ fn read_pieces<R: Threads + Sync>(
     if !follows(&first, &second) {
         return None;
     }
-    joined(first, &second)
+    first.followed_by(&second)
 }
 
 // The firings of a trace that is nothing but a header and plain rows, read by so many workers.

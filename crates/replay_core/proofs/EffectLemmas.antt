@@ -1,5 +1,5 @@
 -- What a run notes, effect by effect.
-use Rattle.std.specs.Prelude.{◌≡◌, ℕ, ℤ, List, [], ◌∷◌, ◌++◌, map, Bool, true, false, ◌||◌, Option, None, Some, is_some, length, take, Ok, Err}
+use Rattle.std.specs.Prelude.{◌≡◌, ◌%◌, ℕ, ℤ, List, [], ◌∷◌, ◌++◌, map, Bool, true, false, ◌||◌, Option, None, Some, is_some, length, take, Ok, Err}
 use Rattle.std.specs.Option.{option_or}
 use Rattle.std.proofs.Common.{refl, sym, ap, ◌∙◌, subst}
 use Rattle.aggregations.specs.Table.{Contribution, contribution}
@@ -168,3 +168,9 @@ pub adds : (number place : ℕ) (o : Outcome (List KeyPart)) (given : Variables 
 adds number place o given key z old new between after keyed is noted =
     subst (λ q. Performs number (with q (λ key vars. with (given vars) (λ z. Has (ef.Adds place key z)))) old (Ok false) new after) (sym keyed)
     (subst (λ q. Performs number (with q (λ z. Has (ef.Adds place key z))) old (Ok false) new after) (sym is) (refl, noted, refl))
+
+pub leaves : (number : ℕ) (o : Outcome ℕ) (word : ℕ) (old new : PieceSeen) (after : Variables)
+    → o ≡ Has word after → NotesEffect number (ef.Exits (word % 256)) old new
+    → Performs number (with o (λ word. Has (ef.Exits (word % 256)))) old (Ok true) new after
+leaves number o word old new after is noted =
+    subst (λ q. Performs number (with q (λ word. Has (ef.Exits (word % 256)))) old (Ok true) new after) (sym is) (refl, noted, refl)

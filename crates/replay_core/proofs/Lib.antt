@@ -1,8 +1,10 @@
+pub mod KeyParts
 pub mod PatternTests
 pub mod Stars
 pub mod Noting
 pub mod Turning
 pub mod EffectLemmas
+pub mod SceneLemmas
 pub mod SelectionLemmas
 pub mod ThreadLemmas
 pub mod FiringLemmas

@@ -4,10 +4,15 @@ use Rattle.d_types.specs.declared.effect.Effect.{Effect}
 use Rattle.d_types.specs.Expressions.{Outcome, Has, Faults}
 use Rattle.d_types.specs.Clauses.{Made, texts_in, contributions_in, exit_in}
 use Rattle.d_types.specs.Storage.{Variables}
+use Rattle.firing_reader.specs.declared.firing.Firing.{Firing}
 use Rattle.replay_core.specs.declared.evaluation.fault.EvalFault.{EvalFault}
 use Rattle.replay_core.specs.declared.evaluation.fault.EvalFault.TheVariants as ef
+use Rattle.replay_core.specs.declared.piece.Piece.{Piece}
+use Rattle.replay_core.specs.declared.scene.Scene.{Scene}
+use Rattle.replay_core.specs.Evaluation.{Stays, variables_in}
 use Rattle.replay_core.specs.Lanes.{Notes}
 use Rattle.replay_core.specs.Pieces.{PieceSeen}
+use Rattle.replay_core.specs.Seen.{piece_seen}
 
 -- what effects make, where no fault comes after them
 abbrev pub done_by : List Effect → Variables → Made
@@ -33,9 +38,23 @@ Performs number (Has effect after) old (Err ef.DivideByZero) new vars = ⊥
 Performs number (Faults after) old (Ok exits) new vars = ⊥
 Performs number (Faults after) old (Err ef.DivideByZero) new vars = (vars ≡ after) × (new ≡ old)
 
+-- the same of a statement in a scene
+abbrev pub IsPerformed : (Firing → Variables → Outcome Effect) → Result Bool EvalFault
+    → (old new : Scene) → (before after : Piece) → Type 0
+IsPerformed meaning r old new before after =
+    Stays old new × Performs old.firing.now.number (meaning old.firing.now (variables_in old))
+    (piece_seen before) r (piece_seen after) (variables_in new)
+
 -- a run is noted, and whether it exits is answered
 pub record NotesRun (number : ℕ) (made : Made) (old new : PieceSeen) (vars : Variables)
     (exits : Bool) : Type 0 where
   pub notes : Notes number made old new
   pub variables : vars ≡ made.variables
   pub exited : exits ≡ is_some made.exit
+
+-- the same of a run in a scene
+abbrev pub IsNotedRun : (Firing → Variables → Made) → (old new : Scene) → (before after : Piece)
+    → Bool → Type 0
+IsNotedRun meaning old new before after exits =
+    NotesRun old.firing.now.number (meaning old.firing.now (variables_in old)) (piece_seen before)
+    (piece_seen after) (variables_in new) exits

@@ -2,25 +2,22 @@
 
 ghost use Rattle.std.specs.Prelude.{◌≡◌, ◌+◌, ◌≤◌, ◌^◌, ℕ, IfOk, length};
 
-use crate::evaluation::SpareKeys;
 use crate::piece::Piece;
+use crate::scene::Scene;
 use crate::statements::run_clause;
 use d_parser::Description;
 use d_types::TypedClause;
-use d_values::{ClauseLocals, ThreadTable};
 use dif_codegen::CompiledClause;
-use firing_reader::Firing;
-use std::alloc::{AllocError, Global};
+use std::alloc::AllocError;
 
 /// A clause in the form in which an engine runs it.
 pub trait Clause {
     ghost use Rattle.d_types.specs.Held.{AreTyped, HasTypedBuiltIns, Slots};
     ghost use Rattle.d_types.specs.Typed.{ClauseMeant};
-    ghost use Rattle.d_types.specs.Storage.{variables};
     ghost use Rattle.d_types.specs.Clauses.{run_of};
     ghost use Rattle.aggregations.specs.Table.{count_held, functions_of};
-    ghost use Rattle.replay_core.specs.Effects.{NotesRun};
-    ghost use Rattle.replay_core.specs.Seen.{piece_seen};
+    ghost use Rattle.replay_core.specs.Effects.{IsNotedRun};
+    ghost use Rattle.replay_core.specs.Evaluation.{Stays, variables_in};
 
     /// What it means where variables have the types of these slots.
     ghost means: { Self → Slots → ClauseMeant → Type 0 };
@@ -43,26 +40,17 @@ pub trait Clause {
     /// Runs it for a firing: notes in the piece what its statements do, and returns whether it
     /// exits. At a division by 0 the run ends, and a line that names the firing and the clause's
     /// place, from 1, stands in place of its texts.
-    fn run(
-        &self,
-        alloc: Global,
-        firing: &Firing,
-        place: u64,
-        locals: &mut ClauseLocals,
-        own: &mut ThreadTable,
-        spare: &mut SpareKeys,
-        piece: &mut Piece,
-    ) -> Result<bool, AllocError>
+    fn run(&self, place: u64, scene: &mut Scene<'_>, piece: &mut Piece) -> Result<bool, AllocError>
         requires places { places self.now ≤ length (functions_of piece.old.table) }
         requires room { count_held piece.old.table + most self.now ≤ 2 ^ 52 }
         ensures functions { functions_of piece.new.table ≡ functions_of piece.old.table }
         ensures taken { piece.new.taken.items ≡ piece.old.taken.items }
         ensures held { count_held piece.new.table ≤ count_held piece.old.table + most self.now }
+        ensures scene { Stays scene.old scene.new }
         ensures run { IfOk result (λ exits.
             (slots : Slots) (c : ClauseMeant) → means self.now slots c
-            → HasTypedBuiltIns firing.now → AreTyped slots (variables locals.old own.old)
-            → NotesRun firing.now.number (run_of firing.now place c (variables locals.old own.old))
-            (piece_seen piece.old) (piece_seen piece.new) (variables locals.new own.new) exits) };
+            → HasTypedBuiltIns scene.old.firing.now → AreTyped slots (variables_in scene.old)
+            → IsNotedRun (λ f. run_of f place c) scene.old scene.new piece.old piece.new exits) };
 }
 
 // The tree of a clause, walked.
@@ -86,25 +74,11 @@ impl Clause for TypedClause {
 
     fn run(
         &self,
-        alloc: Global,
-        firing: &Firing,
         place: u64,
-        locals: &mut ClauseLocals,
-        own: &mut ThreadTable,
-        spare: &mut SpareKeys,
+        scene: &mut Scene<'_>,
         piece: &mut Piece,
     ) -> Result<bool, AllocError> {
-        run_clause(
-            alloc,
-            &self.predicate,
-            &self.statements,
-            firing,
-            place,
-            locals,
-            own,
-            spare,
-            piece,
-        )
+        run_clause(&self.predicate, &self.statements, place, scene, piece)
     }
 }
 
@@ -129,24 +103,10 @@ impl Clause for CompiledClause {
 
     fn run(
         &self,
-        alloc: Global,
-        firing: &Firing,
         place: u64,
-        locals: &mut ClauseLocals,
-        own: &mut ThreadTable,
-        spare: &mut SpareKeys,
+        scene: &mut Scene<'_>,
         piece: &mut Piece,
     ) -> Result<bool, AllocError> {
-        run_clause(
-            alloc,
-            &self.predicate,
-            &self.actions,
-            firing,
-            place,
-            locals,
-            own,
-            spare,
-            piece,
-        )
+        run_clause(&self.predicate, &self.actions, place, scene, piece)
     }
 }

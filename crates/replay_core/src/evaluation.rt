@@ -11,6 +11,5 @@ mod variables;
 
 pub(crate) use expression::{evaluate, evaluate_key, evaluate_word};
 pub(crate) use fault::EvalFault;
-pub(crate) use lending::set_part;
 pub use spare::SpareKeys;
-pub(crate) use variables::{bytes_in, word_in};
+pub(crate) use variables::{bytes_in, owned, word_in};

@@ -1,6 +1,6 @@
 //! Which clauses run for a probe: decided once for each.
 
-ghost use Rattle.std.specs.Prelude.{◌≡◌, ◌++◌, true, All, IfOk, OnOk, filter, map};
+ghost use Rattle.std.specs.Prelude.{◌≡◌, ◌<◌, ◌++◌, true, All, IfOk, OnOk, filter, map};
 ghost use Rattle.replay_core.specs.Patterns.{probe_of, selects};
 ghost use Rattle.replay_core.specs.Places.{places_for};
 
@@ -11,6 +11,9 @@ use firing_reader::Firing;
 use indexmap::IndexMap;
 use keyed_hash::HashKey;
 use std::alloc::{AllocError, Global};
+
+// How many probes are at hand.
+const AT_HAND: usize = 2048;
 
 /// The clauses that run for a probe, by their places among the script's: in the script's order,
 /// each once for each of its descriptions that selects the probe.
@@ -31,6 +34,9 @@ pub(crate) struct Selections<'a> {
     named: IndexMap<Vec<u8>, usize, HashKey>,
     // The name of the probe that is looked for.
     name: Vec<u8>,
+    // The places among those known of some selections, each where some bytes of its probe's name
+    // say: to look there costs less than to look up.
+    at_hand: Vec<usize>,
     // The place among those known of the selection for the probe that fired last.
     last: usize,
 }
@@ -54,6 +60,7 @@ impl<'a> Selections<'a> {
             known: Vec::new(alloc),
             named: IndexMap::with_hasher(alloc, hash_key),
             name: Vec::new(alloc),
+            at_hand: Vec::new(alloc),
             last: 0,
         }
     }
@@ -68,9 +75,28 @@ impl<'a> Selections<'a> {
         ensures turned { OnOk result (places_at self.new.known.items self.new.last
             ≡ places_for (probe_of firing.now) 0 (map (λ d. d.now) self.new.descriptions.items)) }
     {
-        if self.is_at(self.last, firing) {
+        let hand = hand_of(firing);
+        let place = self.place_at_hand(hand);
+        if self.is_at(place, firing) {
+            self.last = place;
             return Ok(());
         }
+        self.look_up(firing)?;
+        self.keep_at_hand(hand)
+    }
+
+    // The same for a probe that isn't at hand.
+    #[cold]
+    #[inline(never)]
+    fn look_up(&mut self, firing: &Firing) -> Result<(), AllocError>
+        requires { All
+            (IsSelection (map (λ d. d.now) self.old.descriptions.items)) self.old.known.items }
+        ensures descriptions { self.new.descriptions.items ≡ self.old.descriptions.items }
+        ensures known { All
+            (IsSelection (map (λ d. d.now) self.new.descriptions.items)) self.new.known.items }
+        ensures turned { OnOk result (places_at self.new.known.items self.new.last
+            ≡ places_for (probe_of firing.now) 0 (map (λ d. d.now) self.new.descriptions.items)) }
+    {
         self.write_name(firing)?;
         if let Some(place) = self.named.get(&self.name) {
             let place = *place;
@@ -80,6 +106,26 @@ impl<'a> Selections<'a> {
             }
         }
         self.learn(firing)
+    }
+
+    // The place that is at hand there.
+    fn place_at_hand(&self, hand: usize) -> usize {
+        *self.at_hand.get(hand).unwrap_or(&0)
+    }
+
+    // Puts the place of the selection that it is at among those at hand.
+    fn keep_at_hand(&mut self, hand: usize) -> Result<(), AllocError>
+        ensures descriptions { self.new.descriptions.items ≡ self.old.descriptions.items }
+        ensures known { self.new.known.items ≡ self.old.known.items }
+        ensures last { self.new.last ≡ self.old.last }
+    {
+        if self.at_hand.is_empty() {
+            self.at_hand = vec![in self.alloc; 0; AT_HAND]?;
+        }
+        if hand < self.at_hand.len() {
+            self.at_hand[hand] = self.last;
+        }
+        Ok(())
     }
 
     /// The places of the clauses, by the selection that it is at.
@@ -140,6 +186,27 @@ impl<'a> Selections<'a> {
         self.last = place;
         self.named.insert(self.name.clone()?, place)?;
         Ok(())
+    }
+}
+
+// Where the selection for the firing's probe is among those at hand.
+fn hand_of(firing: &Firing) -> usize {
+    let function = mixed(firing.probefunc.as_bytes());
+    let name = mixed(firing.name.as_bytes());
+    (3 * function + 7 * name) % AT_HAND
+}
+
+// A number that some bytes of a name make.
+fn mixed(name: &[u8]) -> usize
+    ensures { result < 65536 }
+{
+    match name {
+        [] => 0,
+        [first, ..] => {
+            let middle = name[name.len() / 2] as usize;
+            let last = name[name.len() - 1] as usize;
+            name.len() % 256 + 5 * (*first as usize) + 17 * middle + 67 * last
+        }
     }
 }
 

@@ -3,8 +3,9 @@
 ghost use Rattle.std.specs.Prelude.{◌≡◌, ◌+◌, ◌*◌, ◌<◌, ◌≤◌, ◌^◌, ℕ, ℤ, List, All, IfOk, OnOk, is_some, length, if◌then◌else◌};
 ghost use Rattle.std.specs.Ordering.{int_eq};
 ghost use Rattle.aggregations.specs.Table.{count_held, functions_of};
-ghost use Rattle.d_types.specs.Held.{AreTypedOwn, HasTypedBuiltIns, Slots};
+ghost use Rattle.d_types.specs.Held.{AreTyped, AreTypedOwn, HasTypedBuiltIns, Slots};
 ghost use Rattle.d_types.specs.Typed.{ClauseMeant};
+ghost use Rattle.replay_core.specs.Evaluation.{variables_of};
 ghost use Rattle.replay_core.specs.Lanes.{Notes};
 ghost use Rattle.replay_core.specs.Meaning.{at_start};
 ghost use Rattle.replay_core.specs.Scripts.{AllMean};
@@ -15,6 +16,7 @@ ghost use Rattle.replay_core.specs.Turns.{turns};
 use crate::clause::Clause;
 use crate::evaluation::SpareKeys;
 use crate::piece::Piece;
+use crate::scene::Scene;
 use crate::tables::Tables;
 use crate::turns::run_in_turn;
 use firing_reader::Firing;
@@ -64,13 +66,52 @@ pub(crate) fn run_on_thread<C: Clause>(
     match threads.get_mut(&firing.thread) {
         Some(tables) => {
             tables.locals.reset();
-            run_in_turn(clauses, places, firing, tables, spare, piece)
+            run_on_tables(clauses, places, firing, tables, spare, piece)
         }
         None => {
             let mut tables = Tables::new(*threads.allocator(), *threads.hasher());
-            let exits = run_in_turn(clauses, places, firing, &mut tables, spare, piece)?;
+            let exits = run_on_tables(clauses, places, firing, &mut tables, spare, piece)?;
             threads.insert(firing.thread, tables)?;
             Ok(exits)
         }
     }
+}
+
+// Runs the clauses at these places for a firing on these tables, and returns whether one exited.
+fn run_on_tables<C: Clause>(
+    clauses: &[C],
+    places: &[usize],
+    firing: &Firing,
+    tables: &mut Tables,
+    spare: &mut SpareKeys,
+    piece: &mut Piece,
+) -> Result<bool, AllocError>
+    requires there { All (λ place. place < length clauses.now) places.now }
+    requires named { All (λ c. C.places c ≤ length (functions_of piece.old.table)) clauses.now }
+    requires few { All (λ c. C.most c ≤ 65536) clauses.now }
+    requires room { count_held piece.old.table + 65536 * length places.now ≤ 2 ^ 52 }
+    ensures functions { functions_of piece.new.table ≡ functions_of piece.old.table }
+    ensures taken { piece.new.taken.items ≡ piece.old.taken.items }
+    ensures notes { OnOk result ((slots : Slots) (cs : List ClauseMeant)
+        → AllMean C.means slots clauses.now cs → HasTypedBuiltIns firing.now
+        → AreTyped slots (variables_of tables.old) →
+        let made = turns firing.now cs places.now (variables_of tables.old) in
+        Notes firing.now.number made (piece_seen piece.old) (piece_seen piece.new)
+        × (variables_of tables.new ≡ made.variables)) }
+    ensures exits { IfOk result (λ exits. (slots : Slots) (cs : List ClauseMeant)
+        → AllMean C.means slots clauses.now cs → HasTypedBuiltIns firing.now
+        → AreTyped slots (variables_of tables.old) →
+        let made = turns firing.now cs places.now (variables_of tables.old) in
+        exits ≡ is_some made.exit) }
+    ensures held { OnOk result (count_held piece.new.table
+        ≤ count_held piece.old.table + 65536 * length places.now) }
+{
+    let alloc = *piece.taken.allocator();
+    let mut scene = Scene {
+        alloc,
+        firing,
+        tables,
+        spare,
+    };
+    run_in_turn(clauses, places, &mut scene, piece)
 }

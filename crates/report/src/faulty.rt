@@ -1,6 +1,6 @@
 //! A reader or a writer that moves one byte a call and fails at one chosen call: for tests of what
 //! uses streams.
-ghost use Rattle.std.specs.Prelude.{◌≡◌, ◌+◌, ◌≤◌, IfOk, IsErrAnd, OnOk};
+ghost use Rattle.std.specs.Prelude.{◌≡◌, ◌+◌, ◌-◌, ◌^◌, ◌<◌, ◌≤◌, IfOk, IsErrAnd, IsOk};
 ghost use Rattle.std.specs.Io.{ReadsAtMost, WritesAtMost};
 ghost use Rattle.std.specs.Io.KnownBytes.{ReadConsumes, WriteAppends};
 ghost use Rattle.std.specs.IoError.{error_kind};
@@ -39,10 +39,12 @@ impl<T> Faulty<T> {
 
     // Counts a call, which is interrupted where no good one is left.
     fn begin(&mut self) -> io::Result<()>
-        ensures counted { OnOk result
-            (faulty_good_calls self.new + 1 ≡ faulty_good_calls self.old) }
+        ensures counted { 0 < faulty_good_calls self.old → IsOk result
+            × (faulty_good_calls self.new + 1 ≡ faulty_good_calls self.old) }
         ensures fails { faulty_good_calls self.old ≡ 0 →
             IsErrAnd result (λ e. error_kind e ≡ ErrorKind.Interrupted) }
+        ensures later { faulty_good_calls self.old ≡ 0 →
+            faulty_good_calls self.new ≡ 2 ^ 64 - 1 }
         ensures inner { faulty_inner self.new ≡ faulty_inner self.old }
     {
         let Some(left) = self.good_calls.checked_sub(1) else {
@@ -62,10 +64,14 @@ impl<R: Read> Read for Faulty<R> {
         ensures bytes { ReadConsumes (R.remaining (faulty_inner self.old))
             (R.remaining (faulty_inner self.new)) result buf.new }
         ensures one { IfOk result (λ n. n ≤ 1) }
-        ensures counted { OnOk result
-            (faulty_good_calls self.new + 1 ≡ faulty_good_calls self.old) }
+        ensures counted { 0 < faulty_good_calls self.old →
+            faulty_good_calls self.new + 1 ≡ faulty_good_calls self.old }
         ensures fails { faulty_good_calls self.old ≡ 0 →
             IsErrAnd result (λ e. error_kind e ≡ ErrorKind.Interrupted) }
+        ensures untouched { faulty_good_calls self.old ≡ 0 →
+            faulty_inner self.new ≡ faulty_inner self.old }
+        ensures later { faulty_good_calls self.old ≡ 0 →
+            faulty_good_calls self.new ≡ 2 ^ 64 - 1 }
     {
         self.begin()?;
         let room = buf.len().min(1);
@@ -81,10 +87,14 @@ impl<W: Write> Write for Faulty<W> {
         ensures bytes { WriteAppends (W.contents (faulty_inner self.old))
             (W.contents (faulty_inner self.new)) result buf.now }
         ensures one { IfOk result (λ n. n ≤ 1) }
-        ensures counted { OnOk result
-            (faulty_good_calls self.new + 1 ≡ faulty_good_calls self.old) }
+        ensures counted { 0 < faulty_good_calls self.old →
+            faulty_good_calls self.new + 1 ≡ faulty_good_calls self.old }
         ensures fails { faulty_good_calls self.old ≡ 0 →
             IsErrAnd result (λ e. error_kind e ≡ ErrorKind.Interrupted) }
+        ensures untouched { faulty_good_calls self.old ≡ 0 →
+            faulty_inner self.new ≡ faulty_inner self.old }
+        ensures later { faulty_good_calls self.old ≡ 0 →
+            faulty_good_calls self.new ≡ 2 ^ 64 - 1 }
     {
         self.begin()?;
         let room = buf.len().min(1);

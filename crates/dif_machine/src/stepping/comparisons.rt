@@ -7,7 +7,6 @@ ghost use Rattle.dif_machine.specs.Instructions.{CanExecute, Executes, ExecutesA
 use crate::comparing::{compare_numbers, compare_texts, holds};
 use crate::fault::MachineFault;
 use crate::frame::Frame;
-use d_values::Value;
 use dif_validate::{Condition, Difo, Reg};
 use firing_reader::Firing;
 
@@ -18,7 +17,7 @@ pub(super) fn cmp(
     frame: &mut Frame,
     a: Reg,
     b: Reg,
-) -> Result<Option<Value>, MachineFault>
+) -> Result<Option<Reg>, MachineFault>
     requires { CanExecute (Cmp a b) difo.now firing.now frame.old }
     ensures { Executes (Cmp a b) difo.now firing.now frame.old result frame.new }
 {
@@ -33,7 +32,7 @@ pub(super) fn tst(
     firing: &Firing,
     frame: &mut Frame,
     a: Reg,
-) -> Result<Option<Value>, MachineFault>
+) -> Result<Option<Reg>, MachineFault>
     requires { CanExecute (Tst a) difo.now firing.now frame.old }
     ensures { Executes (Tst a) difo.now firing.now frame.old result frame.new }
 {
@@ -49,7 +48,7 @@ pub(super) fn scmp(
     frame: &mut Frame,
     a: Reg,
     b: Reg,
-) -> Result<Option<Value>, MachineFault>
+) -> Result<Option<Reg>, MachineFault>
     requires { CanExecute (Scmp a b) difo.now firing.now frame.old }
     ensures { Executes (Scmp a b) difo.now firing.now frame.old result frame.new }
 {
@@ -59,7 +58,7 @@ pub(super) fn scmp(
 }
 
 /// `ba to`: goes to a place.
-pub(super) fn ba(frame: &mut Frame, to: usize) -> Result<Option<Value>, MachineFault>
+pub(super) fn ba(frame: &mut Frame, to: usize) -> Result<Option<Reg>, MachineFault>
     ensures { ExecutesAnywhere (Ba to) frame.old result frame.new }
 {
     frame.pc = to;
@@ -71,7 +70,7 @@ pub(super) fn branch(
     frame: &mut Frame,
     condition: Condition,
     to: usize,
-) -> Result<Option<Value>, MachineFault>
+) -> Result<Option<Reg>, MachineFault>
     requires next { HasNext frame.old }
     requires compared { frame.old.comparison ≢ None }
     ensures { ExecutesAnywhere (Branch condition to) frame.old result frame.new }

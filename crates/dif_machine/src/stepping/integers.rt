@@ -9,7 +9,7 @@ use crate::frame::Frame;
 use crate::held::Held;
 use crate::operating::operate;
 use crate::sources::argument;
-use d_values::{IntType, Value, complement};
+use d_values::{IntType, complement};
 use dif_validate::{Difo, Operator, Reg};
 use firing_reader::Firing;
 
@@ -22,7 +22,7 @@ pub(super) fn alu(
     a: Reg,
     b: Reg,
     d: Reg,
-) -> Result<Option<Value>, MachineFault>
+) -> Result<Option<Reg>, MachineFault>
     requires { CanExecute (Alu op a b d) difo.now firing.now frame.old }
     ensures { Executes (Alu op a b d) difo.now firing.now frame.old result frame.new }
 {
@@ -46,7 +46,7 @@ pub(super) fn not(
     frame: &mut Frame,
     a: Reg,
     d: Reg,
-) -> Result<Option<Value>, MachineFault>
+) -> Result<Option<Reg>, MachineFault>
     requires { CanExecute (Not a d) difo.now firing.now frame.old }
     ensures { Executes (Not a d) difo.now firing.now frame.old result frame.new }
 {
@@ -61,7 +61,7 @@ pub(super) fn setx(
     frame: &mut Frame,
     i: usize,
     d: Reg,
-) -> Result<Option<Value>, MachineFault>
+) -> Result<Option<Reg>, MachineFault>
     requires next { HasNext frame.old }
     requires inside { slice_get (object_of difo.now).numbers i ≢ None }
     ensures { (f : Recorded) → Executes (Setx i d) difo.now f frame.old result frame.new }
@@ -82,7 +82,7 @@ pub(super) fn ldga(
     frame: &mut Frame,
     a: Reg,
     d: Reg,
-) -> Result<Option<Value>, MachineFault>
+) -> Result<Option<Reg>, MachineFault>
     requires { CanExecute (Ldga 0 a d) difo.now firing.now frame.old }
     ensures { Executes (Ldga 0 a d) difo.now firing.now frame.old result frame.new }
 {

@@ -5,26 +5,27 @@ ghost use Rattle.dif_machine.specs.Vocabulary.{Pushtr, Pushtv, Flushts, Call};
 ghost use Rattle.dif_machine.specs.{Operators.call_of, Instructions.CanExecute, Instructions.Executes, Instructions.ExecutesAnywhere, Instructions.HasNext};
 
 use crate::fault::MachineFault;
-use crate::frame::Frame;
+use crate::frame::{Frame, spare_text};
 use crate::held::Held;
 use crate::operating::{call as call_function, number_part};
-use d_values::{KeyPart, Text, Value};
+use d_values::KeyPart;
 use dif_validate::{Difo, Function, Reg};
 use firing_reader::Firing;
 use std::alloc::Global;
 
-/// `pushtr a`: adds a text.
+/// `pushtr a`: adds a text, in the room of a text of an earlier tuple.
 pub(super) fn pushtr(
     alloc: Global,
     difo: &Difo,
     firing: &Firing,
     frame: &mut Frame,
     a: Reg,
-) -> Result<Option<Value>, MachineFault>
+) -> Result<Option<Reg>, MachineFault>
     requires { CanExecute (Pushtr a) difo.now firing.now frame.old }
     ensures { Executes (Pushtr a) difo.now firing.now frame.old result frame.new }
 {
-    let text = Text::from_slice(alloc, frame.text(difo, firing, a))?;
+    let mut text = spare_text(alloc, &mut frame.spare);
+    text.assign(frame.text(difo, firing, a))?;
     frame.push(KeyPart::Name(text))?;
     Ok(None)
 }
@@ -35,7 +36,7 @@ pub(super) fn pushtv(
     firing: &Firing,
     frame: &mut Frame,
     a: Reg,
-) -> Result<Option<Value>, MachineFault>
+) -> Result<Option<Reg>, MachineFault>
     requires { CanExecute (Pushtv a) difo.now firing.now frame.old }
     ensures { Executes (Pushtv a) difo.now firing.now frame.old result frame.new }
 {
@@ -45,11 +46,11 @@ pub(super) fn pushtv(
 }
 
 /// `flushts`: empties the tuple.
-pub(super) fn flushts(alloc: Global, frame: &mut Frame) -> Result<Option<Value>, MachineFault>
+pub(super) fn flushts(alloc: Global, frame: &mut Frame) -> Result<Option<Reg>, MachineFault>
     requires { HasNext frame.old }
     ensures { ExecutesAnywhere Flushts frame.old result frame.new }
 {
-    frame.flush(alloc);
+    frame.flush(alloc)?;
     Ok(None)
 }
 
@@ -59,7 +60,7 @@ pub(super) fn call(
     frame: &mut Frame,
     function: Function,
     d: Reg,
-) -> Result<Option<Value>, MachineFault>
+) -> Result<Option<Reg>, MachineFault>
     requires next { HasNext frame.old }
     requires takes { call_of function frame.old.tuple ≢ None }
     ensures { ExecutesAnywhere (Call function d) frame.old result frame.new }

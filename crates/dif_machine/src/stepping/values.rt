@@ -1,18 +1,15 @@
 //! Instructions that move a value of either kind, or none.
 
-ghost use Rattle.dif_machine.specs.Vocabulary.{Mov, Sets, Ldgs, Ret, Nop};
-ghost use Rattle.dif_machine.specs.Instructions.{CanExecute, Executes, ExecutesAnywhere, HasNext};
+ghost use Rattle.dif_machine.specs.Vocabulary.{FrameInMemory, Mov, Sets, Ldgs, Ret, Nop};
+ghost use Rattle.dif_machine.specs.Instructions.{ExecutesAnywhere, HasNext};
 
 use crate::fault::MachineFault;
 use crate::frame::Frame;
 use crate::held::Held;
-use d_values::Value;
-use dif_validate::{Difo, Reg};
-use firing_reader::Firing;
-use std::alloc::Global;
+use dif_validate::Reg;
 
 /// `mov a, d`: what another register holds.
-pub(super) fn mov(frame: &mut Frame, a: Reg, d: Reg) -> Result<Option<Value>, MachineFault>
+pub(super) fn mov(frame: &mut Frame, a: Reg, d: Reg) -> Result<Option<Reg>, MachineFault>
     requires { HasNext frame.old }
     ensures { ExecutesAnywhere (Mov a d) frame.old result frame.new }
 {
@@ -21,7 +18,7 @@ pub(super) fn mov(frame: &mut Frame, a: Reg, d: Reg) -> Result<Option<Value>, Ma
 }
 
 /// `sets i, d`: the text of this index in the table, which stays there.
-pub(super) fn sets(frame: &mut Frame, i: usize, d: Reg) -> Result<Option<Value>, MachineFault>
+pub(super) fn sets(frame: &mut Frame, i: usize, d: Reg) -> Result<Option<Reg>, MachineFault>
     requires { HasNext frame.old }
     ensures { ExecutesAnywhere (Sets i d) frame.old result frame.new }
 {
@@ -30,7 +27,7 @@ pub(super) fn sets(frame: &mut Frame, i: usize, d: Reg) -> Result<Option<Value>,
 }
 
 /// `ldgs v, d`: the built-in variable of this number. A text stays in the firing.
-pub(super) fn ldgs(frame: &mut Frame, v: u8, d: Reg) -> Result<Option<Value>, MachineFault>
+pub(super) fn ldgs(frame: &mut Frame, v: u8, d: Reg) -> Result<Option<Reg>, MachineFault>
     requires { HasNext frame.old }
     ensures { ExecutesAnywhere (Ldgs v d) frame.old result frame.new }
 {
@@ -38,23 +35,15 @@ pub(super) fn ldgs(frame: &mut Frame, v: u8, d: Reg) -> Result<Option<Value>, Ma
     Ok(None)
 }
 
-/// `ret a`: the value that ends the run.
-pub(super) fn ret(
-    alloc: Global,
-    difo: &Difo,
-    firing: &Firing,
-    frame: &Frame,
-    a: Reg,
-) -> Result<Option<Value>, MachineFault>
-    requires { CanExecute (Ret a) difo.now firing.now frame.now }
-    ensures { Executes (Ret a) difo.now firing.now frame.now result frame.now }
+/// `ret a`: ends the run with what the register holds, which stays there.
+pub(super) fn ret(a: Reg) -> Result<Option<Reg>, MachineFault>
+    ensures { (frame : FrameInMemory) → ExecutesAnywhere (Ret a) frame result frame }
 {
-    let value = frame.value(alloc, difo, firing, a)?;
-    Ok(Some(value))
+    Ok(Some(a))
 }
 
 /// `nop`: on to the next instruction.
-pub(super) fn nop(frame: &mut Frame) -> Result<Option<Value>, MachineFault>
+pub(super) fn nop(frame: &mut Frame) -> Result<Option<Reg>, MachineFault>
     requires { HasNext frame.old }
     ensures { ExecutesAnywhere Nop frame.old result frame.new }
 {

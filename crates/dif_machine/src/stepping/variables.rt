@@ -7,7 +7,7 @@ use crate::fault::MachineFault;
 use crate::frame::Frame;
 use crate::held::Held;
 use crate::sources::{load, load_local};
-use d_values::{ClauseLocals, Key, ThreadTable, Value, Var};
+use d_values::{ClauseLocals, Key, ThreadTable, Var};
 use dif_validate::{Difo, Reg};
 use firing_reader::Firing;
 use std::alloc::Global;
@@ -19,7 +19,7 @@ pub(super) fn ldts(
     own: &ThreadTable,
     x: Var,
     d: Reg,
-) -> Result<Option<Value>, MachineFault>
+) -> Result<Option<Reg>, MachineFault>
     requires { HasNext frame.old }
     ensures { LoadsOwn (Ldts x d) frame.old own.now result frame.new }
 {
@@ -37,7 +37,7 @@ pub(super) fn stts(
     own: &mut ThreadTable,
     x: Var,
     a: Reg,
-) -> Result<Option<Value>, MachineFault>
+) -> Result<Option<Reg>, MachineFault>
     requires { CanExecute (Stts x a) difo.now firing.now frame.old }
     ensures { ExecutesOnOwn (Stts x a) difo.now firing.now frame.old own.old
         result frame.new own.new }
@@ -55,7 +55,7 @@ pub(super) fn ldls(
     locals: &ClauseLocals,
     x: Var,
     d: Reg,
-) -> Result<Option<Value>, MachineFault>
+) -> Result<Option<Reg>, MachineFault>
     requires { HasNext frame.old }
     ensures { LoadsLocal (Ldls x d) frame.old locals.now result frame.new }
 {
@@ -73,7 +73,7 @@ pub(super) fn stls(
     locals: &mut ClauseLocals,
     x: Var,
     a: Reg,
-) -> Result<Option<Value>, MachineFault>
+) -> Result<Option<Reg>, MachineFault>
     requires { CanExecute (Stls x a) difo.now firing.now frame.old }
     ensures { ExecutesOnLocals (Stls x a) difo.now firing.now frame.old locals.old
         result frame.new locals.new }
@@ -91,7 +91,7 @@ pub(super) fn ldtaa(
     own: &ThreadTable,
     x: Var,
     d: Reg,
-) -> Result<Option<Value>, MachineFault>
+) -> Result<Option<Reg>, MachineFault>
     requires { HasNext frame.old }
     ensures { LoadsOwn (Ldtaa x d) frame.old own.now result frame.new }
 {
@@ -109,7 +109,7 @@ pub(super) fn sttaa(
     own: &mut ThreadTable,
     x: Var,
     a: Reg,
-) -> Result<Option<Value>, MachineFault>
+) -> Result<Option<Reg>, MachineFault>
     requires { CanExecute (Sttaa x a) difo.now firing.now frame.old }
     ensures { ExecutesOnOwn (Sttaa x a) difo.now firing.now frame.old own.old
         result frame.new own.new }

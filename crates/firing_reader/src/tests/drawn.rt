@@ -2,7 +2,8 @@
 
 ghost use Rattle.std.specs.Prelude.{◌≤◌};
 
-use super::{HEADER, is_same, joined};
+use super::{HEADER, has_same, is_same, joined};
+use crate::pieces::read_plain_trace;
 use crate::{read_trace, read_trace_by};
 use keyed_hash::HashKey;
 use std::alloc::{AllocError, Global};
@@ -175,6 +176,37 @@ fn drawn_traces_read_the_same_in_every_way(rt: HostRuntime) -> Result<(), Fail> 
 
 // How many rows are cut.
 const ROWS: u64 = 200;
+
+// A trace of so many rows, all plain, whose texts, times and arguments come again and again: pieces
+// of it have some of their texts in common.
+fn varied_rows(alloc: Global) -> Result<Vec<u8>, AllocError> {
+    let mut chance = Chance { state: 7 };
+    let mut bytes = joined(alloc, HEADER, b"", b"")?;
+    for number in 1..ROWS + 1 {
+        bytes.extend_from_slice(number.to_string(alloc)?.as_bytes())?;
+        for column in 2..21 {
+            bytes.push(b',')?;
+            bytes.extend_from_slice(plain(&mut chance, column).as_bytes())?;
+        }
+        bytes.extend_from_slice(b"\n")?;
+    }
+    Ok(bytes)
+}
+
+// Pieces are read, and not all by one worker after them.
+#[test]
+fn plain_rows_are_read_in_pieces(rt: HostRuntime) -> Result<(), Fail> {
+    let bytes = varied_rows(rt.alloc())?;
+    let alone = read_trace(rt.alloc(), HashKey::random(&rt), &bytes)?;
+    for workers in 1..17 {
+        let parted = read_plain_trace(&rt, rt.alloc(), HashKey::random(&rt), &bytes, workers);
+        assert!(rt;
+            parted.is_some_and(|parted| has_same(&parted, alone.firings())),
+            "{workers} workers"
+        );
+    }
+    Ok(())
+}
 
 // A trace of so many rows, all plain.
 fn plain_rows(alloc: Global) -> Result<Vec<u8>, AllocError> {

@@ -1,62 +1,51 @@
 //! What changes a variable, once its key and the right side are evaluated.
 
-ghost use Rattle.d_values.specs.Words.{narrow};
-ghost use Rattle.d_types.specs.Storage.{variables};
+ghost use Rattle.d_types.specs.Storage.{value_at, word_of};
 ghost use Rattle.d_types.specs.Expressions as spec;
 ghost use Rattle.replay_core.specs.Evaluation.{Meets};
 
 use crate::evaluation::fault::EvalFault;
-use crate::evaluation::operators::{answered, converted, held, operated, stepped};
-use crate::evaluation::variables::set;
+use crate::evaluation::operators::{answered, held, stepped};
+use crate::evaluation::variables::{set, word_at};
+use crate::scene::Scene;
 use d_parser::Step;
-use d_types::{Answer, Operation, Variable};
-use d_values::{ClauseLocals, Key, ThreadTable, Value};
-use std::alloc::Global;
+use d_types::{Answer, Variable};
+use d_values::{Key, OutOfZero, Value};
 
-/// Gives a variable the operation's result on the word that it had and the right side's, and
-/// answers the word that it then has.
-pub(crate) fn updated(
-    alloc: Global,
-    op: Operation,
+/// Gives a variable the word that an operation made, as one of its type, and returns that word.
+pub(crate) fn update_variable(
     x: Variable,
     key: &Key,
-    old: u64,
-    right: u64,
-    locals: &mut ClauseLocals,
-    own: &mut ThreadTable,
+    made: Result<u64, OutOfZero>,
+    scene: &mut Scene<'_>,
 ) -> Result<u64, EvalFault>
-    ensures { Meets
-        (spec.number (spec.with
-        (spec.given (spec.operation_of op (narrow (spec.works_in op) old) right)
-        (variables locals.old own.old)) (spec.updated x key.now)))
-        result (variables locals.new own.new) }
+    ensures { Meets (λ f vars. spec.number
+        (spec.with (spec.given made vars) (spec.updated x key.now))) result scene.old scene.new }
 {
-    match operated(op, converted(op, old), right) {
+    match made {
         Ok(word) => {
             let word = held(x.holds, word);
-            set(alloc, x, key, Value::Int(word), locals, own)?;
+            set(scene.alloc, x, key, Value::Int(word), scene.tables)?;
             Ok(word)
         }
         Err(_) => Err(EvalFault::DivideByZero),
     }
 }
 
-/// Moves a variable that has this word by one.
-pub(crate) fn moved(
-    alloc: Global,
+/// Moves a variable by one, and returns its new word or its old one.
+pub(crate) fn step_variable(
     step: Step,
     answer: Answer,
     x: Variable,
     key: &Key,
-    old: u64,
-    locals: &mut ClauseLocals,
-    own: &mut ThreadTable,
+    scene: &mut Scene<'_>,
 ) -> Result<u64, EvalFault>
-    ensures { Meets
-        (spec.number (spec.moved step answer x key.now old (variables locals.old own.old)))
-        result (variables locals.new own.new) }
+    ensures { Meets (λ f vars. spec.number
+        (spec.moved step answer x key.now (word_of (value_at vars x key.now)) vars))
+        result scene.old scene.new }
 {
+    let old = word_at(x, key, scene.tables);
     let new = held(x.holds, stepped(step, old));
-    set(alloc, x, key, Value::Int(new), locals, own)?;
+    set(scene.alloc, x, key, Value::Int(new), scene.tables)?;
     Ok(answered(answer, old, new))
 }

@@ -1,22 +1,31 @@
-//! Keys that are written again and again.
+//! What evaluation writes again and again.
 
 ghost use Rattle.std.specs.Prelude.{◌≡◌, length, IfOk};
 
 use d_values::{Key, KeyPart};
+use dif_machine::Frame;
 use std::alloc::{AllocError, Global};
 
-/// Keys that were used, kept so that the next of as many parts takes their room.
+/// Keys that were used, kept so that the next of as many parts takes their room, and the machine's
+/// frame for all runs.
 #[derive(Drop)]
 pub struct SpareKeys {
     keys: Vec<Key>,
+    frame: Frame,
 }
 
 impl SpareKeys {
-    /// None is kept.
+    /// No key is kept.
     pub fn new(alloc: Global) -> SpareKeys {
         SpareKeys {
             keys: Vec::new(alloc),
+            frame: Frame::new(alloc),
         }
+    }
+
+    /// Lends the frame.
+    pub(crate) fn frame(&mut self) -> &mut Frame {
+        &mut self.frame
     }
 
     /// A key of so many parts, whatever they are: one that was kept, or else a new one.

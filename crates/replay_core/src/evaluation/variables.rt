@@ -3,9 +3,11 @@
 ghost use Rattle.std.specs.Prelude.{◌≡◌, IfOk, OnOk};
 ghost use Rattle.d_values.specs.Stores.{kind_of, lent_value};
 ghost use Rattle.d_types.specs.Storage as spec;
+ghost use Rattle.replay_core.specs.Evaluation.{variables_of};
 
+use crate::tables::Tables;
 use d_types::{Space, Variable, kind_of};
-use d_values::{ClauseLocals, Key, Kind, Text, ThreadTable, Value, ValueRef, Var};
+use d_values::{Key, Kind, Text, Value, ValueRef, Var};
 use std::alloc::{AllocError, Global};
 
 /// The word of an integer, or 0.
@@ -49,8 +51,8 @@ fn as_kind(alloc: Global, kind: Kind, value: Value) -> Value
     }
 }
 
-// A copy of a value that is lent.
-fn owned(alloc: Global, value: ValueRef<'_>) -> Result<Value, AllocError>
+/// A copy of a value that is lent.
+pub(crate) fn owned(alloc: Global, value: ValueRef<'_>) -> Result<Value, AllocError>
     ensures { IfOk result (λ v. v ≡ lent_value value.entry) }
 {
     match value {
@@ -73,12 +75,12 @@ fn var_of(x: Variable) -> Var
 }
 
 // Lends its value at the key.
-fn lend<'a>(x: Variable, key: &Key, locals: &'a ClauseLocals, own: &'a ThreadTable) -> ValueRef<'a>
-    ensures { lent_value result ≡ spec.value_at (spec.variables locals.now own.now) x key.now }
+fn lend<'a>(x: Variable, key: &Key, tables: &'a Tables) -> ValueRef<'a>
+    ensures { lent_value result ≡ spec.value_at (variables_of tables.now) x key.now }
 {
     match x.space {
-        Space::Thread => own.get(var_of(x), key),
-        Space::Clause => locals.get(var_of(x)),
+        Space::Thread => tables.own.get(var_of(x), key),
+        Space::Clause => tables.locals.get(var_of(x)),
     }
 }
 
@@ -87,19 +89,18 @@ pub(crate) fn value_at(
     alloc: Global,
     x: Variable,
     key: &Key,
-    locals: &ClauseLocals,
-    own: &ThreadTable,
+    tables: &Tables,
 ) -> Result<Value, AllocError>
-    ensures { IfOk result (λ v. v ≡ spec.value_at (spec.variables locals.now own.now) x key.now) }
+    ensures { IfOk result (λ v. v ≡ spec.value_at (variables_of tables.now) x key.now) }
 {
-    owned(alloc, lend(x, key, locals, own))
+    owned(alloc, lend(x, key, tables))
 }
 
 /// The word of the variable's value at the key.
-pub(crate) fn word_at(x: Variable, key: &Key, locals: &ClauseLocals, own: &ThreadTable) -> u64
-    ensures { result ≡ spec.word_of (spec.value_at (spec.variables locals.now own.now) x key.now) }
+pub(crate) fn word_at(x: Variable, key: &Key, tables: &Tables) -> u64
+    ensures { result ≡ spec.word_of (spec.value_at (variables_of tables.now) x key.now) }
 {
-    match lend(x, key, locals, own) {
+    match lend(x, key, tables) {
         ValueRef::Int(word) => word,
         ValueRef::Text(_) => 0,
     }
@@ -111,15 +112,15 @@ pub(crate) fn set(
     x: Variable,
     key: &Key,
     value: Value,
-    locals: &mut ClauseLocals,
-    own: &mut ThreadTable,
+    tables: &mut Tables,
 ) -> Result<(), AllocError>
-    ensures { OnOk result (spec.variables locals.new own.new ≡ spec.set (spec.variables locals.old own.old) x key.now value) }
+    ensures { OnOk result
+        (variables_of tables.new ≡ spec.set (variables_of tables.old) x key.now value) }
 {
     let var = var_of(x);
     let value = as_kind(alloc, var.kind, value);
     match x.space {
-        Space::Thread => own.set(var, key, value),
-        Space::Clause => locals.set(var, value),
+        Space::Thread => tables.own.set(var, key, value),
+        Space::Clause => tables.locals.set(var, value),
     }
 }

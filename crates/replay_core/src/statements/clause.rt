@@ -2,30 +2,24 @@
 
 ghost use Rattle.std.specs.Prelude.{◌≡◌, ◌+◌, ◌≤◌, ◌^◌, IfOk, OnOk, length, map};
 ghost use Rattle.aggregations.specs.Table.{count_held, functions_of};
-ghost use Rattle.d_types.specs.Storage.{variables};
 ghost use Rattle.d_types.specs.Clauses as spec;
 ghost use Rattle.replay_core.specs.Bounds.{places_among};
-ghost use Rattle.replay_core.specs.Effects.{NotesRun};
-ghost use Rattle.replay_core.specs.Seen.{piece_seen};
+ghost use Rattle.replay_core.specs.Effects.{IsNotedRun};
+ghost use Rattle.replay_core.specs.Evaluation.{Stays};
 
-use crate::evaluation::{EvalFault, SpareKeys};
+use crate::evaluation::EvalFault;
 use crate::piece::Piece;
+use crate::scene::Scene;
 use crate::statements::expression::Expression;
 use crate::statements::statement::Statement;
-use d_values::{ClauseLocals, ThreadTable};
-use firing_reader::Firing;
-use std::alloc::{AllocError, Global};
+use std::alloc::AllocError;
 
 // The statements, in order, up to the first that faults: its line then stands in place of the texts
 // of all.
 fn run_statements<X: Expression, S: Statement<X>>(
-    alloc: Global,
     statements: &[S],
-    firing: &Firing,
     place: u64,
-    locals: &mut ClauseLocals,
-    own: &mut ThreadTable,
-    spare: &mut SpareKeys,
+    scene: &mut Scene<'_>,
     piece: &mut Piece,
 ) -> Result<bool, AllocError>
     requires places { places_among (map S.form statements.now)
@@ -34,19 +28,18 @@ fn run_statements<X: Expression, S: Statement<X>>(
     ensures functions { functions_of piece.new.table ≡ functions_of piece.old.table }
     ensures taken { piece.new.taken.items ≡ piece.old.taken.items }
     ensures held { count_held piece.new.table ≤ count_held piece.old.table + length statements.now }
-    ensures run { IfOk result (NotesRun firing.now.number
-        (spec.made (spec.fault_line firing.now.number place)
-        (spec.statements_by (X.by firing.now) (map S.form statements.now)
-        (variables locals.old own.old)))
-        (piece_seen piece.old) (piece_seen piece.new) (variables locals.new own.new)) }
+    ensures scene { Stays scene.old scene.new }
+    ensures run { IfOk result (IsNotedRun (λ f vars. spec.made (spec.fault_line f.number place)
+        (spec.statements_by (X.by f) (map S.form statements.now) vars))
+        scene.old scene.new piece.old piece.new) }
 {
     let before = piece.texts.len();
     let mut exits = false;
     for statement in statements {
-        match statement.perform(alloc, firing, locals, own, spare, piece) {
+        match statement.perform(scene, piece) {
             Ok(exited) => exits |= exited,
             Err(EvalFault::DivideByZero) => {
-                piece.note_fault(firing.number, place, before)?;
+                piece.note_fault(scene.firing.number, place, before)?;
                 return Ok(exits);
             }
             Err(EvalFault::Memory) => return Err(AllocError),
@@ -59,14 +52,10 @@ fn run_statements<X: Expression, S: Statement<X>>(
 /// that isn't 0 (Dynamic Tracing Guide, "Predicates"). Returns whether it exits. The place is that
 /// among the script's clauses, from 1.
 pub(crate) fn run_clause<X: Expression, S: Statement<X>>(
-    alloc: Global,
     predicate: &Option<X>,
     statements: &[S],
-    firing: &Firing,
     place: u64,
-    locals: &mut ClauseLocals,
-    own: &mut ThreadTable,
-    spare: &mut SpareKeys,
+    scene: &mut Scene<'_>,
     piece: &mut Piece,
 ) -> Result<bool, AllocError>
     requires places { places_among (map S.form statements.now)
@@ -75,22 +64,22 @@ pub(crate) fn run_clause<X: Expression, S: Statement<X>>(
     ensures functions { functions_of piece.new.table ≡ functions_of piece.old.table }
     ensures taken { piece.new.taken.items ≡ piece.old.taken.items }
     ensures held { count_held piece.new.table ≤ count_held piece.old.table + length statements.now }
-    ensures run { IfOk result (NotesRun firing.now.number
-        (spec.run_by (X.by firing.now) (spec.fault_line firing.now.number place) predicate.now
-        (map S.form statements.now) (variables locals.old own.old))
-        (piece_seen piece.old) (piece_seen piece.new) (variables locals.new own.new)) }
+    ensures scene { Stays scene.old scene.new }
+    ensures run { IfOk result (IsNotedRun
+        (λ f. spec.run_by (X.by f) (spec.fault_line f.number place) predicate.now
+        (map S.form statements.now)) scene.old scene.new piece.old piece.new) }
 {
     if let Some(predicate) = predicate {
-        match predicate.evaluate_word(alloc, firing, locals, own, spare) {
+        match predicate.evaluate_word(scene) {
             Ok(0) => return Ok(false),
             Ok(_) => {}
             Err(EvalFault::DivideByZero) => {
                 let texts = piece.texts.len();
-                piece.note_fault(firing.number, place, texts)?;
+                piece.note_fault(scene.firing.number, place, texts)?;
                 return Ok(false);
             }
             Err(EvalFault::Memory) => return Err(AllocError),
         }
     }
-    run_statements(alloc, statements, firing, place, locals, own, spare, piece)
+    run_statements(statements, place, scene, piece)
 }

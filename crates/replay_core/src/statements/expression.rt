@@ -2,10 +2,9 @@
 
 ghost use Rattle.std.specs.Prelude.{◌≡◌};
 
-use crate::evaluation::{EvalFault, SpareKeys};
-use d_values::{ClauseLocals, DType, Key, ThreadTable, Value};
-use firing_reader::Firing;
-use std::alloc::Global;
+use crate::evaluation::EvalFault;
+use crate::scene::Scene;
+use d_values::{DType, Key, Value};
 use std::marker::Model;
 
 /// Arguments of `printf`, each with its type.
@@ -30,7 +29,6 @@ pub(crate) trait Expression: Sized {
     ghost use Rattle.std.specs.Prelude.{List};
     ghost use Rattle.d_types.specs.Clauses.{Evaluation};
     ghost use Rattle.d_types.specs.Expressions.{number};
-    ghost use Rattle.d_types.specs.Storage.{variables};
     ghost use Rattle.firing_reader.specs.declared.firing.Firing as recorded;
     ghost use Rattle.replay_core.specs.Evaluation.{Meets};
 
@@ -42,50 +40,19 @@ pub(crate) trait Expression: Sized {
         ensures { (f : recorded.Firing) → result ≡ (by f).type self.now };
 
     /// Its value.
-    fn evaluate(
-        &self,
-        alloc: Global,
-        firing: &Firing,
-        locals: &mut ClauseLocals,
-        own: &mut ThreadTable,
-        spare: &mut SpareKeys,
-    ) -> Result<Value, EvalFault>
-        ensures { Meets ((by firing.now).value self.now (variables locals.old own.old))
-            result (variables locals.new own.new) };
+    fn evaluate(&self, scene: &mut Scene<'_>) -> Result<Value, EvalFault>
+        ensures { Meets (λ f. (by f).value self.now) result scene.old scene.new };
 
     /// The word of its value: 0 for a text.
-    fn evaluate_word(
-        &self,
-        alloc: Global,
-        firing: &Firing,
-        locals: &mut ClauseLocals,
-        own: &mut ThreadTable,
-        spare: &mut SpareKeys,
-    ) -> Result<u64, EvalFault>
-        ensures { Meets (number ((by firing.now).value self.now (variables locals.old own.old)))
-            result (variables locals.new own.new) };
+    fn evaluate_word(&self, scene: &mut Scene<'_>) -> Result<u64, EvalFault>
+        ensures { Meets (λ f vars. number ((by f).value self.now vars))
+            result scene.old scene.new };
 
     /// The key that several make, from left to right.
-    fn evaluate_key(
-        alloc: Global,
-        keys: &[Self],
-        firing: &Firing,
-        locals: &mut ClauseLocals,
-        own: &mut ThreadTable,
-        spare: &mut SpareKeys,
-    ) -> Result<Key, EvalFault>
-        ensures { Meets ((by firing.now).key keys.now (variables locals.old own.old))
-            result (variables locals.new own.new) };
+    fn evaluate_key(keys: &[Self], scene: &mut Scene<'_>) -> Result<Key, EvalFault>
+        ensures { Meets (λ f. (by f).key keys.now) result scene.old scene.new };
 
     /// The values of several, from left to right.
-    fn evaluate_arguments(
-        alloc: Global,
-        arguments: &[Self],
-        firing: &Firing,
-        locals: &mut ClauseLocals,
-        own: &mut ThreadTable,
-        spare: &mut SpareKeys,
-    ) -> Result<Arguments, EvalFault>
-        ensures { Meets ((by firing.now).values arguments.now (variables locals.old own.old))
-            result (variables locals.new own.new) };
+    fn evaluate_arguments(arguments: &[Self], scene: &mut Scene<'_>) -> Result<Arguments, EvalFault>
+        ensures { Meets (λ f. (by f).values arguments.now) result scene.old scene.new };
 }

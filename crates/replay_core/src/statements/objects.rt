@@ -1,69 +1,140 @@
 //! Objects, run by the machine.
 
-ghost use Rattle.std.specs.Prelude.{◌≡◌};
-ghost use Rattle.d_types.specs.Storage.{variables};
+ghost use Rattle.std.specs.Prelude.{◌≡◌, ◌<◌, OnOk, OnErr, length, slice_set};
+ghost use Rattle.d_values.specs.Stores.{lent_value};
+ghost use Rattle.d_types.specs.Expressions.{Has, number, part_of, with};
+ghost use Rattle.d_types.specs.Storage.{word_of};
 ghost use Rattle.dif_codegen.specs.Meaning as spec;
-ghost use Rattle.replay_core.specs.Evaluation.{Meets};
+ghost use Rattle.dif_machine.specs.Runs.{value_result};
+ghost use Rattle.replay_core.specs.Evaluation.{Leaves, Meets, Returns, variables_of};
 
-use crate::evaluation::{EvalFault, SpareKeys, set_part, word_in};
+use crate::evaluation::{EvalFault, owned};
 use crate::piece::Piece;
+use crate::scene::Scene;
 use crate::statements::expression::{Arguments, Expression};
 use crate::statements::statement::{Statement, aggregate, exit, plain, print, trace};
-use d_values::{ClauseLocals, DType, Key, ThreadTable, Value};
+use crate::tables::Tables;
+use d_values::{DType, Key, Value, ValueRef};
 use dif_codegen::{Action, TypedObject};
-use dif_machine::MachineFault;
+use dif_machine::{Frame, MachineFault};
 use firing_reader::Firing;
-use std::alloc::Global;
+use std::alloc::{AllocError, Global};
 
-// A run of an object.
-fn run(
+// A run of an object, which lends its value.
+fn run<'a>(
     alloc: Global,
-    object: &TypedObject,
-    firing: &Firing,
-    locals: &mut ClauseLocals,
-    own: &mut ThreadTable,
-) -> Result<Value, EvalFault>
-    ensures { Meets (spec.value_of firing.now object.now.object (variables locals.old own.old)) result (variables locals.new own.new) }
+    object: &'a TypedObject,
+    firing: &'a Firing,
+    tables: &mut Tables,
+    frame: &'a mut Frame,
+) -> Result<ValueRef<'a>, EvalFault>
+    ensures { Returns (spec.value_of firing.now object.now.object (variables_of tables.old))
+        (value_result result) (variables_of tables.new) }
 {
-    match object.run(alloc, firing, locals, own) {
+    match object.run_in(alloc, firing, frame, &mut tables.locals, &mut tables.own) {
         Ok(value) => Ok(value),
         Err(MachineFault::DivideByZero) => Err(EvalFault::DivideByZero),
         Err(MachineFault::Memory) => Err(EvalFault::Memory),
     }
 }
 
-// From left to right.
-fn run_for_key(
-    alloc: Global,
-    objects: &[TypedObject],
-    firing: &Firing,
-    locals: &mut ClauseLocals,
-    own: &mut ThreadTable,
-    spare: &mut SpareKeys,
-) -> Result<Key, EvalFault>
-    ensures { Meets (spec.key_of firing.now objects.now (variables locals.old own.old)) result (variables locals.new own.new) }
+// A copy of what a run of an object lends.
+fn run_for_value(object: &TypedObject, scene: &mut Scene<'_>) -> Result<Value, EvalFault>
+    ensures { Meets (λ f. spec.value_of f object.now.object) result scene.old scene.new }
 {
-    let mut key = spare.take(objects.len())?;
+    let lent = run(
+        scene.alloc,
+        object,
+        scene.firing,
+        &mut *scene.tables,
+        scene.spare.frame(),
+    )?;
+    let value = owned(scene.alloc, lent)?;
+    Ok(value)
+}
+
+// The word of an integer, or 0.
+fn word_of(value: ValueRef<'_>) -> u64
+    ensures { result ≡ word_of (lent_value value.entry) }
+{
+    match value {
+        ValueRef::Int(word) => word,
+        ValueRef::Text(_) => 0,
+    }
+}
+
+// The word of what a run of an object lends.
+fn run_for_word(object: &TypedObject, scene: &mut Scene<'_>) -> Result<u64, EvalFault>
+    ensures { Meets (λ f vars. number (spec.value_of f object.now.object vars))
+        result scene.old scene.new }
+{
+    let value = run(
+        scene.alloc,
+        object,
+        scene.firing,
+        &mut *scene.tables,
+        scene.spare.frame(),
+    )?;
+    Ok(word_of(value))
+}
+
+// Puts a value in the place of a key's part.
+fn put_part(key: &mut Key, place: usize, value: ValueRef<'_>) -> Result<(), AllocError>
+    requires { place < length key.old }
+    ensures ok { OnOk result
+        (key.new ≡ slice_set key.old place (part_of (lent_value value.entry))) }
+    ensures err { OnErr result (key.new ≡ key.old) }
+{
+    match value {
+        ValueRef::Int(word) => {
+            key.set_number(place, word.cast_signed());
+            Ok(())
+        }
+        ValueRef::Text(bytes) => key.set_name(place, bytes),
+    }
+}
+
+// Puts what a run of an object lends in the place of a key's part.
+fn run_for_part(
+    object: &TypedObject,
+    key: &mut Key,
+    place: usize,
+    scene: &mut Scene<'_>,
+) -> Result<(), EvalFault>
+    requires { place < length key.old }
+    ensures length { length key.new ≡ length key.old }
+    ensures part { Leaves (λ f vars. with (spec.value_of f object.now.object vars)
+        (λ x. Has (slice_set key.old place (part_of x)))) result key.new scene.old scene.new }
+{
+    let value = run(
+        scene.alloc,
+        object,
+        scene.firing,
+        &mut *scene.tables,
+        scene.spare.frame(),
+    )?;
+    put_part(key, place, value)?;
+    Ok(())
+}
+
+// From left to right.
+fn run_for_key(objects: &[TypedObject], scene: &mut Scene<'_>) -> Result<Key, EvalFault>
+    ensures { Meets (λ f. spec.key_of f objects.now) result scene.old scene.new }
+{
+    let mut key = scene.spare.take(objects.len())?;
     for (place, object) in objects.iter().enumerate() {
-        let value = run(alloc, object, firing, locals, own)?;
-        set_part(&mut key, place, &value)?;
+        run_for_part(object, &mut key, place, scene)?;
     }
     Ok(key)
 }
 
 // From left to right.
-fn run_for_arguments(
-    alloc: Global,
-    objects: &[TypedObject],
-    firing: &Firing,
-    locals: &mut ClauseLocals,
-    own: &mut ThreadTable,
-) -> Result<Arguments, EvalFault>
-    ensures { Meets (spec.values_of firing.now objects.now (variables locals.old own.old)) result (variables locals.new own.new) }
+fn run_for_arguments(objects: &[TypedObject], scene: &mut Scene<'_>) -> Result<Arguments, EvalFault>
+    ensures { Meets (λ f. spec.values_of f objects.now) result scene.old scene.new }
 {
-    let mut values = Vec::new(alloc);
+    let mut values = Vec::new(scene.alloc);
     for object in objects {
-        let value = run(alloc, object, firing, locals, own)?;
+        let value = run_for_value(object, scene)?;
         values.push((object.returns, value))?;
     }
     Ok(Arguments { values })
@@ -78,49 +149,23 @@ impl Expression for TypedObject {
         self.returns
     }
 
-    fn evaluate(
-        &self,
-        alloc: Global,
-        firing: &Firing,
-        locals: &mut ClauseLocals,
-        own: &mut ThreadTable,
-        _spare: &mut SpareKeys,
-    ) -> Result<Value, EvalFault> {
-        run(alloc, self, firing, locals, own)
+    fn evaluate(&self, scene: &mut Scene<'_>) -> Result<Value, EvalFault> {
+        run_for_value(self, scene)
     }
 
-    fn evaluate_word(
-        &self,
-        alloc: Global,
-        firing: &Firing,
-        locals: &mut ClauseLocals,
-        own: &mut ThreadTable,
-        _spare: &mut SpareKeys,
-    ) -> Result<u64, EvalFault> {
-        let value = run(alloc, self, firing, locals, own)?;
-        Ok(word_in(&value))
+    fn evaluate_word(&self, scene: &mut Scene<'_>) -> Result<u64, EvalFault> {
+        run_for_word(self, scene)
     }
 
-    fn evaluate_key(
-        alloc: Global,
-        keys: &[TypedObject],
-        firing: &Firing,
-        locals: &mut ClauseLocals,
-        own: &mut ThreadTable,
-        spare: &mut SpareKeys,
-    ) -> Result<Key, EvalFault> {
-        run_for_key(alloc, keys, firing, locals, own, spare)
+    fn evaluate_key(keys: &[TypedObject], scene: &mut Scene<'_>) -> Result<Key, EvalFault> {
+        run_for_key(keys, scene)
     }
 
     fn evaluate_arguments(
-        alloc: Global,
         arguments: &[TypedObject],
-        firing: &Firing,
-        locals: &mut ClauseLocals,
-        own: &mut ThreadTable,
-        _spare: &mut SpareKeys,
+        scene: &mut Scene<'_>,
     ) -> Result<Arguments, EvalFault> {
-        run_for_arguments(alloc, arguments, firing, locals, own)
+        run_for_arguments(arguments, scene)
     }
 }
 
@@ -129,24 +174,14 @@ impl Statement<TypedObject> for Action {
 
     ghost form = { action_code };
 
-    fn perform(
-        &self,
-        alloc: Global,
-        firing: &Firing,
-        locals: &mut ClauseLocals,
-        own: &mut ThreadTable,
-        spare: &mut SpareKeys,
-        piece: &mut Piece,
-    ) -> Result<bool, EvalFault> {
+    fn perform(&self, scene: &mut Scene<'_>, piece: &mut Piece) -> Result<bool, EvalFault> {
         match self {
-            Action::Plain(e) => plain(alloc, e, firing, locals, own, spare, piece),
-            Action::Trace(e) => trace(alloc, e, firing, locals, own, spare, piece),
-            Action::Printf(format, arguments) => {
-                print(alloc, format, arguments, firing, locals, own, spare, piece)
-            }
-            Action::Exit(e) => exit(alloc, e, firing, locals, own, spare, piece),
+            Action::Plain(e) => plain(e, scene, piece),
+            Action::Trace(e) => trace(e, scene, piece),
+            Action::Printf(format, arguments) => { print(format, arguments, scene, piece) }
+            Action::Exit(e) => exit(e, scene, piece),
             Action::Aggregate(place, keys, argument) => aggregate(
-                alloc, *place, keys, argument, firing, locals, own, spare, piece,
+                *place, keys, argument, scene, piece,
             ),
         }
     }

@@ -1,35 +1,27 @@
 //! Trees, walked.
 
 ghost use Rattle.d_types.specs.Typed.{typeds_of};
-ghost use Rattle.d_types.specs.Storage.{variables};
 ghost use Rattle.d_types.specs.Clauses as spec;
 ghost use Rattle.replay_core.specs.Evaluation.{Meets};
 
-use crate::evaluation::{EvalFault, SpareKeys, evaluate, evaluate_key, evaluate_word};
+use crate::evaluation::{EvalFault, evaluate, evaluate_key, evaluate_word};
 use crate::piece::Piece;
+use crate::scene::Scene;
 use crate::statements::expression::{Arguments, Expression};
 use crate::statements::statement::{Statement, aggregate, exit, plain, print, trace};
 use d_types::{TypedExpr, TypedStmt};
-use d_values::{ClauseLocals, DType, Key, ThreadTable, Value};
-use firing_reader::Firing;
-use std::alloc::Global;
+use d_values::{DType, Key, Value};
 
 // From left to right.
 fn evaluate_arguments(
-    alloc: Global,
     arguments: &[TypedExpr],
-    firing: &Firing,
-    locals: &mut ClauseLocals,
-    own: &mut ThreadTable,
-    spare: &mut SpareKeys,
+    scene: &mut Scene<'_>,
 ) -> Result<Arguments, EvalFault>
-    ensures { Meets
-        (spec.values_of firing.now (typeds_of arguments.now) (variables locals.old own.old))
-        result (variables locals.new own.new) }
+    ensures { Meets (λ f. spec.values_of f (typeds_of arguments.now)) result scene.old scene.new }
 {
-    let mut values = Vec::new(alloc);
+    let mut values = Vec::new(scene.alloc);
     for argument in arguments {
-        let value = evaluate(alloc, argument, firing, locals, own, spare)?;
+        let value = evaluate(argument, scene)?;
         values.push((argument.type_of(), value))?;
     }
     Ok(Arguments { values })
@@ -44,48 +36,23 @@ impl Expression for TypedExpr {
         self.type_of()
     }
 
-    fn evaluate(
-        &self,
-        alloc: Global,
-        firing: &Firing,
-        locals: &mut ClauseLocals,
-        own: &mut ThreadTable,
-        spare: &mut SpareKeys,
-    ) -> Result<Value, EvalFault> {
-        evaluate(alloc, self, firing, locals, own, spare)
+    fn evaluate(&self, scene: &mut Scene<'_>) -> Result<Value, EvalFault> {
+        evaluate(self, scene)
     }
 
-    fn evaluate_word(
-        &self,
-        alloc: Global,
-        firing: &Firing,
-        locals: &mut ClauseLocals,
-        own: &mut ThreadTable,
-        spare: &mut SpareKeys,
-    ) -> Result<u64, EvalFault> {
-        evaluate_word(alloc, self, firing, locals, own, spare)
+    fn evaluate_word(&self, scene: &mut Scene<'_>) -> Result<u64, EvalFault> {
+        evaluate_word(self, scene)
     }
 
-    fn evaluate_key(
-        alloc: Global,
-        keys: &[TypedExpr],
-        firing: &Firing,
-        locals: &mut ClauseLocals,
-        own: &mut ThreadTable,
-        spare: &mut SpareKeys,
-    ) -> Result<Key, EvalFault> {
-        evaluate_key(alloc, keys, firing, locals, own, spare)
+    fn evaluate_key(keys: &[TypedExpr], scene: &mut Scene<'_>) -> Result<Key, EvalFault> {
+        evaluate_key(keys, scene)
     }
 
     fn evaluate_arguments(
-        alloc: Global,
         arguments: &[TypedExpr],
-        firing: &Firing,
-        locals: &mut ClauseLocals,
-        own: &mut ThreadTable,
-        spare: &mut SpareKeys,
+        scene: &mut Scene<'_>,
     ) -> Result<Arguments, EvalFault> {
-        evaluate_arguments(alloc, arguments, firing, locals, own, spare)
+        evaluate_arguments(arguments, scene)
     }
 }
 
@@ -94,24 +61,14 @@ impl Statement<TypedExpr> for TypedStmt {
 
     ghost form = { statement_form };
 
-    fn perform(
-        &self,
-        alloc: Global,
-        firing: &Firing,
-        locals: &mut ClauseLocals,
-        own: &mut ThreadTable,
-        spare: &mut SpareKeys,
-        piece: &mut Piece,
-    ) -> Result<bool, EvalFault> {
+    fn perform(&self, scene: &mut Scene<'_>, piece: &mut Piece) -> Result<bool, EvalFault> {
         match self {
-            TypedStmt::Evaluate(e) => plain(alloc, e, firing, locals, own, spare, piece),
-            TypedStmt::Trace(e) => trace(alloc, e, firing, locals, own, spare, piece),
-            TypedStmt::Print(format, arguments) => {
-                print(alloc, format, arguments, firing, locals, own, spare, piece)
-            }
-            TypedStmt::Exit(e) => exit(alloc, e, firing, locals, own, spare, piece),
+            TypedStmt::Evaluate(e) => plain(e, scene, piece),
+            TypedStmt::Trace(e) => trace(e, scene, piece),
+            TypedStmt::Print(format, arguments) => { print(format, arguments, scene, piece) }
+            TypedStmt::Exit(e) => exit(e, scene, piece),
             TypedStmt::Aggregate(place, keys, argument) => aggregate(
-                alloc, *place, keys, argument, firing, locals, own, spare, piece,
+                *place, keys, argument, scene, piece,
             ),
         }
     }

@@ -4,11 +4,11 @@ use Rattle.d_types.proofs.NewAggregations.{agg_refused, agg_within}
 use Rattle.d_types.proofs.aggregation.new_place.Goals as goal
 
 pub returns-then-keys-gt-MOST_KEYS : goal.returns-then-keys-gt-MOST_KEYS
-returns-then-keys-gt-MOST_KEYS c = agg_refused c.args.line c.args.name.now c.args.keys.now c.args.function (aggs_of c.args.aggs.now.items) c.if-keys-gt-MOST_KEYS.true
+returns-then-keys-gt-MOST_KEYS c = agg_refused c.args.usage.line c.args.usage.name.now c.args.usage.keys.now c.args.usage.function (aggs_of c.args.aggs.now.items) c.if-keys-gt-MOST_KEYS.true
 
 pub returns-in-None : goal.returns-in-None
-returns-in-None c = rw (agg_within c.args.line c.args.name.now c.args.keys.now c.args.function (aggs_of c.args.aggs.now.items) c.if-keys-gt-MOST_KEYS.false, c.in-None.is) refl
+returns-in-None c = rw (agg_within c.args.usage.line c.args.usage.name.now c.args.usage.keys.now c.args.usage.function (aggs_of c.args.aggs.now.items) c.if-keys-gt-MOST_KEYS.false, c.in-None.is) refl
 
 pub returns-in_ok-place-in-Some : goal.returns-in_ok-place-in-Some
 returns-in_ok-place-in-Some c =
-    rw (agg_within c.args.line c.args.name.now c.args.keys.now c.args.function (aggs_of c.args.aggs.now.items) c.if-keys-gt-MOST_KEYS.false, c.in-Some.is, c.in_ok-place-in-Some.ensures.place, c.in_ok-place-in-Some.ensures.added) refl
+    rw (agg_within c.args.usage.line c.args.usage.name.now c.args.usage.keys.now c.args.usage.function (aggs_of c.args.aggs.now.items) c.if-keys-gt-MOST_KEYS.false, c.in-Some.is, c.in_ok-place-in-Some.ensures.place, c.in_ok-place-in-Some.ensures.added) refl

@@ -1,31 +1,9 @@
-use Rattle.std.proofs.Common.{◌≢◌, sym, subst, Ok, Err, Some, None}
 use Rattle.d_values.specs.Storage.{variables}
-use Rattle.dif_machine.specs.Held.{frame_of}
-use Rattle.dif_machine.specs.Steps.{step_of, Stepped, Stuck}
-use Rattle.dif_machine.proofs.Progress.{follows_start, follows_on, never_stuck, ends_well, ends_badly}
+use Rattle.d_values.specs.Stores.{lent_value}
+use Rattle.dif_machine.proofs.Arriving.{ends_refused}
 use Rattle.dif_machine.proofs.running.run.Goals as goal
 
-pub loop-value-init : goal.loop-value-init
-loop-value-init c = rw (c.start-frame.ensures c.args.valid.now c.args.firing.now) (follows_start c.args.valid.now c.args.firing.now _ c.difo-difo.ensures.valid)
-
-pub step-requires : goal.step-requires
-step-requires c =
-    subst (λ o. step_of o c.args.firing.now (frame_of o c.args.firing.now c.loop-value.frame) (variables c.loop-value.locals c.loop-value.own) ≢ Stuck) (sym c.difo-difo.ensures.same)
-    (never_stuck c.args.valid.now c.args.firing.now _ (frame_of c.args.valid.now c.args.firing.now c.loop-value.frame) _ c.loop-value.invariant)
-
-pub returns-in-Ok-Some : goal.returns-in-Ok-Some
-returns-in-Ok-Some c =
-    ends_well c.args.valid.now c.args.firing.now _ (frame_of c.args.valid.now c.args.firing.now c.loop-value.frame) _ _ c.in-Ok-Some.value c.loop-value.invariant
-    (subst (λ o. Stepped (variables c.loop-value.locals c.loop-value.own) (step_of o c.args.firing.now (frame_of o c.args.firing.now c.loop-value.frame) (variables c.loop-value.locals c.loop-value.own)) (Ok (Some c.in-Ok-Some.value)) (frame_of o c.args.firing.now c.step.new.frame) (variables c.step.new.locals c.step.new.own)) c.difo-difo.ensures.same
-    (rw c.in-Ok-Some.field-0-is at c.in-Ok-Some.ensures))
-
-pub loop-value-preserved : goal.loop-value-preserved
-loop-value-preserved c =
-    (follows_on c.args.valid.now c.args.firing.now _ (frame_of c.args.valid.now c.args.firing.now c.loop-value.frame) (frame_of c.args.valid.now c.args.firing.now c.step.new.frame) _ _ c.loop-value.invariant
-    (subst (λ o. Stepped (variables c.loop-value.locals c.loop-value.own) (step_of o c.args.firing.now (frame_of o c.args.firing.now c.loop-value.frame) (variables c.loop-value.locals c.loop-value.own)) (Ok None) (frame_of o c.args.firing.now c.step.new.frame) (variables c.step.new.locals c.step.new.own)) c.difo-difo.ensures.same
-    (rw c.in-Ok-None.field-0-is at c.in-Ok-None.ensures))).1
-
-pub returns-in-Err : goal.returns-in-Err
-returns-in-Err c =
-    ends_badly c.args.valid.now c.args.firing.now _ (frame_of c.args.valid.now c.args.firing.now c.loop-value.frame) (frame_of c.args.valid.now c.args.firing.now c.step.new.frame) _ _ c.in-Err.fault c.loop-value.invariant
-    (subst (λ o. Stepped (variables c.loop-value.locals c.loop-value.own) (step_of o c.args.firing.now (frame_of o c.args.firing.now c.loop-value.frame) (variables c.loop-value.locals c.loop-value.own)) (Err c.in-Err.fault) (frame_of o c.args.firing.now c.step.new.frame) (variables c.step.new.locals c.step.new.own)) c.difo-difo.ensures.same c.in-Err.ensures)
+pub returns-in_err-value : goal.returns-in_err-value
+returns-in_err-value c =
+    ends_refused c.args.valid.now c.args.firing.now (variables c.args.locals.now c.args.own.now) (variables c.run_in.new.locals c.run_in.new.own) (lent_value c.in_ok-lent.lent) c.from_residual-in_err-value.result
+    c.from_residual-in_err-value.ensures.1 c.in_ok-lent.ensures

@@ -102,11 +102,8 @@ returns-in-Sttaa c = does c.args.difo.now c.args.firing.now c.args.frame.now _ _
 pub returns-in-Call : goal.returns-in-Call
 returns-in-Call c = does c.args.difo.now c.args.firing.now c.args.frame.now _ _ c.in-Call.is c.call.result c.call.new.frame (variables c.args.locals.now c.args.own.now) (variables c.args.locals.now c.args.own.now) (c.call.ensures c.args.difo.now c.args.firing.now (can c.args.difo.now c.args.firing.now c.args.frame.now _ _ (variables c.args.locals.now c.args.own.now) c.in-Call.is c.requires) (variables c.args.locals.now c.args.own.now))
 
-pub ret-requires : goal.ret-requires
-ret-requires c = can c.args.difo.now c.args.firing.now c.args.frame.now _ _ (variables c.args.locals.now c.args.own.now) c.in-Ret.is c.requires
-
 pub returns-in-Ret : goal.returns-in-Ret
-returns-in-Ret c = does c.args.difo.now c.args.firing.now c.args.frame.now _ _ c.in-Ret.is c.ret.result c.args.frame.now (variables c.args.locals.now c.args.own.now) (variables c.args.locals.now c.args.own.now) (c.ret.ensures (variables c.args.locals.now c.args.own.now))
+returns-in-Ret c = does c.args.difo.now c.args.firing.now c.args.frame.now _ _ c.in-Ret.is c.ret.result c.args.frame.now (variables c.args.locals.now c.args.own.now) (variables c.args.locals.now c.args.own.now) (c.ret.ensures c.args.frame.now c.args.difo.now c.args.firing.now (can c.args.difo.now c.args.firing.now c.args.frame.now _ _ (variables c.args.locals.now c.args.own.now) c.in-Ret.is c.requires) (variables c.args.locals.now c.args.own.now))
 
 pub returns-in-Nop : goal.returns-in-Nop
 returns-in-Nop c = does c.args.difo.now c.args.firing.now c.args.frame.now _ _ c.in-Nop.is c.nop.result c.nop.new.frame (variables c.args.locals.now c.args.own.now) (variables c.args.locals.now c.args.own.now) (c.nop.ensures c.args.difo.now c.args.firing.now (can c.args.difo.now c.args.firing.now c.args.frame.now _ _ (variables c.args.locals.now c.args.own.now) c.in-Nop.is c.requires) (variables c.args.locals.now c.args.own.now))

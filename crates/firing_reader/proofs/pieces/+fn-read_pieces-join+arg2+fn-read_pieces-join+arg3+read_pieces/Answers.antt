@@ -7,4 +7,4 @@ returns g t c =
     let first = rw c.in_ok-first.was at c.join-first.ensures.first in
     let second = rw c.in_ok-second.was at c.join-first.ensures.second in
     let goes = c.follows.ensures c.if-not-follows.false in
-    joined_piece c.args.bytes.now c.in_ok-left.left.now c.in_ok-left.right.now after c.in_ok-first.first c.in_ok-second.second c.joined.result is split first second goes c.joined.ensures
+    joined_piece c.args.bytes.now c.in_ok-left.left.now c.in_ok-left.right.now after c.in_ok-first.first c.in_ok-second.second c.followed_by.result is split first second goes c.followed_by.ensures

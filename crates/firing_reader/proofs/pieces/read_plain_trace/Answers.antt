@@ -1,4 +1,4 @@
-use Rattle.std.proofs.Common.{◌≡◌, ◌≤◌, ◌∙◌, length, arith}
+use Rattle.std.proofs.Common.{◌≤◌, ◌∙◌, length, arith}
 use Rattle.firing_reader.proofs.PieceRows.{whole_piece}
 use Rattle.firing_reader.proofs.PlainHeader.{after_header}
 use Rattle.firing_reader.proofs.pieces.read_plain_trace.Goals as goal

@@ -1,4 +1,4 @@
-use Rattle.std.proofs.Common.{rules, refl, ◌∙◌, arith, sym, ◌≤◌, length, length-append, ◌++◌, ◌∷◌, [], ◌≡◌}
+use Rattle.std.proofs.Common.{refl, arith, length-append, ◌∷◌, []}
 use Rattle.firing_reader.proofs.PlainRows.{goes_none, goes_plain}
 use Rattle.firing_reader.proofs.Rows.{last_push}
 use Rattle.firing_reader.proofs.PieceRows.{rows_push, rises_join}

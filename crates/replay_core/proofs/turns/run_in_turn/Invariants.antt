@@ -2,8 +2,8 @@ use Rattle.std.proofs.Common.{◌≡◌, ◌+◌, ◌*◌, ◌≤◌, drop}
 use Rattle.std.specs.Prelude.{List}
 use Rattle.aggregations.specs.Table.{count_held, functions_of}
 use Rattle.d_types.specs.Held.{AreTyped, HasTypedBuiltIns, Slots}
-use Rattle.d_types.specs.Storage.{variables}
 use Rattle.d_types.specs.Typed.{ClauseMeant}
+use Rattle.replay_core.specs.Evaluation.{Stays, variables_in}
 use Rattle.replay_core.specs.Scripts.{AllMean}
 use Rattle.replay_core.specs.Seen.{piece_seen}
 use Rattle.replay_core.proofs.Turning.{Continues}
@@ -14,7 +14,8 @@ invariant-loop-place g l = record {
   functions : functions_of l.piece.table ≡ functions_of l.fn.piece.table;
   taken : l.piece.taken.items ≡ l.fn.piece.taken.items;
   held : count_held l.piece.table ≤ count_held l.fn.piece.table + 65536 * l.place-index;
-  turns : (slots : Slots) (cs : List ClauseMeant) → AllMean g.C.Clause.means slots l.clauses cs → HasTypedBuiltIns l.firing
-      → AreTyped slots (variables l.fn.tables.locals l.fn.tables.own)
-      → AreTyped slots (variables l.tables.locals l.tables.own) × Continues l.firing cs l.places (drop l.place-index l.places) (variables l.fn.tables.locals l.fn.tables.own) (variables l.tables.locals l.tables.own) (piece_seen l.fn.piece) (piece_seen l.piece) l.exits;
+  stays : Stays l.fn.scene l.scene;
+  turns : (slots : Slots) (cs : List ClauseMeant) → AllMean g.C.Clause.means slots l.clauses cs → HasTypedBuiltIns l.fn.scene.firing.now
+      → AreTyped slots (variables_in l.fn.scene)
+      → AreTyped slots (variables_in l.scene) × Continues l.fn.scene.firing.now cs l.places (drop l.place-index l.places) (variables_in l.fn.scene) (variables_in l.scene) (piece_seen l.fn.piece) (piece_seen l.piece) l.exits;
 }

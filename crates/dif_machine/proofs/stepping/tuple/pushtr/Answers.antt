@@ -10,4 +10,4 @@ pub returns : goal.returns
 returns c =
     let o = object_of c.args.difo.now in
     let f = c.args.firing.now in
-    λ vars. acting.pushtr o f (frame_of o f c.args.frame.now) vars _ _ _ c.requires.0 c.requires.1.1 c.text.ensures (c.in_ok-push.ensures o f ∙ ap (λ x. with_tuple (frame_of o f c.args.frame.now) (c.args.frame.now.tuple ++ Name x ∷ [])) c.in_ok-text.ensures)
+    λ vars. acting.pushtr o f (frame_of o f c.args.frame.now) vars _ _ _ c.requires.0 c.requires.1.1 c.text.ensures (c.in_ok-push.ensures o f ∙ ap (λ x. with_tuple (frame_of o f c.args.frame.now) (c.args.frame.now.tuple ++ Name x ∷ [])) c.in_ok-assign.ensures.ok)

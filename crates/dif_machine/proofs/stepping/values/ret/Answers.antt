@@ -5,6 +5,4 @@ use Rattle.dif_machine.proofs.stepping.values.ret.Goals as goal
 
 pub returns : goal.returns
 returns c =
-    let o = object_of c.args.difo.now in
-    let f = c.args.firing.now in
-    λ vars. acting.ret o f (frame_of o f c.args.frame.now) vars _ _ c.in_ok-value.ensures
+    λ frame difo f may vars. let o = object_of difo in acting.ret o f (frame_of o f frame) vars c.args.a may.0 may.1.1

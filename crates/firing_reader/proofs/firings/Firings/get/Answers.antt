@@ -1,8 +1,7 @@
-use Rattle.std.proofs.Common.{rules, arith, ◌≡◌, ◌<◌, Some, refl, sym, ap, ◌∙◌, slice_get, get_or, w32, length, ◌+◌, ◌-◌}
+use Rattle.std.proofs.Common.{rules, arith, ◌≡◌, ◌<◌, Some, refl, sym, ap, ◌∙◌, slice_get, w32, length, ◌+◌, ◌-◌}
 use Rattle.std.proofs.lemmas.List.{length-map}
 use Rattle.std.proofs.lemmas.Int.{to_z-of_z}
 use Rattle.std.proofs.lemmas.Option.{slice_get-map, slice_get-get_or}
-use Rattle.firing_reader.specs.declared.firing.Firing.{Firing}
 use Rattle.firing_reader.specs.Stored.{firing_in}
 use Rattle.firing_reader.proofs.firings.Firings.get.Goals as goal
 

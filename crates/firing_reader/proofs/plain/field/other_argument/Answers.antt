@@ -1,4 +1,4 @@
-use Rattle.std.proofs.Common.{rules, refl, []}
+use Rattle.std.proofs.Common.{refl, []}
 use Rattle.std.proofs.lemmas.List.Elements.{All-nil}
 use Rattle.firing_reader.specs.Plain.{JoinsField}
 use Rattle.firing_reader.proofs.PlainRows.{passes_one}

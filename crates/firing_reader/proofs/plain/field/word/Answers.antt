@@ -1,5 +1,4 @@
-use Rattle.std.proofs.Common.{take, rules, arith, length, length-take, ◌≤◌, ◌≡◌, Some, ◌∙◌, ap, sym, List, ℕ}
-use Rattle.firing_reader.specs.Column.{text_of}
+use Rattle.std.proofs.Common.{take, rules, arith, length, length-take, ◌≤◌}
 use Rattle.firing_reader.proofs.PlainRows.{passes_one}
 use Rattle.firing_reader.proofs.PlainFields.{words_join}
 use Rattle.firing_reader.proofs.FieldTexts.{words_text}

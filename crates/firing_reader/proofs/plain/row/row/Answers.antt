@@ -1,4 +1,4 @@
-use Rattle.std.proofs.Common.{rules, arith, ◌≡◌, ◌<◌, false, ◌∷◌, [], w32}
+use Rattle.std.proofs.Common.{rules, ◌≡◌, false, ◌∷◌, [], w32}
 use Rattle.std.specs.Prelude.{codes}
 use Rattle.std.specs.Str.{bytes_eq}
 use Rattle.std.proofs.lemmas.Int.{to_z-of_z}

@@ -1,4 +1,4 @@
-use Rattle.std.proofs.Common.{◌≡◌, Some, refl, slice_get, ap, ◌∙◌, ℕ, List, sym, length}
+use Rattle.std.proofs.Common.{Some, refl, ap, ◌∙◌, ℕ, List, sym, length}
 use Rattle.std.proofs.lemmas.Bool.{ltb-true}
 use Rattle.std.proofs.lemmas.Option.{slice_get_read}
 use Rattle.firing_reader.proofs.texts.Texts.is_at.Goals as goal

@@ -3,11 +3,11 @@ use Rattle.std.proofs.Common.{arith, subst, sym, ap, ◌∙◌}
 use Rattle.std.proofs.lemmas.Result.{IfOk-weaker}
 use Rattle.aggregations.specs.Table.{functions_of}
 use Rattle.d_types.specs.Clauses.{fault_line, run_by}
-use Rattle.d_types.specs.Storage.{variables}
 use Rattle.dif_codegen.specs.Meaning.{by_objects}
 use Rattle.dif_codegen.specs.Programs.{action_code}
 use Rattle.replay_core.specs.Bounds.{places_among}
 use Rattle.replay_core.specs.Effects.{NotesRun}
+use Rattle.replay_core.specs.Evaluation.{variables_in}
 use Rattle.replay_core.specs.Seen.{piece_seen}
 use Rattle.replay_core.proofs.clause.CompiledClauseClause.run.Goals as goal
 
@@ -29,10 +29,10 @@ returns-clause-held c =
 
 pub returns-clause-run : goal.returns-clause-run
 returns-clause-run c =
-    let f = c.args.firing.now in
+    let f = c.args.scene.now.firing.now in
     let line = fault_line f.number c.args.place in
-    let vars = variables c.args.locals.now c.args.own.now in
-    let left = variables c.run_clause.new.locals c.run_clause.new.own in
+    let vars = variables_in c.args.scene.now in
+    let left = variables_in c.run_clause.new.scene in
     let same = ap (λ l. run_by (by_objects f) line c.args.self.now.predicate (map action_code l) vars) c.deref.ensures.value in
     IfOk-weaker c.run_clause.result
     (λ exits. NotesRun f.number (run_by (by_objects f) line c.args.self.now.predicate (map action_code c.deref.result.now) vars) (piece_seen c.args.piece.now) (piece_seen c.run_clause.new.piece) left exits)

@@ -4,10 +4,10 @@ use Rattle.std.proofs.lemmas.List.{length-map}
 use Rattle.std.proofs.lemmas.Result.{IfOk-weaker}
 use Rattle.aggregations.specs.Table.{functions_of}
 use Rattle.d_types.specs.Clauses.{fault_line, run_by, run_of}
-use Rattle.d_types.specs.Storage.{variables}
 use Rattle.d_types.specs.Typed.{action_of}
 use Rattle.replay_core.specs.Bounds.{places_among}
 use Rattle.replay_core.specs.Effects.{NotesRun}
+use Rattle.replay_core.specs.Evaluation.{variables_in}
 use Rattle.replay_core.specs.Forms.{by_expressions, statement_form}
 use Rattle.replay_core.specs.Seen.{piece_seen}
 use Rattle.replay_core.proofs.FormLemmas.{places_same, run_same}
@@ -35,13 +35,13 @@ returns-clause-held c =
 
 pub returns-clause-run : goal.returns-clause-run
 returns-clause-run c =
-    let f = c.args.firing.now in
+    let f = c.args.scene.now.firing.now in
     let clause = c.args.self.now in
     let line = fault_line f.number c.args.place in
-    let vars = variables c.args.locals.now c.args.own.now in
+    let vars = variables_in c.args.scene.now in
     let same = ap (λ l. run_by (by_expressions f) line clause.predicate (map statement_form l) vars) c.deref.ensures.value
     ∙ run_same f line clause.predicate clause.statements.items vars in
-    let left = variables c.run_clause.new.locals c.run_clause.new.own in
+    let left = variables_in c.run_clause.new.scene in
     IfOk-weaker c.run_clause.result
     (λ exits. NotesRun f.number (run_by (by_expressions f) line clause.predicate (map statement_form c.deref.result.now) vars) (piece_seen c.args.piece.now) (piece_seen c.run_clause.new.piece) left exits)
     _ (λ exits noted slots meant is fit good.

@@ -1,15 +1,16 @@
 use Rattle.std.proofs.Common.{◌≡◌, ◌+◌, ◌*◌, ◌++◌, drop, take, length}
 use Rattle.d_types.specs.Typed.{typed_of, typeds_of}
-use Rattle.d_types.specs.Storage.{variables}
 use Rattle.d_types.specs.Expressions.{Has, with, keys_of}
+use Rattle.replay_core.specs.Evaluation.{Stays, variables_in}
 use Rattle.replay_core.proofs.Weights.{weight, weights}
 use Rattle.replay_core.proofs.evaluation.expression.+evaluation.Given as goal
 
 abbrev pub invariant-evaluate_key-loop-place : goal.invariant-evaluate_key-loop-place
 invariant-evaluate_key-loop-place l = record {
   length : length l.key ≡ length l.keys;
-  parts : with (keys_of l.firing (typeds_of (drop l.place l.keys)) (variables l.locals l.own)) (λ key. Has (take l.place l.key ++ key))
-      ≡ keys_of l.firing (typeds_of l.keys) (variables l.fn.locals l.fn.own);
+  stays : Stays l.fn.scene l.scene;
+  parts : with (keys_of l.scene.firing.now (typeds_of (drop l.place l.keys)) (variables_in l.scene)) (λ key. Has (take l.place l.key ++ key))
+      ≡ keys_of l.fn.scene.firing.now (typeds_of l.keys) (variables_in l.fn.scene);
 }
 
 abbrev pub decreases-and : goal.decreases-and

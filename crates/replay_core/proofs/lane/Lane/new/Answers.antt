@@ -1,5 +1,5 @@
 use Rattle.std.specs.Prelude.{◌≡◌, map}
-use Rattle.std.proofs.Common.{rules, ap, subst, sym, ◌∙◌}
+use Rattle.std.proofs.Common.{ap, subst, sym, ◌∙◌}
 use Rattle.d_types.specs.Held.{AreTypedOwn, slots_of}
 use Rattle.d_types.proofs.FiringValues.{own_unassigned}
 use Rattle.replay_core.specs.Meaning.{unassigned}
@@ -8,7 +8,7 @@ use Rattle.replay_core.proofs.lane.Lane.new.Goals as goal
 
 pub returns-clause-script : goal.returns-clause-script
 returns-clause-script g c = λ m mean functions.
-    let none : threads_in c.with_hasher.result.entries ≡ unassigned = search rules in (
+    let none : threads_in c.with_hasher.result.entries ≡ unassigned = ap threads_in c.with_hasher.ensures.empty in (
       record {
         clauses_mean = mean;
         are_described = ap (map (λ d. d.now)) c.new-2.ensures.descriptions ∙ c.in_ok-descriptions.ensures.meaning (slots_of m) m.clauses mean.each;

@@ -1,29 +1,31 @@
 use Rattle.std.specs.Prelude.{◌≡◌, ◌∷◌, ◌++◌, [], false, length, map, take, Err}
 use Rattle.std.proofs.Common.{rules, subst, sym, ap, ◌∙◌}
-use Rattle.d_types.specs.Storage.{variables}
 use Rattle.d_types.specs.Expressions.{number}
 use Rattle.d_types.specs.Clauses.{fault_line, guarded_by, made, statements_by, where_true}
 use Rattle.replay_core.specs.Effects.{NotesRun}
-use Rattle.replay_core.specs.Evaluation.{Meets}
+use Rattle.replay_core.specs.Evaluation.{Returns, variables_in}
 use Rattle.replay_core.specs.Seen.{piece_seen}
 use Rattle.replay_core.proofs.EffectLemmas.{predicate_faults}
+use Rattle.replay_core.proofs.SceneLemmas.{number_stays}
 use Rattle.replay_core.proofs.statements.clause.run_clause.Goals as goal
 
 pub returns-in-Err-DivideByZero-clause-run : goal.returns-in-Err-DivideByZero-clause-run
 returns-in-Err-DivideByZero-clause-run g c =
-    let f = c.args.firing.now in
+    let f = c.args.scene.now.firing.now in
     let by = g.X.Expression.by f in
     let rest = statements_by by (map g.S.Statement.form c.args.statements.now) in
-    let vars = variables c.args.locals.now c.args.own.now in
-    let after = variables c.evaluate_word.new.locals c.evaluate_word.new.own in
+    let vars = variables_in c.args.scene.now in
+    let after = variables_in c.evaluate_word.new.scene in
     let line = fault_line f.number c.args.place in
     let predicate = c.in-Some.predicate in
-    let faults = subst (λ r. Meets (number (by.value predicate vars)) r after)
-    (c.in-Err-DivideByZero.is ∙ ap (λ e. Err e) c.in-Err-DivideByZero.field-0-is) c.evaluate_word.ensures in
+    let faults = subst (λ r. Returns (number (by.value predicate vars)) r after)
+    (c.in-Err-DivideByZero.is ∙ ap (λ e. Err e) c.in-Err-DivideByZero.field-0-is) c.evaluate_word.ensures.1 in
     let run = ap (λ p. made line (guarded_by by p rest vars)) c.in-Some.is
     ∙ ap (λ o. made line (where_true o rest)) faults in
     let noted = c.in_ok-note_fault-in-Err-DivideByZero.ensures in
+    let same = number_stays c.args.scene.now c.evaluate_word.new.scene c.evaluate_word.ensures.0 in
     let before : c.len-texts.result ≡ length c.args.piece.now.texts.items = search rules in
     subst (λ m. NotesRun f.number m (piece_seen c.args.piece.now) (piece_seen c.note_fault.new.self) after false) (sym run)
     (predicate_faults f.number line (piece_seen c.args.piece.now) (piece_seen c.note_fault.new.self) after
-    (noted.texts ∙ ap (λ n. take n c.args.piece.now.texts.items ++ (f.number, line) ∷ []) before) noted.table noted.taken noted.exit)
+    (noted.texts ∙ ap (λ n. take c.len-texts.result c.args.piece.now.texts.items ++ (n, fault_line n c.args.place) ∷ []) same
+    ∙ ap (λ n. take n c.args.piece.now.texts.items ++ (f.number, line) ∷ []) before) noted.table noted.taken noted.exit)

@@ -1,7 +1,7 @@
 use Rattle.std.proofs.Common.{◌≡◌, ◌+◌, ◌≤◌, drop, map}
 use Rattle.aggregations.specs.Table.{count_held, functions_of}
-use Rattle.d_types.specs.Storage.{variables}
 use Rattle.d_types.specs.Clauses.{statements_by}
+use Rattle.replay_core.specs.Evaluation.{Stays, variables_in}
 use Rattle.replay_core.specs.Seen.{piece_seen}
 use Rattle.replay_core.proofs.EffectLemmas.{SoFar}
 use Rattle.replay_core.proofs.statements.clause.run_statements.Given as goal
@@ -11,6 +11,9 @@ invariant-loop-statement g l = record {
   functions : functions_of l.piece.table ≡ functions_of l.fn.piece.table;
   taken : l.piece.taken.items ≡ l.fn.piece.taken.items;
   held : count_held l.piece.table ≤ count_held l.fn.piece.table + l.statement-index;
-  so_far : SoFar l.firing.number (statements_by (g.X.Expression.by l.firing) (map g.S.Statement.form l.statements) (variables l.fn.locals l.fn.own))
-      (statements_by (g.X.Expression.by l.firing) (map g.S.Statement.form (drop l.statement-index l.statements)) (variables l.locals l.own)) (piece_seen l.fn.piece) (piece_seen l.piece) l.exits;
+  stays : Stays l.fn.scene l.scene;
+  so_far : SoFar l.fn.scene.firing.now.number
+      (statements_by (g.X.Expression.by l.fn.scene.firing.now) (map g.S.Statement.form l.statements) (variables_in l.fn.scene))
+      (statements_by (g.X.Expression.by l.fn.scene.firing.now) (map g.S.Statement.form (drop l.statement-index l.statements)) (variables_in l.scene))
+      (piece_seen l.fn.piece) (piece_seen l.piece) l.exits;
 }
