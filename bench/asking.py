@@ -1,0 +1,68 @@
+"""The questions of the benchmarks: the traces that they are asked of, who answers them, and what each answer tells."""
+import os
+import shutil
+import subprocess
+import sys
+
+HERE = os.path.dirname(os.path.abspath(__file__))
+PROGRAM = f"{HERE}/../crates/dreplay/out/dreplay"
+QUESTIONS = ["counts", "latency", "heavy"]
+
+
+def stop_without(tools, program):
+    """Ends the benchmark where a tool of the system or the program isn't there."""
+    lacking = [tool for tool in tools if not shutil.which(tool)]
+    if lacking:
+        sys.exit(f"{os.path.basename(sys.argv[0])} needs what isn't here: apt-get install {' '.join(lacking)}")
+    if not os.access(program, os.X_OK):
+        sys.exit(f"{os.path.relpath(program)} isn't built: make build")
+
+
+def write_trace(path, rows, *words):
+    """Writes a trace of so many rows."""
+    with open(path, "wb") as file:
+        subprocess.run([f"{HERE}/generate", *words, str(rows)], stdout=file, check=True)
+
+
+def write_bundle(question, trace, path):
+    """Writes the bundle that asks a question of a trace."""
+    with open(path, "wb") as file, open(f"{HERE}/questions/{question}.d", "rb") as script, open(trace, "rb") as rows:
+        file.write(script.read() + b"---\n")
+        shutil.copyfileobj(rows, file)
+
+
+def by_hand(room):
+    """Builds the program that is written by hand, and returns its path; none without rustc."""
+    if not shutil.which("rustc"):
+        return None
+    words = ["rustc", "-O", "--edition", "2021", "-o", f"{room}/by_hand", f"{HERE}/by_hand/by_hand.rs"]
+    subprocess.run(words, check=True)
+    return f"{room}/by_hand"
+
+
+def others(question, written):
+    """Who else answers a question, with the words that run each; mawk comes first."""
+    awk = ["-F,", "-f", f"{HERE}/questions/{question}.awk"]
+    found = {"mawk": ["mawk", *awk]}
+    if shutil.which("gawk"):
+        found["gawk"] = ["gawk", "-b", *awk]
+    if written:
+        found["by hand"] = [written, question]
+    return found
+
+
+def facts_of(output):
+    """What an answer of dreplay tells, as mawk writes it, a line each: a text; keys and a value; keys, a bucket's label and
+    its count, where it isn't 0."""
+    facts, keys = [], []
+    for line in output.splitlines():
+        label, bar, rest = line.partition(b" |")
+        words = line.split()
+        if bar:
+            count = rest.split()[-1]
+            facts += [b" ".join([*keys, *label.split(), count])] if count != b"0" else []
+        elif len(words) == 1:
+            keys = words
+        elif words and b"Distribution" not in words:
+            facts.append(b" ".join(words))
+    return sorted(facts)

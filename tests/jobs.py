@@ -1,0 +1,48 @@
+"""The runs of the prover that tests/edits has going at once."""
+import os
+import sys
+import threading
+from concurrent.futures import ThreadPoolExecutor
+
+
+class Jobs(ThreadPoolExecutor):
+    """So many runs at once. While rt ci builds the libraries beside them, it is half as many, and a crate waits for those
+    below it: each line of standard input names a library that has been built, and its end says that there are no more."""
+
+    def __init__(self, most, is_beside):
+        super().__init__(most)
+        few = max(1, most // 2) if is_beside else most
+        self.kept_back, self.places = most - few, threading.Semaphore(few)
+        self.is_beside, self.built, self.has_ended, self.news = is_beside, set(), False, threading.Condition()
+        if is_beside:
+            # rt ci goes first where both want the processor.
+            os.nice(10)
+            threading.Thread(target=self.follow_rt_ci, daemon=True).start()
+
+    def follow_rt_ci(self):
+        for line in sys.stdin:
+            with self.news:
+                self.built.add(line.strip())
+                self.news.notify_all()
+        with self.news:
+            self.has_ended = True
+            self.news.notify_all()
+        for _ in range(self.kept_back):
+            self.places.release()
+
+    def start(self, work, *given):
+        """Starts a run as soon as one of the places is free."""
+
+        def in_a_place():
+            with self.places:
+                return work(*given)
+
+        return self.submit(in_a_place)
+
+    def has_libraries(self, names):
+        """Waits for these libraries, and returns whether they have been built."""
+        if not self.is_beside:
+            return True
+        with self.news:
+            self.news.wait_for(lambda: self.has_ended or self.built.issuperset(names))
+            return self.built.issuperset(names)
