@@ -9,7 +9,8 @@
 #                   completions and examples in PREFIX/share; it builds nothing if the program is there
 #   make uninstall  removes all of that
 #   make dist       packs it into an archive and a Debian package in dist/, which need no toolchain
-#   make bench      measures it beside mawk, and the lexer, the parser, the reader and a thread's variables alone
+#   make bench      measures it with 1, 2 and 4 workers beside mawk, its instructions where valgrind is installed, and the
+#                   lexer, the parser, the reader and a thread's variables alone
 #   make clean      removes what was built and proved
 #   make help       prints this
 
@@ -89,7 +90,8 @@ dist: $(PROGRAM)
 	@tools/make-dist $(PROGRAM)
 
 bench: build
-	@bench/run
+	@bench/run --workers 1,2,4
+	@if command -v valgrind > /dev/null; then bench/instructions; fi
 	@bench/lexer/run
 	@bench/parser/run
 	@bench/reading/run

@@ -31,6 +31,19 @@ def changed(old, new):
     return {name: len(body) for name, body in bodies.items() if body != new_bodies[name]}
 
 
+def changed_in(folder, texts):
+    """Returns, by name, the lengths of the functions' bodies that these new texts of a folder's files change; none where
+    they change anything else."""
+    found = {}
+    for path, text in texts.items():
+        with open(f"{folder}/{path}", encoding="utf-8") as file:
+            bodies = changed(file.read(), text)
+        if not bodies:
+            return {}
+        found.update(bodies)
+    return found
+
+
 def reach(texts):
     """Returns by name which functions of these files a function may call, itself or through others: all whose names
     occur in its body, and itself."""

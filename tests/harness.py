@@ -16,8 +16,8 @@ def plans(workers, groups, engines):
     return [["-w", f"{w}", "-g", f"{g}", "-e", e] for w, g, e in itertools.product(workers, groups, engines)]
 
 
-# The answer doesn't depend on these words. tests/run runs each case under all of them, tests/differential and tests/fuzz run
-# each bundle under the one that drawn_plan draws.
+# The answer doesn't depend on these words. tests/run runs each case under all of them, tests/fuzz each bundle under the one
+# that drawn_plan draws, and tests/differential under the two that drawn_plans draws.
 PLANS = plans((1, 2, 16), (1, 2, 4096), ("dif", "tree"))
 # Enough where a call fails: each engine, with one worker and with two.
 FEW_PLANS = plans((1, 2), (2,), ("dif", "tree"))
@@ -57,6 +57,12 @@ class Case:
 def drawn_plan(seed, place):
     """The plan for one place in the list that a seed stands for."""
     return random.Random(f"{seed} {place} plan").choice(PLANS)
+
+
+def drawn_plans(seed, place):
+    """The two plans of both engines, with the workers and groups of the one that drawn_plan draws."""
+    workers_and_groups = drawn_plan(seed, place)[:4]
+    return [plan for plan in PLANS if plan[:4] == workers_and_groups]
 
 
 def run_name(program, plan=()):

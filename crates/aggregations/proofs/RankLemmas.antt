@@ -9,7 +9,7 @@ use Rattle.std.proofs.Math.Nat.{mul-le-mul_right}
 use Rattle.aggregations.specs.declared.function.AggFn.{AggFn}
 use Rattle.aggregations.specs.declared.function.AggFn.TheVariants.{Quantize, Lquantize}
 use Rattle.aggregations.specs.declared.linear_range.LinearRange.{LinearRange}
-use Rattle.aggregations.specs.Ranges.{are_bounds, is_one_to_65535}
+use Rattle.aggregations.specs.Ranges.{are_bounds, is_one_to}
 use Rattle.aggregations.specs.Buckets.{buckets, label, power_label, level_label, levels_of}
 use Rattle.aggregations.specs.Values.{total}
 use Rattle.aggregations.specs.Figures.{rank_of}
@@ -101,16 +101,16 @@ power_small b lt = at (cases_lt b 63) (cases_eq b 63)
 -- what a range keeps, as numbers
 pub range_known : (r : LinearRange) → (neg_ℤ (pos (2 ^ 31)) ≤ℤ r.lower) × (r.lower <ℤ pos (2 ^ 31)) × (r.step ≤ 65535) × (levels_of r ≤ 65535)
 range_known r =
-    let front = first_of (are_bounds r.lower r.upper && is_one_to_65535 r.step) (is_one_to_65535 (levels_of r)) r.in_range in
-    let bounds = first_of (are_bounds r.lower r.upper) (is_one_to_65535 r.step) front in
+    let front = first_of (are_bounds r.lower r.upper && is_one_to 65535 r.step) (is_one_to 65535 (levels_of r)) r.in_range in
+    let bounds = first_of (are_bounds r.lower r.upper) (is_one_to 65535 r.step) front in
     let lower_two = first_of (int_le (neg_ℤ (pos (2 ^ 31))) r.lower && int_lt r.lower r.upper) (int_lt r.upper (pos (2 ^ 31))) bounds in
     let low = at_least (neg_ℤ (pos (2 ^ 31))) r.lower (first_of (int_le (neg_ℤ (pos (2 ^ 31))) r.lower) (int_lt r.lower r.upper) lower_two) in
     let between = below r.lower r.upper (second_of (int_le (neg_ℤ (pos (2 ^ 31))) r.lower) (int_lt r.lower r.upper) lower_two) in
     let high = below r.upper (pos (2 ^ 31)) (second_of (int_le (neg_ℤ (pos (2 ^ 31))) r.lower && int_lt r.lower r.upper) (int_lt r.upper (pos (2 ^ 31))) bounds) in (
       low,
       omega (arith, ints),
-      at_most r.step (second_of (nat_le 1 r.step) (nat_le r.step 65535) (second_of (are_bounds r.lower r.upper) (is_one_to_65535 r.step) front)),
-      at_most (levels_of r) (second_of (nat_le 1 (levels_of r)) (nat_le (levels_of r) 65535) (second_of (are_bounds r.lower r.upper && is_one_to_65535 r.step) (is_one_to_65535 (levels_of r)) r.in_range)),
+      at_most r.step (second_of (nat_le 1 r.step) (nat_le r.step 65535) (second_of (are_bounds r.lower r.upper) (is_one_to 65535 r.step) front)),
+      at_most (levels_of r) (second_of (nat_le 1 (levels_of r)) (nat_le (levels_of r) 65535) (second_of (are_bounds r.lower r.upper && is_one_to 65535 r.step) (is_one_to 65535 (levels_of r)) r.in_range)),
     )
   where
     at_least : (a b : ℤ) → int_le a b ≡ true → a ≤ℤ b

@@ -7,6 +7,11 @@ use crate::function::AggFn;
 
 impl AggFn {
     /// How many buckets its histograms have. None where it makes no histogram.
+    ///
+    /// ```text
+    /// AggFn::Quantize.buckets(); // 127
+    /// AggFn::Sum.buckets(); // 0
+    /// ```
     pub fn buckets(self) -> u32
         ensures { result ≡ spec.buckets self }
     {

@@ -1,8 +1,6 @@
 //! Histograms.
 
-ghost use Rattle.std.specs.Prelude.{◌≡◌, ◌+◌, ◌<◌, ◌≤◌, ◌^◌, ℤ, OnOk, OnErr, MatchOption};
-ghost use Rattle.std.specs.Prelude.{List, [], ◌∷◌, ◌++◌, length, slice_index, sum};
-ghost use Rattle.aggregations.specs.{Buckets.buckets, Buckets.HasBuckets};
+ghost use Rattle.std.specs.Prelude.{◌≡◌, ◌+◌, ◌<◌, ◌≤◌, ◌^◌, ℤ, OnOk, OnErr, MatchOption, List, [], ◌∷◌, ◌++◌, length, slice_index, sum};
 
 use crate::function::AggFn;
 use indexmap::IndexMap;
@@ -30,8 +28,7 @@ impl Model for Histogram {
 }
 
 impl Histogram {
-    ghost use Rattle.aggregations.specs.Figures.{Figure, rank_of};
-    ghost use Rattle.aggregations.specs.Histograms.{histogram_of, with_more, IsSpan};
+    ghost use Rattle.aggregations.specs.{Buckets.HasBuckets, Buckets.buckets, Figures.Figure, Figures.rank_of, Histograms.IsSpan, Histograms.histogram_of, Histograms.with_more};
 
     // Without arguments.
     pub(crate) fn new(alloc: Global, function: AggFn) -> Histogram

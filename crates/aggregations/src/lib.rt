@@ -13,9 +13,6 @@ mod table;
 
 pub use function::AggFn;
 pub use histogram::Histogram;
-pub use linear_range::LinearRange;
+pub use linear_range::{LinearRange, MOST_LEVELS, MOST_STEP};
 pub use partial::Partial;
 pub use table::AggTable;
-
-#[cfg(test)]
-mod tests;

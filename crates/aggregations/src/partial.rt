@@ -1,8 +1,6 @@
 //! Entries: a value made from the arguments that came.
 
-ghost use Rattle.std.specs.Prelude.{◌≡◌, ◌+◌, ◌<◌, ◌≤◌, ◌^◌, ◌∷◌, []};
-ghost use Rattle.std.specs.Prelude.{IfOk, OnOk, OnErr, option_copied};
-ghost use Rattle.aggregations.specs.Values.{IsValue, TakesOne, TakesBoth, count_in};
+ghost use Rattle.std.specs.Prelude.{◌≡◌, ◌+◌, ◌<◌, ◌≤◌, ◌^◌, ◌∷◌, [], IfOk, OnOk, OnErr, option_copied};
 
 use crate::function::AggFn;
 use crate::held::{Held, Mean};
@@ -17,8 +15,7 @@ pub struct Partial {
 }
 
 impl Model for Partial {
-    ghost use Rattle.aggregations.specs.declared.held.Held.{Held};
-    ghost use Rattle.aggregations.specs.Values.{IsKept};
+    ghost use Rattle.aggregations.specs.{declared.held.Held.Held, Values.IsKept};
 
     ghost Value = { Held };
 
@@ -28,8 +25,7 @@ impl Model for Partial {
 }
 
 impl Partial {
-    ghost use Rattle.aggregations.specs.Figures.{figure_of, rank_of};
-    ghost use Rattle.aggregations.specs.Figures.{single_in, histogram_in, count_at};
+    ghost use Rattle.aggregations.specs.{Figures.count_at, Figures.figure_of, Figures.histogram_in, Figures.rank_of, Figures.single_in, Values.IsValue, Values.TakesBoth, Values.TakesOne, Values.count_in};
 
     // The value of one argument.
     pub(crate) fn of_one(alloc: Global, function: AggFn, arg: i64) -> Result<Partial, AllocError>

@@ -3,7 +3,7 @@ use Rattle.std.proofs.Common.{◌≡◌, ◌&&◌, ℕ, suc, Bool, true, false, 
 use Rattle.std.proofs.lemmas.List.Sums.{take_while-cons}
 use Rattle.d_lexer.specs.declared.place.Place.{Place}
 use Rattle.d_lexer.specs.declared.position.Position.{Position}
-use Rattle.d_lexer.specs.Places.{moved, passed}
+use Rattle.d_lexer.specs.Places.{after_bytes, after_byte}
 use Rattle.d_lexer.specs.Tokens.{Fills}
 use Rattle.d_lexer.specs.Steps.Scan.{run_len, run_of, scan}
 
@@ -54,7 +54,7 @@ run_splits test (b ∷ z) =
 
 -- ---- passing bytes
 
-pub scan_skip : (p : Place) (pos : Position) (own rest : List ℕ) → scan (length own) p pos (own ++ rest) ≡ scan 0 p (moved pos own) rest
+pub scan_skip : (p : Place) (pos : Position) (own rest : List ℕ) → scan (length own) p pos (own ++ rest) ≡ scan 0 p (after_bytes pos own) rest
 unfolding scan
 scan_skip p pos [] rest = refl
-scan_skip p pos (b ∷ own) rest = scan_skip p (passed pos b) own rest
+scan_skip p pos (b ∷ own) rest = scan_skip p (after_byte pos b) own rest

@@ -21,7 +21,7 @@ use Rattle.d_lexer.specs.Bytes.{is_blank, is_word_start, is_word_byte, is_run_by
 use Rattle.d_lexer.specs.Numbers.{IsNoNumber}
 use Rattle.d_lexer.specs.Steps.Numbers.{number_of}
 use Rattle.d_lexer.specs.Marks.{mark_of}
-use Rattle.d_lexer.specs.Places.{moved, passed, is_head, is_first, is_hash, after}
+use Rattle.d_lexer.specs.Places.{after_bytes, after_byte, is_head, is_first, is_hash, after}
 use Rattle.d_lexer.specs.Faults.{on_line}
 use Rattle.d_lexer.specs.Steps.OptionLine.{is_option}
 use Rattle.d_lexer.specs.Tokens.{StopsAt, Fills, HasNoEnd, IsPiece, blank, comment, first_line, Past, here, past, IsRunOf, SpellsText, SpellsAggregation, IsMark, SpellsInside, SpellsHead, Spells, begins, StopsText, IsFault, stray, open_comment, text, number, option_line, other_option, End, Clean, Bad, EndsAs, Lexes}
@@ -336,14 +336,14 @@ fault_fails p pos bytes g (other_option w rest is e1 e2 e3 h) = record { first =
 
 -- ---- all of the text
 
-scan_gap : (p : Place) (pos : Position) (b : ℕ) (own rest : List ℕ) → front_at p pos b (own ++ rest) ≡ Ok (Gap (length own)) → scan 0 p pos (b ∷ (own ++ rest)) ≡ scan 0 p (moved pos (b ∷ own)) rest
+scan_gap : (p : Place) (pos : Position) (b : ℕ) (own rest : List ℕ) → front_at p pos b (own ++ rest) ≡ Ok (Gap (length own)) → scan 0 p pos (b ∷ (own ++ rest)) ≡ scan 0 p (after_bytes pos (b ∷ own)) rest
 unfolding scan
-scan_gap p pos b own rest e = rw e (scan_skip p (passed pos b) own rest)
+scan_gap p pos b own rest e = rw e (scan_skip p (after_byte pos b) own rest)
 
 scan_token : (p : Place) (pos : Position) (b : ℕ) (own rest : List ℕ) (t : TokenKind) → front_at p pos b (own ++ rest) ≡ Ok (front.Token t (length own)) →
-    scan 0 p pos (b ∷ (own ++ rest)) ≡ with_first (record { kind = t; start = pos.at; stop = pos.at + suc (length own); line = pos.line }) (scan 0 (after p t) (moved pos (b ∷ own)) rest)
+    scan 0 p pos (b ∷ (own ++ rest)) ≡ with_first (record { kind = t; start = pos.at; stop = pos.at + suc (length own); line = pos.line }) (scan 0 (after p t) (after_bytes pos (b ∷ own)) rest)
 unfolding scan
-scan_token p pos b own rest t e = rw e (ap (with_first (record { kind = t; start = pos.at; stop = pos.at + suc (length own); line = pos.line })) (scan_skip (after p t) (passed pos b) own rest))
+scan_token p pos b own rest t e = rw e (ap (with_first (record { kind = t; start = pos.at; stop = pos.at + suc (length own); line = pos.line })) (scan_skip (after p t) (after_byte pos b) own rest))
 
 scan_fault : (p : Place) (pos : Position) (b : ℕ) (z : List ℕ) (g : Flaw) → front_at p pos b z ≡ Err g → scan 0 p pos (b ∷ z) ≡ ([], Bad (on_line g pos.line))
 unfolding scan
@@ -355,7 +355,7 @@ scan_past p Then r k (here h) = k _ _ h
 scan_past p Then r k {pos = pos} {bytes = bytes} (past own rest is piece more) =
     let f = piece_reads p pos own rest piece in
     let whole : bytes ≡ f.first ∷ (f.others ++ rest) = is ∙ ap (λ (xs : List ℕ). xs ++ rest) f.is in
-    let moved_is : moved pos (f.first ∷ f.others) ≡ moved pos own = ap (moved pos) (sym f.is) in
+    let moved_is : after_bytes pos (f.first ∷ f.others) ≡ after_bytes pos own = ap (after_bytes pos) (sym f.is) in
     rw whole (scan_gap p pos f.first f.others rest f.read ∙ ap (λ (q : Position). scan 0 p q rest) moved_is ∙ scan_past p Then r k more)
 
 abbrev nothing_then : End → Scanned
@@ -372,12 +372,12 @@ ends p (Bad fault) pos bytes h =
 pub complete : (ts : List Token) (end : End) (p : Place) (pos : Position) (bytes : List ℕ) → Lexes p pos bytes ts end → scan 0 p pos bytes ≡ (ts, end)
 complete [] end p pos bytes h = scan_past p (EndsAs p end) ([], end) (λ q z e. ends p end q z e) h
 complete (t ∷ ts) end p pos bytes h =
-    scan_past p _ (t ∷ ts, end) (λ q z e. one q z e.0 e.1 e.2 e.3 e.4 e.5 e.6 (complete ts end (after p t.kind) (moved q e.0) e.1 e.7)) h where
-      one : (q : Position) (z own rest : List ℕ) → z ≡ own ++ rest → Spells p own rest t.kind → t.start ≡ q.at → t.stop ≡ q.at + length own → t.line ≡ q.line → scan 0 (after p t.kind) (moved q own) rest ≡ (ts, end) → scan 0 p q z ≡ (t ∷ ts, end)
+    scan_past p _ (t ∷ ts, end) (λ q z e. one q z e.0 e.1 e.2 e.3 e.4 e.5 e.6 (complete ts end (after p t.kind) (after_bytes q e.0) e.1 e.7)) h where
+      one : (q : Position) (z own rest : List ℕ) → z ≡ own ++ rest → Spells p own rest t.kind → t.start ≡ q.at → t.stop ≡ q.at + length own → t.line ≡ q.line → scan 0 (after p t.kind) (after_bytes q own) rest ≡ (ts, end) → scan 0 p q z ≡ (t ∷ ts, end)
       one q z own rest is spells e1 e2 e3 more =
           let s = token_reads p q own rest t.kind spells in
           let whole : z ≡ s.first ∷ (s.others ++ rest) = is ∙ ap (λ (xs : List ℕ). xs ++ rest) s.is in
-          let further : scan 0 (after p t.kind) (moved q (s.first ∷ s.others)) rest ≡ (ts, end) = ap (λ (xs : List ℕ). scan 0 (after p t.kind) (moved q xs) rest) (sym s.is) ∙ more in
+          let further : scan 0 (after p t.kind) (after_bytes q (s.first ∷ s.others)) rest ≡ (ts, end) = ap (λ (xs : List ℕ). scan 0 (after p t.kind) (after_bytes q xs) rest) (sym s.is) ∙ more in
           let stop : q.at + suc (length s.others) ≡ t.stop = ap (λ (xs : List ℕ). q.at + length xs) (sym s.is) ∙ sym e2 in
           let lexeme : record { kind = t.kind; start = q.at; stop = q.at + suc (length s.others); line = q.line } ≡ t = rw (stop, ← e1, ← e3) refl in
           ap (scan 0 p q) whole ∙ scan_token p q s.first s.others rest t.kind s.read ∙ (λ i. with_first (lexeme i) (further i))

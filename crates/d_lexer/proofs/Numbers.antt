@@ -125,7 +125,7 @@ hex_is x d k z n s is dk r = by r.digits r.is r.value r.whole where
         digits = e ∷ digits;
         behind = r.behind;
         is = ap (λ (xs : List ℕ). 48 ∷ (x ∷ xs)) cut;
-        told = hexadecimal x e digits refl refl is refl;
+        stated = hexadecimal x e digits refl refl is refl;
         value = subst (StandFor 16 (e ∷ digits)) (sym n_is) value;
         fits = r.fits;
         suffix = r.suffix;
@@ -139,7 +139,7 @@ octal_is z n s r =
       digits = 48 ∷ r.digits;
       behind = r.behind;
       is = ap (λ (xs : List ℕ). 48 ∷ xs) r.is;
-      told = octal r.digits refl refl refl;
+      stated = octal r.digits refl refl refl;
       value = (0, r.own, refl, r.value, r.whole);
       fits = r.fits;
       suffix = r.suffix;
@@ -153,7 +153,7 @@ decimal_is d z n s other dk r =
       digits = d ∷ r.digits;
       behind = r.behind;
       is = ap (λ (xs : List ℕ). d ∷ xs) r.is;
-      told = decimal d r.digits refl refl refl other;
+      stated = decimal d r.digits refl refl refl other;
       value = (d - 48, r.own, dk, r.value, r.whole);
       fits = r.fits;
       suffix = r.suffix;
@@ -267,7 +267,7 @@ behind_zero x n = sym (no_first x n)
 
 -- a number is what is read
 pub number_reads : (own : List ℕ) (n : ℕ) (s : Suffix) → IsNumber own n s → number_of own ≡ Some (n, s)
-number_reads own n s h = by h.base h.before h.digits h.told h.is h.value where
+number_reads own n s h = by h.base h.before h.digits h.stated h.is h.value where
   by : (base : ℕ) (before digits : List ℕ) → IsBase base before digits → own ≡ before ++ (digits ++ h.behind) → StandFor base digits n → number_of own ≡ Some (n, s)
   by base before digits (hexadecimal x d ds b_is before_is x_is digits_is) is value =
       let v : StandFor 16 (d ∷ ds) n = subst (λ (xs : List ℕ). StandFor 16 xs n) digits_is (subst (λ (b : ℕ). StandFor b digits n) b_is value) in

@@ -12,7 +12,7 @@ use Rattle.d_lexer.specs.declared.fault.Flaw.TheVariants as f
 use Rattle.d_lexer.specs.Faults.{on_line}
 use Rattle.d_lexer.specs.declared.fault.LexFault.{LexFault}
 use Rattle.d_lexer.specs.declared.fault.LexFault.TheVariants as faults
-use Rattle.d_lexer.specs.Places.{start, passed, after}
+use Rattle.d_lexer.specs.Places.{start, after_byte, after}
 use Rattle.d_lexer.specs.Tokens.{End, Clean, Bad, Lexes}
 use Rattle.d_lexer.specs.Steps.Scan.{Scanned, scan, scan_by, front_at}
 use Rattle.d_lexer.specs.Lexing.{settle, AreTokens, IsFirstFault, IsLexed, IsRefused, HasOne}
@@ -66,8 +66,8 @@ abbrev EndsWell : End → Type 0
 EndsWell Clean = Unit {0}
 EndsWell (Bad fault) = (g : Flaw) × (line : ℕ) × (fault ≡ on_line g line)
 
-well_by : (b : ℕ) (z : List ℕ) (p : Place) (pos : Position) → ((n : ℕ) (q : Place) → EndsWell (scan n q (passed pos b) z).1) → (r : Result Front Flaw) →
-    EndsWell (scan_by (λ n q. scan n q (passed pos b) z) p pos r).1
+well_by : (b : ℕ) (z : List ℕ) (p : Place) (pos : Position) → ((n : ℕ) (q : Place) → EndsWell (scan n q (after_byte pos b) z).1) → (r : Result Front Flaw) →
+    EndsWell (scan_by (λ n q. scan n q (after_byte pos b) z) p pos r).1
 well_by b z p pos go (Err g) = (g, pos.line, refl)
 well_by b z p pos go (Ok (front.Gap n)) = go n p
 well_by b z p pos go (Ok (front.Token t n)) = go n (after p t)
@@ -75,8 +75,8 @@ well_by b z p pos go (Ok (front.Token t n)) = go n (after p t)
 scan_well : (bytes : List ℕ) (n : ℕ) (p : Place) (pos : Position) → EndsWell (scan n p pos bytes).1
 unfolding scan
 scan_well [] n p pos = tt
-scan_well (b ∷ z) (suc n) p pos = scan_well z n p (passed pos b)
-scan_well (b ∷ z) zero p pos = well_by b z p pos (λ n q. scan_well z n q (passed pos b)) (front_at p pos b z)
+scan_well (b ∷ z) (suc n) p pos = scan_well z n p (after_byte pos b)
+scan_well (b ∷ z) zero p pos = well_by b z p pos (λ n q. scan_well z n q (after_byte pos b)) (front_at p pos b z)
 
 no_length : (g : Flaw) (line : ℕ) → faults.TooLong ≡ on_line g line → ⊥
 no_length f.BadByte line e = cc
@@ -117,8 +117,8 @@ module _ {X : Type 0} (view : X → List Token) (bytes : List ℕ) (within : len
 
 -- ---- no more tokens than bytes
 
-few_by : (b : ℕ) (z : List ℕ) (p : Place) (pos : Position) → ((n : ℕ) (q : Place) → length (scan n q (passed pos b) z).0 ≤ length z) → (r : Result Front Flaw) →
-    length (scan_by (λ n q. scan n q (passed pos b) z) p pos r).0 ≤ suc (length z)
+few_by : (b : ℕ) (z : List ℕ) (p : Place) (pos : Position) → ((n : ℕ) (q : Place) → length (scan n q (after_byte pos b) z).0 ≤ length z) → (r : Result Front Flaw) →
+    length (scan_by (λ n q. scan n q (after_byte pos b) z) p pos r).0 ≤ suc (length z)
 few_by b z p pos go (Err g) = omega arith
 few_by b z p pos go (Ok (front.Gap n)) = omega (arith, go n p)
 few_by b z p pos go (Ok (front.Token t n)) = omega (arith, go n (after p t))
@@ -126,8 +126,8 @@ few_by b z p pos go (Ok (front.Token t n)) = omega (arith, go n (after p t))
 scan_few : (bytes : List ℕ) (n : ℕ) (p : Place) (pos : Position) → length (scan n p pos bytes).0 ≤ length bytes
 unfolding scan
 scan_few [] n p pos = omega arith
-scan_few (b ∷ z) (suc n) p pos = omega (arith, scan_few z n p (passed pos b))
-scan_few (b ∷ z) zero p pos = few_by b z p pos (λ n q. scan_few z n q (passed pos b)) (front_at p pos b z)
+scan_few (b ∷ z) (suc n) p pos = omega (arith, scan_few z n p (after_byte pos b))
+scan_few (b ∷ z) zero p pos = few_by b z p pos (λ n q. scan_few z n q (after_byte pos b)) (front_at p pos b z)
 
 settle_length : (ts : List Token) → length (settle ts) ≡ length ts
 settle_length [] = refl

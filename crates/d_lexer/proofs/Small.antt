@@ -11,7 +11,7 @@ use Rattle.d_lexer.specs.declared.place.Place.TheVariants.{Head, Declaration, Pr
 use Rattle.d_lexer.specs.declared.position.Position.{Position}
 use Rattle.d_lexer.specs.Places.{start, after}
 use Rattle.d_lexer.specs.Tokens.{Past, here, past, Spells, End, Clean, Lexes}
-use Rattle.d_lexer.specs.Lexing.{open_kind, settled, settle, opens_body, AreTokens}
+use Rattle.d_lexer.specs.Lexing.{open_kind, settle_token, settle, opens_body, AreTokens}
 use Rattle.d_lexer.specs.Small.{IsSmall, AreSmall}
 
 number_small : (p : Place) (own rest : List ℕ) (n : ℕ) (s : Suffix) → Spells p own rest (kind.Number n s) → n < 2 ^ 64
@@ -42,7 +42,7 @@ opened_small : (k : TokenKind) → IsSmall k → IsSmall (open_kind k)
 opened_small (kind.Mark m.ClosingSlash) h = tt
 opened_small k h = h
 
-settled_small : (t : Token) (b : Bool) → IsSmall t.kind → IsSmall (settled t b).kind
+settled_small : (t : Token) (b : Bool) → IsSmall t.kind → IsSmall (settle_token t b).kind
 settled_small t true h = h
 settled_small t false h = opened_small t.kind h
 

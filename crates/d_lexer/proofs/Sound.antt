@@ -18,7 +18,7 @@ use Rattle.d_lexer.specs.declared.fault.Flaw.{Flaw}
 use Rattle.d_lexer.specs.declared.fault.Flaw.TheVariants as f
 use Rattle.d_lexer.specs.Bytes.{next_is, is_blank, is_word_start, is_word_byte, is_run_byte, is_inside, is_plain, begins_comment, escape_of, is_declaring}
 use Rattle.d_lexer.specs.Steps.Numbers.{number_of}
-use Rattle.d_lexer.specs.Places.{moved, passed, is_head, is_first, is_hash, after}
+use Rattle.d_lexer.specs.Places.{after_bytes, after_byte, is_head, is_first, is_hash, after}
 use Rattle.d_lexer.specs.Steps.OptionLine.{is_option}
 use Rattle.d_lexer.specs.Tokens.{Fills, HasNoEnd, IsPiece, blank, comment, first_line, option_line, here, past, IsRunOf, SpellsText, IsMark, SpellsInside, Spells, begins, BreaksText, IsFault, stray, open_comment, text, number, other_option, End, Lexes}
 use Rattle.d_lexer.specs.Steps.Scan.{run_len, run_of, tail, put, skip_one, put_escape, text_from, one_longer, comment_from, mark_at, mark_front, number_front, comment_front, head_kind, aggregation_front, text_front, inside_at, head_at, token_at, front_at, Scanned, scan_by, scan}
@@ -275,7 +275,7 @@ front_sound p pos b z =
 
 -- ---- all of the text
 
-past_gap : (p : Place) (pos : Position) (bytes own rest : List ℕ) (ts : List Token) (end : End) → bytes ≡ own ++ rest → IsPiece p pos own rest → Lexes p (moved pos own) rest ts end → Lexes p pos bytes ts end
+past_gap : (p : Place) (pos : Position) (bytes own rest : List ℕ) (ts : List Token) (end : End) → bytes ≡ own ++ rest → IsPiece p pos own rest → Lexes p (after_bytes pos own) rest ts end → Lexes p pos bytes ts end
 past_gap p pos bytes own rest [] end is h l = past own rest is h l
 past_gap p pos bytes own rest (t ∷ ts) end is h l = past own rest is h l
 
@@ -283,29 +283,29 @@ abbrev IsRight : Place → Position → List ℕ → Scanned → Type 0
 IsRight p pos bytes s = Lexes p pos bytes s.0 s.1
 
 by_front : (p : Place) (pos : Position) (b : ℕ) (z : List ℕ) →
-    ((n : ℕ) (q : Place) (own rest : List ℕ) → z ≡ own ++ rest → n ≡ length own → IsRight q (moved (passed pos b) own) rest (scan n q (passed pos b) z)) →
-    (r : Result Front Flaw) → FrontIs p pos b z r → IsRight p pos (b ∷ z) (scan_by (λ n q. scan n q (passed pos b) z) p pos r)
+    ((n : ℕ) (q : Place) (own rest : List ℕ) → z ≡ own ++ rest → n ≡ length own → IsRight q (after_bytes (after_byte pos b) own) rest (scan n q (after_byte pos b) z)) →
+    (r : Result Front Flaw) → FrontIs p pos b z r → IsRight p pos (b ∷ z) (scan_by (λ n q. scan n q (after_byte pos b) z) p pos r)
 by_front p pos b z go (Err g) h = here (g, h, refl)
 by_front p pos b z go (Ok (Gap n)) s =
-    let then = scan n p (passed pos b) z in
+    let then = scan n p (after_byte pos b) z in
     past_gap p pos (b ∷ z) (b ∷ s.own) s.rest then.0 then.1 (ap (λ (xs : List ℕ). b ∷ xs) s.is) s.holds (go n p s.own s.rest s.is s.size)
 by_front p pos b z go (Ok (front.Token t n)) s =
     here (b ∷ s.own, s.rest, ap (λ (xs : List ℕ). b ∷ xs) s.is, s.holds, refl, ap (λ (k : ℕ). pos.at + suc k) s.size, refl, go n (after p t) s.own s.rest s.is s.size)
 
 -- what scan answers when n bytes are to be passed is right for what is behind these
-pub scan_sound : (bytes own rest : List ℕ) (n : ℕ) (p : Place) (pos : Position) → bytes ≡ own ++ rest → n ≡ length own → IsRight p (moved pos own) rest (scan n p pos bytes)
+pub scan_sound : (bytes own rest : List ℕ) (n : ℕ) (p : Place) (pos : Position) → bytes ≡ own ++ rest → n ≡ length own → IsRight p (after_bytes pos own) rest (scan n p pos bytes)
 unfolding scan
 scan_sound [] [] rest n p pos is size = here (sym is)
 scan_sound [] (c ∷ own) rest n p pos is size = absurd cc
 scan_sound (b ∷ z) [] rest zero p pos is size =
     subst (λ (xs : List ℕ). IsRight p pos xs (scan 0 p pos (b ∷ z))) is
-    (by_front p pos b z (λ n q own2 rest2 e f. scan_sound z own2 rest2 n q (passed pos b) e f) (front_at p pos b z) (front_sound p pos b z))
+    (by_front p pos b z (λ n q own2 rest2 e f. scan_sound z own2 rest2 n q (after_byte pos b) e f) (front_at p pos b z) (front_sound p pos b z))
 scan_sound (b ∷ z) [] rest (suc n) p pos is size = absurd (omega arith)
 scan_sound (b ∷ z) (c ∷ own) rest zero p pos is size = absurd (omega arith)
 scan_sound (b ∷ z) (c ∷ own) rest (suc n) p pos is size =
     let same : b ≡ c = cc in
     let more : z ≡ own ++ rest = cc in
-    subst (λ (x : ℕ). IsRight p (moved (passed pos x) own) rest (scan n p (passed pos b) z)) same (scan_sound z own rest n p (passed pos b) more (omega arith))
+    subst (λ (x : ℕ). IsRight p (after_bytes (after_byte pos x) own) rest (scan n p (after_byte pos b) z)) same (scan_sound z own rest n p (after_byte pos b) more (omega arith))
 
 pub whole_sound : (p : Place) (pos : Position) (bytes : List ℕ) → IsRight p pos bytes (scan 0 p pos bytes)
 whole_sound p pos bytes = scan_sound bytes [] bytes 0 p pos refl refl

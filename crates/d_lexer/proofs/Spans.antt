@@ -8,10 +8,10 @@ use Rattle.d_lexer.specs.declared.place.Place.{Place}
 use Rattle.d_lexer.specs.declared.place.Place.TheVariants.{Head}
 use Rattle.d_lexer.specs.declared.position.Position.{Position}
 use Rattle.d_lexer.specs.declared.fault.LexFault.{LexFault}
-use Rattle.d_lexer.specs.Places.{start, passed, moved, after}
+use Rattle.d_lexer.specs.Places.{start, after_byte, after_bytes, after}
 use Rattle.d_lexer.specs.Faults.{on_line}
 use Rattle.d_lexer.specs.Tokens.{Past, here, past, Spells, End, Clean, Bad, EndsAs, Lexes}
-use Rattle.d_lexer.specs.Lexing.{settle, settled, opens_body, AreTokens, IsFirstFault}
+use Rattle.d_lexer.specs.Lexing.{settle, settle_token, opens_body, AreTokens, IsFirstFault}
 use Rattle.d_lexer.specs.Spans.{line_after, IsInPlace, AreInOrder, HasItsLine}
 use Rattle.d_lexer.proofs.Complete.{token_reads, fault_fails}
 
@@ -20,25 +20,25 @@ record IsBehind (before : List ℕ) (pos : Position) : Type 0 where
   at : pos.at ≡ length before
   line : pos.line ≡ line_after before
 
-one_line : (pos : Position) (b : ℕ) → (passed pos b).line ≡ pos.line + count_by (λ c. eqb c 10) (b ∷ [])
+one_line : (pos : Position) (b : ℕ) → (after_byte pos b).line ≡ pos.line + count_by (λ c. eqb c 10) (b ∷ [])
 one_line pos b = by (eqb b 10) where
   by : (c : Bool) → cond c (pos.line + 1) pos.line ≡ pos.line + (0 + cond c 1 0)
   by true = omega arith
   by false = omega arith
 
-moved_at : (own : List ℕ) (pos : Position) → (moved pos own).at ≡ pos.at + length own
+moved_at : (own : List ℕ) (pos : Position) → (after_bytes pos own).at ≡ pos.at + length own
 moved_at [] pos = omega arith
-moved_at (b ∷ own) pos = moved_at own (passed pos b) ∙ omega arith
+moved_at (b ∷ own) pos = moved_at own (after_byte pos b) ∙ omega arith
 
-moved_line : (own : List ℕ) (pos : Position) → (moved pos own).line ≡ pos.line + count_by (λ c. eqb c 10) own
+moved_line : (own : List ℕ) (pos : Position) → (after_bytes pos own).line ≡ pos.line + count_by (λ c. eqb c 10) own
 moved_line [] pos = omega arith
 moved_line (b ∷ own) pos =
-    let more = moved_line own (passed pos b) in
+    let more = moved_line own (after_byte pos b) in
     let one = one_line pos b in
     let e : count_by (λ c. eqb c 10) (b ∷ own) ≡ count_by (λ c. eqb c 10) (b ∷ []) + count_by (λ c. eqb c 10) own = sum_by-append (λ c. cond (eqb c 10) 1 0) (b ∷ []) own in
     more ∙ ap (λ (n : ℕ). n + count_by (λ c. eqb c 10) own) one ∙ add_assoc pos.line (count_by (λ c. eqb c 10) (b ∷ [])) (count_by (λ c. eqb c 10) own) ∙ ap (λ (n : ℕ). pos.line + n) (sym e)
 
-behind_more : (before own : List ℕ) (pos : Position) → IsBehind before pos → IsBehind (before ++ own) (moved pos own)
+behind_more : (before own : List ℕ) (pos : Position) → IsBehind before pos → IsBehind (before ++ own) (after_bytes pos own)
 behind_more before own pos h =
     let e : count_by (λ c. eqb c 10) (before ++ own) ≡ count_by (λ c. eqb c 10) before + count_by (λ c. eqb c 10) own = sum_by-append (λ c. cond (eqb c 10) 1 0) before own in
     record {
@@ -74,7 +74,7 @@ stand (t ∷ ts) end p all before pos bytes from is at low h =
     past_behind p _ (AllStand all from (t ∷ ts)) all from
     (λ b q z cut here_at below e.
     one b q z e.0 e.1 cut here_at below e.2 e.3 e.4 e.5 e.6
-    (stand ts end (after p t.kind) all (b ++ e.0) (moved q e.0) e.1 t.stop (cut_more all b z e.0 e.1 cut e.2) (behind_more b e.0 q here_at) (omega (arith, e.5, moved_at e.0 q)) e.7))
+    (stand ts end (after p t.kind) all (b ++ e.0) (after_bytes q e.0) e.1 t.stop (cut_more all b z e.0 e.1 cut e.2) (behind_more b e.0 q here_at) (omega (arith, e.5, moved_at e.0 q)) e.7))
     before is at low h where
       one : (b : List ℕ) (q : Position) (z own rest : List ℕ) → all ≡ b ++ z → IsBehind b q → from ≤ q.at → z ≡ own ++ rest → Spells p own rest t.kind → t.start ≡ q.at → t.stop ≡ q.at + length own → t.line ≡ q.line →
           AllStand all t.stop ts → AllStand all from (t ∷ ts)
@@ -90,7 +90,7 @@ at_start : IsBehind [] start
 at_start = record { at = refl; line = refl }
 
 -- settling leaves spans and lines
-settled_stands : (all : List ℕ) (t : Token) (b : Bool) → IsInPlace all t → IsInPlace all (settled t b)
+settled_stands : (all : List ℕ) (t : Token) (b : Bool) → IsInPlace all t → IsInPlace all (settle_token t b)
 settled_stands all t true s = s
 settled_stands all t false s = record { before = s.before; own = s.own; behind = s.behind; is = s.is; start = s.start; stop = s.stop; line = s.line }
 
@@ -98,7 +98,7 @@ settle_stands : (all : List ℕ) (ts : List Token) → AllByRecursion (IsInPlace
 settle_stands all [] h = tt
 settle_stands all (t ∷ ts) h = (settled_stands all t (opens_body ts) h.0, settle_stands all ts h.1)
 
-settled_order : (from : ℕ) (t : Token) (b : Bool) (ts : List Token) → from ≤ t.start → t.start < t.stop → AreInOrder t.stop ts → AreInOrder from (settled t b ∷ ts)
+settled_order : (from : ℕ) (t : Token) (b : Bool) (ts : List Token) → from ≤ t.start → t.start < t.stop → AreInOrder t.stop ts → AreInOrder from (settle_token t b ∷ ts)
 settled_order from t true ts low nonempty more = (low, nonempty, more)
 settled_order from t false ts low nonempty more = (low, nonempty, more)
 
@@ -117,18 +117,18 @@ tokens_in_order bytes ts a = rw a.2 (settle_order 0 a.0 (all_stand bytes a.0 Cle
 
 -- ---- faults
 
-told : (ts : List Token) (fault : LexFault) (p : Place) (all before : List ℕ) (pos : Position) (bytes : List ℕ) → all ≡ before ++ bytes → IsBehind before pos → Lexes p pos bytes ts (Bad fault) → HasItsLine all fault
-told [] fault p all before pos bytes is at h =
+stated : (ts : List Token) (fault : LexFault) (p : Place) (all before : List ℕ) (pos : Position) (bytes : List ℕ) → all ≡ before ++ bytes → IsBehind before pos → Lexes p pos bytes ts (Bad fault) → HasItsLine all fault
+stated [] fault p all before pos bytes is at h =
     past_behind p (EndsAs p (Bad fault)) (HasItsLine all fault) all 0
     (λ b q z cut here_at _ e.
     let r = fault_fails p q z e.0 e.1 in
-    record { before = b; first = r.first; behind = r.others; flaw = e.0; is = cut ∙ ap (λ (xs : List ℕ). b ++ xs) r.is; told = e.2 ∙ ap (on_line e.0) here_at.line })
+    record { before = b; first = r.first; behind = r.others; flaw = e.0; is = cut ∙ ap (λ (xs : List ℕ). b ++ xs) r.is; stated = e.2 ∙ ap (on_line e.0) here_at.line })
     before is at (omega arith) h
-told (t ∷ ts) fault p all before pos bytes is at h =
+stated (t ∷ ts) fault p all before pos bytes is at h =
     past_behind p _ (HasItsLine all fault) all 0
     (λ b q z cut here_at _ e.
-    told ts fault (after p t.kind) all (b ++ e.0) (moved q e.0) e.1 (cut_more all b z e.0 e.1 cut e.2) (behind_more b e.0 q here_at) e.7)
+    stated ts fault (after p t.kind) all (b ++ e.0) (after_bytes q e.0) e.1 (cut_more all b z e.0 e.1 cut e.2) (behind_more b e.0 q here_at) e.7)
     before is at (omega arith) h
 
 pub fault_has_its_line : (bytes : List ℕ) (fault : LexFault) → IsFirstFault bytes fault → HasItsLine bytes fault
-fault_has_its_line bytes fault a = told a.0 fault Head bytes [] start bytes refl at_start a.1
+fault_has_its_line bytes fault a = stated a.0 fault Head bytes [] start bytes refl at_start a.1

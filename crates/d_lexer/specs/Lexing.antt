@@ -27,14 +27,14 @@ open_kind (TokenKind.Mark Mark.ClosingSlash) = TokenKind.Mark Mark.Slash
 open_kind t = t
 
 -- a slash of a predicate is the closing one exactly where the next token is an opening brace
-abbrev pub settled : Token → Bool → Token
-settled t true = t
-settled t false = record t { kind = open_kind t.kind }
+abbrev pub settle_token : Token → Bool → Token
+settle_token t true = t
+settle_token t false = record t { kind = open_kind t.kind }
 
 -- all of them settled
 abbrev pub settle : List Token → List Token
 settle [] = []
-settle (t ∷ ts) = settled t (opens_body ts) ∷ settle ts
+settle (t ∷ ts) = settle_token t (opens_body ts) ∷ settle ts
 
 -- ---- tokens and fault
 

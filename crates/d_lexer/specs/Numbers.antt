@@ -66,7 +66,7 @@ pub record IsNumber (own : List ℕ) (n : ℕ) (s : Suffix) : Type 0 where
   pub digits : List ℕ
   pub behind : List ℕ
   pub is : own ≡ before ++ (digits ++ behind)
-  pub told : IsBase base before digits
+  pub stated : IsBase base before digits
   pub value : StandFor base digits n
   pub fits : n < 2 ^ 64
   pub suffix : suffix_of behind ≡ Some s

@@ -1,4 +1,4 @@
--- The one word of contracts for "exactly the definition, unless memory ran out".
+-- This crate's word for "exactly the definition, unless memory ran out", in all its contracts.
 use Rattle.std.specs.Prelude.{◌≡◌, Option, Some, None, Result, Ok, Err}
 
 -- the definition has this fault; where there is none, memory was refused, and nothing is claimed

@@ -10,17 +10,17 @@ abbrev pub start : Position
 start = record { at = 0; line = 1; fresh = true }
 
 -- a line feed ends the line; spaces and tabs leave it fresh
-abbrev pub passed : Position → ℕ → Position
-passed pos b = record {
+abbrev pub after_byte : Position → ℕ → Position
+after_byte pos b = record {
   at = pos.at + 1;
   line = if b == line_feed then pos.line + 1 else pos.line;
   fresh = b == line_feed || (pos.fresh && is_space b);
 }
 
 -- the position after the bytes
-abbrev pub moved : Position → List ℕ → Position
-moved pos [] = pos
-moved pos (b ∷ bs) = moved (passed pos b) bs
+abbrev pub after_bytes : Position → List ℕ → Position
+after_bytes pos [] = pos
+after_bytes pos (b ∷ bs) = after_bytes (after_byte pos b) bs
 
 -- ---- lines that are no tokens
 

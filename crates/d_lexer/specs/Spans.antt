@@ -33,4 +33,4 @@ pub record HasItsLine (bytes : List ℕ) (fault : LexFault) : Type 0 where
   pub behind : List ℕ
   pub flaw : Flaw
   pub is : bytes ≡ before ++ first ∷ behind
-  pub told : fault ≡ on_line flaw (line_after before)
+  pub stated : fault ≡ on_line flaw (line_after before)

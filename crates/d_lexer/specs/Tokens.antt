@@ -3,7 +3,7 @@ use Rattle.std.specs.Prelude.{◌≡◌, ℕ, ◌+◌, ◌≤◌, ◌⊎◌, Boo
 use Rattle.d_lexer.specs.Vocabulary.{AllByRecursion, is_ascii_digit, Mark, Token, TokenKind, Place, Head, Declaration, Predicate, Body, Position, Flaw, LexFault}
 use Rattle.d_lexer.specs.Bytes.{line_feed, quote, hash, star, slash, at_sign, backslash, underscore, next_is, is_blank, is_word_start, is_word_byte, is_run_byte, is_inside, is_plain, begins_comment, escape_of, is_declaring}
 use Rattle.d_lexer.specs.Numbers.{IsNumber, IsNoNumber}
-use Rattle.d_lexer.specs.Places.{moved, is_head, is_first, is_hash, after}
+use Rattle.d_lexer.specs.Places.{after_bytes, is_head, is_first, is_hash, after}
 use Rattle.d_lexer.specs.{Marks.mark_of, Faults.on_line, OptionLine.IsOptionLine}
 
 -- ---- what separates tokens
@@ -38,7 +38,7 @@ pub data IsPiece (p : Place) (pos : Position) : (own rest : List ℕ) → Type 0
 pub data Past (p : Place) (Then : Position → List ℕ → Type 0) : Position → List ℕ → Type 0 where
   here : {pos : Position} {bytes : List ℕ} → Then pos bytes → Past p Then pos bytes
   past : {pos : Position} {bytes : List ℕ} (own rest : List ℕ) → bytes ≡ own ++ rest
-      → IsPiece p pos own rest → Past p Then (moved pos own) rest → Past p Then pos bytes
+      → IsPiece p pos own rest → Past p Then (after_bytes pos own) rest → Past p Then pos bytes
 
 -- ---- one token
 
@@ -177,4 +177,4 @@ Lexes p pos bytes (t ∷ ts) end =
     Past p (λ here z.
     (own : List ℕ) × (rest : List ℕ) × (z ≡ own ++ rest) × Spells p own rest t.kind
     × (t.start ≡ here.at) × (t.stop ≡ here.at + length own) × (t.line ≡ here.line)
-    × Lexes (after p t.kind) (moved here own) rest ts end) pos bytes
+    × Lexes (after p t.kind) (after_bytes here own) rest ts end) pos bytes

@@ -1,6 +1,6 @@
 //! Kinds of bytes, and how many of a kind there are at the front.
 
-ghost use Rattle.std.specs.Prelude.{◌≡◌, ◌+◌, ◌≤◌, length, take_while, MatchOption};
+ghost use Rattle.std.specs.Prelude.{◌≡◌, ◌+◌, ◌≤◌, length, MatchOption};
 ghost use Rattle.d_lexer.specs.Bytes as spec;
 ghost use Rattle.d_lexer.specs.Steps.Scan as scan;
 

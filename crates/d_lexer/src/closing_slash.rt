@@ -19,7 +19,7 @@ fn is_closing(token: &Token) -> bool
 
 // The test says whether an opening brace comes next.
 fn settle_one(token: &mut Token, brace: bool)
-    ensures { token.new ≡ spec.settled token.old brace }
+    ensures { token.new ≡ spec.settle_token token.old brace }
 {
     if !brace && is_closing(token) {
         token.kind = TokenKind::Mark(Mark::Slash);

@@ -13,8 +13,6 @@ mod option_line;
 mod place;
 mod position;
 mod scanner;
-#[cfg(test)]
-mod tests;
 mod text_constant;
 mod token;
 mod words;

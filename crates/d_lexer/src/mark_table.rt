@@ -1,6 +1,6 @@
 //! Marks, the longest first. A table for each length is looked up by the first byte.
 
-ghost use Rattle.std.specs.Prelude.{◌≡◌, ◌≤◌, length, [], ◌∷◌};
+ghost use Rattle.std.specs.Prelude.{◌≡◌, []};
 ghost use Rattle.d_lexer.specs.{Bytes.entry_of, Vocabulary.Body, Steps.Scan.mark_at, Steps.Scan.one_at, Steps.Scan.three_at, Steps.Scan.two_at};
 ghost use Rattle.d_lexer.specs.Marks as spec;
 

@@ -1,6 +1,6 @@
 //! Numbers: `0x` and hexadecimal digits, `0` and octal digits, or decimal digits, then a suffix.
 
-ghost use Rattle.std.specs.Prelude.{◌≡◌, ◌≤◌, ◌<◌, length, [], ◌∷◌, true};
+ghost use Rattle.std.specs.Prelude.{◌≡◌, ◌<◌, [], ◌∷◌, true};
 ghost use Rattle.std.specs.Char.{is_ascii_digit};
 ghost use Rattle.d_lexer.specs.Steps.Numbers as spec;
 

@@ -28,7 +28,7 @@ impl Position {
     pub(crate) fn pass(self, b: u8) -> Position
         requires at { self.at < MOST_BYTES }
         requires line { self.line ≤ MOST_BYTES }
-        ensures is { result ≡ spec.passed self b }
+        ensures is { result ≡ spec.after_byte self b }
         ensures at { result.at ≡ self.at + 1 }
         ensures line { result.line ≤ self.line + 1 }
     {
@@ -42,7 +42,7 @@ impl Position {
     pub(crate) fn pass_all(self, bytes: &[u8]) -> Position
         requires at { self.at + length bytes.now ≤ MOST_BYTES }
         requires line { self.line ≤ self.at + 1 }
-        ensures is { result ≡ spec.moved self bytes.now }
+        ensures is { result ≡ spec.after_bytes self bytes.now }
         ensures at { result.at ≡ self.at + length bytes.now }
         ensures line { result.line ≤ result.at + 1 }
     {

@@ -1,7 +1,7 @@
 //! From the bytes to the tokens.
 
-ghost use Rattle.std.specs.Prelude.{◌≡◌, ◌↔◌, ℕ, List, ◌+◌, ◌≤◌, ◌<◌, ◌⊎◌, [], ◌∷◌, ◌++◌, length, IfOk, IfErr, IsErrAnd, IsErrOf, MatchResult};
-ghost use Rattle.d_lexer.specs.{Small.AreSmall, Vocabulary.Head, Vocabulary.LexFault, Vocabulary.Place, Vocabulary.Token, Steps.Lexing.Answers, Steps.Lexing.Lexed, Steps.Lexing.Steps, Steps.Scan.scan, Places.passed, Places.start};
+ghost use Rattle.std.specs.Prelude.{◌≡◌, ◌↔◌, List, ◌+◌, ◌≤◌, ◌<◌, ◌⊎◌, [], ◌∷◌, ◌++◌, length, IfOk, IfErr, IsErrAnd, IsErrOf, MatchResult};
+ghost use Rattle.d_lexer.specs.{Small.AreSmall, Vocabulary.Head, Vocabulary.LexFault, Vocabulary.Place, Vocabulary.Token, Steps.Lexing.Answers, Steps.Lexing.Lexed, Steps.Lexing.Steps, Steps.Scan.scan, Places.after_byte, Places.start};
 ghost use Rattle.d_lexer.specs.Lexing as spec;
 
 use crate::closing_slash::settle;
@@ -38,7 +38,7 @@ fn step(
     requires at { cursor.pos.at + length rest.now < MOST_BYTES }
     ensures is { Steps tokens.old.items tokens.new.items result
         (scan 0 cursor.place cursor.pos (b ∷ rest.now))
-        (λ n q. scan n q (passed cursor.pos b) rest.now) }
+        (λ n q. scan n q (after_byte cursor.pos b) rest.now) }
     ensures fits { IfOk result (λ r. r.1 ≤ length rest.now) }
 {
     let Cursor { place, pos } = cursor;
@@ -69,7 +69,7 @@ fn jump(pos: Position, b: u8, rest: &[u8], n: usize) -> (Position, &[u8])
     requires line { pos.line ≤ pos.at + 1 }
     requires n { n ≤ length rest.now }
     ensures is { (q : Place) → scan 0 q result.0 result.1.now
-        ≡ scan n q (passed pos b) rest.now }
+        ≡ scan n q (after_byte pos b) rest.now }
     ensures at { result.0.at + length result.1.now ≡ pos.at + 1 + length rest.now }
     ensures less { length result.1.now ≤ length rest.now }
     ensures line { result.0.line ≤ result.0.at + 1 }

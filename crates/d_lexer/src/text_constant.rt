@@ -1,6 +1,6 @@
 //! Text constants, with their escapes decoded.
 
-ghost use Rattle.std.specs.Prelude.{◌≡◌, ◌≤◌, length, false};
+ghost use Rattle.std.specs.Prelude.{false};
 ghost use Rattle.d_lexer.specs.Steps.Scan as scan;
 
 use crate::byte_kinds::escape_of;

@@ -104,35 +104,46 @@ pub record IsCast (line : ℕ) (to : IntegerType) (ts rest : List Token) : Type 
   pub closes : Sign Mark.CloseParenthesis close rest
 
 abbrev mutual
-  -- the tokens spell the tree, with no parentheses round it
+  -- The tokens spell the tree, with no parentheses round it. Above each clause stands its line of
+  -- the grammar (docs/GRAMMAR.md).
   pub Spells : Tree → Part
+  -- post = number | text
   Spells (Known line constant) ts rest = Begins (constant_kind constant) line ts rest
+  -- post = target
   Spells (Read x keys) ts rest = IsTarget x keys (SpellsKeys keys) ts rest
+  -- call = word "(" [ exprs ] ")"
   Spells (Call line name arguments) ts rest =
       (list : List Token) × IsPlain name line ts list
       × IsEnclosed Mark.OpenParenthesis Mark.CloseParenthesis (SpellsList arguments) list rest
+  -- unary = ( "!" | "~" | "-" | "+" ) unary
   Spells (Unary line op a) ts rest =
       (mark : Mark) × (operand : List Token) × (prefix_of mark ≡ Prefix.Unary op) × Begins
       (TokenKind.Mark mark) line ts operand × IsPhrase (Spells a) (rank a) UNARY operand rest
+  -- unary = "(" int-type ")" unary
   Spells (Cast line to a) ts rest =
       (operand : List Token) × IsCast line to ts operand
       × IsPhrase (Spells a) (rank a) UNARY operand rest
+  -- unary = ( "++" | "--" ) target
   Spells (Before line step x keys) ts rest =
       (mark : Mark) × (target : List Token) × (prefix_of mark ≡ Prefix.Step step)
       × Begins (TokenKind.Mark mark) line ts target × IsTarget x keys (SpellsKeys keys) target rest
+  -- post = target ( "++" | "--" )
   Spells (After x keys step) ts rest =
       (mark : Mark) × (behind : List Token) × (follow_of mark ≡ Follow.Step step)
       × IsTarget x keys (SpellsKeys keys) ts behind × Sign mark behind rest
+  -- binary, at the operator's level; all operators are left-associative
   Spells (Binary op a b) ts rest =
       (mark : Mark) × (middle : List Token) × (right : List Token)
       × (follow_of mark ≡ Follow.Infix op)
       × IsPhrase (Spells a) (rank a) (level_of op) ts middle × Sign mark middle right
       × IsPhrase (Spells b) (rank b) (suc (level_of op)) right rest
+  -- cond = binary "?" expr ":" cond
   Spells (Choice test a b) ts rest =
       (question : List Token) × (first : List Token) × (colon : List Token) × (second : List Token)
       × IsPhrase (Spells test) (rank test) OR ts question × Sign Mark.Question question first
       × IsPhrase (Spells a) (rank a) ASSIGNMENT first colon
       × Sign Mark.Colon colon second × IsPhrase (Spells b) (rank b) CONDITION second rest
+  -- expr = target assign-op expr
   Spells (Assign op x keys a) ts rest =
       (mark : Mark) × (behind : List Token) × (value : List Token)
       × (follow_of mark ≡ Follow.Assign op)

@@ -2,7 +2,8 @@
 use Rattle.std.specs.Prelude.{ℕ, Bool, false, List, [], ◌∷◌}
 use denote.Enum.Bare.{sameb}
 use Rattle.d_lexer.specs.contracts.token.Mark.{the_type}
-use Rattle.d_parser.specs.Vocabulary.{Mark, Token, TokenKind, UnaryOperator, Step, BinaryOperator, AssignOperator, OR, Prefix, Follow}
+use Rattle.d_parser.specs.Vocabulary.{Mark, Token, TokenKind, UnaryOperator, Step, BinaryOperator, AssignOperator, Prefix, Follow}
+use Rattle.d_parser.specs.Vocabulary.{OR, XOR, AND, BIT_OR, BIT_XOR, BIT_AND, EQUALITY, RELATIONAL, SHIFT, ADDITIVE, MULTIPLICATIVE}
 
 -- what a mark before an operand does
 abbrev pub prefix_of : Mark → Prefix
@@ -56,24 +57,24 @@ follow_of mark = Follow.Other
 -- How tightly operators bind: each has a level between a condition's and a unary part's.
 abbrev pub level_of : BinaryOperator → ℕ
 level_of BinaryOperator.Or = OR
-level_of BinaryOperator.Xor = 4
-level_of BinaryOperator.And = 5
-level_of BinaryOperator.BitOr = 6
-level_of BinaryOperator.BitXor = 7
-level_of BinaryOperator.BitAnd = 8
-level_of BinaryOperator.Equal = 9
-level_of BinaryOperator.NotEqual = 9
-level_of BinaryOperator.Less = 10
-level_of BinaryOperator.LessEqual = 10
-level_of BinaryOperator.Greater = 10
-level_of BinaryOperator.GreaterEqual = 10
-level_of BinaryOperator.ShiftLeft = 11
-level_of BinaryOperator.ShiftRight = 11
-level_of BinaryOperator.Add = 12
-level_of BinaryOperator.Subtract = 12
-level_of BinaryOperator.Multiply = 13
-level_of BinaryOperator.Divide = 13
-level_of BinaryOperator.Remainder = 13
+level_of BinaryOperator.Xor = XOR
+level_of BinaryOperator.And = AND
+level_of BinaryOperator.BitOr = BIT_OR
+level_of BinaryOperator.BitXor = BIT_XOR
+level_of BinaryOperator.BitAnd = BIT_AND
+level_of BinaryOperator.Equal = EQUALITY
+level_of BinaryOperator.NotEqual = EQUALITY
+level_of BinaryOperator.Less = RELATIONAL
+level_of BinaryOperator.LessEqual = RELATIONAL
+level_of BinaryOperator.Greater = RELATIONAL
+level_of BinaryOperator.GreaterEqual = RELATIONAL
+level_of BinaryOperator.ShiftLeft = SHIFT
+level_of BinaryOperator.ShiftRight = SHIFT
+level_of BinaryOperator.Add = ADDITIVE
+level_of BinaryOperator.Subtract = ADDITIVE
+level_of BinaryOperator.Multiply = MULTIPLICATIVE
+level_of BinaryOperator.Divide = MULTIPLICATIVE
+level_of BinaryOperator.Remainder = MULTIPLICATIVE
 
 -- what the first token does to an operand before it
 abbrev pub follow_kind : TokenKind → Follow

@@ -7,7 +7,7 @@ pub use Rattle.d_parser.specs.declared.fault.ParseFault.{ParseFault}
 pub use Rattle.d_parser.specs.declared.fault.TheConstants.{MOST_OPEN, MOST_IN_A_ROW, MOST_CLAUSES}
 pub use Rattle.d_parser.specs.declared.marks.Follow.{Follow}
 pub use Rattle.d_parser.specs.declared.marks.Prefix.{Prefix}
-pub use Rattle.d_parser.specs.declared.marks.TheConstants.{ASSIGNMENT, CONDITION, OR, UNARY}
+pub use Rattle.d_parser.specs.declared.marks.TheConstants.{ASSIGNMENT, CONDITION, OR, XOR, AND, BIT_OR, BIT_XOR, BIT_AND, EQUALITY, RELATIONAL, SHIFT, ADDITIVE, MULTIPLICATIVE, UNARY}
 pub use Rattle.d_parser.specs.declared.operators.AssignOperator.{AssignOperator}
 pub use Rattle.d_parser.specs.declared.operators.BinaryOperator.{BinaryOperator}
 pub use Rattle.d_parser.specs.declared.operators.Step.{Step}

@@ -1,6 +1,6 @@
 //! Clauses: descriptions, predicate and statements.
 
-ghost use Rattle.std.specs.Prelude.{◌≡◌, Some};
+ghost use Rattle.std.specs.Prelude.{Some};
 ghost use Rattle.d_parser.specs.{Tree.clause_of, Tree.predicate_of, Reading.Gives};
 ghost use Rattle.d_parser.specs.ReadingScripts as spec;
 

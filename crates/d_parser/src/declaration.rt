@@ -1,6 +1,5 @@
 //! Declarations.
 
-ghost use Rattle.std.specs.Prelude.{◌≡◌};
 ghost use Rattle.d_parser.specs.{Tree.declaration_of, Reading.Gives};
 ghost use Rattle.d_parser.specs.ReadingScripts as spec;
 

@@ -2,7 +2,7 @@
 //! more than its length. Functions that aren't inlined keep what one level takes of the stack
 //! small: the deepest tree fits in 2 MiB.
 
-ghost use Rattle.std.specs.Prelude.{◌≡◌, ◌≤◌, IfOk};
+ghost use Rattle.std.specs.Prelude.{◌≡◌};
 ghost use Rattle.d_parser.specs.{Tree.tree_of, Tree.trees_of, Tree.target_of, Reading.Gives, Words.word_kind};
 ghost use Rattle.d_parser.specs.Reading as spec;
 

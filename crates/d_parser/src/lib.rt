@@ -17,10 +17,6 @@ mod script;
 mod show;
 mod statement;
 mod symbols;
-#[cfg(test)]
-mod tests;
-#[cfg(test)]
-mod tests_of_faults;
 mod tree;
 mod words;
 

@@ -17,6 +17,36 @@ pub const CONDITION: u8 = 2;
 /// The level of `||`, which binds loosest of the operators.
 pub const OR: u8 = 3;
 
+/// The level of `^^`.
+pub const XOR: u8 = 4;
+
+/// The level of `&&`.
+pub const AND: u8 = 5;
+
+/// The level of `|`.
+pub const BIT_OR: u8 = 6;
+
+/// The level of `^`.
+pub const BIT_XOR: u8 = 7;
+
+/// The level of `&`.
+pub const BIT_AND: u8 = 8;
+
+/// The level of `==` and `!=`.
+pub const EQUALITY: u8 = 9;
+
+/// The level of `<`, `<=`, `>` and `>=`.
+pub const RELATIONAL: u8 = 10;
+
+/// The level of `<<` and `>>`.
+pub const SHIFT: u8 = 11;
+
+/// The level of `+` and `-` between operands.
+pub const ADDITIVE: u8 = 12;
+
+/// The level of `*`, `/` and `%`.
+pub const MULTIPLICATIVE: u8 = 13;
+
 /// The level of a unary operator with its operand.
 pub const UNARY: u8 = 14;
 
@@ -118,19 +148,21 @@ impl BinaryOperator {
     {
         match self {
             BinaryOperator::Or => OR,
-            BinaryOperator::Xor => 4,
-            BinaryOperator::And => 5,
-            BinaryOperator::BitOr => 6,
-            BinaryOperator::BitXor => 7,
-            BinaryOperator::BitAnd => 8,
-            BinaryOperator::Equal | BinaryOperator::NotEqual => 9,
+            BinaryOperator::Xor => XOR,
+            BinaryOperator::And => AND,
+            BinaryOperator::BitOr => BIT_OR,
+            BinaryOperator::BitXor => BIT_XOR,
+            BinaryOperator::BitAnd => BIT_AND,
+            BinaryOperator::Equal | BinaryOperator::NotEqual => EQUALITY,
             BinaryOperator::Less
             | BinaryOperator::LessEqual
             | BinaryOperator::Greater
-            | BinaryOperator::GreaterEqual => 10,
-            BinaryOperator::ShiftLeft | BinaryOperator::ShiftRight => 11,
-            BinaryOperator::Add | BinaryOperator::Subtract => 12,
-            BinaryOperator::Multiply | BinaryOperator::Divide | BinaryOperator::Remainder => 13,
+            | BinaryOperator::GreaterEqual => RELATIONAL,
+            BinaryOperator::ShiftLeft | BinaryOperator::ShiftRight => SHIFT,
+            BinaryOperator::Add | BinaryOperator::Subtract => ADDITIVE,
+            BinaryOperator::Multiply | BinaryOperator::Divide | BinaryOperator::Remainder => {
+                MULTIPLICATIVE
+            }
         }
     }
 }

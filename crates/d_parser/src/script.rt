@@ -1,6 +1,6 @@
 //! Scripts: declarations and clauses up to the end.
 
-ghost use Rattle.std.specs.Prelude.{◌≡◌, ◌≤◌, length, map, []};
+ghost use Rattle.std.specs.Prelude.{◌≤◌, length, map, []};
 ghost use Rattle.d_parser.specs.{Tree.item_of, Tree.declaration_of, Tree.script_of, Reading.Gives, Words.word_kind};
 ghost use Rattle.d_parser.specs.ReadingScripts as spec;
 

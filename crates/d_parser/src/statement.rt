@@ -1,6 +1,5 @@
 //! Statements.
 
-ghost use Rattle.std.specs.Prelude.{◌≡◌};
 ghost use Rattle.d_parser.specs.{Tree.stmt_of, Tree.stmts_of, Reading.Gives};
 ghost use Rattle.d_parser.specs.ReadingScripts as spec;
 

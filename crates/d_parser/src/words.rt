@@ -1,6 +1,6 @@
 //! Words: which are reserved, and which types they spell.
 
-ghost use Rattle.std.specs.Prelude.{◌≡◌, ◌≤◌, length, map};
+ghost use Rattle.std.specs.Prelude.{◌≡◌, ◌≤◌, length};
 ghost use Rattle.d_parser.specs.Words as spec;
 
 use crate::tree::{DeclaredType, IntegerType};
@@ -27,7 +27,7 @@ pub enum WordKind {
     Fixed(IntegerType),
 }
 
-fn fixed(word: &[u8]) -> WordKind
+fn fixed_kind(word: &[u8]) -> WordKind
     ensures { result ≡ spec.kind_among spec.fixed_words word.now }
 {
     if word == b"int8_t".as_slice() {
@@ -74,7 +74,7 @@ pub(crate) fn word_kind(word: &[u8]) -> WordKind
     } else if word == b"unsigned".as_slice() {
         WordKind::Unsigned
     } else {
-        fixed(word)
+        fixed_kind(word)
     }
 }
 

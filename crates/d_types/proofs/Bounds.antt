@@ -16,7 +16,7 @@ use Rattle.d_types.specs.declared.words.Aggregating.TheVariants as ag
 use Rattle.d_types.specs.Typed as typed
 use Rattle.d_types.specs.Typed.{Typed, Typeds, end, more}
 use Rattle.d_types.specs.Needs.{count}
-use Rattle.d_types.specs.Operators.{same_type, converted}
+use Rattle.d_types.specs.Operators.{same_type, conversion_node}
 use Rattle.d_types.specs.Typing.{constant}
 use Rattle.d_types.specs.Aggregations.{number, positive, negative, minus_bound, bound, small, step, buckets, lquantize, function, integers, arguments_fit, first}
 use Rattle.d_types.specs.Fitting.{Fits}
@@ -28,7 +28,7 @@ constant_is_small : (a : Constant) → Fits (constant a)
 constant_is_small (c.Number v suffix) = omega arith
 constant_is_small (c.Text bytes) = omega arith
 
-converted_is_small : (t u : IntType) (x : Typed) → Fits x → Fits (converted t u x)
+converted_is_small : (t u : IntType) (x : Typed) → Fits x → Fits (conversion_node t u x)
 converted_is_small t u x h = either (same_type t u)
   where
     either : (b : Bool) → Fits (if b then x else typed.Convert t u x)
@@ -70,7 +70,7 @@ bound_is_small : (t : Tree) (z : ℤ) (rows : Rows) (x : Typed) (last : Rows) �
 bound_is_small (tree.Known line a) z rows x last h types = subst Fits (sym types.0) (constant_is_small a)
 bound_is_small (tree.Unary line op a) z rows x last h types =
     let n = signed_of op a z h in
-    let inner : Fits (converted types.1 (promoted_of types.1) types.0) = converted_is_small types.1 (promoted_of types.1) types.0 (number_is_small a n.0 rows types.0 last n.1 types.2) in
+    let inner : Fits (conversion_node types.1 (promoted_of types.1) types.0) = converted_is_small types.1 (promoted_of types.1) types.0 (number_is_small a n.0 rows types.0 last n.1 types.2) in
     subst Fits (sym types.4) inner
 bound_is_small (tree.Read y keys) z rows x last h types = cc
 bound_is_small (tree.Cast line to a) z rows x last h types = cc

@@ -29,9 +29,9 @@ use Rattle.d_types.specs.declared.typed.Space.TheVariants as s
 use Rattle.d_types.specs.Constants.{type_of_constant, with_l, int_type}
 use Rattle.d_types.specs.Held.{IsWord, Slots, IsConsistent, AreConsistent}
 use Rattle.d_parser.specs.Numbers.{IsSmall, HasSmall, HaveSmall}
-use Rattle.d_types.specs.Operators.{binary_sort, assign_sort, same_type, converted}
+use Rattle.d_types.specs.Operators.{binary_sort, assign_sort, same_type, conversion_node}
 use Rattle.d_types.specs.Rules.{Types, AllTypes, IsInteger, Joins, Chooses, Loads, Reads, Places, Targets, Fits, Stores, Steps, Calls}
-use Rattle.d_types.specs.Targets.{new_row, settled, space_of, type_at_once}
+use Rattle.d_types.specs.Targets.{new_row, settle_slot, space_of, type_at_once}
 use Rattle.d_types.specs.Typed as typed
 use Rattle.d_types.specs.Typed.{Typed, Typeds, end, more, type_of}
 use Rattle.d_types.specs.Typing.{constant}
@@ -69,13 +69,13 @@ same_type_is t u e =
 
 -- what is brought to a type is of it, and consistent
 module _ (slots : Slots) (t u : IntType) (x : Typed) (is : IsInteger x t) where
-  is_converted : IsInteger (converted t u x) u
+  is_converted : IsInteger (conversion_node t u x) u
   is_converted = elim (same_type t u) as (λ b. same_type t u ≡ b → IsInteger (if b then x else typed.Convert t u x) u) [
     | true ↦ λ e. is ∙ ap Int (same_type_is t u e)
     | false ↦ λ e. refl
   ] refl
 
-  converted_fits : IsConsistent slots x → IsConsistent slots (converted t u x)
+  converted_fits : IsConsistent slots x → IsConsistent slots (conversion_node t u x)
   converted_fits h = elim (same_type t u) as (λ b. IsConsistent slots (if b then x else typed.Convert t u x)) [ true ↦ h | false ↦ (is, h) ]
 
 -- ---- constants
@@ -187,7 +187,7 @@ places_grow : (space : Space) (name : List ℕ) (rows : Rows) (t : Option DType)
 places_grow space name rows t keys slot after (inl p) =
     subst (Has rows slot) (sym p.3) (push_grows rows (new_row space name t keys), subst (λ n. n < length (rows ++ new_row space name t keys ∷ [])) (sym p.2) (push_below rows (new_row space name t keys)))
 places_grow space name rows t keys slot after (inr p) =
-    let grown : Grows rows (settled (type_at rows slot) slot t rows) = settled_grows (type_at rows slot) slot t rows refl in
+    let grown : Grows rows (settle_slot (type_at rows slot) slot t rows) = settled_grows (type_at rows slot) slot t rows refl in
     subst (Has rows slot) (sym p.2) (grown, omega (arith, grown.1, found_below space name rows slot p.0))
 
 targets_grow : (rows : Rows) (x : Variable) (t : Option DType) (keys : Typeds) (slot : ℕ) (after : Rows) → Targets rows x t keys slot after → Has rows slot after

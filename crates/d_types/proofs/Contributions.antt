@@ -8,7 +8,7 @@ use Rattle.d_types.specs.declared.effect.Effect.TheVariants as ef
 use Rattle.d_types.specs.Typed.{ActionOf, ClauseMeant, ScriptMeant}
 use Rattle.d_types.specs.Storage.{Variables}
 use Rattle.d_types.specs.Expressions.{Outcome, Has, Faults, number}
-use Rattle.d_types.specs.Clauses.{Evaluation, Ran, effect_by, followed, statements_by, where_true, guarded_by, contributions_in, run_by}
+use Rattle.d_types.specs.Clauses.{Evaluation, Ran, effect_by, effect_then, statements_by, where_true, where_predicate, contributions_in, run_by}
 use Rattle.d_types.specs.Scripts.{IsMeant}
 use Rattle.d_types.specs.Sizes.{descriptions, statements, most_runs, HasAtMost}
 use Rattle.d_types.proofs.Sizes.{typed_script_is_small}
@@ -21,7 +21,7 @@ one_each (ef.Adds place key z ∷ rest) = let less = one_each rest in omega (ari
 one_each (ef.Exits status ∷ rest) = let less = one_each rest in omega (arith, less)
 
 module _ {E Es : Type 0} (by : Evaluation E Es) where
-  followed_few : (n : ℕ) (o : Outcome Effect) (go : Variables → Ran) → ((vars : Variables) → length (go vars).effects ≤ n) → length (followed o go).effects ≤ suc n
+  followed_few : (n : ℕ) (o : Outcome Effect) (go : Variables → Ran) → ((vars : Variables) → length (go vars).effects ≤ n) → length (effect_then o go).effects ≤ suc n
   followed_few n (Has effect vars) go few = let rest = few vars in omega (arith, rest)
   followed_few n (Faults vars) go few = omega arith
 
@@ -34,14 +34,14 @@ module _ {E Es : Type 0} (by : Evaluation E Es) where
   where_true_few n (Has (suc w) vars) go few = few vars
   where_true_few n (Faults vars) go few = omega arith
 
-  guarded_few : (predicate : Option E) (all : List (ActionOf E Es)) (vars : Variables) → length (guarded_by by predicate (statements_by by all) vars).effects ≤ length all
+  guarded_few : (predicate : Option E) (all : List (ActionOf E Es)) (vars : Variables) → length (where_predicate by predicate (statements_by by all) vars).effects ≤ length all
   guarded_few None all vars = statements_few all vars
   guarded_few (Some a) all vars = where_true_few (length all) (number (by.value a vars)) (statements_by by all) (statements_few all)
 
   -- whatever evaluates the expressions
   pub run_is_few : (line : List ℕ) (predicate : Option E) (all : List (ActionOf E Es)) (vars : Variables) → length (run_by by line predicate all vars).contributions ≤ length all
   run_is_few line predicate all vars =
-      let ran : Ran = guarded_by by predicate (statements_by by all) vars in
+      let ran : Ran = where_predicate by predicate (statements_by by all) vars in
       let some = one_each ran.effects in
       let few = guarded_few predicate all vars in
       omega (arith, some, few)

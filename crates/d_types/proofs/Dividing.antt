@@ -11,7 +11,7 @@ use Rattle.d_types.specs.declared.typed.Operation.{Operation}
 use Rattle.d_types.specs.declared.typed.Operation.TheVariants as op
 use Rattle.d_types.specs.Typed.{Typed, Constant, Text, Fixed, Read, Unary, Operate, Compare, CompareText, Logic, Choice, Convert, Assign, Update, Count, Strlen, Strjoin, Typeds, end, more}
 use Rattle.d_types.specs.Storage.{Variables, word_of, value_at}
-use Rattle.d_types.specs.Expressions.{Outcome, Has, Faults, with, given, integer, number, text, truth, bit, inverse, at_zero, part_of, unary_of, operation_of, works_in, assigned, updated, moved, eval, keys_of}
+use Rattle.d_types.specs.Expressions.{Outcome, Has, Faults, with, word_or_fault, integer, number, text, truth, bit, inverse, at_zero, part_of, unary_of, operation_of, works_in, assignment_outcome, update_outcome, step_outcome, eval, keys_of}
 use Rattle.d_types.specs.Laws.{is_division, has_division, has_division_in, is_fault}
 use Rattle.d_types.proofs.Neither.{left, right}
 
@@ -36,12 +36,12 @@ by_zero zero a b h k = h
 by_zero (suc n) a b h k = k
 
 -- the operator has a word
-given_word : (o : Operation) (x y : ℕ) (vars : Variables) → is_division o ≡ false → Succeeds (given (operation_of o x y) vars)
+given_word : (o : Operation) (x y : ℕ) (vars : Variables) → is_division o ≡ false → Succeeds (word_or_fault (operation_of o x y) vars)
 given_word (op.Arithmetic o t) x y vars none = let e : divides o ≡ false = none in rw e refl
 given_word (op.Shift o t) x y vars none = refl
 
-quotient : (o : Operation) (x y : ℕ) (vars : Variables) → is_division o ≡ false → Succeeds (integer (given (operation_of o x y) vars))
-quotient o x y vars none = one (given (operation_of o x y) vars) (λ word. Has (va.Int word)) (given_word o x y vars none) (λ w vars. refl)
+quotient : (o : Operation) (x y : ℕ) (vars : Variables) → is_division o ≡ false → Succeeds (integer (word_or_fault (operation_of o x y) vars))
+quotient o x y vars none = one (word_or_fault (operation_of o x y) vars) (λ word. Has (va.Int word)) (given_word o x y vars none) (λ w vars. refl)
 
 mutual
   pub eval_gives : (f : Firing) (e : Typed) (vars : Variables) → has_division e ≡ false → Succeeds (eval f e vars)
@@ -54,9 +54,9 @@ mutual
       one (number (eval f a vars)) (λ x. Has (va.Int (unary_of o t x))) (word (eval f a vars) (eval_gives f a vars none)) (λ x vars. refl)
   eval_gives f (Operate o a b) vars none =
       let parts : (has_division a || has_division b) ≡ false = right (is_division o) (has_division a || has_division b) none in
-      one (number (eval f a vars)) (λ x vars. with (number (eval f b vars)) (λ y vars. integer (given (operation_of o x y) vars)))
+      one (number (eval f a vars)) (λ x vars. with (number (eval f b vars)) (λ y vars. integer (word_or_fault (operation_of o x y) vars)))
       (word (eval f a vars) (eval_gives f a vars (left (has_division a) (has_division b) parts)))
-      (λ x vars. one (number (eval f b vars)) (λ y vars. integer (given (operation_of o x y) vars))
+      (λ x vars. one (number (eval f b vars)) (λ y vars. integer (word_or_fault (operation_of o x y) vars))
       (word (eval f b vars) (eval_gives f b vars (right (has_division a) (has_division b) parts)))
       (λ y vars. quotient o x y vars (left (is_division o) (has_division a || has_division b) none)))
   eval_gives f (Compare o t a b) vars none =
@@ -95,22 +95,22 @@ mutual
   eval_gives f (Convert t u a) vars none =
       one (number (eval f a vars)) (λ x. Has (va.Int (narrow u x))) (word (eval f a vars) (eval_gives f a vars none)) (λ x vars. refl)
   eval_gives f (Assign x keys a) vars none =
-      one (keys_of f keys vars) (λ key vars. with (eval f a vars) (assigned x key))
+      one (keys_of f keys vars) (λ key vars. with (eval f a vars) (assignment_outcome x key))
       (keys_give f keys vars (left (has_division_in keys) (has_division a) none))
-      (λ key vars. one (eval f a vars) (assigned x key) (eval_gives f a vars (right (has_division_in keys) (has_division a) none)) (λ y vars. refl))
+      (λ key vars. one (eval f a vars) (assignment_outcome x key) (eval_gives f a vars (right (has_division_in keys) (has_division a) none)) (λ y vars. refl))
   eval_gives f (Update o x keys a) vars none =
       let parts : (has_division_in keys || has_division a) ≡ false = right (is_division o) (has_division_in keys || has_division a) none in
       one (keys_of f keys vars)
-      (λ key vars. with (number (eval f a vars)) (λ y after. with (given (operation_of o (narrow (works_in o) (word_of (value_at vars x key))) y) after) (updated x key)))
+      (λ key vars. with (number (eval f a vars)) (λ y after. with (word_or_fault (operation_of o (narrow (works_in o) (word_of (value_at vars x key))) y) after) (update_outcome x key)))
       (keys_give f keys vars (left (has_division_in keys) (has_division a) parts))
       (λ key vars. one (number (eval f a vars))
-      (λ y after. with (given (operation_of o (narrow (works_in o) (word_of (value_at vars x key))) y) after) (updated x key))
+      (λ y after. with (word_or_fault (operation_of o (narrow (works_in o) (word_of (value_at vars x key))) y) after) (update_outcome x key))
       (word (eval f a vars) (eval_gives f a vars (right (has_division_in keys) (has_division a) parts)))
-      (λ y after. one (given (operation_of o (narrow (works_in o) (word_of (value_at vars x key))) y) after) (updated x key)
+      (λ y after. one (word_or_fault (operation_of o (narrow (works_in o) (word_of (value_at vars x key))) y) after) (update_outcome x key)
       (given_word o (narrow (works_in o) (word_of (value_at vars x key))) y after (left (is_division o) (has_division_in keys || has_division a) none))
       (λ z vars. refl)))
   eval_gives f (Count step answer x keys) vars none =
-      one (keys_of f keys vars) (λ key vars. moved step answer x key (word_of (value_at vars x key)) vars) (keys_give f keys vars none) (λ key vars. refl)
+      one (keys_of f keys vars) (λ key vars. step_outcome step answer x key (word_of (value_at vars x key)) vars) (keys_give f keys vars none) (λ key vars. refl)
   eval_gives f (Strlen a) vars none =
       one (text (eval f a vars)) (λ x. Has (va.Int (length x))) (bytes (eval f a vars) (eval_gives f a vars none)) (λ x vars. refl)
   eval_gives f (Strjoin a b) vars none =

@@ -14,7 +14,7 @@ use Rattle.d_values.specs.declared.int_type.DType.TheVariants as ty
 use Rattle.d_values.specs.Numbers.{bits_of}
 use Rattle.d_values.specs.Stores.{blank}
 use Rattle.d_values.specs.Types.{INT32, INT64, UINT64}
-use Rattle.d_values.specs.Words.{extended, narrow}
+use Rattle.d_values.specs.Words.{sign_extension, narrow}
 use Rattle.d_values.proofs.Narrowing.{extended_low}
 use Rattle.firing_reader.specs.declared.firing.Firing.{Firing}
 use Rattle.firing_reader.specs.Firings.{HasRanges, IsIntFrom}
@@ -65,7 +65,7 @@ firing_is f is bi.Probename = is.name.short
 zero_is : (t : IntType) → IsWord t 0
 zero_is t =
     let low : 0 % 2 ^ t.width ≡ 0 = mod-eq_of_lt (pow_pos t.width) in
-    let same : narrow t 0 ≡ 0 = ap (extended t) low ∙ extended_low t 0 (pow_pos (t.width - 1)) in
+    let same : narrow t 0 ≡ 0 = ap (sign_extension t) low ∙ extended_low t 0 (pow_pos (t.width - 1)) in
     subst (IsWord t) same (narrow_is t 0)
 
 blank_is : (t : DType) → IsOf t (blank (kind_of t))

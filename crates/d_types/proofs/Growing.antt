@@ -5,7 +5,7 @@ use Rattle.d_types.specs.declared.typed.Space.{Space}
 use Rattle.d_types.specs.declared.typed.Variable.{Variable}
 use Rattle.d_types.specs.Typed.{Typed, Constant, Text, Fixed, Read, Unary, Operate, Compare, CompareText, Logic, Choice, Convert, Assign, Update, Count, Strlen, Strjoin, Typeds, end, more}
 use Rattle.d_types.specs.Variables.{Row, Rows, is_named, find_from, find, type_at, set_type}
-use Rattle.d_types.specs.Targets.{settled}
+use Rattle.d_types.specs.Targets.{settle_slot}
 use Rattle.d_types.specs.Held.{Slots, IsKnown, IsConsistent, AreConsistent}
 
 -- a type that the first table has stands in the second
@@ -61,7 +61,7 @@ type_is_set slot u [] below = absurd (omega arith)
 type_is_set zero u (x ∷ rows) below = refl
 type_is_set (suc slot) u (x ∷ rows) below = type_is_set slot u rows (omega arith)
 
-pub settled_grows : (known : Option DType) (slot : ℕ) (t : Option DType) (rows : Rows) → type_at rows slot ≡ known → Grows rows (settled known slot t rows)
+pub settled_grows : (known : Option DType) (slot : ℕ) (t : Option DType) (rows : Rows) → type_at rows slot ≡ known → Grows rows (settle_slot known slot t rows)
 settled_grows None slot None rows e = stays rows
 settled_grows None slot (Some t) rows e = set_grows slot t rows e
 settled_grows (Some u) slot t rows e = stays rows

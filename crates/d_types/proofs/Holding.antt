@@ -30,7 +30,7 @@ use Rattle.d_types.specs.declared.typed.Variable.{Variable}
 use Rattle.d_types.specs.Typed.{Typed, Constant, Text, Fixed, Read, Unary, Operate, Compare, CompareText, Logic, Choice, Convert, Assign, Update, Count, Strlen, Strjoin, Typeds, end, more, type_of, type_of_unary, type_of_operation}
 use Rattle.d_types.specs.Variables.{kind_of}
 use Rattle.d_types.specs.Storage.{Variables, word_of, bytes_of, as_kind, var_of, value_in, value_at, set_in, set}
-use Rattle.d_types.specs.Expressions.{Outcome, Has, Faults, with, given, integer, number, text, truth, bit, inverse, at_zero, part_of, unary_of, operation_of, works_in, held, stepped, answered, assigned, updated, moved, eval, keys_of}
+use Rattle.d_types.specs.Expressions.{Outcome, Has, Faults, with, word_or_fault, integer, number, text, truth, bit, inverse, at_zero, part_of, unary_of, operation_of, works_in, word_as_type, step_result, step_value, assignment_outcome, update_outcome, step_outcome, eval, keys_of}
 use Rattle.d_types.specs.Held.{IsWord, IsOf, HasTypedBuiltIns, Slots, IsKnown, AreTypedLocals, AreTypedOwn, AreTyped, Ends, IsSomeInteger, Takes, IsConsistent, AreConsistent}
 use Rattle.d_types.proofs.ValueTypes.{narrow_is, long_word, truth_is, bit_is, inverse_is}
 
@@ -134,11 +134,11 @@ module _ (slots : Slots) where
 
   -- the operator's word is of the type that it works in
   quotient : (refused : Bool) (t : IntType) (w : ℕ) (vars : Variables) → AreTyped slots vars →
-      Ends slots (IsWord t) (given (if refused then Err (record {}) else Ok (narrow t w)) vars)
+      Ends slots (IsWord t) (word_or_fault (if refused then Err (record {}) else Ok (narrow t w)) vars)
   quotient true t w vars good = good
   quotient false t w vars good = (narrow_is t w, good)
 
-  operated : (o : Operation) (x y : ℕ) (vars : Variables) → AreTyped slots vars → Ends slots (IsWord (works_in o)) (given (operation_of o x y) vars)
+  operated : (o : Operation) (x y : ℕ) (vars : Variables) → AreTyped slots vars → Ends slots (IsWord (works_in o)) (word_or_fault (operation_of o x y) vars)
   operated (op.Arithmetic o t) x y vars good = quotient _ t (operate o t.signed x y) vars good
   operated (op.Shift o t) x y vars good = (narrow_is t _, good)
 
@@ -146,20 +146,20 @@ module _ (slots : Slots) where
   as_integer t (Has w vars) good = good
   as_integer t (Faults vars) good = good
 
-  operation_is : (o : Operation) (x y : ℕ) (vars : Variables) → AreTyped slots vars → Ends slots (IsOf (type_of_operation o)) (integer (given (operation_of o x y) vars))
-  operation_is (op.Arithmetic o t) x y vars good = as_integer t (given (operation_of (op.Arithmetic o t) x y) vars) (operated (op.Arithmetic o t) x y vars good)
-  operation_is (op.Shift o t) x y vars good = as_integer t (given (operation_of (op.Shift o t) x y) vars) (operated (op.Shift o t) x y vars good)
+  operation_is : (o : Operation) (x y : ℕ) (vars : Variables) → AreTyped slots vars → Ends slots (IsOf (type_of_operation o)) (integer (word_or_fault (operation_of o x y) vars))
+  operation_is (op.Arithmetic o t) x y vars good = as_integer t (word_or_fault (operation_of (op.Arithmetic o t) x y) vars) (operated (op.Arithmetic o t) x y vars good)
+  operation_is (op.Shift o t) x y vars good = as_integer t (word_or_fault (operation_of (op.Shift o t) x y) vars) (operated (op.Shift o t) x y vars good)
 
   -- the word that an integer variable is given
-  held_is : (t : DType) (w : ℕ) → IsSomeInteger t → IsOf t (va.Int (held t w))
+  held_is : (t : DType) (w : ℕ) → IsSomeInteger t → IsOf t (va.Int (word_as_type t w))
   held_is (ty.Int t) w some = narrow_is t w
   held_is ty.Text w some = let no = some.1 in cc
 
   updated_is : (x : Variable) (key : List KeyPart) (w : ℕ) (vars : Variables) → IsKnown slots x → IsSomeInteger x.holds → AreTyped slots vars →
-      Ends slots (IsOf x.holds) (updated x key w vars)
-  updated_is x key w vars known some good = let is = held_is x.holds w some in (is, set_is vars x key (va.Int (held x.holds w)) good known is)
+      Ends slots (IsOf x.holds) (update_outcome x key w vars)
+  updated_is x key w vars known some good = let is = held_is x.holds w some in (is, set_is vars x key (va.Int (word_as_type x.holds w)) good known is)
 
-  answered_is : (t : DType) (answer : Answer) (old new : ℕ) → IsOf t (va.Int old) → IsOf t (va.Int new) → IsOf t (va.Int (answered answer old new))
+  answered_is : (t : DType) (answer : Answer) (old new : ℕ) → IsOf t (va.Int old) → IsOf t (va.Int new) → IsOf t (va.Int (step_value answer old new))
   answered_is t an.New old new before after = after
   answered_is t an.Old old new before after = before
 
@@ -169,18 +169,18 @@ module _ (slots : Slots) where
   word_at ty.Text value some is = let no = some.1 in cc
 
   moved_is : (step : Step) (answer : Answer) (x : Variable) (key : List KeyPart) (vars : Variables) → IsKnown slots x → IsSomeInteger x.holds → AreTyped slots vars →
-      Ends slots (IsOf x.holds) (moved step answer x key (word_of (value_at vars x key)) vars)
+      Ends slots (IsOf x.holds) (step_outcome step answer x key (word_of (value_at vars x key)) vars)
   moved_is step answer x key vars known some good =
       let old = word_of (value_at vars x key) in
-      let is = held_is x.holds (stepped step old) some in (
-        answered_is x.holds answer old (held x.holds (stepped step old)) (word_at x.holds (value_at vars x key) some (value_is vars x key good known)) is,
-        set_is vars x key (va.Int (held x.holds (stepped step old))) good known is,
+      let is = held_is x.holds (step_result step old) some in (
+        answered_is x.holds answer old (word_as_type x.holds (step_result step old)) (word_at x.holds (value_at vars x key) some (value_is vars x key good known)) is,
+        set_is vars x key (va.Int (word_as_type x.holds (step_result step old))) good known is,
       )
 
   changing : (o : Operation) (x : Variable) (key : List KeyPart) (old y : ℕ) (vars : Variables) → IsKnown slots x → IsSomeInteger x.holds → AreTyped slots vars →
-      Ends slots (IsOf x.holds) (with (given (operation_of o old y) vars) (updated x key))
+      Ends slots (IsOf x.holds) (with (word_or_fault (operation_of o old y) vars) (update_outcome x key))
   changing o x key old y vars known some good =
-      one (IsWord (works_in o)) (IsOf x.holds) (given (operation_of o old y) vars) (updated x key) (operated o old y vars good)
+      one (IsWord (works_in o)) (IsOf x.holds) (word_or_fault (operation_of o old y) vars) (update_outcome x key) (operated o old y vars good)
       (λ w late is well. updated_is x key w late known some well)
 
   either_is : (n a b : ℕ) → IsWord INT32 a → IsWord INT32 b → IsWord INT32 (at_zero n a b)
@@ -224,12 +224,12 @@ module _ (slots : Slots) where
     -- a word, then the operation, then the change
     updating : (o : Operation) (x : Variable) (a : Typed) (key : List KeyPart) (old : ℕ) (vars : Variables) → IsKnown slots x → IsSomeInteger x.holds →
         Takes o (ty.Int (works_in o)) (type_of a) → Good a vars →
-        Ends slots (IsOf x.holds) (with (number (eval f a vars)) (λ y after. with (given (operation_of o old y) after) (updated x key)))
+        Ends slots (IsOf x.holds) (with (number (eval f a vars)) (λ y after. with (word_or_fault (operation_of o old y) after) (update_outcome x key)))
     updating (op.Arithmetic o t) x a key old vars known some takes good =
-        single (IsOf x.holds) t a (λ y after. with (given (operation_of (op.Arithmetic o t) old y) after) (updated x key)) vars takes.1 good
+        single (IsOf x.holds) t a (λ y after. with (word_or_fault (operation_of (op.Arithmetic o t) old y) after) (update_outcome x key)) vars takes.1 good
         (λ y late is well. changing (op.Arithmetic o t) x key old y late known some well)
     updating (op.Shift o t) x a key old vars known some takes good =
-        single (IsOf x.holds) takes.1.0 a (λ y after. with (given (operation_of (op.Shift o t) old y) after) (updated x key)) vars takes.1.1 good
+        single (IsOf x.holds) takes.1.0 a (λ y after. with (word_or_fault (operation_of (op.Shift o t) old y) after) (update_outcome x key)) vars takes.1.1 good
         (λ y late is well. changing (op.Shift o t) x key old y late known some well)
 
     mutual
@@ -244,11 +244,11 @@ module _ (slots : Slots) where
           single (IsOf (type_of_unary o t)) t a (λ x. Has (va.Int (unary_of o t x))) vars c.0 (eval_is a vars c.1 good)
           (λ x late is well. (unary_is o t x is, well))
       eval_is (Operate (op.Arithmetic o t) a b) vars c good =
-          two (IsOf (ty.Int t)) t t a b (λ x y vars. integer (given (operation_of (op.Arithmetic o t) x y) vars)) vars c.0.0 c.0.1
+          two (IsOf (ty.Int t)) t t a b (λ x y vars. integer (word_or_fault (operation_of (op.Arithmetic o t) x y) vars)) vars c.0.0 c.0.1
           (eval_is a vars c.1 good) (λ late well. eval_is b late c.2 well)
           (λ x y late is also well. operation_is (op.Arithmetic o t) x y late well)
       eval_is (Operate (op.Shift o t) a b) vars c good =
-          two (IsOf (ty.Int t)) t c.0.1.0 a b (λ x y vars. integer (given (operation_of (op.Shift o t) x y) vars)) vars c.0.0 c.0.1.1
+          two (IsOf (ty.Int t)) t c.0.1.0 a b (λ x y vars. integer (word_or_fault (operation_of (op.Shift o t) x y) vars)) vars c.0.0 c.0.1.1
           (eval_is a vars c.1 good) (λ late well. eval_is b late c.2 well)
           (λ x y late is also well. operation_is (op.Shift o t) x y late well)
       eval_is (Compare o t a b) vars c good =
@@ -281,17 +281,17 @@ module _ (slots : Slots) where
       eval_is (Convert t u a) vars c good =
           single (IsOf (ty.Int u)) t a (λ x. Has (va.Int (narrow u x))) vars c.0 (eval_is a vars c.1 good) (λ x late is well. (narrow_is u x, well))
       eval_is (Assign x keys a) vars c good =
-          one Any (IsOf x.holds) (keys_of f keys vars) (λ key vars. with (eval f a vars) (assigned x key)) (keys_are keys vars c.1 good)
-          (λ key late any well. one (IsOf (type_of a)) (IsOf x.holds) (eval f a late) (assigned x key) (eval_is a late c.3 well)
+          one Any (IsOf x.holds) (keys_of f keys vars) (λ key vars. with (eval f a vars) (assignment_outcome x key)) (keys_are keys vars c.1 good)
+          (λ key late any well. one (IsOf (type_of a)) (IsOf x.holds) (eval f a late) (assignment_outcome x key) (eval_is a late c.3 well)
           (λ value last is fine. let is : IsOf x.holds value = subst (λ u. IsOf u value) c.2 is in (is, set_is last x key value fine c.0 is)))
       eval_is (Update o x keys a) vars c good =
           one Any (IsOf x.holds) (keys_of f keys vars)
           (λ key vars. with (number (eval f a vars)) (λ y after.
-          with (given (operation_of o (narrow (works_in o) (word_of (value_at vars x key))) y) after) (updated x key)))
+          with (word_or_fault (operation_of o (narrow (works_in o) (word_of (value_at vars x key))) y) after) (update_outcome x key)))
           (keys_are keys vars c.1 good)
           (λ key late any well. updating o x a key (narrow (works_in o) (word_of (value_at late x key))) late c.0 c.2 c.3 (eval_is a late c.4 well))
       eval_is (Count step answer x keys) vars c good =
-          one Any (IsOf x.holds) (keys_of f keys vars) (λ key vars. moved step answer x key (word_of (value_at vars x key)) vars) (keys_are keys vars c.1 good)
+          one Any (IsOf x.holds) (keys_of f keys vars) (λ key vars. step_outcome step answer x key (word_of (value_at vars x key)) vars) (keys_are keys vars c.1 good)
           (λ key late any well. moved_is step answer x key late c.0 c.2 well)
       eval_is (Strlen a) vars c good =
           one Short (IsOf (ty.Int UINT64)) (text (eval f a vars)) (λ x. Has (va.Int (length x))) (bytes (type_of a) (eval f a vars) c.0 (eval_is a vars c.1 good))

@@ -8,8 +8,8 @@ use Rattle.d_types.specs.declared.effect.Effect.TheVariants as ef
 use Rattle.d_types.specs.Typed.{Typed, Typeds, end, more, type_of, Action, Evaluate, Trace, Print, Exit, Aggregate, ClauseMeant}
 use Rattle.d_types.specs.Storage.{Variables}
 use Rattle.d_types.specs.Expressions.{Outcome, Has, Faults, with, number, eval, keys_of}
-use Rattle.d_types.specs.Clauses.{values_of, given_of, effect_of, Ran, followed, statements_of, where_true, by_trees, guarded_by, run_of}
-use Rattle.d_types.specs.Printing.{traced, printed}
+use Rattle.d_types.specs.Clauses.{values_of, argument_value, effect_of, Ran, effect_then, statements_of, where_true, by_trees, where_predicate, run_of}
+use Rattle.d_types.specs.Printing.{trace_line, printf_text}
 use Rattle.d_types.specs.Held.{IsOf, HasTypedBuiltIns, Slots, AreTyped, Ends, IsConsistent, AreConsistent}
 use Rattle.d_types.specs.Wholes.{EachIs, AnyIs, ActionIs, ActionsAre, ClauseIs}
 use Rattle.d_types.proofs.Holding.{one, eval_is, keys_are}
@@ -42,28 +42,28 @@ module _ (slots : Slots) (f : Firing) (fit : HasTypedBuiltIns f) where
       (λ x late well. one slots (λ y. Unit {0}) (λ y. Unit {0}) (values_of f rest late) (λ xs. Has ((type_of a, x) ∷ xs)) (values_kept rest late is.1 well)
       (λ xs last any fine. (tt, fine)))
 
-  given_kept : (argument : Option Typed) (vars : Variables) → AnyIs (IsConsistent slots) argument → AreTyped slots vars → Kept (given_of f argument vars)
+  given_kept : (argument : Option Typed) (vars : Variables) → AnyIs (IsConsistent slots) argument → AreTyped slots vars → Kept (argument_value f argument vars)
   given_kept None vars is good = (tt, good)
   given_kept (Some a) vars is good =
       one slots (λ y. Unit {0}) (λ y. Unit {0}) (number (eval f a vars)) (λ word. Has (cast_signed w64 word)) (number_kept a vars is good) (λ w late any well. (tt, well))
 
   effect_kept : (a : Action) (vars : Variables) → ActionIs (IsConsistent slots) a → AreTyped slots vars → Kept (effect_of f a vars)
   effect_kept (Evaluate a) vars is good = behind a (λ x. Has ef.Nothing) vars is good (λ x late well. (tt, well))
-  effect_kept (Trace a) vars is good = behind a (λ x. Has (ef.Says (traced (type_of a) x))) vars is good (λ x late well. (tt, well))
+  effect_kept (Trace a) vars is good = behind a (λ x. Has (ef.Says (trace_line (type_of a) x))) vars is good (λ x late well. (tt, well))
   effect_kept (Print format all) vars is good =
-      one slots (λ y. Unit {0}) (λ y. Unit {0}) (values_of f all vars) (λ values. Has (ef.Says (printed format values))) (values_kept all vars is good)
+      one slots (λ y. Unit {0}) (λ y. Unit {0}) (values_of f all vars) (λ values. Has (ef.Says (printf_text format values))) (values_kept all vars is good)
       (λ xs late any well. (tt, well))
   effect_kept (Exit a) vars is good =
       one slots (λ y. Unit {0}) (λ y. Unit {0}) (number (eval f a vars)) (λ word. Has (ef.Exits (word % 256))) (number_kept a vars is good)
       (λ w late any well. (tt, well))
   effect_kept (Aggregate place keys argument) vars is good =
-      one slots (λ y. Unit {0}) (λ y. Unit {0}) (keys_of f keys vars) (λ key vars. with (given_of f argument vars) (λ z. Has (ef.Adds place key z)))
+      one slots (λ y. Unit {0}) (λ y. Unit {0}) (keys_of f keys vars) (λ key vars. with (argument_value f argument vars) (λ z. Has (ef.Adds place key z)))
       (keys_are slots f fit keys vars (all_are keys is.0) good)
-      (λ key late any well. one slots (λ y. Unit {0}) (λ y. Unit {0}) (given_of f argument late) (λ z. Has (ef.Adds place key z)) (given_kept argument late is.1 well)
+      (λ key late any well. one slots (λ y. Unit {0}) (λ y. Unit {0}) (argument_value f argument late) (λ z. Has (ef.Adds place key z)) (given_kept argument late is.1 well)
       (λ z last every fine. (tt, fine)))
 
   followed_kept : (o : Outcome Effect) (go : Variables → Ran) → Kept o → ((vars : Variables) → AreTyped slots vars → AreTyped slots (go vars).variables) →
-      AreTyped slots (followed o go).variables
+      AreTyped slots (effect_then o go).variables
   followed_kept (Has effect vars) go good rest = rest vars good.1
   followed_kept (Faults vars) go good rest = good
 
@@ -79,7 +79,7 @@ module _ (slots : Slots) (f : Firing) (fit : HasTypedBuiltIns f) where
   where_true_kept (Faults vars) go good rest = good
 
   guarded_kept : (predicate : Option Typed) (go : Variables → Ran) (vars : Variables) → AnyIs (IsConsistent slots) predicate → AreTyped slots vars →
-      ((late : Variables) → AreTyped slots late → AreTyped slots (go late).variables) → AreTyped slots (guarded_by (by_trees f) predicate go vars).variables
+      ((late : Variables) → AreTyped slots late → AreTyped slots (go late).variables) → AreTyped slots (where_predicate (by_trees f) predicate go vars).variables
   guarded_kept None go vars is good rest = rest vars good
   guarded_kept (Some a) go vars is good rest = where_true_kept (number (eval f a vars)) go (number_kept a vars is good) rest
 

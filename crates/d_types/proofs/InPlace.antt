@@ -13,9 +13,9 @@ use Rattle.d_types.specs.declared.typed.Operation.{Operation}
 use Rattle.d_types.specs.declared.typed.Operation.TheVariants as op
 use Rattle.d_types.specs.declared.typed.Variable.{Variable}
 use Rattle.d_types.specs.Typed.{Typed, Read, Operate, Convert, Assign, Update, Typeds}
-use Rattle.d_types.specs.Operators.{same_type, converted}
+use Rattle.d_types.specs.Operators.{same_type, conversion_node}
 use Rattle.d_types.specs.Storage.{Variables, word_of, value_at}
-use Rattle.d_types.specs.Expressions.{Outcome, Has, Faults, with, given, integer, number, operation_of, works_in, held, assigned, updated, eval, keys_of}
+use Rattle.d_types.specs.Expressions.{Outcome, Has, Faults, with, word_or_fault, integer, number, operation_of, works_in, word_as_type, assignment_outcome, update_outcome, eval, keys_of}
 use Rattle.d_types.specs.Held.{IsOf, IsWord}
 use Rattle.d_types.specs.Laws.{AreRepeatable, HoldsItsType, in_place, assigns_in, variables_after}
 use Rattle.d_types.proofs.Consistent.{same_type_is}
@@ -38,7 +38,7 @@ kept t (Faults vars) h = refl
 
 -- a conversion, or none where the types are the same
 pub converts : (f : Firing) (from to : IntType) (z : Typed) (vars : Variables) → HasWord from (eval f z vars) →
-    eval f (converted from to z) vars ≡ with (number (eval f z vars)) (λ w. Has (va.Int (narrow to w)))
+    eval f (conversion_node from to z) vars ≡ with (number (eval f z vars)) (λ w. Has (va.Int (narrow to w)))
 converts f from to z vars h = by (same_type from to) refl
   where
     by : (b : Bool) → same_type from to ≡ b → eval f (if b then z else Convert from to z) vars ≡ with (number (eval f z vars)) (λ w. Has (va.Int (narrow to w)))
@@ -48,15 +48,15 @@ converts f from to z vars h = by (same_type from to) refl
 -- ---- operations
 
 -- the operation's word, as an integer
-result_is : (o : Operation) (x y : ℕ) (vars : Variables) → HasWord (works_in o) (integer (given (operation_of o x y) vars))
+result_is : (o : Operation) (x y : ℕ) (vars : Variables) → HasWord (works_in o) (integer (word_or_fault (operation_of o x y) vars))
 result_is (op.Arithmetic o t) x y vars = by _
   where
-    by : (b : Bool) → HasWord t (integer (given (if b then Err (record {}) else Ok (narrow t (operate o t.signed x y))) vars))
+    by : (b : Bool) → HasWord t (integer (word_or_fault (if b then Err (record {}) else Ok (narrow t (operate o t.signed x y))) vars))
     by true = tt
     by false = narrow_is t (operate o t.signed x y)
 result_is (op.Shift o t) x y vars = narrow_is t _
 
-operated_is : (o : Operation) (x : ℕ) (a : Outcome Value) → HasWord (works_in o) (with (number a) (λ y vars. integer (given (operation_of o x y) vars)))
+operated_is : (o : Operation) (x : ℕ) (a : Outcome Value) → HasWord (works_in o) (with (number a) (λ y vars. integer (word_or_fault (operation_of o x y) vars)))
 operated_is o x (Has v vars) = result_is o x (word_of v) vars
 operated_is o x (Faults vars) = tt
 
@@ -64,13 +64,13 @@ operated_is o x (Faults vars) = tt
 
 -- what is assigned after a result
 assigned_is : (t : IntType) (x : Variable) (key : List KeyPart) (r : Result ℕ OutOfZero) (vars : Variables) → x.holds ≡ ty.Int t →
-    with (given r vars) (updated x key) ≡ with (with (number (integer (given r vars))) (λ w. Has (va.Int (narrow t w)))) (assigned x key)
-assigned_is t x key (Ok w) vars e = ap (λ (u : DType). assigned x key (va.Int (held u w)) vars) e
+    with (word_or_fault r vars) (update_outcome x key) ≡ with (with (number (integer (word_or_fault r vars))) (λ w. Has (va.Int (narrow t w)))) (assignment_outcome x key)
+assigned_is t x key (Ok w) vars e = ap (λ (u : DType). assignment_outcome x key (va.Int (word_as_type u w)) vars) e
 assigned_is t x key (Err z) vars e = refl
 
 changed_is : (t : IntType) (o : Operation) (x : Variable) (key : List KeyPart) (old : ℕ) (a : Outcome Value) → x.holds ≡ ty.Int t →
-    with (number a) (λ y after. with (given (operation_of o old y) after) (updated x key))
-    ≡ with (with (number (with (number a) (λ y vars. integer (given (operation_of o old y) vars)))) (λ w. Has (va.Int (narrow t w)))) (assigned x key)
+    with (number a) (λ y after. with (word_or_fault (operation_of o old y) after) (update_outcome x key))
+    ≡ with (with (number (with (number a) (λ y vars. integer (word_or_fault (operation_of o old y) vars)))) (λ w. Has (va.Int (narrow t w)))) (assignment_outcome x key)
 changed_is t o x key old (Has v vars) e = assigned_is t x key (operation_of o old (word_of v)) vars e
 changed_is t o x key old (Faults vars) e = refl
 
@@ -83,27 +83,27 @@ pub update_is_assignment : (f : Firing) (t : IntType) (o : Operation) (x : Varia
 update_is_assignment f t o x keys a vars e again holds = by (keys_of f keys vars) refl
   where
     at : (key : List KeyPart) (after : Variables) → keys_of f keys after ≡ Has key after → IsOf x.holds (value_at after x key) →
-        with (number (eval f a after)) (λ y last. with (given (operation_of o (narrow (works_in o) (word_of (value_at after x key))) y) last) (updated x key))
-        ≡ with (eval f (in_place o t x keys a) after) (assigned x key)
+        with (number (eval f a after)) (λ y last. with (word_or_fault (operation_of o (narrow (works_in o) (word_of (value_at after x key))) y) last) (update_outcome x key))
+        ≡ with (eval f (in_place o t x keys a) after) (assignment_outcome x key)
     at key after same is =
         let value = value_at after x key in
         let old = narrow (works_in o) (word_of value) in
         let read : eval f (Read x keys) after ≡ Has value after = ap (λ (k : Outcome (List KeyPart)). with k (λ key vars. Has (value_at vars x key) vars)) same in
         let word : HasWord t (eval f (Read x keys) after) = subst (HasWord t) (sym read) (read_is t value after (subst (λ u. IsOf u value) e is)) in
-        let left : eval f (converted t (works_in o) (Read x keys)) after ≡ Has (va.Int old) after =
+        let left : eval f (conversion_node t (works_in o) (Read x keys)) after ≡ Has (va.Int old) after =
         converts f t (works_in o) (Read x keys) after word ∙ ap (λ (l : Outcome Value). with (number l) (λ w. Has (va.Int (narrow (works_in o) w)))) read
         in
-        let both : eval f (Operate o (converted t (works_in o) (Read x keys)) a) after ≡ with (number (eval f a after)) (λ y vars. integer (given (operation_of o old y) vars)) =
-        ap (λ (l : Outcome Value). with (number l) (λ p vars. with (number (eval f a vars)) (λ y vars. integer (given (operation_of o p y) vars)))) left
+        let both : eval f (Operate o (conversion_node t (works_in o) (Read x keys)) a) after ≡ with (number (eval f a after)) (λ y vars. integer (word_or_fault (operation_of o old y) vars)) =
+        ap (λ (l : Outcome Value). with (number l) (λ p vars. with (number (eval f a vars)) (λ y vars. integer (word_or_fault (operation_of o p y) vars)))) left
         in
-        let fine : HasWord (works_in o) (eval f (Operate o (converted t (works_in o) (Read x keys)) a) after) = subst (HasWord (works_in o)) (sym both) (operated_is o old (eval f a after)) in
-        let all = converts f (works_in o) t (Operate o (converted t (works_in o) (Read x keys)) a) after fine in
+        let fine : HasWord (works_in o) (eval f (Operate o (conversion_node t (works_in o) (Read x keys)) a) after) = subst (HasWord (works_in o)) (sym both) (operated_is o old (eval f a after)) in
+        let all = converts f (works_in o) t (Operate o (conversion_node t (works_in o) (Read x keys)) a) after fine in
         changed_is t o x key old (eval f a after) e
-        ∙ sym (ap (λ (l : Outcome Value). with l (assigned x key)) (all ∙ ap (λ (l : Outcome Value). with (number l) (λ w. Has (va.Int (narrow t w)))) both))
+        ∙ sym (ap (λ (l : Outcome Value). with l (assignment_outcome x key)) (all ∙ ap (λ (l : Outcome Value). with (number l) (λ w. Has (va.Int (narrow t w)))) both))
 
     by : (k : Outcome (List KeyPart)) → keys_of f keys vars ≡ k →
-        with k (λ key vars. with (number (eval f a vars)) (λ y after. with (given (operation_of o (narrow (works_in o) (word_of (value_at vars x key))) y) after) (updated x key)))
-        ≡ with k (λ key vars. with (eval f (in_place o t x keys a) vars) (assigned x key))
+        with k (λ key vars. with (number (eval f a vars)) (λ y after. with (word_or_fault (operation_of o (narrow (works_in o) (word_of (value_at vars x key))) y) after) (update_outcome x key)))
+        ≡ with k (λ key vars. with (eval f (in_place o t x keys a) vars) (assignment_outcome x key))
     by (Has key after) h = at key after (again key after h) (holds key after h)
     by (Faults after) h = refl
 

@@ -10,7 +10,7 @@ use Rattle.firing_reader.specs.declared.firing.Firing.{Firing}
 use Rattle.d_types.specs.declared.typed.LogicOperator.TheVariants as lo
 use Rattle.d_types.specs.Typed.{Typed, Constant, Text, Fixed, Read, Unary, Operate, Compare, CompareText, Logic, Choice, Convert, Assign, Update, Count, Strlen, Strjoin, Typeds, end, more}
 use Rattle.d_types.specs.Storage.{Variables, value_at}
-use Rattle.d_types.specs.Expressions.{Outcome, Has, Faults, with, given, integer, number, text, truth, bit, inverse, at_zero, part_of, unary_of, operation_of, eval, keys_of}
+use Rattle.d_types.specs.Expressions.{Outcome, Has, Faults, with, word_or_fault, integer, number, text, truth, bit, inverse, at_zero, part_of, unary_of, operation_of, eval, keys_of}
 use Rattle.d_types.specs.Laws.{assigns, assigns_in, variables_after}
 use Rattle.d_types.proofs.Neither.{left, right}
 
@@ -34,7 +34,7 @@ by_zero : {A : Type 0} (vars : Variables) (n : ℕ) (a b : Outcome A) → Keeps 
 by_zero vars zero a b h k = h
 by_zero vars (suc n) a b h k = k
 
-quotient : (vars : Variables) (r : Result ℕ OutOfZero) → Keeps vars (integer (given r vars))
+quotient : (vars : Variables) (r : Result ℕ OutOfZero) → Keeps vars (integer (word_or_fault r vars))
 quotient vars (Ok w) = refl
 quotient vars (Err e) = refl
 
@@ -48,9 +48,9 @@ mutual
   eval_keeps f (Unary o t a) vars none =
       one vars (number (eval f a vars)) (λ x. Has (va.Int (unary_of o t x))) (word vars (eval f a vars) (eval_keeps f a vars none)) (λ x. refl)
   eval_keeps f (Operate o a b) vars none =
-      one vars (number (eval f a vars)) (λ x vars. with (number (eval f b vars)) (λ y vars. integer (given (operation_of o x y) vars)))
+      one vars (number (eval f a vars)) (λ x vars. with (number (eval f b vars)) (λ y vars. integer (word_or_fault (operation_of o x y) vars)))
       (word vars (eval f a vars) (eval_keeps f a vars (left (assigns a) (assigns b) none)))
-      (λ x. one vars (number (eval f b vars)) (λ y vars. integer (given (operation_of o x y) vars))
+      (λ x. one vars (number (eval f b vars)) (λ y vars. integer (word_or_fault (operation_of o x y) vars))
       (word vars (eval f b vars) (eval_keeps f b vars (right (assigns a) (assigns b) none))) (λ y. quotient vars (operation_of o x y)))
   eval_keeps f (Compare o t a b) vars none =
       one vars (number (eval f a vars)) (λ x vars. with (number (eval f b vars)) (λ y. Has (va.Int (truth (holds_of o (order_of t x y))))))

@@ -24,7 +24,7 @@ use Rattle.d_types.specs.Words.{callee_named}
 use Rattle.d_types.specs.Typed as typed
 use Rattle.d_types.specs.Typed.{Typed, Typeds, end, more, Action, Aggs, ClauseMeant, ScriptMeant}
 use Rattle.d_types.specs.Variables.{Rows}
-use Rattle.d_types.specs.Operators.{same_type, converted, binary_sort, assign_sort}
+use Rattle.d_types.specs.Operators.{same_type, conversion_node, binary_sort, assign_sort}
 use Rattle.d_types.specs.Targets.{space_of}
 use Rattle.d_types.specs.Typing.{constant}
 use Rattle.d_types.specs.Aggregations.{first}
@@ -40,7 +40,7 @@ one_of_both : (b : Bool) (t u : IntType) (x : Typed) → places (if b then x els
 one_of_both true t u x = refl
 one_of_both false t u x = refl
 
-in_converted : (t u : IntType) (x : Typed) → places (converted t u x) ≡ places x
+in_converted : (t u : IntType) (x : Typed) → places (conversion_node t u x) ≡ places x
 in_converted t u x = one_of_both (same_type t u) t u x
 
 in_joined : (sort : BinarySort) (x y z : Typed) → Joins sort x y z → places z ≡ places x + places y

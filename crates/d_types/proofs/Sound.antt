@@ -27,8 +27,8 @@ use Rattle.d_types.specs.Words.{callee_named}
 use Rattle.d_types.specs.Typed as typed
 use Rattle.d_types.specs.Typed.{Typed, Typeds, end, more, add, type_of}
 use Rattle.d_types.specs.Variables.{Rows, find, type_at, keys_fit}
-use Rattle.d_types.specs.Operators.{binary_sort, assign_sort, converted, unary, operation_by, choice, as_type}
-use Rattle.d_types.specs.Targets.{line_of_variable, settled, space_of, type_at_once, plain, load, load_at, read, plain_target, slot_for, target, store, stored, assignment, step}
+use Rattle.d_types.specs.Operators.{binary_sort, assign_sort, conversion_node, unary, operation_by, choice, as_type}
+use Rattle.d_types.specs.Targets.{line_of_variable, settle_slot, space_of, type_at_once, plain, load, load_at, read, plain_target, slot_for, target, store, store_node, assignment, step}
 use Rattle.d_types.specs.Typing.{line_of, strlen, strjoin, call, call_of, beside, fitting, step_rest, expr, exprs}
 use Rattle.d_types.specs.Rules.{Types, AllTypes, IsInteger, IsText, Joins, Chooses, Loads, Reads, Places, Targets, Fits, Stores, Steps, Calls}
 use Rattle.d_types.proofs.Complete.{after, after-add, after-end}
@@ -56,12 +56,12 @@ kept rows y z last h = let f = fitted 0 rows (Some y) z last h in (some_is _ _ f
 -- ---- operators
 
 unary_sound : (op : UnaryOperator) (k : DType) (x z : Typed) → type_of x ≡ k → unary op k x ≡ Some z →
-    (t : IntType) × IsInteger x t × (z ≡ typed.Unary op (promoted_of t) (converted t (promoted_of t) x))
+    (t : IntType) × IsInteger x t × (z ≡ typed.Unary op (promoted_of t) (conversion_node t (promoted_of t) x))
 unary_sound op (Int t) x z p e = (t, p, sym (some_is _ _ e))
 unary_sound op Text x z p e = cc
 
 cast_sound : (to : IntType) (k : DType) (x z : Typed) → type_of x ≡ k → as_type k (Int to) x ≡ Some z →
-    (t : IntType) × IsInteger x t × (z ≡ converted t to x)
+    (t : IntType) × IsInteger x t × (z ≡ conversion_node t to x)
 cast_sound to (Int t) x z p e = (t, p, sym (some_is _ _ e))
 cast_sound to Text x z p e = cc
 
@@ -135,7 +135,7 @@ places_sound_at space line name rows t ks None slot last p h =
     inl (p, q.0, q.1, q.2)
 places_sound_at space line name rows t ks (Some n) slot last p h =
     let q = allowed line _ _ _ slot _ last h in
-    inr (p ∙ ap (λ k. Some k) (sym q.1), ap (λ k. keys_fit rows k ks) q.1 ∙ q.0, q.2 ∙ ap (λ k. settled (type_at rows k) k t rows) (sym q.1))
+    inr (p ∙ ap (λ k. Some k) (sym q.1), ap (λ k. keys_fit rows k ks) q.1 ∙ q.0, q.2 ∙ ap (λ k. settle_slot (type_at rows k) k t rows) (sym q.1))
 
 not_plain : (line : ℕ) (name : List ℕ) (o : Option BuiltIn) (ks : Typeds) (slot : ℕ) (last : Rows) → plain_target line name o ks ≡ Ok (slot, last) → ⊥
 not_plain line name None ks slot last h = cc
@@ -160,7 +160,7 @@ fits_sound x (Int t) Text y p e = cc
 fits_sound x Text (Int u) y p e = cc
 
 stored_sound : (space : Space) (slot : ℕ) (t : DType) (ks : Typeds) (rows : Rows) (o : Option Typed) (z : Typed) (last : Rows) →
-    stored space slot t ks rows o ≡ Some (z, last) →
+    store_node space slot t ks rows o ≡ Some (z, last) →
     (y : Typed) × (o ≡ Some y) × (z ≡ typed.Assign (record { space = space; slot = slot; holds = t }) ks y) × (last ≡ rows)
 stored_sound space slot t ks rows None z last h = cc
 stored_sound space slot t ks rows (Some y) z last h = let p = two _ z rows last h in (y, refl, p.0, p.1)

@@ -11,7 +11,7 @@ use Rattle.d_types.specs.declared.typed.Piece.TheVariants as piece
 use Rattle.d_types.specs.declared.format.Flags.{Flags}
 use Rattle.d_types.specs.declared.format.Place.{Place}
 use Rattle.d_types.specs.declared.format.Place.TheVariants as at
-use Rattle.d_types.specs.Formats.{goes, ends, letter_of, with_letter, at_letter, at_length, is_digit, at_width, at_flags, no_flags, turn, with_piece, is_outside, closed, provided, pieces_from, pieces}
+use Rattle.d_types.specs.Formats.{goes, ends, letter_of, with_letter, at_letter, at_length, is_digit, at_width, at_flags, no_flags, turn, with_piece, is_outside, pieces_at_end, option_then, pieces_from, pieces}
 use Rattle.d_types.specs.Spelling.{IsOneOf, has, AreFlags, width_text, lengths, letters, IsPiece, Spells}
 use Rattle.d_types.proofs.Spelled.{AllDecimal, value_after, numerals, not_less, argument, with_width}
 
@@ -273,7 +273,7 @@ from_outside ps rest (inr h) = rw h.4 (h.2, h.3, h.6, h.7, h.5)
 abbrev Behind : List Piece → Place → List Piece → List ℕ → Type 0
 Behind done place ps rest = (others : List Piece) × (ps ≡ done ++ others) × From place others rest
 
-at_end : (done : List Piece) (place : Place) (ps : List Piece) → closed place done ≡ Some ps → Behind done place ps []
+at_end : (done : List Piece) (place : Place) (ps : List Piece) → pieces_at_end place done ≡ Some ps → Behind done place ps []
 at_end done at.Outside ps h = let same : done ≡ ps = cc in ([], sym same ∙ sym (append-nil done), inl (refl, refl, refl))
 at_end done at.Opened ps h = cc
 at_end done (at.Flagged f) ps h = cc
@@ -282,7 +282,7 @@ at_end done (at.Half f) ps h = cc
 at_end done (at.Long f) ps h = cc
 at_end done (at.Sized f) ps h = cc
 
-is_provided : {A B : Type 0} (o : Option A) (go : A → Option B) (y : B) → provided o go ≡ Some y → (x : A) × (o ≡ Some x) × (go x ≡ Some y)
+is_provided : {A B : Type 0} (o : Option A) (go : A → Option B) (y : B) → option_then o go ≡ Some y → (x : A) × (o ≡ Some x) × (go x ≡ Some y)
 is_provided None go y h = cc
 is_provided (Some x) go y h = (x, refl, h)
 

@@ -10,7 +10,7 @@ use Rattle.d_values.specs.declared.key.KeyPart.{KeyPart}
 use Rattle.d_values.specs.declared.value.Value.{Value}
 use Rattle.d_values.specs.declared.value.Value.TheVariants as va
 use Rattle.d_values.specs.Types.{INT32, rank_of, higher, common_of}
-use Rattle.d_values.specs.Words.{extended, narrow, operate}
+use Rattle.d_values.specs.Words.{sign_extension, narrow, operate}
 use Rattle.d_values.proofs.Narrowing.{extended_low}
 use Rattle.d_values.proofs.Wrapping.{by_width}
 use Rattle.firing_reader.specs.declared.firing.Firing.{Firing}
@@ -18,9 +18,9 @@ use Rattle.d_types.specs.declared.typed.Answer.TheVariants as an
 use Rattle.d_types.specs.declared.typed.Operation.TheVariants as op
 use Rattle.d_types.specs.declared.typed.Variable.{Variable}
 use Rattle.d_types.specs.Typed.{Constant, Read, Count, Typeds}
-use Rattle.d_types.specs.Operators.{converted}
+use Rattle.d_types.specs.Operators.{conversion_node}
 use Rattle.d_types.specs.Storage.{Variables, word_of, value_at}
-use Rattle.d_types.specs.Expressions.{Outcome, Has, Faults, with, given, number, operation_of, held, stepped, assigned, updated, moved, eval, keys_of}
+use Rattle.d_types.specs.Expressions.{Outcome, Has, Faults, with, word_or_fault, number, operation_of, word_as_type, step_result, assignment_outcome, update_outcome, step_outcome, eval, keys_of}
 use Rattle.d_types.specs.Laws.{operator_of, one_more, variables_after, with_after}
 use Rattle.d_types.proofs.InPlace.{converts}
 use Rattle.d_types.proofs.ValueTypes.{int_word}
@@ -94,13 +94,13 @@ module _ (t : IntType) where
       either false = (nests t).inner w
 
   one_is : narrow common 1 ≡ 1
-  one_is = ap (extended common) (nests t).one ∙ extended_low common 1 (nests t).positive
+  one_is = ap (sign_extension common) (nests t).one ∙ extended_low common 1 (nests t).positive
 
-  step_is : (by : Step) (old : ℕ) → narrow t (narrow common (operate (operator_of by) common.signed (narrow common old) 1)) ≡ narrow t (stepped by old)
-  step_is st.Increment old = ap (extended t) (lowest ((narrow common old + 1) % 2 ^ 64) ∙ (nests t).more (narrow common old) old (lowest old))
-  step_is st.Decrement old = ap (extended t) (lowest ((narrow common old + (2 ^ 64 - 1)) % 2 ^ 64) ∙ (nests t).less (narrow common old) old (lowest old))
+  step_is : (by : Step) (old : ℕ) → narrow t (narrow common (operate (operator_of by) common.signed (narrow common old) 1)) ≡ narrow t (step_result by old)
+  step_is st.Increment old = ap (sign_extension t) (lowest ((narrow common old + 1) % 2 ^ 64) ∙ (nests t).more (narrow common old) old (lowest old))
+  step_is st.Decrement old = ap (sign_extension t) (lowest ((narrow common old + (2 ^ 64 - 1)) % 2 ^ 64) ∙ (nests t).less (narrow common old) old (lowest old))
 
-  result_is : (by : Step) (x y : ℕ) (vars : Variables) → given (operation_of (op.Arithmetic (operator_of by) common) x y) vars ≡ Has (narrow common (operate (operator_of by) common.signed x y)) vars
+  result_is : (by : Step) (x y : ℕ) (vars : Variables) → word_or_fault (operation_of (op.Arithmetic (operator_of by) common) x y) vars ≡ Has (narrow common (operate (operator_of by) common.signed x y)) vars
   result_is st.Increment x y vars = refl
   result_is st.Decrement x y vars = refl
 
@@ -109,24 +109,24 @@ module _ (t : IntType) where
   step_is_update f by x keys vars e = each (keys_of f keys vars)
     where
       at : (key : List KeyPart) (vars : Variables) →
-          moved by an.New x key (word_of (value_at vars x key)) vars
-          ≡ with (number (eval f (converted INT32 common (Constant INT32 1)) vars)) (λ y after. with (given (operation_of (op.Arithmetic (operator_of by) common) (narrow common (word_of (value_at vars x key))) y) after) (updated x key))
+          step_outcome by an.New x key (word_of (value_at vars x key)) vars
+          ≡ with (number (eval f (conversion_node INT32 common (Constant INT32 1)) vars)) (λ y after. with (word_or_fault (operation_of (op.Arithmetic (operator_of by) common) (narrow common (word_of (value_at vars x key))) y) after) (update_outcome x key))
       at key vars =
           let old = word_of (value_at vars x key) in
           let first = narrow common old in
-          let right : eval f (converted INT32 common (Constant INT32 1)) vars ≡ Has (va.Int 1) vars =
+          let right : eval f (conversion_node INT32 common (Constant INT32 1)) vars ≡ Has (va.Int 1) vars =
           converts f INT32 common (Constant INT32 1) vars (int_word 1 (omega arith)) ∙ ap (λ n. Has (va.Int n) vars) one_is
           in
-          let word : held x.holds (stepped by old) ≡ held x.holds (narrow common (operate (operator_of by) common.signed first 1)) =
-          ap (λ (u : DType). held u (stepped by old)) e ∙ sym (step_is by old) ∙ ap (λ (u : DType). held u (narrow common (operate (operator_of by) common.signed first 1))) (sym e)
+          let word : word_as_type x.holds (step_result by old) ≡ word_as_type x.holds (narrow common (operate (operator_of by) common.signed first 1)) =
+          ap (λ (u : DType). word_as_type u (step_result by old)) e ∙ sym (step_is by old) ∙ ap (λ (u : DType). word_as_type u (narrow common (operate (operator_of by) common.signed first 1))) (sym e)
           in
-          ap (λ n. assigned x key (va.Int n) vars) word
-          ∙ sym (ap (λ (o : Outcome ℕ). with o (updated x key)) (result_is by first 1 vars))
-          ∙ sym (ap (λ (o : Outcome Value). with (number o) (λ y after. with (given (operation_of (op.Arithmetic (operator_of by) common) first y) after) (updated x key))) right)
+          ap (λ n. assignment_outcome x key (va.Int n) vars) word
+          ∙ sym (ap (λ (o : Outcome ℕ). with o (update_outcome x key)) (result_is by first 1 vars))
+          ∙ sym (ap (λ (o : Outcome Value). with (number o) (λ y after. with (word_or_fault (operation_of (op.Arithmetic (operator_of by) common) first y) after) (update_outcome x key))) right)
 
       each : (k : Outcome (List KeyPart)) →
-          with k (λ key vars. moved by an.New x key (word_of (value_at vars x key)) vars)
-          ≡ with k (λ key vars. with (number (eval f (converted INT32 common (Constant INT32 1)) vars)) (λ y after. with (given (operation_of (op.Arithmetic (operator_of by) common) (narrow common (word_of (value_at vars x key))) y) after) (updated x key)))
+          with k (λ key vars. step_outcome by an.New x key (word_of (value_at vars x key)) vars)
+          ≡ with k (λ key vars. with (number (eval f (conversion_node INT32 common (Constant INT32 1)) vars)) (λ y after. with (word_or_fault (operation_of (op.Arithmetic (operator_of by) common) (narrow common (word_of (value_at vars x key))) y) after) (update_outcome x key)))
       each (Has key after) = at key after
       each (Faults after) = refl
 
@@ -136,7 +136,7 @@ pub old_is_read : (f : Firing) (by : Step) (x : Variable) (keys : Typeds) (vars 
 old_is_read f by x keys vars = each (keys_of f keys vars)
   where
     each : (k : Outcome (List KeyPart)) →
-        with k (λ key vars. moved by an.Old x key (word_of (value_at vars x key)) vars)
-        ≡ with_after (variables_after (with k (λ key vars. moved by an.New x key (word_of (value_at vars x key)) vars))) (number (with k (λ key vars. Has (value_at vars x key) vars)))
+        with k (λ key vars. step_outcome by an.Old x key (word_of (value_at vars x key)) vars)
+        ≡ with_after (variables_after (with k (λ key vars. step_outcome by an.New x key (word_of (value_at vars x key)) vars))) (number (with k (λ key vars. Has (value_at vars x key) vars)))
     each (Has key after) = refl
     each (Faults after) = refl

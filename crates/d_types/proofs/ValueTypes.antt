@@ -5,9 +5,9 @@ use Rattle.std.proofs.lemmas.Bool.{cases_lt}
 use Rattle.std.proofs.lemmas.Int.{ints}
 use Rattle.std.proofs.lemmas.Nat.{mod_below, pow_pos}
 use Rattle.d_values.specs.declared.int_type.IntType.{IntType}
-use Rattle.d_values.specs.Numbers.{typed, wrap, bits_of}
+use Rattle.d_values.specs.Numbers.{number_of_bits, wrap, bits_of}
 use Rattle.d_values.specs.Types.{INT32, UINT64}
-use Rattle.d_values.specs.Words.{extended, narrow}
+use Rattle.d_values.specs.Words.{sign_extension, narrow}
 use Rattle.d_values.proofs.Lawful.{wrapped, one_number}
 use Rattle.d_values.proofs.Narrowing.{extended_high, extended_low, extended_plain}
 use Rattle.d_values.proofs.Residues.{bits_of-read}
@@ -24,19 +24,19 @@ bits_of-below : (n : ℕ) → n < 2 ^ 64 → bits_of (pos n) ≡ n
 bits_of-below n small = omega arith
 
 module _ (t : IntType) (low : ℕ) (small : low < 2 ^ t.width) where
-  plain : t.signed ≡ false → extended t low ≡ bits_of (typed t low)
+  plain : t.signed ≡ false → sign_extension t low ≡ bits_of (number_of_bits t low)
   plain unsigned =
       extended_plain t low unsigned ∙ sym (bits_of-below low (omega (arith, (sizes t.width t.known).within))) ∙ ap bits_of (sym (typed_plain t low unsigned))
 
-  signed : t.signed ≡ true → extended t low ≡ bits_of (typed t low)
+  signed : t.signed ≡ true → sign_extension t low ≡ bits_of (number_of_bits t low)
   signed is = elim (cases_lt low (2 ^ (t.width - 1))) [
     | inl under ↦ extended_low t low under ∙ sym (bits_of-below low (omega (arith, (sizes t.width t.known).within))) ∙ ap bits_of (sym (typed_low t low under))
     | inr over ↦ extended_high t low is over ∙ sym (bits_of-below_zero low (2 ^ t.width) small (sizes t.width t.known).within)
         ∙ ap bits_of (sym (typed_high t low is over))
   ]
 
-  extended_is : extended t low ≡ bits_of (typed t low)
-  extended_is = elim t.signed as (λ s. t.signed ≡ s → extended t low ≡ bits_of (typed t low)) [ true ↦ signed | false ↦ plain ] refl
+  extended_is : sign_extension t low ≡ bits_of (number_of_bits t low)
+  extended_is = elim t.signed as (λ s. t.signed ≡ s → sign_extension t low ≡ bits_of (number_of_bits t low)) [ true ↦ signed | false ↦ plain ] refl
 
 -- what is narrowed to a type is a word of it
 pub narrow_is : (t : IntType) (word : ℕ) → IsWord t (narrow t word)

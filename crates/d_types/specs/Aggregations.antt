@@ -1,6 +1,6 @@
 -- The typed tree of an aggregation statement, or its first fault.
 use Rattle.std.specs.Prelude.{ℕ, ◌+◌, ◌==◌, ◌&&◌, nat_le, Bool, true, false, if◌then◌else◌, List, [], ◌∷◌, ◌++◌, length, Option, Some, None, Result, Ok, ℤ, pos, neg_ℤ}
-use Rattle.d_types.specs.Vocabulary.{bytes_eq, int_eq, option_map, Int, Text, linear_range, UnaryOperator, Constant, Tree, Trees, DType, AggFn, MOST_KEYS, Aggregating}
+use Rattle.d_types.specs.Vocabulary.{bytes_eq, int_eq, option_map, Int, Text, linear_range, UnaryOperator, Constant, Tree, Trees, DType, AggFn, MOST_KEYS, MOST_STEP, Aggregating}
 use Rattle.d_types.specs.Faults.{Fault, ◌>>=◌, refuse, unless, Undeclared, Mismatch, Keys, AggregationRedefined, LquantizeBounds}
 use Rattle.d_types.specs.Typed.{Typed, Typeds, end, more, type_of, Action, Aggregate, Agg, Aggs}
 use Rattle.d_types.specs.Variables.{Rows, kinds_of, fit}
@@ -15,7 +15,15 @@ number_in (Constant.Text bytes) = None
 -- a constant's value, the type aside
 abbrev pub number : Tree → Option ℕ
 number (Tree.Known line c) = number_in c
-number t = None
+number (Tree.Read x keys) = None
+number (Tree.Unary line op a) = None
+number (Tree.Cast line to a) = None
+number (Tree.Call line name args) = None
+number (Tree.Before line by x keys) = None
+number (Tree.After x keys by) = None
+number (Tree.Binary op a b) = None
+number (Tree.Choice a b d) = None
+number (Tree.Assign op x keys a) = None
 
 abbrev pub positive : Option ℕ → Option ℤ
 positive None = None
@@ -27,16 +35,26 @@ negative (Some v) = if nat_le v 2147483648 then Some (neg_ℤ (pos v)) else None
 
 abbrev pub minus_bound : UnaryOperator → Tree → Option ℤ
 minus_bound UnaryOperator.Negate a = negative (number a)
-minus_bound op a = None
+minus_bound UnaryOperator.Not a = None
+minus_bound UnaryOperator.Complement a = None
+minus_bound UnaryOperator.Keep a = None
 
 -- a constant from -2^31 to 2^31 - 1, perhaps with one minus
 abbrev pub bound : Tree → Option ℤ
+bound (Tree.Known line c) = positive (number_in c)
 bound (Tree.Unary line op a) = minus_bound op a
-bound t = positive (number t)
+bound (Tree.Read x keys) = None
+bound (Tree.Cast line to a) = None
+bound (Tree.Call line name args) = None
+bound (Tree.Before line by x keys) = None
+bound (Tree.After x keys by) = None
+bound (Tree.Binary op a b) = None
+bound (Tree.Choice a b d) = None
+bound (Tree.Assign op x keys a) = None
 
 abbrev pub small : Option ℕ → Option ℕ
 small None = None
-small (Some v) = if nat_le v 65535 then Some v else None
+small (Some v) = if nat_le v MOST_STEP then Some v else None
 
 abbrev pub step : Tree → Option ℕ
 step t = small (number t)

@@ -4,7 +4,7 @@ use Rattle.std.specs.Option.{option_or}
 use Rattle.d_types.specs.Vocabulary.{decimal, cast_signed, w64, Contribution, contribution, DType, KeyPart, Value, Firing, Effect}
 use Rattle.d_types.specs.Typed.{Typed, Typeds, end, more, type_of, ActionOf, Action, Evaluate, Trace, Print, Exit, Aggregate, ClauseMeant}
 use Rattle.d_types.specs.Expressions.{Outcome, Has, Faults, with, number, eval, keys_of}
-use Rattle.d_types.specs.{Storage.Variables, Printing.traced, Printing.printed}
+use Rattle.d_types.specs.{Storage.Variables, Printing.trace_line, Printing.printf_text}
 
 -- ---- evaluation
 
@@ -31,21 +31,22 @@ by_trees f = record { value = eval f; values = values_of f; key = keys_of f; typ
 
 module _ {E Es : Type 0} (by : Evaluation E Es) where
   -- what an aggregating function is given, as a signed number; 0 where it takes nothing
-  abbrev pub given_by : Option E → Variables → Outcome ℤ
-  given_by None vars = Has (pos 0) vars
-  given_by (Some a) vars = with (number (by.value a vars)) (λ word. Has (cast_signed w64 word))
+  abbrev pub argument_by : Option E → Variables → Outcome ℤ
+  argument_by None vars = Has (pos 0) vars
+  argument_by (Some a) vars = with (number (by.value a vars)) (λ word. Has (cast_signed w64 word))
 
   -- what a statement does beside its assignments, or the fault
   abbrev pub effect_by : ActionOf E Es → Variables → Outcome Effect
   effect_by (Evaluate a) vars = with (by.value a vars) (λ x. Has Effect.Nothing)
-  effect_by (Trace a) vars = with (by.value a vars) (λ x. Has (Effect.Says (traced (by.type a) x)))
+  effect_by (Trace a) vars = with (by.value a vars) (λ x. Has
+      (Effect.Says (trace_line (by.type a) x)))
   effect_by (Print format arguments) vars =
-      with (by.values arguments vars) (λ values. Has (Effect.Says (printed format values)))
+      with (by.values arguments vars) (λ values. Has (Effect.Says (printf_text format values)))
   effect_by (Exit a) vars =
       with (number (by.value a vars)) (λ word. Has (Effect.Exits (word % 256)))
   effect_by (Aggregate place keys argument) vars =
       with (by.key keys vars)
-      (λ key vars. with (given_by argument vars) (λ z. Has (Effect.Adds place key z)))
+      (λ key vars. with (argument_by argument vars) (λ z. Has (Effect.Adds place key z)))
 
 -- ---- statements
 
@@ -55,31 +56,33 @@ pub record Ran : Type 0 where
   pub faulted : Bool
   pub variables : Variables
 
-abbrev pub ran : List Effect → Bool → Variables → Ran
-ran effects faulted vars = record { effects = effects; faulted = faulted; variables = vars }
+abbrev pub run_with : List Effect → Bool → Variables → Ran
+run_with effects faulted vars = record { effects = effects; faulted = faulted; variables = vars }
 
 -- an effect, and then those of the statements after; or the fault, which ends them
-abbrev pub followed : Outcome Effect → (Variables → Ran) → Ran
-followed (Has effect vars) go =
-    let rest = go vars in ran (effect ∷ rest.effects) rest.faulted rest.variables
-followed (Faults vars) go = ran [] true vars
+abbrev pub effect_then : Outcome Effect → (Variables → Ran) → Ran
+effect_then (Has effect vars) go =
+    let rest = go vars in run_with (effect ∷ rest.effects) rest.faulted rest.variables
+effect_then (Faults vars) go = run_with [] true vars
 
 -- the statements in order, up to the first that faults
 abbrev pub statements_by : {E Es : Type 0} → Evaluation E Es → List (ActionOf E Es) → Variables
     → Ran
-statements_by by [] vars = ran [] false vars
-statements_by by (action ∷ rest) vars = followed (effect_by by action vars) (statements_by by rest)
+statements_by by [] vars = run_with [] false vars
+statements_by by (action ∷ rest) vars = effect_then (effect_by by action vars)
+    (statements_by by rest)
 
 -- the statements where the predicate isn't 0
 abbrev pub where_true : Outcome ℕ → (Variables → Ran) → Ran
-where_true (Has zero vars) go = ran [] false vars
+where_true (Has zero vars) go = run_with [] false vars
 where_true (Has (suc n) vars) go = go vars
-where_true (Faults vars) go = ran [] true vars
+where_true (Faults vars) go = run_with [] true vars
 
-abbrev pub guarded_by : {E Es : Type 0} → Evaluation E Es → Option E → (Variables → Ran) → Variables
+abbrev pub where_predicate : {E Es : Type 0} → Evaluation E Es → Option E → (Variables → Ran)
+    → Variables
     → Ran
-guarded_by by None go vars = go vars
-guarded_by by (Some a) go vars = where_true (number (by.value a vars)) go
+where_predicate by None go vars = go vars
+where_predicate by (Some a) go vars = where_true (number (by.value a vars)) go
 
 -- ---- a run
 
@@ -113,8 +116,8 @@ fault_line number place =
     ++ (decimal number ++ (codes " clause " ++ (decimal place ++ codes ": divide-by-zero\n")))
 
 -- a fault's line stands in place of all texts
-abbrev pub made : List ℕ → Ran → Made
-made line all = record {
+abbrev pub run_result : List ℕ → Ran → Made
+run_result line all = record {
   texts = if all.faulted then line ∷ [] else texts_in all.effects;
   contributions = contributions_in all.effects;
   exit = exit_in all.effects;
@@ -139,12 +142,12 @@ and_then a b = record {
 abbrev pub run_by : {E Es : Type 0} → Evaluation E Es → List ℕ → Option E → List (ActionOf E Es)
     → Variables → Made
 run_by by line predicate statements vars =
-    made line (guarded_by by predicate (statements_by by statements) vars)
+    run_result line (where_predicate by predicate (statements_by by statements) vars)
 
 -- ---- typed trees
 
-abbrev pub given_of : Firing → Option Typed → Variables → Outcome ℤ
-given_of f = given_by (by_trees f)
+abbrev pub argument_value : Firing → Option Typed → Variables → Outcome ℤ
+argument_value f = argument_by (by_trees f)
 
 abbrev pub effect_of : Firing → Action → Variables → Outcome Effect
 effect_of f = effect_by (by_trees f)

@@ -9,9 +9,9 @@ pub use Rattle.d_values.specs.Outcomes.{Outcome, Has, Faults, with}
 -- ---- how an evaluation ends
 
 -- the operator's word, or the fault at a divisor of zero
-abbrev pub given : Result ℕ OutOfZero → Variables → Outcome ℕ
-given (Ok word) vars = Has word vars
-given (Err e) vars = Faults vars
+abbrev pub word_or_fault : Result ℕ OutOfZero → Variables → Outcome ℕ
+word_or_fault (Ok word) vars = Has word vars
+word_or_fault (Err e) vars = Faults vars
 
 -- ---- values
 
@@ -74,34 +74,34 @@ works_in (Operation.Arithmetic o t) = t
 works_in (Operation.Shift o t) = t
 
 -- the word as one of the variable's type
-abbrev pub held : DType → ℕ → ℕ
-held (DType.Int t) word = narrow t word
-held DType.Text word = word
+abbrev pub word_as_type : DType → ℕ → ℕ
+word_as_type (DType.Int t) word = narrow t word
+word_as_type DType.Text word = word
 
-abbrev pub stepped : Step → ℕ → ℕ
-stepped Step.Increment word = sum_of word 1
-stepped Step.Decrement word = difference_of word 1
+abbrev pub step_result : Step → ℕ → ℕ
+step_result Step.Increment word = sum_of word 1
+step_result Step.Decrement word = difference_of word 1
 
 -- before the variable the new value, after it the old one
-abbrev pub answered : Answer → ℕ → ℕ → ℕ
-answered Answer.New old new = new
-answered Answer.Old old new = old
+abbrev pub step_value : Answer → ℕ → ℕ → ℕ
+step_value Answer.New old new = new
+step_value Answer.Old old new = old
 
 -- ---- variables
 
 -- the variable gets the value, and the expression has it
-abbrev pub assigned : Variable → List KeyPart → Value → Variables → Outcome Value
-assigned x key value vars = Has value (set vars x key value)
+abbrev pub assignment_outcome : Variable → List KeyPart → Value → Variables → Outcome Value
+assignment_outcome x key value vars = Has value (set vars x key value)
 
 -- the variable gets the word, as one of its type
-abbrev pub updated : Variable → List KeyPart → ℕ → Variables → Outcome Value
-updated x key word = assigned x key (Value.Int (held x.holds word))
+abbrev pub update_outcome : Variable → List KeyPart → ℕ → Variables → Outcome Value
+update_outcome x key word = assignment_outcome x key (Value.Int (word_as_type x.holds word))
 
 -- the variable moves by one from the word that it has
-abbrev pub moved : Step → Answer → Variable → List KeyPart → ℕ → Variables → Outcome Value
-moved step answer x key old vars =
-    let new = held x.holds (stepped step old) in
-    Has (Value.Int (answered answer old new)) (set vars x key (Value.Int new))
+abbrev pub step_outcome : Step → Answer → Variable → List KeyPart → ℕ → Variables → Outcome Value
+step_outcome step answer x key old vars =
+    let new = word_as_type x.holds (step_result step old) in
+    Has (Value.Int (step_value answer old new)) (set vars x key (Value.Int new))
 
 -- ---- expressions
 
@@ -115,7 +115,7 @@ abbrev mutual
   eval f (Unary o t a) vars = with (number (eval f a vars)) (λ x. Has (Value.Int (unary_of o t x)))
   eval f (Operate o a b) vars =
       with (number (eval f a vars)) (λ x vars. with (number (eval f b vars))
-      (λ y vars. integer (given (operation_of o x y) vars)))
+      (λ y vars. integer (word_or_fault (operation_of o x y) vars)))
   eval f (Compare o t a b) vars =
       with (number (eval f a vars)) (λ x vars. with (number (eval f b vars))
       (λ y. Has (Value.Int (truth (holds_of o (order_of t x y))))))
@@ -136,15 +136,16 @@ abbrev mutual
   eval f (Convert t u a) vars = with (number (eval f a vars)) (λ x. Has (Value.Int (narrow u x)))
   -- the keys, then the right side, then the change
   eval f (Assign x keys a) vars =
-      with (keys_of f keys vars) (λ key vars. with (eval f a vars) (assigned x key))
+      with (keys_of f keys vars) (λ key vars. with (eval f a vars) (assignment_outcome x key))
   -- the variable is read before the right side is evaluated
   eval f (Update o x keys a) vars =
       with (keys_of f keys vars) (λ key vars. with (number (eval f a vars)) (λ y after.
-      with (given (operation_of o (narrow (works_in o) (word_of (value_at vars x key))) y) after)
-      (updated x key)))
+      with (word_or_fault
+      (operation_of o (narrow (works_in o) (word_of (value_at vars x key))) y) after)
+      (update_outcome x key)))
   eval f (Count step answer x keys) vars =
       with (keys_of f keys vars)
-      (λ key vars. moved step answer x key (word_of (value_at vars x key)) vars)
+      (λ key vars. step_outcome step answer x key (word_of (value_at vars x key)) vars)
   eval f (Strlen a) vars = with (text (eval f a vars)) (λ x. Has (Value.Int (length x)))
   eval f (Strjoin a b) vars =
       with (text (eval f a vars))

@@ -79,18 +79,18 @@ is_outside Place.Outside = true
 is_outside place = false
 
 -- nothing is left open
-abbrev pub closed : Place → List Piece → Option (List Piece)
-closed place done = if is_outside place then Some done else None
+abbrev pub pieces_at_end : Place → List Piece → Option (List Piece)
+pieces_at_end place done = if is_outside place then Some done else None
 
-abbrev pub provided : {A B : Type 0} → Option A → (A → Option B) → Option B
-provided None go = None
-provided (Some x) go = go x
+abbrev pub option_then : {A B : Type 0} → Option A → (A → Option B) → Option B
+option_then None go = None
+option_then (Some x) go = go x
 
 -- the pieces of the rest, after those that are done
 abbrev pub pieces_from : List Piece → Place → List ℕ → Option (List Piece)
-pieces_from done place [] = closed place done
+pieces_from done place [] = pieces_at_end place done
 pieces_from done place (b ∷ bs) =
-    provided (turn place b) λ t. pieces_from (with_piece done t.1) t.0 bs
+    option_then (turn place b) λ t. pieces_from (with_piece done t.1) t.0 bs
 
 -- the pieces of a format, if it has only known conversions
 abbrev pub pieces : List ℕ → Option (List Piece)

@@ -4,7 +4,7 @@ use Rattle.d_types.specs.Vocabulary.{Step, IntType, KeyPart, ArithmeticOperator,
 use Rattle.d_types.specs.Typed.{Typed, Constant, Text, Fixed, Read, Unary, Operate, Compare, CompareText, Logic, Choice, Convert, Assign, Update, Count, Strlen, Strjoin, Typeds, end, more}
 use Rattle.d_types.specs.Storage.{Variables, value_at}
 use Rattle.d_types.specs.Expressions.{Outcome, Has, Faults, with, works_in, keys_of}
-use Rattle.d_types.specs.{Held.IsOf, Operators.converted}
+use Rattle.d_types.specs.{Held.IsOf, Operators.conversion_node}
 
 -- `/` or `%`
 abbrev pub is_division : Operation → Bool
@@ -85,7 +85,7 @@ HoldsItsType f x keys vars =
 -- `x[keys] op e` as a value of the type t of x
 abbrev pub in_place : Operation → IntType → Variable → Typeds → Typed → Typed
 in_place o t x keys e =
-    converted (works_in o) t (Operate o (converted t (works_in o) (Read x keys)) e)
+    conversion_node (works_in o) t (Operate o (conversion_node t (works_in o) (Read x keys)) e)
 
 -- the operator of `++` and of `--`
 abbrev pub operator_of : Step → ArithmeticOperator
@@ -96,7 +96,7 @@ operator_of Step.Decrement = ArithmeticOperator.Subtract
 abbrev pub one_more : Step → IntType → Variable → Typeds → Typed
 one_more by t x keys =
     Update (Operation.Arithmetic (operator_of by) (common_of t INT32)) x keys
-    (converted INT32 (common_of t INT32) (Constant INT32 1))
+    (conversion_node INT32 (common_of t INT32) (Constant INT32 1))
 
 -- what there is, as an integer, with these variables after it
 abbrev pub with_after : Variables → Outcome ℕ → Outcome Value

@@ -13,8 +13,9 @@ need_of_two a b = max a (1 + b)
 
 -- && and || go on with nothing kept
 abbrev pub need_of_logic : LogicOperator → ℕ → ℕ → ℕ
+need_of_logic LogicOperator.And a b = max a b
 need_of_logic LogicOperator.Xor a b = need_of_two a b
-need_of_logic _ a b = max a b
+need_of_logic LogicOperator.Or a b = max a b
 
 abbrev mutual
   pub need : Typed → ℕ

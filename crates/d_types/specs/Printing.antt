@@ -19,12 +19,12 @@ low_in DType.Text word = word
 
 -- ---- trace: the number in decimal with its sign, or the text, and a line feed
 
-abbrev pub shown : DType → Value → List ℕ
-shown t (Value.Int word) = signed_decimal (number_in t word)
-shown t (Value.Text bytes) = bytes
+abbrev pub value_text : DType → Value → List ℕ
+value_text t (Value.Int word) = signed_decimal (number_in t word)
+value_text t (Value.Text bytes) = bytes
 
-abbrev pub traced : DType → Value → List ℕ
-traced t value = shown t value ++ 10 ∷ []
+abbrev pub trace_line : DType → Value → List ℕ
+trace_line t value = value_text t value ++ 10 ∷ []
 
 -- ---- printf
 
@@ -33,31 +33,39 @@ sign_of n = if int_lt n (pos 0) then 45 ∷ [] else []
 
 -- in the conversion's width: put left, or right after zeros that follow the sign, or right after
 -- spaces
-abbrev pub placed : Conversion → Bool → List ℕ → List ℕ → List ℕ
-placed c zeros sign body =
+abbrev pub text_in_width : Conversion → Bool → List ℕ → List ℕ → List ℕ
+text_in_width c zeros sign body =
     let room = c.width - (length sign + length body) in
     if c.left then sign ++ body ++ replicate room 32
     else if zeros then sign ++ replicate room 48 ++ body
     else replicate room 32 ++ sign ++ body
 
-abbrev pub number_placed : Conversion → ℤ → List ℕ
-number_placed c n = placed c c.zeros (sign_of n) (decimal (unsigned_abs n))
+abbrev pub number_in_width : Conversion → ℤ → List ℕ
+number_in_width c n = text_in_width c c.zeros (sign_of n) (decimal (unsigned_abs n))
 
 abbrev pub digits_of : Letter → ℕ → List ℕ
 digits_of Letter.Hexadecimal n = digits 16 false n
 digits_of Letter.Octal n = digits 8 false n
-digits_of _ n = decimal n
+digits_of Letter.Signed n = decimal n
+digits_of Letter.Unsigned n = decimal n
+digits_of Letter.Text n = decimal n
+
+abbrev pub digits_in_width : Letter → Conversion → DType → Value → List ℕ
+digits_in_width letter c t value =
+    text_in_width c c.zeros [] (digits_of letter (low_in t (word_of value)))
 
 -- an argument by the conversion's letter
-abbrev pub written : Letter → Conversion → DType → Value → List ℕ
-written Letter.Signed c t value = number_placed c (number_in t (word_of value))
-written Letter.Text c t value = placed c false [] (bytes_of value)
-written letter c t value = placed c c.zeros [] (digits_of letter (low_in t (word_of value)))
+abbrev pub conversion_text : Letter → Conversion → DType → Value → List ℕ
+conversion_text Letter.Signed c t value = number_in_width c (number_in t (word_of value))
+conversion_text Letter.Text c t value = text_in_width c false [] (bytes_of value)
+conversion_text Letter.Unsigned c t value = digits_in_width Letter.Unsigned c t value
+conversion_text Letter.Hexadecimal c t value = digits_in_width Letter.Hexadecimal c t value
+conversion_text Letter.Octal c t value = digits_in_width Letter.Octal c t value
 
 -- the pieces of the format, each conversion with the next argument
-abbrev pub printed : List Piece → List (DType × Value) → List ℕ
-printed [] values = []
-printed (Piece.Byte b ∷ format) values = b ∷ printed format values
-printed (Piece.Argument c ∷ format) [] = printed format []
-printed (Piece.Argument c ∷ format) ((t, value) ∷ values) =
-    written c.letter c t value ++ printed format values
+abbrev pub printf_text : List Piece → List (DType × Value) → List ℕ
+printf_text [] values = []
+printf_text (Piece.Byte b ∷ format) values = b ∷ printf_text format values
+printf_text (Piece.Argument c ∷ format) [] = printf_text format []
+printf_text (Piece.Argument c ∷ format) ((t, value) ∷ values) =
+    conversion_text c.letter c t value ++ printf_text format values

@@ -5,7 +5,7 @@ use Rattle.d_parser.specs.declared.tree.Variable.{Variable}
 use Rattle.d_types.specs.Vocabulary.{Int, Text, Step, Tree, Trees, IntType, DType, INT64, promoted_of, common_of, Answer, BuiltIn, Space, Operation, BinarySort, AssignSort, Callee}
 use Rattle.d_types.specs.Typed.{Typed, Typeds, end, more, type_of}
 use Rattle.d_types.specs.Variables.{Rows, find, type_at, keys_fit, set_type}
-use Rattle.d_types.specs.{Constants.int_type, Words.built_in, Words.callee_named, Needs.count, Operators.binary_sort, Operators.assign_sort, Operators.converted, Targets.most_keys, Targets.new_row, Targets.settled, Targets.space_of, Targets.type_at_once, Typing.constant}
+use Rattle.d_types.specs.{Constants.int_type, Words.built_in, Words.callee_named, Needs.count, Operators.binary_sort, Operators.assign_sort, Operators.conversion_node, Targets.most_keys, Targets.new_row, Targets.settle_slot, Targets.space_of, Targets.type_at_once, Typing.constant}
 
 abbrev pub IsInteger : Typed → IntType → Type 0
 IsInteger x t = type_of x ≡ Int t
@@ -19,15 +19,17 @@ IsText x = type_of x ≡ Text
 abbrev pub Joins : BinarySort → Typed → Typed → Typed → Type 0
 Joins (BinarySort.Arithmetic op) x y z =
     (t : IntType) × (u : IntType) × IsInteger x t × IsInteger y u
-    × (z ≡ Typed.Operate (Operation.Arithmetic op (common_of t u)) (converted t (common_of t u) x)
-    (converted u (common_of t u) y))
+    × (z ≡ Typed.Operate (Operation.Arithmetic op (common_of t u))
+    (conversion_node t (common_of t u) x)
+    (conversion_node u (common_of t u) y))
 Joins (BinarySort.Shift op) x y z =
     (t : IntType) × (u : IntType) × IsInteger x t × IsInteger y u
-    × (z ≡ Typed.Operate (Operation.Shift op (promoted_of t)) (converted t (promoted_of t) x) y)
+    × (z ≡ Typed.Operate (Operation.Shift op (promoted_of t))
+    (conversion_node t (promoted_of t) x) y)
 Joins (BinarySort.Compare op) x y z =
     ((t : IntType) × (u : IntType) × IsInteger x t × IsInteger y u
-    × (z ≡ Typed.Compare op (common_of t u) (converted t (common_of t u) x)
-    (converted u (common_of t u) y)))
+    × (z ≡ Typed.Compare op (common_of t u) (conversion_node t (common_of t u) x)
+    (conversion_node u (common_of t u) y)))
     ⊎ (IsText x × IsText y × (z ≡ Typed.CompareText op x y))
 Joins (BinarySort.Logic op) x y z =
     (t : IntType) × (u : IntType) × IsInteger x t × IsInteger y u × (z ≡ Typed.Logic op x y)
@@ -36,8 +38,8 @@ Joins (BinarySort.Logic op) x y z =
 abbrev pub Chooses : Typed → Typed → Typed → Typed → Type 0
 Chooses x y w z =
     ((c : IntType) × (t : IntType) × (u : IntType) × IsInteger x c × IsInteger y t × IsInteger w u
-    × (z ≡ Typed.Choice (Int (common_of t u)) x (converted t (common_of t u) y)
-    (converted u (common_of t u) w)))
+    × (z ≡ Typed.Choice (Int (common_of t u)) x (conversion_node t (common_of t u) y)
+    (conversion_node u (common_of t u) w)))
     ⊎ ((c : IntType) × IsInteger x c × IsText y × IsText w × (z ≡ Typed.Choice Text x y w))
 
 -- ---- variables that are read
@@ -64,7 +66,7 @@ Places space name rows t keys slot after =
     × (slot ≡ length rows)
     × (after ≡ rows ++ new_row space name t keys ∷ []))
     ⊎ ((find space name rows ≡ Some slot) × (keys_fit rows slot keys ≡ true)
-    × (after ≡ settled (type_at rows slot) slot t rows))
+    × (after ≡ settle_slot (type_at rows slot) slot t rows))
 
 -- only variables of threads and of clauses are assigned
 abbrev pub Targets : Rows → Variable → Option DType → Typeds → ℕ → Rows → Type 0
@@ -76,7 +78,7 @@ Targets rows (Variable.Clause line name) t keys slot after =
 
 -- y is x as a value of the type
 abbrev pub Fits : Typed → DType → Typed → Type 0
-Fits x (Int u) y = (t : IntType) × IsInteger x t × (y ≡ converted t u x)
+Fits x (Int u) y = (t : IntType) × IsInteger x t × (y ≡ conversion_node t u x)
 Fits x Text y = IsText x × (y ≡ x)
 
 -- z assigns x to the slot
@@ -90,7 +92,8 @@ Stores AssignSort.Set space slot keys x rows z after =
 Stores (AssignSort.Arithmetic op) space slot keys x rows z after =
     (t : IntType) × (u : IntType) × (type_at rows slot ≡ Some (Int t)) × IsInteger x u
     × (z ≡ Typed.Update (Operation.Arithmetic op (common_of t u))
-    (record { space = space; slot = slot; holds = Int t }) keys (converted u (common_of t u) x))
+    (record { space = space; slot = slot; holds = Int t }) keys (conversion_node u
+    (common_of t u) x))
     × (after ≡ rows)
 Stores (AssignSort.Shift op) space slot keys x rows z after =
     (t : IntType) × (u : IntType) × (type_at rows slot ≡ Some (Int t)) × IsInteger x u
@@ -125,10 +128,10 @@ abbrev mutual
       (ks : Typeds) × AllTypes rows args ks after × Calls f ks z
   Types rows (Tree.Unary line op a) z after =
       (x : Typed) × (t : IntType) × Types rows a x after × IsInteger x t
-      × (z ≡ Typed.Unary op (promoted_of t) (converted t (promoted_of t) x))
+      × (z ≡ Typed.Unary op (promoted_of t) (conversion_node t (promoted_of t) x))
   Types rows (Tree.Cast line to a) z after =
       (x : Typed) × (t : IntType) × Types rows a x after × IsInteger x t
-      × (z ≡ converted t (int_type to) x)
+      × (z ≡ conversion_node t (int_type to) x)
   Types rows (Tree.Before line by v keys) z after =
       (ks : Typeds) × (slot : ℕ) × (mid : Rows)
       × AllTypes rows keys ks mid × Targets mid v (Some (Int INT64)) ks slot after

@@ -54,7 +54,8 @@ abbrev pub statements : List Action → Rows → Aggs → List StmtTree
     → Result (List Action × (Rows × Aggs)) Fault
 statements done rows aggs [] = Ok (done, (rows, aggs))
 statements done rows aggs (t ∷ rest) =
-    statement rows aggs t >>= λ a. statements (done ++ a.0 ∷ []) a.1.0 a.1.1 rest
+    statement rows aggs t >>= λ (a, after).
+    let (rows, aggs) = after in statements (done ++ a ∷ []) rows aggs rest
 
 -- a clause's predicate comes before its statements
 abbrev pub clause : Rows → Aggs → ClauseTree → Result (ClauseMeant × (Rows × Aggs)) Fault
@@ -73,13 +74,16 @@ item done rows aggs (ItemTree.Probing c) = clause rows aggs c >>= λ a. Ok (done
 abbrev pub items : List ClauseMeant → Rows → Aggs → List ItemTree
     → Result (List ClauseMeant × (Rows × Aggs)) Fault
 items done rows aggs [] = Ok (done, (rows, aggs))
-items done rows aggs (t ∷ rest) = item done rows aggs t >>= λ a. items a.0 a.1.0 a.1.1 rest
+items done rows aggs (t ∷ rest) =
+    item done rows aggs t >>= λ (done, after).
+    let (rows, aggs) = after in items done rows aggs rest
 
 -- what a script means, or its first fault
 abbrev pub script : List ItemTree → Result ScriptMeant Fault
 script all =
-    items [] [] [] all >>= λ x.
-    Ok (record { clauses = x.0; aggregations = x.1.1; slots = types_in x.1.0 })
+    items [] [] [] all >>= λ (clauses, after).
+    let (rows, aggs) = after in
+    Ok (record { clauses = clauses; aggregations = aggs; slots = types_in rows })
 
 -- some script means this, with at most 65,536 descriptions, statements, and declarations with
 -- places of variables, and with numbers below 2 ^ 64

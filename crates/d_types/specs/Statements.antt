@@ -39,7 +39,16 @@ not_printed line rows args = wholes end rows args >>= λ k. refuse PrintfArgumen
 
 abbrev pub text_of : Tree → Option (List ℕ)
 text_of (Tree.Known l (Constant.Text bytes)) = Some bytes
-text_of t = None
+text_of (Tree.Known l (Constant.Number v suffix)) = None
+text_of (Tree.Read x keys) = None
+text_of (Tree.Unary line op a) = None
+text_of (Tree.Cast line to a) = None
+text_of (Tree.Call line name args) = None
+text_of (Tree.Before line by x keys) = None
+text_of (Tree.After x keys by) = None
+text_of (Tree.Binary op a b) = None
+text_of (Tree.Choice a b d) = None
+text_of (Tree.Assign op x keys a) = None
 
 abbrev pub print_by : Option (List ℕ) → ℕ → Rows → Tree → Trees → Result (Action × Rows) Fault
 print_by (Some format) line rows first rest = print_with line rows format rest
@@ -59,9 +68,19 @@ abbrev pub call_statement : Option Callee → ℕ → List ℕ → Rows → Tree
 call_statement (Some Callee.Trace) line name rows args = trace line rows args
 call_statement (Some Callee.Exit) line name rows args = exit line rows args
 call_statement (Some Callee.Printf) line name rows args = print line rows args
-call_statement callee line name rows args = evaluate rows (Tree.Call line name args)
+call_statement (Some Callee.Strlen) line name rows args = evaluate rows (Tree.Call line name args)
+call_statement (Some Callee.Strjoin) line name rows args = evaluate rows (Tree.Call line name args)
+call_statement None line name rows args = evaluate rows (Tree.Call line name args)
 
 -- an expression that stands as a statement
 abbrev pub action : Rows → Tree → Result (Action × Rows) Fault
 action rows (Tree.Call line name args) = call_statement (callee_named name) line name rows args
-action rows t = evaluate rows t
+action rows (Tree.Known line c) = evaluate rows (Tree.Known line c)
+action rows (Tree.Read x keys) = evaluate rows (Tree.Read x keys)
+action rows (Tree.Unary line op a) = evaluate rows (Tree.Unary line op a)
+action rows (Tree.Cast line to a) = evaluate rows (Tree.Cast line to a)
+action rows (Tree.Before line by x keys) = evaluate rows (Tree.Before line by x keys)
+action rows (Tree.After x keys by) = evaluate rows (Tree.After x keys by)
+action rows (Tree.Binary op a b) = evaluate rows (Tree.Binary op a b)
+action rows (Tree.Choice a b d) = evaluate rows (Tree.Choice a b d)
+action rows (Tree.Assign op x keys a) = evaluate rows (Tree.Assign op x keys a)

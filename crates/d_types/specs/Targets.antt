@@ -4,7 +4,7 @@ use Rattle.d_parser.specs.declared.tree.Variable.{Variable}
 use Rattle.d_types.specs.Vocabulary.{Int, Step, IntType, DType, INT64, promoted_of, common_of, Answer, BuiltIn, Space, Operation, MOST_KEYS, AssignSort}
 use Rattle.d_types.specs.Faults.{Fault, refuse, GlobalAssignment, Undeclared, Keys, ReadOnly}
 use Rattle.d_types.specs.Variables.{Row, Rows, find, type_at, keys_fit, set_type, kinds_of}
-use Rattle.d_types.specs.{Typed.Typed, Typed.Typeds, Typed.end, Typed.more, Typed.type_of, Needs.count, Words.built_in, Operators.as_type, Operators.converted}
+use Rattle.d_types.specs.{Typed.Typed, Typed.Typeds, Typed.end, Typed.more, Typed.type_of, Needs.count, Words.built_in, Operators.as_type, Operators.conversion_node}
 
 -- the line of a variable's first token
 abbrev pub line_of_variable : Variable → ℕ
@@ -53,9 +53,9 @@ most_keys Space.Thread = MOST_KEYS
 most_keys Space.Clause = 0
 
 -- gives a slot its type where it has none
-abbrev pub settled : Option DType → ℕ → Option DType → Rows → Rows
-settled None slot (Some t) rows = set_type slot t rows
-settled _ slot _ rows = rows
+abbrev pub settle_slot : Option DType → ℕ → Option DType → Rows → Rows
+settle_slot None slot (Some t) rows = set_type slot t rows
+settle_slot _ slot _ rows = rows
 
 abbrev pub new_row : Space → List ℕ → Option DType → Typeds → Row
 new_row space name t keys = record { space = space; word = name; keys = kinds_of keys; holds = t }
@@ -68,7 +68,7 @@ slot_for space line name rows t keys None =
     then Ok (length rows, rows ++ new_row space name t keys ∷ [])
     else refuse Keys line
 slot_for space line name rows t keys (Some slot) =
-    if keys_fit rows slot keys then Ok (slot, settled (type_at rows slot) slot t rows)
+    if keys_fit rows slot keys then Ok (slot, settle_slot (type_at rows slot) slot t rows)
     else refuse Keys line
 
 -- a variable that is assigned, with the type that it has from here on, if any
@@ -90,19 +90,20 @@ abbrev pub type_at_once : AssignSort → Option DType
 type_at_once AssignSort.Set = None
 type_at_once sort = Some (Int INT64)
 
-abbrev pub stored : Space → ℕ → DType → Typeds → Rows → Option Typed → Option (Typed × Rows)
-stored space slot t keys rows None = None
-stored space slot t keys rows (Some x) =
+abbrev pub store_node : Space → ℕ → DType → Typeds → Rows → Option Typed → Option (Typed × Rows)
+store_node space slot t keys rows None = None
+store_node space slot t keys rows (Some x) =
     Some (Typed.Assign (record { space = space; slot = slot; holds = t }) keys x, rows)
 
 -- `=` gives the type of its right side where there is none yet
 abbrev pub store : Space → Option DType → ℕ → Typeds → Typed → Rows → Option (Typed × Rows)
 store space None slot keys x rows =
-    stored space slot (type_of x) keys (set_type slot (type_of x) rows) (Some x)
-store space (Some t) slot keys x rows = stored space slot t keys rows (as_type (type_of x) t x)
+    store_node space slot (type_of x) keys (set_type slot (type_of x) rows) (Some x)
+store space (Some t) slot keys x rows = store_node space slot t keys rows (as_type (type_of x) t x)
 
-abbrev pub updated : Operation → Space → ℕ → IntType → Typeds → Typed → Rows → Option (Typed × Rows)
-updated op space slot t keys x rows =
+abbrev pub update_node : Operation → Space → ℕ → IntType → Typeds → Typed → Rows → Option (Typed
+    × Rows)
+update_node op space slot t keys x rows =
     Some (Typed.Update op (record { space = space; slot = slot; holds = Int t }) keys x, rows)
 
 -- an assignment to a slot of the first type of a value of the second
@@ -110,10 +111,10 @@ abbrev pub assignment : AssignSort → Space → Option DType → DType → ℕ 
     → Option (Typed × Rows)
 assignment AssignSort.Set space t k slot keys x rows = store space t slot keys x rows
 assignment (AssignSort.Arithmetic op) space (Some (Int t)) (Int u) slot keys x rows =
-    updated (Operation.Arithmetic op (common_of t u)) space slot t keys
-    (converted u (common_of t u) x) rows
+    update_node (Operation.Arithmetic op (common_of t u)) space slot t keys
+    (conversion_node u (common_of t u) x) rows
 assignment (AssignSort.Shift op) space (Some (Int t)) (Int u) slot keys x rows =
-    updated (Operation.Shift op (promoted_of t)) space slot t keys x rows
+    update_node (Operation.Shift op (promoted_of t)) space slot t keys x rows
 assignment _ space t k slot keys x rows = None
 
 -- `++` and `--`

@@ -74,7 +74,9 @@ type_of_built_in BuiltIn.Probename = DType.Text
 
 abbrev pub type_of_unary : UnaryOperator → IntType → DType
 type_of_unary UnaryOperator.Not t = DType.Int INT32
-type_of_unary _ t = DType.Int t
+type_of_unary UnaryOperator.Complement t = DType.Int t
+type_of_unary UnaryOperator.Negate t = DType.Int t
+type_of_unary UnaryOperator.Keep t = DType.Int t
 
 abbrev pub type_of_operation : Operation → DType
 type_of_operation (Operation.Arithmetic o t) = DType.Int t

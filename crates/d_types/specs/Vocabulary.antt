@@ -2,6 +2,7 @@
 pub use Rattle.aggregations.specs.LinearRanges.{linear_range}
 pub use Rattle.aggregations.specs.Table.{Contribution, contribution}
 pub use Rattle.aggregations.specs.declared.function.AggFn.{AggFn}
+pub use Rattle.aggregations.specs.declared.linear_range.TheConstants.{MOST_STEP}
 pub use Rattle.d_lexer.specs.declared.fault.TheConstants.{MOST_BYTES}
 pub use Rattle.d_lexer.specs.declared.token.Suffix.{Suffix}
 pub use Rattle.d_parser.specs.Numbers.{AreSmall}

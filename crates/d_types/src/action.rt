@@ -1,7 +1,7 @@
 //! Expressions that stand as statements, and actions.
 
-ghost use Rattle.std.specs.Prelude.{◌≡◌, IfOk, option_map};
-ghost use Rattle.d_types.specs.{Vocabulary.tree_of, Vocabulary.trees_of, Vocabulary.Tree, Faults.Gives, Typed.typed_of, Typed.typeds_of, Typed.action_of, Typed.Typeds, Variables.rows_of, Words.callee_named};
+ghost use Rattle.std.specs.Prelude.{◌≡◌, option_map};
+ghost use Rattle.d_types.specs.{Vocabulary.tree_of, Vocabulary.trees_of, Vocabulary.Tree, Faults.Gives, Typed.typeds_of, Typed.action_of, Typed.Typeds, Variables.rows_of, Words.callee_named};
 ghost use Rattle.d_types.specs.Statements as spec;
 
 use crate::calls::only;
@@ -120,7 +120,19 @@ fn text_of(e: &Expr) -> Option<&ByteString>
             constant: Constant::Text(bytes),
             ..
         } => Some(bytes),
-        _ => None,
+        Expr::Constant {
+            constant: Constant::Number { .. },
+            ..
+        }
+        | Expr::Read(_)
+        | Expr::Call { .. }
+        | Expr::Unary { .. }
+        | Expr::Cast { .. }
+        | Expr::Before { .. }
+        | Expr::After { .. }
+        | Expr::Binary { .. }
+        | Expr::Choice { .. }
+        | Expr::Assign { .. } => None,
     }
 }
 
@@ -182,6 +194,14 @@ pub(crate) fn action(
             };
             call_statement(alloc, table, call, e)
         }
-        _ => evaluate(alloc, table, e),
+        Expr::Constant { .. }
+        | Expr::Read(_)
+        | Expr::Unary { .. }
+        | Expr::Cast { .. }
+        | Expr::Before { .. }
+        | Expr::After { .. }
+        | Expr::Binary { .. }
+        | Expr::Choice { .. }
+        | Expr::Assign { .. } => evaluate(alloc, table, e),
     }
 }

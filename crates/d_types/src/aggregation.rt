@@ -10,7 +10,7 @@ use crate::targets::copy_of;
 use crate::typed::{TypedAggregation, TypedExpr, TypedStmt};
 use crate::variables::{Entry, MOST_KEYS, fit, kinds_of};
 use crate::words::{Aggregating, aggregating_named};
-use aggregations::{AggFn, LinearRange};
+use aggregations::{AggFn, LinearRange, MOST_STEP};
 use d_lexer::ByteString;
 use d_parser::{Constant, Expr, UnaryOperator};
 use d_values::DType;
@@ -24,7 +24,19 @@ fn number_of(e: &Expr) -> Option<u64>
             constant: Constant::Number { value, .. },
             ..
         } => Some(*value),
-        _ => None,
+        Expr::Constant {
+            constant: Constant::Text(_),
+            ..
+        }
+        | Expr::Read(_)
+        | Expr::Call { .. }
+        | Expr::Unary { .. }
+        | Expr::Cast { .. }
+        | Expr::Before { .. }
+        | Expr::After { .. }
+        | Expr::Binary { .. }
+        | Expr::Choice { .. }
+        | Expr::Assign { .. } => None,
     }
 }
 
@@ -56,7 +68,19 @@ fn bound(e: &Expr) -> Option<i32>
             operand,
             ..
         } => negative(number_of(operand)),
-        _ => positive(number_of(e)),
+        Expr::Unary {
+            operator: UnaryOperator::Not | UnaryOperator::Complement | UnaryOperator::Keep,
+            ..
+        } => None,
+        Expr::Constant { .. } => positive(number_of(e)),
+        Expr::Read(_)
+        | Expr::Call { .. }
+        | Expr::Cast { .. }
+        | Expr::Before { .. }
+        | Expr::After { .. }
+        | Expr::Binary { .. }
+        | Expr::Choice { .. }
+        | Expr::Assign { .. } => None,
     }
 }
 
@@ -64,7 +88,7 @@ fn step(e: &Expr) -> Option<u16>
     ensures { result ≡ spec.step (tree_of e.now) }
 {
     match number_of(e) {
-        Some(value) if value <= 65535 => Some(value as u16),
+        Some(value) if value <= MOST_STEP as u64 => Some(value as u16),
         _ => None,
     }
 }

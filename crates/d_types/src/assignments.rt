@@ -12,7 +12,7 @@ use crate::targets::variable_at;
 use crate::typed::{Answer, Operation, Space, TypedExpr, Variable};
 use crate::variables::{Entry, set_type, type_at};
 use d_parser::{IntegerType, Step};
-use d_values::{DType, common, promoted};
+use d_values::{DType, common, promotion_of};
 use std::alloc::Global;
 
 /// What is assigned: the variable of a slot, under its keys.
@@ -122,7 +122,7 @@ pub(crate) fn assignment(
         }
         (AssignSort::Shift(op), Some(DType::Int(t)), DType::Int(_)) => {
             let variable = variable_at(space, slot, DType::Int(t))?;
-            let operation = Operation::Shift(op, promoted(t));
+            let operation = Operation::Shift(op, promotion_of(t));
             Ok(Some(update_of(alloc, operation, variable, keys, x)?))
         }
         _ => Ok(None),

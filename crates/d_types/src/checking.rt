@@ -1,6 +1,6 @@
 //! From scripts to typed scripts.
 
-ghost use Rattle.std.specs.Prelude.{◌≡◌, [], map, IfOk};
+ghost use Rattle.std.specs.Prelude.{[], map, IfOk};
 ghost use Rattle.d_types.specs.{Vocabulary.AreSmall, Vocabulary.IsWithin, Vocabulary.item_of, Vocabulary.script_of, Faults.Gives, Fitting.ScriptFits, Typed.ScriptMeant, Typed.meant_of, Typed.aggs_of, TypedScripts.typed_script_of, Variables.rows_of, WellTyped.IsWell};
 ghost use Rattle.d_types.specs.Scripts as spec;
 
@@ -63,7 +63,7 @@ fn typed_script(alloc: Global, script: Script) -> Result<TypedScript, TypeFault>
     match items(alloc, &mut table, &mut aggs, &script.items) {
         Ok(clauses) => {
             let slots = types_in(alloc, &table)?;
-            Ok(TypedScript::known(clauses, aggs, slots))
+            Ok(TypedScript::from_parts(clauses, aggs, slots))
         }
         Err(fault) => Err(fault),
     }

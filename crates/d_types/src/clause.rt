@@ -1,7 +1,7 @@
 //! Clauses and their statements.
 
 ghost use Rattle.std.specs.Prelude.{[], Some};
-ghost use Rattle.d_types.specs.{Vocabulary.tree_of, Vocabulary.stmt_of, Vocabulary.stmts_of, Vocabulary.predicate_of, Vocabulary.clause_of, Faults.Gives, Typed.typed_of, Typed.action_of, Typed.actions_of, Typed.argument_of, Typed.meant_of, Typed.aggs_of, Variables.rows_of};
+ghost use Rattle.d_types.specs.{Vocabulary.tree_of, Vocabulary.stmt_of, Vocabulary.stmts_of, Vocabulary.predicate_of, Vocabulary.clause_of, Faults.Gives, Typed.action_of, Typed.actions_of, Typed.argument_of, Typed.meant_of, Typed.aggs_of, Variables.rows_of};
 ghost use Rattle.d_types.specs.Scripts as spec;
 
 use crate::action::action;

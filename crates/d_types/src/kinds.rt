@@ -34,7 +34,11 @@ impl TypedExpr {
             TypedExpr::BuiltIn(built_in) => type_of_built_in(*built_in),
             TypedExpr::Read(variable, _) => variable.holds,
             TypedExpr::Unary(UnaryOperator::Not, _, _) => integer(IntegerType::Int32),
-            TypedExpr::Unary(_, t, _) => DType::Int(*t),
+            TypedExpr::Unary(
+                UnaryOperator::Complement | UnaryOperator::Negate | UnaryOperator::Keep,
+                t,
+                _,
+            ) => DType::Int(*t),
             TypedExpr::Operate(Operation::Arithmetic(_, t), _, _) => DType::Int(*t),
             TypedExpr::Operate(Operation::Shift(_, t), _, _) => DType::Int(*t),
             TypedExpr::Compare(_, _, _, _) => integer(IntegerType::Int32),

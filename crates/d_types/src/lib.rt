@@ -37,6 +37,3 @@ pub use typed::{
 };
 pub use typed_script::TypedScript;
 pub use variables::{MOST_KEYS, kind_of};
-
-#[cfg(test)]
-mod tests;

@@ -72,7 +72,9 @@ pub(crate) fn fits(e: &TypedExpr, registers: usize) -> bool
         | TypedExpr::Logic(LogicOperator::Xor, a, b) => {
             fits(a, registers) && value_fits(b, 1, registers)
         }
-        TypedExpr::Logic(_, a, b) => fits(a, registers) && fits(b, registers),
+        TypedExpr::Logic(LogicOperator::And | LogicOperator::Or, a, b) => {
+            fits(a, registers) && fits(b, registers)
+        }
         TypedExpr::Choice(_, c, a, b) => {
             fits(c, registers) && fits(a, registers) && fits(b, registers)
         }

@@ -8,7 +8,7 @@ use crate::fault::TypeFault;
 use crate::operators::BinarySort;
 use crate::typed::{Operation, TypedExpr};
 use d_parser::UnaryOperator;
-use d_values::{DType, IntType, common, promoted};
+use d_values::{DType, IntType, common, promotion_of};
 use std::alloc::Global;
 
 /// An integer as one of another type.
@@ -18,7 +18,7 @@ pub(crate) fn convert(
     to: IntType,
     x: TypedExpr,
 ) -> Result<TypedExpr, TypeFault>
-    ensures ok { IfOk result (λ y. typed_of y ≡ spec.converted from to (typed_of x)) }
+    ensures ok { IfOk result (λ y. typed_of y ≡ spec.conversion_node from to (typed_of x)) }
     ensures err { OnlyMemory result }
 {
     if from == to {
@@ -56,8 +56,8 @@ pub(crate) fn unary(
 {
     match x.type_of() {
         DType::Int(t) => {
-            let x = convert(alloc, t, promoted(t), x)?;
-            Ok(Some(TypedExpr::Unary(operator, promoted(t), Box::new(alloc, x)?)))
+            let x = convert(alloc, t, promotion_of(t), x)?;
+            Ok(Some(TypedExpr::Unary(operator, promotion_of(t), Box::new(alloc, x)?)))
         }
         DType::Text => Ok(None),
     }
@@ -96,8 +96,8 @@ pub(crate) fn binary(
             operate(alloc, Operation::Arithmetic(op, common(t, u)), x, y)
         }
         (BinarySort::Shift(op), DType::Int(t), DType::Int(_)) => {
-            let x = convert(alloc, t, promoted(t), x)?;
-            operate(alloc, Operation::Shift(op, promoted(t)), x, y)
+            let x = convert(alloc, t, promotion_of(t), x)?;
+            operate(alloc, Operation::Shift(op, promotion_of(t)), x, y)
         }
         (BinarySort::Compare(op), DType::Int(t), DType::Int(u)) => {
             let x = convert(alloc, t, common(t, u), x)?;

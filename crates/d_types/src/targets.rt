@@ -1,6 +1,6 @@
 //! Variables that are read and assigned.
 
-ghost use Rattle.std.specs.Prelude.{◌≡◌, ◌≤◌, ◌++◌, ◌∷◌, [], IfOk, OnOk, length};
+ghost use Rattle.std.specs.Prelude.{◌≡◌, ◌++◌, ◌∷◌, [], IfOk, OnOk, length};
 ghost use Rattle.d_types.specs.{Faults.Gives, Faults.OnlyMemory, Typed.typed_of, Typed.typeds_of, Typed.Typed, Variables.rows_of, Variables.Rows, Variables.find, Variables.type_at};
 ghost use Rattle.d_types.specs.Targets as spec;
 
@@ -146,7 +146,7 @@ fn most_keys(space: Space) -> usize
 
 fn settle(table: &mut [Entry], slot: usize, holds: Option<DType>)
     ensures { rows_of table.new
-        ≡ spec.settled (type_at (rows_of table.old) slot) slot holds (rows_of table.old) }
+        ≡ spec.settle_slot (type_at (rows_of table.old) slot) slot holds (rows_of table.old) }
 {
     if type_at(table, slot).is_none() {
         if let Some(holds) = holds {
@@ -240,25 +240,10 @@ pub(crate) fn target(
         d_parser::Variable::Plain { line, name } => {
             plain_target(alloc, *line, name, built_in(name.as_slice()), keys)
         }
-        d_parser::Variable::Thread { line, name } => {
-            let (space, line) = (Space::Thread, *line);
-            slot_for(
-                alloc,
-                table,
-                VariableName { space, line, name },
-                holds,
-                keys,
-            )
-        }
-        d_parser::Variable::Clause { line, name } => {
-            let (space, line) = (Space::Clause, *line);
-            slot_for(
-                alloc,
-                table,
-                VariableName { space, line, name },
-                holds,
-                keys,
-            )
+        d_parser::Variable::Thread { line, name } | d_parser::Variable::Clause { line, name } => {
+            let (space, line) = (space_of(variable), *line);
+            let variable = VariableName { space, line, name };
+            slot_for(alloc, table, variable, holds, keys)
         }
     }
 }

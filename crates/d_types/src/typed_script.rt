@@ -21,7 +21,7 @@ pub struct TypedScript {
 }
 
 impl TypedScript {
-    pub(crate) fn known(
+    pub(crate) fn from_parts(
         clauses: Vec<TypedClause>,
         aggregations: Vec<TypedAggregation>,
         slots: Vec<Option<DType>>,

@@ -1,6 +1,6 @@
 //! The table of variables.
 
-ghost use Rattle.std.specs.Prelude.{◌≡◌, ◌≤◌, ◌<◌, ◌^◌, ◌++◌, ◌∷◌, [], Some, None, OnOk, IfOk, IfSome, length, map};
+ghost use Rattle.std.specs.Prelude.{◌≡◌, ◌<◌, [], Some, None, IfOk, map};
 ghost use Rattle.d_types.specs.{Variables.rows_of, Typed.typeds_of};
 ghost use Rattle.d_types.specs.Variables as spec;
 

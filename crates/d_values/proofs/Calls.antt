@@ -5,7 +5,7 @@ use Rattle.std.proofs.lemmas.Bool.Decides.{nat_tests}
 use Rattle.std.proofs.lemmas.Int.{ints}
 use Rattle.std.specs.Int.{cast_signed, w64}
 use Rattle.std.specs.Ordering.{nat_cmp, int_cmp}
-use Rattle.d_values.specs.Words.{narrow, operate, shifted, difference_of, shift_of, opposite_of, complement_of, order_of}
+use Rattle.d_values.specs.Words.{narrow, operate, shift_result, difference_of, shift_of, opposite_of, complement_of, order_of}
 use Rattle.d_values.specs.Numbers.{number_of, read, bits_of, modulo, wrap, whole_of, whole_shift_of}
 use Rattle.d_values.specs.declared.int_type.IntType.{IntType}
 use Rattle.d_values.specs.declared.operators.ArithmeticOperator.{ArithmeticOperator}
@@ -24,7 +24,7 @@ computed op t a b sa sb = number-narrow t (whole_of op (number_of t a) (number_o
 pub shifts : (op : ShiftOperator) (t : IntType) (a count : ℕ) → a < 2 ^ 64
     → number_of t (shift_of op t a count) ≡ wrap t (whole_shift_of op (number_of t a) (count % t.width))
 shifts op t a count small =
-    number-narrow t (whole_shift_of op (number_of t a) (count % t.width)) (shifted op t.signed a (count % t.width)) (moved op t.signed a (count % t.width) small)
+    number-narrow t (whole_shift_of op (number_of t a) (count % t.width)) (shift_result op t.signed a (count % t.width)) (moved op t.signed a (count % t.width) small)
 
 pub counts : (t c : IntType) (count : ℕ) → count < 2 ^ 64 → count % t.width ≡ modulo (number_of c count) t.width
 counts t c count small = ap (λ n. n % t.width) (sym (bits_of-read c.signed count small)) ∙ modulo-width (number_of c count) t.width t.known

@@ -6,7 +6,7 @@ use Rattle.std.proofs.lemmas.Bool.Decides.{nat_tests}
 use Rattle.std.proofs.lemmas.Int.{ints}
 use Rattle.std.proofs.lemmas.Nat.{pow_pos}
 use Rattle.std.proofs.Math.Nat.{mod-eq_of_lt, mod-lt}
-use Rattle.d_values.specs.Numbers.{modulo, typed, wrap, least_of, bound_of, IsNumber, IsWrapped}
+use Rattle.d_values.specs.Numbers.{modulo, number_of_bits, wrap, least_of, bound_of, IsNumber, IsWrapped}
 use Rattle.d_values.specs.Stores.{with_local, with_own}
 use Rattle.d_values.specs.Variables.{same_var, same_var_decides}
 use Rattle.d_values.specs.Keys.{same_key}
@@ -49,8 +49,8 @@ module _ (t : IntType) (low : ℕ) (small : low < 2 ^ t.width) where
     number : IsNumber t n
     same : modulo n (2 ^ t.width) ≡ low
 
-  fine : Fine (typed t low)
-  fine = elim t.signed as (λ s. t.signed ≡ s → Fine (typed t low)) [
+  fine : Fine (number_of_bits t low)
+  fine = elim t.signed as (λ s. t.signed ≡ s → Fine (number_of_bits t low)) [
     | true ↦ λ signed. elim (cases_lt low (2 ^ (t.width - 1))) [
       | inl under ↦ subst Fine (sym (typed_low t low under)) (record {
         number = within t (pos low) (neg_ℤ (pos (2 ^ (t.width - 1)))) (pos (2 ^ (t.width - 1))) (least_signed t signed) (bound_signed t signed) (omega (arith, ints)) (omega (arith, ints));
@@ -88,7 +88,7 @@ own_signed t (negsuc a) signed least below =
     let few : suc a ≤ 2 ^ (t.width - 1) = omega (arith, ints) in
     let low : a % 2 ^ t.width ≡ a = mod-eq_of_lt (omega arith) in
     let bits : modulo (negsuc a) (2 ^ t.width) ≡ 2 ^ t.width - suc a = omega arith in
-    ap (typed t) bits ∙ typed_high t (2 ^ t.width - suc a) signed (omega arith) ∙ (let e : pos (2 ^ t.width - suc a) -ℤ pos (2 ^ t.width) ≡ negsuc a = omega (arith, ints) in e)
+    ap (number_of_bits t) bits ∙ typed_high t (2 ^ t.width - suc a) signed (omega arith) ∙ (let e : pos (2 ^ t.width - suc a) -ℤ pos (2 ^ t.width) ≡ negsuc a = omega (arith, ints) in e)
 
 own : (t : IntType) (n : ℤ) → IsNumber t n → wrap t n ≡ n
 own t n is = elim t.signed as (λ s. t.signed ≡ s → wrap t n ≡ n) [
@@ -97,7 +97,7 @@ own t n is = elim t.signed as (λ s. t.signed ≡ s → wrap t n ≡ n) [
 ] refl
 
 pub one_number : (t : IntType) (z n : ℤ) → IsWrapped t z n → n ≡ wrap t z
-one_number t z n is = sym (own t n is.number) ∙ ap (typed t) is.same
+one_number t z n is = sym (own t n is.number) ∙ ap (number_of_bits t) is.same
 
 -- ---- what is set
 

@@ -4,7 +4,7 @@ use Rattle.std.proofs.Common.{refl, sym, ap, ◌∙◌, arith}
 use Rattle.std.proofs.lemmas.Bool.Decides.{nat_tests}
 use Rattle.std.proofs.lemmas.Nat.{and_mask, one_shl, pow-add, pow_below}
 use Rattle.d_values.specs.Widths.{is_width}
-use Rattle.d_values.specs.Words.{extended, narrow}
+use Rattle.d_values.specs.Words.{sign_extension, narrow}
 use Rattle.d_values.specs.declared.int_type.IntType.{IntType}
 
 pub width_positive : (w : ℕ) → is_width w ≡ true → 0 < w
@@ -20,13 +20,13 @@ low_is word w small = ap (λ s. bit_and word (s - 1)) (one_shl w 64 small) ∙ a
 half_is : (w : ℕ) → 0 < w → w < 64 → 1 * 2 ^ w % 18446744073709551616 / 2 ≡ 2 ^ (w - 1)
 half_is w positive small = ap (λ s. s / 2) (one_shl w 64 small) ∙ (let e : 2 ^ w ≡ 2 ^ (w - 1) * 2 = ap (λ k. 2 ^ k) (omega arith) ∙ pow-add 2 (w - 1) 1 in omega arith)
 
-pub extended_high : (t : IntType) (low : ℕ) → t.signed ≡ true → 2 ^ (t.width - 1) ≤ low → extended t low ≡ low + (2 ^ 64 - 2 ^ t.width)
+pub extended_high : (t : IntType) (low : ℕ) → t.signed ≡ true → 2 ^ (t.width - 1) ≤ low → sign_extension t low ≡ low + (2 ^ 64 - 2 ^ t.width)
 extended_high t low signed high = grind (arith, nat_tests)
 
-pub extended_low : (t : IntType) (low : ℕ) → low < 2 ^ (t.width - 1) → extended t low ≡ low
+pub extended_low : (t : IntType) (low : ℕ) → low < 2 ^ (t.width - 1) → sign_extension t low ≡ low
 extended_low t low below = grind (arith, nat_tests)
 
-pub extended_plain : (t : IntType) (low : ℕ) → t.signed ≡ false → extended t low ≡ low
+pub extended_plain : (t : IntType) (low : ℕ) → t.signed ≡ false → sign_extension t low ≡ low
 extended_plain t low plain = grind (arith, nat_tests)
 
 module _ (t : IntType) (word : ℕ) (other : t.width ≢ 64) where

@@ -8,7 +8,7 @@ use Rattle.std.proofs.lemmas.Nat.{mod_below, and_le_l, or_lt, xor_lt, shr_le}
 use Rattle.std.proofs.Math.Nat.{div-le_self, mod-le}
 use Rattle.std.proofs.Math.Facts.{to_z-neg}
 use Rattle.d_values.specs.Numbers.{modulo, bits_of, read, whole_of, whole_shift_of}
-use Rattle.d_values.specs.Words.{operate, shifted, sum_of, difference_of, product_of}
+use Rattle.d_values.specs.Words.{operate, shift_result, sum_of, difference_of, product_of}
 use Rattle.d_values.specs.declared.operators.ArithmeticOperator.{ArithmeticOperator}
 use Rattle.d_values.specs.declared.operators.ArithmeticOperator.TheVariants.{Multiply, Divide, Remainder, Add, Subtract, BitAnd, BitXor, BitOr}
 use Rattle.d_values.specs.declared.operators.ShiftOperator.{ShiftOperator}
@@ -121,7 +121,7 @@ moved_left a count small =
     ∙ ap (λ x. int_wrap w64 (x *ℤ pos (2 ^ count))) (wrap_word a small))
 
 pub moved : (op : ShiftOperator) (signed : Bool) (a count : ℕ) → a < 2 ^ 64
-    → bits_of (whole_shift_of op (read signed a) count) ≡ shifted op signed a count
+    → bits_of (whole_shift_of op (read signed a) count) ≡ shift_result op signed a count
 moved Left true a count small = moved_left a count small
 moved Left false a count small = refl
 moved Right true a count small = bits_of-small (int_shr (cast_signed w64 a) count) (omega (arith, abs_int_shr (cast_signed w64 a) count, abs_cast_signed a small))

@@ -12,7 +12,7 @@ use Rattle.std.proofs.lemmas.Bool.Decides.{Decides-eqb}
 use Rattle.d_values.specs.declared.variable.Var.{Var}
 use Rattle.d_values.specs.Keys.{same_key}
 use Rattle.d_values.specs.Variables.{same_var, same_var_decides}
-use Rattle.d_values.specs.Stores.{Locals, Own, kind_of, blank, is_blank, kept, local_entry, local_of, AreLocals, with_local, element, own_entry, own_of, AreOwn, with_own}
+use Rattle.d_values.specs.Stores.{Locals, Own, kind_of, blank, is_blank, value_to_keep, local_entry, local_of, AreLocals, with_local, element, own_entry, own_of, AreOwn, with_own}
 use Rattle.d_values.specs.Tables.{pairs_of, value_in, value_at, Sets}
 
 kind_of-blank : (kind : Kind) → kind_of (blank kind) ≡ kind
@@ -31,7 +31,7 @@ pub kind_of-own_of : (own : Own) (var : Var) (key : List KeyPart) → AreOwn own
 kind_of-own_of own var key are = kind_read var.kind (own_entry own var key) (λ value e. (are var key value e).1)
 
 -- what is kept is no blank, and the value itself
-kept_some : (value x : Value) → kept value ≡ Some x → (is_blank x ≡ false) × (x ≡ value)
+kept_some : (value x : Value) → value_to_keep value ≡ Some x → (is_blank x ≡ false) × (x ≡ value)
 kept_some value x e = elim (is_blank value) as (λ b. is_blank value ≡ b → (if b then None else Some value) ≡ Some x → (is_blank x ≡ false) × (x ≡ value)) [
   | true ↦ λ b f. absurd (none f)
   | false ↦ λ b f. (subst (λ v. is_blank v ≡ false) (same f) b, sym (same f))
@@ -49,7 +49,7 @@ blank_is (Text []) e = refl
 blank_is (Text (b ∷ bytes)) e = absurd (true≢false (sym e))
 
 -- what a set variable reads is what was set
-reads_kept : (value : Value) (kind : Kind) → kind_of value ≡ kind → unwrap_or (kept value) (blank kind) ≡ value
+reads_kept : (value : Value) (kind : Kind) → kind_of value ≡ kind → unwrap_or (value_to_keep value) (blank kind) ≡ value
 reads_kept value kind e = elim (is_blank value) as (λ b. is_blank value ≡ b → unwrap_or (if b then None else Some value) (blank kind) ≡ value) [
   | true ↦ λ b. ap blank (sym e) ∙ sym (blank_is value b)
   | false ↦ λ b. refl
@@ -57,14 +57,14 @@ reads_kept value kind e = elim (is_blank value) as (λ b. is_blank value ≡ b �
 
 are_one : (var v : Var) (value x : Value) (o : Option Value) → kind_of value ≡ var.kind
     → ((y : Value) → o ≡ Some y → (is_blank y ≡ false) × (kind_of y ≡ v.kind))
-    → (b : Bool) → (b ≡ true → var ≡ v) → (if b then kept value else o) ≡ Some x → (is_blank x ≡ false) × (kind_of x ≡ v.kind)
+    → (b : Bool) → (b ≡ true → var ≡ v) → (if b then value_to_keep value else o) ≡ Some x → (is_blank x ≡ false) × (kind_of x ≡ v.kind)
 are_one var v value x o kind are true same e =
     let k = kept_some value x e in
     (k.0, ap kind_of k.1 ∙ kind ∙ ap (λ w. w.kind) (same refl))
 are_one var v value x o kind are false same e = are x e
 
 pub AreLocals-set : (old new : Locals) (var : Var) (value : Value) → AreLocals old → kind_of value ≡ var.kind
-    → ((v : Var) → local_entry new v ≡ with_local (local_entry old) var (kept value) v) → AreLocals new
+    → ((v : Var) → local_entry new v ≡ with_local (local_entry old) var (value_to_keep value) v) → AreLocals new
 AreLocals-set old new var value are kind sets v x e =
     are_one var v value x (local_entry old v) kind (are v) (same_var var v) (same_var_decides var v).0 (sym (sets v) ∙ e)
 
@@ -78,24 +78,24 @@ both_same var v key k e = elim (same_var var v) as (λ b. same_var var v ≡ b �
 ] refl e
 
 pub AreOwn-set : (old new : Own) (var : Var) (key : List KeyPart) (value : Value) → AreOwn old → kind_of value ≡ var.kind
-    → ((v : Var) (k : List KeyPart) → own_entry new v k ≡ with_own (own_entry old) var key (kept value) v k) → AreOwn new
+    → ((v : Var) (k : List KeyPart) → own_entry new v k ≡ with_own (own_entry old) var key (value_to_keep value) v k) → AreOwn new
 AreOwn-set old new var key value are kind sets v k x e =
     are_one var v value x (own_entry old v k) kind (are v k) (same_var var v && same_key key k) (both_same var v key k) (sym (sets v k) ∙ e)
 
 read_one : (var v : Var) (value : Value) (o : Option Value) → kind_of value ≡ var.kind → (b : Bool) → (b ≡ true → var ≡ v)
-    → unwrap_or (if b then kept value else o) (blank v.kind) ≡ (if b then value else unwrap_or o (blank v.kind))
+    → unwrap_or (if b then value_to_keep value else o) (blank v.kind) ≡ (if b then value else unwrap_or o (blank v.kind))
 read_one var v value o kind true same = reads_kept value v.kind (kind ∙ ap (λ w. w.kind) (same refl))
 read_one var v value o kind false same = refl
 
 pub own_of-set : (old new : Own) (var : Var) (key : List KeyPart) (value : Value) → kind_of value ≡ var.kind
-    → ((v : Var) (k : List KeyPart) → own_entry new v k ≡ with_own (own_entry old) var key (kept value) v k)
+    → ((v : Var) (k : List KeyPart) → own_entry new v k ≡ with_own (own_entry old) var key (value_to_keep value) v k)
     → own_of new ≡ with_own (own_of old) var key value
 own_of-set old new var key value kind sets i v k =
     (ap (λ o. unwrap_or o (blank v.kind)) (sets v k)
     ∙ read_one var v value (own_entry old v k) kind (same_var var v && same_key key k) (both_same var v key k)) i
 
 pub local_of-set : (old new : Locals) (var : Var) (value : Value) → kind_of value ≡ var.kind
-    → ((v : Var) → local_entry new v ≡ with_local (local_entry old) var (kept value) v)
+    → ((v : Var) → local_entry new v ≡ with_local (local_entry old) var (value_to_keep value) v)
     → local_of new ≡ with_local (local_of old) var value
 local_of-set old new var value kind sets i v =
     (ap (λ o. unwrap_or o (blank v.kind)) (sets v)

@@ -7,8 +7,8 @@ use Rattle.std.proofs.lemmas.Bool.Decides.{nat_tests}
 use Rattle.std.proofs.lemmas.Int.{ints, to_z_pos}
 use Rattle.std.proofs.lemmas.Nat.{mod_below, pow_pos}
 use Rattle.d_values.specs.Widths.{is_width}
-use Rattle.d_values.specs.Words.{extended, narrow}
-use Rattle.d_values.specs.Numbers.{number_of, read, modulo, bits_of, typed, wrap}
+use Rattle.d_values.specs.Words.{sign_extension, narrow}
+use Rattle.d_values.specs.Numbers.{number_of, read, modulo, bits_of, number_of_bits, wrap}
 use Rattle.d_values.specs.declared.int_type.IntType.{IntType}
 use Rattle.d_values.proofs.Residues.{cast_signed-high}
 use Rattle.d_values.proofs.Narrowing.{width_positive, extended_high, extended_low, extended_plain}
@@ -50,13 +50,13 @@ pub sizes : (w : ℕ) → is_width w ≡ true → Sizes w
 sizes = by_width Sizes (record { double = refl; within = omega arith }) (record { double = refl; within = omega arith })
     (record { double = refl; within = omega arith }) (record { double = refl; within = omega arith })
 
-pub typed_plain : (t : IntType) (low : ℕ) → t.signed ≡ false → typed t low ≡ pos low
+pub typed_plain : (t : IntType) (low : ℕ) → t.signed ≡ false → number_of_bits t low ≡ pos low
 typed_plain t low plain = grind (arith, nat_tests)
 
-pub typed_low : (t : IntType) (low : ℕ) → low < 2 ^ (t.width - 1) → typed t low ≡ pos low
+pub typed_low : (t : IntType) (low : ℕ) → low < 2 ^ (t.width - 1) → number_of_bits t low ≡ pos low
 typed_low t low under = grind (arith, nat_tests)
 
-pub typed_high : (t : IntType) (low : ℕ) → t.signed ≡ true → 2 ^ (t.width - 1) ≤ low → typed t low ≡ pos low -ℤ pos (2 ^ t.width)
+pub typed_high : (t : IntType) (low : ℕ) → t.signed ≡ true → 2 ^ (t.width - 1) ≤ low → number_of_bits t low ≡ pos low -ℤ pos (2 ^ t.width)
 typed_high t low signed over = grind (arith, nat_tests)
 
 below_zero : (low size : ℕ) → low < size → size ≤ 2 ^ 64 → size ≤ 2 * low → cast_signed w64 (low + (2 ^ 64 - size)) ≡ pos low -ℤ pos size
@@ -65,23 +65,23 @@ below_zero low size small within over =
     cast_signed-high (low + (2 ^ 64 - size)) (omega arith) (omega arith) ∙ negative
 
 module _ (t : IntType) (low : ℕ) (small : low < 2 ^ t.width) where
-  unsigned_number : t.signed ≡ false → number_of t (extended t low) ≡ typed t low
-  unsigned_number plain = ap (λ s. read s (extended t low)) plain ∙ ap pos (extended_plain t low plain) ∙ sym (typed_plain t low plain)
+  unsigned_number : t.signed ≡ false → number_of t (sign_extension t low) ≡ number_of_bits t low
+  unsigned_number plain = ap (λ s. read s (sign_extension t low)) plain ∙ ap pos (extended_plain t low plain) ∙ sym (typed_plain t low plain)
 
-  signed_number : t.signed ≡ true → number_of t (extended t low) ≡ typed t low
+  signed_number : t.signed ≡ true → number_of t (sign_extension t low) ≡ number_of_bits t low
   signed_number signed =
       let size = sizes t.width t.known in
       elim (cases_lt low (2 ^ (t.width - 1))) [
-        | inl under ↦ ap (λ s. read s (extended t low)) signed ∙ ap (cast_signed w64) (extended_low t low under)
+        | inl under ↦ ap (λ s. read s (sign_extension t low)) signed ∙ ap (cast_signed w64) (extended_low t low under)
             ∙ to_z_pos w64 low (omega (arith, size.double, size.within)) ∙ sym (typed_low t low under)
-        | inr over ↦ ap (λ s. read s (extended t low)) signed ∙ ap (cast_signed w64) (extended_high t low signed over)
+        | inr over ↦ ap (λ s. read s (sign_extension t low)) signed ∙ ap (cast_signed w64) (extended_high t low signed over)
             ∙ below_zero low (2 ^ t.width) small size.within (omega (arith, size.double)) ∙ sym (typed_high t low signed over)
       ]
 
-  number-extended : number_of t (extended t low) ≡ typed t low
-  number-extended = elim t.signed as (λ s. t.signed ≡ s → number_of t (extended t low) ≡ typed t low) [ true ↦ signed_number | false ↦ unsigned_number ] refl
+  number-extended : number_of t (sign_extension t low) ≡ number_of_bits t low
+  number-extended = elim t.signed as (λ s. t.signed ≡ s → number_of t (sign_extension t low) ≡ number_of_bits t low) [ true ↦ signed_number | false ↦ unsigned_number ] refl
 
 pub number-narrow : (t : IntType) (z : ℤ) (word : ℕ) → bits_of z ≡ word → number_of t (narrow t word) ≡ wrap t z
 number-narrow t z word e =
     number-extended t (word % 2 ^ t.width) (mod_below word (2 ^ t.width) (pow_pos t.width))
-    ∙ ap (typed t) (ap (λ n. n % 2 ^ t.width) (sym e) ∙ modulo-modulo z t.width t.known)
+    ∙ ap (number_of_bits t) (ap (λ n. n % 2 ^ t.width) (sym e) ∙ modulo-modulo z t.width t.known)

@@ -20,13 +20,13 @@ abbrev pub modulo : ℤ → ℕ → ℕ
 modulo z m = unsigned_abs (int_rem_euclid z (pos m))
 
 -- the number of the type whose lowest bits are these
-abbrev pub typed : IntType → ℕ → ℤ
-typed t low =
+abbrev pub number_of_bits : IntType → ℕ → ℤ
+number_of_bits t low =
     if t.signed && nat_le (2 ^ (t.width - 1)) low then pos low -ℤ pos (2 ^ t.width) else pos low
 
 -- the one number of the type that equals z modulo 2 ^ width
 abbrev pub wrap : IntType → ℤ → ℤ
-wrap t z = typed t (modulo z (2 ^ t.width))
+wrap t z = number_of_bits t (modulo z (2 ^ t.width))
 
 abbrev pub least_of : IntType → ℤ
 least_of t = if t.signed then neg_ℤ (pos (2 ^ (t.width - 1))) else pos 0

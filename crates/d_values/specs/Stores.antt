@@ -1,5 +1,5 @@
 -- What variables hold.
-use Rattle.std.specs.Prelude.{◌≡◌, ℕ, Bool, true, false, ◌&&◌, ◌==◌, if◌then◌else◌, List, [], ◌∷◌, Option, None, Some, unwrap_or, option_and_then}
+use Rattle.std.specs.Prelude.{◌≡◌, Bool, true, false, ◌&&◌, ◌==◌, if◌then◌else◌, List, [], ◌∷◌, Option, None, Some, unwrap_or}
 use Rattle.d_values.specs.Vocabulary.{lookup, KeyPart, Kind, Value, ValueRef, Var}
 use Rattle.d_values.specs.declared.value.Value.TheVariants.{Int, Text}
 use Rattle.d_values.specs.Keys.{same_key}
@@ -20,8 +20,8 @@ is_blank (Text []) = true
 is_blank (Text (b ∷ bytes)) = false
 
 -- what a map keeps of a value
-abbrev pub kept : Value → Option Value
-kept value = if is_blank value then None else Some value
+abbrev pub value_to_keep : Value → Option Value
+value_to_keep value = if is_blank value then None else Some value
 
 abbrev pub lent_value : ValueRef → Value
 lent_value (ValueRef.Int n) = Int n

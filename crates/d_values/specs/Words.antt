@@ -6,13 +6,13 @@ use Rattle.d_values.specs.declared.operators.ArithmeticOperator.TheVariants.{Mul
 use Rattle.d_values.specs.declared.operators.ShiftOperator.TheVariants.{Left, Right}
 
 -- the lowest bits of a type as a word: ones above them where their sign is set
-abbrev pub extended : IntType → ℕ → ℕ
-extended t low =
+abbrev pub sign_extension : IntType → ℕ → ℕ
+sign_extension t low =
     if t.signed && nat_le (2 ^ (t.width - 1)) low then low + (2 ^ 64 - 2 ^ t.width) else low
 
 -- the word of the type whose lowest bits are those of this one
 abbrev pub narrow : IntType → ℕ → ℕ
-narrow t word = extended t (word % 2 ^ t.width)
+narrow t word = sign_extension t (word % 2 ^ t.width)
 
 -- ---- 64-bit results, before they are narrowed
 
@@ -57,21 +57,26 @@ operate BitOr signed a b = bit_or a b
 
 -- the operator has no value at 0 on its right
 abbrev pub divides : ArithmeticOperator → Bool
+divides Multiply = false
 divides Divide = true
 divides Remainder = true
-divides _ = false
+divides Add = false
+divides Subtract = false
+divides BitAnd = false
+divides BitXor = false
+divides BitOr = false
 
 abbrev pub binary_of : ArithmeticOperator → IntType → ℕ → ℕ → Result ℕ OutOfZero
 binary_of op t a b =
     if divides op && (b == 0) then Err (record {}) else Ok (narrow t (operate op t.signed a b))
 
-abbrev pub shifted : ShiftOperator → Bool → ℕ → ℕ → ℕ
-shifted Left signed a count = left_of a count
-shifted Right signed a count = right_of signed a count
+abbrev pub shift_result : ShiftOperator → Bool → ℕ → ℕ → ℕ
+shift_result Left signed a count = left_of a count
+shift_result Right signed a count = right_of signed a count
 
 -- the count is taken modulo the width
 abbrev pub shift_of : ShiftOperator → IntType → ℕ → ℕ → ℕ
-shift_of op t a count = narrow t (shifted op t.signed a (count % t.width))
+shift_of op t a count = narrow t (shift_result op t.signed a (count % t.width))
 
 abbrev pub opposite_of : IntType → ℕ → ℕ
 opposite_of t a = narrow t (difference_of 0 a)

@@ -1,8 +1,7 @@
 //! Clause-local variables.
 
 ghost use Rattle.std.specs.Prelude.{◌≡◌, [], OnOk, OnErr};
-ghost use Rattle.d_values.specs.Stores.{kind_of, kept, lent_value, local_entry, local_of, with_local};
-ghost use Rattle.d_values.specs.{Vocabulary.Updates, Variables.same_var};
+ghost use Rattle.d_values.specs.{Vocabulary.Updates, Stores.kind_of, Stores.value_to_keep, Stores.lent_value, Stores.local_entry, Stores.local_of, Stores.with_local, Variables.same_var};
 
 use crate::sparse_map::{lend, replace_known};
 use crate::value::{Value, ValueRef};
@@ -69,7 +68,7 @@ impl ClauseLocals {
 
         // Zero and the empty text unset it.
         ensures kept { OnOk result
-            (local_entry self.new ≡ with_local (local_entry self.old) var (kept value)) }
+            (local_entry self.new ≡ with_local (local_entry self.old) var (value_to_keep value)) }
         ensures err { OnErr result (self.new ≡ self.old) }
     {
         put(&mut self.map, var, value)
@@ -78,7 +77,7 @@ impl ClauseLocals {
 
 // Sets a variable's value.
 fn put(map: &mut IndexMap<Var, Value>, var: Var, value: Value) -> Result<(), AllocError>
-    ensures ok { OnOk result (Updates same_var map.old map.new var (kept value)) }
+    ensures ok { OnOk result (Updates same_var map.old map.new var (value_to_keep value)) }
     ensures err { OnErr result (map.new.entries ≡ map.old.entries) }
 {
     if let Some(value) = replace_known(map, &var, value) {

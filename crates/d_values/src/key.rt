@@ -1,8 +1,7 @@
 //! Keys of aggregations and of variables.
 
-ghost use Rattle.std.specs.Prelude.{◌≡◌, ◌↔◌, ◌<◌, ◌++◌, ◌∷◌, [], length, OnOk, OnErr, IsTrue, slice_set};
-ghost use Rattle.std.proofs.Common.{refl, ap};
-ghost use Rattle.d_values.specs.{Vocabulary.partial_equiv_from_equiv, Vocabulary.po, Vocabulary.flat_map, Vocabulary.as_partial_cmp, Keys.part_cmp, Keys.key_cmp, Keys.same_part, Keys.same_key, Keys.part_writes, Keys.DecidesByFirstDifference, KeyLaws.same_part_decides, KeyLaws.same_part_equiv, KeyLaws.part_cmp_total, KeyLaws.part_cmp_ties, KeyLaws.same_key_decides, KeyLaws.same_key_equiv, KeyLaws.key_cmp_total, KeyLaws.key_cmp_ties};
+ghost use Rattle.std.specs.Prelude.{◌≡◌, ◌↔◌, ◌<◌, ◌++◌, ◌∷◌, [], length, OnOk, OnErr, IsTrue, slice_set, refl};
+ghost use Rattle.d_values.specs.{Vocabulary.ap, Vocabulary.partial_equiv_from_equiv, Vocabulary.po, Vocabulary.flat_map, Vocabulary.as_partial_cmp, Keys.part_cmp, Keys.key_cmp, Keys.same_part, Keys.same_key, Keys.part_writes, Keys.DecidesByFirstDifference, KeyLaws.same_part_decides, KeyLaws.same_part_equiv, KeyLaws.part_cmp_total, KeyLaws.part_cmp_ties, KeyLaws.same_key_decides, KeyLaws.same_key_equiv, KeyLaws.key_cmp_total, KeyLaws.key_cmp_ties};
 
 use crate::text::Text;
 use std::alloc::{AllocError, Global};
@@ -127,8 +126,7 @@ pub struct Key {
 }
 
 impl Model for Key {
-    ghost use Rattle.std.specs.Prelude.{List};
-    ghost use Rattle.d_values.specs.declared.key.KeyPart.{KeyPart};
+    ghost use Rattle.d_values.specs.Vocabulary.{KeyPart, List};
 
     ghost Value = { List KeyPart };
 
@@ -166,7 +164,14 @@ impl Key {
         self.parts.as_slice()
     }
 
-    /// Adds a part at the right.
+    /// Adds a part at the right. Where memory was refused the key stays as it was.
+    ///
+    /// ```text
+    /// let mut key = Key::new(alloc);
+    /// key.push(KeyPart::Number(7))?;
+    /// key.push(KeyPart::Name(Text::from_slice(alloc, b"cat")?))?;
+    /// key.parts(); // the number 7 and the text `cat`
+    /// ```
     pub fn push(&mut self, part: KeyPart) -> Result<(), AllocError>
         ensures ok { OnOk result (self.new ≡ self.old ++ part ∷ []) }
         ensures err { OnErr result (self.new ≡ self.old) }

@@ -1,11 +1,11 @@
 //! What holds of all numbers and variables, in other words than the definitions'.
 
-ghost use Rattle.std.specs.Prelude.{◌≡◌, ◌≢◌, ◌/◌, ◌<◌, ℤ, pos, ◌+ℤ◌, ◌*ℤ◌, int_div, int_rem, unsigned_abs, List};
+ghost use Rattle.std.specs.Prelude.{◌≡◌, ◌≢◌, ◌/◌, ◌<◌, ℤ, ◌+ℤ◌, ◌*ℤ◌, int_div, int_rem, unsigned_abs, List};
 ghost use Rattle.d_values.specs.Vocabulary.{IntType, KeyPart, Value, Var};
 ghost use Rattle.d_values.specs.{Numbers.wrap, Numbers.IsWrapped, Stores.with_local, Stores.with_own};
 
 /// What is wrapped into a type is a number of it, and the same modulo two to the width.
-pub fn wrapped()
+pub fn wrap_lies_in_type()
     ensures { (t : IntType) (z : ℤ) → IsWrapped t z (wrap t z) }
 {}
 

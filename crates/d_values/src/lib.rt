@@ -25,17 +25,10 @@ pub use comparison::{compare, compare_text};
 pub use int_type::{DType, IntType};
 pub use key::{Key, KeyPart};
 pub use operators::{ArithmeticOperator, ComparisonOperator, ShiftOperator};
-pub use promotion::{common, promoted};
+pub use promotion::{common, promotion_of};
 pub use shifts::shift;
 pub use text::{Text, join_text};
 pub use thread_table::ThreadTable;
 pub use value::{Kind, Value, ValueRef};
 pub use variable::Var;
 pub use word::{complement, convert, negate};
-
-#[cfg(test)]
-mod number_tests;
-#[cfg(test)]
-mod table_tests;
-#[cfg(test)]
-mod tests;

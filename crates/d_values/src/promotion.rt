@@ -10,7 +10,7 @@ use crate::int_type::IntType;
 /// ```text
 /// promoted(IntType::UINT8); // INT32
 /// ```
-pub fn promoted(t: IntType) -> IntType
+pub fn promotion_of(t: IntType) -> IntType
     ensures { result ≡ promoted_of t }
 {
     if t.width < 32 { IntType::INT32 } else { t }
@@ -33,7 +33,7 @@ fn rank(t: IntType) -> u8
 pub fn common(a: IntType, b: IntType) -> IntType
     ensures { result ≡ common_of a b }
 {
-    let a = promoted(a);
-    let b = promoted(b);
+    let a = promotion_of(a);
+    let b = promotion_of(b);
     if rank(a) < rank(b) { b } else { a }
 }

@@ -2,7 +2,7 @@
 
 ghost use Rattle.std.specs.Prelude.{◌≡◌, ◌<◌, ◌%◌};
 ghost use Rattle.d_values.specs.Numbers.{number_of, modulo, wrap, whole_shift_of};
-ghost use Rattle.d_values.specs.{Vocabulary.IntType, Words.shifted, Words.right_of, Words.shift_of};
+ghost use Rattle.d_values.specs.{Vocabulary.IntType, Words.shift_result, Words.right_of, Words.shift_of};
 
 use crate::int_type::IntType;
 use crate::operators::ShiftOperator;
@@ -32,7 +32,7 @@ pub fn shift(op: ShiftOperator, t: IntType, a: u64, count: u64) -> u64
 // The shift in 64 bits.
 fn shift_word(op: ShiftOperator, signed: bool, a: u64, count: u32) -> u64
     requires { count < 64 }
-    ensures { result ≡ shifted op signed a count }
+    ensures { result ≡ shift_result op signed a count }
 {
     match op {
         ShiftOperator::Left => a.wrapping_shl(count),

@@ -2,7 +2,7 @@
 
 ghost use Rattle.std.specs.Prelude.{◌≡◌, false, None, unwrap_or, IfNone, IfSome};
 ghost use Rattle.indexmap.specs.IndexMap.{get, Updates, IsUnchanged};
-ghost use Rattle.d_values.specs.Stores.{blank, is_blank, kept, lent_value};
+ghost use Rattle.d_values.specs.Stores.{blank, is_blank, value_to_keep, lent_value};
 
 use crate::value::{Kind, Value, ValueRef};
 use indexmap::IndexMap;
@@ -29,7 +29,7 @@ pub(crate) fn replace_known<K: Eq + Hash + Drop, S: BuildHasher>(
     key: &K,
     value: Value,
 ) -> Option<Value>
-    ensures done { IfNone result (Updates K.eq map.old map.new key.now (kept value)) }
+    ensures done { IfNone result (Updates K.eq map.old map.new key.now (value_to_keep value)) }
     ensures same { IfSome result (λ v. v ≡ value) }
     ensures some { IfSome result (λ v. is_blank v ≡ false) }
     ensures absent { IfSome result (λ v. get K.eq map.old key.now ≡ None) }

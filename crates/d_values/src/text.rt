@@ -1,8 +1,7 @@
 //! Texts: byte strings that contracts see as lists of bytes.
 
-ghost use Rattle.std.specs.Prelude.{◌≡◌, ◌↔◌, [], ◌∷◌, IfOk, OnOk, OnErr, IsTrue};
-ghost use Rattle.std.proofs.Common.{refl, ap};
-ghost use Rattle.d_values.specs.{Vocabulary.partial_equiv_from_equiv, Vocabulary.po, Vocabulary.as_partial_cmp, Texts.same_text, Texts.text_cmp, Texts.same_text_decides, Texts.same_text_equiv, Texts.text_cmp_total, Texts.text_cmp_ties, Texts.joined_text};
+ghost use Rattle.std.specs.Prelude.{◌≡◌, ◌↔◌, [], ◌∷◌, IfOk, OnOk, OnErr, IsTrue, refl};
+ghost use Rattle.d_values.specs.{Vocabulary.ap, Vocabulary.partial_equiv_from_equiv, Vocabulary.po, Vocabulary.as_partial_cmp, Texts.same_text, Texts.text_cmp, Texts.same_text_decides, Texts.same_text_equiv, Texts.text_cmp_total, Texts.text_cmp_ties, Texts.joined_text};
 
 use std::alloc::{AllocError, Global};
 use std::cmp::Ordering;
@@ -34,7 +33,11 @@ impl Text {
         }
     }
 
-    /// A copy of the bytes.
+    /// A copy of the bytes. Err where memory was refused.
+    ///
+    /// ```text
+    /// Text::from_slice(alloc, b"cat")?.as_bytes(); // b"cat"
+    /// ```
     pub fn from_slice(alloc: Global, bytes: &[u8]) -> Result<Text, AllocError>
         ensures { IfOk result (λ t. t ≡ bytes.now) }
     {

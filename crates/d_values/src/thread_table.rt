@@ -1,8 +1,7 @@
 //! Thread-local variables.
 
 ghost use Rattle.std.specs.Prelude.{◌≡◌, [], List, Some, None, unwrap_or, if◌then◌else◌, IfOk, OnOk, OnErr};
-ghost use Rattle.d_values.specs.Stores.{blank, kind_of, kept, lent_value, own_entry, own_of, with_own, AreOwn};
-ghost use Rattle.d_values.specs.{Vocabulary.get, Vocabulary.Updates, Vocabulary.KeyPart, Keys.same_key, Tables.pairs_of, Tables.value_at, Tables.Sets, Variables.same_var};
+ghost use Rattle.d_values.specs.{Vocabulary.get, Vocabulary.Updates, Vocabulary.KeyPart, Keys.same_key, Stores.blank, Stores.kind_of, Stores.value_to_keep, Stores.lent_value, Stores.own_entry, Stores.own_of, Stores.with_own, Stores.AreOwn, Tables.pairs_of, Tables.value_at, Tables.Sets, Variables.same_var};
 
 use crate::key::Key;
 use crate::sparse_map::{lend, replace_known};
@@ -27,8 +26,7 @@ pub struct ThreadTable {
 }
 
 impl Model for ThreadTable {
-    ghost use Rattle.d_values.specs.Stores.{Own, AreOwn};
-    ghost use Rattle.d_values.specs.Tables.{pairs_of};
+    ghost use Rattle.d_values.specs.{Stores.Own, Stores.AreOwn, Tables.pairs_of};
 
     ghost Value = { Own };
 
@@ -71,7 +69,7 @@ impl ThreadTable {
 
         // Zero and the empty text unset it.
         ensures kept { OnOk result
-            (own_entry self.new ≡ with_own (own_entry self.old) var key.now (kept value)) }
+            (own_entry self.new ≡ with_own (own_entry self.old) var key.now (value_to_keep value)) }
         ensures err { OnErr result (self.new ≡ self.old) }
     {
         put(&mut self.variables, var, key, value)
@@ -106,7 +104,7 @@ fn put(
     value: Value,
 ) -> Result<(), AllocError>
     ensures ok { OnOk result
-        (Sets variables.old.entries variables.new.entries var key.now (kept value)) }
+        (Sets variables.old.entries variables.new.entries var key.now (value_to_keep value)) }
     ensures err { OnErr result (pairs_of variables.new.entries ≡ pairs_of variables.old.entries) }
 {
     match variables.get_mut(&var) {
@@ -117,7 +115,8 @@ fn put(
 
 // Sets a key's value.
 fn replace(elements: &mut Elements, key: &Key, value: Value) -> Result<(), AllocError>
-    ensures ok { OnOk result (Updates same_key elements.old elements.new key.now (kept value)) }
+    ensures ok { OnOk result
+        (Updates same_key elements.old elements.new key.now (value_to_keep value)) }
     ensures err { OnErr result (elements.new.entries ≡ elements.old.entries) }
 {
     if let Some(value) = replace_known(elements, key, value) {
@@ -135,7 +134,7 @@ fn start(
 ) -> Result<(), AllocError>
     requires { get same_var variables.old var ≡ None }
     ensures ok { OnOk result
-        (Sets variables.old.entries variables.new.entries var key.now (kept value)) }
+        (Sets variables.old.entries variables.new.entries var key.now (value_to_keep value)) }
     ensures err { OnErr result (variables.new.entries ≡ variables.old.entries) }
 {
     if value.is_blank() {

@@ -36,6 +36,10 @@ pub fn convert(value: u64, from: IntType, to: IntType) -> u64
 }
 
 /// `-a` in the type.
+///
+/// ```text
+/// negate(IntType::INT32, 5); // 2^64 - 5, the word of -5
+/// ```
 pub fn negate(t: IntType, a: u64) -> u64
     ensures word { result ≡ opposite_of t a }
     ensures number { number_of t result ≡ wrap t (neg_ℤ (number_of t a)) }
@@ -44,6 +48,10 @@ pub fn negate(t: IntType, a: u64) -> u64
 }
 
 /// `~a` in the type.
+///
+/// ```text
+/// complement(IntType::UINT8, 1); // 254
+/// ```
 pub fn complement(t: IntType, a: u64) -> u64
     ensures word { result ≡ complement_of t a }
     ensures number { number_of t result ≡ wrap t (neg_ℤ (number_of t a) -ℤ pos 1) }

@@ -12,7 +12,7 @@ use Rattle.d_types.specs.Typed.{Typed, Typeds, Logic, end, more, typed_of, typed
 use Rattle.d_types.specs.declared.typed.LogicOperator.{LogicOperator}
 use Rattle.dif_validate.specs.declared.register.Reg.{Reg}
 use Rattle.dif_validate.specs.declared.register.Reg.TheVariants.{R1}
-use Rattle.dif_codegen.specs.Code.{code_of, keys_code, pushing, keyed, fetching, saving, lowering, object_of}
+use Rattle.dif_codegen.specs.Code.{code_of, keys_code, pushing, element_code, fetching, saving, lowering, object_of}
 use Rattle.dif_validate.specs.declared.instruction.Condition.{Condition}
 use Rattle.dif_validate.specs.declared.instruction.Instr.{Instr}
 use Rattle.dif_validate.specs.declared.instruction.Instr.TheVariants.{Ba, Branch, Ret, Mov, Ldtaa, Sttaa}
@@ -146,11 +146,11 @@ pub lowering_adds : (keys : List TypedExpr) (a d : Reg) (x z : Difo) → 1 ≤ l
 lowering_adds [] a d x z h u = absurd (omega arith)
 lowering_adds (k ∷ keys) a d x z h u = u
 
-pub fetching_adds : (keys : List TypedExpr) (v : Var) (r : ℕ) (d : Reg) (x z : Difo) → 1 ≤ length keys → Adds (keyed (typeds_of keys) r (Ldtaa v d)) x z → Adds (fetching sp.Thread (typeds_of keys) v r d) x z
+pub fetching_adds : (keys : List TypedExpr) (v : Var) (r : ℕ) (d : Reg) (x z : Difo) → 1 ≤ length keys → Adds (element_code (typeds_of keys) r (Ldtaa v d)) x z → Adds (fetching sp.Thread (typeds_of keys) v r d) x z
 fetching_adds [] v r d x z h u = absurd (omega arith)
 fetching_adds (k ∷ keys) v r d x z h u = u
 
-pub saving_adds : (keys : List TypedExpr) (v : Var) (r : ℕ) (d : Reg) (x z : Difo) → 1 ≤ length keys → Adds (keyed (typeds_of keys) r (Sttaa v d)) x z → Adds (saving sp.Thread (typeds_of keys) v r d) x z
+pub saving_adds : (keys : List TypedExpr) (v : Var) (r : ℕ) (d : Reg) (x z : Difo) → 1 ≤ length keys → Adds (element_code (typeds_of keys) r (Sttaa v d)) x z → Adds (saving sp.Thread (typeds_of keys) v r d) x z
 saving_adds [] v r d x z h u = absurd (omega arith)
 saving_adds (k ∷ keys) v r d x z h u = u
 

@@ -28,7 +28,7 @@ use Rattle.dif_machine.specs.Frames.{at_place, with_value, with_tuple}
 use Rattle.dif_machine.specs.Runs.{End, Divides, Reaches, goes}
 use Rattle.dif_machine.specs.Sources as machine
 use Rattle.dif_machine.specs.Steps as st
-use Rattle.dif_codegen.specs.Code.{register, push_of, pushing, keyed, fetching, saving, lowering}
+use Rattle.dif_codegen.specs.Code.{register, push_of, pushing, element_code, fetching, saving, lowering}
 use Rattle.dif_codegen.specs.Pieces.{Place, Maker, one, both, behind}
 use Rattle.dif_codegen.proofs.Leading.{Ready, Done, Usable, done_value, step, Leads, put_leads, keep_leads, none_leads}
 use Rattle.dif_codegen.proofs.Meaning.{kept_kind, stored_kind, on_kind_is, loads, stores}
@@ -157,14 +157,14 @@ module _ (o : Object) (f : Firing) where
       let i = Ldtaa x (register q) in
       let pl1 = behind pl p in
       let after = stands_back o pl p (both (one i) (one Flushts) pl1) stands in
-      let size : pl1.at + 2 ≡ pl.at + length (keyed (more k ks) r i pl).code = omega (arith, length-append p.code (i ∷ Flushts ∷ [])) in
+      let size : pl1.at + 2 ≡ pl.at + length (element_code (more k ks) r i pl).code = omega (arith, length-append p.code (i ∷ Flushts ∷ [])) in
       λ last c. pushes_on (more k ks) r pl s vars key [] few (omega arith) there ready.empty e (stands_front o pl p (both (one i) (one Flushts) pl1) stands) last
       (λ t1 place same tup.
       let t2 = with_value t1 (register q) v in
       let t3 = with_tuple t2 [] in
       let long : length t1.registers ≡ 8 = ap length same ∙ ready.long in
       let n1 : t1.pc + 1 ≡ pl1.at + 1 = omega arith in
-      let n2 : t1.pc + 1 + 1 ≡ pl.at + length (keyed (more k ks) r i pl).code = omega arith in
+      let n2 : t1.pc + 1 + 1 ≡ pl.at + length (element_code (more k ks) r i pl).code = omega arith in
       let d = done_value t1 q v u long in
       let read : st.act i o f t1 vars ≡ st.puts t1 (register q) v vars =
       ap (λ l. st.on_key l (st.puts t1 (register q) (machine.own_in vars x l) vars)) tup
@@ -192,13 +192,13 @@ module _ (o : Object) (f : Firing) where
       let pl1 = behind pl p in
       let new = set_in sp.Thread vars x key (storage.as_kind (kind_of t) v) in
       let after = stands_back o pl p (both (one i) (one Flushts) pl1) stands in
-      let size : pl1.at + 2 ≡ pl.at + length (keyed (more k ks) r i pl).code = omega (arith, length-append p.code (i ∷ Flushts ∷ [])) in
+      let size : pl1.at + 2 ≡ pl.at + length (element_code (more k ks) r i pl).code = omega (arith, length-append p.code (i ∷ Flushts ∷ [])) in
       λ last c. pushes_on (more k ks) r pl s vars key [] few (omega arith) there ready.empty e (stands_front o pl p (both (one i) (one Flushts) pl1) stands) last
       (λ t1 place same tup.
       let t2 = at_place t1 (t1.pc + 1) in
       let t3 = with_tuple t2 [] in
       let n1 : t1.pc + 1 ≡ pl1.at + 1 = omega arith in
-      let n2 : t1.pc + 1 + 1 ≡ pl.at + length (keyed (more k ks) r i pl).code = omega arith in
+      let n2 : t1.pc + 1 + 1 ≡ pl.at + length (element_code (more k ks) r i pl).code = omega arith in
       let wrote : st.act i o f t1 vars ≡ st.Goes t2 new =
       ap (λ l. st.on_key l (st.on_kind (kind_of t) (at t1.registers (register q)) (st.store_own t1 vars x l))) tup
       ∙ on_key_is key there.1 (part_of there.0) (st.on_kind (kind_of t) (at t1.registers (register q)) (st.store_own t1 vars x key)) there.4

@@ -10,7 +10,7 @@ use Rattle.d_values.specs.declared.int_type.DType.TheVariants as ty
 use Rattle.d_values.specs.declared.value.Value.{Value}
 use Rattle.d_values.specs.declared.value.Value.TheVariants.{Int, Text}
 use Rattle.firing_reader.specs.declared.firing.Firing.{Firing}
-use Rattle.d_types.specs.Expressions.{Outcome, Has, Faults, with, number, text, given}
+use Rattle.d_types.specs.Expressions.{Outcome, Has, Faults, with, number, text, word_or_fault}
 use Rattle.d_types.specs.Held.{IsOf, IsWord, Slots, AreTyped, Ends}
 use Rattle.d_types.specs.Storage.{Variables}
 use Rattle.dif_validate.specs.declared.instruction.Condition.{Condition}
@@ -29,7 +29,7 @@ use Rattle.d_types.specs.Storage as storage
 use Rattle.dif_machine.specs.Steps as st
 use Rattle.dif_codegen.specs.Code.{register}
 use Rattle.dif_codegen.specs.Pieces as pieces
-use Rattle.dif_codegen.specs.Pieces.{Piece, Place, Maker, joined, behind, both, fork, choice, bit_by, next}
+use Rattle.dif_codegen.specs.Pieces.{Piece, Place, Maker, sequence, behind, both, fork, choice, bit_by, next}
 use Rattle.dif_codegen.proofs.Standing.{has_front, has_back, Stands, stands_front, stands_back, put_is}
 
 -- a frame in which an expression may begin
@@ -117,7 +117,7 @@ module _ (o : Object) (f : Firing) where
 
   -- an operator, which has a word or divides by 0
   pub alu_leads : (r pc x y : ℕ) (z : Result ℕ OutOfZero) (a b : Reg) (op : Operator) (s : Frame) (vars : Variables) → Usable r → length s.registers ≡ 8 → s.pc ≡ pc → slice_get o.code pc ≡ Some (Alu op a b (register r))
-      → at s.registers a ≡ Some (Int x) → at s.registers b ≡ Some (Int y) → result_of op x y ≡ z → Leads r (pc + 1) s vars (with (given z vars) (λ word. Has (Int word)))
+      → at s.registers a ≡ Some (Int x) → at s.registers b ≡ Some (Int y) → result_of op x y ≡ z → Leads r (pc + 1) s vars (with (word_or_fault z vars) (λ word. Has (Int word)))
   alu_leads r pc x y (Err z) a b op s vars u long e has va vb is = faults vars (step s vars pc _ e has ∙ rw (va, vb, is) refl)
   alu_leads r pc x y (Ok word) a b op s vars u long e has va vb is = put_leads r pc (Int word) s vars vars (Alu op a b (register r)) u long e has (rw (va, vb, is) refl)
 

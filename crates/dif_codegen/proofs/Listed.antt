@@ -26,7 +26,7 @@ use Rattle.dif_codegen.specs.declared.program.CompiledClause.{CompiledClause}
 use Rattle.dif_codegen.specs.declared.program.TypedObject.{TypedObject}
 use Rattle.dif_codegen.specs.Code.{object_of}
 use Rattle.dif_codegen.specs.Meaning.{Does, IsProgramOf, aggregation_of, run_code}
-use Rattle.dif_codegen.specs.Programs.{ClauseCode, all_compiled, clause_code, compiled, compiled_action, compiled_clause}
+use Rattle.dif_codegen.specs.Programs.{ClauseCode, compiled_objects, clause_code, compiled_object, compiled_action, compiled_clause}
 use Rattle.dif_codegen.proofs.Adding.{IsObject}
 use Rattle.dif_codegen.proofs.SameMeaning.{run_same}
 
@@ -77,14 +77,14 @@ clauses_are Is (m ∷ ms) all = (all 0 m (omega arith), clauses_are Is ms (λ k 
 
 -- ---- objects
 
-pub same_object : (e : Typed) (d : Difo) (o : Object) (t : DType) → IsObject e d → o ≡ objects.object_of d → t ≡ type_of e → record { object = o; returns = t } ≡ compiled e
+pub same_object : (e : Typed) (d : Difo) (o : Object) (t : DType) → IsObject e d → o ≡ objects.object_of d → t ≡ type_of e → record { object = o; returns = t } ≡ compiled_object e
 same_object e d o t h is same =
-    let made : o ≡ (compiled e).object =
+    let made : o ≡ (compiled_object e).object =
     is
     ∙ ap (λ (l : List Instr). record { code = l; texts = d.texts.items; numbers = d.numbers.items }) h.code
     ∙ ap (λ (l : List (List ℕ)). record { code = (object_of e).code; texts = l; numbers = d.numbers.items }) h.texts
     ∙ ap (λ (l : List ℕ). record { code = (object_of e).code; texts = (object_of e).texts; numbers = l }) h.numbers in
-    ap (λ (o : Object). record { object = o; returns = t }) made ∙ ap (λ (t : DType). record { object = (compiled e).object; returns = t }) same
+    ap (λ (o : Object). record { object = o; returns = t }) made ∙ ap (λ (t : DType). record { object = (compiled_object e).object; returns = t }) same
 
 -- ---- one after the other
 
@@ -93,15 +93,15 @@ pub expressions_on : (all : List TypedExpr) (n : ℕ) (e : TypedExpr) (done : Li
 expressions_on all n e done Is less same each = subst (λ l. EachIs Is (typeds_of l)) (front all n e less same) each
 
 pub compiled_on : (all : List TypedExpr) (n : ℕ) (e : TypedExpr) (done : List TypedObject) → n < length all → e ≡ get_or all n e
-    → done ++ all_compiled (typeds_of (drop n all)) ≡ all_compiled (typeds_of all)
-    → (done ++ compiled (typed_of e) ∷ []) ++ all_compiled (typeds_of (drop (n + 1) all)) ≡ all_compiled (typeds_of all)
+    → done ++ compiled_objects (typeds_of (drop n all)) ≡ compiled_objects (typeds_of all)
+    → (done ++ compiled_object (typed_of e) ∷ []) ++ compiled_objects (typeds_of (drop (n + 1) all)) ≡ compiled_objects (typeds_of all)
 compiled_on all n e done less same h =
-    append_assoc done (compiled (typed_of e) ∷ []) (all_compiled (typeds_of (drop (n + 1) all)))
-    ∙ ap (λ l. done ++ all_compiled (typeds_of l)) (sym (front all n e less same)) ∙ h
+    append_assoc done (compiled_object (typed_of e) ∷ []) (compiled_objects (typeds_of (drop (n + 1) all)))
+    ∙ ap (λ l. done ++ compiled_objects (typeds_of l)) (sym (front all n e less same)) ∙ h
 
-pub compiled_end : (all : List TypedExpr) (n : ℕ) (done : List TypedObject) → length all ≤ n → done ++ all_compiled (typeds_of (drop n all)) ≡ all_compiled (typeds_of all)
-    → done ≡ all_compiled (typeds_of all)
-compiled_end all n done past h = sym (append-nil done) ∙ ap (λ l. done ++ all_compiled (typeds_of l)) (sym (spent all n past)) ∙ h
+pub compiled_end : (all : List TypedExpr) (n : ℕ) (done : List TypedObject) → length all ≤ n → done ++ compiled_objects (typeds_of (drop n all)) ≡ compiled_objects (typeds_of all)
+    → done ≡ compiled_objects (typeds_of all)
+compiled_end all n done past h = sym (append-nil done) ∙ ap (λ l. done ++ compiled_objects (typeds_of l)) (sym (spent all n past)) ∙ h
 
 -- a list that was mapped one by one
 pub mapped_on : {A B C : Type 0} (g : A → C) (h : B → C) (all : List B) (n : ℕ) (x : B) (y : A) (done : List A) → n < length all → x ≡ get_or all n x → g y ≡ h x

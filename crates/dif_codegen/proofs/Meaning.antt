@@ -32,7 +32,7 @@ use Rattle.firing_reader.specs.declared.firing.Firing.{Firing}
 use Rattle.d_types.specs.declared.typed.Space.{Space}
 use Rattle.d_types.specs.declared.typed.Space.TheVariants as sp
 use Rattle.d_types.specs.Held.{IsOf, IsWord}
-use Rattle.d_types.specs.Expressions.{stepped}
+use Rattle.d_types.specs.Expressions.{step_result}
 use Rattle.d_types.proofs.ValueTypes.{narrow_leaves}
 use Rattle.d_types.specs.Storage as storage
 use Rattle.d_types.specs.Storage.{Variables, value_in, set_in}
@@ -43,7 +43,7 @@ use Rattle.dif_validate.specs.Objects.{Object}
 use Rattle.dif_validate.specs.Registers.{at}
 use Rattle.dif_machine.specs.Frames.{Frame}
 use Rattle.dif_machine.specs.Frames.{at_place}
-use Rattle.dif_machine.specs.Operators.{result_of, compared, texts_compared, holds}
+use Rattle.dif_machine.specs.Operators.{result_of, comparison_of, text_comparison_of, holds}
 use Rattle.dif_machine.specs.Sources as machine
 use Rattle.dif_machine.specs.Steps as st
 use Rattle.dif_codegen.specs.Code.{operator_of, condition_of, shift_operator, shift_right, step_operator, opposite, load_from, store_to}
@@ -179,7 +179,7 @@ equally x y sx sy =
     (λ (ne : x ≡ y → ⊥). nat_unequal x y ne ∙ sym (not_true (int_eq (cast_signed w64 x) (cast_signed w64 y)) (λ h. ne (same_word x y sx sy ((Decides-int_eq (cast_signed w64 x) (cast_signed w64 y)).0 h)))))
     (cases_eq x y)
 
-conditions : (o : ComparisonOperator) (s : Bool) (x y : ℕ) → x < 2 ^ 64 → y < 2 ^ 64 → holds (condition_of o s) (compared x y) ≡ holds_of o (cond s (int_cmp (cast_signed w64 x) (cast_signed w64 y)) (nat_cmp x y))
+conditions : (o : ComparisonOperator) (s : Bool) (x y : ℕ) → x < 2 ^ 64 → y < 2 ^ 64 → holds (condition_of o s) (comparison_of x y) ≡ holds_of o (cond s (int_cmp (cast_signed w64 x) (cast_signed w64 y)) (nat_cmp x y))
 conditions co.Less true x y sx sy = refl
 conditions co.Less false x y sx sy = refl
 conditions co.LessEqual true x y sx sy = refl
@@ -194,11 +194,11 @@ conditions co.NotEqual false x y sx sy = refl
 conditions co.NotEqual true x y sx sy = unequal_is (nat_cmp x y) ∙ ap (λ b. cond b false true) (equally x y sx sy) ∙ sym (unequal_is (int_cmp (cast_signed w64 x) (cast_signed w64 y)))
 
 -- a branch asks what the language's comparison asks
-pub condition_is : (o : ComparisonOperator) (t : IntType) (x y : ℕ) → x < 2 ^ 64 → y < 2 ^ 64 → holds (condition_of o t.signed) (compared x y) ≡ holds_of o (order_of t x y)
+pub condition_is : (o : ComparisonOperator) (t : IntType) (x y : ℕ) → x < 2 ^ 64 → y < 2 ^ 64 → holds (condition_of o t.signed) (comparison_of x y) ≡ holds_of o (order_of t x y)
 condition_is o t x y sx sy = conditions o t.signed x y sx sy
 
 -- and so for texts
-pub texts_condition : (o : ComparisonOperator) (x y : List ℕ) → holds (condition_of o false) (texts_compared x y) ≡ holds_of o (text_cmp x y)
+pub texts_condition : (o : ComparisonOperator) (x y : List ℕ) → holds (condition_of o false) (text_comparison_of x y) ≡ holds_of o (text_cmp x y)
 texts_condition co.Equal x y = refl
 texts_condition co.NotEqual x y = refl
 texts_condition co.Less x y = refl
@@ -219,11 +219,11 @@ abbrev pub is_positive : ℕ → Bool
 is_positive zero = false
 is_positive (suc n) = true
 
-pub zero_holds : (x : ℕ) → holds Equal (compared x 0) ≡ is_zero x
+pub zero_holds : (x : ℕ) → holds Equal (comparison_of x 0) ≡ is_zero x
 zero_holds zero = refl
 zero_holds (suc n) = ap (holds_of co.Equal) (zero_compared n)
 
-pub positive_holds : (x : ℕ) → holds NotEqual (compared x 0) ≡ is_positive x
+pub positive_holds : (x : ℕ) → holds NotEqual (comparison_of x 0) ≡ is_positive x
 positive_holds zero = refl
 positive_holds (suc n) = ap (holds_of co.NotEqual) (zero_compared n)
 
@@ -297,38 +297,38 @@ low_kept signed w low known less = by (signed && nat_le (2 ^ (w - 1)) low)
     by false = less_is
 
 -- there and back, of the lowest bits
-returned : (step : Step) (w old n : ℕ) → is_width w ≡ true → n % 2 ^ w ≡ stepped step old % 2 ^ w → stepped (opposite step) n % 2 ^ w ≡ old % 2 ^ w
+returned : (step : Step) (w old n : ℕ) → is_width w ≡ true → n % 2 ^ w ≡ step_result step old % 2 ^ w → step_result (opposite step) n % 2 ^ w ≡ old % 2 ^ w
 returned step w old n known =
-    ⊎_elim (λ (e : w ≡ 8). subst (λ w. n % 2 ^ w ≡ stepped step old % 2 ^ w → stepped (opposite step) n % 2 ^ w ≡ old % 2 ^ w) (sym e) (by_8 step))
-    (⊎_elim (λ (e : w ≡ 16). subst (λ w. n % 2 ^ w ≡ stepped step old % 2 ^ w → stepped (opposite step) n % 2 ^ w ≡ old % 2 ^ w) (sym e) (by_16 step))
-    (⊎_elim (λ (e : w ≡ 32). subst (λ w. n % 2 ^ w ≡ stepped step old % 2 ^ w → stepped (opposite step) n % 2 ^ w ≡ old % 2 ^ w) (sym e) (by_32 step))
-    (λ (e : w ≡ 64). subst (λ w. n % 2 ^ w ≡ stepped step old % 2 ^ w → stepped (opposite step) n % 2 ^ w ≡ old % 2 ^ w) (sym e) (by_64 step))))
+    ⊎_elim (λ (e : w ≡ 8). subst (λ w. n % 2 ^ w ≡ step_result step old % 2 ^ w → step_result (opposite step) n % 2 ^ w ≡ old % 2 ^ w) (sym e) (by_8 step))
+    (⊎_elim (λ (e : w ≡ 16). subst (λ w. n % 2 ^ w ≡ step_result step old % 2 ^ w → step_result (opposite step) n % 2 ^ w ≡ old % 2 ^ w) (sym e) (by_16 step))
+    (⊎_elim (λ (e : w ≡ 32). subst (λ w. n % 2 ^ w ≡ step_result step old % 2 ^ w → step_result (opposite step) n % 2 ^ w ≡ old % 2 ^ w) (sym e) (by_32 step))
+    (λ (e : w ≡ 64). subst (λ w. n % 2 ^ w ≡ step_result step old % 2 ^ w → step_result (opposite step) n % 2 ^ w ≡ old % 2 ^ w) (sym e) (by_64 step))))
     (widths w known)
   where
-    by_8 : (step : Step) → n % 2 ^ 8 ≡ stepped step old % 2 ^ 8 → stepped (opposite step) n % 2 ^ 8 ≡ old % 2 ^ 8
+    by_8 : (step : Step) → n % 2 ^ 8 ≡ step_result step old % 2 ^ 8 → step_result (opposite step) n % 2 ^ 8 ≡ old % 2 ^ 8
     by_8 sp1.Increment h = omega arith
     by_8 sp1.Decrement h = omega arith
 
-    by_16 : (step : Step) → n % 2 ^ 16 ≡ stepped step old % 2 ^ 16 → stepped (opposite step) n % 2 ^ 16 ≡ old % 2 ^ 16
+    by_16 : (step : Step) → n % 2 ^ 16 ≡ step_result step old % 2 ^ 16 → step_result (opposite step) n % 2 ^ 16 ≡ old % 2 ^ 16
     by_16 sp1.Increment h = omega arith
     by_16 sp1.Decrement h = omega arith
 
-    by_32 : (step : Step) → n % 2 ^ 32 ≡ stepped step old % 2 ^ 32 → stepped (opposite step) n % 2 ^ 32 ≡ old % 2 ^ 32
+    by_32 : (step : Step) → n % 2 ^ 32 ≡ step_result step old % 2 ^ 32 → step_result (opposite step) n % 2 ^ 32 ≡ old % 2 ^ 32
     by_32 sp1.Increment h = omega arith
     by_32 sp1.Decrement h = omega arith
 
-    by_64 : (step : Step) → n % 2 ^ 64 ≡ stepped step old % 2 ^ 64 → stepped (opposite step) n % 2 ^ 64 ≡ old % 2 ^ 64
+    by_64 : (step : Step) → n % 2 ^ 64 ≡ step_result step old % 2 ^ 64 → step_result (opposite step) n % 2 ^ 64 ≡ old % 2 ^ 64
     by_64 sp1.Increment h = omega arith
     by_64 sp1.Decrement h = omega arith
 
 -- a word of a type moved by one, and back
-pub stepped_back : (step : Step) (t : IntType) (old : ℕ) → IsWord t old → narrow t (stepped (opposite step) (narrow t (stepped step old))) ≡ old
+pub stepped_back : (step : Step) (t : IntType) (old : ℕ) → IsWord t old → narrow t (step_result (opposite step) (narrow t (step_result step old))) ≡ old
 stepped_back step t old is =
     ap (bits t.signed t.width)
-    (returned step t.width old (narrow t (stepped step old)) t.known (low_kept t.signed t.width (stepped step old % 2 ^ t.width) t.known (mod_below (stepped step old) (2 ^ t.width) (pow_pos t.width))))
+    (returned step t.width old (narrow t (step_result step old)) t.known (low_kept t.signed t.width (step_result step old % 2 ^ t.width) t.known (mod_below (step_result step old) (2 ^ t.width) (pow_pos t.width))))
     ∙ narrow_leaves t old is
 
 -- the machine's step is the language's
-pub step_is : (step : Step) (x : ℕ) → result_of (step_operator step) x 1 ≡ Ok (narrow UINT64 (stepped step x))
+pub step_is : (step : Step) (x : ℕ) → result_of (step_operator step) x 1 ≡ Ok (narrow UINT64 (step_result step x))
 step_is sp1.Increment x = refl
 step_is sp1.Decrement x = refl

@@ -25,7 +25,7 @@ use Rattle.d_types.specs.declared.typed.LogicOperator.TheVariants as lo
 use Rattle.d_types.specs.declared.typed.Operation.{Operation}
 use Rattle.d_types.specs.declared.typed.Operation.TheVariants as op
 use Rattle.d_types.specs.declared.typed.Variable.{Variable}
-use Rattle.d_types.specs.Expressions.{Outcome, Has, Faults, with, number, text, integer, given, operation_of, eval, truth, bit, inverse, at_zero, unary_of, built_in_of, assigned, updated, moved, works_in, held, stepped, answered, keys_of}
+use Rattle.d_types.specs.Expressions.{Outcome, Has, Faults, with, number, text, integer, word_or_fault, operation_of, eval, truth, bit, inverse, at_zero, unary_of, built_in_of, assignment_outcome, update_outcome, step_outcome, works_in, word_as_type, step_result, step_value, keys_of}
 use Rattle.d_types.specs.Held.{IsOf, HasTypedBuiltIns, Slots, AreTyped, Ends, IsKnown, IsConsistent, AreConsistent, IsSomeInteger, Takes}
 use Rattle.d_types.specs.Needs.{need, need_of_keys, count}
 use Rattle.d_types.specs.Storage.{Variables, value_at, value_in, var_of, set, word_of}
@@ -44,10 +44,10 @@ use Rattle.dif_validate.specs.Objects.{Object}
 use Rattle.dif_validate.specs.Registers.{at}
 use Rattle.dif_machine.specs.Frames.{Frame}
 use Rattle.dif_machine.specs.Frames as frames
-use Rattle.dif_machine.specs.Operators.{result_of, compared, texts_compared}
+use Rattle.dif_machine.specs.Operators.{result_of, comparison_of, text_comparison_of}
 use Rattle.dif_machine.specs.Runs.{goes}
 use Rattle.dif_machine.specs.Steps as st
-use Rattle.dif_codegen.specs.Code.{register, operator_of, condition_of, shift_operator, masking, operated, differing, narrowing, unary, built_in, fetching, saving, lowering, holding, step_operator, opposite, stepping, answering, measuring, joining, code_of, keys_code}
+use Rattle.dif_codegen.specs.Code.{register, operator_of, condition_of, shift_operator, masking, operate_on, differing, narrowing, unary, built_in, fetching, saving, lowering, holding, step_operator, opposite, stepping, answering, measuring, joining, code_of, keys_code}
 use Rattle.dif_codegen.specs.Pieces as pieces
 use Rattle.dif_codegen.specs.Pieces.{Piece, Place, Maker, one, both, choice, bit_by, behind}
 use Rattle.dif_codegen.proofs.Leading.{Ready, Done, Usable, done_value, step, ready_on, same_ready, Leads, put_leads, none_leads, number_leads, text_leads, alu_leads, both_leads, both_number, both_text, choice_leads, bit_leads}
@@ -122,14 +122,14 @@ module _ (o : Object) (f : Firing) where
   positive_leads r pc s vars (suc x) h = h
 
   -- a test of a register
-  tested : (r x : ℕ) (s : Frame) (vars : Variables) → r ≤ 7 → slice_index_or s.registers r None ≡ Some (va.Int x) → st.act (Tst (register r)) o f s vars ≡ st.Goes (frames.with_comparison s (compared x 0)) vars
+  tested : (r x : ℕ) (s : Frame) (vars : Variables) → r ≤ 7 → slice_index_or s.registers r None ≡ Some (va.Int x) → st.act (Tst (register r)) o f s vars ≡ st.Goes (frames.with_comparison s (comparison_of x 0)) vars
   tested r x s vars le val = rw (at_is s.registers r le, val) refl
 
   -- 1, but 0 stays
   bit_of_leads : (r : ℕ) (pl : Place) (x : ℕ) (s : Frame) (vars : Variables) → Usable r → length s.registers ≡ 8 → s.pc ≡ pl.at → slice_index_or s.registers r None ≡ Some (va.Int x) → Stands o pl (bit_by (Tst (register r)) NotEqual (register r) pl)
       → Leads o f r (pl.at + length (bit_by (Tst (register r)) NotEqual (register r) pl).code) s vars (Has (va.Int (bit x)) vars)
   bit_of_leads r pl x s vars u long e val stands =
-      positive_leads r _ s vars x (bit_leads o f r pl (Tst (register r)) NotEqual s vars (compared x 0) (is_positive x) u long e stands (tested r x s vars u.high val) (positive_holds x))
+      positive_leads r _ s vars x (bit_leads o f r pl (Tst (register r)) NotEqual s vars (comparison_of x 0) (is_positive x) u long e stands (tested r x s vars u.high val) (positive_holds x))
 
   -- a word of 64 bits, then brought to its type
   word_leads : (t : IntType) (r : ℕ) (pl : Place) (i : Instr) (word z : ℕ) (s : Frame) (vars : Variables) → Usable r → r < 7 → length s.registers ≡ 8 → s.pc ≡ pl.at → word < 2 ^ 64 → narrow t word ≡ z → Stands o pl (both (one i) (narrowing t (register r)) pl)
@@ -142,7 +142,7 @@ module _ (o : Object) (f : Firing) where
   unary_leads : (o' : UnaryOperator) (t : IntType) (r : ℕ) (pl : Place) (x : ℕ) (s : Frame) (vars : Variables) → Usable r → r < 7 → Ready s → s.pc ≡ pl.at → slice_index_or s.registers r None ≡ Some (va.Int x)
       → Stands o pl (unary o' t (register r) pl) → Leads o f r (pl.at + length (unary o' t (register r) pl).code) s vars (Has (va.Int (unary_of o' t x)) vars)
   unary_leads un.Not t r pl x s vars u lt ready e val stands =
-      inverse_leads r _ s vars x (bit_leads o f r pl (Tst (register r)) Equal s vars (compared x 0) (is_zero x) u ready.long e stands (tested r x s vars u.high val) (zero_holds x))
+      inverse_leads r _ s vars x (bit_leads o f r pl (Tst (register r)) Equal s vars (comparison_of x 0) (is_zero x) u ready.long e stands (tested r x s vars u.high val) (zero_holds x))
   unary_leads un.Complement t r pl x s vars u lt ready e val stands =
       word_leads t r pl (Not (register r) (register r)) (complement_of UINT64 x) (complement_of t x) s vars u lt ready.long e (unsigned_small (2 ^ 64 - 1 - x)) (unsigned_again t (2 ^ 64 - 1 - x)) stands
       (rw (at_is s.registers r u.high, val) refl)
@@ -153,7 +153,7 @@ module _ (o : Object) (f : Firing) where
 
   operator_leads : (a : ArithmeticOperator) (t : IntType) (r : ℕ) (pl : Place) (x y : ℕ) (s : Frame) (vars : Variables) → Usable r → r + 1 < 7 → length s.registers ≡ 8 → s.pc ≡ pl.at → slice_index_or s.registers r None ≡ Some (va.Int x) → slice_index_or s.registers (r + 1) None ≡ Some (va.Int y)
       → Stands o pl (both (one (Alu (operator_of a t.signed) (register r) (register (r + 1)) (register r))) (narrowing t (register r)) pl)
-      → Leads o f r (pl.at + length (both (one (Alu (operator_of a t.signed) (register r) (register (r + 1)) (register r))) (narrowing t (register r)) pl).code) s vars (integer (given (binary_of a t x y) vars))
+      → Leads o f r (pl.at + length (both (one (Alu (operator_of a t.signed) (register r) (register (r + 1)) (register r))) (narrowing t (register r)) pl).code) s vars (integer (word_or_fault (binary_of a t x y) vars))
   operator_leads a t r pl x y s vars u lt long e vx vy stands = by (divides a && (y == 0)) (works a t x y).is
     where
       i : Instr
@@ -166,7 +166,7 @@ module _ (o : Object) (f : Firing) where
       at_r1 = at_is s.registers (r + 1) (omega arith) ∙ vy
 
       by : (none : Bool) → result_of (operator_of a t.signed) x y ≡ cond none (Err (record {})) (Ok (works a t x y).word)
-          → Leads o f r (pl.at + length (both (one i) (narrowing t (register r)) pl).code) s vars (integer (given (cond none (Err (record {})) (Ok (narrow t (operate a t.signed x y)))) vars))
+          → Leads o f r (pl.at + length (both (one i) (narrowing t (register r)) pl).code) s vars (integer (word_or_fault (cond none (Err (record {})) (Ok (narrow t (operate a t.signed x y)))) vars))
       by true is = alu_leads o f r pl.at x y (Err (record {})) (register r) (register (r + 1)) (operator_of a t.signed) s vars u long e stands.code.0 at_r at_r1 is
       by false is =
           word_leads t r pl i (works a t x y).word (narrow t (operate a t.signed x y)) s vars u (omega arith) long e (works a t x y).small (works a t x y).same stands
@@ -181,7 +181,7 @@ module _ (o : Object) (f : Firing) where
       (rw (at_is t1.registers r u.high, d.kept r lt, vy, d.value) (ap (λ w. st.puts t1 (register r) (va.Int w) vars) (masked t.width y t.known))))
 
   operated_leads : (o' : Operation) (r : ℕ) (pl : Place) (x y : ℕ) (s : Frame) (vars : Variables) → Usable r → r + 1 < 7 → length s.registers ≡ 8 → s.pc ≡ pl.at → slice_index_or s.registers r None ≡ Some (va.Int x) → slice_index_or s.registers (r + 1) None ≡ Some (va.Int y)
-      → Stands o pl (operated o' (register r) (register (r + 1)) pl) → Leads o f r (pl.at + length (operated o' (register r) (register (r + 1)) pl).code) s vars (integer (given (operation_of o' x y) vars))
+      → Stands o pl (operate_on o' (register r) (register (r + 1)) pl) → Leads o f r (pl.at + length (operate_on o' (register r) (register (r + 1)) pl).code) s vars (integer (word_or_fault (operation_of o' x y) vars))
   operated_leads (op.Arithmetic a t) r pl x y s vars u lt long e vx vy stands = operator_leads a t r pl x y s vars u lt long e vx vy stands
   operated_leads (op.Shift a t) r pl x y s vars u lt long e vx vy stands =
       let i = Alu (shift_operator a t.signed) (register r) (register (r + 1)) (register r) in
@@ -200,11 +200,11 @@ module _ (o : Object) (f : Firing) where
   differing_leads r pl x y s vars u lt long e vx vy stands =
       let test = Tst (register (r + 1)) in
       either_leads r _ s vars x (bit y) (inverse y)
-      (choice_leads o f r pl (Tst (register r)) Equal (bit_by test Equal (register r)) (bit_by test NotEqual (register r)) s vars (compared x 0) (Has (va.Int (inverse y)) vars) (Has (va.Int (bit y)) vars) (is_zero x) e stands (tested r x s vars u.high vx) (zero_holds x)
+      (choice_leads o f r pl (Tst (register r)) Equal (bit_by test Equal (register r)) (bit_by test NotEqual (register r)) s vars (comparison_of x 0) (Has (va.Int (inverse y)) vars) (Has (va.Int (bit y)) vars) (is_zero x) e stands (tested r x s vars u.high vx) (zero_holds x)
       (λ pl1 st1 t te tr tt'.
-      inverse_leads r _ t vars y (bit_leads o f r pl1 test Equal t vars (compared y 0) (is_zero y) u (ap length tr ∙ long) te st1 (tested (r + 1) y t vars lt (ap (λ xs. slice_index_or xs (r + 1) None) tr ∙ vy)) (zero_holds y)))
+      inverse_leads r _ t vars y (bit_leads o f r pl1 test Equal t vars (comparison_of y 0) (is_zero y) u (ap length tr ∙ long) te st1 (tested (r + 1) y t vars lt (ap (λ xs. slice_index_or xs (r + 1) None) tr ∙ vy)) (zero_holds y)))
       (λ pl1 st1 t te tr tt'.
-      positive_leads r _ t vars y (bit_leads o f r pl1 test NotEqual t vars (compared y 0) (is_positive y) u (ap length tr ∙ long) te st1 (tested (r + 1) y t vars lt (ap (λ xs. slice_index_or xs (r + 1) None) tr ∙ vy)) (positive_holds y))))
+      positive_leads r _ t vars y (bit_leads o f r pl1 test NotEqual t vars (comparison_of y 0) (is_positive y) u (ap length tr ∙ long) te st1 (tested (r + 1) y t vars lt (ap (λ xs. slice_index_or xs (r + 1) None) tr ∙ vy)) (positive_holds y))))
 
   built_in_leads : (b : BuiltIn) (r : ℕ) (pl : Place) (s : Frame) (vars : Variables) → Usable r → length s.registers ≡ 8 → s.pc ≡ pl.at → Stands o pl (built_in b (register r) pl)
       → Leads o f r (pl.at + length (built_in b (register r) pl).code) s vars (Has (built_in_of f b) vars)
@@ -234,48 +234,48 @@ module _ (o : Object) (f : Firing) where
   integer_of (ty.Int t) (va.Text bytes) some is = absurd is
   integer_of ty.Text v some is = let no = some.1 in cc
 
-  held_is : (t : DType) (w : ℕ) → IsSomeInteger t → IsOf t (va.Int (held t w))
+  held_is : (t : DType) (w : ℕ) → IsSomeInteger t → IsOf t (va.Int (word_as_type t w))
   held_is (ty.Int t) w some = narrow_is t w
   held_is ty.Text w some = let no = some.1 in cc
 
   holding_leads : (t : DType) (r : ℕ) (pl : Place) (word : ℕ) (s : Frame) (vars : Variables) → IsSomeInteger t → Usable r → r < 7 → length s.registers ≡ 8 → s.pc ≡ pl.at → slice_index_or s.registers r None ≡ Some (va.Int word) → word < 2 ^ 64
-      → Stands o pl (holding t (register r) pl) → Leads o f r (pl.at + length (holding t (register r) pl).code) s vars (Has (va.Int (held t word)) vars)
+      → Stands o pl (holding t (register r) pl) → Leads o f r (pl.at + length (holding t (register r) pl).code) s vars (Has (va.Int (word_as_type t word)) vars)
   holding_leads (ty.Int t) r pl word s vars some u lt long e val small stands = narrow_leads o f t r pl word s vars u lt long e val small stands
   holding_leads ty.Text r pl word s vars some u lt long e val small stands = let no = some.1 in cc
 
-  held_again : (t : DType) (word : ℕ) → IsSomeInteger t → held t (narrow UINT64 word) ≡ held t word
+  held_again : (t : DType) (word : ℕ) → IsSomeInteger t → word_as_type t (narrow UINT64 word) ≡ word_as_type t word
   held_again (ty.Int t) word some = unsigned_again t word
   held_again ty.Text word some = let no = some.1 in cc
 
   stepping_leads : (step : Step) (t : DType) (r : ℕ) (pl : Place) (word : ℕ) (s : Frame) (vars : Variables) → IsSomeInteger t → Usable r → r < 7 → length s.registers ≡ 8 → s.pc ≡ pl.at → slice_index_or s.registers r None ≡ Some (va.Int word)
-      → Stands o pl (stepping step t (register r) pl) → Leads o f r (pl.at + length (stepping step t (register r) pl).code) s vars (Has (va.Int (held t (stepped step word))) vars)
+      → Stands o pl (stepping step t (register r) pl) → Leads o f r (pl.at + length (stepping step t (register r) pl).code) s vars (Has (va.Int (word_as_type t (step_result step word))) vars)
   stepping_leads step t r pl word s vars some u lt long e val stands =
       let i = Alu (step_operator step) (register r) R7 (register r) in
-      let mid = narrow UINT64 (stepped step word) in
-      let z = held t (stepped step word) in
+      let mid = narrow UINT64 (step_result step word) in
+      let z = word_as_type t (step_result step word) in
       then_leads r 7 pl (pieces.number 1 R7) (both (one i) (holding t (register r))) s vars vars (va.Int 1) (Has (va.Int z) vars) (omega arith) stands
       (λ st1. number_leads o f 7 pl 1 s vars (record { low = omega arith; high = omega arith }) long e st1)
       (λ pl1 st1 t1 d.
       then_leads r r pl1 (one i) (holding t (register r)) t1 vars vars (va.Int mid) (Has (va.Int z) vars) (omega arith) st1
       (λ st2. put_leads o f r pl1.at (va.Int mid) t1 vars vars i u d.long d.at st2.code.0 (rw (at_is t1.registers r u.high, d.kept r lt, val, d.value, step_is step word) refl))
-      (λ pl2 st2 t2 d2. subst (λ n. Leads o f r (pl2.at + length (holding t (register r) pl2).code) t2 vars (Has (va.Int n) vars)) (held_again t (stepped step word) some)
-      (holding_leads t r pl2 mid t2 vars some u lt d2.long d2.at d2.value (unsigned_small (stepped step word)) st2)))
+      (λ pl2 st2 t2 d2. subst (λ n. Leads o f r (pl2.at + length (holding t (register r) pl2).code) t2 vars (Has (va.Int n) vars)) (held_again t (step_result step word) some)
+      (holding_leads t r pl2 mid t2 vars some u lt d2.long d2.at d2.value (unsigned_small (step_result step word)) st2)))
 
-  held_back : (step : Step) (t : DType) (old : ℕ) → IsSomeInteger t → IsOf t (va.Int old) → held t (stepped (opposite step) (held t (stepped step old))) ≡ old
+  held_back : (step : Step) (t : DType) (old : ℕ) → IsSomeInteger t → IsOf t (va.Int old) → word_as_type t (step_result (opposite step) (word_as_type t (step_result step old))) ≡ old
   held_back step (ty.Int t) old some is = stepped_back step t old is
   held_back step ty.Text old some is = absurd is
 
-  answering_leads : (answer : Answer) (step : Step) (t : DType) (r : ℕ) (pl : Place) (old : ℕ) (s : Frame) (vars : Variables) → IsSomeInteger t → IsOf t (va.Int old) → Usable r → r < 7 → length s.registers ≡ 8 → s.pc ≡ pl.at → slice_index_or s.registers r None ≡ Some (va.Int (held t (stepped step old)))
-      → Stands o pl (answering answer step t (register r) pl) → Leads o f r (pl.at + length (answering answer step t (register r) pl).code) s vars (Has (va.Int (answered answer old (held t (stepped step old)))) vars)
+  answering_leads : (answer : Answer) (step : Step) (t : DType) (r : ℕ) (pl : Place) (old : ℕ) (s : Frame) (vars : Variables) → IsSomeInteger t → IsOf t (va.Int old) → Usable r → r < 7 → length s.registers ≡ 8 → s.pc ≡ pl.at → slice_index_or s.registers r None ≡ Some (va.Int (word_as_type t (step_result step old)))
+      → Stands o pl (answering answer step t (register r) pl) → Leads o f r (pl.at + length (answering answer step t (register r) pl).code) s vars (Has (va.Int (step_value answer old (word_as_type t (step_result step old)))) vars)
   answering_leads an.New step t r pl old s vars some is u lt long e val stands = none_leads o f r pl.at _ s vars long e val
   answering_leads an.Old step t r pl old s vars some is u lt long e val stands =
       subst (λ n. Leads o f r (pl.at + length (stepping (opposite step) t (register r) pl).code) s vars (Has (va.Int n) vars)) (held_back step t old some is)
-      (stepping_leads (opposite step) t r pl (held t (stepped step old)) s vars some u lt long e val stands)
+      (stepping_leads (opposite step) t r pl (word_as_type t (step_result step old)) s vars some u lt long e val stands)
 
   -- a value behind keys goes into the variable, and to where the keys began
   saved : (r q : ℕ) (pl : Place) (x : Variable) (keys : Typeds) (key : List KeyPart) (v : Value) (s : Frame) (vars : Variables) → q ≡ r + count keys → 0 < r → q ≤ 7 → Ready s → AreThere keys r s.registers key → s.pc ≡ pl.at → slice_index_or s.registers q None ≡ Some v → IsOf x.holds v
       → Stands o pl (both (saving x.space keys (var_of x) r (register q)) (lowering keys (register q) (register r)) pl)
-      → Leads o f r (pl.at + length (both (saving x.space keys (var_of x) r (register q)) (lowering keys (register q) (register r)) pl).code) s vars (assigned x key v vars)
+      → Leads o f r (pl.at + length (both (saving x.space keys (var_of x) r (register q)) (lowering keys (register q) (register r)) pl).code) s vars (assignment_outcome x key v vars)
   saved r q pl x keys key v s vars same low high ready there e val is stands =
       let vars1 = set vars x key v in
       then_leads r q pl (saving x.space keys (var_of x) r (register q)) (lowering keys (register q) (register r)) s vars vars1 v (Has v vars1) (omega arith) stands
@@ -284,10 +284,10 @@ module _ (o : Object) (f : Firing) where
 
   held_saved : (r q : ℕ) (pl : Place) (x : Variable) (keys : Typeds) (key : List KeyPart) (word : ℕ) (s : Frame) (vars : Variables) → q ≡ r + count keys → 0 < r → q < 7 → IsSomeInteger x.holds → Ready s → AreThere keys r s.registers key → s.pc ≡ pl.at → slice_index_or s.registers q None ≡ Some (va.Int word) → word < 2 ^ 64
       → Stands o pl (both (holding x.holds (register q)) (both (saving x.space keys (var_of x) r (register q)) (lowering keys (register q) (register r))) pl)
-      → Leads o f r (pl.at + length (both (holding x.holds (register q)) (both (saving x.space keys (var_of x) r (register q)) (lowering keys (register q) (register r))) pl).code) s vars (updated x key word vars)
+      → Leads o f r (pl.at + length (both (holding x.holds (register q)) (both (saving x.space keys (var_of x) r (register q)) (lowering keys (register q) (register r))) pl).code) s vars (update_outcome x key word vars)
   held_saved r q pl x keys key word s vars same low high some ready there e val small stands =
-      let new = va.Int (held x.holds word) in
-      then_leads r q pl (holding x.holds (register q)) (both (saving x.space keys (var_of x) r (register q)) (lowering keys (register q) (register r))) s vars vars new (assigned x key new vars) (omega arith) stands
+      let new = va.Int (word_as_type x.holds word) in
+      then_leads r q pl (holding x.holds (register q)) (both (saving x.space keys (var_of x) r (register q)) (lowering keys (register q) (register r))) s vars vars new (assignment_outcome x key new vars) (omega arith) stands
       (λ st1. holding_leads x.holds q pl word s vars some (record { low = omega arith; high = omega arith }) high ready.long e val small st1)
       (λ pl1 st1 t1 d.
       saved r q pl1 x keys key new t1 vars same low (omega arith) (ready_on q _ s t1 new (omega arith) ready d) (there_kept keys r s.registers t1.registers key (λ k less. d.kept k (omega arith)) there) d.at d.value (held_is x.holds word some) st1)
@@ -300,11 +300,11 @@ module _ (o : Object) (f : Firing) where
   integer_word (Has n vars) v w e = let y : va.Int n ≡ v = cc in subst (λ v. v ≡ va.Int (word_of v)) y refl
   integer_word (Faults vars) v w e = cc
 
-  quotient_small : (refused : Bool) (t : IntType) (n : ℕ) (vars : Variables) (v : Value) (w : Variables) → integer (given (cond refused (Err (record {})) (Ok (narrow t n))) vars) ≡ Has v w → word_of v < 2 ^ 64
+  quotient_small : (refused : Bool) (t : IntType) (n : ℕ) (vars : Variables) (v : Value) (w : Variables) → integer (word_or_fault (cond refused (Err (record {})) (Ok (narrow t n))) vars) ≡ Has v w → word_of v < 2 ^ 64
   quotient_small true t n vars v w e = cc
   quotient_small false t n vars v w e = let y : va.Int (narrow t n) ≡ v = cc in subst (λ v. word_of v < 2 ^ 64) y (word_small t (narrow t n) (narrow_is t n))
 
-  given_small : (o' : Operation) (x y : ℕ) (vars : Variables) (v : Value) (w : Variables) → integer (given (operation_of o' x y) vars) ≡ Has v w → word_of v < 2 ^ 64
+  given_small : (o' : Operation) (x y : ℕ) (vars : Variables) (v : Value) (w : Variables) → integer (word_or_fault (operation_of o' x y) vars) ≡ Has v w → word_of v < 2 ^ 64
   given_small (op.Arithmetic o' t) x y vars v w e = quotient_small (divides o' && (y == 0)) t (operate o' t.signed x y) vars v w e
   given_small (op.Shift o' t) x y vars v w e = let z : va.Int (shift_of o' t x y) ≡ v = cc in subst (λ v. word_of v < 2 ^ 64) z (word_small t (shift_of o' t x y) (narrow_is t _))
 
@@ -372,10 +372,10 @@ module _ (o : Object) (f : Firing) where
           (λ pl1 st1 x vars1 t1 is well d. unary_leads o' t r pl1 x t1 vars1 (record { low = low; high = omega arith }) (omega (arith, need_pos a)) (ready_on r _ s t1 _ low ready d) d.at d.value st1)
       expr_leads (Operate (op.Arithmetic o' t) a b) c r pl s vars good low high ready e stands =
           let last = both (one (Alu (operator_of o' t.signed) (register r) (register (r + 1)) (register r))) (narrowing t (register r)) in
-          both_number o f slots r r pl (code_of a r) (both (code_of b (r + 1)) last) s vars (type_of a) t (eval f a vars) (λ x vars. with (number (eval f b vars)) (λ y vars. integer (given (binary_of o' t x y) vars))) (omega arith) c.0.0 (eval_is slots f fit a vars c.1 good) stands
+          both_number o f slots r r pl (code_of a r) (both (code_of b (r + 1)) last) s vars (type_of a) t (eval f a vars) (λ x vars. with (number (eval f b vars)) (λ y vars. integer (word_or_fault (binary_of o' t x y) vars))) (omega arith) c.0.0 (eval_is slots f fit a vars c.1 good) stands
           (λ st1. expr_leads a c.1 r pl s vars good low (omega arith) ready e st1)
           (λ pl1 st1 x vars1 t1 is well d.
-          both_number o f slots r (r + 1) pl1 (code_of b (r + 1)) last t1 vars1 (type_of b) t (eval f b vars1) (λ y vars. integer (given (binary_of o' t x y) vars)) (omega arith) c.0.1 (eval_is slots f fit b vars1 c.2 well) st1
+          both_number o f slots r (r + 1) pl1 (code_of b (r + 1)) last t1 vars1 (type_of b) t (eval f b vars1) (λ y vars. integer (word_or_fault (binary_of o' t x y) vars)) (omega arith) c.0.1 (eval_is slots f fit b vars1 c.2 well) st1
           (λ st2. expr_leads b c.2 (r + 1) pl1 t1 vars1 well (omega arith) (omega arith) (ready_on r _ s t1 _ low ready d) d.at st2)
           (λ pl2 st2 y vars2 t2 is' well' d2. operator_leads o' t r pl2 x y t2 vars2 (record { low = low; high = omega arith }) (omega (arith, need_pos b)) d2.long d2.at (d2.kept r (omega arith) ∙ d.value) d2.value st2))
       expr_leads (Compare o' t a b) c r pl s vars good low high ready e stands =
@@ -388,15 +388,15 @@ module _ (o : Object) (f : Firing) where
           (λ st2. expr_leads b c.3 (r + 1) pl1 t1 vars1 well (omega arith) (omega arith) (ready_on r _ s t1 _ low ready d) d.at st2)
           (λ pl2 st2 y vars2 t2 is' well' d2.
           truth_leads r _ t2 vars2 (holds_of o' (order_of t x y))
-          (bit_leads o f r pl2 test (condition_of o' t.signed) t2 vars2 (compared x y) (holds_of o' (order_of t x y)) (record { low = low; high = omega arith }) d2.long d2.at st2
+          (bit_leads o f r pl2 test (condition_of o' t.signed) t2 vars2 (comparison_of x y) (holds_of o' (order_of t x y)) (record { low = low; high = omega arith }) d2.long d2.at st2
           (rw (at_is t2.registers r (omega arith), d2.kept r (omega arith), d.value, at_is t2.registers (r + 1) (omega (arith, need_pos b)), d2.value) refl)
           (condition_is o' t x y (word_small t x is) (word_small t y is')))))
       expr_leads (Operate (op.Shift o' t) a b) c r pl s vars good low high ready e stands =
-          let last = operated (op.Shift o' t) (register r) (register (r + 1)) in
-          both_number o f slots r r pl (code_of a r) (both (code_of b (r + 1)) last) s vars (type_of a) t (eval f a vars) (λ x vars. with (number (eval f b vars)) (λ y vars. integer (given (operation_of (op.Shift o' t) x y) vars))) (omega arith) c.0.0 (eval_is slots f fit a vars c.1 good) stands
+          let last = operate_on (op.Shift o' t) (register r) (register (r + 1)) in
+          both_number o f slots r r pl (code_of a r) (both (code_of b (r + 1)) last) s vars (type_of a) t (eval f a vars) (λ x vars. with (number (eval f b vars)) (λ y vars. integer (word_or_fault (operation_of (op.Shift o' t) x y) vars))) (omega arith) c.0.0 (eval_is slots f fit a vars c.1 good) stands
           (λ st1. expr_leads a c.1 r pl s vars good low (omega arith) ready e st1)
           (λ pl1 st1 x vars1 t1 is well d.
-          both_number o f slots r (r + 1) pl1 (code_of b (r + 1)) last t1 vars1 (type_of b) c.0.1.0 (eval f b vars1) (λ y vars. integer (given (operation_of (op.Shift o' t) x y) vars)) (omega arith) c.0.1.1 (eval_is slots f fit b vars1 c.2 well) st1
+          both_number o f slots r (r + 1) pl1 (code_of b (r + 1)) last t1 vars1 (type_of b) c.0.1.0 (eval f b vars1) (λ y vars. integer (word_or_fault (operation_of (op.Shift o' t) x y) vars)) (omega arith) c.0.1.1 (eval_is slots f fit b vars1 c.2 well) st1
           (λ st2. expr_leads b c.2 (r + 1) pl1 t1 vars1 well (omega arith) (omega arith) (ready_on r _ s t1 _ low ready d) d.at st2)
           (λ pl2 st2 y vars2 t2 is' well' d2. operated_leads (op.Shift o' t) r pl2 x y t2 vars2 (record { low = low; high = omega arith }) (omega (arith, need_pos b)) d2.long d2.at (d2.kept r (omega arith) ∙ d.value) d2.value st2))
       expr_leads (CompareText o' a b) c r pl s vars good low high ready e stands =
@@ -409,7 +409,7 @@ module _ (o : Object) (f : Firing) where
           (λ st2. expr_leads b c.3 (r + 1) pl1 t1 vars1 well (omega arith) (omega arith) (ready_on r _ s t1 _ low ready d) d.at st2)
           (λ pl2 st2 y vars2 t2 well' d2.
           truth_leads r _ t2 vars2 (holds_of o' (text_cmp x y))
-          (bit_leads o f r pl2 test (condition_of o' false) t2 vars2 (texts_compared x y) (holds_of o' (text_cmp x y)) (record { low = low; high = omega arith }) d2.long d2.at st2
+          (bit_leads o f r pl2 test (condition_of o' false) t2 vars2 (text_comparison_of x y) (holds_of o' (text_cmp x y)) (record { low = low; high = omega arith }) d2.long d2.at st2
           (rw (at_is t2.registers r (omega arith), d2.kept r (omega arith), d.value, at_is t2.registers (r + 1) (omega (arith, need_pos b)), d2.value) refl)
           (texts_condition o' x y))))
       expr_leads (Logic lo.Xor a b) c r pl s vars good low high ready e stands =
@@ -427,7 +427,7 @@ module _ (o : Object) (f : Firing) where
           (λ st1. expr_leads a c.2 r pl s vars good low (omega arith) ready e st1)
           (λ pl1 st1 x vars1 t1 is well d.
           zero_leads r _ t1 vars1 x (Has (va.Int 0) vars1) (with (number (eval f b vars1)) (λ y. Has (va.Int (bit y))))
-          (choice_leads o f r pl1 (Tst (register r)) Equal second (pieces.number 0 (register r)) t1 vars1 (compared x 0) (with (number (eval f b vars1)) (λ y. Has (va.Int (bit y)))) (Has (va.Int 0) vars1) (is_zero x) d.at st1 (tested r x t1 vars1 u.high d.value) (zero_holds x)
+          (choice_leads o f r pl1 (Tst (register r)) Equal second (pieces.number 0 (register r)) t1 vars1 (comparison_of x 0) (with (number (eval f b vars1)) (λ y. Has (va.Int (bit y)))) (Has (va.Int 0) vars1) (is_zero x) d.at st1 (tested r x t1 vars1 u.high d.value) (zero_holds x)
           (λ pl2 st2 t2 te tr tt'.
           let ready2 = same_ready t1 t2 tr tt' (ready_on r _ s t1 _ low ready d) in
           both_number o f slots r r pl2 (code_of b r) (bit_by (Tst (register r)) NotEqual (register r)) t2 vars1 (type_of b) c.1.0 (eval f b vars1) (λ y. Has (va.Int (bit y))) (omega arith) c.1.1 (eval_is slots f fit b vars1 c.3 well) st2
@@ -441,7 +441,7 @@ module _ (o : Object) (f : Firing) where
           (λ st1. expr_leads a c.2 r pl s vars good low (omega arith) ready e st1)
           (λ pl1 st1 x vars1 t1 is well d.
           zero_leads r _ t1 vars1 x (with (number (eval f b vars1)) (λ y. Has (va.Int (bit y)))) (Has (va.Int 1) vars1)
-          (choice_leads o f r pl1 (Tst (register r)) Equal (pieces.number 1 (register r)) second t1 vars1 (compared x 0) (Has (va.Int 1) vars1) (with (number (eval f b vars1)) (λ y. Has (va.Int (bit y)))) (is_zero x) d.at st1 (tested r x t1 vars1 u.high d.value) (zero_holds x)
+          (choice_leads o f r pl1 (Tst (register r)) Equal (pieces.number 1 (register r)) second t1 vars1 (comparison_of x 0) (Has (va.Int 1) vars1) (with (number (eval f b vars1)) (λ y. Has (va.Int (bit y)))) (is_zero x) d.at st1 (tested r x t1 vars1 u.high d.value) (zero_holds x)
           (λ pl2 st2 t2 te tr tt'. number_leads o f r pl2 1 t2 vars1 u (ap length tr ∙ d.long) te st2)
           (λ pl2 st2 t2 te tr tt'.
           let ready2 = same_ready t1 t2 tr tt' (ready_on r _ s t1 _ low ready d) in
@@ -454,7 +454,7 @@ module _ (o : Object) (f : Firing) where
           (λ pl1 st1 x vars1 t1 is well d.
           let ready1 = ready_on r _ s t1 _ low ready d in
           zero_leads r _ t1 vars1 x (eval f b vars1) (eval f a vars1)
-          (choice_leads o f r pl1 (Tst (register r)) Equal (code_of a r) (code_of b r) t1 vars1 (compared x 0) (eval f a vars1) (eval f b vars1) (is_zero x) d.at st1 (tested r x t1 vars1 (omega (arith, need_pos z)) d.value) (zero_holds x)
+          (choice_leads o f r pl1 (Tst (register r)) Equal (code_of a r) (code_of b r) t1 vars1 (comparison_of x 0) (eval f a vars1) (eval f b vars1) (is_zero x) d.at st1 (tested r x t1 vars1 (omega (arith, need_pos z)) d.value) (zero_holds x)
           (λ pl2 st2 t2 te tr tt'. expr_leads a c.4 r pl2 t2 vars1 well low (omega arith) (same_ready t1 t2 tr tt' ready1) te st2)
           (λ pl2 st2 t2 te tr tt'. expr_leads b c.5 r pl2 t2 vars1 well low (omega arith) (same_ready t1 t2 tr tt' ready1) te st2)))
       expr_leads (Convert t u a) c r pl s vars good low high ready e stands =
@@ -468,11 +468,11 @@ module _ (o : Object) (f : Firing) where
           let var = var_of x in
           let save = saving x.space keys var r (register q) in
           let back = lowering keys (register q) (register r) in
-          keys_both o f slots keys r pl (keys_code keys r) (both (code_of a q) (both save back)) s vars (keys_of f keys vars) (λ key vars. with (eval f a vars) (assigned x key)) (keys_are slots f fit keys vars c.1 good) stands
+          keys_both o f slots keys r pl (keys_code keys r) (both (code_of a q) (both save back)) s vars (keys_of f keys vars) (λ key vars. with (eval f a vars) (assignment_outcome x key)) (keys_are slots f fit keys vars c.1 good) stands
           (λ st1. keys_lead keys c.1 r 0 r pl s vars (omega arith) good low (omega arith) ready e st1)
           (λ pl1 st1 key vars1 t1 well d.
           let ready1 = ready_keyed keys r _ s t1 key low ready d in
-          both_leads o f r q pl1 (code_of a q) (both save back) t1 vars1 (eval f a vars1) (assigned x key) (omega arith) st1
+          both_leads o f r q pl1 (code_of a q) (both save back) t1 vars1 (eval f a vars1) (assignment_outcome x key) (omega arith) st1
           (λ st2. expr_leads a c.3 q pl1 t1 vars1 well (omega arith) (omega arith) ready1 d.at st2)
           (λ pl2 st2 v vars2 t2 is d2.
           let typed : IsOf (type_of a) v × AreTyped slots vars2 = subst (Ends slots (IsOf (type_of a))) is (eval_is slots f fit a vars1 c.3 well) in
@@ -487,18 +487,18 @@ module _ (o : Object) (f : Firing) where
           let save = saving x.space keys var r (register q) in
           let back = lowering keys (register q) (register r) in
           let hold = both (holding x.holds (register q)) (both save back) in
-          let act = both (operated o' (register q) (register (q + 1))) hold in
+          let act = both (operate_on o' (register q) (register (q + 1))) hold in
           let t = works_in o' in
           let old = λ (key : List KeyPart) (vars : Variables). narrow t (word_of (value_at vars x key)) in
           let u : Usable q = record { low = omega arith; high = omega arith } in
           keys_both o f slots keys r pl (keys_code keys r) (both (fetching x.space keys var r (register q)) (both (narrowing t (register q)) (both (code_of a (q + 1)) act))) s vars (keys_of f keys vars)
-          (λ key vars. with (number (eval f a vars)) (λ y after. with (given (operation_of o' (old key vars) y) after) (updated x key))) (keys_are slots f fit keys vars c.1 good) stands
+          (λ key vars. with (number (eval f a vars)) (λ y after. with (word_or_fault (operation_of o' (old key vars) y) after) (update_outcome x key))) (keys_are slots f fit keys vars c.1 good) stands
           (λ st1. keys_lead keys c.1 r 0 r pl s vars (omega arith) good low (omega arith) ready e st1)
           (λ pl1 st1 key vars1 t1 well d.
           let ready1 = ready_keyed keys r _ s t1 key low ready d in
           let value = value_at vars1 x key in
           let is = of_its_type slots vars1 x key well c.0 in
-          let z = with (number (eval f a vars1)) (λ y after. with (given (operation_of o' (old key vars1) y) after) (updated x key)) in
+          let z = with (number (eval f a vars1)) (λ y after. with (word_or_fault (operation_of o' (old key vars1) y) after) (update_outcome x key)) in
           then_leads r q pl1 (fetching x.space keys var r (register q)) (both (narrowing t (register q)) (both (code_of a (q + 1)) act)) t1 vars1 vars1 value z (omega arith) st1
           (λ st2. fetching_leads o f x.space keys x.slot x.holds r q pl1 t1 vars1 key u ready1 (omega arith) (omega arith) d.there is d.at st2)
           (λ pl2 st2 t2 d2.
@@ -511,18 +511,18 @@ module _ (o : Object) (f : Firing) where
           let there3 = there_kept keys r t2.registers t3.registers key (λ k less. d3.kept k less) there2 in
           let ready3 = ready_on q _ t2 t3 (va.Int (old key vars1)) (omega arith) ready2 d3 in
           let takes = count_type o' (type_of a) c.3 in
-          both_number o f slots r (q + 1) pl3 (code_of a (q + 1)) act t3 vars1 (type_of a) takes.0 (eval f a vars1) (λ y after. with (given (operation_of o' (old key vars1) y) after) (updated x key)) (omega arith) takes.1 (eval_is slots f fit a vars1 c.4 well) st3
+          both_number o f slots r (q + 1) pl3 (code_of a (q + 1)) act t3 vars1 (type_of a) takes.0 (eval f a vars1) (λ y after. with (word_or_fault (operation_of o' (old key vars1) y) after) (update_outcome x key)) (omega arith) takes.1 (eval_is slots f fit a vars1 c.4 well) st3
           (λ st4. expr_leads a c.4 (q + 1) pl3 t3 vars1 well (omega arith) (omega arith) ready3 d3.at st4)
           (λ pl4 st4 y vars4 t4 is4 well4 d4.
           let there4 = there_kept keys r t3.registers t4.registers key (λ k less. d4.kept k (omega arith)) there3 in
           let ready4 = ready_on (q + 1) _ t3 t4 (va.Int y) (omega arith) ready3 d4 in
-          subst (Leads o f r (pl4.at + length (both (operated o' (register q) (register (q + 1))) hold pl4).code) t4 vars4) (sym (as_integer (given (operation_of o' (old key vars1) y) vars4) (updated x key)))
-          (both_leads o f r q pl4 (operated o' (register q) (register (q + 1))) hold t4 vars4 (integer (given (operation_of o' (old key vars1) y) vars4)) (λ v. updated x key (word_of v)) (omega arith) st4
+          subst (Leads o f r (pl4.at + length (both (operate_on o' (register q) (register (q + 1))) hold pl4).code) t4 vars4) (sym (as_integer (word_or_fault (operation_of o' (old key vars1) y) vars4) (update_outcome x key)))
+          (both_leads o f r q pl4 (operate_on o' (register q) (register (q + 1))) hold t4 vars4 (integer (word_or_fault (operation_of o' (old key vars1) y) vars4)) (λ v. update_outcome x key (word_of v)) (omega arith) st4
           (λ st5. operated_leads o' q pl4 (old key vars1) y t4 vars4 u (omega arith) d4.long d4.at (d4.kept q (omega arith) ∙ d3.value) d4.value st5)
           (λ pl5 st5 v vars5 t5 is5 d5.
           let there5 = there_kept keys r t4.registers t5.registers key (λ k less. d5.kept k less) there4 in
           let ready5 = ready_on q _ t4 t5 v (omega arith) ready4 d5 in
-          let word = integer_word (given (operation_of o' (old key vars1) y) vars4) v vars5 is5 in
+          let word = integer_word (word_or_fault (operation_of o' (old key vars1) y) vars4) v vars5 is5 in
           held_saved r q pl5 x keys key (word_of v) t5 vars5 refl low (omega arith) c.2 ready5 there5 d5.at (d5.value ∙ ap Some word) (given_small o' (old key vars1) y vars4 v vars5 is5) st5))))))
       expr_leads (Count step answer x keys) c r pl s vars good low high ready e stands =
           let n = count_fits keys 0 (need_of_keys 0 keys) (omega arith) (omega arith) in
@@ -532,32 +532,32 @@ module _ (o : Object) (f : Firing) where
           let rest = both (answering answer step x.holds (register q)) (lowering keys (register q) (register r)) in
           let u : Usable q = record { low = omega arith; high = omega arith } in
           keys_both o f slots keys r pl (keys_code keys r) (both (fetching x.space keys var r (register q)) (both (stepping step x.holds (register q)) (both save rest))) s vars (keys_of f keys vars)
-          (λ key vars. moved step answer x key (word_of (value_at vars x key)) vars) (keys_are slots f fit keys vars c.1 good) stands
+          (λ key vars. step_outcome step answer x key (word_of (value_at vars x key)) vars) (keys_are slots f fit keys vars c.1 good) stands
           (λ st1. keys_lead keys c.1 r 0 r pl s vars (omega arith) good low (omega arith) ready e st1)
           (λ pl1 st1 key vars1 t1 well d.
           let ready1 = ready_keyed keys r _ s t1 key low ready d in
           let value = value_at vars1 x key in
           let old = word_of value in
-          let new = held x.holds (stepped step old) in
+          let new = word_as_type x.holds (step_result step old) in
           let is = of_its_type slots vars1 x key well c.0 in
           let w = integer_there x.holds value c.2 is in
           let vars2 = set vars1 x key (va.Int new) in
-          then_leads r q pl1 (fetching x.space keys var r (register q)) (both (stepping step x.holds (register q)) (both save rest)) t1 vars1 vars1 value (Has (va.Int (answered answer old new)) vars2) (omega arith) st1
+          then_leads r q pl1 (fetching x.space keys var r (register q)) (both (stepping step x.holds (register q)) (both save rest)) t1 vars1 vars1 value (Has (va.Int (step_value answer old new)) vars2) (omega arith) st1
           (λ st2. fetching_leads o f x.space keys x.slot x.holds r q pl1 t1 vars1 key u ready1 (omega arith) (omega arith) d.there is d.at st2)
           (λ pl2 st2 t2 d2.
           let there2 = there_kept keys r t1.registers t2.registers key (λ k less. d2.kept k less) d.there in
           let ready2 = ready_on q _ t1 t2 value (omega arith) ready1 d2 in
-          then_leads r q pl2 (stepping step x.holds (register q)) (both save rest) t2 vars1 vars1 (va.Int new) (Has (va.Int (answered answer old new)) vars2) (omega arith) st2
+          then_leads r q pl2 (stepping step x.holds (register q)) (both save rest) t2 vars1 vars1 (va.Int new) (Has (va.Int (step_value answer old new)) vars2) (omega arith) st2
           (λ st3. stepping_leads step x.holds q pl2 old t2 vars1 c.2 u (omega arith) d2.long d2.at (d2.value ∙ ap Some w.0) st3)
           (λ pl3 st3 t3 d3.
           let there3 = there_kept keys r t2.registers t3.registers key (λ k less. d3.kept k less) there2 in
           let ready3 = ready_on q _ t2 t3 (va.Int new) (omega arith) ready2 d3 in
-          then_leads r q pl3 save rest t3 vars1 vars2 (va.Int new) (Has (va.Int (answered answer old new)) vars2) (omega arith) st3
-          (λ st4. saving_leads o f x.space keys x.slot x.holds r q pl3 t3 vars1 key (va.Int new) u.high ready3 (omega arith) (omega arith) there3 d3.value (held_is x.holds (stepped step old) c.2) d3.at st4)
+          then_leads r q pl3 save rest t3 vars1 vars2 (va.Int new) (Has (va.Int (step_value answer old new)) vars2) (omega arith) st3
+          (λ st4. saving_leads o f x.space keys x.slot x.holds r q pl3 t3 vars1 key (va.Int new) u.high ready3 (omega arith) (omega arith) there3 d3.value (held_is x.holds (step_result step old) c.2) d3.at st4)
           (λ pl4 st4 t4 d4.
-          then_leads r q pl4 (answering answer step x.holds (register q)) (lowering keys (register q) (register r)) t4 vars2 vars2 (va.Int (answered answer old new)) (Has (va.Int (answered answer old new)) vars2) (omega arith) st4
+          then_leads r q pl4 (answering answer step x.holds (register q)) (lowering keys (register q) (register r)) t4 vars2 vars2 (va.Int (step_value answer old new)) (Has (va.Int (step_value answer old new)) vars2) (omega arith) st4
           (λ st5. answering_leads answer step x.holds q pl4 old t4 vars2 c.2 (integer_of x.holds value c.2 is) u (omega arith) d4.long d4.at d4.value st5)
-          (λ pl5 st5 t5 d5. lowering_leads o f keys q r pl5 (va.Int (answered answer old new)) t5 vars2 refl (record { low = low; high = omega arith }) u.high d5.long d5.at d5.value st5)))))
+          (λ pl5 st5 t5 d5. lowering_leads o f keys q r pl5 (va.Int (step_value answer old new)) t5 vars2 refl (record { low = low; high = omega arith }) u.high d5.long d5.at d5.value st5)))))
       expr_leads (Strlen a) c r pl s vars good low high ready e stands =
           let m = need_pos a in
           both_text o f slots r r pl (code_of a r) (measuring (register r)) s vars (type_of a) (eval f a vars) (λ x. Has (va.Int (length x))) (omega arith) c.0 (eval_is slots f fit a vars c.1 good) stands

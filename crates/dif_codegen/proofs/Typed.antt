@@ -44,7 +44,7 @@ use Rattle.dif_validate.specs.Validity.{is_return}
 use Rattle.dif_validate.proofs.Faultless.{IsFine}
 use Rattle.dif_validate.proofs.Flowing.{Within, within_self}
 use Rattle.dif_machine.proofs.Fitting.{put_long}
-use Rattle.dif_codegen.specs.Code.{register, operator_of, condition_of, shift_right, shift_operator, shifts, masking, operated, differing, narrowing, unary, built_in, load_from, store_to, push_of, pushing, fetching, saving, lowering, holding, step_operator, opposite, stepping, answering, measuring, joining, code_of, keys_code}
+use Rattle.dif_codegen.specs.Code.{register, operator_of, condition_of, shift_right, shift_operator, shifts, masking, operate_on, differing, narrowing, unary, built_in, load_from, store_to, push_of, pushing, fetching, saving, lowering, holding, step_operator, opposite, stepping, answering, measuring, joining, code_of, keys_code}
 use Rattle.dif_codegen.specs.Pieces as pieces
 use Rattle.dif_codegen.specs.Pieces.{Piece, Place, Maker, nothing, one, both, fork, choice, bit_by, behind, next}
 use Rattle.dif_codegen.proofs.Levels.{level, level_at, first_of, level_front, level_more, nonzero, write_again, fine_none, fine_one, fine_two, fine_any}
@@ -253,8 +253,8 @@ module _ (o : Object) where
         subst (λ n. Makes pl (level js) (code_of b n) (level (ks ++ j ∷ k ∷ []))) (above ks j)
         (subst (Types o pl.at (level js) (code_of b (suc (length js)) pl).code) (two ks j k) made')
 
-    operated_makes : (ks : List Kind) → length ks < 5 → (pl : Place) (o' : Operation) → Stands o pl (operated o' (register (suc (length ks))) (register (suc (length ks) + 1)) pl)
-        → Makes pl (level (ks ++ ki.Number ∷ ki.Number ∷ [])) (operated o' (register (suc (length ks))) (register (suc (length ks) + 1))) (level (ks ++ ki.Number ∷ []))
+    operated_makes : (ks : List Kind) → length ks < 5 → (pl : Place) (o' : Operation) → Stands o pl (operate_on o' (register (suc (length ks))) (register (suc (length ks) + 1)) pl)
+        → Makes pl (level (ks ++ ki.Number ∷ ki.Number ∷ [])) (operate_on o' (register (suc (length ks))) (register (suc (length ks) + 1))) (level (ks ++ ki.Number ∷ []))
     operated_makes ks few pl (op.Arithmetic o' t) stands =
         let r = suc (length ks) in
         let i = Alu (operator_of o' t.signed) (register r) (register (r + 1)) (register r) in
@@ -483,19 +483,19 @@ module _ (o : Object) where
       expr_makes (Operate (op.Arithmetic o' t) a b) c ks pl few stands =
           let n = need_pos b in
           let r = suc (length ks) in
-          both_make pl (level ks) (level (ks ++ ki.Number ∷ [])) (level (ks ++ ki.Number ∷ [])) (code_of a r) (both (code_of b (r + 1)) (operated (op.Arithmetic o' t) (register r) (register (r + 1)))) stands
+          both_make pl (level ks) (level (ks ++ ki.Number ∷ [])) (level (ks ++ ki.Number ∷ [])) (code_of a r) (both (code_of b (r + 1)) (operate_on (op.Arithmetic o' t) (register r) (register (r + 1)))) stands
           (λ st1. as_number (type_of a) t c.0.0 ks pl.at (level ks) _ (expr_makes a c.1 ks pl (omega arith) st1))
           (λ pl1 st1.
-          both_make pl1 (level (ks ++ ki.Number ∷ [])) (level (ks ++ ki.Number ∷ ki.Number ∷ [])) (level (ks ++ ki.Number ∷ [])) (code_of b (r + 1)) (operated (op.Arithmetic o' t) (register r) (register (r + 1))) st1
+          both_make pl1 (level (ks ++ ki.Number ∷ [])) (level (ks ++ ki.Number ∷ ki.Number ∷ [])) (level (ks ++ ki.Number ∷ [])) (code_of b (r + 1)) (operate_on (op.Arithmetic o' t) (register r) (register (r + 1))) st1
           (λ st2. second b c.2 ki.Number ki.Number (ap kind_of c.0.1) ks pl1 (omega arith) (λ m e f. expr_makes b c.2 (ks ++ ki.Number ∷ []) pl1 e f) st2)
           (λ pl2 st2. operated_makes ks (omega arith) pl2 (op.Arithmetic o' t) st2))
       expr_makes (Operate (op.Shift o' t) a b) c ks pl few stands =
           let n = need_pos b in
           let r = suc (length ks) in
-          both_make pl (level ks) (level (ks ++ ki.Number ∷ [])) (level (ks ++ ki.Number ∷ [])) (code_of a r) (both (code_of b (r + 1)) (operated (op.Shift o' t) (register r) (register (r + 1)))) stands
+          both_make pl (level ks) (level (ks ++ ki.Number ∷ [])) (level (ks ++ ki.Number ∷ [])) (code_of a r) (both (code_of b (r + 1)) (operate_on (op.Shift o' t) (register r) (register (r + 1)))) stands
           (λ st1. as_number (type_of a) t c.0.0 ks pl.at (level ks) _ (expr_makes a c.1 ks pl (omega arith) st1))
           (λ pl1 st1.
-          both_make pl1 (level (ks ++ ki.Number ∷ [])) (level (ks ++ ki.Number ∷ ki.Number ∷ [])) (level (ks ++ ki.Number ∷ [])) (code_of b (r + 1)) (operated (op.Shift o' t) (register r) (register (r + 1))) st1
+          both_make pl1 (level (ks ++ ki.Number ∷ [])) (level (ks ++ ki.Number ∷ ki.Number ∷ [])) (level (ks ++ ki.Number ∷ [])) (code_of b (r + 1)) (operate_on (op.Shift o' t) (register r) (register (r + 1))) st1
           (λ st2. second b c.2 ki.Number ki.Number (ap kind_of c.0.1.1) ks pl1 (omega arith) (λ m e f. expr_makes b c.2 (ks ++ ki.Number ∷ []) pl1 e f) st2)
           (λ pl2 st2. operated_makes ks (omega arith) pl2 (op.Shift o' t) st2))
       expr_makes (Compare o' t a b) c ks pl few stands =
@@ -594,7 +594,7 @@ module _ (o : Object) where
           let t = works_in o' in
           let number : k ≡ ki.Number = ap kind_of c.2.1 in
           let save = λ (q : ℕ). both (saving x.space keys (var_of x) r (register q)) (lowering keys (register q) (register r)) in
-          let act = λ (q : ℕ). both (operated o' (register q) (register (q + 1))) (both (holding x.holds (register q)) (save q)) in
+          let act = λ (q : ℕ). both (operate_on o' (register q) (register (q + 1))) (both (holding x.holds (register q)) (save q)) in
           let rest = λ (q : ℕ). both (fetching x.space keys (var_of x) r (register q)) (both (narrowing t (register q)) (both (code_of a (q + 1)) (act q))) in
           let takes = count_type o' (type_of a) c.3 in
           let one = js ++ ki.Number ∷ [] in
@@ -613,7 +613,7 @@ module _ (o : Object) where
           both_make pl4 (level one) (level (js ++ ki.Number ∷ ki.Number ∷ [])) (level (ks ++ k ∷ [])) (code_of a (q + 1)) (act q) st4
           (λ st5. second a c.4 ki.Number ki.Number (ap kind_of takes.1) js pl4 (omega arith) (λ m e f. expr_makes a c.4 one pl4 e f) st5)
           (λ pl5 st5.
-          both_make pl5 (level (js ++ ki.Number ∷ ki.Number ∷ [])) (level one) (level (ks ++ k ∷ [])) (operated o' (register q) (register (q + 1))) (both (holding x.holds (register q)) (save q)) st5
+          both_make pl5 (level (js ++ ki.Number ∷ ki.Number ∷ [])) (level one) (level (ks ++ k ∷ [])) (operate_on o' (register q) (register (q + 1))) (both (holding x.holds (register q)) (save q)) st5
           (λ st6. operated_makes js (omega arith) pl5 o' st6)
           (λ pl6 st6.
           both_make pl6 (level one) (level one) (level (ks ++ k ∷ [])) (holding x.holds (register q)) (save q) st6

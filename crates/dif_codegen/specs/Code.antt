@@ -1,41 +1,8 @@
 -- The code of an expression.
 use Rattle.std.specs.Prelude.{ℕ, zero, suc, ◌+◌, ◌-◌, Bool, true, false, ◌==◌, if◌then◌else◌}
-use Rattle.d_parser.specs.declared.operators.UnaryOperator.{UnaryOperator}
-use Rattle.d_parser.specs.declared.operators.UnaryOperator.TheVariants as un
-use Rattle.d_parser.specs.declared.operators.Step.{Step}
-use Rattle.d_parser.specs.declared.operators.Step.TheVariants as st
-use Rattle.d_values.specs.declared.int_type.IntType.{IntType}
-use Rattle.d_values.specs.declared.int_type.DType.{DType}
-use Rattle.d_values.specs.declared.int_type.DType.TheVariants as ty
-use Rattle.d_values.specs.declared.operators.ArithmeticOperator.{ArithmeticOperator}
-use Rattle.d_values.specs.declared.operators.ArithmeticOperator.TheVariants as ar
-use Rattle.d_values.specs.declared.operators.ComparisonOperator.{ComparisonOperator}
-use Rattle.d_values.specs.declared.operators.ComparisonOperator.TheVariants as co
-use Rattle.d_values.specs.declared.operators.ShiftOperator.{ShiftOperator}
-use Rattle.d_values.specs.declared.operators.ShiftOperator.TheVariants as sh
-use Rattle.d_values.specs.declared.variable.Var.{Var}
-use Rattle.d_types.specs.declared.typed.Answer.{Answer}
-use Rattle.d_types.specs.declared.typed.Answer.TheVariants as an
-use Rattle.d_types.specs.declared.typed.BuiltIn.{BuiltIn}
-use Rattle.d_types.specs.declared.typed.BuiltIn.TheVariants as bi
-use Rattle.d_types.specs.declared.typed.LogicOperator.TheVariants as lo
-use Rattle.d_types.specs.declared.typed.Operation.{Operation}
-use Rattle.d_types.specs.declared.typed.Operation.TheVariants as op
-use Rattle.d_types.specs.declared.typed.Space.{Space}
-use Rattle.d_types.specs.declared.typed.Space.TheVariants as sp
-use Rattle.d_types.specs.Expressions.{works_in}
-use Rattle.d_types.specs.Needs.{count}
-use Rattle.d_types.specs.Storage.{var_of}
 use Rattle.d_types.specs.Typed.{Typed, Constant, Text, Fixed, Read, Unary, Operate, Compare, CompareText, Logic, Choice, Convert, Assign, Update, Count, Strlen, Strjoin, Typeds, end, more, type_of}
-use Rattle.dif_validate.specs.declared.instruction.Condition.{Condition}
-use Rattle.dif_validate.specs.declared.instruction.Condition.TheVariants.{Equal, NotEqual, Greater, GreaterEqual, Less, LessEqual, Above, AboveEqual, Below, BelowEqual}
-use Rattle.dif_validate.specs.declared.instruction.Function.TheVariants as fu
-use Rattle.dif_validate.specs.declared.instruction.Instr.{Instr}
-use Rattle.dif_validate.specs.declared.instruction.Instr.TheVariants.{Alu, Not, Mov, Cmp, Tst, Scmp, Ldgs, Ldga, Ldts, Stts, Ldls, Stls, Pushtr, Pushtv, Flushts, Ldtaa, Sttaa, Call, Ret}
-use Rattle.dif_validate.specs.declared.instruction.Operator.{Operator}
-use Rattle.dif_validate.specs.declared.instruction.Operator.TheVariants.{Or, Xor, And, Sll, Srl, Sra, Sub, Add, Mul, Sdiv, Udiv, Srem, Urem}
-use Rattle.dif_validate.specs.declared.register.Reg.{Reg}
-use Rattle.dif_validate.specs.declared.register.Reg.TheVariants.{R0, R1, R2, R3, R4, R5, R6, R7}
+use Rattle.dif_codegen.specs.Vocabulary.{UnaryOperator, Step, IntType, DType, ArithmeticOperator, ComparisonOperator, ShiftOperator, Var, Answer, BuiltIn, LogicOperator, Operation, Space, works_in, count, var_of}
+use Rattle.dif_codegen.specs.Vocabulary.{Condition, Equal, NotEqual, Greater, GreaterEqual, Less, LessEqual, Above, AboveEqual, Below, BelowEqual, Function, Instr, Alu, Not, Mov, Cmp, Tst, Scmp, Ldgs, Ldga, Ldts, Stts, Ldls, Stls, Pushtr, Pushtv, Flushts, Ldtaa, Sttaa, Call, Ret, Operator, Or, Xor, And, Sll, Srl, Sra, Sub, Add, Mul, Sdiv, Udiv, Srem, Urem, Reg, R0, R1, R2, R3, R4, R5, R6, R7}
 use Rattle.dif_codegen.specs.Pieces.{Piece, Maker, nothing, one, number, text, both, choice, bit_by}
 
 -- the register of a number below 8
@@ -52,28 +19,28 @@ register (suc (suc (suc (suc (suc (suc (suc n))))))) = R7
 -- ---- operators
 
 abbrev pub operator_of : ArithmeticOperator → Bool → Operator
-operator_of ar.Multiply signed = Mul
-operator_of ar.Divide true = Sdiv
-operator_of ar.Divide false = Udiv
-operator_of ar.Remainder true = Srem
-operator_of ar.Remainder false = Urem
-operator_of ar.Add signed = Add
-operator_of ar.Subtract signed = Sub
-operator_of ar.BitAnd signed = And
-operator_of ar.BitXor signed = Xor
-operator_of ar.BitOr signed = Or
+operator_of ArithmeticOperator.Multiply signed = Mul
+operator_of ArithmeticOperator.Divide true = Sdiv
+operator_of ArithmeticOperator.Divide false = Udiv
+operator_of ArithmeticOperator.Remainder true = Srem
+operator_of ArithmeticOperator.Remainder false = Urem
+operator_of ArithmeticOperator.Add signed = Add
+operator_of ArithmeticOperator.Subtract signed = Sub
+operator_of ArithmeticOperator.BitAnd signed = And
+operator_of ArithmeticOperator.BitXor signed = Xor
+operator_of ArithmeticOperator.BitOr signed = Or
 
 abbrev pub condition_of : ComparisonOperator → Bool → Condition
-condition_of co.Equal signed = Equal
-condition_of co.NotEqual signed = NotEqual
-condition_of co.Less true = Less
-condition_of co.Less false = Below
-condition_of co.LessEqual true = LessEqual
-condition_of co.LessEqual false = BelowEqual
-condition_of co.Greater true = Greater
-condition_of co.Greater false = Above
-condition_of co.GreaterEqual true = GreaterEqual
-condition_of co.GreaterEqual false = AboveEqual
+condition_of ComparisonOperator.Equal signed = Equal
+condition_of ComparisonOperator.NotEqual signed = NotEqual
+condition_of ComparisonOperator.Less true = Less
+condition_of ComparisonOperator.Less false = Below
+condition_of ComparisonOperator.LessEqual true = LessEqual
+condition_of ComparisonOperator.LessEqual false = BelowEqual
+condition_of ComparisonOperator.Greater true = Greater
+condition_of ComparisonOperator.Greater false = Above
+condition_of ComparisonOperator.GreaterEqual true = GreaterEqual
+condition_of ComparisonOperator.GreaterEqual false = AboveEqual
 
 abbrev pub shift_right : Bool → Operator
 shift_right true = Sra
@@ -90,23 +57,24 @@ abbrev pub narrowing : IntType → Reg → Maker
 narrowing t d = if t.width == 64 then nothing else shifts (64 - t.width) t.signed d
 
 abbrev pub unary : UnaryOperator → IntType → Reg → Maker
-unary un.Not t d = bit_by (Tst d) Equal d
-unary un.Complement t d = both (one (Not d d)) (narrowing t d)
-unary un.Negate t d = both (one (Alu Sub R0 d d)) (narrowing t d)
-unary un.Keep t d = nothing
+unary UnaryOperator.Not t d = bit_by (Tst d) Equal d
+unary UnaryOperator.Complement t d = both (one (Not d d)) (narrowing t d)
+unary UnaryOperator.Negate t d = both (one (Alu Sub R0 d d)) (narrowing t d)
+unary UnaryOperator.Keep t d = nothing
 
 abbrev pub shift_operator : ShiftOperator → Bool → Operator
-shift_operator sh.Left signed = Sll
-shift_operator sh.Right signed = shift_right signed
+shift_operator ShiftOperator.Left signed = Sll
+shift_operator ShiftOperator.Right signed = shift_right signed
 
 -- a shift's count modulo the width, which is a power of two
 abbrev pub masking : IntType → Reg → Maker
 masking t c = both (number (t.width - 1) R7) (one (Alu And c R7 c))
 
 -- an operator on two registers, into the first
-abbrev pub operated : Operation → Reg → Reg → Maker
-operated (op.Arithmetic o t) a b = both (one (Alu (operator_of o t.signed) a b a)) (narrowing t a)
-operated (op.Shift o t) a b =
+abbrev pub operate_on : Operation → Reg → Reg → Maker
+operate_on (Operation.Arithmetic o t) a b =
+    both (one (Alu (operator_of o t.signed) a b a)) (narrowing t a)
+operate_on (Operation.Shift o t) a b =
     both (masking t b) (both (one (Alu (shift_operator o t.signed) a b a)) (narrowing t a))
 
 -- 1 where one of two registers is 0 and the other isn't, into the first
@@ -116,31 +84,31 @@ differing a b = choice (Tst a) Equal (bit_by (Tst b) Equal a) (bit_by (Tst b) No
 -- ---- what is read and changed
 
 abbrev pub built_in : BuiltIn → Reg → Maker
-built_in (bi.Argument n) d = both (number n d) (one (Ldga 0 d d))
-built_in bi.Timestamp d = one (Ldgs 0 d)
-built_in bi.Cpu d = one (Ldgs 1 d)
-built_in bi.Pid d = one (Ldgs 2 d)
-built_in bi.Tid d = one (Ldgs 3 d)
-built_in bi.Execname d = one (Ldgs 4 d)
-built_in bi.Probeprov d = one (Ldgs 5 d)
-built_in bi.Probemod d = one (Ldgs 6 d)
-built_in bi.Probefunc d = one (Ldgs 7 d)
-built_in bi.Probename d = one (Ldgs 8 d)
+built_in (BuiltIn.Argument n) d = both (number n d) (one (Ldga 0 d d))
+built_in BuiltIn.Timestamp d = one (Ldgs 0 d)
+built_in BuiltIn.Cpu d = one (Ldgs 1 d)
+built_in BuiltIn.Pid d = one (Ldgs 2 d)
+built_in BuiltIn.Tid d = one (Ldgs 3 d)
+built_in BuiltIn.Execname d = one (Ldgs 4 d)
+built_in BuiltIn.Probeprov d = one (Ldgs 5 d)
+built_in BuiltIn.Probemod d = one (Ldgs 6 d)
+built_in BuiltIn.Probefunc d = one (Ldgs 7 d)
+built_in BuiltIn.Probename d = one (Ldgs 8 d)
 
 abbrev pub load_from : Space → Var → Reg → Instr
-load_from sp.Thread x d = Ldts x d
-load_from sp.Clause x d = Ldls x d
+load_from Space.Thread x d = Ldts x d
+load_from Space.Clause x d = Ldls x d
 
 abbrev pub store_to : Space → Var → Reg → Instr
-store_to sp.Thread x a = Stts x a
-store_to sp.Clause x a = Stls x a
+store_to Space.Thread x a = Stts x a
+store_to Space.Clause x a = Stls x a
 
 -- ---- keys
 
 -- a value as the next part of a key
 abbrev pub push_of : DType → Reg → Instr
-push_of (ty.Int t) a = Pushtv a
-push_of ty.Text a = Pushtr a
+push_of (DType.Int t) a = Pushtv a
+push_of DType.Text a = Pushtr a
 
 -- the values in this register and those after it as the parts of a key
 abbrev pub pushing : Typeds → ℕ → Maker
@@ -149,20 +117,20 @@ pushing (more a rest) r = both (one (push_of (type_of a) (register r))) (pushing
 
 -- an instruction on an element, whose keys are in this register and those after it; the tuple is
 -- empty again after it
-abbrev pub keyed : Typeds → ℕ → Instr → Maker
-keyed keys r i = both (pushing keys r) (both (one i) (one Flushts))
+abbrev pub element_code : Typeds → ℕ → Instr → Maker
+element_code keys r i = both (pushing keys r) (both (one i) (one Flushts))
 
 -- the value of a variable
 abbrev pub fetching : Space → Typeds → Var → ℕ → Reg → Maker
-fetching sp.Clause keys x r d = one (load_from sp.Clause x d)
-fetching sp.Thread end x r d = one (load_from sp.Thread x d)
-fetching sp.Thread (more k ks) x r d = keyed (more k ks) r (Ldtaa x d)
+fetching Space.Clause keys x r d = one (load_from Space.Clause x d)
+fetching Space.Thread end x r d = one (load_from Space.Thread x d)
+fetching Space.Thread (more k ks) x r d = element_code (more k ks) r (Ldtaa x d)
 
 -- a value into a variable
 abbrev pub saving : Space → Typeds → Var → ℕ → Reg → Maker
-saving sp.Clause keys x r a = one (store_to sp.Clause x a)
-saving sp.Thread end x r a = one (store_to sp.Thread x a)
-saving sp.Thread (more k ks) x r a = keyed (more k ks) r (Sttaa x a)
+saving Space.Clause keys x r a = one (store_to Space.Clause x a)
+saving Space.Thread end x r a = one (store_to Space.Thread x a)
+saving Space.Thread (more k ks) x r a = element_code (more k ks) r (Sttaa x a)
 
 -- from after the keys to where they began
 abbrev pub lowering : Typeds → Reg → Reg → Maker
@@ -173,16 +141,16 @@ lowering (more k ks) a d = one (Mov a d)
 
 -- the word as one of a variable's type
 abbrev pub holding : DType → Reg → Maker
-holding (ty.Int t) d = narrowing t d
-holding ty.Text d = nothing
+holding (DType.Int t) d = narrowing t d
+holding DType.Text d = nothing
 
 abbrev pub step_operator : Step → Operator
-step_operator st.Increment = Add
-step_operator st.Decrement = Sub
+step_operator Step.Increment = Add
+step_operator Step.Decrement = Sub
 
 abbrev pub opposite : Step → Step
-opposite st.Increment = st.Decrement
-opposite st.Decrement = st.Increment
+opposite Step.Increment = Step.Decrement
+opposite Step.Decrement = Step.Increment
 
 -- one more or one less
 abbrev pub stepping : Step → DType → Reg → Maker
@@ -190,17 +158,18 @@ stepping step t d = both (number 1 R7) (both (one (Alu (step_operator step) d R7
 
 -- what is answered, from the new word
 abbrev pub answering : Answer → Step → DType → Reg → Maker
-answering an.New step t d = nothing
-answering an.Old step t d = stepping (opposite step) t d
+answering Answer.New step t d = nothing
+answering Answer.Old step t d = stepping (opposite step) t d
 
 -- ---- functions of texts
 
 abbrev pub measuring : Reg → Maker
-measuring d = both (one (Pushtr d)) (both (one (Call fu.Strlen d)) (one Flushts))
+measuring d = both (one (Pushtr d)) (both (one (Call Function.Strlen d)) (one Flushts))
 
 abbrev pub joining : Reg → Reg → Maker
 joining d a =
-    both (one (Pushtr d)) (both (one (Pushtr a)) (both (one (Call fu.Strjoin d)) (one Flushts)))
+    both (one (Pushtr d))
+    (both (one (Pushtr a)) (both (one (Call Function.Strjoin d)) (one Flushts)))
 
 -- ---- expressions
 
@@ -214,7 +183,7 @@ abbrev mutual
       both (keys_code keys r) (fetching x.space keys (var_of x) r (register r))
   code_of (Unary o t a) r = both (code_of a r) (unary o t (register r))
   code_of (Operate o a b) r =
-      both (code_of a r) (both (code_of b (r + 1)) (operated o (register r) (register (r + 1))))
+      both (code_of a r) (both (code_of b (r + 1)) (operate_on o (register r) (register (r + 1))))
   code_of (Compare o t a b) r =
       both (code_of a r)
       (both (code_of b (r + 1))
@@ -223,14 +192,14 @@ abbrev mutual
       both (code_of a r)
       (both (code_of b (r + 1))
       (bit_by (Scmp (register r) (register (r + 1))) (condition_of o false) (register r)))
-  code_of (Logic lo.Xor a b) r =
+  code_of (Logic LogicOperator.Xor a b) r =
       both (code_of a r) (both (code_of b (r + 1)) (differing (register r) (register (r + 1))))
-  code_of (Logic lo.And a b) r =
+  code_of (Logic LogicOperator.And a b) r =
       both (code_of a r)
       (choice (Tst (register r)) Equal
       (both (code_of b r) (bit_by (Tst (register r)) NotEqual (register r)))
       (number 0 (register r)))
-  code_of (Logic lo.Or a b) r =
+  code_of (Logic LogicOperator.Or a b) r =
       both (code_of a r)
       (choice (Tst (register r)) Equal
       (number 1 (register r))
@@ -248,7 +217,7 @@ abbrev mutual
       (both (fetching x.space keys (var_of x) r (register (r + count keys)))
       (both (narrowing (works_in o) (register (r + count keys)))
       (both (code_of a (r + count keys + 1))
-      (both (operated o (register (r + count keys)) (register (r + count keys + 1)))
+      (both (operate_on o (register (r + count keys)) (register (r + count keys + 1)))
       (both (holding x.holds (register (r + count keys)))
       (both (saving x.space keys (var_of x) r (register (r + count keys)))
       (lowering keys (register (r + count keys)) (register r))))))))

@@ -1,15 +1,7 @@
 -- What compiled code does.
 use Rattle.std.specs.Prelude.{◌≡◌, Result, Ok, Err}
-use Rattle.d_values.specs.declared.value.Value.{Value}
-use Rattle.firing_reader.specs.declared.firing.Firing.{Firing}
-use Rattle.d_types.specs.Expressions.{Outcome, Has, Faults, eval}
-use Rattle.d_types.specs.Held.{HasTypedBuiltIns, Slots, AreTyped}
-use Rattle.d_types.specs.Storage.{Variables}
-use Rattle.d_types.specs.Typed.{Typed}
-use Rattle.dif_validate.specs.Objects.{Object}
-use Rattle.dif_machine.specs.declared.fault.MachineFault.{MachineFault}
-use Rattle.dif_machine.specs.declared.fault.MachineFault.TheVariants.{DivideByZero, Memory}
 use Rattle.dif_machine.specs.Runs.{End, Returns, Divides, Runs}
+use Rattle.dif_codegen.specs.Vocabulary.{Value, Firing, Outcome, Has, Faults, eval, HasTypedBuiltIns, Slots, AreTyped, Variables, Typed, Object, MachineFault, DivideByZero, Memory}
 
 abbrev pub end_of : Outcome Value → End
 end_of (Has value vars) = Returns value vars

@@ -1,8 +1,6 @@
 -- Objects that are being made.
 use Rattle.std.specs.Prelude.{◌≡◌, ℕ, ◌+◌, ◌++◌, length, slice_set}
-use Rattle.dif_validate.specs.declared.instruction.Condition.{Condition}
-use Rattle.dif_validate.specs.declared.instruction.Instr.TheVariants.{Ba, Branch}
-use Rattle.dif_validate.specs.declared.object.Difo.{Difo}
+use Rattle.dif_codegen.specs.Vocabulary.{Condition, Ba, Branch, Difo}
 use Rattle.dif_codegen.specs.Pieces.{Place, Maker}
 
 -- the place after all that was made so far

@@ -1,3 +1,4 @@
+pub mod Vocabulary
 pub mod Pieces
 pub mod Code
 pub mod Correct

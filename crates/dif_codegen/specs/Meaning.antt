@@ -1,23 +1,9 @@
 -- What compiled clauses mean: the objects are run, and all else is as for typed trees.
 use Rattle.std.specs.Prelude.{◌≡◌, ℕ, zero, suc, List, [], ◌∷◌, length, map, Option, Some, None}
-use Rattle.std.specs.List.{AllZip}
-use Rattle.aggregations.specs.declared.function.AggFn.{AggFn}
-use Rattle.d_values.specs.declared.int_type.DType.{DType}
-use Rattle.d_values.specs.declared.key.KeyPart.{KeyPart}
-use Rattle.d_values.specs.declared.value.Value.{Value}
-use Rattle.firing_reader.specs.declared.firing.Firing.{Firing}
-use Rattle.d_types.specs.Clauses.{Evaluation, Made, fault_line, run_by, run_of}
-use Rattle.d_types.specs.Expressions.{Outcome, Has, Faults, with, part_of}
-use Rattle.d_types.specs.Held.{HasTypedBuiltIns, Slots, AreTyped, slots_of}
-use Rattle.d_types.specs.Storage.{Variables}
-use Rattle.d_types.specs.Typed.{ActionOf, Evaluate, Trace, Print, Exit, Aggregate, ClauseMeant, ScriptMeant}
-use Rattle.dif_validate.specs.Objects.{Object}
-use Rattle.dif_machine.specs.Frames.{Frame}
-use Rattle.dif_machine.specs.Frames.{start}
+use Rattle.d_types.specs.Typed.{ActionOf, Evaluate, Trace, Print, Exit, Aggregate}
 use Rattle.dif_machine.specs.Steps as steps
-use Rattle.dif_machine.specs.Steps.{Next, step_of}
-use Rattle.dif_codegen.specs.declared.program.CompiledClause.{CompiledClause}
-use Rattle.dif_codegen.specs.declared.program.TypedObject.{TypedObject}
+use Rattle.dif_machine.specs.{Frames.Frame, Frames.start, Steps.Next, Steps.step_of}
+use Rattle.dif_codegen.specs.Vocabulary.{AllZip, AggFn, DType, KeyPart, Value, Firing, Evaluation, Made, fault_line, run_by, run_of, Outcome, Has, Faults, with, part_of, HasTypedBuiltIns, Slots, AreTyped, slots_of, Variables, ClauseMeant, ScriptMeant, Object, CompiledClause, TypedObject}
 use Rattle.dif_codegen.specs.Programs.{ClauseCode, clause_code}
 
 -- ---- objects

@@ -1,9 +1,6 @@
 -- Pieces of code, and how they are put together.
 use Rattle.std.specs.Prelude.{ℕ, ◌+◌, List, [], ◌∷◌, ◌++◌, length}
-use Rattle.dif_validate.specs.declared.instruction.Condition.{Condition}
-use Rattle.dif_validate.specs.declared.instruction.Instr.{Instr}
-use Rattle.dif_validate.specs.declared.instruction.Instr.TheVariants.{Ba, Branch, Setx, Sets}
-use Rattle.dif_validate.specs.declared.register.Reg.{Reg}
+use Rattle.dif_codegen.specs.Vocabulary.{Condition, Instr, Ba, Branch, Setx, Sets, Reg}
 
 -- instructions, and what they add to the tables
 pub record Piece : Type 0 where
@@ -36,8 +33,8 @@ text bytes d pl = record { code = Sets pl.texts d ∷ []; texts = bytes ∷ []; 
 
 -- ---- one after the other
 
-abbrev pub joined : Piece → Piece → Piece
-joined p q = record {
+abbrev pub sequence : Piece → Piece → Piece
+sequence p q = record {
   code = p.code ++ q.code;
   texts = p.texts ++ q.texts;
   numbers = p.numbers ++ q.numbers;
@@ -51,7 +48,7 @@ behind pl p = record {
 }
 
 abbrev pub after : Piece → Maker → Maker
-after p h pl = joined p (h (behind pl p))
+after p h pl = sequence p (h (behind pl p))
 
 abbrev pub both : Maker → Maker → Maker
 both g h pl = after (g pl) h pl
@@ -62,8 +59,8 @@ abbrev pub next : Place → Place
 next pl = record { at = pl.at + 1; texts = pl.texts; numbers = pl.numbers }
 
 -- the second where the branch is taken, else the first and a jump past the second
-abbrev pub forked : Condition → Place → Piece → Piece → Piece
-forked condition pl p q = record {
+abbrev pub fork_piece : Condition → Place → Piece → Piece → Piece
+fork_piece condition pl p q = record {
   code =
       Branch condition (pl.at + 2 + length p.code)
       ∷ (p.code ++ Ba (pl.at + 2 + length p.code + length q.code) ∷ q.code);
@@ -72,7 +69,7 @@ forked condition pl p q = record {
 }
 
 abbrev pub fork_after : Condition → Piece → Maker → Maker
-fork_after condition p h pl = forked condition pl p (h (next (behind (next pl) p)))
+fork_after condition p h pl = fork_piece condition pl p (h (next (behind (next pl) p)))
 
 abbrev pub fork : Condition → Maker → Maker → Maker
 fork condition g h pl = fork_after condition (g (next pl)) h pl

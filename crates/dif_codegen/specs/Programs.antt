@@ -1,13 +1,8 @@
 -- Compiled clauses, without where they lie in memory, and what clauses are compiled to.
 use Rattle.std.specs.Prelude.{List, [], ◌∷◌, map, Option, Some, None}
-use Rattle.d_parser.specs.declared.tree.Description.{Description}
-use Rattle.d_types.specs.Typed.{Typed, Typeds, end, more, type_of, ClauseMeant}
 use Rattle.d_types.specs.Typed as typed
-use Rattle.d_types.specs.Typed.{ActionOf, Evaluate, Trace, Print, Exit, Aggregate}
-use Rattle.dif_codegen.specs.declared.program.Action.{Action}
-use Rattle.dif_codegen.specs.declared.program.Action.TheVariants as a
-use Rattle.dif_codegen.specs.declared.program.CompiledClause.{CompiledClause}
-use Rattle.dif_codegen.specs.declared.program.TypedObject.{TypedObject}
+use Rattle.d_types.specs.Typed.{Typeds, end, more, type_of, ActionOf, Evaluate, Trace, Print, Exit, Aggregate}
+use Rattle.dif_codegen.specs.Vocabulary.{Description, Typed, ClauseMeant, Action, CompiledClause, TypedObject}
 use Rattle.dif_codegen.specs.Code.{object_of}
 
 -- a statement with an object in place of each expression
@@ -22,11 +17,11 @@ pub record ClauseCode : Type 0 where
 -- ---- compiled clauses
 
 abbrev pub action_code : Action → ActionCode
-action_code (a.Plain x) = Evaluate x
-action_code (a.Trace x) = Trace x
-action_code (a.Printf format arguments) = Print format.items arguments.items
-action_code (a.Exit x) = Exit x
-action_code (a.Aggregate place keys argument) = Aggregate place keys.items argument
+action_code (Action.Plain x) = Evaluate x
+action_code (Action.Trace x) = Trace x
+action_code (Action.Printf format arguments) = Print format.items arguments.items
+action_code (Action.Exit x) = Exit x
+action_code (Action.Aggregate place keys argument) = Aggregate place keys.items argument
 
 abbrev pub clause_code : CompiledClause → ClauseCode
 clause_code c = record {
@@ -37,8 +32,8 @@ clause_code c = record {
 
 -- ---- what clauses are compiled to
 
-abbrev pub compiled : Typed → TypedObject
-compiled e = record {
+abbrev pub compiled_object : Typed → TypedObject
+compiled_object e = record {
   object = record {
     code = (object_of e).code;
     texts = (object_of e).texts;
@@ -47,25 +42,25 @@ compiled e = record {
   returns = type_of e;
 }
 
-abbrev pub all_compiled : Typeds → List TypedObject
-all_compiled end = []
-all_compiled (more e rest) = compiled e ∷ all_compiled rest
+abbrev pub compiled_objects : Typeds → List TypedObject
+compiled_objects end = []
+compiled_objects (more e rest) = compiled_object e ∷ compiled_objects rest
 
-abbrev pub any_compiled : Option Typed → Option TypedObject
-any_compiled None = None
-any_compiled (Some e) = Some (compiled e)
+abbrev pub optional_object : Option Typed → Option TypedObject
+optional_object None = None
+optional_object (Some e) = Some (compiled_object e)
 
 abbrev pub compiled_action : typed.Action → ActionCode
-compiled_action (Evaluate e) = Evaluate (compiled e)
-compiled_action (Trace e) = Trace (compiled e)
-compiled_action (Print format arguments) = Print format (all_compiled arguments)
-compiled_action (Exit e) = Exit (compiled e)
+compiled_action (Evaluate e) = Evaluate (compiled_object e)
+compiled_action (Trace e) = Trace (compiled_object e)
+compiled_action (Print format arguments) = Print format (compiled_objects arguments)
+compiled_action (Exit e) = Exit (compiled_object e)
 compiled_action (Aggregate place keys argument) =
-    Aggregate place (all_compiled keys) (any_compiled argument)
+    Aggregate place (compiled_objects keys) (optional_object argument)
 
 abbrev pub compiled_clause : ClauseMeant → ClauseCode
 compiled_clause c = record {
   descriptions = c.descriptions;
-  predicate = any_compiled c.predicate;
+  predicate = optional_object c.predicate;
   actions = map compiled_action c.statements;
 }

@@ -1,10 +1,8 @@
 //! Branches: their targets are written once both sides are made.
 
-ghost use Rattle.std.specs.Prelude.{◌≡◌, ◌<◌, false, length, OnOk};
+ghost use Rattle.std.specs.Prelude.{◌<◌, false, length, OnOk};
 ghost use Rattle.dif_codegen.specs.Code as spec;
-ghost use Rattle.dif_codegen.specs.Drafts.{Adds, Closes};
-ghost use Rattle.dif_codegen.specs.Pieces as pieces;
-ghost use Rattle.dif_validate.specs.declared.instruction.Instr.TheVariants.{Cmp, Scmp};
+ghost use Rattle.dif_codegen.specs.{Vocabulary.Cmp, Vocabulary.Scmp, Drafts.Adds, Drafts.Closes, Pieces.bit_by};
 
 use crate::draft::{narrow, put, put_number};
 use crate::operators::condition_of;
@@ -30,7 +28,7 @@ pub(crate) fn put_bit(
     condition: Condition,
     d: Reg,
 ) -> Result<(), AllocError>
-    ensures { OnOk result (Adds (pieces.bit_by test condition d) draft.old draft.new) }
+    ensures { OnOk result (Adds (bit_by test condition d) draft.old draft.new) }
 {
     put(draft, test)?;
     let branch = draft.code.len();
@@ -52,7 +50,7 @@ pub(crate) fn put_comparison(
     b: Reg,
 ) -> Result<(), AllocError>
     ensures { OnOk result
-        (Adds (pieces.bit_by (Cmp a b) (spec.condition_of op t.signed) a) draft.old draft.new) }
+        (Adds (bit_by (Cmp a b) (spec.condition_of op t.signed) a) draft.old draft.new) }
 {
     put_bit(draft, Instr::Cmp(a, b), condition_of(op, t.signed), a)
 }
@@ -65,7 +63,7 @@ pub(crate) fn put_text_comparison(
     b: Reg,
 ) -> Result<(), AllocError>
     ensures { OnOk result
-        (Adds (pieces.bit_by (Scmp a b) (spec.condition_of op false) a) draft.old draft.new) }
+        (Adds (bit_by (Scmp a b) (spec.condition_of op false) a) draft.old draft.new) }
 {
     put_bit(draft, Instr::Scmp(a, b), condition_of(op, false), a)
 }

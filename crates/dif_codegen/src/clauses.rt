@@ -1,14 +1,8 @@
 //! Statements, clauses and scripts to compiled ones.
 
 ghost use Rattle.std.specs.Prelude.{◌≡◌, IfOk, map};
-ghost use Rattle.d_types.specs.Fitting.{Fits};
-ghost use Rattle.d_types.specs.Held.{IsConsistent, Slots};
-ghost use Rattle.d_types.specs.Typed.{action_of, actions_of, meant_of};
-ghost use Rattle.d_types.specs.TypedScripts.{typed_script_of};
-ghost use Rattle.d_types.specs.Wholes.{ActionIs, ActionsAre, ClauseIs, ClausesAre};
-ghost use Rattle.dif_codegen.specs.Meaning.{IsProgramOf};
-ghost use Rattle.dif_codegen.specs.Programs.{action_code, clause_code};
-ghost use Rattle.dif_codegen.specs.Programs.{compiled_action, compiled_clause};
+ghost use Rattle.d_types.specs.{Fitting.Fits, Held.IsConsistent, Held.Slots, Typed.action_of, Typed.actions_of, Typed.meant_of, TypedScripts.typed_script_of, Wholes.ActionIs, Wholes.ActionsAre, Wholes.ClauseIs, Wholes.ClausesAre};
+ghost use Rattle.dif_codegen.specs.{Meaning.IsProgramOf, Programs.action_code, Programs.clause_code, Programs.compiled_action, Programs.compiled_clause};
 
 use crate::compiling::{compile_expression, compile_expressions, compile_optional};
 use crate::program::{Action, CompiledClause, Program};
@@ -79,6 +73,15 @@ fn compile_clauses(alloc: Global, all: &[TypedClause]) -> Result<Vec<CompiledCla
 }
 
 /// The program of a script: each expression is an object of its own. Refused for memory alone.
+///
+/// ```text
+/// let program = compile(alloc, &script)?; // of `hit { trace(timestamp); }`
+/// println!(rt; "{program}")?;
+/// // clause
+/// //   trace
+/// //     ldgs 0, r1
+/// //     ret r1
+/// ```
 pub fn compile(alloc: Global, script: &TypedScript) -> Result<Program, AllocError>
     ensures { IfOk result
         (λ p. IsProgramOf (typed_script_of script.now) p.clauses.items p.functions.items) }

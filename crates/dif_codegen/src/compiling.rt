@@ -1,12 +1,8 @@
 //! Expressions to objects.
 
 ghost use Rattle.std.specs.Prelude.{◌≡◌, IfOk};
-ghost use Rattle.d_types.specs.Fitting.{Fits};
-ghost use Rattle.d_types.specs.Held.{AreConsistent, IsConsistent, Slots};
-ghost use Rattle.d_types.specs.Typed.{argument_of, typed_of, typeds_of};
-ghost use Rattle.d_types.specs.Variables.{kind_of};
-ghost use Rattle.d_types.specs.Wholes.{AnyIs, EachIs};
-ghost use Rattle.dif_codegen.specs.Programs.{all_compiled, any_compiled, compiled};
+ghost use Rattle.d_types.specs.{Fitting.Fits, Held.IsConsistent, Held.Slots, Typed.argument_of, Typed.typed_of, Typed.typeds_of, Variables.kind_of, Wholes.AnyIs, Wholes.EachIs};
+ghost use Rattle.dif_codegen.specs.Programs.{compiled_objects, optional_object, compiled_object};
 
 use crate::draft::put;
 use crate::emitting::emit;
@@ -30,7 +26,7 @@ fn kind_of(t: DType) -> Kind
 pub(crate) fn compile_expression(alloc: Global, e: &TypedExpr) -> Result<TypedObject, AllocError>
     requires few { Fits (typed_of e.now) }
     requires consistent { (slots : Slots) × IsConsistent slots (typed_of e.now) }
-    ensures { IfOk result (λ o. o ≡ compiled (typed_of e.now)) }
+    ensures { IfOk result (λ o. o ≡ compiled_object (typed_of e.now)) }
 {
     let mut draft = Difo {
         code: Vec::new(alloc),
@@ -40,7 +36,7 @@ pub(crate) fn compile_expression(alloc: Global, e: &TypedExpr) -> Result<TypedOb
     emit(&mut draft, e, 1)?;
     put(&mut draft, Instr::Ret(Reg::R1))?;
     let returns = e.type_of();
-    let object = ValidDifo::known(draft, kind_of(returns));
+    let object = ValidDifo::from_valid(draft, kind_of(returns));
     Ok(TypedObject { object, returns })
 }
 
@@ -51,7 +47,7 @@ pub(crate) fn compile_expressions(
 ) -> Result<Vec<TypedObject>, AllocError>
     requires few { EachIs Fits (typeds_of all.now) }
     requires consistent { (slots : Slots) × EachIs (IsConsistent slots) (typeds_of all.now) }
-    ensures { IfOk result (λ v. v.items ≡ all_compiled (typeds_of all.now)) }
+    ensures { IfOk result (λ v. v.items ≡ compiled_objects (typeds_of all.now)) }
 {
     let mut objects = Vec::new(alloc);
     for e in all {
@@ -67,7 +63,7 @@ pub(crate) fn compile_optional(
 ) -> Result<Option<TypedObject>, AllocError>
     requires few { AnyIs Fits (argument_of e.now) }
     requires consistent { (slots : Slots) × AnyIs (IsConsistent slots) (argument_of e.now) }
-    ensures { IfOk result (λ o. o ≡ any_compiled (argument_of e.now)) }
+    ensures { IfOk result (λ o. o ≡ optional_object (argument_of e.now)) }
 {
     match e {
         Some(e) => Ok(Some(compile_expression(alloc, e)?)),

@@ -1,9 +1,8 @@
 //! An object in the making: instructions after one another.
 
-ghost use Rattle.std.specs.Prelude.{◌≡◌, [], OnOk};
-ghost use Rattle.dif_codegen.specs.Code as spec;
-ghost use Rattle.dif_codegen.specs.Drafts.{Adds};
+ghost use Rattle.std.specs.Prelude.{OnOk};
 ghost use Rattle.dif_codegen.specs.Pieces as pieces;
+ghost use Rattle.dif_codegen.specs.{Code.answering, Code.built_in, Code.holding, Code.joining, Code.masking, Code.measuring, Code.narrowing, Code.operate_on, Code.stepping, Drafts.Adds};
 
 use crate::operators::{operator_of, opposite, shift_operator, step_operator};
 use d_parser::Step;
@@ -40,7 +39,7 @@ pub(crate) fn put_text(draft: &mut Difo, text: &Text, d: Reg) -> Result<(), Allo
 
 /// Brings a word to its type.
 pub(crate) fn narrow(draft: &mut Difo, t: IntType, d: Reg) -> Result<(), AllocError>
-    ensures { OnOk result (Adds (spec.narrowing t d) draft.old draft.new) }
+    ensures { OnOk result (Adds (narrowing t d) draft.old draft.new) }
 {
     if t.width == 64 {
         return Ok(());
@@ -57,7 +56,7 @@ pub(crate) fn narrow(draft: &mut Difo, t: IntType, d: Reg) -> Result<(), AllocEr
 
 // Takes a shift's count modulo the width.
 fn mask(draft: &mut Difo, t: IntType, c: Reg) -> Result<(), AllocError>
-    ensures { OnOk result (Adds (spec.masking t c) draft.old draft.new) }
+    ensures { OnOk result (Adds (masking t c) draft.old draft.new) }
 {
     put_number(draft, u64::from(t.width - 1), Reg::R7)?;
     put(draft, Instr::Alu(Operator::And, c, Reg::R7, c))
@@ -70,7 +69,7 @@ pub(crate) fn operate(
     a: Reg,
     b: Reg,
 ) -> Result<(), AllocError>
-    ensures { OnOk result (Adds (spec.operated operation a b) draft.old draft.new) }
+    ensures { OnOk result (Adds (operate_on operation a b) draft.old draft.new) }
 {
     match operation {
         Operation::Arithmetic(op, t) => {
@@ -87,7 +86,7 @@ pub(crate) fn operate(
 
 /// Brings a word to a variable's type.
 pub(crate) fn hold(draft: &mut Difo, t: DType, d: Reg) -> Result<(), AllocError>
-    ensures { OnOk result (Adds (spec.holding t d) draft.old draft.new) }
+    ensures { OnOk result (Adds (holding t d) draft.old draft.new) }
 {
     match t {
         DType::Int(t) => narrow(draft, t, d),
@@ -97,7 +96,7 @@ pub(crate) fn hold(draft: &mut Difo, t: DType, d: Reg) -> Result<(), AllocError>
 
 /// Makes one more or one less.
 pub(crate) fn put_step(draft: &mut Difo, step: Step, t: DType, d: Reg) -> Result<(), AllocError>
-    ensures { OnOk result (Adds (spec.stepping step t d) draft.old draft.new) }
+    ensures { OnOk result (Adds (stepping step t d) draft.old draft.new) }
 {
     put_number(draft, 1, Reg::R7)?;
     put(draft, Instr::Alu(step_operator(step), d, Reg::R7, d))?;
@@ -112,7 +111,7 @@ pub(crate) fn put_answer(
     t: DType,
     d: Reg,
 ) -> Result<(), AllocError>
-    ensures { OnOk result (Adds (spec.answering answer step t d) draft.old draft.new) }
+    ensures { OnOk result (Adds (answering answer step t d) draft.old draft.new) }
 {
     match answer {
         Answer::New => Ok(()),
@@ -122,7 +121,7 @@ pub(crate) fn put_answer(
 
 /// Makes the length of a text.
 pub(crate) fn measure(draft: &mut Difo, d: Reg) -> Result<(), AllocError>
-    ensures { OnOk result (Adds (spec.measuring d) draft.old draft.new) }
+    ensures { OnOk result (Adds (measuring d) draft.old draft.new) }
 {
     put(draft, Instr::Pushtr(d))?;
     put(draft, Instr::Call(Function::Strlen, d))?;
@@ -131,7 +130,7 @@ pub(crate) fn measure(draft: &mut Difo, d: Reg) -> Result<(), AllocError>
 
 /// Joins two texts, in the first register.
 pub(crate) fn join(draft: &mut Difo, d: Reg, a: Reg) -> Result<(), AllocError>
-    ensures { OnOk result (Adds (spec.joining d a) draft.old draft.new) }
+    ensures { OnOk result (Adds (joining d a) draft.old draft.new) }
 {
     put(draft, Instr::Pushtr(d))?;
     put(draft, Instr::Pushtr(a))?;
@@ -141,7 +140,7 @@ pub(crate) fn join(draft: &mut Difo, d: Reg, a: Reg) -> Result<(), AllocError>
 
 /// Loads a built-in variable.
 pub(crate) fn put_built_in(draft: &mut Difo, b: BuiltIn, d: Reg) -> Result<(), AllocError>
-    ensures { OnOk result (Adds (spec.built_in b d) draft.old draft.new) }
+    ensures { OnOk result (Adds (built_in b d) draft.old draft.new) }
 {
     match b {
         BuiltIn::Argument(n) => {

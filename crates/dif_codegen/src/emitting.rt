@@ -1,13 +1,8 @@
 //! The code of an expression, one arm for each construct.
 
 ghost use Rattle.std.specs.Prelude.{◌≡◌, ◌≤◌, ◌+◌, OnOk};
-ghost use Rattle.d_types.specs.Expressions.{works_in};
-ghost use Rattle.d_types.specs.Needs.{need, need_of_keys, need_of_two};
-ghost use Rattle.d_types.specs.Typed as typed;
-ghost use Rattle.d_types.specs.Typed.{typed_of, typeds_of, Read, Assign, Update, Count};
-ghost use Rattle.dif_codegen.specs.Code.{code_of, keys_code};
-ghost use Rattle.dif_codegen.specs.Drafts.{Adds};
-ghost use Rattle.dif_codegen.specs.Pieces.{both};
+ghost use Rattle.d_types.specs.{Expressions.works_in, Needs.need, Needs.need_of_keys, Needs.need_of_two, Typed.typed_of, Typed.typeds_of, Typed.Typed, Typed.Read, Typed.Assign, Typed.Update, Typed.Count};
+ghost use Rattle.dif_codegen.specs.{Code.code_of, Code.keys_code, Drafts.Adds, Pieces.both};
 
 use crate::choices::{
     close, put_bit, put_comparison, put_differing, put_text_comparison, put_unary,
@@ -103,9 +98,9 @@ fn emit_logic(
     b: &TypedExpr,
     r: u8,
 ) -> Result<(), AllocError>
-    requires few { r + need (typed.Logic op (typed_of a.now) (typed_of b.now)) ≤ 7 }
+    requires few { r + need (Typed.Logic op (typed_of a.now) (typed_of b.now)) ≤ 7 }
     ensures { OnOk result
-        (Adds (code_of (typed.Logic op (typed_of a.now) (typed_of b.now)) r) draft.old draft.new) }
+        (Adds (code_of (Typed.Logic op (typed_of a.now) (typed_of b.now)) r) draft.old draft.new) }
 {
     let d = register(r);
     match op {
@@ -152,9 +147,9 @@ fn emit_choice(
     r: u8,
 ) -> Result<(), AllocError>
     requires few { r
-        + need (typed.Choice t (typed_of c.now) (typed_of a.now) (typed_of b.now)) ≤ 7 }
+        + need (Typed.Choice t (typed_of c.now) (typed_of a.now) (typed_of b.now)) ≤ 7 }
     ensures { OnOk result
-        (Adds (code_of (typed.Choice t (typed_of c.now) (typed_of a.now) (typed_of b.now)) r)
+        (Adds (code_of (Typed.Choice t (typed_of c.now) (typed_of a.now) (typed_of b.now)) r)
         draft.old draft.new) }
 {
     emit(draft, c, r)?;

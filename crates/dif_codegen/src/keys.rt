@@ -1,11 +1,8 @@
 //! Variables, and elements by their keys in registers.
 
 ghost use Rattle.std.specs.Prelude.{◌≡◌, ◌≤◌, ◌+◌, OnOk};
-ghost use Rattle.d_types.specs.Needs.{count};
-ghost use Rattle.d_types.specs.Storage.{var_of};
-ghost use Rattle.d_types.specs.Typed.{typeds_of};
-ghost use Rattle.dif_codegen.specs.Code as spec;
-ghost use Rattle.dif_codegen.specs.Drafts.{Adds};
+ghost use Rattle.d_types.specs.{Needs.count, Storage.var_of, Typed.typeds_of};
+ghost use Rattle.dif_codegen.specs.{Code.fetching, Code.element_code, Code.lowering, Code.pushing, Code.saving, Drafts.Adds};
 
 use crate::draft::put;
 use crate::operators::{push_of, register, var_of};
@@ -25,7 +22,7 @@ pub(crate) fn after(keys: &[TypedExpr], r: u8) -> u8
 // Makes the values in this register and those after it the parts of a key.
 fn put_key(draft: &mut Difo, keys: &[TypedExpr], r: u8) -> Result<(), AllocError>
     requires few { r + count (typeds_of keys.now) ≤ 8 }
-    ensures { OnOk result (Adds (spec.pushing (typeds_of keys.now) r) draft.old draft.new) }
+    ensures { OnOk result (Adds (pushing (typeds_of keys.now) r) draft.old draft.new) }
 {
     let mut q = r;
     for key in keys {
@@ -38,7 +35,7 @@ fn put_key(draft: &mut Difo, keys: &[TypedExpr], r: u8) -> Result<(), AllocError
 // Puts an instruction on an element.
 fn put_keyed(draft: &mut Difo, keys: &[TypedExpr], r: u8, i: Instr) -> Result<(), AllocError>
     requires few { r + count (typeds_of keys.now) ≤ 8 }
-    ensures { OnOk result (Adds (spec.keyed (typeds_of keys.now) r i) draft.old draft.new) }
+    ensures { OnOk result (Adds (element_code (typeds_of keys.now) r i) draft.old draft.new) }
 {
     put_key(draft, keys, r)?;
     put(draft, i)?;
@@ -55,7 +52,7 @@ pub(crate) fn fetch(
 ) -> Result<(), AllocError>
     requires few { r + count (typeds_of keys.now) ≤ 8 }
     ensures { OnOk result
-        (Adds (spec.fetching x.space (typeds_of keys.now) (var_of x) r d) draft.old draft.new) }
+        (Adds (fetching x.space (typeds_of keys.now) (var_of x) r d) draft.old draft.new) }
 {
     let var = var_of(x);
     match x.space {
@@ -77,7 +74,7 @@ pub(crate) fn save(
 ) -> Result<(), AllocError>
     requires few { r + count (typeds_of keys.now) ≤ 8 }
     ensures { OnOk result
-        (Adds (spec.saving x.space (typeds_of keys.now) (var_of x) r a) draft.old draft.new) }
+        (Adds (saving x.space (typeds_of keys.now) (var_of x) r a) draft.old draft.new) }
 {
     let var = var_of(x);
     match x.space {
@@ -91,7 +88,7 @@ pub(crate) fn save(
 
 /// Brings a value from after the keys to where they began.
 pub(crate) fn lower(draft: &mut Difo, keys: &[TypedExpr], a: Reg, d: Reg) -> Result<(), AllocError>
-    ensures { OnOk result (Adds (spec.lowering (typeds_of keys.now) a d) draft.old draft.new) }
+    ensures { OnOk result (Adds (lowering (typeds_of keys.now) a d) draft.old draft.new) }
 {
     match keys {
         [] => Ok(()),

@@ -13,6 +13,3 @@ mod show;
 
 pub use clauses::compile;
 pub use program::{Action, CompiledClause, Program, TypedObject};
-
-#[cfg(test)]
-mod tests;

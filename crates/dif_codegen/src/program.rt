@@ -19,13 +19,17 @@ pub struct TypedObject {
 }
 
 impl TypedObject {
-    ghost use Rattle.d_values.specs.Storage.{variables};
-    ghost use Rattle.dif_codegen.specs.Correct.{Gives};
-    ghost use Rattle.dif_codegen.specs.Meaning.{value_of};
+    ghost use Rattle.dif_codegen.specs.{Vocabulary.variables, Correct.Gives, Meaning.value_of};
     ghost use Rattle.dif_machine.specs.Runs.{value_result};
 
     /// Runs it for a firing, in a frame that may have served other runs, and lends what it returns.
     /// The variables keep the writes so far, also after a fault.
+    ///
+    /// ```text
+    /// // of `timestamp`, where the firing's time is 1000
+    /// object.run_in(alloc, &firing, &mut frame, &mut locals, &mut own)?; // ValueRef::Int(1000)
+    /// ```
+    #[inline(always)]
     pub fn run_in<'a>(
         &'a self,
         alloc: Global,

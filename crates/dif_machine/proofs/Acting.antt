@@ -1,12 +1,14 @@
 -- What each instruction makes of a state, from what its call read and wrote.
-use Rattle.std.specs.Prelude.{◌≡◌, ◌≢◌, option_map, ℕ, ◌+◌, ◌++◌, Bool, true, false, List, [], ◌∷◌, length, nat_lt, Option, Some, None, Ok, Err, slice_get}
+use Rattle.std.specs.Prelude.{◌≡◌, ◌≢◌, ◌<◌, option_map, ℕ, ◌+◌, ◌++◌, Bool, true, false, List, [], ◌∷◌, length, nat_lt, Option, Some, None, Ok, Err, slice_get}
 use Rattle.std.specs.Int.{cast_signed, w64}
 use Rattle.std.proofs.Common.{refl, sym, ap, ◌∙◌, cond}
+use Rattle.std.proofs.lemmas.Bool.{ltb-true}
 use Rattle.d_values.specs.Stores.{with_local, with_own}
 use Rattle.d_values.specs.Storage.{set_local, set_own}
 use Rattle.dif_machine.specs.Vocabulary.{Comparison, Firing, Alu, Not, Mov, Cmp, Tst, Scmp, Ba, Branch, Setx, Sets, Ldgs, Ldga, Ldts, Stts, Ldls, Stls, Pushtr, Pushtv, Flushts, Ldtaa, Sttaa, Call, Ret, Nop, Condition, Function, KeyPart, Number, Name, Kind, NumberKind, TextKind, Object, Operator, OutOfZero, Reg, at, Value, Int, Text, Var, Variables}
 use Rattle.dif_machine.specs.Frames.{Frame, at_place, with_content, with_value, with_comparison, with_tuple}
-use Rattle.dif_machine.specs.Operators.{result_of, complement, compared, texts_compared, holds, call_of}
+use Rattle.dif_machine.specs.Held.{part_of}
+use Rattle.dif_machine.specs.Operators.{result_of, complement, comparison_of, text_comparison_of, holds, call_of}
 use Rattle.dif_machine.specs.Sources.{built_in_of, argument_of, local_in, own_in}
 use Rattle.dif_machine.specs.Steps.{Next, Goes, Ends, Faults, Stuck, on, on_number, on_text, on_kind, on_key, store_own, store_local, puts, puts_result, pushes, act}
 
@@ -27,6 +29,10 @@ keyed (p ∷ ps) next h = h
 fits_8 : (b : Bool) (other next : Next) → cond b other Stuck ≢ Stuck → cond b next Stuck ≡ next
 fits_8 true other next h = refl
 fits_8 false other next h = absurd (h refl)
+
+room : (b : Bool) (n : ℕ) (go : Next) → nat_lt n 8 ≡ b → cond b go Stuck ≢ Stuck → n < 8
+room true n go e h = ltb-true n 8 e
+room false n go e h = absurd (h refl)
 
 module _ (o : Object) (f : Firing) (s : Frame) (vars : Variables) where
   goes_to : (expected t : Frame) → t ≡ expected → Goes expected vars ≡ Goes t vars
@@ -56,18 +62,18 @@ module _ (o : Object) (f : Firing) (s : Frame) (vars : Variables) where
       ∙ ap (λ w. puts s d (Int w) vars) (sym w)
       ∙ goes_to (with_value s d (Int word)) t e
 
-  pub cmp : (a b : Reg) (x y : ℕ) (known : Comparison) (t : Frame) → at s.registers a ≡ Some (Int x) → at s.registers b ≡ Some (Int y) → known ≡ compared x y → t ≡ with_comparison s known
+  pub cmp : (a b : Reg) (x y : ℕ) (known : Comparison) (t : Frame) → at s.registers a ≡ Some (Int x) → at s.registers b ≡ Some (Int y) → known ≡ comparison_of x y → t ≡ with_comparison s known
       → act (Cmp a b) o f s vars ≡ Goes t vars
   cmp a b x y known t p q k e =
-      ap (λ v. on_number v (λ x. on_number (at s.registers b) (λ y. Goes (with_comparison s (compared x y)) vars))) p
-      ∙ ap (λ v. on_number v (λ y. Goes (with_comparison s (compared x y)) vars)) q
+      ap (λ v. on_number v (λ x. on_number (at s.registers b) (λ y. Goes (with_comparison s (comparison_of x y)) vars))) p
+      ∙ ap (λ v. on_number v (λ y. Goes (with_comparison s (comparison_of x y)) vars)) q
       ∙ ap (λ k. Goes (with_comparison s k) vars) (sym k)
       ∙ goes_to (with_comparison s known) t e
 
-  pub tst : (a : Reg) (x : ℕ) (known : Comparison) (t : Frame) → at s.registers a ≡ Some (Int x) → known ≡ compared x 0 → t ≡ with_comparison s known
+  pub tst : (a : Reg) (x : ℕ) (known : Comparison) (t : Frame) → at s.registers a ≡ Some (Int x) → known ≡ comparison_of x 0 → t ≡ with_comparison s known
       → act (Tst a) o f s vars ≡ Goes t vars
   tst a x known t p k e =
-      ap (λ v. on_number v (λ x. Goes (with_comparison s (compared x 0)) vars)) p
+      ap (λ v. on_number v (λ x. Goes (with_comparison s (comparison_of x 0)) vars)) p
       ∙ ap (λ k. Goes (with_comparison s k) vars) (sym k)
       ∙ goes_to (with_comparison s known) t e
 
@@ -86,11 +92,11 @@ module _ (o : Object) (f : Firing) (s : Frame) (vars : Variables) where
 
   -- ---- texts
 
-  pub scmp : (a b : Reg) (x y : List ℕ) (known : Comparison) (t : Frame) → at s.registers a ≡ Some (Text x) → at s.registers b ≡ Some (Text y) → known ≡ texts_compared x y → t ≡ with_comparison s known
+  pub scmp : (a b : Reg) (x y : List ℕ) (known : Comparison) (t : Frame) → at s.registers a ≡ Some (Text x) → at s.registers b ≡ Some (Text y) → known ≡ text_comparison_of x y → t ≡ with_comparison s known
       → act (Scmp a b) o f s vars ≡ Goes t vars
   scmp a b x y known t p q k e =
-      ap (λ v. on_text v (λ x. on_text (at s.registers b) (λ y. Goes (with_comparison s (texts_compared x y)) vars))) p
-      ∙ ap (λ v. on_text v (λ y. Goes (with_comparison s (texts_compared x y)) vars)) q
+      ap (λ v. on_text v (λ x. on_text (at s.registers b) (λ y. Goes (with_comparison s (text_comparison_of x y)) vars))) p
+      ∙ ap (λ v. on_text v (λ y. Goes (with_comparison s (text_comparison_of x y)) vars)) q
       ∙ ap (λ k. Goes (with_comparison s k) vars) (sym k)
       ∙ goes_to (with_comparison s known) t e
 
@@ -149,21 +155,46 @@ module _ (o : Object) (f : Firing) (s : Frame) (vars : Variables) where
 
   -- ---- the tuple
 
-  pub pushtr : (a : Reg) (x : List ℕ) (t : Frame) (some : Variables) → act (Pushtr a) o f s some ≢ Stuck
-      → at s.registers a ≡ Some (Text x) → t ≡ with_tuple s (s.tuple ++ Name x ∷ [])
+  pub pushtr : (a : Reg) (t : Frame) (some : Variables) → act (Pushtr a) o f s some ≢ Stuck → t ≡ with_tuple s (s.tuple ++ part_of (at s.registers a) ∷ [])
       → act (Pushtr a) o f s vars ≡ Goes t vars
-  pushtr a x t some runs p e =
-      ap (λ v. on_text v (λ bytes. pushes s (Name bytes) vars)) p
-      ∙ fits_8 (nat_lt (length s.tuple) 8) (Goes (with_tuple s (s.tuple ++ Name x ∷ [])) some) _ (λ h. runs (ap (λ v. on_text v (λ bytes. pushes s (Name bytes) some)) p ∙ h))
-      ∙ goes_to (with_tuple s (s.tuple ++ Name x ∷ [])) t e
+  pushtr a t some runs e = by (at s.registers a) runs e
+    where
+      by : (v : Option Value) → on_text v (λ bytes. pushes s (Name bytes) some) ≢ Stuck → t ≡ with_tuple s (s.tuple ++ part_of v ∷ [])
+          → on_text v (λ bytes. pushes s (Name bytes) vars) ≡ Goes t vars
+      by None runs e = absurd (runs refl)
+      by (Some (Int n)) runs e = absurd (runs refl)
+      by (Some (Text x)) runs e =
+          fits_8 (nat_lt (length s.tuple) 8) (Goes (with_tuple s (s.tuple ++ Name x ∷ [])) some) _ runs
+          ∙ goes_to (with_tuple s (s.tuple ++ Name x ∷ [])) t e
 
-  pub pushtv : (a : Reg) (x : ℕ) (t : Frame) (some : Variables) → act (Pushtv a) o f s some ≢ Stuck
-      → at s.registers a ≡ Some (Int x) → t ≡ with_tuple s (s.tuple ++ Number (cast_signed w64 x) ∷ [])
+  pub pushtv : (a : Reg) (t : Frame) (some : Variables) → act (Pushtv a) o f s some ≢ Stuck → t ≡ with_tuple s (s.tuple ++ part_of (at s.registers a) ∷ [])
       → act (Pushtv a) o f s vars ≡ Goes t vars
-  pushtv a x t some runs p e =
-      ap (λ v. on_number v (λ n. pushes s (Number (cast_signed w64 n)) vars)) p
-      ∙ fits_8 (nat_lt (length s.tuple) 8) (Goes (with_tuple s (s.tuple ++ Number (cast_signed w64 x) ∷ [])) some) _ (λ h. runs (ap (λ v. on_number v (λ n. pushes s (Number (cast_signed w64 n)) some)) p ∙ h))
-      ∙ goes_to (with_tuple s (s.tuple ++ Number (cast_signed w64 x) ∷ [])) t e
+  pushtv a t some runs e = by (at s.registers a) runs e
+    where
+      by : (v : Option Value) → on_number v (λ n. pushes s (Number (cast_signed w64 n)) some) ≢ Stuck → t ≡ with_tuple s (s.tuple ++ part_of v ∷ [])
+          → on_number v (λ n. pushes s (Number (cast_signed w64 n)) vars) ≡ Goes t vars
+      by None runs e = absurd (runs refl)
+      by (Some (Text x)) runs e = absurd (runs refl)
+      by (Some (Int n)) runs e =
+          fits_8 (nat_lt (length s.tuple) 8) (Goes (with_tuple s (s.tuple ++ Number (cast_signed w64 n) ∷ [])) some) _ runs
+          ∙ goes_to (with_tuple s (s.tuple ++ Number (cast_signed w64 n) ∷ [])) t e
+
+  -- a push that isn't stuck has room
+  pub text_fits : (a : Reg) → act (Pushtr a) o f s vars ≢ Stuck → length s.tuple < 8
+  text_fits a runs = by (at s.registers a) runs
+    where
+      by : (v : Option Value) → on_text v (λ bytes. pushes s (Name bytes) vars) ≢ Stuck → length s.tuple < 8
+      by None runs = absurd (runs refl)
+      by (Some (Int n)) runs = absurd (runs refl)
+      by (Some (Text x)) runs = room (nat_lt (length s.tuple) 8) (length s.tuple) _ refl runs
+
+  pub number_fits : (a : Reg) → act (Pushtv a) o f s vars ≢ Stuck → length s.tuple < 8
+  number_fits a runs = by (at s.registers a) runs
+    where
+      by : (v : Option Value) → on_number v (λ n. pushes s (Number (cast_signed w64 n)) vars) ≢ Stuck → length s.tuple < 8
+      by None runs = absurd (runs refl)
+      by (Some (Text x)) runs = absurd (runs refl)
+      by (Some (Int n)) runs = room (nat_lt (length s.tuple) 8) (length s.tuple) _ refl runs
 
   pub flushts : (t : Frame) → t ≡ with_tuple s [] → act Flushts o f s vars ≡ Goes t vars
   flushts t e = goes_to (with_tuple s []) t e

@@ -8,9 +8,9 @@ use Rattle.dif_validate.specs.Flow.{target}
 use Rattle.dif_validate.specs.Registers.{number_of, put}
 use Rattle.dif_validate.specs.declared.register.Reg.TheVariants.{R0, R1, R2, R3, R4, R5, R6, R7}
 use Rattle.dif_machine.specs.Vocabulary.{Comparison, Firing, Instr, Alu, Not, Mov, Cmp, Tst, Scmp, Ba, Branch, Setx, Sets, Ldgs, Ldga, Ldts, Stts, Ldls, Stls, Pushtr, Pushtv, Flushts, Ldtaa, Sttaa, Call, Ret, Nop, KeyPart, Number, Name, Kind, NumberKind, TextKind, Object, OutOfZero, Reg, at, Value, Int, Text, Variables}
-use Rattle.dif_machine.specs.Changes.{written, compares, fills, stores, Changes}
+use Rattle.dif_machine.specs.Changes.{output_register, compares, fills, stores, Changes}
 use Rattle.dif_machine.specs.Frames.{Frame, at_place, with_value, with_comparison, with_tuple}
-use Rattle.dif_machine.specs.Operators.{result_of, compared, texts_compared, holds, call_of}
+use Rattle.dif_machine.specs.Operators.{result_of, comparison_of, text_comparison_of, holds, call_of}
 use Rattle.dif_machine.specs.Steps.{Next, Goes, Ends, Stuck, on, on_number, on_text, on_kind, on_key, puts_result, act, step_of}
 use Rattle.dif_machine.proofs.Fitting.{put_set, put_zero}
 
@@ -67,7 +67,7 @@ module _ (s : Frame) (vars : Variables) (i : Instr) where
   key [] next h = tt
   key (p ∷ ps) next h = h
 
-  value : (d : Reg) (v : Value) → written i ≡ Some d → Changes i s vars (Goes (with_value s d v) vars)
+  value : (d : Reg) (v : Value) → output_register i ≡ Some d → Changes i s vars (Goes (with_value s d v) vars)
   value d v e = record {
     place = λ ne. absurd (ne refl);
     registers = λ r ne. put_other s.registers d r (Some v) (λ x. ne (e ∙ x));
@@ -76,7 +76,7 @@ module _ (s : Frame) (vars : Variables) (i : Instr) where
     variables = λ h. refl;
   }
 
-  result : (d : Reg) (r : Result ℕ OutOfZero) → written i ≡ Some d → Changes i s vars (puts_result s d r vars)
+  result : (d : Reg) (r : Result ℕ OutOfZero) → output_register i ≡ Some d → Changes i s vars (puts_result s d r vars)
   result d (Ok word) e = value d (Int word) e
   result d (Err none) e = refl
 
@@ -122,9 +122,9 @@ acts : (o : Object) (f : Firing) (s : Frame) (vars : Variables) (i : Instr) → 
 acts o f s vars (Alu op a b d) = number s vars (Alu op a b d) (at s.registers a) _ (λ x. number s vars (Alu op a b d) (at s.registers b) _ (λ y. result s vars (Alu op a b d) d (result_of op x y) refl))
 acts o f s vars (Not a d) = number s vars (Not a d) (at s.registers a) _ (λ x. value s vars (Not a d) d _ refl)
 acts o f s vars (Mov a d) = some s vars (Mov a d) (at s.registers a) _ (λ x. value s vars (Mov a d) d x refl)
-acts o f s vars (Cmp a b) = number s vars (Cmp a b) (at s.registers a) _ (λ x. number s vars (Cmp a b) (at s.registers b) _ (λ y. comparison s vars (Cmp a b) (compared x y) refl))
-acts o f s vars (Tst a) = number s vars (Tst a) (at s.registers a) _ (λ x. comparison s vars (Tst a) (compared x 0) refl)
-acts o f s vars (Scmp a b) = text s vars (Scmp a b) (at s.registers a) _ (λ x. text s vars (Scmp a b) (at s.registers b) _ (λ y. comparison s vars (Scmp a b) (texts_compared x y) refl))
+acts o f s vars (Cmp a b) = number s vars (Cmp a b) (at s.registers a) _ (λ x. number s vars (Cmp a b) (at s.registers b) _ (λ y. comparison s vars (Cmp a b) (comparison_of x y) refl))
+acts o f s vars (Tst a) = number s vars (Tst a) (at s.registers a) _ (λ x. comparison s vars (Tst a) (comparison_of x 0) refl)
+acts o f s vars (Scmp a b) = text s vars (Scmp a b) (at s.registers a) _ (λ x. text s vars (Scmp a b) (at s.registers b) _ (λ y. comparison s vars (Scmp a b) (text_comparison_of x y) refl))
 acts o f s vars (Ba to) = go s vars (Ba to) to (λ ne. refl)
 acts o f s vars (Branch condition to) = some s vars (Branch condition to) s.comparison _ (λ known. branch s vars (Branch condition to) (holds condition known) to refl)
 acts o f s vars (Setx i d) = some s vars (Setx i d) (slice_get o.numbers i) _ (λ n. value s vars (Setx i d) d _ refl)

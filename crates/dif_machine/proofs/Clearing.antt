@@ -20,6 +20,6 @@ written_is (x0 ∷ x1 ∷ x2 ∷ x3 ∷ x4 ∷ x5 ∷ x6 ∷ []) a b1 b2 b3 b4 b
 written_is (x0 ∷ x1 ∷ x2 ∷ x3 ∷ x4 ∷ x5 ∷ x6 ∷ x7 ∷ []) a b1 b2 b3 b4 b5 b6 b7 e = refl
 written_is (x0 ∷ x1 ∷ x2 ∷ x3 ∷ x4 ∷ x5 ∷ x6 ∷ x7 ∷ x8 ∷ xs) a b1 b2 b3 b4 b5 b6 b7 e = absurd (omega (arith, e))
 
-pub same : {A : Type 0} (a b b1 b2 b3 b4 b5 b6 b7 : A) → b1 ≡ b → b2 ≡ b → b3 ≡ b → b4 ≡ b → b5 ≡ b → b6 ≡ b → b7 ≡ b
-    → a ∷ b1 ∷ b2 ∷ b3 ∷ b4 ∷ b5 ∷ b6 ∷ b7 ∷ [] ≡ a ∷ b ∷ b ∷ b ∷ b ∷ b ∷ b ∷ b ∷ []
-same a b b1 b2 b3 b4 b5 b6 b7 e1 e2 e3 e4 e5 e6 e7 = cc
+pub same : {A : Type 0} (a0 a b b1 b2 b3 b4 b5 b6 b7 : A) → a0 ≡ a → b1 ≡ b → b2 ≡ b → b3 ≡ b → b4 ≡ b → b5 ≡ b → b6 ≡ b → b7 ≡ b
+    → a0 ∷ b1 ∷ b2 ∷ b3 ∷ b4 ∷ b5 ∷ b6 ∷ b7 ∷ [] ≡ a ∷ b ∷ b ∷ b ∷ b ∷ b ∷ b ∷ b ∷ []
+same a0 a b b1 b2 b3 b4 b5 b6 b7 e0 e1 e2 e3 e4 e5 e6 e7 = cc

@@ -1,4 +1,5 @@
 pub mod Fitting
+pub mod Holding
 pub mod Progress
 pub mod Ending
 pub mod Acting

@@ -25,7 +25,7 @@ use Rattle.dif_validate.specs.declared.shape.Shape.{Shape}
 use Rattle.dif_validate.specs.Asks.{takes, is_tuple_of, is_some_tuple}
 use Rattle.dif_validate.specs.Faults.{misses_tuple}
 use Rattle.dif_validate.specs.Flow.{falls, target, before}
-use Rattle.dif_validate.specs.Leaves.{leaves, with_register, pushed, kind_of_built_in, kind_of_function}
+use Rattle.dif_validate.specs.Leaves.{leaves, with_register, tuple_with, kind_of_built_in, kind_of_function}
 use Rattle.dif_validate.specs.Objects.{Object}
 use Rattle.dif_validate.specs.Registers.{at}
 use Rattle.dif_validate.specs.Returns.{return_kind}
@@ -40,7 +40,7 @@ use Rattle.dif_machine.specs.declared.fault.MachineFault.TheVariants.{DivideByZe
 use Rattle.dif_machine.specs.Frames.{Frame}
 use Rattle.dif_machine.specs.Frames as frames
 use Rattle.dif_machine.specs.Kinds.{kind_of_part, kinds_of}
-use Rattle.dif_machine.specs.Operators.{result_of, compared, texts_compared, holds, call_of}
+use Rattle.dif_machine.specs.Operators.{result_of, comparison_of, text_comparison_of, holds, call_of}
 use Rattle.dif_machine.specs.Runs.{End, Reaches, ends, faults, goes, Comes, stays, steps_on, RunEnds}
 use Rattle.d_values.specs.Storage.{Variables, as_kind}
 use Rattle.dif_machine.specs.Sources.{built_in_of, local_in, own_in}
@@ -67,7 +67,7 @@ length_of : (parts : List KeyPart) (ks : List Kind) → kinds_of parts ≡ ks �
 length_of parts ks e = sym (length-map parts kind_of_part) ∙ ap length e
 
 pushed_is : (t : Option (List Kind)) (parts : List KeyPart) (p : KeyPart) → ((ks : List Kind) → t ≡ Some ks → kinds_of parts ≡ ks)
-    → (ks : List Kind) → pushed t (kind_of_part p) ≡ Some ks → kinds_of (parts ++ p ∷ []) ≡ ks
+    → (ks : List Kind) → tuple_with t (kind_of_part p) ≡ Some ks → kinds_of (parts ++ p ∷ []) ≡ ks
 pushed_is None parts p h ks e = cc
 pushed_is (Some js) parts p h ks e = by (nat_lt (length js) 8) e
   where
@@ -158,11 +158,11 @@ module _ (o : Object) (valid : IsValid o) (f : Firing) (s : Frame) (vars : Varia
     value_good : (d : Reg) (k : Option Kind) (v : Value) → falls i ≡ true → leaves i t ≡ with_register t d k → ((j : Kind) → k ≡ Some j → kind_of v ≡ j) → Good (Goes (frames.with_value s d v) vars)
     value_good d k v on l h = fall _ vars refl on (subst (λ u. Fits u (frames.with_value s d v)) (sym l) (fits_value t s d k v fits h))
 
-    push_good : (p : KeyPart) (ks : List Kind) → falls i ≡ true → leaves i t ≡ record { registers = t.registers; compared = t.compared; tuple = pushed t.tuple (kind_of_part p) } → t.tuple ≡ Some ks → nat_lt (length ks) 8 ≡ true → Good (pushes s p vars)
+    push_good : (p : KeyPart) (ks : List Kind) → falls i ≡ true → leaves i t ≡ record { registers = t.registers; compared = t.compared; tuple = tuple_with t.tuple (kind_of_part p) } → t.tuple ≡ Some ks → nat_lt (length ks) 8 ≡ true → Good (pushes s p vars)
     push_good p ks on l e small =
         let same : nat_lt (length s.tuple) 8 ≡ true = ap (λ n. nat_lt n 8) (length_of s.tuple ks (fits.tuple ks e)) ∙ small in
         subst (λ b. Good (cond b (Goes (frames.with_tuple s (s.tuple ++ p ∷ [])) vars) Stuck)) (sym same)
-        (fall _ vars refl on (subst (λ u. Fits u (frames.with_tuple s (s.tuple ++ p ∷ []))) (sym l) (fits_tuple t s (pushed t.tuple (kind_of_part p)) (s.tuple ++ p ∷ []) fits (pushed_is t.tuple s.tuple p fits.tuple))))
+        (fall _ vars refl on (subst (λ u. Fits u (frames.with_tuple s (s.tuple ++ p ∷ []))) (sym l) (fits_tuple t s (tuple_with t.tuple (kind_of_part p)) (s.tuple ++ p ∷ []) fits (pushed_is t.tuple s.tuple p fits.tuple))))
 
     key_good : (next : Next) (ks : List Kind) → t.tuple ≡ Some ks → ks ≢ [] → Good next → Good (on_key s.tuple next)
     key_good next ks e some h = by s.tuple (fits.tuple ks e)
@@ -202,12 +202,12 @@ module _ (o : Object) (valid : IsValid o) (f : Firing) (s : Frame) (vars : Varia
       on_there Good (at s.registers a) has.value _ has.is (value_good (Mov a d) p fine d (at t.registers a) has.value refl refl (λ j e. has.kind ∙ (let x : Some k.0 ≡ Some j = sym k.1 ∙ e in cc)))
   act_good (Cmp a b) p fine =
       let r = two Number a b t fine.fine.kinds fine.fine.set in
-      number_there Good (at s.registers a) _ (has_one Number a r.0) (λ x. number_there Good (at s.registers b) _ (has_one Number b r.1) (λ y. compared_good (Cmp a b) p fine (compared x y) refl refl))
+      number_there Good (at s.registers a) _ (has_one Number a r.0) (λ x. number_there Good (at s.registers b) _ (has_one Number b r.1) (λ y. compared_good (Cmp a b) p fine (comparison_of x y) refl refl))
   act_good (Tst a) p fine =
-      number_there Good (at s.registers a) _ (has_one Number a (one Number a t fine.fine.kinds fine.fine.set)) (λ x. compared_good (Tst a) p fine (compared x 0) refl refl)
+      number_there Good (at s.registers a) _ (has_one Number a (one Number a t fine.fine.kinds fine.fine.set)) (λ x. compared_good (Tst a) p fine (comparison_of x 0) refl refl)
   act_good (Scmp a b) p fine =
       let r = two Text a b t fine.fine.kinds fine.fine.set in
-      text_there Good (at s.registers a) _ (has_one Text a r.0) (λ x. text_there Good (at s.registers b) _ (has_one Text b r.1) (λ y. compared_good (Scmp a b) p fine (texts_compared x y) refl refl))
+      text_there Good (at s.registers a) _ (has_one Text a r.0) (λ x. text_there Good (at s.registers b) _ (has_one Text b r.1) (λ y. compared_good (Scmp a b) p fine (text_comparison_of x y) refl refl))
   act_good (Ba to) p fine = jump (Ba to) p fine to refl refl
   act_good (Branch condition to) p fine =
       let c = comparison_there s.comparison (fits.compared (not-false t.compared fine.fine.compared)) in

@@ -6,31 +6,31 @@ use Rattle.dif_machine.specs.Frames.{Frame}
 use Rattle.dif_machine.specs.Steps.{Next, Goes, Ends, Faults, Stuck}
 
 -- the register that an instruction writes
-abbrev pub written : Instr → Option Reg
-written (Alu op a b d) = Some d
-written (Not a d) = Some d
-written (Mov a d) = Some d
-written (Cmp a b) = None
-written (Tst a) = None
-written (Scmp a b) = None
-written (Ba to) = None
-written (Branch condition to) = None
-written (Setx i d) = Some d
-written (Sets i d) = Some d
-written (Ldgs v d) = Some d
-written (Ldga v a d) = Some d
-written (Ldts x d) = Some d
-written (Stts x a) = None
-written (Ldls x d) = Some d
-written (Stls x a) = None
-written (Pushtr a) = None
-written (Pushtv a) = None
-written Flushts = None
-written (Ldtaa x d) = Some d
-written (Sttaa x a) = None
-written (Call function d) = Some d
-written (Ret a) = None
-written Nop = None
+abbrev pub output_register : Instr → Option Reg
+output_register (Alu op a b d) = Some d
+output_register (Not a d) = Some d
+output_register (Mov a d) = Some d
+output_register (Cmp a b) = None
+output_register (Tst a) = None
+output_register (Scmp a b) = None
+output_register (Ba to) = None
+output_register (Branch condition to) = None
+output_register (Setx i d) = Some d
+output_register (Sets i d) = Some d
+output_register (Ldgs v d) = Some d
+output_register (Ldga v a d) = Some d
+output_register (Ldts x d) = Some d
+output_register (Stts x a) = None
+output_register (Ldls x d) = Some d
+output_register (Stls x a) = None
+output_register (Pushtr a) = None
+output_register (Pushtv a) = None
+output_register Flushts = None
+output_register (Ldtaa x d) = Some d
+output_register (Sttaa x a) = None
+output_register (Call function d) = Some d
+output_register (Ret a) = None
+output_register Nop = None
 
 -- it is a comparison
 abbrev pub compares : Instr → Bool
@@ -117,7 +117,7 @@ stores Nop = false
 pub record IsChanged (i : Instr) (s : Frame) (vars : Variables) (t : Frame) (after : Variables)
     : Type 0 where
   pub place : t.pc ≢ s.pc + 1 → target i ≡ Some t.pc
-  pub registers : (r : Reg) → written i ≢ Some r → at t.registers r ≡ at s.registers r
+  pub registers : (r : Reg) → output_register i ≢ Some r → at t.registers r ≡ at s.registers r
   pub comparison : compares i ≡ false → t.comparison ≡ s.comparison
   pub tuple : fills i ≡ false → t.tuple ≡ s.tuple
   pub variables : stores i ≡ false → after ≡ vars

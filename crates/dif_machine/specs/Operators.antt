@@ -27,12 +27,12 @@ abbrev pub complement : ℕ → ℕ
 complement a = complement_of UINT64 a
 
 -- how two integers compare
-abbrev pub compared : ℕ → ℕ → Comparison
-compared a b = record { signed = order_of INT64 a b; unsigned = order_of UINT64 a b }
+abbrev pub comparison_of : ℕ → ℕ → Comparison
+comparison_of a b = record { signed = order_of INT64 a b; unsigned = order_of UINT64 a b }
 
 -- and two texts, by their bytes
-abbrev pub texts_compared : List ℕ → List ℕ → Comparison
-texts_compared a b = record { signed = text_cmp a b; unsigned = text_cmp a b }
+abbrev pub text_comparison_of : List ℕ → List ℕ → Comparison
+text_comparison_of a b = record { signed = text_cmp a b; unsigned = text_cmp a b }
 
 abbrev pub holds : Condition → Comparison → Bool
 holds Equal known = holds_of IsEqual known.unsigned

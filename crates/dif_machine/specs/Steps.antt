@@ -2,7 +2,7 @@
 use Rattle.std.specs.Prelude.{◌≡◌, ℕ, ◌+◌, ◌++◌, List, [], ◌∷◌, length, nat_lt, if◌then◌else◌, Option, Some, None, Result, Ok, Err, slice_get}
 use Rattle.dif_machine.specs.Vocabulary.{cast_signed, w64, Firing, Instr, Alu, Not, Mov, Cmp, Tst, Scmp, Ba, Branch, Setx, Sets, Ldgs, Ldga, Ldts, Stts, Ldls, Stls, Pushtr, Pushtv, Flushts, Ldtaa, Sttaa, Call, Ret, Nop, KeyPart, Number, Name, Kind, NumberKind, TextKind, MachineFault, DivideByZero, Memory, Object, OutOfZero, Reg, at, Value, Int, Text, Var, Variables, set_local, set_own}
 use Rattle.dif_machine.specs.Frames.{Frame, at_place, with_value, with_comparison, with_tuple}
-use Rattle.dif_machine.specs.Operators.{result_of, complement, compared, texts_compared, holds, call_of}
+use Rattle.dif_machine.specs.Operators.{result_of, complement, comparison_of, text_comparison_of, holds, call_of}
 use Rattle.dif_machine.specs.Sources.{built_in_of, argument_of, local_in, own_in}
 
 -- what follows a state
@@ -70,12 +70,12 @@ act (Not a d) o f s vars =
 act (Mov a d) o f s vars = on (at s.registers a) (λ x. puts s d x vars)
 act (Cmp a b) o f s vars =
     on_number (at s.registers a)
-    (λ x. on_number (at s.registers b) (λ y. Goes (with_comparison s (compared x y)) vars))
+    (λ x. on_number (at s.registers b) (λ y. Goes (with_comparison s (comparison_of x y)) vars))
 act (Tst a) o f s vars =
-    on_number (at s.registers a) (λ x. Goes (with_comparison s (compared x 0)) vars)
+    on_number (at s.registers a) (λ x. Goes (with_comparison s (comparison_of x 0)) vars)
 act (Scmp a b) o f s vars =
     on_text (at s.registers a)
-    (λ x. on_text (at s.registers b) (λ y. Goes (with_comparison s (texts_compared x y)) vars))
+    (λ x. on_text (at s.registers b) (λ y. Goes (with_comparison s (text_comparison_of x y)) vars))
 act (Ba to) o f s vars = Goes (at_place s to) vars
 act (Branch condition to) o f s vars =
     on s.comparison

@@ -18,7 +18,7 @@ pub struct Comparison {
 
 /// How two integers compare.
 pub(crate) fn compare_numbers(a: u64, b: u64) -> Comparison
-    ensures { result ≡ spec.compared a b }
+    ensures { result ≡ spec.comparison_of a b }
 {
     Comparison {
         signed: compare(IntType::INT64, a, b),
@@ -28,7 +28,7 @@ pub(crate) fn compare_numbers(a: u64, b: u64) -> Comparison
 
 /// How two texts compare.
 pub(crate) fn compare_texts(a: &[u8], b: &[u8]) -> Comparison
-    ensures { result ≡ spec.texts_compared a.now b.now }
+    ensures { result ≡ spec.text_comparison_of a.now b.now }
 {
     let order = compare_text(a, b);
     Comparison {

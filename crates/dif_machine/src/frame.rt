@@ -1,31 +1,32 @@
 //! What changes from step to step, but for the variables.
 
-ghost use Rattle.std.specs.Prelude.{◌≡◌, ◌≢◌, ◌<◌, ◌+◌, ◌-◌, ◌^◌, ◌++◌, ◌∷◌, [], ℕ, List, Some, None, IfOk, OnOk};
+ghost use Rattle.std.specs.Prelude.{◌≡◌, ◌≢◌, ◌<◌, ◌+◌, ◌-◌, ◌^◌, ◌++◌, ◌∷◌, [], ℕ, List, length, Some, None, IfOk, OnOk};
 ghost use Rattle.dif_machine.specs.Vocabulary.{Firing as Recorded, Object, at, lent_value, object_of};
-ghost use Rattle.dif_machine.specs.{Frames.at_place, Frames.start, Frames.with_comparison, Frames.with_content, Frames.with_tuple, Held.content, Held.contents, Held.frame_of, Held.blank_registers};
+ghost use Rattle.dif_machine.specs.{Frames.at_place, Frames.start, Frames.with_comparison, Frames.with_content, Frames.with_tuple, Held.contents, Held.frame_of, Held.held_value, Held.part_of, Held.parts_of};
 
 use crate::comparing::Comparison;
-use crate::held::Held;
-use crate::sources::{built_in, owned};
-use d_values::{Key, KeyPart, Text, Value, ValueRef};
+use crate::held::{Cell, Held};
+use crate::keys::LastKey;
+use crate::sources::owned_value;
+use crate::tuple::{Tuple, eight_cells};
+use d_values::{Text, Value, ValueRef};
 use dif_validate::{Difo, Reg};
 use firing_reader::Firing;
 use std::alloc::{AllocError, Global};
-use std::mem;
 
 /// The place in the code, the registers, the comparison and the tuple.
 #[derive(Drop)]
 pub struct Frame {
     /// The place of the instruction that is next.
     pub pc: usize,
-    /// What each register holds.
-    pub registers: [Held; 8],
+    /// The registers.
+    pub registers: [Cell; 8],
     /// How the two values compare that were compared last.
     pub comparison: Option<Comparison>,
     /// The tuple.
-    pub tuple: Key,
-    /// Texts of earlier tuples, kept so that the next take their room.
-    pub spare: Vec<Text>,
+    pub tuple: Tuple,
+    /// The key of the element that was used last.
+    pub key: LastKey,
 }
 
 impl Frame {
@@ -33,32 +34,25 @@ impl Frame {
     pub fn new(alloc: Global) -> Frame
         ensures { (o : Object) (f : Recorded) → frame_of o f result ≡ start }
     {
-        Frame {
+        let mut frame = Frame {
             pc: 0,
-            registers: [
-                Held::Int(0),
-                Held::Unset,
-                Held::Unset,
-                Held::Unset,
-                Held::Unset,
-                Held::Unset,
-                Held::Unset,
-                Held::Unset,
-            ],
+            registers: eight_cells(alloc),
             comparison: None,
-            tuple: Key::new(alloc),
-            spare: Vec::new(alloc),
-        }
+            tuple: Tuple::new(alloc),
+            key: LastKey::new(alloc),
+        };
+        frame.restart();
+        frame
     }
 
     /// Before the first instruction, whatever an earlier run left.
-    pub(crate) fn restart(&mut self, alloc: Global)
+    pub(crate) fn restart(&mut self)
         ensures { (o : Object) (f : Recorded) → frame_of o f self.new ≡ start }
     {
         self.pc = 0;
         clear(&mut self.registers);
         self.comparison = None;
-        empty(alloc, &mut self.tuple);
+        self.tuple.clear();
     }
 
     /// Lends what a register holds.
@@ -67,19 +61,20 @@ impl Frame {
         ensures { at (contents (object_of difo.now) firing.now self.now.registers) a
             ≡ Some (lent_value result) }
     {
-        match &self.registers[a.number()] {
-            Held::Unset => unreachable!(),
-            Held::Int(n) => ValueRef::Int(*n),
-            Held::Constant(i) => match difo.texts.get(*i) {
-                Some(text) => ValueRef::Text(text.as_bytes()),
-                None => unreachable!(),
-            },
-            Held::BuiltIn(v) => built_in(firing, *v),
-            Held::Text(text) => ValueRef::Text(text.as_bytes()),
-        }
+        self.registers[a.number()].lend(difo, firing)
     }
 
-    /// The integer that a register holds.
+    // The same in the machine's loop, which would else note where each text of the firing stands.
+    #[inline(never)]
+    fn lend_apart<'a>(&'a self, difo: &'a Difo, firing: &'a Firing, a: Reg) -> ValueRef<'a>
+        requires { at (contents (object_of difo.now) firing.now self.now.registers) a ≢ None }
+        ensures { at (contents (object_of difo.now) firing.now self.now.registers) a
+            ≡ Some (lent_value result) }
+    {
+        self.lend(difo, firing, a)
+    }
+
+    /// The integer that a register holds. Most are at hand.
     pub(crate) fn number(&self, difo: &Difo, firing: &Firing, a: Reg) -> u64
         requires set { at (contents (object_of difo.now) firing.now self.now.registers) a ≢ None }
         requires number { (bytes : List ℕ)
@@ -88,7 +83,10 @@ impl Frame {
         ensures { at (contents (object_of difo.now) firing.now self.now.registers) a
             ≡ Some (Value.Int result) }
     {
-        match self.lend(difo, firing, a) {
+        if let Held::Int(word) = self.registers[a.number()].held {
+            return word;
+        }
+        match self.lend_apart(difo, firing, a) {
             ValueRef::Int(n) => n,
             ValueRef::Text(_) => unreachable!(),
         }
@@ -103,13 +101,14 @@ impl Frame {
         ensures { at (contents (object_of difo.now) firing.now self.now.registers) a
             ≡ Some (Value.Text result.now) }
     {
-        match self.lend(difo, firing, a) {
+        match self.lend_apart(difo, firing, a) {
             ValueRef::Int(_) => unreachable!(),
             ValueRef::Text(bytes) => bytes,
         }
     }
 
     /// A copy of what a register holds.
+    #[inline(always)]
     pub(crate) fn value(
         &self,
         alloc: Global,
@@ -121,7 +120,10 @@ impl Frame {
         ensures { IfOk result (λ value.
             at (contents (object_of difo.now) firing.now self.now.registers) a ≡ Some value) }
     {
-        owned(alloc, self.lend(difo, firing, a))
+        if let Held::Int(word) = self.registers[a.number()].held {
+            return Ok(Value::Int(word));
+        }
+        owned_value(alloc, self.lend_apart(difo, firing, a))
     }
 
     /// Copies what a register holds into another, and goes on. Only a text of the run's own is
@@ -132,7 +134,12 @@ impl Frame {
             ≡ with_content (frame_of o f self.old) d
             (at (contents o f self.old.registers) a)) }
     {
-        let held = self.registers[a.number()].clone()?;
+        let held = self.registers[a.number()].held;
+        if let Held::Own = held {
+            let text = self.registers[a.number()].text.clone()?;
+            self.put_text(d, text);
+            return Ok(());
+        }
         self.put(d, held);
         Ok(())
     }
@@ -146,16 +153,46 @@ impl Frame {
         self.pc += 1;
     }
 
-    /// Puts something into a register, and goes on.
+    /// Puts what needs no text of its own into a register, and goes on.
     pub(crate) fn put(&mut self, d: Reg, held: Held)
+        requires next { self.old.pc < 2 ^ 64 - 1 }
+        requires lent { held ≢ Held.Own }
+        ensures { (o : Object) (f : Recorded) → frame_of o f self.new
+            ≡ with_content (frame_of o f self.old) d (held_value o f [] held) }
+    {
+        self.pc += 1;
+        if d == Reg::R0 {
+            return;
+        }
+        self.registers[d.number()].put(held);
+    }
+
+    // Puts a text into a register, and goes on.
+    fn put_text(&mut self, to: Reg, text: Text)
         requires { self.old.pc < 2 ^ 64 - 1 }
         ensures { (o : Object) (f : Recorded) → frame_of o f self.new
-            ≡ with_content (frame_of o f self.old) d (content o f held) }
+            ≡ with_content (frame_of o f self.old) to (Some (Value.Text text)) }
     {
-        if d != Reg::R0 {
-            self.registers[d.number()] = held;
-        }
         self.pc += 1;
+        if to == Reg::R0 {
+            return;
+        }
+        self.registers[to.number()] = Cell {
+            held: Held::Own,
+            text,
+        };
+    }
+
+    /// Puts a value of the run's own into a register, and goes on.
+    pub(crate) fn put_value(&mut self, d: Reg, value: Value)
+        requires { self.old.pc < 2 ^ 64 - 1 }
+        ensures { (o : Object) (f : Recorded) → frame_of o f self.new
+            ≡ with_content (frame_of o f self.old) d (Some value) }
+    {
+        match value {
+            Value::Int(word) => self.put(d, Held::Int(word)),
+            Value::Text(text) => self.put_text(d, text),
+        }
     }
 
     /// Keeps a comparison, and goes on.
@@ -168,80 +205,57 @@ impl Frame {
         self.pc += 1;
     }
 
-    /// Adds a part to the tuple, and goes on.
-    pub(crate) fn push(&mut self, part: KeyPart) -> Result<(), AllocError>
-        requires { self.old.pc < 2 ^ 64 - 1 }
+    /// Adds what a register holds to the tuple, and goes on.
+    pub(crate) fn push(&mut self, a: Reg) -> Result<(), AllocError>
+        requires next { self.old.pc < 2 ^ 64 - 1 }
+        requires room { length self.old.tuple < 8 }
         ensures { OnOk result ((o : Object) (f : Recorded) → frame_of o f self.new
-            ≡ with_tuple (frame_of o f self.old) (self.old.tuple ++ part ∷ [])) }
+            ≡ with_tuple (frame_of o f self.old) (parts_of o f self.old.tuple
+            ++ part_of (at (contents o f self.old.registers) a) ∷ [])) }
     {
-        self.tuple.push(part)?;
+        self.tuple.push(&self.registers, a)?;
         self.pc += 1;
         Ok(())
     }
 
-    /// Empties the tuple, keeps its room, and goes on.
-    pub(crate) fn flush(&mut self, alloc: Global) -> Result<(), AllocError>
+    /// Empties the tuple, and goes on.
+    pub(crate) fn flush(&mut self)
         requires { self.old.pc < 2 ^ 64 - 1 }
-        ensures { OnOk result ((o : Object) (f : Recorded) → frame_of o f self.new
-            ≡ with_tuple (frame_of o f self.old) []) }
+        ensures { (o : Object) (f : Recorded) → frame_of o f self.new
+            ≡ with_tuple (frame_of o f self.old) [] }
     {
-        let tuple = mem::replace(&mut self.tuple, Key::new(alloc));
-        self.tuple = without_parts(tuple, &mut self.spare)?;
+        self.tuple.clear();
         self.pc += 1;
-        Ok(())
+    }
+
+    /// Writes the tuple as a key.
+    #[inline(always)]
+    pub(crate) fn write_key(
+        &mut self,
+        alloc: Global,
+        difo: &Difo,
+        firing: &Firing,
+    ) -> Result<(), AllocError>
+        ensures same { (o : Object) (f : Recorded)
+            → frame_of o f self.new ≡ frame_of o f self.old }
+        ensures key { OnOk result
+            (self.new.key ≡ parts_of (object_of difo.now) firing.now self.old.tuple) }
+    {
+        let cells = self.tuple.cells();
+        self.key.write(alloc, cells, difo, firing)
     }
 }
 
 // Sets the first register to 0, and no other.
-fn clear(registers: &mut [Held; 8])
-    ensures { registers.new ≡ blank_registers }
+fn clear(registers: &mut [Cell; 8])
+    ensures { (o : Object) (f : Recorded) → contents o f registers.new ≡ start.registers }
 {
-    registers[0] = Held::Int(0);
-    unset(&mut registers[1]);
-    unset(&mut registers[2]);
-    unset(&mut registers[3]);
-    unset(&mut registers[4]);
-    unset(&mut registers[5]);
-    unset(&mut registers[6]);
-    unset(&mut registers[7]);
-}
-
-// Lets go what a register holds. Most hold nothing, which a look tells sooner than a write.
-fn unset(held: &mut Held)
-    ensures { held.new ≡ Held.Unset }
-{
-    if !matches!(held, Held::Unset) {
-        *held = Held::Unset;
-    }
-}
-
-// Takes the parts out of a key that a run left.
-fn empty(alloc: Global, key: &mut Key)
-    ensures { key.new ≡ [] }
-{
-    if !key.parts().is_empty() {
-        *key = Key::new(alloc);
-    }
-}
-
-// A key of no parts in the room of another, whose texts are kept.
-fn without_parts(key: Key, spare: &mut Vec<Text>) -> Result<Key, AllocError>
-    ensures { IfOk result (λ k. k ≡ []) }
-{
-    let mut parts = key.into_parts();
-    for _ in 0..parts.len() {
-        if let Some(KeyPart::Name(text)) = parts.pop() {
-            spare.push(text)?;
-        }
-    }
-    parts.clear();
-    Ok(Key::from(parts))
-}
-
-/// A text to be written anew: one that was kept, or else a new one.
-pub(crate) fn spare_text(alloc: Global, spare: &mut Vec<Text>) -> Text {
-    match spare.pop() {
-        Some(text) => text,
-        None => Text::new(alloc),
-    }
+    registers[0].put(Held::Int(0));
+    registers[1].put(Held::Unset);
+    registers[2].put(Held::Unset);
+    registers[3].put(Held::Unset);
+    registers[4].put(Held::Unset);
+    registers[5].put(Held::Unset);
+    registers[6].put(Held::Unset);
+    registers[7].put(Held::Unset);
 }

@@ -1,14 +1,17 @@
-//! What registers hold.
+//! What registers and the parts of the tuple hold.
 
-ghost use Rattle.std.specs.Prelude.{◌≡◌, Some};
-ghost use Rattle.dif_machine.specs.Vocabulary.{Firing, Object};
-ghost use Rattle.dif_machine.specs.Held.{content};
+ghost use Rattle.std.specs.Prelude.{◌≡◌, ◌≢◌, ℕ, List, [], Some, None, OnOk};
+ghost use Rattle.dif_machine.specs.Vocabulary.{Firing as Recorded, Object, lent_value, object_of};
+ghost use Rattle.dif_machine.specs.{Held.content, Held.held_value, Held.part_of, Sources.built_in_of};
 
-use d_values::{Text, Value};
-use std::alloc::AllocError;
+use crate::sources::built_in;
+use d_values::{Text, ValueRef};
+use dif_validate::Difo;
+use firing_reader::Firing;
+use std::alloc::{AllocError, Global};
 
-/// What a register holds. A text of the object or of the firing stays where it is.
-#[derive(Drop)]
+/// What a cell holds. A text of the object or of the firing stays where it is.
+#[derive(Clone, Copy, Debug)]
 pub enum Held {
     /// Nothing yet.
     Unset,
@@ -18,35 +21,80 @@ pub enum Held {
     Constant(usize),
     /// The built-in variable of this number.
     BuiltIn(u8),
-    /// A text that the run made.
-    Text(Text),
+    /// The cell's own text, which the run made.
+    Own,
 }
 
-impl Clone for Held {
-    ghost is_clone = { λ h k. k ≡ h };
+/// A register, or a part of the tuple.
+#[derive(Drop)]
+pub struct Cell {
+    /// What it holds.
+    pub held: Held,
+    /// Its own text. Where it holds something else, only the room of an earlier one.
+    pub text: Text,
+}
 
-    fn clone(&self) -> Result<Held, AllocError> {
-        match self {
-            Held::Unset => Ok(Held::Unset),
-            Held::Int(n) => Ok(Held::Int(*n)),
-            Held::Constant(i) => Ok(Held::Constant(*i)),
-            Held::BuiltIn(v) => Ok(Held::BuiltIn(*v)),
-            Held::Text(text) => {
-                let text = text.clone()?;
-                Ok(Held::Text(text))
-            }
+impl Held {
+    /// The built-in variable of this number. An integer is taken, and a text stays in the firing.
+    pub(crate) fn built_in(firing: &Firing, v: u8) -> Held
+        ensures value { (o : Object) (text : List ℕ)
+            → held_value o firing.now text result ≡ Some (built_in_of firing.now v) }
+        ensures lent { result ≢ Held.Own }
+    {
+        match built_in(firing, v) {
+            ValueRef::Int(word) => Held::Int(word),
+            ValueRef::Text(_) => Held::BuiltIn(v),
         }
     }
 }
 
-impl Held {
-    /// A value of the run's own.
-    pub(crate) fn own(value: Value) -> Held
-        ensures { (o : Object) (f : Firing) → content o f result ≡ Some value }
-    {
-        match value {
-            Value::Int(n) => Held::Int(n),
-            Value::Text(text) => Held::Text(text),
+impl Cell {
+    /// A cell that holds nothing.
+    pub(crate) fn new(alloc: Global) -> Cell {
+        Cell {
+            held: Held::Unset,
+            text: Text::new(alloc),
         }
+    }
+
+    /// Lends what it holds, and 0 where that is nothing.
+    pub(crate) fn lend<'a>(&'a self, difo: &'a Difo, firing: &'a Firing) -> ValueRef<'a>
+        ensures value { content (object_of difo.now) firing.now self.now ≢ None
+            → content (object_of difo.now) firing.now self.now ≡ Some (lent_value result) }
+        ensures part { part_of (content (object_of difo.now) firing.now self.now)
+            ≡ part_of (Some (lent_value result)) }
+    {
+        match self.held {
+            Held::Unset => ValueRef::Int(0),
+            Held::Int(word) => ValueRef::Int(word),
+            Held::Constant(i) => match difo.texts.get(i) {
+                Some(text) => ValueRef::Text(text.as_bytes()),
+                None => ValueRef::Int(0),
+            },
+            Held::BuiltIn(v) => built_in(firing, v),
+            Held::Own => ValueRef::Text(self.text.as_bytes()),
+        }
+    }
+
+    /// Makes it hold what needs no text of its own.
+    pub(crate) fn put(&mut self, held: Held)
+        requires { held ≢ Held.Own }
+        ensures { (o : Object) (f : Recorded) → content o f self.new ≡ held_value o f [] held }
+    {
+        self.held = held;
+    }
+
+    /// Makes it hold what another does. Only a text of the run's own is copied.
+    pub(crate) fn assign(&mut self, other: &Cell) -> Result<(), AllocError>
+        ensures { OnOk result ((o : Object) (f : Recorded)
+            → content o f self.new ≡ content o f other.now) }
+    {
+        if let Held::Own = other.held {
+            self.text.assign(other.text.as_bytes())?;
+            self.held = Held::Own;
+            return Ok(());
+        }
+        self.held = other.held;
+        Ok(())
     }
 }

@@ -5,17 +5,18 @@ mod comparing;
 mod fault;
 mod frame;
 mod held;
+mod keys;
 pub mod laws;
 mod operating;
 mod running;
 mod sources;
 mod stepping;
+mod tuple;
 
 pub use comparing::Comparison;
 pub use fault::MachineFault;
 pub use frame::Frame;
-pub use held::Held;
+pub use held::{Cell, Held};
+pub use keys::{LastKey, key_of_zeros};
 pub use running::{run, run_in};
-
-#[cfg(test)]
-mod tests;
+pub use tuple::Tuple;

@@ -1,25 +1,21 @@
 //! Whole runs.
 
 ghost use Rattle.std.specs.Prelude.{◌≡◌, IfSome};
-ghost use Rattle.d_values.specs.Stores.{kind_of};
 ghost use Rattle.dif_validate.specs.declared.register.Reg.TheVariants.{R1};
-ghost use Rattle.dif_machine.specs.Frames.{start, with_value};
-ghost use Rattle.dif_machine.specs.Steps.{Goes, act};
-ghost use Rattle.dif_machine.specs.Vocabulary.{NumberKind, lent_value, object_of};
-ghost use Rattle.dif_machine.specs.Held.{frame_of};
-ghost use Rattle.dif_machine.specs.Runs.{Returns, RunEnds, RunLeaves, Runs, value_result};
-ghost use Rattle.d_values.specs.Storage.{variables};
+ghost use Rattle.dif_machine.specs.{Vocabulary.NumberKind, Vocabulary.kind_of, Vocabulary.lent_value, Vocabulary.object_of, Vocabulary.variables, Frames.start, Frames.with_value, Held.frame_of, Runs.Returns, Runs.RunEnds, Runs.RunLeaves, Runs.Runs, Runs.value_result, Steps.Goes, Steps.act};
 
 use crate::fault::MachineFault;
 use crate::frame::Frame;
-use crate::sources::{built_in, owned};
+use crate::sources::{built_in, owned_value};
 use crate::stepping::step;
 use d_values::{ClauseLocals, Key, ThreadTable, Value, ValueRef};
 use dif_validate::{Difo, Instr, Reg, ValidDifo};
 use firing_reader::Firing;
 use std::alloc::Global;
 
-// Runs an object to its end. The register that is returned holds what the object returns.
+// Runs an object to its end. The register that is returned holds what the object returns. It isn't
+// inlined: an object that only loads is run without what the loop sets up.
+#[inline(never)]
 fn run_to_end(
     alloc: Global,
     valid: &ValidDifo,
@@ -32,7 +28,7 @@ fn run_to_end(
         result (frame_of valid.now firing.now frame.new) (variables locals.new own.new) }
 {
     let difo = valid.difo();
-    frame.restart(alloc);
+    frame.restart();
     loop {
         match step(alloc, difo, firing, frame, locals, own) {
             Ok(Some(register)) => return Ok(register),
@@ -54,32 +50,33 @@ fn integer_of(value: ValueRef<'_>) -> Option<ValueRef<'static>>
 }
 
 // What an instruction loads into the first free register where no copy of it is needed.
+#[inline(always)]
 fn source<'a>(
     alloc: Global,
-    instr: Instr,
+    instr: &Instr,
     difo: &'a Difo,
     firing: &'a Firing,
     locals: &ClauseLocals,
     own: &ThreadTable,
 ) -> Option<ValueRef<'a>>
     ensures { IfSome result (λ lent.
-        act instr (object_of difo.now) firing.now start (variables locals.now own.now)
+        act instr.now (object_of difo.now) firing.now start (variables locals.now own.now)
         ≡ Goes (with_value start R1 (lent_value lent)) (variables locals.now own.now)) }
 {
-    if let Instr::Ldgs(v, Reg::R1) = instr {
+    if let Instr::Ldgs(v, Reg::R1) = *instr {
         return Some(built_in(firing, v));
     }
-    if let Instr::Ldls(x, Reg::R1) = instr {
+    if let Instr::Ldls(x, Reg::R1) = *instr {
         return integer_of(locals.get(x));
     }
-    if let Instr::Ldts(x, Reg::R1) = instr {
+    if let Instr::Ldts(x, Reg::R1) = *instr {
         return integer_of(own.get(x, &Key::new(alloc)));
     }
-    if let Instr::Sets(i, Reg::R1) = instr {
+    if let Instr::Sets(i, Reg::R1) = *instr {
         let text = difo.texts.get(i)?;
         return Some(ValueRef::Text(text.as_bytes()));
     }
-    if let Instr::Setx(i, Reg::R1) = instr {
+    if let Instr::Setx(i, Reg::R1) = *instr {
         let word = difo.numbers.get(i)?;
         return Some(ValueRef::Int(*word));
     }
@@ -87,7 +84,8 @@ fn source<'a>(
 }
 
 // What an object lends that only loads it. This needs no frame.
-fn loaded<'a>(
+#[inline(always)]
+fn single_load<'a>(
     alloc: Global,
     difo: &'a Difo,
     firing: &'a Firing,
@@ -102,7 +100,7 @@ fn loaded<'a>(
         return None;
     };
     match difo.code.get(0) {
-        Some(first) => source(alloc, *first, difo, firing, locals, own),
+        Some(first) => source(alloc, first, difo, firing, locals, own),
         None => None,
     }
 }
@@ -115,6 +113,7 @@ fn loaded<'a>(
 /// // ldgs 4, r1; ret r1
 /// let value = run_in(alloc, &valid, &firing, &mut frame, &mut locals, &mut own)?; // Text(b"cat")
 /// ```
+#[inline(always)]
 pub fn run_in<'a>(
     alloc: Global,
     valid: &'a ValidDifo,
@@ -127,7 +126,7 @@ pub fn run_in<'a>(
         (value_result result) (variables locals.new own.new) }
 {
     let difo = valid.difo();
-    if let Some(lent) = loaded(alloc, difo, firing, &*locals, &*own) {
+    if let Some(lent) = single_load(alloc, difo, firing, &*locals, &*own) {
         return Ok(lent);
     }
     let register = run_to_end(alloc, valid, firing, frame, locals, own)?;
@@ -154,6 +153,6 @@ pub fn run(
 {
     let mut frame = Frame::new(alloc);
     let lent = run_in(alloc, valid, firing, &mut frame, locals, own)?;
-    let value = owned(alloc, lent)?;
+    let value = owned_value(alloc, lent)?;
     Ok(value)
 }

@@ -16,6 +16,7 @@ fn integer(number: i64) -> ValueRef<'static>
 }
 
 /// The built-in variable of this number.
+#[inline(always)]
 pub(crate) fn built_in<'a>(firing: &'a Firing, v: u8) -> ValueRef<'a>
     ensures { lent_value result ≡ spec.built_in_of firing.now v }
 {
@@ -43,7 +44,7 @@ pub(crate) fn argument(firing: &Firing, n: u64) -> u64
 }
 
 /// A copy of what is lent.
-pub(crate) fn owned(alloc: Global, lent: ValueRef<'_>) -> Result<Value, AllocError>
+pub(crate) fn owned_value(alloc: Global, lent: ValueRef<'_>) -> Result<Value, AllocError>
     ensures same { IfOk result (λ value. value ≡ lent_value lent.entry) }
     ensures kind { IfOk result (λ value. (k : Kind) → kind_of (lent_value lent.entry) ≡ k
         → value ≡ as_kind k (lent_value lent.entry)) }
@@ -65,10 +66,11 @@ pub(crate) fn load_local(
 ) -> Result<Value, AllocError>
     ensures { IfOk result (λ value. value ≡ as_kind var.kind (local_of locals.now var)) }
 {
-    owned(alloc, locals.get(var))
+    owned_value(alloc, locals.get(var))
 }
 
 /// A copy of what a variable of the thread holds at a key, which is empty for a scalar.
+#[inline(always)]
 pub(crate) fn load(
     alloc: Global,
     own: &ThreadTable,
@@ -77,5 +79,5 @@ pub(crate) fn load(
 ) -> Result<Value, AllocError>
     ensures { IfOk result (λ value. value ≡ as_kind var.kind (own_of own.now var key.now)) }
 {
-    owned(alloc, own.get(var, key))
+    owned_value(alloc, own.get(var, key))
 }

@@ -7,9 +7,7 @@ mod values;
 mod variables;
 
 ghost use Rattle.std.specs.Prelude.{◌≢◌};
-ghost use Rattle.dif_machine.specs.Vocabulary.{object_of, variables};
-ghost use Rattle.dif_machine.specs.Steps.{step_of, Stepped, Stuck};
-ghost use Rattle.dif_machine.specs.{Held.frame_of, Instructions.CanExecuteOver, Instructions.ExecutesOver};
+ghost use Rattle.dif_machine.specs.{Vocabulary.object_of, Vocabulary.variables, Held.frame_of, Instructions.CanExecuteOver, Instructions.ExecutesOver, Steps.step_of, Steps.Stepped, Steps.Stuck};
 
 use crate::fault::MachineFault;
 use crate::frame::Frame;
@@ -67,18 +65,18 @@ fn execute(
         Instr::Branch(condition, to) => comparisons::branch(frame, condition, to),
         Instr::Setx(i, d) => integers::setx(difo, frame, i, d),
         Instr::Sets(i, d) => values::sets(frame, i, d),
-        Instr::Ldgs(v, d) => values::ldgs(frame, v, d),
+        Instr::Ldgs(v, d) => values::ldgs(firing, frame, v, d),
         Instr::Ldga(_, a, d) => integers::ldga(difo, firing, frame, a, d),
         Instr::Ldts(x, d) => variables::ldts(alloc, frame, own, x, d),
         Instr::Stts(x, a) => variables::stts(alloc, difo, firing, frame, own, x, a),
         Instr::Ldls(x, d) => variables::ldls(alloc, frame, locals, x, d),
         Instr::Stls(x, a) => variables::stls(alloc, difo, firing, frame, locals, x, a),
-        Instr::Pushtr(a) => tuple::pushtr(alloc, difo, firing, frame, a),
-        Instr::Pushtv(a) => tuple::pushtv(difo, firing, frame, a),
-        Instr::Flushts => tuple::flushts(alloc, frame),
-        Instr::Ldtaa(x, d) => variables::ldtaa(alloc, frame, own, x, d),
+        Instr::Pushtr(a) => tuple::pushtr(frame, a),
+        Instr::Pushtv(a) => tuple::pushtv(frame, a),
+        Instr::Flushts => tuple::flushts(frame),
+        Instr::Ldtaa(x, d) => variables::ldtaa(alloc, difo, firing, frame, own, x, d),
         Instr::Sttaa(x, a) => variables::sttaa(alloc, difo, firing, frame, own, x, a),
-        Instr::Call(f, d) => tuple::call(alloc, frame, f, d),
+        Instr::Call(f, d) => tuple::call(alloc, difo, firing, frame, f, d),
         Instr::Ret(a) => values::ret(a),
         Instr::Nop => values::nop(frame),
     }

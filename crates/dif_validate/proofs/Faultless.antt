@@ -11,7 +11,7 @@ use Rattle.dif_validate.specs.Asks.{asks, finds_other, finds_unset, lacks_compar
 use Rattle.dif_validate.specs.Faults.{goes_back, goes_out, misses_table, misses_variable, returns_other, misses_tuple, if_so, fault_in, fault_if_reached, first_of, fault_of, fault_there, fault_at}
 use Rattle.dif_validate.specs.Flow.{target, before}
 use Rattle.dif_validate.specs.Objects.{Object}
-use Rattle.dif_validate.specs.Returns.{returned_before}
+use Rattle.dif_validate.specs.Returns.{first_kind_before}
 use Rattle.dif_validate.specs.Validity.{is_closed, IsFirst, IsRefused}
 
 if_so_none : (wrong : Bool) (fault : DifFault) (rest : Option DifFault) → if_so wrong fault rest ≡ None → (wrong ≡ false) × (rest ≡ None)
@@ -60,13 +60,13 @@ faultless_by o pc i kind s h =
 
 pub faultless : (o : Object) (pc : ℕ) (i : Instr) (s : Shape) → fault_at o pc ≡ None → slice_get o.code pc ≡ Some i → before o.code pc ≡ Some s → IsFaultless o pc i s
 faultless o pc i s none there is =
-    faultless_by o pc i (returned_before o.code pc) s
-    (ap (fault_of o pc i (returned_before o.code pc)) (sym is) ∙ ap (fault_there o pc) (sym there) ∙ none)
+    faultless_by o pc i (first_kind_before o.code pc) s
+    (ap (fault_of o pc i (first_kind_before o.code pc)) (sym is) ∙ ap (fault_there o pc) (sym there) ∙ none)
 
 -- a `ret` returns no other kind than an earlier one
-pub returns_no_other : (o : Object) (pc : ℕ) (i : Instr) (s : Shape) → fault_at o pc ≡ None → slice_get o.code pc ≡ Some i → before o.code pc ≡ Some s → returns_other i (returned_before o.code pc) s ≡ false
+pub returns_no_other : (o : Object) (pc : ℕ) (i : Instr) (s : Shape) → fault_at o pc ≡ None → slice_get o.code pc ≡ Some i → before o.code pc ≡ Some s → returns_other i (first_kind_before o.code pc) s ≡ false
 returns_no_other o pc i s none there is =
-    let kind = returned_before o.code pc in
+    let kind = first_kind_before o.code pc in
     let h : fault_of o pc i kind (Some s) ≡ None = ap (fault_of o pc i kind) (sym is) ∙ ap (fault_there o pc) (sym there) ∙ none in
     let a = if_so_none (goes_back i pc) _ _ h in
     let b = if_so_none (goes_out i (length o.code)) _ _ a.1 in
@@ -120,7 +120,7 @@ fault_placed o pc None = tt
 fault_placed o pc (Some i) =
     if_so_placed (goes_back i pc) (Backward pc) _ tt
     (if_so_placed (goes_out i (length o.code)) (OutOfCode pc) _ tt
-    (first_of_placed (fault_if_reached i pc (returned_before o.code pc) (before o.code pc)) _ (reached_placed i pc _ (before o.code pc))
+    (first_of_placed (fault_if_reached i pc (first_kind_before o.code pc) (before o.code pc)) _ (reached_placed i pc _ (before o.code pc))
     (if_so_placed (misses_table i o) (TableIndex pc) _ tt (if_so_placed (misses_variable i) (Variable pc) None tt tt))))
 
 -- so the first fault is the reason of a refusal

@@ -12,7 +12,7 @@ use Rattle.dif_validate.specs.declared.shape.Shape.{Shape}
 use Rattle.dif_validate.specs.Flow.{falls, target, before}
 use Rattle.dif_validate.specs.Objects.{Object}
 use Rattle.dif_validate.specs.Registers.{at}
-use Rattle.dif_validate.specs.Returns.{returned, returned_before, return_kind}
+use Rattle.dif_validate.specs.Returns.{kind_at_return, first_kind_before, return_kind}
 use Rattle.dif_validate.specs.Faults.{fault_at, returns_other}
 use Rattle.dif_validate.specs.Shapes.{is_other, is_same, is_unset, start}
 use Rattle.dif_validate.specs.Validity.{is_return, is_closed, IsValid}
@@ -53,14 +53,14 @@ first_kept : (a b : Option Kind) → ((j : Kind) × (a ≡ Some j)) → (j : Kin
 first_kept None b h = absurd (let e = h.1 in cc)
 first_kept (Some x) b h = (x, refl)
 
-found : (code : List Instr) (n q : ℕ) (k : Kind) → q < n → returned (slice_get code q) (before code q) ≡ Some k → (j : Kind) × (returned_before code n ≡ Some j)
+found : (code : List Instr) (n q : ℕ) (k : Kind) → q < n → kind_at_return (slice_get code q) (before code q) ≡ Some k → (j : Kind) × (first_kind_before code n ≡ Some j)
 found code zero q k less h = absurd (omega arith)
 found code (suc n) q k less h =
     ⊎_elim
-    (λ below. first_kept (returned_before code n) (returned (slice_get code n) (before code n)) (found code n q k below h))
+    (λ below. first_kept (first_kind_before code n) (kind_at_return (slice_get code n) (before code n)) (found code n q k below h))
     (λ above.
     let same : q ≡ n = omega arith in
-    first_some (returned_before code n) (returned (slice_get code n) (before code n)) k (subst (λ m. returned (slice_get code m) (before code m) ≡ Some k) same h))
+    first_some (first_kind_before code n) (kind_at_return (slice_get code n) (before code n)) k (subst (λ m. kind_at_return (slice_get code m) (before code m) ≡ Some k) same h))
     (cases_lt q n)
 
 module _ (o : Object) (valid : IsValid o) where
@@ -82,7 +82,7 @@ module _ (o : Object) (valid : IsValid o) where
     off i there fine (inr a) =
         let set = set_is (at s.registers a.0) (rw a.1 at fine.fine.set) in
         found o.code (length o.code) pc set.0 inside
-        (ap (λ x. returned x (before o.code pc)) (there ∙ ap Some a.1) ∙ ap (returned (Some (Ret a.0))) is ∙ set.1)
+        (ap (λ x. kind_at_return x (before o.code pc)) (there ∙ ap Some a.1) ∙ ap (kind_at_return (Some (Ret a.0))) is ∙ set.1)
 
     by : (i : Instr) → slice_get o.code pc ≡ Some i → IsFaultless o pc i s → Kinded
     by i there fine = ⊎_elim (on i there) (λ f. off i there fine (halts i f)) (cases_Bool (falls i))
@@ -107,12 +107,12 @@ closed_inside (i ∷ code) h = omega arith
 
 -- ---- and each reached `ret` returns it
 
-kind_kept : (code : List Instr) (m n : ℕ) (k : Kind) → returned_before code m ≡ Some k → m ≤ n → returned_before code n ≡ Some k
-kind_kept code m zero k h le = let same : m ≡ 0 = omega (arith, le) in subst (λ i. returned_before code i ≡ Some k) same h
+kind_kept : (code : List Instr) (m n : ℕ) (k : Kind) → first_kind_before code m ≡ Some k → m ≤ n → first_kind_before code n ≡ Some k
+kind_kept code m zero k h le = let same : m ≡ 0 = omega (arith, le) in subst (λ i. first_kind_before code i ≡ Some k) same h
 kind_kept code m (suc n) k h le =
     ⊎_elim
-    (λ below. ap (λ x. option_or x (returned (slice_get code n) (before code n))) (kind_kept code m n k h (omega (arith, below))))
-    (λ above. let same : m ≡ suc n = omega (arith, le, above) in subst (λ i. returned_before code i ≡ Some k) same h)
+    (λ below. ap (λ x. option_or x (kind_at_return (slice_get code n) (before code n))) (kind_kept code m n k h (omega (arith, below))))
+    (λ above. let same : m ≡ suc n = omega (arith, le, above) in subst (λ i. first_kind_before code i ≡ Some k) same h)
     (cases_lt m (suc n))
 
 agrees : (first : Option Kind) (s : Shape) (a : Reg) (k : Kind) → at s.registers a ≡ Some k → returns_other (Ret a) first s ≡ false → option_or first (at s.registers a) ≡ Some k
@@ -125,7 +125,7 @@ pub returns_its_kind : (o : Object) (pc : ℕ) (s : Shape) (a : Reg) (k : Kind) 
 returns_its_kind o pc s a k none there is set =
     let inside : pc < length o.code = slice_get_within o.code pc (Ret a) there in
     kind_kept o.code (suc pc) (length o.code) k
-    (ap (λ x. option_or (returned_before o.code pc) (returned x (before o.code pc))) there
-    ∙ ap (λ x. option_or (returned_before o.code pc) (returned (Some (Ret a)) x)) is
-    ∙ agrees (returned_before o.code pc) s a k set (returns_no_other o pc (Ret a) s none there is))
+    (ap (λ x. option_or (first_kind_before o.code pc) (kind_at_return x (before o.code pc))) there
+    ∙ ap (λ x. option_or (first_kind_before o.code pc) (kind_at_return (Some (Ret a)) x)) is
+    ∙ agrees (first_kind_before o.code pc) s a k set (returns_no_other o pc (Ret a) s none there is))
     (omega (arith, inside))

@@ -1,9 +1,9 @@
 -- The fault of an instruction at its place: of several the first in the order of `DifFault`.
 use Rattle.std.specs.Prelude.{ℕ, Bool, true, false, not, ◌||◌, nat_le, nat_lt, if◌then◌else◌, List, length, Option, Some, None, slice_get}
-use Rattle.dif_validate.specs.Vocabulary.{DifFault, Backward, OutOfCode, RegisterKind, Unset, TupleShape, TableIndex, Variable, Flow, Next, Jump, Either, End, Instr, Alu, Not, Mov, Cmp, Tst, Scmp, Ba, Branch, Setx, Sets, Ldgs, Ldga, Ldts, Stts, Ldls, Stls, Pushtr, Pushtv, Flushts, Ldtaa, Sttaa, Call, Ret, Nop, Kind, Object, Shape, at}
+use Rattle.dif_validate.specs.Vocabulary.{DifFault, Backward, OutOfCode, RegisterKind, Unset, TupleShape, TableIndex, Variable, Flow, Next, Jump, Either, End, Instr, Alu, Not, Mov, Cmp, Tst, Scmp, Ba, Branch, Setx, Sets, Ldgs, Ldga, Ldts, Stts, Ldls, Stls, Pushtr, Pushtv, Flushts, Ldtaa, Sttaa, Call, Ret, Nop, LAST_BUILT_IN, Kind, Object, Shape, at}
 use Rattle.dif_validate.specs.Asks.{asks, finds_other, finds_unset, lacks_comparison, takes}
 use Rattle.dif_validate.specs.Flow.{flow, target, before}
-use Rattle.dif_validate.specs.Returns.{returned_before}
+use Rattle.dif_validate.specs.Returns.{first_kind_before}
 use Rattle.dif_validate.specs.Shapes.{is_other}
 
 -- ---- what can be wrong with any instruction
@@ -61,7 +61,7 @@ misses_variable (Ba to) = false
 misses_variable (Branch condition to) = false
 misses_variable (Setx i d) = false
 misses_variable (Sets i d) = false
-misses_variable (Ldgs v d) = nat_lt 8 v
+misses_variable (Ldgs v d) = nat_lt LAST_BUILT_IN v
 misses_variable (Ldga v a d) = nat_lt 0 v
 misses_variable (Ldts x d) = false
 misses_variable (Stts x a) = false
@@ -125,7 +125,7 @@ fault_of o pc i kind way =
 
 abbrev pub fault_there : Object → ℕ → Option Instr → Option DifFault
 fault_there o pc None = None
-fault_there o pc (Some i) = fault_of o pc i (returned_before o.code pc) (before o.code pc)
+fault_there o pc (Some i) = fault_of o pc i (first_kind_before o.code pc) (before o.code pc)
 
 abbrev pub fault_at : Object → ℕ → Option DifFault
 fault_at o pc = fault_there o pc (slice_get o.code pc)

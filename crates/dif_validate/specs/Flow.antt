@@ -81,11 +81,11 @@ at_start zero = Some start
 at_start (suc pc) = None
 
 -- what is known at pc by the instructions before n
-abbrev pub known : List Instr → ℕ → ℕ → Option Shape
-known code zero pc = at_start pc
-known code (suc q) pc =
-    further (known code q pc) (slice_get code q) q (known code q q) pc
+abbrev pub shape_at : List Instr → ℕ → ℕ → Option Shape
+shape_at code zero pc = at_start pc
+shape_at code (suc q) pc =
+    further (shape_at code q pc) (slice_get code q) q (shape_at code q q) pc
 
 -- what is known before the instruction at pc; none where no way leads to it
 abbrev pub before : List Instr → ℕ → Option Shape
-before code pc = known code pc pc
+before code pc = shape_at code pc pc

@@ -15,9 +15,9 @@ with_tuple s tuple =
     record { registers = s.registers; compared = s.compared; tuple = tuple }
 
 -- one more at the end, up to 8
-abbrev pub pushed : Option (List Kind) → Kind → Option (List Kind)
-pushed None kind = None
-pushed (Some tuple) kind =
+abbrev pub tuple_with : Option (List Kind) → Kind → Option (List Kind)
+tuple_with None kind = None
+tuple_with (Some tuple) kind =
     if nat_lt (length tuple) 8 then Some (tuple ++ kind ∷ []) else None
 
 -- timestamp, cpu, pid and tid are numbers, and all others texts
@@ -45,8 +45,8 @@ leaves (Ldts x d) s = with_register s d (Some x.kind)
 leaves (Stts x a) s = s
 leaves (Ldls x d) s = with_register s d (Some x.kind)
 leaves (Stls x a) s = s
-leaves (Pushtr a) s = with_tuple s (pushed s.tuple Text)
-leaves (Pushtv a) s = with_tuple s (pushed s.tuple Number)
+leaves (Pushtr a) s = with_tuple s (tuple_with s.tuple Text)
+leaves (Pushtv a) s = with_tuple s (tuple_with s.tuple Number)
 leaves Flushts s = with_tuple s (Some [])
 leaves (Ldtaa x d) s = with_register s d (Some x.kind)
 leaves (Sttaa x a) s = s

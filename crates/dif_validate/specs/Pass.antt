@@ -2,8 +2,8 @@
 use Rattle.std.specs.Prelude.{◌≡◌, ◌≤◌, ◌<◌, ◌+◌, ℕ, List, length, Option, None, Result, Ok, Err, slice_index_or}
 use Rattle.dif_validate.specs.Vocabulary.{DifFault, Kind, Object, Shape}
 use Rattle.dif_validate.specs.Faults.{fault_at}
-use Rattle.dif_validate.specs.Flow.{known}
-use Rattle.dif_validate.specs.Returns.{returned_before}
+use Rattle.dif_validate.specs.Flow.{shape_at}
+use Rattle.dif_validate.specs.Returns.{first_kind_before}
 use Rattle.dif_validate.specs.Validity.{IsRefused}
 
 -- at each place ahead what the instructions so far make known there, and the kind that they return;
@@ -12,8 +12,8 @@ pub record Knows (o : Object) (pc : ℕ) (ways : List (Option Shape)) (kind : Op
     : Type 0 where
   pub long : length ways ≡ length o.code
   pub ahead : (k : ℕ) → pc ≤ k → k < length o.code
-      → slice_index_or ways k None ≡ known o.code pc k
-  pub returned : kind ≡ returned_before o.code pc
+      → slice_index_or ways k None ≡ shape_at o.code pc k
+  pub returned : kind ≡ first_kind_before o.code pc
   pub clean : (q : ℕ) → q < pc → fault_at o q ≡ None
 
 -- one instruction more, or its fault

@@ -15,15 +15,15 @@ abbrev pub returns : Instr → Shape → Option Kind
 returns i s = returns_by (flow i) s
 
 -- if it is reached
-abbrev pub returned : Option Instr → Option Shape → Option Kind
-returned (Some i) (Some s) = returns i s
-returned _ _ = None
+abbrev pub kind_at_return : Option Instr → Option Shape → Option Kind
+kind_at_return (Some i) (Some s) = returns i s
+kind_at_return _ _ = None
 
 -- what the first reached `ret` before n returns
-abbrev pub returned_before : List Instr → ℕ → Option Kind
-returned_before code zero = None
-returned_before code (suc pc) =
-    option_or (returned_before code pc) (returned (slice_get code pc) (before code pc))
+abbrev pub first_kind_before : List Instr → ℕ → Option Kind
+first_kind_before code zero = None
+first_kind_before code (suc pc) =
+    option_or (first_kind_before code pc) (kind_at_return (slice_get code pc) (before code pc))
 
 abbrev pub return_kind : Object → Option Kind
-return_kind o = returned_before o.code (length o.code)
+return_kind o = first_kind_before o.code (length o.code)

@@ -36,21 +36,21 @@ start = record {
 }
 
 -- where ways meet, a kind is kept where they agree
-abbrev pub agreed : Option Kind → Option Kind → Option Kind
-agreed (Some k) (Some j) = if is_same k j then Some k else None
-agreed _ _ = None
+abbrev pub common_kind : Option Kind → Option Kind → Option Kind
+common_kind (Some k) (Some j) = if is_same k j then Some k else None
+common_kind _ _ = None
 
 -- and so is the tuple
-abbrev pub agreed_tuple : Option (List Kind) → Option (List Kind) → Option (List Kind)
-agreed_tuple (Some t) (Some u) = if are_same t u then Some t else None
-agreed_tuple _ _ = None
+abbrev pub common_tuple : Option (List Kind) → Option (List Kind) → Option (List Kind)
+common_tuple (Some t) (Some u) = if are_same t u then Some t else None
+common_tuple _ _ = None
 
 abbrev pub meet : Shape → Shape → Shape
 meet s t =
-    let both = λ (r : Reg). agreed (at s.registers r) (at t.registers r) in
+    let both = λ (r : Reg). common_kind (at s.registers r) (at t.registers r) in
     record {
       registers =
           both R0 ∷ both R1 ∷ both R2 ∷ both R3 ∷ both R4 ∷ both R5 ∷ both R6 ∷ both R7 ∷ [];
       compared = s.compared && t.compared;
-      tuple = agreed_tuple s.tuple t.tuple;
+      tuple = common_tuple s.tuple t.tuple;
     }

@@ -15,6 +15,7 @@ pub use Rattle.dif_validate.specs.declared.instruction.Instr.{Instr}
 pub use Rattle.dif_validate.specs.declared.instruction.Instr.TheVariants.{Alu, Not, Mov, Cmp, Tst, Scmp, Ba, Branch, Setx, Sets, Ldgs, Ldga, Ldts, Stts, Ldls, Stls, Pushtr, Pushtv, Flushts, Ldtaa, Sttaa, Call, Ret, Nop}
 pub use Rattle.dif_validate.specs.declared.instruction.Operator.{Operator}
 pub use Rattle.dif_validate.specs.declared.instruction.Operator.TheVariants.{Or, Xor, And, Sll, Srl, Sra, Sub, Add, Mul, Sdiv, Udiv, Srem, Urem}
+pub use Rattle.dif_validate.specs.declared.instruction.TheConstants.{LAST_BUILT_IN}
 pub use Rattle.dif_validate.specs.declared.register.Reg.{Reg}
 pub use Rattle.dif_validate.specs.declared.register.Reg.TheVariants.{R0, R1, R2, R3, R4, R5, R6, R7}
 pub use Rattle.dif_validate.specs.declared.shape.Shape.{Shape}

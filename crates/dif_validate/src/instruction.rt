@@ -69,6 +69,9 @@ pub enum Function {
     Strjoin,
 }
 
+/// The number of `probename`, the last of the built-in variables that `ldgs` reads.
+pub const LAST_BUILT_IN: u8 = 8;
+
 /// One instruction.
 #[derive(Clone, Copy, Debug, PartialEq, Eq)]
 pub enum Instr {

@@ -36,10 +36,10 @@ impl Shape {
     }
 
     // With one more at the end of the tuple.
-    fn with_pushed(mut self, kind: Kind) -> Shape
-        ensures { result ≡ spec.with_tuple self (spec.pushed self.tuple kind) }
+    fn with_one_more(mut self, kind: Kind) -> Shape
+        ensures { result ≡ spec.with_tuple self (spec.tuple_with self.tuple kind) }
     {
-        let tuple = pushed(self.tuple.take(), kind);
+        let tuple = tuple_with(self.tuple.take(), kind);
         self.with_tuple(tuple)
     }
 
@@ -63,8 +63,8 @@ impl Shape {
             Instr::Ldga(_, _, d) => self.with(d, Some(Kind::Number)),
             Instr::Ldts(x, d) => self.with(d, Some(x.kind)),
             Instr::Ldls(x, d) => self.with(d, Some(x.kind)),
-            Instr::Pushtr(_) => self.with_pushed(Kind::Text),
-            Instr::Pushtv(_) => self.with_pushed(Kind::Number),
+            Instr::Pushtr(_) => self.with_one_more(Kind::Text),
+            Instr::Pushtv(_) => self.with_one_more(Kind::Number),
             Instr::Flushts => self.with_tuple(Some(Tuple::new())),
             Instr::Ldtaa(x, d) => self.with(d, Some(x.kind)),
             Instr::Call(f, d) => self.with(d, Some(f.kind())),
@@ -99,8 +99,8 @@ fn kind_of_built_in(v: u8) -> Kind
 }
 
 // A tuple with one more at its end.
-fn pushed(tuple: Option<Tuple>, kind: Kind) -> Option<Tuple>
-    ensures { result ≡ spec.pushed tuple kind }
+fn tuple_with(tuple: Option<Tuple>, kind: Kind) -> Option<Tuple>
+    ensures { result ≡ spec.tuple_with tuple kind }
 {
     match tuple {
         Some(mut tuple) => {

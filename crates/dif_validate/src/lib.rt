@@ -21,6 +21,3 @@ pub use object::Difo;
 pub use register::Reg;
 pub use shape::{Shape, Tuple};
 pub use valid::{ValidDifo, validate};
-
-#[cfg(test)]
-mod tests;

@@ -2,7 +2,7 @@
 
 ghost use Rattle.std.specs.Prelude.{◌≡◌, ◌<◌, ◌+◌, ℕ, Some, None, true, IfOk, length, nat_eq, slice_index_or, if◌then◌else◌};
 ghost use Rattle.dif_validate.specs.Flow.{at_start, falls, further, join, target};
-ghost use Rattle.dif_validate.specs.{Objects.object_of, Pass.Advances, Pass.Knows, Returns.returned, Validity.Finds, Validity.is_closed};
+ghost use Rattle.dif_validate.specs.{Objects.object_of, Pass.Advances, Pass.Knows, Returns.kind_at_return, Validity.Finds, Validity.is_closed};
 
 use crate::fault::DifFault;
 use crate::flow::Flow;
@@ -62,8 +62,8 @@ fn send(ways: &mut Vec<Option<Shape>>, i: Instr, pc: usize, shape: Shape)
 
 impl Instr {
     // The kind that it returns.
-    fn returned(self, shape: &Shape) -> Option<Kind>
-        ensures { result ≡ returned (Some self) (Some shape.now) }
+    fn kind_at_return(self, shape: &Shape) -> Option<Kind>
+        ensures { result ≡ kind_at_return (Some self) (Some shape.now) }
     {
         match self.flow() {
             Flow::End(a) => shape.kind(a),
@@ -90,7 +90,7 @@ fn advance(
         return Err(fault);
     }
     let Some(shape) = way else { return Ok(kind) };
-    let returned = instr.returned(&shape);
+    let returned = instr.kind_at_return(&shape);
     send(ways, instr, pc, shape);
     Ok(kind.or(returned))
 }

@@ -50,7 +50,7 @@ asked_or_memory rows words (Err (Usage e)) same fault has =
     absurd (fault.2 has.0 (subst (λ r. IsPlanIn r has.0) (sym same) has.1))
 asked_or_memory rows words (Err Memory) same fault has = refl
 
--- where clap promises that only memory can fail, the fault is told as Memory
+-- where clap promises that only memory can fail, the fault is reported as Memory
 pub only_memory : (a : App) (words : List (List ℕ)) (error : Error) (fault : UsageFault) → a ≡ program → IsToldAs error fault
     → (takes a words ≡ true → kind_of error ≡ OutOfMemory) → takes program words ≡ true → fault ≡ Memory
 only_memory a words error fault same told promise taken =

@@ -1,27 +1,30 @@
 -- From a reader's bytes to a writer's.
 use Rattle.std.specs.Prelude.{◌≡◌, ◌≢◌, ◌≤◌, ◌⊎◌, ◌+◌, ℕ, List, Option, Result, Ok, Err, IfSome, IsTrue, IsFalse, length}
-use Rattle.std.specs.Io.KnownBytes.{Appends}
 use Rattle.report.specs.Stream.{AppendsBeginning, FeedSeen, SinkSeen}
-use Rattle.report.specs.declared.reading.TheConstants.{MOST_CALLS}
-use Rattle.report.specs.declared.reading.ReadFault.{ReadFault}
-use Rattle.report.specs.declared.reading.ReadFault.TheVariants.{Failed}
-use Rattle.report.specs.declared.reading.ReadFault.TheVariants as reading
-use Rattle.dreplay.specs.declared.consuming.ConsumeFault.{ConsumeFault}
-use Rattle.dreplay.specs.declared.consuming.ConsumeFault.TheVariants.{Read, Refused, Write}
-use Rattle.dreplay.specs.declared.refusal.Refusal.{Refusal}
-use Rattle.dreplay.specs.declared.refusal.Refusal.TheVariants.{Memory}
-use Rattle.dreplay.specs.declared.plan.Plan.{Plan}
-use Rattle.dreplay.specs.declared.plan.Replayed.{Replayed}
+use Rattle.dreplay.specs.Vocabulary.{Appends, MOST_CALLS, ReadFault, Failed, ConsumeFault, Read, Refused, Write, Refusal, Memory, Plan, Replayed}
 use Rattle.dreplay.specs.Replaying.{IsReplay}
+
+-- the reader failed, or had not ended after the most calls
+abbrev pub IsCutShort : (old new : FeedSeen) → Type 0
+IsCutShort old new =
+    IsTrue new.has_failed ⊎ (IsFalse new.has_ended × (new.calls ≡ old.calls + MOST_CALLS))
 
 -- The reader was read to its end, or the fault says why not. It, and only it, is blamed where it
 -- failed or had not ended.
 pub record IsReadToEnd (old new : FeedSeen) (result : Result Replayed ConsumeFault) : Type 0 where
-  pub blamed : result ≡ Err Read
-      → IsTrue new.has_failed ⊎ (IsFalse new.has_ended × (new.calls ≡ old.calls + MOST_CALLS))
+  pub blamed : result ≡ Err Read → IsCutShort old new
   pub whole : result ≢ Err Read
       → IsFalse new.has_failed × ((result ≡ Err (Refused Memory)) ⊎ IsTrue new.has_ended)
   pub few : new.calls ≤ old.calls + MOST_CALLS
+
+-- The script's reader and then the trace's were read to their ends, or the fault says why not.
+-- They, and only they, are blamed where one of them failed or had not ended.
+pub record AreReadToEnd (source source' trace trace' : FeedSeen)
+    (result : Result Replayed ConsumeFault) : Type 0 where
+  pub blamed : result ≡ Err Read → IsCutShort source source' ⊎ IsCutShort trace trace'
+  pub whole : result ≢ Err Read → IsFalse source'.has_failed × IsFalse trace'.has_failed
+      × ((result ≡ Err (Refused Memory)) ⊎ (IsTrue source'.has_ended × IsTrue trace'.has_ended))
+  pub few : (source'.calls ≤ source.calls + MOST_CALLS) × (trace'.calls ≤ trace.calls + MOST_CALLS)
 
 -- this holds of the bytes that were to be read; where these are not known, of some
 pub record HoldsOfInput (remaining : Option (List ℕ)) (Holds : List ℕ → Type 0) : Type 0 where
@@ -49,7 +52,7 @@ pub record Shows (script trace : List ℕ) (plan : Plan) (old new : SinkSeen)
   pub is : IsReplay script trace plan answer
   pub out : Writes answer old new result
 
--- how a fault of reading is told
-abbrev pub told_of : ReadFault → ConsumeFault
-told_of Failed = Read
-told_of reading.Memory = Refused Memory
+-- how a fault of reading is reported
+abbrev pub fault_of_reading : ReadFault → ConsumeFault
+fault_of_reading Failed = Read
+fault_of_reading ReadFault.Memory = Refused Memory

@@ -1,3 +1,4 @@
+pub mod Vocabulary
 pub mod Answer
 pub mod Bundle
 pub mod Consuming

@@ -1,21 +1,15 @@
 -- Plans, and which thread is in which group of a plan.
 use Rattle.std.specs.Prelude.{◌≤◌, List, ⊤}
-use Rattle.firing_reader.specs.declared.firing.Firing.{Firing}
-use Rattle.shard_queue.specs.Faults.{IsListed, IsListFault}
-use Rattle.shard_queue.specs.Groupings.{Grouping, IsDealt}
-use Rattle.shard_queue.specs.Threads.{items_of}
-use Rattle.shard_queue.specs.declared.fault.GroupFault.{GroupFault}
-use Rattle.dreplay.specs.declared.plan.GroupPlan.{GroupPlan}
-use Rattle.dreplay.specs.declared.plan.GroupPlan.TheVariants.{Dealt, Lists}
-use Rattle.dreplay.specs.declared.plan.Plan.{Plan}
+use Rattle.shard_queue.specs.{Faults.IsListed, Faults.IsListFault, Groupings.IsDealt, Threads.items_of}
+use Rattle.dreplay.specs.Vocabulary.{Firing, Grouping, GroupFault, GroupPlan, Dealt, Lists, Plan, MOST_GROUPS, MOST_WORKERS}
 
 abbrev pub AreInBounds : GroupPlan → Type 0
-AreInBounds (Dealt n) = (1 ≤ n) × (n ≤ 4096)
+AreInBounds (Dealt n) = (1 ≤ n) × (n ≤ MOST_GROUPS)
 AreInBounds (Lists lists) = ⊤
 
--- from 1 to 16 workers, and from 1 to 4,096 groups where they are dealt
+-- the numbers of its workers and of its dealt groups are in bounds
 pub record IsInBounds (plan : Plan) : Type 0 where
-  pub workers : (1 ≤ plan.workers) × (plan.workers ≤ 16)
+  pub workers : (1 ≤ plan.workers) × (plan.workers ≤ MOST_WORKERS)
   pub groups : AreInBounds plan.groups
 
 -- these are the plan's groups of a trace

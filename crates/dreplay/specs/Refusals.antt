@@ -1,29 +1,14 @@
 -- What the program says of a refusal, and how it ends.
 use Rattle.std.specs.Prelude.{◌≡◌, ◌⊎◌, ℕ, ℤ, List, [], ◌++◌, Result, Ok, Err, IsErr, codes, decimal}
-use Rattle.std.specs.Fmt.{signed_decimal}
-use Rattle.d_lexer.specs.declared.fault.LexFault.{LexFault}
-use Rattle.d_lexer.specs.declared.fault.LexFault.TheVariants as lex
-use Rattle.d_parser.specs.declared.fault.ParseFault.{ParseFault}
-use Rattle.d_parser.specs.declared.fault.ParseFault.TheVariants as parse
-use Rattle.d_types.specs.declared.fault.TypeFault.{TypeFault}
-use Rattle.d_types.specs.declared.fault.TypeFault.TheVariants as types
-use Rattle.firing_reader.specs.declared.fault.TraceFault.{TraceFault}
-use Rattle.firing_reader.specs.declared.fault.TraceFault.TheVariants as trace
-use Rattle.shard_queue.specs.declared.fault.GroupFault.{GroupFault}
-use Rattle.shard_queue.specs.declared.fault.GroupFault.TheVariants as group
-use Rattle.dreplay.specs.declared.consuming.ConsumeFault.{ConsumeFault}
-use Rattle.dreplay.specs.declared.consuming.ConsumeFault.TheVariants.{Read, Refused, Write}
-use Rattle.dreplay.specs.declared.plan.Replayed.{Replayed}
-use Rattle.dreplay.specs.declared.refusal.Refusal.{Refusal}
-use Rattle.dreplay.specs.declared.refusal.Refusal.TheVariants.{Lex, Parse, Typing, Trace, Group, Memory}
+use Rattle.dreplay.specs.Vocabulary.{signed_decimal, LexFault, ParseFault, TypeFault, TraceFault, GroupFault, ConsumeFault, Read, Refused, Write, Replayed, Refusal, Lex, Parse, Typing, Trace, Group, Memory}
 
 -- want of memory is one thing, whichever part it was in
 abbrev pub plain : Refusal → Refusal
-plain (Lex lex.Memory) = Memory
-plain (Parse parse.Memory) = Memory
-plain (Typing types.Memory) = Memory
-plain (Trace trace.Memory) = Memory
-plain (Group group.Memory) = Memory
+plain (Lex LexFault.Memory) = Memory
+plain (Parse ParseFault.Memory) = Memory
+plain (Typing TypeFault.Memory) = Memory
+plain (Trace TraceFault.Memory) = Memory
+plain (Group GroupFault.Memory) = Memory
 plain e = e
 
 -- ---- the program's line
@@ -39,51 +24,51 @@ column_part column = codes " column " ++ decimal column
 
 -- the number of a fault, and the parts that it has
 abbrev pub lex_parts : LexFault → List ℕ
-lex_parts lex.TooLong = codes "1"
-lex_parts (lex.BadByte line) = codes "2" ++ line_part line
-lex_parts (lex.Unclosed line) = codes "3" ++ line_part line
-lex_parts (lex.Constant line) = codes "4" ++ line_part line
-lex_parts (lex.Escape line) = codes "5" ++ line_part line
-lex_parts (lex.OptionLine line) = codes "6" ++ line_part line
-lex_parts lex.Memory = []
+lex_parts LexFault.TooLong = codes "1"
+lex_parts (LexFault.BadByte line) = codes "2" ++ line_part line
+lex_parts (LexFault.Unclosed line) = codes "3" ++ line_part line
+lex_parts (LexFault.Constant line) = codes "4" ++ line_part line
+lex_parts (LexFault.Escape line) = codes "5" ++ line_part line
+lex_parts (LexFault.OptionLine line) = codes "6" ++ line_part line
+lex_parts LexFault.Memory = []
 
 abbrev pub parse_parts : ParseFault → List ℕ
-parse_parts (parse.Syntax line) = codes "1" ++ line_part line
-parse_parts parse.TooDeep = codes "2"
-parse_parts parse.TooManyClauses = codes "3"
-parse_parts parse.Memory = []
+parse_parts (ParseFault.Syntax line) = codes "1" ++ line_part line
+parse_parts ParseFault.TooDeep = codes "2"
+parse_parts ParseFault.TooManyClauses = codes "3"
+parse_parts ParseFault.Memory = []
 
 abbrev pub type_parts : TypeFault → List ℕ
-type_parts (types.GlobalAssignment name line) = codes "1" ++ line_part line
-type_parts (types.Undeclared line) = codes "2" ++ line_part line
-type_parts (types.Mismatch line) = codes "3" ++ line_part line
-type_parts (types.Keys line) = codes "4" ++ line_part line
-type_parts (types.AggregationRedefined line) = codes "5" ++ line_part line
-type_parts (types.LquantizeBounds line) = codes "6" ++ line_part line
-type_parts (types.PrintfArguments line) = codes "7" ++ line_part line
-type_parts (types.ReadOnly line) = codes "8" ++ line_part line
-type_parts (types.NoRegister line) = codes "9" ++ line_part line
-type_parts types.Memory = []
+type_parts (TypeFault.GlobalAssignment name line) = codes "1" ++ line_part line
+type_parts (TypeFault.Undeclared line) = codes "2" ++ line_part line
+type_parts (TypeFault.Mismatch line) = codes "3" ++ line_part line
+type_parts (TypeFault.Keys line) = codes "4" ++ line_part line
+type_parts (TypeFault.AggregationRedefined line) = codes "5" ++ line_part line
+type_parts (TypeFault.LquantizeBounds line) = codes "6" ++ line_part line
+type_parts (TypeFault.PrintfArguments line) = codes "7" ++ line_part line
+type_parts (TypeFault.ReadOnly line) = codes "8" ++ line_part line
+type_parts (TypeFault.NoRegister line) = codes "9" ++ line_part line
+type_parts TypeFault.Memory = []
 
 abbrev pub trace_parts : TraceFault → List ℕ
-trace_parts trace.Header = codes "1"
-trace_parts (trace.Columns row) = codes "2" ++ row_part row
-trace_parts (trace.Number row column) = codes "3" ++ row_part row ++ column_part column
-trace_parts (trace.Order row) = codes "4" ++ row_part row
-trace_parts (trace.Text row column) = codes "5" ++ row_part row ++ column_part column
-trace_parts (trace.Reserved row) = codes "6" ++ row_part row
-trace_parts trace.TooMany = codes "7"
-trace_parts trace.Memory = []
+trace_parts TraceFault.Header = codes "1"
+trace_parts (TraceFault.Columns row) = codes "2" ++ row_part row
+trace_parts (TraceFault.Number row column) = codes "3" ++ row_part row ++ column_part column
+trace_parts (TraceFault.Order row) = codes "4" ++ row_part row
+trace_parts (TraceFault.Text row column) = codes "5" ++ row_part row ++ column_part column
+trace_parts (TraceFault.Reserved row) = codes "6" ++ row_part row
+trace_parts TraceFault.TooMany = codes "7"
+trace_parts TraceFault.Memory = []
 
 abbrev pub thread_part : ℤ → List ℕ
 thread_part thread = codes " thread " ++ signed_decimal thread
 
 abbrev pub group_parts : GroupFault → List ℕ
-group_parts (group.Missing thread) = codes "1" ++ thread_part thread
-group_parts (group.Doubled thread) = codes "2" ++ thread_part thread
-group_parts (group.Stranger thread) = codes "3" ++ thread_part thread
-group_parts group.TooMany = codes "4"
-group_parts group.Memory = []
+group_parts (GroupFault.Missing thread) = codes "1" ++ thread_part thread
+group_parts (GroupFault.Doubled thread) = codes "2" ++ thread_part thread
+group_parts (GroupFault.Stranger thread) = codes "3" ++ thread_part thread
+group_parts GroupFault.TooMany = codes "4"
+group_parts GroupFault.Memory = []
 
 -- why there is no answer, of a plain refusal
 abbrev pub reason_of : Refusal → List ℕ

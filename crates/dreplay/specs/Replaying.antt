@@ -1,22 +1,12 @@
 -- What replay answers, under any plan.
 use Rattle.std.specs.Prelude.{◌≡◌, ℕ, List, Result, Ok, Err, map, vec_len}
-use Rattle.std.specs.List.{flat_map}
-use Rattle.firing_reader.specs.declared.firing.Firing.{Firing}
-use Rattle.d_types.specs.Typed.{ScriptMeant}
-use Rattle.replay_core.specs.Exit.{firings_over}
-use Rattle.replay_core.specs.Groups.{Grouping, IsAllBelow, numbers_by_group}
-use Rattle.replay_core.specs.Pieces.{IsWholeOf}
-use Rattle.replay_core.specs.Seen.{whole_seen}
-use Rattle.replay_core.specs.declared.workers.Ran.{Ran}
-use Rattle.dreplay.specs.declared.plan.Plan.{Plan}
-use Rattle.dreplay.specs.declared.plan.Replayed.{Replayed}
-use Rattle.dreplay.specs.declared.refusal.Refusal.{Refusal}
-use Rattle.dreplay.specs.declared.refusal.Refusal.TheVariants.{Group, Memory}
+use Rattle.replay_core.specs.{Exit.firings_over, Groups.IsAllBelow, Groups.numbers_by_group, Pieces.IsWholeOf, Seen.whole_seen, declared.workers.Ran.Ran}
+use Rattle.dreplay.specs.Vocabulary.{flat_map, Firing, ScriptMeant, Grouping, Plan, Replayed, Refusal, Group, Memory}
 use Rattle.dreplay.specs.Answer.{IsAnswer, IsShown, Means, Shown}
 use Rattle.dreplay.specs.Plans.{IsGroupedBy, IsMisgrouped}
 
-abbrev pub shown_in : Replayed → Shown
-shown_in r = record { bytes = r.bytes.items; status = r.status }
+abbrev pub output_of : Replayed → Shown
+output_of r = record { bytes = r.bytes.items; status = r.status }
 
 -- a run of the script over these firings by so many workers: each group was taken by one of them
 pub record IsRunBy (m : ScriptMeant) (firings : List Firing) (grouping : Grouping) (workers : ℕ)
@@ -28,7 +18,7 @@ pub record IsRunBy (m : ScriptMeant) (firings : List Firing) (grouping : Groupin
 -- what it shows, and what ran in which group
 pub record IsShownOf (m : ScriptMeant) (firings : List Firing) (grouping : Grouping) (workers : ℕ)
     (r : Replayed) : Type 0 where
-  pub shown : IsShown m firings (shown_in r)
+  pub shown : IsShown m firings (output_of r)
   -- each firing that counts once, in its thread's group
   pub ran : map (λ v. v.items) r.ran.items ≡ numbers_by_group grouping (firings_over m firings)
   -- each group once, by some worker

@@ -1,21 +1,9 @@
 -- From the bytes of a script to its tree and its types, or why it has none.
 use Rattle.std.specs.Prelude.{◌≡◌, ◌≤◌, ◌<◌, ℕ, List, Err}
-use Rattle.d_lexer.specs.declared.token.Token.{Token}
-use Rattle.d_lexer.specs.Lexing.{IsLexed, IsRefused}
-use Rattle.d_parser.specs.declared.fault.ParseFault.{ParseFault}
-use Rattle.d_parser.specs.declared.fault.ParseFault.TheVariants as fault
-use Rattle.d_parser.specs.declared.fault.TheConstants.{MOST_CLAUSES}
-use Rattle.d_parser.specs.Limits.{IsDeep, clauses}
-use Rattle.d_parser.specs.Tree.{ItemTree}
-use Rattle.d_parser.specs.Script.{IsScript}
-use Rattle.d_types.specs.declared.fault.TypeFault.{TypeFault}
-use Rattle.d_types.specs.Faults.{Fault, fault_of}
-use Rattle.d_types.specs.Fitting.{ScriptFits}
+use Rattle.d_parser.specs.{Limits.IsDeep, Limits.clauses, Script.IsScript, Tree.ItemTree}
 use Rattle.d_types.specs.Scripts as typing
-use Rattle.d_types.specs.Typed.{ScriptMeant}
-use Rattle.d_types.specs.WellTyped.{IsWell}
-use Rattle.dreplay.specs.declared.refusal.Refusal.{Refusal}
-use Rattle.dreplay.specs.declared.refusal.Refusal.TheVariants.{Lex, Parse}
+use Rattle.d_types.specs.{Faults.Fault, Faults.fault_of, Fitting.ScriptFits, WellTyped.IsWell}
+use Rattle.dreplay.specs.Vocabulary.{Token, IsLexed, IsRefused, ParseFault, MOST_CLAUSES, TypeFault, ScriptMeant, Refusal, Lex, Parse}
 
 -- these are the script's tokens, and no limit is passed
 pub record HasTokens (script : List ℕ) (tokens : List Token) : Type 0 where
@@ -31,14 +19,15 @@ pub record HasTree (script : List ℕ) (items : List ItemTree) : Type 0 where
 
 -- the first of these that holds
 abbrev pub IsParseFault : List ℕ → ParseFault → Type 0
-IsParseFault script fault.TooDeep = (tokens : List Token) × IsLexed script tokens × IsDeep tokens
-IsParseFault script fault.TooManyClauses =
+IsParseFault script ParseFault.TooDeep =
+    (tokens : List Token) × IsLexed script tokens × IsDeep tokens
+IsParseFault script ParseFault.TooManyClauses =
     (tokens : List Token) × IsLexed script tokens
     × (¬ IsDeep tokens) × (MOST_CLAUSES < clauses tokens)
-IsParseFault script (fault.Syntax line) =
+IsParseFault script (ParseFault.Syntax line) =
     (tokens : List Token) × HasTokens script tokens
     × ((items : List ItemTree) → ¬ IsScript items tokens)
-IsParseFault script fault.Memory = ⊥
+IsParseFault script ParseFault.Memory = ⊥
 
 -- why the script has no tree
 abbrev pub IsUnread : List ℕ → Refusal → Type 0

@@ -1,22 +1,9 @@
 -- What the words after the program's name ask for.
 use Rattle.std.specs.Prelude.{◌≡◌, ◌≢◌, ◌⊎◌, ◌∷◌, ◌++◌, ◌≤◌, ℕ, List, [], Option, Some, None, IsSomeAnd}
 use Rattle.std.specs.Prelude.{codes, fold, if◌then◌else◌, option_and_then, option_map, pos, string_bytes, true}
-use Rattle.std.specs.Str.{bytes_eq}
-use Rattle.std.specs.Str.Parse.{IsNumeral, digits_value, without_leading_plus}
-use Rattle.clap.specs.Words.{App, IsAmong, Row, Rule, fault_of, first_of, kind_of, matches_of}
-use Rattle.clap.specs.Words.{new_app, new_rule, one_of, with_rule}
-use Rattle.clap.specs.declared.builder.value_parser.ValueParser.TheVariants.{Signed}
-use Rattle.clap.specs.declared.error.Error.{Error}
-use Rattle.clap.specs.declared.error.kind.ErrorKind.{ErrorKind}
-use Rattle.clap.specs.declared.error.kind.ErrorKind.TheVariants.{DisplayHelp, OutOfMemory}
-use Rattle.clap.specs.declared.error.kind.ErrorKind.TheVariants.{InvalidValue, UnknownArgument}
-use Rattle.dreplay.specs.declared.words.Asked.{Asked}
-use Rattle.dreplay.specs.declared.words.UsageFault.{UsageFault}
+use Rattle.clap.specs.Words.{App, IsAmong, Row, Rule, fault_of, first_of, kind_of, matches_of, new_app, new_rule, one_of, with_rule}
+use Rattle.dreplay.specs.Vocabulary.{bytes_eq, IsNumeral, digits_value, without_leading_plus, Signed, Error, ErrorKind, DisplayHelp, OutOfMemory, InvalidValue, UnknownArgument, Asked, UsageFault, EngineKind, Dif, Tree, Dealt, Plan, MOST_GROUPS, MOST_WORKERS}
 use Rattle.dreplay.specs.declared.words.UsageFault.TheVariants.{Help, Usage, Memory}
-use Rattle.dreplay.specs.declared.plan.EngineKind.{EngineKind}
-use Rattle.dreplay.specs.declared.plan.EngineKind.TheVariants.{Dif, Tree}
-use Rattle.dreplay.specs.declared.plan.GroupPlan.TheVariants.{Dealt}
-use Rattle.dreplay.specs.declared.plan.Plan.{Plan}
 
 -- ---- the options
 
@@ -35,8 +22,8 @@ number_option id letter most default =
 
 abbrev pub options : List Rule
 options = option (codes "script") 115
-    ∷ number_option (codes "workers") 119 16 (codes "4")
-    ∷ number_option (codes "groups") 103 4096 (codes "16")
+    ∷ number_option (codes "workers") 119 MOST_WORKERS (codes "4")
+    ∷ number_option (codes "groups") 103 MOST_GROUPS (codes "16")
     ∷ option_or (codes "engine") 101 (codes "dif")
     ∷ []
 
@@ -73,8 +60,9 @@ IsNumberIn low high rows id n = IsSomeAnd (one_of id rows) (λ text.
 
 -- the plan of -w, -g and -e
 pub record IsPlanIn (rows : List Row) (plan : Plan) : Type 0 where
-  pub workers : IsNumberIn 1 16 rows (codes "workers") plan.workers
-  pub groups : (n : ℕ) × (plan.groups ≡ Dealt n) × IsNumberIn 1 4096 rows (codes "groups") n
+  pub workers : IsNumberIn 1 MOST_WORKERS rows (codes "workers") plan.workers
+  pub groups : (n : ℕ) × (plan.groups ≡ Dealt n)
+      × IsNumberIn 1 MOST_GROUPS rows (codes "groups") n
   pub engine : engine_in rows ≡ Some plan.engine
 
 pub record IsAskedIn (rows : List Row) (asked : Asked) : Type 0 where
@@ -114,7 +102,7 @@ IsFaultOf words (Usage e) = (kind_of e ≢ DisplayHelp) × (kind_of e ≢ OutOfM
     × (IsAmong (kind_of e) (fault_of program words) ⊎ ¬ HasPlan words)
 IsFaultOf words Memory = Unit {0}
 
--- clap's error is told as what it is
+-- clap's error is reported as what it is
 abbrev pub IsToldAs : Error → UsageFault → Type 0
 IsToldAs error (Help e) = (e ≡ error) × (kind_of error ≡ DisplayHelp)
 IsToldAs error (Usage e) =

@@ -1,6 +1,6 @@
 //! A bundle: a script, a line `---`, and a trace.
 
-ghost use Rattle.std.specs.Prelude.{◌≡◌, ◌↔◌, IsTrue};
+ghost use Rattle.std.specs.Prelude.{◌↔◌, IsTrue};
 ghost use Rattle.dreplay.specs.Bundle.{Divides, IsDivider};
 
 use d_values::split_at_first;
@@ -16,6 +16,12 @@ pub struct Division<'a> {
 
 /// Divides a bundle at its first line that is `---`, with or without a carriage return. Without
 /// such a line all of it is the script, and the trace is empty.
+///
+/// ```text
+/// let parts = divide(b"BEGIN { }\n---\nnumber,cpu\n");
+/// parts.script; // `BEGIN { }` and a line feed
+/// parts.trace; // `number,cpu` and a line feed
+/// ```
 pub fn divide(bundle: &[u8]) -> Division<'_>
     ensures { Divides bundle.now result.script.now result.trace.now }
 {

@@ -1,9 +1,7 @@
 //! From the bytes in to the bytes out.
 
 ghost use Rattle.std.specs.Prelude.{◌≡◌, ◌≢◌, List, ℕ, Err, IfErr, IsFalse};
-ghost use Rattle.dreplay.specs.Bundle.{Divides};
-ghost use Rattle.dreplay.specs.Consuming.{HoldsOfInput, IsReadToEnd, Shows, told_of};
-ghost use Rattle.dreplay.specs.Plans.{IsInBounds};
+ghost use Rattle.dreplay.specs.{Bundle.Divides, Consuming.AreReadToEnd, Consuming.HoldsOfInput, Consuming.IsReadToEnd, Consuming.Shows, Consuming.fault_of_reading, Plans.IsInBounds};
 
 use crate::bundle::{Division, divide};
 use crate::plan::{Plan, Replayed};
@@ -31,7 +29,7 @@ pub enum ConsumeFault {
 }
 
 impl From<ReadFault> for ConsumeFault {
-    ghost from_gives = { λ fault e. e ≡ told_of fault };
+    ghost from_gives = { λ fault e. e ≡ fault_of_reading fault };
 
     fn from(fault: ReadFault) -> ConsumeFault {
         match fault {
@@ -42,6 +40,15 @@ impl From<ReadFault> for ConsumeFault {
 }
 
 /// Reads a bundle to its end, runs its script over its trace, and writes what the script shows.
+/// Nothing is written unless there is an answer.
+///
+/// ```text
+/// // `BEGIN { trace(1); }`, a line `---` and a trace
+/// let mut feed = Watched::new(bundle.as_slice());
+/// let mut sink = Watched::new(Vec::new(alloc));
+/// let replayed = consume(&rt, alloc, &mut feed, &mut sink, &plan)?;
+/// sink.into_inner(); // `1` and a line feed, as `replayed.bytes`
+/// ```
 pub fn consume<R: RandomSource + Threads + Wait + Sync, F: Feed, S: Sink>(
     rt: &R,
     alloc: Global,
@@ -63,7 +70,15 @@ pub fn consume<R: RandomSource + Threads + Wait + Sync, F: Feed, S: Sink>(
     show(rt, alloc, divide(&bundle), sink, plan)
 }
 
-/// Reads a trace to its end, runs the script over it, and writes what the script shows.
+/// Reads a trace to its end, runs the script over it, and writes what the script shows. Nothing is
+/// written unless there is an answer.
+///
+/// ```text
+/// let mut feed = Watched::new(trace.as_slice());
+/// let mut sink = Watched::new(Vec::new(alloc));
+/// consume_trace(&rt, alloc, b"BEGIN { trace(1); }", &mut feed, &mut sink, &plan)?;
+/// sink.into_inner(); // `1` and a line feed
+/// ```
 pub fn consume_trace<R: RandomSource + Threads + Wait + Sync, F: Feed, S: Sink>(
     rt: &R,
     alloc: Global,
@@ -87,6 +102,32 @@ pub fn consume_trace<R: RandomSource + Threads + Wait + Sync, F: Feed, S: Sink>(
         trace: &trace,
     };
     show(rt, alloc, parts, sink, plan)
+}
+
+/// Reads a script to its end and then a trace, runs the one over the other, and writes what the
+/// script shows.
+pub fn consume_apart<R: RandomSource + Threads + Wait + Sync, C: Feed, F: Feed, S: Sink>(
+    rt: &R,
+    alloc: Global,
+    source: &mut C,
+    feed: &mut F,
+    sink: &mut S,
+    plan: &Plan,
+) -> Result<Replayed, ConsumeFault>
+    requires plan { IsInBounds plan.now }
+    requires source { IsFalse (C.seen source.old).has_failed }
+    requires feed { IsFalse (F.seen feed.old).has_failed }
+    requires sink { IsFalse (S.seen sink.old).has_failed }
+    ensures read { AreReadToEnd (C.seen source.old) (C.seen source.new)
+        (F.seen feed.old) (F.seen feed.new) result }
+    ensures shown { result ≢ Err ConsumeFault.Read
+        → HoldsOfInput (C.seen source.old).remaining (λ script.
+        HoldsOfInput (F.seen feed.old).remaining (λ trace.
+        Shows script trace plan.now (S.seen sink.old) (S.seen sink.new) result)) }
+    ensures untouched { result ≢ Err ConsumeFault.Write → IfErr result (λ e. sink.new ≡ sink.old) }
+{
+    let script = read_to_end(alloc, source)?;
+    consume_trace(rt, alloc, &script, feed, sink, plan)
 }
 
 // Runs a script over a trace, and writes what the script shows.

@@ -9,6 +9,10 @@ use crate::refusal::{refusal_status, refusal_text};
 use std::alloc::{AllocError, Global};
 
 /// The line that the program writes to standard error, without its line feed.
+///
+/// ```text
+/// fault_text(alloc, &ConsumeFault::Write)?; // `dreplay: write failed`
+/// ```
 pub fn fault_text(alloc: Global, fault: &ConsumeFault) -> Result<String, AllocError>
     ensures { IfOk result (λ text. string_bytes text ≡ fault_line fault.now) }
 {
@@ -21,6 +25,10 @@ pub fn fault_text(alloc: Global, fault: &ConsumeFault) -> Result<String, AllocEr
 
 /// The status that the program ends with: the script's own where it exits, 0 where it doesn't, and
 /// otherwise the fault's.
+///
+/// ```text
+/// status_at_end(&Err(ConsumeFault::Write)); // 1
+/// ```
 pub fn status_at_end(answer: &Result<Replayed, ConsumeFault>) -> u8
     ensures { result ≡ status_at_end answer.now }
 {

@@ -1,9 +1,7 @@
 //! The groups of a plan.
 
 ghost use Rattle.std.specs.Prelude.{◌≡◌, ◌≤◌, ◌⊎◌, IfErr, IfOk};
-ghost use Rattle.shard_queue.specs.Groups.{AreOf, grouping};
-ghost use Rattle.shard_queue.specs.Threads.{run_threads};
-ghost use Rattle.shard_queue.specs.declared.fault.GroupFault.TheVariants.{Memory};
+ghost use Rattle.shard_queue.specs.{Groups.AreOf, Groups.grouping, Threads.run_threads, declared.fault.GroupFault.TheVariants.Memory};
 ghost use Rattle.dreplay.specs.Plans.{AreInBounds, IsGroupedBy, IsMisgrouped};
 
 use crate::plan::GroupPlan;
@@ -11,7 +9,13 @@ use firing_reader::Trace;
 use shard_queue::{GroupFault, Groups};
 use std::alloc::Global;
 
-/// The groups into which a plan puts the threads of a trace.
+/// The groups into which a plan puts the threads of a trace, or the first fault of its lists.
+///
+/// ```text
+/// // the threads 9, 3, 9 and 5
+/// groups_of(alloc, &GroupPlan::Dealt(2), &trace)?.group_of(5); // Some(1)
+/// groups_of(alloc, &GroupPlan::Lists(none), &trace); // Err(GroupFault::Missing { thread: 3 })
+/// ```
 pub fn groups_of(alloc: Global, plan: &GroupPlan, trace: &Trace) -> Result<Groups, GroupFault>
     requires { AreInBounds plan.now }
     ensures grouped { IfOk result (λ g. IsGroupedBy plan.now trace.now (grouping g)) }

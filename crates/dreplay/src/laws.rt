@@ -3,12 +3,7 @@
 
 ghost use Rattle.std.specs.Prelude.{◌≡◌, ◌∷◌, [], ℕ, List, Option, Result};
 ghost use Rattle.clap.specs.Words.{fault_of, matches_of};
-ghost use Rattle.clap.specs.declared.error.kind.ErrorKind.{ErrorKind};
-ghost use Rattle.clap.specs.declared.error.kind.ErrorKind.TheVariants.{DisplayHelp};
-ghost use Rattle.dreplay.specs.declared.refusal.Refusal.{Refusal};
-ghost use Rattle.dreplay.specs.Answer.{IsAnswer, IsSameAnswer, Shown};
-ghost use Rattle.dreplay.specs.Bundle.{Divides};
-ghost use Rattle.dreplay.specs.Words.{AsksHelp, Mistakes, Runs, file_in, program};
+ghost use Rattle.dreplay.specs.{Vocabulary.DisplayHelp, Vocabulary.ErrorKind, Vocabulary.Refusal, Answer.IsAnswer, Answer.IsSameAnswer, Answer.Shown, Bundle.Divides, Words.AsksHelp, Words.Mistakes, Words.Runs, Words.file_in, Words.program};
 
 /// A bundle is divided in one way.
 pub fn one_division()
@@ -40,12 +35,12 @@ pub fn runs_accepted()
 {}
 
 /// `-h` and `--help` ask for help.
-pub fn help_told()
+pub fn help_is_found()
     ensures { (words : List (List ℕ)) → AsksHelp words → fault_of program words ≡ DisplayHelp ∷ [] }
 {}
 
 /// `-s` without a file is a mistake, and so is a word that is no option.
-pub fn mistakes_told()
+pub fn mistakes_are_found()
     ensures { (words : List (List ℕ)) (kind : ErrorKind) → Mistakes words kind
         → fault_of program words ≡ kind ∷ [] }
 {}

@@ -3,11 +3,9 @@
 //! the script from the file of the option `-s`.
 #![tactic(auto)]
 
-ghost use Rattle.std.specs.Prelude.{IfOk};
+ghost use Rattle.std.specs.Prelude.{◌≡◌, ◌≢◌, List, ℕ, Err, IfErr, IfNone, IfOk, IsFalse, MatchResult, OnSome, map, string_bytes};
 ghost use Rattle.std.specs.Process.{exit_status};
-ghost use Rattle.dreplay.specs.Refusals.{EndsWith};
-ghost use Rattle.dreplay.specs.Plans.{IsInBounds};
-ghost use Rattle.dreplay.specs.Words.{EndsUnasked};
+ghost use Rattle.dreplay.specs.{Bundle.Divides, Consuming.HoldsOfInput, Consuming.IsReadToEnd, Consuming.Shows, Plans.IsInBounds, Refusals.EndsWith, Words.Asks, Words.EndsUnasked, Words.IsFaultOf};
 
 mod bundle;
 mod consuming;
@@ -24,25 +22,31 @@ mod tests;
 mod tests_of_workers;
 mod words;
 
-use consuming::{ConsumeFault, consume, consume_trace};
+use consuming::{ConsumeFault, consume, consume_apart};
 use ending::{fault_text, status_at_end};
 use plan::Replayed;
 use refusal::Refusal;
-use report::{Watched, read_to_end};
+use report::{Feed, Sink, Watched};
+use std::alloc::Global;
 use std::env::args;
 use std::fs::File;
-use std::io::{ErrorKind, Read, Write};
 use std::process::ExitCode;
 use std::random::RandomSource;
-use std::rt::{Env, Files};
+use std::rt::Files;
 use std::sync::Wait;
 use std::thread::Threads;
-use words::{Asked, UsageFault, not_text, read_words};
+use words::{Asked, UsageFault, program_words, read_words, texts_of};
 
 fn main(rt: HostRuntime) -> ExitCode {
-    match asked(&rt) {
+    let words = match program_words(rt.alloc(), args(&rt)) {
+        Ok(words) => words,
+        Err(fault) => return explain(&rt, fault),
+    };
+    match request(rt.alloc(), &words) {
         Ok(asked) => {
-            let answer = run(&rt, &asked, rt.stdin(), rt.stdout());
+            let mut input = Watched::new(rt.stdin());
+            let mut output = Watched::new(rt.stdout());
+            let answer = run(&rt, &asked, &mut input, &mut output);
             end(&rt, &answer)
         }
         Err(fault) => explain(&rt, fault),
@@ -50,53 +54,44 @@ fn main(rt: HostRuntime) -> ExitCode {
 }
 
 // What the program's words ask for.
-fn asked(rt: &(impl Env + AllocGlobal)) -> Result<Asked, UsageFault>
-    ensures { IfOk result (λ asked. IsInBounds asked.plan) }
+fn request(alloc: Global, words: &[String]) -> Result<Asked, UsageFault>
+    ensures exact { let given = map string_bytes words.now in
+        MatchResult result (Asks given) (IsFaultOf given) }
+    ensures plan { IfOk result (λ asked. IsInBounds asked.plan) }
 {
-    let words = program_words(rt)?;
-    let words: Vec<&str> = words.iter().map(|word| word.as_str()).collect(rt.alloc())?;
-    read_words(rt.alloc(), &words)
+    let words = texts_of(alloc, words)?;
+    read_words(alloc, &words)
 }
 
-// The words after the program's name.
-fn program_words(rt: &(impl Env + AllocGlobal)) -> Result<Vec<String>, UsageFault> {
-    match args(rt) {
-        Ok(words) => Ok(words.skip(1).collect(rt.alloc())?),
-        Err(fault) if fault.kind() == ErrorKind::OutOfMemory => Err(UsageFault::Memory),
-        Err(_) => Err(UsageFault::Usage(not_text(rt.alloc())?)),
-    }
-}
-
-// Runs what was asked for, from the one stream to the other.
-fn run<
-    R: Files + AllocGlobal + RandomSource + Threads + Wait + Sync,
-    I: Read + Drop,
-    O: Write + Drop,
->(rt: &R, asked: &Asked, input: I, output: O) -> Result<Replayed, ConsumeFault>
-    requires { IsInBounds asked.now.plan }
+// Runs what was asked for, from the one stream to the other: without a file the first has a bundle,
+// and with one, which has the script, a trace. std says of no file what it gives.
+fn run<R: Files + AllocGlobal + RandomSource + Threads + Wait + Sync, F: Feed, S: Sink>(
+    rt: &R,
+    asked: &Asked,
+    feed: &mut F,
+    sink: &mut S,
+) -> Result<Replayed, ConsumeFault>
+    requires plan { IsInBounds asked.now.plan }
+    requires feed { IsFalse (F.seen feed.old).has_failed }
+    requires sink { IsFalse (S.seen sink.old).has_failed }
+    ensures read { IfNone asked.now.file (IsReadToEnd (F.seen feed.old) (F.seen feed.new) result) }
+    ensures bundle { IfNone asked.now.file (result ≢ Err ConsumeFault.Read
+        → HoldsOfInput (F.seen feed.old).remaining (λ bundle.
+        (script trace : List ℕ) × Divides bundle script trace
+        × Shows script trace asked.now.plan (S.seen sink.old) (S.seen sink.new) result)) }
+    ensures apart { OnSome asked.now.file (result ≢ Err ConsumeFault.Read
+        → (script : List ℕ) × HoldsOfInput (F.seen feed.old).remaining (λ trace.
+        Shows script trace asked.now.plan (S.seen sink.old) (S.seen sink.new) result)) }
+    ensures untouched { result ≢ Err ConsumeFault.Write → IfErr result (λ e. sink.new ≡ sink.old) }
 {
-    let script = match &asked.file {
-        Some(file) => Some(read_file(rt, file.as_str())?),
-        None => None,
-    };
     let (alloc, plan) = (rt.alloc(), &asked.plan);
-    let mut input = Watched::new(input);
-    let mut output = Watched::new(output);
-    let replayed = match &script {
-        Some(script) => consume_trace(rt, alloc, script, &mut input, &mut output, plan)?,
-        None => consume(rt, alloc, &mut input, &mut output, plan)?,
+    let Some(file) = &asked.file else {
+        return consume(rt, alloc, feed, sink, plan);
     };
-    let mut output = output.into_inner();
-    output.flush().map_err(|_| ConsumeFault::Write)?;
-    Ok(replayed)
-}
-
-// All bytes of a file.
-fn read_file(rt: &(impl Files + AllocGlobal), path: &str) -> Result<Vec<u8>, ConsumeFault> {
-    let Ok(file) = File::open(rt, path) else {
-        return Err(ConsumeFault::Read);
-    };
-    Ok(read_to_end(rt.alloc(), &mut Watched::new(file))?)
+    match File::open(rt, file.as_str()) {
+        Ok(file) => consume_apart(rt, alloc, &mut Watched::new(file), feed, sink, plan),
+        Err(_) => Err(ConsumeFault::Read),
+    }
 }
 
 // Shows the help that was asked for, or says on standard error what is wrong with the words.

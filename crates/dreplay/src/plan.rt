@@ -3,7 +3,7 @@
 /// How a run is carried out. The answer is the same under every plan.
 #[derive(Debug, Drop, PartialEq, Eq)]
 pub struct Plan {
-    /// How many workers there are, from 1 to 16.
+    /// How many workers there are, from 1 to `MOST_WORKERS`.
     pub workers: u32,
     /// Which threads are in which group.
     pub groups: GroupPlan,
@@ -14,7 +14,8 @@ pub struct Plan {
 /// How the threads of a trace are grouped.
 #[derive(Debug, Drop, PartialEq, Eq)]
 pub enum GroupPlan {
-    /// The i-th thread, ascending, goes to group `i` modulo this number, which is from 1 to 4096.
+    /// The i-th thread, ascending, goes to group `i` modulo this number, which is from 1 to
+    /// `MOST_GROUPS`.
     Dealt(u32),
     /// These threads in each group.
     Lists(Vec<Vec<i32>>),

@@ -58,7 +58,12 @@ impl From<LexFault> for Refusal {
     fn from(fault: LexFault) -> Refusal {
         match fault {
             LexFault::Memory => Refusal::Memory,
-            _ => Refusal::Lex(fault),
+            LexFault::TooLong
+            | LexFault::BadByte { .. }
+            | LexFault::Unclosed { .. }
+            | LexFault::Constant { .. }
+            | LexFault::Escape { .. }
+            | LexFault::OptionLine { .. } => Refusal::Lex(fault),
         }
     }
 }
@@ -69,7 +74,9 @@ impl From<ParseFault> for Refusal {
     fn from(fault: ParseFault) -> Refusal {
         match fault {
             ParseFault::Memory => Refusal::Memory,
-            _ => Refusal::Parse(fault),
+            ParseFault::Syntax { .. } | ParseFault::TooDeep | ParseFault::TooManyClauses => {
+                Refusal::Parse(fault)
+            }
         }
     }
 }
@@ -80,7 +87,15 @@ impl From<TypeFault> for Refusal {
     fn from(fault: TypeFault) -> Refusal {
         match fault {
             TypeFault::Memory => Refusal::Memory,
-            _ => Refusal::Typing(fault),
+            TypeFault::GlobalAssignment { .. }
+            | TypeFault::Undeclared { .. }
+            | TypeFault::Mismatch { .. }
+            | TypeFault::Keys { .. }
+            | TypeFault::AggregationRedefined { .. }
+            | TypeFault::LquantizeBounds { .. }
+            | TypeFault::PrintfArguments { .. }
+            | TypeFault::ReadOnly { .. }
+            | TypeFault::NoRegister { .. } => Refusal::Typing(fault),
         }
     }
 }
@@ -91,7 +106,13 @@ impl From<TraceFault> for Refusal {
     fn from(fault: TraceFault) -> Refusal {
         match fault {
             TraceFault::Memory => Refusal::Memory,
-            _ => Refusal::Trace(fault),
+            TraceFault::Header
+            | TraceFault::Columns { .. }
+            | TraceFault::Number { .. }
+            | TraceFault::Order { .. }
+            | TraceFault::Text { .. }
+            | TraceFault::Reserved { .. }
+            | TraceFault::TooMany => Refusal::Trace(fault),
         }
     }
 }
@@ -102,12 +123,20 @@ impl From<GroupFault> for Refusal {
     fn from(fault: GroupFault) -> Refusal {
         match fault {
             GroupFault::Memory => Refusal::Memory,
-            _ => Refusal::Group(fault),
+            GroupFault::Missing { .. }
+            | GroupFault::Doubled { .. }
+            | GroupFault::Stranger { .. }
+            | GroupFault::TooMany => Refusal::Group(fault),
         }
     }
 }
 
 /// The line that the program writes to standard error, without its line feed.
+///
+/// ```text
+/// let refusal = Refusal::Trace(TraceFault::Order { row: 9 });
+/// refusal_text(alloc, &refusal)?; // `dreplay: trace refused: Trace 4 row 9`
+/// ```
 pub fn refusal_text(alloc: Global, refusal: &Refusal) -> Result<String, AllocError>
     ensures { IfOk result (λ text. string_bytes text ≡ line_of refusal.now) }
 {
@@ -239,6 +268,10 @@ fn group_text(alloc: Global, fault: GroupFault) -> Result<String, AllocError>
 }
 
 /// The status that the program ends with.
+///
+/// ```text
+/// refusal_status(&Refusal::Trace(TraceFault::Order { row: 9 })); // 4
+/// ```
 pub fn refusal_status(refusal: &Refusal) -> u8
     ensures { result ≡ status_of refusal.now }
 {

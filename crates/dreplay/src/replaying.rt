@@ -1,15 +1,8 @@
 //! The answer of a script over a trace.
 
-ghost use Rattle.std.specs.Prelude.{◌≡◌, ◌≤◌, ℕ, IfOk, List, map, unwrap_or, option_map};
-ghost use Rattle.aggregations.specs.Table.{functions_of};
-ghost use Rattle.d_types.specs.Typed.{ScriptMeant, functions_in};
-ghost use Rattle.d_types.specs.TypedScripts.{typed_script_of};
-ghost use Rattle.firing_reader.specs.declared.firing.Firing.{Firing};
-ghost use Rattle.replay_core.specs.Groups.{Grouping};
-ghost use Rattle.shard_queue.specs.Groups.{AreOf, grouping};
-ghost use Rattle.shard_queue.specs.Threads.{run_threads};
-ghost use Rattle.dreplay.specs.Plans.{IsInBounds};
-ghost use Rattle.dreplay.specs.Replaying.{IsRunBy, IsReplay, IsShownOf};
+ghost use Rattle.std.specs.Prelude.{◌≡◌, ◌≤◌, ℕ, IfOk, List, unwrap_or, option_map};
+ghost use Rattle.shard_queue.specs.{Groups.AreOf, Groups.grouping, Threads.run_threads};
+ghost use Rattle.dreplay.specs.{Vocabulary.Firing, Vocabulary.Grouping, Vocabulary.functions_in, Vocabulary.functions_of, Vocabulary.typed_script_of, Plans.IsInBounds, Replaying.IsRunBy, Replaying.IsReplay, Replaying.IsShownOf};
 
 use crate::grouping::groups_of;
 use crate::plan::{EngineKind, Plan, Replayed};
@@ -28,7 +21,16 @@ use std::sync::Wait;
 use std::thread::Threads;
 
 /// Runs a script over a trace, between BEGIN and END. The script is refused before the trace, and
-/// the trace before the groups.
+/// the trace before the groups; `Refusal::Memory` may come at any point.
+///
+/// ```text
+/// let (groups, engine) = (GroupPlan::Dealt(16), EngineKind::Dif);
+/// let plan = Plan { workers: 4, groups, engine };
+/// let replayed = replay(&rt, alloc, b"BEGIN { trace(1); exit(3); }", &trace, &plan)?;
+/// replayed.bytes; // `1` and a line feed
+/// replayed.status; // 3
+/// replay(&rt, alloc, b"BEGIN {\n 08 }", &trace, &plan); // Err(Refusal::Lex(..)), of line 2
+/// ```
 pub fn replay<R: RandomSource + Threads + Wait + Sync>(
     rt: &R,
     alloc: Global,
@@ -44,6 +46,10 @@ pub fn replay<R: RandomSource + Threads + Wait + Sync>(
 
 /// Does the same, where each worker passes a gate before the first firing of each group that it
 /// took.
+///
+/// ```text
+/// replay_with(&rt, alloc, script, trace, &plan, &OpenGate); // as `replay` does
+/// ```
 pub fn replay_with<R: RandomSource + Threads + Wait + Sync, G: Gate + Sync>(
     rt: &R,
     alloc: Global,
@@ -60,7 +66,7 @@ pub fn replay_with<R: RandomSource + Threads + Wait + Sync, G: Gate + Sync>(
     let trace = read_trace_by(rt, alloc, HashKey::random(rt), trace, plan.workers)?;
     let groups = groups_of(alloc, &plan.groups, &trace)?;
     let ran = run(rt, alloc, &script, &trace, &groups, plan, gate)?;
-    let replayed = shown(rt, alloc, &script, ran)?;
+    let replayed = run_output(rt, alloc, &script, ran)?;
     Ok(replayed)
 }
 
@@ -96,7 +102,7 @@ fn run<R: RandomSource + Threads + Wait + Sync, G: Gate + Sync>(
 }
 
 // What a run shows.
-fn shown<R: Threads + Sync>(
+fn run_output<R: Threads + Sync>(
     rt: &R,
     alloc: Global,
     script: &TypedScript,

@@ -4,7 +4,7 @@
 ghost use Rattle.std.specs.Prelude.{IfOk};
 ghost use Rattle.dreplay.specs.Plans.{IsInBounds};
 
-use crate::consuming::{ConsumeFault, consume, consume_trace};
+use crate::consuming::{ConsumeFault, consume, consume_apart};
 use crate::plan::{EngineKind, GroupPlan, Plan, Replayed};
 use crate::refusal::{Refusal, refusal_status, refusal_text};
 use crate::replaying::{replay, replay_with};
@@ -142,7 +142,7 @@ fn serial() -> Plan
 
 // Consumes the bundle one byte a call, where these many calls of the reader and of the writer go
 // well.
-fn consumed<R: AllocGlobal + RandomSource + Threads + Wait + Sync>(
+fn consume_by_bytes<R: AllocGlobal + RandomSource + Threads + Wait + Sync>(
     rt: &R,
     reads: u64,
     writes: u64,
@@ -154,14 +154,17 @@ fn consumed<R: AllocGlobal + RandomSource + Threads + Wait + Sync>(
 }
 
 // Consumes the trace, with its script apart, in the same way.
-fn consumed_apart<R: AllocGlobal + RandomSource + Threads + Wait + Sync>(
+fn consume_trace_by_bytes<R: AllocGlobal + RandomSource + Threads + Wait + Sync>(
     rt: &R,
+    script_reads: u64,
     reads: u64,
     writes: u64,
 ) -> (Result<Replayed, ConsumeFault>, Vec<u8>) {
+    let mut source = Watched::new(Faulty::new(SCRIPT, script_reads));
     let mut feed = Watched::new(Faulty::new(TRACE, reads));
     let mut sink = Watched::new(Faulty::new(Vec::new(rt.alloc()), writes));
-    let answer = consume_trace(rt, rt.alloc(), SCRIPT, &mut feed, &mut sink, &serial());
+    let plan = serial();
+    let answer = consume_apart(rt, rt.alloc(), &mut source, &mut feed, &mut sink, &plan);
     (answer, sink.into_inner().into_inner())
 }
 
@@ -198,11 +201,11 @@ fn firings_after_an_exit_do_not_run(rt: HostRuntime) -> Result<(), Fail> {
 #[test]
 fn nothing_is_written_after_a_failed_read(rt: HostRuntime) {
     for reads in 0..=BUNDLE.len() as u64 {
-        let (answer, out) = consumed(&rt, reads, 100);
+        let (answer, out) = consume_by_bytes(&rt, reads, 100);
         assert!(rt; matches!(answer, Err(ConsumeFault::Read)), "at {reads}");
         assert!(rt; out.is_empty());
     }
-    let (answer, out) = consumed(&rt, BUNDLE.len() as u64 + 1, 100);
+    let (answer, out) = consume_by_bytes(&rt, BUNDLE.len() as u64 + 1, 100);
     assert!(rt; answer.is_ok());
     assert_eq!(rt; out.as_slice(), SHOWN);
 }
@@ -210,11 +213,23 @@ fn nothing_is_written_after_a_failed_read(rt: HostRuntime) {
 #[test]
 fn nothing_is_written_after_a_failed_read_of_a_trace(rt: HostRuntime) {
     for reads in 0..=TRACE.len() as u64 {
-        let (answer, out) = consumed_apart(&rt, reads, 100);
+        let (answer, out) = consume_trace_by_bytes(&rt, 1000, reads, 100);
         assert!(rt; matches!(answer, Err(ConsumeFault::Read)), "at {reads}");
         assert!(rt; out.is_empty());
     }
-    let (answer, out) = consumed_apart(&rt, TRACE.len() as u64 + 1, 100);
+    let (answer, out) = consume_trace_by_bytes(&rt, 1000, TRACE.len() as u64 + 1, 100);
+    assert!(rt; answer.is_ok());
+    assert_eq!(rt; out.as_slice(), SHOWN);
+}
+
+#[test]
+fn nothing_is_written_after_a_failed_read_of_a_script(rt: HostRuntime) {
+    for reads in 0..=SCRIPT.len() as u64 {
+        let (answer, out) = consume_trace_by_bytes(&rt, reads, 1000, 100);
+        assert!(rt; matches!(answer, Err(ConsumeFault::Read)), "at {reads}");
+        assert!(rt; out.is_empty());
+    }
+    let (answer, out) = consume_trace_by_bytes(&rt, SCRIPT.len() as u64 + 1, 1000, 100);
     assert!(rt; answer.is_ok());
     assert_eq!(rt; out.as_slice(), SHOWN);
 }
@@ -222,10 +237,10 @@ fn nothing_is_written_after_a_failed_read_of_a_trace(rt: HostRuntime) {
 #[test]
 fn a_beginning_is_written_before_a_failed_write(rt: HostRuntime) {
     for writes in 0..SHOWN.len() {
-        let (answer, out) = consumed(&rt, 1000, writes as u64);
+        let (answer, out) = consume_by_bytes(&rt, 1000, writes as u64);
         assert!(rt; matches!(answer, Err(ConsumeFault::Write)), "at {writes}");
         assert_eq!(rt; out.as_slice(), &SHOWN[..writes]);
-        let (answer, out) = consumed_apart(&rt, 1000, writes as u64);
+        let (answer, out) = consume_trace_by_bytes(&rt, 1000, 1000, writes as u64);
         assert!(rt; matches!(answer, Err(ConsumeFault::Write)), "at {writes}");
         assert_eq!(rt; out.as_slice(), &SHOWN[..writes]);
     }
@@ -242,7 +257,7 @@ fn each_refusal_has_its_line_and_status(rt: HostRuntime) -> Result<(), Fail> {
 }
 
 // A plan whose groups are these lists, for two workers.
-fn listed(alloc: Global, lists: &[&[i32]]) -> Result<Plan, AllocError>
+fn plan_of_lists(alloc: Global, lists: &[&[i32]]) -> Result<Plan, AllocError>
     ensures { IfOk result IsInBounds }
 {
     let mut groups = Vec::new(alloc);
@@ -272,7 +287,7 @@ const LISTS: [(&[&[i32]], Option<GroupFault>); 6] = [
 #[test]
 fn threads_are_grouped_by_lists(rt: HostRuntime) -> Result<(), Fail> {
     for (lists, fault) in LISTS {
-        let plan = listed(rt.alloc(), lists)?;
+        let plan = plan_of_lists(rt.alloc(), lists)?;
         match (replay(&rt, rt.alloc(), SCRIPT, TRACE, &plan), fault) {
             (Ok(replayed), None) => assert_eq!(rt; replayed.bytes.as_slice(), SHOWN),
             (Err(Refusal::Group(found)), Some(fault)) => assert_eq!(rt; found, fault),

@@ -1,15 +1,16 @@
 //! The words after the program's name.
 
-ghost use Rattle.std.specs.Prelude.{◌≡◌, ℕ, IfErr, IfOk, IfSome, MatchResult, None, codes, false, map, option_map, string_bytes, true};
+ghost use Rattle.std.specs.Prelude.{◌≡◌, ◌⊎◌, ℕ, IfErr, IfOk, IfSome, IsErr, IsOkAnd, MatchResult, None, codes, drop, false, map, option_map, string_bytes, true};
 ghost use Rattle.clap.specs.Words.{app_of, found_of, kind_of, rows_of, rule_of, takes};
-ghost use Rattle.dreplay.specs.declared.words.UsageFault.TheVariants.{Memory};
-ghost use Rattle.dreplay.specs.Words as spec;
-ghost use Rattle.dreplay.specs.Words.{Asks, HasPlan, IsAskedIn, IsFaultOf, IsMistake, IsNumberIn, IsPlanFault, IsPlanIn, IsToldAs, engine_in, file_in, program};
+ghost use Rattle.dreplay.specs.{Vocabulary.into_iter_items, Words.Asks, Words.HasPlan, Words.IsAskedIn, Words.IsFaultOf, Words.IsMistake, Words.IsNumberIn, Words.IsPlanFault, Words.IsPlanIn, Words.IsToldAs, Words.engine_called, Words.engine_in, Words.file_in, Words.number_option, Words.option, Words.option_or, Words.program, declared.words.UsageFault.TheVariants.Memory};
 
 use crate::plan::{EngineKind, GroupPlan, Plan};
 use clap::error::ErrorKind;
 use clap::{Arg, ArgMatches, Command, value_parser};
+use shard_queue::{MOST_GROUPS, MOST_WORKERS};
 use std::alloc::{AllocError, Global};
+use std::env::Args;
+use std::io;
 use thiserror::Error;
 
 /// What the words ask for.
@@ -76,7 +77,43 @@ Exit status:
 
 dreplay-explain says what a refusal means, and what to do about it.";
 
+/// The words after the program's name, of those that the process was given, if these are UTF-8.
+pub fn program_words(alloc: Global, given: io::Result<Args>) -> Result<Vec<String>, UsageFault>
+    ensures words { IfOk result (λ words. IsOkAnd given (λ all.
+        words.items ≡ drop 1 (into_iter_items all))) }
+    ensures fault { IfErr result (λ e. (e ≡ Memory)
+        ⊎ (IsErr given × IsMistake ErrorKind.ValueValidation e)) }
+{
+    match given {
+        Ok(words) => Ok(after_the_first(alloc, words)?),
+        Err(fault) if fault.kind() == io::ErrorKind::OutOfMemory => Err(UsageFault::Memory),
+        Err(_) => Err(UsageFault::Usage(not_text(alloc)?)),
+    }
+}
+
+// The words after the first.
+fn after_the_first(alloc: Global, words: Args) -> Result<Vec<String>, AllocError>
+    ensures { IfOk result (λ rest. rest.items ≡ drop 1 (into_iter_items words)) }
+{
+    words.skip(1).collect(alloc)
+}
+
+/// The texts of words, borrowed from them.
+pub fn texts_of(alloc: Global, words: &[String]) -> Result<Vec<&str>, AllocError>
+    ensures { IfOk result (λ texts. map (λ t. t.now) texts.items ≡ map string_bytes words.now) }
+{
+    words.iter().map(|word| word.as_str()).collect(alloc)
+}
+
 /// Reads the words after the program's name.
+///
+/// Without any they ask for a bundle, by 4 workers, 16 groups and compiled code. A request for help
+/// is an error too.
+///
+/// ```text
+/// read_words(alloc, &["-s", "s.d", "-w", "2"])?; // the script's file `s.d`, and two workers
+/// read_words(alloc, &["-w", "17"]); // Err(UsageFault::Usage(..))
+/// ```
 pub fn read_words<'a>(alloc: Global, words: &'a [&'a str]) -> Result<Asked, UsageFault>
     ensures exact { let given = map (λ w. w.now) words.now in
         MatchResult result (Asks given) (IsFaultOf given) }
@@ -84,18 +121,18 @@ pub fn read_words<'a>(alloc: Global, words: &'a [&'a str]) -> Result<Asked, Usag
         takes program given ≡ true → HasPlan given → IfErr result (λ e. e ≡ Memory) }
 {
     match command(alloc)?.try_get_matches_from(words) {
-        Ok(matches) => asked_in(alloc, &matches),
+        Ok(matches) => request_in(alloc, &matches),
         Err(error) => Err(usage_fault(error)),
     }
 }
 
 // The file and the plan of clap's matches.
-fn asked_in(alloc: Global, matches: &ArgMatches<'_>) -> Result<Asked, UsageFault>
+fn request_in(alloc: Global, matches: &ArgMatches<'_>) -> Result<Asked, UsageFault>
     ensures { MatchResult result (IsAskedIn (rows_of (found_of matches.now)))
         (IsPlanFault (rows_of (found_of matches.now))) }
 {
     let file = file_named(alloc, matches)?;
-    let plan = plan_asked(alloc, matches)?;
+    let plan = plan_in(alloc, matches)?;
     Ok(Asked { file, plan })
 }
 
@@ -108,14 +145,14 @@ fn command<'a>(alloc: Global) -> Result<Command<'a>, AllocError>
         .about(ABOUT)
         .after_help(MORE)
         .arg(option(alloc, "script", 's', "FILE", SCRIPT))?
-        .arg(number_option(alloc, "workers", 'w', 16, "4", WORKERS))?
-        .arg(number_option(alloc, "groups", 'g', 4096, "16", GROUPS))?
+        .arg(number_option(alloc, "workers", 'w', MOST_WORKERS, "4", WORKERS))?
+        .arg(number_option(alloc, "groups", 'g', MOST_GROUPS, "16", GROUPS))?
         .arg(option_or(alloc, "engine", 'e', "ENGINE", "dif", ENGINE))
 }
 
 // An option of one letter.
 fn option<'a>(alloc: Global, id: &'a str, letter: char, value: &'a str, help: &'a str) -> Arg<'a>
-    ensures rule { rule_of result ≡ spec.option id.entry.now letter }
+    ensures rule { rule_of result ≡ option id.entry.now letter }
     ensures local { result.global ≡ false }
 {
     Arg::new(alloc, id)
@@ -133,7 +170,7 @@ fn option_or<'a>(
     default: &'a str,
     help: &'a str,
 ) -> Arg<'a>
-    ensures rule { rule_of result ≡ spec.option_or id.entry.now letter default.entry.now }
+    ensures rule { rule_of result ≡ option_or id.entry.now letter default.entry.now }
     ensures local { result.global ≡ false }
 {
     option(alloc, id, letter, value, help).default_value(default)
@@ -148,7 +185,7 @@ fn number_option<'a>(
     default: &'a str,
     help: &'a str,
 ) -> Arg<'a>
-    ensures rule { rule_of result ≡ spec.number_option id.entry.now letter most default.entry.now }
+    ensures rule { rule_of result ≡ number_option id.entry.now letter most default.entry.now }
     ensures local { result.global ≡ false }
 {
     option_or(alloc, id, letter, "N", default, help).value_parser(value_parser!(u32).range(
@@ -168,14 +205,14 @@ fn file_named(alloc: Global, matches: &ArgMatches<'_>) -> Result<Option<String>,
 }
 
 // How the run is to be carried out, by the options -w, -g and -e.
-fn plan_asked(alloc: Global, matches: &ArgMatches<'_>) -> Result<Plan, UsageFault>
+fn plan_in(alloc: Global, matches: &ArgMatches<'_>) -> Result<Plan, UsageFault>
     ensures { MatchResult result (IsPlanIn (rows_of (found_of matches.now)))
         (IsPlanFault (rows_of (found_of matches.now))) }
 {
-    let Some(workers) = number_named(matches, "workers", 1, 16) else {
+    let Some(workers) = number_named(matches, "workers", 1, MOST_WORKERS) else {
         return Err(out_of_range(alloc)?);
     };
-    let Some(groups) = number_named(matches, "groups", 1, 4096) else {
+    let Some(groups) = number_named(matches, "groups", 1, MOST_GROUPS) else {
         return Err(out_of_range(alloc)?);
     };
     let Some(engine) = engine_named(matches) else {
@@ -228,7 +265,7 @@ fn engine_named(matches: &ArgMatches<'_>) -> Option<EngineKind>
 }
 
 fn engine_called(name: &str) -> Option<EngineKind>
-    ensures { result ≡ spec.engine_called name.now }
+    ensures { result ≡ engine_called name.now }
 {
     if name == "dif" {
         Some(EngineKind::Dif)
@@ -250,8 +287,8 @@ fn usage_fault(error: clap::Error) -> UsageFault
     }
 }
 
-/// The mistake of words that are not UTF-8, which `read_words` can't be given, in clap's form.
-pub fn not_text(alloc: Global) -> Result<clap::Error, AllocError>
+// The mistake of words that are not UTF-8, which `read_words` can't be given, in clap's form.
+fn not_text(alloc: Global) -> Result<clap::Error, AllocError>
     ensures { IfOk result (λ e. kind_of e ≡ ErrorKind.ValueValidation) }
 {
     command(alloc)?.error(ErrorKind::ValueValidation, "a word is not UTF-8")

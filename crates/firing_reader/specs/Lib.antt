@@ -1,3 +1,4 @@
+pub mod Vocabulary
 pub mod Gives
 pub mod Column
 pub mod Row

@@ -1,16 +1,10 @@
 -- Plain rows, which are read where they lie in a trace: their fields have no quote, comma or end of
 -- a line in them.
 use Rattle.std.specs.Prelude.{◌≡◌, ◌≢◌, ◌<◌, ◌+◌, ◌≤◌, ◌^◌, ℕ, List, [], ◌∷◌, ◌++◌, length, All, Option, Some, codes, option_and_then, option_map, map, Result, Ok, pos, ℤ}
-use Rattle.csv.specs.Machine.{next_record}
-use Rattle.csv.specs.Reading.{default_config}
-use Rattle.csv.specs.declared.parser.State.TheVariants as st
-use Rattle.firing_reader.specs.declared.fault.TraceFault.{TraceFault}
-use Rattle.firing_reader.specs.declared.firing.Firing.{Firing}
-use Rattle.firing_reader.specs.declared.reading.TheConstants.{MOST_ROWS}
-use Rattle.firing_reader.specs.Column.{decimal_of, signed_of, text_of}
-use Rattle.firing_reader.specs.Left.{left_in}
+use Rattle.csv.specs.declared.parser.State.{State}
+use Rattle.firing_reader.specs.Vocabulary.{next_record, default_config, TraceFault, Firing, MOST_ROWS}
+use Rattle.firing_reader.specs.{Column.decimal_of, Column.signed_of, Column.text_of, Left.left_in, Trace.last_number, Trace.next_of, Trace.rows_of}
 use Rattle.firing_reader.specs.Row.{◌>>=◌, within}
-use Rattle.firing_reader.specs.Trace.{last_number, next_of, rows_of}
 
 -- a byte that only joins a field: no comma, quote, carriage return or line feed
 abbrev pub JoinsField : ℕ → Type 0
@@ -28,16 +22,16 @@ IsWordByte b = (45 ≤ b) × (b < 128)
 -- csv takes these fields off the bytes, whatever comes after them, and goes on where a field starts
 abbrev pub Passes : List ℕ → List (List ℕ) → List ℕ → Type 0
 Passes bytes fields rest = (before : List (List ℕ)) (tail : List ℕ) →
-    next_record default_config st.StartField before [] (bytes ++ tail)
-    ≡ next_record default_config st.StartField (before ++ fields) [] (rest ++ tail)
+    next_record default_config State.StartField before [] (bytes ++ tail)
+    ≡ next_record default_config State.StartField (before ++ fields) [] (rest ++ tail)
 
 -- csv takes these fields off the bytes, whatever comes after them, and they end a record: the rest
 -- begins at its line feed
 abbrev pub Closes : List ℕ → List (List ℕ) → List ℕ → Type 0
 Closes bytes fields rest = (after : List ℕ) × (rest ≡ 10 ∷ after)
     × ((before : List (List ℕ)) (tail : List ℕ) →
-    next_record default_config st.StartField before [] (bytes ++ tail)
-    ≡ Some (before ++ fields, st.StartRecord, after ++ tail))
+    next_record default_config State.StartField before [] (bytes ++ tail)
+    ≡ Some (before ++ fields, State.StartRecord, after ++ tail))
 
 -- the number of a field, from least to most
 abbrev pub whole_of : ℕ → ℕ → List ℕ → Option ℕ
@@ -97,8 +91,8 @@ pub record ReadsRow (bytes rest : List ℕ) (f : Firing) : Type 0 where
   pub fields : List (List ℕ)
   pub after : List ℕ
   pub is_rest : rest ≡ 10 ∷ after
-  pub read : (tail : List ℕ) → next_record default_config st.StartRecord [] [] (bytes ++ tail)
-      ≡ Some (fields, st.StartRecord, after ++ tail)
+  pub read : (tail : List ℕ) → next_record default_config State.StartRecord [] [] (bytes ++ tail)
+      ≡ Some (fields, State.StartRecord, after ++ tail)
   pub firing : (row last : ℕ) → row ≤ MOST_ROWS → last < f.number
       → next_of row last fields ≡ Ok f
 
@@ -129,11 +123,12 @@ rows_after front rows = with_front front (rows_of (length front + 1) (last_numbe
 
 -- all rows of these bytes
 abbrev pub rows_in : List ℕ → Result (List Firing) TraceFault
-rows_in bytes = rows_of 1 0 (left_in st.StartRecord (Some bytes))
+rows_in bytes = rows_of 1 0 (left_in State.StartRecord (Some bytes))
 
 -- these firings and the rows of the rest are the rows of all the bytes
 abbrev pub GoesOn : List Firing → List ℕ → List ℕ → Type 0
-GoesOn firings rest bytes = rows_after firings (left_in st.StartRecord (Some rest)) ≡ rows_in bytes
+GoesOn firings rest bytes =
+    rows_after firings (left_in State.StartRecord (Some rest)) ≡ rows_in bytes
 
 -- the header, as it is mostly written
 abbrev pub header_line : List ℕ

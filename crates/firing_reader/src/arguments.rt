@@ -11,7 +11,7 @@ pub(crate) fn keep_arguments(all: &mut Vec<i64>, args: &[i64; 10]) -> Option<(u3
     ensures args { IfSome result (λ p. ten (take p.1 (drop p.0 all.new.items)) ≡ args.now) }
 {
     let begin = u32::try_from(all.len()).ok()?;
-    let given = given(args);
+    let given = leading_count(args);
     all.extend_from_slice(&args[..given]).ok()?;
     Some((begin, given as u32))
 }
@@ -29,21 +29,21 @@ pub(crate) fn add_arguments(all: &mut Vec<i64>, others: &[i64]) -> Option<u32>
 }
 
 // How many arguments come before the zeros at the end.
-fn given(args: &[i64; 10]) -> usize
+fn leading_count(args: &[i64; 10]) -> usize
     ensures few { result ≤ 10 }
     ensures args { ten (take result args.now) ≡ args.now }
 {
-    given_of(args.as_slice())
+    leading_count_of(args.as_slice())
 }
 
 // How many numbers come before the zeros at the end.
-fn given_of(args: &[i64]) -> usize
+fn leading_count_of(args: &[i64]) -> usize
     ensures few { result ≤ length args.now }
     ensures zeros { (i : ℕ) → get_or (take result args.now) i (pos 0) ≡ get_or args.now i (pos 0) }
 {
     match args {
         [] => 0,
-        [before @ .., 0] => given_of(before),
+        [before @ .., 0] => leading_count_of(before),
         _ => args.len(),
     }
 }

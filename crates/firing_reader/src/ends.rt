@@ -11,6 +11,10 @@ use crate::trace::Trace;
 
 impl Trace {
     /// BEGIN, which comes before the rows: number 0, thread 0, and the time of the first row.
+    ///
+    /// ```text
+    /// trace.begin().number; // 0
+    /// ```
     pub fn begin(&self) -> Firing
         ensures { result ≡ begin_of self.now }
     {
@@ -19,6 +23,11 @@ impl Trace {
 
     /// END, which comes after the rows: the number after the last, thread 0, and the time of the
     /// last row.
+    ///
+    /// ```text
+    /// // of rows with the numbers 1 and 40
+    /// trace.end().number; // 41
+    /// ```
     pub fn end(&self) -> Firing
         ensures { result ≡ end_of self.now }
     {

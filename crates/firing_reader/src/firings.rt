@@ -2,8 +2,7 @@
 //! and of the arguments no zeros at the end.
 
 ghost use Rattle.std.specs.Prelude.{◌≡◌, ◌<◌, ◌++◌, ◌∷◌, [], true, false, All, Some, IfOk, IfSome, MatchOption, slice_get, length, map};
-ghost use Rattle.firing_reader.specs.Stored.{IsMovable, moved_row as moved_row_of};
-ghost use Rattle.firing_reader.specs.Trace.{last_number as last_number_of};
+ghost use Rattle.firing_reader.specs.{Stored.IsMovable, Stored.moved_row as moved_row_of, Trace.last_number as last_number_of};
 
 use crate::arguments::{add_arguments, all_ten, keep_arguments};
 use crate::firing::Firing;
@@ -41,9 +40,7 @@ pub struct Firings {
 }
 
 impl Model for Firings {
-    ghost use Rattle.std.specs.Prelude.{List, All, map};
-    ghost use Rattle.firing_reader.specs.declared.firing.Firing.{Firing};
-    ghost use Rattle.firing_reader.specs.Stored.{IsRowIn, firing_in};
+    ghost use Rattle.firing_reader.specs.{Vocabulary.All, Vocabulary.Firing, Vocabulary.List, Vocabulary.map, Stored.IsRowIn, Stored.firing_in};
 
     ghost Value = { List Firing };
 
@@ -72,6 +69,11 @@ impl Firings {
     }
 
     /// The firing at a place, from 0.
+    ///
+    /// ```text
+    /// // of rows with the numbers 1 and 40
+    /// trace.firings().get(1).number; // 40
+    /// ```
     pub fn get(&self, at: usize) -> Firing
         requires { at < length self.now }
         ensures { slice_get self.now at ≡ Some result }

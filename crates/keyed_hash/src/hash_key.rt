@@ -54,6 +54,11 @@ impl HashKey {
 
     /// A key that nobody can guess, of eight random bytes. Where the source fails, it may be the
     /// same in each run.
+    ///
+    /// ```text
+    /// let hash_key = HashKey::random(&rt);
+    /// let trace = read_trace(alloc, hash_key, &bytes)?;
+    /// ```
     pub fn random(source: &impl RandomSource) -> HashKey
         ensures { (seed : List ℕ) × (result ≡ key_of seed) }
     {

@@ -4,6 +4,3 @@
 mod hash_key;
 
 pub use hash_key::{HashKey, KeyedHasher};
-
-#[cfg(test)]
-mod tests;

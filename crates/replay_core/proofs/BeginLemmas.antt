@@ -9,8 +9,8 @@ use Rattle.d_types.specs.Typed.{ScriptMeant}
 use Rattle.firing_reader.specs.declared.firing.Firing.{Firing}
 use Rattle.shard_queue.proofs.Lists.{drop_next}
 use Rattle.replay_core.specs.declared.piece.Piece.{Piece}
-use Rattle.replay_core.specs.Beginnings.{ExitsLast, IsBeginning, IsBegun, IsLeft, exit_over, least_exit, lowered_by}
-use Rattle.replay_core.specs.Meaning.{Threads, exit_of, history, made_of, unassigned}
+use Rattle.replay_core.specs.Beginnings.{ExitsLast, IsBeginning, IsBegun, IsLeft, exit_over, least_exit, lesser_of}
+use Rattle.replay_core.specs.Meaning.{Threads, exit_of, history, firing_result, blank_threads}
 use Rattle.replay_core.specs.Running.{threads_over}
 use Rattle.replay_core.specs.Working.{firings_at}
 use Rattle.replay_core.proofs.RunLemmas.{exit_append, history_append}
@@ -18,20 +18,20 @@ use Rattle.replay_core.proofs.WorkSteps.{one_at}
 
 -- ---- exits of firings one after the other
 
-pub exit_parts : (m : ScriptMeant) (fs gs : List Firing) → exit_over m (fs ++ gs) ≡ option_or (exit_over m fs) (exit_of (history m gs (threads_over m fs unassigned)))
-exit_parts m fs gs = ap exit_of (history_append m fs gs unassigned) ∙ exit_append (history m fs unassigned) (history m gs (threads_over m fs unassigned))
+pub exit_parts : (m : ScriptMeant) (fs gs : List Firing) → exit_over m (fs ++ gs) ≡ option_or (exit_over m fs) (exit_of (history m gs (threads_over m fs blank_threads)))
+exit_parts m fs gs = ap exit_of (history_append m fs gs blank_threads) ∙ exit_append (history m fs blank_threads) (history m gs (threads_over m fs blank_threads))
 
 -- one firing more, where none has exited
-pub exit_push : (m : ScriptMeant) (fs : List Firing) (f : Firing) (threads : Threads) → threads ≡ threads_over m fs unassigned → exit_over m fs ≡ None
+pub exit_push : (m : ScriptMeant) (fs : List Firing) (f : Firing) (threads : Threads) → threads ≡ threads_over m fs blank_threads → exit_over m fs ≡ None
     → exit_over m (fs ++ f ∷ []) ≡ exit_of (history m (f ∷ []) threads)
 exit_push m fs f threads same none =
-    exit_parts m fs (f ∷ []) ∙ ap (λ o. option_or o (exit_of (history m (f ∷ []) (threads_over m fs unassigned)))) none ∙ ap (λ t. exit_of (history m (f ∷ []) t)) (sym same)
+    exit_parts m fs (f ∷ []) ∙ ap (λ o. option_or o (exit_of (history m (f ∷ []) (threads_over m fs blank_threads)))) none ∙ ap (λ t. exit_of (history m (f ∷ []) t)) (sym same)
 
 none_of : {A : Type 0} (o : Option A) → false ≡ is_some o → o ≡ None
 none_of None e = refl
 none_of (Some x) e = absurd cc
 
-pub still_none : (m : ScriptMeant) (fs : List Firing) (f : Firing) (threads : Threads) → threads ≡ threads_over m fs unassigned → exit_over m fs ≡ None
+pub still_none : (m : ScriptMeant) (fs : List Firing) (f : Firing) (threads : Threads) → threads ≡ threads_over m fs blank_threads → exit_over m fs ≡ None
     → false ≡ is_some (exit_of (history m (f ∷ []) threads)) → exit_over m (fs ++ f ∷ []) ≡ None
 still_none m fs f threads same none stays = exit_push m fs f threads same none ∙ none_of (exit_of (history m (f ∷ []) threads)) stays
 
@@ -40,20 +40,20 @@ abbrev one_exit : ℕ → Option ℕ → Option (ℕ × ℕ)
 one_exit number o = option_or (option_map (λ status. (number, status)) o) None
 
 -- where it exits, the number is its own
-number_of_one : (m : ScriptMeant) (f : Firing) (threads : Threads) (number : ℕ) → true ≡ is_some (exit_of (history m (f ∷ []) threads)) → min number f.number ≡ lowered_by number (exit_of (history m (f ∷ []) threads))
-number_of_one m f threads number exits = here (made_of m f (threads f.thread)).exit exits
+number_of_one : (m : ScriptMeant) (f : Firing) (threads : Threads) (number : ℕ) → true ≡ is_some (exit_of (history m (f ∷ []) threads)) → min number f.number ≡ lesser_of number (exit_of (history m (f ∷ []) threads))
+number_of_one m f threads number exits = here (firing_result m f (threads f.thread)).exit exits
   where
-    here : (o : Option ℕ) → true ≡ is_some (one_exit f.number o) → min number f.number ≡ lowered_by number (one_exit f.number o)
+    here : (o : Option ℕ) → true ≡ is_some (one_exit f.number o) → min number f.number ≡ lesser_of number (one_exit f.number o)
     here None e = absurd cc
     here (Some status) e = refl
 
-pub now_lowered : (m : ScriptMeant) (fs : List Firing) (f : Firing) (threads : Threads) (number : ℕ) → threads ≡ threads_over m fs unassigned → exit_over m fs ≡ None
-    → true ≡ is_some (exit_of (history m (f ∷ []) threads)) → min number f.number ≡ lowered_by number (exit_over m (fs ++ f ∷ []))
-now_lowered m fs f threads number same none exits = number_of_one m f threads number exits ∙ ap (lowered_by number) (sym (exit_push m fs f threads same none))
+pub now_lowered : (m : ScriptMeant) (fs : List Firing) (f : Firing) (threads : Threads) (number : ℕ) → threads ≡ threads_over m fs blank_threads → exit_over m fs ≡ None
+    → true ≡ is_some (exit_of (history m (f ∷ []) threads)) → min number f.number ≡ lesser_of number (exit_over m (fs ++ f ∷ []))
+now_lowered m fs f threads number same none exits = number_of_one m f threads number exits ∙ ap (lesser_of number) (sym (exit_push m fs f threads same none))
 
 -- ---- the three ends of a beginning
 
-pub ended_by_exit : (m : ScriptMeant) (seen : ℕ) (fs : List Firing) (f : Firing) (rest all : List Firing) (threads : Threads) → threads ≡ threads_over m fs unassigned → exit_over m fs ≡ None
+pub ended_by_exit : (m : ScriptMeant) (seen : ℕ) (fs : List Firing) (f : Firing) (rest all : List Firing) (threads : Threads) → threads ≡ threads_over m fs blank_threads → exit_over m fs ≡ None
     → true ≡ is_some (exit_of (history m (f ∷ []) threads)) → all ≡ (fs ++ f ∷ []) ++ rest → IsBeginning m seen (fs ++ f ∷ []) all
 ended_by_exit m seen fs f rest all threads same none exits parts = record {
   rest = rest;
@@ -106,12 +106,12 @@ seen_less m seen less all p le b = record {
   piece = b.piece;
 }
 
-lowered_twice : (n : ℕ) (a b : Option (ℕ × ℕ)) → lowered_by (lowered_by n a) b ≡ lowered_by (lowered_by n b) a
+lowered_twice : (n : ℕ) (a b : Option (ℕ × ℕ)) → lesser_of (lesser_of n a) b ≡ lesser_of (lesser_of n b) a
 lowered_twice n None b = refl
 lowered_twice n (Some a) None = refl
 lowered_twice n (Some a) (Some b) = omega arith
 
 -- one piece more
-pub least_more : (ps : List (ℕ × Piece)) (p : ℕ × Piece) → least_exit (ps ++ p ∷ []) ≡ lowered_by (least_exit ps) p.1.exit
+pub least_more : (ps : List (ℕ × Piece)) (p : ℕ × Piece) → least_exit (ps ++ p ∷ []) ≡ lesser_of (least_exit ps) p.1.exit
 least_more [] p = refl
-least_more (q ∷ ps) p = ap (λ n. lowered_by n q.1.exit) (least_more ps p) ∙ lowered_twice (least_exit ps) p.1.exit q.1.exit
+least_more (q ∷ ps) p = ap (λ n. lesser_of n q.1.exit) (least_more ps p) ∙ lowered_twice (least_exit ps) p.1.exit q.1.exit

@@ -1,4 +1,4 @@
--- Which fault the collector answers, and that sorted pieces can be merged as the pieces could.
+-- Which fault the collector returns, and that sorted pieces can be merged as the pieces could.
 use Rattle.std.proofs.Common.{◌≡◌, ◌≢◌, ℕ, suc, ◌+◌, ◌==◌, ◌<◌, ◌≤◌, Bool, true, false, cond, List, [], ◌∷◌, All, Contains, Option, None, Some, length, map, refl, sym, ap, subst, ⊎_elim, arith, ltb, sum_by}
 use Rattle.std.specs.List.Sorted.{IsPermutation}
 use Rattle.std.proofs.lemmas.List.Sorted.{IsPermutation-sym, IsPermutation-map, All-permutation, Contains-permutation, sum_by-IsPermutation}
@@ -9,7 +9,7 @@ use Rattle.shard_queue.proofs.Lists.{all_cons}
 use Rattle.replay_core.specs.declared.piece.Piece.{Piece}
 use Rattle.replay_core.specs.declared.collect_fault.CollectFault.{CollectFault}
 use Rattle.replay_core.specs.declared.collect_fault.CollectFault.TheVariants.{Twice, Stranger, Missing, Memory}
-use Rattle.replay_core.specs.PiecePlaces.{first_bad, first_bad_after, first_missing, standing, numbered, IsFault}
+use Rattle.replay_core.specs.PiecePlaces.{first_bad, first_bad_after, first_missing, pieces_with_places, pieces_with_groups, IsFault}
 use Rattle.replay_core.specs.Tables.{Table, AllHave, CanMerge}
 use Rattle.replay_core.specs.Collecting.{tables_of, IsCollectFault}
 
@@ -30,13 +30,13 @@ fault_bad n ps (Missing g) is = absurd (not_missing n (λ g. false) ps g is)
 fault_bad n ps Memory is = tt
 
 -- what stands from here on has no lesser number
-standing_from : (a : ℕ) (places : List (Option Piece)) → All (λ p. a ≤ p.0) (standing a places)
+standing_from : (a : ℕ) (places : List (Option Piece)) → All (λ p. a ≤ p.0) (pieces_with_places a places)
 standing_from a [] = λ k d lt. absurd (omega arith)
 standing_from a (None ∷ places) = λ k d lt. let le = standing_from (a + 1) places k d lt in omega arith
-standing_from a (Some q ∷ places) = all_cons (λ p. a ≤ p.0) (a, q) (standing (a + 1) places) (omega arith) (λ k d lt. let le = standing_from (a + 1) places k d lt in omega arith)
+standing_from a (Some q ∷ places) = all_cons (λ p. a ≤ p.0) (a, q) (pieces_with_places (a + 1) places) (omega arith) (λ k d lt. let le = standing_from (a + 1) places k d lt in omega arith)
 
 missing_at : (a : ℕ) (places : List (Option Piece)) (g : ℕ) → first_missing a places ≡ Some (Missing g)
-    → (a ≤ g) × (g < a + length places) × All (λ p. p.0 ≢ g) (standing a places) × ((less : ℕ) → a ≤ less → less < g → (p : Piece) × Contains (standing a places) (less, p))
+    → (a ≤ g) × (g < a + length places) × All (λ p. p.0 ≢ g) (pieces_with_places a places) × ((less : ℕ) → a ≤ less → less < g → (p : Piece) × Contains (pieces_with_places a places) (less, p))
 missing_at a [] g e = absurd cc
 missing_at a (None ∷ places) g e =
     let here : a ≡ g = cc in
@@ -47,7 +47,7 @@ missing_at a (Some q ∷ places) g e =
     let below = more.1 in (
       omega arith,
       omega arith,
-      all_cons (λ p. p.0 ≢ g) (a, q) (standing (a + 1) places) (λ same. omega arith) more.2,
+      all_cons (λ p. p.0 ≢ g) (a, q) (pieces_with_places (a + 1) places) (λ same. omega arith) more.2,
       λ less le lt. ⊎_elim
           (λ (same : less ≡ a). (q, (0, omega arith, ap (λ x. (x, q)) (sym same))))
           (λ (ne : less ≢ a). let there = more.3 less (omega arith) lt in (there.0, (suc there.1.0, let in' = there.1.1 in omega arith, there.1.2)))
@@ -59,19 +59,19 @@ missing_only a [] e is = absurd cc
 missing_only a (None ∷ places) e is = (a, cc)
 missing_only a (Some q ∷ places) e is = missing_only (a + 1) places e is
 
-pub fault_missing : (n : ℕ) (ps : List (ℕ × Piece)) (places : List (Option Piece)) (e : CollectFault) → length places ≡ n → first_bad n ps ≡ None → IsPermutation ps (standing 0 places)
+pub fault_missing : (n : ℕ) (ps : List (ℕ × Piece)) (places : List (Option Piece)) (e : CollectFault) → length places ≡ n → first_bad n ps ≡ None → IsPermutation ps (pieces_with_places 0 places)
     → IsFault e (first_missing 0 places) → IsCollectFault n ps e
 fault_missing n ps places Memory len good same is = tt
 fault_missing n ps places (Twice g) len good same is = absurd (let m = missing_only 0 places (Twice g) is in let x = m.1 in cc)
 fault_missing n ps places (Stranger g) len good same is = absurd (let m = missing_only 0 places (Stranger g) is in let x = m.1 in cc)
 fault_missing n ps places (Missing g) len good same is =
     let m = missing_at 0 places g is in
-    let back = IsPermutation-sym ps (standing 0 places) same in (
+    let back = IsPermutation-sym ps (pieces_with_places 0 places) same in (
       good,
       record {
         below = let lt = m.1 in omega arith;
-        none = All-permutation (λ p. p.0 ≢ g) (standing 0 places) ps back m.2;
-        others = λ less lt. let there = m.3 less (omega arith) lt in (there.0, Contains-permutation (standing 0 places) ps (less, there.0) back there.1);
+        none = All-permutation (λ p. p.0 ≢ g) (pieces_with_places 0 places) ps back m.2;
+        others = λ less lt. let there = m.3 less (omega arith) lt in (there.0, Contains-permutation (pieces_with_places 0 places) ps (less, there.0) back there.1);
       },
     )
 
@@ -84,14 +84,14 @@ pub all_have : (f : List AggFn) (ts : List Table) → All (λ t. functions_of t 
 all_have f [] each = tt
 all_have f (t ∷ ts) each = (each 0 t (omega arith), all_have f ts (λ k d lt. each (suc k) d (omega arith)))
 
-pub tables_numbered : (a : ℕ) (ps : List Piece) → tables_of (numbered a ps) ≡ map (λ p. p.table) ps
+pub tables_numbered : (a : ℕ) (ps : List Piece) → tables_of (pieces_with_groups a ps) ≡ map (λ p. p.table) ps
 tables_numbered a [] = refl
 tables_numbered a (p ∷ ps) = ap (λ l. p.table ∷ l) (tables_numbered (a + 1) ps)
 
-pub can_sorted : (ps : List (ℕ × Piece)) (sorted : List Piece) → IsPermutation ps (numbered 0 sorted) → CanMerge (tables_of ps) → CanMerge (map (λ p. p.table) sorted)
+pub can_sorted : (ps : List (ℕ × Piece)) (sorted : List Piece) → IsPermutation ps (pieces_with_groups 0 sorted) → CanMerge (tables_of ps) → CanMerge (map (λ p. p.table) sorted)
 can_sorted ps sorted same can =
-    let moved = IsPermutation-map (λ p. p.1.table) ps (numbered 0 sorted) same in
-    let ts = tables_of (numbered 0 sorted) in
+    let moved = IsPermutation-map (λ p. p.1.table) ps (pieces_with_groups 0 sorted) same in
+    let ts = tables_of (pieces_with_groups 0 sorted) in
     let f = can.0.0 in
     let have = all_have f ts (All-permutation (λ t. functions_of t ≡ f) (tables_of ps) ts moved (have_all f (tables_of ps) can.0.1)) in
     let held = sum_by-IsPermutation count_held (tables_of ps) ts moved in

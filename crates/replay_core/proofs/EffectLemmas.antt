@@ -7,10 +7,10 @@ use Rattle.d_values.specs.declared.key.KeyPart.{KeyPart}
 use Rattle.d_types.specs.declared.effect.Effect.{Effect}
 use Rattle.d_types.specs.declared.effect.Effect.TheVariants as ef
 use Rattle.d_types.specs.Expressions.{Outcome, Has, Faults, with}
-use Rattle.d_types.specs.Clauses.{Made, Ran, made, ran, followed, texts_in, contributions_in, exit_in, and_then}
+use Rattle.d_types.specs.Clauses.{Made, Ran, run_result, run_with, effect_then, texts_in, contributions_in, exit_in, and_then}
 use Rattle.d_types.specs.Storage.{Variables}
 use Rattle.replay_core.specs.declared.evaluation.fault.EvalFault.TheVariants as fault
-use Rattle.replay_core.specs.Effects.{done_by, NotesEffect, Performs, NotesRun}
+use Rattle.replay_core.specs.Effects.{effects_result, NotesEffect, Performs, NotesRun}
 use Rattle.replay_core.specs.Lanes.{Notes}
 use Rattle.replay_core.specs.Pieces.{PieceSeen}
 use Rattle.replay_core.proofs.Noting.{append_nil, notes_nothing, notes_then}
@@ -41,7 +41,7 @@ exit_then (ef.Exits status ∷ a) b = refl
 abbrev made_of : List (List ℕ) → List Contribution → Option ℕ → Variables → Made
 made_of texts contributions exit vars = record { texts = texts; contributions = contributions; exit = exit; variables = vars }
 
-done_then : (a b : List Effect) (vars : Variables) → done_by (a ++ b) vars ≡ and_then (done_by a vars) (done_by b vars)
+done_then : (a b : List Effect) (vars : Variables) → effects_result (a ++ b) vars ≡ and_then (effects_result a vars) (effects_result b vars)
 done_then a b vars =
     ap (λ t. made_of t (contributions_in (a ++ b)) (exit_in (a ++ b)) vars) (texts_then a b)
     ∙ ap (λ c. made_of (texts_in a ++ texts_in b) c (exit_in (a ++ b)) vars) (contributions_then a b)
@@ -56,8 +56,8 @@ some_then (Some s) b = refl
 -- what the statements before have done is noted, and those that are left do the rest of the whole
 pub record SoFar (number : ℕ) (whole left : Ran) (old now : PieceSeen) (exits : Bool) : Type 0 where
   pub done : List Effect
-  pub is : whole ≡ ran (done ++ left.effects) left.faulted left.variables
-  pub notes : (vars : Variables) → Notes number (done_by done vars) old now
+  pub is : whole ≡ run_with (done ++ left.effects) left.faulted left.variables
+  pub notes : (vars : Variables) → Notes number (effects_result done vars) old now
   pub exited : exits ≡ is_some (exit_in done)
 
 pub none_yet : (number : ℕ) (whole : Ran) (p : PieceSeen) → SoFar number whole whole p p false
@@ -68,34 +68,34 @@ append_one [] x b = refl
 append_one (y ∷ a) x b = ap (λ l. y ∷ l) (append_one a x b)
 
 one_more : (number : ℕ) (whole left rest : Ran) (old now next : PieceSeen) (exits exited more : Bool) (effect : Effect)
-    → SoFar number whole left old now exits → left ≡ ran (effect ∷ rest.effects) rest.faulted rest.variables
+    → SoFar number whole left old now exits → left ≡ run_with (effect ∷ rest.effects) rest.faulted rest.variables
     → NotesEffect number effect now next → exited ≡ is_some (exit_in (effect ∷ [])) → more ≡ (exits || exited)
     → SoFar number whole rest old next more
 one_more number whole left rest old now next exits exited more effect so_far is noted told more_is = record {
   done = so_far.done ++ effect ∷ [];
-  is = so_far.is ∙ ap (λ (l : Ran). ran (so_far.done ++ l.effects) l.faulted l.variables) is
-      ∙ ap (λ es. ran es rest.faulted rest.variables) (append_one so_far.done effect rest.effects);
+  is = so_far.is ∙ ap (λ (l : Ran). run_with (so_far.done ++ l.effects) l.faulted l.variables) is
+      ∙ ap (λ es. run_with es rest.faulted rest.variables) (append_one so_far.done effect rest.effects);
   notes = λ vars. subst (λ m. Notes number m old next) (sym (done_then so_far.done (effect ∷ []) vars))
-      (notes_then number (done_by so_far.done vars) (done_by (effect ∷ []) vars) old now next (so_far.notes vars) (noted vars));
+      (notes_then number (effects_result so_far.done vars) (effects_result (effect ∷ []) vars) old now next (so_far.notes vars) (noted vars));
   exited = more_is ∙ ap (λ b. b || exited) so_far.exited ∙ ap (λ b. is_some (exit_in so_far.done) || b) told
       ∙ some_then (exit_in so_far.done) (exit_in (effect ∷ [])) ∙ ap is_some (sym (exit_then so_far.done (effect ∷ [])));
 }
 
 -- a statement more
 pub goes_on : (number : ℕ) (whole left : Ran) (o : Outcome Effect) (go : Variables → Ran) (old now next : PieceSeen) (vars : Variables) (exits exited more : Bool)
-    → SoFar number whole left old now exits → left ≡ followed o go → Performs number o now (Ok exited) next vars → more ≡ (exits || exited)
+    → SoFar number whole left old now exits → left ≡ effect_then o go → Performs number o now (Ok exited) next vars → more ≡ (exits || exited)
     → SoFar number whole (go vars) old next more
 goes_on number whole left (Has effect after) go old now next vars exits exited more so_far is performs more_is =
     one_more number whole left (go vars) old now next exits exited more effect so_far
-    (is ∙ ap (λ v. let rest = go v in ran (effect ∷ rest.effects) rest.faulted rest.variables) (sym performs.0)) performs.1 performs.2 more_is
+    (is ∙ ap (λ v. let rest = go v in run_with (effect ∷ rest.effects) rest.faulted rest.variables) (sym performs.0)) performs.1 performs.2 more_is
 goes_on number whole left (Faults after) go old now next vars exits exited more so_far is performs more_is = absurd performs
 
 -- the statements that were left are none
 pub ends : (number : ℕ) (line : List ℕ) (whole : Ran) (old now : PieceSeen) (vars : Variables) (exits : Bool)
-    → SoFar number whole (ran [] false vars) old now exits → NotesRun number (made line whole) old now vars exits
+    → SoFar number whole (run_with [] false vars) old now exits → NotesRun number (run_result line whole) old now vars exits
 ends number line whole old now vars exits so_far =
-    let all : whole ≡ ran so_far.done false vars = so_far.is ∙ ap (λ es. ran es false vars) (sym (append_nil so_far.done)) in
-    subst (λ (w : Ran). NotesRun number (made line w) old now vars exits) (sym all)
+    let all : whole ≡ run_with so_far.done false vars = so_far.is ∙ ap (λ es. run_with es false vars) (sym (append_nil so_far.done)) in
+    subst (λ (w : Ran). NotesRun number (run_result line w) old now vars exits) (sym all)
     (record { notes = so_far.notes vars; variables = refl; exited = so_far.exited })
 
 -- ---- how a run ends
@@ -119,12 +119,12 @@ is_with_line number line old now end cut texts table taken exit =
     ∙ ap (λ t. seen end.texts end.table end.taken t) (sym exit)
 
 ends_faulted : (number : ℕ) (line : List ℕ) (whole left : Ran) (old now : PieceSeen) (vars : Variables) (exits : Bool)
-    → SoFar number whole left old now exits → left ≡ ran [] true vars → NotesRun number (made line whole) old (with_line number line old now) vars exits
+    → SoFar number whole left old now exits → left ≡ run_with [] true vars → NotesRun number (run_result line whole) old (with_line number line old now) vars exits
 ends_faulted number line whole left old now vars exits so_far is =
-    let all : whole ≡ ran so_far.done true vars =
-    so_far.is ∙ ap (λ (l : Ran). ran (so_far.done ++ l.effects) l.faulted l.variables) is ∙ ap (λ es. ran es true vars) (sym (append_nil so_far.done)) in
+    let all : whole ≡ run_with so_far.done true vars =
+    so_far.is ∙ ap (λ (l : Ran). run_with (so_far.done ++ l.effects) l.faulted l.variables) is ∙ ap (λ es. run_with es true vars) (sym (append_nil so_far.done)) in
     let noted = so_far.notes vars in
-    subst (λ (w : Ran). NotesRun number (made line w) old (with_line number line old now) vars exits) (sym all)
+    subst (λ (w : Ran). NotesRun number (run_result line w) old (with_line number line old now) vars exits) (sym all)
     (record {
       notes = record { texts = refl; functions = noted.functions; table = noted.table; taken = noted.taken; exit = noted.exit };
       variables = refl;
@@ -133,26 +133,26 @@ ends_faulted number line whole left old now vars exits so_far is =
 
 -- a statement faults, and the line is noted after the texts before the run
 pub faults : (number : ℕ) (line : List ℕ) (whole left : Ran) (o : Outcome Effect) (go : Variables → Ran) (old now next end : PieceSeen) (vars : Variables) (exits : Bool)
-    → SoFar number whole left old now exits → left ≡ followed o go → Performs number o now (Err fault.DivideByZero) next vars
+    → SoFar number whole left old now exits → left ≡ effect_then o go → Performs number o now (Err fault.DivideByZero) next vars
     → end.texts ≡ take (length old.texts) next.texts ++ (number, line) ∷ [] → end.table ≡ next.table → end.taken ≡ next.taken → end.exit ≡ next.exit
-    → NotesRun number (made line whole) old end vars exits
+    → NotesRun number (run_result line whole) old end vars exits
 faults number line whole left (Has effect after) go old now next end vars exits so_far is performs texts table taken exit = absurd performs
 faults number line whole left (Faults after) go old now next end vars exits so_far is performs texts table taken exit =
     let cut : take (length old.texts) next.texts ≡ old.texts =
     ap (λ (p : PieceSeen). take (length old.texts) p.texts) performs.1 ∙ ap (take (length old.texts)) (so_far.notes vars).texts
     ∙ take_front old.texts (map (λ text. (number, text)) (texts_in so_far.done)) in
-    let faulted = ends_faulted number line whole left old now vars exits so_far (is ∙ ap (ran [] true) (sym performs.0)) in
-    let noted = subst (λ p. NotesRun number (made line whole) old (with_line number line old p) vars exits) (sym performs.1) faulted in
-    subst (λ p. NotesRun number (made line whole) old p vars exits) (is_with_line number line old next end cut texts table taken exit) noted
+    let faulted = ends_faulted number line whole left old now vars exits so_far (is ∙ ap (run_with [] true) (sym performs.0)) in
+    let noted = subst (λ p. NotesRun number (run_result line whole) old (with_line number line old p) vars exits) (sym performs.1) faulted in
+    subst (λ p. NotesRun number (run_result line whole) old p vars exits) (is_with_line number line old next end cut texts table taken exit) noted
 
 -- the predicate faults
 pub predicate_faults : (number : ℕ) (line : List ℕ) (old end : PieceSeen) (vars : Variables)
     → end.texts ≡ take (length old.texts) old.texts ++ (number, line) ∷ [] → end.table ≡ old.table → end.taken ≡ old.taken → end.exit ≡ old.exit
-    → NotesRun number (made line (ran [] true vars)) old end vars false
+    → NotesRun number (run_result line (run_with [] true vars)) old end vars false
 predicate_faults number line old end vars texts table taken exit =
     let cut : take (length old.texts) old.texts ≡ old.texts = ap (take (length old.texts)) (append_nil old.texts) ∙ take_front old.texts [] in
-    subst (λ p. NotesRun number (made line (ran [] true vars)) old p vars false) (is_with_line number line old old end cut texts table taken exit)
-    (ends_faulted number line (ran [] true vars) (ran [] true vars) old old vars false (none_yet number (ran [] true vars) old) refl)
+    subst (λ p. NotesRun number (run_result line (run_with [] true vars)) old p vars false) (is_with_line number line old old end cut texts table taken exit)
+    (ends_faulted number line (run_with [] true vars) (run_with [] true vars) old old vars false (none_yet number (run_with [] true vars) old) refl)
 
 -- ---- one statement
 

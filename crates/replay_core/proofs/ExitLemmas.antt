@@ -11,7 +11,7 @@ use Rattle.firing_reader.specs.Ends.{begin_of, end_of}
 use Rattle.firing_reader.specs.Firings.{IsFiring, number_of}
 use Rattle.firing_reader.specs.Trace.{IsTrace, last_number}
 use Rattle.replay_core.specs.Exit.{firings_over, up_to}
-use Rattle.replay_core.specs.Meaning.{Threads, exit_of, history, made_of, threads_after, unassigned}
+use Rattle.replay_core.specs.Meaning.{Threads, exit_of, history, firing_result, threads_after, blank_threads}
 use Rattle.replay_core.specs.Running.{until_exit}
 
 -- numbers rise from above n on
@@ -34,7 +34,7 @@ none_up_to n (f ∷ fs) r =
 pub late : (m : ScriptMeant) (n : ℕ) (fs : List Firing) (threads : Threads) → Rises n fs → (x : ℕ × ℕ) → exit_of (history m fs threads) ≡ Some x → n < x.0
 late m n [] threads r x e = cc
 late m n (f ∷ fs) threads r x e =
-    elim (made_of m f (threads f.thread)).exit as (λ o. option_or (option_map (λ status. (f.number, status)) o) (exit_of (history m fs (threads_after m f threads))) ≡ Some x → n < x.0) [
+    elim (firing_result m f (threads f.thread)).exit as (λ o. option_or (option_map (λ status. (f.number, status)) o) (exit_of (history m fs (threads_after m f threads))) ≡ Some x → n < x.0) [
       | None ↦ λ later. let after = late m f.number fs (threads_after m f threads) r.1 x later in omega (arith, r.0, after)
       | Some status ↦ λ here. let same = some_is (f.number, status) x here in subst (λ y. n < y.0) same r.0
     ] e
@@ -69,7 +69,7 @@ rows_up_to m n (f ∷ fs) gs threads r =
     let after = threads_after m f threads in
     let later = exit_of (history m (fs ++ gs) after) in
     let more = rows_up_to m f.number fs gs after r.1 in
-    elim (made_of m f (threads f.thread)).exit
+    elim (firing_result m f (threads f.thread)).exit
     as (λ o. up_to (option_or (option_map (λ status. (f.number, status)) o) later) (f ∷ fs) ≡ f ∷ (if is_some o then [] else until_exit m fs after)) [
       | None ↦ up_to_first later f fs (λ x e. late m f.number (fs ++ gs) after r.1 x e) ∙ ap (λ l. f ∷ l) more
       | Some status ↦ up_to_this f fs status (rises_front f.number fs gs r.1)
@@ -113,13 +113,13 @@ pub trace_rises : (fs : List Firing) → IsTrace fs → Rises 0 (fs ++ end_of fs
 trace_rises fs is = rises_end 0 fs (end_of fs) (rises_all fs is) (let e = last_number_is fs in omega arith)
 
 -- BEGIN, the rows up to the first that exits, and END
-pub firings_are : (m : ScriptMeant) (fs : List Firing) → IsTrace fs → until_exit m (begin_of fs ∷ fs) unassigned ++ end_of fs ∷ [] ≡ firings_over m fs
+pub firings_are : (m : ScriptMeant) (fs : List Firing) → IsTrace fs → until_exit m (begin_of fs ∷ fs) blank_threads ++ end_of fs ∷ [] ≡ firings_over m fs
 firings_are m fs is =
     let b = begin_of fs in
-    let after = threads_after m b unassigned in
+    let after = threads_after m b blank_threads in
     let later = exit_of (history m (fs ++ end_of fs ∷ []) after) in
     ap (λ l. b ∷ (l ++ end_of fs ∷ []))
-    (elim (made_of m b (unassigned b.thread)).exit
+    (elim (firing_result m b (blank_threads b.thread)).exit
     as (λ o. (if is_some o then [] else until_exit m fs after) ≡ up_to (option_or (option_map (λ status. (b.number, status)) o) later) fs) [
       | None ↦ sym (rows_up_to m 0 fs (end_of fs ∷ []) after (trace_rises fs is))
       | Some status ↦ sym (none_up_to 0 fs (rises_all fs is))

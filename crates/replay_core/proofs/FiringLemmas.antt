@@ -14,7 +14,7 @@ use Rattle.d_types.specs.Typed.{ClauseMeant, ScriptMeant}
 use Rattle.firing_reader.specs.declared.firing.Firing.{Firing}
 use Rattle.replay_core.specs.declared.probe.Probe.{Probe}
 use Rattle.replay_core.specs.Lanes.{Fires, GoesOnBy, LaneSeen, Notes}
-use Rattle.replay_core.specs.Meaning.{Threads, at_start, clauses_for, history, in_turn, made_of, texts_of, threads_after}
+use Rattle.replay_core.specs.Meaning.{Threads, at_start, clauses_for, history, in_turn, firing_result, texts_of, threads_after}
 use Rattle.replay_core.specs.Patterns.{probe_of, selects}
 use Rattle.replay_core.specs.Pieces.{PieceSeen}
 use Rattle.replay_core.specs.Places.{places_for}
@@ -78,7 +78,7 @@ places_within p n (d ∷ ds) =
 
 -- ---- a firing
 
-pub goes_on : (m : ScriptMeant) (f : Firing) (threads : Threads) (made : Made) (old mid new : PieceSeen) → made ≡ made_of m f (threads f.thread)
+pub goes_on : (m : ScriptMeant) (f : Firing) (threads : Threads) (made : Made) (old mid new : PieceSeen) → made ≡ firing_result m f (threads f.thread)
     → mid ≡ record { texts = old.texts; table = old.table; taken = old.taken ++ f.number ∷ []; exit = old.exit }
     → Notes f.number made mid new → GoesOnBy (history m (f ∷ []) threads) old new
 goes_on m f threads made old mid new is pushed notes = subst (λ r. GoesOnBy ((f, r) ∷ []) old new) is (record {

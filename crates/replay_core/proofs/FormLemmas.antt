@@ -1,7 +1,7 @@
 -- Trees are run as what they stand for.
 use Rattle.std.specs.Prelude.{◌≡◌, ℕ, List, [], ◌∷◌, map, max, Option, None, Some}
 use Rattle.std.proofs.Common.{refl, ap, ◌∙◌}
-use Rattle.d_types.specs.Clauses.{by_trees, effect_by, followed, guarded_by, made, run_by, statements_by}
+use Rattle.d_types.specs.Clauses.{by_trees, effect_by, effect_then, where_predicate, run_result, run_by, statements_by}
 use Rattle.d_types.specs.Storage.{Variables}
 use Rattle.d_types.specs.Typed.{action_of, actions_of, argument_of}
 use Rattle.d_types.specs.declared.typed.TypedExpr.{TypedExpr}
@@ -37,11 +37,11 @@ module _ (f : Firing) where
       → statements_by (by_expressions f) (map statement_form all) vars ≡ statements_by (by_trees f) (actions_of all) vars
   statements_same [] vars = refl
   statements_same (x ∷ rest) vars =
-      ap (λ o. followed o (statements_by (by_expressions f) (map statement_form rest))) (effect_same x vars)
-      ∙ ap (followed (effect_by (by_trees f) (action_of x) vars)) (λ i v. statements_same rest v i)
+      ap (λ o. effect_then o (statements_by (by_expressions f) (map statement_form rest))) (effect_same x vars)
+      ∙ ap (effect_then (effect_by (by_trees f) (action_of x) vars)) (λ i v. statements_same rest v i)
 
   pub run_same : (line : List ℕ) (predicate : Option TypedExpr) (all : List TypedStmt) (vars : Variables)
       → run_by (by_expressions f) line predicate (map statement_form all) vars ≡ run_by (by_trees f) line (argument_of predicate) (actions_of all) vars
-  run_same line None all vars = ap (made line) (statements_same all vars)
+  run_same line None all vars = ap (run_result line) (statements_same all vars)
   run_same line (Some e) all vars =
-      ap (λ go. made line (guarded_by (by_expressions f) (Some e) go vars)) (λ i v. statements_same all v i)
+      ap (λ go. run_result line (where_predicate (by_expressions f) (Some e) go vars)) (λ i v. statements_same all v i)

@@ -12,7 +12,7 @@ use Rattle.shard_queue.specs.declared.groups.Groups.{Groups}
 use Rattle.shard_queue.specs.Groups.{grouping}
 use Rattle.shard_queue.specs.declared.claim_seat.ClaimSeat.{ClaimSeat}
 use Rattle.shard_queue.specs.declared.board.ClaimBoard.{ClaimBoard}
-use Rattle.shard_queue.specs.Boards.{IsAt, drawn_of, least_lowered, least_seen, lowered, seen, told_in}
+use Rattle.shard_queue.specs.Boards.{IsAt, claim_numbers, least_lowered, least_seen, number_lowered, number_seen, claim_seats_at_end}
 use Rattle.shard_queue.specs.Hands.{IsHandOut}
 use Rattle.shard_queue.proofs.Lists.{all_push, all_cons}
 use Rattle.replay_core.specs.declared.piece.Piece.{Piece}
@@ -20,7 +20,7 @@ use Rattle.replay_core.specs.Groups.{IsAllBelow}
 use Rattle.replay_core.specs.declared.round.Round.{Round}
 use Rattle.replay_core.specs.declared.span.Span.{Span}
 use Rattle.replay_core.specs.Crews.{AreParts, GivesBegun, GivesPieces, IsRound, IsWork, Part}
-use Rattle.replay_core.specs.Beginnings.{AreBegun, IsBegunOf, least_exit, lowered_by}
+use Rattle.replay_core.specs.Beginnings.{AreBegun, IsBegunOf, least_exit, lesser_of}
 use Rattle.replay_core.specs.Seen.{IsRoomy}
 use Rattle.replay_core.specs.Working.{AreOfGroups, IsOfGroup, firings_in}
 use Rattle.replay_core.proofs.BeginLemmas.{seen_less}
@@ -42,7 +42,7 @@ parts_more P pieces new seats more part seat are one a b = record {
 }
 
 -- what seats have drawn, as their lists
-pub drawn_lists : (ss : List ClaimSeat) → flat_map (λ v. v.items) (map (λ s. s.taken) ss) ≡ drawn_of ss
+pub drawn_lists : (ss : List ClaimSeat) → flat_map (λ v. v.items) (map (λ s. s.taken) ss) ≡ claim_numbers ss
 drawn_lists [] = refl
 drawn_lists (s ∷ ss) = ap (λ l. s.taken.items ++ l) (drawn_lists ss)
 
@@ -57,15 +57,15 @@ module _ (P : Part → Type 0) (board : ClaimBoard) where
   pub all_at : (pieces : List (ℕ × Piece)) (seats : List ClaimSeat) → AreParts Works pieces seats → All (IsAt board) seats
   all_at pieces seats are = subst (λ ss. All (IsAt board) ss) (sym are.seated) (seats_at are.parts are.each)
 
-  all_told : (ps : List Part) → All Works ps → told_in (map (λ p. p.1) ps) ≡ length (map (λ p. p.1) ps)
+  all_told : (ps : List Part) → All Works ps → claim_seats_at_end (map (λ p. p.1) ps) ≡ length (map (λ p. p.1) ps)
   all_told [] each = refl
   all_told (p ∷ ps) each =
-      let here : (if p.1.told then 1 else 0) ≡ 1 = ap (λ b. if b then 1 else 0) (each 0 p (omega arith)).told in
+      let here : (if p.1.at_end then 1 else 0) ≡ 1 = ap (λ b. if b then 1 else 0) (each 0 p (omega arith)).at_end in
       let more = all_told ps (λ k d lt. each (suc k) d (omega arith)) in
       let up : 1 + length (map (λ q. q.1) ps) ≡ suc (length (map (λ q. q.1) ps)) = omega arith in
-      ap (λ k. k + told_in (map (λ q. q.1) ps)) here ∙ ap (λ k. 1 + k) more ∙ up
+      ap (λ k. k + claim_seats_at_end (map (λ q. q.1) ps)) here ∙ ap (λ k. 1 + k) more ∙ up
 
-  all_ordered : (ps : List Part) → All Works ps → map (λ p. p.0) (flat_map (λ p. p.0.items) ps) ≡ drawn_of (map (λ p. p.1) ps)
+  all_ordered : (ps : List Part) → All Works ps → map (λ p. p.0) (flat_map (λ p. p.0.items) ps) ≡ claim_numbers (map (λ p. p.1) ps)
   all_ordered [] each = refl
   all_ordered (p ∷ ps) each = map-append (λ q. q.0) p.0.items (flat_map (λ q. q.0.items) ps)
       ∙ ap₂ (λ xs ys. xs ++ ys) (each 0 p (omega arith)).order (all_ordered ps (λ k d lt. each (suc k) d (omega arith)))
@@ -75,13 +75,13 @@ module _ (P : Part → Type 0) (board : ClaimBoard) where
 
   -- so a closed board has all groups, each once
   pub whole_round : (n : ℕ) (r : Round) (seats : List ClaimSeat) → AreParts Works r.pieces.items seats → 0 < length seats → board.end ≡ n
-      → IsHandOut board.end (told_in seats) (drawn_of seats) → flat_map (λ list. list.items) r.lists.items ≡ drawn_of seats
+      → IsHandOut board.end (claim_seats_at_end seats) (claim_numbers seats) → flat_map (λ list. list.items) r.lists.items ≡ claim_numbers seats
       → r.least ≡ least_lowered seats → r.least ≤ least_seen seats → IsRound P n r
   whole_round n r seats are some end out same low seen_low =
-      let told : told_in seats ≡ length seats = ap told_in are.seated ∙ all_told are.parts are.each ∙ sym (ap length are.seated) in
-      let order : map (λ p. p.0) r.pieces.items ≡ drawn_of seats = ap (map (λ p. p.0)) are.all ∙ all_ordered are.parts are.each ∙ sym (ap drawn_of are.seated) in
+      let at_end : claim_seats_at_end seats ≡ length seats = ap claim_seats_at_end are.seated ∙ all_told are.parts are.each ∙ sym (ap length are.seated) in
+      let order : map (λ p. p.0) r.pieces.items ≡ claim_numbers seats = ap (map (λ p. p.0)) are.all ∙ all_ordered are.parts are.each ∙ sym (ap claim_numbers are.seated) in
       let front : out.0 ≡ n = out.2 (omega arith) ∙ end in
-      let drawn : IsAllBelow n (drawn_of seats) = subst (λ k. IsAllBelow k (drawn_of seats)) front out.3 in
+      let drawn : IsAllBelow n (claim_numbers seats) = subst (λ k. IsAllBelow k (claim_numbers seats)) front out.3 in
       record {
         once = subst (λ (xs : List ℕ). IsAllBelow n xs) (sym order) drawn;
         taken = subst (λ (xs : List ℕ). IsAllBelow n xs) (sym same) drawn;
@@ -112,16 +112,16 @@ least_append [] ys = under ys
     under [] = omega arith
     under (z ∷ zs) = here z.1.exit (under zs)
       where
-        here : (e : Option (ℕ × ℕ)) → least_exit zs ≡ min no_number (least_exit zs) → lowered_by (least_exit zs) e ≡ min no_number (lowered_by (least_exit zs) e)
+        here : (e : Option (ℕ × ℕ)) → least_exit zs ≡ min no_number (least_exit zs) → lesser_of (least_exit zs) e ≡ min no_number (lesser_of (least_exit zs) e)
         here None more = more
         here (Some e) more = omega arith
 least_append (x ∷ xs) ys = here x.1.exit (least_append xs ys)
   where
-    here : (e : Option (ℕ × ℕ)) → least_exit (xs ++ ys) ≡ min (least_exit xs) (least_exit ys) → lowered_by (least_exit (xs ++ ys)) e ≡ min (lowered_by (least_exit xs) e) (least_exit ys)
+    here : (e : Option (ℕ × ℕ)) → least_exit (xs ++ ys) ≡ min (least_exit xs) (least_exit ys) → lesser_of (least_exit (xs ++ ys)) e ≡ min (lesser_of (least_exit xs) e) (least_exit ys)
     here None more = more
     here (Some e) more = omega arith
 
-seen_at : (ss : List ClaimSeat) (k : ℕ) (d : ClaimSeat) → k < length ss → least_seen ss ≤ seen (get_or ss k d)
+seen_at : (ss : List ClaimSeat) (k : ℕ) (d : ClaimSeat) → k < length ss → least_seen ss ≤ number_seen (get_or ss k d)
 seen_at [] k d lt = absurd (omega arith)
 seen_at (s ∷ ss) zero d lt = omega arith
 seen_at (s ∷ ss) (suc k) d lt = let more = seen_at ss k d (omega arith) in omega arith
@@ -139,7 +139,7 @@ module _ (runs : ScriptMeant → Type 0) (groups : Groups) (trace : List Firing)
   begun_each m is least [] le each = λ k d lt. absurd (omega arith)
   begun_each m is least (p ∷ ps) le each =
       all_cons (λ q. All (IsBegunOf m least (grouping groups) (with_ends trace trace)) q.0.items) p ps
-      (λ j e in'. seen_less m (seen p.1) least _ _ (omega arith) ((each 0 p (omega arith)).0.each m is j e in'))
+      (λ j e in'. seen_less m (number_seen p.1) least _ _ (omega arith) ((each 0 p (omega arith)).0.each m is j e in'))
       (begun_each m is least ps (omega arith) (λ j e in'. each (suc j) e (omega arith)))
 
   -- round one's pieces are beginnings by the least number, and that is the least of their exits

@@ -5,7 +5,7 @@ use Rattle.std.proofs.lemmas.Grind.{get_or-set_at}
 use Rattle.std.proofs.lemmas.List.{get_or-set_other}
 use Rattle.replay_core.specs.declared.piece.Piece.{Piece}
 use Rattle.replay_core.specs.declared.collect_fault.CollectFault.TheVariants.{Twice, Stranger}
-use Rattle.replay_core.specs.PiecePlaces.{first_bad, first_bad_after, filled}
+use Rattle.replay_core.specs.PiecePlaces.{first_bad, first_bad_after, is_filled}
 
 bad_congr : (n : ℕ) (had other : ℕ → Bool) → ((g : ℕ) → had g ≡ other g) → (ps : List (ℕ × Piece)) → first_bad_after had n ps ≡ first_bad_after other n ps
 bad_congr n had other same [] = refl
@@ -13,18 +13,18 @@ bad_congr n had other same (p ∷ ps) =
     ap (λ b. cond (ltb p.0 n) (cond b (Some (Twice p.0)) (first_bad_after (λ g. cond (g == p.0) true (had g)) n ps)) (Some (Stranger p.0))) (same p.0)
     ∙ ap (λ r. cond (ltb p.0 n) (cond (other p.0) (Some (Twice p.0)) r) (Some (Stranger p.0))) (bad_congr n (λ g. cond (g == p.0) true (had g)) (λ g. cond (g == p.0) true (other g)) (λ g. ap (λ b. cond (g == p.0) true b) (same g)) ps)
 
-filled_set : (places : List (Option Piece)) (g : ℕ) (p : Piece) → g < length places → (u : ℕ) → cond (u == g) true (filled places u) ≡ filled (set places g (Some p)) u
+filled_set : (places : List (Option Piece)) (g : ℕ) (p : Piece) → g < length places → (u : ℕ) → cond (u == g) true (is_filled places u) ≡ is_filled (set places g (Some p)) u
 filled_set places g p lt u = ⊎_elim
-    (λ (e : u ≡ g). ap (λ b. cond b true (filled places u)) (eq-eqb u g e) ∙ sym (ap is_some (get_or-set_at places g u (Some p) None e lt)))
-    (λ (ne : u ≡ g → ⊥). ap (λ b. cond b true (filled places u)) (ne_eqb u g ne) ∙ sym (ap is_some (get_or-set_other places g u (Some p) None ne)))
+    (λ (e : u ≡ g). ap (λ b. cond b true (is_filled places u)) (eq-eqb u g e) ∙ sym (ap is_some (get_or-set_at places g u (Some p) None e lt)))
+    (λ (ne : u ≡ g → ⊥). ap (λ b. cond b true (is_filled places u)) (ne_eqb u g ne) ∙ sym (ap is_some (get_or-set_other places g u (Some p) None ne)))
     (cases_eq u g)
 
-pub bad_next : (n : ℕ) (places : List (Option Piece)) (g : ℕ) (p : Piece) (rest : List (ℕ × Piece)) → g < n → g < length places → filled places g ≡ false
-    → first_bad_after (filled places) n ((g, p) ∷ rest) ≡ first_bad_after (filled (set places g (Some p))) n rest
+pub bad_next : (n : ℕ) (places : List (Option Piece)) (g : ℕ) (p : Piece) (rest : List (ℕ × Piece)) → g < n → g < length places → is_filled places g ≡ false
+    → first_bad_after (is_filled places) n ((g, p) ∷ rest) ≡ first_bad_after (is_filled (set places g (Some p))) n rest
 bad_next n places g p rest lt in' free =
-    ap (λ b. cond b (cond (filled places g) (Some (Twice g)) (first_bad_after (λ u. cond (u == g) true (filled places u)) n rest)) (Some (Stranger g))) (lt-ltb g n lt)
-    ∙ ap (λ b. cond b (Some (Twice g)) (first_bad_after (λ u. cond (u == g) true (filled places u)) n rest)) free
-    ∙ bad_congr n (λ u. cond (u == g) true (filled places u)) (filled (set places g (Some p))) (filled_set places g p in') rest
+    ap (λ b. cond b (cond (is_filled places g) (Some (Twice g)) (first_bad_after (λ u. cond (u == g) true (is_filled places u)) n rest)) (Some (Stranger g))) (lt-ltb g n lt)
+    ∙ ap (λ b. cond b (Some (Twice g)) (first_bad_after (λ u. cond (u == g) true (is_filled places u)) n rest)) free
+    ∙ bad_congr n (λ u. cond (u == g) true (is_filled places u)) (is_filled (set places g (Some p))) (filled_set places g p in') rest
 
 pub bad_stranger : (n : ℕ) (had : ℕ → Bool) (g : ℕ) (p : Piece) (rest : List (ℕ × Piece)) → n ≤ g → first_bad_after had n ((g, p) ∷ rest) ≡ Some (Stranger g)
 bad_stranger n had g p rest le = ap (λ b. cond b (cond (had g) (Some (Twice g)) (first_bad_after (λ u. cond (u == g) true (had u)) n rest)) (Some (Stranger g))) (le-ltb g n le)
@@ -35,8 +35,8 @@ bad_twice n had g p rest lt e =
     ∙ ap (λ b. cond b (Some (Twice g)) (first_bad_after (λ u. cond (u == g) true (had u)) n rest)) e
 
 -- nothing is filled at first
-pub bad_start : (n : ℕ) (places : List (Option Piece)) → ((k : ℕ) → get_or places k None ≡ None) → (ps : List (ℕ × Piece)) → first_bad n ps ≡ first_bad_after (filled places) n ps
-bad_start n places none ps = bad_congr n (λ g. false) (filled places) (λ g. sym (ap is_some (none g))) ps
+pub bad_start : (n : ℕ) (places : List (Option Piece)) → ((k : ℕ) → get_or places k None ≡ None) → (ps : List (ℕ × Piece)) → first_bad n ps ≡ first_bad_after (is_filled places) n ps
+bad_start n places none ps = bad_congr n (λ g. false) (is_filled places) (λ g. sym (ap is_some (none g))) ps
 
 pub none_pushed : (places : List (Option Piece)) → ((k : ℕ) → get_or places k None ≡ None) → (k : ℕ) → get_or (places ++ None ∷ []) k None ≡ None
 none_pushed [] none zero = refl

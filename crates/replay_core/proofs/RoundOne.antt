@@ -10,9 +10,9 @@ use Rattle.firing_reader.specs.declared.firing.Firing.{Firing}
 use Rattle.shard_queue.specs.Least.{no_number}
 use Rattle.shard_queue.proofs.Totals.{below-once, weight_of}
 use Rattle.replay_core.specs.declared.piece.Piece.{Piece}
-use Rattle.replay_core.specs.Beginnings.{ExitsLast, IsBegun, IsBegunOf, IsLeft, exit_over, least_exit, lowered_by}
+use Rattle.replay_core.specs.Beginnings.{ExitsLast, IsBegun, IsBegunOf, IsLeft, exit_over, least_exit, lesser_of}
 use Rattle.replay_core.specs.Groups.{AreGrouped, Grouping, IsAllBelow, is_group, of_group}
-use Rattle.replay_core.specs.Meaning.{Threads, exit_of, history, made_of, threads_after, unassigned}
+use Rattle.replay_core.specs.Meaning.{Threads, exit_of, history, firing_result, threads_after, blank_threads}
 use Rattle.replay_core.specs.Pieces.{IsPieceOf}
 use Rattle.replay_core.specs.Running.{threads_over}
 use Rattle.replay_core.specs.Seen.{piece_seen}
@@ -112,7 +112,7 @@ begun_exit : (m : ScriptMeant) (seen : ℕ) (all : List Firing) (p : Piece) → 
     → (p.exit ≡ exit_over m all) ⊎ ((p.exit ≡ None) × ((x : ℕ × ℕ) → exit_over m all ≡ Some x → seen < x.0))
 begun_exit m seen all p b up = ⊎_elim exits_last (λ e. not_yet e.0 b.beginning.rest refl e.1) b.beginning.end
   where
-    whole : exit_over m all ≡ option_or (exit_over m b.fired) (exit_of (history m b.beginning.rest (threads_over m b.fired unassigned)))
+    whole : exit_over m all ≡ option_or (exit_over m b.fired) (exit_of (history m b.beginning.rest (threads_over m b.fired blank_threads)))
     whole = ap (exit_over m) b.beginning.parts ∙ exit_parts m b.fired b.beginning.rest
 
     some_first : (o next : Option (ℕ × ℕ)) → is_some o ≡ true → option_or o next ≡ o
@@ -120,17 +120,17 @@ begun_exit m seen all p b up = ⊎_elim exits_last (λ e. not_yet e.0 b.beginnin
     some_first (Some x) next e = refl
 
     exits_last : ExitsLast m b.fired → (p.exit ≡ exit_over m all) ⊎ ((p.exit ≡ None) × ((x : ℕ × ℕ) → exit_over m all ≡ Some x → seen < x.0))
-    exits_last l = inl (b.piece.exit ∙ sym (whole ∙ some_first (exit_over m b.fired) (exit_of (history m b.beginning.rest (threads_over m b.fired unassigned))) l.exits))
+    exits_last l = inl (b.piece.exit ∙ sym (whole ∙ some_first (exit_over m b.fired) (exit_of (history m b.beginning.rest (threads_over m b.fired blank_threads))) l.exits))
 
     not_yet : exit_over m b.fired ≡ None → (rest : List Firing) → b.beginning.rest ≡ rest → IsLeft seen rest
         → (p.exit ≡ exit_over m all) ⊎ ((p.exit ≡ None) × ((x : ℕ × ℕ) → exit_over m all ≡ Some x → seen < x.0))
     not_yet none [] is left =
-        inl (b.piece.exit ∙ none ∙ sym (whole ∙ ap (λ o. option_or o (exit_of (history m b.beginning.rest (threads_over m b.fired unassigned)))) none ∙ ap (λ l. exit_of (history m l (threads_over m b.fired unassigned))) is))
+        inl (b.piece.exit ∙ none ∙ sym (whole ∙ ap (λ o. option_or o (exit_of (history m b.beginning.rest (threads_over m b.fired blank_threads)))) none ∙ ap (λ l. exit_of (history m l (threads_over m b.fired blank_threads))) is))
     not_yet none (f ∷ more) is left =
         inr (
           b.piece.exit ∙ none,
-          λ x e. late m seen (f ∷ more) (threads_over m b.fired unassigned) (left, subst Rising is (rising_rest b.fired b.beginning.rest (subst Rising b.beginning.parts up))) x
-              (sym (whole ∙ ap (λ o. option_or o (exit_of (history m b.beginning.rest (threads_over m b.fired unassigned)))) none ∙ ap (λ l. exit_of (history m l (threads_over m b.fired unassigned))) is) ∙ e),
+          λ x e. late m seen (f ∷ more) (threads_over m b.fired blank_threads) (left, subst Rising is (rising_rest b.fired b.beginning.rest (subst Rising b.beginning.parts up))) x
+              (sym (whole ∙ ap (λ o. option_or o (exit_of (history m b.beginning.rest (threads_over m b.fired blank_threads)))) none ∙ ap (λ l. exit_of (history m l (threads_over m b.fired blank_threads))) is) ∙ e),
         )
 
 -- ---- the least number
@@ -150,7 +150,7 @@ least_under : (ps : List (ℕ × Piece)) → least_exit ps ≤ no_number
 least_under [] = omega arith
 least_under (p ∷ ps) = here p.1.exit (least_under ps)
   where
-    here : (e : Option (ℕ × ℕ)) → least_exit ps ≤ no_number → lowered_by (least_exit ps) e ≤ no_number
+    here : (e : Option (ℕ × ℕ)) → least_exit ps ≤ no_number → lesser_of (least_exit ps) e ≤ no_number
     here None more = more
     here (Some e) more = omega arith
 
@@ -158,26 +158,26 @@ least_over : (n : ℕ) (ps : List (ℕ × Piece)) → n ≤ no_number → All (�
 least_over n [] small each = small
 least_over n (p ∷ ps) small each = here p.1.exit (least_over n ps small (λ k d lt. each (suc k) d (omega arith))) (each 0 p (omega arith))
   where
-    here : (e : Option (ℕ × ℕ)) → n ≤ least_exit ps → ((y : ℕ × ℕ) → e ≡ Some y → n ≤ y.0) → n ≤ lowered_by (least_exit ps) e
+    here : (e : Option (ℕ × ℕ)) → n ≤ least_exit ps → ((y : ℕ × ℕ) → e ≡ Some y → n ≤ y.0) → n ≤ lesser_of (least_exit ps) e
     here None more mine = more
     here (Some e) more mine = let le = mine e refl in omega arith
 
 least_at : (ps : List (ℕ × Piece)) (k : ℕ) (d : ℕ × Piece) (x : ℕ × ℕ) → k < length ps → (get_or ps k d).1.exit ≡ Some x → least_exit ps ≤ x.0
 least_at [] k d x lt e = absurd (omega arith)
-least_at (p ∷ ps) zero d x lt e = subst (λ (o : Option (ℕ × ℕ)). lowered_by (least_exit ps) o ≤ x.0) (sym e) (omega arith)
+least_at (p ∷ ps) zero d x lt e = subst (λ (o : Option (ℕ × ℕ)). lesser_of (least_exit ps) o ≤ x.0) (sym e) (omega arith)
 least_at (p ∷ ps) (suc k) d x lt e = here p.1.exit (least_at ps k d x (omega arith) e)
   where
-    here : (e : Option (ℕ × ℕ)) → least_exit ps ≤ x.0 → lowered_by (least_exit ps) e ≤ x.0
+    here : (e : Option (ℕ × ℕ)) → least_exit ps ≤ x.0 → lesser_of (least_exit ps) e ≤ x.0
     here None more = more
     here (Some e) more = omega arith
 
 none_lowered : (ps : List (ℕ × Piece)) → All (λ p. p.1.exit ≡ None) ps → least_exit ps ≡ no_number
 none_lowered [] each = refl
-none_lowered (p ∷ ps) each = ap (lowered_by (least_exit ps)) (each 0 p (omega arith)) ∙ none_lowered ps (λ k d lt. each (suc k) d (omega arith))
+none_lowered (p ∷ ps) each = ap (lesser_of (least_exit ps)) (each 0 p (omega arith)) ∙ none_lowered ps (λ k d lt. each (suc k) d (omega arith))
 
 exit_small : (m : ScriptMeant) (fs : List Firing) (threads : Threads) (x : ℕ × ℕ) → All (λ f. f.number < no_number) fs → exit_of (history m fs threads) ≡ Some x → x.0 < no_number
 exit_small m [] threads x small e = absurd cc
-exit_small m (f ∷ fs) threads x small e = here (made_of m f (threads f.thread)).exit (exit_small m fs (threads_after m f threads) x (λ k d lt. small (suc k) d (omega arith))) e
+exit_small m (f ∷ fs) threads x small e = here (firing_result m f (threads f.thread)).exit (exit_small m fs (threads_after m f threads) x (λ k d lt. small (suc k) d (omega arith))) e
   where
     some_is : (z w : ℕ × ℕ) → ◌≡◌ {A = Option (ℕ × ℕ)} (Some z) (Some w) → z ≡ w
     some_is z w g = cc
@@ -189,7 +189,7 @@ exit_small m (f ∷ fs) threads x small e = here (made_of m f (threads f.thread)
 
 module _ (m : ScriptMeant) (grouping : Grouping) (fs : List Firing) (least : ℕ) (ps : List (ℕ × Piece)) (up : Rising fs) (small : All (λ f. f.number < no_number) fs) (grouped : AreGrouped grouping fs)
     (once : IsAllBelow grouping.count (map (λ p. p.0) ps)) (begun : All (IsBegunOf m least grouping fs) ps) (is : least ≡ least_exit ps) where
-  of_part : (g : ℕ) → exit_over m (of_group grouping g fs) ≡ exit_of (part (group_in grouping) g (history m fs unassigned))
+  of_part : (g : ℕ) → exit_over m (of_group grouping g fs) ≡ exit_of (part (group_in grouping) g (history m fs blank_threads))
   of_part g = ap exit_of (group_restricts m grouping fs g)
 
   either : (k : ℕ) (d : ℕ × Piece) → k < length ps
@@ -200,23 +200,23 @@ module _ (m : ScriptMeant) (grouping : Grouping) (fs : List Firing) (least : ℕ
   -- no exit, no number
   pub none_least : exit_over m fs ≡ None → least ≡ no_number
   none_least none = is ∙ none_lowered ps (λ k d lt. ⊎_elim
-      (λ e. e ∙ of_part (get_or ps k d).0 ∙ none_in (λ x. is_group (get_or ps k d).0 (group_in grouping x)) (history m fs unassigned) none)
+      (λ e. e ∙ of_part (get_or ps k d).0 ∙ none_in (λ x. is_group (get_or ps k d).0 (group_in grouping x)) (history m fs blank_threads) none)
       (λ e. e.0)
       (either k d lt))
 
   -- the number of the first exit
   pub some_least : (x : ℕ × ℕ) → exit_over m fs ≡ Some x → least ≡ x.0
   some_least x some =
-      let g = attained (group_in grouping) grouping.count (history m fs unassigned) x (grouped_history m grouping fs unassigned grouped) some in
+      let g = attained (group_in grouping) grouping.count (history m fs blank_threads) x (grouped_history m grouping fs blank_threads grouped) some in
       let p = has_piece g.0 ps (once (weight_of g.0) ∙ below-once g.0 grouping.count g.1) in
       let group : exit_over m (of_group grouping (get_or ps p.1 p.0).0 fs) ≡ Some x = ap (λ (q : ℕ × Piece). exit_over m (of_group grouping q.0 fs)) p.3 ∙ ap (λ h. exit_over m (of_group grouping h fs)) p.4 ∙ of_part g.0 ∙ g.2 in
       let below : least ≤ x.0 = ⊎_elim
       (λ e. let le = least_at ps p.1 p.0 x p.2 (e ∙ group) in omega arith)
       (λ e. let lt = e.1 x group in omega arith)
       (either p.1 p.0 p.2) in
-      let tiny = exit_small m fs unassigned x small some in
+      let tiny = exit_small m fs blank_threads x small some in
       let above : x.0 ≤ least_exit ps = least_over x.0 ps (omega arith) (λ k d lt y exits. ⊎_elim
-      (λ e. first_before (λ z. is_group (get_or ps k d).0 (group_in grouping z)) (history m fs unassigned) x y (climbs_all fs unassigned up) some (sym (of_part (get_or ps k d).0) ∙ sym e ∙ exits))
+      (λ e. first_before (λ z. is_group (get_or ps k d).0 (group_in grouping z)) (history m fs blank_threads) x y (climbs_all fs blank_threads up) some (sym (of_part (get_or ps k d).0) ∙ sym e ∙ exits))
       (λ e. absurd (let no = sym e.0 ∙ exits in cc))
       (either k d lt)) in
       omega arith
@@ -235,7 +235,7 @@ module _ (m : ScriptMeant) (grouping : Grouping) (fs : List Firing) (least : ℕ
     where
       here : (o : Option (ℕ × ℕ)) → exit_over m fs ≡ o → exit_over m fs ≡ None
       here None e = e
-      here (Some x) e = absurd (let same = some_least x e in let lt = exit_small m fs unassigned x small e in omega arith)
+      here (Some x) e = absurd (let same = some_least x e in let lt = exit_small m fs blank_threads x small e in omega arith)
 
   -- and else the run exits with it
   pub least_some : least ≢ no_number → (status : ℕ) × (exit_over m fs ≡ Some (least, status))
@@ -260,7 +260,7 @@ begun_whole m all p small none b = whole b.beginning.rest refl
     whole : (rest : List Firing) → b.beginning.rest ≡ rest → IsPieceOf m all (piece_seen p)
     whole [] e = subst (λ (fs : List Firing). IsPieceOf m fs (piece_seen p)) (sym (b.beginning.parts ∙ ap (λ (l : List Firing). b.fired ++ l) e ∙ append-nil b.fired)) b.piece
     whole (f ∷ more) e = absurd (⊎_elim
-        (λ (l : ExitsLast m b.fired). some_none (exit_over m b.fired) (exit_of (history m b.beginning.rest (threads_over m b.fired unassigned))) l.exits
+        (λ (l : ExitsLast m b.fired). some_none (exit_over m b.fired) (exit_of (history m b.beginning.rest (threads_over m b.fired blank_threads))) l.exits
         (sym (ap (exit_over m) b.beginning.parts ∙ exit_parts m b.fired b.beginning.rest) ∙ none))
         (λ (l : (exit_over m b.fired ≡ None) × IsLeft no_number b.beginning.rest).
         let over : no_number < f.number = subst (IsLeft no_number) e l.1 in
@@ -274,4 +274,4 @@ pieces_whole m grouping fs ps small none begun k d lt =
     let p = get_or ps k d in
     let p_in = λ (f : Firing). is_group p.0 (grouping.group f.thread) in
     begun_whole m (of_group grouping p.0 fs) p.1 (all_kept (λ f. f.number < no_number) p_in fs small)
-    (ap exit_of (group_restricts m grouping fs p.0) ∙ none_in (λ x. is_group p.0 (group_in grouping x)) (history m fs unassigned) none) (begun k d lt)
+    (ap exit_of (group_restricts m grouping fs p.0) ∙ none_in (λ x. is_group p.0 (group_in grouping x)) (history m fs blank_threads) none) (begun k d lt)

@@ -18,7 +18,7 @@ use Rattle.replay_core.specs.Beginnings.{IsBegunOf, exit_over}
 use Rattle.replay_core.specs.Crews.{GivesBegun, GivesPieces, IsRound, IsRun}
 use Rattle.replay_core.specs.Exit.{firings_over, up_to}
 use Rattle.replay_core.specs.Groups.{AreGrouped}
-use Rattle.replay_core.specs.Meaning.{exit_of, history, unassigned}
+use Rattle.replay_core.specs.Meaning.{exit_of, history, blank_threads}
 use Rattle.replay_core.specs.Working.{IsOfGroup, firings_in}
 use Rattle.replay_core.proofs.Parts.{given_begun, given_pieces}
 use Rattle.replay_core.proofs.RoundOne.{least_none, least_some, pieces_whole}

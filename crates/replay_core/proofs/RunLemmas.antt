@@ -11,7 +11,7 @@ use Rattle.d_types.specs.Typed.{ScriptMeant}
 use Rattle.firing_reader.specs.declared.firing.Firing.{Firing}
 use Rattle.firing_reader.specs.Firings.{number_of}
 use Rattle.replay_core.specs.Lanes.{Fires, LaneSeen}
-use Rattle.replay_core.specs.Meaning.{Threads, contributions_of, exit_of, history, made_of, numbers_of, texts_of, threads_after, unassigned}
+use Rattle.replay_core.specs.Meaning.{Threads, contributions_of, exit_of, history, firing_result, numbers_of, texts_of, threads_after, blank_threads}
 use Rattle.replay_core.specs.Pieces.{IsPieceOf, PieceSeen}
 use Rattle.replay_core.proofs.FiringLemmas.{some_same}
 use Rattle.replay_core.specs.Running.{IsLaneOf, threads_over, until_exit}
@@ -20,7 +20,7 @@ use Rattle.replay_core.specs.Running.{IsLaneOf, threads_over, until_exit}
 
 pub history_append : (m : ScriptMeant) (fs gs : List Firing) (threads : Threads) → history m (fs ++ gs) threads ≡ history m fs threads ++ history m gs (threads_over m fs threads)
 history_append m [] gs threads = refl
-history_append m (f ∷ fs) gs threads = ap (λ r. (f, made_of m f (threads f.thread)) ∷ r) (history_append m fs gs (threads_after m f threads))
+history_append m (f ∷ fs) gs threads = ap (λ r. (f, firing_result m f (threads f.thread)) ∷ r) (history_append m fs gs (threads_after m f threads))
 
 threads_append : (m : ScriptMeant) (fs gs : List Firing) (threads : Threads) → threads_over m (fs ++ gs) threads ≡ threads_over m gs (threads_over m fs threads)
 threads_append m [] gs threads = refl
@@ -40,11 +40,11 @@ exit_append (x ∷ r) s =
 
 pub fires_more : (m : ScriptMeant) (fs : List Firing) (f : Firing) (old new : LaneSeen) → IsLaneOf m fs old → Fires m f old new → IsLaneOf m (fs ++ f ∷ []) new
 fires_more m fs f old new lane fires =
-    let so_far = history m fs unassigned in
-    let threads : threads_over m (fs ++ f ∷ []) unassigned ≡ threads_after m f (threads_over m fs unassigned) = threads_append m fs (f ∷ []) unassigned in
-    let here : history m (f ∷ []) old.threads ≡ history m (f ∷ []) (threads_over m fs unassigned) = ap (history m (f ∷ [])) lane.threads in
+    let so_far = history m fs blank_threads in
+    let threads : threads_over m (fs ++ f ∷ []) blank_threads ≡ threads_after m f (threads_over m fs blank_threads) = threads_append m fs (f ∷ []) blank_threads in
+    let here : history m (f ∷ []) old.threads ≡ history m (f ∷ []) (threads_over m fs blank_threads) = ap (history m (f ∷ [])) lane.threads in
     let last = history m (f ∷ []) old.threads in
-    let all : history m (fs ++ f ∷ []) unassigned ≡ so_far ++ last = history_append m fs (f ∷ []) unassigned ∙ ap (λ r. so_far ++ r) (sym here) in
+    let all : history m (fs ++ f ∷ []) blank_threads ≡ so_far ++ last = history_append m fs (f ∷ []) blank_threads ∙ ap (λ r. so_far ++ r) (sym here) in
     record {
       threads = fires.threads ∙ ap (threads_after m f) lane.threads ∙ sym threads;
       piece = record {

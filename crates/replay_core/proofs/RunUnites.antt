@@ -7,7 +7,7 @@ use Rattle.d_types.specs.Clauses.{Made}
 use Rattle.firing_reader.specs.declared.firing.Firing.{Firing}
 use Rattle.firing_reader.specs.Firings.{number_of}
 use Rattle.replay_core.specs.Groups.{Grouping, AreGrouped, over_groups}
-use Rattle.replay_core.specs.Meaning.{contributions_of, exit_of, history, numbers_of, texts_of, unassigned}
+use Rattle.replay_core.specs.Meaning.{contributions_of, exit_of, history, numbers_of, texts_of, blank_threads}
 use Rattle.replay_core.specs.Uniting.{Unite, first_exit, group_history, with_number}
 use Rattle.replay_core.proofs.GroupSums.{flat_same, part, parts_read}
 use Rattle.replay_core.proofs.GroupTexts.{climbs_history, group_in, grouped_history, texts_in_order, texts_unite}
@@ -17,10 +17,10 @@ use Rattle.replay_core.proofs.Restricting.{group_restricts}
 pub groups_unite : (m : ScriptMeant) (grouping : Grouping) (fs : List Firing) → AreGrouped grouping fs → IsStrictlyIncreasing (map number_of fs) → Unite m grouping fs
 groups_unite m grouping fs grouped rises =
     let n = grouping.count in
-    let r = history m fs unassigned in
+    let r = history m fs blank_threads in
     let group = group_in grouping in
-    let up = climbs_history m fs unassigned rises in
-    let each = grouped_history m grouping fs unassigned grouped in
+    let up = climbs_history m fs blank_threads rises in
+    let each = grouped_history m grouping fs blank_threads grouped in
     record {
       texts = record {
         order = texts_in_order r up;
@@ -34,8 +34,8 @@ groups_unite m grouping fs grouped rises =
     }
   where
     joined : {A : Type 0} (read : List (Firing × Made) → List A)
-        → over_groups grouping (λ g. read (group_history m grouping fs g)) ≡ flat_map (λ g. read (part (group_in grouping) g (history m fs unassigned))) (range_with_len 0 grouping.count)
-    joined read = flat_same (λ g. read (group_history m grouping fs g)) (λ g. read (part (group_in grouping) g (history m fs unassigned))) (range_with_len 0 grouping.count) (λ g. ap read (group_restricts m grouping fs g))
+        → over_groups grouping (λ g. read (group_history m grouping fs g)) ≡ flat_map (λ g. read (part (group_in grouping) g (history m fs blank_threads))) (range_with_len 0 grouping.count)
+    joined read = flat_same (λ g. read (group_history m grouping fs g)) (λ g. read (part (group_in grouping) g (history m fs blank_threads))) (range_with_len 0 grouping.count) (λ g. ap read (group_restricts m grouping fs g))
 
     number_in : Firing × Made → List ℕ
     number_in x = x.0.number ∷ []

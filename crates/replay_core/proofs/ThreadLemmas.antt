@@ -18,7 +18,7 @@ use Rattle.d_types.specs.Typed.{ClauseMeant, ScriptMeant}
 use Rattle.d_types.proofs.FiringValues.{locals_unassigned}
 use Rattle.firing_reader.specs.declared.firing.Firing.{Firing}
 use Rattle.replay_core.specs.declared.tables.Tables.{Tables}
-use Rattle.replay_core.specs.Meaning.{Threads, at_start, clauses_for, in_turn, made_of, threads_after}
+use Rattle.replay_core.specs.Meaning.{Threads, at_start, clauses_for, in_turn, firing_result, threads_after}
 use Rattle.replay_core.specs.Patterns.{probe_of, selects}
 use Rattle.replay_core.specs.Scripts.{AreTypedThreads, Keeps}
 use Rattle.replay_core.specs.Threads.{own_in, threads_in}
@@ -91,7 +91,7 @@ module _ (slots : Slots) (f : Firing) (fit : HasTypedBuiltIns f) where
 pub typed_after : (m : ScriptMeant) (f : Firing) (threads : Threads) → All (Keeps (slots_of m)) m.clauses → HasTypedBuiltIns f
     → AreTypedThreads (slots_of m) threads → AreTypedThreads (slots_of m) (threads_after m f threads)
 typed_after m f threads keep fit typed thread =
-    elim (int_eq thread f.thread) as (λ b. AreTypedOwn (slots_of m) (if b then (made_of m f (threads f.thread)).variables.own else threads thread)) [
+    elim (int_eq thread f.thread) as (λ b. AreTypedOwn (slots_of m) (if b then (firing_result m f (threads f.thread)).variables.own else threads thread)) [
       | true ↦ (turn_kept (slots_of m) f fit (clauses_for f 1 m.clauses) (at_start (threads f.thread)) (for_kept (slots_of m) f fit 1 m.clauses keep)
           (locals_unassigned (slots_of m), typed f.thread)).1
       | false ↦ typed thread

@@ -19,7 +19,7 @@ use Rattle.shard_queue.specs.Threads.{run_threads, thread_zero}
 use Rattle.shard_queue.proofs.Lists.{all_cons}
 use Rattle.replay_core.specs.declared.span.Span.{Span}
 use Rattle.replay_core.specs.Exit.{firings_over, up_to}
-use Rattle.replay_core.specs.Meaning.{exit_of, history, unassigned}
+use Rattle.replay_core.specs.Meaning.{exit_of, history, blank_threads}
 use Rattle.replay_core.specs.Groups.{AreGrouped, Grouping}
 use Rattle.replay_core.specs.Working.{firings_in, is_in}
 use Rattle.replay_core.specs.declared.span.Span.TheVariants as span
@@ -180,12 +180,12 @@ counted_up_to exit trace is =
     ∙ ap (λ l. begin_of trace ∷ l) (up_to_end exit.0 0 trace (end_of trace) (trace_rises trace is))
 
 -- where no firing exits all count, and else those up to the exit
-pub over_all : (m : ScriptMeant) (trace fs : List Firing) (exit : Option (ℕ × ℕ)) → fs ≡ with_ends trace trace → exit ≡ exit_of (history m fs unassigned) → exit ≡ None → fs ≡ firings_over m trace
-over_all m trace fs exit all is none = all ∙ ap (λ o. with_ends trace (up_to o trace)) (sym none ∙ is ∙ ap (λ l. exit_of (history m l unassigned)) all)
+pub over_all : (m : ScriptMeant) (trace fs : List Firing) (exit : Option (ℕ × ℕ)) → fs ≡ with_ends trace trace → exit ≡ exit_of (history m fs blank_threads) → exit ≡ None → fs ≡ firings_over m trace
+over_all m trace fs exit all is none = all ∙ ap (λ o. with_ends trace (up_to o trace)) (sym none ∙ is ∙ ap (λ l. exit_of (history m l blank_threads)) all)
 
-pub over_exit : (m : ScriptMeant) (trace fs : List Firing) (exit : Option (ℕ × ℕ)) (some : ℕ × ℕ) → fs ≡ with_ends trace trace → exit ≡ exit_of (history m fs unassigned) → exit ≡ Some some
+pub over_exit : (m : ScriptMeant) (trace fs : List Firing) (exit : Option (ℕ × ℕ)) (some : ℕ × ℕ) → fs ≡ with_ends trace trace → exit ≡ exit_of (history m fs blank_threads) → exit ≡ Some some
     → with_ends trace (up_to (Some some) trace) ≡ firings_over m trace
-over_exit m trace fs exit some all is exits = ap (λ o. with_ends trace (up_to o trace)) (sym exits ∙ is ∙ ap (λ l. exit_of (history m l unassigned)) all)
+over_exit m trace fs exit some all is exits = ap (λ o. with_ends trace (up_to o trace)) (sym exits ∙ is ∙ ap (λ l. exit_of (history m l blank_threads)) all)
 
 -- ---- numbers
 

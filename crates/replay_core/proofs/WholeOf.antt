@@ -11,8 +11,8 @@ use Rattle.firing_reader.specs.Firings.{number_of}
 use Rattle.replay_core.specs.declared.piece.Piece.{Piece}
 use Rattle.replay_core.specs.declared.whole.Whole.{Whole}
 use Rattle.replay_core.specs.Groups.{AreGrouped, Grouping, of_group}
-use Rattle.replay_core.specs.Meaning.{contributions_of, exit_of, history, texts_of, unassigned}
-use Rattle.replay_core.specs.PiecePlaces.{numbered}
+use Rattle.replay_core.specs.Meaning.{contributions_of, exit_of, history, texts_of, blank_threads}
+use Rattle.replay_core.specs.PiecePlaces.{pieces_with_groups}
 use Rattle.replay_core.specs.Pieces.{IsWholeOf, RunsEachOnce}
 use Rattle.d_types.specs.Typed.{functions_in}
 use Rattle.replay_core.specs.Seen.{whole_seen}
@@ -27,7 +27,7 @@ use Rattle.replay_core.proofs.RunUnites.{groups_unite}
 module _ (m : ScriptMeant) (grouping : Grouping) (fs : List Firing) where
   -- pieces of the groups from a on
   abbrev AllPieces : ℕ → List Piece → Type 0
-  AllPieces a ps = All (IsOfGroup m grouping fs) (numbered a ps)
+  AllPieces a ps = All (IsOfGroup m grouping fs) (pieces_with_groups a ps)
 
   texts_joined : (a : ℕ) (ps : List Piece) → AllPieces a ps → flat_map (λ p. p.texts.items) ps ≡ flat_map (λ g. texts_of (group_history m grouping fs g)) (range_with_len a (length ps))
   texts_joined a [] each = refl
@@ -59,7 +59,7 @@ module _ (m : ScriptMeant) (grouping : Grouping) (fs : List Firing) where
       → IsCollected grouping.count pieces w → IsWholeOf m fs grouping (whole_seen w)
   whole_of pieces w grouped rises each c =
       let sorted = c.sorted in
-      let all : AllPieces 0 sorted = All-permutation (IsOfGroup m grouping fs) pieces (numbered 0 sorted) c.same each in
+      let all : AllPieces 0 sorted = All-permutation (IsOfGroup m grouping fs) pieces (pieces_with_groups 0 sorted) c.same each in
       let unite = groups_unite m grouping fs grouped rises in
       let texts = λ (n : ℕ). flat_map (λ g. texts_of (group_history m grouping fs g)) (range_with_len 0 n) in
       let parts = λ (n : ℕ). flat_map (λ g. contributions_of (group_history m grouping fs g)) (range_with_len 0 n) in
@@ -67,9 +67,9 @@ module _ (m : ScriptMeant) (grouping : Grouping) (fs : List Firing) where
       let stood = c.whole.table.stand (parts (length sorted)) (tables_joined 0 sorted all) in
       let one : StandsFor w.table (parts (length sorted)) = subst (λ cs. StandsFor w.table cs) (sym (stood.2 ∙ ap (λ l. stood.0 ++ l) stood.4 ∙ append-nil stood.0)) stood.3 in
       record {
-        texts = sorted_once (texts grouping.count) w.texts.items (texts_of (history m fs unassigned)) (subst (λ l. IsSorted l w.texts.items) items c.whole.texts) unite.texts;
+        texts = sorted_once (texts grouping.count) w.texts.items (texts_of (history m fs blank_threads)) (subst (λ l. IsSorted l w.texts.items) items c.whole.texts) unite.texts;
         functions = (c.whole.table.functions (functions_in m) (all_functions 0 sorted all)).0;
-        table = stands_same w.table (parts grouping.count) (contributions_of (history m fs unassigned)) unite.contributions (subst (λ n. StandsFor w.table (parts n)) c.count one);
+        table = stands_same w.table (parts grouping.count) (contributions_of (history m fs blank_threads)) unite.contributions (subst (λ n. StandsFor w.table (parts n)) c.count one);
         ran = c.whole.ran ∙ ran_joined 0 sorted all ∙ ap (λ n. map (λ g. map number_of (of_group grouping g fs)) (range_with_len 0 n)) c.count;
         exit = c.whole.exit ∙ ap first_exit (exits_joined 0 sorted all ∙ ap (λ n. map (λ g. exit_of (group_history m grouping fs g)) (range_with_len 0 n)) c.count) ∙ unite.exit;
       }

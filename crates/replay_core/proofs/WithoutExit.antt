@@ -8,12 +8,12 @@ use Rattle.d_types.specs.declared.effect.Effect.TheVariants as ef
 use Rattle.d_types.specs.Typed.{Typed, Typeds, ActionOf, Action, Evaluate, Trace, Print, Exit, Aggregate, ClauseMeant, ScriptMeant}
 use Rattle.d_types.specs.Storage.{Variables}
 use Rattle.d_types.specs.Expressions.{Outcome, Has, Faults, with, number}
-use Rattle.d_types.specs.Clauses.{Evaluation, Made, Ran, by_trees, effect_by, exit_in, followed, given_by, guarded_by, run_of, statements_by, where_true}
+use Rattle.d_types.specs.Clauses.{Evaluation, Made, Ran, by_trees, effect_by, exit_in, effect_then, argument_by, where_predicate, run_of, statements_by, where_true}
 use Rattle.firing_reader.specs.declared.firing.Firing.{Firing}
 use Rattle.firing_reader.specs.Ends.{begin_of, end_of, with_ends}
 use Rattle.firing_reader.specs.Trace.{IsTrace}
 use Rattle.replay_core.specs.Exit.{exit_status, firings_over, has_exit, history_over, is_exit, up_to}
-use Rattle.replay_core.specs.Meaning.{Threads, clauses_for, exit_of, history, in_turn, made_of, threads_after, unassigned}
+use Rattle.replay_core.specs.Meaning.{Threads, clauses_for, exit_of, history, in_turn, firing_result, threads_after, blank_threads}
 use Rattle.replay_core.specs.Patterns.{probe_of, selects}
 use Rattle.replay_core.specs.Running.{until_exit}
 use Rattle.replay_core.proofs.ExitLemmas.{firings_are}
@@ -50,9 +50,9 @@ module _ (by : Evaluation Typed Typeds) where
   effect_goes (Print format arguments) vars without = goes_with (by.values arguments vars) _ (λ x vars. tt)
   effect_goes (Exit a) vars without = absurd (let c : true ≡ false = without in cc)
   effect_goes (Aggregate place keys argument) vars without =
-      goes_with (by.key keys vars) _ (λ key vars. goes_with (given_by by argument vars) _ (λ z vars. tt))
+      goes_with (by.key keys vars) _ (λ key vars. goes_with (argument_by by argument vars) _ (λ z vars. tt))
 
-  followed_goes : (o : Outcome Effect) (go : Variables → Ran) → Goes o → ((vars : Variables) → exit_in (go vars).effects ≡ None) → exit_in (followed o go).effects ≡ None
+  followed_goes : (o : Outcome Effect) (go : Variables → Ran) → Goes o → ((vars : Variables) → exit_in (go vars).effects ≡ None) → exit_in (effect_then o go).effects ≡ None
   followed_goes (Has effect vars) go goes none = skipped effect (go vars).effects goes ∙ none vars
   followed_goes (Faults vars) go goes none = refl
 
@@ -67,7 +67,7 @@ module _ (by : Evaluation Typed Typeds) where
   where_goes (Has (suc n) vars) go none = none vars
   where_goes (Faults vars) go none = refl
 
-  guarded_goes : (predicate : Option Typed) (all : List Action) (vars : Variables) → list_any is_exit all ≡ false → exit_in (guarded_by by predicate (statements_by by all) vars).effects ≡ None
+  guarded_goes : (predicate : Option Typed) (all : List Action) (vars : Variables) → list_any is_exit all ≡ false → exit_in (where_predicate by predicate (statements_by by all) vars).effects ≡ None
   guarded_goes None all vars without = statements_go all vars without
   guarded_goes (Some a) all vars without = where_goes (number (by.value a vars)) (statements_by by all) (λ vars. statements_go all vars without)
 
@@ -104,27 +104,27 @@ turn_goes f (c ∷ cs) vars all =
 history_goes : (m : ScriptMeant) (fs : List Firing) (threads : Threads) → has_exit m ≡ false → exit_of (history m fs threads) ≡ None
 history_goes m [] threads without = refl
 history_goes m (f ∷ fs) threads without =
-    let none : (made_of m f (threads f.thread)).exit ≡ None = turn_goes f (clauses_for f 1 m.clauses) _ (clauses_go f 1 m.clauses without) in
+    let none : (firing_result m f (threads f.thread)).exit ≡ None = turn_goes f (clauses_for f 1 m.clauses) _ (clauses_go f 1 m.clauses without) in
     ap (λ o. option_or (option_map (λ status. (f.number, status)) o) (exit_of (history m fs (threads_after m f threads)))) none
     ∙ history_goes m fs (threads_after m f threads) without
 
 pub script_goes : (m : ScriptMeant) (trace : List Firing) → has_exit m ≡ false → (firings_over m trace ≡ with_ends trace trace) × (exit_status (history_over m trace) ≡ 0)
 script_goes m trace without = (
-  ap (λ o. with_ends trace (up_to o trace)) (history_goes m (with_ends trace trace) unassigned without),
-  ap (λ (o : Option (ℕ × ℕ)). unwrap_or (option_map (λ exit. exit.1) o) 0) (history_goes m (firings_over m trace) unassigned without),
+  ap (λ o. with_ends trace (up_to o trace)) (history_goes m (with_ends trace trace) blank_threads without),
+  ap (λ (o : Option (ℕ × ℕ)). unwrap_or (option_map (λ exit. exit.1) o) 0) (history_goes m (firings_over m trace) blank_threads without),
 )
 
 -- all firings run where none of them exits
 all_run : (m : ScriptMeant) (fs : List Firing) (threads : Threads) → exit_of (history m fs threads) ≡ None → until_exit m fs threads ≡ fs
 all_run m [] threads none = refl
 all_run m (f ∷ fs) threads none =
-    elim (made_of m f (threads f.thread)).exit
+    elim (firing_result m f (threads f.thread)).exit
     as (λ o. option_or (option_map (λ status. (f.number, status)) o) (exit_of (history m fs (threads_after m f threads))) ≡ None
     → f ∷ (if is_some o then [] else until_exit m fs (threads_after m f threads)) ≡ f ∷ fs) [
       | None ↦ λ later. ap (λ l. f ∷ l) (all_run m fs (threads_after m f threads) later)
       | Some status ↦ λ e. absurd (let c : ◌≡◌ {A = Option (ℕ × ℕ)} (Some (f.number, status)) None = e in cc)
     ] none
 
-pub trace_goes : (m : ScriptMeant) (trace : List Firing) → IsTrace trace → exit_of (history m (begin_of trace ∷ trace) unassigned) ≡ None → firings_over m trace ≡ with_ends trace trace
+pub trace_goes : (m : ScriptMeant) (trace : List Firing) → IsTrace trace → exit_of (history m (begin_of trace ∷ trace) blank_threads) ≡ None → firings_over m trace ≡ with_ends trace trace
 trace_goes m trace is none =
-    sym (firings_are m trace is) ∙ ap (λ l. l ++ end_of trace ∷ []) (all_run m (begin_of trace ∷ trace) unassigned none)
+    sym (firings_are m trace is) ∙ ap (λ l. l ++ end_of trace ∷ []) (all_run m (begin_of trace ∷ trace) blank_threads none)

@@ -1,19 +1,14 @@
 -- What a worker runs of a group while it watches for exits.
 use Rattle.std.specs.Prelude.{◌≡◌, ◌⊎◌, ℕ, ◌<◌, min, List, [], ◌∷◌, ◌++◌, All, Option, None, Some, is_some, true}
-use Rattle.d_types.specs.Typed.{ScriptMeant}
-use Rattle.firing_reader.specs.declared.firing.Firing.{Firing}
-use Rattle.shard_queue.specs.Least.{no_number}
+use Rattle.replay_core.specs.Vocabulary.{Firing, ScriptMeant, no_number}
 use Rattle.replay_core.specs.declared.piece.Piece.{Piece}
-use Rattle.replay_core.specs.Groups.{Grouping, of_group}
-use Rattle.replay_core.specs.Meaning.{exit_of, history, unassigned}
-use Rattle.replay_core.specs.Lanes.{LaneSeen}
-use Rattle.replay_core.specs.Pieces.{IsPieceOf}
-use Rattle.replay_core.specs.Running.{IsLaneOf}
-use Rattle.replay_core.specs.Seen.{IsRoomy, piece_seen}
+use Rattle.replay_core.specs.{Groups.Grouping, Groups.of_group, Meaning.exit_of, Meaning.history}
+use Rattle.replay_core.specs.{Meaning.blank_threads, Lanes.LaneSeen, Pieces.IsPieceOf}
+use Rattle.replay_core.specs.{Running.IsLaneOf, Seen.IsRoomy, Seen.piece_seen}
 
 -- the exit of a run over these firings
 abbrev pub exit_over : ScriptMeant → List Firing → Option (ℕ × ℕ)
-exit_over m fs = exit_of (history m fs unassigned)
+exit_over m fs = exit_of (history m fs blank_threads)
 
 -- the last of these firings is the first that exits
 pub record ExitsLast (m : ScriptMeant) (fs : List Firing) : Type 0 where
@@ -51,14 +46,14 @@ pub record AreBegun (runs : ScriptMeant → Type 0) (seen : ℕ) (grouping : Gro
   pub roomy : All (λ p. IsRoomy p.1) pieces
 
 -- a number, or that of the exit where it is less
-abbrev pub lowered_by : ℕ → Option (ℕ × ℕ) → ℕ
-lowered_by number None = number
-lowered_by number (Some exit) = min number exit.0
+abbrev pub lesser_of : ℕ → Option (ℕ × ℕ) → ℕ
+lesser_of number None = number
+lesser_of number (Some exit) = min number exit.0
 
 -- the least number of the pieces' exits, 2^64 - 1 without any
 abbrev pub least_exit : List (ℕ × Piece) → ℕ
 least_exit [] = no_number
-least_exit (p ∷ ps) = lowered_by (least_exit ps) p.1.exit
+least_exit (p ∷ ps) = lesser_of (least_exit ps) p.1.exit
 
 -- the lane was given a beginning of these firings
 abbrev pub RunsBeginning : ScriptMeant → ℕ → List Firing → LaneSeen → Type 0

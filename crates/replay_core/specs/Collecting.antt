@@ -1,14 +1,10 @@
 -- What a whole has of the pieces of all groups.
 use Rattle.std.specs.Prelude.{◌≡◌, ◌≢◌, ℕ, ◌<◌, List, [], ◌∷◌, None, Some, All, Contains, map, length}
-use Rattle.std.specs.List.{flat_map}
-use Rattle.std.specs.List.Sorted.{IsPermutation}
-use Rattle.replay_core.specs.declared.piece.Piece.{Piece}
-use Rattle.replay_core.specs.declared.whole.Whole.{Whole}
-use Rattle.replay_core.specs.declared.collect_fault.CollectFault.{CollectFault}
-use Rattle.replay_core.specs.declared.collect_fault.CollectFault.TheVariants.{Missing, Memory}
-use Rattle.replay_core.specs.PiecePlaces.{first_bad, numbered}
-use Rattle.replay_core.specs.Tables.{Table, Serve}
-use Rattle.replay_core.specs.Uniting.{IsSorted, first_exit}
+use Rattle.replay_core.specs.Vocabulary.{IsPermutation, flat_map}
+use Rattle.replay_core.specs.declared.{piece.Piece.Piece, whole.Whole.Whole}
+use Rattle.replay_core.specs.declared.collect_fault.CollectFault.{CollectFault, TheVariants.Missing, TheVariants.Memory}
+use Rattle.replay_core.specs.{PiecePlaces.first_bad, PiecePlaces.pieces_with_groups, Tables.Table}
+use Rattle.replay_core.specs.{Tables.Serve, Uniting.IsSorted, Uniting.first_exit}
 
 -- the whole has the texts of these pieces, sorted by number, one table in place of theirs, the
 -- numbers of each piece, and the first exit
@@ -22,7 +18,7 @@ pub record IsMadeOf (pieces : List Piece) (w : Whole) : Type 0 where
 pub record IsCollected (n : ℕ) (pieces : List (ℕ × Piece)) (w : Whole) : Type 0 where
   pub sorted : List Piece
   pub count : length sorted ≡ n
-  pub same : IsPermutation pieces (numbered 0 sorted)
+  pub same : IsPermutation pieces (pieces_with_groups 0 sorted)
   pub whole : IsMadeOf sorted w
 
 -- the tables of pieces

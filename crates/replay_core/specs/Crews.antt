@@ -1,33 +1,18 @@
 -- What the workers of a board give back.
 use Rattle.std.specs.Prelude.{◌≡◌, ◌≤◌, ℕ, true, List, map, All, Vec}
-use Rattle.std.specs.List.{flat_map}
-use Rattle.std.specs.declared.alloc.Global.{Global}
-use Rattle.d_types.specs.Typed.{ScriptMeant}
-use Rattle.firing_reader.specs.declared.firing.Firing.{Firing}
-use Rattle.firing_reader.specs.Ends.{with_ends}
-use Rattle.shard_queue.specs.declared.board.ClaimBoard.{ClaimBoard}
-use Rattle.shard_queue.specs.declared.claim_seat.ClaimSeat.{ClaimSeat}
-use Rattle.shard_queue.specs.declared.groups.Groups.{Groups}
-use Rattle.shard_queue.specs.Boards.{IsAt, least_lowered, least_seen, lowered, seen}
-use Rattle.shard_queue.specs.Groups.{grouping}
-use Rattle.replay_core.specs.declared.piece.Piece.{Piece}
-use Rattle.replay_core.specs.declared.round.Round.{Round}
-use Rattle.replay_core.specs.declared.span.Span.{Span}
+use Rattle.replay_core.specs.Vocabulary.{ClaimBoard, ClaimSeat, Firing, Global, Groups, IsAt, ScriptMeant, flat_map, grouping, least_lowered, least_seen, number_lowered, number_seen, with_ends}
+use Rattle.replay_core.specs.declared.{piece.Piece.Piece, round.Round.Round, span.Span.Span}
 use Rattle.replay_core.specs.declared.span.Span.TheVariants as span
-use Rattle.replay_core.specs.Beginnings.{AreBegun, least_exit}
-use Rattle.replay_core.specs.Exit.{firings_over}
-use Rattle.replay_core.specs.Groups.{IsAllBelow}
-use Rattle.replay_core.specs.Seen.{IsRoomy}
-use Rattle.replay_core.specs.Working.{AreOfGroups, IsOfGroup, firings_in}
+use Rattle.replay_core.specs.{Beginnings.AreBegun, Beginnings.least_exit, Exit.firings_over, Groups.IsAllBelow, Seen.IsRoomy, Working.AreOfGroups, Working.IsOfGroup, Working.firings_in}
 
 -- a worker's pieces, each with its group, and its seat
 abbrev pub Part : Type 0
 Part = Vec (ℕ × Piece) Global × ClaimSeat
 
--- the pieces are of the groups of the seat's list, in its order, and the seat was told the end
+-- the pieces are of the groups of the seat's list, in its order, and the seat is at the end
 pub record IsWork (Gives : Part → Type 0) (board : ClaimBoard) (part : Part) : Type 0 where
   pub at : IsAt board part.1
-  pub told : part.1.told ≡ true
+  pub at_end : part.1.at_end ≡ true
   pub order : map (λ p. p.0) part.0.items ≡ part.1.taken.items
   pub gives : Gives part
 
@@ -39,8 +24,8 @@ GivesPieces span runs groups trace part =
 -- the pieces are what beginnings make, and the seat lowered the least number of their exits
 abbrev pub GivesBegun : (ScriptMeant → Type 0) → Groups → List Firing → Part → Type 0
 GivesBegun runs groups trace part =
-    AreBegun runs (seen part.1) (grouping groups) (with_ends trace trace) part.0.items
-    × (lowered part.1 ≡ least_exit part.0.items)
+    AreBegun runs (number_seen part.1) (grouping groups) (with_ends trace trace) part.0.items
+    × (number_lowered part.1 ≡ least_exit part.0.items)
 
 abbrev pub Gives : Span → (ScriptMeant → Type 0) → Groups → List Firing → Part → Type 0
 Gives span.All runs groups trace = GivesPieces span.All runs groups trace

@@ -1,16 +1,8 @@
 -- What calls that evaluate return and leave.
 use Rattle.std.specs.Prelude.{◌≡◌, ℕ, List, Result, Ok, Err}
-use Rattle.d_values.specs.Outcomes.{Outcome, Has, Faults}
-use Rattle.d_values.specs.Storage.{Variables, variables}
-use Rattle.d_types.specs.Typed.{Typed, Typeds}
-use Rattle.d_types.specs.Expressions.{eval, keys_of, number, text}
-use Rattle.d_values.specs.declared.key.KeyPart.{KeyPart}
-use Rattle.d_values.specs.declared.value.Value.{Value}
-use Rattle.firing_reader.specs.declared.firing.Firing.{Firing}
-use Rattle.replay_core.specs.declared.evaluation.fault.EvalFault.{EvalFault}
-use Rattle.replay_core.specs.declared.evaluation.fault.EvalFault.TheVariants as ef
-use Rattle.replay_core.specs.declared.scene.Scene.{Scene}
-use Rattle.replay_core.specs.declared.tables.Tables.{Tables}
+use Rattle.replay_core.specs.Vocabulary.{Faults, Firing, Has, KeyPart, Outcome, Typed, Typeds}
+use Rattle.replay_core.specs.Vocabulary.{Value, Variables, eval, keys_of, number, text, variables}
+use Rattle.replay_core.specs.declared.{evaluation.fault.EvalFault.EvalFault, scene.Scene.Scene, tables.Tables.Tables}
 
 -- ---- scenes
 
@@ -28,8 +20,8 @@ Stays old new = (new.firing ≡ old.firing) × (new.tables.ghost_name ≡ old.ta
 
 abbrev pub Returns : {A : Type 0} → Outcome A → Result A EvalFault → Variables → Type 0
 Returns o (Ok x) vars = o ≡ Has x vars
-Returns o (Err ef.DivideByZero) vars = o ≡ Faults vars
-Returns o (Err ef.Memory) vars = Unit {0}
+Returns o (Err EvalFault.DivideByZero) vars = o ≡ Faults vars
+Returns o (Err EvalFault.Memory) vars = Unit {0}
 
 -- what a call returns and leaves in its scene
 abbrev pub Meets : {A : Type 0} → (Firing → Variables → Outcome A) → Result A EvalFault
@@ -54,8 +46,8 @@ HasKey keys = Meets (λ f. keys_of f keys)
 
 abbrev pub IsLeft : {A B : Type 0} → Outcome A → Result B EvalFault → A → Variables → Type 0
 IsLeft o (Ok x) made vars = o ≡ Has made vars
-IsLeft o (Err ef.DivideByZero) made vars = o ≡ Faults vars
-IsLeft o (Err ef.Memory) made vars = Unit {0}
+IsLeft o (Err EvalFault.DivideByZero) made vars = o ≡ Faults vars
+IsLeft o (Err EvalFault.Memory) made vars = Unit {0}
 
 -- what a call that makes it in a place leaves there and in its scene
 abbrev pub Leaves : {A B : Type 0} → (Firing → Variables → Outcome A) → Result B EvalFault → A

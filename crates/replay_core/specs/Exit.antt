@@ -1,11 +1,8 @@
 -- Which firings of a trace count, and how the run ends.
 use Rattle.std.specs.Prelude.{ℕ, Bool, true, false, nat_le, List, filter, Option, None, Some, option_map, unwrap_or}
-use Rattle.std.specs.List.{list_any}
 use Rattle.d_types.specs.Typed.{Action, Exit, ScriptMeant}
-use Rattle.d_types.specs.Clauses.{Made}
-use Rattle.firing_reader.specs.declared.firing.Firing.{Firing}
-use Rattle.firing_reader.specs.Ends.{with_ends}
-use Rattle.replay_core.specs.Meaning.{unassigned, history, exit_of}
+use Rattle.replay_core.specs.Vocabulary.{Firing, Made, list_any, with_ends}
+use Rattle.replay_core.specs.Meaning.{blank_threads, history, exit_of}
 
 -- those up to the one that exits
 abbrev pub up_to : Option (ℕ × ℕ) → List Firing → List Firing
@@ -15,11 +12,11 @@ up_to (Some exit) fs = filter (λ f. nat_le f.number exit.0) fs
 -- BEGIN, the trace's firings up to the first of all that exits, END
 abbrev pub firings_over : ScriptMeant → List Firing → List Firing
 firings_over m trace =
-    with_ends trace (up_to (exit_of (history m (with_ends trace trace) unassigned)) trace)
+    with_ends trace (up_to (exit_of (history m (with_ends trace trace) blank_threads)) trace)
 
 -- the run of a script over a trace
 abbrev pub history_over : ScriptMeant → List Firing → List (Firing × Made)
-history_over m trace = history m (firings_over m trace) unassigned
+history_over m trace = history m (firings_over m trace) blank_threads
 
 -- the status of its exit, or 0
 abbrev pub exit_status : List (Firing × Made) → ℕ

@@ -1,12 +1,7 @@
 -- Expressions and statements in the form in which an engine runs them: trees as they are kept.
 use Rattle.std.specs.Prelude.{List}
-use Rattle.d_types.specs.Clauses.{Evaluation, values_of}
-use Rattle.d_types.specs.Expressions.{eval, keys_of}
 use Rattle.d_types.specs.Typed.{ActionOf, Evaluate, Trace, Print, Exit, Aggregate, type_of, typed_of, typeds_of}
-use Rattle.d_types.specs.declared.typed.TypedExpr.{TypedExpr}
-use Rattle.d_types.specs.declared.typed.TypedStmt.{TypedStmt}
-use Rattle.d_types.specs.declared.typed.TypedStmt.TheVariants as s
-use Rattle.firing_reader.specs.declared.firing.Firing.{Firing}
+use Rattle.replay_core.specs.Vocabulary.{Evaluation, Firing, TypedExpr, TypedStmt, eval, keys_of, values_of}
 
 -- trees are evaluated as what they stand for
 abbrev pub by_expressions : Firing → Evaluation TypedExpr (List TypedExpr)
@@ -18,8 +13,8 @@ by_expressions f = record {
 }
 
 abbrev pub statement_form : TypedStmt → ActionOf TypedExpr (List TypedExpr)
-statement_form (s.Evaluate e) = Evaluate e
-statement_form (s.Trace e) = Trace e
-statement_form (s.Print format arguments) = Print format.items arguments.items
-statement_form (s.Exit e) = Exit e
-statement_form (s.Aggregate place keys argument) = Aggregate place keys.items argument
+statement_form (TypedStmt.Evaluate e) = Evaluate e
+statement_form (TypedStmt.Trace e) = Trace e
+statement_form (TypedStmt.Print format arguments) = Print format.items arguments.items
+statement_form (TypedStmt.Exit e) = Exit e
+statement_form (TypedStmt.Aggregate place keys argument) = Aggregate place keys.items argument

@@ -1,11 +1,9 @@
 -- What a lane does with a firing.
 use Rattle.std.specs.Prelude.{◌≡◌, ℕ, List, [], ◌∷◌, ◌++◌, map, None, option_map}
-use Rattle.std.specs.Option.{option_or}
-use Rattle.aggregations.specs.Table.{Contribution, StandsFor, functions_of}
-use Rattle.d_types.specs.Typed.{ScriptMeant}
-use Rattle.d_types.specs.Clauses.{Made}
-use Rattle.firing_reader.specs.declared.firing.Firing.{Firing}
-use Rattle.replay_core.specs.Meaning.{Threads, unassigned, threads_after, history, texts_of, contributions_of, numbers_of, exit_of}
+use Rattle.replay_core.specs.Vocabulary.{Contribution, Firing, Made, ScriptMeant, StandsFor}
+use Rattle.replay_core.specs.Vocabulary.{functions_of, option_or}
+use Rattle.replay_core.specs.Meaning.{Threads, blank_threads, threads_after, history, texts_of}
+use Rattle.replay_core.specs.Meaning.{contributions_of, numbers_of, exit_of}
 use Rattle.replay_core.specs.Pieces.{PieceSeen}
 
 -- a lane as contracts see it: what its threads keep, and the piece so far
@@ -15,7 +13,7 @@ pub record LaneSeen : Type 0 where
 
 -- no firing was run: nothing is assigned, and nothing was made
 pub record IsFresh (lane : LaneSeen) : Type 0 where
-  pub threads : lane.threads ≡ unassigned
+  pub threads : lane.threads ≡ blank_threads
   pub texts : lane.piece.texts ≡ []
   pub table : StandsFor lane.piece.table []
   pub taken : lane.piece.taken ≡ []

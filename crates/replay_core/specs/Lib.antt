@@ -1,3 +1,4 @@
+pub mod Vocabulary
 pub mod Patterns
 pub mod Meaning
 pub mod Exit
@@ -8,6 +9,7 @@ pub mod Bounds
 pub mod Places
 pub mod Selecting
 pub mod Seen
+pub mod Sizes
 pub mod Threads
 pub mod Turns
 pub mod Effects

@@ -1,18 +1,8 @@
 -- What a firing means, and what a run means.
 use Rattle.std.specs.Prelude.{ℕ, suc, ℤ, List, [], ◌∷◌, ◌++◌, filter, map, Option, None, option_map, if◌then◌else◌}
-use Rattle.std.specs.List.{flat_map}
-use Rattle.std.specs.Option.{option_or}
-use Rattle.std.specs.Ordering.{int_eq}
-use Rattle.aggregations.specs.Table.{Contribution}
-use Rattle.d_values.specs.declared.key.KeyPart.{KeyPart}
-use Rattle.d_values.specs.declared.value.Value.{Value}
-use Rattle.d_values.specs.declared.variable.Var.{Var}
-use Rattle.d_values.specs.Stores.{blank}
-use Rattle.d_types.specs.Typed.{ClauseMeant, ScriptMeant}
-use Rattle.d_types.specs.Storage.{Variables}
-use Rattle.d_types.specs.Clauses.{Made, run_of}
-use Rattle.d_types.specs.Clauses.{nothing, and_then}
-use Rattle.firing_reader.specs.declared.firing.Firing.{Firing}
+use Rattle.replay_core.specs.Vocabulary.{ClauseMeant, Contribution, Firing, KeyPart, Made}
+use Rattle.replay_core.specs.Vocabulary.{ScriptMeant, Value, Var, Variables, and_then, blank}
+use Rattle.replay_core.specs.Vocabulary.{flat_map, int_eq, nothing, option_or, run_of}
 use Rattle.replay_core.specs.Patterns.{probe_of, selects}
 
 -- what the threads keep: each its own variables, at each key
@@ -20,8 +10,8 @@ abbrev pub Threads : Type 0
 Threads = ℤ → Var → List KeyPart → Value
 
 -- zero or the empty text everywhere
-abbrev pub unassigned : Threads
-unassigned thread var key = blank var.kind
+abbrev pub blank_threads : Threads
+blank_threads thread var key = blank var.kind
 
 -- ---- a firing
 
@@ -44,8 +34,8 @@ abbrev pub at_start : (Var → List KeyPart → Value) → Variables
 at_start own = record { locals = λ var. blank var.kind; own = own }
 
 -- what a firing makes
-abbrev pub made_of : ScriptMeant → Firing → (Var → List KeyPart → Value) → Made
-made_of m f own = in_turn f (clauses_for f 1 m.clauses) (at_start own)
+abbrev pub firing_result : ScriptMeant → Firing → (Var → List KeyPart → Value) → Made
+firing_result m f own = in_turn f (clauses_for f 1 m.clauses) (at_start own)
 
 -- ---- a run
 
@@ -53,14 +43,14 @@ made_of m f own = in_turn f (clauses_for f 1 m.clauses) (at_start own)
 abbrev pub threads_after : ScriptMeant → Firing → Threads → Threads
 threads_after m f threads thread =
     if int_eq thread f.thread
-    then (made_of m f (threads f.thread)).variables.own
+    then (firing_result m f (threads f.thread)).variables.own
     else threads thread
 
 -- each firing with what it makes, over one map of the threads' variables
 abbrev pub history : ScriptMeant → List Firing → Threads → List (Firing × Made)
 history m [] threads = []
 history m (f ∷ fs) threads =
-    (f, made_of m f (threads f.thread)) ∷ history m fs (threads_after m f threads)
+    (f, firing_result m f (threads f.thread)) ∷ history m fs (threads_after m f threads)
 
 -- the texts, each with its firing's number
 abbrev pub texts_of : List (Firing × Made) → List (ℕ × List ℕ)

@@ -16,19 +16,19 @@ module _ {P : Type 0} where
   abbrev pub first_bad : ℕ → List (ℕ × P) → Option CollectFault
   first_bad n pieces = first_bad_after (λ g. false) n pieces
 
-  abbrev pub filled : List (Option P) → ℕ → Bool
-  filled places g = is_some (slice_index_or places g None)
+  abbrev pub is_filled : List (Option P) → ℕ → Bool
+  is_filled places g = is_some (slice_index_or places g None)
 
   -- the pieces at the places, each with its place, counted from here
-  abbrev pub standing : ℕ → List (Option P) → List (ℕ × P)
-  standing g [] = []
-  standing g (None ∷ places) = standing (g + 1) places
-  standing g (Some p ∷ places) = (g, p) ∷ standing (g + 1) places
+  abbrev pub pieces_with_places : ℕ → List (Option P) → List (ℕ × P)
+  pieces_with_places g [] = []
+  pieces_with_places g (None ∷ places) = pieces_with_places (g + 1) places
+  pieces_with_places g (Some p ∷ places) = (g, p) ∷ pieces_with_places (g + 1) places
 
   -- the pieces, each with its group, counted from here
-  abbrev pub numbered : ℕ → List P → List (ℕ × P)
-  numbered g [] = []
-  numbered g (p ∷ ps) = (g, p) ∷ numbered (g + 1) ps
+  abbrev pub pieces_with_groups : ℕ → List P → List (ℕ × P)
+  pieces_with_groups g [] = []
+  pieces_with_groups g (p ∷ ps) = (g, p) ∷ pieces_with_groups (g + 1) ps
 
   -- the first place without a piece, counted from here
   abbrev pub first_missing : ℕ → List (Option P) → Option CollectFault

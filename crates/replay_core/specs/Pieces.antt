@@ -1,11 +1,8 @@
 -- What pieces and wholes are of.
 use Rattle.std.specs.Prelude.{◌≡◌, ℕ, List, map, Option}
-use Rattle.std.specs.List.{flat_map}
-use Rattle.aggregations.specs.Table.{Aggregation, StandsFor, functions_of}
-use Rattle.d_types.specs.Typed.{ScriptMeant, functions_in}
-use Rattle.firing_reader.specs.declared.firing.Firing.{Firing}
-use Rattle.firing_reader.specs.Firings.{number_of}
-use Rattle.replay_core.specs.Meaning.{unassigned, history, texts_of, contributions_of, exit_of}
+use Rattle.replay_core.specs.Vocabulary.{Aggregation, Firing, ScriptMeant, StandsFor, flat_map}
+use Rattle.replay_core.specs.Vocabulary.{functions_in, functions_of, number_of}
+use Rattle.replay_core.specs.Meaning.{blank_threads, history, texts_of, contributions_of, exit_of}
 use Rattle.replay_core.specs.Groups.{Grouping, SameItems, numbers_by_group}
 
 -- a lane's piece as contracts see it
@@ -27,20 +24,20 @@ pub record WholeSeen : Type 0 where
 
 -- the piece is what the script makes of these firings
 pub record IsPieceOf (m : ScriptMeant) (fs : List Firing) (p : PieceSeen) : Type 0 where
-  pub texts : p.texts ≡ texts_of (history m fs unassigned)
+  pub texts : p.texts ≡ texts_of (history m fs blank_threads)
   pub functions : functions_of p.table ≡ functions_in m
-  pub table : StandsFor p.table (contributions_of (history m fs unassigned))
+  pub table : StandsFor p.table (contributions_of (history m fs blank_threads))
   pub taken : p.taken ≡ map number_of fs
-  pub exit : p.exit ≡ exit_of (history m fs unassigned)
+  pub exit : p.exit ≡ exit_of (history m fs blank_threads)
 
 -- so is the whole, which has the numbers of each group's firings
 pub record IsWholeOf (m : ScriptMeant) (fs : List Firing) (grouping : Grouping)
     (w : WholeSeen) : Type 0 where
-  pub texts : w.texts ≡ texts_of (history m fs unassigned)
+  pub texts : w.texts ≡ texts_of (history m fs blank_threads)
   pub functions : functions_of w.table ≡ functions_in m
-  pub table : StandsFor w.table (contributions_of (history m fs unassigned))
+  pub table : StandsFor w.table (contributions_of (history m fs blank_threads))
   pub ran : w.ran ≡ numbers_by_group grouping fs
-  pub exit : w.exit ≡ exit_of (history m fs unassigned)
+  pub exit : w.exit ≡ exit_of (history m fs blank_threads)
 
 -- the whole has the number of each of these firings once
 abbrev pub RunsEachOnce : List Firing → WholeSeen → Type 0

@@ -1,13 +1,8 @@
 -- When clauses of an engine are those of a script.
 use Rattle.std.specs.Prelude.{◌≡◌, ℕ, ℤ, List, All, map}
-use Rattle.std.specs.List.{AllZip}
-use Rattle.aggregations.specs.declared.function.AggFn.{AggFn}
-use Rattle.d_parser.specs.declared.tree.Description.{Description}
-use Rattle.d_types.specs.Clauses.{run_of}
-use Rattle.d_types.specs.Held.{AreTyped, AreTypedOwn, HasTypedBuiltIns, Slots, slots_of}
-use Rattle.d_types.specs.Storage.{Variables}
-use Rattle.d_types.specs.Typed.{ClauseMeant, ScriptMeant, functions_in}
-use Rattle.firing_reader.specs.declared.firing.Firing.{Firing}
+use Rattle.replay_core.specs.Vocabulary.{AggFn, AllZip, AreTyped, AreTypedOwn, ClauseMeant}
+use Rattle.replay_core.specs.Vocabulary.{Description, Firing, HasTypedBuiltIns, ScriptMeant, Slots}
+use Rattle.replay_core.specs.Vocabulary.{Variables, functions_in, run_of, slots_of}
 use Rattle.replay_core.specs.Meaning.{Threads}
 
 -- variables that hold values of their types do so after each run of the clause

@@ -1,9 +1,10 @@
--- Pieces and wholes as contracts see them.
-use Rattle.std.specs.Prelude.{◌≡◌, ◌≤◌, ◌*◌, ◌^◌, [], None, length, map}
+-- Pieces, wholes and lanes as contracts see them.
+use Rattle.std.specs.Prelude.{◌≡◌, ◌≤◌, ◌*◌, ◌^◌, ℤ, List, [], None, length, map}
 use Rattle.aggregations.specs.Table.{StandsFor, count_held}
 use Rattle.replay_core.specs.declared.piece.Piece.{Piece}
+use Rattle.replay_core.specs.declared.tables.Tables.{Tables}
 use Rattle.replay_core.specs.declared.whole.Whole.{Whole}
-use Rattle.replay_core.specs.Pieces.{PieceSeen, WholeSeen}
+use Rattle.replay_core.specs.{Lanes.LaneSeen, Pieces.PieceSeen, Pieces.WholeSeen, Threads.threads_in}
 
 abbrev pub piece_seen : Piece → PieceSeen
 piece_seen p = record {
@@ -20,6 +21,10 @@ whole_seen w = record {
   ran = map (λ group. group.items) w.ran.items;
   exit = w.exit;
 }
+
+-- a lane with these tables of threads and this piece
+abbrev pub lane_seen : List (ℤ × Tables) → Piece → LaneSeen
+lane_seen tables p = record { threads = threads_in tables; piece = piece_seen p }
 
 -- a piece of no firing
 pub record IsEmptyPiece (p : Piece) : Type 0 where

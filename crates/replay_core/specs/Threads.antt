@@ -1,11 +1,6 @@
 -- What the tables of threads hold.
 use Rattle.std.specs.Prelude.{ℤ, List, Option, None, Some}
-use Rattle.std.specs.Map.{lookup}
-use Rattle.std.specs.Ordering.{int_eq}
-use Rattle.d_values.specs.declared.key.KeyPart.{KeyPart}
-use Rattle.d_values.specs.declared.value.Value.{Value}
-use Rattle.d_values.specs.declared.variable.Var.{Var}
-use Rattle.d_values.specs.Stores.{blank, own_of}
+use Rattle.replay_core.specs.Vocabulary.{KeyPart, Value, Var, blank, int_eq, lookup, own_of}
 use Rattle.replay_core.specs.declared.tables.Tables.{Tables}
 use Rattle.replay_core.specs.Meaning.{Threads}
 

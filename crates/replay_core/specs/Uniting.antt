@@ -4,15 +4,15 @@ use Rattle.d_types.specs.Typed.{ScriptMeant}
 use Rattle.d_types.specs.Clauses.{Made}
 use Rattle.firing_reader.specs.declared.firing.Firing.{Firing}
 use Rattle.replay_core.specs.Groups.{Grouping, SameItems, below, is_group, of_group, over_groups}
-use Rattle.replay_core.specs.Meaning.{unassigned, history, texts_of, contributions_of, numbers_of, exit_of}
+use Rattle.replay_core.specs.Meaning.{blank_threads, history, texts_of, contributions_of, numbers_of, exit_of}
 
 -- the meaning of a group: the run of its threads' firings alone
 abbrev pub group_history : ScriptMeant → Grouping → List Firing → ℕ → List (Firing × Made)
-group_history m grouping fs g = history m (of_group grouping g fs) unassigned
+group_history m grouping fs g = history m (of_group grouping g fs) blank_threads
 
 -- what a run made of a group's firings
-abbrev pub made_in_group : Grouping → ℕ → List (Firing × Made) → List (Firing × Made)
-made_in_group grouping g r = filter (λ x. is_group g (grouping.group x.0.thread)) r
+abbrev pub results_in_group : Grouping → ℕ → List (Firing × Made) → List (Firing × Made)
+results_in_group grouping g r = filter (λ x. is_group g (grouping.group x.0.thread)) r
 
 -- ---- lists by number
 
@@ -54,11 +54,11 @@ first_exit (exit ∷ exits) = sooner exit (first_exit exits)
 -- numbers in some order, and the first exit
 pub record Unite (m : ScriptMeant) (grouping : Grouping) (fs : List Firing) : Type 0 where
   pub texts : IsSorted (over_groups grouping (λ g. texts_of (group_history m grouping fs g)))
-      (texts_of (history m fs unassigned))
+      (texts_of (history m fs blank_threads))
   pub contributions : SameItems
       (over_groups grouping (λ g. contributions_of (group_history m grouping fs g)))
-      (contributions_of (history m fs unassigned))
+      (contributions_of (history m fs blank_threads))
   pub numbers : SameItems (over_groups grouping (λ g. numbers_of (group_history m grouping fs g)))
-      (numbers_of (history m fs unassigned))
+      (numbers_of (history m fs blank_threads))
   pub exit : first_exit (map (λ g. exit_of (group_history m grouping fs g)) (below grouping.count))
-      ≡ exit_of (history m fs unassigned)
+      ≡ exit_of (history m fs blank_threads)

@@ -1,18 +1,9 @@
 -- What a worker makes of the groups that it takes.
 use Rattle.std.specs.Prelude.{◌==◌, ◌||◌, ℕ, nat_le, Bool, true, List, All, filter, take, drop}
-use Rattle.std.specs.List.{flat_map}
-use Rattle.d_types.specs.Typed.{ScriptMeant}
-use Rattle.firing_reader.specs.declared.firing.Firing.{Firing}
-use Rattle.firing_reader.specs.Ends.{with_ends}
-use Rattle.shard_queue.specs.declared.groups.Groups.{Groups}
-use Rattle.shard_queue.specs.Groups.{AreOf}
-use Rattle.shard_queue.specs.Threads.{run_threads}
-use Rattle.replay_core.specs.declared.piece.Piece.{Piece}
-use Rattle.replay_core.specs.declared.span.Span.{Span}
+use Rattle.replay_core.specs.Vocabulary.{AreOf, Firing, Groups, ScriptMeant, flat_map, run_threads, with_ends}
+use Rattle.replay_core.specs.declared.{piece.Piece.Piece, span.Span.Span}
 use Rattle.replay_core.specs.declared.span.Span.TheVariants as span
-use Rattle.replay_core.specs.Groups.{Grouping, of_group}
-use Rattle.replay_core.specs.Pieces.{IsPieceOf}
-use Rattle.replay_core.specs.Seen.{IsRoomy, piece_seen}
+use Rattle.replay_core.specs.{Groups.Grouping, Groups.of_group, Pieces.IsPieceOf, Seen.IsRoomy, Seen.piece_seen}
 
 -- the firings at these places
 abbrev pub firings_at : List Firing → List ℕ → List Firing

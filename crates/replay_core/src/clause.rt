@@ -1,6 +1,8 @@
 //! Clauses as engines run them.
 
-ghost use Rattle.std.specs.Prelude.{◌≡◌, ◌+◌, ◌≤◌, ◌^◌, ℕ, IfOk, length};
+ghost use Rattle.std.specs.Prelude.{◌≡◌, ◌+◌, ◌≤◌, ◌^◌, ℕ, IfOk, length, map};
+ghost use Rattle.replay_core.specs.Vocabulary.{AreTyped, ClauseMeant, Does, HasTypedBuiltIns, Slots, action_code, count_held, functions_of, meant_of, run_of, statements};
+ghost use Rattle.replay_core.specs.{Bounds.places_among, Bounds.places_in, Effects.IsNotedRun, Evaluation.Stays, Evaluation.variables_in};
 
 use crate::piece::Piece;
 use crate::scene::Scene;
@@ -12,13 +14,6 @@ use std::alloc::AllocError;
 
 /// A clause in the form in which an engine runs it.
 pub trait Clause {
-    ghost use Rattle.d_types.specs.Held.{AreTyped, HasTypedBuiltIns, Slots};
-    ghost use Rattle.d_types.specs.Typed.{ClauseMeant};
-    ghost use Rattle.d_types.specs.Clauses.{run_of};
-    ghost use Rattle.aggregations.specs.Table.{count_held, functions_of};
-    ghost use Rattle.replay_core.specs.Effects.{IsNotedRun};
-    ghost use Rattle.replay_core.specs.Evaluation.{Stays, variables_in};
-
     /// What it means where variables have the types of these slots.
     ghost means: { Self → Slots → ClauseMeant → Type 0 };
 
@@ -55,11 +50,6 @@ pub trait Clause {
 
 // The tree of a clause, walked.
 impl Clause for TypedClause {
-    ghost use Rattle.std.specs.Prelude.{◌≡◌, length};
-    ghost use Rattle.d_types.specs.Typed.{meant_of};
-    ghost use Rattle.d_types.specs.Sizes.{statements};
-    ghost use Rattle.replay_core.specs.Bounds.{places_in};
-
     ghost means = { λ c slots meant. meant ≡ meant_of c };
 
     ghost most = { λ c. statements (meant_of c) };
@@ -84,11 +74,6 @@ impl Clause for TypedClause {
 
 // The objects of a compiled clause, run by the machine.
 impl Clause for CompiledClause {
-    ghost use Rattle.std.specs.Prelude.{length, map};
-    ghost use Rattle.dif_codegen.specs.Meaning.{Does};
-    ghost use Rattle.dif_codegen.specs.Programs.{action_code};
-    ghost use Rattle.replay_core.specs.Bounds.{places_among};
-
     ghost means = { λ c slots meant. Does slots c meant };
 
     ghost most = { λ c. length c.actions.items };

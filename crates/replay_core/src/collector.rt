@@ -1,34 +1,39 @@
 //! The collector.
 
 ghost use Rattle.std.specs.Prelude.{◌≡◌, ◌<◌, map, length, IfOk, IfErr};
-ghost use Rattle.replay_core.specs.Uniting.{sooner};
-ghost use Rattle.replay_core.specs.Tables.{CanMerge};
-ghost use Rattle.replay_core.specs.Collecting.{tables_of, IsCollected, IsCollectFault, IsMadeOf};
+ghost use Rattle.replay_core.specs.{Collecting.IsCollected, Collecting.IsCollectFault, Collecting.IsMadeOf};
+ghost use Rattle.replay_core.specs.{Collecting.tables_of, Tables.CanMerge, Uniting.sooner};
 
 use crate::collect_fault::CollectFault;
-use crate::merge::merged;
+use crate::merge::merge_all;
 use crate::piece::Piece;
-use crate::placing::{all_placed, placed};
+use crate::placing::{pieces_by_group, pieces_in_order};
 use crate::sorting::by_number;
 use crate::whole::Whole;
 use std::alloc::{AllocError, Global};
 
 /// Makes one whole of the pieces of so many groups, each with its group's number. They come in any
-/// order.
+/// order. Where they aren't one of each group, the fault names a group with two pieces or none, or
+/// one that isn't there.
+///
+/// ```text
+/// let whole = collect(alloc, pieces, 2)?; // of pieces of the groups 1 and 0
+/// collect(alloc, twice, 2); // Err(CollectFault::Twice { group: 0 }), of two pieces of group 0
+/// ```
 pub fn collect(alloc: Global, pieces: Vec<(u32, Piece)>, n: u32) -> Result<Whole, CollectFault>
     requires n { 0 < n }
     requires tables { CanMerge (tables_of pieces.items) }
     ensures ok { IfOk result (IsCollected n pieces.items) }
     ensures err { IfErr result (IsCollectFault n pieces.items) }
 {
-    let places = placed(alloc, pieces, n)?;
-    let sorted = all_placed(alloc, places)?;
-    let whole = united(alloc, sorted)?;
+    let places = pieces_by_group(alloc, pieces, n)?;
+    let sorted = pieces_in_order(alloc, places)?;
+    let whole = whole_of_pieces(alloc, sorted)?;
     Ok(whole)
 }
 
 // What the pieces have.
-fn united(alloc: Global, pieces: Vec<Piece>) -> Result<Whole, AllocError>
+fn whole_of_pieces(alloc: Global, pieces: Vec<Piece>) -> Result<Whole, AllocError>
     requires some { 0 < length pieces.items }
     requires tables { CanMerge (map (λ p. p.table) pieces.items) }
     ensures { IfOk result (IsMadeOf pieces.items) }
@@ -50,7 +55,7 @@ fn united(alloc: Global, pieces: Vec<Piece>) -> Result<Whole, AllocError>
         exit = sooner(exit, other);
     }
     let texts = by_number(texts)?;
-    let table = merged(alloc, tables)?;
+    let table = merge_all(alloc, tables)?;
     Ok(Whole {
         texts,
         table,

@@ -1,9 +1,8 @@
 //! Lanes that run compiled scripts.
 
 ghost use Rattle.std.specs.Prelude.{◌≡◌, IfOk, false};
-ghost use Rattle.d_types.specs.Typed.{ScriptMeant};
-ghost use Rattle.replay_core.specs.Compiled.{IsCompiled};
-ghost use Rattle.replay_core.specs.Lanes.{IsFresh};
+ghost use Rattle.replay_core.specs.Vocabulary.{ScriptMeant};
+ghost use Rattle.replay_core.specs.{Compiled.IsCompiled, Lanes.IsFresh};
 
 use crate::engine::Engine;
 use crate::lane::Lane;
@@ -40,6 +39,11 @@ pub struct DifLanes<'a> {
 
 impl<'a> DifLanes<'a> {
     /// Lanes of this program. The hashes of their maps have this key.
+    ///
+    /// ```text
+    /// let lanes = DifLanes::new(hash_key, &program);
+    /// let lane = lanes.lane(alloc)?;
+    /// ```
     pub fn new(hash_key: HashKey, program: &'a Program) -> DifLanes<'a>
         ensures { result.program.now ≡ program.now }
     {
@@ -48,8 +52,6 @@ impl<'a> DifLanes<'a> {
 }
 
 impl<'a> Lanes for DifLanes<'a> {
-    ghost use Rattle.replay_core.specs.Compiled.{IsCompiled};
-
     type Lane = DifLane<'a>;
 
     ghost runs = { λ l m. IsCompiled m l.program.now };

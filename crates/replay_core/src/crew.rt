@@ -1,10 +1,8 @@
 //! Workers at a board, each in a thread of its own.
 
 ghost use Rattle.std.specs.Prelude.{◌≡◌, All, vec_len, IfOk};
-ghost use Rattle.shard_queue.specs.Boards.{IsAt, IsNew};
-ghost use Rattle.shard_queue.specs.Groups.{grouping};
-ghost use Rattle.replay_core.specs.Crews.{AreParts, Gives, IsWork};
-ghost use Rattle.replay_core.specs.Working.{IsReady};
+ghost use Rattle.replay_core.specs.Vocabulary.{IsAt, IsNew, grouping};
+ghost use Rattle.replay_core.specs.{Crews.AreParts, Crews.Gives, Crews.IsWork, Working.IsReady};
 
 use crate::gate::Gate;
 use crate::lanes::Lanes;
@@ -33,9 +31,6 @@ pub(crate) struct Works<'a, L> {
 }
 
 impl<'a, L: Lanes> Promise<Worked> for Works<'a, L> {
-    ghost use Rattle.std.specs.Prelude.{IfOk};
-    ghost use Rattle.replay_core.specs.Crews.{Gives, IsWork};
-
     ghost kept_by = { λ p r. IfOk r
         (IsWork (Gives p.span (L.runs p.lanes.now) p.groups.now p.trace.now) p.board.now) };
 }
@@ -136,7 +131,7 @@ fn at_board<R: Wait, L: Lanes, G: Gate>(
 }
 
 /// All pieces and all seats, where every worker came to its end.
-pub(crate) fn gathered<L: Lanes>(
+pub(crate) fn pieces_and_seats<L: Lanes>(
     alloc: Global,
     board: &ClaimBoard,
     results: Vec<Worked>,

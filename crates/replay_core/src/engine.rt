@@ -8,11 +8,8 @@ use std::alloc::AllocError;
 
 /// Runs firings for a script, in the order in which it is given them.
 pub trait Engine {
-    ghost use Rattle.d_types.specs.Typed.{ScriptMeant};
-    ghost use Rattle.firing_reader.specs.Firings.{HasRanges};
-    ghost use Rattle.replay_core.specs.Meaning.{exit_of, history};
-    ghost use Rattle.replay_core.specs.Lanes.{Fires, LaneSeen};
-    ghost use Rattle.replay_core.specs.Seen.{IsRoomy, piece_seen};
+    ghost use Rattle.replay_core.specs.Vocabulary.{HasRanges, ScriptMeant};
+    ghost use Rattle.replay_core.specs.{Lanes.Fires, Lanes.LaneSeen, Meaning.exit_of, Meaning.history, Seen.IsRoomy, Seen.piece_seen, Sizes.most_firings};
 
     /// What it runs means this.
     ghost runs: { Self → ScriptMeant → Type 0 };
@@ -23,11 +20,11 @@ pub trait Engine {
     /// Memory was refused to a firing.
     ghost is_spent: { Self → Bool };
 
-    /// Runs the clauses for a firing, and answers whether it exits. Once memory was refused, each
+    /// Runs the clauses for a firing, and returns whether it exits. Once memory was refused, each
     /// later call is refused too.
     fn fire(&mut self, firing: &Firing) -> Result<bool, AllocError>
         requires ranges { HasRanges firing.now }
-        requires few { length (seen self.old).piece.taken < 1_000_002 }
+        requires few { length (seen self.old).piece.taken < most_firings }
         ensures step { (m : ScriptMeant) → runs self.old m
             → OnOk result (Fires m firing.now (seen self.old) (seen self.new)) }
         ensures exits { (m : ScriptMeant) → runs self.old m

@@ -1,21 +1,12 @@
 //! Lanes: what all engines share.
 
-ghost use Rattle.std.specs.Prelude.{◌≡◌, ◌+◌, ◌*◌, ◌<◌, ◌≤◌, ◌^◌, ◌∷◌, [], List, All, IfOk, OnOk, false, true, is_some, length, map, sum_by};
-ghost use Rattle.aggregations.specs.Table.{count_held, functions_of};
-ghost use Rattle.std.specs.List.{AllZip};
-ghost use Rattle.d_types.specs.Held.{Slots, slots_of};
-ghost use Rattle.d_types.specs.Typed.{ClauseMeant, ScriptMeant, functions_in};
-ghost use Rattle.firing_reader.specs.Firings.{HasRanges};
-ghost use Rattle.replay_core.specs.Scripts.{AllMean, AreTypedThreads, RunsAs};
-ghost use Rattle.replay_core.specs.Selecting.{IsSelection};
-ghost use Rattle.replay_core.specs.Seen.{piece_seen};
-ghost use Rattle.replay_core.specs.Threads.{threads_in};
-ghost use Rattle.replay_core.specs.Lanes.{Fires, IsFresh};
-ghost use Rattle.replay_core.specs.Meaning.{exit_of, history};
+ghost use Rattle.std.specs.Prelude.{◌≡◌, ◌<◌, ◌≤◌, ◌∷◌, [], List, All, IfOk, OnOk, false, true, is_some, length, map, sum_by};
+ghost use Rattle.replay_core.specs.Vocabulary.{AllZip, ClauseMeant, HasRanges, MOST_BYTES, ScriptMeant, Slots, functions_in, functions_of, slots_of};
+ghost use Rattle.replay_core.specs.{Lanes.Fires, Lanes.IsFresh, Meaning.exit_of, Meaning.history, Scripts.AllMean, Scripts.AreTypedThreads, Scripts.RunsAs, Seen.IsRoomy, Seen.lane_seen, Selecting.AreSelections, Sizes.most_firings, Threads.threads_in};
 
 use crate::clause::Clause;
 use crate::engine::Engine;
-use crate::evaluation::SpareKeys;
+use crate::evaluation::Spare;
 use crate::piece::Piece;
 use crate::selection::Selections;
 use crate::tables::Tables;
@@ -33,18 +24,17 @@ pub struct Lane<'a, C: Clause> {
     clauses: &'a [C],
     selections: Selections<'a>,
     threads: IndexMap<i32, Tables, HashKey>,
-    spare: SpareKeys,
+    spare: Spare,
     piece: Piece,
     // Memory was refused to a firing.
     spent: bool,
     ghost named: { All (λ c. C.places c ≤ length (functions_of piece.table)) clauses.now },
-    ghost few: { All (λ c. C.most c ≤ 65536) clauses.now },
+    ghost few: { All (λ c. C.most c ≤ MOST_BYTES) clauses.now },
     ghost described: { length selections.descriptions.items ≡ length clauses.now },
     ghost few_descriptions: { sum_by length (map (λ d. d.now) selections.descriptions.items)
-        ≤ 65536 },
-    ghost known: { All
-        (IsSelection (map (λ d. d.now) selections.descriptions.items)) selections.known.items },
-    ghost room: { spent ≡ false → count_held piece.table ≤ 2 ^ 32 * length piece.taken.items },
+        ≤ MOST_BYTES },
+    ghost known: { AreSelections selections },
+    ghost room: { spent ≡ false → IsRoomy piece },
 }
 
 impl<'a, C: Clause> Lane<'a, C> {
@@ -57,8 +47,8 @@ impl<'a, C: Clause> Lane<'a, C> {
         functions: Vec<AggFn>,
     ) -> Result<Lane<'a, C>, AllocError>
         requires named { All (λ c. C.places c ≤ length functions.items) clauses.now }
-        requires few { All (λ c. C.most c ≤ 65536) clauses.now }
-        requires few_descriptions { sum_by C.probes clauses.now ≤ 65536 }
+        requires few { All (λ c. C.most c ≤ MOST_BYTES) clauses.now }
+        requires few_descriptions { sum_by C.probes clauses.now ≤ MOST_BYTES }
         ensures script { IfOk result (λ l. (m : ScriptMeant)
             → AllMean C.means (slots_of m) clauses.now m.clauses → functions.items ≡ functions_in m
             → ⟦<Lane<'a, C> as Engine>⟧.runs l m) }
@@ -71,7 +61,7 @@ impl<'a, C: Clause> Lane<'a, C> {
             clauses,
             selections: Selections::new(alloc, hash_key, descriptions),
             threads: IndexMap::with_hasher(alloc, hash_key),
-            spare: SpareKeys::new(alloc),
+            spare: Spare::new(alloc),
             piece,
             spent: false,
         })
@@ -80,9 +70,8 @@ impl<'a, C: Clause> Lane<'a, C> {
     // Takes the firing's number, and runs the clauses for it.
     fn run(&mut self, firing: &Firing) -> Result<bool, AllocError>
         requires ranges { HasRanges firing.now }
-        requires few { length self.old.piece.taken.items < 1_000_002 }
-        requires room { count_held self.old.piece.table
-            ≤ 2 ^ 32 * length self.old.piece.taken.items }
+        requires few { length self.old.piece.taken.items < most_firings }
+        requires room { IsRoomy self.old.piece }
         requires spent { self.old.spent ≡ true }
         ensures spent { self.new.spent ≡ true }
         ensures script { (m : ScriptMeant)
@@ -92,16 +81,15 @@ impl<'a, C: Clause> Lane<'a, C> {
             → RunsAs C.means self.new.clauses.now
             (map (λ d. d.now) self.new.selections.descriptions.items)
             (functions_of self.new.piece.table) m }
-        ensures room { OnOk result (count_held self.new.piece.table
-            ≤ 2 ^ 32 * length self.new.piece.taken.items) }
+        ensures room { OnOk result (IsRoomy self.new.piece) }
         ensures step { OnOk result ((m : ScriptMeant)
             → RunsAs C.means self.old.clauses.now
             (map (λ d. d.now) self.old.selections.descriptions.items)
             (functions_of self.old.piece.table) m
             → AreTypedThreads (slots_of m) (threads_in self.old.threads.entries)
             → Fires m firing.now
-            (record { threads = threads_in self.old.threads.entries; piece = piece_seen self.old.piece })
-            (record { threads = threads_in self.new.threads.entries; piece = piece_seen self.new.piece })) }
+            (lane_seen self.old.threads.entries self.old.piece)
+            (lane_seen self.new.threads.entries self.new.piece)) }
         ensures typed { OnOk result ((m : ScriptMeant)
             → RunsAs C.means self.old.clauses.now
             (map (λ d. d.now) self.old.selections.descriptions.items)
@@ -149,19 +137,12 @@ fn descriptions<'a, C: Clause>(
 }
 
 impl<'a, C: Clause> Engine for Lane<'a, C> {
-    ghost use Rattle.std.specs.Prelude.{map};
-    ghost use Rattle.aggregations.specs.Table.{functions_of};
-    ghost use Rattle.d_types.specs.Held.{slots_of};
-    ghost use Rattle.replay_core.specs.Scripts.{AreTypedThreads, RunsAs};
-    ghost use Rattle.replay_core.specs.Seen.{piece_seen};
-    ghost use Rattle.replay_core.specs.Threads.{threads_in};
-
     ghost runs = { λ l m.
         RunsAs C.means l.clauses.now (map (λ d. d.now) l.selections.descriptions.items)
         (functions_of l.piece.table) m
         × (l.spent ≡ false → AreTypedThreads (slots_of m) (threads_in l.threads.entries)) };
 
-    ghost seen = { λ l. record { threads = threads_in l.threads.entries; piece = piece_seen l.piece } };
+    ghost seen = { λ l. lane_seen l.threads.entries l.piece };
 
     ghost is_spent = { λ l. l.spent };
 

@@ -1,19 +1,8 @@
 //! Laws of what runs mean: each holds of the definitions, and its function computes nothing.
 
 ghost use Rattle.std.specs.Prelude.{◌≡◌, ◌↔◌, ◌∷◌, ℕ, IsTrue, List, None, false, map};
-ghost use Rattle.std.specs.List.Sorted.{IsStrictlyIncreasing};
-ghost use Rattle.d_parser.specs.declared.tree.Description.{Description};
-ghost use Rattle.d_types.specs.Typed.{ScriptMeant};
-ghost use Rattle.firing_reader.specs.declared.firing.Firing.{Firing};
-ghost use Rattle.firing_reader.specs.Ends.{begin_of, with_ends};
-ghost use Rattle.firing_reader.specs.Firings.{number_of};
-ghost use Rattle.firing_reader.specs.Trace.{IsTrace};
-ghost use Rattle.replay_core.specs.Exit.{exit_status, firings_over, has_exit, history_over};
-ghost use Rattle.replay_core.specs.Groups.{AreGrouped, Grouping};
-ghost use Rattle.replay_core.specs.Meaning.{exit_of, history, unassigned};
-ghost use Rattle.replay_core.specs.Uniting.{IsSorted, Unite, group_history, made_in_group};
-ghost use Rattle.replay_core.specs.declared.probe.Probe.{Probe};
-ghost use Rattle.replay_core.specs.Patterns.{Selects, selects};
+ghost use Rattle.replay_core.specs.Vocabulary.{Description, Firing, IsStrictlyIncreasing, IsTrace, ScriptMeant, begin_of, number_of, with_ends};
+ghost use Rattle.replay_core.specs.{Exit.exit_status, Exit.firings_over, Exit.has_exit, Exit.history_over, Groups.AreGrouped, Groups.Grouping, Meaning.exit_of, Meaning.history, Meaning.blank_threads, Patterns.Selects, Patterns.selects, Uniting.IsSorted, Uniting.Unite, Uniting.group_history, Uniting.results_in_group, declared.probe.Probe.Probe};
 
 /// A description selects the probes that its patterns match.
 pub fn selected_is_matched()
@@ -24,7 +13,7 @@ pub fn selected_is_matched()
 /// of them.
 pub fn group_runs_as_in_the_run()
     ensures { (m : ScriptMeant) (grouping : Grouping) (fs : List Firing) (g : ℕ)
-        → group_history m grouping fs g ≡ made_in_group grouping g (history m fs unassigned) }
+        → group_history m grouping fs g ≡ results_in_group grouping g (history m fs blank_threads) }
 {}
 
 /// Of each grouping, what the groups make is what the run makes.
@@ -45,6 +34,6 @@ pub fn without_exit()
         → (firings_over m trace ≡ with_ends trace trace)
         × (exit_status (history_over m trace) ≡ 0) }
     ensures rows { (m : ScriptMeant) (trace : List Firing) → IsTrace trace
-        → exit_of (history m (begin_of trace ∷ trace) unassigned) ≡ None
+        → exit_of (history m (begin_of trace ∷ trace) blank_threads) ≡ None
         → firings_over m trace ≡ with_ends trace trace }
 {}

@@ -1,19 +1,19 @@
 //! Tables, merged in pairs.
 
-ghost use Rattle.std.specs.Prelude.{◌≡◌, ◌<◌, ◌≤◌, ◌+◌, ◌∷◌, [], length, IfOk};
+ghost use Rattle.std.specs.Prelude.{◌<◌, ◌≤◌, ◌+◌, ◌∷◌, [], length, IfOk};
 ghost use Rattle.replay_core.specs.Tables.{CanMerge, Serve};
 
 use aggregations::AggTable;
 use std::alloc::{AllocError, Global};
 
 /// One table in place of these: neighbours are merged first.
-pub(crate) fn merged(alloc: Global, mut tables: Vec<AggTable>) -> Result<AggTable, AllocError>
+pub(crate) fn merge_all(alloc: Global, mut tables: Vec<AggTable>) -> Result<AggTable, AllocError>
     requires some { 0 < length tables.items }
     requires can { CanMerge tables.items }
     ensures { IfOk result (λ table. Serve (table ∷ []) tables.items) }
 {
     'pairs: while tables.len() > 1 {
-        tables = halved(alloc, tables)?;
+        tables = merge_neighbours(alloc, tables)?;
     }
     let Some(table) = tables.pop() else {
         unreachable!()
@@ -22,7 +22,7 @@ pub(crate) fn merged(alloc: Global, mut tables: Vec<AggTable>) -> Result<AggTabl
 }
 
 // Each two neighbours merged.
-fn halved(alloc: Global, tables: Vec<AggTable>) -> Result<Vec<AggTable>, AllocError>
+fn merge_neighbours(alloc: Global, tables: Vec<AggTable>) -> Result<Vec<AggTable>, AllocError>
     requires can { CanMerge tables.items }
     ensures half { IfOk result (λ v. (length v.items + length v.items ≤ length tables.items + 1)
         × (length tables.items ≤ length v.items + length v.items)) }

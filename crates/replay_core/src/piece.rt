@@ -1,9 +1,7 @@
 //! What a lane's firings made.
 
 ghost use Rattle.std.specs.Prelude.{◌≡◌, ◌+◌, ◌<◌, ◌≤◌, ◌^◌, ◌++◌, ◌∷◌, [], ℕ, IfOk, OnOk, length, take};
-ghost use Rattle.aggregations.specs.Table.{StandsFor, count_held, functions_of};
-ghost use Rattle.d_types.specs.declared.effect.Effect.{Effect};
-ghost use Rattle.d_types.specs.Clauses.{fault_line};
+ghost use Rattle.replay_core.specs.Vocabulary.{Effect, count_held, fault_line, functions_of};
 
 use aggregations::{AggFn, AggTable};
 use d_values::{Key, Text};
@@ -24,8 +22,7 @@ pub struct Piece {
 }
 
 impl Piece {
-    ghost use Rattle.replay_core.specs.Effects.{NotesEffect};
-    ghost use Rattle.replay_core.specs.Seen.{IsEmptyPiece, piece_seen};
+    ghost use Rattle.replay_core.specs.{Effects.NotesEffect, Seen.IsEmptyPiece, Seen.piece_seen};
 
     /// Without any firing, with aggregations of these functions.
     pub(crate) fn new(
@@ -46,7 +43,7 @@ impl Piece {
     }
 
     /// How many texts are noted.
-    pub fn texts_noted(&self) -> usize
+    pub fn text_count(&self) -> usize
         ensures { result ≡ length (piece_seen self.now).texts }
     {
         self.texts.len()

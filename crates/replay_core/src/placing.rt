@@ -2,20 +2,20 @@
 
 ghost use Rattle.std.specs.Prelude.{◌≡◌, ◌<◌, ◌^◌, map, vec_len, Some, None, IfOk, IfErr};
 ghost use Rattle.std.specs.List.Sorted.{IsPermutation};
-ghost use Rattle.replay_core.specs.PiecePlaces.{first_bad, first_missing, standing, IsFault};
+ghost use Rattle.replay_core.specs.PiecePlaces.{first_bad, first_missing, pieces_with_places, IsFault};
 
 use crate::collect_fault::CollectFault;
 use crate::piece::Piece;
 use std::alloc::Global;
 
 /// Puts each piece into the place of its group.
-pub(crate) fn placed(
+pub(crate) fn pieces_by_group(
     alloc: Global,
     pieces: Vec<(u32, Piece)>,
     n: u32,
 ) -> Result<Vec<Option<Piece>>, CollectFault>
     ensures ok { IfOk result (λ v. (vec_len v ≡ n) × (first_bad n pieces.items ≡ None)) }
-    ensures same { IfOk result (λ v. IsPermutation pieces.items (standing 0 v.items)) }
+    ensures same { IfOk result (λ v. IsPermutation pieces.items (pieces_with_places 0 v.items)) }
     ensures err { IfErr result (λ e. IsFault e (first_bad n pieces.items)) }
 {
     let mut places: Vec<Option<Piece>> = match Vec::with_capacity(alloc, n as usize) {
@@ -38,7 +38,7 @@ pub(crate) fn placed(
 }
 
 /// The pieces, where no place is empty.
-pub(crate) fn all_placed(
+pub(crate) fn pieces_in_order(
     alloc: Global,
     places: Vec<Option<Piece>>,
 ) -> Result<Vec<Piece>, CollectFault>

@@ -1,17 +1,16 @@
 //! One round: every group by one of the workers.
 
-ghost use Rattle.std.specs.Prelude.{◌≡◌, ◌<◌, ◌≤◌, IfOk, vec_len};
-ghost use Rattle.shard_queue.specs.Groups.{grouping};
-ghost use Rattle.replay_core.specs.Crews.{Gives, IsRound};
-ghost use Rattle.replay_core.specs.Working.{IsReady};
+ghost use Rattle.std.specs.Prelude.{◌≡◌, ◌+◌, ◌<◌, ◌≤◌, IfOk, vec_len};
+ghost use Rattle.replay_core.specs.Vocabulary.{grouping};
+ghost use Rattle.replay_core.specs.{Crews.Gives, Crews.IsRound, Working.IsReady};
 
-use crate::crew::{gathered, in_threads};
+use crate::crew::{in_threads, pieces_and_seats};
 use crate::gate::Gate;
 use crate::lanes::Lanes;
 use crate::piece::Piece;
 use crate::span::Span;
 use firing_reader::Trace;
-use shard_queue::{ClaimBoard, Groups};
+use shard_queue::{ClaimBoard, Groups, MOST_GROUPS, MOST_WORKERS};
 use std::alloc::{AllocError, Global};
 use std::sync::Wait;
 use std::thread::Threads;
@@ -37,15 +36,15 @@ pub(crate) fn in_round<R: Threads + Wait + Sync, L: Lanes + Sync, G: Gate + Sync
     span: Span,
 ) -> Result<Round, AllocError>
     requires ready { IsReady (L.runs lanes.now) groups.now trace.now }
-    requires few { (grouping groups.now).count ≤ 4097 }
-    requires workers { (0 < workers) × (workers ≤ 16) }
+    requires few { (grouping groups.now).count ≤ MOST_GROUPS + 1 }
+    requires workers { (0 < workers) × (workers ≤ MOST_WORKERS) }
     ensures lists { IfOk result (λ r. vec_len r.lists ≡ workers) }
     ensures round { IfOk result (IsRound
         (Gives span (L.runs lanes.now) groups.now trace.now) (grouping groups.now).count) }
 {
     let (board, seats) = ClaimBoard::open(alloc, groups.len() as u32, workers as usize)?;
     let results = in_threads(rt, alloc, &board, seats, lanes, trace, groups, gate, span)?;
-    let (pieces, seats) = gathered(alloc, &board, results, lanes, trace, groups, span)?;
+    let (pieces, seats) = pieces_and_seats(alloc, &board, results, lanes, trace, groups, span)?;
     let closed = board.close(alloc, seats)?;
     Ok(Round {
         pieces,

@@ -1,8 +1,7 @@
 //! The firings of a run.
 
 ghost use Rattle.std.specs.Prelude.{◌≡◌, ◌<◌, ◌≤◌, Some, length, slice_get};
-ghost use Rattle.firing_reader.specs.Ends.{with_ends};
-ghost use Rattle.firing_reader.specs.Firings.{HasRanges};
+ghost use Rattle.replay_core.specs.{Sizes.most_firings, Vocabulary.HasRanges, Vocabulary.with_ends};
 
 use firing_reader::{Firing, Trace};
 
@@ -12,7 +11,7 @@ pub(crate) fn firing_at(trace: &Trace, place: u32) -> Firing<'_>
     requires { place < length (with_ends trace.now trace.now) }
     ensures firing { slice_get (with_ends trace.now trace.now) place ≡ Some result }
     ensures ranges { HasRanges result }
-    ensures few { length (with_ends trace.now trace.now) ≤ 1_000_002 }
+    ensures few { length (with_ends trace.now trace.now) ≤ most_firings }
 {
     let rows = trace.firings();
     if place == 0 {

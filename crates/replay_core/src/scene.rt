@@ -1,15 +1,15 @@
 //! What evaluations work on.
 
-use crate::evaluation::SpareKeys;
+use crate::evaluation::Spare;
 use crate::tables::Tables;
 use firing_reader::Firing;
 use std::alloc::Global;
 
-/// What an evaluation sees and changes: a firing, the variables of its thread, and spare keys.
+/// What an evaluation sees and changes: a firing, the variables of its thread, and what is spare.
 #[derive(Drop)]
 pub struct Scene<'a> {
     pub(crate) alloc: Global,
     pub(crate) firing: &'a Firing<'a>,
     pub(crate) tables: &'a mut Tables,
-    pub(crate) spare: &'a mut SpareKeys,
+    pub(crate) spare: &'a mut Spare,
 }

@@ -1,8 +1,7 @@
 //! Which clauses run for a probe: decided once for each.
 
-ghost use Rattle.std.specs.Prelude.{◌≡◌, ◌<◌, ◌++◌, true, All, IfOk, OnOk, filter, map};
-ghost use Rattle.replay_core.specs.Patterns.{probe_of, selects};
-ghost use Rattle.replay_core.specs.Places.{places_for};
+ghost use Rattle.std.specs.Prelude.{◌≡◌, ◌<◌, ◌++◌, true, IfOk, OnOk, filter, map};
+ghost use Rattle.replay_core.specs.{Patterns.probe_of, Patterns.selects, Places.places_for};
 
 use crate::matching::is_selected;
 use crate::probe::Probe;
@@ -42,7 +41,7 @@ pub(crate) struct Selections<'a> {
 }
 
 impl<'a> Selections<'a> {
-    ghost use Rattle.replay_core.specs.Selecting.{IsSelection, places_at};
+    ghost use Rattle.replay_core.specs.Selecting.{AreSelections, IsFor, places_at};
 
     /// None yet, of clauses with these descriptions.
     pub(crate) fn new(
@@ -51,8 +50,7 @@ impl<'a> Selections<'a> {
         descriptions: Vec<&'a [Description]>,
     ) -> Selections<'a>
         ensures descriptions { result.descriptions.items ≡ descriptions.entry.items }
-        ensures known { All
-            (IsSelection (map (λ d. d.now) result.descriptions.items)) result.known.items }
+        ensures known { AreSelections result }
     {
         Selections {
             alloc,
@@ -67,13 +65,10 @@ impl<'a> Selections<'a> {
 
     /// Turns to the selection for the firing's probe.
     pub(crate) fn turn_to(&mut self, firing: &Firing) -> Result<(), AllocError>
-        requires { All
-            (IsSelection (map (λ d. d.now) self.old.descriptions.items)) self.old.known.items }
+        requires { AreSelections self.old }
         ensures descriptions { self.new.descriptions.items ≡ self.old.descriptions.items }
-        ensures known { All
-            (IsSelection (map (λ d. d.now) self.new.descriptions.items)) self.new.known.items }
-        ensures turned { OnOk result (places_at self.new.known.items self.new.last
-            ≡ places_for (probe_of firing.now) 0 (map (λ d. d.now) self.new.descriptions.items)) }
+        ensures known { AreSelections self.new }
+        ensures turned { OnOk result (IsFor (probe_of firing.now) self.new self.new.last) }
     {
         let hand = hand_of(firing);
         let place = self.place_at_hand(hand);
@@ -89,13 +84,10 @@ impl<'a> Selections<'a> {
     #[cold]
     #[inline(never)]
     fn look_up(&mut self, firing: &Firing) -> Result<(), AllocError>
-        requires { All
-            (IsSelection (map (λ d. d.now) self.old.descriptions.items)) self.old.known.items }
+        requires { AreSelections self.old }
         ensures descriptions { self.new.descriptions.items ≡ self.old.descriptions.items }
-        ensures known { All
-            (IsSelection (map (λ d. d.now) self.new.descriptions.items)) self.new.known.items }
-        ensures turned { OnOk result (places_at self.new.known.items self.new.last
-            ≡ places_for (probe_of firing.now) 0 (map (λ d. d.now) self.new.descriptions.items)) }
+        ensures known { AreSelections self.new }
+        ensures turned { OnOk result (IsFor (probe_of firing.now) self.new self.new.last) }
     {
         self.write_name(firing)?;
         if let Some(place) = self.named.get(&self.name) {
@@ -140,10 +132,8 @@ impl<'a> Selections<'a> {
 
     // Whether the selection at the place is for the firing's probe.
     fn is_at(&self, place: usize, firing: &Firing) -> bool
-        requires { All
-            (IsSelection (map (λ d. d.now) self.now.descriptions.items)) self.now.known.items }
-        ensures { result ≡ true → places_at self.now.known.items place
-            ≡ places_for (probe_of firing.now) 0 (map (λ d. d.now) self.now.descriptions.items) }
+        requires { AreSelections self.now }
+        ensures { result ≡ true → IsFor (probe_of firing.now) self.now place }
     {
         match self.known.get(place) {
             Some(selection) => selection.probe.is_of(firing),
@@ -171,16 +161,13 @@ impl<'a> Selections<'a> {
 
     // Adds the selection for the firing's probe, under the name that was written.
     fn learn(&mut self, firing: &Firing) -> Result<(), AllocError>
-        requires { All
-            (IsSelection (map (λ d. d.now) self.old.descriptions.items)) self.old.known.items }
+        requires { AreSelections self.old }
         ensures descriptions { self.new.descriptions.items ≡ self.old.descriptions.items }
-        ensures known { All
-            (IsSelection (map (λ d. d.now) self.new.descriptions.items)) self.new.known.items }
-        ensures turned { OnOk result (places_at self.new.known.items self.new.last
-            ≡ places_for (probe_of firing.now) 0 (map (λ d. d.now) self.new.descriptions.items)) }
+        ensures known { AreSelections self.new }
+        ensures turned { OnOk result (IsFor (probe_of firing.now) self.new self.new.last) }
     {
         let probe = Probe::of(self.alloc, firing)?;
-        let places = selected(self.alloc, &self.descriptions, firing)?;
+        let places = clause_places(self.alloc, &self.descriptions, firing)?;
         let place = self.known.len();
         self.known.push(Selection { probe, places })?;
         self.last = place;
@@ -191,13 +178,13 @@ impl<'a> Selections<'a> {
 
 // Where the selection for the firing's probe is among those at hand.
 fn hand_of(firing: &Firing) -> usize {
-    let function = mixed(firing.probefunc.as_bytes());
-    let name = mixed(firing.name.as_bytes());
+    let function = hash_of(firing.probefunc.as_bytes());
+    let name = hash_of(firing.name.as_bytes());
     (3 * function + 7 * name) % AT_HAND
 }
 
-// A number that some bytes of a name make.
-fn mixed(name: &[u8]) -> usize
+// A hash of some of a name's bytes.
+fn hash_of(name: &[u8]) -> usize
     ensures { result < 65536 }
 {
     match name {
@@ -211,7 +198,7 @@ fn mixed(name: &[u8]) -> usize
 }
 
 // The places of the clauses that run for the firing.
-fn selected(
+fn clause_places(
     alloc: Global,
     descriptions: &[&[Description]],
     firing: &Firing,

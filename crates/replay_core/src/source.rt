@@ -18,8 +18,8 @@ pub trait Source {
     /// What a seat was given.
     ghost list: { Self.Seat → List ℕ };
 
-    /// Whether a seat was told the end.
-    ghost told: { Self.Seat → Bool };
+    /// Whether a seat is at the end.
+    ghost at_end: { Self.Seat → Bool };
 
     /// The least number that a seat lowered, 2^64 - 1 without any.
     ghost lowered: { Self.Seat → ℕ };
@@ -33,7 +33,7 @@ pub trait Source {
         ensures seat { is_at self.now seat.new }
         ensures some { IfSome result (λ g. (g < end self.now) × ¬ (Contains (list seat.old) g)
             × (list seat.new ≡ list seat.old ++ g ∷ [])) }
-        ensures none { IfNone result ((told seat.new ≡ true) × (list seat.new ≡ list seat.old)) }
+        ensures none { IfNone result ((at_end seat.new ≡ true) × (list seat.new ≡ list seat.old)) }
         ensures least { (lowered seat.new ≡ lowered seat.old) × (seen seat.new ≡ seen seat.old) };
 }
 
@@ -46,7 +46,7 @@ pub trait Exits: Source {
         ensures lowered { Self.lowered seat.new ≡ min (Self.lowered seat.old) number }
         ensures seen { Self.seen seat.new ≡ Self.seen seat.old }
         ensures others { (Self.list seat.new ≡ Self.list seat.old)
-            × (Self.told seat.new ≡ Self.told seat.old) };
+            × (Self.at_end seat.new ≡ Self.at_end seat.old) };
 
     /// The least number, which is no more than what this seat lowered or was shown.
     fn least(&self, seat: &mut Self::Seat) -> u64
@@ -56,11 +56,11 @@ pub trait Exits: Source {
         ensures lowered { Self.lowered seat.new ≡ Self.lowered seat.old }
         ensures seen { Self.seen seat.new ≡ result }
         ensures others { (Self.list seat.new ≡ Self.list seat.old)
-            × (Self.told seat.new ≡ Self.told seat.old) };
+            × (Self.at_end seat.new ≡ Self.at_end seat.old) };
 }
 
 impl Source for ClaimBoard {
-    ghost use Rattle.shard_queue.specs.Boards.{IsAt, lowered, seen};
+    ghost use Rattle.shard_queue.specs.Boards.{IsAt, number_lowered, number_seen};
 
     type Seat = ClaimSeat;
 
@@ -70,11 +70,11 @@ impl Source for ClaimBoard {
 
     ghost list = { λ seat. seat.taken.items };
 
-    ghost told = { λ seat. seat.told };
+    ghost at_end = { λ seat. seat.at_end };
 
-    ghost lowered = { lowered };
+    ghost lowered = { number_lowered };
 
-    ghost seen = { seen };
+    ghost seen = { number_seen };
 
     fn take<R: Wait>(&self, _rt: &R, seat: &mut ClaimSeat) -> Option<u32> {
         self.claim(seat)
@@ -92,8 +92,7 @@ impl Exits for ClaimBoard {
 }
 
 impl Source for GroupQueue {
-    ghost use Rattle.shard_queue.specs.Queues.{IsIn};
-    ghost use Rattle.shard_queue.specs.Least.{no_number};
+    ghost use Rattle.shard_queue.specs.{Least.no_number, Queues.IsIn};
 
     type Seat = QueueSeat;
 
@@ -103,7 +102,7 @@ impl Source for GroupQueue {
 
     ghost list = { λ seat. seat.taken.items };
 
-    ghost told = { λ seat. seat.told };
+    ghost at_end = { λ seat. seat.at_end };
 
     ghost lowered = { λ seat. no_number };
 

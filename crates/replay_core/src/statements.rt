@@ -8,4 +8,4 @@ mod statement;
 mod trees;
 
 pub(crate) use clause::run_clause;
-pub use printing::{printed, traced};
+pub use printing::{printf_text, trace_line};

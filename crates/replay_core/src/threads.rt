@@ -1,43 +1,35 @@
 //! The clauses of a firing on the variables of its thread.
 
-ghost use Rattle.std.specs.Prelude.{◌≡◌, ◌+◌, ◌*◌, ◌<◌, ◌≤◌, ◌^◌, ℕ, ℤ, List, All, IfOk, OnOk, is_some, length, if◌then◌else◌};
-ghost use Rattle.std.specs.Ordering.{int_eq};
-ghost use Rattle.aggregations.specs.Table.{count_held, functions_of};
-ghost use Rattle.d_types.specs.Held.{AreTyped, AreTypedOwn, HasTypedBuiltIns, Slots};
-ghost use Rattle.d_types.specs.Typed.{ClauseMeant};
-ghost use Rattle.replay_core.specs.Evaluation.{variables_of};
-ghost use Rattle.replay_core.specs.Lanes.{Notes};
-ghost use Rattle.replay_core.specs.Meaning.{at_start};
-ghost use Rattle.replay_core.specs.Scripts.{AllMean};
-ghost use Rattle.replay_core.specs.Seen.{piece_seen};
-ghost use Rattle.replay_core.specs.Threads.{threads_in};
-ghost use Rattle.replay_core.specs.Turns.{turns};
+ghost use Rattle.std.specs.Prelude.{◌≡◌, ◌+◌, ◌*◌, ◌<◌, ◌≤◌, ◌^◌, ℤ, List, All, IfOk, OnOk, is_some, length, if◌then◌else◌};
+ghost use Rattle.replay_core.specs.Vocabulary.{AreTyped, AreTypedOwn, ClauseMeant, HasTypedBuiltIns, Slots, count_held, functions_of, int_eq};
+ghost use Rattle.replay_core.specs.{Evaluation.variables_of, Lanes.Notes, Meaning.at_start, Scripts.AllMean, Seen.piece_seen, Threads.threads_in, Turns.turns};
 
 use crate::clause::Clause;
-use crate::evaluation::SpareKeys;
+use crate::evaluation::Spare;
 use crate::piece::Piece;
 use crate::scene::Scene;
 use crate::tables::Tables;
 use crate::turns::run_in_turn;
+use d_lexer::MOST_BYTES;
 use firing_reader::Firing;
 use indexmap::IndexMap;
 use keyed_hash::HashKey;
 use std::alloc::AllocError;
 
-/// Runs the clauses at these places for a firing, on its thread's variables, and answers whether
+/// Runs the clauses at these places for a firing, on its thread's variables, and returns whether
 /// one exited.
 pub(crate) fn run_on_thread<C: Clause>(
     clauses: &[C],
     places: &[usize],
     firing: &Firing,
     threads: &mut IndexMap<i32, Tables, HashKey>,
-    spare: &mut SpareKeys,
+    spare: &mut Spare,
     piece: &mut Piece,
 ) -> Result<bool, AllocError>
     requires there { All (λ place. place < length clauses.now) places.now }
     requires named { All (λ c. C.places c ≤ length (functions_of piece.old.table)) clauses.now }
-    requires few { All (λ c. C.most c ≤ 65536) clauses.now }
-    requires room { count_held piece.old.table + 65536 * length places.now ≤ 2 ^ 52 }
+    requires few { All (λ c. C.most c ≤ MOST_BYTES) clauses.now }
+    requires room { count_held piece.old.table + MOST_BYTES * length places.now ≤ 2 ^ 52 }
     ensures functions { functions_of piece.new.table ≡ functions_of piece.old.table }
     ensures taken { piece.new.taken.items ≡ piece.old.taken.items }
     ensures notes { OnOk result ((slots : Slots) (cs : List ClauseMeant)
@@ -61,7 +53,7 @@ pub(crate) fn run_on_thread<C: Clause>(
         let made = turns firing.now cs places.now start in
         exits ≡ is_some made.exit) }
     ensures held { OnOk result (count_held piece.new.table
-        ≤ count_held piece.old.table + 65536 * length places.now) }
+        ≤ count_held piece.old.table + MOST_BYTES * length places.now) }
 {
     match threads.get_mut(&firing.thread) {
         Some(tables) => {
@@ -83,13 +75,13 @@ fn run_on_tables<C: Clause>(
     places: &[usize],
     firing: &Firing,
     tables: &mut Tables,
-    spare: &mut SpareKeys,
+    spare: &mut Spare,
     piece: &mut Piece,
 ) -> Result<bool, AllocError>
     requires there { All (λ place. place < length clauses.now) places.now }
     requires named { All (λ c. C.places c ≤ length (functions_of piece.old.table)) clauses.now }
-    requires few { All (λ c. C.most c ≤ 65536) clauses.now }
-    requires room { count_held piece.old.table + 65536 * length places.now ≤ 2 ^ 52 }
+    requires few { All (λ c. C.most c ≤ MOST_BYTES) clauses.now }
+    requires room { count_held piece.old.table + MOST_BYTES * length places.now ≤ 2 ^ 52 }
     ensures functions { functions_of piece.new.table ≡ functions_of piece.old.table }
     ensures taken { piece.new.taken.items ≡ piece.old.taken.items }
     ensures notes { OnOk result ((slots : Slots) (cs : List ClauseMeant)
@@ -104,7 +96,7 @@ fn run_on_tables<C: Clause>(
         let made = turns firing.now cs places.now (variables_of tables.old) in
         exits ≡ is_some made.exit) }
     ensures held { OnOk result (count_held piece.new.table
-        ≤ count_held piece.old.table + 65536 * length places.now) }
+        ≤ count_held piece.old.table + MOST_BYTES * length places.now) }
 {
     let alloc = *piece.taken.allocator();
     let mut scene = Scene {

@@ -1,8 +1,7 @@
 //! Lanes that walk the trees of a script.
 
 ghost use Rattle.std.specs.Prelude.{◌≡◌, IfOk, false};
-ghost use Rattle.d_types.specs.Typed.{ScriptMeant};
-ghost use Rattle.d_types.specs.TypedScripts.{typed_script_of};
+ghost use Rattle.replay_core.specs.Vocabulary.{ScriptMeant, typed_script_of};
 ghost use Rattle.replay_core.specs.Lanes.{IsFresh};
 
 use crate::engine::Engine;
@@ -39,6 +38,11 @@ pub struct TreeLanes<'a> {
 
 impl<'a> TreeLanes<'a> {
     /// Lanes of this script. The hashes of their maps have this key.
+    ///
+    /// ```text
+    /// let lanes = TreeLanes::new(hash_key, &script);
+    /// let lane = lanes.lane(alloc)?;
+    /// ```
     pub fn new(hash_key: HashKey, script: &'a TypedScript) -> TreeLanes<'a>
         ensures { result.script.now ≡ script.now }
     {
@@ -47,9 +51,6 @@ impl<'a> TreeLanes<'a> {
 }
 
 impl<'a> Lanes for TreeLanes<'a> {
-    ghost use Rattle.std.specs.Prelude.{◌≡◌};
-    ghost use Rattle.d_types.specs.TypedScripts.{typed_script_of};
-
     type Lane = TreeLane<'a>;
 
     ghost runs = { λ l m. m ≡ typed_script_of l.script.now };

@@ -1,21 +1,16 @@
 //! The clauses of a firing, one after the other.
 
-ghost use Rattle.std.specs.Prelude.{◌≡◌, ◌+◌, ◌*◌, ◌<◌, ◌≤◌, ◌^◌, ℕ, List, All, IfOk, OnOk, is_some, length};
-ghost use Rattle.aggregations.specs.Table.{count_held, functions_of};
-ghost use Rattle.d_types.specs.Held.{AreTyped, HasTypedBuiltIns, Slots};
-ghost use Rattle.d_types.specs.Typed.{ClauseMeant};
-ghost use Rattle.replay_core.specs.Evaluation.{Stays, variables_in};
-ghost use Rattle.replay_core.specs.Lanes.{Notes};
-ghost use Rattle.replay_core.specs.Scripts.{AllMean};
-ghost use Rattle.replay_core.specs.Seen.{piece_seen};
-ghost use Rattle.replay_core.specs.Turns.{turns};
+ghost use Rattle.std.specs.Prelude.{◌≡◌, ◌+◌, ◌*◌, ◌<◌, ◌≤◌, ◌^◌, List, All, IfOk, OnOk, is_some, length};
+ghost use Rattle.replay_core.specs.Vocabulary.{AreTyped, ClauseMeant, HasTypedBuiltIns, Slots, count_held, functions_of};
+ghost use Rattle.replay_core.specs.{Evaluation.Stays, Evaluation.variables_in, Lanes.Notes, Scripts.AllMean, Seen.piece_seen, Turns.turns};
 
 use crate::clause::Clause;
 use crate::piece::Piece;
 use crate::scene::Scene;
+use d_lexer::MOST_BYTES;
 use std::alloc::AllocError;
 
-/// Runs the clauses at these places for a firing, and answers whether one exited.
+/// Runs the clauses at these places for a firing, and returns whether one exited.
 pub(crate) fn run_in_turn<C: Clause>(
     clauses: &[C],
     places: &[usize],
@@ -24,8 +19,8 @@ pub(crate) fn run_in_turn<C: Clause>(
 ) -> Result<bool, AllocError>
     requires there { All (λ place. place < length clauses.now) places.now }
     requires named { All (λ c. C.places c ≤ length (functions_of piece.old.table)) clauses.now }
-    requires few { All (λ c. C.most c ≤ 65536) clauses.now }
-    requires room { count_held piece.old.table + 65536 * length places.now ≤ 2 ^ 52 }
+    requires few { All (λ c. C.most c ≤ MOST_BYTES) clauses.now }
+    requires room { count_held piece.old.table + MOST_BYTES * length places.now ≤ 2 ^ 52 }
     ensures functions { functions_of piece.new.table ≡ functions_of piece.old.table }
     ensures taken { piece.new.taken.items ≡ piece.old.taken.items }
     ensures scene { Stays scene.old scene.new }
@@ -41,7 +36,7 @@ pub(crate) fn run_in_turn<C: Clause>(
         let made = turns scene.old.firing.now cs places.now (variables_in scene.old) in
         exits ≡ is_some made.exit) }
     ensures held { OnOk result (count_held piece.new.table
-        ≤ count_held piece.old.table + 65536 * length places.now) }
+        ≤ count_held piece.old.table + MOST_BYTES * length places.now) }
 {
     let mut exits = false;
     for place in places {

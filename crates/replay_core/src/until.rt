@@ -1,15 +1,8 @@
 //! One worker that watches for exits.
 
-ghost use Rattle.std.specs.Prelude.{◌≡◌, ◌<◌, ◌≤◌, true, [], List, map, length, All, IfOk, OnOk, IsFalse};
-ghost use Rattle.d_types.specs.Typed.{ScriptMeant};
-ghost use Rattle.firing_reader.specs.Ends.{with_ends};
-ghost use Rattle.shard_queue.specs.Groups.{AreOf, grouping};
-ghost use Rattle.shard_queue.specs.Least.{no_number};
-ghost use Rattle.shard_queue.specs.Threads.{run_threads};
-ghost use Rattle.replay_core.specs.Beginnings.{AreBegun, IsBegunOf, RunsBeginning, least_exit, lowered_by};
-ghost use Rattle.replay_core.specs.Running.{IsLaneOf};
-ghost use Rattle.replay_core.specs.Seen.{IsRoomy};
-ghost use Rattle.replay_core.specs.Working.{firings_at};
+ghost use Rattle.std.specs.Prelude.{◌≡◌, ◌<◌, ◌≤◌, true, [], map, length, All, IfOk, OnOk, IsFalse};
+ghost use Rattle.replay_core.specs.Vocabulary.{AreOf, ScriptMeant, grouping, no_number, run_threads, with_ends};
+ghost use Rattle.replay_core.specs.{Beginnings.AreBegun, Beginnings.IsBegunOf, Beginnings.RunsBeginning, Beginnings.least_exit, Beginnings.lesser_of, Running.IsLaneOf, Seen.IsRoomy, Working.firings_at};
 
 use crate::engine::Engine;
 use crate::gate::Gate;
@@ -22,9 +15,14 @@ use shard_queue::Groups;
 use std::alloc::{AllocError, Global};
 use std::sync::Wait;
 
-/// Takes groups until it is told the end, and makes a piece of a beginning of each. A beginning
+/// Takes groups until it is at the end, and makes a piece of a beginning of each. A beginning
 /// ends after a firing that exits, and before one whose number is over the least that a worker
-/// found to exit.
+/// found to exit. Err where memory was refused.
+///
+/// ```text
+/// let (pieces, seat) =
+///     work_until(&rt, alloc, &board, seat, &lanes, &trace, &groups, &OpenGate)?;
+/// ```
 pub fn work_until<R: Wait, S: Exits, L: Lanes, G: Gate>(
     rt: &R,
     alloc: Global,
@@ -42,7 +40,7 @@ where
     requires end { S.end source.now ≡ (grouping groups.now).count }
     requires script { (m : ScriptMeant) × L.runs lanes.now m }
     requires groups { AreOf groups.now (run_threads trace.now) }
-    ensures seat { IfOk result (λ r. S.is_at source.entry.now r.1 × (S.told r.1 ≡ true)) }
+    ensures seat { IfOk result (λ r. S.is_at source.entry.now r.1 × (S.at_end r.1 ≡ true)) }
     ensures groups { IfOk result (λ r. map (λ p. p.0) r.0.items ≡ S.list r.1) }
     ensures pieces { IfOk result (λ r. AreBegun (L.runs lanes.entry.now) (S.seen r.1)
         (grouping groups.entry.now)
@@ -81,7 +79,7 @@ fn piece_until<S: Exits, L: Lanes>(
         → IsBegunOf m (S.seen seat.new) (grouping groups.now)
         (with_ends trace.now trace.now) (group, p)) }
     ensures roomy { IfOk result IsRoomy }
-    ensures least { IfOk result (λ p. S.lowered seat.new ≡ lowered_by (S.lowered seat.old) p.exit) }
+    ensures least { IfOk result (λ p. S.lowered seat.new ≡ lesser_of (S.lowered seat.old) p.exit) }
 {
     let mut lane = lanes.lane(alloc)?;
     run_until(source, seat, &mut lane, trace, groups.places(group))?;
@@ -109,7 +107,7 @@ fn run_until<S: Exits, E: Engine>(
         → RunsBeginning m (S.seen seat.new)
         (firings_at (with_ends trace.now trace.now) places.now) (E.seen lane.new)) }
     ensures least { OnOk result ((m : ScriptMeant) → E.runs lane.old m
-        → S.lowered seat.new ≡ lowered_by (S.lowered seat.old) (E.seen lane.new).piece.exit) }
+        → S.lowered seat.new ≡ lesser_of (S.lowered seat.old) (E.seen lane.new).piece.exit) }
 {
     for place in places {
         let firing = firing_at(trace, *place);

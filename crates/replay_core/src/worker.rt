@@ -1,15 +1,8 @@
 //! One worker.
 
 ghost use Rattle.std.specs.Prelude.{◌≡◌, ◌<◌, ◌≤◌, ◌∷◌, ◌++◌, true, [], List, map, filter, length, All, IfOk, OnOk, IsFalse};
-ghost use Rattle.d_types.specs.Typed.{ScriptMeant};
-ghost use Rattle.firing_reader.specs.declared.firing.Firing.{Firing};
-ghost use Rattle.firing_reader.specs.Ends.{with_ends};
-ghost use Rattle.firing_reader.specs.Firings.{HasRanges};
-ghost use Rattle.shard_queue.specs.Groups.{AreOf, grouping};
-ghost use Rattle.shard_queue.specs.Threads.{run_threads};
-ghost use Rattle.replay_core.specs.Running.{IsLaneOf};
-ghost use Rattle.replay_core.specs.Seen.{IsRoomy};
-ghost use Rattle.replay_core.specs.Working.{AreOfGroups, IsOfGroup, IsReady, firings_at, firings_in, is_in};
+ghost use Rattle.replay_core.specs.Vocabulary.{AreOf, Firing, HasRanges, ScriptMeant, grouping, run_threads, with_ends};
+ghost use Rattle.replay_core.specs.{Running.IsLaneOf, Seen.IsRoomy, Sizes.most_firings, Working.AreOfGroups, Working.IsOfGroup, Working.IsReady, Working.firings_at, Working.firings_in, Working.is_in};
 
 use crate::engine::Engine;
 use crate::gate::Gate;
@@ -23,8 +16,17 @@ use shard_queue::Groups;
 use std::alloc::{AllocError, Global};
 use std::sync::Wait;
 
-/// Takes groups until it is told the end, and makes a piece of each: what the script makes of
-/// BEGIN, the rows and END on the group's threads.
+/// Takes groups until it is at the end, and makes a piece of each: what the script makes of
+/// BEGIN, the rows and END on the group's threads. Err where memory was refused.
+///
+/// ```text
+/// let (board, seats) = ClaimBoard::open(alloc, groups.len() as u32, 1)?;
+/// for seat in seats {
+///     // a piece of each group
+///     let (pieces, seat) =
+///         work(&rt, alloc, &board, seat, &lanes, &trace, &groups, &OpenGate)?;
+/// }
+/// ```
 pub fn work<R: Wait, S: Source, L: Lanes, G: Gate>(
     rt: &R,
     alloc: Global,
@@ -41,7 +43,7 @@ where
     requires end { S.end source.now ≡ (grouping groups.now).count }
     requires script { (m : ScriptMeant) × L.runs lanes.now m }
     requires groups { AreOf groups.now (run_threads trace.now) }
-    ensures seat { IfOk result (λ r. S.is_at source.entry.now r.1 × (S.told r.1 ≡ true)) }
+    ensures seat { IfOk result (λ r. S.is_at source.entry.now r.1 × (S.at_end r.1 ≡ true)) }
     ensures groups { IfOk result (λ r. map (λ p. p.0) r.0.items ≡ S.list r.1) }
     ensures pieces { IfOk result (λ r. AreOfGroups (L.runs lanes.entry.now)
         (grouping groups.entry.now)
@@ -69,7 +71,7 @@ pub(crate) struct Shift<'a, L, G> {
     pub(crate) span: Span,
 }
 
-/// Takes groups until it is told the end, and makes a piece of each.
+/// Takes groups until it is at the end, and makes a piece of each.
 pub(crate) fn work_on<R: Wait, S: Source, L: Lanes, G: Gate>(
     rt: &R,
     alloc: Global,
@@ -82,7 +84,7 @@ where
     requires seat { S.is_at source.now seat × (S.list seat ≡ []) }
     requires end { S.end source.now ≡ (grouping shift.now.groups.now).count }
     requires ready { IsReady (L.runs shift.now.lanes.now) shift.now.groups.now shift.now.trace.now }
-    ensures seat { IfOk result (λ r. S.is_at source.entry.now r.1 × (S.told r.1 ≡ true)) }
+    ensures seat { IfOk result (λ r. S.is_at source.entry.now r.1 × (S.at_end r.1 ≡ true)) }
     ensures groups { IfOk result (λ r. map (λ p. p.0) r.0.items ≡ S.list r.1) }
     ensures pieces { IfOk result (λ r. AreOfGroups (L.runs shift.entry.now.lanes.now)
         (grouping shift.entry.now.groups.now)
@@ -144,7 +146,7 @@ fn run_at<E: Engine + Drop>(
 // Runs a firing, if it counts.
 fn run_one<E: Engine>(lane: &mut E, firing: &Firing, span: Span) -> Result<(), AllocError>
     requires ranges { HasRanges firing.now }
-    requires few { length (E.seen lane.old).piece.taken < 1_000_002 }
+    requires few { length (E.seen lane.old).piece.taken < most_firings }
     requires unspent { IsFalse (E.is_spent lane.old) }
     ensures script { (m : ScriptMeant) → E.runs lane.old m → E.runs lane.new m }
     ensures unspent { OnOk result (IsFalse (E.is_spent lane.new)) }

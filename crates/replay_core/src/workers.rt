@@ -1,17 +1,8 @@
 //! A run by several workers.
 
-ghost use Rattle.std.specs.Prelude.{◌≡◌, ◌<◌, ◌≤◌, IfOk, vec_len};
-ghost use Rattle.std.specs.List.{flat_map};
-ghost use Rattle.d_types.specs.Typed.{ScriptMeant};
-ghost use Rattle.firing_reader.specs.Trace.{IsTrace};
-ghost use Rattle.shard_queue.specs.Groups.{AreOf, grouping};
-ghost use Rattle.shard_queue.specs.Threads.{run_threads};
-ghost use Rattle.replay_core.specs.Crews.{IsRun};
-ghost use Rattle.replay_core.specs.Exit.{firings_over};
-ghost use Rattle.replay_core.specs.Groups.{IsAllBelow};
-ghost use Rattle.replay_core.specs.Pieces.{IsWholeOf, RunsEachOnce};
-ghost use Rattle.replay_core.specs.Seen.{whole_seen};
-ghost use Rattle.replay_core.specs.Working.{IsReady};
+ghost use Rattle.std.specs.Prelude.{◌≡◌, ◌+◌, ◌<◌, ◌≤◌, IfOk, vec_len};
+ghost use Rattle.replay_core.specs.Vocabulary.{AreOf, IsTrace, ScriptMeant, flat_map, grouping, run_threads};
+ghost use Rattle.replay_core.specs.{Crews.IsRun, Exit.firings_over, Groups.IsAllBelow, Pieces.IsWholeOf, Pieces.RunsEachOnce, Seen.whole_seen, Working.IsReady};
 
 use crate::collect_fault::CollectFault;
 use crate::collector::collect;
@@ -21,7 +12,7 @@ use crate::round::{Round, in_round};
 use crate::span::Span;
 use crate::whole::Whole;
 use firing_reader::Trace;
-use shard_queue::Groups;
+use shard_queue::{Groups, MOST_GROUPS, MOST_WORKERS};
 use std::alloc::{AllocError, Global};
 use std::sync::Wait;
 use std::thread::Threads;
@@ -35,8 +26,17 @@ pub struct Ran {
     pub by_worker: Vec<Vec<u32>>,
 }
 
-/// Runs a script over a trace by so many workers, each group by one of them, and makes one whole of
-/// what they made. Where a firing exits, the run ends with the first that does, and END.
+/// Runs a script over a trace by so many workers, 1 to 16, each group by one of them, and makes one
+/// whole of what they made. Where a firing exits, the run ends with the first that does, and END.
+/// Err where memory or a thread was refused.
+///
+/// ```text
+/// let lanes = DifLanes::new(hash_key, &program);
+/// let groups = Groups::deal(alloc, &trace, 2)?;
+/// let ran = run_all(&rt, alloc, &lanes, &trace, &groups, 4, &OpenGate)?;
+/// ran.whole.ran.len(); // 3, with the group of BEGIN and END
+/// ran.by_worker.len(); // 4
+/// ```
 pub fn run_all<R: Threads + Wait + Sync, L: Lanes + Sync, G: Gate + Sync>(
     rt: &R,
     alloc: Global,
@@ -48,8 +48,8 @@ pub fn run_all<R: Threads + Wait + Sync, L: Lanes + Sync, G: Gate + Sync>(
 ) -> Result<Ran, AllocError>
     requires script { (m : ScriptMeant) × L.runs lanes.now m }
     requires groups { AreOf groups.now (run_threads trace.now) }
-    requires few { (grouping groups.now).count ≤ 4097 }
-    requires workers { (0 < workers) × (workers ≤ 16) }
+    requires few { (grouping groups.now).count ≤ MOST_GROUPS + 1 }
+    requires workers { (0 < workers) × (workers ≤ MOST_WORKERS) }
     ensures whole { IfOk result (λ r. (m : ScriptMeant) → L.runs lanes.now m
         → IsWholeOf m (firings_over m trace.now) (grouping groups.now) (whole_seen r.whole)) }
     ensures once { IfOk result (λ r. (m : ScriptMeant) → L.runs lanes.now m
@@ -83,8 +83,8 @@ fn in_rounds<R: Threads + Wait + Sync, L: Lanes + Sync, G: Gate + Sync>(
     gate: &G,
 ) -> Result<Round, AllocError>
     requires ready { IsReady (L.runs lanes.now) groups.now trace.now }
-    requires few { (grouping groups.now).count ≤ 4097 }
-    requires workers { (0 < workers) × (workers ≤ 16) }
+    requires few { (grouping groups.now).count ≤ MOST_GROUPS + 1 }
+    requires workers { (0 < workers) × (workers ≤ MOST_WORKERS) }
     ensures workers { IfOk result (λ r. vec_len r.lists ≡ workers) }
     ensures trace { IfOk result (λ _. IsTrace trace.now) }
     ensures run { IfOk result (IsRun (L.runs lanes.now) groups.now trace.now) }

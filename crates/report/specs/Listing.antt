@@ -1,9 +1,8 @@
 -- The entries of an aggregation in the order in which they are shown.
 use Rattle.std.specs.Prelude.{◌≡◌, ◌⊎◌, ◌<ℤ◌, ℕ, List, [], ◌∷◌, ◌++◌, ℤ}
-use Rattle.std.specs.{List.Sorted.IsStrictlySortedBy, Ordering.int_cmp, Ordering.ordering_then}
-use Rattle.std.specs.declared.cmp.Ordering.{Ordering, TheVariants.Less}
-use Rattle.report.specs.Vocabulary.{AggFn, Contribution, AreEntries, figure_of, rank_of, key_cmp}
-use Rattle.report.specs.Vocabulary.{flat_map}
+use Rattle.report.specs.Vocabulary.{AggFn, Contribution, AreEntries, figure_of, rank_of}
+use Rattle.report.specs.Vocabulary.{IsStrictlySortedBy, Less, Ordering, int_cmp, ordering_then}
+use Rattle.report.specs.Vocabulary.{flat_map, key_cmp}
 use Rattle.report.specs.Columns.{line_feed}
 use Rattle.report.specs.Layout.{Entry, entry_bytes}
 

@@ -1,8 +1,7 @@
 //! The bytes of a histogram.
 
-ghost use Rattle.std.specs.Prelude.{◌≡◌, ◌<◌, ◌≤◌, ◌^◌, ◌+◌, ◌++◌, ℕ, OnOk, length, replicate, sum};
-ghost use Rattle.report.specs.Vocabulary.{buckets, decimal, signed_decimal, flat_map};
-ghost use Rattle.report.specs.{Columns.at_left, Columns.at_right};
+ghost use Rattle.std.specs.Prelude.{◌≡◌, ◌<◌, ◌≤◌, ◌^◌, ◌+◌, ◌++◌, OnOk, length, replicate, sum};
+ghost use Rattle.report.specs.{Vocabulary.buckets, Vocabulary.decimal, Vocabulary.flat_map, Vocabulary.signed_decimal, Columns.at_left, Columns.at_right};
 ghost use Rattle.report.specs.Histograms as spec;
 
 use crate::columns::put_spaces;

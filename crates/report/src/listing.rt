@@ -1,8 +1,7 @@
 //! The entries of an aggregation in the order in which they are shown.
 
 ghost use Rattle.std.specs.Prelude.{◌≡◌, ◌<◌, List, Some, IfOk, map, slice_get, length};
-ghost use Rattle.std.specs.Map.Iter.{deref_pair};
-ghost use Rattle.report.specs.Vocabulary.{AggFn, Contribution, StandsFor, functions_of};
+ghost use Rattle.report.specs.Vocabulary.{AggFn, Contribution, StandsFor, deref_pair, functions_of};
 ghost use Rattle.report.specs.Listing.{IsListing, entry_rank};
 
 use aggregations::{AggTable, Partial};

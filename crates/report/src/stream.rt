@@ -1,8 +1,7 @@
 //! Streams of bytes whose contracts state which bytes went through, how many calls were made, and
 //! whether one has failed.
 ghost use Rattle.std.specs.Prelude.{◌≡◌, ◌↔◌, ◌+◌, ◌<◌, length, IfOk, IsErr, IsTrue, IsFalse};
-ghost use Rattle.std.specs.Io.{ReadsAtMost, WritesAtMost};
-ghost use Rattle.std.specs.Io.KnownBytes.{ReadConsumes, WriteAppends};
+ghost use Rattle.std.specs.{Io.ReadsAtMost, Io.WritesAtMost, Io.KnownBytes.ReadConsumes, Io.KnownBytes.WriteAppends};
 ghost use Rattle.report.specs.Stream.{FeedSeen, SinkSeen};
 
 use thiserror::Error;

@@ -12,7 +12,7 @@ use Rattle.shard_queue.specs.declared.knowledge.BoardView.{BoardView}
 use Rattle.shard_queue.specs.Hands.{hand, one_less, empty_hand, seats_of, IsHandOut}
 use Rattle.shard_queue.specs.Drawing.{Draws}
 use Rattle.shard_queue.specs.Least.{no_number, low, nothing_lowered, IsLeast}
-use Rattle.shard_queue.specs.BoardRule.{view, hand_of, low_of, both, spent, Kept, Claimed, Lowered, Looked}
+use Rattle.shard_queue.specs.BoardRule.{view, hand_of, low_of, both, empty_view, Kept, Claimed, Lowered, Looked}
 use Rattle.shard_queue.proofs.Totals.{alone}
 use Rattle.shard_queue.proofs.Drawing.{draws_hit, draws_miss, fresh, word_fits, draws_split, draws_join, draws_enter, draws_whole, draws_first}
 use Rattle.shard_queue.proofs.Least.{least_lower, least_look, least_enter, least_join, least_whole, least_first}
@@ -86,9 +86,9 @@ module _ {S : Type 0} where
       (c.0, keeps, tt, c.1, c.2)
 
   -- the same at a seat whose hand is known
-  pub claims_as : (k : ℕ × ℕ) (slots id : ℕ) (me : Me S BoardView) (e : ℕ) (told : Bool) (xs : List ℕ) → me.0.hand ≡ hand e 1 (if told then 1 else 0) xs → me.1 ≡ [] → told ≡ false
+  pub claims_as : (k : ℕ × ℕ) (slots id : ℕ) (me : Me S BoardView) (e : ℕ) (at_end : Bool) (xs : List ℕ) → me.0.hand ≡ hand e 1 (if at_end then 1 else 0) xs → me.1 ≡ [] → at_end ≡ false
       → Allows {S = S} (Kept k) slots id me 0 (λ n. (n + 1) % 2 ^ 64) (Claimed me)
-  claims_as k slots id me e told xs is empty open_yet =
+  claims_as k slots id me e at_end xs is empty open_yet =
       let hand_is : me.0.hand ≡ hand e 1 0 xs = is ∙ ap (λ b. hand e 1 (if b then 1 else 0) xs) open_yet in
       let me_is : me ≡ (view (hand e 1 0 xs) me.0.low, []) = ap (λ h. (view h me.0.low, me.1)) hand_is ∙ ap (λ t. (view (hand e 1 0 xs) me.0.low, t)) empty in
       subst (λ (m : Me S BoardView). Allows {S = S} (Kept k) slots id m 0 (λ n. (n + 1) % 2 ^ 64) (Claimed m)) (sym me_is) (claims k slots id e xs me.0.low)
@@ -146,13 +146,13 @@ module _ {S : Type 0} where
       (subst (λ m. Splits {S = S} (Kept k) id (view (hand e (suc n) 0 []) nothing_lowered) (view (hand e m 0 []) nothing_lowered) (view (hand e 1 0 []) nothing_lowered)) (let down : n ≡ suc n - 1 = omega arith in down) (splits k id e n))
 
   -- a view takes in another, which counts a seat
-  pub joins : (k : ℕ × ℕ) (id : ℕ) (v : BoardView) (other : ℕ) (w : BoardView) → 0 < w.hand.seats → Joins {S = S} (Kept k) id v other w (both v w) spent
+  pub joins : (k : ℕ × ℕ) (id : ℕ) (v : BoardView) (other : ℕ) (w : BoardView) → 0 < w.hand.seats → Joins {S = S} (Kept k) id v other w (both v w) empty_view
   joins k id v other w some_seat s kept at apart at' =
       let b = both v w in
       let vs = set s.views id b in
       let was : get_elem? s.views other ≡ some w = sym (set_else s.views id other b apart) ∙ at' in
-      let hands : map hand_of (set vs other spent) ≡ set (set (map hand_of s.views) id b.hand) other empty_hand = map-set hand_of vs other spent ∙ ap (λ hs. set hs other empty_hand) (map-set hand_of s.views id b) in
-      let lows : map low_of (set vs other spent) ≡ set (set (map low_of s.views) id b.low) other nothing_lowered = map-set low_of vs other spent ∙ ap (λ ls. set ls other nothing_lowered) (map-set low_of s.views id b) in
+      let hands : map hand_of (set vs other empty_view) ≡ set (set (map hand_of s.views) id b.hand) other empty_hand = map-set hand_of vs other empty_view ∙ ap (λ hs. set hs other empty_hand) (map-set hand_of s.views id b) in
+      let lows : map low_of (set vs other empty_view) ≡ set (set (map low_of s.views) id b.low) other nothing_lowered = map-set low_of vs other empty_view ∙ ap (λ ls. set ls other nothing_lowered) (map-set low_of s.views id b) in
       let there : get_elem? (set (map hand_of s.views) id b.hand) other ≡ some w.hand = set_else (map hand_of s.views) id other b.hand apart ∙ at_map hand_of s.views other w was in
       record {
         two = kept.two;
@@ -160,30 +160,30 @@ module _ {S : Type 0} where
             (draws_join k.0 k.1 (slice_index s.words 0) (map hand_of s.views) id v.hand other w.hand some_seat kept.draws (at_map hand_of s.views id v at) apart there);
         least = subst (λ (ls : List Low). IsLeast (slice_index s.words 1) ls) (sym lows)
             (least_join (slice_index s.words 1) (map low_of s.views) id v.low other w.low kept.least (at_map low_of s.views id v at) apart (at_map low_of s.views other w was));
-        idle = idle_set vs other spent (λ none. refl) (idle_set s.views id b (λ none. absurd (omega arith)) kept.idle);
+        idle = idle_set vs other empty_view (λ none. refl) (idle_set s.views id b (λ none. absurd (omega arith)) kept.idle);
       }
 
-  pub joins_as : (k : ℕ × ℕ) (id : ℕ) (v : BoardView) (other : ℕ) (w : BoardView) (e t : ℕ) (xs : List ℕ) → w.hand ≡ hand e 1 t xs → Joins {S = S} (Kept k) id v other w (both v w) spent
+  pub joins_as : (k : ℕ × ℕ) (id : ℕ) (v : BoardView) (other : ℕ) (w : BoardView) (e t : ℕ) (xs : List ℕ) → w.hand ≡ hand e 1 t xs → Joins {S = S} (Kept k) id v other w (both v w) empty_view
   joins_as k id v other w e t xs is = joins k id v other w (let one : w.hand.seats ≡ 1 = ap seats_of is in omega arith)
 
   -- a new view counts no seat
-  pub enters : (k : ℕ × ℕ) (slots word : ℕ) → Enters {S = S} (Kept k) slots word (λ n w. w ≡ spent)
+  pub enters : (k : ℕ × ℕ) (slots word : ℕ) → Enters {S = S} (Kept k) slots word (λ n w. w ≡ empty_view)
   enters k slots word s kept len at =
-      let hands = map-append hand_of s.views (spent ∷ []) in
-      let lows = map-append low_of s.views (spent ∷ []) in (
-        spent,
+      let hands = map-append hand_of s.views (empty_view ∷ []) in
+      let lows = map-append low_of s.views (empty_view ∷ []) in (
+        empty_view,
         record {
           two = kept.two;
           draws = subst (λ (hs : List Hand). Draws k.0 k.1 (slice_index s.words 0) hs) (sym hands) (draws_enter k.0 k.1 (slice_index s.words 0) (map hand_of s.views) kept.draws);
           least = subst (λ (ls : List Low). IsLeast (slice_index s.words 1) ls) (sym lows) (least_enter (slice_index s.words 1) (map low_of s.views) kept.least);
-          idle = idle_snoc s.views spent (λ none. refl) kept.idle;
+          idle = idle_snoc s.views empty_view (λ none. refl) kept.idle;
         },
         refl,
       )
 
   -- who counts every seat knows all that was drawn, and the least number that was lowered
   pub ends_whole : (k : ℕ × ℕ) (id : ℕ) (v : BoardView) (ws : List ℕ) (ss : List S) → v.hand.seats ≡ k.1 → v.low.lowered ≤ no_number → Final (Seen (Kept {S = S} k) id v) ws ss
-      → IsHandOut k.0 v.hand.told v.hand.drawn × (length ws ≡ 2) × (slice_index ws 1 ≡ v.low.lowered) × (slice_index ws 1 ≤ v.low.seen)
+      → IsHandOut k.0 v.hand.at_end v.hand.drawn × (length ws ≡ 2) × (slice_index ws 1 ≡ v.low.lowered) × (slice_index ws 1 ≤ v.low.seen)
   ends_whole k id v ws ss every small final =
       let s = final.0 in
       let kept = final.1.0 in

@@ -7,12 +7,12 @@ use Rattle.shard_queue.specs.declared.knowledge.Hand.{Hand}
 use Rattle.std.specs.Prelude.{sum_by, Contains}
 use Rattle.std.proofs.lemmas.List.Sums.{sum_by-append}
 use Rattle.shard_queue.specs.Numbers.{below}
-use Rattle.shard_queue.specs.Hands.{hand, joint_hand, empty_hand, total, seats_of, told_of, Fits, AllFit, IsHandOut}
+use Rattle.shard_queue.specs.Hands.{hand, joint_hand, empty_hand, total, seats_of, seats_at_end, Fits, AllFit, IsHandOut}
 use Rattle.shard_queue.specs.Drawing.{Draws}
 use Rattle.shard_queue.proofs.Totals.{total_set, total_snoc, total_le, one_le_total, total_one, sum_by-ones, sum_by-below, below-ones, weight_of, below-times, not_there, fits_set, fits_snoc}
 
-told_few : (n : ℕ) (views : List Hand) → AllFit n views → total told_of views ≤ total seats_of views
-told_few n views fit = total_le told_of seats_of views (λ by v e. (fit by v e).few)
+seats_at_end_few : (n : ℕ) (views : List Hand) → AllFit n views → total seats_at_end views ≤ total seats_of views
+seats_at_end_few n views fit = total_le seats_at_end seats_of views (λ by v e. (fit by v e).few)
 
 pub draws_hit : (n seats word : ℕ) (views : List Hand) (id e : ℕ) (xs : List ℕ) → Draws n seats word views → get_elem? views id ≡ some (hand e 1 0 xs) → word < e
     → Draws n seats (suc word) (set views id (hand e 1 0 (xs ++ word ∷ [])))
@@ -22,7 +22,7 @@ draws_hit n seats word views id e xs d at lt =
     let mine = d.fit id v at in
     let is : e ≡ n = mine.ends (omega arith) in
     let s = total_set seats_of views id v w at in
-    let t = total_set told_of views id v w at in
+    let t = total_set seats_at_end views id v w at in
     let a = d.all in
     let over = d.over in
     let m : min n word ≡ word = omega arith in
@@ -49,7 +49,7 @@ draws_miss n seats word views id e xs d at le =
     let mine = d.fit id v at in
     let is : e ≡ n = mine.ends (omega arith) in
     let s = total_set seats_of views id v w at in
-    let t = total_set told_of views id v w at in
+    let t = total_set seats_at_end views id v w at in
     let a = d.all in
     let most = d.most in
     let m : min n word ≡ n = omega arith in
@@ -85,7 +85,7 @@ fresh n seats word views id e xs d at lt =
 
 pub word_fits : (n seats word : ℕ) (views : List Hand) → Draws n seats word views → (word + 1) % 2 ^ 64 ≡ suc word
 word_fits n seats word views d =
-    let few = told_few n views d.fit in
+    let few = seats_at_end_few n views d.fit in
     let most = d.most in
     let a = d.all in
     let small = d.small in
@@ -102,13 +102,13 @@ draws_split n seats word views id e left d at =
     let ends = (d.fit id v at).ends (omega arith) in
     let vs = set views id l in
     let sum : (f : Hand → ℕ) → f v ≡ f l + f r → total f (vs ++ r ∷ []) ≡ total f views = λ f add. let a = total_set f views id v l at in let b = total_snoc f vs r in omega arith in
-    let told = sum told_of refl in
+    let at_end = sum seats_at_end refl in
     record {
       small = d.small;
       fit = fits_snoc n vs r (fits_set n views id l d.fit (record { ends = λ _. ends; few = omega arith; idle = λ _. refl })) (record { ends = λ _. ends; few = omega arith; idle = λ none. absurd (omega arith) });
       all = sum seats_of (omega arith) ∙ d.all;
-      most = subst (λ t. word ≤ n + t) (sym told) d.most;
-      over = λ lt. d.over (subst (λ t. 0 < t) told lt);
+      most = subst (λ t. word ≤ n + t) (sym at_end) d.most;
+      over = λ lt. d.over (subst (λ t. 0 < t) at_end lt);
       drawn = λ g. sum (λ u. sum_by g u.drawn) refl ∙ d.drawn g;
     }
 
@@ -123,7 +123,7 @@ draws_join n seats word views id v other w some_seat d at apart at' =
     let theirs = d.fit other w was in
     let same : (f : Hand → ℕ) → f both ≡ f v + f w → f empty_hand ≡ 0 → total f (set vs other empty_hand) ≡ total f views
     = λ f add none. let a = total_set f views id v both at in let b = total_set f vs other w empty_hand at' in omega arith in
-    let told = same told_of refl refl in
+    let at_end = same seats_at_end refl refl in
     let few = mine.few in
     let few' = theirs.few in
     record {
@@ -131,8 +131,8 @@ draws_join n seats word views id v other w some_seat d at apart at' =
       fit = fits_set n vs other empty_hand (fits_set n views id both d.fit (record { ends = λ _. theirs.ends some_seat; few = omega arith; idle = λ none. absurd (omega arith) }))
           (record { ends = λ lt. absurd (omega arith); few = omega arith; idle = λ _. refl });
       all = same seats_of refl refl ∙ d.all;
-      most = subst (λ t. word ≤ n + t) (sym told) d.most;
-      over = λ lt. d.over (subst (λ t. 0 < t) told lt);
+      most = subst (λ t. word ≤ n + t) (sym at_end) d.most;
+      over = λ lt. d.over (subst (λ t. 0 < t) at_end lt);
       drawn = λ g. same (λ u. sum_by g u.drawn) (sum_by-append g v.drawn w.drawn) refl ∙ d.drawn g;
     }
 
@@ -140,24 +140,24 @@ draws_join n seats word views id v other w some_seat d at apart at' =
 pub draws_enter : (n seats word : ℕ) (views : List Hand) → Draws n seats word views → Draws n seats word (views ++ empty_hand ∷ [])
 draws_enter n seats word views d =
     let same : (f : Hand → ℕ) → f empty_hand ≡ 0 → total f (views ++ empty_hand ∷ []) ≡ total f views = λ f none. let a = total_snoc f views empty_hand in omega arith in
-    let told = same told_of refl in
+    let at_end = same seats_at_end refl in
     record {
       small = d.small;
       fit = fits_snoc n views empty_hand d.fit (record { ends = λ lt. absurd (omega arith); few = omega arith; idle = λ _. refl });
       all = same seats_of refl ∙ d.all;
-      most = subst (λ t. word ≤ n + t) (sym told) d.most;
-      over = λ lt. d.over (subst (λ t. 0 < t) told lt);
+      most = subst (λ t. word ≤ n + t) (sym at_end) d.most;
+      over = λ lt. d.over (subst (λ t. 0 < t) at_end lt);
       drawn = λ g. same (λ u. sum_by g u.drawn) refl ∙ d.drawn g;
     }
 
 -- who counts every seat knows all that was drawn
-pub draws_whole : (n seats word : ℕ) (views : List Hand) (id : ℕ) (v : Hand) → v.seats ≡ seats → Draws n seats word views → get_elem? views id ≡ some v → IsHandOut n v.told v.drawn
+pub draws_whole : (n seats word : ℕ) (views : List Hand) (id : ℕ) (v : Hand) → v.seats ≡ seats → Draws n seats word views → get_elem? views id ≡ some v → IsHandOut n v.at_end v.drawn
 draws_whole n seats word views id v every d at =
     let all : total seats_of views ≡ v.seats = d.all ∙ sym every in
-    let told = total_one told_of seats_of views id v (λ j u e none. let few = (d.fit j u e).few in omega arith) at all in (
+    let at_end = total_one seats_at_end seats_of views id v (λ j u e none. let few = (d.fit j u e).few in omega arith) at all in (
       min n word,
       omega arith,
-      (λ lt. let over = d.over (subst (λ t. 0 < t) (sym told) lt) in omega arith),
+      (λ lt. let over = d.over (subst (λ t. 0 < t) (sym at_end) lt) in omega arith),
       λ h. sym (total_one (λ u. sum_by h u.drawn) seats_of views id v (λ j u e none. ap (sum_by h) ((d.fit j u e).idle none)) at all) ∙ d.drawn h,
     )
 

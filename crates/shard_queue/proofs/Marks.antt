@@ -7,7 +7,7 @@ use Rattle.shard_queue.specs.declared.knowledge.Hand.{Hand}
 use Rattle.std.specs.Prelude.{sum_by, Contains}
 use Rattle.std.proofs.lemmas.List.Sums.{sum_by-append}
 use Rattle.shard_queue.specs.Numbers.{below}
-use Rattle.shard_queue.specs.Hands.{hand, joint_hand, empty_hand, total, seats_of, told_of, Fits, IsHandOut}
+use Rattle.shard_queue.specs.Hands.{hand, joint_hand, empty_hand, total, seats_of, seats_at_end, Fits, IsHandOut}
 use Rattle.shard_queue.specs.Marks.{count_up, Deals, Took}
 use Rattle.shard_queue.proofs.Totals.{total_set, total_snoc, total_le, one_le_total, total_one, alone, sum_by-ones, sum_by-below, below-ones, weight_of, below-times, not_there, fits_set, fits_snoc}
 
@@ -32,7 +32,7 @@ hit put seats front left items views id e xs d less left_is rest at lt =
     let mine = d.fit id v at in
     let is : e ≡ put = mine.ends (omega arith) in
     let s = total_set seats_of views id v n at in
-    let t = total_set told_of views id v n at in
+    let t = total_set seats_at_end views id v n at in
     let a = d.all in
     let over = d.over in
     let adds = d.sum_is in
@@ -61,7 +61,7 @@ miss put seats front left items views id e xs d less left_is rest at le =
     let mine = d.fit id v at in
     let is : e ≡ put = mine.ends (omega arith) in
     let s = total_set seats_of views id v n at in
-    let t = total_set told_of views id v n at in
+    let t = total_set seats_at_end views id v n at in
     let a = d.all in
     let most = d.most in
     let adds = d.sum_is in
@@ -107,14 +107,14 @@ deals_take put seats front left items views id e xs d less left_is rest at (no m
     (hand e 1 0 (xs ++ front ∷ []), hit put seats front left items views id e xs d less left_is rest at lt, inl (lt, refl, f.0, f.1))
 
 -- a seat that was not told the end finds something
-pub deals_more : (put seats front left : ℕ) (items : List ℕ) (views : List Hand) (id : ℕ) (v : Hand) → Deals put seats front left items views → get_elem? views id ≡ some v → v.told < v.seats → seats ≤ v.end → 0 < length items
+pub deals_more : (put seats front left : ℕ) (items : List ℕ) (views : List Hand) (id : ℕ) (v : Hand) → Deals put seats front left items views → get_elem? views id ≡ some v → v.at_end < v.seats → seats ≤ v.end → 0 < length items
 deals_more put seats front left items views id v d at few enough =
     let is : v.end ≡ put = (d.fit id v at).ends (omega arith) in
-    let n = hand v.end v.seats (suc v.told) v.drawn in
-    let t = total_set told_of views id v n at in
+    let n = hand v.end v.seats (suc v.at_end) v.drawn in
+    let t = total_set seats_at_end views id v n at in
     let s = total_set seats_of views id v n at in
     let fit' = fits_set put views id n d.fit (record { ends = (d.fit id v at).ends; few = omega arith; idle = λ none. absurd (omega arith) }) in
-    let le = total_le told_of seats_of (set views id n) (λ by u e. (fit' by u e).few) in
+    let le = total_le seats_at_end seats_of (set views id n) (λ by u e. (fit' by u e).few) in
     let a = d.all in
     let most = d.most in
     let adds = d.sum_is in
@@ -147,7 +147,7 @@ deals_grow put seats front left items views id s d at pos same =
     let adds = d.sum_is in
     let all : (f : Hand → ℕ) (k : ℕ) → f w ≡ f v + k → f empty_hand ≡ 0 → total f (vs ++ empty_hand ∷ []) ≡ total f views + k
     = λ f k add none. let a = total_set f views id v w at in let b = total_snoc f vs empty_hand in omega arith in
-    let told : total told_of (vs ++ empty_hand ∷ []) ≡ total told_of views = let t = all told_of 0 refl refl in omega arith in
+    let at_end : total seats_at_end (vs ++ empty_hand ∷ []) ≡ total seats_at_end views = let t = all seats_at_end 0 refl refl in omega arith in
     let a = all seats_of 1 refl refl in
     let b = d.all in
     let m : min (put - (seats + 1)) front ≡ min (put - seats) front = omega arith in
@@ -158,7 +158,7 @@ deals_grow put seats front left items views id s d at pos same =
           (record { ends = λ lt. absurd (omega arith); few = omega arith; idle = λ _. refl });
       all = omega arith;
       most = let most = d.most in omega arith;
-      over = λ lt. let over : put - seats < front = d.over (subst (λ t. 0 < t) told lt) in omega arith;
+      over = λ lt. let over : put - seats < front = d.over (subst (λ t. 0 < t) at_end lt) in omega arith;
       drawn = λ g. let t = all (λ u. sum_by g u.drawn) 0 refl refl in let was = d.drawn g ∙ ap (λ k. sum_by g (below k)) (sym m) in omega arith;
     }
 
@@ -171,14 +171,14 @@ deals_put put seats front left items views id c s d at pos same =
     let c_is : c ≡ put = (d.fit id u at).ends pos in
     let each = λ (j : ℕ) (y : Hand) (e : get_elem? views j ≡ some y). d.fit j y e in
     let every : total seats_of views ≡ s = d.all ∙ same in
-    let told : total told_of views ≡ 0 = total_one told_of seats_of views id u (λ j y e none. let few = (each j y e).few in omega arith) at every in
+    let at_end : total seats_at_end views ≡ 0 = total_one seats_at_end seats_of views id u (λ j y e none. let few = (each j y e).few in omega arith) at every in
     let ones : total (λ y. sum_by (λ _. 1) y.drawn) views ≡ 0 = total_one (λ y. sum_by (λ _. 1) y.drawn) seats_of views id u (λ j y e none. ap (sum_by (λ _. 1)) ((each j y e).idle none)) at every in
     let none_drawn = sym (below-ones (min (put - seats) front)) ∙ sym (d.drawn (λ _. 1)) ∙ ones in
     let most = d.most in
     let adds = d.sum_is in
     let zero_front : front ≡ 0 = omega arith in
     let left_is : left ≡ put = omega arith in
-    let t = total_set told_of views id u w at in
+    let t = total_set seats_at_end views id u w at in
     let sum = total_set seats_of views id u w at in
     let a = d.all in
     let m : min (put + 1 - seats) 0 ≡ 0 = omega arith in
@@ -210,14 +210,14 @@ deals_split put seats front left items views id e n d at =
     let ends = (d.fit id u at).ends (omega arith) in
     let vs = set views id l in
     let same : (f : Hand → ℕ) → f u ≡ f l + f r → total f (vs ++ r ∷ []) ≡ total f views = λ f add. let a = total_set f views id u l at in let b = total_snoc f vs r in omega arith in
-    let told = same told_of refl in
+    let at_end = same seats_at_end refl in
     record {
       are = d.are;
       sum_is = d.sum_is;
       fit = fits_snoc put vs r (fits_set put views id l d.fit (record { ends = λ _. ends; few = omega arith; idle = λ _. refl })) (record { ends = λ _. ends; few = omega arith; idle = λ none. absurd (omega arith) });
       all = same seats_of (omega arith) ∙ d.all;
-      most = subst (λ t. front ≤ (put - seats) + t) (sym told) d.most;
-      over = λ lt. d.over (subst (λ t. 0 < t) told lt);
+      most = subst (λ t. front ≤ (put - seats) + t) (sym at_end) d.most;
+      over = λ lt. d.over (subst (λ t. 0 < t) at_end lt);
       drawn = λ g. same (λ y. sum_by g y.drawn) refl ∙ d.drawn g;
     }
 
@@ -232,7 +232,7 @@ deals_join put seats front left items views id v other w some_seat d at apart at
     let theirs = d.fit other w was in
     let same : (f : Hand → ℕ) → f both ≡ f v + f w → f empty_hand ≡ 0 → total f (set vs other empty_hand) ≡ total f views
     = λ f add none. let a = total_set f views id v both at in let b = total_set f vs other w empty_hand at' in omega arith in
-    let told = same told_of refl refl in
+    let at_end = same seats_at_end refl refl in
     let few = mine.few in
     let few' = theirs.few in
     record {
@@ -241,20 +241,20 @@ deals_join put seats front left items views id v other w some_seat d at apart at
       fit = fits_set put vs other empty_hand (fits_set put views id both d.fit (record { ends = λ _. theirs.ends some_seat; few = omega arith; idle = λ none. absurd (omega arith) }))
           (record { ends = λ lt. absurd (omega arith); few = omega arith; idle = λ _. refl });
       all = same seats_of refl refl ∙ d.all;
-      most = subst (λ t. front ≤ (put - seats) + t) (sym told) d.most;
-      over = λ lt. d.over (subst (λ t. 0 < t) told lt);
+      most = subst (λ t. front ≤ (put - seats) + t) (sym at_end) d.most;
+      over = λ lt. d.over (subst (λ t. 0 < t) at_end lt);
       drawn = λ g. same (λ y. sum_by g y.drawn) (sum_by-append g v.drawn w.drawn) refl ∙ d.drawn g;
     }
 
 -- who counts every seat knows all that was taken
-pub deals_whole : (put seats front left : ℕ) (items : List ℕ) (views : List Hand) (id : ℕ) (v : Hand) → v.seats ≡ seats → 0 < seats → Deals put seats front left items views → get_elem? views id ≡ some v → IsHandOut (v.end - seats) v.told v.drawn
+pub deals_whole : (put seats front left : ℕ) (items : List ℕ) (views : List Hand) (id : ℕ) (v : Hand) → v.seats ≡ seats → 0 < seats → Deals put seats front left items views → get_elem? views id ≡ some v → IsHandOut (v.end - seats) v.at_end v.drawn
 deals_whole put seats front left items views id v every pos d at =
     let is : put ≡ v.end = sym ((d.fit id v at).ends (omega arith)) in
     let all : total seats_of views ≡ v.seats = d.all ∙ sym every in
-    let told = total_one told_of seats_of views id v (λ j u e none. let few = (d.fit j u e).few in omega arith) at all in
-    subst (λ k. IsHandOut (k - seats) v.told v.drawn) is (
+    let at_end = total_one seats_at_end seats_of views id v (λ j u e none. let few = (d.fit j u e).few in omega arith) at all in
+    subst (λ k. IsHandOut (k - seats) v.at_end v.drawn) is (
       min (put - seats) front,
       omega arith,
-      (λ lt. let over = d.over (subst (λ t. 0 < t) (sym told) lt) in omega arith),
+      (λ lt. let over = d.over (subst (λ t. 0 < t) (sym at_end) lt) in omega arith),
       λ g. sym (total_one (λ u. sum_by g u.drawn) seats_of views id v (λ j u e none. ap (sum_by g) ((d.fit j u e).idle none)) at all) ∙ d.drawn g,
     )

@@ -117,8 +117,8 @@ takes id s e xs x items views h at =
       (refl, subst (λ k. Took k (hand e 1 0 xs) x t.0) mine (subst (λ y. Took h.1 (hand e 1 0 xs) y t.0) (sym f.2) t.2)),
     )
 
-pub takes_as : (id : ℕ) (v : QueueView) (s e : ℕ) (told : Bool) (xs : List ℕ) → v ≡ among s (hand e 1 (if told then 1 else 0) xs) → told ≡ false → Pops Dealt id v (Taken v)
-takes_as id v s e told xs is open_yet =
+pub takes_as : (id : ℕ) (v : QueueView) (s e : ℕ) (at_end : Bool) (xs : List ℕ) → v ≡ among s (hand e 1 (if at_end then 1 else 0) xs) → at_end ≡ false → Pops Dealt id v (Taken v)
+takes_as id v s e at_end xs is open_yet =
     let v_is : v ≡ among s (hand e 1 0 xs) = is ∙ ap (λ b. among s (hand e 1 (if b then 1 else 0) xs)) open_yet in
     subst (λ (u : QueueView). Pops Dealt id u (Taken u)) (sym v_is) (takes id s e xs)
 
@@ -147,5 +147,5 @@ merges id v other w some_seat items views h at apart at' =
 pub whole : (id : ℕ) (v : QueueView) → Learns Dealt id v (Total v)
 whole id v items views h at every pos =
     let mine : v.seats ≡ h.1 = h.5 id v at pos in
-    subst (λ k. IsHandOut (v.hand.end - k) v.hand.told v.hand.drawn) (sym mine)
+    subst (λ k. IsHandOut (v.hand.end - k) v.hand.at_end v.hand.drawn) (sym mine)
     (deals_whole h.0 h.1 h.2 h.3 items (map hand_in views) id v.hand (every ∙ mine) (subst (λ k. 0 < k) (every ∙ mine) pos) h.4 (at_map hand_in views id v at))

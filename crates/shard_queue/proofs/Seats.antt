@@ -5,21 +5,21 @@ use Rattle.shard_queue.specs.declared.claim_seat.ClaimSeat.{ClaimSeat}
 use Rattle.shard_queue.specs.Hands.{hand, joint_hand, IsHandOut}
 use Rattle.shard_queue.specs.Least.{no_number}
 use Rattle.shard_queue.specs.BoardRule.{both}
-use Rattle.shard_queue.specs.Boards.{drawn_of, told_in, lowered, seen, least_lowered, least_seen, Counts}
+use Rattle.shard_queue.specs.Boards.{claim_numbers, claim_seats_at_end, number_lowered, number_seen, least_lowered, least_seen, Counts}
 
-pub drawn_of-more : (ss : List ClaimSeat) (s : ClaimSeat) → drawn_of (ss ++ s ∷ []) ≡ drawn_of ss ++ s.taken.items
-drawn_of-more [] s = append-nil s.taken.items
-drawn_of-more (x ∷ ss) s = ap (λ ys. x.taken.items ++ ys) (drawn_of-more ss s) ∙ sym (append_assoc x.taken.items (drawn_of ss) s.taken.items)
+pub claim_numbers-more : (ss : List ClaimSeat) (s : ClaimSeat) → claim_numbers (ss ++ s ∷ []) ≡ claim_numbers ss ++ s.taken.items
+claim_numbers-more [] s = append-nil s.taken.items
+claim_numbers-more (x ∷ ss) s = ap (λ ys. x.taken.items ++ ys) (claim_numbers-more ss s) ∙ sym (append_assoc x.taken.items (claim_numbers ss) s.taken.items)
 
-pub told_in-more : (ss : List ClaimSeat) (s : ClaimSeat) → told_in (ss ++ s ∷ []) ≡ told_in ss + (if s.told then 1 else 0)
-told_in-more [] s = omega arith
-told_in-more (x ∷ ss) s = let more = told_in-more ss s in omega arith
+pub claim_seats_at_end-more : (ss : List ClaimSeat) (s : ClaimSeat) → claim_seats_at_end (ss ++ s ∷ []) ≡ claim_seats_at_end ss + (if s.at_end then 1 else 0)
+claim_seats_at_end-more [] s = omega arith
+claim_seats_at_end-more (x ∷ ss) s = let more = claim_seats_at_end-more ss s in omega arith
 
-pub lowered-more : (ss : List ClaimSeat) (s : ClaimSeat) → least_lowered (ss ++ s ∷ []) ≡ min (least_lowered ss) (lowered s)
+pub lowered-more : (ss : List ClaimSeat) (s : ClaimSeat) → least_lowered (ss ++ s ∷ []) ≡ min (least_lowered ss) (number_lowered s)
 lowered-more [] s = omega arith
 lowered-more (x ∷ ss) s = let more = lowered-more ss s in omega arith
 
-pub seen-more : (ss : List ClaimSeat) (s : ClaimSeat) → least_seen (ss ++ s ∷ []) ≡ min (least_seen ss) (seen s)
+pub seen-more : (ss : List ClaimSeat) (s : ClaimSeat) → least_seen (ss ++ s ∷ []) ≡ min (least_seen ss) (number_seen s)
 seen-more [] s = omega arith
 seen-more (x ∷ ss) s = let more = seen-more ss s in omega arith
 
@@ -27,24 +27,24 @@ pub lowered-small : (ss : List ClaimSeat) → least_lowered ss ≤ no_number
 lowered-small [] = omega arith
 lowered-small (x ∷ ss) = let more = lowered-small ss in omega arith
 
-pub counts_more : (ss : List ClaimSeat) (v : BoardView) (s : ClaimSeat) (u : BoardView) → Counts ss v → s.seat.me.0.hand ≡ hand s.end 1 (if s.told then 1 else 0) s.taken.items → u ≡ both v s.seat.me.0 → Counts (ss ++ s ∷ []) u
+pub counts_more : (ss : List ClaimSeat) (v : BoardView) (s : ClaimSeat) (u : BoardView) → Counts ss v → s.seat.me.0.hand ≡ hand s.end 1 (if s.at_end then 1 else 0) s.taken.items → u ≡ both v s.seat.me.0 → Counts (ss ++ s ∷ []) u
 counts_more ss v s u c is new =
-    let its : u.hand ≡ joint_hand v.hand (hand s.end 1 (if s.told then 1 else 0) s.taken.items) = ap (λ (x : BoardView). x.hand) new ∙ ap (joint_hand v.hand) is in
+    let its : u.hand ≡ joint_hand v.hand (hand s.end 1 (if s.at_end then 1 else 0) s.taken.items) = ap (λ (x : BoardView). x.hand) new ∙ ap (joint_hand v.hand) is in
     let len = length-append ss (s ∷ []) in
-    let told = told_in-more ss s in
+    let at_end = claim_seats_at_end-more ss s in
     let a = c.seats in
-    let b = c.told in
+    let b = c.at_end in
     let n : u.hand.seats ≡ v.hand.seats + 1 = ap (λ x. x.seats) its in
-    let t : u.hand.told ≡ v.hand.told + (if s.told then 1 else 0) = ap (λ x. x.told) its in
+    let t : u.hand.at_end ≡ v.hand.at_end + (if s.at_end then 1 else 0) = ap (λ x. x.at_end) its in
     record {
       seats = omega arith;
-      told = omega arith;
-      drawn = ap (λ x. x.drawn) its ∙ ap (λ ys. ys ++ s.taken.items) c.drawn ∙ sym (drawn_of-more ss s);
-      lowered = ap (λ (x : BoardView). x.low.lowered) new ∙ ap (λ n. min n (lowered s)) c.lowered ∙ sym (lowered-more ss s);
-      seen = ap (λ (x : BoardView). x.low.seen) new ∙ ap (λ n. min n (seen s)) c.seen ∙ sym (seen-more ss s);
+      at_end = omega arith;
+      drawn = ap (λ x. x.drawn) its ∙ ap (λ ys. ys ++ s.taken.items) c.drawn ∙ sym (claim_numbers-more ss s);
+      lowered = ap (λ (x : BoardView). x.low.lowered) new ∙ ap (λ n. min n (number_lowered s)) c.lowered ∙ sym (lowered-more ss s);
+      seen = ap (λ (x : BoardView). x.low.seen) new ∙ ap (λ n. min n (number_seen s)) c.seen ∙ sym (seen-more ss s);
     }
 
 -- what a view knows, for seats that are all that it counts
-pub whole_as : (n : ℕ) (ss all : List ClaimSeat) (v : BoardView) → Counts ss v → ss ≡ all → IsHandOut n v.hand.told v.hand.drawn → IsHandOut n (told_in all) (drawn_of all)
-whole_as n ss all v c same w = subst (λ (ts : List ClaimSeat). IsHandOut n (told_in ts) (drawn_of ts)) same
-    (subst (λ t. IsHandOut n t (drawn_of ss)) c.told (subst (λ (xs : List ℕ). IsHandOut n v.hand.told xs) c.drawn w))
+pub whole_as : (n : ℕ) (ss all : List ClaimSeat) (v : BoardView) → Counts ss v → ss ≡ all → IsHandOut n v.hand.at_end v.hand.drawn → IsHandOut n (claim_seats_at_end all) (claim_numbers all)
+whole_as n ss all v c same w = subst (λ (ts : List ClaimSeat). IsHandOut n (claim_seats_at_end ts) (claim_numbers ts)) same
+    (subst (λ t. IsHandOut n t (claim_numbers ss)) c.at_end (subst (λ (xs : List ℕ). IsHandOut n v.hand.at_end xs) c.drawn w))

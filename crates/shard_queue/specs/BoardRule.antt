@@ -20,8 +20,8 @@ low_of v = v.low
 abbrev pub both : BoardView → BoardView → BoardView
 both v w = view (joint_hand v.hand w.hand) (lesser v.low w.low)
 
-abbrev pub spent : BoardView
-spent = view empty_hand nothing_lowered
+abbrev pub empty_view : BoardView
+empty_view = view empty_hand nothing_lowered
 
 module _ {S : Type 0} where
   -- so many numbers among so many seats

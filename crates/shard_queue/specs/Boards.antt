@@ -9,44 +9,44 @@ abbrev pub IsAt : ClaimBoard → ClaimSeat → Type 0
 IsAt board seat = (seat.seat.table_id ≡ board.table.shared.table_id) × (seat.end ≡ board.end)
 
 -- the least number that the seat lowered, 2^64 - 1 without any
-abbrev pub lowered : ClaimSeat → ℕ
-lowered seat = seat.seat.me.0.low.lowered
+abbrev pub number_lowered : ClaimSeat → ℕ
+number_lowered seat = seat.seat.me.0.low.lowered
 
 -- the least number that the seat was shown, 2^64 - 1 without any
-abbrev pub seen : ClaimSeat → ℕ
-seen seat = seat.seat.me.0.low.seen
+abbrev pub number_seen : ClaimSeat → ℕ
+number_seen seat = seat.seat.me.0.low.seen
 
 -- it has taken nothing, lowered nothing and was shown nothing
 pub record IsNew (seat : ClaimSeat) : Type 0 where
   pub taken : seat.taken.items ≡ []
-  pub told : seat.told ≡ false
-  pub lowered : lowered seat ≡ no_number
-  pub seen : seen seat ≡ no_number
+  pub at_end : seat.at_end ≡ false
+  pub lowered : number_lowered seat ≡ no_number
+  pub seen : number_seen seat ≡ no_number
 
 -- what the seats have drawn, one seat after the other
-abbrev pub drawn_of : List ClaimSeat → List ℕ
-drawn_of [] = []
-drawn_of (s ∷ ss) = s.taken.items ++ drawn_of ss
+abbrev pub claim_numbers : List ClaimSeat → List ℕ
+claim_numbers [] = []
+claim_numbers (s ∷ ss) = s.taken.items ++ claim_numbers ss
 
--- how many of them were told the end
-abbrev pub told_in : List ClaimSeat → ℕ
-told_in [] = 0
-told_in (s ∷ ss) = (if s.told then 1 else 0) + told_in ss
+-- how many of them are at the end
+abbrev pub claim_seats_at_end : List ClaimSeat → ℕ
+claim_seats_at_end [] = 0
+claim_seats_at_end (s ∷ ss) = (if s.at_end then 1 else 0) + claim_seats_at_end ss
 
 -- the least number that one of them lowered
 abbrev pub least_lowered : List ClaimSeat → ℕ
 least_lowered [] = no_number
-least_lowered (s ∷ ss) = min (lowered s) (least_lowered ss)
+least_lowered (s ∷ ss) = min (number_lowered s) (least_lowered ss)
 
 -- the least number that one of them was shown
 abbrev pub least_seen : List ClaimSeat → ℕ
 least_seen [] = no_number
-least_seen (s ∷ ss) = min (seen s) (least_seen ss)
+least_seen (s ∷ ss) = min (number_seen s) (least_seen ss)
 
 -- the view counts these seats and knows what they know
 pub record Counts (ss : List ClaimSeat) (v : BoardView) : Type 0 where
   pub seats : v.hand.seats ≡ length ss
-  pub told : v.hand.told ≡ told_in ss
-  pub drawn : v.hand.drawn ≡ drawn_of ss
+  pub at_end : v.hand.at_end ≡ claim_seats_at_end ss
+  pub drawn : v.hand.drawn ≡ claim_numbers ss
   pub lowered : v.low.lowered ≡ least_lowered ss
   pub seen : v.low.seen ≡ least_seen ss

@@ -1,6 +1,6 @@
 -- Why lists group no threads.
 use Rattle.std.specs.Prelude.{◌≡◌, ◌<◌, ◌≤◌, ◌⊎◌, ℕ, ℤ, not, List, [], ◌∷◌, ◌++◌, length, flat_map, find, if◌then◌else◌, option_map, Option, Some, None}
-use Rattle.shard_queue.specs.Vocabulary.{Doubled, Firing, GroupFault, Missing, Stranger, TooMany, option_or}
+use Rattle.shard_queue.specs.Vocabulary.{Doubled, Firing, GroupFault, MOST_GROUPS, Missing, Stranger, TooMany, option_or}
 use Rattle.shard_queue.specs.Threads.{has, AreThreads}
 use Rattle.shard_queue.specs.Groupings.{Grouping, grouping_by_lists}
 
@@ -27,7 +27,7 @@ thread_fault threads lists =
 
 -- the lists group the trace's threads, each in one list
 pub record IsListed (lists : List (List ℤ)) (trace : List Firing) (groups : Grouping) : Type 0 where
-  pub few : length lists ≤ 4096
+  pub few : length lists ≤ MOST_GROUPS
   pub threads : List ℤ
   pub fired : AreThreads trace threads
   pub faultless : thread_fault threads lists ≡ None
@@ -36,8 +36,8 @@ pub record IsListed (lists : List (List ℤ)) (trace : List Firing) (groups : Gr
 -- they don't, since there are too many of them, or else since a thread is wrong or missing
 abbrev pub IsListFault : List (List ℤ) → List Firing → GroupFault → Type 0
 IsListFault lists trace fault =
-    ((4096 < length lists) × (fault ≡ TooMany))
-    ⊎ ((length lists ≤ 4096) × ((threads : List ℤ) × AreThreads trace threads
+    ((MOST_GROUPS < length lists) × (fault ≡ TooMany))
+    ⊎ ((length lists ≤ MOST_GROUPS) × ((threads : List ℤ) × AreThreads trace threads
     × (thread_fault threads lists ≡ Some fault)))
 
 -- the first thread without a number

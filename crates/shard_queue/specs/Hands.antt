@@ -4,15 +4,15 @@ use Rattle.shard_queue.specs.Vocabulary.{Hand, get_elem?, some}
 use Rattle.shard_queue.specs.Numbers.{IsAllBelow}
 
 abbrev pub hand : ℕ → ℕ → ℕ → List ℕ → Hand
-hand end seats told drawn = record { end = end; seats = seats; told = told; drawn = drawn }
+hand end seats at_end drawn = record { end = end; seats = seats; at_end = at_end; drawn = drawn }
 
 -- one view that knows what two did
 abbrev pub joint_hand : Hand → Hand → Hand
-joint_hand v w = hand w.end (v.seats + w.seats) (v.told + w.told) (v.drawn ++ w.drawn)
+joint_hand v w = hand w.end (v.seats + w.seats) (v.at_end + w.at_end) (v.drawn ++ w.drawn)
 
 -- a seat is cut off
 abbrev pub one_less : Hand → Hand
-one_less v = hand v.end (v.seats - 1) v.told v.drawn
+one_less v = hand v.end (v.seats - 1) v.at_end v.drawn
 
 abbrev pub empty_hand : Hand
 empty_hand = hand 0 0 0 []
@@ -25,20 +25,20 @@ total f (v ∷ vs) = f v + total f vs
 abbrev pub seats_of : Hand → ℕ
 seats_of v = v.seats
 
-abbrev pub told_of : Hand → ℕ
-told_of v = v.told
+abbrev pub seats_at_end : Hand → ℕ
+seats_at_end v = v.at_end
 
 -- a view that counts seats knows the end. One that counts none has drawn nothing
 pub record Fits (n : ℕ) (v : Hand) : Type 0 where
   pub ends : 0 < v.seats → v.end ≡ n
-  pub few : v.told ≤ v.seats
+  pub few : v.at_end ≤ v.seats
   pub idle : v.seats ≡ 0 → v.drawn ≡ []
 
 abbrev pub AllFit : ℕ → List Hand → Type 0
 AllFit n views = (by : ℕ) (v : Hand) → get_elem? views by ≡ some v → Fits n v
 
--- what was drawn is the numbers below some front, each once: all below n if someone was told the
+-- what was drawn is the numbers below some front, each once: all below n if someone is at the
 -- end
 abbrev pub IsHandOut : ℕ → ℕ → List ℕ → Type 0
-IsHandOut n told drawn =
-    (front : ℕ) × (front ≤ n) × (0 < told → front ≡ n) × IsAllBelow front drawn
+IsHandOut n at_end drawn =
+    (front : ℕ) × (front ≤ n) × (0 < at_end → front ≡ n) × IsAllBelow front drawn

@@ -1,9 +1,9 @@
 -- The rule of a queue. It holds the numbers from the front on, and after them an end mark for each
--- seat: who takes one of those is told the end.
+-- seat: who takes one of those is at the end.
 use Rattle.std.specs.Prelude.{◌≡◌, ℕ, zero, suc, ◌+◌, ◌-◌, ◌≤◌, ◌<◌, ◌⊎◌, min, List, [], ◌∷◌, ◌++◌, length, sum_by, Contains}
 use Rattle.shard_queue.specs.Vocabulary.{Hand}
 use Rattle.shard_queue.specs.Numbers.{below}
-use Rattle.shard_queue.specs.Hands.{hand, total, seats_of, told_of, AllFit}
+use Rattle.shard_queue.specs.Hands.{hand, total, seats_of, seats_at_end, AllFit}
 
 abbrev pub count_up : ℕ → ℕ → List ℕ
 count_up a zero = []
@@ -15,15 +15,15 @@ pub record Deals (put seats front left : ℕ) (items : List ℕ) (views : List H
   pub sum_is : front + left ≡ put
   pub fit : AllFit put views
   pub all : total seats_of views ≡ seats
-  pub most : front ≤ (put - seats) + total told_of views
-  pub over : 0 < total told_of views → put - seats < front
+  pub most : front ≤ (put - seats) + total seats_at_end views
+  pub over : 0 < total seats_at_end views → put - seats < front
   pub drawn : (h : ℕ → ℕ)
       → total (λ v. sum_by h v.drawn) views ≡ sum_by h (below (min (put - seats) front))
 
--- one take among so many seats: the number joins what was drawn, or it is a mark: the seat is told
+-- one take among so many seats: the number joins what was drawn, or it is a mark: the seat is at
 -- the end
 abbrev pub Took : ℕ → Hand → ℕ → Hand → Type 0
 Took seats v x w =
-    ((x + seats < v.end) × (w ≡ hand v.end v.seats v.told (v.drawn ++ x ∷ []))
+    ((x + seats < v.end) × (w ≡ hand v.end v.seats v.at_end (v.drawn ++ x ∷ []))
     × ¬ (Contains v.drawn x) × (length v.drawn + seats < v.end))
-    ⊎ ((v.end ≤ x + seats) × (w ≡ hand v.end v.seats (v.told + 1) v.drawn))
+    ⊎ ((v.end ≤ x + seats) × (w ≡ hand v.end v.seats (v.at_end + 1) v.drawn))

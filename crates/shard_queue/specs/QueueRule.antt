@@ -24,11 +24,11 @@ no_seat = among 0 empty_hand
 
 -- before anything is put, there is one seat more
 abbrev pub one_more : QueueView → QueueView
-one_more v = among (v.seats + 1) (hand v.hand.end (v.hand.seats + 1) v.hand.told v.hand.drawn)
+one_more v = among (v.seats + 1) (hand v.hand.end (v.hand.seats + 1) v.hand.at_end v.hand.drawn)
 
 -- one number or mark more was put
 abbrev pub one_put : QueueView → QueueView
-one_put v = among v.seats (hand (v.hand.end + 1) v.hand.seats v.hand.told v.hand.drawn)
+one_put v = among v.seats (hand (v.hand.end + 1) v.hand.seats v.hand.at_end v.hand.drawn)
 
 -- a seat is cut off
 abbrev pub one_off : QueueView → QueueView
@@ -45,9 +45,9 @@ Taken v x w = (w.seats ≡ v.seats) × Took v.seats v.hand x w.hand
 
 -- a seat that was not told the end never finds the queue empty
 abbrev pub More : QueueView → List ℕ → Type 0
-More v items = v.hand.told < v.hand.seats → v.seats ≤ v.hand.end → 0 < length items
+More v items = v.hand.at_end < v.hand.seats → v.seats ≤ v.hand.end → 0 < length items
 
 -- what was drawn, where every seat is counted
 abbrev pub Total : QueueView → List ℕ → Type 0
 Total v items = v.hand.seats ≡ v.seats → 0 < v.hand.seats
-    → IsHandOut (v.hand.end - v.seats) v.hand.told v.hand.drawn
+    → IsHandOut (v.hand.end - v.seats) v.hand.at_end v.hand.drawn

@@ -12,23 +12,23 @@ IsIn queue seat =
 
 -- it has taken nothing
 abbrev pub IsUnused : QueueSeat → Type 0
-IsUnused seat = (seat.taken.items ≡ []) × (seat.told ≡ false)
+IsUnused seat = (seat.taken.items ≡ []) × (seat.at_end ≡ false)
 
 -- what the seats have taken, one seat after the other
-abbrev pub taken_by : List QueueSeat → List ℕ
-taken_by [] = []
-taken_by (s ∷ ss) = s.taken.items ++ taken_by ss
+abbrev pub queue_numbers : List QueueSeat → List ℕ
+queue_numbers [] = []
+queue_numbers (s ∷ ss) = s.taken.items ++ queue_numbers ss
 
--- how many of them were told the end
-abbrev pub told_by : List QueueSeat → ℕ
-told_by [] = 0
-told_by (s ∷ ss) = (if s.told then 1 else 0) + told_by ss
+-- how many of them are at the end
+abbrev pub queue_seats_at_end : List QueueSeat → ℕ
+queue_seats_at_end [] = 0
+queue_seats_at_end (s ∷ ss) = (if s.at_end then 1 else 0) + queue_seats_at_end ss
 
 -- the pass is of the queue, counts these seats and knows what they know
 pub record Sums (queue : GroupQueue) (ss : List QueueSeat) (p : Pass ℕ QueueView) : Type 0 where
   pub pass : IsPassOf queue.queue p
   pub view : pass_view p ≡ among queue.workers
-      (hand (queue.end + queue.workers) (length ss) (told_by ss) (taken_by ss))
+      (hand (queue.end + queue.workers) (length ss) (queue_seats_at_end ss) (queue_numbers ss))
 
 -- the same, where there are seats
 abbrev pub SumsIf : GroupQueue → List QueueSeat → Option (Pass ℕ QueueView) → Type 0

@@ -7,6 +7,7 @@ ghost use Rattle.shard_queue.specs.{BoardRule.view, Hands.IsHandOut, Hands.hand,
 use crate::board_rule::{Arrives, Claims, Gathers, OneSeat};
 use crate::claim_seat::ClaimSeat;
 use crate::knowledge::BoardView;
+use crate::queue::MOST_WORKERS;
 use atomic_table::{Seat, Table};
 use std::alloc::{AllocError, Global};
 
@@ -29,7 +30,7 @@ pub struct Closed {
 }
 
 impl ClaimBoard {
-    ghost use Rattle.shard_queue.specs.Boards.{IsAt, IsNew, drawn_of, told_in, least_lowered, least_seen};
+    ghost use Rattle.shard_queue.specs.Boards.{IsAt, IsNew, claim_numbers, claim_seats_at_end, least_lowered, least_seen};
 
     /// A board of the numbers below `end`, and a seat for each worker. Err where memory was
     /// refused.
@@ -42,7 +43,7 @@ impl ClaimBoard {
         end: u32,
         workers: usize,
     ) -> Result<(ClaimBoard, Vec<ClaimSeat>), AllocError>
-        requires { workers ≤ 16 }
+        requires { workers ≤ MOST_WORKERS }
         ensures board { IfOk result (λ r. (r.0.end ≡ end) × (r.0.workers ≡ workers)) }
         ensures seats { IfOk result
             (λ r. (vec_len r.1 ≡ workers) × All (λ s. IsAt r.0 s × IsNew s) r.1.items) }
@@ -58,7 +59,7 @@ impl ClaimBoard {
         end: u32,
         workers: usize,
     ) -> Result<(ClaimBoard, Seat<(), BoardView>), AllocError>
-        requires { workers ≤ 16 }
+        requires { workers ≤ MOST_WORKERS }
         ensures board { IfOk result (λ r. (r.0.end ≡ end) × (r.0.workers ≡ workers)) }
         ensures rest { IfOk result (λ r. (r.1.table_id ≡ r.0.table.shared.table_id)
             × (r.1.me ≡ (view (hand end workers 0 []) nothing_lowered, []))) }
@@ -110,12 +111,12 @@ impl ClaimBoard {
             seat,
             taken,
             end: self.end,
-            told: false,
+            at_end: false,
         }
     }
 
     /// Each seat's list, and the least number. With all seats, the lists have the numbers below
-    /// some front, each once, and all if a seat was told the end. Err where memory was refused.
+    /// some front, each once, and all if a seat is at the end. Err where memory was refused.
     ///
     /// ```text
     /// let closed = board.close(alloc, seats)?;
@@ -126,7 +127,7 @@ impl ClaimBoard {
         requires every { vec_len seats ≡ self.workers }
         ensures lists { IfOk result (λ c. c.lists.items ≡ map (λ s. s.taken) seats.items) }
         ensures whole { IfOk result
-            (λ c. IsHandOut self.end (told_in seats.items) (drawn_of seats.items)) }
+            (λ c. IsHandOut self.end (claim_seats_at_end seats.items) (claim_numbers seats.items)) }
         ensures least { IfOk result (λ c. (c.least ≡ least_lowered seats.items)
             × (c.least ≤ least_seen seats.items)) }
     {
@@ -137,7 +138,7 @@ impl ClaimBoard {
                 seat,
                 taken,
                 end: _,
-                told: _,
+                at_end: _,
             } = place;
             self.table.shared.join_seat::<Gathers>(&mut all, seat);
             lists.push_reserved(taken);

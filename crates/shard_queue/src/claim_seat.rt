@@ -7,23 +7,23 @@ use crate::board_rule::{Claims, Looks, Lowers};
 use crate::knowledge::BoardView;
 use atomic_table::Seat;
 
-/// A worker's place at a board: the numbers that it claimed, and whether it was told the end.
+/// A worker's place at a board: the numbers that it claimed, and whether it is at the end.
 #[derive(Drop)]
 pub struct ClaimSeat {
     pub(crate) seat: Seat<(), BoardView>,
     pub(crate) taken: Vec<u32>,
     pub(crate) end: u32,
-    pub(crate) told: bool,
-    ghost knows: { seat.me.0.hand ≡ hand end 1 (if told then 1 else 0) taken.items },
+    pub(crate) at_end: bool,
+    ghost knows: { seat.me.0.hand ≡ hand end 1 (if at_end then 1 else 0) taken.items },
     ghost empty: { seat.me.1 ≡ [] },
     ghost room: { end ≤ vec_capacity taken },
 }
 
 impl ClaimBoard {
-    ghost use Rattle.shard_queue.specs.Boards.{IsAt, lowered, seen};
+    ghost use Rattle.shard_queue.specs.Boards.{IsAt, number_lowered, number_seen};
 
-    /// The next number, which no seat had before, or `None` at the end. A seat that was told the
-    /// end is told it again, without a step.
+    /// The next number, which no seat had before, or `None` at the end. A seat that is at the
+    /// end stays there, without a step.
     ///
     /// ```text
     /// while let Some(group) = board.claim(&mut seat) {
@@ -35,13 +35,14 @@ impl ClaimBoard {
         ensures seat { IsAt self.now seat.new }
         ensures some { IfSome result (λ g. (g < self.now.end) × ¬ (Contains seat.old.taken.items g)
             × (seat.new.taken.items ≡ seat.old.taken.items ++ g ∷ [])) }
-        ensures more { IsSome result → (seat.old.told ≡ false) × (seat.new.told ≡ false) }
+        ensures more { IsSome result → (seat.old.at_end ≡ false) × (seat.new.at_end ≡ false) }
         ensures none { IfNone result
-            ((seat.new.told ≡ true) × (seat.new.taken.items ≡ seat.old.taken.items)) }
-        ensures again { seat.old.told ≡ true → seat.new ≡ seat.old }
-        ensures least { (lowered seat.new ≡ lowered seat.old) × (seen seat.new ≡ seen seat.old) }
+            ((seat.new.at_end ≡ true) × (seat.new.taken.items ≡ seat.old.taken.items)) }
+        ensures again { seat.old.at_end ≡ true → seat.new ≡ seat.old }
+        ensures least { (number_lowered seat.new ≡ number_lowered seat.old)
+            × (number_seen seat.new ≡ number_seen seat.old) }
     {
-        if seat.told {
+        if seat.at_end {
             return None;
         }
         let found = self.table.shared.fetch_add::<Claims>(&mut seat.seat, 0, 1);
@@ -50,7 +51,7 @@ impl ClaimBoard {
             seat.taken.push_reserved(number);
             Some(number)
         } else {
-            seat.told = true;
+            seat.at_end = true;
             None
         }
     }
@@ -63,10 +64,10 @@ impl ClaimBoard {
     pub fn lower(&self, seat: &mut ClaimSeat, number: u64)
         requires { IsAt self.now seat.old }
         ensures seat { IsAt self.now seat.new }
-        ensures lowered { lowered seat.new ≡ min (lowered seat.old) number }
-        ensures seen { seen seat.new ≡ seen seat.old }
+        ensures lowered { number_lowered seat.new ≡ min (number_lowered seat.old) number }
+        ensures seen { number_seen seat.new ≡ number_seen seat.old }
         ensures others { (seat.new.taken.items ≡ seat.old.taken.items)
-            × (seat.new.told ≡ seat.old.told) }
+            × (seat.new.at_end ≡ seat.old.at_end) }
     {
         self.table
             .shared
@@ -83,12 +84,12 @@ impl ClaimBoard {
     pub fn least(&self, seat: &mut ClaimSeat) -> u64
         requires { IsAt self.now seat.old }
         ensures seat { IsAt self.now seat.new }
-        ensures own { result ≤ lowered seat.old }
-        ensures before { result ≤ seen seat.old }
-        ensures lowered { lowered seat.new ≡ lowered seat.old }
-        ensures seen { seen seat.new ≡ result }
+        ensures own { result ≤ number_lowered seat.old }
+        ensures before { result ≤ number_seen seat.old }
+        ensures lowered { number_lowered seat.new ≡ number_lowered seat.old }
+        ensures seen { number_seen seat.new ≡ result }
         ensures others { (seat.new.taken.items ≡ seat.old.taken.items)
-            × (seat.new.told ≡ seat.old.told) }
+            × (seat.new.at_end ≡ seat.old.at_end) }
     {
         self.table.shared.load::<Looks>(&mut seat.seat, 1)
     }

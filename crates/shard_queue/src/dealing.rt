@@ -4,6 +4,7 @@ ghost use Rattle.std.specs.Prelude.{◌≡◌, ◌<◌, ◌≤◌, ◌%◌, map,
 ghost use Rattle.shard_queue.specs.{Groupings.IsDealt, Groups.AreOf, Groups.grouping, Numbers.below, Threads.run_threads};
 
 use crate::groups::Groups;
+use crate::listing::MOST_GROUPS;
 use firing_reader::Trace;
 use std::alloc::{AllocError, Global};
 
@@ -16,7 +17,7 @@ impl Groups {
     /// groups.group_of(9) // Some(0), as of 3, 5 and 9 it is the third
     /// ```
     pub fn deal(alloc: Global, trace: &Trace, groups: u32) -> Result<Groups, AllocError>
-        requires { (0 < groups) × (groups ≤ 4096) }
+        requires { (0 < groups) × (groups ≤ MOST_GROUPS) }
         ensures dealt { IfOk result (λ r. IsDealt groups trace.now (grouping r)) }
         ensures of { IfOk result (λ r. AreOf r (run_threads trace.now)) }
     {

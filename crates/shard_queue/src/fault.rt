@@ -3,6 +3,7 @@
 ghost use Rattle.std.specs.Prelude.{◌≡◌};
 ghost use Rattle.shard_queue.specs.declared.fault.GroupFault.TheVariants.{Memory};
 
+use crate::listing::MOST_GROUPS;
 use std::alloc::AllocError;
 use thiserror::Error;
 
@@ -19,8 +20,8 @@ pub enum GroupFault {
     /// A thread in a list that didn't fire.
     #[error("thread {thread} is listed and did not fire")]
     Stranger { thread: i32 },
-    /// More than 4,096 lists.
-    #[error("more than 4096 lists")]
+    /// More than `MOST_GROUPS` lists.
+    #[error("more than {most} lists", most = MOST_GROUPS)]
     TooMany,
     /// Memory was refused.
     #[error("out of memory")]

@@ -5,7 +5,8 @@ ghost use Rattle.shard_queue.specs.Vocabulary.{int_eq, lookup, zip};
 ghost use Rattle.shard_queue.specs.{Groupings.places_of, Groupings.with_own, Groups.AreOf, Groups.grouping, Groups.places, Threads.AreThreads, Threads.run_threads};
 
 use crate::groups::Groups;
-use firing_reader::{Firings, Trace};
+use crate::listing::MOST_GROUPS;
+use firing_reader::{Firings, MOST_ROWS, Trace};
 use std::alloc::{AllocError, Global};
 
 impl Groups {
@@ -20,7 +21,7 @@ impl Groups {
     ) -> Result<Groups, AllocError>
         requires threads { AreThreads trace.now threads.items }
         requires numbers { (vec_len numbers ≡ vec_len threads) × All (λ g. g < own) numbers.items }
-        requires few { own ≤ 4096 }
+        requires few { own ≤ MOST_GROUPS }
         ensures grouping { IfOk result (λ r. grouping r
             ≡ with_own own (λ t. lookup (int_eq t) (zip threads.items numbers.items))) }
         ensures of { IfOk result (λ r. AreOf r (run_threads trace.now)) }
@@ -39,7 +40,7 @@ impl Groups {
     // Notes the places of the firings, with BEGIN before them and END after them.
     fn fill(&mut self, firings: &Firings) -> Result<(), AllocError>
         requires empty { (g : ℕ) → places self.old g ≡ [] }
-        requires few { length firings.now ≤ 1_000_000 }
+        requires few { length firings.now ≤ MOST_ROWS }
         ensures grouping { OnOk result (grouping self.new ≡ grouping self.old) }
         ensures places { OnOk result ((g : ℕ) → places self.new g
             ≡ places_of (grouping self.old) g (run_threads firings.now)) }

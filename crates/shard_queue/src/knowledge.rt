@@ -2,12 +2,12 @@
 
 use std::collections::LinkedList;
 
-/// What was handed to some seats: the end, how many seats these are, how many of them were told the
+/// What was handed to some seats: the end, how many seats these are, how many of them are at the
 /// end, and the numbers that they drew.
 pub struct Hand {
     pub end: u64,
     pub seats: u64,
-    pub told: u64,
+    pub at_end: u64,
     pub drawn: LinkedList<u32>,
 }
 

@@ -22,8 +22,5 @@ pub use fault::GroupFault;
 pub use groups::Groups;
 pub use knowledge::{BoardView, Hand, Low, QueueView};
 pub use listing::MOST_GROUPS;
-pub use queue::GroupQueue;
+pub use queue::{GroupQueue, MOST_WORKERS};
 pub use queue_seat::QueueSeat;
-
-#[cfg(test)]
-mod tests;

@@ -1,6 +1,6 @@
 //! Threads grouped by lists.
 
-ghost use Rattle.std.specs.Prelude.{◌≡◌, ◌<◌, ◌≤◌, ◌+◌, ◌++◌, ◌⊎◌, ℕ, ℤ, true, false, Some, None, [], List, map, take, set, length, slice_get, slice_index_or, is_some, IfOk, OnOk, IfErr, MatchResult};
+ghost use Rattle.std.specs.Prelude.{◌≡◌, ◌<◌, ◌≤◌, ◌+◌, ◌++◌, ◌⊎◌, ℕ, ℤ, false, Some, None, [], List, map, take, set, length, slice_get, slice_index_or, is_some, IfOk, OnOk, IfErr, MatchResult};
 ghost use Rattle.shard_queue.specs.Faults.{IsListFault, IsListed, all_of, first_missing, first_unfound, first_wrong, thread_fault};
 ghost use Rattle.shard_queue.specs.{Groupings.list_of, Groups.AreOf, Groups.grouping, Threads.has, Threads.items_of, Threads.run_threads, Vocabulary.Doubled, Vocabulary.IsStrictlySortedBy, Vocabulary.Memory, Vocabulary.Stranger, Vocabulary.int_cmp};
 
@@ -47,7 +47,7 @@ impl Groups {
 // The number of each thread's list.
 fn list_numbers(alloc: Global, threads: &[i32], lists: &[Vec<i32>]) -> Result<Vec<u32>, GroupFault>
     requires ascending { IsStrictlySortedBy int_cmp threads.now }
-    requires few { length lists.now ≤ 4096 }
+    requires few { length lists.now ≤ MOST_GROUPS }
     ensures right { OnOk result (first_wrong threads.now [] (all_of (items_of lists.now)) ≡ None) }
     ensures whole { OnOk result (first_missing threads.now (all_of (items_of lists.now)) ≡ None) }
     ensures numbers { IfOk result
@@ -78,7 +78,7 @@ fn note_list(
     list: usize,
 ) -> Result<(), GroupFault>
     requires ascending { IsStrictlySortedBy int_cmp threads.now }
-    requires few { (list < length lists.now) × (length lists.now ≤ 4096) }
+    requires few { (list < length lists.now) × (length lists.now ≤ MOST_GROUPS) }
     requires before { found.old ≡ map (list_of (take list (items_of lists.now))) threads.now }
     ensures noted { OnOk result
         (found.new ≡ map (list_of (take (list + 1) (items_of lists.now))) threads.now) }

@@ -1,14 +1,18 @@
 //! A queue of numbers, from which each seat takes. After them comes an end mark for each seat.
 
-ghost use Rattle.std.specs.Prelude.{◌≡◌, ◌<◌, ◌≤◌, ◌+◌, ◌-◌, [], None, Some, map, length, All, IfOk, IfSome, vec_len, vec_capacity};
+ghost use Rattle.std.specs.Prelude.{◌≡◌, ◌<◌, ◌≤◌, ◌+◌, ◌-◌, [], None, Some, map, All, IfOk, IfSome, vec_len, vec_capacity};
 ghost use Rattle.shard_queue.specs.{Hands.IsHandOut, Hands.hand, QueueRule.among, QueueRule.joint, Vocabulary.IsPassOf, Vocabulary.pass_view};
 
 use crate::knowledge::QueueView;
+use crate::listing::MOST_GROUPS;
 use crate::queue_rule::{Deals, Gathers, Grows, OneSeat, Puts};
 use crate::queue_seat::QueueSeat;
 use crossbeam_queue::{Pass, RuledArrayQueue};
 use std::alloc::{AllocError, Global};
 use std::sync::Wait;
+
+/// The most workers that share a queue or a board.
+pub const MOST_WORKERS: u32 = 16;
 
 /// Hands out the numbers below its end.
 #[derive(Drop)]
@@ -20,7 +24,7 @@ pub struct GroupQueue {
 }
 
 impl GroupQueue {
-    ghost use Rattle.shard_queue.specs.Queues.{IsIn, IsUnused, Sums, SumsIf, taken_by, told_by};
+    ghost use Rattle.shard_queue.specs.Queues.{IsIn, IsUnused, queue_numbers, queue_seats_at_end};
 
     /// A queue of the numbers below `end`, and a seat for each worker. Err where memory was
     /// refused.
@@ -34,7 +38,7 @@ impl GroupQueue {
         end: u32,
         workers: u32,
     ) -> Result<(GroupQueue, Vec<QueueSeat>), AllocError>
-        requires { (end ≤ 4097) × (0 < workers) × (workers ≤ 16) }
+        requires { (end ≤ MOST_GROUPS + 1) × (0 < workers) × (workers ≤ MOST_WORKERS) }
         ensures queue { IfOk result (λ r. (r.0.end ≡ end) × (r.0.workers ≡ workers)) }
         ensures seats { IfOk result
             (λ r. (vec_len r.1 ≡ workers) × All (λ s. IsIn r.0 s × IsUnused s) r.1.items) }
@@ -52,7 +56,7 @@ impl GroupQueue {
         end: u32,
         workers: u32,
     ) -> Result<(GroupQueue, Pass<u32, QueueView>), AllocError>
-        requires { (end ≤ 4097) × (0 < workers) × (workers ≤ 16) }
+        requires { (end ≤ MOST_GROUPS + 1) × (0 < workers) × (workers ≤ MOST_WORKERS) }
         ensures queue { IfOk result (λ r. (r.0.end ≡ end) × (r.0.workers ≡ workers)) }
         ensures pass { IfOk result
             (λ r. IsPassOf r.0.queue r.1 × (pass_view r.1 ≡ among 1 (hand 0 1 0 []))) }
@@ -82,7 +86,7 @@ impl GroupQueue {
 
     // Puts each number, and the marks.
     fn fill<R: Wait>(&self, rt: &R, mut pass: Pass<u32, QueueView>) -> Pass<u32, QueueView>
-        requires end { (self.now.end ≤ 4097) × (self.now.workers ≤ 16) }
+        requires end { (self.now.end ≤ MOST_GROUPS + 1) × (self.now.workers ≤ MOST_WORKERS) }
         requires pass { IsPassOf self.now.queue pass
             × (pass_view pass ≡ among self.now.workers (hand 0 self.now.workers 0 [])) }
         ensures { let seats = self.now.workers in IsPassOf self.now.queue result
@@ -130,12 +134,12 @@ impl GroupQueue {
             taken,
             end: self.end,
             workers: self.workers,
-            told: false,
+            at_end: false,
         }
     }
 
     /// Each seat's list. With all seats, they have the numbers below some front, each once, and all
-    /// if a seat was told the end. Err where memory was refused.
+    /// if a seat is at the end. Err where memory was refused.
     ///
     /// ```text
     /// queue.close(alloc, seats)? // as [[0, 2], [1]], where the first seat took 0 and 2
@@ -145,7 +149,7 @@ impl GroupQueue {
         requires every { vec_len seats ≡ self.workers }
         ensures lists { IfOk result (λ v. v.items ≡ map (λ s. s.taken) seats.items) }
         ensures whole { IfOk result
-            (λ v. IsHandOut self.end (told_by seats.items) (taken_by seats.items)) }
+            (λ v. IsHandOut self.end (queue_seats_at_end seats.items) (queue_numbers seats.items)) }
     {
         let mut lists = Vec::with_capacity(alloc, seats.len())?;
         let mut all = None;
@@ -155,7 +159,7 @@ impl GroupQueue {
                 taken,
                 end: _,
                 workers: _,
-                told: _,
+                at_end: _,
             } = place;
             all = Some(self.join(all, pass));
             lists.push_reserved(taken);

@@ -9,16 +9,16 @@ use crate::queue_rule::Takes;
 use crossbeam_queue::Pass;
 use std::sync::Wait;
 
-/// A worker's place at a queue: the numbers that it took, and whether it was told the end.
+/// A worker's place at a queue: the numbers that it took, and whether it is at the end.
 #[derive(Drop)]
 pub struct QueueSeat {
     pub(crate) pass: Pass<u32, QueueView>,
     pub(crate) taken: Vec<u32>,
     pub(crate) end: u32,
     pub(crate) workers: u32,
-    pub(crate) told: bool,
+    pub(crate) at_end: bool,
     ghost knows: { pass_view pass
-        ≡ among workers (hand (end + workers) 1 (if told then 1 else 0) taken.items) },
+        ≡ among workers (hand (end + workers) 1 (if at_end then 1 else 0) taken.items) },
     ghost room: { end ≤ vec_capacity taken },
 }
 
@@ -37,12 +37,12 @@ impl GroupQueue {
         ensures seat { IsIn self.now seat.new }
         ensures some { IfSome result (λ g. (g < self.now.end) × ¬ (Contains seat.old.taken.items g)
             × (seat.new.taken.items ≡ seat.old.taken.items ++ g ∷ [])) }
-        ensures more { IsSome result → (seat.old.told ≡ false) × (seat.new.told ≡ false) }
+        ensures more { IsSome result → (seat.old.at_end ≡ false) × (seat.new.at_end ≡ false) }
         ensures none { IfNone result
-            ((seat.new.told ≡ true) × (seat.new.taken.items ≡ seat.old.taken.items)) }
-        ensures again { seat.old.told ≡ true → seat.new ≡ seat.old }
+            ((seat.new.at_end ≡ true) × (seat.new.taken.items ≡ seat.old.taken.items)) }
+        ensures again { seat.old.at_end ≡ true → seat.new ≡ seat.old }
     {
-        if seat.told {
+        if seat.at_end {
             return None;
         }
         let Some(number) = self.queue.pop_as::<Takes, R>(rt, &mut seat.pass) else {
@@ -52,7 +52,7 @@ impl GroupQueue {
             seat.taken.push_reserved(number);
             Some(number)
         } else {
-            seat.told = true;
+            seat.at_end = true;
             None
         }
     }

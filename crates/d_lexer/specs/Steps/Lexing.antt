@@ -11,14 +11,14 @@ abbrev pub Stops : LexFault → End → Type 0
 Stops fault end = (fault ≡ faults.Memory) ⊎ (end ≡ Bad fault)
 
 -- what was read so far, and what comes
-abbrev pub joined : List Token → Scanned → Scanned
-joined ts s = (ts ++ s.0, s.1)
+abbrev pub with_tokens : List Token → Scanned → Scanned
+with_tokens ts s = (ts ++ s.0, s.1)
 
 -- what one step does: the tokens before it and after it, the result, and what the bytes had and
 -- have
 abbrev pub Steps : (old new : List Token) → Result (Place × ℕ) LexFault → Scanned
     → (ℕ → Place → Scanned) → Type 0
-Steps old new (Ok r) s go = joined new (go r.1 r.0) ≡ joined old s
+Steps old new (Ok r) s go = with_tokens new (go r.1 r.0) ≡ with_tokens old s
 Steps old new (Err e) s go = Stops e s.1
 
 -- all the bytes read, or a stop

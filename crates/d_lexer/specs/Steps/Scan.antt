@@ -2,7 +2,7 @@
 use Rattle.std.specs.Prelude.{◌≡◌, ℕ, zero, suc, ◌+◌, ◌≤◌, ◌==◌, Bool, true, false, ◌&&◌, if◌then◌else◌, Option, Some, None, Result, Ok, Err, List, [], ◌∷◌, length, take, take_while}
 use Rattle.d_lexer.specs.Vocabulary.{is_ascii_digit, Mark, Suffix, Token, TokenKind, Place, Head, Declaration, Predicate, Body, Position, Front, Flaw, Stop, Gap, BadByte, Unclosed, Constant, Escape, OptionLine}
 use Rattle.d_lexer.specs.Bytes.{next_is, is_blank, is_word_start, is_word_byte, is_run_byte, is_inside, begins_comment, escape_of, is_declaring, line_feed, quote, backslash, at_sign, star, slash, underscore, hash}
-use Rattle.d_lexer.specs.Places.{passed, is_first, is_hash, after}
+use Rattle.d_lexer.specs.Places.{after_byte, is_first, is_hash, after}
 use Rattle.d_lexer.specs.Tokens.{End, Clean, Bad}
 use Rattle.d_lexer.specs.{Steps.Numbers.number_of, Marks.mark_of, Faults.on_line, Steps.OptionLine.is_option, Outcomes.Gives as GivesBy}
 
@@ -213,5 +213,5 @@ scan_by go p pos (Ok (Front.Token t n)) =
 -- the tokens of the bytes, once the first n are passed
 unfoldable pub scan : ℕ → Place → Position → List ℕ → Scanned
 scan n p pos [] = ([], Clean)
-scan (suc n) p pos (b ∷ z) = scan n p (passed pos b) z
-scan zero p pos (b ∷ z) = scan_by (λ n q. scan n q (passed pos b) z) p pos (front_at p pos b z)
+scan (suc n) p pos (b ∷ z) = scan n p (after_byte pos b) z
+scan zero p pos (b ∷ z) = scan_by (λ n q. scan n q (after_byte pos b) z) p pos (front_at p pos b z)

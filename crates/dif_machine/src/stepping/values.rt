@@ -1,12 +1,13 @@
 //! Instructions that move a value of either kind, or none.
 
-ghost use Rattle.dif_machine.specs.Vocabulary.{FrameInMemory, Mov, Sets, Ldgs, Ret, Nop};
-ghost use Rattle.dif_machine.specs.Instructions.{ExecutesAnywhere, HasNext};
+ghost use Rattle.dif_machine.specs.Vocabulary.{Difo, FrameInMemory, Mov, Sets, Ldgs, Ret, Nop};
+ghost use Rattle.dif_machine.specs.Instructions.{Executes, ExecutesAnywhere, HasNext};
 
 use crate::fault::MachineFault;
 use crate::frame::Frame;
 use crate::held::Held;
 use dif_validate::Reg;
+use firing_reader::Firing;
 
 /// `mov a, d`: what another register holds.
 pub(super) fn mov(frame: &mut Frame, a: Reg, d: Reg) -> Result<Option<Reg>, MachineFault>
@@ -27,11 +28,16 @@ pub(super) fn sets(frame: &mut Frame, i: usize, d: Reg) -> Result<Option<Reg>, M
 }
 
 /// `ldgs v, d`: the built-in variable of this number. A text stays in the firing.
-pub(super) fn ldgs(frame: &mut Frame, v: u8, d: Reg) -> Result<Option<Reg>, MachineFault>
+pub(super) fn ldgs(
+    firing: &Firing,
+    frame: &mut Frame,
+    v: u8,
+    d: Reg,
+) -> Result<Option<Reg>, MachineFault>
     requires { HasNext frame.old }
-    ensures { ExecutesAnywhere (Ldgs v d) frame.old result frame.new }
+    ensures { (difo : Difo) → Executes (Ldgs v d) difo firing.now frame.old result frame.new }
 {
-    frame.put(d, Held::BuiltIn(v));
+    frame.put(d, Held::built_in(firing, v));
     Ok(None)
 }
 

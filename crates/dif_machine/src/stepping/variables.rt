@@ -5,7 +5,6 @@ ghost use Rattle.dif_machine.specs.Instructions.{CanExecute, ExecutesOnLocals, E
 
 use crate::fault::MachineFault;
 use crate::frame::Frame;
-use crate::held::Held;
 use crate::sources::{load, load_local};
 use d_values::{ClauseLocals, Key, ThreadTable, Var};
 use dif_validate::{Difo, Reg};
@@ -24,7 +23,7 @@ pub(super) fn ldts(
     ensures { LoadsOwn (Ldts x d) frame.old own.now result frame.new }
 {
     let value = load(alloc, own, x, &Key::new(alloc))?;
-    frame.put(d, Held::own(value));
+    frame.put_value(d, value);
     Ok(None)
 }
 
@@ -60,7 +59,7 @@ pub(super) fn ldls(
     ensures { LoadsLocal (Ldls x d) frame.old locals.now result frame.new }
 {
     let value = load_local(alloc, locals, x)?;
-    frame.put(d, Held::own(value));
+    frame.put_value(d, value);
     Ok(None)
 }
 
@@ -87,16 +86,20 @@ pub(super) fn stls(
 /// `ldtaa x, d`: loads the element at the tuple.
 pub(super) fn ldtaa(
     alloc: Global,
+    difo: &Difo,
+    firing: &Firing,
     frame: &mut Frame,
     own: &ThreadTable,
     x: Var,
     d: Reg,
 ) -> Result<Option<Reg>, MachineFault>
-    requires { HasNext frame.old }
-    ensures { LoadsOwn (Ldtaa x d) frame.old own.now result frame.new }
+    requires { CanExecute (Ldtaa x d) difo.now firing.now frame.old }
+    ensures { ExecutesOnOwn (Ldtaa x d) difo.now firing.now frame.old own.now
+        result frame.new own.now }
 {
-    let value = load(alloc, own, x, &frame.tuple)?;
-    frame.put(d, Held::own(value));
+    frame.write_key(alloc, difo, firing)?;
+    let value = load(alloc, own, x, frame.key.key())?;
+    frame.put_value(d, value);
     Ok(None)
 }
 
@@ -115,7 +118,8 @@ pub(super) fn sttaa(
         result frame.new own.new }
 {
     let value = frame.value(alloc, difo, firing, a)?;
-    own.set(x, &frame.tuple, value)?;
+    frame.write_key(alloc, difo, firing)?;
+    own.set(x, frame.key.key(), value)?;
     frame.go_on();
     Ok(None)
 }

@@ -3,8 +3,7 @@
 
 ghost use Rattle.std.specs.Prelude.{◌≡◌, ◌<◌, ◌≤◌, ◌+◌, ◌*◌, ◌^◌, ◌∷◌, [], ℕ, List, IfSome, Some, take, length};
 ghost use Rattle.std.specs.Str.Parse.{AllDigits, digits_value};
-ghost use Rattle.firing_reader.specs.Column.{signed_of, text_of};
-ghost use Rattle.firing_reader.specs.Plain.{BeginsWith, Closes, Passes, int_of, whole_of};
+ghost use Rattle.firing_reader.specs.{Column.signed_of, Column.text_of, Plain.BeginsWith, Plain.Closes, Plain.Passes, Plain.int_of, Plain.whole_of};
 
 use super::front::{
     after_comma, after_feed, after_minus, after_zero, front, rest_after, word_front,

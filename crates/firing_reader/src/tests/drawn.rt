@@ -2,7 +2,7 @@
 
 ghost use Rattle.std.specs.Prelude.{◌≤◌};
 
-use super::{HEADER, has_same, is_same, joined};
+use super::{HEADER, has_same, is_same, whole_trace};
 use crate::pieces::read_plain_trace;
 use crate::{read_trace, read_trace_by};
 use keyed_hash::HashKey;
@@ -131,7 +131,7 @@ fn add_row(
 }
 
 // A trace of up to 40 rows.
-fn drawn(alloc: Global, seed: u64) -> Result<Vec<u8>, AllocError> {
+fn drawn_trace(alloc: Global, seed: u64) -> Result<Vec<u8>, AllocError> {
     let mut chance = Chance { state: seed };
     let rare = match seed % 4 {
         0 => 1,
@@ -139,7 +139,7 @@ fn drawn(alloc: Global, seed: u64) -> Result<Vec<u8>, AllocError> {
         2 => 300,
         _ => 60,
     };
-    let mut bytes = joined(alloc, HEADER, b"", b"")?;
+    let mut bytes = whole_trace(alloc, HEADER, b"", b"")?;
     let mut number: u64 = 0;
     for _ in 0..chance.below(41) {
         let same = chance.below(rare) == 1;
@@ -154,8 +154,8 @@ fn drawn(alloc: Global, seed: u64) -> Result<Vec<u8>, AllocError> {
 fn drawn_traces_read_the_same_in_every_way(rt: HostRuntime) -> Result<(), Fail> {
     let mut refused: u32 = 0;
     for seed in 0..TRACES {
-        let bytes = drawn(rt.alloc(), seed)?;
-        let marked = joined(rt.alloc(), b"\xef\xbb\xbf", &bytes, b"")?;
+        let bytes = drawn_trace(rt.alloc(), seed)?;
+        let marked = whole_trace(rt.alloc(), b"\xef\xbb\xbf", &bytes, b"")?;
         let found = read_trace(rt.alloc(), HashKey::random(&rt), &bytes);
         let alone = read_trace(rt.alloc(), HashKey::random(&rt), &marked);
         assert!(rt; is_same(&found, &alone), "trace {seed}");
@@ -181,7 +181,7 @@ const ROWS: u64 = 200;
 // of it have some of their texts in common.
 fn varied_rows(alloc: Global) -> Result<Vec<u8>, AllocError> {
     let mut chance = Chance { state: 7 };
-    let mut bytes = joined(alloc, HEADER, b"", b"")?;
+    let mut bytes = whole_trace(alloc, HEADER, b"", b"")?;
     for number in 1..ROWS + 1 {
         bytes.extend_from_slice(number.to_string(alloc)?.as_bytes())?;
         for column in 2..21 {
@@ -210,7 +210,7 @@ fn plain_rows_are_read_in_pieces(rt: HostRuntime) -> Result<(), Fail> {
 
 // A trace of so many rows, all plain.
 fn plain_rows(alloc: Global) -> Result<Vec<u8>, AllocError> {
-    let mut bytes = joined(alloc, HEADER, b"", b"")?;
+    let mut bytes = whole_trace(alloc, HEADER, b"", b"")?;
     for number in 1..ROWS + 1 {
         bytes.extend_from_slice(number.to_string(alloc)?.as_bytes())?;
         bytes.extend_from_slice(b",0,1,1,a,0,p,,f,hit,0,7,,,,,,,,\n")?;

@@ -5,7 +5,7 @@ ghost use Rattle.d_types.specs.Expressions as spec;
 ghost use Rattle.replay_core.specs.Evaluation.{Meets};
 
 use crate::evaluation::fault::EvalFault;
-use crate::evaluation::operators::{answered, held, stepped};
+use crate::evaluation::operators::{step_result, step_value, word_as_type};
 use crate::evaluation::variables::{set, word_at};
 use crate::scene::Scene;
 use d_parser::Step;
@@ -19,12 +19,14 @@ pub(crate) fn update_variable(
     made: Result<u64, OutOfZero>,
     scene: &mut Scene<'_>,
 ) -> Result<u64, EvalFault>
-    ensures { Meets (λ f vars. spec.number
-        (spec.with (spec.given made vars) (spec.updated x key.now))) result scene.old scene.new }
+    ensures { Meets
+        (λ f vars. spec.number
+        (spec.with (spec.word_or_fault made vars) (spec.update_outcome x key.now)))
+        result scene.old scene.new }
 {
     match made {
         Ok(word) => {
-            let word = held(x.holds, word);
+            let word = word_as_type(x.holds, word);
             set(scene.alloc, x, key, Value::Int(word), scene.tables)?;
             Ok(word)
         }
@@ -41,11 +43,11 @@ pub(crate) fn step_variable(
     scene: &mut Scene<'_>,
 ) -> Result<u64, EvalFault>
     ensures { Meets (λ f vars. spec.number
-        (spec.moved step answer x key.now (word_of (value_at vars x key.now)) vars))
+        (spec.step_outcome step answer x key.now (word_of (value_at vars x key.now)) vars))
         result scene.old scene.new }
 {
     let old = word_at(x, key, scene.tables);
-    let new = held(x.holds, stepped(step, old));
+    let new = word_as_type(x.holds, step_result(step, old));
     set(scene.alloc, x, key, Value::Int(new), scene.tables)?;
-    Ok(answered(answer, old, new))
+    Ok(step_value(answer, old, new))
 }

@@ -1,16 +1,14 @@
 //! The evaluator: from left to right, a function for each construct.
 
 ghost use Rattle.std.specs.Prelude.{◌≡◌, ◌<◌, length, slice_set};
-ghost use Rattle.d_types.specs.Typed as typed;
-ghost use Rattle.d_types.specs.Typed.{typed_of, typeds_of};
 ghost use Rattle.d_types.specs.Expressions as spec;
-ghost use Rattle.replay_core.specs.Evaluation.{HasKey, HasText, HasValue, HasWord, Leaves, Meets};
+ghost use Rattle.replay_core.specs.{Vocabulary.Typed, Vocabulary.typed_of, Vocabulary.typeds_of, Evaluation.HasKey, Evaluation.HasText, Evaluation.HasValue, Evaluation.HasWord, Evaluation.Leaves, Evaluation.Meets};
 
 use crate::evaluation::built_in::{built_in, built_in_word};
 use crate::evaluation::changes::{step_variable, update_variable};
 use crate::evaluation::fault::EvalFault;
-use crate::evaluation::lending::{lent, set_part};
-use crate::evaluation::operators::{converted, operated, unary};
+use crate::evaluation::lending::{lent_text, set_part};
+use crate::evaluation::operators::{operation_word, unary, word_for_operation};
 use crate::evaluation::variables::{bytes, set, value_at, word_at, word_in};
 use crate::scene::Scene;
 use d_parser::Step;
@@ -135,14 +133,14 @@ fn evaluate_part(
         (λ x. spec.Has (slice_set key.old place (spec.part_of x))))
         result key.new scene.old scene.new }
 {
-    match lent(e, scene.firing) {
+    match lent_text(e, scene.firing) {
         Some(bytes) => {
             key.set_name(place, bytes)?;
             Ok(())
         }
         None => {
             let value = evaluate(e, scene)?;
-            set_part(key, place, &value)?;
+            set_part(key, place, value.as_ref())?;
             Ok(())
         }
     }
@@ -151,7 +149,7 @@ fn evaluate_part(
 // The value of a variable.
 #[cycle(evaluation)]
 fn read(x: Variable, keys: &[TypedExpr], scene: &mut Scene<'_>) -> Result<Value, EvalFault>
-    ensures { HasValue (typed.Read x (typeds_of keys.now)) result scene.old scene.new }
+    ensures { HasValue (Typed.Read x (typeds_of keys.now)) result scene.old scene.new }
 {
     let key = evaluate_key(keys, scene)?;
     let value = value_at(scene.alloc, x, &key, scene.tables)?;
@@ -162,7 +160,7 @@ fn read(x: Variable, keys: &[TypedExpr], scene: &mut Scene<'_>) -> Result<Value,
 // The word of a variable's value.
 #[cycle(evaluation)]
 fn read_word(x: Variable, keys: &[TypedExpr], scene: &mut Scene<'_>) -> Result<u64, EvalFault>
-    ensures { HasWord (typed.Read x (typeds_of keys.now)) result scene.old scene.new }
+    ensures { HasWord (Typed.Read x (typeds_of keys.now)) result scene.old scene.new }
 {
     let key = evaluate_key(keys, scene)?;
     let word = word_at(x, &key, scene.tables);
@@ -178,12 +176,12 @@ fn operate(
     b: &TypedExpr,
     scene: &mut Scene<'_>,
 ) -> Result<u64, EvalFault>
-    ensures { HasWord (typed.Operate op (typed_of a.now) (typed_of b.now))
+    ensures { HasWord (Typed.Operate op (typed_of a.now) (typed_of b.now))
         result scene.old scene.new }
 {
     let left = evaluate_word(a, scene)?;
     let right = evaluate_word(b, scene)?;
-    match operated(op, left, right) {
+    match operation_word(op, left, right) {
         Ok(word) => Ok(word),
         Err(_) => Err(EvalFault::DivideByZero),
     }
@@ -198,7 +196,7 @@ fn compare_words(
     b: &TypedExpr,
     scene: &mut Scene<'_>,
 ) -> Result<u64, EvalFault>
-    ensures { HasWord (typed.Compare op t (typed_of a.now) (typed_of b.now))
+    ensures { HasWord (Typed.Compare op t (typed_of a.now) (typed_of b.now))
         result scene.old scene.new }
 {
     let x = evaluate_word(a, scene)?;
@@ -214,7 +212,7 @@ fn compare_texts(
     b: &TypedExpr,
     scene: &mut Scene<'_>,
 ) -> Result<u64, EvalFault>
-    ensures { HasWord (typed.CompareText op (typed_of a.now) (typed_of b.now))
+    ensures { HasWord (Typed.CompareText op (typed_of a.now) (typed_of b.now))
         result scene.old scene.new }
 {
     let x = evaluate_text(a, scene)?;
@@ -225,7 +223,7 @@ fn compare_texts(
 // `&&`: the second only where the first isn't 0.
 #[cycle(evaluation)]
 fn and(a: &TypedExpr, b: &TypedExpr, scene: &mut Scene<'_>) -> Result<u64, EvalFault>
-    ensures { HasWord (typed.Logic LogicOperator.And (typed_of a.now) (typed_of b.now))
+    ensures { HasWord (Typed.Logic LogicOperator.And (typed_of a.now) (typed_of b.now))
         result scene.old scene.new }
 {
     if evaluate_word(a, scene)? == 0 {
@@ -238,7 +236,7 @@ fn and(a: &TypedExpr, b: &TypedExpr, scene: &mut Scene<'_>) -> Result<u64, EvalF
 // `||`: the second only where the first is 0.
 #[cycle(evaluation)]
 fn or(a: &TypedExpr, b: &TypedExpr, scene: &mut Scene<'_>) -> Result<u64, EvalFault>
-    ensures { HasWord (typed.Logic LogicOperator.Or (typed_of a.now) (typed_of b.now))
+    ensures { HasWord (Typed.Logic LogicOperator.Or (typed_of a.now) (typed_of b.now))
         result scene.old scene.new }
 {
     if evaluate_word(a, scene)? != 0 {
@@ -251,7 +249,7 @@ fn or(a: &TypedExpr, b: &TypedExpr, scene: &mut Scene<'_>) -> Result<u64, EvalFa
 // `^^`: whether just one isn't 0.
 #[cycle(evaluation)]
 fn xor(a: &TypedExpr, b: &TypedExpr, scene: &mut Scene<'_>) -> Result<u64, EvalFault>
-    ensures { HasWord (typed.Logic LogicOperator.Xor (typed_of a.now) (typed_of b.now))
+    ensures { HasWord (Typed.Logic LogicOperator.Xor (typed_of a.now) (typed_of b.now))
         result scene.old scene.new }
 {
     let x = evaluate_word(a, scene)?;
@@ -308,7 +306,7 @@ fn assign(
     right: &TypedExpr,
     scene: &mut Scene<'_>,
 ) -> Result<Value, EvalFault>
-    ensures { HasValue (typed.Assign x (typeds_of keys.now) (typed_of right.now))
+    ensures { HasValue (Typed.Assign x (typeds_of keys.now) (typed_of right.now))
         result scene.old scene.new }
 {
     let at = evaluate_key(keys, scene)?;
@@ -327,7 +325,7 @@ fn assign_word(
     a: &TypedExpr,
     scene: &mut Scene<'_>,
 ) -> Result<u64, EvalFault>
-    ensures { HasWord (typed.Assign x (typeds_of keys.now) (typed_of a.now))
+    ensures { HasWord (Typed.Assign x (typeds_of keys.now) (typed_of a.now))
         result scene.old scene.new }
 {
     let key = evaluate_key(keys, scene)?;
@@ -347,13 +345,13 @@ fn update(
     a: &TypedExpr,
     scene: &mut Scene<'_>,
 ) -> Result<u64, EvalFault>
-    ensures { HasWord (typed.Update op x (typeds_of keys.now) (typed_of a.now))
+    ensures { HasWord (Typed.Update op x (typeds_of keys.now) (typed_of a.now))
         result scene.old scene.new }
 {
     let key = evaluate_key(keys, scene)?;
     let old = word_at(x, &key, scene.tables);
     let y = evaluate_word(a, scene)?;
-    let made = operated(op, converted(op, old), y);
+    let made = operation_word(op, word_for_operation(op, old), y);
     let word = update_variable(x, &key, made, scene)?;
     scene.spare.keep(key)?;
     Ok(word)
@@ -368,7 +366,7 @@ fn step(
     keys: &[TypedExpr],
     scene: &mut Scene<'_>,
 ) -> Result<u64, EvalFault>
-    ensures { HasWord (typed.Count by answer x (typeds_of keys.now)) result scene.old scene.new }
+    ensures { HasWord (Typed.Count by answer x (typeds_of keys.now)) result scene.old scene.new }
 {
     let key = evaluate_key(keys, scene)?;
     let word = step_variable(by, answer, x, &key, scene)?;
@@ -379,7 +377,7 @@ fn step(
 // Two texts as one, cut to 255 bytes.
 #[cycle(evaluation)]
 fn join(a: &TypedExpr, b: &TypedExpr, scene: &mut Scene<'_>) -> Result<Value, EvalFault>
-    ensures { HasValue (typed.Strjoin (typed_of a.now) (typed_of b.now))
+    ensures { HasValue (Typed.Strjoin (typed_of a.now) (typed_of b.now))
         result scene.old scene.new }
 {
     let x = evaluate_text(a, scene)?;

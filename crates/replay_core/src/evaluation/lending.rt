@@ -1,18 +1,17 @@
 //! Parts of keys without copies.
 
 ghost use Rattle.std.specs.Prelude.{◌≡◌, ◌<◌, IfSome, OnOk, OnErr, length, slice_set};
-ghost use Rattle.d_types.specs.Typed.{typed_of};
-ghost use Rattle.d_types.specs.Storage.{Variables};
+ghost use Rattle.replay_core.specs.Vocabulary.{Variables, lent_value, typed_of};
 ghost use Rattle.d_types.specs.Expressions as spec;
 
 use crate::evaluation::built_in::built_in_text;
 use d_types::TypedExpr;
-use d_values::{Key, Value};
+use d_values::{Key, Value, ValueRef};
 use firing_reader::Firing;
 use std::alloc::AllocError;
 
 /// Lends the text of a constant or of a built-in variable; none of any other expression.
-pub(crate) fn lent<'a>(e: &'a TypedExpr, firing: &'a Firing) -> Option<&'a [u8]>
+pub(crate) fn lent_text<'a>(e: &'a TypedExpr, firing: &'a Firing) -> Option<&'a [u8]>
     ensures { IfSome result (λ b.
         (vars : Variables) → spec.eval firing.now (typed_of e.now) vars
         ≡ spec.Has (Value.Text b.now) vars) }
@@ -37,17 +36,18 @@ pub(crate) fn lent<'a>(e: &'a TypedExpr, firing: &'a Firing) -> Option<&'a [u8]>
     }
 }
 
-/// Puts a value in the place of a key's part.
-pub(crate) fn set_part(key: &mut Key, place: usize, value: &Value) -> Result<(), AllocError>
+/// Puts a value that is lent in the place of a key's part.
+pub(crate) fn set_part(key: &mut Key, place: usize, value: ValueRef<'_>) -> Result<(), AllocError>
     requires { place < length key.old }
-    ensures ok { OnOk result (key.new ≡ slice_set key.old place (spec.part_of value.now)) }
+    ensures ok { OnOk result
+        (key.new ≡ slice_set key.old place (spec.part_of (lent_value value.entry))) }
     ensures err { OnErr result (key.new ≡ key.old) }
 {
     match value {
-        Value::Int(word) => {
+        ValueRef::Int(word) => {
             key.set_number(place, word.cast_signed());
             Ok(())
         }
-        Value::Text(text) => key.set_name(place, text.as_bytes()),
+        ValueRef::Text(bytes) => key.set_name(place, bytes),
     }
 }

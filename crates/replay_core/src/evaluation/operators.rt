@@ -1,6 +1,6 @@
 //! Operators on the words of integers.
 
-ghost use Rattle.std.specs.Prelude.{◌≡◌, length};
+ghost use Rattle.std.specs.Prelude.{◌≡◌};
 ghost use Rattle.d_values.specs.Words.{narrow};
 ghost use Rattle.d_types.specs.Expressions as spec;
 
@@ -21,7 +21,7 @@ pub(crate) fn unary(op: UnaryOperator, t: IntType, word: u64) -> u64
 }
 
 /// The operator's word, refused where it divides by 0.
-pub(crate) fn operated(op: Operation, a: u64, b: u64) -> Result<u64, OutOfZero>
+pub(crate) fn operation_word(op: Operation, a: u64, b: u64) -> Result<u64, OutOfZero>
     ensures { result ≡ spec.operation_of op a b }
 {
     match op {
@@ -31,7 +31,7 @@ pub(crate) fn operated(op: Operation, a: u64, b: u64) -> Result<u64, OutOfZero>
 }
 
 /// The word of a variable as one of the type that the operation works in.
-pub(crate) fn converted(op: Operation, word: u64) -> u64
+pub(crate) fn word_for_operation(op: Operation, word: u64) -> u64
     ensures { result ≡ narrow (spec.works_in op) word }
 {
     match op {
@@ -41,8 +41,8 @@ pub(crate) fn converted(op: Operation, word: u64) -> u64
 }
 
 /// The word as one of the variable's type.
-pub(crate) fn held(holds: DType, word: u64) -> u64
-    ensures { result ≡ spec.held holds word }
+pub(crate) fn word_as_type(holds: DType, word: u64) -> u64
+    ensures { result ≡ spec.word_as_type holds word }
 {
     match holds {
         DType::Int(t) => convert(word, t, t),
@@ -51,8 +51,8 @@ pub(crate) fn held(holds: DType, word: u64) -> u64
 }
 
 /// One more, or one less.
-pub(crate) fn stepped(step: Step, word: u64) -> u64
-    ensures { result ≡ spec.stepped step word }
+pub(crate) fn step_result(step: Step, word: u64) -> u64
+    ensures { result ≡ spec.step_result step word }
 {
     match step {
         Step::Increment => word.wrapping_add(1),
@@ -61,8 +61,8 @@ pub(crate) fn stepped(step: Step, word: u64) -> u64
 }
 
 /// What `++` and `--` answer.
-pub(crate) fn answered(answer: Answer, old: u64, new: u64) -> u64
-    ensures { result ≡ spec.answered answer old new }
+pub(crate) fn step_value(answer: Answer, old: u64, new: u64) -> u64
+    ensures { result ≡ spec.step_value answer old new }
 {
     match answer {
         Answer::New => new,

@@ -2,22 +2,22 @@
 
 ghost use Rattle.std.specs.Prelude.{◌≡◌, length, IfOk};
 
-use d_values::{Key, KeyPart};
-use dif_machine::Frame;
+use d_values::Key;
+use dif_machine::{Frame, key_of_zeros};
 use std::alloc::{AllocError, Global};
 
 /// Keys that were used, kept so that the next of as many parts takes their room, and the machine's
 /// frame for all runs.
 #[derive(Drop)]
-pub struct SpareKeys {
+pub struct Spare {
     keys: Vec<Key>,
     frame: Frame,
 }
 
-impl SpareKeys {
+impl Spare {
     /// No key is kept.
-    pub fn new(alloc: Global) -> SpareKeys {
-        SpareKeys {
+    pub fn new(alloc: Global) -> Spare {
+        Spare {
             keys: Vec::new(alloc),
             frame: Frame::new(alloc),
         }
@@ -37,7 +37,7 @@ impl SpareKeys {
         }
         match self.keys.iter().position(|key| key.parts().len() == parts) {
             Some(place) => Ok(self.keys.swap_remove(place)),
-            None => blank(*self.keys.allocator(), parts),
+            None => key_of_zeros(*self.keys.allocator(), parts),
         }
     }
 
@@ -49,15 +49,4 @@ impl SpareKeys {
         self.keys.push(key)?;
         Ok(())
     }
-}
-
-// A key of zeros.
-fn blank(alloc: Global, parts: usize) -> Result<Key, AllocError>
-    ensures { IfOk result (λ k. length k ≡ parts) }
-{
-    let mut key = Key::new(alloc);
-    for _ in 0..parts {
-        key.push(KeyPart::Number(0))?;
-    }
-    Ok(key)
 }

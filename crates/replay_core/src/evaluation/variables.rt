@@ -1,9 +1,8 @@
 //! Variables in their tables.
 
 ghost use Rattle.std.specs.Prelude.{◌≡◌, IfOk, OnOk};
-ghost use Rattle.d_values.specs.Stores.{kind_of, lent_value};
 ghost use Rattle.d_types.specs.Storage as spec;
-ghost use Rattle.replay_core.specs.Evaluation.{variables_of};
+ghost use Rattle.replay_core.specs.{Vocabulary.kind_of, Vocabulary.lent_value, Evaluation.variables_of};
 
 use crate::tables::Tables;
 use d_types::{Space, Variable, kind_of};
@@ -17,6 +16,16 @@ pub(crate) fn word_in(value: &Value) -> u64
     match value {
         Value::Int(word) => *word,
         Value::Text(_) => 0,
+    }
+}
+
+/// The word of an integer that is lent, or 0.
+pub(crate) fn word_of(value: ValueRef<'_>) -> u64
+    ensures { result ≡ spec.word_of (lent_value value.entry) }
+{
+    match value {
+        ValueRef::Int(word) => word,
+        ValueRef::Text(_) => 0,
     }
 }
 
@@ -52,7 +61,7 @@ fn as_kind(alloc: Global, kind: Kind, value: Value) -> Value
 }
 
 /// A copy of a value that is lent.
-pub(crate) fn owned(alloc: Global, value: ValueRef<'_>) -> Result<Value, AllocError>
+pub(crate) fn owned_value(alloc: Global, value: ValueRef<'_>) -> Result<Value, AllocError>
     ensures { IfOk result (λ v. v ≡ lent_value value.entry) }
 {
     match value {
@@ -93,17 +102,14 @@ pub(crate) fn value_at(
 ) -> Result<Value, AllocError>
     ensures { IfOk result (λ v. v ≡ spec.value_at (variables_of tables.now) x key.now) }
 {
-    owned(alloc, lend(x, key, tables))
+    owned_value(alloc, lend(x, key, tables))
 }
 
 /// The word of the variable's value at the key.
 pub(crate) fn word_at(x: Variable, key: &Key, tables: &Tables) -> u64
     ensures { result ≡ spec.word_of (spec.value_at (variables_of tables.now) x key.now) }
 {
-    match lend(x, key, tables) {
-        ValueRef::Int(word) => word,
-        ValueRef::Text(_) => 0,
-    }
+    word_of(lend(x, key, tables))
 }
 
 /// Gives the variable a value at the key.

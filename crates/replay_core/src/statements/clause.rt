@@ -1,11 +1,8 @@
 //! A run of a clause.
 
-ghost use Rattle.std.specs.Prelude.{◌≡◌, ◌+◌, ◌≤◌, ◌^◌, IfOk, OnOk, length, map};
-ghost use Rattle.aggregations.specs.Table.{count_held, functions_of};
+ghost use Rattle.std.specs.Prelude.{◌≡◌, ◌+◌, ◌≤◌, ◌^◌, IfOk, length, map};
 ghost use Rattle.d_types.specs.Clauses as spec;
-ghost use Rattle.replay_core.specs.Bounds.{places_among};
-ghost use Rattle.replay_core.specs.Effects.{IsNotedRun};
-ghost use Rattle.replay_core.specs.Evaluation.{Stays};
+ghost use Rattle.replay_core.specs.{Vocabulary.count_held, Vocabulary.functions_of, Bounds.places_among, Effects.IsNotedRun, Evaluation.Stays};
 
 use crate::evaluation::EvalFault;
 use crate::piece::Piece;
@@ -29,7 +26,8 @@ fn run_statements<X: Expression, S: Statement<X>>(
     ensures taken { piece.new.taken.items ≡ piece.old.taken.items }
     ensures held { count_held piece.new.table ≤ count_held piece.old.table + length statements.now }
     ensures scene { Stays scene.old scene.new }
-    ensures run { IfOk result (IsNotedRun (λ f vars. spec.made (spec.fault_line f.number place)
+    ensures run { IfOk result (IsNotedRun
+        (λ f vars. spec.run_result (spec.fault_line f.number place)
         (spec.statements_by (X.by f) (map S.form statements.now) vars))
         scene.old scene.new piece.old piece.new) }
 {

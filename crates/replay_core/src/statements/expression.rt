@@ -1,6 +1,6 @@
 //! Expressions as engines evaluate them.
 
-ghost use Rattle.std.specs.Prelude.{◌≡◌};
+ghost use Rattle.std.specs.Prelude.{◌≡◌, List};
 
 use crate::evaluation::EvalFault;
 use crate::scene::Scene;
@@ -14,11 +14,9 @@ pub(crate) struct Arguments {
 }
 
 impl Model for Arguments {
-    ghost use Rattle.std.specs.Prelude.{List};
-    ghost use Rattle.d_values.specs.declared.int_type.DType.{DType};
-    ghost use Rattle.d_values.specs.declared.value.Value as va;
+    ghost use Rattle.replay_core.specs.Vocabulary.{DType, List, Value as Printed};
 
-    ghost Value = { List (DType × va.Value) };
+    ghost Value = { List (DType × Printed) };
 
     ghost view = { λ a. a.values.items };
 }
@@ -26,18 +24,14 @@ impl Model for Arguments {
 /// An expression in the form in which an engine evaluates it. Each call leaves the variables as the
 /// evaluation does, also at a division by 0.
 pub(crate) trait Expression: Sized {
-    ghost use Rattle.std.specs.Prelude.{List};
-    ghost use Rattle.d_types.specs.Clauses.{Evaluation};
-    ghost use Rattle.d_types.specs.Expressions.{number};
-    ghost use Rattle.firing_reader.specs.declared.firing.Firing as recorded;
-    ghost use Rattle.replay_core.specs.Evaluation.{Meets};
+    ghost use Rattle.replay_core.specs.{Vocabulary.Evaluation, Vocabulary.Firing as Recorded, Vocabulary.number, Evaluation.Meets};
 
     /// What evaluation means.
-    ghost by: { recorded.Firing → Evaluation Self (List Self) };
+    ghost by: { Recorded → Evaluation Self (List Self) };
 
     /// The type of its value.
     fn returns(&self) -> DType
-        ensures { (f : recorded.Firing) → result ≡ (by f).type self.now };
+        ensures { (f : Recorded) → result ≡ (by f).type self.now };
 
     /// Its value.
     fn evaluate(&self, scene: &mut Scene<'_>) -> Result<Value, EvalFault>

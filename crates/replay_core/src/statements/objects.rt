@@ -1,14 +1,10 @@
 //! Objects, run by the machine.
 
-ghost use Rattle.std.specs.Prelude.{◌≡◌, ◌<◌, OnOk, OnErr, length, slice_set};
-ghost use Rattle.d_values.specs.Stores.{lent_value};
-ghost use Rattle.d_types.specs.Expressions.{Has, number, part_of, with};
-ghost use Rattle.d_types.specs.Storage.{word_of};
+ghost use Rattle.std.specs.Prelude.{◌≡◌, ◌<◌, length, slice_set};
 ghost use Rattle.dif_codegen.specs.Meaning as spec;
-ghost use Rattle.dif_machine.specs.Runs.{value_result};
-ghost use Rattle.replay_core.specs.Evaluation.{Leaves, Meets, Returns, variables_of};
+ghost use Rattle.replay_core.specs.{Vocabulary.Has, Vocabulary.action_code, Vocabulary.number, Vocabulary.part_of, Vocabulary.value_result, Vocabulary.with, Evaluation.Leaves, Evaluation.Meets, Evaluation.Returns, Evaluation.variables_of};
 
-use crate::evaluation::{EvalFault, owned};
+use crate::evaluation::{EvalFault, owned_value, set_part, word_of};
 use crate::piece::Piece;
 use crate::scene::Scene;
 use crate::statements::expression::{Arguments, Expression};
@@ -18,9 +14,10 @@ use d_values::{DType, Key, Value, ValueRef};
 use dif_codegen::{Action, TypedObject};
 use dif_machine::{Frame, MachineFault};
 use firing_reader::Firing;
-use std::alloc::{AllocError, Global};
+use std::alloc::Global;
 
 // A run of an object, which lends its value.
+#[inline(always)]
 fn run<'a>(
     alloc: Global,
     object: &'a TypedObject,
@@ -38,63 +35,42 @@ fn run<'a>(
     }
 }
 
+// The same in a scene. As a function it would borrow the whole scene for as long as the value is
+// lent.
+macro_rules! run_in_scene {
+    ($object:ident, $scene:ident) => {
+        run(
+            $scene.alloc,
+            $object,
+            $scene.firing,
+            &mut *$scene.tables,
+            $scene.spare.frame(),
+        )
+    };
+}
+
 // A copy of what a run of an object lends.
 fn run_for_value(object: &TypedObject, scene: &mut Scene<'_>) -> Result<Value, EvalFault>
     ensures { Meets (λ f. spec.value_of f object.now.object) result scene.old scene.new }
 {
-    let lent = run(
-        scene.alloc,
-        object,
-        scene.firing,
-        &mut *scene.tables,
-        scene.spare.frame(),
-    )?;
-    let value = owned(scene.alloc, lent)?;
+    let lent = run_in_scene!(object, scene)?;
+    let value = owned_value(scene.alloc, lent)?;
     Ok(value)
 }
 
-// The word of an integer, or 0.
-fn word_of(value: ValueRef<'_>) -> u64
-    ensures { result ≡ word_of (lent_value value.entry) }
-{
-    match value {
-        ValueRef::Int(word) => word,
-        ValueRef::Text(_) => 0,
-    }
-}
-
 // The word of what a run of an object lends.
+#[inline(never)]
 fn run_for_word(object: &TypedObject, scene: &mut Scene<'_>) -> Result<u64, EvalFault>
     ensures { Meets (λ f vars. number (spec.value_of f object.now.object vars))
         result scene.old scene.new }
 {
-    let value = run(
-        scene.alloc,
-        object,
-        scene.firing,
-        &mut *scene.tables,
-        scene.spare.frame(),
-    )?;
+    let value = run_in_scene!(object, scene)?;
     Ok(word_of(value))
 }
 
-// Puts a value in the place of a key's part.
-fn put_part(key: &mut Key, place: usize, value: ValueRef<'_>) -> Result<(), AllocError>
-    requires { place < length key.old }
-    ensures ok { OnOk result
-        (key.new ≡ slice_set key.old place (part_of (lent_value value.entry))) }
-    ensures err { OnErr result (key.new ≡ key.old) }
-{
-    match value {
-        ValueRef::Int(word) => {
-            key.set_number(place, word.cast_signed());
-            Ok(())
-        }
-        ValueRef::Text(bytes) => key.set_name(place, bytes),
-    }
-}
-
 // Puts what a run of an object lends in the place of a key's part.
+// (inlined, it has a key's loop note where each text of the firing stands)
+#[inline(never)]
 fn run_for_part(
     object: &TypedObject,
     key: &mut Key,
@@ -106,14 +82,8 @@ fn run_for_part(
     ensures part { Leaves (λ f vars. with (spec.value_of f object.now.object vars)
         (λ x. Has (slice_set key.old place (part_of x)))) result key.new scene.old scene.new }
 {
-    let value = run(
-        scene.alloc,
-        object,
-        scene.firing,
-        &mut *scene.tables,
-        scene.spare.frame(),
-    )?;
-    put_part(key, place, value)?;
+    let value = run_in_scene!(object, scene)?;
+    set_part(key, place, value)?;
     Ok(())
 }
 
@@ -141,9 +111,7 @@ fn run_for_arguments(objects: &[TypedObject], scene: &mut Scene<'_>) -> Result<A
 }
 
 impl Expression for TypedObject {
-    ghost use Rattle.dif_codegen.specs.Meaning.{by_objects};
-
-    ghost by = { by_objects };
+    ghost by = { spec.by_objects };
 
     fn returns(&self) -> DType {
         self.returns
@@ -170,8 +138,6 @@ impl Expression for TypedObject {
 }
 
 impl Statement<TypedObject> for Action {
-    ghost use Rattle.dif_codegen.specs.Programs.{action_code};
-
     ghost form = { action_code };
 
     fn perform(&self, scene: &mut Scene<'_>, piece: &mut Piece) -> Result<bool, EvalFault> {

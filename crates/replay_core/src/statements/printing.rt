@@ -1,9 +1,8 @@
 //! The texts of `trace` and `printf` (Dynamic Tracing Guide, "Output Formatting").
 
 ghost use Rattle.std.specs.Prelude.{◌≡◌, ◌++◌, ◌∷◌, [], IfOk, string_bytes, unsigned_abs};
-ghost use Rattle.std.specs.Fmt.{signed_decimal};
 ghost use Rattle.d_types.specs.Printing as spec;
-ghost use Rattle.d_types.specs.Storage.{word_of};
+ghost use Rattle.replay_core.specs.Vocabulary.{signed_decimal};
 
 use crate::evaluation::{bytes_in, word_in};
 use d_types::{Conversion, Letter, Piece};
@@ -11,7 +10,7 @@ use d_values::{DType, IntType, Text, Value, convert};
 use std::alloc::{AllocError, Global};
 
 // Three parts in a row.
-fn joined(alloc: Global, a: &[u8], b: &[u8], c: &[u8]) -> Result<Text, AllocError>
+fn concatenation(alloc: Global, a: &[u8], b: &[u8], c: &[u8]) -> Result<Text, AllocError>
     ensures { IfOk result (λ t. t ≡ a.now ++ b.now ++ c.now) }
 {
     let mut bytes = Vec::from_slice(alloc, a)?;
@@ -52,8 +51,13 @@ fn decimal(alloc: Global, t: DType, word: u64) -> Result<String, AllocError>
 }
 
 /// The line that `trace` makes of a value.
-pub fn traced(alloc: Global, t: DType, value: &Value) -> Result<Text, AllocError>
-    ensures { IfOk result (λ x. x ≡ spec.traced t value.now) }
+///
+/// ```text
+/// // `-1` and a line feed
+/// traced(alloc, DType::Int(IntType::INT8), &Value::Int(u64::MAX))?;
+/// ```
+pub fn trace_line(alloc: Global, t: DType, value: &Value) -> Result<Text, AllocError>
+    ensures { IfOk result (λ x. x ≡ spec.trace_line t value.now) }
 {
     match value {
         Value::Int(word) => {
@@ -110,57 +114,62 @@ fn digits(alloc: Global, letter: Letter, number: u64) -> Result<String, AllocErr
     match letter {
         Letter::Hexadecimal => format!(in alloc; "{number:x}"),
         Letter::Octal => format!(in alloc; "{number:o}"),
-        _ => format!(in alloc; "{number}"),
+        Letter::Signed | Letter::Unsigned | Letter::Text => format!(in alloc; "{number}"),
     }
 }
 
 // A sign and what follows it, in the conversion's width.
-fn placed(
+fn text_in_width(
     alloc: Global,
     c: Conversion,
     zeros: bool,
     sign: &[u8],
     body: &[u8],
 ) -> Result<Text, AllocError>
-    ensures { IfOk result (λ t. t ≡ spec.placed c zeros sign.now body.now) }
+    ensures { IfOk result (λ t. t ≡ spec.text_in_width c zeros sign.now body.now) }
 {
     let room = usize::from(c.width).saturating_sub(sign.len() + body.len());
     let byte = if zeros && !c.left { b'0' } else { b' ' };
     let filling = vec![in alloc; byte; room]?;
     if c.left {
-        joined(alloc, sign, body, &filling)
+        concatenation(alloc, sign, body, &filling)
     } else if zeros {
-        joined(alloc, sign, &filling, body)
+        concatenation(alloc, sign, &filling, body)
     } else {
-        joined(alloc, &filling, sign, body)
+        concatenation(alloc, &filling, sign, body)
     }
 }
 
 // What `printf` writes of an argument.
-fn written(alloc: Global, c: Conversion, t: DType, value: &Value) -> Result<Text, AllocError>
-    ensures { IfOk result (λ x. x ≡ spec.written c.letter c t value.now) }
+fn conversion_text(
+    alloc: Global,
+    c: Conversion,
+    t: DType,
+    value: &Value,
+) -> Result<Text, AllocError>
+    ensures { IfOk result (λ x. x ≡ spec.conversion_text c.letter c t value.now) }
 {
     match c.letter {
-        Letter::Text => placed(alloc, c, false, &[], bytes_in(value)),
+        Letter::Text => text_in_width(alloc, c, false, &[], bytes_in(value)),
         Letter::Signed => {
             let word = word_in(value);
             let body = digits(alloc, Letter::Unsigned, size(t, word))?;
-            placed(alloc, c, c.zeros, sign(t, word), body.as_bytes())
+            text_in_width(alloc, c, c.zeros, sign(t, word), body.as_bytes())
         }
-        letter => {
-            let body = digits(alloc, letter, low(t, word_in(value)))?;
-            placed(alloc, c, c.zeros, &[], body.as_bytes())
+        Letter::Unsigned | Letter::Hexadecimal | Letter::Octal => {
+            let body = digits(alloc, c.letter, low(t, word_in(value)))?;
+            text_in_width(alloc, c, c.zeros, &[], body.as_bytes())
         }
     }
 }
 
 /// The text that `printf` makes of the pieces of its format and its arguments.
-pub fn printed(
+pub fn printf_text(
     alloc: Global,
     format: &[Piece],
     values: &[(DType, Value)],
 ) -> Result<Text, AllocError>
-    ensures { IfOk result (λ x. x ≡ spec.printed format.now values.now) }
+    ensures { IfOk result (λ x. x ≡ spec.printf_text format.now values.now) }
 {
     let mut bytes = Vec::new(alloc);
     let mut rest = values;
@@ -169,7 +178,7 @@ pub fn printed(
             Piece::Byte(b) => bytes.push(*b)?,
             Piece::Argument(c) => {
                 if let Some(((t, value), behind)) = rest.split_first() {
-                    let text = written(alloc, *c, *t, value)?;
+                    let text = conversion_text(alloc, *c, *t, value)?;
                     bytes.extend_from_slice(text.as_bytes())?;
                     rest = behind;
                 }

@@ -1,17 +1,14 @@
 //! One statement.
 
-ghost use Rattle.std.specs.Prelude.{◌≡◌, ◌+◌, ◌<◌, ◌≤◌, ◌^◌, length};
-ghost use Rattle.aggregations.specs.Table.{count_held, functions_of};
+ghost use Rattle.std.specs.Prelude.{◌≡◌, ◌+◌, ◌<◌, ◌≤◌, ◌^◌, List, length};
 ghost use Rattle.d_types.specs.Typed as typed;
-ghost use Rattle.d_types.specs.Clauses as spec;
-ghost use Rattle.replay_core.specs.Effects.{IsPerformed};
-ghost use Rattle.replay_core.specs.Evaluation.{Meets};
+ghost use Rattle.replay_core.specs.{Vocabulary.ActionOf, Vocabulary.count_held, Vocabulary.effect_by, Vocabulary.functions_of, Vocabulary.argument_by, Bounds.place_in, Effects.IsPerformed, Evaluation.Meets};
 
 use crate::evaluation::EvalFault;
 use crate::piece::Piece;
 use crate::scene::Scene;
 use crate::statements::expression::Expression;
-use crate::statements::printing::{printed, traced};
+use crate::statements::printing::{printf_text, trace_line};
 use d_types::Piece as Part;
 
 // What an aggregating function is given; 0 where it takes nothing.
@@ -19,7 +16,7 @@ fn evaluate_argument<X: Expression>(
     argument: &Option<X>,
     scene: &mut Scene<'_>,
 ) -> Result<i64, EvalFault>
-    ensures { Meets (λ f. spec.given_by (X.by f) argument.now) result scene.old scene.new }
+    ensures { Meets (λ f. argument_by (X.by f) argument.now) result scene.old scene.new }
 {
     match argument {
         None => Ok(0),
@@ -36,7 +33,7 @@ pub(crate) fn plain<X: Expression>(
     scene: &mut Scene<'_>,
     piece: &Piece,
 ) -> Result<bool, EvalFault>
-    ensures { IsPerformed (λ f. spec.effect_by (X.by f) (typed.Evaluate e.now)) result
+    ensures { IsPerformed (λ f. effect_by (X.by f) (typed.Evaluate e.now)) result
         scene.old scene.new piece.now piece.now }
 {
     let _word = e.evaluate_word(scene)?;
@@ -51,11 +48,11 @@ pub(crate) fn trace<X: Expression>(
 ) -> Result<bool, EvalFault>
     ensures table { piece.new.table ≡ piece.old.table }
     ensures taken { piece.new.taken.items ≡ piece.old.taken.items }
-    ensures effect { IsPerformed (λ f. spec.effect_by (X.by f) (typed.Trace e.now)) result
+    ensures effect { IsPerformed (λ f. effect_by (X.by f) (typed.Trace e.now)) result
         scene.old scene.new piece.old piece.new }
 {
     let value = e.evaluate(scene)?;
-    let text = traced(scene.alloc, e.returns(), &value)?;
+    let text = trace_line(scene.alloc, e.returns(), &value)?;
     piece.note_text(scene.firing.number, text)?;
     Ok(false)
 }
@@ -70,11 +67,11 @@ pub(crate) fn print<X: Expression>(
     ensures table { piece.new.table ≡ piece.old.table }
     ensures taken { piece.new.taken.items ≡ piece.old.taken.items }
     ensures effect { IsPerformed
-        (λ f. spec.effect_by (X.by f) (typed.Print format.now arguments.now))
+        (λ f. effect_by (X.by f) (typed.Print format.now arguments.now))
         result scene.old scene.new piece.old piece.new }
 {
     let arguments = X::evaluate_arguments(arguments, scene)?;
-    let text = printed(scene.alloc, format, &arguments.values)?;
+    let text = printf_text(scene.alloc, format, &arguments.values)?;
     piece.note_text(scene.firing.number, text)?;
     Ok(false)
 }
@@ -87,7 +84,7 @@ pub(crate) fn exit<X: Expression>(
 ) -> Result<bool, EvalFault>
     ensures table { piece.new.table ≡ piece.old.table }
     ensures taken { piece.new.taken.items ≡ piece.old.taken.items }
-    ensures effect { IsPerformed (λ f. spec.effect_by (X.by f) (typed.Exit e.now)) result
+    ensures effect { IsPerformed (λ f. effect_by (X.by f) (typed.Exit e.now)) result
         scene.old scene.new piece.old piece.new }
 {
     let word = e.evaluate_word(scene)?;
@@ -109,7 +106,7 @@ pub(crate) fn aggregate<X: Expression>(
     ensures functions { functions_of piece.new.table ≡ functions_of piece.old.table }
     ensures taken { piece.new.taken.items ≡ piece.old.taken.items }
     ensures effect { IsPerformed
-        (λ f. spec.effect_by (X.by f) (typed.Aggregate place keys.now argument.now))
+        (λ f. effect_by (X.by f) (typed.Aggregate place keys.now argument.now))
         result scene.old scene.new piece.old piece.new }
 {
     let key = X::evaluate_key(keys, scene)?;
@@ -121,13 +118,6 @@ pub(crate) fn aggregate<X: Expression>(
 
 /// A statement over expressions in the form in which an engine runs it.
 pub(crate) trait Statement<X: Expression> {
-    ghost use Rattle.std.specs.Prelude.{◌≡◌, ◌+◌, ◌<◌, ◌≤◌, ◌^◌, List, length};
-    ghost use Rattle.aggregations.specs.Table.{count_held, functions_of};
-    ghost use Rattle.d_types.specs.Clauses.{effect_by};
-    ghost use Rattle.d_types.specs.Typed.{ActionOf};
-    ghost use Rattle.replay_core.specs.Bounds.{place_in};
-    ghost use Rattle.replay_core.specs.Effects.{IsPerformed};
-
     /// The statement with its expressions.
     ghost form: { Self → ActionOf X (List X) };
 

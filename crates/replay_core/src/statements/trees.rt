@@ -1,8 +1,7 @@
 //! Trees, walked.
 
-ghost use Rattle.d_types.specs.Typed.{typeds_of};
 ghost use Rattle.d_types.specs.Clauses as spec;
-ghost use Rattle.replay_core.specs.Evaluation.{Meets};
+ghost use Rattle.replay_core.specs.{Vocabulary.typeds_of, Evaluation.Meets, Forms.by_expressions, Forms.statement_form};
 
 use crate::evaluation::{EvalFault, evaluate, evaluate_key, evaluate_word};
 use crate::piece::Piece;
@@ -28,8 +27,6 @@ fn evaluate_arguments(
 }
 
 impl Expression for TypedExpr {
-    ghost use Rattle.replay_core.specs.Forms.{by_expressions};
-
     ghost by = { by_expressions };
 
     fn returns(&self) -> DType {
@@ -57,8 +54,6 @@ impl Expression for TypedExpr {
 }
 
 impl Statement<TypedExpr> for TypedStmt {
-    ghost use Rattle.replay_core.specs.Forms.{statement_form};
-
     ghost form = { statement_form };
 
     fn perform(&self, scene: &mut Scene<'_>, piece: &mut Piece) -> Result<bool, EvalFault> {

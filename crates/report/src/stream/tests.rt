@@ -9,7 +9,11 @@ use std::alloc::Global;
 use std::test::Fail;
 
 // Writes to memory one byte a call. The contract has what a caller knows of it after both wrappers.
-fn written(alloc: Global, bytes: &[u8], good_calls: u64) -> (Result<(), WriteFault>, Vec<u8>)
+fn write_to_memory(
+    alloc: Global,
+    bytes: &[u8],
+    good_calls: u64,
+) -> (Result<(), WriteFault>, Vec<u8>)
     ensures whole { OnOk result.0 (result.1.items ≡ bytes.now) }
     ensures beginning { OnErr result.0
         ((k : ℕ) × (k < length bytes.now) × (result.1.items ≡ take k bytes.now)) }
@@ -30,7 +34,7 @@ fn read(alloc: Global, bytes: &[u8], good_calls: u64) -> Result<Vec<u8>, ReadFau
 fn what_went_out_before_a_failed_call_stays(rt: HostRuntime) {
     let bytes = b"  cat  1\n";
     for good_calls in 0..=bytes.len() {
-        let (answer, out) = written(rt.alloc(), bytes, good_calls as u64);
+        let (answer, out) = write_to_memory(rt.alloc(), bytes, good_calls as u64);
         let is_whole = good_calls == bytes.len();
         assert_eq!(rt; answer.is_ok(), is_whole, "at {good_calls}");
         assert_eq!(rt; out.as_slice(), &bytes[..good_calls]);

@@ -6,8 +6,8 @@ use Rattle.d_types.specs.Scripts.{IsMeant}
 use Rattle.d_types.proofs.Whole.{script_is}
 use Rattle.d_types.proofs.checking.typed_script.Goals as goal
 
-pub known-requires : goal.known-requires
-known-requires c =
+pub from_parts-requires : goal.from_parts-requires
+from_parts-requires c =
     let typed = rw (c.deref.ensures.value, c.new-table.ensures.items, c.new-aggs.ensures.items) at c.in-Ok.ensures in
     let slots : c.in_ok-slots-in-Ok.slots.items ≡ map (λ (e : Entry). e.holds) c.items.new.table.items = c.in_ok-slots-in-Ok.ensures ∙ ap (map (λ (e : Entry). e.holds)) c.deref-in-Ok.ensures.value in
     let meant : IsMeant (script_meant c.in-Ok.clauses.items c.items.new.aggs.items c.in_ok-slots-in-Ok.slots.items) = (
@@ -22,5 +22,5 @@ pub returns-in-Ok : goal.returns-in-Ok
 returns-in-Ok c =
     let typed = rw (c.deref.ensures.value, c.new-table.ensures.items, c.new-aggs.ensures.items) at c.in-Ok.ensures in
     let slots : c.in_ok-slots-in-Ok.slots.items ≡ map (λ (e : Entry). e.holds) c.items.new.table.items = c.in_ok-slots-in-Ok.ensures ∙ ap (map (λ (e : Entry). e.holds)) c.deref-in-Ok.ensures.value in
-    rw (c.known.ensures.clauses, c.known.ensures.aggregations, c.known.ensures.slots)
+    rw (c.from_parts.ensures.clauses, c.from_parts.ensures.aggregations, c.from_parts.ensures.slots)
     (script_is (script_of c.args.script) (map meant_of c.in-Ok.clauses.items) c.items.new.table.items (aggs_of c.items.new.aggs.items) c.in_ok-slots-in-Ok.slots.items typed slots)

@@ -1,5 +1,11 @@
+use Rattle.std.specs.Prelude.{◌<◌}
+use Rattle.std.proofs.Common.{subst}
+use Rattle.std.proofs.lemmas.List.{length-map}
 use Rattle.d_values.specs.Storage.{variables}
 use Rattle.d_values.specs.Stores.{local_of, own_of}
+use Rattle.dif_machine.specs.Vocabulary.{object_of}
+use Rattle.dif_machine.specs.Held.{frame_of}
+use Rattle.dif_machine.proofs.Acting.{text_fits, number_fits}
 use Rattle.dif_machine.proofs.Executing.{can, does}
 use Rattle.dif_machine.proofs.stepping.execute.Goals as goal
 
@@ -49,7 +55,7 @@ pub returns-in-Sets : goal.returns-in-Sets
 returns-in-Sets c = does c.args.difo.now c.args.firing.now c.args.frame.now _ _ c.in-Sets.is c.sets.result c.sets.new.frame (variables c.args.locals.now c.args.own.now) (variables c.args.locals.now c.args.own.now) (c.sets.ensures c.args.difo.now c.args.firing.now (can c.args.difo.now c.args.firing.now c.args.frame.now _ _ (variables c.args.locals.now c.args.own.now) c.in-Sets.is c.requires) (variables c.args.locals.now c.args.own.now))
 
 pub returns-in-Ldgs : goal.returns-in-Ldgs
-returns-in-Ldgs c = does c.args.difo.now c.args.firing.now c.args.frame.now _ _ c.in-Ldgs.is c.ldgs.result c.ldgs.new.frame (variables c.args.locals.now c.args.own.now) (variables c.args.locals.now c.args.own.now) (c.ldgs.ensures c.args.difo.now c.args.firing.now (can c.args.difo.now c.args.firing.now c.args.frame.now _ _ (variables c.args.locals.now c.args.own.now) c.in-Ldgs.is c.requires) (variables c.args.locals.now c.args.own.now))
+returns-in-Ldgs c = does c.args.difo.now c.args.firing.now c.args.frame.now _ _ c.in-Ldgs.is c.ldgs.result c.ldgs.new.frame (variables c.args.locals.now c.args.own.now) (variables c.args.locals.now c.args.own.now) (c.ldgs.ensures c.args.difo.now (variables c.args.locals.now c.args.own.now))
 
 pub ldga-requires : goal.ldga-requires
 ldga-requires c = can c.args.difo.now c.args.firing.now c.args.frame.now _ _ (variables c.args.locals.now c.args.own.now) c.in-Ldga.is c.requires
@@ -76,22 +82,29 @@ pub returns-in-Stls : goal.returns-in-Stls
 returns-in-Stls c = does c.args.difo.now c.args.firing.now c.args.frame.now _ _ c.in-Stls.is c.stls.result c.stls.new.frame (variables c.args.locals.now c.args.own.now) (variables c.stls.new.locals c.args.own.now) (c.stls.ensures (own_of c.args.own.now))
 
 pub pushtr-requires : goal.pushtr-requires
-pushtr-requires c = can c.args.difo.now c.args.firing.now c.args.frame.now _ _ (variables c.args.locals.now c.args.own.now) c.in-Pushtr.is c.requires
+pushtr-requires c =
+    let may = can c.args.difo.now c.args.firing.now c.args.frame.now _ _ (variables c.args.locals.now c.args.own.now) c.in-Pushtr.is c.requires in
+    record { next = may.1.0; room = subst (λ n. n < 8) (length-map _ _) (text_fits (object_of c.args.difo.now) c.args.firing.now (frame_of (object_of c.args.difo.now) c.args.firing.now c.args.frame.now) may.0 _ may.1.1) }
 
 pub returns-in-Pushtr : goal.returns-in-Pushtr
-returns-in-Pushtr c = does c.args.difo.now c.args.firing.now c.args.frame.now _ _ c.in-Pushtr.is c.pushtr.result c.pushtr.new.frame (variables c.args.locals.now c.args.own.now) (variables c.args.locals.now c.args.own.now) (c.pushtr.ensures (variables c.args.locals.now c.args.own.now))
+returns-in-Pushtr c = does c.args.difo.now c.args.firing.now c.args.frame.now _ _ c.in-Pushtr.is c.pushtr.result c.pushtr.new.frame (variables c.args.locals.now c.args.own.now) (variables c.args.locals.now c.args.own.now) (c.pushtr.ensures c.args.difo.now c.args.firing.now (can c.args.difo.now c.args.firing.now c.args.frame.now _ _ (variables c.args.locals.now c.args.own.now) c.in-Pushtr.is c.requires) (variables c.args.locals.now c.args.own.now))
 
 pub pushtv-requires : goal.pushtv-requires
-pushtv-requires c = can c.args.difo.now c.args.firing.now c.args.frame.now _ _ (variables c.args.locals.now c.args.own.now) c.in-Pushtv.is c.requires
+pushtv-requires c =
+    let may = can c.args.difo.now c.args.firing.now c.args.frame.now _ _ (variables c.args.locals.now c.args.own.now) c.in-Pushtv.is c.requires in
+    record { next = may.1.0; room = subst (λ n. n < 8) (length-map _ _) (number_fits (object_of c.args.difo.now) c.args.firing.now (frame_of (object_of c.args.difo.now) c.args.firing.now c.args.frame.now) may.0 _ may.1.1) }
 
 pub returns-in-Pushtv : goal.returns-in-Pushtv
-returns-in-Pushtv c = does c.args.difo.now c.args.firing.now c.args.frame.now _ _ c.in-Pushtv.is c.pushtv.result c.pushtv.new.frame (variables c.args.locals.now c.args.own.now) (variables c.args.locals.now c.args.own.now) (c.pushtv.ensures (variables c.args.locals.now c.args.own.now))
+returns-in-Pushtv c = does c.args.difo.now c.args.firing.now c.args.frame.now _ _ c.in-Pushtv.is c.pushtv.result c.pushtv.new.frame (variables c.args.locals.now c.args.own.now) (variables c.args.locals.now c.args.own.now) (c.pushtv.ensures c.args.difo.now c.args.firing.now (can c.args.difo.now c.args.firing.now c.args.frame.now _ _ (variables c.args.locals.now c.args.own.now) c.in-Pushtv.is c.requires) (variables c.args.locals.now c.args.own.now))
 
 pub returns-in-Flushts : goal.returns-in-Flushts
 returns-in-Flushts c = does c.args.difo.now c.args.firing.now c.args.frame.now _ _ c.in-Flushts.is c.flushts.result c.flushts.new.frame (variables c.args.locals.now c.args.own.now) (variables c.args.locals.now c.args.own.now) (c.flushts.ensures c.args.difo.now c.args.firing.now (can c.args.difo.now c.args.firing.now c.args.frame.now _ _ (variables c.args.locals.now c.args.own.now) c.in-Flushts.is c.requires) (variables c.args.locals.now c.args.own.now))
 
+pub ldtaa-requires : goal.ldtaa-requires
+ldtaa-requires c = can c.args.difo.now c.args.firing.now c.args.frame.now _ _ (variables c.args.locals.now c.args.own.now) c.in-Ldtaa.is c.requires
+
 pub returns-in-Ldtaa : goal.returns-in-Ldtaa
-returns-in-Ldtaa c = does c.args.difo.now c.args.firing.now c.args.frame.now _ _ c.in-Ldtaa.is c.ldtaa.result c.ldtaa.new.frame (variables c.args.locals.now c.args.own.now) (variables c.args.locals.now c.args.own.now) (c.ldtaa.ensures c.args.difo.now c.args.firing.now (can c.args.difo.now c.args.firing.now c.args.frame.now _ _ (variables c.args.locals.now c.args.own.now) c.in-Ldtaa.is c.requires) (local_of c.args.locals.now))
+returns-in-Ldtaa c = does c.args.difo.now c.args.firing.now c.args.frame.now _ _ c.in-Ldtaa.is c.ldtaa.result c.ldtaa.new.frame (variables c.args.locals.now c.args.own.now) (variables c.args.locals.now c.args.own.now) (c.ldtaa.ensures (local_of c.args.locals.now))
 
 pub sttaa-requires : goal.sttaa-requires
 sttaa-requires c = can c.args.difo.now c.args.firing.now c.args.frame.now _ _ (variables c.args.locals.now c.args.own.now) c.in-Sttaa.is c.requires
@@ -99,8 +112,11 @@ sttaa-requires c = can c.args.difo.now c.args.firing.now c.args.frame.now _ _ (v
 pub returns-in-Sttaa : goal.returns-in-Sttaa
 returns-in-Sttaa c = does c.args.difo.now c.args.firing.now c.args.frame.now _ _ c.in-Sttaa.is c.sttaa.result c.sttaa.new.frame (variables c.args.locals.now c.args.own.now) (variables c.args.locals.now c.sttaa.new.own) (c.sttaa.ensures (local_of c.args.locals.now))
 
+pub call-requires : goal.call-requires
+call-requires c = can c.args.difo.now c.args.firing.now c.args.frame.now _ _ (variables c.args.locals.now c.args.own.now) c.in-Call.is c.requires
+
 pub returns-in-Call : goal.returns-in-Call
-returns-in-Call c = does c.args.difo.now c.args.firing.now c.args.frame.now _ _ c.in-Call.is c.call.result c.call.new.frame (variables c.args.locals.now c.args.own.now) (variables c.args.locals.now c.args.own.now) (c.call.ensures c.args.difo.now c.args.firing.now (can c.args.difo.now c.args.firing.now c.args.frame.now _ _ (variables c.args.locals.now c.args.own.now) c.in-Call.is c.requires) (variables c.args.locals.now c.args.own.now))
+returns-in-Call c = does c.args.difo.now c.args.firing.now c.args.frame.now _ _ c.in-Call.is c.call.result c.call.new.frame (variables c.args.locals.now c.args.own.now) (variables c.args.locals.now c.args.own.now) (c.call.ensures (variables c.args.locals.now c.args.own.now))
 
 pub returns-in-Ret : goal.returns-in-Ret
 returns-in-Ret c = does c.args.difo.now c.args.firing.now c.args.frame.now _ _ c.in-Ret.is c.ret.result c.args.frame.now (variables c.args.locals.now c.args.own.now) (variables c.args.locals.now c.args.own.now) (c.ret.ensures c.args.frame.now c.args.difo.now c.args.firing.now (can c.args.difo.now c.args.firing.now c.args.frame.now _ _ (variables c.args.locals.now c.args.own.now) c.in-Ret.is c.requires) (variables c.args.locals.now c.args.own.now))

@@ -1,7 +1,7 @@
 use Rattle.std.proofs.Common.{◌≡◌, Some, Err, length, sym, ap, ◌∙◌, subst, List, IfErr, Option, arith, rules}
 use Rattle.std.specs.List.Sorted.{IsPermutation}
 use Rattle.replay_core.specs.declared.piece.Piece.{Piece}
-use Rattle.replay_core.specs.PiecePlaces.{standing}
+use Rattle.replay_core.specs.PiecePlaces.{pieces_with_places}
 use Rattle.replay_core.specs.Collecting.{IsCollectFault}
 use Rattle.std.proofs.lemmas.List.{length-map}
 use Rattle.replay_core.proofs.SamePieces.{standing_all}
@@ -21,16 +21,16 @@ returns-in_err-sorted-clause-err c =
     let same : c.from_residual-in_err-sorted.result ≡ Err c.in_err-sorted.field-0.0 = search rules in
     subst (λ r. IfErr r (IsCollectFault c.args.n c.args.pieces.items)) (sym same) fault
 
-pub united-requires-clause-tables : goal.united-requires-clause-tables
-united-requires-clause-tables c =
+pub whole_of_pieces-requires-clause-tables : goal.whole_of_pieces-requires-clause-tables
+whole_of_pieces-requires-clause-tables c =
     let sorted = c.in_ok-sorted.sorted.items in
-    let are = sym (ap (λ (ps : List (Option Piece)). standing 0 ps) c.in_ok-sorted.ensures.ok) ∙ standing_all 0 sorted in
+    let are = sym (ap (λ (ps : List (Option Piece)). pieces_with_places 0 ps) c.in_ok-sorted.ensures.ok) ∙ standing_all 0 sorted in
     can_sorted c.args.pieces.items sorted (subst (λ l. IsPermutation c.args.pieces.items l) are c.in_ok-places.ensures.same) c.requires.tables
 
 pub returns-clause-ok : goal.returns-clause-ok
 returns-clause-ok c =
     let sorted = c.in_ok-sorted.sorted.items in
-    let are = sym (ap (λ (ps : List (Option Piece)). standing 0 ps) c.in_ok-sorted.ensures.ok) ∙ standing_all 0 sorted in
+    let are = sym (ap (λ (ps : List (Option Piece)). pieces_with_places 0 ps) c.in_ok-sorted.ensures.ok) ∙ standing_all 0 sorted in
     record {
       sorted = sorted;
       count = let len = ap length c.in_ok-sorted.ensures.ok in let same = length-map sorted Some in let all = c.in_ok-places.ensures.ok.0 in omega arith;

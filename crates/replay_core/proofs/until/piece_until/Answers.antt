@@ -3,7 +3,7 @@ use Rattle.firing_reader.specs.declared.firing.Firing.{Firing}
 use Rattle.firing_reader.specs.Ends.{with_ends}
 use Rattle.shard_queue.specs.Groups.{grouping}
 use Rattle.shard_queue.specs.Groupings.{places_of}
-use Rattle.replay_core.specs.Beginnings.{RunsBeginning, lowered_by}
+use Rattle.replay_core.specs.Beginnings.{RunsBeginning, lesser_of}
 use Rattle.replay_core.specs.Groups.{is_group}
 use Rattle.replay_core.specs.Pieces.{IsPieceOf}
 use Rattle.replay_core.specs.Working.{firings_at}
@@ -45,4 +45,4 @@ pub returns-clause-least : goal.returns-clause-least
 returns-clause-least g c =
     let script = c.requires.script in
     c.in_ok-run_until.ensures.least script.0 (c.in_ok-lane.ensures.script script.0 script.1)
-    ∙ ap (λ p. lowered_by (g.S.Source.lowered c.args.seat.now) p.exit) (sym c.finish.ensures.piece)
+    ∙ ap (λ p. lesser_of (g.S.Source.lowered c.args.seat.now) p.exit) (sym c.finish.ensures.piece)

@@ -4,7 +4,7 @@ use Rattle.std.proofs.lemmas.List.{get_or_default, length-map}
 use Rattle.firing_reader.specs.declared.firing.Firing.{Firing}
 use Rattle.firing_reader.specs.Ends.{with_ends}
 use Rattle.firing_reader.specs.Firings.{number_of}
-use Rattle.replay_core.specs.Beginnings.{exit_over, lowered_by}
+use Rattle.replay_core.specs.Beginnings.{exit_over, lesser_of}
 use Rattle.replay_core.specs.Running.{IsLaneOf}
 use Rattle.replay_core.specs.Working.{firings_at}
 use Rattle.replay_core.proofs.BeginLemmas.{at_all, at_next, at_parts, ended_by_exit, ended_by_last, ended_by_number, now_lowered, still_none}
@@ -76,7 +76,7 @@ returns-then-branch-clause-least g c = λ m runs.
     let lane = fires_more m before f old (g.E.Engine.seen c.fire.new.self) (inv.run m runs) (c.in_ok-fire.ensures.step m here) in
     c.lower.ensures.lowered ∙ ap (λ n. min n f.number) (c.least.ensures.lowered ∙ inv.lowered)
     ∙ now_lowered m before f old.threads number (inv.run m runs).threads (inv.none m runs) exits
-    ∙ ap (lowered_by number) (sym lane.piece.exit)
+    ∙ ap (lesser_of number) (sym lane.piece.exit)
 
 pub loop-place-preserved : goal.loop-place-preserved
 loop-place-preserved g c =

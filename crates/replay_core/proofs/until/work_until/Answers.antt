@@ -2,7 +2,7 @@ use Rattle.std.proofs.Common.{◌≤◌, sym, ap, ◌∙◌, arith}
 use Rattle.firing_reader.specs.Ends.{with_ends}
 use Rattle.shard_queue.specs.Groups.{grouping}
 use Rattle.shard_queue.proofs.Lists.{all_push}
-use Rattle.replay_core.specs.Beginnings.{IsBegunOf, least_exit, lowered_by}
+use Rattle.replay_core.specs.Beginnings.{IsBegunOf, least_exit, lesser_of}
 use Rattle.replay_core.specs.Seen.{IsRoomy}
 use Rattle.replay_core.proofs.WorkSteps.{groups_more}
 use Rattle.replay_core.proofs.BeginLemmas.{seen_less, least_more}
@@ -26,5 +26,5 @@ loop-preserved g c =
             (λ k d lt. seen_less m (g.S.Source.seen c.loop.seat) now _ _ less (i.pieces.each m runs k d lt)) (made.piece m runs) pushed;
         roomy = all_push (λ p. IsRoomy p.1) _ _ _ i.pieces.roomy made.roomy pushed;
       };
-      least = made.least ∙ ap (λ n. lowered_by n c.in_ok-piece.piece.exit) (taken.least.0 ∙ i.least) ∙ sym (ap least_exit pushed ∙ least_more c.loop.pieces.items (c.in-Some-take.group, c.in_ok-piece.piece));
+      least = made.least ∙ ap (λ n. lesser_of n c.in_ok-piece.piece.exit) (taken.least.0 ∙ i.least) ∙ sym (ap least_exit pushed ∙ least_more c.loop.pieces.items (c.in-Some-take.group, c.in_ok-piece.piece));
     }

@@ -1,10 +1,23 @@
-use Rattle.std.proofs.Common.{ap, ◌∙◌}
+use Rattle.std.specs.Prelude.{Some}
+use Rattle.std.proofs.Common.{sym, ap, ◌∙◌}
 use Rattle.dif_machine.specs.Vocabulary.{object_of}
 use Rattle.dif_machine.specs.Frames.{with_content}
 use Rattle.dif_machine.specs.Held.{frame_of}
+use Rattle.dif_machine.specs.Operators.{call_of}
+use Rattle.dif_machine.specs.Steps.{on, puts}
 use Rattle.dif_machine.proofs.Acting as acting
 use Rattle.dif_machine.proofs.stepping.tuple.call.Goals as goal
 
+pub call-requires : goal.call-requires
+call-requires c =
+    let o = object_of c.args.difo.now in
+    let s = frame_of o c.args.firing.now c.args.frame.now in
+    λ e. c.requires.1.1 (ap (λ x. on x (λ value. puts s c.args.d value c.requires.0)) (ap (call_of c.args.function) (sym (c.key.ensures ∙ c.in_ok-write_key.ensures.key)) ∙ e))
+
 pub returns : goal.returns
 returns c =
-    λ difo f may vars. let o = object_of difo in acting.call o f (frame_of o f c.args.frame.now) vars _ _ c.in_ok-value.value _ c.in_ok-value.ensures (c.put.ensures o f ∙ ap (with_content (frame_of o f c.args.frame.now) c.args.d) (c.own.ensures o f))
+    let o = object_of c.args.difo.now in
+    let f = c.args.firing.now in
+    let s = frame_of o f c.args.frame.now in
+    λ vars. acting.call o f s vars _ _ c.in_ok-value.value _ (ap (call_of c.args.function) (sym (c.key.ensures ∙ c.in_ok-write_key.ensures.key)) ∙ c.in_ok-value.ensures)
+    (c.put_value.ensures o f ∙ ap (λ t. with_content t c.args.d (Some c.in_ok-value.value)) (c.write_key.ensures.same o f))

@@ -5,4 +5,4 @@ use Rattle.dif_machine.proofs.stepping.tuple.flushts.Goals as goal
 
 pub returns : goal.returns
 returns c =
-    λ difo f may vars. let o = object_of difo in acting.flushts o f (frame_of o f c.args.frame.now) vars _ (c.in_ok-flush.ensures o f)
+    λ difo f may vars. let o = object_of difo in acting.flushts o f (frame_of o f c.args.frame.now) vars _ (c.flush.ensures o f)

@@ -1,13 +1,8 @@
-use Rattle.std.specs.Prelude.{◌++◌, ◌∷◌, []}
-use Rattle.std.proofs.Common.{ap, ◌∙◌}
 use Rattle.dif_machine.specs.Vocabulary.{object_of}
-use Rattle.dif_machine.specs.Frames.{with_tuple}
 use Rattle.dif_machine.specs.Held.{frame_of}
 use Rattle.dif_machine.proofs.Acting as acting
 use Rattle.dif_machine.proofs.stepping.tuple.pushtv.Goals as goal
 
 pub returns : goal.returns
 returns c =
-    let o = object_of c.args.difo.now in
-    let f = c.args.firing.now in
-    λ vars. acting.pushtv o f (frame_of o f c.args.frame.now) vars _ _ _ c.requires.0 c.requires.1.1 c.number.ensures (c.in_ok-push.ensures o f ∙ ap (λ x. with_tuple (frame_of o f c.args.frame.now) (c.args.frame.now.tuple ++ x ∷ [])) c.number_part-part.ensures)
+    λ difo f may vars. let o = object_of difo in acting.pushtv o f (frame_of o f c.args.frame.now) vars _ _ may.0 may.1.1 (c.in_ok-push.ensures o f)

@@ -2,13 +2,13 @@ use Rattle.std.specs.Prelude.{◌≡◌, map}
 use Rattle.std.proofs.Common.{ap, subst, sym, ◌∙◌}
 use Rattle.d_types.specs.Held.{AreTypedOwn, slots_of}
 use Rattle.d_types.proofs.FiringValues.{own_unassigned}
-use Rattle.replay_core.specs.Meaning.{unassigned}
+use Rattle.replay_core.specs.Meaning.{blank_threads}
 use Rattle.replay_core.specs.Threads.{threads_in}
 use Rattle.replay_core.proofs.lane.Lane.new.Goals as goal
 
 pub returns-clause-script : goal.returns-clause-script
 returns-clause-script g c = λ m mean functions.
-    let none : threads_in c.with_hasher.result.entries ≡ unassigned = ap threads_in c.with_hasher.ensures.empty in (
+    let none : threads_in c.with_hasher.result.entries ≡ blank_threads = ap threads_in c.with_hasher.ensures.empty in (
       record {
         clauses_mean = mean;
         are_described = ap (map (λ d. d.now)) c.new-2.ensures.descriptions ∙ c.in_ok-descriptions.ensures.meaning (slots_of m) m.clauses mean.each;

@@ -5,7 +5,7 @@ use Rattle.std.proofs.lemmas.List.{length-map}
 use Rattle.std.proofs.lemmas.Result.{on_ok_weaker, IfOk-weaker}
 use Rattle.d_types.specs.Held.{AreTypedOwn, slots_of}
 use Rattle.d_types.proofs.FiringValues.{firing_is}
-use Rattle.replay_core.specs.Meaning.{at_start, made_of, threads_after}
+use Rattle.replay_core.specs.Meaning.{at_start, firing_result, threads_after}
 use Rattle.replay_core.specs.Patterns.{probe_of}
 use Rattle.replay_core.specs.Places.{places_for}
 use Rattle.replay_core.specs.Seen.{piece_seen}
@@ -58,7 +58,7 @@ returns-clause-step g c =
     let fit = firing_is f c.requires.ranges in
     on_ok_weaker c.run_on_thread.result (λ (notes, others) m runs typed.
     let made = turns f m.clauses c.places.result.now start in
-    let is : made ≡ made_of m f (threads f.thread) =
+    let is : made ≡ firing_result m f (threads f.thread) =
     ap (λ l. turns f m.clauses l start) (places_are ∙ ap (places_for (probe_of f) 0) runs.are_described) ∙ turns_are m f start in
     record {
       threads = λ i thread. (others (slots_of m) m.clauses runs.clauses_mean fit (typed f.thread) thread ∙ ap (λ r. if int_eq thread f.thread then r.variables.own else threads thread) is) i;
@@ -75,9 +75,9 @@ returns-clause-exits g c =
     let start = at_start (threads f.thread) in
     let fit = firing_is f c.requires.ranges in
     IfOk-weaker c.run_on_thread.result _ _ (λ exits told m runs typed.
-    let is : turns f m.clauses c.places.result.now start ≡ made_of m f (threads f.thread) =
+    let is : turns f m.clauses c.places.result.now start ≡ firing_result m f (threads f.thread) =
     ap (λ l. turns f m.clauses l start) (places_are ∙ ap (places_for (probe_of f) 0) runs.are_described) ∙ turns_are m f start in
-    told (slots_of m) m.clauses runs.clauses_mean fit (typed f.thread) ∙ ap (λ r. is_some r.exit) is ∙ some_same (λ status. (f.number, status)) (made_of m f (threads f.thread)).exit) c.run_on_thread.ensures.exits
+    told (slots_of m) m.clauses runs.clauses_mean fit (typed f.thread) ∙ ap (λ r. is_some r.exit) is ∙ some_same (λ status. (f.number, status)) (firing_result m f (threads f.thread)).exit) c.run_on_thread.ensures.exits
 
 pub returns-clause-typed : goal.returns-clause-typed
 returns-clause-typed g c =
@@ -88,7 +88,7 @@ returns-clause-typed g c =
     let start = at_start (threads f.thread) in
     let fit = firing_is f c.requires.ranges in
     on_ok_weaker c.run_on_thread.result (λ others m runs typed thread.
-    let is : turns f m.clauses c.places.result.now start ≡ made_of m f (threads f.thread) =
+    let is : turns f m.clauses c.places.result.now start ≡ firing_result m f (threads f.thread) =
     ap (λ l. turns f m.clauses l start) (places_are ∙ ap (places_for (probe_of f) 0) runs.are_described) ∙ turns_are m f start in
     let left : threads_in c.run_on_thread.new.threads.entries thread ≡ threads_after m f threads thread =
     others (slots_of m) m.clauses runs.clauses_mean fit (typed f.thread) thread ∙ ap (λ r. if int_eq thread f.thread then r.variables.own else threads thread) is in

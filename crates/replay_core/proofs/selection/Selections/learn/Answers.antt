@@ -1,5 +1,5 @@
-use Rattle.std.specs.Prelude.{map}
-use Rattle.std.proofs.Common.{rules, ap, ◌∙◌}
+use Rattle.std.specs.Prelude.{All, map}
+use Rattle.std.proofs.Common.{rules, ap, subst, sym, ◌∙◌}
 use Rattle.replay_core.specs.declared.selection.Selection.{Selection}
 use Rattle.replay_core.specs.Places.{places_for}
 use Rattle.replay_core.specs.Selecting.{IsSelection, places_at}
@@ -11,21 +11,21 @@ returns-in_err-clone-clause-known c =
     let ds = map (λ d. d.now) c.args.self.now.descriptions.items in
     let s : Selection = record { probe = c.in_ok-probe.probe; places = c.in_ok-places.places } in
     let is : IsSelection ds s = search rules in
-    rw c.in_ok-push.ensures.items (selections_more ds c.args.self.now.known.items s c.requires is)
+    subst (λ l. All (IsSelection ds) l) (sym c.in_ok-push.ensures.items) (selections_more ds c.args.self.now.known.items s c.requires is)
 
 pub returns-in_err-insert-clause-known : goal.returns-in_err-insert-clause-known
 returns-in_err-insert-clause-known c =
     let ds = map (λ d. d.now) c.args.self.now.descriptions.items in
     let s : Selection = record { probe = c.in_ok-probe.probe; places = c.in_ok-places.places } in
     let is : IsSelection ds s = search rules in
-    rw c.in_ok-push.ensures.items (selections_more ds c.args.self.now.known.items s c.requires is)
+    subst (λ l. All (IsSelection ds) l) (sym c.in_ok-push.ensures.items) (selections_more ds c.args.self.now.known.items s c.requires is)
 
 pub returns-clause-known : goal.returns-clause-known
 returns-clause-known c =
     let ds = map (λ d. d.now) c.args.self.now.descriptions.items in
     let s : Selection = record { probe = c.in_ok-probe.probe; places = c.in_ok-places.places } in
     let is : IsSelection ds s = search rules in
-    rw c.in_ok-push.ensures.items (selections_more ds c.args.self.now.known.items s c.requires is)
+    subst (λ l. All (IsSelection ds) l) (sym c.in_ok-push.ensures.items) (selections_more ds c.args.self.now.known.items s c.requires is)
 
 pub returns-clause-turned : goal.returns-clause-turned
 returns-clause-turned c =

@@ -1,7 +1,7 @@
 use Rattle.std.specs.Prelude.{◌≡◌, ◌∷◌, ◌++◌, [], false, length, map, take, Err}
 use Rattle.std.proofs.Common.{rules, subst, sym, ap, ◌∙◌}
 use Rattle.d_types.specs.Expressions.{number}
-use Rattle.d_types.specs.Clauses.{fault_line, guarded_by, made, statements_by, where_true}
+use Rattle.d_types.specs.Clauses.{fault_line, where_predicate, run_result, statements_by, where_true}
 use Rattle.replay_core.specs.Effects.{NotesRun}
 use Rattle.replay_core.specs.Evaluation.{Returns, variables_in}
 use Rattle.replay_core.specs.Seen.{piece_seen}
@@ -20,8 +20,8 @@ returns-in-Err-DivideByZero-clause-run g c =
     let predicate = c.in-Some.predicate in
     let faults = subst (λ r. Returns (number (by.value predicate vars)) r after)
     (c.in-Err-DivideByZero.is ∙ ap (λ e. Err e) c.in-Err-DivideByZero.field-0-is) c.evaluate_word.ensures.1 in
-    let run = ap (λ p. made line (guarded_by by p rest vars)) c.in-Some.is
-    ∙ ap (λ o. made line (where_true o rest)) faults in
+    let run = ap (λ p. run_result line (where_predicate by p rest vars)) c.in-Some.is
+    ∙ ap (λ o. run_result line (where_true o rest)) faults in
     let noted = c.in_ok-note_fault-in-Err-DivideByZero.ensures in
     let same = number_stays c.args.scene.now c.evaluate_word.new.scene c.evaluate_word.ensures.0 in
     let before : c.len-texts.result ≡ length c.args.piece.now.texts.items = search rules in

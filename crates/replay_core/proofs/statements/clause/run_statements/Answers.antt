@@ -3,7 +3,7 @@ use Rattle.std.proofs.Common.{refl, rules, arith, add-one, drop, subst, sym, ap,
 use Rattle.std.proofs.Math.Seq.{drop-cons}
 use Rattle.std.proofs.lemmas.List.{drop_all}
 use Rattle.aggregations.specs.Table.{functions_of}
-use Rattle.d_types.specs.Clauses.{effect_by, fault_line, followed, statements_by}
+use Rattle.d_types.specs.Clauses.{effect_by, fault_line, effect_then, statements_by}
 use Rattle.replay_core.specs.Bounds.{place_in}
 use Rattle.replay_core.specs.Effects.{Performs}
 use Rattle.replay_core.specs.Evaluation.{variables_in}
@@ -43,7 +43,7 @@ loop-statement-preserved g c =
     let go = statements_by by (map form (drop (i + 1) all)) in
     let cut : drop i all ≡ item ∷ drop (i + 1) all =
     subst (λ s. drop i all ≡ s ∷ drop (i + 1) all) (sym c.statement-item.is) (rw add-one (drop-cons all i item (search rules))) in
-    let is : left ≡ followed o go = ap (λ l. statements_by by (map form l) now) cut in
+    let is : left ≡ effect_then o go = ap (λ l. statements_by by (map form l) now) cut in
     let stays = c.loop-statement.invariant.stays in
     let performs = subst (λ s. Performs s.now.number (effect_by (g.X.Expression.by s.now) (form item) now) (piece_seen c.loop-statement.piece) (Ok c.in-Ok.exited) (piece_seen c.perform.new.piece) (variables_in c.perform.new.scene))
     stays.0 c.in-Ok.ensures.effect.1 in
@@ -73,7 +73,7 @@ returns-in-Err-DivideByZero-clause-run g c =
     let go = statements_by by (map form (drop (i + 1) all)) in
     let cut : drop i all ≡ item ∷ drop (i + 1) all =
     subst (λ s. drop i all ≡ s ∷ drop (i + 1) all) (sym c.statement-item.is) (rw add-one (drop-cons all i item (search rules))) in
-    let is : left ≡ followed o go = ap (λ l. statements_by by (map form l) now) cut in
+    let is : left ≡ effect_then o go = ap (λ l. statements_by by (map form l) now) cut in
     let line = fault_line f.number c.args.place in
     let noted = c.in_ok-note_fault-in-Err-DivideByZero.ensures in
     let stays = stays_then c.args.scene.now c.loop-statement.scene c.perform.new.scene c.loop-statement.invariant.stays c.perform.ensures.effect.0 in

@@ -3,7 +3,7 @@ use Rattle.std.specs.Int.{w64}
 use Rattle.std.proofs.Common.{rules, subst}
 use Rattle.std.proofs.lemmas.Int.{to_z-of_z}
 use Rattle.d_types.specs.declared.effect.Effect.TheVariants as ef
-use Rattle.d_types.specs.Clauses.{given_by}
+use Rattle.d_types.specs.Clauses.{argument_by}
 use Rattle.d_types.specs.Expressions.{Has}
 use Rattle.replay_core.specs.Effects.{NotesEffect}
 use Rattle.replay_core.specs.Evaluation.{variables_in}
@@ -22,9 +22,9 @@ returns-clause-effect g c =
     let fits : FitsSigned w64 c.in_ok-number.number = search rules in
     let noted = subst (λ y. NotesEffect f.number (ef.Adds c.args.place c.in_ok-key.key y) (piece_seen c.args.piece.now) (piece_seen c.note_contribution.new.self))
     (to_z-of_z w64 c.in_ok-number.number fits) (c.in_ok-note_contribution.ensures.notes f.number) in
-    let given : given_by by c.args.argument.now between ≡ Has c.in_ok-number.number after =
-    subst (λ s. given_by (g.X.Expression.by s.now) c.args.argument.now between ≡ Has c.in_ok-number.number after) c.in_ok-key.ensures.0.0 c.in_ok-number.ensures.1 in (
+    let given : argument_by by c.args.argument.now between ≡ Has c.in_ok-number.number after =
+    subst (λ s. argument_by (g.X.Expression.by s.now) c.args.argument.now between ≡ Has c.in_ok-number.number after) c.in_ok-key.ensures.0.0 c.in_ok-number.ensures.1 in (
       stays_then c.args.scene.now c.evaluate_key.new.scene c.evaluate_argument.new.scene c.in_ok-key.ensures.0 c.in_ok-number.ensures.0,
-      adds f.number c.args.place (by.key c.args.keys.now vars) (given_by by c.args.argument.now) c.in_ok-key.key c.in_ok-number.number
+      adds f.number c.args.place (by.key c.args.keys.now vars) (argument_by by c.args.argument.now) c.in_ok-key.key c.in_ok-number.number
           (piece_seen c.args.piece.now) (piece_seen c.note_contribution.new.self) between after c.in_ok-key.ensures.1 given noted,
     )

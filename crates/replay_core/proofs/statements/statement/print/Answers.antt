@@ -1,6 +1,6 @@
 use Rattle.std.proofs.Common.{rules, subst}
 use Rattle.d_types.specs.declared.effect.Effect.TheVariants as ef
-use Rattle.d_types.specs.Printing.{printed}
+use Rattle.d_types.specs.Printing.{printf_text}
 use Rattle.replay_core.specs.Effects.{NotesEffect}
 use Rattle.replay_core.specs.Evaluation.{variables_in}
 use Rattle.replay_core.specs.Seen.{piece_seen}
@@ -16,7 +16,7 @@ returns-clause-effect g c =
     let same = number_stays c.args.scene.now c.evaluate_arguments.new.scene c.in_ok-arguments.ensures.0 in
     let noted = subst (λ n. NotesEffect n (ef.Says c.in_ok-text.text) (piece_seen c.args.piece.now) (piece_seen c.note_text.new.self)) same c.in_ok-note_text.ensures.notes in (
       c.in_ok-arguments.ensures.0,
-      says f.number (by.values c.args.arguments.now vars) (printed c.args.format.now) c.in_ok-arguments.arguments c.in_ok-text.text
+      says f.number (by.values c.args.arguments.now vars) (printf_text c.args.format.now) c.in_ok-arguments.arguments c.in_ok-text.text
           (piece_seen c.args.piece.now) (piece_seen c.note_text.new.self) (variables_in c.evaluate_arguments.new.scene)
           c.in_ok-arguments.ensures.1 (search rules) noted,
     )

@@ -41,7 +41,7 @@ returns-clause-whole c =
     let every : c.loop-place.all.me.0.hand.seats ≡ c.args.self.table.shared.key.1 = i.all.seats ∙ ap length same ∙ sym c.args.seats.ok.0 ∙ c.requires.every ∙ sym (ap (λ p. p.1) c.args.self.key_is) in
     let small : c.loop-place.all.me.0.low.lowered ≤ no_number = subst (λ n. n ≤ no_number) (sym i.all.lowered) (lowered-small c.loop-place.yielded) in
     let end = ends_whole _ _ c.loop-place.all.me.0 _ _ every small c.close_with-closed.ensures.values.2 in
-    whole_as _ _ _ _ i.all same (subst (λ n. IsHandOut n c.loop-place.all.me.0.hand.told c.loop-place.all.me.0.hand.drawn) (ap (λ p. p.0) c.args.self.key_is) end.0)
+    whole_as _ _ _ _ i.all same (subst (λ n. IsHandOut n c.loop-place.all.me.0.hand.at_end c.loop-place.all.me.0.hand.drawn) (ap (λ p. p.0) c.args.self.key_is) end.0)
 
 pub returns-clause-least : goal.returns-clause-least
 returns-clause-least c =

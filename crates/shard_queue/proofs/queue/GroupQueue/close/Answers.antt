@@ -1,7 +1,7 @@
 use Rattle.std.proofs.Common.{List, ap, arith, sym, ◌∙◌, subst, ◌≡◌, ◌++◌, ◌∷◌, [], length, append-nil, append_assoc, length-append}
 use Rattle.std.proofs.lemmas.List.{map-append, nil_from_length}
 use Rattle.shard_queue.specs.Hands.{IsHandOut}
-use Rattle.shard_queue.specs.Queues.{IsIn, SumsIf, told_by, taken_by}
+use Rattle.shard_queue.specs.Queues.{IsIn, SumsIf, queue_seats_at_end, queue_numbers}
 use Rattle.shard_queue.specs.declared.queue_seat.QueueSeat.{QueueSeat}
 use Rattle.shard_queue.proofs.QueueSteps.{whole}
 use Rattle.shard_queue.proofs.Lists.{all_head, all_tail}
@@ -33,7 +33,7 @@ returns-clause-whole c =
     let every : length c.loop-place.yielded ≡ c.args.self.workers = ap length same ∙ sym c.args.seats.ok.0 ∙ c.requires.every in
     let pos = c.args.self.some_worker in
     elim c.match-all.branch [
-      | in-Some-all w ↦ subst (λ (ss : List QueueSeat). IsHandOut c.args.self.end (told_by ss) (taken_by ss)) same
+      | in-Some-all w ↦ subst (λ (ss : List QueueSeat). IsHandOut c.args.self.end (queue_seats_at_end ss) (queue_numbers ss)) same
           (sums_whole c.args.self c.loop-place.yielded w.in-Some-all.pass (subst (SumsIf c.args.self c.loop-place.yielded) w.in-Some-all.is i.sums) every pos w.learn_as.ensures.rule.1)
       | in_default w ↦ absurd (let none = ap length (subst (SumsIf c.args.self c.loop-place.yielded) w.in_default.is i.sums) in omega arith)
     ]

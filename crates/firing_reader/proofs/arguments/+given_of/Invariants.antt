@@ -1,5 +1,0 @@
-use Rattle.std.proofs.Common.{length}
-use Rattle.firing_reader.proofs.arguments.+given_of.Given as goal
-
-abbrev pub decreases-given_of : goal.decreases-given_of
-decreases-given_of l = length l.args.now

@@ -1,0 +1,29 @@
+//! Tests of the libraries by their public calls. A library with tests of its own is proved twice.
+#![tactic(auto)]
+
+#[cfg(test)]
+mod aggregates;
+#[cfg(test)]
+mod code_generator;
+#[cfg(test)]
+mod hashes;
+#[cfg(test)]
+mod keys;
+#[cfg(test)]
+mod lexer;
+#[cfg(test)]
+mod machine;
+#[cfg(test)]
+mod numbers;
+#[cfg(test)]
+mod parser;
+#[cfg(test)]
+mod parser_faults;
+#[cfg(test)]
+mod shards;
+#[cfg(test)]
+mod types;
+#[cfg(test)]
+mod validator;
+#[cfg(test)]
+mod value_tables;

@@ -1,0 +1,474 @@
+//! Runs of small objects, with the values worked out by hand.
+use d_values::{ClauseLocals, Key, Kind, Text, ThreadTable, Value, ValueRef, Var};
+use dif_machine::{Frame, MachineFault, run, run_in};
+use dif_validate::{Condition, Difo, Function, Instr, Operator, Reg, validate};
+use firing_reader::{Firing, Text as Recorded};
+use keyed_hash::HashKey;
+use std::alloc::{AllocError, Global};
+use std::process::Abort;
+use std::test::Fail;
+
+const R0: Reg = Reg::R0;
+
+const R1: Reg = Reg::R1;
+
+const R2: Reg = Reg::R2;
+
+const R3: Reg = Reg::R3;
+
+const COUNT: Var = Var {
+    slot: 0,
+    kind: Kind::Number,
+};
+
+const NAME: Var = Var {
+    slot: 0,
+    kind: Kind::Text,
+};
+
+const MINUS_8: u64 = u64::MAX - 7;
+
+const LEAST: u64 = 1 << 63;
+
+// What a run returns: an integer, a text's bytes, or a fault; none where the object isn't valid.
+#[derive(Drop, Debug, PartialEq, Eq)]
+enum Shown {
+    Invalid,
+    Number(u64),
+    Bytes(Vec<u8>),
+    Fault(MachineFault),
+}
+
+fn firing() -> Option<Firing<'static>> {
+    Some(Firing {
+        number: 1,
+        cpu: 2,
+        thread: -5,
+        pid: 4,
+        execname: Recorded::from_bytes(b"cat")?,
+        time: 1,
+        provider: Recorded::from_bytes(b"syscall")?,
+        probemod: Recorded::from_bytes(b"linux")?,
+        probefunc: Recorded::from_bytes(b"read")?,
+        name: Recorded::from_bytes(b"entry")?,
+        args: [-1, 20, 30, 0, 0, 0, 0, 0, 0, 90],
+    })
+}
+
+fn object(alloc: Global, code: &[Instr], numbers: &[u64]) -> Result<Difo, AllocError> {
+    let mut texts = Vec::new(alloc);
+    texts.push(Text::from_slice(alloc, b"cat")?)?;
+    texts.push(Text::from_slice(alloc, &[b'x'; 300])?)?;
+    Ok(Difo {
+        code: Vec::from_slice(alloc, code)?,
+        texts,
+        numbers: Vec::from_slice(alloc, numbers)?,
+    })
+}
+
+fn ending(ended: Result<Value, MachineFault>) -> Shown {
+    match ended {
+        Ok(Value::Int(word)) => Shown::Number(word),
+        Ok(Value::Text(text)) => Shown::Bytes(text.into_bytes()),
+        Err(fault) => Shown::Fault(fault),
+    }
+}
+
+// Runs the code over these variables.
+fn run_over(
+    alloc: Global,
+    code: &[Instr],
+    numbers: &[u64],
+    locals: &mut ClauseLocals,
+    own: &mut ThreadTable,
+) -> Result<Shown, AllocError> {
+    let Ok(valid) = validate(alloc, object(alloc, code, numbers)?) else {
+        return Ok(Shown::Invalid);
+    };
+    let Some(firing) = firing() else {
+        return Ok(Shown::Invalid);
+    };
+    Ok(ending(run(alloc, &valid, &firing, locals, own)))
+}
+
+// Runs the code over variables that aren't set.
+fn run_alone(alloc: Global, code: &[Instr], numbers: &[u64]) -> Result<Shown, AllocError> {
+    let mut locals = ClauseLocals::new(alloc);
+    let mut own = ThreadTable::new(alloc, HashKey::of_seed(&[]));
+    run_over(alloc, code, numbers, &mut locals, &mut own)
+}
+
+// What an operator makes of two integers.
+fn operator_result(alloc: Global, op: Operator, a: u64, b: u64) -> Result<Shown, AllocError> {
+    let code = [
+        Instr::Setx(0, R1),
+        Instr::Setx(1, R2),
+        Instr::Alu(op, R1, R2, R3),
+        Instr::Ret(R3),
+    ];
+    run_alone(alloc, &code, &[a, b])
+}
+
+// Whether a branch is taken after a comparison of two integers.
+fn is_taken(alloc: Global, condition: Condition, a: u64, b: u64) -> Result<bool, AllocError> {
+    let code = [
+        Instr::Setx(0, R1),
+        Instr::Setx(1, R2),
+        Instr::Cmp(R1, R2),
+        Instr::Branch(condition, 5),
+        Instr::Ret(R0),
+        Instr::Setx(2, R3),
+        Instr::Ret(R3),
+    ];
+    Ok(run_alone(alloc, &code, &[a, b, 1])? == Shown::Number(1))
+}
+
+#[test]
+fn operators(rt: HostRuntime) -> Result<(), Fail> {
+    let rows: [(Operator, u64, u64, u64); 20] = [
+        (Operator::Or, 12, 10, 14),
+        (Operator::Xor, 12, 10, 6),
+        (Operator::And, 12, 10, 8),
+        (Operator::Sll, 1, 3, 8),
+        (Operator::Sll, 1, 65, 2),
+        (Operator::Srl, MINUS_8, 1, 9223372036854775804),
+        (Operator::Srl, 16, 66, 4),
+        (Operator::Sra, MINUS_8, 1, u64::MAX - 3),
+        (Operator::Sra, MINUS_8, 65, u64::MAX - 3),
+        (Operator::Sra, 16, 2, 4),
+        (Operator::Sub, 1, 2, u64::MAX),
+        (Operator::Add, u64::MAX, 2, 1),
+        (Operator::Mul, u64::MAX, u64::MAX, 1),
+        (Operator::Sdiv, MINUS_8, 3, u64::MAX - 1),
+        (Operator::Sdiv, LEAST, u64::MAX, LEAST),
+        (Operator::Udiv, MINUS_8, 2, 9223372036854775804),
+        (Operator::Srem, MINUS_8, 3, u64::MAX - 1),
+        (Operator::Srem, LEAST, u64::MAX, 0),
+        (Operator::Urem, MINUS_8, 3, 2),
+        (Operator::Urem, 7, 3, 1),
+    ];
+    for i in 0..rows.len() {
+        let (op, a, b, word) = rows[i];
+        assert!(&rt; operator_result(rt.alloc(), op, a, b)? == Shown::Number(word));
+    }
+    Ok(())
+}
+
+#[test]
+fn divisions_by_zero_end_the_run(rt: HostRuntime) -> Result<(), Fail> {
+    let alloc = rt.alloc();
+    let zero = Shown::Fault(MachineFault::DivideByZero);
+    assert!(&rt; operator_result(alloc, Operator::Sdiv, 1, 0)? == zero);
+    assert!(&rt; operator_result(alloc, Operator::Udiv, 1, 0)? == zero);
+    assert!(&rt; operator_result(alloc, Operator::Srem, 1, 0)? == zero);
+    assert!(&rt; operator_result(alloc, Operator::Urem, 1, 0)? == zero);
+    Ok(())
+}
+
+#[test]
+fn branches(rt: HostRuntime) -> Result<(), Fail> {
+    // -8 against 1, 1 against 1, 1 against -8
+    let rows: [(Condition, bool, bool, bool); 10] = [
+        (Condition::Equal, false, true, false),
+        (Condition::NotEqual, true, false, true),
+        (Condition::Greater, false, false, true),
+        (Condition::GreaterEqual, false, true, true),
+        (Condition::Less, true, false, false),
+        (Condition::LessEqual, true, true, false),
+        (Condition::Above, true, false, false),
+        (Condition::AboveEqual, true, true, false),
+        (Condition::Below, false, false, true),
+        (Condition::BelowEqual, false, true, true),
+    ];
+    for i in 0..rows.len() {
+        let (condition, less, same, more) = rows[i];
+        assert!(&rt; is_taken(rt.alloc(), condition, MINUS_8, 1)? == less);
+        assert!(&rt; is_taken(rt.alloc(), condition, 1, 1)? == same);
+        assert!(&rt; is_taken(rt.alloc(), condition, 1, MINUS_8)? == more);
+    }
+    Ok(())
+}
+
+#[test]
+fn integers_of_the_firing(rt: HostRuntime) -> Result<(), Fail> {
+    let rows: [(u8, u64); 4] = [(0, 1), (1, 2), (2, 4), (3, u64::MAX - 4)];
+    for i in 0..rows.len() {
+        let (v, word) = rows[i];
+        let code = [Instr::Ldgs(v, R1), Instr::Ret(R1)];
+        assert!(&rt; run_alone(rt.alloc(), &code, &[])? == Shown::Number(word));
+    }
+    Ok(())
+}
+
+#[test]
+fn texts_of_the_firing(rt: HostRuntime) -> Result<(), Fail> {
+    let alloc = rt.alloc();
+    let rows: [(u8, &[u8]); 5] = [
+        (4, b"cat"),
+        (5, b"syscall"),
+        (6, b"linux"),
+        (7, b"read"),
+        (8, b"entry"),
+    ];
+    for i in 0..rows.len() {
+        let (v, bytes) = rows[i];
+        let code = [Instr::Ldgs(v, R1), Instr::Mov(R1, R2), Instr::Ret(R2)];
+        assert!(&rt; run_alone(alloc, &code, &[])? == Shown::Bytes(Vec::from_slice(alloc, bytes)?));
+    }
+    Ok(())
+}
+
+#[test]
+fn arguments_of_the_firing(rt: HostRuntime) -> Result<(), Fail> {
+    let rows: [(u64, u64); 5] = [(0, u64::MAX), (1, 20), (9, 90), (10, 0), (u64::MAX, 0)];
+    for i in 0..rows.len() {
+        let (n, word) = rows[i];
+        let code = [Instr::Setx(0, R1), Instr::Ldga(0, R1, R2), Instr::Ret(R2)];
+        assert!(&rt; run_alone(rt.alloc(), &code, &[n])? == Shown::Number(word));
+    }
+    Ok(())
+}
+
+// Code over the integers 1 and 2^64 - 1, and what it returns.
+const SINGLE_INSTRUCTIONS: [(&'static [Instr], u64); 16] = [
+    (&[Instr::Ba(2), Instr::Mov(R1, R2), Instr::Ret(R0)], 0),
+    (&[Instr::Ret(R0)], 0),
+    (&[Instr::Setx(0, R0), Instr::Ret(R0)], 0),
+    (&[Instr::Sets(0, R0), Instr::Ret(R0)], 0),
+    (&[Instr::Not(R0, R1), Instr::Ret(R1)], u64::MAX),
+    (
+        &[
+            Instr::Setx(0, R1),
+            Instr::Mov(R1, R2),
+            Instr::Mov(R0, R1),
+            Instr::Ret(R2),
+        ],
+        1,
+    ),
+    (&[Instr::Nop, Instr::Setx(0, R1), Instr::Ret(R1)], 1),
+    (
+        &[
+            Instr::Setx(1, R1),
+            Instr::Tst(R1),
+            Instr::Branch(Condition::Less, 4),
+            Instr::Ret(R0),
+            Instr::Ret(R1),
+        ],
+        u64::MAX,
+    ),
+    (
+        &[
+            Instr::Sets(0, R1),
+            Instr::Sets(1, R2),
+            Instr::Scmp(R1, R2),
+            Instr::Branch(Condition::Below, 5),
+            Instr::Ret(R0),
+            Instr::Setx(0, R1),
+            Instr::Ret(R1),
+        ],
+        1,
+    ),
+    (
+        &[
+            Instr::Sets(0, R1),
+            Instr::Sets(1, R2),
+            Instr::Scmp(R1, R2),
+            Instr::Branch(Condition::Less, 5),
+            Instr::Ret(R0),
+            Instr::Setx(0, R1),
+            Instr::Ret(R1),
+        ],
+        1,
+    ),
+    (
+        &[
+            Instr::Sets(0, R1),
+            Instr::Ldgs(4, R2),
+            Instr::Scmp(R1, R2),
+            Instr::Branch(Condition::Equal, 5),
+            Instr::Ret(R0),
+            Instr::Setx(0, R1),
+            Instr::Ret(R1),
+        ],
+        1,
+    ),
+    (
+        &[
+            Instr::Setx(0, R1),
+            Instr::Pushtv(R1),
+            Instr::Sttaa(COUNT, R1),
+            Instr::Ldtaa(COUNT, R2),
+            Instr::Ret(R2),
+        ],
+        1,
+    ),
+    (
+        &[
+            Instr::Setx(0, R1),
+            Instr::Pushtv(R1),
+            Instr::Sttaa(COUNT, R1),
+            Instr::Flushts,
+            Instr::Pushtv(R0),
+            Instr::Ldtaa(COUNT, R2),
+            Instr::Ret(R2),
+        ],
+        0,
+    ),
+    (
+        &[
+            Instr::Setx(0, R1),
+            Instr::Pushtv(R1),
+            Instr::Sttaa(COUNT, R1),
+            Instr::Pushtv(R1),
+            Instr::Ldtaa(COUNT, R2),
+            Instr::Ret(R2),
+        ],
+        0,
+    ),
+    (
+        &[
+            Instr::Setx(0, R1),
+            Instr::Pushtv(R1),
+            Instr::Sttaa(COUNT, R1),
+            Instr::Ldts(COUNT, R2),
+            Instr::Ret(R2),
+        ],
+        0,
+    ),
+    (
+        &[
+            Instr::Sets(1, R1),
+            Instr::Pushtr(R1),
+            Instr::Call(Function::Strlen, R1),
+            Instr::Ret(R1),
+        ],
+        300,
+    ),
+];
+
+#[test]
+fn single_instructions(rt: HostRuntime) -> Result<(), Fail> {
+    for i in 0..SINGLE_INSTRUCTIONS.len() {
+        let (code, word) = SINGLE_INSTRUCTIONS[i];
+        assert!(&rt; run_alone(rt.alloc(), code, &[1, u64::MAX])? == Shown::Number(word));
+    }
+    Ok(())
+}
+
+#[test]
+fn joined_texts_are_cut(rt: HostRuntime) -> Result<(), Fail> {
+    let alloc = rt.alloc();
+    let code = [
+        Instr::Sets(0, R1),
+        Instr::Sets(1, R2),
+        Instr::Pushtr(R1),
+        Instr::Pushtr(R2),
+        Instr::Call(Function::Strjoin, R3),
+        Instr::Flushts,
+        Instr::Pushtr(R3),
+        Instr::Call(Function::Strlen, R3),
+        Instr::Ret(R3),
+    ];
+    assert!(&rt; run_alone(alloc, &code, &[])? == Shown::Number(255));
+    Ok(())
+}
+
+#[test]
+fn variables_keep_what_was_written_before_a_division_by_zero(rt: HostRuntime) -> Result<(), Fail> {
+    let alloc = rt.alloc();
+    let mut locals = ClauseLocals::new(alloc);
+    let mut own = ThreadTable::new(alloc, HashKey::of_seed(&[]));
+    let code = [
+        Instr::Setx(0, R1),
+        Instr::Stts(COUNT, R1),
+        Instr::Stls(COUNT, R1),
+        Instr::Alu(Operator::Sdiv, R1, R0, R2),
+        Instr::Ret(R2),
+    ];
+    let result = run_over(alloc, &code, &[1], &mut locals, &mut own)?;
+    assert!(&rt; result == Shown::Fault(MachineFault::DivideByZero));
+    assert!(&rt; matches!(own.get(COUNT, &Key::new(alloc)), ValueRef::Int(1)));
+    assert!(&rt; matches!(locals.get(COUNT), ValueRef::Int(1)));
+    Ok(())
+}
+
+#[test]
+fn a_variable_is_its_slot_and_its_kind(rt: HostRuntime) -> Result<(), Fail> {
+    let alloc = rt.alloc();
+    let code = [
+        Instr::Sets(0, R1),
+        Instr::Stts(NAME, R1),
+        Instr::Setx(0, R1),
+        Instr::Stts(COUNT, R1),
+        Instr::Ldts(NAME, R1),
+        Instr::Stls(NAME, R1),
+        Instr::Ldls(NAME, R2),
+        Instr::Ret(R2),
+    ];
+    assert!(&rt; run_alone(alloc, &code, &[7])? == Shown::Bytes(Vec::from_slice(alloc, b"cat")?));
+    Ok(())
+}
+
+// Runs the code in this frame, over variables that aren't set.
+fn run_in_frame(
+    alloc: Global,
+    frame: &mut Frame,
+    code: &[Instr],
+    numbers: &[u64],
+) -> Result<Shown, AllocError> {
+    let Ok(valid) = validate(alloc, object(alloc, code, numbers)?) else {
+        return Ok(Shown::Invalid);
+    };
+    let Some(firing) = firing() else {
+        return Ok(Shown::Invalid);
+    };
+    let mut locals = ClauseLocals::new(alloc);
+    let mut own = ThreadTable::new(alloc, HashKey::of_seed(&[]));
+    match run_in(alloc, &valid, &firing, frame, &mut locals, &mut own) {
+        Ok(ValueRef::Int(word)) => Ok(Shown::Number(word)),
+        Ok(ValueRef::Text(bytes)) => Ok(Shown::Bytes(Vec::from_slice(alloc, bytes)?)),
+        Err(fault) => Ok(Shown::Fault(fault)),
+    }
+}
+
+// One frame for runs that leave texts in registers and in the tuple, that fault, and that use none.
+#[test]
+fn a_frame_serves_many_runs(rt: HostRuntime) -> Result<(), Fail> {
+    let alloc = rt.alloc();
+    let mut frame = Frame::new(alloc);
+    let join = [
+        Instr::Sets(0, R1),
+        Instr::Ldgs(7, R2),
+        Instr::Pushtr(R1),
+        Instr::Pushtr(R2),
+        Instr::Call(Function::Strjoin, R3),
+        Instr::Ret(R3),
+    ];
+    let measure = [
+        Instr::Ldgs(7, R1),
+        Instr::Pushtr(R1),
+        Instr::Call(Function::Strlen, R2),
+        Instr::Flushts,
+        Instr::Ret(R2),
+    ];
+    let divide = [
+        Instr::Setx(0, R1),
+        Instr::Ldgs(7, R2),
+        Instr::Pushtr(R2),
+        Instr::Alu(Operator::Udiv, R1, R0, R1),
+        Instr::Ret(R1),
+    ];
+    let name = [Instr::Ldgs(4, R1), Instr::Ret(R1)];
+    let constant = [Instr::Sets(0, R1), Instr::Ret(R1)];
+    for _ in 0..3 {
+        let joined = run_in_frame(alloc, &mut frame, &join, &[])?;
+        assert!(&rt; joined == Shown::Bytes(Vec::from_slice(alloc, b"catread")?));
+        assert!(&rt; run_in_frame(alloc, &mut frame, &measure, &[])? == Shown::Number(4));
+        let divided = run_in_frame(alloc, &mut frame, &divide, &[7])?;
+        assert!(&rt; divided == Shown::Fault(MachineFault::DivideByZero));
+        let cat = Shown::Bytes(Vec::from_slice(alloc, b"cat")?);
+        assert!(&rt; run_in_frame(alloc, &mut frame, &name, &[])? == cat);
+        assert!(&rt; run_in_frame(alloc, &mut frame, &constant, &[])? == cat);
+    }
+    Ok(())
+}

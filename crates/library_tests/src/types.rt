@@ -1,0 +1,67 @@
+//! What each fault says. Which fault a script has, the cases of the program show.
+
+use d_lexer::lex;
+use d_parser::parse;
+use d_types::{TypedScript, check};
+use std::alloc::{AllocError, Global};
+use std::process::Abort;
+use std::test::Fail;
+
+// The typed script of a text, or what its fault says.
+fn typed_script(alloc: Global, script: &[u8]) -> Result<Result<TypedScript, String>, AllocError> {
+    let tokens = match lex(alloc, script) {
+        Ok(tokens) => tokens,
+        Err(fault) => return Ok(Err(format!(in alloc; "{fault:?}")?)),
+    };
+    let tree = match parse(alloc, &tokens) {
+        Ok(tree) => tree,
+        Err(fault) => return Ok(Err(format!(in alloc; "{fault:?}")?)),
+    };
+    match check(alloc, tree) {
+        Ok(script) => Ok(Ok(script)),
+        Err(fault) => Ok(Err(format!(in alloc; "{fault}")?)),
+    }
+}
+
+// "typed" for a script that is well typed, else its fault.
+fn answer_to(alloc: Global, script: &[u8]) -> Result<String, AllocError> {
+    match typed_script(alloc, script)? {
+        Ok(_) => format!(in alloc; "typed"),
+        Err(fault) => Ok(fault),
+    }
+}
+
+// A script of each fault.
+const FAULTS: &str = "\
+hit { x = 1; } => line 1: use self-> or this-> for a variable
+
+hit { trace(x); } => line 1: not declared
+
+hit { trace(1 + execname); } => line 1: of the wrong type
+
+hit { trace(pid[1]); } => line 1: other keys
+
+hit { @ = count(); @ = sum(1); } => line 1: the aggregation has another function
+
+hit { @ = lquantize(1, 0, 0); } => line 1: bounds of lquantize
+
+hit { printf(); } => line 1: the format and its arguments
+
+hit { pid = 1; } => line 1: can't be assigned
+
+hit { self->a[1,2,3,4,5,6] = arg0; } => line 1: the expression is too deep";
+
+// Each row is a script, an arrow and what is reported of it; an empty line parts rows.
+fn check_rows(rt: &impl Abort, alloc: Global, table: &str) -> Result<(), Fail> {
+    for row in table.split("\n\n") {
+        let (script, expected) = row.split_once(" => ").unwrap_or((row, ""));
+        let answer = answer_to(alloc, script.as_bytes())?;
+        assert_eq!(rt; answer.as_str(), expected, "of {script}");
+    }
+    Ok(())
+}
+
+#[test]
+fn texts_of_faults(rt: HostRuntime) -> Result<(), Fail> {
+    check_rows(&rt, rt.alloc(), FAULTS)
+}

@@ -1,0 +1,7 @@
+-- How many firings a run has at most.
+use Rattle.std.specs.Prelude.{ℕ, ◌+◌}
+use Rattle.firing_reader.specs.declared.reading.TheConstants.{MOST_ROWS}
+
+-- BEGIN, the rows of a trace and END
+abbrev pub most_firings : ℕ
+most_firings = MOST_ROWS + 2

@@ -1,5 +1,0 @@
-use Rattle.shard_queue.specs.Queues.{IsIn}
-use Rattle.shard_queue.proofs.tests.takes_all.Given as goal
-
-abbrev pub invariant-loop : goal.invariant-loop
-invariant-loop g l = IsIn l.queue l.seat
