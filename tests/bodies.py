@@ -1,7 +1,7 @@
 """What a text tells of an edit: which functions' bodies it changes, and which functions a body may call.
 
-By the layout of rt fmt a body is between a line that ends in '{' and a line '}', both as deep as the first line of the
-function's head.
+A function is named Type::name, after the type of its impl or trait, and elsewhere by its name alone. By the layout of
+rt fmt a body is between a line that ends in '{' and a line '}', both as deep as the first line of the function's head.
 """
 import re
 from collections import defaultdict
@@ -11,15 +11,17 @@ BODY = re.compile(
     r"(?:.*|.*\n(?:(?:\2(?: |\)|where).*)?\n)*\2(?:\).*)?)\{\n)((?:.*\n)*?)(?=\2\}$)",
     re.MULTILINE,
 )
+OWNER = re.compile(r"^(?:pub )?(?:impl|trait)\b(?:<[^>]*>)?(?:.* for)? (\w+)", re.MULTILINE)
+CALL = re.compile(r"(?:(\w*)(::|\.))?(\w+)(?:::<[^()]*>)?\(")
 
 
 def split(text):
     """Returns the bodies of a file's functions, by their names, and the text around them."""
-    pieces, bodies = BODY.split(text), defaultdict(str)
-    for name, body in zip(pieces[3::5], pieces[4::5]):
-        bodies[name] += body
-    del pieces[4::5]
-    return bodies, pieces
+    bodies = defaultdict(str)
+    for head in BODY.finditer(text):
+        owners = OWNER.findall(text, 0, head.start()) if head[2] else []
+        bodies["::".join([*owners[-1:], head[3]])] += head[4]
+    return bodies, BODY.sub(r"\1", text)
 
 
 def changed(old, new):
@@ -44,14 +46,28 @@ def changed_in(folder, texts):
     return found
 
 
+def callees(caller, body, functions):
+    """Returns which of these functions a body may call, by its text. A call of a value's method may be one of any type's,
+    unless the value is `self`."""
+    own, found = caller.rpartition("::")[0], set()
+    for of, sign, name in CALL.findall(body):
+        exact = f"{own if of in ('self', 'Self') else of}::{name}"
+        if exact in functions:
+            found.add(exact)
+        elif sign == "." or len(of) == 1:
+            found |= {it for it in functions if it.endswith(f"::{name}")}
+        else:
+            found |= {name} & functions.keys()
+    return found
+
+
 def reach(texts):
-    """Returns by name which functions of these files a function may call, itself or through others: all whose names
-    occur in its body, and itself."""
+    """Returns by name which functions of these files a function may call, itself or through others, and itself."""
     bodies = defaultdict(str)
     for text in texts:
         for name, body in split(text)[0].items():
-            bodies[name] += f"{name} {body}"
-    found = {name: {*re.findall(r"\w+", body)} & {*bodies} for name, body in bodies.items()}
+            bodies[name] += body
+    found = {name: {name} | callees(name, body, bodies) for name, body in bodies.items()}
     for middle in found:
         for reached in found.values():
             if middle in reached:

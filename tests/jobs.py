@@ -6,13 +6,12 @@ from concurrent.futures import ThreadPoolExecutor
 
 
 class Jobs(ThreadPoolExecutor):
-    """So many runs at once. While rt ci builds the libraries beside them, it is half as many, and a crate waits for those
-    below it: each line of standard input names a library that has been built, and its end says that there are no more."""
+    """So many runs at once. Beside rt ci, a crate waits for the libraries below it: each line of standard input names a
+    library that has been built, and its end says that there are no more."""
 
     def __init__(self, most, is_beside):
         super().__init__(most)
-        few = max(1, most // 2) if is_beside else most
-        self.kept_back, self.places = most - few, threading.Semaphore(few)
+        self.places = threading.Semaphore(most)
         self.is_beside, self.built, self.has_ended, self.news = is_beside, set(), False, threading.Condition()
         if is_beside:
             # rt ci goes first where both want the processor.
@@ -27,17 +26,15 @@ class Jobs(ThreadPoolExecutor):
         with self.news:
             self.has_ended = True
             self.news.notify_all()
-        for _ in range(self.kept_back):
-            self.places.release()
+
+    def run(self, work, *given):
+        """Runs this as soon as a place is free, ahead of what waits in the queue."""
+        with self.places:
+            return work(*given)
 
     def start(self, work, *given):
-        """Starts a run as soon as one of the places is free."""
-
-        def in_a_place():
-            with self.places:
-                return work(*given)
-
-        return self.submit(in_a_place)
+        """Puts this into the queue, to be run in its turn."""
+        return self.submit(self.run, work, *given)
 
     def has_libraries(self, names):
         """Waits for these libraries, and returns whether they have been built."""

@@ -40,6 +40,3 @@ pub use owned_text::OwnedText;
 pub use reading::MOST_ROWS;
 pub use text::{TEXT_LIMIT, Text};
 pub use trace::{Trace, read_trace, read_trace_by};
-
-#[cfg(test)]
-mod tests;

@@ -6,6 +6,8 @@ mod aggregates;
 #[cfg(test)]
 mod code_generator;
 #[cfg(test)]
+mod drawn_traces;
+#[cfg(test)]
 mod hashes;
 #[cfg(test)]
 mod keys;
@@ -21,6 +23,8 @@ mod parser;
 mod parser_faults;
 #[cfg(test)]
 mod shards;
+#[cfg(test)]
+mod traces;
 #[cfg(test)]
 mod types;
 #[cfg(test)]

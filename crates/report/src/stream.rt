@@ -6,9 +6,6 @@ ghost use Rattle.report.specs.Stream.{FeedSeen, SinkSeen};
 
 use thiserror::Error;
 
-#[cfg(test)]
-mod tests;
-
 /// A call of a stream failed. No further call is made of that stream.
 #[derive(Clone, Copy, Debug, PartialEq, Eq, Error)]
 #[error("the call failed")]

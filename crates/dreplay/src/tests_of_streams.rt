@@ -1,10 +1,8 @@
 //! What goes through streams over memory, with a failure at each call in turn.
 ghost use Rattle.std.specs.Prelude.{◌≡◌, ◌<◌, ℕ, length, take, IfOk, OnOk, OnErr};
 
-use crate::faulty::Faulty;
-use crate::reading::{ReadFault, read_to_end};
-use crate::watched::Watched;
-use crate::writing::{WriteFault, emit};
+use report::faulty::Faulty;
+use report::{ReadFault, Watched, WriteFault, emit, read_to_end};
 use std::alloc::Global;
 use std::test::Fail;
 

@@ -2,9 +2,8 @@
 
 ghost use Rattle.std.specs.Prelude.{◌≤◌};
 
-use super::{HEADER, has_same, is_same, whole_trace};
-use crate::pieces::read_plain_trace;
-use crate::{read_trace, read_trace_by};
+use crate::traces::{HEADER, is_same, whole_trace};
+use firing_reader::{read_trace, read_trace_by};
 use keyed_hash::HashKey;
 use std::alloc::{AllocError, Global};
 use std::test::Fail;
@@ -193,17 +192,14 @@ fn varied_rows(alloc: Global) -> Result<Vec<u8>, AllocError> {
     Ok(bytes)
 }
 
-// Pieces are read, and not all by one worker after them.
 #[test]
-fn plain_rows_are_read_in_pieces(rt: HostRuntime) -> Result<(), Fail> {
+fn plain_rows_read_the_same_in_pieces(rt: HostRuntime) -> Result<(), Fail> {
     let bytes = varied_rows(rt.alloc())?;
-    let alone = read_trace(rt.alloc(), HashKey::random(&rt), &bytes)?;
+    let alone = read_trace(rt.alloc(), HashKey::random(&rt), &bytes);
+    assert!(rt; alone.is_ok());
     for workers in 1..17 {
-        let parted = read_plain_trace(&rt, rt.alloc(), HashKey::random(&rt), &bytes, workers);
-        assert!(rt;
-            parted.is_some_and(|parted| has_same(&parted, alone.firings())),
-            "{workers} workers"
-        );
+        let parted = read_trace_by(&rt, rt.alloc(), HashKey::random(&rt), &bytes, workers);
+        assert!(rt; is_same(&alone, &parted), "{workers} workers");
     }
     Ok(())
 }
