@@ -1,7 +1,7 @@
 //! Keys of elements, each written over an earlier one.
 
-ghost use Rattle.std.specs.Prelude.{◌≡◌, ◌≤◌, ◌<◌, length, slice_set, IfOk, OnOk};
-ghost use Rattle.dif_machine.specs.{Held.content, Held.part_of, Held.parts_of, Vocabulary.object_of};
+ghost use Rattle.std.specs.Prelude.{◌≡◌, ◌≤◌, ◌<◌, length, pos, replicate, slice_set, IfOk, OnOk};
+ghost use Rattle.dif_machine.specs.{Held.content, Held.part_of, Held.parts_of, Vocabulary.Number, Vocabulary.object_of};
 
 use crate::held::Cell;
 use d_values::{Key, KeyPart, ValueRef};
@@ -90,7 +90,7 @@ fn resize(alloc: Global, key: &mut Key, parts: usize) -> Result<(), AllocError>
 /// key_of_zeros(alloc, 2)?.parts(); // [KeyPart::Number(0), KeyPart::Number(0)]
 /// ```
 pub fn key_of_zeros(alloc: Global, parts: usize) -> Result<Key, AllocError>
-    ensures { IfOk result (λ k. length k ≡ parts) }
+    ensures { IfOk result (λ key. key ≡ replicate parts (Number (pos 0))) }
 {
     let mut key = Key::new(alloc);
     for _ in 0..parts {
