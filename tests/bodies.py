@@ -15,6 +15,11 @@ OWNER = re.compile(r"^(?:pub )?(?:impl|trait)\b(?:<[^>]*>)?(?:.* for)? (\w+)", r
 CALL = re.compile(r"(?:(\w*)(::|\.))?(\w+)(?:::<[^()]*>)?\(")
 
 
+def own_name(path):
+    """Returns a function's name without the path before it."""
+    return path.split("::")[-1]
+
+
 def split(text):
     """Returns the bodies of a file's functions, by their names, and the text around them."""
     bodies = defaultdict(str)
