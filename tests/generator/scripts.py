@@ -279,7 +279,7 @@ class Drawer:
         return name, [name, *written], keys
 
     def assigned(self, kind, depth):
-        """An assignment by `=`. A new variable is known behind it."""
+        """An assignment by `=`. A new variable is known after it."""
         known = [name for name, known in self.variables.items() if known.kind == kind]
         if known and self.likely(0.7):
             return [*self.place(self.chance.choice(known), depth), "=", *self.value(kind, depth)]

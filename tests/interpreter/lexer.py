@@ -148,7 +148,7 @@ class Lexer:
         return self.token("text", bytes(says), at + 1)
 
     def escaped(self, at):
-        """The byte that a backslash and the byte behind it stand for."""
+        """The byte that a backslash and the byte after it stand for."""
         if at == len(self.script):
             self.refuse(UNCLOSED)
         if self.script[at] not in ESCAPES:

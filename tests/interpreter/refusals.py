@@ -4,7 +4,7 @@ STATUSES = {"Lex": 3, "Parse": 3, "Type": 3, "Trace": 4}
 
 
 class Refused(Exception):
-    """The first fault. `where` is what its line tells behind the number: a line, or a row and perhaps a column."""
+    """The first fault. `where` is what its line gives after the number: a line, or a row and perhaps a column."""
 
     def __init__(self, part, number, **where):
         super().__init__(part, number, where)

@@ -77,7 +77,7 @@ class Assignment(Expression):
 
 @dataclass
 class Step(Expression):
-    """`++` or `--`, by 1 or -1, before the target or behind it."""
+    """`++` or `--`, by 1 or -1, before the target or after it."""
 
     line: int
     by: int

@@ -11,7 +11,7 @@ use Rattle.d_lexer.specs.Numbers.{digit_of, below, is_u, is_l, suffix_of, is_x, 
 use Rattle.d_lexer.specs.Steps.Numbers.{with_suffix, number_by, number_from, hex_by, zero_from, number_of}
 use Rattle.d_lexer.proofs.Base.{cond_is}
 
--- one digit more, behind a first part
+-- one digit more, after a first part
 horner : (a base k p m : ℕ) → (a * base + k) * p + m ≡ a * (p * base) + (k * p + m)
 horner a base k p m =
     let e : (a * base + k) * p ≡ a * base * p + k * p = add-mul (a * base) k p in
@@ -20,7 +20,7 @@ horner a base k p m =
 
 -- ---- what is read is a number
 
--- the digits behind a first part acc, and the suffix
+-- the digits after a first part acc, and the suffix
 record ReadAs (base acc : ℕ) (z : List ℕ) (n : ℕ) (s : Suffix) : Type 0 where
   digits : List ℕ
   behind : List ℕ

@@ -45,7 +45,7 @@ trail_is : (z : List ℕ) → is_trail z ≡ true → AllByRecursion (λ c. is_t
 trail_is [] e = tt
 trail_is (b ∷ z) e = let h = both_true (is_trailing b) (is_trail z) e in (h.0, trail_is z h.1)
 
--- what is behind the first search, where both find
+-- what is after the first search, where both find
 abbrev Found : Option (List ℕ) → (List ℕ → Option (List ℕ)) → Type 0
 Found o k = (z : List ℕ) × (o ≡ Some z) × (ends (k z) ≡ true)
 
@@ -123,7 +123,7 @@ no_option_reads own none = by (is_option own) refl where
   by true e = absurd (none (option_is own e))
   by false e = refl
 
--- what is left behind a prefix
+-- what is left after a prefix
 pub behind_found : (w z : List ℕ) (r : Option (Bor (List ℕ))) → MatchOption r ((rest : List ℕ) → z ≢ w ++ rest) (λ x. z ≡ w ++ x.now) → Finds (λ x. x.now) r (behind w z)
 behind_found w z (Some x) h = ap (behind w) h ∙ behind_own w x.now
 behind_found w z None h = by (behind w z) refl where

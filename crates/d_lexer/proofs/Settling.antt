@@ -9,7 +9,7 @@ abbrev opens_or : ℕ → Bool → List Token → Bool
 opens_or zero brace ts = brace
 opens_or (suc n) brace ts = opens_body ts
 
--- the first n tokens settled, and those behind them as they are
+-- the first n tokens settled, and those after them as they are
 abbrev pub settle_first : ℕ → Bool → List Token → List Token
 settle_first zero brace ts = ts
 settle_first (suc n) brace [] = []

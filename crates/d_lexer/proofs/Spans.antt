@@ -15,7 +15,7 @@ use Rattle.d_lexer.specs.Lexing.{settle, settle_token, opens_body, AreTokens, Is
 use Rattle.d_lexer.specs.Spans.{line_after, IsInPlace, AreInOrder, HasItsLine}
 use Rattle.d_lexer.proofs.Complete.{token_reads, fault_fails}
 
--- the position is the one behind these bytes
+-- the position is the one after these bytes
 record IsBehind (before : List ℕ) (pos : Position) : Type 0 where
   at : pos.at ≡ length before
   line : pos.line ≡ line_after before
@@ -49,7 +49,7 @@ behind_more before own pos h =
 cut_more : (all before z own rest : List ℕ) → all ≡ before ++ z → z ≡ own ++ rest → all ≡ (before ++ own) ++ rest
 cut_more all before z own rest e f = e ∙ ap (λ (xs : List ℕ). before ++ xs) f ∙ sym (append_assoc before own rest)
 
--- what stands behind the pieces stands behind more of the bytes
+-- what stands after the pieces stands after more of the bytes
 past_behind : (p : Place) (Then : Position → List ℕ → Type 0) (P : Type 0) (all : List ℕ) (from : ℕ) →
     ((before : List ℕ) (q : Position) (z : List ℕ) → all ≡ before ++ z → IsBehind before q → from ≤ q.at → Then q z → P) →
     (before : List ℕ) {pos : Position} {bytes : List ℕ} → all ≡ before ++ bytes → IsBehind before pos → from ≤ pos.at → Past p Then pos bytes → P

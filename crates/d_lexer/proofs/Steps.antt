@@ -12,7 +12,7 @@ pub longer_one : (n : ℕ) (o : Option ℕ) → longer (n + 1) o ≡ longer n (o
 longer_one n None = refl
 longer_one n (Some m) = let e : (n + 1) + m ≡ n + suc m = omega arith in rw e refl
 
--- the same behind good bytes of a text constant
+-- the same after good bytes of a text constant
 abbrev pub behind_text : List ℕ → ℕ → Result (List ℕ × ℕ) Flaw → Result (List ℕ × ℕ) Flaw
 behind_text w n (Err g) = Err g
 behind_text w n (Ok t) = Ok (w ++ t.0, n + t.1)

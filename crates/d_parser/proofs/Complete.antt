@@ -290,7 +290,7 @@ from_climbs t high most climbs (suc n) k ts rest s le len e =
 reads_joined : (t : Tree) → 3 ≤ rank t → rank t ≤ 13 → Climbs t → Reads t
 reads_joined t high most climbs = record { climbs = climbs; phrases = from_climbs t high most climbs }
 
--- what is one part, whatever comes behind it
+-- what is one part, whatever comes after it
 abbrev IsPart : Tree → Type 0
 IsPart t = (n k : ℕ) (ts rest : List Token) → Spells t ts rest → length ts ≤ n → reach rest < 15 → (reach rest ≡ 1 → 2 ≤ k) → part (readers n) k ts ≡ Some (t, rest)
 

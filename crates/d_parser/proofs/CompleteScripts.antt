@@ -74,7 +74,7 @@ aggregation_read n line name all function list ts rest h len =
 aggregation_starts : (line : ℕ) (name : List ℕ) (mark : Mark) (ts rest : List Token) → Begins (kind.AggregationName name) line ts rest → is_at mark ts ≡ false
 aggregation_starts line name mark ts rest h = ap (is_at mark) h.is
 
--- what a slot needs behind it
+-- what a slot needs after it
 pub record Stops (ts : List Token) : Type 0 where
   pub ends : ends_stmt ts ≡ true
   pub quiet : reach ts ≡ 0

@@ -6,7 +6,7 @@ use Rattle.d_lexer.specs.declared.token.Token.{Token}
 use Rattle.d_parser.specs.Limits.{Turn, Opens, Closes, Ends, Goes, turn, opens, closes, ends, openings, closings, endings, IsDeep}
 use Rattle.d_parser.specs.Depth.{open_by, row_by, open_after, row_with, is_deep}
 
--- a stretch that is too deep, behind so many open brackets and so many tokens in a row
+-- a stretch that is too deep, after so many open brackets and so many tokens in a row
 abbrev Full : ℕ → ℕ → List Token → Type 0
 Full b r p = (64 + closings p < b + openings p) ⊎ ((1024 < r + length p) × (endings p ≡ 0))
 

@@ -234,7 +234,7 @@ calls_sound word follow e = absurd cc
 
 -- ---- below one level
 
--- an expression and what comes behind commas, up to the mark
+-- an expression and what comes after commas, up to the mark
 pub record Listed (close : Mark) (ts : List Token) (x : Trees × List Token) : Type 0 where
   pub first : Tree
   pub others : Trees

@@ -238,7 +238,7 @@ fn part_at_step<'a>(
     }
 }
 
-/// Behind a mark that begins a part.
+/// After a mark that begins a part.
 #[cycle(expression)]
 #[inline(never)]
 #[tactic(auto, unfolding(crate::specs::Reading::part_at_mark))]

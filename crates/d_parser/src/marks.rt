@@ -180,7 +180,7 @@ pub(crate) fn is_at(mark: Mark, tokens: &[Token]) -> bool
     }
 }
 
-/// Behind the first token.
+/// After the first token.
 pub(crate) fn tail(tokens: &[Token]) -> &[Token]
     ensures { result.now ≡ spec.tail tokens.now }
 {

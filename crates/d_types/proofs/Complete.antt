@@ -24,7 +24,7 @@ use Rattle.d_types.specs.Targets.{space_of, read, load_at, target, slot_for, ass
 use Rattle.d_types.specs.Typing.{expr, exprs, call_of}
 use Rattle.d_types.specs.Rules.{Types, AllTypes, Joins, Chooses, Loads, Reads, Places, Targets, Fits, Stores, Steps, Calls}
 
--- the list behind what is done
+-- the list after what is done
 abbrev pub after : Typeds → Typeds → Typeds
 after end ks = ks
 after (more x rest) ks = more x (after rest ks)

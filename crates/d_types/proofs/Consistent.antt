@@ -1,4 +1,4 @@
--- The trees that the rules give are consistent with the table of variables behind them.
+-- The trees that the rules give are consistent with their table of variables.
 use Rattle.std.proofs.Common.{◌≡◌, ℕ, ◌<◌, ◌≤◌, ◌^◌, inl, inr, nat_le, List, [], ◌∷◌, ◌++◌, length, Bool, true, false, not, ◌&&◌, ◌==◌, if◌then◌else◌, IsTrue, Option, refl, sym, ap, ◌∙◌, subst, arith, pos}
 use Rattle.std.proofs.Math.Bool.{Bool-set}
 use Rattle.std.proofs.lemmas.Bool.Decides.{nat_tests}

@@ -86,7 +86,7 @@ joins_one name ks o aggs p q m n (inr j) (inr k) =
     let same : ◌≡◌ {A = ℕ × Agg} (p, j.0) (q, k.0) = cc in
     (ap (λ (x : ℕ × Agg). x.0) same, j.4 ∙ sym k.4)
 
--- the action, and both tables behind it
+-- the action, and both tables after it
 abbrev Same : Action → Action → Rows → Rows → Aggs → Aggs → Type 0
 Same a b m n late last = (a ≡ b) × (m ≡ n) × (late ≡ last)
 

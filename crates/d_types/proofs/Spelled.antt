@@ -21,7 +21,7 @@ abbrev pub AllDecimal : List ℕ → Type 0
 AllDecimal [] = Unit {0}
 AllDecimal (d ∷ ds) = IsInRange 48 57 d × AllDecimal ds
 
--- the number that they write behind those of n
+-- the number that they write after those of n
 abbrev pub value_after : ℕ → List ℕ → ℕ
 value_after n [] = n
 value_after n (d ∷ ds) = value_after (n * 10 + (d - 48)) ds
@@ -72,11 +72,11 @@ by_length P z h hh l ll size (inr (inr (inr (inl e)))) = subst P (sym e) l
 by_length P z h hh l ll size (inr (inr (inr (inr (inl e))))) = subst P (sym e) ll
 by_length P z h hh l ll size (inr (inr (inr (inr (inr none))))) = absurd none
 
--- the rest is read behind this piece
+-- the rest is read after this piece
 abbrev Reads : List Piece → Place → List ℕ → Piece → List ℕ → Type 0
 Reads done place text p rest = pieces_from done place (text ++ rest) ≡ pieces_from (done ++ p ∷ []) at.Outside rest
 
--- where no digit stands, nor a flag, and perhaps right behind the percent sign
+-- where no digit stands, nor a flag, and perhaps right after the percent sign
 abbrev ReadsEnd : List Piece → Flags → List ℕ → Letter → List ℕ → Type 0
 ReadsEnd done f text k rest =
     Reads done (at.Width f) text (argument f k) rest × Reads done (at.Flagged f) text (argument f k) rest × Reads done at.Opened text (argument no_flags k) rest
@@ -111,7 +111,7 @@ first_digit_read done f d bs over = (
   rw (ne_eqb d 37 (λ e. omega (arith, e, over)), ne_eqb d 45 (λ e. omega (arith, e, over)), ne_eqb d 48 (λ e. omega (arith, e, over))) refl,
 )
 
--- behind the flags, or right behind the percent sign
+-- after the flags, or right after the percent sign
 abbrev ReadsWidth : List Piece → Flags → ℕ → List ℕ → Letter → List ℕ → Type 0
 ReadsWidth done f w text k rest =
     Reads done (at.Flagged f) text (argument (with_width f w) k) rest × Reads done at.Opened text (argument (with_width no_flags w) k) rest

@@ -56,7 +56,7 @@ Ends (at.Half f) p text = Closes f p (104 ∷ text)
 Ends (at.Long f) p text = Closes f p (108 ∷ text)
 Ends (at.Sized f) p text = (l : ℕ) × (k : Letter) × IsOneOf l (letters k) × (p ≡ argument f k) × (text ≡ l ∷ [])
 
--- behind flags there is no width yet, and behind a width's digits one that fits
+-- after flags there is no width yet, and after a width's digits one that fits
 abbrev Fine : Place → Type 0
 Fine (at.Flagged f) = f.width ≡ 0
 Fine (at.Width f) = f.width ≤ 255
@@ -117,7 +117,7 @@ letter_step : (E : Piece → List ℕ → Type 0) (f : Flags) (b : ℕ) (o' : Op
 letter_step E f b None q o go h = cc
 letter_step E f b (Some k) q o go h = ends_step E b (argument f k) q o (go k refl) h
 
--- behind the length
+-- after the length
 end_step : (E : Piece → List ℕ → Type 0) (f : Flags) (b : ℕ) (q : Place) (o : Option Piece) →
     ((k : Letter) → IsOneOf b (letters k) → E (argument f k) (b ∷ [])) → at_letter f b ≡ Some (q, o) → Steps E b q o
 end_step E f b q o go h = letter_step E f b (letter_of b) q o (λ k e. go k (letter_is b k e)) h
@@ -258,7 +258,7 @@ step (at.Half f) b q o fine h = half_step f b q o h
 step (at.Long f) b q o fine h = long_step f b q o h
 step (at.Sized f) b q o fine h = sized_step f b q o h
 
--- the rest of a format from a place: nothing outside of conversions, or a piece that ends and those behind it
+-- the rest of a format from a place: nothing outside of conversions, or a piece that ends and those after it
 abbrev From : Place → List Piece → List ℕ → Type 0
 From place ps rest =
     ((place ≡ at.Outside) × (ps ≡ []) × (rest ≡ []))
@@ -269,7 +269,7 @@ from_outside : (ps : List Piece) (rest : List ℕ) → From at.Outside ps rest �
 from_outside ps rest (inl h) = rw h.1 h.2
 from_outside ps rest (inr h) = rw h.4 (h.2, h.3, h.6, h.7, h.5)
 
--- the pieces behind those that are done
+-- the pieces after those that are done
 abbrev Behind : List Piece → Place → List Piece → List ℕ → Type 0
 Behind done place ps rest = (others : List Piece) × (ps ≡ done ++ others) × From place others rest
 

@@ -24,16 +24,16 @@ pub struct Flags {
 #[derive(Clone, Copy)]
 pub enum Place {
     Outside,
-    /// Behind a percent sign.
+    /// After a percent sign.
     Opened,
     Flagged(Flags),
-    /// Behind a digit of the width.
+    /// After a digit of the width.
     Width(Flags),
-    /// Behind `h`.
+    /// After `h`.
     Half(Flags),
-    /// Behind `l`.
+    /// After `l`.
     Long(Flags),
-    /// Behind `hh` or `ll`.
+    /// After `hh` or `ll`.
     Sized(Flags),
 }
 

@@ -51,7 +51,7 @@ pub struct Variable {
     pub holds: DType,
 }
 
-/// An operator on two integers, with the type that it works in and answers.
+/// An operator on two integers, with the type that it works in and gives.
 #[derive(Clone, Copy, Debug, PartialEq, Eq)]
 pub enum Operation {
     /// `* / % + - & ^ |`
@@ -60,7 +60,7 @@ pub enum Operation {
     Shift(ShiftOperator, IntType),
 }
 
-/// An operator on two truths, which answers 0 or 1.
+/// An operator on two truths, which gives 0 or 1.
 #[derive(Clone, Copy, Debug, PartialEq, Eq)]
 pub enum LogicOperator {
     /// `&&`

@@ -1,4 +1,4 @@
--- Pieces put behind one another.
+-- Pieces, one after another.
 use Rattle.std.specs.Prelude.{◌≡◌, ◌≤◌, ◌<◌, ℕ, zero, suc, ◌+◌, get_or, List, [], ◌∷◌, ◌++◌, length, drop, Some, Result, Ok, Err, OnOk, slice_get, slice_set}
 use Rattle.std.proofs.Common.{refl, sym, ap, ◌∙◌, subst, arith, append_assoc, length-append, append-nil}
 use Rattle.std.proofs.Math.Seq.{set-append_seam}
@@ -20,7 +20,7 @@ use Rattle.dif_validate.specs.declared.object.Difo.{Difo}
 use Rattle.dif_codegen.specs.Drafts.{end_of, Adds, Closes}
 use Rattle.dif_codegen.specs.Pieces.{Place, Maker, nothing, one, behind, both, fork, choice, next}
 
--- a list behind another
+-- a list after another
 ends : {A : Type 0} (x y z p q : List A) → y ≡ x ++ p → z ≡ y ++ q → z ≡ x ++ (p ++ q)
 ends x y z p q e f = f ∙ ap (λ l. l ++ q) e ∙ append_assoc x p q
 
@@ -113,7 +113,7 @@ fork_adds condition g h a b c d e z branch jump s0 u v s1 w x closed =
       numbers = closed.numbers ∙ xn ∙ ap (λ l. l ++ q.numbers) (nd ∙ vn ∙ ap (λ l. l ++ p.numbers) nb) ∙ append_assoc a.numbers.items p.numbers q.numbers;
     }
 
--- behind a test
+-- after a test
 pub choice_adds : (test : Instr) (condition : Condition) (g h : Maker) (o a b c d e z : Difo) (branch jump : ℕ) → Adds (one test) o a → branch ≡ length a.code.items → Adds (one (Branch condition 0)) a b → Adds g b c → jump ≡ length c.code.items → Adds (one (Ba 0)) c d → Adds h d e → Closes branch condition jump e z → Adds (choice test condition g h) o z
 choice_adds test condition g h o a b c d e z branch jump t s0 u v s1 w x closed = both_adds (one test) (fork condition g h) o a z t (fork_adds condition g h a b c d e z branch jump s0 u v s1 w x closed)
 

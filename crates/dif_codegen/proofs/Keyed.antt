@@ -34,7 +34,7 @@ use Rattle.dif_codegen.proofs.Leading.{Ready, Done, Usable, done_value, step, Le
 use Rattle.dif_codegen.proofs.Meaning.{kept_kind, stored_kind, on_kind_is, loads, stores}
 use Rattle.dif_codegen.proofs.Standing.{Stands, stands_front, stands_back, at_is}
 
--- the values of keys are in this register and those behind it
+-- the values of keys are in this register and those after it
 abbrev pub AreThere : Typeds → ℕ → List (Option Value) → List KeyPart → Type 0
 AreThere end r xs key = key ≡ []
 AreThere (more a rest) r xs key =

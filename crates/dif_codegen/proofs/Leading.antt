@@ -232,7 +232,7 @@ module _ (o : Object) (f : Firing) where
       (λ x w. goes t vars (step s vars pl.at (Branch condition to) e stands.code.0 ∙ ap (λ y. st.on y (λ k. st.Goes (at_place s (cond (holds condition k) to (s.pc + 1))) vars)) c ∙ ap (λ y. st.Goes (at_place s (cond y to (s.pc + 1))) vars) is) w)
       (jump_leads r (pl1.at + length p.code) end t vars a back.0 (la pl1 stp t there refl refl)))
 
-  -- behind a test
+  -- after a test
   pub choice_leads : (r : ℕ) (pl : Place) (test : Instr) (condition : Condition) (g h : Maker) (s : Frame) (vars : Variables) (known : Comparison) (a b : Outcome Value) (way : Bool) → s.pc ≡ pl.at → Stands o pl (choice test condition g h pl)
       → st.act test o f s vars ≡ st.Goes (with_comparison s known) vars → holds condition known ≡ way
       → ((pl1 : Place) → Stands o pl1 (g pl1) → (t : Frame) → t.pc ≡ pl1.at → t.registers ≡ s.registers → t.tuple ≡ s.tuple → Leads r (pl1.at + length (g pl1).code) t vars a)

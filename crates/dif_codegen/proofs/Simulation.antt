@@ -272,7 +272,7 @@ module _ (o : Object) (f : Firing) where
       subst (λ n. Leads o f r (pl.at + length (stepping (opposite step) t (register r) pl).code) s vars (Has (va.Int n) vars)) (held_back step t old some is)
       (stepping_leads (opposite step) t r pl (word_as_type t (step_result step old)) s vars some u lt long e val stands)
 
-  -- a value behind keys goes into the variable, and to where the keys began
+  -- a value after keys goes into the variable, and to where the keys began
   saved : (r q : ℕ) (pl : Place) (x : Variable) (keys : Typeds) (key : List KeyPart) (v : Value) (s : Frame) (vars : Variables) → q ≡ r + count keys → 0 < r → q ≤ 7 → Ready s → AreThere keys r s.registers key → s.pc ≡ pl.at → slice_index_or s.registers q None ≡ Some v → IsOf x.holds v
       → Stands o pl (both (saving x.space keys (var_of x) r (register q)) (lowering keys (register q) (register r)) pl)
       → Leads o f r (pl.at + length (both (saving x.space keys (var_of x) r (register q)) (lowering keys (register q) (register r)) pl).code) s vars (assignment_outcome x key v vars)

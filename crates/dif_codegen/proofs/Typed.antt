@@ -91,7 +91,7 @@ module _ (o : Object) where
     has : (k : Kind) (js : List Kind) → at (level (ks ++ k ∷ js)).registers d ≡ Some k
     has k js = level_at (ks ++ k ∷ js) (length ks) few ∙ first_of ks k js
 
-    -- a choice behind a test
+    -- a choice after a test
     choice_makes : (pl : Place) (js : List Kind) (k : Kind) (test : Instr) (condition : Condition) (g h : Maker) → IsFine test (level (ks ++ js)) → misses_table test o ≡ false → misses_variable test ≡ false → is_return (Some test) ≡ false → target test ≡ None → leaves test (level (ks ++ js)) ≡ with_comparison (level (ks ++ js))
         → Stands o pl (choice test condition g h pl) → ((pl1 : Place) → Stands o pl1 (g pl1) → Makes pl1 (level (ks ++ js)) g (level (ks ++ k ∷ []))) → ((pl1 : Place) → Stands o pl1 (h pl1) → Makes pl1 (level (ks ++ js)) h (level (ks ++ k ∷ [])))
         → Makes pl (level (ks ++ js)) (choice test condition g h) (level (ks ++ k ∷ []))
@@ -356,7 +356,7 @@ module _ (o : Object) where
     kinds_count end = refl
     kinds_count (more a rest) = let e = kinds_count rest in omega arith
 
-    -- the register behind the keys
+    -- the register after the keys
     behind_is : (keys : Typeds) (ks : List Kind) → suc (length (ks ++ kinds_of keys)) ≡ suc (length ks) + count keys
     behind_is keys ks = omega (arith, length-append ks (kinds_of keys), kinds_count keys)
 

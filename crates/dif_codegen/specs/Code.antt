@@ -156,7 +156,7 @@ opposite Step.Decrement = Step.Increment
 abbrev pub stepping : Step → DType → Reg → Maker
 stepping step t d = both (number 1 R7) (both (one (Alu (step_operator step) d R7 d)) (holding t d))
 
--- what is answered, from the new word
+-- what a step gives, from the new word
 abbrev pub answering : Answer → Step → DType → Reg → Maker
 answering Answer.New step t d = nothing
 answering Answer.Old step t d = stepping (opposite step) t d

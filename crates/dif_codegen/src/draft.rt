@@ -103,7 +103,7 @@ pub(crate) fn put_step(draft: &mut Difo, step: Step, t: DType, d: Reg) -> Result
     hold(draft, t, d)
 }
 
-/// Makes what a step answers, from the new word.
+/// Makes what a step gives, from the new word.
 pub(crate) fn put_answer(
     draft: &mut Difo,
     answer: Answer,

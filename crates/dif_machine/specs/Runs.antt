@@ -38,7 +38,7 @@ RunEnds o f vars (Ok value) after = Runs o f vars (Returns value after)
 RunEnds o f vars (Err DivideByZero) after = Runs o f vars (Divides after)
 RunEnds o f vars (Err Memory) after = (s : Frame) × Comes o f start vars s after
 
--- a result that is lent
+-- a borrowed result
 abbrev pub value_result : {E : Type 0} → Result ValueRef E → Result Value E
 value_result (Ok lent) = Ok (lent_value lent)
 value_result (Err e) = Err e

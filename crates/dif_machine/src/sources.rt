@@ -43,7 +43,7 @@ pub(crate) fn argument(firing: &Firing, n: u64) -> u64
     }
 }
 
-/// A copy of what is lent.
+/// A copy of what is borrowed.
 pub(crate) fn owned_value(alloc: Global, lent: ValueRef<'_>) -> Result<Value, AllocError>
     ensures same { IfOk result (λ value. value ≡ lent_value lent.entry) }
     ensures kind { IfOk result (λ value. (k : Kind) → kind_of (lent_value lent.entry) ≡ k

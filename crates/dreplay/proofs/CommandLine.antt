@@ -84,7 +84,7 @@ unfolding clap_on_literals
 help_asked _ AsksHelp.short = refl
 help_asked _ AsksHelp.long = refl
 
--- of a name behind -s in one word, but with an equals sign
+-- of a name after -s in one word, but with an equals sign
 joined_runs : (b : ℕ) (rest : List ℕ) → (b == 61) ≡ false
     → (fault_of program ((codes "-s" ++ b ∷ rest) ∷ []) ≡ []) × (file_in (matches_of program ((codes "-s" ++ b ∷ rest) ∷ [])) ≡ Some (b ∷ rest))
 unfolding clap_on_literals

@@ -45,7 +45,7 @@ Writes (Ok r) old new (Err Write) =
     × (new.calls ≤ old.calls + length r.bytes.items)
 Writes (Ok r) old new (Err e) = ⊥
 
--- what replay answers to the script over the trace is what goes out
+-- what replay returns for the script over the trace is what goes out
 pub record Shows (script trace : List ℕ) (plan : Plan) (old new : SinkSeen)
     (result : Result Replayed ConsumeFault) : Type 0 where
   pub answer : Result Replayed Refusal

@@ -1,4 +1,4 @@
--- What replay answers, under any plan.
+-- What replay returns, under any plan.
 use Rattle.std.specs.Prelude.{◌≡◌, ℕ, List, Result, Ok, Err, map, vec_len}
 use Rattle.replay_core.specs.{Exit.firings_over, Groups.IsAllBelow, Groups.numbers_by_group, Pieces.IsWholeOf, Seen.whole_seen, declared.workers.Ran.Ran}
 use Rattle.dreplay.specs.Vocabulary.{flat_map, Firing, ScriptMeant, Grouping, Plan, Replayed, Refusal, Group, Memory}

@@ -10,7 +10,7 @@ use d_values::split_at_first;
 pub struct Division<'a> {
     /// The lines before the dividing one, with their line feeds.
     pub script: &'a [u8],
-    /// What stands behind the dividing line.
+    /// What stands after the dividing line.
     pub trace: &'a [u8],
 }
 

@@ -1,6 +1,6 @@
 //! Recorded probe firings, read from CSV.
 //!
-//! The first record is the header, and each record after it is one firing. `read_trace` answers the
+//! The first record is the header, and each record after it is one firing. `read_trace` returns the
 //! trace that the bytes write, exactly as `specs/Trace.antt` defines it, or its first fault. Rows
 //! are read where they lie in the bytes up to the first that has a quote, a carriage return or a
 //! fault; from there on `csv` reads them.

@@ -33,8 +33,8 @@ impl Hasher for KeyedHasher {
     }
 }
 
-/// What the hashes of a table's keys depend on beside the keys. A table answers the same whatever
-/// it is.
+/// What the hashes of a table's keys depend on beside the keys. A table finds the same whatever it
+/// is.
 #[derive(Clone, Copy)]
 pub struct HashKey {
     initial: KeyedHasher,

@@ -37,8 +37,8 @@ fn nested_tree(alloc: Global, times: usize, parts: [&str; 3]) -> Result<String, 
     tree_text(alloc, script.as_bytes())
 }
 
-// What the deepest trees print as, and what one step more answers; nothing where all is as it
-// should be.
+// What the deepest trees print as, and what one step more gives; nothing where all is as it should
+// be.
 fn deepest(alloc: Global) -> Result<String, AllocError> {
     for (times, parts, printed) in DEEPEST {
         let inner = nested_text(alloc, times, printed)?;

@@ -58,7 +58,7 @@ takes_byte p own plain (Takes.any e) = absurd (plain e)
 takes_byte p own plain (Takes.one b q e) = (b, e)
 takes_byte p own plain (Takes.itself e) = (p, e)
 
--- a test that passes behind that byte
+-- a test that passes after that byte
 passes_one : (p : ℕ) (test : List ℕ → Bool) (own rest text : List ℕ) → p ≢ 42 → Takes p own → text ≡ own ++ rest → test rest ≡ true → passes_after_one p test text ≡ true
 passes_one p test own rest text plain takes e t =
     let byte = takes_byte p own plain takes in

@@ -68,7 +68,7 @@ fits_front run own rest text plain m e =
     let whole : length text ≡ length own + length rest = ap length e ∙ length-append own rest in
     (omega arith, subst (λ l. Matches run l) (sym (ap (take (length run)) e ∙ take_at own rest (length run) long)) m)
 
--- a run that doesn't fit here begins behind the byte, or not at all
+-- a run that doesn't fit here begins after the byte, or not at all
 pub star_passes : (run after : List ℕ) (b : ℕ) (text : List ℕ) → All (λ p. p ≢ 42) run → ¬ Fits run (b ∷ text) → Matches (42 ∷ (run ++ after)) (b ∷ text) → Matches (42 ∷ (run ++ after)) text
 star_passes run after b text plain other m = by m.0 m.1 m.2 m.4
   where
@@ -93,7 +93,7 @@ nowhere run after plain other m = by m.0 m.1 m.2 m.4
         other (fits_front run parts.a parts.b [] plain parts.first (e ∙ parts.is))
     by (c ∷ own) rest e more = cc
 
--- where the run fits, the rest matches behind that place
+-- where the run fits, the rest matches after that place
 pub first_serves : (run after text : List ℕ) → All (λ p. p ≢ 42) run → Fits run text → Matches (42 ∷ (run ++ 42 ∷ after)) text ↔ Matches (42 ∷ after) (drop (length run) text)
 first_serves run after text plain fits = (there, back)
   where
@@ -175,7 +175,7 @@ found run text rest n e plain fits own after =
     subst (λ l. Matches (42 ∷ (run ++ 42 ∷ after)) text ↔ Matches (42 ∷ after) l) (sym (rest_is n (length run) rest e))
     (λ m. serves.0 ((own (42 ∷ after)).0 m), λ m. (own (42 ∷ after)).1 (serves.1 m))
 
--- the pattern up to the first star, and behind it
+-- the pattern up to the first star, and after it
 pub wild_front : (pattern text run behind : List ℕ) (n : ℕ) (r : Bool) → n ≡ length text - length run → pattern ≡ run ++ 42 ∷ behind → All (λ p. p ≢ 42) run
     → Fits run text → (IsTrue r ↔ Matches (42 ∷ behind) (take n (drop (length run) text))) → IsTrue r ↔ Matches pattern text
 wild_front pattern text run behind n r e is plain fits behind_is =

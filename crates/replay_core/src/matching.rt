@@ -41,9 +41,9 @@ fn is_literal(pattern: &[u8]) -> bool
     pattern.iter().all(|p| *p != b'*' && *p != b'?')
 }
 
-// What stands before the first star has one place. Behind it a run between two stars takes the
-// first place where it fits: wherever the rest of the pattern matches behind a later place, it also
-// matches behind the first.
+// What stands before the first star has one place. After it a run between two stars takes the
+// first place where it fits: wherever the rest of the pattern matches after a later place, it also
+// matches after the first.
 fn is_wild_match(pattern: &[u8], text: &[u8]) -> bool
     ensures { IsTrue result ↔ Matches pattern.now text.now }
 {
@@ -53,7 +53,7 @@ fn is_wild_match(pattern: &[u8], text: &[u8]) -> bool
     }
 }
 
-// Whether the pattern matches what stands behind some of the bytes.
+// Whether the pattern matches what stands after some of the bytes.
 fn is_match_anywhere(pattern: &[u8], text: &[u8]) -> bool
     ensures { IsTrue result ↔ Matches (42 ∷ pattern.now) text.now }
 {
@@ -69,7 +69,7 @@ fn is_match_anywhere(pattern: &[u8], text: &[u8]) -> bool
     ends(pattern, text)
 }
 
-// What stands behind the first place where the run fits.
+// What stands after the first place where the run fits.
 fn behind_first<'a>(run: &[u8], text: &'a [u8]) -> Option<&'a [u8]>
     requires { All (λ p. p ≢ 42) run.now }
     ensures { MatchOption result ((after : List ℕ) → ¬ Matches (42 ∷ (run.now ++ after)) text.now)

@@ -60,7 +60,7 @@ where
     Ok(made)
 }
 
-/// What each worker of a run is lent: the script's lanes, the trace and its groups, the gate, and
+/// What each worker of a run borrows: the script's lanes, the trace and its groups, the gate, and
 /// which firings count.
 #[derive(Drop)]
 pub(crate) struct Shift<'a, L, G> {

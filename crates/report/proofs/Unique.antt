@@ -43,7 +43,7 @@ module _ {X : Type 0} {R : X → X → Ordering} (order : IsTotalOrder R) where
   same_first x y xs ys xs_rise ys_rise x_there y_there =
       ⊎_elim (λ e. e) (λ (above : R y x ≡ Less). ⊎_elim (λ e. sym e) (λ below. absurd (not_both x y below above)) (first_or_above y x xs xs_rise y_there)) (first_or_above x y ys ys_rise x_there)
 
-  -- what stands behind the first
+  -- what stands after the first
   behind : (x : X) (xs ys : List X) → IsStrictlySortedBy R (x ∷ xs) → ((z : X) → Contains (x ∷ xs) z → Contains (x ∷ ys) z) → (z : X) → Contains xs z → Contains ys z
   behind x xs ys rises same z (k, within, is) =
       let above : R x z ≡ Less = All-contains (λ z. R x z ≡ Less) xs z (All-from_recursion (λ z. R x z ≡ Less) xs (sorted_head R x xs rises)) (k, within, is) in

@@ -43,7 +43,7 @@ joint v w = among w.seats (joint_hand v.hand w.hand)
 abbrev pub Taken : QueueView → ℕ → QueueView → Type 0
 Taken v x w = (w.seats ≡ v.seats) × Took v.seats v.hand x w.hand
 
--- a seat that was not told the end never finds the queue empty
+-- a seat that has not seen the end never finds the queue empty
 abbrev pub More : QueueView → List ℕ → Type 0
 More v items = v.hand.at_end < v.hand.seats → v.seats ≤ v.hand.end → 0 < length items
 

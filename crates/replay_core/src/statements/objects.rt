@@ -36,7 +36,7 @@ fn run<'a>(
 }
 
 // The same in a scene. As a function it would borrow the whole scene for as long as the value is
-// lent.
+// used.
 macro_rules! run_in_scene {
     ($object:ident, $scene:ident) => {
         run(
