@@ -6,7 +6,7 @@
 #   make cases      the cases alone, over the program that `make build` leaves
 #   make examples   the examples alone, likewise: each answer is compared with the one beside its script
 #   make install    puts it and its tools into PREFIX/bin (/usr/local/bin, if PREFIX is not given), with man pages,
-#                   completions and examples in PREFIX/share; it builds nothing if the program is there
+#                   completions, pages and examples in PREFIX/share; it builds nothing if the program is there
 #   make uninstall  removes all of that
 #   make dist       packs it into an archive and a Debian package in dist/, which need no toolchain
 #   make bench      measures it with 1, 2 and 4 workers beside mawk, its instructions where valgrind is installed, and the
@@ -36,7 +36,7 @@ example: build
 
 # The compiler builds nothing that it has not proved: the first time takes minutes, after that only what changed.
 build:
-	@cd crates/dreplay && rt run < stdin > /dev/null
+	@tools/build
 
 test:
 	@tests/gate
@@ -73,9 +73,7 @@ install: $(PROGRAM)
 	    ln -sf dreplay.bash '$(DESTDIR)$(PREFIX)/share/bash-completion/completions/'"$$tool" && \
 	    ln -sf dreplay.fish '$(DESTDIR)$(PREFIX)/share/fish/vendor_completions.d/'"$$tool.fish" || exit 1; done
 	@ln -sf dreplay.bash '$(DESTDIR)$(PREFIX)/share/bash-completion/completions/dreplay'
-	@for folder in $(notdir $(wildcard examples/*)); do \
-	    install -d '$(DESTDIR)$(PREFIX)/share/doc/dreplay/examples/'"$$folder" && \
-	    install -m 644 examples/"$$folder"/* '$(DESTDIR)$(PREFIX)/share/doc/dreplay/examples/'"$$folder" || exit 1; done
+	@tools/install-docs '$(DESTDIR)$(PREFIX)/share/doc/dreplay'
 
 uninstall:
 	rm -f '$(DESTDIR)$(PREFIX)/bin/dreplay'
@@ -92,10 +90,7 @@ dist: $(PROGRAM)
 bench: build
 	@bench/run --workers 1,2,4
 	@if command -v valgrind > /dev/null; then bench/instructions; fi
-	@bench/lexer/run
-	@bench/parser/run
-	@bench/reading/run
-	@bench/variables/run
+	@for part in lexer parser reading variables; do bench/part $$part || exit 1; done
 
 clean:
 	rm -rf crates/*/out dist

@@ -1,4 +1,5 @@
-"""The questions of the benchmarks: the traces that they are asked of, who answers them, and what each answer tells."""
+"""The questions of the benchmarks: the traces that they are asked of, who answers them, and what
+each answer tells."""
 import os
 import shutil
 import subprocess
@@ -13,7 +14,8 @@ def stop_without(tools, program):
     """Ends the benchmark where a tool of the system or the program isn't there."""
     lacking = [tool for tool in tools if not shutil.which(tool)]
     if lacking:
-        sys.exit(f"{os.path.basename(sys.argv[0])} needs what isn't here: apt-get install {' '.join(lacking)}")
+        name = os.path.basename(sys.argv[0])
+        sys.exit(f"{name} needs what isn't here: apt-get install {' '.join(lacking)}")
     if not os.access(program, os.X_OK):
         sys.exit(f"{os.path.relpath(program)} isn't built: make build")
 
@@ -26,7 +28,8 @@ def write_trace(path, rows, *words):
 
 def write_bundle(question, trace, path):
     """Writes the bundle that asks a question of a trace."""
-    with open(path, "wb") as file, open(f"{HERE}/questions/{question}.d", "rb") as script, open(trace, "rb") as rows:
+    asked = f"{HERE}/questions/{question}.d"
+    with open(path, "wb") as file, open(asked, "rb") as script, open(trace, "rb") as rows:
         file.write(script.read() + b"---\n")
         shutil.copyfileobj(rows, file)
 
@@ -35,7 +38,8 @@ def by_hand(room):
     """Builds the program that is written by hand, and returns its path; none without rustc."""
     if not shutil.which("rustc"):
         return None
-    words = ["rustc", "-O", "--edition", "2021", "-o", f"{room}/by_hand", f"{HERE}/by_hand/by_hand.rs"]
+    source = f"{HERE}/by_hand/by_hand.rs"
+    words = ["rustc", "-O", "--edition", "2021", "-o", f"{room}/by_hand", source]
     subprocess.run(words, check=True)
     return f"{room}/by_hand"
 
@@ -52,8 +56,8 @@ def others(question, written):
 
 
 def facts_of(output):
-    """What an answer of dreplay tells, as mawk writes it, a line each: a text; keys and a value; keys, a bucket's label and
-    its count, where it isn't 0."""
+    """What an answer of dreplay tells, as mawk writes it, a line each: a text; keys and a value;
+    keys, a bucket's label and its count, where it isn't 0."""
     facts, keys = [], []
     for line in output.splitlines():
         label, bar, rest = line.partition(b" |")

@@ -1,5 +1,5 @@
 # Completion of fish for dreplay and its tools.
-for tool in dreplay dreplay-from-strace dreplay-from-perf dreplay-from-ftrace dreplay-record dreplay-explain dreplay-show
+for tool in dreplay dreplay-from-strace dreplay-from-perf dreplay-from-ftrace dreplay-record dreplay-explain dreplay-show dreplay-many
     complete -c $tool -s h -l help -d 'Write a short help'
 end
 complete -c dreplay -s s -r -d 'Take the script from a file'
@@ -10,23 +10,55 @@ complete -c dreplay-from-strace -s n -l name -x -d 'execname until an execve'
 complete -c dreplay-from-strace -l only -x -d 'These calls alone'
 complete -c dreplay-from-strace -l since -x -d 'Leave out the first seconds'
 complete -c dreplay-from-strace -l rows -x -d 'The first rows alone'
+complete -c dreplay-from-strace -l paths -d 'The first path in the module'
+complete -c dreplay-from-strace -l ppid -d 'The parent in arg9'
 complete -c dreplay-from-strace -l threads -r -d 'Threads that ran before'
+for tool in dreplay-from-strace dreplay-from-perf dreplay-from-ftrace
+    complete -c $tool -s o -r -d 'Where the trace goes'
+    complete -c $tool -l split -x -d 'Cut into parts by thread'
+    complete -c $tool -l from-zero -d 'Times since the first line'
+end
+for tool in dreplay-from-perf dreplay-from-ftrace
+    complete -c $tool -l machine -x -a 'x86_64 aarch64 riscv64 loongarch64' -d 'Whose numbers of calls'
+end
+for tool in dreplay-record dreplay-from-strace dreplay-from-perf dreplay-from-ftrace
+    complete -c $tool -l version -d 'Write the version'
+end
 complete -c dreplay-record -s o -r -d 'Where the trace goes'
 complete -c dreplay-record -s p -x -a '(__fish_complete_pids)' -d 'Record a process that runs'
 complete -c dreplay-record -s e -x -d 'These calls alone'
-complete -c dreplay-record -l raw -d 'Keep all arguments as numbers'
+complete -c dreplay-record -l raw -d 'All arguments as numbers'
+complete -c dreplay-record -l symbolic -d 'Leave out what strace shows by name'
+complete -c dreplay-record -l paths -d 'The first path in the module'
+complete -c dreplay-record -l ppid -d 'The parent in arg9'
+complete -c dreplay-record -l from-zero -d 'Times since the first line'
+complete -c dreplay-record -l split -x -d 'Cut into parts by thread'
+complete -c dreplay-record -x -a '(__fish_complete_subcommand)'
 complete -c dreplay-record -l keep -r -d 'Keep the recording of strace'
 complete -c dreplay-record -l rows -x -d 'The first rows alone'
 complete -c dreplay-explain -s s -r -d 'The script'
 complete -c dreplay-explain -s t -r -d 'The trace'
 complete -c dreplay-explain -s b -r -d 'The bundle'
 complete -c dreplay-show -s s -r -d 'The script'
-complete -c dreplay-show -s f -x -a 'table csv json markdown bars svg' -d 'The form'
+complete -c dreplay-show -s f -x -a 'table csv json markdown bars svg heat html folded timeline' -d 'The form'
 complete -c dreplay-show -l top -x -d 'The largest entries'
 complete -c dreplay-show -l only -x -d 'One aggregation'
 complete -c dreplay-show -l columns -x -d 'Names of the keys'
-complete -c dreplay-show -l unit -x -a 'ns bytes' -d 'Unit of histograms'
-complete -c dreplay-show -l value-unit -x -a 'ns bytes' -d 'Unit of values'
+complete -c dreplay-show -s t -r -d 'The trace'
+complete -c dreplay-show -l sort -x -a 'key value' -d 'The order'
+complete -c dreplay-show -l unit -x -a 'ns us ms s bytes' -d 'Unit of histograms'
+complete -c dreplay-show -l value-unit -x -a 'ns us ms s bytes %' -d 'Unit of values'
+complete -c dreplay-show -l guard -d 'No formulas in CSV'
 complete -c dreplay-show -l title -x -d 'A title'
 complete -c dreplay-show -l width -x -d 'Width of bars'
 complete -c dreplay-show -s o -r -d 'Where it goes'
+for tool in dreplay-explain dreplay-show dreplay-many
+    complete -c $tool -l version -d 'Write the version'
+end
+complete -c dreplay-many -s s -r -d 'The script'
+complete -c dreplay-many -s o -r -d 'The folder of answers'
+complete -c dreplay-many -s j -l jobs -x -d 'How many at once'
+complete -c dreplay-many -l list -r -d 'A file with traces'
+complete -c dreplay-many -l part -x -d 'A part of all traces'
+complete -c dreplay-many -l program -r -d 'The program'
+complete -c dreplay-many -l top -x -d 'The largest entries'

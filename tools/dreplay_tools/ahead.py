@@ -22,7 +22,9 @@ class Ahead:
                 yield line
 
     def find(self, wanted):
-        """What `wanted` makes of the first line for which it makes something; none within the next 50,000."""
+        """What `wanted` makes of the first line for which it makes something; none within the next
+        50,000.
+        """
         for line in self.seen:
             found = wanted(line)
             if found is not None:

@@ -1,41 +1,27 @@
-"""What dreplay shows: the aggregations of a script, and the entries that an answer has of them."""
+"""What dreplay shows: the entries that an answer has of a script's aggregations, read by the
+answer's layout in bytes.
+
+docs/OUTPUT.md has the layout. A part of a key that is a text begins with two spaces and takes 50
+bytes more, or all that it needs; a number takes 17 bytes. So where an entry ends is known without
+looking for the end of its line.
+"""
+import bisect
+import functools
 import itertools
 import re
 from dataclasses import dataclass, field
 
 from .ends import Failure
+from .script import Aggregation
 
-TEXT_BUILTINS = {"execname", "probeprov", "probemod", "probefunc", "probename"}
-HISTOGRAMS = {"quantize", "lquantize"}
-FUNCTIONS = {"count", "sum", "min", "max", "avg"} | HISTOGRAMS
-HEADER = "           value  ------------- Distribution ------------- count    "
-ROW = re.compile(r"(.{16}|(?:< |>= )?-?\d{17,}) \|(@*) +(\d+) *", re.ASCII)
-FAULT = re.compile(r"error: firing \d+ clause \d+: divide-by-zero", re.ASCII)
+HEADER = b"           value  ------------- Distribution ------------- count    \n"
+ROW = re.compile(rb"(.{16}|(?:< |>= )?-?\d{17,20}) \|(@*) +(\d{1,20}) *\n")
+FAULT = re.compile(rb"error: firing \d{1,20} clause \d{1,20}: divide-by-zero\n")
+NUMBER = re.compile(rb"-?\d{1,20}")
 OTHER_ANSWER = 1
-TEXT_PART, NUMBER_PART = r"  (.{50}|.{51,}?)", r" ( {0,15}-?\d{1,16}|-?\d{16,20})"
-
-
-@dataclass
-class Aggregation:
-    """An aggregation as a script has it: its name, its keys and its function with the arguments, as they are written."""
-
-    name: str
-    keys: list
-    texts: list  # for each key whether it is a text
-    function: str
-    args: list
-
-    @property
-    def title(self):
-        return "@" + self.name
-
-    @property
-    def value_name(self):
-        return f"{self.function}({', '.join(self.args)})" if self.args else self.function
-
-    @property
-    def is_histogram(self):
-        return self.function in HISTOGRAMS
+WIDTH, NUMBER_WIDTH, MOST_TEXT = 50, 16, 255
+ENTRY = 9 * (2 + MOST_TEXT)  # no line of an entry is longer
+MOST_ENDS = 64  # ways to read the start of an entry that are followed at once
 
 
 @dataclass
@@ -52,106 +38,354 @@ class Shown:
     """An aggregation with its entries: keys, and a number or the buckets of a histogram."""
 
     aggregation: Aggregation
-    names: str
     entries: list = field(default_factory=list)
+    others: list = field(default_factory=list)  # the aggregations that it may be as well
+    total: int = 0  # of all values, also of those that are left out later
+
+    @property
+    def names(self):
+        titles = [self.aggregation.title, *(other.title for other in self.others[:2])]
+        if len(self.others) <= 2:
+            return " or ".join(titles)
+        return f"{titles[0]}, {titles[1]} or one of {len(self.others) - 1} others"
+
+    def may_be(self, title):
+        return title in (self.aggregation.title, *(other.title for other in self.others[:]))
 
 
-# -- the script
+class Ambiguous(Failure):
+    """An entry that can be read in more ways than one."""
+
+    def __init__(self):
+        super().__init__(
+            "a name has spaces or line feeds such that its entry can be read in more ways than one",
+            OTHER_ANSWER,
+        )
 
 
-def without_comments(script):
-    """A script without its comments; text constants stay as they are."""
-    return re.sub(r'("(?:[^"\\\n]|\\.)*")|/\*.*?\*/', lambda found: found[1] or " ", script, flags=re.DOTALL)
+# -- an entry
 
 
-def balanced(text, start):
-    """The parts, separated by commas, of the brackets that open at a place, and where these end."""
-    parts, depth, begins = [], 0, start + 1
-    for piece in re.compile(r'"(?:[^"\\\n]|\\.)*"|[()\[\],]').finditer(text, start):
-        mark = piece[0]
-        if mark in "([":
-            depth += 1
-        elif mark in ")]":
-            depth -= 1
-        if (depth == 1 and mark == ",") or depth == 0:
-            parts.append(" ".join(text[begins : piece.start()].split()))
-            begins = piece.end()
-        if depth == 0:
-            return [part for part in parts if part], piece.end()
-    raise Failure("the script has a bracket that is never closed")
+def number_at(data, at):
+    """The number in a column that begins at a place, and the place after it; none where there is no
+    number.
+    """
+    if data[at : at + 1] != b" ":
+        return None
+    column = data[at + 1 : at + 1 + NUMBER_WIDTH]
+    shown = column.lstrip(b" ")
+    if len(shown) == NUMBER_WIDTH:
+        shown = NUMBER.match(data, at + 1)
+        return (
+            (int(shown[0]), shown.end()) if shown and shown.end() >= at + 1 + NUMBER_WIDTH else None
+        )
+    if len(column) < NUMBER_WIDTH or not NUMBER.fullmatch(shown):
+        return None
+    return int(shown), at + 1 + NUMBER_WIDTH
 
 
-def is_text(expression, script):
-    """Whether a key is a text: a built-in or constant, a join, or a variable that holds texts."""
-    expression = expression.strip()
-    while expression.startswith("(") and balanced(expression, 0)[1] == len(expression):
-        expression = expression[1:-1].strip()
-    if re.fullmatch(r"\w+", expression):
-        return expression in TEXT_BUILTINS
-    if re.fullmatch(r'strjoin\s*\(.*\)|"(?:[^"\\\n]|\\.)*"', expression, re.DOTALL):
-        return True
-    if "?" in expression:
-        chosen = expression.split("?", 1)[1]
-        return is_text(chosen.split(":", 1)[0], script)
-    variable = re.fullmatch(r"(self|this)\s*->\s*(\w+)\s*(?:\[.*\])?", expression, re.DOTALL)
-    if not variable:
+def plain_keys(data, at, texts):
+    """The key of an entry each of whose texts is short and on one line, and the place after it;
+    none for another one.
+    """
+    keys = []
+    for is_text in texts:
+        if is_text:
+            column = data[at + 2 : at + 2 + WIDTH]
+            if data[at : at + 2] != b"  " or len(column) < WIDTH or b"\n" in column:
+                return None
+            keys.append(column.rstrip(b" "))
+            at += 2 + WIDTH
+        else:
+            found = number_at(data, at)
+            if found is None:
+                return None
+            keys.append(found[0])
+            at = found[1]
+    return keys, at
+
+
+def text_ends(data, at, feeds, follows):
+    """The texts that may begin at a place, with the places after them, where something follows that
+    fits.
+    """
+    if data[at : at + 2] != b"  ":
+        return
+    column = data[at + 2 : at + 2 + MOST_TEXT]
+    if not feeds and b"\n" in column:
+        column = column[: column.find(b"\n")]
+    for length in range(WIDTH, len(column) + 1):
+        # A text of more than 50 bytes is written as it is, and so ends with its last letter.
+        if (length == WIDTH or column[length - 1] != 32) and follows(at + 2 + length):
+            yield column[:length].rstrip(b" "), at + 2 + length
+
+
+def keys_at(data, at, layout, feeds):
+    """All ways to read a key that begins at a place: the parts, and the place after them."""
+    texts, is_histogram = layout
+    ways = [([], at)]
+    for place, is_text in enumerate(texts):
+        longer = []
+        for keys, at in ways:
+            if is_text:
+                follows = functools.partial(
+                    may_follow, data, (*texts[place + 1 :], None)[0], is_histogram
+                )
+                longer += [
+                    ([*keys, text], end) for text, end in text_ends(data, at, feeds, follows)
+                ]
+            elif (found := number_at(data, at)) is not None:
+                longer.append(([*keys, found[0]], found[1]))
+        if len(longer) > MOST_ENDS:
+            raise Ambiguous()
+        ways = longer
+    return ways
+
+
+def may_follow(data, is_text, is_histogram, at):
+    """Whether a part may begin at a place: a text, a number, or (for none of both) the value."""
+    if is_text:
+        return data[at : at + 2] == b"  "
+    if is_text is None and is_histogram:
+        return data.startswith(b"\n" + HEADER, at)
+    return number_at(data, at) is not None
+
+
+def value_at(data, at, is_histogram):
+    """The value that follows a key, and the place after its line feed; none where there is none."""
+    if is_histogram:
+        return rows_at(data, at)
+    found = number_at(data, at)
+    if found is None or data[found[1] : found[1] + 1] != b"\n":
+        return None
+    return found[0], found[1] + 1
+
+
+def rows_at(data, at):
+    """The rows of a histogram whose key ends at a place."""
+    if not data.startswith(b"\n" + HEADER, at):
+        return None
+    rows, at = [], at + 1 + len(HEADER)
+    while row := ROW.match(data, at):
+        rows.append((row[1].strip().decode("latin-1"), int(row[3])))
+        at = row.end()
+    return (rows, at + 1) if rows and data[at : at + 1] == b"\n" else None
+
+
+def entry_at(data, at, layout, feeds):
+    """The entry that begins at a place: its key, its value, and the place after it; none where
+    there is none.
+    """
+    texts, is_histogram = layout
+    plain = plain_keys(data, at, texts)
+    if plain is not None and (found := value_at(data, plain[1], is_histogram)):
+        return plain[0], *found
+    if not any(texts):
+        return None
+    ways = [
+        (keys, *found)
+        for keys, end in keys_at(data, at, layout, feeds)
+        if (found := value_at(data, end, is_histogram))
+    ]
+    if len(ways) > 1:
+        raise Ambiguous()
+    return ways[0] if ways else None
+
+
+# -- a block
+
+
+@dataclass
+class Block:
+    """A block of an answer: the layouts that it can be read by, and where it begins and ends."""
+
+    layouts: list
+    start: int
+    end: int
+
+
+class Blocks:
+    """The blocks of an answer, each an empty line and entries. What begins at a place is read once
+    for each layout.
+    """
+
+    def __init__(self, data, aggregations, feeds):
+        self.data, self.feeds, self.wanted = data, feeds, aggregations
+        self.layouts = list(dict.fromkeys(layout_of(wanted) for wanted in aggregations))
+        self.parsed, self.ends, self.fitting, self.kinds = {}, {}, {}, {}
+        for place, wanted in enumerate(aggregations):
+            self.kinds.setdefault(kind_of(wanted), []).append(place)
+        self.dead = set()  # places from which on not all is blocks
+
+    def end(self, at, layout):
+        """The place after the entries of a layout from a place on; the place itself where there is
+        none.
+        """
+        passed = []
+        while (at, layout) not in self.ends:
+            entry = entry_at(self.data, at, layout, self.feeds)
+            if entry is None:
+                self.ends[at, layout] = at
+                break
+            self.parsed[at, layout] = entry
+            passed.append(at)
+            at = entry[2]
+            if not layout[0]:  # without keys there is one entry
+                self.ends[at, layout] = at
+        for place in passed:
+            self.ends[place, layout] = self.ends[at, layout]
+        return self.ends[at, layout]
+
+    def entries(self, block, layout):
+        at = block.start
+        while at < block.end:
+            keys, value, at = self.parsed[at, layout]
+            yield keys, value
+
+    def read(self, at):
+        """The aggregations that the blocks from a place to the end show; none where not all is
+        blocks, or in another order.
+        """
+        blocks = []
+        while at < len(self.data) and at not in self.dead:
+            block = self.block(at)
+            if block is None or len(blocks) == len(self.wanted):
+                break
+            blocks.append(block)
+            at = block.end
+        if at < len(self.data):
+            if len(blocks) < len(self.wanted):
+                self.dead.update([at], (block.start - 1 for block in blocks))
+            return None
+        return self.named(blocks)
+
+    def block(self, at):
+        if self.data[at : at + 1] != b"\n":
+            return None
+        ends = {layout: self.end(at + 1, layout) for layout in self.layouts}
+        ends = {layout: end for layout, end in ends.items() if end > at + 1}
+        if (
+            len(set(ends.values())) > 1
+        ):  # numbers, read as a text: the layout that has the shorter texts is meant
+            blocks = [Block([layout], at + 1, end) for layout, end in ends.items()]
+            return min(blocks, key=lambda block: longest(self.entries(block, block.layouts[0])))
+        return Block([*ends], at + 1, max(ends.values())) if ends else None
+
+    def named(self, blocks):
+        """Blocks as aggregations in their order; under all names where those without entries leave
+        it open.
+        """
+        first = self.places(blocks, range(len(self.wanted)))
+        last = self.places(blocks[::-1], range(len(self.wanted) - 1, -1, -1))
+        if first is None or last is None:
+            return None
+        return [self.shown(*each) for each in zip(blocks, first, last[::-1])]
+
+    def shown(self, block, low, high):
+        """A block as the first aggregation that it may be, between two places of the script."""
+        fitting = [
+            places for places in self.kinds.values() if self.fits(self.wanted[places[0]], block)
+        ]
+        between = (
+            places[bisect.bisect_left(places, low) : bisect.bisect_right(places, high)]
+            for places in fitting
+        )
+        may_be = sorted(itertools.chain.from_iterable(between))
+        aggregation = self.wanted[may_be[0]]
+        entries = list(self.entries(block, layout_of(aggregation)))
+        return Shown(aggregation, told(entries, aggregation), Others(self.wanted, may_be[1:]))
+
+    def places(self, blocks, order):
+        """For each block the first aggregation, in an order, that it can be."""
+        found, order = [], iter(order)
+        for block in blocks:
+            place = next((place for place in order if self.fits(self.wanted[place], block)), None)
+            if place is None:
+                return None
+            found.append(place)
+        return found
+
+    def fits(self, wanted, block):
+        layout = layout_of(wanted)
+        if layout not in block.layouts or not wanted.is_histogram:
+            return layout in block.layouts
+        kind = block.start, kind_of(wanted)
+        if kind not in self.fitting:
+            self.fitting[kind] = all(
+                labels_fit(wanted, rows) for _, rows in self.entries(block, layout)
+            )
+        return self.fitting[kind]
+
+
+class Others:
+    """Aggregations of a script by their places, as a list that is made when it is asked for."""
+
+    def __init__(self, wanted, places):
+        self.wanted, self.places = wanted, places
+
+    def __len__(self):
+        return len(self.places)
+
+    def __getitem__(self, part):
+        return [self.wanted[place] for place in self.places[part]]
+
+
+def layout_of(aggregation):
+    return aggregation.texts, aggregation.is_histogram
+
+
+def kind_of(aggregation):
+    """What an answer shows alike: the layout, and the labels of histograms."""
+    if not aggregation.is_histogram:
+        return layout_of(aggregation)
+    return (
+        *layout_of(aggregation),
+        aggregation.function,
+        aggregation.range if aggregation.function == "lquantize" else (),
+    )
+
+
+def longest(entries):
+    """How long the longest text of entries' keys is."""
+    return max(
+        (len(key) for keys, _ in entries for key in keys if isinstance(key, bytes)), default=0
+    )
+
+
+def labels_fit(aggregation, rows):
+    """Whether the labels of a histogram are those of an aggregation."""
+    if aggregation.function == "quantize":
+        numbers = [abs(int(label)) for label, _ in rows if re.fullmatch(r"-?\d{1,20}", label)]
+        return len(numbers) == len(rows) and all(number & (number - 1) == 0 for number in numbers)
+    lower, upper, step = aggregation.range
+    if step < 1:
         return False
-    kind, name = variable.groups()
-    if re.search(rf"\b{kind}\s+string\s+{name}\b", script):
-        return True
-    assigned = re.search(rf"\b{kind}\s*->\s*{name}\s*(?:\[[^\]]*\])?\s*=([^=;][^;]*);", script)
-    return bool(assigned) and assigned[1].strip() != expression and is_text(assigned[1], script)
+    bound = lower + (upper - lower) // step * step
+    for label, _ in rows:
+        shown = re.fullmatch(r"(< |>= |)(-?\d{1,20})", label)
+        if not shown:
+            return False
+        number = int(shown[2])
+        if shown[1]:
+            if number != (lower if shown[1] == "< " else bound):
+                return False
+        elif not lower <= number < bound or (number - lower) % step:
+            return False
+    return True
 
 
-def aggregations(script):
-    """The aggregations of a script in the order of their first appearance, which is that of the answer."""
-    script, found = without_comments(script), {}
-    plain = re.sub(r'"(?:[^"\\\n]|\\.)*"', lambda text: " " * len(text[0]), script)
-    for start in re.finditer(r"@(\w*)\s*(?=[\[=])", plain):
-        place, keys = start.end(), []
-        if script[place] == "[":
-            keys, place = balanced(script, place)
-        call = re.compile(r"\s*=\s*(\w+)\s*(?=\()").match(script, place)
-        if call and call[1] in FUNCTIONS:
-            args = balanced(script, call.end())[0]
-            name = start[1] if start[1] != "_" else ""
-            texts = [is_text(key, script) for key in keys]
-            found.setdefault(name, Aggregation(name, keys, texts, call[1], args))
-    return list(found.values())
-
-
-# -- the answer
-
-
-def key_pattern(aggregation):
-    return "".join(TEXT_PART if text else NUMBER_PART for text in aggregation.texts)
-
-
-def keys_of(found, aggregation):
-    return [part.rstrip(" ") if text else int(part) for part, text in zip(found.groups(), aggregation.texts)]
-
-
-def scalar_entries(lines, place, aggregation):
-    """The entries from a place on, and the place after them."""
-    pattern, entries = re.compile(key_pattern(aggregation) + NUMBER_PART, re.ASCII), []
-    while place < len(lines) and (found := pattern.fullmatch(lines[place])):
-        entries.append((keys_of(found, aggregation), int(found.groups()[-1])))
-        place += 1
-    return entries, place
-
-
-def histogram_entries(lines, place, aggregation):
-    pattern, entries = re.compile(key_pattern(aggregation), re.ASCII), []
-    while place + 1 < len(lines) and lines[place + 1] == HEADER and (found := pattern.fullmatch(lines[place])):
-        rows, place = [], place + 2
-        while place < len(lines) and (row := ROW.fullmatch(lines[place])):
-            rows.append(bucket(row[1].strip(), int(row[3]), aggregation))
-            place += 1
-        if place >= len(lines) or lines[place]:
-            return entries, -1
-        entries.append((keys_of(found, aggregation), rows))
-        place += 1
-    return entries, place
+def told(entries, aggregation):
+    """Entries with texts in place of bytes, and buckets in place of labels."""
+    keys = [
+        [key.decode("utf-8", "surrogateescape") if isinstance(key, bytes) else key for key in keys]
+        for keys, _ in entries
+    ]
+    if not aggregation.is_histogram:
+        return list(zip(keys, (value for _, value in entries)))
+    return [
+        (key, [bucket(label, count, aggregation) for label, count in rows])
+        for key, (_, rows) in zip(keys, entries)
+    ]
 
 
 def bucket(label, count, aggregation):
@@ -165,83 +399,65 @@ def bucket(label, count, aggregation):
         return Bucket(None, int(label[1:]), count)
     if label.startswith(">="):
         return Bucket(int(label[2:]), None, count)
-    step = int(aggregation.args[3].rstrip("uUlL"), 0) if len(aggregation.args) > 3 else 1
-    return Bucket(int(label), int(label) + step, count)
+    return Bucket(int(label), int(label) + aggregation.range[2], count)
 
 
-def blocks(lines, place, wanted):
-    """All ways to read the lines from a place on as some of the wanted aggregations, in their order."""
-    if place == len(lines):
-        yield []
-        return
-    if lines[place]:
-        return
-    for index, aggregation in enumerate(wanted):
-        entries_of = histogram_entries if aggregation.is_histogram else scalar_entries
-        entries, after = entries_of(lines, place + 1, aggregation)
-        if entries and after > 0:
-            for rest in blocks(lines, after, wanted[index + 1 :]):
-                yield [(aggregation, entries), *rest]
+# -- an answer
 
 
 def read(answer, script):
-    """The texts of an answer, and the aggregations that it shows."""
-    wanted = aggregations(script)
-    lines = answer.split("\n")
-    if lines[-1] == "":
-        lines.pop()
-    writes = re.search(r"\b(?:trace|printf)\s*\(", script)
-    for place, line in enumerate(lines):
-        ways = list(itertools.islice(blocks(lines, place, wanted), 16)) if line == "" else []
-        if ways:
-            texts = "".join(line + "\n" for line in lines[:place])
-            return texts, [named(ways, number) for number in range(len(ways[0]))]
-        if not writes and not FAULT.fullmatch(line):
-            raise Failure("this isn't what the script shows: is it the answer to another one?", OTHER_ANSWER)
-    return answer, []
+    """The texts of an answer, in bytes, and the aggregations that it shows."""
+    start, shown = found(answer, script, feeds=False)
+    if shown is not None and not hides(answer[:start], script):
+        return answer[:start], shown
+    if script.writes_texts:
+        if shown is None and not hides(answer, script):
+            return answer, []
+        raise Failure(
+            (
+                "the texts can't be told from the aggregations: is it the answer to another script,"
+                " or cut?"
+            ),
+            OTHER_ANSWER,
+        )
+    start, shown = found(answer, script, feeds=True)
+    if shown is None:
+        raise Failure(
+            "this isn't what the script shows: is it the answer to another one?", OTHER_ANSWER
+        )
+    return answer[:start], shown
 
 
-def named(ways, number):
-    """A block under its name; under all that it may have, where aggregations without entries leave it open."""
-    aggregation, entries = ways[0][number]
-    titles = dict.fromkeys(way[number][0].title for way in ways if number < len(way))
-    return Shown(aggregation, " or ".join(titles), entries)
+def found(answer, script, feeds):
+    """Where the aggregations of an answer begin, and what they are. None where they don't begin at
+    all.
+    """
+    blocks = Blocks(answer, script.aggregations, feeds)
+    if not script.writes_texts:
+        start = 0
+        while fault := FAULT.match(answer, start):
+            start = fault.end()
+        return start, blocks.read(start)
+    at = -1
+    while (at := answer.find(b"\n", at + 1)) >= 0:
+        # An entry begins with a space, or with an empty line where it is a histogram without a key.
+        if answer[at + 1 : at + 2] in (b" ", b"\n") and (shown := blocks.read(at)):
+            return at, shown
+    return len(answer), None
 
 
-# -- sums
-
-
-def added(answers):
-    """Several answers to one script as one: counts and sums are added, buckets too; of min and max the least and the greatest."""
-    total = {}
-    for shown in itertools.chain.from_iterable(answers):
-        together = total.setdefault(shown.aggregation.name, Shown(shown.aggregation, shown.aggregation.title, {}))
-        for keys, value in shown.entries:
-            function = shown.aggregation.function
-            old = together.entries.get(tuple(keys))
-            together.entries[tuple(keys)] = value if old is None else combined(function, old, value, shown)
-    for shown in total.values():
-        entries = [(list(keys), value) for keys, value in shown.entries.items()]
-        shown.entries = sorted(entries, key=lambda entry: (weight(entry[1]), entry[0]))
-    return list(total.values())
-
-
-def combined(function, old, new, shown):
-    if function in ("count", "sum"):
-        return (old + new + 2**63) % 2**64 - 2**63
-    if function in ("min", "max"):
-        return min(old, new) if function == "min" else max(old, new)
-    if function == "avg":
-        raise Failure(f"averages can't be added up: {shown.names} should keep a sum and a count")
-    counts = {}
-    for row in old + new:
-        counts[(row.low, row.high)] = counts.get((row.low, row.high), 0) + row.count
-    order = sorted(counts, key=lambda ends: (ends[0] is not None, ends[0] or 0))
-    return [Bucket(low, high, counts[low, high]) for low, high in order]
-
-
-def weight(value):
-    """What entries are ordered by: the number, or the sum of label times count."""
-    if not isinstance(value, list):
-        return value
-    return sum((row.low if row.low is not None else row.high - 1) * row.count for row in value)
+def hides(texts, script):
+    """Whether the end of what was taken for texts has what may be entries: by names with line
+    feeds, or as it is cut.
+    """
+    if not texts or not script.writes_texts:
+        return False
+    if HEADER in texts and any(wanted.is_histogram for wanted in script.aggregations):
+        return True
+    ends = texts[-ENTRY:].rstrip(b"\n") + b"\n"
+    with_keys = [
+        wanted for wanted in script.aggregations if wanted.keys and not wanted.is_histogram
+    ]
+    blocks = Blocks(ends, with_keys, feeds=True)
+    starts = [found.end() for found in re.finditer(rb"\n(?= )", ends)]
+    return any(blocks.end(at, layout) > at for at in starts for layout in blocks.layouts)

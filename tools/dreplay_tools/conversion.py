@@ -6,20 +6,27 @@ import re
 
 from . import strace
 from .ahead import Ahead
+from .ends import shortened
+from .errors import RETURNED
+from .paths import path_of
 from .processes import Processes
-from .strace import BadLine, Call
-from .trace import ARGS, Rows, text
+from .strace import SYMBOL, BadLine, Call
+from .trace import ARGS, MOST_TIME, Rows, field, text
 
 # So many skipped lines are named. A recording made with other options would have them all skipped.
 MOST_NAMED = 10
 BETWEEN_PROGRESS = 65536
 
 # The result of a call on the lines that are most frequent.
-RESULT = r"\) += (0|-?[1-9]\d{0,17}|0x[0-9a-f]{1,15})(?: E[A-Z0-9]+ \([^()]*\))?(?: <(\d+)\.(\d{6}|\d{9})>)?\n"
-WHOLE = r"([a-z_][a-z0-9_]*)\((.*)" + RESULT
-BEGUN = r"([a-z_][a-z0-9_]*)\((.*?) ?<unfinished \.\.\.>\n"
-RESUMED = r"<\.\.\. ([a-z_][a-z0-9_]*) resumed>(.*)" + RESULT
-TEXT_CONSTANT = re.compile(r'"(?:[^"\\]|\\.)*"')
+RESULT = (
+    r"\) += (0|-?[1-9]\d{0,17}|0x[0-9a-f]{1,15})(?: (E[A-Z0-9_]+) \([^()]*\))?"
+    r"(?: <(\d{1,9})\.(\d{6}|\d{9})>)?\n"
+)
+WHOLE = rf"({strace.NAME})\((.*)" + RESULT
+BEGUN = rf"({strace.NAME})\((.*?) ?<unfinished \.\.\.>\n"
+RESUMED = rf"<\.\.\. ({strace.NAME}) resumed>(.*)" + RESULT
+TEXT_CONSTANT = re.compile(r'"(?:[^"\\]|\\.)*(?:"|\\?$)')
+MOST_NESTED = 8  # brackets in brackets, of an argument list that is read in the quick way
 INNERMOST = re.compile(r"[(\[{][^()\[\]{}]*[)\]}]")
 SPECIAL = strace.BIRTHS | set(strace.PROGRAMS)
 COMMAS = ["," * (ARGS - max(count, 1)) for count in range(ARGS + 1)]
@@ -40,11 +47,13 @@ class Arguments(dict):
         plain = shown
         if '"' in plain:
             plain = TEXT_CONSTANT.sub("_", plain)
-        while "{" in plain or "[" in plain or "(" in plain:
+        for _ in range(MOST_NESTED):
+            if not ("{" in plain or "[" in plain or "(" in plain):
+                break
             plain, changes = INNERMOST.subn("_", plain)
             if not changes:
                 return self.careful(shown)
-        if '"' in plain or "<" in plain or "/*" in plain:
+        if '"' in plain or "<" in plain or "/*" in plain or "{" in plain or "[" in plain:
             return self.careful(shown)
         return self.joined(plain.split(", ")) if plain else COMMAS[0]
 
@@ -61,7 +70,11 @@ class Wanted:
 
     def __init__(self, calls, since):
         self.since, self.first = since, None
-        self.calls = re.compile("|".join(fnmatch.translate(call) for call in calls.split(","))) if calls else None
+        self.calls = (
+            re.compile("|".join(fnmatch.translate(call) for call in calls.split(",")))
+            if calls
+            else None
+        )
         self.all = self.calls is None and since is None
 
     def row(self, name, time):
@@ -73,7 +86,9 @@ class Wanted:
 
 
 class Begun:
-    """A call that hasn't returned: what is shown of it so far, and the place and the columns of its entry's row."""
+    """A call that hasn't returned: what is shown of it so far, and the place and the columns of its
+    entry's row.
+    """
 
     __slots__ = ("name", "shown", "place", "columns")
 
@@ -81,34 +96,99 @@ class Begun:
         self.name, self.shown, self.place, self.columns = name, shown, place, columns
 
 
+class Losses:
+    """What a trace doesn't have of its recording, to be told once."""
+
+    def __init__(self):
+        self.symbols = self.undated = self.unnamed_errors = self.unknown_births = 0
+        self.first_symbol = self.first_error = self.first_birth = ""
+
+    def symbol(self, line, shown):
+        """A call on a line that has an argument which is no integer."""
+        self.symbols += 1
+        if self.symbols == 1:
+            args = strace.split(shown)[0]
+            first = next((arg for arg in args if strace.argument(arg) == SYMBOL), "")
+            self.first_symbol = f"line {line}: {shortened(first, 40)}"
+
+    def error(self, line, name):
+        self.unnamed_errors += 1
+        if self.unnamed_errors == 1:
+            self.first_error = f"line {line}: {shortened(name, 40)}"
+
+    def birth(self, line):
+        self.unknown_births += 1
+        if self.unknown_births == 1:
+            self.first_birth = f"line {line}"
+
+    def told(self):
+        """A line for each kind."""
+        if self.symbols:
+            calls = counted(self.symbols, "call has", "calls have")
+            yield (
+                f"{calls} arguments that are no integers ({self.first_symbol}); these are empty, "
+                "which reads as 0: dreplay-record keeps numbers, and so does strace "
+                "-e raw='!execve,clone,clone3'"
+            )
+        if self.undated:
+            returns = counted(self.undated, "return has", "returns have")
+            yield f"no durations (strace -T): {returns} the time of the entry"
+        if self.unnamed_errors:
+            calls = counted(self.unnamed_errors, "failed call has", "failed calls have")
+            yield f"{calls} an error without a known number ({self.first_error}): arg1 is -1"
+        if self.unknown_births:
+            calls = counted(self.unknown_births, "call", "calls")
+            yield (
+                f"{calls} made a thread or a process, which raw arguments don't tell "
+                f"({self.first_birth}): it counts as a process"
+            )
+
+
+def counted(count, one, several):
+    return f"{count:,} {one if count == 1 else several}"
+
+
 class Conversion:
-    """A recording on its way to a trace: the rows so far, and for each thread the call that hasn't returned."""
+    """A recording on its way to a trace: the rows so far, and for each thread the call that hasn't
+    returned.
+    """
 
     def __init__(self, words, recording, shape, out, tool):
         self.processes = Processes(text(os.fsencode(words.name)))
         if words.threads:
             self.processes.read(words.threads)
-        self.wanted = Wanted(words.only, words.since)
+        self.wanted, self.words = Wanted(words.only, words.since), words
         self.rows, self.shape, self.tool = Rows(out, words.rows), shape, tool
         self.size = os.fstat(recording.fileno()).st_size or 1
-        self.lines = Ahead(io.TextIOWrapper(recording, encoding="utf-8", errors="surrogateescape", newline="\n"))
-        self.pending, self.arguments = {}, Arguments()
-        self.understood = self.skipped = self.left_out = 0
+        self.lines = Ahead(
+            io.TextIOWrapper(recording, encoding="utf-8", errors="surrogateescape", newline="\n")
+        )
+        self.pending, self.arguments, self.losses = {}, Arguments(), Losses()
+        self.understood = self.skipped = self.left_out = self.line = 0
         self.in_summary = False
-        self.simple = shape.has_threads and shape.has_dates and self.wanted.all and words.rows is None
+        self.zero = None if words.from_zero else 0
+        self.quick = (
+            shape.has_threads
+            and shape.has_dates
+            and self.wanted.all
+            and words.rows is None
+            and not words.paths
+            and not words.ppid
+        )
         self.whole, self.begun, self.resumed = (
-            re.compile(shape.prefix + kind, re.ASCII).fullmatch for kind in (WHOLE, BEGUN, RESUMED)
+            re.compile(shape.quick_prefix + kind, re.ASCII).fullmatch
+            for kind in (WHOLE, BEGUN, RESUMED)
         )
 
     def run(self):
         """Converts all lines, or those that give as many rows as are wanted."""
         offset = 0
-        for number, line in enumerate(self.lines, 1):
-            if not (self.simple and self.take_simple(line)):
-                self.take(number, line)
+        for self.line, line in enumerate(self.lines, 1):
+            self.take(line)
             offset += len(line)
-            if number % BETWEEN_PROGRESS == 0:
-                self.tool.progress(f"{number:,} lines, {self.rows.number:,} rows, {min(offset * 100 // self.size, 100)} %")
+            if self.line % BETWEEN_PROGRESS == 0:
+                done = min(offset * 100 // self.size, 100)
+                self.tool.progress(f"{self.line:,} lines, {self.rows.number:,} rows, {done} %")
             if self.rows.full:
                 self.left_out = sum(1 for _ in self.lines)
         for call in self.pending.values():
@@ -116,9 +196,24 @@ class Conversion:
         if self.understood:
             self.rows.flush()
 
+    def take(self, line):
+        """Takes a line, or says why it is skipped."""
+        try:
+            if self.quick and self.zero is not None and self.take_quickly(line):
+                self.understood += 1
+                return
+            shown = line.rstrip("\r\n")
+            if not self.is_aside(shown):
+                self.take_event(*self.shape.read(shown))
+                self.understood += 1
+        except BadLine as why:
+            self.skipped += 1
+            if self.skipped <= MOST_NAMED:
+                self.tool.say(f"line {self.line} skipped: {why}")
+
     # -- the frequent lines
 
-    def take_simple(self, line):
+    def take_quickly(self, line):
         """Takes a line if it is one of the frequent kinds. Returns whether it was."""
         if line.endswith("<unfinished ...>\n"):
             return self.take_begun(self.begun(line))
@@ -129,21 +224,26 @@ class Conversion:
     def take_whole(self, found):
         if found is None:
             return False
-        thread, seconds, fraction, name, shown, result, took, took_fraction = found.groups()
+        thread, seconds, fraction, name, shown, result, error, took, took_fraction = found.groups()
         zeros = NANOSECONDS.get(len(fraction))
-        if name in SPECIAL or zeros is None or seconds[0] == "0" or len(took_fraction or fraction) != len(fraction):
+        if name in SPECIAL or zeros is None or len(took_fraction or fraction) != len(fraction):
             return False
-        time = seconds + fraction
-        back = str(int(time) + int(took + took_fraction)) if took else time
-        if result[:2] == "0x":
-            result = str(int(result, 16))
+        time = back = int(seconds + fraction + zeros) - self.zero
+        if took:
+            back += int(took + took_fraction + zeros)
+        values = returned(result, error)
+        if values is None or time < 0 or back > MOST_TIME:
+            return False
+        self.losses.undated += took is None
         head = self.processes.heads.get(thread) or self.processes.head(thread)
+        columns = self.arguments.columns(shown)
+        if SYMBOL in columns:
+            columns = self.without_symbols(columns, shown)
         number = self.rows.number = self.rows.number + 2
         self.rows.put(
-            f"{number - 1}{head}{time}{zeros},syscall,,{name},entry,{self.arguments.columns(shown)}\n"
-            f"{number}{head}{back}{zeros},syscall,,{name},return,{result},{result},,,,,,,,\n"
+            f"{number - 1}{head}{time},syscall,,{name},entry,{columns}\n"
+            f"{number}{head}{back},syscall,,{name},return,{values}\n"
         )
-        self.understood += 1
         return True
 
     def take_begun(self, found):
@@ -151,56 +251,67 @@ class Conversion:
             return False
         thread, seconds, fraction, name, shown = found.groups()
         zeros = NANOSECONDS.get(len(fraction))
-        if name in SPECIAL or zeros is None or seconds[0] == "0" or thread in self.pending:
+        if name in SPECIAL or zeros is None or thread in self.pending:
             return False
-        head = self.processes.heads.get(thread) or self.processes.head(thread)
+        time = int(seconds + fraction + zeros) - self.zero
+        head = self.head(thread, time)
         place = self.rows.open()
-        self.pending[thread] = Begun(name, shown, place, f"{self.rows.number}{head}{seconds}{fraction}{zeros},syscall,,{name},entry,")
-        self.understood += 1
+        columns = f"{self.rows.number}{head}{time},syscall,,{name},entry,"
+        self.pending[thread] = Begun(name, shown, place, columns)
         return True
 
     def take_resumed(self, found):
         if found is None:
             return False
-        thread, seconds, fraction, name, shown, result, _, _ = found.groups()
+        thread, seconds, fraction, name, shown, result, error, _, _ = found.groups()
         zeros = NANOSECONDS.get(len(fraction))
         call = self.pending.get(thread)
         if call is None or call.place is None or call.name != name:
             return False
-        if name in SPECIAL or zeros is None or seconds[0] == "0":
+        values = returned(result, error)
+        if name in SPECIAL or zeros is None or values is None:
             return False
+        time = int(seconds + fraction + zeros) - self.zero
+        head = self.head(thread, time)
         del self.pending[thread]
-        self.rows.close(call.place, f"{call.columns}{self.arguments.columns(call.shown + shown)}\n")
-        if result[:2] == "0x":
-            result = str(int(result, 16))
-        head = self.processes.heads.get(thread) or self.processes.head(thread)
+        shown = call.shown + shown
+        columns = self.arguments.columns(shown)
+        if SYMBOL in columns:
+            columns = self.without_symbols(columns, shown)
+        self.rows.close(call.place, f"{call.columns}{columns}\n")
         number = self.rows.number = self.rows.number + 1
-        self.rows.put(f"{number}{head}{seconds}{fraction}{zeros},syscall,,{name},return,{result},{result},,,,,,,,\n")
-        self.understood += 1
+        self.rows.put(f"{number}{head}{time},syscall,,{name},return,{values}\n")
         return True
+
+    def head(self, thread, time):
+        """The columns in front of the time of a thread's row."""
+        check_time(time)
+        return self.processes.heads.get(thread) or self.processes.head(thread)
+
+    def without_symbols(self, columns, shown):
+        """Columns of an argument list in which the arguments that are no integers are empty."""
+        self.losses.symbol(self.line, shown)
+        return columns.replace(SYMBOL, "")
 
     # -- any line
 
-    def take(self, number, line):
-        """Takes any line, or says why it is skipped."""
-        shown = line.rstrip("\r\n")
-        if self.is_aside(shown):
-            return
-        try:
-            self.take_event(*self.shape.read(shown))
-            self.understood += 1
-        except BadLine as why:
-            self.skipped += 1
-            if self.skipped <= MOST_NAMED:
-                self.tool.say(f"line {number} skipped: {why}")
-
     def is_aside(self, line):
-        """Whether a line is what strace writes beside the calls: stacks (-k), data (-e write=), the summary of -C."""
+        """Whether a line is what strace writes beside the calls: stacks (-k), data (-e write=), the
+        summary of -C.
+        """
         if line.startswith("% time "):
             self.in_summary = True
-        return self.in_summary or line.startswith((" > ", " | "))
+        on_terminal = self.shape.on_terminal
+        return (
+            self.in_summary
+            or line.startswith((" > ", " | "))
+            or (on_terminal is not None and on_terminal.takes(line))
+        )
 
     def take_event(self, thread, time, event):
+        if self.zero is None:
+            self.zero = time
+        time -= self.zero
         if found := strace.CALL.match(event):
             self.entry(thread, time, found[1], event[found.end() :])
         elif found := strace.RESUMED.match(event):
@@ -224,24 +335,40 @@ class Conversion:
         call = Call(name, shown)
         if not call.whole:
             raise BadLine("it is cut off")
+        back = time + (call.took or 0)
+        check_time(back)
+        self.birth(thread, call)
+        self.row(thread, time, call, "entry", self.arguments_of(name, call.args))
+        if call.result is not None and call.took is None:
+            self.losses.undated += 1
+        self.end(thread, back, call)
+
+    def birth(self, thread, call):
+        """Takes what a call's entry shows of programs and processes."""
         self.processes.entered(thread, call)
-        self.row(thread, time, name, "entry", self.arguments.joined(call.args))
-        self.end(thread, time + call.took, call)
+        if call.makes_unknown:
+            self.losses.birth(self.line)
 
     def begin(self, thread, time, name, shown):
-        """The entry of a call that breaks off. What makes processes is known at once, by a look ahead."""
+        """The entry of a call that breaks off. What makes processes is known at once, by a look
+        ahead.
+        """
         if name in SPECIAL:
             rest = self.lines.find(lambda line: self.rest_of(line, thread, name))
-            self.processes.entered(thread, Call(name, shown + (rest or "")))
+            self.birth(thread, Call(name, shown + (rest or "")))
         begun = Begun(name, shown)
         if not self.rows.full and (self.wanted.all or self.wanted.row(name, time)):
+            head = self.head(thread, time)
             begun.place = self.rows.open()
-            begun.columns = f"{self.rows.number}{self.processes.head(thread)}{time},syscall,,{name},entry,"
+            module = self.module(name, strace.split(shown)[0])
+            begun.columns = f"{self.rows.number}{head}{time},syscall,{module},{name},entry,"
         return begun
 
     def rest_of(self, line, thread, name):
-        """What a line has of a thread's call, if it resumes it; the empty text if the thread has ended."""
-        if not line.startswith(thread):
+        """What a line has of a thread's call, if it resumes it; the empty text if the thread has
+        ended.
+        """
+        if not line.startswith((thread, "[pid")):
             return None
         found = self.shape.line.fullmatch(line.rstrip("\r\n"))
         if not found or found[1] != thread:
@@ -272,7 +399,9 @@ class Conversion:
     def complete(self, begun, shown):
         """Writes the row of an entry, now that all is known that is shown of its arguments."""
         if begun.place:
-            self.rows.close(begun.place, begun.columns + self.arguments.careful(shown) + "\n")
+            columns = self.arguments_of(begun.name, strace.split(shown)[0])
+            thread = begun.columns.split(",", 3)[2]
+            self.rows.close(begun.place, begun.columns + self.with_parent(thread, columns) + "\n")
 
     def forget(self, thread):
         """A thread's call that won't return."""
@@ -281,10 +410,58 @@ class Conversion:
             self.complete(begun, begun.shown)
 
     def end(self, thread, time, call):
-        if call.result is not None:
-            self.processes.returned(thread, call)
-            self.row(thread, time, call.name, "return", f"{call.result},{call.result},,,,,,,,")
+        if call.result is None:
+            return
+        self.processes.returned(thread, call)
+        error = call.result if call.error is None else call.error
+        if isinstance(error, str):
+            self.losses.error(self.line, error)
+            error = -1
+        self.row(thread, time, call, "return", f"{call.result},{error},,,,,,,,")
 
-    def row(self, thread, time, function, name, columns):
-        if self.wanted.all or self.wanted.row(function, time):
-            self.rows.add(f"{self.processes.head(thread)}{time},syscall,,{function},{name},{columns}")
+    def arguments_of(self, name, args):
+        """The columns of a call's arguments. Those that make processes show names on purpose."""
+        columns = self.arguments.joined(args)
+        if SYMBOL not in columns:
+            return columns
+        if name in SPECIAL:
+            return columns.replace(SYMBOL, "")
+        return self.without_symbols(columns, ", ".join(args))
+
+    def row(self, thread, time, call, name, columns):
+        if self.wanted.all or self.wanted.row(call.name, time):
+            head, module = self.head(thread, time), self.module(call.name, call.args)
+            columns = self.with_parent(thread, columns)
+            self.rows.add(f"{head}{time},syscall,{module},{call.name},{name},{columns}")
+
+    def module(self, name, args):
+        """The column module: with --paths the first path of a call."""
+        if not self.words.paths:
+            return ""
+        path = path_of(name, args)
+        return field(text(path)) if path else ""
+
+    def with_parent(self, thread, columns):
+        """Columns of arguments, the last of them the parent's process where --ppid asks for it."""
+        if not self.words.ppid:
+            return columns
+        return f"{columns.rpartition(',')[0]},{self.processes.parent(thread)}"
+
+
+def check_time(time):
+    if not 0 <= time <= MOST_TIME:
+        raise BadLine(
+            "its time is too large"
+            if time > 0
+            else "its time is before that of the first line, from which --from-zero counts"
+        )
+
+
+def returned(result, error):
+    """What a call returned, as columns; none where its error has no known number."""
+    if error:
+        value = RETURNED.get(error)
+        return f"-1,{value},,,,,,,," if value and result == "-1" else None
+    if result[:2] == "0x":
+        result = str(int(result, 16))
+    return f"{result},{result},,,,,,,,"

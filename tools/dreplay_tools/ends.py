@@ -1,8 +1,11 @@
-"""How a tool ends: every end is an exit status and at most a line on standard error, and never a traceback."""
+"""How a tool ends: every end is an exit status and at most a line on standard error, and never a
+traceback.
+"""
 import os
 import signal
 import sys
 
+MOST_SAID = 1000  # letters of a message
 FAILED = 2  # a file or standard stream fails, memory runs out, or the command line is wrong
 INTERRUPTED = 128 + signal.SIGINT
 
@@ -21,6 +24,12 @@ def reason(error):
     return f"{error.filename}: {words}" if error.filename else words
 
 
+def shortened(text, most=60):
+    """A text fit for a message: not long, and without control characters."""
+    text = text if len(text) <= most else text[:most] + ".."
+    return "".join(c if c.isprintable() else c.encode("unicode_escape").decode() for c in text)
+
+
 class Tool:
     """A tool's name, and what it writes to standard error."""
 
@@ -31,12 +40,14 @@ class Tool:
         """Writes a line to standard error. Where that is closed, nobody wants to read it."""
         try:
             self.erase_progress()
-            print(f"{self.name}: {what}", file=sys.stderr, flush=True)
+            print(shortened(f"{self.name}: {what}", MOST_SAID), file=sys.stderr, flush=True)
         except (OSError, ValueError, AttributeError):
             pass
 
     def progress(self, what):
-        """Shows how far the work is, in one line that is written over, where standard error is a terminal."""
+        """Shows how far the work is, in one line that is written over, where standard error is a
+        terminal.
+        """
         if sys.stderr is not None and sys.stderr.isatty():
             self.progress_shown = True
             print(f"\r\x1b[K{self.name}: {what}", end="", file=sys.stderr, flush=True)
@@ -48,11 +59,15 @@ class Tool:
 
     def run(self, main):
         """Runs main, which returns the exit status, and ends the process."""
+        status = FAILED
         try:
             status = self.status_of(main)
             self.erase_progress()
+            sys.stderr.flush()  # of argparse; before Python 3.9 lines waited there
         except KeyboardInterrupt:
             status = INTERRUPTED
+        except (OSError, ValueError, AttributeError):
+            pass
         # Nothing of Python's own end may write: it would try the failed stream again.
         os._exit(status)
 
@@ -82,6 +97,9 @@ class Tool:
             return FAILED
         except OSError as why:
             self.say(reason(why))
+            return FAILED
+        except Exception as why:  # whatever nobody thought of
+            self.say(f"a fault of this tool, please report it: {type(why).__name__}: {why}")
             return FAILED
 
 

@@ -1,74 +1,34 @@
-"""What may have led to a refusal: signs in the bytes of a script or a trace that a person would look for."""
+"""What may have led to a refusal: signs in the bytes of a script or a trace that a person would
+look for.
+"""
 import csv
+import difflib
 import io
+import itertools
 import re
 
+from . import mistakes, script, strangers, tokens
 from .trace import ARGS, COLUMNS, HEADER
 
+NAMES = sorted(mistakes.BUILTINS | mistakes.CALLED)
+KNOWN = (
+    mistakes.BUILTINS
+    | mistakes.CALLED
+    | set(mistakes.WORDS)
+    | set(mistakes.TYPES)
+    | {"self", "this"}
+)
+MOST_TOKENS = 100  # of a line that are looked at
+
 RANGES = {
-    "number": (1, 2**62), "cpu": (0, 2**31 - 1), "thread": (1, 2**31 - 1), "pid": (0, 2**31 - 1), "time": (0, 2**64 - 1),
+    "number": (1, 2**62),
+    "cpu": (0, 2**31 - 1),
+    "thread": (1, 2**31 - 1),
+    "pid": (0, 2**31 - 1),
+    "time": (0, 2**64 - 1),
     **{f"arg{place}": (-(2**63), 2**63 - 1) for place in range(ARGS)},
 }
 
-# Words of D, of bpftrace and of C that dreplay doesn't have, and what to write instead.
-WORDS = {
-    "comm": "`comm` is bpftrace's; in D it is `execname`",
-    "nsecs": "`nsecs` is bpftrace's; in D it is `timestamp`",
-    "elapsed": "`elapsed` is bpftrace's; take `timestamp` and subtract",
-    "walltimestamp": "a trace has one time: use `timestamp`",
-    "vtimestamp": "a trace has one time: use `timestamp`",
-    "hist": "`hist` is bpftrace's; in D it is `quantize`",
-    "lhist": "`lhist` is bpftrace's; in D it is `lquantize(value, lower, upper, step)`",
-    "llquantize": "there is no `llquantize`; use `quantize` or `lquantize`",
-    "stddev": "there is no `stddev`; use `avg`, `min`, `max` or `quantize`",
-    "stats": "`stats` is bpftrace's; use `count`, `avg` and `sum` under three names",
-    "printa": "there is no `printa`: aggregations are shown at the end, and dreplay-show lays them out",
-    "print": "there is no `print`: aggregations are shown at the end; of a value write `trace(value)`",
-    "trunc": "there is no `trunc`: `dreplay-show --top N` keeps the largest entries",
-    "clear": "there is no `clear`: a run shows its aggregations once, at the end",
-    "normalize": "there is no `normalize`: divide before, as in `sum(arg0 / 1024)`",
-    "denormalize": "there is no `denormalize`",
-    "delete": "assign 0: `self->x = 0;` gives the storage back",
-    "if": "D has no `if`: use a predicate, `/ condition /`, or `condition ? a : b`",
-    "else": "D has no `if` and `else`: use two clauses with predicates, or `condition ? a : b`",
-    "for": "D has no loops",
-    "while": "D has no loops",
-    "unroll": "D has no loops",
-    "copyinstr": "a trace has no memory of processes; record what you need as an argument",
-    "copyin": "a trace has no memory of processes; record what you need as an argument",
-    "str": "a trace has no memory of processes; record what you need as an argument",
-    "stringof": "a trace has no memory of processes; record what you need as an argument",
-    "stack": "a trace has no stacks", "ustack": "a trace has no stacks", "jstack": "a trace has no stacks", "kstack": "a trace has no stacks",
-    "uid": "a trace has no `uid`", "gid": "a trace has no `gid`", "ppid": "a trace has no `ppid`", "zonename": "a trace has no `zonename`",
-    "errno": "a trace has no `errno`: a call that failed returned -1 in `arg0`",
-    "retval": "`retval` is bpftrace's; in D it is `arg0` or `arg1` of a probe `return`",
-    "args": "there is no `args`: the arguments are `arg0` to `arg9`, all integers",
-    "curpsinfo": "there is no `curpsinfo`: use `pid` and `execname`",
-    "curthread": "there is no `curthread`: use `tid`",
-    "basename": "there is no `basename`",
-    "inline": "there is no `inline`: write the constant where it is used",
-    "typedef": "there are no types of your own",
-    "struct": "there are no structures",
-    "speculate": "there are no speculations", "speculation": "there are no speculations",
-    "system": "there are no destructive actions", "panic": "there are no destructive actions", "stop": "there are no destructive actions",
-    "func": "use `probefunc`", "probe": "use `probefunc` and `probename`",
-    "tracepoint": "of bpftrace's `tracepoint:syscalls:sys_enter_read` make `syscall::read:entry`",
-    "kprobe": "of bpftrace's `kprobe:vfs_read` make a description of what the trace holds, such as `fbt::vfs_read:entry`",
-    "kretprobe": "of bpftrace's `kretprobe:vfs_read` make a description of what the trace holds, such as `fbt::vfs_read:return`",
-}
-NAMES = ["execname", "timestamp", "probeprov", "probemod", "probefunc", "probename", "pid", "tid", "cpu", "arg0", "count", "sum", "min",
-         "max", "avg", "quantize", "lquantize", "trace", "printf", "exit", "strlen", "strjoin"]
-SHAPES = [
-    (r"//", "there are no comments after `//`: write `/* .. */`"),
-    (r"\$\w+", "there are no macro arguments: write the value itself"),
-    (r"'(?:[^'\\]|\\.)'", "there are no character constants: write the byte's number"),
-    (r"`", "there are no kernel variables"),
-    (r"^\s*\w+\s+\w+;", "there are no global variables: declare `self int x;` or `this int x;`"),
-    (r"@\w*\[[^\]]*\]\s*\+\+", "an aggregation takes a function: `@name[keys] = count();`"),
-    (r"\}\s*;", "no semicolon stands after a clause"),
-    (r"\w:\w+:\w+:\w+:\w+", "a description has four fields at most"),
-    (r"%[a-zA-Z]*[pcafXSYk]", "there are no conversions `%p %c %a %f %X %S %Y %k`: use `%x` for an address"),
-]
 ENCODINGS = [
     (b"\x1f\x8b", "it is compressed by gzip: `gzip -dc FILE | dreplay ..`"),
     (b"\xfd7zXZ", "it is compressed by xz: `xz -dc FILE | dreplay ..`"),
@@ -81,6 +41,12 @@ ENCODINGS = [
     (b"\x7fELF", "it is a program"),
 ]
 
+RECORDED = {
+    "strace": "it is a recording of strace: make a trace of it by dreplay-from-strace",
+    "perf": "it is of `perf script`: make a trace of it by dreplay-from-perf",
+    "ftrace": "it is of the kernel's tracer: make a trace of it by dreplay-from-ftrace",
+}
+
 
 def of_encoding(data):
     """What the first bytes say about a file that should be text."""
@@ -88,55 +54,107 @@ def of_encoding(data):
         if data.startswith(magic):
             return meaning
     if b"\0" in data[:4096]:
-        return "it has zero bytes, so it is no text, or UTF-16 without a mark: `iconv -f UTF-16 -t UTF-8`"
+        return (
+            "it has zero bytes, so it is no text, or UTF-16 without a mark: `iconv -f UTF-16 -t"
+            " UTF-8`"
+        )
     return None
 
 
 def nearest(word):
-    import difflib
-
-    near = difflib.get_close_matches(word, NAMES, 1, 0.75)
-    return near[0] if near and near[0] != word else None
-
-
-def of_line(line):
-    """What in a line of a script isn't dreplay's."""
-    plain = re.sub(r'"(?:[^"\\]|\\.)*"', '""', line)
-    for pattern, meaning in SHAPES:
-        if re.search(pattern, line if "%" in pattern else plain):
-            yield meaning
-    for word in dict.fromkeys(re.findall(r"(?<![\w>@])[a-z_]\w*", plain)):
-        if word in WORDS:
-            yield WORDS[word]
-        elif (near := nearest(word)) and not re.search(rf"->\s*{word}\b", plain):
-            yield f"`{word}` may be meant as `{near}`"
+    """The word of D that a word may be meant as."""
+    if re.fullmatch(r"arg\d+", word):
+        return None
+    near = (
+        difflib.get_close_matches(word, NAMES, 1, 0.75)
+        if len(word) <= 40 and word not in KNOWN
+        else []
+    )
+    return near[0] if near else None
 
 
 def of_script(refusal, place, data, bundle):
-    """Guesses on a refused script."""
+    """Guesses on a refused script whose bytes alone say what is wrong."""
     encoding = of_encoding(data)
     if encoding:
         return [encoding]
     if data.startswith(b"\xef\xbb\xbf"):
         return ["it begins with a byte order mark: `sed -i '1s/^\\xef\\xbb\\xbf//' FILE`"]
-    if HEADER.encode() in data or b"number,cpu,thread" in data.lower():
-        near = re.search(rb"^[ \t]*-{2,}[ \t]*\r?$", data, re.MULTILINE)
-        if bundle and near:
-            return ["the dividing line isn't exactly three minuses: it is `" + near[0].decode("latin-1").rstrip("\r") + "`"]
-        if bundle and data.lstrip().lower().startswith(b"number,"):
-            return ["this is a trace without a script: `dreplay -s SCRIPT < TRACE`"]
-        if bundle:
-            return ["the trace stands in the script: a line `---` has to separate them"]
-        return ["the file of -s has a trace in it: were script and trace exchanged?"]
-    lines = data.decode("utf-8", "replace").split("\n")
-    number = place.get("line")
-    looked_at = [lines[number - 1]] if number and number <= len(lines) else lines
-    found = [guess for line in looked_at for guess in of_line(line)]
-    if refusal.kind == "Type" and refusal.number == 2 and not found and number:
-        for name in re.findall(r"(?:self|this)->(\w+)", looked_at[0]):
-            if not re.search(rb"(?:self|this)->" + name.encode() + rb"\s*(?:\[[^\]]*\]\s*)?=[^=]", data):
-                found.append(f"nothing assigns `{name}` before")
+    if HEADER.encode() in data or b"number,cpu,thread" in data[:100_000].lower():
+        return [of_trace_in_script(data, bundle)]
+    if refusal.name == "TooLong":
+        return []
+    if refusal.name == "OptionLine":
+        return of_option_line(data.decode("latin-1").split("\n"), place.get("line", 0))
+    return of_mistakes(refusal, place, script.Script(tokens.decoded(data)))
+
+
+def of_option_line(lines, line):
+    """Guesses on a line that begins with `#`."""
+    shown = lines[line - 1].strip() if 0 < line <= len(lines) else ""
+    if re.match(r"#\s*(?:include|define|undef|if|endif|else|import)", shown):
+        return ["there is no preprocessor: write the value itself"]
+    if shown.startswith("#") and not re.match(r"#\s*pragma", shown):
+        return ["`#` begins no comment: write `/* .. */`"]
+    return []
+
+
+def of_trace_in_script(data, bundle):
+    near = re.search(rb"^[ \t]*-{2,}[ \t]*\r?$", data, re.MULTILINE)
+    if bundle and near:
+        return (
+            "the dividing line isn't exactly three minuses: it is `"
+            + near[0].decode("latin-1").rstrip("\r")
+            + "`"
+        )
+    if bundle and data.lstrip().lower().startswith(b"number,"):
+        return "this is a trace without a script: `dreplay -s SCRIPT < TRACE`"
+    if bundle:
+        return "the trace stands in the script: a line `---` has to separate them"
+    return "the file of -s has a trace in it: were script and trace exchanged?"
+
+
+def of_mistakes(refusal, place, refused):
+    """Guesses on the token that is refused, and on the others of its line."""
+    line, at = place.get("line"), place.get("token")
+    there, found = looked_at(refused.tokens, line, at), []
+    if at is not None and refusal.kind == "Type" and refusal.number == 2:
+        found += mistakes.of_variable(refused, at)
+    found += mistakes.of_tokens(refused, there)
+    if at is not None and refusal.kind == "Parse" and not found:
+        found += mistakes.of_place(refused, at)
+    if refusal.kind == "Type" and refusal.number == 2:
+        # Of a function that isn't known, dreplay refuses the aggregation that it would make.
+        is_exact = at is not None and refused.tokens[at].kind != "aggregation"
+        found += misspelt(refused.tokens, [at] if is_exact else there)
+        if at is None:
+            starts = [place for place in there if refused.tokens[place].text in ("self", "this")]
+            found += [
+                guess
+                for place in starts
+                for guess in mistakes.of_variable(refused, place)
+                if "nothing" in guess
+            ]
     return list(dict.fromkeys(found))[:3]
+
+
+def looked_at(tokens, line, at):
+    """The places of the tokens of a line: those from the refused one on first, and of a long line
+    those near it alone.
+    """
+    there = [place for place, token in enumerate(tokens) if line is None or token.line == line]
+    if at is None:
+        return there[:MOST_TOKENS]
+    near = sorted(sorted(there, key=lambda place: abs(place - at))[:MOST_TOKENS])
+    return sorted(near, key=lambda place: not at <= place < at + 3)
+
+
+def misspelt(tokens, there):
+    """Words that may be meant as one of D."""
+    for place in there:
+        token, before = tokens[place], tokens[place - 1].text
+        if token.kind == "word" and before != "->" and (near := nearest(token.text)):
+            yield f"`{token.text}` may be meant as `{near}`"
 
 
 def of_header(data):
@@ -146,6 +164,7 @@ def of_header(data):
         return [encoding]
     text = data[:100_000].decode("utf-8", "replace").lstrip("\ufeff")
     first = next((line for line in text.splitlines() if line), "")
+    csv.field_size_limit(2**31 - 1)
     if not first:
         return ["it is empty"]
     if first == "---":
@@ -162,22 +181,46 @@ def of_header(data):
         return ["the names in the header have capitals or spaces"]
     if sorted(names) == sorted(COLUMNS):
         return ["the columns are in another order"]
-    if len(names) > 3 and set(names) <= set(COLUMNS):
-        return ["the header lacks " + ", ".join(f"`{name}`" for name in COLUMNS if name not in names)]
-    if re.match(r"\d+ +\d+\.\d+ ", first):
-        return ["it is a recording of strace: make a trace of it by dreplay-from-strace"]
+    if len(names) > 3 and len(set(names) & set(COLUMNS)) > 3:
+        return of_columns(names)
+    if kind := of_recording(first):
+        return [kind]
     if re.match(r"[\d\"]", first) and len(names) == len(COLUMNS):
         return ["the header is missing, and the first line is a row"]
     if re.search(r"[{}@]|::", first):
-        return ["it begins like a script: in a bundle the script comes first and a line `---` after it"]
+        return [
+            "it begins like a script: in a bundle the script comes first and a line `---` after it"
+        ]
     return []
+
+
+def of_columns(names):
+    """How a header differs from that of a trace."""
+    lacks = [name for name in COLUMNS if name not in names]
+    others = [name[:40] for name in names if name not in COLUMNS]
+    said = ["the header lacks " + ", ".join(f"`{name}`" for name in lacks)] if lacks else []
+    if others:
+        said.append(
+            "it has "
+            + ", ".join(f"`{name}`" for name in others[:5])
+            + ", which is no column of a trace"
+        )
+    return said or ["a column stands twice in the header"]
+
+
+def of_recording(line):
+    """Which tool makes a trace of a recording, by its first line."""
+    return RECORDED.get(strangers.kind_of(line[: strangers.BYTES]))
 
 
 def of_number(name, shown):
     """Why a field is no number of its column."""
     low, high = RANGES[name]
     if shown == name:
-        return "a second header: leave out the header of each further trace that is joined, and number the rows anew"
+        return (
+            "a second header: leave out the header of each further trace that is joined, and number"
+            " the rows anew"
+        )
     if shown == "":
         return "it is empty; only arguments may be"
     if shown != shown.strip():
@@ -185,15 +228,21 @@ def of_number(name, shown):
     if re.fullmatch(r"[+-]?\d+\.0*", shown):
         return f"it was written as a fraction: `{shown.split('.')[0]}` is meant"
     if re.fullmatch(r"[+-]?\d+(\.\d+)?[eE][+-]?\d+", shown):
-        return "a spreadsheet has rounded it to an exponent: format the column as a whole number and export again"
+        return (
+            "a spreadsheet has rounded it to an exponent: format the column as a whole number and"
+            " export again"
+        )
     if re.fullmatch(r"[+-]?\d+\.\d+", shown):
-        whole = "times are whole nanoseconds, so multiply seconds by 1000000000" if name == "time" else "only whole numbers are taken"
+        whole = (
+            "times are whole nanoseconds, so multiply seconds by 1000000000"
+            if name == "time"
+            else "only whole numbers are taken"
+        )
         return f"it is a fraction: {whole}"
+    if re.fullmatch(r"0[xX][0-9a-fA-F]{1,16}", shown):
+        return f"it is hexadecimal: `{int(shown, 16)}` is meant"
     if shown.lower().startswith("0x"):
-        try:
-            return f"it is hexadecimal: `{int(shown, 16)}` is meant"
-        except ValueError:
-            return "it is hexadecimal"
+        return "it is hexadecimal"
     if shown.startswith("+"):
         return "no plus may stand in front"
     if re.fullmatch(r"\d{1,3}([,.' _]\d{3})+", shown):
@@ -203,10 +252,54 @@ def of_number(name, shown):
     return "it is no number"
 
 
+def of_columns_of_row(fields, is_last):
+    """Why a row has another number of fields."""
+    if any("\n" in field for field in fields):
+        return ["a quote is never closed: a field goes over several lines"]
+    if is_last and len(fields) < len(COLUMNS):
+        return ["it is the last row, and was cut"]
+    if len(fields) > len(COLUMNS):
+        return ["a comma stands in a name: a field with one has to be in quotes"]
+    return []
+
+
+def of_usage(line):
+    """What was meant by a word that is no option."""
+    found = re.search(r"unexpected argument '(.{1,200})' found", line)
+    if not found:
+        return []
+    word = found[1]
+    if word in ("-n", "-e", "-i", "-f"):
+        return [
+            "a script on the command line is `dreplay -s <(echo 'SCRIPT') < TRACE`, in bash and zsh"
+        ]
+    if word in ("-V", "--version"):
+        return ["`dreplay-show --version` tells the version"]
+    if word in ("-q", "-x", "-o", "-p", "-c", "-l", "-Z"):
+        return [f"`{word}` is dtrace's: dreplay has `-s`, `-w`, `-g` and `-e`"]
+    if word.startswith("--script"):
+        return ["the script is `-s SCRIPT`"]
+    if not word.startswith("-"):
+        return ["dreplay takes the trace from standard input: `dreplay -s SCRIPT < TRACE`"]
+    return []
+
+
 def records(data):
-    """The rows of a trace as lists of bytes that stand as letters, without the header."""
-    text = data.decode("latin-1")
+    """The rows of a trace without its header: for each the line of the file that it begins on, and
+    its fields.
+
+    The fields are bytes that stand as letters.
+    """
     csv.field_size_limit(2**31 - 1)
-    rows = (row for row in csv.reader(io.StringIO(text, newline="")) if row)
-    next(rows, None)
-    return rows
+    rows = csv.reader(io.StringIO(data.decode("latin-1"), newline=""))
+    try:
+        yield from itertools.islice((row for row in numbered(rows) if row[1]), 1, None)
+    except csv.Error:
+        return
+
+
+def numbered(rows):
+    line = 1
+    for row in rows:
+        yield line, row
+        line = rows.line_num + 1

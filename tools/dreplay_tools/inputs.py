@@ -1,4 +1,7 @@
-"""Inputs of the tools: plain or compressed, from a file or from standard input, as a file that can be read twice."""
+"""Inputs of the tools: plain or compressed, from a file or from standard input, as a file that can
+be read twice.
+"""
+import bz2
 import gzip
 import lzma
 import shutil
@@ -9,7 +12,7 @@ import zlib
 
 from .ends import Failure
 
-GZIP, XZ, ZSTD = b"\x1f\x8b", b"\xfd7zXZ\x00", b"\x28\xb5\x2f\xfd"
+GZIP, BZIP2, XZ, ZSTD = b"\x1f\x8b", b"BZh", b"\xfd7zXZ\x00", b"\x28\xb5\x2f\xfd"
 
 
 def decompressed(file, shown):
@@ -17,6 +20,8 @@ def decompressed(file, shown):
     begins = file.peek(6)[:6]
     if begins.startswith(GZIP):
         return gzip.GzipFile(fileobj=file)
+    if begins.startswith(BZIP2):
+        return bz2.BZ2File(file)
     if begins.startswith(XZ):
         return lzma.LZMAFile(file)
     if begins.startswith(ZSTD):
@@ -33,9 +38,14 @@ def zstd(file, shown):
     if zstandard:
         return zstandard.ZstdDecompressor().stream_reader(file)
     if not shutil.which("zstd"):
-        raise Failure(f"{shown}: it is compressed by zstd, and neither the command zstd nor python3-zstandard is installed")
+        raise Failure(
+            f"{shown}: it is compressed by zstd, and neither the command zstd nor "
+            "python3-zstandard is installed"
+        )
     spool = tempfile.TemporaryFile()
-    child = subprocess.Popen(["zstd", "-dcq"], stdin=subprocess.PIPE, stdout=spool, stderr=subprocess.DEVNULL)
+    child = subprocess.Popen(
+        ["zstd", "-dcq"], stdin=subprocess.PIPE, stdout=spool, stderr=subprocess.DEVNULL
+    )
     try:
         shutil.copyfileobj(file, child.stdin)
         child.stdin.close()
@@ -48,7 +58,9 @@ def zstd(file, shown):
 
 
 def opened(path):
-    """A binary file of what PATH holds, uncompressed and seekable, from its start. '-' is standard input."""
+    """A binary file of what PATH holds, uncompressed and seekable, from its start. '-' is standard
+    input.
+    """
     shown = "standard input" if path == "-" else path
     if path == "-":
         if sys.stdin is None:

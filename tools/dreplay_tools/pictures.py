@@ -1,143 +1,308 @@
-"""Bars and histograms, in a terminal and as SVG."""
-from xml.sax.saxutils import escape
+"""Charts of an answer: bars in a terminal, and pictures in SVG that have a dark form and words for
+screen readers.
+"""
+from dataclasses import dataclass
+from html import escape
 
+from .forms import total_of
+from .labels import SHARE, cut, interval, name, numbered, padded, width
+
+MOST_BARS, MOST_CHARTS = 40, 40
 EIGHTHS = " ▏▎▍▌▋▊▉█"
-SURFACE, INK, MUTED, GRID, BAR = "#ffffff", "#1f2328", "#59636e", "#d1d9e0", "#2a6fb0"
+WIDTH, ROW, WIDEST_LABEL = 760, 20, 40
 FONT = "font-family=\"'DejaVu Sans', Verdana, sans-serif\""
+# Plain colours, as not every program that draws SVG knows variables; browsers know the dark form.
+STYLE = """<style>
+text { fill: #1f2328; font-size: 12px; }
+.surface { fill: #ffffff; } .bar { fill: #2a6fb0; } .muted { fill: #59636e; }
+.small { fill: #59636e; font-size: 11px; }
+.title { font-size: 17px; font-weight: bold; } .chart { font-size: 13px; font-weight: bold; }
+.grid { stroke: #d1d9e0; } .axis { stroke: #59636e; }
+@media (prefers-color-scheme: dark) {
+text { fill: #e6edf3; } .surface { fill: #0d1117; } .bar { fill: #58a6ff; }
+.muted, .small { fill: #9198a1; }
+.grid { stroke: #30363d; } .axis { stroke: #9198a1; }
+}
+</style>
+"""
 
 
-def numbered(value, unit):
-    """A number for a person: of nanoseconds or bytes with a unit that fits, else with separators."""
-    if unit == "ns":
-        return scaled(value, 1000, ["ns", "µs", "ms", "s"])
-    if unit == "bytes":
-        return scaled(value, 1024, ["B", "KiB", "MiB", "GiB", "TiB"])
-    return f"{value:,}"
+@dataclass
+class Chart:
+    """A chart: its title and what it is of, the labels of its bars in columns, its numbers and how
+    these are shown.
+    """
+
+    title: str
+    what: str
+    labels: list
+    right: list  # for each column of labels whether it stands right
+    values: list
+    shown: list
+    unit: str
+    more: int = 0  # how many bars aren't drawn
 
 
-def scaled(value, base, units):
-    size, place = abs(value), 0
-    while size >= base and place < len(units) - 1:
-        size, place = size / base, place + 1
-    shown = f"{size:.0f}" if place == 0 or size >= 100 else f"{size:.3g}"
-    return f"{'-' if value < 0 else ''}{shown} {units[place]}"
+def charts(all_shown, words):
+    """The charts of an answer, the most telling ones first, and how many more there are."""
+    drawn = []
+    for shown in all_shown:
+        if shown.aggregation.is_histogram:
+            drawn += [histogram(shown, keys, rows, words) for keys, rows in shown.entries]
+        elif shown.entries:
+            drawn.append(bars_of(shown, words))
+    return drawn[:MOST_CHARTS], max(0, len(drawn) - MOST_CHARTS)
 
 
-def interval(bucket, unit):
-    """A bucket in words."""
-    if bucket.low is None:
-        return f"< {numbered(bucket.high, unit)}"
-    if bucket.high is None:
-        return f"≥ {numbered(bucket.low, unit)}"
-    if bucket.high == bucket.low + 1:
-        return numbered(bucket.low, unit)
-    if bucket.low < 0 and bucket.high <= 0:
-        return f"{numbered(bucket.low, unit)} .. {numbered(bucket.high - 1, unit)}"
-    return f"{numbered(bucket.low, unit)} .. {numbered(bucket.high, unit)}"
+def histogram(shown, keys, rows, words):
+    total = sum(row.count for row in rows)
+    unit = SHARE if words.value_unit == SHARE else None
+    what = f"{shown.names} {shown.aggregation.value_name}"
+    title = "  ".join(map(name, keys))
+    return Chart(
+        title or what,
+        what if title else "",
+        [[interval(row, words.unit)] for row in rows],
+        [True],
+        [row.count for row in rows],
+        [numbered(row.count, unit, total) for row in rows],
+        None,
+    )
 
 
-def label_of(keys):
-    return "  ".join(printable(str(key)) for key in keys)
+def bars_of(shown, words):
+    """The chart of an aggregation of numbers: the largest entries."""
+    total = total_of(shown) if words.value_unit == SHARE else 0
+    entries, more = largest(shown.entries, MOST_BARS)
+    labels = [[name(key) for key in keys] or [shown.names] for keys, _ in entries]
+    right = [not is_text for is_text in shown.aggregation.texts] or [False]
+    values = [value for _, value in entries]
+    unit = None if words.value_unit == SHARE else words.value_unit
+    shown_values = [numbered(value, words.value_unit, total) for value in values]
+    return Chart(
+        f"{shown.names} {shown.aggregation.value_name}",
+        "",
+        labels,
+        right,
+        values,
+        shown_values,
+        unit,
+        more,
+    )
 
 
-def in_columns(rows):
+def largest(entries, most):
+    """At most so many entries, those of the largest numbers, in their order; and how many are left
+    out.
+    """
+    if len(entries) <= most:
+        return entries, 0
+    order = sorted(range(len(entries)), key=lambda place: abs(entries[place][1]), reverse=True)
+    return [entries[place] for place in sorted(order[:most])], len(entries) - most
+
+
+def and_more(count, what):
+    return f"and {count:,} more {what}"
+
+
+# -- in a terminal
+
+
+def in_terminal(chart, columns):
+    """A chart as lines of text of so many columns, or of as many as its numbers need."""
+    numbers = max(map(width, chart.shown))
+    most_label = max(12, columns - numbers - 15)
+    labels = in_columns(chart.labels, chart.right)
+    labels = [cut(label, most_label) for label in labels]
+    left = max(map(width, labels))
+    room = max(10, columns - left - numbers - 5)
+    below, above = max(0, -min(chart.values)), max(0, max(chart.values))
+    before = round(room * below / (below + above)) if below else 0
+    scale = (room - before) / above if above else before / below if below else 0
+    yield cut("  ".join(part for part in (chart.title, chart.what) if part), max(20, columns))
+    for label, value, shown in zip(labels, chart.values, chart.shown):
+        place = padded(label, left, right=chart.right == [True])
+        yield f"  {place} {padded(shown, numbers, right=True)} {bar(value, scale, before)}".rstrip()
+    if chart.more:
+        yield f"  {and_more(chart.more, 'entries')}"
+
+
+def in_columns(rows, right):
     """Rows of texts as lines, each text as wide as the widest in its place."""
-    widths = [max(map(len, column)) for column in zip(*rows)]
-    return ["  ".join(text.ljust(width) for text, width in zip(row, widths)).rstrip() for row in rows]
+    widths = [max(map(width, column)) for column in zip(*rows)]
+    return ["  ".join(padded(*cell) for cell in zip(row, widths, right)).rstrip() for row in rows]
 
 
-def printable(text):
-    """A text without bytes that a terminal or a picture would take for a command."""
-    return "".join(c if c.isprintable() else "\N{REPLACEMENT CHARACTER}" for c in text)
+def bar(value, scale, before):
+    """A bar of a terminal, in eighths of a column; what isn't 0 shows. One of a number below 0 goes
+    to the left.
+    """
+    if value < 0:
+        return ("█" * max(1, round(-value * scale))).rjust(before)
+    eighths = max(round(value * scale * 8), 1) if value else 0
+    return " " * before + "█" * (eighths // 8) + (EIGHTHS[eighths % 8] if eighths % 8 else "")
 
 
-def charts(shown, unit, value_unit):
-    """What is drawn of an aggregation: for each chart its title, its labels and its numbers, with how these are shown."""
-    if shown.aggregation.is_histogram:
-        for keys, rows in shown.entries:
-            title = "  ".join(part for part in (f"{shown.names} {shown.aggregation.value_name}", label_of(keys)) if part)
-            yield title, [(interval(row, unit), row.count, f"{row.count:,}") for row in rows]
-    else:
-        labels = in_columns([[printable(str(key)) for key in keys] for keys, _ in shown.entries])
-        bars = [
-            (label or shown.names, value, numbered(value, value_unit))
-            for label, (_, value) in zip(labels, shown.entries)
+# -- in a picture
+
+
+def points(text, size=12):
+    """How wide a text is in a picture, at most: wide letters of the font, or of Asia, count for
+    more.
+    """
+    wide = (
+        sum(letter in "mwMW@%" for letter in text) * 0.4
+        + sum(letter.isupper() for letter in text) * 0.12
+    )
+    return (width(text) * 0.64 + wide) * size
+
+
+def text_at(x, y, shown, kind="", anchor="start"):
+    end = f' text-anchor="{anchor}"' if anchor != "start" else ""
+    return f'<text x="{round(x, 1)}" y="{y}"{end}{css(kind)}>{escape(shown, False)}</text>'
+
+
+def css(kind):
+    return f' class="{kind}"' if kind else ""
+
+
+def line(x1, y1, x2, y2, kind):
+    return f'<line x1="{x1}" y1="{y1}" x2="{x2}" y2="{y2}" class="{kind}"/>'
+
+
+def picture(parts, size, title, what):
+    """A whole picture of its parts, with a title and words that say what is seen."""
+    wide, high = size
+    box = f'width="{wide}" height="{high}" viewBox="0 0 {wide} {high}"'
+    named = f'role="img" aria-label="{escape(title)}" {FONT}'
+    head = [
+        f'<svg xmlns="http://www.w3.org/2000/svg" {box} {named}>',
+        f"<title>{escape(title, False)}</title>",
+        f"<desc>{escape(what, False)}</desc>",
+        f'{STYLE}<rect width="{wide}" height="{high}" class="surface"/>',
+    ]
+    return "\n".join([*head, *parts, "</svg>\n"])
+
+
+def svg(charts_to_draw, more, heading):
+    """Charts below one another as a picture: a bar for each label, with its number at its end."""
+    parts, y = [], 20
+    wide = max(map(needed, charts_to_draw))
+    if heading:
+        parts.append(text_at(20, y + 8, cut(heading, 70), "title"))
+        y += 36
+    for chart in charts_to_draw:
+        drawn, height = chart_at(chart, y, wide)
+        parts += drawn
+        y += height + 24
+    if more:
+        parts.append(text_at(20, y, and_more(more, "charts"), "muted"))
+        y += 20
+    titles = [chart.title for chart in charts_to_draw]
+    return picture(
+        parts, (wide, y), heading or titles[0], "; ".join(map(described, charts_to_draw))
+    )
+
+
+def described(chart):
+    """A chart in words, for who can't see it."""
+    place = max(range(len(chart.values)), key=lambda place: chart.values[place])
+    label = " ".join(chart.labels[place])
+    return (
+        f"bars of {chart.title}: {len(chart.values) + chart.more:,}, the largest is {label} with"
+        f" {chart.shown[place]}"
+    )
+
+
+def needed(chart):
+    """How wide a picture has to be for a chart."""
+    return max(WIDTH, round(labels_of(chart)[1] + 190 + points(max(chart.shown, key=points))))
+
+
+def chart_at(chart, top, wide):
+    """One chart of a picture, and how high it is."""
+    title = [text_at(20, top + 12, cut(chart.title, 84), "chart")]
+    if chart.what:
+        after = 20 + points(cut(chart.title, 84), 13) * 1.1 + 12
+        title.append(
+            text_at(after, top + 12, cut(chart.what, max(10, int((wide - after) / 8))), "muted")
+        )
+    labels, left = labels_of(chart)
+    right = wide - 30 - points(max(chart.shown, key=points))
+    begin, end = top + 30, top + 30 + ROW * len(chart.values)
+    axis = Axis(chart.values, left, right)
+    parts = [*title, *axis.lines(begin, end, chart.unit)]
+    for place, (value, shown) in enumerate(zip(chart.values, chart.shown)):
+        y = begin + ROW * place
+        parts += [text_at(x, y + 12, text, anchor=anchor) for x, text, anchor in labels[place]]
+        start, length = axis.bar(value)
+        parts.append(
+            f'<rect x="{start}" y="{y}" width="{length}" height="{ROW - 4}" rx="2" class="bar"/>'
+        )
+        parts.append(text_at(max(start + length, axis.zero) + 6, y + 12, shown, "muted"))
+    parts.append(line(axis.zero, begin - 4, axis.zero, end + 2, "axis"))
+    if chart.more:
+        parts.append(text_at(left, end + 36, and_more(chart.more, "entries"), "muted"))
+    return parts, end + 22 - top + (18 if chart.more else 0)
+
+
+def labels_of(chart):
+    """For each bar its labels with their places, each part of a key in a column of its own; and
+    where the bars begin.
+    """
+    most = max(8, WIDEST_LABEL // len(chart.right))
+    rows = [[cut(part, most) for part in row] for row in chart.labels]
+    widths = [max(points(part) for part in column) for column in zip(*rows)]
+    if len(widths) == 1:
+        left = 28 + max(60, round(widths[0]))
+        return [[(left - 8, row[0], "end")] for row in rows], left
+    starts, x = [], 20
+    for column in widths:
+        starts.append(x)
+        x += column + 14
+    placed = [
+        [
+            (start + (column if right else 0), part, "end" if right else "start")
+            for start, column, part, right in zip(starts, widths, row, chart.right)
         ]
-        yield f"{shown.names} {shown.aggregation.value_name}", bars
+        for row in rows
+    ]
+    return placed, round(x)
 
 
-def bar(value, most, width):
-    """A bar of a terminal, in eighths of a column; what isn't 0 shows at least one."""
-    eighths = round(abs(value) * width * 8 / most) if most else 0
-    eighths = max(eighths, 1) if value else 0
-    return "█" * (eighths // 8) + (EIGHTHS[eighths % 8] if eighths % 8 else "")
+class Axis:
+    """The scale of a chart: round numbers from the least to the greatest, and 0 among them."""
+
+    def __init__(self, values, left, right):
+        low, high = min(0, *values), max(0, *values)
+        self.steps = steps_of(low, high)
+        self.left, self.scale = left, (right - left) / (self.steps[-1] - self.steps[0])
+        self.zero = self.x(0)
+
+    def x(self, value):
+        return round(self.left + (value - self.steps[0]) * self.scale, 1)
+
+    def bar(self, value):
+        """Where a number's bar begins, and how long it is; what isn't 0 shows."""
+        length = max(round(abs(value) * self.scale, 1), 1.5) if value else 0
+        return (round(self.zero - length, 1) if value < 0 else self.zero), length
+
+    def lines(self, begin, end, unit):
+        for value in self.steps:
+            x = self.x(value)
+            yield line(x, begin - 4, x, end + 2, "grid")
+            yield text_at(x, end + 17, numbered(value, unit), "small", "middle")
 
 
-def in_terminal(title, bars, width, is_histogram):
-    """A chart as lines of text. The labels of a histogram are numbers, so they stand right."""
-    labels = max(len(label) for label, _, _ in bars)
-    numbers = max(len(shown) for _, _, shown in bars)
-    most = max(abs(value) for _, value, _ in bars)
-    room = max(10, width - labels - numbers - 5)
-    yield title
-    for label, value, shown in bars:
-        place = f"{label:>{labels}}" if is_histogram else f"{label:<{labels}}"
-        yield f"  {place} {shown:>{numbers}} {bar(value, most, room)}".rstrip()
-
-
-def text_at(x, y, shown, anchor="start", color=INK, size=12, weight="normal"):
-    return (f'<text x="{x}" y="{y}" text-anchor="{anchor}" fill="{color}" font-size="{size}" '
-            f'font-weight="{weight}">{escape(shown)}</text>')
-
-
-def steps_of(most):
-    """Round numbers for the lines of a scale, at most six from 0 up."""
+def steps_of(low, high):
+    """Round numbers for the lines of a scale, at most six, from the least or below (0 at most) to
+    the greatest or above.
+    """
     size = 1
     while True:
         for factor in (1, 2, 5):
-            if size * factor * 5 >= most:
-                return list(range(0, most + size * factor, size * factor))
+            step = size * factor
+            first, last = low // step, -(-high // step)
+            if last - first <= 5:
+                return [step * place for place in range(first, max(last, first + 1) + 1)]
         size *= 10
-
-
-def cut(label, most):
-    return label if len(label) <= most else label[: most - 1] + "…"
-
-
-def svg(charts_to_draw, heading, unit):
-    """Charts below one another as a picture: a bar for each label, with its number at its end."""
-    parts, y, width = [], 20, 760
-    if heading:
-        parts.append(text_at(20, y + 8, heading, size=17, weight="bold"))
-        y += 36
-    for title, bars in charts_to_draw:
-        drawn, height = chart(title, bars, y, width, unit)
-        parts += drawn
-        y += height + 24
-    return (f'<svg xmlns="http://www.w3.org/2000/svg" width="{width}" height="{y}" viewBox="0 0 {width} {y}" {FONT}>\n'
-            f'<rect width="{width}" height="{y}" fill="{SURFACE}"/>\n' + "\n".join(parts) + "\n</svg>\n")
-
-
-def chart(title, bars, top, width, unit):
-    """One chart of a picture, and how high it is."""
-    labels = [cut(label, 40) for label, _, _ in bars]
-    left = 20 + max(60, round(7.1 * max(map(len, labels))) + 10)
-    right = width - 30 - round(7.5 * max(len(shown) for _, _, shown in bars))
-    most = max(1, max(abs(value) for _, value, _ in bars))
-    lines = steps_of(most)
-    scale = (right - left) / lines[-1]
-    begin, row = top + 30, 20
-    end = begin + row * len(bars)
-    parts = [text_at(20, top + 12, title, size=13, weight="bold")]
-    for line in lines:
-        x = round(left + line * scale, 1)
-        parts.append(f'<line x1="{x}" y1="{begin - 4}" x2="{x}" y2="{end + 2}" stroke="{GRID}"/>')
-        parts.append(text_at(x, end + 17, numbered(line, unit), "middle", MUTED, 11))
-    for place, (label, (_, value, shown)) in enumerate(zip(labels, bars)):
-        y, length = begin + row * place, round(abs(value) * scale, 1)
-        length = max(length, 1.5) if value else 0
-        parts.append(text_at(left - 8, y + 12, label, "end"))
-        parts.append(f'<rect x="{left}" y="{y}" width="{length}" height="{row - 4}" rx="2" fill="{BAR}"/>')
-        parts.append(text_at(round(left + length + 6, 1), y + 12, shown, color=MUTED))
-    parts.append(f'<line x1="{left}" y1="{begin - 4}" x2="{left}" y2="{end + 2}" stroke="{MUTED}"/>')
-    return parts, end + 22 - top

@@ -1,25 +1,31 @@
 """Which process a thread belongs to, and which program it runs."""
+from .ends import Failure, shortened
 from .strace import BIRTHS
-from .trace import field, text
+from .trace import MOST_NUMBER, field, text
 
 
 class Processes:
-    """The process of each thread and the program of each process. What a call changes shows from its return on."""
+    """The process of each thread and the program of each process. What a call changes shows from
+    its return on.
+    """
 
     def __init__(self, unnamed):
         self.process_of, self.names, self.unnamed = {}, {}, unnamed
-        self.heads, self.known, self.strangers = {}, set(), 0
+        self.heads, self.known, self.strangers, self.parents = {}, set(), 0, {}
 
     def read(self, path):
         """Takes threads that ran before the recording: lines of thread, process and name."""
         with open(path, "rb") as file:
-            for line in file:
+            for number, line in enumerate(file, 1):
                 words = line.rstrip(b"\n").split(b" ", 2)
-                if len(words) == 3 and words[0].isdigit() and words[1].isdigit():
-                    thread, process = words[0].decode(), words[1].decode()
-                    self.process_of[thread] = process
-                    self.names[process] = text(words[2])
-                    self.known.add(thread)
+                if len(words) < 3 or not is_number(words[0]) or not is_number(words[1]):
+                    raise Failure(
+                        f"{shortened(path)}: line {number} has no thread, process and name"
+                    )
+                thread, process = words[0].decode(), words[1].decode()
+                self.process_of[thread] = process
+                self.names[process] = text(words[2])
+                self.known.add(thread)
 
     def head(self, thread):
         """The columns from cpu to execname of a thread's rows."""
@@ -39,7 +45,7 @@ class Processes:
         begun = call.program()
         if begun and process not in self.names:
             self.rename(process, begun)
-        if call.name in BIRTHS and (call.born or 0) > 0:
+        if call.name in BIRTHS and 0 < (call.born or 0) <= MOST_NUMBER:
             self.birth(call, str(call.born), process)
 
     def returned(self, thread, call):
@@ -54,9 +60,20 @@ class Processes:
     def birth(self, call, born, process):
         """A new thread is of the same process; a new process runs the same program at first."""
         self.known.add(born)
-        if "CLONE_THREAD" in call.shown:
+        if call.makes("CLONE_THREAD", 0x10000):
             self.process_of[born] = process
         else:
             self.process_of.pop(born, None)
             self.names[born] = self.names.get(process, self.unnamed)
+            sibling = call.makes("CLONE_PARENT", 0x8000)
+            self.parents[born] = self.parents.get(process, "0") if sibling else process
         self.heads.pop(born, None)
+
+    def parent(self, thread):
+        """The process that made a thread's process; 0 where the recording doesn't tell."""
+        return self.parents.get(self.process_of.get(thread, thread), "0")
+
+
+def is_number(shown):
+    """Whether a word is the number of a thread or a process."""
+    return shown.isdigit() and len(shown) <= 10 and 0 < int(shown) <= MOST_NUMBER

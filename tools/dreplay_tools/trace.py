@@ -1,4 +1,6 @@
-"""The trace that dreplay reads: its header, the form of its fields, and its rows as they are written."""
+"""The trace that dreplay reads: its header, the form of its fields, and its rows as they are
+written.
+"""
 import collections
 import marshal
 import os
@@ -13,6 +15,8 @@ COLUMNS = (
 HEADER = ",".join(COLUMNS)
 TEXT_BYTES = 255
 MOST_ROWS = 1_000_000
+MOST_NUMBER = 2**31 - 1  # of a processor, a thread or a process
+MOST_TIME = 2**64 - 1
 
 
 def text(data):
@@ -45,8 +49,7 @@ class Rows:
     IN_A_CHUNK, IN_MEMORY = 4096, 32
 
     def __init__(self, out, most=None):
-        self.out, self.most = out, most
-        self.number, self.begun = 0, False
+        self.out, self.most, self.number = out, most, 0
         self.chunk, self.chunks, self.spool = Chunk(), collections.deque(), None
 
     @property
@@ -94,9 +97,7 @@ class Rows:
         self.write(self.chunk)
 
     def write(self, chunk):
-        head = "" if self.begun else HEADER + "\n"
-        self.begun = True
-        self.out.write((head + "".join(chunk.all(self.spool))).encode("utf-8", "surrogateescape"))
+        self.out.write(chunk.all(self.spool))
 
 
 class Chunk:

@@ -1,143 +1,217 @@
-"""Events of the kernel's tracer, as perf and ftrace print them, as rows of a trace."""
-import argparse
-import io
+"""Events of the kernel's tracer: what probe of a trace each is, with its arguments."""
 import re
-import sys
-from dataclasses import dataclass
+from dataclasses import dataclass, field
 
-from .inputs import opened
-from .trace import ARGS, MOST_ROWS, Rows, field, signed, text
+from .fields import BadEvent, Unreadable, assigned, hexadecimal, integer, named
+from .trace import signed
 
-SYSCALL = re.compile(r"sys_(enter|exit)_(\w+)$")
-ASSIGNED = re.compile(r"(\w+)=(.*?)(?=,? +(?:==> +)?\w+=|$)")
-NAMED = re.compile(r"(\w+): (0x[0-9a-f]+|[0-9a-f]+)(?=[,)]|$)")
-NUMBER = re.compile(r"-?\d+|0x[0-9a-f]+", re.ASCII)
+CALL = re.compile(r"sys_(enter|exit)_(\w{1,80})", re.ASCII)
 KERNEL_ERRORS = range(-4095, 0)
-PROBE_ENTRY = re.compile(r"\(([A-Za-z_.]\w*(?:\.\w+)*)\+0x[0-9a-f]+(?:/0x[0-9a-f]+)?\)")
-PROBE_RETURN = re.compile(r"\(\S+\+0x\S+ <- ([A-Za-z_.]\w*(?:\.\w+)*)\)")
+FUNCTION = r"([A-Za-z_.][\w.]{0,250})"
+PROBE_ENTRY = re.compile(rf"\({FUNCTION}\+0x([0-9a-f]{{1,16}})/0x[0-9a-f]{{1,16}}\)", re.ASCII)
+PROBE_RETURN = re.compile(rf"\([^\s+]{{1,250}}\+0x[0-9a-f/x]{{1,40}} <- {FUNCTION}\)", re.ASCII)
+PROBE_ADDRESS = re.compile(r"\([0-9a-f]{1,16}(?: <- [0-9a-f]{1,16})?\)", re.ASCII)
+RAW_ENTRY = re.compile(r"NR (-?\d{1,18}) \(([0-9a-f, ]*)\)$", re.ASCII)
+RAW_RETURN = re.compile(r"NR (-?\d{1,18}) = (-?\d{1,20})$", re.ASCII)
+BLOCK = re.compile(
+    r"(\d{1,4}),(\d{1,7}) \w{0,10} (?:(\d{1,12}) )?(?:\([^)]{0,200}\) )?(\d{1,20}) \+ (\d{1,12}) "
+    r"(?:[\w,]{1,40} )?\[(.{0,40})\]$",
+    re.ASCII,
+)
+SWITCH = re.compile(
+    r"(.{0,80}):(\d{1,10}) \[(-?\d{1,5})\] (\S{1,4}) ==> (.{0,80}):(\d{1,10}) \[(-?\d{1,5})\]$",
+    re.ASCII,
+)
+WAKEUP = re.compile(
+    r"(.{0,80}):(\d{1,10}) \[(-?\d{1,5})\](?: success=(\d))? CPU:(\d{1,5})$", re.ASCII
+)
+# Why a thread leaves its processor, as the kernel numbers it; + is that it was interrupted.
+STATES = {"R": 0, "S": 1, "D": 2, "T": 4, "t": 8, "X": 16, "Z": 32, "P": 64, "I": 128, "K": 0}
+INTERRUPTED = 256
+DEVICE_BITS = 20
 
 
-def number(shown):
-    """An integer in decimal or hexadecimal as a field, or nothing."""
-    if not NUMBER.fullmatch(shown):
-        return ""
-    value = signed(int(shown, 0) if shown.startswith("0x") else int(shown))
-    return "" if value is None else str(value)
+@dataclass
+class Probe:
+    """The names of a probe, and its arguments: integers, and none for what is no integer.
 
+    `lacking` says why arguments are missing that the event has.
+    """
 
-def returned(shown):
-    """What a system call returned, as fields: -1 for a failure, and the kernel's own number, which tells the error."""
-    value = signed(int(shown, 16))
-    return ["-1" if value in KERNEL_ERRORS else str(value), str(value)]
-
-
-def hexadecimal(shown):
-    """An argument of a system call; older kernels write no 0x."""
-    return str(signed(int(shown, 16)))
-
-
-def probe(system, event, rest):
-    """The provider, the function, the name and the arguments of an event; none if it can't be told."""
-    call = SYSCALL.match(event)
-    if call and system in ("syscalls", ""):
-        args = returned(rest.strip()) if call[1] == "exit" else [hexadecimal(value) for _, value in NAMED.findall(rest)]
-        return "syscall", call[2], "return" if call[1] == "exit" else "entry", args
-    args = [number(value.strip()) for _, value in ASSIGNED.findall(rest)]
-    if found := PROBE_RETURN.match(rest):
-        return "fbt", found[1], "return", args
-    if found := PROBE_ENTRY.match(rest):
-        return "fbt", found[1], "entry", args
-    if system in ("probe", "kprobes"):
-        name = event[: -len("__return")] if event.endswith("__return") else event
-        return "fbt", name, "entry" if name == event else "return", args
-    return system or "tracepoint", event, "tracepoint", args
+    provider: str
+    function: str
+    name: str
+    args: list = field(default_factory=list)
+    module: str = ""
+    fields: dict = field(default_factory=dict)
+    lacking: str = ""
 
 
 @dataclass
 class Event:
-    """An event of a line: where and when it was, and its probe with its arguments. The process may be unknown."""
+    """An event: where and when it was, and its probe. The process may be unknown, and of an ended
+    thread the thread.
+    """
 
     name: str
-    thread: str
-    process: str
+    thread: int
+    process: int
     cpu: int
     time: int
-    what: tuple
+    probe: Probe
 
 
-class Conversion:
-    """Lines of events on their way to a trace."""
+def returned(value):
+    """The arguments of a return: -1 for a failure, and the kernel's own number, which tells the
+    error.
+    """
+    return [-1 if value in KERNEL_ERRORS else value, value]
 
-    MOST_NAMED = 10
 
-    def __init__(self, out, tool):
-        self.rows, self.tool = Rows(out), tool
-        self.skipped = self.idle = self.strangers = 0
+def call_of(event, rest):
+    """A system call's probe by its text."""
+    call = CALL.fullmatch(event)
+    if not call:
+        return None
+    if call[1] == "enter":
+        args = named(rest)
+        lacking = "an argument is no hexadecimal number" if None in args else ""
+        return Probe("syscall", call[2], "entry", args, lacking=lacking)
+    value = hexadecimal(rest.strip())
+    if value is None:
+        raise BadEvent("what the call returned is no hexadecimal number")
+    return Probe("syscall", call[2], "return", returned(value))
 
-    def run(self, lines, event_of, aside):
-        """Takes each line by what `event_of` makes of it; `aside` matches lines that are none and may be there."""
-        for place, line in enumerate(lines, 1):
-            shown = line.rstrip("\r\n")
-            event = event_of(shown)
-            if event:
-                self.add(event)
-            elif not aside.match(shown):
-                self.skip(place, "it is no event of a tracepoint or a probe")
-            if place % 65536 == 0:
-                self.tool.progress(f"{place:,} lines, {self.rows.number:,} rows")
 
-    def add(self, event):
-        """Adds the row of an event. The idle task of a processor has no number, so it has no row."""
-        if event.thread == "0":
-            self.idle += 1
-            return
-        self.strangers += event.process is None
-        provider, function, kind, args = event.what
-        args = (args + [""] * ARGS)[:ARGS]
-        name = "unknown" if event.name == "<...>" else field(text(event.name.encode("utf-8", "surrogateescape")))
-        self.rows.add(
-            f",{event.cpu},{event.thread},{event.process or event.thread},{name},{event.time}"
-            f",{provider},,{field(function)},{kind},{','.join(args)}"
+def raw_call_of(event, rest, names):
+    """The probe of raw_syscalls by its text, which has the call's number."""
+    found = RAW_ENTRY.match(rest) if event == "sys_enter" else RAW_RETURN.match(rest)
+    if not found:
+        raise BadEvent("it doesn't have the number of a call and its arguments")
+    number = int(found[1])
+    if event == "sys_enter":
+        args = [hexadecimal(value.strip()) for value in found[2].split(",")]
+        return raw_call(number, "entry", args, names)
+    return raw_call(number, "return", returned(signed(int(found[2]))), names)
+
+
+def raw_call(number, name, args, names):
+    """A system call by its number. One that has no name is shown by the number."""
+    return Probe("syscall", names.get(number, str(number)), name, args)
+
+
+def probe_of(system, event, rest, names):
+    """The probe of an event by its text. What system is empty is not known."""
+    if system in ("syscalls", "") and (call := call_of(event, rest)):
+        return call
+    if system == "raw_syscalls" and event in ("sys_enter", "sys_exit"):
+        return raw_call_of(event, rest, names)
+    try:
+        fields, lacking = fields_of(event, rest), ""
+    except Unreadable as why:
+        fields, lacking = {}, str(why)
+    args = [integer(value) for value in fields.values()]
+    if any(arg is None and value.isdigit() for arg, value in zip(args, fields.values())):
+        lacking = "a number takes more than 64 bits"
+    probe = placed(system, event, rest, args, fields)
+    probe.lacking = lacking
+    return probe
+
+
+def placed(system, event, rest, args, fields):
+    """A probe with its names: of functions of the kernel and of programs, or a tracepoint."""
+    if found := PROBE_RETURN.match(rest):
+        return Probe("fbt", found[1], "return", args)
+    if found := PROBE_ENTRY.match(rest):
+        name = "entry" if int(found[2], 16) == 0 else found[2]
+        return Probe("fbt", found[1], name, args)
+    function, mark, _ = event.partition("__return")
+    name = "return" if mark else "entry"
+    if system in ("probe", "kprobes"):
+        return Probe("fbt", function, name, args)
+    if system.startswith("probe_"):
+        return Probe("pid", function, name, args, module=system[len("probe_") :])
+    return Probe(system or "tracepoint", event, "tracepoint", args, fields=fields)
+
+
+def fields_of(event, rest):
+    """The fields of an event by its text; of some events by the form that theirs has."""
+    rest = rest.strip()
+    if event.startswith("block_") and (found := BLOCK.match(rest)):
+        return block_fields(found)
+    if event == "sched_switch" and (found := SWITCH.match(rest)):
+        names = (
+            "prev_comm",
+            "prev_pid",
+            "prev_prio",
+            "prev_state",
+            "next_comm",
+            "next_pid",
+            "next_prio",
         )
-
-    def skip(self, number, why):
-        self.skipped += 1
-        if self.skipped <= self.MOST_NAMED:
-            self.tool.say(f"line {number} skipped: {why}")
-
-    def end(self, nothing):
-        """Writes what is left, and says what a reader of the trace should know. Returns the exit status."""
-        rows = self.rows.number
-        if self.skipped > self.MOST_NAMED:
-            self.tool.say(f"{self.skipped} lines skipped in all")
-        if not rows:
-            self.tool.say(f"nothing was converted: {nothing}")
-            return 3
-        self.rows.flush()
-        if self.idle:
-            self.tool.say(f"events of idle processors, which have no thread, are left out: {self.idle:,}")
-        if self.strangers:
-            self.tool.say(f"{self.strangers:,} lines don't tell their process, so each thread counts as one")
-        if rows > MOST_ROWS:
-            self.tool.say(f"the trace has {rows:,} rows, and dreplay takes {MOST_ROWS:,}: record fewer events")
-        return 1 if self.skipped else 0
+        return dict(zip(names, found.groups()))
+    if event in ("sched_wakeup", "sched_waking", "sched_wakeup_new") and (
+        found := WAKEUP.match(rest)
+    ):
+        return {"comm": found[1], "pid": found[2], "prio": found[3], "target_cpu": found[5]}
+    fields = assigned(rest)
+    address = PROBE_ENTRY.match(rest) or PROBE_RETURN.match(rest) or PROBE_ADDRESS.match(rest)
+    if not fields and rest[address.end() if address else 0 :].strip():
+        raise Unreadable("its fields aren't in the form NAME=VALUE")
+    return fields
 
 
-def nanoseconds(seconds, fraction):
-    return int(seconds) * 10**9 + int(fraction.ljust(9, "0")[:9])
+def block_fields(found):
+    """The fields of an event of a disk, in the kernel's order: device, sector, sectors, and bytes
+    or the error.
+    """
+    major, minor, size, sector, sectors, last = found.groups()
+    fields = {
+        "dev": str(int(major) << DEVICE_BITS | int(minor)),
+        "sector": sector,
+        "nr_sector": sectors,
+    }
+    if size is not None:
+        fields["bytes"] = size
+    elif integer(last) is not None:
+        fields["error"] = last
+    return fields
 
 
-def converted(tool, doc, event_of, aside, nothing):
-    """Runs a tool: reads its command line by its doc, converts, and returns the exit status."""
-    parser = argparse.ArgumentParser(
-        usage=doc.split("usage: ")[1].split("\n")[0],
-        description=doc.split("\n\n", 2)[2],
-        formatter_class=argparse.RawDescriptionHelpFormatter,
-        epilog=f"{tool.name}(1) says what each column holds.",
-    )
-    parser.add_argument("file", nargs="?", default="-", metavar="FILE", help="what was recorded, as text")
-    recording = opened(parser.parse_args().file)
-    lines = io.TextIOWrapper(recording, encoding="utf-8", errors="surrogateescape", newline="\n")
-    conversion = Conversion(sys.stdout.buffer, tool)
-    conversion.run(lines, event_of, aside)
-    return conversion.end(nothing)
+def switches(event):
+    """The two firings that a switch is beside its own: a thread leaves the processor, and one
+    comes.
+
+    They are of the threads that leave and come; one that is none (an idle processor) has no firing.
+    """
+    fields, state = event.probe.fields, state_of(event.probe.fields.get("prev_state"))
+    leaves, comes = number_of(fields.get("prev_pid")), number_of(fields.get("next_pid"))
+    if leaves is None or comes is None:
+        return
+    off = Probe("sched", "", "off-cpu", [comes, state])
+    on = Probe("sched", "", "on-cpu", [leaves])
+    process = event.process if event.thread == leaves else None
+    if leaves != 0:
+        yield Event(fields.get("prev_comm", ""), leaves, process, event.cpu, event.time, off)
+    if comes != 0:
+        yield Event(fields.get("next_comm", ""), comes, None, event.cpu, event.time, on)
+
+
+def number_of(value):
+    return value if isinstance(value, int) else integer(value or "")
+
+
+def state_of(value):
+    """The state of a thread that leaves its processor: the kernel's number, or the letters that
+    stand for it.
+    """
+    if isinstance(value, int):
+        return value
+    if not value:
+        return None
+    state = 0
+    for letter in value.replace("|", ""):
+        if letter not in STATES and letter != "+":
+            return integer(value)
+        state |= INTERRUPTED if letter == "+" else STATES[letter]
+    return state

@@ -35,3 +35,4 @@ pub mod Contributions
 pub mod Crossing
 mod Spelled
 mod Spelling
+pub mod Exiting

@@ -1,5 +1,6 @@
 -- Typed trees, without where they lie in memory.
-use Rattle.std.specs.Prelude.{ℕ, List, [], ◌∷◌, map, Option, Some, None}
+use Rattle.std.specs.List.{list_any}
+use Rattle.std.specs.Prelude.{ℕ, Bool, true, false, List, [], ◌∷◌, map, Option, Some, None}
 use Rattle.d_types.specs.Vocabulary.{UnaryOperator, Step, Description, IntType, DType, ComparisonOperator, Kind, INT32, INT64, UINT64, AggFn, BuiltIn, Variable, Operation, LogicOperator, Answer, Piece, TypedExpr, Row_of-TypedExpr, end_of-TypedExpr, more_of-TypedExpr, TypedStmt, TypedClause, TypedAggregation}
 
 mutual
@@ -134,6 +135,18 @@ pub record ScriptMeant : Type 0 where
   pub aggregations : Aggs
   -- the type of each slot's variable
   pub slots : List (Option DType)
+
+-- the statement is an `exit`
+abbrev pub is_exit : {E Es : Type 0} → ActionOf E Es → Bool
+is_exit (Exit x) = true
+is_exit (Evaluate x) = false
+is_exit (Trace x) = false
+is_exit (Print format arguments) = false
+is_exit (Aggregate place keys argument) = false
+
+-- some statement of the script is an `exit`
+abbrev pub has_exit : ScriptMeant → Bool
+has_exit m = list_any (λ c. list_any (λ a. is_exit a) c.statements) m.clauses
 
 -- the functions of a script's aggregations, in order
 abbrev pub functions_in : ScriptMeant → List AggFn

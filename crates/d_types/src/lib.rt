@@ -11,6 +11,7 @@ mod clause;
 mod constants;
 mod declaration;
 mod effect;
+mod exits;
 mod expression;
 mod fault;
 mod format;

@@ -1,19 +1,20 @@
 -- What is set, before and after.
-use Rattle.std.specs.Prelude.{◌≡◌, Bool, true, false, ◌&&◌, if◌then◌else◌, List, [], ◌∷◌, Option, None, Some, unwrap_or, map, Result, Ok, Err, OnOk, OnErr}
+use Rattle.std.specs.Prelude.{◌≡◌, ℕ, zero, suc, Bool, true, false, ◌&&◌, if◌then◌else◌, List, [], ◌∷◌, Option, None, Some, unwrap_or, option_map, slice_get, Result, Ok, Err, OnOk, OnErr}
 use Rattle.std.proofs.Common.{refl, sym, ap, ◌∙◌, subst, true≢false}
-use Rattle.std.specs.Map.{lookup, set_value}
-use Rattle.indexmap.specs.IndexMap.{IndexMap, get}
+use Rattle.std.specs.Map.{lookup, lookup_key, values_of}
+use Rattle.indexmap.specs.Layout.{set_value_at}
 use Rattle.d_values.specs.declared.key.KeyPart.{KeyPart}
 use Rattle.d_values.specs.declared.value.Kind.{Kind}
 use Rattle.d_values.specs.declared.value.Kind.TheVariants as k
 use Rattle.d_values.specs.declared.value.Value.{Value}
 use Rattle.d_values.specs.declared.value.Value.TheVariants.{Int, Text}
 use Rattle.std.proofs.lemmas.Bool.Decides.{Decides-eqb}
+use Rattle.d_values.specs.declared.held.Held.{Held}
 use Rattle.d_values.specs.declared.variable.Var.{Var}
 use Rattle.d_values.specs.Keys.{same_key}
 use Rattle.d_values.specs.Variables.{same_var, same_var_decides}
 use Rattle.d_values.specs.Stores.{Locals, Own, kind_of, blank, is_blank, value_to_keep, local_entry, local_of, AreLocals, with_local, element, own_entry, own_of, AreOwn, with_own}
-use Rattle.d_values.specs.Tables.{pairs_of, value_in, value_at, Sets}
+use Rattle.d_values.specs.Tables.{elements_of, pairs_of, value_in, value_at, Sets}
 
 kind_of-blank : (kind : Kind) → kind_of (blank kind) ≡ kind
 kind_of-blank k.Number = refl
@@ -42,6 +43,17 @@ kept_some value x e = elim (is_blank value) as (λ b. is_blank value ≡ b → (
 
     same : Some value ≡ Some x → value ≡ x
     same f = cc
+
+pub kept_of : (value : Value) → is_blank value ≡ false → value_to_keep value ≡ Some value
+kept_of value e = ap (λ b. if b then None else Some value) e
+
+-- all that one variable holds, in another form
+pub holds_by : (old : List (Var × Held)) (var : Var) (key : List KeyPart) (value : Option Value) (held was is : Held) → lookup (same_var var) old ≡ Some held → was ≡ held
+    → ((k : List KeyPart) → lookup (same_key k) (elements_of is) ≡ (if same_key key k then value else lookup (same_key k) (elements_of was)))
+    → (k : List KeyPart) → lookup (same_key k) (elements_of is) ≡ (if same_key key k then value else value_at old var k)
+holds_by old var key value held was is found same holds k =
+    holds k ∙ ap (λ h. if same_key key k then value else lookup (same_key k) (elements_of h)) same
+    ∙ ap (λ o. if same_key key k then value else value_in o k) (sym found)
 
 blank_is : (value : Value) → is_blank value ≡ true → value ≡ blank (kind_of value)
 blank_is (Int n) e = ap Int ((Decides-eqb n 0).0 e)
@@ -101,33 +113,77 @@ local_of-set old new var value kind sets i v =
     (ap (λ o. unwrap_or o (blank v.kind)) (sets v)
     ∙ read_one var v value (local_entry old v) kind (same_var var v) (same_var_decides var v).0) i
 
-module _ {S : Type 0} where
-  pub own_entry-pairs_of : (maps : List (Var × IndexMap (List KeyPart) Value S)) (v : Var) (k : List KeyPart) → own_entry (pairs_of maps) v k ≡ value_at maps v k
-  own_entry-pairs_of [] v k = refl
-  own_entry-pairs_of (p ∷ maps) v k =
-      elim (same_var v p.0) as (λ b. element (if b then Some p.1.entries else lookup (same_var v) (pairs_of maps)) k ≡ value_in (if b then Some p.1 else lookup (same_var v) maps) k) [
-        | true ↦ refl
-        | false ↦ own_entry-pairs_of maps v k
-      ]
+pub own_entry-pairs_of : (variables : List (Var × Held)) (v : Var) (k : List KeyPart) → own_entry (pairs_of variables) v k ≡ value_at variables v k
+own_entry-pairs_of [] v k = refl
+own_entry-pairs_of (p ∷ variables) v k =
+    elim (same_var v p.0) as (λ b. element (if b then Some (elements_of p.1) else lookup (same_var v) (pairs_of variables)) k ≡ value_in (if b then Some p.1 else lookup (same_var v) variables) k) [
+      | true ↦ refl
+      | false ↦ own_entry-pairs_of variables v k
+    ]
 
-  pub pairs_sets : (old new : List (Var × IndexMap (List KeyPart) Value S)) (var : Var) (key : List KeyPart) (value : Option Value) → Sets old new var key value
-      → (v : Var) (k : List KeyPart) → own_entry (pairs_of new) v k ≡ with_own (own_entry (pairs_of old)) var key value v k
-  pairs_sets old new var key value sets v k =
-      own_entry-pairs_of new v k ∙ sets v k
-      ∙ ap (λ o. if same_var var v && same_key key k then value else o) (sym (own_entry-pairs_of old v k))
+pub pairs_sets : (old new : List (Var × Held)) (var : Var) (key : List KeyPart) (value : Option Value) → Sets old new var key value
+    → (v : Var) (k : List KeyPart) → own_entry (pairs_of new) v k ≡ with_own (own_entry (pairs_of old)) var key value v k
+pairs_sets old new var key value sets v k =
+    own_entry-pairs_of new v k ∙ sets v k
+    ∙ ap (λ o. if same_var var v && same_key key k then value else o) (sym (own_entry-pairs_of old v k))
 
-  -- a map of the same pairs in the place of another
-  pub pairs_of-set_value : (test : Var → Bool) (maps : List (Var × IndexMap (List KeyPart) Value S)) (was is : IndexMap (List KeyPart) Value S)
-      → lookup test maps ≡ Some was → is.entries ≡ was.entries → pairs_of (set_value test maps is) ≡ pairs_of maps
-  pairs_of-set_value test [] was is there same = refl
-  pairs_of-set_value test (p ∷ maps) was is there same =
-      elim (test p.0) as (λ b. (if b then Some p.1 else lookup test maps) ≡ Some was → pairs_of (if b then (p.0, is) ∷ maps else p ∷ set_value test maps is) ≡ pairs_of (p ∷ maps)) [
-        | true ↦ λ e. ap (λ es. (p.0, es) ∷ pairs_of maps) (same ∙ ap (λ m. m.entries) (sym (is_some e)))
-        | false ↦ λ e. ap (λ ps. (p.0, p.1.entries) ∷ ps) (pairs_of-set_value test maps was is e same)
-      ] there
-    where
-      is_some : Some p.1 ≡ Some was → p.1 ≡ was
-      is_some e = cc
+-- one that holds the same, in the place of another
+pub pairs_of-set_value_at : (variables : List (Var × Held)) (i : ℕ) (var : Var) (was is : Held) → slice_get variables i ≡ Some (var, was)
+    → elements_of is ≡ elements_of was → pairs_of (set_value_at variables i is) ≡ pairs_of variables
+pairs_of-set_value_at [] i var was is there same = refl
+pairs_of-set_value_at (p ∷ variables) zero var was is there same =
+    let one : p ≡ (var, was) = cc in
+    ap (λ es. (p.0, es) ∷ pairs_of variables) (same ∙ ap (λ q. elements_of q.1) (sym one))
+pairs_of-set_value_at (p ∷ variables) (suc i) var was is there same = ap (λ ps. (p.0, elements_of p.1) ∷ ps) (pairs_of-set_value_at variables i var was is there same)
+
+-- what one variable holds became this
+pub sets_by : (old new : List (Var × Held)) (var : Var) (key : List KeyPart) (value : Option Value) (is : Held)
+    → ((v : Var) → lookup (same_var v) new ≡ (if same_var var v then Some is else lookup (same_var v) old))
+    → ((k : List KeyPart) → lookup (same_key k) (elements_of is) ≡ (if same_key key k then value else value_at old var k))
+    → Sets old new var key value
+sets_by old new var key value is puts holds v k =
+    ap (λ o. value_in o k) (puts v) ∙ chosen (same_var var v) (same_var_decides var v).0
+  where
+    chosen : (b : Bool) → (b ≡ true → var ≡ v)
+        → value_in (if b then Some is else lookup (same_var v) old) k ≡ (if b && same_key key k then value else value_at old v k)
+    chosen true same = holds k ∙ ap (λ w. if same_key key k then value else value_at old w k) (same refl)
+    chosen false other = refl
+
+-- none was held, and none is
+pub sets_none : (old : List (Var × Held)) (var : Var) (key : List KeyPart) → lookup (same_var var) old ≡ None → Sets old old var key None
+sets_none old var key none v k = chosen (same_var var v && same_key key k) (both_same var v key k)
+  where
+    chosen : (b : Bool) → (b ≡ true → var ≡ v) → value_at old v k ≡ (if b then None else value_at old v k)
+    chosen true same = ap (λ w. value_at old w k) (sym (same refl)) ∙ ap (λ o. value_in o k) none
+    chosen false other = refl
+
+-- ---- entries by their index
+
+-- a key that is found passes the test
+key_passes : {X : Type 0} (test : Var → Bool) (entries : List (Var × X)) (k : Var) → lookup_key test entries ≡ Some k → test k ≡ true
+key_passes test [] k e = absurd (none e)
+  where
+    none : ◌≡◌ {A = Option Var} None (Some k) → ⊥
+    none f = cc
+key_passes test (p ∷ entries) k e = elim (test p.0) as (λ b. test p.0 ≡ b → (if b then Some p.0 else lookup_key test entries) ≡ Some k → test k ≡ true) [
+  | true ↦ λ passes f. ap test (sym (same f)) ∙ passes
+  | false ↦ λ fails f. key_passes test entries k f
+] refl e
+  where
+    same : Some p.0 ≡ Some k → p.0 ≡ k
+    same f = cc
+
+pub key_found : {X : Type 0} (var k : Var) (entries : List (Var × X)) → lookup_key (same_var var) entries ≡ Some k → var ≡ k
+key_found var k entries e = (same_var_decides var k).0 (key_passes (same_var var) entries k e)
+
+pub value_found : (entries : List (Var × Held)) (i : ℕ) (var : Var) (value : Held) → slice_get entries i ≡ Some (var, value)
+    → slice_get (values_of entries) i ≡ Some value
+value_found [] i var value e = absurd (none e)
+  where
+    none : ◌≡◌ {A = Option (Var × Held)} None (Some (var, value)) → ⊥
+    none f = cc
+value_found (p ∷ entries) zero var value e = ap (λ o. option_map (λ q. q.1) o) e
+value_found (p ∷ entries) (suc i) var value e = value_found entries i var value e
 
 -- ---- by whether memory was refused
 

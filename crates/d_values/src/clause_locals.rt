@@ -1,9 +1,9 @@
 //! Clause-local variables.
 
-ghost use Rattle.std.specs.Prelude.{◌≡◌, [], OnOk, OnErr};
-ghost use Rattle.d_values.specs.{Vocabulary.Updates, Stores.kind_of, Stores.value_to_keep, Stores.lent_value, Stores.local_entry, Stores.local_of, Stores.with_local, Variables.same_var};
+ghost use Rattle.std.specs.Prelude.{◌≡◌, [], unwrap_or, OnOk, OnErr};
+ghost use Rattle.d_values.specs.{Vocabulary.get, Vocabulary.Updates, Stores.blank, Stores.kind_of, Stores.value_to_keep, Stores.lent_value, Stores.local_entry, Stores.local_of, Stores.with_local, Variables.same_var};
 
-use crate::sparse_map::{lend, replace_known};
+use crate::lookup::index_of;
 use crate::value::{Value, ValueRef};
 use crate::variable::Var;
 use indexmap::IndexMap;
@@ -41,7 +41,9 @@ impl ClauseLocals {
     pub fn reset(&mut self)
         ensures { self.new ≡ [] }
     {
-        self.map.clear();
+        if !self.map.is_empty() {
+            self.map.clear();
+        }
     }
 
     /// What the variable holds. Takes no memory.
@@ -49,7 +51,7 @@ impl ClauseLocals {
         ensures value { lent_value result ≡ local_of self.now var }
         ensures kind { kind_of (lent_value result) ≡ var.kind }
     {
-        lend(&self.map, &var, var.kind)
+        find(&self.map, var)
     }
 
     /// Sets the variable, to a value of its kind.
@@ -75,13 +77,34 @@ impl ClauseLocals {
     }
 }
 
+// What a variable has.
+fn find(map: &IndexMap<Var, Value>, var: Var) -> ValueRef<'_>
+    ensures { lent_value result ≡ unwrap_or (get same_var map.now var) (blank var.kind) }
+{
+    let Some(index) = index_of(map, var) else {
+        return ValueRef::blank(var.kind);
+    };
+    match map.get_index(index) {
+        Some((_, value)) => value.as_ref(),
+        None => ValueRef::blank(var.kind),
+    }
+}
+
 // Sets a variable's value.
 fn put(map: &mut IndexMap<Var, Value>, var: Var, value: Value) -> Result<(), AllocError>
     ensures ok { OnOk result (Updates same_var map.old map.new var (value_to_keep value)) }
     ensures err { OnErr result (map.new.entries ≡ map.old.entries) }
 {
-    if let Some(value) = replace_known(map, &var, value) {
-        map.insert(var, value)?;
+    if value.is_blank() {
+        map.swap_remove(&var);
+        return Ok(());
     }
+    if let Some(index) = index_of(map, var) {
+        if let Some(place) = map.get_index_mut(index) {
+            *place = value;
+            return Ok(());
+        }
+    }
+    map.insert(var, value)?;
     Ok(())
 }

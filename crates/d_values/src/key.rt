@@ -1,6 +1,6 @@
 //! Keys of aggregations and of variables.
 
-ghost use Rattle.std.specs.Prelude.{◌≡◌, ◌↔◌, ◌<◌, ◌++◌, ◌∷◌, [], length, OnOk, OnErr, IsTrue, slice_set, refl};
+ghost use Rattle.std.specs.Prelude.{◌≡◌, ◌↔◌, ◌<◌, ◌++◌, ◌∷◌, [], length, IfOk, OnOk, OnErr, IsTrue, slice_set, vec_len, refl};
 ghost use Rattle.d_values.specs.{Vocabulary.ap, Vocabulary.partial_equiv_from_equiv, Vocabulary.po, Vocabulary.flat_map, Vocabulary.as_partial_cmp, Keys.part_cmp, Keys.key_cmp, Keys.same_part, Keys.same_key, Keys.part_writes, Keys.DecidesByFirstDifference, KeyLaws.same_part_decides, KeyLaws.same_part_equiv, KeyLaws.part_cmp_total, KeyLaws.part_cmp_ties, KeyLaws.same_key_decides, KeyLaws.same_key_equiv, KeyLaws.key_cmp_total, KeyLaws.key_cmp_ties};
 
 use crate::text::Text;
@@ -31,6 +31,19 @@ impl KeyPart {
                 Ok(())
             }
             KeyPart::Name(text) => text.assign(bytes),
+        }
+    }
+
+    // Becomes another part, in the room that it has.
+    fn assign(&mut self, alloc: Global, part: &KeyPart) -> Result<(), AllocError>
+        ensures { OnOk result (self.new ≡ part.now) }
+    {
+        match part {
+            KeyPart::Number(number) => {
+                *self = KeyPart::Number(*number);
+                Ok(())
+            }
+            KeyPart::Name(text) => self.set_name(alloc, text.as_bytes()),
         }
     }
 }
@@ -197,6 +210,30 @@ impl Key {
         let alloc = *self.parts.allocator();
         self.parts[place].set_name(alloc, bytes)
     }
+}
+
+// A copy of a key, in the room of another where both have as many parts.
+pub(crate) fn copy_in_room(room: Key, key: &Key) -> Result<Key, AllocError>
+    ensures { IfOk result (λ k. k ≡ key.now) }
+{
+    let mut parts = room.into_parts();
+    if parts.len() != key.parts().len() {
+        return key.clone();
+    }
+    copy_parts(&mut parts, key.parts())?;
+    Ok(Key { parts })
+}
+
+// Copies parts in the room of as many others.
+fn copy_parts(room: &mut Vec<KeyPart>, parts: &[KeyPart]) -> Result<(), AllocError>
+    requires { vec_len room.old ≡ length parts.now }
+    ensures { OnOk result (room.new.items ≡ parts.now) }
+{
+    let alloc = *room.allocator();
+    for (place, part) in parts.iter().enumerate() {
+        room[place].assign(alloc, part)?;
+    }
+    Ok(())
 }
 
 // Takes no memory.

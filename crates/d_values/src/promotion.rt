@@ -8,7 +8,7 @@ use crate::int_type::IntType;
 /// What an operand of the type is brought to: `int` below 32 bits, else the type itself.
 ///
 /// ```text
-/// promoted(IntType::UINT8); // INT32
+/// promotion_of(IntType::UINT8); // INT32
 /// ```
 pub fn promotion_of(t: IntType) -> IntType
     ensures { result ≡ promoted_of t }

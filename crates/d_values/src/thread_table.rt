@@ -1,19 +1,18 @@
 //! Thread-local variables.
 
-ghost use Rattle.std.specs.Prelude.{◌≡◌, [], List, Some, None, unwrap_or, if◌then◌else◌, IfOk, OnOk, OnErr};
-ghost use Rattle.d_values.specs.{Vocabulary.get, Vocabulary.Updates, Vocabulary.KeyPart, Keys.same_key, Stores.blank, Stores.kind_of, Stores.value_to_keep, Stores.lent_value, Stores.own_entry, Stores.own_of, Stores.with_own, Stores.AreOwn, Tables.pairs_of, Tables.value_at, Tables.Sets, Variables.same_var};
+ghost use Rattle.std.specs.Prelude.{◌≡◌, [], None, unwrap_or, OnOk, OnErr};
+ghost use Rattle.d_values.specs.{Vocabulary.get, Stores.blank, Stores.kind_of, Stores.value_to_keep, Stores.lent_value, Stores.own_entry, Stores.own_of, Stores.with_own, Stores.AreOwn, Variables.same_var};
+ghost use Rattle.d_values.specs.Tables.{pairs_of, value_at, Sets};
 
+use crate::held::Held;
 use crate::key::Key;
-use crate::sparse_map::{lend, replace_known};
+use crate::lookup::index_of;
 use crate::value::{Value, ValueRef};
 use crate::variable::Var;
 use indexmap::IndexMap;
 use keyed_hash::HashKey;
 use std::alloc::{AllocError, Global};
 use std::marker::Model;
-
-// What a variable holds under its keys.
-type Elements = IndexMap<Key, Value, HashKey>;
 
 // Up to so many variables of a thread take no more room than they need: most threads have few.
 const FEW: usize = 4;
@@ -22,7 +21,9 @@ const FEW: usize = 4;
 /// empty key. What was never set reads as zero or the empty text.
 #[derive(Drop)]
 pub struct ThreadTable {
-    variables: IndexMap<Var, Elements, HashKey>,
+    variables: IndexMap<Var, Held, HashKey>,
+    // Keys that were removed, for their room.
+    rooms: Vec<Key>,
 }
 
 impl Model for ThreadTable {
@@ -42,6 +43,7 @@ impl ThreadTable {
     {
         ThreadTable {
             variables: IndexMap::with_hasher(alloc, hash_key),
+            rooms: Vec::new(alloc),
         }
     }
 
@@ -57,7 +59,7 @@ impl ThreadTable {
     /// nothing was set.
     ///
     /// ```text
-    /// let mut table = ThreadTable::new(alloc);
+    /// let mut table = ThreadTable::new(alloc, hash_key);
     /// let var = Var { slot: 0, kind: Kind::Number };
     /// table.set(var, &key, Value::Int(5))?;
     /// table.get(var, &key); // ValueRef::Int(5)
@@ -72,12 +74,12 @@ impl ThreadTable {
             (own_entry self.new ≡ with_own (own_entry self.old) var key.now (value_to_keep value)) }
         ensures err { OnErr result (self.new ≡ self.old) }
     {
-        put(&mut self.variables, var, key, value)
+        put(&mut self.variables, &mut self.rooms, var, key, value)
     }
 
-    /// Lends the map that holds it all: the pairs of the maps in it are exactly what is set. Takes
-    /// no memory.
-    pub fn map(&self) -> &IndexMap<Var, Elements, HashKey>
+    /// Borrows the underlying map, from each variable that was ever set to what it holds. Takes no
+    /// memory.
+    pub fn map(&self) -> &IndexMap<Var, Held, HashKey>
         ensures pairs { pairs_of result.now.entries ≡ self.now }
         ensures set { AreOwn self.now }
     {
@@ -86,19 +88,23 @@ impl ThreadTable {
 }
 
 // What a variable has at a key.
-fn find<'a>(variables: &'a IndexMap<Var, Elements, HashKey>, var: Var, key: &Key) -> ValueRef<'a>
+fn find<'a>(variables: &'a IndexMap<Var, Held, HashKey>, var: Var, key: &Key) -> ValueRef<'a>
     ensures { lent_value result
         ≡ unwrap_or (value_at variables.now.entries var key.now) (blank var.kind) }
 {
-    match variables.get(&var) {
-        Some(elements) => lend(elements, key, var.kind),
+    let Some(index) = index_of(variables, var) else {
+        return ValueRef::blank(var.kind);
+    };
+    match variables.get_index(index) {
+        Some((_, held)) => held.get(key, var.kind),
         None => ValueRef::blank(var.kind),
     }
 }
 
 // Sets what a variable has at a key.
 fn put(
-    variables: &mut IndexMap<Var, Elements, HashKey>,
+    variables: &mut IndexMap<Var, Held, HashKey>,
+    rooms: &mut Vec<Key>,
     var: Var,
     key: &Key,
     value: Value,
@@ -107,27 +113,18 @@ fn put(
         (Sets variables.old.entries variables.new.entries var key.now (value_to_keep value)) }
     ensures err { OnErr result (pairs_of variables.new.entries ≡ pairs_of variables.old.entries) }
 {
-    match variables.get_mut(&var) {
-        Some(elements) => replace(elements, key, value),
-        None => start(variables, var, key, value),
+    if let Some(index) = index_of(variables, var) {
+        if let Some(held) = variables.get_index_mut(index) {
+            return held.set(rooms, key, value);
+        }
     }
-}
-
-// Sets a key's value.
-fn replace(elements: &mut Elements, key: &Key, value: Value) -> Result<(), AllocError>
-    ensures ok { OnOk result
-        (Updates same_key elements.old elements.new key.now (value_to_keep value)) }
-    ensures err { OnErr result (elements.new.entries ≡ elements.old.entries) }
-{
-    if let Some(value) = replace_known(elements, key, value) {
-        elements.insert(key.clone()?, value)?;
-    }
-    Ok(())
+    start(variables, rooms, var, key, value)
 }
 
 // Sets what a variable has at a key that has had nothing at any.
 fn start(
-    variables: &mut IndexMap<Var, Elements, HashKey>,
+    variables: &mut IndexMap<Var, Held, HashKey>,
+    rooms: &mut Vec<Key>,
     var: Var,
     key: &Key,
     value: Value,
@@ -140,21 +137,12 @@ fn start(
     if value.is_blank() {
         return Ok(());
     }
-    let elements = only(*variables.allocator(), *variables.hasher(), key, value)?;
-    variables.insert(var, elements)?;
+    let mut held = Held::new(*variables.allocator(), *variables.hasher());
+    held.set(rooms, key, value)?;
+    held.shrink_to_fit();
+    variables.insert(var, held)?;
     if variables.len() <= FEW {
         variables.shrink_to_fit();
     }
     Ok(())
-}
-
-// A map of one pair.
-fn only(alloc: Global, hash_key: HashKey, key: &Key, value: Value) -> Result<Elements, AllocError>
-    ensures { IfOk result (λ m. (k : List KeyPart)
-        → get same_key m k ≡ (if same_key key.now k then Some value else None)) }
-{
-    let mut elements = IndexMap::with_hasher(alloc, hash_key);
-    elements.insert(key.clone()?, value)?;
-    elements.shrink_to_fit();
-    Ok(elements)
 }

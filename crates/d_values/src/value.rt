@@ -1,7 +1,7 @@
 //! Values of expressions.
 
 ghost use Rattle.std.specs.Prelude.{◌≡◌};
-ghost use Rattle.d_values.specs.Stores.{kind_of, is_blank, blank, lent_value};
+ghost use Rattle.d_values.specs.Stores.{kind_of, is_blank, blank, lent_value, value_to_keep};
 
 use crate::text::Text;
 use std::alloc::AllocError;
@@ -57,6 +57,13 @@ impl Value {
             Value::Int(n) => *n == 0,
             Value::Text(text) => text.as_bytes().is_empty(),
         }
+    }
+
+    // Itself, unless it is blank.
+    pub(crate) fn kept(self) -> Option<Value>
+        ensures { result ≡ value_to_keep self }
+    {
+        if self.is_blank() { None } else { Some(self) }
     }
 
     /// Lends it. Takes no memory.

@@ -1,6 +1,6 @@
 -- What a run of valid code comes to.
 use Rattle.std.specs.Prelude.{◌≡◌, ◌≤◌, ℕ, zero, suc, length, Result, Ok, Err}
-use Rattle.std.proofs.Common.{refl, ap, ◌∙◌, arith}
+use Rattle.std.proofs.Common.{refl, sym, subst, ap, ◌∙◌, arith}
 use Rattle.d_values.specs.declared.value.Value.{Value}
 use Rattle.firing_reader.specs.declared.firing.Firing.{Firing}
 use Rattle.d_types.specs.Expressions.{Outcome, Has, Faults}
@@ -24,6 +24,10 @@ there_again : (z : Outcome Value) → outcome_of (end_of z) ≡ z
 there_again (Has value vars) = refl
 there_again (Faults vars) = refl
 
+back_again : (end : End) → end_of (outcome_of end) ≡ end
+back_again (Returns value vars) = refl
+back_again (Divides vars) = refl
+
 module _ (f : Firing) (o : Object) where
   within_is : (n : ℕ) (s : Frame) (vars : Variables) (end : End) (run : Reaches o f s vars end) → steps run ≤ n → within n f o s vars ≡ outcome_of end
   within_is zero s vars end (ends value after e) few = absurd (omega arith)
@@ -46,3 +50,9 @@ module _ (f : Firing) (o : Object) where
   run_gives vars (Ok value) after valid run = value_is vars (Has value after) valid run
   run_gives vars (Err DivideByZero) after valid run = value_is vars (Faults after) valid run
   run_gives vars (Err Memory) after valid run = tt
+
+  -- a run of valid code ends as its value says
+  pub run_of_value : (vars : Variables) → IsValid o → Runs o f vars (end_of (value_of f o vars))
+  run_of_value vars valid =
+      let over = is_over o valid f vars in
+      subst (λ e. Runs o f vars e) (sym (ap end_of (within_is (length o.code) start vars over.0 over.1 over.2) ∙ back_again over.0)) over.1

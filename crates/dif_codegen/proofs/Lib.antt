@@ -16,3 +16,4 @@ pub mod Sizes
 pub mod Ended
 pub mod SameMeaning
 pub mod Listed
+pub mod Exiting

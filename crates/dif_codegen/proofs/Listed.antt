@@ -10,9 +10,9 @@ use Rattle.firing_reader.specs.declared.firing.Firing.{Firing}
 use Rattle.d_types.specs.Fitting.{Fits}
 use Rattle.d_types.specs.Held.{AreTyped, HasTypedBuiltIns, IsConsistent, Slots, slots_of}
 use Rattle.d_types.specs.Storage.{Variables}
-use Rattle.d_types.specs.Typed.{Action, Aggregate, ClauseMeant, Evaluate, Exit, Print, Trace, Typed, agg_of, meant_of, script_meant, typed_of, typeds_of, type_of}
+use Rattle.d_types.specs.Typed.{Action, Aggregate, ClauseMeant, Evaluate, Exit, Print, Trace, Typed, Typeds, agg_of, end, more, meant_of, script_meant, typed_of, typeds_of, type_of}
 use Rattle.d_types.specs.Scripts.{IsMeant}
-use Rattle.d_types.specs.Wholes.{ClauseIs, ClausesAre, EachIs}
+use Rattle.d_types.specs.Wholes.{ActionIs, ActionsAre, AnyIs, ClauseIs, ClausesAre, EachIs}
 use Rattle.d_types.proofs.ConsistentScripts.{script_is_consistent}
 use Rattle.d_types.proofs.Fitting.{typed_script_fits}
 use Rattle.d_types.proofs.HoldingRuns.{run_kept}
@@ -25,9 +25,11 @@ use Rattle.dif_validate.specs.Objects.{Object}
 use Rattle.dif_codegen.specs.declared.program.CompiledClause.{CompiledClause}
 use Rattle.dif_codegen.specs.declared.program.TypedObject.{TypedObject}
 use Rattle.dif_codegen.specs.Code.{object_of}
-use Rattle.dif_codegen.specs.Meaning.{Does, IsProgramOf, aggregation_of, run_code}
-use Rattle.dif_codegen.specs.Programs.{ClauseCode, compiled_objects, clause_code, compiled_object, compiled_action, compiled_clause}
+use Rattle.dif_codegen.specs.Correct.{AreObjectsOf, IsActionOf, IsObjectOf, IsOptionalObjectOf}
+use Rattle.dif_codegen.specs.Meaning.{Does, IsProgramOf, run_code}
+use Rattle.dif_codegen.specs.Programs.{ClauseCode, compiled_objects, clause_code, compiled_object, compiled_action, compiled_clause, optional_object}
 use Rattle.dif_codegen.proofs.Adding.{IsObject}
+use Rattle.dif_codegen.proofs.Compiled.{computes, is_returning}
 use Rattle.dif_codegen.proofs.SameMeaning.{run_same}
 
 spent : {A : Type 0} (xs : List A) (n : ℕ) → length xs ≤ n → drop n xs ≡ []
@@ -40,14 +42,34 @@ map-append : {A B : Type 0} (g : A → B) (xs ys : List A) → map g (xs ++ ys) 
 map-append g [] ys = refl
 map-append g (x ∷ xs) ys = ap (λ l. g x ∷ l) (map-append g xs ys)
 
--- statements are compiled with their aggregations
-same_aggregations : (all : List Action) → map (λ a. aggregation_of a) (map compiled_action all) ≡ map (λ a. aggregation_of a) all
-same_aggregations [] = refl
-same_aggregations (Evaluate x ∷ rest) = ap (λ l. None ∷ l) (same_aggregations rest)
-same_aggregations (Trace x ∷ rest) = ap (λ l. None ∷ l) (same_aggregations rest)
-same_aggregations (Print format arguments ∷ rest) = ap (λ l. None ∷ l) (same_aggregations rest)
-same_aggregations (Exit x ∷ rest) = ap (λ l. None ∷ l) (same_aggregations rest)
-same_aggregations (Aggregate place keys argument ∷ rest) = ap (λ l. Some place ∷ l) (same_aggregations rest)
+-- ---- what stands in place of expressions
+
+module _ (slots : Slots) where
+  is_object : (e : Typed) → IsConsistent slots e → Fits e → IsObjectOf slots (compiled_object e) e
+  is_object e is few = record {
+    valid = is_returning slots e is few (compiled_object e).object refl refl refl;
+    returns = refl;
+    computes = computes slots e is few (compiled_object e).object refl refl refl;
+  }
+
+  are_objects : (es : Typeds) → EachIs (IsConsistent slots) es → EachIs Fits es → AreObjectsOf slots (compiled_objects es) es
+  are_objects end is few = tt
+  are_objects (more e es) is few = (is_object e is.0 few.0, are_objects es is.1 few.1)
+
+  is_optional : (e : Option Typed) → AnyIs (IsConsistent slots) e → AnyIs Fits e → IsOptionalObjectOf slots (optional_object e) e
+  is_optional None is few = tt
+  is_optional (Some e) is few = is_object e is few
+
+  is_action : (a : Action) → ActionIs (IsConsistent slots) a → ActionIs Fits a → IsActionOf slots (compiled_action a) a
+  is_action (Evaluate e) is few = is_object e is few
+  is_action (Trace e) is few = is_object e is few
+  is_action (Print format es) is few = (refl, are_objects es is few)
+  is_action (Exit e) is few = is_object e is few
+  is_action (Aggregate place es e) is few = (refl, are_objects es is.0 few.0, is_optional e is.1 few.1)
+
+  are_actions : (all : List Action) → ActionsAre (IsConsistent slots) all → ActionsAre Fits all → AllZip (IsActionOf slots) (map compiled_action all) all
+  are_actions [] is few = tt
+  are_actions (a ∷ rest) is few = (is_action a is.0 few.0, are_actions rest is.1 few.1)
 
 -- a clause that was compiled does what it means
 does : (slots : Slots) (c : CompiledClause) (m : ClauseMeant) → ClauseIs (IsConsistent slots) m → ClauseIs Fits m → clause_code c ≡ compiled_clause m → Does slots c m
@@ -56,7 +78,8 @@ does slots c m is few same =
     ap (λ c. run_code f place c vars) same ∙ run_same slots f fit place m vars is few good in
     record {
       descriptions = ap (λ (c : ClauseCode). c.descriptions) same;
-      aggregations = ap (λ (c : ClauseCode). map (λ a. aggregation_of a) c.actions) same ∙ same_aggregations m.statements;
+      predicate = subst (λ (c : ClauseCode). IsOptionalObjectOf slots c.predicate m.predicate) (sym same) (is_optional slots m.predicate is.0 few.0);
+      actions = subst (λ (c : ClauseCode). AllZip (IsActionOf slots) c.actions m.statements) (sym same) (are_actions slots m.statements is.1 few.1);
       runs = runs;
       typed = λ f place vars fit good. subst (λ made. AreTyped slots made.variables) (sym (runs f place vars fit good)) (run_kept slots f fit place m vars is good);
     }

@@ -1,7 +1,11 @@
 -- What compiled code does.
-use Rattle.std.specs.Prelude.{◌≡◌, Result, Ok, Err}
+use Rattle.std.specs.Prelude.{◌≡◌, List, [], ◌∷◌, Option, Some, None, Result, Ok, Err}
+use Rattle.d_types.specs.Typed.{Action, Evaluate, Trace, Print, Exit, Aggregate, Typeds, end, more, type_of}
+use Rattle.d_types.specs.Variables.{kind_of}
+use Rattle.dif_validate.specs.Validity.{IsReturning}
 use Rattle.dif_machine.specs.Runs.{End, Returns, Divides, Runs}
-use Rattle.dif_codegen.specs.Vocabulary.{Value, Firing, Outcome, Has, Faults, eval, HasTypedBuiltIns, Slots, AreTyped, Variables, Typed, Object, MachineFault, DivideByZero, Memory}
+use Rattle.dif_codegen.specs.Vocabulary.{Value, Firing, Outcome, Has, Faults, eval, HasTypedBuiltIns, Slots, AreTyped, Variables, Typed, TypedObject, Object, MachineFault, DivideByZero, Memory}
+use Rattle.dif_codegen.specs.Programs.{ActionCode}
 
 abbrev pub end_of : Outcome Value → End
 end_of (Has value vars) = Returns value vars
@@ -12,6 +16,35 @@ end_of (Faults vars) = Divides vars
 abbrev pub Computes : Slots → Object → Typed → Type 0
 Computes slots o e = (f : Firing) (vars : Variables) → HasTypedBuiltIns f → AreTyped slots vars
     → Runs o f vars (end_of (eval f e vars))
+
+-- a valid object that returns a value of the expression's type, and computes it
+pub record IsObjectOf (slots : Slots) (x : TypedObject) (e : Typed) : Type 0 where
+  pub valid : IsReturning x.object (kind_of (type_of e))
+  pub returns : x.returns ≡ type_of e
+  pub computes : Computes slots x.object e
+
+-- each of each
+abbrev pub AreObjectsOf : Slots → List TypedObject → Typeds → Type 0
+AreObjectsOf slots [] end = Unit {0}
+AreObjectsOf slots (x ∷ xs) (more e es) = IsObjectOf slots x e × AreObjectsOf slots xs es
+AreObjectsOf slots xs es = ⊥
+
+-- of an expression where there is one
+abbrev pub IsOptionalObjectOf : Slots → Option TypedObject → Option Typed → Type 0
+IsOptionalObjectOf slots None None = Unit {0}
+IsOptionalObjectOf slots (Some x) (Some e) = IsObjectOf slots x e
+IsOptionalObjectOf slots x e = ⊥
+
+-- the same statement, with an object in place of each expression
+abbrev pub IsActionOf : Slots → ActionCode → Action → Type 0
+IsActionOf slots (Evaluate x) (Evaluate e) = IsObjectOf slots x e
+IsActionOf slots (Trace x) (Trace e) = IsObjectOf slots x e
+IsActionOf slots (Print format xs) (Print written es) =
+    (format ≡ written) × AreObjectsOf slots xs es
+IsActionOf slots (Exit x) (Exit e) = IsObjectOf slots x e
+IsActionOf slots (Aggregate place xs x) (Aggregate aggregation es e) =
+    (place ≡ aggregation) × AreObjectsOf slots xs es × IsOptionalObjectOf slots x e
+IsActionOf slots code action = ⊥
 
 -- what a run returns and leaves, unless memory ran out
 abbrev pub Gives : Outcome Value → Result Value MachineFault → Variables → Type 0

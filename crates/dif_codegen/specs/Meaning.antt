@@ -1,9 +1,11 @@
 -- What compiled clauses mean: the objects are run, and all else is as for typed trees.
-use Rattle.std.specs.Prelude.{◌≡◌, ℕ, zero, suc, List, [], ◌∷◌, length, map, Option, Some, None}
-use Rattle.d_types.specs.Typed.{ActionOf, Evaluate, Trace, Print, Exit, Aggregate}
+use Rattle.std.specs.List.{list_any}
+use Rattle.std.specs.Prelude.{◌≡◌, ℕ, zero, suc, Bool, List, [], ◌∷◌, length, map}
+use Rattle.d_types.specs.Typed.{is_exit}
 use Rattle.dif_machine.specs.Steps as steps
 use Rattle.dif_machine.specs.{Frames.Frame, Frames.start, Steps.Next, Steps.step_of}
 use Rattle.dif_codegen.specs.Vocabulary.{AllZip, AggFn, DType, KeyPart, Value, Firing, Evaluation, Made, fault_line, run_by, run_of, Outcome, Has, Faults, with, part_of, HasTypedBuiltIns, Slots, AreTyped, slots_of, Variables, ClauseMeant, ScriptMeant, Object, CompiledClause, TypedObject}
+use Rattle.dif_codegen.specs.Correct.{IsActionOf, IsOptionalObjectOf}
 use Rattle.dif_codegen.specs.Programs.{ClauseCode, clause_code}
 
 -- ---- objects
@@ -52,27 +54,23 @@ abbrev pub run_code : Firing → ℕ → ClauseCode → Variables → Made
 run_code f place c vars =
     run_by (by_objects f) (fault_line f.number place) c.predicate c.actions vars
 
--- the place of the aggregation that a statement adds to, if any
-abbrev pub aggregation_of : {E Es : Type 0} → ActionOf E Es → Option ℕ
-aggregation_of (Evaluate x) = None
-aggregation_of (Trace x) = None
-aggregation_of (Print format arguments) = None
-aggregation_of (Exit x) = None
-aggregation_of (Aggregate place keys argument) = Some place
-
 -- ---- programs
 
--- a compiled clause is for the probes of a clause, its actions add to the aggregations of the
--- statements, and from any variables that hold values of their types each run makes what a run of
--- the clause makes, and leaves such variables
+-- a compiled clause is the same clause, with a valid object that computes it in place of each
+-- expression. From any variables that hold values of their types each run makes what a run of the
+-- clause makes, and leaves such variables
 pub record Does (slots : Slots) (c : CompiledClause) (meant : ClauseMeant) : Type 0 where
   pub descriptions : c.descriptions.items ≡ meant.descriptions
-  pub aggregations : map (λ a. aggregation_of a) (clause_code c).actions
-      ≡ map (λ a. aggregation_of a) meant.statements
+  pub predicate : IsOptionalObjectOf slots c.predicate meant.predicate
+  pub actions : AllZip (IsActionOf slots) (clause_code c).actions meant.statements
   pub runs : (f : Firing) (place : ℕ) (vars : Variables) → HasTypedBuiltIns f → AreTyped slots vars
       → run_code f place (clause_code c) vars ≡ run_of f place meant vars
   pub typed : (f : Firing) (place : ℕ) (vars : Variables) → HasTypedBuiltIns f → AreTyped slots vars
       → AreTyped slots (run_code f place (clause_code c) vars).variables
+
+-- some action of the clauses is an exit
+abbrev pub code_exits : List CompiledClause → Bool
+code_exits clauses = list_any (λ c. list_any (λ a. is_exit a) (clause_code c).actions) clauses
 
 -- a program has the functions of a script's aggregations and a clause for each of its clauses, in
 -- their order

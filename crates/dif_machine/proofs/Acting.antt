@@ -1,5 +1,5 @@
 -- What each instruction makes of a state, from what its call read and wrote.
-use Rattle.std.specs.Prelude.{◌≡◌, ◌≢◌, ◌<◌, option_map, ℕ, ◌+◌, ◌++◌, Bool, true, false, List, [], ◌∷◌, length, nat_lt, Option, Some, None, Ok, Err, slice_get}
+use Rattle.std.specs.Prelude.{◌≡◌, ◌≢◌, ◌<◌, option_map, ℕ, zero, suc, ◌+◌, ◌++◌, Bool, true, false, List, [], ◌∷◌, length, nat_lt, Option, Some, None, Ok, Err, slice_get}
 use Rattle.std.specs.Int.{cast_signed, w64}
 use Rattle.std.proofs.Common.{refl, sym, ap, ◌∙◌, cond}
 use Rattle.std.proofs.lemmas.Bool.{ltb-true}
@@ -77,9 +77,9 @@ module _ (o : Object) (f : Firing) (s : Frame) (vars : Variables) where
       ∙ ap (λ k. Goes (with_comparison s k) vars) (sym k)
       ∙ goes_to (with_comparison s known) t e
 
-  pub ldga : (v : ℕ) (a d : Reg) (x word : ℕ) (t : Frame) → at s.registers a ≡ Some (Int x) → word ≡ argument_of f x → t ≡ with_value s d (Int word)
-      → act (Ldga v a d) o f s vars ≡ Goes t vars
-  ldga v a d x word t p w e =
+  pub ldga : (a d : Reg) (x word : ℕ) (t : Frame) → at s.registers a ≡ Some (Int x) → word ≡ argument_of f x → t ≡ with_value s d (Int word)
+      → act (Ldga 0 a d) o f s vars ≡ Goes t vars
+  ldga a d x word t p w e =
       ap (λ v. on_number v (λ x. puts s d (Int (argument_of f x)) vars)) p
       ∙ ap (λ w. puts s d (Int w) vars) (sym w)
       ∙ goes_to (with_value s d (Int word)) t e
@@ -120,9 +120,19 @@ module _ (o : Object) (f : Firing) (s : Frame) (vars : Variables) where
       by None runs e = absurd (runs refl)
       by (Some value) runs e = goes_to (with_value s d value) t e
 
-  pub ldgs : (v : ℕ) (d : Reg) (t : Frame) → t ≡ with_value s d (built_in_of f v)
+  -- the one array of arguments
+  pub only_array : (v : ℕ) (a d : Reg) → act (Ldga v a d) o f s vars ≢ Stuck → v ≡ 0
+  only_array zero a d runs = refl
+  only_array (suc v) a d runs = absurd (runs refl)
+
+  -- a built-in variable that isn't there leaves the run stuck
+  pub ldgs : (v : ℕ) (d : Reg) (t : Frame) (some : Variables) → act (Ldgs v d) o f s some ≢ Stuck → t ≡ with_content s d (built_in_of f v)
       → act (Ldgs v d) o f s vars ≡ Goes t vars
-  ldgs v d t e = goes_to (with_value s d (built_in_of f v)) t e
+  ldgs v d t some runs e = by (built_in_of f v) runs e
+    where
+      by : (x : Option Value) → on x (λ x. puts s d x some) ≢ Stuck → t ≡ with_content s d x → on x (λ x. puts s d x vars) ≡ Goes t vars
+      by None runs e = absurd (runs refl)
+      by (Some value) runs e = goes_to (with_value s d value) t e
 
   pub call : (function : Function) (d : Reg) (value : Value) (t : Frame) → call_of function s.tuple ≡ Some value → t ≡ with_value s d value
       → act (Call function d) o f s vars ≡ Goes t vars

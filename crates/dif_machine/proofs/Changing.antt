@@ -11,6 +11,7 @@ use Rattle.dif_machine.specs.Vocabulary.{Comparison, Firing, Instr, Alu, Not, Mo
 use Rattle.dif_machine.specs.Changes.{output_register, compares, fills, stores, Changes}
 use Rattle.dif_machine.specs.Frames.{Frame, at_place, with_value, with_comparison, with_tuple}
 use Rattle.dif_machine.specs.Operators.{result_of, comparison_of, text_comparison_of, holds, call_of}
+use Rattle.dif_machine.specs.Sources.{built_in_of}
 use Rattle.dif_machine.specs.Steps.{Next, Goes, Ends, Stuck, on, on_number, on_text, on_kind, on_key, puts_result, act, step_of}
 use Rattle.dif_machine.proofs.Fitting.{put_set, put_zero}
 
@@ -129,8 +130,9 @@ acts o f s vars (Ba to) = go s vars (Ba to) to (λ ne. refl)
 acts o f s vars (Branch condition to) = some s vars (Branch condition to) s.comparison _ (λ known. branch s vars (Branch condition to) (holds condition known) to refl)
 acts o f s vars (Setx i d) = some s vars (Setx i d) (slice_get o.numbers i) _ (λ n. value s vars (Setx i d) d _ refl)
 acts o f s vars (Sets i d) = some s vars (Sets i d) (slice_get o.texts i) _ (λ bytes. value s vars (Sets i d) d _ refl)
-acts o f s vars (Ldgs v d) = value s vars (Ldgs v d) d _ refl
-acts o f s vars (Ldga v a d) = number s vars (Ldga v a d) (at s.registers a) _ (λ n. value s vars (Ldga v a d) d _ refl)
+acts o f s vars (Ldgs v d) = some s vars (Ldgs v d) (built_in_of f v) _ (λ x. value s vars (Ldgs v d) d x refl)
+acts o f s vars (Ldga zero a d) = number s vars (Ldga 0 a d) (at s.registers a) _ (λ n. value s vars (Ldga 0 a d) d _ refl)
+acts o f s vars (Ldga (suc v) a d) = tt
 acts o f s vars (Ldts x d) = value s vars (Ldts x d) d _ refl
 acts o f s vars (Stts x a) = kind s vars (Stts x a) x.kind (at s.registers a) _ (λ v. store s vars (Stts x a) _ refl)
 acts o f s vars (Ldls x d) = value s vars (Ldls x d) d _ refl

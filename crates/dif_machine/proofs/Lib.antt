@@ -8,3 +8,4 @@ pub mod Changing
 pub mod Clearing
 pub mod Arriving
 pub mod Loading
+pub mod BuiltIns

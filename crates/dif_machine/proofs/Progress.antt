@@ -3,7 +3,7 @@ use Rattle.std.specs.Prelude.{◌≡◌, ◌≢◌, ◌<◌, ℕ, zero, suc, ◌
 use Rattle.std.specs.Int.{cast_signed, w64}
 use Rattle.std.proofs.Common.{refl, sym, ap, ◌∙◌, subst, ⊎_elim, arith, cond}
 use Rattle.std.proofs.lemmas.List.{map-append, length-map}
-use Rattle.std.proofs.lemmas.Bool.{le-ltb, leb-false, not-false}
+use Rattle.std.proofs.lemmas.Bool.{ltb-false, leb-false, not-false}
 use Rattle.std.proofs.lemmas.Option.{slice_get_cases}
 use Rattle.d_values.specs.Stores.{kind_of, with_local, with_own}
 use Rattle.d_values.specs.declared.arithmetic.OutOfZero.{OutOfZero}
@@ -43,7 +43,7 @@ use Rattle.dif_machine.specs.Kinds.{kind_of_part, kinds_of}
 use Rattle.dif_machine.specs.Operators.{result_of, comparison_of, text_comparison_of, holds, call_of}
 use Rattle.dif_machine.specs.Runs.{End, Reaches, ends, faults, goes, Comes, stays, steps_on, RunEnds}
 use Rattle.d_values.specs.Storage.{Variables, as_kind}
-use Rattle.dif_machine.specs.Sources.{built_in_of, local_in, own_in}
+use Rattle.dif_machine.specs.Sources.{built_in_of, built_ins, local_in, own_in}
 use Rattle.dif_machine.specs.Steps.{Next, Goes, Ends, Faults, Stuck, on, on_key, puts_result, pushes, act, step_of, Stepped}
 use Rattle.dif_machine.proofs.Fitting.{Holds, Fits, fits_within, fits_value, fits_place, fits_comparison, fits_tuple, one, two, any, on_there, number_there, text_there, kind_there}
 
@@ -95,19 +95,17 @@ called function parts ks e h = by function parts (subst (λ l. is_tuple_of funct
     by Strjoin (part.Name a ∷ part.Number n ∷ ps) h = cc
     by Strjoin (part.Name a ∷ part.Name b ∷ p ∷ ps) h = cc
 
-built_in_kind : (f : Firing) (v : ℕ) (k : Kind) → Some (kind_of_built_in v) ≡ Some k → kind_of (built_in_of f v) ≡ k
-built_in_kind f zero k h = cc
-built_in_kind f (suc zero) k h = cc
-built_in_kind f (suc (suc zero)) k h = cc
-built_in_kind f (suc (suc (suc zero))) k h = cc
-built_in_kind f (suc (suc (suc (suc zero)))) k h = cc
-built_in_kind f (suc (suc (suc (suc (suc zero))))) k h = cc
-built_in_kind f (suc (suc (suc (suc (suc (suc zero)))))) k h = cc
-built_in_kind f (suc (suc (suc (suc (suc (suc (suc zero))))))) k h = cc
-built_in_kind f (suc (suc (suc (suc (suc (suc (suc (suc n)))))))) k h =
-    let n' = suc (suc (suc (suc (suc (suc (suc (suc n))))))) in
-    let e : Some Text ≡ Some k = ap (λ b. Some (cond b Number Text)) (sym (le-ltb n' 4 (omega arith))) ∙ h in
-    cc
+built_in_kind : (f : Firing) (v : ℕ) (x : Value) (k : Kind) → built_in_of f v ≡ Some x → Some (kind_of_built_in v) ≡ Some k → kind_of x ≡ k
+built_in_kind f zero x k is h = cc
+built_in_kind f (suc zero) x k is h = cc
+built_in_kind f (suc (suc zero)) x k is h = cc
+built_in_kind f (suc (suc (suc zero))) x k is h = cc
+built_in_kind f (suc (suc (suc (suc zero)))) x k is h = cc
+built_in_kind f (suc (suc (suc (suc (suc zero))))) x k is h = cc
+built_in_kind f (suc (suc (suc (suc (suc (suc zero)))))) x k is h = cc
+built_in_kind f (suc (suc (suc (suc (suc (suc (suc zero))))))) x k is h = cc
+built_in_kind f (suc (suc (suc (suc (suc (suc (suc (suc zero)))))))) x k is h = cc
+built_in_kind f (suc (suc (suc (suc (suc (suc (suc (suc (suc n))))))))) x k is h = cc
 
 as_kind_is : (k : Kind) (v : Value) → kind_of (as_kind k v) ≡ k
 as_kind_is Number v = refl
@@ -218,9 +216,12 @@ module _ (o : Object) (valid : IsValid o) (f : Firing) (s : Frame) (vars : Varia
   act_good (Sets i d) p fine =
       let x = there o.texts i (leb-false (length o.texts) i fine.table) in
       on_there Good (slice_get o.texts i) x.0 _ x.1 (value_good (Sets i d) p fine d (Some Text) _ refl refl (λ j e. cc))
-  act_good (Ldgs v d) p fine = value_good (Ldgs v d) p fine d (Some (kind_of_built_in v)) (built_in_of f v) refl refl (built_in_kind f v)
-  act_good (Ldga v a d) p fine =
-      number_there Good (at s.registers a) _ (has_one Number a (one Number a t fine.fine.kinds fine.fine.set)) (λ n. value_good (Ldga v a d) p fine d (Some Number) _ refl refl (λ j e. cc))
+  act_good (Ldgs v d) p fine =
+      let x = there (built_ins f) v (omega (arith, ltb-false 8 v fine.variable)) in
+      on_there Good (built_in_of f v) x.0 _ x.1 (value_good (Ldgs v d) p fine d (Some (kind_of_built_in v)) x.0 refl refl (λ j e. built_in_kind f v x.0 j x.1 e))
+  act_good (Ldga (suc v) a d) p fine = absurd (omega (arith, ltb-false 0 (suc v) fine.variable))
+  act_good (Ldga zero a d) p fine =
+      number_there Good (at s.registers a) _ (has_one Number a (one Number a t fine.fine.kinds fine.fine.set)) (λ n. value_good (Ldga 0 a d) p fine d (Some Number) _ refl refl (λ j e. cc))
   act_good (Ldts x d) p fine = value_good (Ldts x d) p fine d (Some x.kind) (own_in vars x []) refl refl (is_kind (own_in vars x []) x.kind (as_kind_is x.kind (vars.own x [])))
   act_good (Stts x a) p fine =
       kind_there Good x.kind (at s.registers a) _ (has_one x.kind a (one x.kind a t fine.fine.kinds fine.fine.set))
@@ -308,3 +309,11 @@ ends_well o f first s vars after value h e = h.so_far _ (ends value after e)
 pub ends_badly : (o : Object) (f : Firing) (first : Variables) (s next : Frame) (vars after : Variables) (fault : MachineFault) → Follows o f first s vars → Stepped vars (step_of o f s vars) (Err fault) next after → RunEnds o f first (Err fault) after
 ends_badly o f first s next vars after DivideByZero h e = h.so_far _ (faults after e)
 ends_badly o f first s next vars after Memory h e = (s, subst (Comes o f frames.start first s) (sym e) h.comes)
+
+-- each state that a run comes to follows
+follows_all : (o : Object) (f : Firing) (first : Variables) (s : Frame) (vars : Variables) → IsValid o → Comes o f frames.start first s vars → Follows o f first s vars
+follows_all o f first s vars valid stays = follows_start o f first valid
+follows_all o f first s vars valid (steps_on {t} {mid} next after so_far e) = (follows_on o f first t next mid after (follows_all o f first t mid valid so_far) e).1
+
+pub not_stuck : (o : Object) (f : Firing) (first vars : Variables) (s : Frame) → IsValid o → Comes o f frames.start first s vars → step_of o f s vars ≢ Stuck
+not_stuck o f first vars s valid comes = never_stuck o f first s vars (follows_all o f first s vars valid comes)

@@ -11,7 +11,7 @@ abbrev pub held_value : Object → Firing → (text : List ℕ) → Held → Opt
 held_value o f text Held.Unset = None
 held_value o f text (Held.Int word) = Some (Int word)
 held_value o f text (Held.Constant i) = option_map Text (slice_get o.texts i)
-held_value o f text (Held.BuiltIn v) = Some (built_in_of f v)
+held_value o f text (Held.BuiltIn v) = built_in_of f v
 held_value o f text Held.Own = Some (Text text)
 
 abbrev pub content : Object → Firing → Cell → Option Value

@@ -1,18 +1,17 @@
 -- Where values come from: the firing and the variables.
-use Rattle.std.specs.Prelude.{ℕ, zero, suc, List, Option, Some, None, ℤ, slice_get}
+use Rattle.std.specs.Prelude.{ℕ, List, [], ◌∷◌, Option, Some, None, ℤ, slice_get}
 use Rattle.dif_machine.specs.Vocabulary.{cast_unsigned, w64, Firing, KeyPart, Value, Int, Text, Var, Variables, as_kind}
 
 -- timestamp, cpu, pid, tid, execname, probeprov, probemod, probefunc, probename
-abbrev pub built_in_of : Firing → ℕ → Value
-built_in_of f zero = Int f.time
-built_in_of f (suc zero) = Int (cast_unsigned w64 f.cpu)
-built_in_of f (suc (suc zero)) = Int (cast_unsigned w64 f.pid)
-built_in_of f (suc (suc (suc zero))) = Int (cast_unsigned w64 f.thread)
-built_in_of f (suc (suc (suc (suc zero)))) = Text f.execname
-built_in_of f (suc (suc (suc (suc (suc zero))))) = Text f.provider
-built_in_of f (suc (suc (suc (suc (suc (suc zero)))))) = Text f.probemod
-built_in_of f (suc (suc (suc (suc (suc (suc (suc zero))))))) = Text f.probefunc
-built_in_of f (suc (suc (suc (suc (suc (suc (suc (suc n)))))))) = Text f.name
+abbrev pub built_ins : Firing → List Value
+built_ins f =
+    Int f.time ∷ Int (cast_unsigned w64 f.cpu) ∷ Int (cast_unsigned w64 f.pid)
+    ∷ Int (cast_unsigned w64 f.thread) ∷ Text f.execname ∷ Text f.provider ∷ Text f.probemod
+    ∷ Text f.probefunc ∷ Text f.name ∷ []
+
+-- none past the last
+abbrev pub built_in_of : Firing → ℕ → Option Value
+built_in_of f v = slice_get (built_ins f) v
 
 abbrev pub word_or_zero : Option ℤ → ℕ
 word_or_zero None = 0

@@ -1,5 +1,5 @@
 -- The machine: what each instruction does.
-use Rattle.std.specs.Prelude.{◌≡◌, ℕ, ◌+◌, ◌++◌, List, [], ◌∷◌, length, nat_lt, if◌then◌else◌, Option, Some, None, Result, Ok, Err, slice_get}
+use Rattle.std.specs.Prelude.{◌≡◌, ℕ, zero, suc, ◌+◌, ◌++◌, List, [], ◌∷◌, length, nat_lt, if◌then◌else◌, Option, Some, None, Result, Ok, Err, slice_get}
 use Rattle.dif_machine.specs.Vocabulary.{cast_signed, w64, Firing, Instr, Alu, Not, Mov, Cmp, Tst, Scmp, Ba, Branch, Setx, Sets, Ldgs, Ldga, Ldts, Stts, Ldls, Stls, Pushtr, Pushtv, Flushts, Ldtaa, Sttaa, Call, Ret, Nop, KeyPart, Number, Name, Kind, NumberKind, TextKind, MachineFault, DivideByZero, Memory, Object, OutOfZero, Reg, at, Value, Int, Text, Var, Variables, set_local, set_own}
 use Rattle.dif_machine.specs.Frames.{Frame, at_place, with_value, with_comparison, with_tuple}
 use Rattle.dif_machine.specs.Operators.{result_of, complement, comparison_of, text_comparison_of, holds, call_of}
@@ -82,9 +82,10 @@ act (Branch condition to) o f s vars =
     (λ known. Goes (at_place s (if holds condition known then to else (s.pc + 1))) vars)
 act (Setx i d) o f s vars = on (slice_get o.numbers i) (λ n. puts s d (Int n) vars)
 act (Sets i d) o f s vars = on (slice_get o.texts i) (λ bytes. puts s d (Text bytes) vars)
-act (Ldgs v d) o f s vars = puts s d (built_in_of f v) vars
-act (Ldga v a d) o f s vars =
+act (Ldgs v d) o f s vars = on (built_in_of f v) (λ x. puts s d x vars)
+act (Ldga zero a d) o f s vars =
     on_number (at s.registers a) (λ n. puts s d (Int (argument_of f n)) vars)
+act (Ldga (suc v) a d) o f s vars = Stuck
 act (Ldts x d) o f s vars = puts s d (own_in vars x []) vars
 act (Stts x a) o f s vars = on_kind x.kind (at s.registers a) (store_own s vars x [])
 act (Ldls x d) o f s vars = puts s d (local_in vars x) vars

@@ -38,12 +38,12 @@ impl Held {
     /// The built-in variable of this number. An integer is taken, and a text stays in the firing.
     pub(crate) fn built_in(firing: &Firing, v: u8) -> Held
         ensures value { (o : Object) (text : List ℕ)
-            → held_value o firing.now text result ≡ Some (built_in_of firing.now v) }
+            → held_value o firing.now text result ≡ built_in_of firing.now v }
         ensures lent { result ≢ Held.Own }
     {
         match built_in(firing, v) {
-            ValueRef::Int(word) => Held::Int(word),
-            ValueRef::Text(_) => Held::BuiltIn(v),
+            Some(ValueRef::Int(word)) => Held::Int(word),
+            Some(ValueRef::Text(_)) | None => Held::BuiltIn(v),
         }
     }
 }
@@ -71,7 +71,10 @@ impl Cell {
                 Some(text) => ValueRef::Text(text.as_bytes()),
                 None => ValueRef::Int(0),
             },
-            Held::BuiltIn(v) => built_in(firing, v),
+            Held::BuiltIn(v) => match built_in(firing, v) {
+                Some(lent) => lent,
+                None => ValueRef::Int(0),
+            },
             Held::Own => ValueRef::Text(self.text.as_bytes()),
         }
     }

@@ -1,8 +1,8 @@
 //! Laws of runs.
 
-ghost use Rattle.std.specs.Prelude.{◌≡◌, Some, slice_get};
+ghost use Rattle.std.specs.Prelude.{◌≡◌, ◌≢◌, Some, slice_get};
 ghost use Rattle.dif_machine.specs.Vocabulary.{Firing, Instr, IsValid, Object, Value, Variables, kind_of, return_kind};
-ghost use Rattle.dif_machine.specs.{Changes.Changes, Frames.Frame, Steps.step_of, Runs.End, Runs.IsOver, Runs.Returns, Runs.Runs};
+ghost use Rattle.dif_machine.specs.{Changes.Changes, Frames.Frame, Frames.start, Steps.Stuck, Steps.step_of, Runs.Comes, Runs.End, Runs.IsOver, Runs.Returns, Runs.Runs};
 
 /// An instruction goes to the next place or to its target. It changes the register that it writes,
 /// a comparison the comparison, a push or `flushts` the tuple and a store the variables, and
@@ -28,4 +28,10 @@ pub fn values_are_of_the_kind()
 pub fn one_end()
     ensures { (o : Object) (f : Firing) (vars : Variables) (a b : End)
         → Runs o f vars a → Runs o f vars b → a ≡ b }
+{}
+
+/// No state that a run of a valid object comes to is stuck.
+pub fn never_stuck()
+    ensures { (o : Object) (f : Firing) (first vars : Variables) (s : Frame) → IsValid o
+        → Comes o f start first s vars → step_of o f s vars ≢ Stuck }
 {}

@@ -64,7 +64,7 @@ fn source<'a>(
         ≡ Goes (with_value start R1 (lent_value lent)) (variables locals.now own.now)) }
 {
     if let Instr::Ldgs(v, Reg::R1) = *instr {
-        return Some(built_in(firing, v));
+        return built_in(firing, v);
     }
     if let Instr::Ldls(x, Reg::R1) = *instr {
         return integer_of(locals.get(x));

@@ -1,6 +1,6 @@
 //! Where values come from: the firing and the variables.
 
-ghost use Rattle.std.specs.Prelude.{◌≡◌, Some, IfOk};
+ghost use Rattle.std.specs.Prelude.{◌≡◌, Some, None, IfOk, MatchOption};
 ghost use Rattle.dif_machine.specs.Vocabulary.{Kind, as_kind, cast_unsigned, kind_of, lent_value, local_of, own_of, w64};
 ghost use Rattle.dif_machine.specs.Sources as spec;
 
@@ -15,21 +15,24 @@ fn integer(number: i64) -> ValueRef<'static>
     ValueRef::Int(number.cast_unsigned())
 }
 
-/// The built-in variable of this number.
+/// The built-in variable of this number, if there is one.
 #[inline(always)]
-pub(crate) fn built_in<'a>(firing: &'a Firing, v: u8) -> ValueRef<'a>
-    ensures { lent_value result ≡ spec.built_in_of firing.now v }
+#[tactic(auto, using(crate::proofs::BuiltIns::past_the_last))]
+pub(crate) fn built_in<'a>(firing: &'a Firing, v: u8) -> Option<ValueRef<'a>>
+    ensures { MatchOption result (spec.built_in_of firing.now v ≡ None)
+        (λ lent. spec.built_in_of firing.now v ≡ Some (lent_value lent)) }
 {
     match v {
-        0 => ValueRef::Int(firing.time),
-        1 => integer(i64::from(firing.cpu)),
-        2 => integer(i64::from(firing.pid)),
-        3 => integer(i64::from(firing.thread)),
-        4 => ValueRef::Text(firing.execname.as_bytes()),
-        5 => ValueRef::Text(firing.provider.as_bytes()),
-        6 => ValueRef::Text(firing.probemod.as_bytes()),
-        7 => ValueRef::Text(firing.probefunc.as_bytes()),
-        _ => ValueRef::Text(firing.name.as_bytes()),
+        0 => Some(ValueRef::Int(firing.time)),
+        1 => Some(integer(i64::from(firing.cpu))),
+        2 => Some(integer(i64::from(firing.pid))),
+        3 => Some(integer(i64::from(firing.thread))),
+        4 => Some(ValueRef::Text(firing.execname.as_bytes())),
+        5 => Some(ValueRef::Text(firing.provider.as_bytes())),
+        6 => Some(ValueRef::Text(firing.probemod.as_bytes())),
+        7 => Some(ValueRef::Text(firing.probefunc.as_bytes())),
+        8 => Some(ValueRef::Text(firing.name.as_bytes())),
+        _ => None,
     }
 }
 

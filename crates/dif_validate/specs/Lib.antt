@@ -9,3 +9,4 @@ pub mod Returns
 pub mod Faults
 pub mod Validity
 pub mod Pass
+pub mod Texts

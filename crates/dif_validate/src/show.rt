@@ -1,5 +1,8 @@
 //! Instructions as one reads them: `add r1, r2, r3`.
 
+ghost use Rattle.std.specs.Prelude.{Some};
+ghost use Rattle.dif_validate.specs.Texts as spec;
+
 use crate::instruction::{Condition, Function, Instr, Operator};
 use crate::register::Reg;
 use d_values::{Kind, Var};
@@ -10,6 +13,8 @@ use std::fmt;
 struct Shown(Var);
 
 impl fmt::Display for Shown {
+    ghost output = { λ x. Some (spec.variable_name x.0) };
+
     fn fmt<W: fmt::Write>(&self, f: &mut fmt::Formatter<W>) -> fmt::Result {
         let slot = self.0.slot;
         match self.0.kind {
@@ -20,12 +25,16 @@ impl fmt::Display for Shown {
 }
 
 impl fmt::Display for Reg {
+    ghost output = { λ r. Some (spec.register_name r) };
+
     fn fmt<W: fmt::Write>(&self, f: &mut fmt::Formatter<W>) -> fmt::Result {
         write!(f, "r{}", self.number())
     }
 }
 
 impl fmt::Display for Operator {
+    ghost output = { λ op. Some (spec.operator_name op) };
+
     fn fmt<W: fmt::Write>(&self, f: &mut fmt::Formatter<W>) -> fmt::Result {
         f.write_str(match self {
             Operator::Or => "or",
@@ -46,6 +55,8 @@ impl fmt::Display for Operator {
 }
 
 impl fmt::Display for Condition {
+    ghost output = { λ condition. Some (spec.branch_name condition) };
+
     fn fmt<W: fmt::Write>(&self, f: &mut fmt::Formatter<W>) -> fmt::Result {
         f.write_str(match self {
             Condition::Equal => "be",
@@ -63,6 +74,8 @@ impl fmt::Display for Condition {
 }
 
 impl fmt::Display for Function {
+    ghost output = { λ function. Some (spec.function_name function) };
+
     fn fmt<W: fmt::Write>(&self, f: &mut fmt::Formatter<W>) -> fmt::Result {
         f.write_str(match self {
             Function::Strlen => "strlen",
@@ -72,6 +85,8 @@ impl fmt::Display for Function {
 }
 
 impl fmt::Display for Instr {
+    ghost output = { λ i. Some (spec.text_of i) };
+
     fn fmt<W: fmt::Write>(&self, f: &mut fmt::Formatter<W>) -> fmt::Result {
         match self {
             Instr::Alu(op, a, b, d) => write!(f, "{op} {a}, {b}, {d}"),

@@ -1,12 +1,15 @@
 use Rattle.std.proofs.Common.{◌≡◌, ◌∙◌, ◌∷◌, ◌++◌, ◌≢◌, ◌==◌, refl, true, false, ap, subst, sym, codes, List, [], ℕ, Option, Some, None, Bool, rules, inr}
-use Rattle.clap.specs.Words.{App, Row, found_of, is_simple, is_simple_and_free, HasMatchesOf, fault_of, kind_of, matches_of, rows_of, takes}
+use Rattle.clap.specs.Words.{App, Row, first_of, found_of, is_simple, is_simple_and_free, HasMatchesOf, fault_of, kind_of, matches_of, one_of, rows_of, takes}
 use Rattle.clap.specs.declared.error.Error.{Error}
 use Rattle.clap.specs.declared.parser.matches.ArgMatches.{ArgMatches}
 use Rattle.clap.specs.declared.error.kind.ErrorKind.TheVariants.{DisplayHelp, InvalidValue, OutOfMemory, UnknownArgument}
 use Rattle.clap.specs.declared.error.kind.ErrorKind.{ErrorKind}
 use Rattle.clap.proofs.OnLiterals.{clap_on_literals}
-use Rattle.dreplay.specs.Words.{Asks, AsksHelp, HasPlan, IsAskedIn, IsFaultOf, IsOption, IsPlanFault, IsPlanIn, IsToldAs, Mistakes, Runs, file_in, program}
-use Rattle.std.specs.Prelude.{IfErr, MatchResult, Result, Ok, Err}
+use Rattle.dreplay.specs.Words.{Asks, AsksHelp, HasPlan, IsAskedIn, IsFaultOf, IsNumberIn, IsOption, IsPlanFault, IsPlanIn, IsToldAs, Mistakes, Runs, engine_called, file_in, program}
+use Rattle.std.specs.Prelude.{◌≤◌, IfErr, IsSomeAnd, MatchResult, Result, Ok, Err, option_and_then}
+use Rattle.std.proofs.lemmas.Option.{same_Some}
+use Rattle.dreplay.specs.Plans.{IsDefault}
+use Rattle.dreplay.specs.Vocabulary.{IsNumeral, digits_value, without_leading_plus, Dealt, Dif, Plan, MOST_GROUPS, MOST_WORKERS}
 use Rattle.dreplay.specs.declared.words.Asked.{Asked}
 use Rattle.dreplay.specs.declared.words.UsageFault.{UsageFault}
 use Rattle.dreplay.specs.declared.words.UsageFault.TheVariants.{Help, Usage, Memory}
@@ -38,7 +41,7 @@ pub asked : (rows : List Row) (words : List (List ℕ)) (r : Result Asked UsageF
 asked rows words (Ok x) none same named = record { accepted = none; named = subst (λ r. IsAskedIn r x) same named }
 asked rows words (Err (Help e)) none same fault = absurd fault
 asked rows words (Err (Usage e)) none same fault =
-    (fault.0, fault.1, inr (λ has. fault.2 has.0 (subst (λ r. IsPlanIn r has.0) (sym same) has.1)))
+    (fault.0, fault.1, inr (none, λ has. fault.2 has.0 (subst (λ r. IsPlanIn r has.0) (sym same) has.1)))
 asked rows words (Err Memory) none same fault = tt
 
 -- where they name a plan, only memory can be wanting
@@ -135,3 +138,79 @@ runs _ _ Runs.bundle = bundle_runs
 runs _ _ (Runs.script [] plain) = empty_runs
 runs _ _ (Runs.script (b ∷ rest) plain) = script_runs b rest plain (b == 45) refl
 runs _ _ (Runs.joined b rest other) = name_runs b rest other (b == 61) refl
+
+-- clap gives each option but the file its default
+record HasDefaults (rows : List Row) : Type 0 where
+  workers : one_of (codes "workers") rows ≡ Some (codes "4")
+  groups : one_of (codes "groups") rows ≡ Some (codes "16")
+  engine : first_of (codes "engine") rows ≡ Some (codes "dif")
+
+bundle_defaults : HasDefaults (matches_of program [])
+unfolding clap_on_literals
+bundle_defaults = record { workers = refl; groups = refl; engine = refl }
+
+plain_defaults : (b : ℕ) (rest : List ℕ) → (b == 45) ≡ false
+    → HasDefaults (matches_of program (codes "-s" ∷ (b ∷ rest) ∷ []))
+unfolding clap_on_literals
+plain_defaults b rest other = record {
+  workers = rw (other, other) refl;
+  groups = rw (other, other) refl;
+  engine = rw (other, other) refl;
+}
+
+empty_defaults : HasDefaults (matches_of program (codes "-s" ∷ [] ∷ []))
+unfolding clap_on_literals
+empty_defaults = record { workers = refl; groups = refl; engine = refl }
+
+hyphen_defaults : HasDefaults (matches_of program (codes "-s" ∷ (45 ∷ []) ∷ []))
+unfolding clap_on_literals
+hyphen_defaults = record { workers = refl; groups = refl; engine = refl }
+
+joined_defaults : (b : ℕ) (rest : List ℕ) → (b == 61) ≡ false
+    → HasDefaults (matches_of program ((codes "-s" ++ b ∷ rest) ∷ []))
+unfolding clap_on_literals
+joined_defaults b rest other = record {
+  workers = rw other refl;
+  groups = rw other refl;
+  engine = rw other refl;
+}
+
+script_defaults : (b : ℕ) (rest : List ℕ) → ¬ IsOption (b ∷ rest) → (t : Bool) → (b == 45) ≡ t
+    → HasDefaults (matches_of program (codes "-s" ∷ (b ∷ rest) ∷ []))
+script_defaults b rest plain false other = plain_defaults b rest other
+script_defaults b [] plain true same = let e : b ≡ 45 = search rules in rw e hyphen_defaults
+script_defaults b (x ∷ rest) plain true same = absurd (plain (x, rest, ap (λ n. n ∷ x ∷ rest) (search rules)))
+
+name_defaults : (b : ℕ) (rest : List ℕ) → b ≢ 61 → (t : Bool) → (b == 61) ≡ t
+    → HasDefaults (matches_of program ((codes "-s" ++ b ∷ rest) ∷ []))
+name_defaults b rest other false differs = joined_defaults b rest differs
+name_defaults b rest other true same = absurd (other (search rules))
+
+has_defaults : (words : List (List ℕ)) (file : Option (List ℕ)) → Runs words file
+    → HasDefaults (matches_of program words)
+has_defaults _ _ Runs.bundle = bundle_defaults
+has_defaults _ _ (Runs.script [] plain) = empty_defaults
+has_defaults _ _ (Runs.script (b ∷ rest) plain) = script_defaults b rest plain (b == 45) refl
+has_defaults _ _ (Runs.joined b rest other) = name_defaults b rest other (b == 61) refl
+
+-- an option with this one value has this number
+number_is : (low high : ℕ) (rows : List Row) (id text : List ℕ) (n : ℕ) → one_of id rows ≡ Some text
+    → IsNumberIn low high rows id n → digits_value 10 (without_leading_plus text) ≡ n
+number_is low high rows id text n has is =
+    let found : IsSomeAnd (Some text) (λ t. IsNumeral 10 (without_leading_plus t)
+    × (digits_value 10 (without_leading_plus t) ≡ n) × (low ≤ n) × (n ≤ high)) =
+    subst (λ x. IsSomeAnd x (λ t. IsNumeral 10 (without_leading_plus t)
+    × (digits_value 10 (without_leading_plus t) ≡ n) × (low ≤ n) × (n ≤ high))) has is
+    in found.1
+
+default_plan : (rows : List Row) (plan : Plan) → HasDefaults rows → IsPlanIn rows plan → IsDefault plan
+default_plan rows plan has is = record {
+  workers = sym (number_is 1 MOST_WORKERS rows (codes "workers") (codes "4") plan.workers has.workers is.workers);
+  groups = is.groups.1 ∙ ap Dealt (sym (number_is 1 MOST_GROUPS rows (codes "groups") (codes "16") is.groups.0 has.groups is.groups.2));
+  engine = same_Some plan.engine Dif (sym is.engine ∙ ap (option_and_then engine_called) has.engine);
+}
+
+pub defaults : (words : List (List ℕ)) (file : Option (List ℕ)) (asked : Asked) → Runs words file
+    → Asks words asked → IsDefault asked.plan
+defaults words file asked runs asks =
+    default_plan (matches_of program words) asked.plan (has_defaults words file runs) asks.named.plan

@@ -1,9 +1,11 @@
+pub mod Agreeing
 pub mod Answers
 pub mod CommandLine
 pub mod Dividing
 pub mod Divisions
 pub mod EmptyPieces
 pub mod HasAnswer
+pub mod Hashed
 pub mod Options
 pub mod Refusing
 pub mod Trees

@@ -1,7 +1,7 @@
 -- From a reader's bytes to a writer's.
-use Rattle.std.specs.Prelude.{◌≡◌, ◌≢◌, ◌≤◌, ◌⊎◌, ◌+◌, ℕ, List, Option, Result, Ok, Err, IfSome, IsTrue, IsFalse, length}
-use Rattle.report.specs.Stream.{AppendsBeginning, FeedSeen, SinkSeen}
-use Rattle.dreplay.specs.Vocabulary.{Appends, MOST_CALLS, ReadFault, Failed, ConsumeFault, Read, Refused, Write, Refusal, Memory, Plan, Replayed}
+use Rattle.std.specs.Prelude.{◌≡◌, ◌≢◌, ◌≤◌, ◌⊎◌, ◌+◌, ℕ, List, Option, Result, Ok, Err, IfSome, IsTrue, IsFalse}
+use Rattle.report.specs.Stream.{FeedSeen, IsSent, SinkSeen}
+use Rattle.dreplay.specs.Vocabulary.{MOST_CALLS, ReadFault, Failed, ConsumeFault, Read, Refused, Write, Refusal, Memory, Plan, Replayed}
 use Rattle.dreplay.specs.Replaying.{IsReplay}
 
 -- the reader failed, or had not ended after the most calls
@@ -17,32 +17,20 @@ pub record IsReadToEnd (old new : FeedSeen) (result : Result Replayed ConsumeFau
       → IsFalse new.has_failed × ((result ≡ Err (Refused Memory)) ⊎ IsTrue new.has_ended)
   pub few : new.calls ≤ old.calls + MOST_CALLS
 
--- The script's reader and then the trace's were read to their ends, or the fault says why not.
--- They, and only they, are blamed where one of them failed or had not ended.
-pub record AreReadToEnd (source source' trace trace' : FeedSeen)
-    (result : Result Replayed ConsumeFault) : Type 0 where
-  pub blamed : result ≡ Err Read → IsCutShort source source' ⊎ IsCutShort trace trace'
-  pub whole : result ≢ Err Read → IsFalse source'.has_failed × IsFalse trace'.has_failed
-      × ((result ≡ Err (Refused Memory)) ⊎ (IsTrue source'.has_ended × IsTrue trace'.has_ended))
-  pub few : (source'.calls ≤ source.calls + MOST_CALLS) × (trace'.calls ≤ trace.calls + MOST_CALLS)
-
 -- this holds of the bytes that were to be read; where these are not known, of some
 pub record HoldsOfInput (remaining : Option (List ℕ)) (Holds : List ℕ → Type 0) : Type 0 where
   pub input : List ℕ
   pub read : IfSome remaining (λ bytes. input ≡ bytes)
   pub holds : Holds input
 
--- The answer goes out; where there is none, nothing does. The writer, and only it, is blamed where
--- it failed.
+-- The answer goes out and is flushed; where there is none, nothing is written. The writer, and only
+-- it, is blamed where it failed.
 abbrev pub Writes : Result Replayed Refusal → (old new : SinkSeen)
     → Result Replayed ConsumeFault → Type 0
 Writes (Err e) old new result = (new ≡ old) × (result ≡ Err (Refused e))
 Writes (Ok r) old new (Ok given) =
-    (given ≡ r) × IsFalse new.has_failed × Appends old.bytes new.bytes r.bytes.items
-    × (new.calls ≤ old.calls + length r.bytes.items)
-Writes (Ok r) old new (Err Write) =
-    IsTrue new.has_failed × AppendsBeginning old.bytes new.bytes r.bytes.items
-    × (new.calls ≤ old.calls + length r.bytes.items)
+    (given ≡ r) × IsFalse new.has_failed × IsSent r.bytes.items old new
+Writes (Ok r) old new (Err Write) = IsTrue new.has_failed × IsSent r.bytes.items old new
 Writes (Ok r) old new (Err e) = ⊥
 
 -- what replay returns for the script over the trace is what goes out

@@ -2,7 +2,9 @@ pub mod Vocabulary
 pub mod Answer
 pub mod Bundle
 pub mod Consuming
+pub mod Lines
 pub mod Plans
+pub mod Program
 pub mod Refusals
 pub mod Replaying
 pub mod Scripts

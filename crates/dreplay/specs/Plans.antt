@@ -1,7 +1,7 @@
 -- Plans, and which thread is in which group of a plan.
-use Rattle.std.specs.Prelude.{◌≤◌, List, ⊤}
+use Rattle.std.specs.Prelude.{◌≡◌, ◌≤◌, List, ⊤}
 use Rattle.shard_queue.specs.{Faults.IsListed, Faults.IsListFault, Groupings.IsDealt, Threads.items_of}
-use Rattle.dreplay.specs.Vocabulary.{Firing, Grouping, GroupFault, GroupPlan, Dealt, Lists, Plan, MOST_GROUPS, MOST_WORKERS}
+use Rattle.dreplay.specs.Vocabulary.{Firing, Grouping, GroupFault, GroupPlan, Dealt, Lists, Plan, Dif, MOST_GROUPS, MOST_WORKERS}
 
 abbrev pub AreInBounds : GroupPlan → Type 0
 AreInBounds (Dealt n) = (1 ≤ n) × (n ≤ MOST_GROUPS)
@@ -11,6 +11,12 @@ AreInBounds (Lists lists) = ⊤
 pub record IsInBounds (plan : Plan) : Type 0 where
   pub workers : (1 ≤ plan.workers) × (plan.workers ≤ MOST_WORKERS)
   pub groups : AreInBounds plan.groups
+
+-- four workers, sixteen groups and compiled code
+pub record IsDefault (plan : Plan) : Type 0 where
+  pub workers : plan.workers ≡ 4
+  pub groups : plan.groups ≡ Dealt 16
+  pub engine : plan.engine ≡ Dif
 
 -- these are the plan's groups of a trace
 abbrev pub IsGroupedBy : GroupPlan → List Firing → Grouping → Type 0

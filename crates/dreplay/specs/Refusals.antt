@@ -1,6 +1,8 @@
 -- What the program says of a refusal, and how it ends.
-use Rattle.std.specs.Prelude.{◌≡◌, ◌⊎◌, ℕ, ℤ, List, [], ◌++◌, Result, Ok, Err, IsErr, codes, decimal}
-use Rattle.dreplay.specs.Vocabulary.{signed_decimal, LexFault, ParseFault, TypeFault, TraceFault, GroupFault, ConsumeFault, Read, Refused, Write, Replayed, Refusal, Lex, Parse, Typing, Trace, Group, Memory}
+use Rattle.std.specs.Prelude.{◌≡◌, ℕ, List, [], ◌∷◌, ◌++◌, Result, Ok, Err, codes}
+use Rattle.report.specs.Stream.{IsSent, SinkSeen}
+use Rattle.dreplay.specs.Lines.{column_part, line_part, row_part, thread_part}
+use Rattle.dreplay.specs.Vocabulary.{LexFault, ParseFault, TypeFault, TraceFault, GroupFault, ConsumeFault, Read, Refused, Write, Replayed, Refusal, Lex, Parse, Typing, Trace, Group, Memory}
 
 -- want of memory is one thing, whichever part it was in
 abbrev pub plain : Refusal → Refusal
@@ -12,15 +14,6 @@ plain (Group GroupFault.Memory) = Memory
 plain e = e
 
 -- ---- the program's line
-
-abbrev pub line_part : ℕ → List ℕ
-line_part line = codes " line " ++ decimal line
-
-abbrev pub row_part : ℕ → List ℕ
-row_part row = codes " row " ++ decimal row
-
-abbrev pub column_part : ℕ → List ℕ
-column_part column = codes " column " ++ decimal column
 
 -- the number of a fault, and the parts that it has
 abbrev pub lex_parts : LexFault → List ℕ
@@ -60,9 +53,6 @@ trace_parts (TraceFault.Reserved row) = codes "6" ++ row_part row
 trace_parts TraceFault.TooMany = codes "7"
 trace_parts TraceFault.Memory = []
 
-abbrev pub thread_part : ℤ → List ℕ
-thread_part thread = codes " thread " ++ signed_decimal thread
-
 abbrev pub group_parts : GroupFault → List ℕ
 group_parts (GroupFault.Missing thread) = codes "1" ++ thread_part thread
 group_parts (GroupFault.Doubled thread) = codes "2" ++ thread_part thread
@@ -79,13 +69,18 @@ reason_of (Trace f) = codes "trace refused: Trace " ++ trace_parts f
 reason_of (Group f) = codes "groups refused: Group " ++ group_parts f
 reason_of Memory = codes "out of memory"
 
-abbrev pub line_of : Refusal → List ℕ
-line_of e = codes "dreplay: " ++ reason_of (plain e)
+abbrev pub refusal_line : Refusal → List ℕ
+refusal_line e = codes "dreplay: " ++ reason_of (plain e)
 
 abbrev pub fault_line : ConsumeFault → List ℕ
 fault_line Read = codes "dreplay: read failed"
-fault_line (Refused e) = line_of e
+fault_line (Refused e) = refusal_line e
 fault_line Write = codes "dreplay: write failed"
+
+-- where there is no answer, its line goes to standard error
+abbrev pub IsReported : Result Replayed ConsumeFault → (old new : SinkSeen) → Type 0
+IsReported (Ok r) old new = new ≡ old
+IsReported (Err e) old new = IsSent (fault_line e ++ 10 ∷ []) old new
 
 -- ---- the status
 
@@ -107,8 +102,3 @@ status_at_end (Ok r) = r.status
 status_at_end (Err Read) = 1
 status_at_end (Err (Refused e)) = status_of e
 status_at_end (Err Write) = 1
-
--- it ends so; or, where the line of a fault had no room, as for want of memory
-abbrev pub EndsWith : Result Replayed ConsumeFault → ℕ → Type 0
-EndsWith answer status =
-    (status ≡ status_at_end answer) ⊎ (IsErr answer × (status ≡ status_of Memory))

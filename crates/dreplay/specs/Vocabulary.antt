@@ -1,6 +1,5 @@
 -- The names that the definitions share: of the program's own types, and of crates below.
 pub use Rattle.std.specs.Fmt.{signed_decimal}
-pub use Rattle.std.specs.Io.KnownBytes.{Appends}
 pub use Rattle.std.specs.List.{flat_map}
 pub use Rattle.std.specs.Str.{bytes_eq}
 pub use Rattle.std.specs.Str.Parse.{IsNumeral, digits_value, without_leading_plus}
@@ -19,6 +18,7 @@ pub use Rattle.d_parser.specs.declared.fault.TheConstants.{MOST_CLAUSES}
 pub use Rattle.d_types.specs.Typed.{ScriptMeant, functions_in}
 pub use Rattle.d_types.specs.TypedScripts.{typed_script_of}
 pub use Rattle.d_types.specs.declared.fault.TypeFault.{TypeFault}
+pub use Rattle.firing_reader.specs.Firings.{number_of}
 pub use Rattle.firing_reader.specs.Trace.{trace_of}
 pub use Rattle.firing_reader.specs.declared.fault.TraceFault.{TraceFault}
 pub use Rattle.firing_reader.specs.declared.firing.Firing.{Firing}

@@ -93,13 +93,14 @@ IsPlanFault rows (Usage e) = (kind_of e ≢ DisplayHelp) × (kind_of e ≢ OutOf
     × ((plan : Plan) → ¬ IsPlanIn rows plan)
 IsPlanFault rows Memory = Unit {0}
 
--- the fault is one that clap finds in the words: help that they ask for, or a mistake. Or they name
--- no plan
+-- the fault is one that clap finds in the words: help that they ask for, or a mistake; or clap
+-- finds none, and they name no plan
 abbrev pub IsFaultOf : List (List ℕ) → UsageFault → Type 0
 IsFaultOf words (Help e) =
     (kind_of e ≡ DisplayHelp) × IsAmong DisplayHelp (fault_of program words)
 IsFaultOf words (Usage e) = (kind_of e ≢ DisplayHelp) × (kind_of e ≢ OutOfMemory)
-    × (IsAmong (kind_of e) (fault_of program words) ⊎ ¬ HasPlan words)
+    × (IsAmong (kind_of e) (fault_of program words)
+    ⊎ ((fault_of program words ≡ []) × ¬ HasPlan words))
 IsFaultOf words Memory = Unit {0}
 
 -- clap's error is reported as what it is
@@ -129,10 +130,3 @@ pub data AsksHelp : List (List ℕ) → Type 0 where
 pub data Mistakes : List (List ℕ) → ErrorKind → Type 0 where
   no_file : Mistakes (codes "-s" ∷ []) InvalidValue
   stray : (word : List ℕ) → ¬ IsOption word → Mistakes (word ∷ []) UnknownArgument
-
--- how the program ends without a run: help was shown, or could not be; the words are a mistake; or
--- memory ran out
-abbrev pub EndsUnasked : UsageFault → ℕ → Type 0
-EndsUnasked (Help e) status = (status ≡ 0) ⊎ (status ≡ 1)
-EndsUnasked (Usage e) status = status ≡ 2
-EndsUnasked Memory status = status ≡ 1

@@ -1,15 +1,14 @@
 //! From the bytes in to the bytes out.
 
 ghost use Rattle.std.specs.Prelude.{◌≡◌, ◌≢◌, List, ℕ, Err, IfErr, IsFalse};
-ghost use Rattle.dreplay.specs.{Bundle.Divides, Consuming.AreReadToEnd, Consuming.HoldsOfInput, Consuming.IsReadToEnd, Consuming.Shows, Consuming.fault_of_reading, Plans.IsInBounds};
+ghost use Rattle.dreplay.specs.{Bundle.Divides, Consuming.HoldsOfInput, Consuming.IsReadToEnd, Consuming.Shows, Consuming.fault_of_reading, Plans.IsInBounds};
 
 use crate::bundle::{Division, divide};
 use crate::plan::{Plan, Replayed};
 use crate::refusal::Refusal;
 use crate::replaying::replay;
-use report::{Feed, ReadFault, Sink, emit, read_to_end};
+use report::{Feed, ReadFault, Sink, read_to_end, send};
 use std::alloc::Global;
-use std::random::RandomSource;
 use std::sync::Wait;
 use std::thread::Threads;
 use thiserror::Error;
@@ -23,7 +22,8 @@ pub enum ConsumeFault {
     /// There is no answer. Nothing was written.
     #[error("{0}")]
     Refused(Refusal),
-    /// The writer failed. A beginning of the answer was written.
+    /// The writer failed. A beginning of the answer was written, or all of it where it failed as it
+    /// was flushed.
     #[error("write failed")]
     Write,
 }
@@ -39,8 +39,8 @@ impl From<ReadFault> for ConsumeFault {
     }
 }
 
-/// Reads a bundle to its end, runs its script over its trace, and writes what the script shows.
-/// Nothing is written unless there is an answer.
+/// Reads a bundle to its end, runs its script over its trace, writes what the script shows and
+/// flushes the writer. Nothing is written unless there is an answer.
 ///
 /// ```text
 /// // `BEGIN { trace(1); }`, a line `---` and a trace
@@ -49,7 +49,7 @@ impl From<ReadFault> for ConsumeFault {
 /// let replayed = consume(&rt, alloc, &mut feed, &mut sink, &plan)?;
 /// sink.into_inner(); // `1` and a line feed, as `replayed.bytes`
 /// ```
-pub fn consume<R: RandomSource + Threads + Wait + Sync, F: Feed, S: Sink>(
+pub fn consume<R: Threads + Wait + Sync, F: Feed, S: Sink>(
     rt: &R,
     alloc: Global,
     feed: &mut F,
@@ -70,8 +70,8 @@ pub fn consume<R: RandomSource + Threads + Wait + Sync, F: Feed, S: Sink>(
     show(rt, alloc, divide(&bundle), sink, plan)
 }
 
-/// Reads a trace to its end, runs the script over it, and writes what the script shows. Nothing is
-/// written unless there is an answer.
+/// Reads a trace to its end, runs the script over it, writes what the script shows and flushes the
+/// writer. Nothing is written unless there is an answer.
 ///
 /// ```text
 /// let mut feed = Watched::new(trace.as_slice());
@@ -79,7 +79,7 @@ pub fn consume<R: RandomSource + Threads + Wait + Sync, F: Feed, S: Sink>(
 /// consume_trace(&rt, alloc, b"BEGIN { trace(1); }", &mut feed, &mut sink, &plan)?;
 /// sink.into_inner(); // `1` and a line feed
 /// ```
-pub fn consume_trace<R: RandomSource + Threads + Wait + Sync, F: Feed, S: Sink>(
+pub fn consume_trace<R: Threads + Wait + Sync, F: Feed, S: Sink>(
     rt: &R,
     alloc: Global,
     script: &[u8],
@@ -104,34 +104,8 @@ pub fn consume_trace<R: RandomSource + Threads + Wait + Sync, F: Feed, S: Sink>(
     show(rt, alloc, parts, sink, plan)
 }
 
-/// Reads a script to its end and then a trace, runs the one over the other, and writes what the
-/// script shows.
-pub fn consume_apart<R: RandomSource + Threads + Wait + Sync, C: Feed, F: Feed, S: Sink>(
-    rt: &R,
-    alloc: Global,
-    source: &mut C,
-    feed: &mut F,
-    sink: &mut S,
-    plan: &Plan,
-) -> Result<Replayed, ConsumeFault>
-    requires plan { IsInBounds plan.now }
-    requires source { IsFalse (C.seen source.old).has_failed }
-    requires feed { IsFalse (F.seen feed.old).has_failed }
-    requires sink { IsFalse (S.seen sink.old).has_failed }
-    ensures read { AreReadToEnd (C.seen source.old) (C.seen source.new)
-        (F.seen feed.old) (F.seen feed.new) result }
-    ensures shown { result ≢ Err ConsumeFault.Read
-        → HoldsOfInput (C.seen source.old).remaining (λ script.
-        HoldsOfInput (F.seen feed.old).remaining (λ trace.
-        Shows script trace plan.now (S.seen sink.old) (S.seen sink.new) result)) }
-    ensures untouched { result ≢ Err ConsumeFault.Write → IfErr result (λ e. sink.new ≡ sink.old) }
-{
-    let script = read_to_end(alloc, source)?;
-    consume_trace(rt, alloc, &script, feed, sink, plan)
-}
-
 // Runs a script over a trace, and writes what the script shows.
-fn show<R: RandomSource + Threads + Wait + Sync, S: Sink>(
+fn show<R: Threads + Wait + Sync, S: Sink>(
     rt: &R,
     alloc: Global,
     parts: Division<'_>,
@@ -146,8 +120,8 @@ fn show<R: RandomSource + Threads + Wait + Sync, S: Sink>(
     ensures untouched { result ≢ Err ConsumeFault.Write → IfErr result (λ e. sink.new ≡ sink.old) }
 {
     match replay(rt, alloc, parts.script, parts.trace, plan) {
-        Ok(replayed) => match emit(sink, &replayed.bytes) {
-            Ok(_) => Ok(replayed),
+        Ok(replayed) => match send(sink, &replayed.bytes) {
+            Ok(()) => Ok(replayed),
             Err(_) => Err(ConsumeFault::Write),
         },
         Err(refusal) => Err(ConsumeFault::Refused(refusal)),

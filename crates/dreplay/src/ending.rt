@@ -1,25 +1,56 @@
 //! How the program ends: what it says on standard error, and its status.
 
-ghost use Rattle.std.specs.Prelude.{◌≡◌, IfOk, string_bytes};
-ghost use Rattle.dreplay.specs.Refusals.{fault_line, status_at_end};
+ghost use Rattle.std.specs.Prelude.{◌≡◌, ◌∷◌, ◌++◌, ◌≤◌, [], IsFalse, length};
+ghost use Rattle.report.specs.Stream.{IsSent};
+ghost use Rattle.dreplay.specs.{Lines.reason_bytes, Refusals.IsReported, Refusals.fault_line, Refusals.status_at_end};
 
 use crate::consuming::ConsumeFault;
+use crate::line::{MOST_TEXT, Place, Reason, reason_line};
 use crate::plan::Replayed;
-use crate::refusal::{refusal_status, refusal_text};
-use std::alloc::{AllocError, Global};
+use crate::refusal::{refusal_reason, refusal_status};
+use report::{Sink, send};
 
-/// The line that the program writes to standard error, without its line feed.
+/// Says on the errors' stream why there is no answer, where there is none, and returns the status
+/// that the program ends with. It takes no memory.
 ///
 /// ```text
-/// fault_text(alloc, &ConsumeFault::Write)?; // `dreplay: write failed`
+/// end(&mut errors, &Err(ConsumeFault::Write)); // 1, and the line `dreplay: write failed`
 /// ```
-pub fn fault_text(alloc: Global, fault: &ConsumeFault) -> Result<String, AllocError>
-    ensures { IfOk result (λ text. string_bytes text ≡ fault_line fault.now) }
+pub fn end<E: Sink>(errors: &mut E, answer: &Result<Replayed, ConsumeFault>) -> u8
+    requires { IsFalse (E.seen errors.old).has_failed }
+    ensures status { result ≡ status_at_end answer.now }
+    ensures line { IsReported answer.now (E.seen errors.old) (E.seen errors.new) }
 {
-    match fault {
-        ConsumeFault::Read => String::from_str(alloc, "dreplay: read failed"),
-        ConsumeFault::Refused(refusal) => refusal_text(alloc, refusal),
-        ConsumeFault::Write => String::from_str(alloc, "dreplay: write failed"),
+    if let Err(fault) = answer {
+        tell(errors, fault);
+    }
+    status_at_end(answer)
+}
+
+// Writes the line of a fault in one piece. Where that fails the status still tells what the fault
+// was.
+fn tell<E: Sink>(errors: &mut E, fault: &ConsumeFault)
+    requires { IsFalse (E.seen errors.old).has_failed }
+    ensures { IsSent (fault_line fault.now ++ 10 ∷ []) (E.seen errors.old) (E.seen errors.new) }
+{
+    let mut line = reason_line(fault_reason(fault));
+    line.push('\n');
+    let _ = send(errors, line.as_str().as_bytes());
+}
+
+// What the line of a fault says, and of which place.
+fn fault_reason(fault: &ConsumeFault) -> Reason
+    ensures bytes { reason_bytes result ≡ fault_line fault.now }
+    ensures short { length result.text.now ≤ MOST_TEXT }
+{
+    let text = match fault {
+        ConsumeFault::Read => "dreplay: read failed",
+        ConsumeFault::Refused(refusal) => return refusal_reason(refusal),
+        ConsumeFault::Write => "dreplay: write failed",
+    };
+    Reason {
+        text,
+        place: Place::Nowhere,
     }
 }
 

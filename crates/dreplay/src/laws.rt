@@ -1,9 +1,9 @@
 //! Laws of what bundles, scripts and answers mean: each holds of the definitions, and its function
 //! computes nothing.
 
-ghost use Rattle.std.specs.Prelude.{◌≡◌, ◌∷◌, [], ℕ, List, Option, Result};
+ghost use Rattle.std.specs.Prelude.{◌≡◌, ◌∷◌, ◌⊎◌, [], ℕ, List, Option, Result, Ok, Err};
 ghost use Rattle.clap.specs.Words.{fault_of, matches_of};
-ghost use Rattle.dreplay.specs.{Vocabulary.DisplayHelp, Vocabulary.ErrorKind, Vocabulary.Refusal, Answer.IsAnswer, Answer.IsSameAnswer, Answer.Shown, Bundle.Divides, Words.AsksHelp, Words.Mistakes, Words.Runs, Words.file_in, Words.program};
+ghost use Rattle.dreplay.specs.{Vocabulary.Asked, Vocabulary.DisplayHelp, Vocabulary.ErrorKind, Vocabulary.Plan, Vocabulary.Refusal, Vocabulary.Replayed, Answer.IsAnswer, Answer.IsSameAnswer, Answer.Shown, Answer.without_line, Bundle.Divides, Plans.IsDefault, Replaying.IsOfPlan, Replaying.IsReplay, Replaying.output_of, Words.Asks, Words.AsksHelp, Words.Mistakes, Words.Runs, Words.file_in, Words.program};
 
 /// A bundle is divided in one way.
 pub fn one_division()
@@ -28,10 +28,38 @@ pub fn has_answer()
     ensures { (script trace : List ℕ) → (a : Result Shown Refusal) × IsAnswer script trace a }
 {}
 
+/// What is replayed is the answer, and so is the first refusal, where the plan and memory have no
+/// part in it.
+pub fn replay_answers()
+    ensures shown { (script trace : List ℕ) (plan : Plan) (r : Replayed)
+        → IsReplay script trace plan (Ok r) → IsAnswer script trace (Ok (output_of r)) }
+    ensures refused { (script trace : List ℕ) (plan : Plan) (e : Refusal)
+        → IsReplay script trace plan (Err e) → IsAnswer script trace (Err e) ⊎ IsOfPlan e }
+{}
+
+/// Two replays of a script and a trace give the same, under whatever plans: the same bytes and
+/// status, or the same refusal, unless the plan or memory has a part in one.
+pub fn replays_agree()
+    ensures shown { (script trace : List ℕ) (p q : Plan) (a b : Replayed)
+        → IsReplay script trace p (Ok a) → IsReplay script trace q (Ok b)
+        → (a.bytes.items ≡ b.bytes.items) × (a.status ≡ b.status) }
+    ensures refused { (script trace : List ℕ) (p q : Plan) (e f : Refusal)
+        → IsReplay script trace p (Err e) → IsReplay script trace q (Err f)
+        → (without_line e ≡ without_line f) ⊎ IsOfPlan e ⊎ IsOfPlan f }
+    ensures apart { (script trace : List ℕ) (p q : Plan) (a : Replayed) (e : Refusal)
+        → IsReplay script trace p (Ok a) → IsReplay script trace q (Err e) → IsOfPlan e }
+{}
+
 /// Without words a bundle is run, and with `-s FILE` the script of that file.
 pub fn runs_accepted()
     ensures { (words : List (List ℕ)) (file : Option (List ℕ)) → Runs words file
         → (fault_of program words ≡ []) × (file_in (matches_of program words) ≡ file) }
+{}
+
+/// Without words, and with `-s FILE`, the plan has 4 workers, 16 groups and compiled code.
+pub fn plans_by_default()
+    ensures { (words : List (List ℕ)) (file : Option (List ℕ)) (asked : Asked) → Runs words file
+        → Asks words asked → IsDefault asked.plan }
 {}
 
 /// `-h` and `--help` ask for help.

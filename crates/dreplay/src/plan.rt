@@ -1,7 +1,12 @@
 //! How a run is carried out, and what it gave.
 
+ghost use Rattle.std.specs.Prelude.{◌≡◌};
+
+use keyed_hash::HashKey;
+
 /// How a run is carried out. The answer is the same under every plan.
-#[derive(Debug, Drop, PartialEq, Eq)]
+#[derive(Drop)]
+#[derive_where(Debug, PartialEq, Eq)]
 pub struct Plan {
     /// How many workers there are, from 1 to `MOST_WORKERS`.
     pub workers: u32,
@@ -9,6 +14,39 @@ pub struct Plan {
     pub groups: GroupPlan,
     /// What evaluates the script.
     pub engine: EngineKind,
+    /// What the hashes of the run's maps depend on beside their keys.
+    #[derive_where(skip)]
+    pub hash_key: HashKey,
+}
+
+impl Plan {
+    /// A plan whose maps hash by a fixed key: whoever writes the trace could choose what falls
+    /// together in them, and so make the run slow.
+    ///
+    /// ```text
+    /// let plan = Plan::new(4, GroupPlan::Dealt(16), EngineKind::Dif);
+    /// let plan = plan.hashed_by(HashKey::random(&rt)); // for the traces of strangers
+    /// ```
+    pub fn new(workers: u32, groups: GroupPlan, engine: EngineKind) -> Plan
+        ensures workers { result.workers ≡ workers }
+        ensures groups { result.groups ≡ groups }
+        ensures engine { result.engine ≡ engine }
+    {
+        let hash_key = HashKey::of_seed(&[]);
+        Plan {
+            workers,
+            groups,
+            engine,
+            hash_key,
+        }
+    }
+
+    /// The same plan, whose maps hash by this key.
+    pub fn hashed_by(self, hash_key: HashKey) -> Plan
+        ensures { result ≡ record self { hash_key = hash_key } }
+    {
+        Plan { hash_key, ..self }
+    }
 }
 
 /// How the threads of a trace are grouped.

@@ -1,9 +1,10 @@
 //! Why a script or a trace is refused, and what the program says of it.
 
-ghost use Rattle.std.specs.Prelude.{◌≡◌, IfOk, string_bytes};
+ghost use Rattle.std.specs.Prelude.{◌≡◌, ◌≤◌, IfOk, length, string_bytes};
 ghost use Rattle.dreplay.specs.declared.refusal.Refusal.TheVariants.{Group, Lex, Memory, Parse, Trace, Typing};
-ghost use Rattle.dreplay.specs.Refusals.{line_of, plain, status_of};
+ghost use Rattle.dreplay.specs.{Lines.reason_bytes, Refusals.refusal_line, Refusals.plain, Refusals.status_of};
 
+use crate::line::{MOST_TEXT, Place, Reason, reason_line};
 use d_lexer::LexFault;
 use d_parser::ParseFault;
 use d_types::TypeFault;
@@ -138,133 +139,127 @@ impl From<GroupFault> for Refusal {
 /// refusal_text(alloc, &refusal)?; // `dreplay: trace refused: Trace 4 row 9`
 /// ```
 pub fn refusal_text(alloc: Global, refusal: &Refusal) -> Result<String, AllocError>
-    ensures { IfOk result (λ text. string_bytes text ≡ line_of refusal.now) }
+    ensures { IfOk result (λ text. string_bytes text ≡ refusal_line refusal.now) }
+{
+    String::from_str(alloc, reason_line(refusal_reason(refusal)).as_str())
+}
+
+/// What that line says, and of which place.
+pub fn refusal_reason(refusal: &Refusal) -> Reason
+    ensures bytes { reason_bytes result ≡ refusal_line refusal.now }
+    ensures short { length result.text.now ≤ MOST_TEXT }
 {
     match refusal {
-        Refusal::Lex(fault) => lex_text(alloc, *fault),
-        Refusal::Parse(fault) => parse_text(alloc, *fault),
-        Refusal::Typing(fault) => type_text(alloc, fault),
-        Refusal::Trace(fault) => trace_text(alloc, *fault),
-        Refusal::Group(fault) => group_text(alloc, *fault),
-        Refusal::Memory => String::from_str(alloc, "dreplay: out of memory"),
+        Refusal::Lex(fault) => lex_reason(*fault),
+        Refusal::Parse(fault) => parse_reason(*fault),
+        Refusal::Typing(fault) => type_reason(fault),
+        Refusal::Trace(fault) => trace_reason(*fault),
+        Refusal::Group(fault) => group_reason(*fault),
+        Refusal::Memory => OUT_OF_MEMORY,
     }
 }
 
-fn lex_text(alloc: Global, fault: LexFault) -> Result<String, AllocError>
-    ensures { IfOk result (λ text. string_bytes text ≡ line_of (Refusal.Lex fault)) }
+const OUT_OF_MEMORY: Reason = Reason {
+    text: "dreplay: out of memory",
+    place: Place::Nowhere,
+};
+
+fn lex_reason(fault: LexFault) -> Reason
+    ensures bytes { reason_bytes result ≡ refusal_line (Refusal.Lex fault) }
+    ensures short { length result.text.now ≤ MOST_TEXT }
 {
-    match fault {
-        LexFault::TooLong => format!(in alloc; "dreplay: script refused: Lex 1"),
-        LexFault::BadByte { line } => {
-            format!(in alloc; "dreplay: script refused: Lex 2 line {line}")
-        }
-        LexFault::Unclosed { line } => {
-            format!(in alloc; "dreplay: script refused: Lex 3 line {line}")
-        }
-        LexFault::Constant { line } => {
-            format!(in alloc; "dreplay: script refused: Lex 4 line {line}")
-        }
-        LexFault::Escape { line } => {
-            format!(in alloc; "dreplay: script refused: Lex 5 line {line}")
-        }
-        LexFault::OptionLine { line } => {
-            format!(in alloc; "dreplay: script refused: Lex 6 line {line}")
-        }
-        LexFault::Memory => String::from_str(alloc, "dreplay: out of memory"),
+    let (text, place) = match fault {
+        LexFault::TooLong => ("dreplay: script refused: Lex 1", Place::Nowhere),
+        LexFault::BadByte { line } => ("dreplay: script refused: Lex 2", Place::Line(line)),
+        LexFault::Unclosed { line } => ("dreplay: script refused: Lex 3", Place::Line(line)),
+        LexFault::Constant { line } => ("dreplay: script refused: Lex 4", Place::Line(line)),
+        LexFault::Escape { line } => ("dreplay: script refused: Lex 5", Place::Line(line)),
+        LexFault::OptionLine { line } => ("dreplay: script refused: Lex 6", Place::Line(line)),
+        LexFault::Memory => return OUT_OF_MEMORY,
+    };
+    Reason { text, place }
+}
+
+fn parse_reason(fault: ParseFault) -> Reason
+    ensures bytes { reason_bytes result ≡ refusal_line (Refusal.Parse fault) }
+    ensures short { length result.text.now ≤ MOST_TEXT }
+{
+    let (text, place) = match fault {
+        ParseFault::Syntax { line } => ("dreplay: script refused: Parse 1", Place::Line(line)),
+        ParseFault::TooDeep => ("dreplay: script refused: Parse 2", Place::Nowhere),
+        ParseFault::TooManyClauses => ("dreplay: script refused: Parse 3", Place::Nowhere),
+        ParseFault::Memory => return OUT_OF_MEMORY,
+    };
+    Reason { text, place }
+}
+
+fn type_reason(fault: &TypeFault) -> Reason
+    ensures bytes { reason_bytes result ≡ refusal_line (Refusal.Typing fault.now) }
+    ensures short { length result.text.now ≤ MOST_TEXT }
+{
+    let (text, line) = match fault {
+        TypeFault::GlobalAssignment { line, .. } => ("dreplay: script refused: Type 1", *line),
+        TypeFault::Undeclared { line } => ("dreplay: script refused: Type 2", *line),
+        TypeFault::Mismatch { line } => ("dreplay: script refused: Type 3", *line),
+        TypeFault::Keys { line } => ("dreplay: script refused: Type 4", *line),
+        TypeFault::AggregationRedefined { line } => ("dreplay: script refused: Type 5", *line),
+        TypeFault::LquantizeBounds { line } => ("dreplay: script refused: Type 6", *line),
+        TypeFault::PrintfArguments { line } => ("dreplay: script refused: Type 7", *line),
+        TypeFault::ReadOnly { line } => ("dreplay: script refused: Type 8", *line),
+        TypeFault::NoRegister { line } => ("dreplay: script refused: Type 9", *line),
+        TypeFault::Memory => return OUT_OF_MEMORY,
+    };
+    Reason {
+        text,
+        place: Place::Line(line),
     }
 }
 
-fn parse_text(alloc: Global, fault: ParseFault) -> Result<String, AllocError>
-    ensures { IfOk result (λ text. string_bytes text ≡ line_of (Refusal.Parse fault)) }
+fn trace_reason(fault: TraceFault) -> Reason
+    ensures bytes { reason_bytes result ≡ refusal_line (Refusal.Trace fault) }
+    ensures short { length result.text.now ≤ MOST_TEXT }
 {
-    match fault {
-        ParseFault::Syntax { line } => {
-            format!(in alloc; "dreplay: script refused: Parse 1 line {line}")
-        }
-        ParseFault::TooDeep => format!(in alloc; "dreplay: script refused: Parse 2"),
-        ParseFault::TooManyClauses => format!(in alloc; "dreplay: script refused: Parse 3"),
-        ParseFault::Memory => String::from_str(alloc, "dreplay: out of memory"),
-    }
-}
-
-fn type_text(alloc: Global, fault: &TypeFault) -> Result<String, AllocError>
-    ensures { IfOk result (λ text. string_bytes text ≡ line_of (Refusal.Typing fault.now)) }
-{
-    match fault {
-        TypeFault::GlobalAssignment { line, .. } => {
-            format!(in alloc; "dreplay: script refused: Type 1 line {line}")
-        }
-        TypeFault::Undeclared { line } => {
-            format!(in alloc; "dreplay: script refused: Type 2 line {line}")
-        }
-        TypeFault::Mismatch { line } => {
-            format!(in alloc; "dreplay: script refused: Type 3 line {line}")
-        }
-        TypeFault::Keys { line } => {
-            format!(in alloc; "dreplay: script refused: Type 4 line {line}")
-        }
-        TypeFault::AggregationRedefined { line } => {
-            format!(in alloc; "dreplay: script refused: Type 5 line {line}")
-        }
-        TypeFault::LquantizeBounds { line } => {
-            format!(in alloc; "dreplay: script refused: Type 6 line {line}")
-        }
-        TypeFault::PrintfArguments { line } => {
-            format!(in alloc; "dreplay: script refused: Type 7 line {line}")
-        }
-        TypeFault::ReadOnly { line } => {
-            format!(in alloc; "dreplay: script refused: Type 8 line {line}")
-        }
-        TypeFault::NoRegister { line } => {
-            format!(in alloc; "dreplay: script refused: Type 9 line {line}")
-        }
-        TypeFault::Memory => String::from_str(alloc, "dreplay: out of memory"),
-    }
-}
-
-// A trace's fault has a row, and perhaps a column.
-fn trace_text(alloc: Global, fault: TraceFault) -> Result<String, AllocError>
-    ensures { IfOk result (λ text. string_bytes text ≡ line_of (Refusal.Trace fault)) }
-{
-    match fault {
-        TraceFault::Header => format!(in alloc; "dreplay: trace refused: Trace 1"),
-        TraceFault::Columns { row } => {
-            format!(in alloc; "dreplay: trace refused: Trace 2 row {row}")
-        }
+    let (text, place) = match fault {
+        TraceFault::Header => ("dreplay: trace refused: Trace 1", Place::Nowhere),
+        TraceFault::Columns { row } => ("dreplay: trace refused: Trace 2", Place::Row(row)),
         TraceFault::Number { row, column } => {
-            format!(in alloc; "dreplay: trace refused: Trace 3 row {row} column {column}")
+            (
+                "dreplay: trace refused: Trace 3",
+                Place::Field { row, column },
+            )
         }
-        TraceFault::Order { row } => {
-            format!(in alloc; "dreplay: trace refused: Trace 4 row {row}")
-        }
+        TraceFault::Order { row } => ("dreplay: trace refused: Trace 4", Place::Row(row)),
         TraceFault::Text { row, column } => {
-            format!(in alloc; "dreplay: trace refused: Trace 5 row {row} column {column}")
+            (
+                "dreplay: trace refused: Trace 5",
+                Place::Field { row, column },
+            )
         }
-        TraceFault::Reserved { row } => {
-            format!(in alloc; "dreplay: trace refused: Trace 6 row {row}")
-        }
-        TraceFault::TooMany => format!(in alloc; "dreplay: trace refused: Trace 7"),
-        TraceFault::Memory => String::from_str(alloc, "dreplay: out of memory"),
-    }
+        TraceFault::Reserved { row } => ("dreplay: trace refused: Trace 6", Place::Row(row)),
+        TraceFault::TooMany => ("dreplay: trace refused: Trace 7", Place::Nowhere),
+        TraceFault::Memory => return OUT_OF_MEMORY,
+    };
+    Reason { text, place }
 }
 
-// A fault of a thread has its number.
-fn group_text(alloc: Global, fault: GroupFault) -> Result<String, AllocError>
-    ensures { IfOk result (λ text. string_bytes text ≡ line_of (Refusal.Group fault)) }
+fn group_reason(fault: GroupFault) -> Reason
+    ensures bytes { reason_bytes result ≡ refusal_line (Refusal.Group fault) }
+    ensures short { length result.text.now ≤ MOST_TEXT }
 {
-    match fault {
+    let (text, place) = match fault {
         GroupFault::Missing { thread } => {
-            format!(in alloc; "dreplay: groups refused: Group 1 thread {thread}")
+            ("dreplay: groups refused: Group 1", Place::Thread(thread))
         }
         GroupFault::Doubled { thread } => {
-            format!(in alloc; "dreplay: groups refused: Group 2 thread {thread}")
+            ("dreplay: groups refused: Group 2", Place::Thread(thread))
         }
         GroupFault::Stranger { thread } => {
-            format!(in alloc; "dreplay: groups refused: Group 3 thread {thread}")
+            ("dreplay: groups refused: Group 3", Place::Thread(thread))
         }
-        GroupFault::TooMany => format!(in alloc; "dreplay: groups refused: Group 4"),
-        GroupFault::Memory => String::from_str(alloc, "dreplay: out of memory"),
-    }
+        GroupFault::TooMany => ("dreplay: groups refused: Group 4", Place::Nowhere),
+        GroupFault::Memory => return OUT_OF_MEMORY,
+    };
+    Reason { text, place }
 }
 
 /// The status that the program ends with.

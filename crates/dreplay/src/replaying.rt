@@ -1,8 +1,9 @@
 //! The answer of a script over a trace.
 
-ghost use Rattle.std.specs.Prelude.{◌≡◌, ◌≤◌, ℕ, IfOk, List, unwrap_or, option_map};
+ghost use Rattle.std.specs.Prelude.{◌≡◌, ◌≤◌, IfOk, List, unwrap_or, option_map};
 ghost use Rattle.shard_queue.specs.{Groups.AreOf, Groups.grouping, Threads.run_threads};
-ghost use Rattle.dreplay.specs.{Vocabulary.Firing, Vocabulary.Grouping, Vocabulary.functions_in, Vocabulary.functions_of, Vocabulary.typed_script_of, Plans.IsInBounds, Replaying.IsRunBy, Replaying.IsReplay, Replaying.IsShownOf};
+ghost use Rattle.replay_core.specs.Exit.{firings_over};
+ghost use Rattle.dreplay.specs.{Vocabulary.Firing, Vocabulary.Grouping, Vocabulary.Plan, Vocabulary.functions_in, Vocabulary.functions_of, Vocabulary.typed_script_of, Answer.IsShown, Plans.IsGroupedBy, Plans.IsInBounds, Replaying.IsCarriedOut, Replaying.IsRunBy, Replaying.IsReplay, Replaying.output_of};
 
 use crate::grouping::groups_of;
 use crate::plan::{EngineKind, Plan, Replayed};
@@ -11,12 +12,10 @@ use crate::scripts::read_script;
 use d_types::{TypedScript, check};
 use dif_codegen::compile;
 use firing_reader::{Trace, read_trace_by};
-use keyed_hash::HashKey;
 use replay_core::{DifLanes, Gate, OpenGate, Ran, TreeLanes, run_all};
 use report::render;
 use shard_queue::Groups;
 use std::alloc::{AllocError, Global};
-use std::random::RandomSource;
 use std::sync::Wait;
 use std::thread::Threads;
 
@@ -25,13 +24,13 @@ use std::thread::Threads;
 ///
 /// ```text
 /// let (groups, engine) = (GroupPlan::Dealt(16), EngineKind::Dif);
-/// let plan = Plan { workers: 4, groups, engine };
+/// let plan = Plan::new(4, groups, engine);
 /// let replayed = replay(&rt, alloc, b"BEGIN { trace(1); exit(3); }", &trace, &plan)?;
 /// replayed.bytes; // `1` and a line feed
 /// replayed.status; // 3
 /// replay(&rt, alloc, b"BEGIN {\n 08 }", &trace, &plan); // Err(Refusal::Lex(..)), of line 2
 /// ```
-pub fn replay<R: RandomSource + Threads + Wait + Sync>(
+pub fn replay<R: Threads + Wait + Sync>(
     rt: &R,
     alloc: Global,
     script: &[u8],
@@ -50,7 +49,7 @@ pub fn replay<R: RandomSource + Threads + Wait + Sync>(
 /// ```text
 /// replay_with(&rt, alloc, script, trace, &plan, &OpenGate); // as `replay` does
 /// ```
-pub fn replay_with<R: RandomSource + Threads + Wait + Sync, G: Gate + Sync>(
+pub fn replay_with<R: Threads + Wait + Sync, G: Gate + Sync>(
     rt: &R,
     alloc: Global,
     script: &[u8],
@@ -63,7 +62,7 @@ pub fn replay_with<R: RandomSource + Threads + Wait + Sync, G: Gate + Sync>(
 {
     let tree = read_script(alloc, script)?;
     let script = check(alloc, tree)?;
-    let trace = read_trace_by(rt, alloc, HashKey::random(rt), trace, plan.workers)?;
+    let trace = read_trace_by(rt, alloc, plan.hash_key, trace, plan.workers)?;
     let groups = groups_of(alloc, &plan.groups, &trace)?;
     let ran = run(rt, alloc, &script, &trace, &groups, plan, gate)?;
     let replayed = run_output(rt, alloc, &script, ran)?;
@@ -71,7 +70,7 @@ pub fn replay_with<R: RandomSource + Threads + Wait + Sync, G: Gate + Sync>(
 }
 
 // Runs a script over a trace, by the engine and the workers of a plan.
-fn run<R: RandomSource + Threads + Wait + Sync, G: Gate + Sync>(
+fn run<R: Threads + Wait + Sync, G: Gate + Sync>(
     rt: &R,
     alloc: Global,
     script: &TypedScript,
@@ -87,7 +86,7 @@ fn run<R: RandomSource + Threads + Wait + Sync, G: Gate + Sync>(
         plan.now.workers) }
 {
     let workers = plan.workers;
-    let hash_key = HashKey::random(rt);
+    let hash_key = plan.hash_key;
     match plan.engine {
         EngineKind::Tree => {
             let lanes = TreeLanes::new(hash_key, script);
@@ -109,9 +108,11 @@ fn run_output<R: Threads + Sync>(
     ran: Ran,
 ) -> Result<Replayed, AllocError>
     requires { functions_of ran.whole.table ≡ functions_in (typed_script_of script.now) }
-    ensures { (firings : List Firing) (grouping : Grouping) (workers : ℕ)
-        → IsRunBy (typed_script_of script.now) firings grouping workers ran
-        → IfOk result (IsShownOf (typed_script_of script.now) firings grouping workers) }
+    ensures { let m = typed_script_of script.now in
+        (plan : Plan) (trace : List Firing) (grouping : Grouping)
+        → IsGroupedBy plan.groups trace grouping → IsRunBy m trace grouping plan.workers ran
+        → IfOk result (λ r. IsShown m trace (output_of r)
+        × IsCarriedOut plan trace (firings_over m trace) r) }
 {
     let bytes = render(rt, alloc, script, &ran.whole)?;
     Ok(Replayed {

@@ -4,7 +4,7 @@
 ghost use Rattle.std.specs.Prelude.{IfOk};
 ghost use Rattle.dreplay.specs.Plans.{IsInBounds};
 
-use crate::consuming::{ConsumeFault, consume, consume_apart};
+use crate::consuming::{ConsumeFault, consume, consume_trace};
 use crate::plan::{EngineKind, GroupPlan, Plan, Replayed};
 use crate::refusal::{Refusal, refusal_status, refusal_text};
 use crate::replaying::{replay, replay_with};
@@ -13,13 +13,13 @@ use d_lexer::LexFault;
 use d_parser::ParseFault;
 use d_types::TypeFault;
 use firing_reader::TraceFault;
+use keyed_hash::HashKey;
 use replay_core::Gate;
-use report::Watched;
 use report::faulty::Faulty;
+use report::{Watched, read_to_end};
 use shard_queue::GroupFault;
 use std::alloc::{AllocError, AllocGlobal, Global};
 use std::process::Abort;
-use std::random::RandomSource;
 use std::sync::Wait;
 use std::sync::atomic::{AtomicU64, Ordering};
 use std::test::Fail;
@@ -137,12 +137,13 @@ fn serial() -> Plan
         workers: 1,
         groups: GroupPlan::Dealt(1),
         engine: EngineKind::Tree,
+        hash_key: HashKey::of_seed(&[]),
     }
 }
 
 // Consumes the bundle one byte a call, where these many calls of the reader and of the writer go
-// well.
-fn consume_by_bytes<R: AllocGlobal + RandomSource + Threads + Wait + Sync>(
+// well. The writer's last call is a flush.
+fn consume_by_bytes<R: AllocGlobal + Threads + Wait + Sync>(
     rt: &R,
     reads: u64,
     writes: u64,
@@ -154,7 +155,7 @@ fn consume_by_bytes<R: AllocGlobal + RandomSource + Threads + Wait + Sync>(
 }
 
 // Consumes the trace, with its script apart, in the same way.
-fn consume_trace_by_bytes<R: AllocGlobal + RandomSource + Threads + Wait + Sync>(
+fn consume_trace_by_bytes<R: AllocGlobal + Threads + Wait + Sync>(
     rt: &R,
     script_reads: u64,
     reads: u64,
@@ -164,7 +165,10 @@ fn consume_trace_by_bytes<R: AllocGlobal + RandomSource + Threads + Wait + Sync>
     let mut feed = Watched::new(Faulty::new(TRACE, reads));
     let mut sink = Watched::new(Faulty::new(Vec::new(rt.alloc()), writes));
     let plan = serial();
-    let answer = consume_apart(rt, rt.alloc(), &mut source, &mut feed, &mut sink, &plan);
+    let answer = match read_to_end(rt.alloc(), &mut source) {
+        Ok(script) => consume_trace(rt, rt.alloc(), &script, &mut feed, &mut sink, &plan),
+        Err(fault) => Err(ConsumeFault::from(fault)),
+    };
     (answer, sink.into_inner().into_inner())
 }
 
@@ -236,7 +240,7 @@ fn nothing_is_written_after_a_failed_read_of_a_script(rt: HostRuntime) {
 
 #[test]
 fn a_beginning_is_written_before_a_failed_write(rt: HostRuntime) {
-    for writes in 0..SHOWN.len() {
+    for writes in 0..=SHOWN.len() {
         let (answer, out) = consume_by_bytes(&rt, 1000, writes as u64);
         assert!(rt; matches!(answer, Err(ConsumeFault::Write)), "at {writes}");
         assert_eq!(rt; out.as_slice(), &SHOWN[..writes]);
@@ -268,6 +272,7 @@ fn plan_of_lists(alloc: Global, lists: &[&[i32]]) -> Result<Plan, AllocError>
         workers: 2,
         groups: GroupPlan::Lists(groups),
         engine: EngineKind::Dif,
+        hash_key: HashKey::of_seed(&[]),
     })
 }
 
@@ -340,14 +345,12 @@ impl Gate for Holding {
 }
 
 // Two groups run at the same time: the one goes on only after the other has begun.
-fn expect_held(
-    rt: &(impl Abort + AllocGlobal + RandomSource + Threads + Wait + Sync),
-    gate: &Holding,
-) {
+fn expect_held(rt: &(impl Abort + AllocGlobal + Threads + Wait + Sync), gate: &Holding) {
     let plan = Plan {
         workers: 2,
         groups: GroupPlan::Dealt(2),
         engine: EngineKind::Dif,
+        hash_key: HashKey::of_seed(&[]),
     };
     let answer = replay_with(rt, rt.alloc(), SCRIPT, TRACE, &plan, gate);
     assert!(rt; answer.is_ok());
@@ -388,6 +391,7 @@ fn words_name_a_plan(rt: HostRuntime) -> Result<(), Fail> {
                     workers,
                     groups: GroupPlan::Dealt(groups),
                     engine,
+                    hash_key: HashKey::of_seed(&[]),
                 };
                 assert!(rt; asked.plan == plan);
                 assert!(rt; asked.file.is_none());

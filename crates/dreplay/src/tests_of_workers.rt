@@ -138,6 +138,10 @@ impl<'a, L: Lanes> Lanes for MeetingLanes<'a, L> {
 
     ghost runs = { λ l m. L.runs l.lanes.now m };
 
+    fn exits(&self) -> bool {
+        self.lanes.exits()
+    }
+
     fn lane(&self, alloc: Global) -> Result<MeetingLane<'a, L::Lane>, AllocError> {
         let lane = self.lanes.lane(alloc)?;
         Ok(MeetingLane {

@@ -7,6 +7,7 @@ ghost use Rattle.dreplay.specs.{Vocabulary.into_iter_items, Words.Asks, Words.Ha
 use crate::plan::{EngineKind, GroupPlan, Plan};
 use clap::error::ErrorKind;
 use clap::{Arg, ArgMatches, Command, value_parser};
+use keyed_hash::HashKey;
 use shard_queue::{MOST_GROUPS, MOST_WORKERS};
 use std::alloc::{AllocError, Global};
 use std::env::Args;
@@ -21,6 +22,17 @@ pub struct Asked {
     pub file: Option<String>,
     /// How the run is carried out.
     pub plan: Plan,
+}
+
+impl Asked {
+    /// The same, where the run's maps hash by this key.
+    pub fn hashed_by(self, hash_key: HashKey) -> Asked
+        ensures { result ≡ record self { plan = record self.plan { hash_key = hash_key } } }
+    {
+        let Asked { file, plan } = self;
+        let plan = plan.hashed_by(hash_key);
+        Asked { file, plan }
+    }
 }
 
 /// Why the words ask for no run.
@@ -218,11 +230,7 @@ fn plan_in(alloc: Global, matches: &ArgMatches<'_>) -> Result<Plan, UsageFault>
     let Some(engine) = engine_named(matches) else {
         return Err(no_engine(alloc)?);
     };
-    Ok(Plan {
-        workers,
-        groups: GroupPlan::Dealt(groups),
-        engine,
-    })
+    Ok(Plan::new(workers, GroupPlan::Dealt(groups), engine))
 }
 
 // The mistake of a number that clap lets pass and that is none in its range. There is no such

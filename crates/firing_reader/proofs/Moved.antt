@@ -4,13 +4,16 @@ use Rattle.std.specs.Prelude.{slice_get}
 use Rattle.std.proofs.Math.Seq.{drop-append-add}
 use Rattle.std.proofs.lemmas.List.{length-map, map-append}
 use Rattle.std.proofs.lemmas.List.Elements.{All-head, All-tail, All-cons, All-nil, All-append}
-use Rattle.firing_reader.specs.declared.firings.Row.{Row}
-use Rattle.firing_reader.specs.Stored.{ArePlaces, Extends, IsMovable, IsRowIn, firing_in, moved_row}
+use Rattle.firing_reader.specs.declared.stored_row.Given.{Given}
+use Rattle.firing_reader.specs.declared.stored_row.Row.{Row}
+use Rattle.firing_reader.specs.declared.unit.Owner.{Owner}
+use Rattle.firing_reader.specs.declared.unit.Probe.{Probe}
+use Rattle.firing_reader.specs.Stored.{ArePlaces, Extends, IsMovable, IsRowIn, count_of, firing_in, first_of, moved_given, moved_row, no_owner, no_probe}
 use Rattle.firing_reader.proofs.Stored.{named_at, named_in, named_more, rows_more, seen_all}
 
 -- ---- places
 
-places_more : (t u : List (List ℕ)) (ps : List ℕ) (ts : List (List ℕ)) → Extends t u → ArePlaces t ps ts → ArePlaces u ps ts
+places_more : {X : Type 0} (t u : List X) (ps : List ℕ) (ts : List X) → Extends t u → ArePlaces t ps ts → ArePlaces u ps ts
 places_more t u [] [] e is = refl
 places_more t u [] (x ∷ xs) e is = absurd cc
 places_more t u (p ∷ ps) [] e is = absurd cc
@@ -20,92 +23,92 @@ places_more t u (p ∷ ps) (x ∷ xs) e is =
     rw (named_more t u p x e first, places_more t u ps xs e more) refl
 
 -- one place more
-pub place_more : (t u : List (List ℕ)) (ps : List ℕ) (ts : List (List ℕ)) (p : ℕ) (x : List ℕ) → Extends t u → ArePlaces t ps ts → slice_get u p ≡ Some x
+pub place_more : {X : Type 0} (t u : List X) (ps : List ℕ) (ts : List X) (p : ℕ) (x : X) → Extends t u → ArePlaces t ps ts → slice_get u p ≡ Some x
     → ArePlaces u (ps ++ p ∷ []) (ts ++ x ∷ [])
-place_more t u ps ts p x e are is =
-    rw (map-append (slice_get u) ps (p ∷ []), map-append (λ (l : List ℕ). Some l) ts (x ∷ []), places_more t u ps ts e are, is) refl
+place_more {X} t u ps ts p x e are is =
+    rw (map-append (slice_get u) ps (p ∷ []), map-append (λ (l : X). Some l) ts (x ∷ []), places_more t u ps ts e are, is) refl
 
-pub placed : (u : List (List ℕ)) (ps : List ℕ) (ts : List (List ℕ)) (i : ℕ) → ArePlaces u ps ts → i < length ts → slice_get u (get_or ps i 0) ≡ Some (get_or ts i [])
-placed u ps [] i are lt = absurd (omega arith)
-placed u [] (x ∷ xs) i are lt = absurd cc
-placed u (p ∷ ps) (x ∷ xs) zero are lt = cc
-placed u (p ∷ ps) (x ∷ xs) (suc i) are lt =
+pub placed : {X : Type 0} (u : List X) (ps : List ℕ) (ts : List X) (i : ℕ) (d : X) → ArePlaces u ps ts → i < length ts → slice_get u (get_or ps i 0) ≡ Some (get_or ts i d)
+placed u ps [] i d are lt = absurd (omega arith)
+placed u [] (x ∷ xs) i d are lt = absurd cc
+placed u (p ∷ ps) (x ∷ xs) zero d are lt = cc
+placed u (p ∷ ps) (x ∷ xs) (suc i) d are lt =
     let more : ArePlaces u ps xs = cc in
-    placed u ps xs i more (omega arith)
+    placed u ps xs i d more (omega arith)
 
-pub as_many : (u : List (List ℕ)) (ps : List ℕ) (ts : List (List ℕ)) → ArePlaces u ps ts → length ps ≡ length ts
-as_many u ps ts are =
+pub as_many : {X : Type 0} (u : List X) (ps : List ℕ) (ts : List X) → ArePlaces u ps ts → length ps ≡ length ts
+as_many {X} u ps ts are =
     let some = length-map ps (slice_get u) in
-    let all = length-map ts (λ (l : List ℕ). Some l) in
+    let all = length-map ts (λ (l : X). Some l) in
     sym some ∙ ap length are ∙ all
 
 -- ---- rows
 
-pub all_movable : (u ts : List (List ℕ)) (ps : List ℕ) (a o : List ℤ) (rs : List Row) → ArePlaces u ps ts → length (a ++ o) < 2 ^ 32 → All (IsRowIn ts o) rs
-    → All (IsMovable ps (length a)) rs
-all_movable u ts ps a o rs are few all = λ k d within. one (get_or rs k d) (all k d within)
+first_moved : (g : Given) (shift : ℕ) → first_of (moved_given shift g) ≡ first_of g + shift
+first_moved g shift = omega arith
+
+count_moved : (g : Given) (shift : ℕ) → count_of (moved_given shift g) ≡ count_of g
+count_moved g shift = omega arith
+
+pub all_movable : (q os : List Owner) (qs : List ℕ) (u ps : List Probe) (us : List ℕ) (a o : List ℤ) (rs : List Row) → ArePlaces q qs os → ArePlaces u us ps
+    → length (a ++ o) < 2 ^ 28 → All (IsRowIn os ps o) rs → All (IsMovable qs us (length a)) rs
+all_movable q os qs u ps us a o rs to tp few all = λ k d within. one (get_or rs k d) (all k d within)
   where
-    one : (r : Row) → IsRowIn ts o r → IsMovable ps (length a) r
+    one : (r : Row) → IsRowIn os ps o r → IsMovable qs us (length a) r
     one r h =
-        let many = as_many u ps ts are in
         let size = length-append a o in
         record {
-          execname = rw many h.execname;
-          provider = rw many h.provider;
-          probemod = rw many h.probemod;
-          probefunc = rw many h.probefunc;
-          name = rw many h.name;
-          args = omega (arith, size, few, h.inside);
+          owner = rw (as_many q qs os to) h.owner;
+          probe = rw (as_many u us ps tp) h.probe;
+          given = omega (arith, size, few, h.given);
         }
-
-moved_in : (u ts : List (List ℕ)) (ps : List ℕ) (a o : List ℤ) (r : Row) → ArePlaces u ps ts → IsRowIn ts o r → IsRowIn u (a ++ o) (moved_row ps (length a) r)
-moved_in u ts ps a o r are h =
-    let size = length-append a o in
-    record {
-      execname = named_in u _ _ (placed u ps ts r.execname are h.execname);
-      provider = named_in u _ _ (placed u ps ts r.provider are h.provider);
-      probemod = named_in u _ _ (placed u ps ts r.probemod are h.probemod);
-      probefunc = named_in u _ _ (placed u ps ts r.probefunc are h.probefunc);
-      name = named_in u _ _ (placed u ps ts r.name are h.name);
-      inside = omega (arith, size, h.inside);
-    }
 
 drop-append-from : (a o : List ℤ) (n : ℕ) → drop (n + length a) (a ++ o) ≡ drop n o
 drop-append-from a o n =
     let swap : n + length a ≡ length a + n = omega arith in
     rw swap (drop-append-add a o n)
 
-moved_same : (u ts : List (List ℕ)) (ps : List ℕ) (a o : List ℤ) (r : Row) → ArePlaces u ps ts → IsRowIn ts o r
-    → firing_in u (a ++ o) (moved_row ps (length a) r) ≡ firing_in ts o r
-moved_same u ts ps a o r are h =
+moved_in : (q os : List Owner) (qs : List ℕ) (u ps : List Probe) (us : List ℕ) (a o : List ℤ) (r : Row) → ArePlaces q qs os → ArePlaces u us ps → IsRowIn os ps o r
+    → IsRowIn q u (a ++ o) (moved_row qs us (length a) r)
+moved_in q os qs u ps us a o r to tp h =
+    let size = length-append a o in
+    record {
+      owner = named_in q _ _ (placed q qs os r.owner no_owner to h.owner);
+      probe = named_in u _ _ (placed u us ps r.probe no_probe tp h.probe);
+      given = omega (arith, size, h.given, first_moved r.given (length a), count_moved r.given (length a));
+    }
+
+moved_same : (q os : List Owner) (qs : List ℕ) (u ps : List Probe) (us : List ℕ) (a o : List ℤ) (r : Row) → ArePlaces q qs os → ArePlaces u us ps → IsRowIn os ps o r
+    → firing_in q u (a ++ o) (moved_row qs us (length a) r) ≡ firing_in os ps o r
+moved_same q os qs u ps us a o r to tp h =
     rw (
-      named_at u _ _ (placed u ps ts r.execname are h.execname),
-      named_at u _ _ (placed u ps ts r.provider are h.provider),
-      named_at u _ _ (placed u ps ts r.probemod are h.probemod),
-      named_at u _ _ (placed u ps ts r.probefunc are h.probefunc),
-      named_at u _ _ (placed u ps ts r.name are h.name),
-      drop-append-from a o r.args,
+      named_at q _ _ no_owner (placed q qs os r.owner no_owner to h.owner),
+      named_at u _ _ no_probe (placed u us ps r.probe no_probe tp h.probe),
+      first_moved r.given (length a),
+      count_moved r.given (length a),
+      drop-append-from a o (first_of r.given),
     ) refl
 
-all_moved_in : (u ts : List (List ℕ)) (ps : List ℕ) (a o : List ℤ) (rs : List Row) → ArePlaces u ps ts → All (IsRowIn ts o) rs
-    → All (IsRowIn u (a ++ o)) (map (moved_row ps (length a)) rs)
-all_moved_in u ts ps a o [] are all = All-nil (IsRowIn u (a ++ o))
-all_moved_in u ts ps a o (r ∷ rs) are all =
-    All-cons (IsRowIn u (a ++ o)) _ _ (moved_in u ts ps a o r are (All-head (IsRowIn ts o) r rs all)) (all_moved_in u ts ps a o rs are (All-tail (IsRowIn ts o) r rs all))
+all_moved_in : (q os : List Owner) (qs : List ℕ) (u ps : List Probe) (us : List ℕ) (a o : List ℤ) (rs : List Row) → ArePlaces q qs os → ArePlaces u us ps
+    → All (IsRowIn os ps o) rs → All (IsRowIn q u (a ++ o)) (map (moved_row qs us (length a)) rs)
+all_moved_in q os qs u ps us a o [] to tp all = All-nil (IsRowIn q u (a ++ o))
+all_moved_in q os qs u ps us a o (r ∷ rs) to tp all =
+    All-cons (IsRowIn q u (a ++ o)) _ _ (moved_in q os qs u ps us a o r to tp (All-head (IsRowIn os ps o) r rs all)) (all_moved_in q os qs u ps us a o rs to tp (All-tail (IsRowIn os ps o) r rs all))
 
-all_moved_same : (u ts : List (List ℕ)) (ps : List ℕ) (a o : List ℤ) (rs : List Row) → ArePlaces u ps ts → All (IsRowIn ts o) rs
-    → map (firing_in u (a ++ o)) (map (moved_row ps (length a)) rs) ≡ map (firing_in ts o) rs
-all_moved_same u ts ps a o [] are all = refl
-all_moved_same u ts ps a o (r ∷ rs) are all =
-    rw (moved_same u ts ps a o r are (All-head (IsRowIn ts o) r rs all), all_moved_same u ts ps a o rs are (All-tail (IsRowIn ts o) r rs all)) refl
+all_moved_same : (q os : List Owner) (qs : List ℕ) (u ps : List Probe) (us : List ℕ) (a o : List ℤ) (rs : List Row) → ArePlaces q qs os → ArePlaces u us ps
+    → All (IsRowIn os ps o) rs → map (firing_in q u (a ++ o)) (map (moved_row qs us (length a)) rs) ≡ map (firing_in os ps o) rs
+all_moved_same q os qs u ps us a o [] to tp all = refl
+all_moved_same q os qs u ps us a o (r ∷ rs) to tp all =
+    rw (moved_same q os qs u ps us a o r to tp (All-head (IsRowIn os ps o) r rs all), all_moved_same q os qs u ps us a o rs to tp (All-tail (IsRowIn os ps o) r rs all)) refl
 
 -- what stands after rows that were taken over
-pub followed_in : (t u ts : List (List ℕ)) (ps : List ℕ) (a o : List ℤ) (rs qs : List Row) → Extends t u → ArePlaces u ps ts → All (IsRowIn t a) rs → All (IsRowIn ts o) qs
-    → All (IsRowIn u (a ++ o)) (rs ++ map (moved_row ps (length a)) qs)
-followed_in t u ts ps a o rs qs e are own others =
-    All-append (IsRowIn u (a ++ o)) rs (map (moved_row ps (length a)) qs) (rows_more t u a (a ++ o) rs e (o, refl) own) (all_moved_in u ts ps a o qs are others)
+pub followed_in : (x q os : List Owner) (qs : List ℕ) (y u ps : List Probe) (us : List ℕ) (a o : List ℤ) (rs more : List Row) → Extends x q → Extends y u
+    → ArePlaces q qs os → ArePlaces u us ps → All (IsRowIn x y a) rs → All (IsRowIn os ps o) more → All (IsRowIn q u (a ++ o)) (rs ++ map (moved_row qs us (length a)) more)
+followed_in x q os qs y u ps us a o rs more ex ey to tp own others =
+    All-append (IsRowIn q u (a ++ o)) rs (map (moved_row qs us (length a)) more) (rows_more x q y u a (a ++ o) rs ex ey (o, refl) own) (all_moved_in q os qs u ps us a o more to tp others)
 
-pub followed_same : (t u ts : List (List ℕ)) (ps : List ℕ) (a o : List ℤ) (rs qs : List Row) → Extends t u → ArePlaces u ps ts → All (IsRowIn t a) rs → All (IsRowIn ts o) qs
-    → map (firing_in u (a ++ o)) (rs ++ map (moved_row ps (length a)) qs) ≡ map (firing_in t a) rs ++ map (firing_in ts o) qs
-followed_same t u ts ps a o rs qs e are own others =
-    rw (map-append (firing_in u (a ++ o)) rs (map (moved_row ps (length a)) qs), seen_all t u a (a ++ o) rs e (o, refl) own, all_moved_same u ts ps a o qs are others) refl
+pub followed_same : (x q os : List Owner) (qs : List ℕ) (y u ps : List Probe) (us : List ℕ) (a o : List ℤ) (rs more : List Row) → Extends x q → Extends y u
+    → ArePlaces q qs os → ArePlaces u us ps → All (IsRowIn x y a) rs → All (IsRowIn os ps o) more
+    → map (firing_in q u (a ++ o)) (rs ++ map (moved_row qs us (length a)) more) ≡ map (firing_in x y a) rs ++ map (firing_in os ps o) more
+followed_same x q os qs y u ps us a o rs more ex ey to tp own others =
+    rw (map-append (firing_in q u (a ++ o)) rs (map (moved_row qs us (length a)) more), seen_all x q y u a (a ++ o) rs ex ey (o, refl) own, all_moved_same q os qs u ps us a o more to tp others) refl

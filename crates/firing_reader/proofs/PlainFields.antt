@@ -1,9 +1,10 @@
 -- What the digits at the front of bytes write.
-use Rattle.std.proofs.Common.{zero, suc, get_or, take, ◌≡◌, ◌<◌, ◌≤◌, ◌^◌, ℕ, ℤ, pos, neg_ℤ, true, List, [], ◌∷◌, length, Option, Some, None, cond, leb, ltb, map, refl, sym, ap, ◌∙◌, arith, All, Bor}
+use Rattle.std.proofs.Common.{zero, suc, get_or, take, ◌≡◌, ◌<◌, ◌≤◌, ◌+◌, ◌^◌, ℕ, ℤ, pos, neg_ℤ, true, List, [], ◌∷◌, length, Option, Some, None, cond, leb, ltb, map, refl, sym, ap, ◌∙◌, arith, All, Bor}
 use Rattle.std.specs.Prelude.{IfSome}
 use Rattle.std.specs.Int.{IsInRange}
 use Rattle.std.specs.Str.Parse.{digits_value, AllDigits}
 use Rattle.std.proofs.lemmas.Str.Parse.{digit_at, digits_value_short}
+use Rattle.std.proofs.lemmas.Str.{digit_value_digit}
 use Rattle.std.proofs.lemmas.Bool.{le-leb, lt-ltb}
 use Rattle.std.proofs.lemmas.List.Elements.{All-cons, All-nil, All-head, All-tail}
 use Rattle.firing_reader.proofs.Numerals.{all_read, digits}
@@ -33,13 +34,29 @@ positive_read (b ∷ rest) n all value =
     let d = digit_at (b ∷ rest) 0 all (omega arith) in
     rw (is_not b 45 (λ e. absurd (omega (arith, d.0, d.1, e))), decimal_digits (b ∷ rest) (omega arith) all, value) refl
 
--- the field that writes 0
-pub zero_joins : All JoinsField (48 ∷ [])
-zero_joins = All-cons JoinsField 48 [] (digit_joins 48 (omega arith, omega arith)) (All-nil JoinsField)
+-- digits that 64 bits hold
+pub digits_fit : (xs : List ℕ) → AllDigits 10 xs → length xs ≤ 19 → digits_value 10 xs < 10 ^ 19
+digits_fit xs all few = digits_value_short (record { to = λ ds p. p; from = λ ds p. p; same = λ ds p. refl }) xs 19 all few
 
--- few digits write a number of few digits
-pub few_digits : (xs : List ℕ) → AllDigits 10 xs → length xs ≤ 18 → digits_value 10 xs < 10 ^ 18
-few_digits xs all few = digits_value_short (record { to = λ ds p. p; from = λ ds p. p; same = λ ds p. refl }) xs 18 all few
+-- one digit and what it writes
+pub one_joins : (d : ℕ) → d < 10 → All JoinsField ((48 + d) ∷ [])
+one_joins d lt = All-cons JoinsField (48 + d) [] (digit_joins (48 + d) (omega arith, omega arith)) (All-nil JoinsField)
+
+one_digits : (d : ℕ) → d < 10 → AllDigits 10 ((48 + d) ∷ [])
+one_digits d lt =
+    let is = digit_value_digit (48 + d) (omega arith, omega arith) in
+    (omega (arith, is), tt)
+
+one_value : (d : ℕ) → d < 10 → d ≡ digits_value 10 ((48 + d) ∷ [])
+one_value d lt =
+    let is = digit_value_digit (48 + d) (omega arith, omega arith) in
+    omega (arith, is)
+
+pub one_signed : (d : ℕ) → d < 10 → signed_of ((48 + d) ∷ []) ≡ Some (pos d)
+one_signed d lt = positive_read ((48 + d) ∷ []) d (one_digits d lt) (one_value d lt) ∙ rw (lt-ltb d (2 ^ 63) (omega arith)) refl
+
+pub one_whole : (d most : ℕ) → d < 10 → d ≤ most → whole_of 0 most ((48 + d) ∷ []) ≡ Some d
+one_whole d most lt le = whole_read ((48 + d) ∷ []) d 0 most (omega arith) (omega arith) (one_digits d lt) (one_value d lt) (omega arith) le
 
 minus_joins : JoinsField 45
 minus_joins = (λ e. absurd (omega (arith, e)), λ e. absurd (omega (arith, e)), λ e. absurd (omega (arith, e)), λ e. absurd (omega (arith, e)))

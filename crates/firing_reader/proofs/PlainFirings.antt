@@ -1,14 +1,15 @@
 -- The firing of a plain row.
-use Rattle.std.proofs.Common.{◌≡◌, ◌<◌, ◌≤◌, ℕ, ℤ, pos, false, List, [], ◌∷◌, map, Option, Some, None, Result, Ok, refl, ◌∙◌}
-use Rattle.std.specs.Prelude.{option_map, codes}
-use Rattle.std.specs.Str.{bytes_eq}
+use Rattle.std.proofs.Common.{◌≡◌, ◌<◌, ◌≤◌, ◌^◌, ℕ, ℤ, pos, List, [], ◌∷◌, map, Option, Some, None, Result, Ok, refl, ◌∙◌}
+use Rattle.std.specs.Prelude.{option_map}
 use Rattle.std.proofs.lemmas.Bool.{le-ltb, lt-ltb}
 use Rattle.csv.specs.Records.{field_at}
 use Rattle.firing_reader.specs.declared.fault.TraceFault.{TraceFault}
 use Rattle.firing_reader.specs.declared.firing.Firing.{Firing}
+use Rattle.firing_reader.specs.declared.unit.Owner.{Owner}
+use Rattle.firing_reader.specs.declared.unit.Probe.{Probe}
 use Rattle.firing_reader.proofs.PlainFields.{none_read}
 use Rattle.firing_reader.specs.Column.{signed_of}
-use Rattle.firing_reader.specs.Plain.{ReadsArguments, ReadsHead, ReadsNames}
+use Rattle.firing_reader.specs.Plain.{ReadsArguments, ReadsOwner, ReadsProbe, int_of, whole_of}
 use Rattle.firing_reader.specs.Row.{◌>>=◌, or_fault, args_at, columns_at, int_at, row_of, signed_at, text_at, whole_at}
 use Rattle.firing_reader.specs.Trace.{next_of}
 
@@ -30,9 +31,25 @@ next_arg o os (a ∷ more) e k front read next =
     let is : o ≡ Some a = cc in
     then_ok (or_fault o e) k a (or_ok o a e is) ∙ next a more cc
 
-module _ {b0 r0 b1 r1 b2 r2 : List ℕ} (f : Firing) (h : ReadsHead b0 r0 f.number f.cpu f.thread f.pid) (n : ReadsNames b1 r1 f.execname f.time f.provider f.probemod f.probefunc f.name) (a : ReadsArguments b2 r2 f.args) where
+-- who fired, and which probe
+abbrev pub owner_of : Firing → Owner
+owner_of f = record { thread = f.thread; pid = f.pid; execname = f.execname }
+
+abbrev pub probe_of : Firing → Probe
+probe_of f = record { provider = f.provider; probemod = f.probemod; probefunc = f.probefunc; name = f.name }
+
+-- the columns 1, 2 and 6: numbers, and the fields that write them
+pub record ReadsNumbers (f : Firing) : Type 0 where
+  pub x1 : List ℕ
+  pub x2 : List ℕ
+  pub x6 : List ℕ
+  pub is_number : whole_of 1 (2 ^ 62) x1 ≡ Some f.number
+  pub is_cpu : int_of 0 x2 ≡ Some f.cpu
+  pub is_time : whole_of 0 0xFFFF_FFFF_FFFF_FFFF x6 ≡ Some f.time
+
+module _ {b0 r0 b1 r1 b2 r2 : List ℕ} (f : Firing) (h : ReadsNumbers f) (o : ReadsOwner b0 r0 (owner_of f)) (n : ReadsProbe b1 r1 (probe_of f)) (a : ReadsArguments b2 r2 f.args) where
   abbrev pub fields : List (List ℕ)
-  fields = h.x1 ∷ h.x2 ∷ h.x3 ∷ h.x4 ∷ n.x5 ∷ n.x6 ∷ n.x7 ∷ n.x8 ∷ n.x9 ∷ n.x10 ∷ a.x0 ∷ a.x1 ∷ a.x2 ∷ a.x3 ∷ a.x4 ∷ a.x5 ∷ a.x6 ∷ a.x7 ∷ a.x8 ∷ a.x9 ∷ []
+  fields = h.x1 ∷ h.x2 ∷ o.x3 ∷ o.x4 ∷ o.x5 ∷ h.x6 ∷ n.x7 ∷ n.x8 ∷ n.x9 ∷ n.x10 ∷ a.x0 ∷ a.x1 ∷ a.x2 ∷ a.x3 ∷ a.x4 ∷ a.x5 ∷ a.x6 ∷ a.x7 ∷ a.x8 ∷ a.x9 ∷ []
 
   args_ok : (row : ℕ) → args_at row fields ≡ Ok f.args
   unfolding args_at signed_at field_at
@@ -54,16 +71,16 @@ module _ {b0 r0 b1 r1 b2 r2 : List ℕ} (f : Firing) (h : ReadsHead b0 r0 f.numb
   columns_ok row =
       then_ok _ _ f.number (or_ok _ _ _ h.is_number) ∙
       then_ok _ _ f.cpu (int_ok _ _ _ h.is_cpu) ∙
-      then_ok _ _ f.thread (int_ok _ _ _ h.is_thread) ∙
-      then_ok _ _ f.pid (int_ok _ _ _ h.is_pid) ∙
-      then_ok _ _ f.execname (or_ok _ _ _ n.is_execname) ∙
-      then_ok _ _ f.time (or_ok _ _ _ n.is_time) ∙
+      then_ok _ _ f.thread (int_ok _ _ _ o.is_thread) ∙
+      then_ok _ _ f.pid (int_ok _ _ _ o.is_pid) ∙
+      then_ok _ _ f.execname (or_ok _ _ _ o.is_execname) ∙
+      then_ok _ _ f.time (or_ok _ _ _ h.is_time) ∙
       then_ok _ _ f.provider (or_ok _ _ _ n.is_provider) ∙
       then_ok _ _ f.probemod (or_ok _ _ _ n.is_probemod) ∙
       then_ok _ _ f.probefunc (or_ok _ _ _ n.is_probefunc) ∙
       then_ok _ _ f.name (or_ok _ _ _ n.is_name) ∙
       then_ok _ _ f.args (args_ok row)
 
-  pub firing_ok : bytes_eq f.provider (codes "dtrace") ≡ false → (row last : ℕ) → row ≤ 1_000_000 → last < f.number → next_of row last fields ≡ Ok f
+  pub firing_ok : (row last : ℕ) → row ≤ 1_000_000 → last < f.number → next_of row last fields ≡ Ok f
   unfolding next_of row_of
-  firing_ok free row last few rises = rw (le-ltb 1_000_000 row few, columns_ok row, free, lt-ltb last f.number rises) refl
+  firing_ok row last few rises = rw (le-ltb 1_000_000 row few, columns_ok row, n.unreserved, lt-ltb last f.number rises) refl

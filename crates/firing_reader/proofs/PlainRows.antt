@@ -52,6 +52,10 @@ passes_more a b c f g p q before tail = p before tail ∙ q (before ++ f) tail �
 pub closes_more : (a b c : List ℕ) (f g : List (List ℕ)) → Passes a f b → Closes b g c → Closes a (f ++ g) c
 closes_more a b c f g p (after, is, q) = (after, is, λ before tail. p before tail ∙ q (before ++ f) tail ∙ ap (λ (fs : List (List ℕ)). Some (fs, st.StartRecord, after ++ tail)) (append_assoc before f g))
 
+-- fields that nothing is left of pass at the front of any bytes
+pub unit_passes : (key rest bytes : List ℕ) (fields : List (List ℕ)) → Passes key fields [] → bytes ≡ key ++ rest → Passes bytes fields rest
+unit_passes key rest bytes fields p is before tail = rw (is, append_assoc key rest tail) (p before (rest ++ tail))
+
 -- a row between two records, after the line feed of the one before
 pub row_read : (bytes line rest : List ℕ) (fields : List (List ℕ)) (first : ℕ) (more : List ℕ) → bytes ≡ 10 ∷ line → line ≡ first ∷ more → JoinsField first → Closes line fields rest
     → (after : List ℕ) × (rest ≡ 10 ∷ after) × ((tail : List ℕ) → next_record default_config st.StartRecord [] [] (bytes ++ tail) ≡ Some (fields, st.StartRecord, after ++ tail))

@@ -7,8 +7,10 @@ use Rattle.std.proofs.lemmas.List.{map-append, drop-append-le, append-nil}
 use Rattle.std.proofs.lemmas.List.Elements.{All-head, All-tail}
 use Rattle.std.proofs.lemmas.Option.{slice_get_within, get_or_from_slice_get}
 use Rattle.firing_reader.specs.declared.firing.Firing.{Firing}
-use Rattle.firing_reader.specs.declared.firings.Row.{Row}
-use Rattle.firing_reader.specs.Stored.{Extends, IsRowIn, firing_in, ten}
+use Rattle.firing_reader.specs.declared.stored_row.Row.{Row}
+use Rattle.firing_reader.specs.declared.unit.Owner.{Owner}
+use Rattle.firing_reader.specs.declared.unit.Probe.{Probe}
+use Rattle.firing_reader.specs.Stored.{Extends, IsRowIn, count_of, firing_in, first_of, no_owner, no_probe, ten}
 
 pub extends_same : {X : Type 0} (xs : List X) → Extends xs xs
 extends_same xs = ([], sym (append-nil xs))
@@ -34,45 +36,42 @@ length-drop-from zero m xs le = omega arith
 length-drop-from (suc n) m [] le = absurd (omega arith)
 length-drop-from (suc n) m (x ∷ xs) le = length-drop-from n m xs (omega arith)
 
-part_more : {X : Type 0} (xs ys : List X) (n m : ℕ) → Extends xs ys → n + m ≤ length xs → take m (drop n ys) ≡ take m (drop n xs)
+pub part_more : {X : Type 0} (xs ys : List X) (n m : ℕ) → Extends xs ys → n + m ≤ length xs → take m (drop n ys) ≡ take m (drop n xs)
 part_more xs ys n m (a, e) le = rw (e, drop-append-le n xs a (omega arith)) (take-append-le m (drop n xs) a (length-drop-from n m xs le))
 
 -- what is kept after them changes no row
-pub row_more : (t u : List (List ℕ)) (a b : List ℤ) (r : Row) → Extends t u → Extends a b → IsRowIn t a r → IsRowIn u b r
-row_more t u a b r et ea h = record {
-  execname = within_more t u (suc r.execname) et h.execname;
-  provider = within_more t u (suc r.provider) et h.provider;
-  probemod = within_more t u (suc r.probemod) et h.probemod;
-  probefunc = within_more t u (suc r.probefunc) et h.probefunc;
-  name = within_more t u (suc r.name) et h.name;
-  inside = within_more a b (r.args + r.given) ea h.inside;
+pub row_more : (o q : List Owner) (p u : List Probe) (a b : List ℤ) (r : Row) → Extends o q → Extends p u → Extends a b → IsRowIn o p a r → IsRowIn q u b r
+row_more o q p u a b r eo ep ea h = record {
+  owner = within_more o q (suc r.owner) eo h.owner;
+  probe = within_more p u (suc r.probe) ep h.probe;
+  given = within_more a b (first_of r.given + count_of r.given) ea h.given;
 }
 
-pub seen_same : (t u : List (List ℕ)) (a b : List ℤ) (r : Row) → Extends t u → Extends a b → IsRowIn t a r → firing_in u b r ≡ firing_in t a r
-seen_same t u a b r et ea h = rw (found_more t u r.execname [] et h.execname, found_more t u r.provider [] et h.provider, found_more t u r.probemod [] et h.probemod, found_more t u r.probefunc [] et h.probefunc, found_more t u r.name [] et h.name, part_more a b r.args r.given ea h.inside) refl
+pub seen_same : (o q : List Owner) (p u : List Probe) (a b : List ℤ) (r : Row) → Extends o q → Extends p u → Extends a b → IsRowIn o p a r → firing_in q u b r ≡ firing_in o p a r
+seen_same o q p u a b r eo ep ea h = rw (found_more o q r.owner no_owner eo h.owner, found_more p u r.probe no_probe ep h.probe, part_more a b (first_of r.given) (count_of r.given) ea h.given) refl
 
-pub rows_more : (t u : List (List ℕ)) (a b : List ℤ) (rs : List Row) → Extends t u → Extends a b → All (IsRowIn t a) rs → All (IsRowIn u b) rs
-rows_more t u a b rs et ea all = λ k d within. row_more t u a b (get_or rs k d) et ea (all k d within)
+pub rows_more : (o q : List Owner) (p u : List Probe) (a b : List ℤ) (rs : List Row) → Extends o q → Extends p u → Extends a b → All (IsRowIn o p a) rs → All (IsRowIn q u b) rs
+rows_more o q p u a b rs eo ep ea all = λ k d within. row_more o q p u a b (get_or rs k d) eo ep ea (all k d within)
 
-pub seen_all : (t u : List (List ℕ)) (a b : List ℤ) (rs : List Row) → Extends t u → Extends a b → All (IsRowIn t a) rs → map (firing_in u b) rs ≡ map (firing_in t a) rs
-seen_all t u a b [] et ea all = refl
-seen_all t u a b (r ∷ rs) et ea all = rw (seen_same t u a b r et ea (All-head (IsRowIn t a) r rs all), seen_all t u a b rs et ea (All-tail (IsRowIn t a) r rs all)) refl
+pub seen_all : (o q : List Owner) (p u : List Probe) (a b : List ℤ) (rs : List Row) → Extends o q → Extends p u → Extends a b → All (IsRowIn o p a) rs → map (firing_in q u b) rs ≡ map (firing_in o p a) rs
+seen_all o q p u a b [] eo ep ea all = refl
+seen_all o q p u a b (r ∷ rs) eo ep ea all = rw (seen_same o q p u a b r eo ep ea (All-head (IsRowIn o p a) r rs all), seen_all o q p u a b rs eo ep ea (All-tail (IsRowIn o p a) r rs all)) refl
 
--- a text at its place
-pub named_at : (t : List (List ℕ)) (p : ℕ) (text : List ℕ) → slice_get t p ≡ Some text → get_or t p [] ≡ text
-named_at t p text is = get_or_from_slice_get t p text [] is
+-- what is at its place
+pub named_at : {X : Type 0} (xs : List X) (p : ℕ) (x d : X) → slice_get xs p ≡ Some x → get_or xs p d ≡ x
+named_at xs p x d is = get_or_from_slice_get xs p x d is
 
-pub named_in : (t : List (List ℕ)) (p : ℕ) (text : List ℕ) → slice_get t p ≡ Some text → p < length t
-named_in t p text is = slice_get_within t p text is
+pub named_in : {X : Type 0} (xs : List X) (p : ℕ) (x : X) → slice_get xs p ≡ Some x → p < length xs
+named_in xs p x is = slice_get_within xs p x is
 
-pub named_more : (t u : List (List ℕ)) (p : ℕ) (text : List ℕ) → Extends t u → slice_get t p ≡ Some text → slice_get u p ≡ Some text
-named_more [] u p text e is = absurd cc
-named_more (x ∷ xs) u zero text (a, e) is = rw e is
-named_more (x ∷ xs) u (suc p) text (a, e) is = rw e (named_more xs (xs ++ a) p text (a, refl) is)
+pub named_more : {X : Type 0} (xs ys : List X) (p : ℕ) (x : X) → Extends xs ys → slice_get xs p ≡ Some x → slice_get ys p ≡ Some x
+named_more [] ys p y e is = absurd cc
+named_more (x ∷ xs) ys zero y (a, e) is = rw e is
+named_more (x ∷ xs) ys (suc p) y (a, e) is = rw e (named_more xs (xs ++ a) p y (a, refl) is)
 
 -- one firing more
-pub stored : (t : List (List ℕ)) (a : List ℤ) (rs : List Row) (r : Row) (f : Firing) (old : List Firing) → map (firing_in t a) rs ≡ old → firing_in t a r ≡ f → map (firing_in t a) (rs ++ r ∷ []) ≡ old ++ f ∷ []
-stored t a rs r f old is one = map-append (firing_in t a) rs (r ∷ []) ∙ rw (is, one) refl
+pub stored : (o : List Owner) (p : List Probe) (a : List ℤ) (rs : List Row) (r : Row) (f : Firing) (old : List Firing) → map (firing_in o p a) rs ≡ old → firing_in o p a r ≡ f → map (firing_in o p a) (rs ++ r ∷ []) ≡ old ++ f ∷ []
+stored o p a rs r f old is one = map-append (firing_in o p a) rs (r ∷ []) ∙ rw (is, one) refl
 
 -- the arguments of one firing, after those of the others
 pub part_kept : (a b xs : List ℤ) → b ≡ a ++ xs → take (length xs) (drop (length a) b) ≡ xs

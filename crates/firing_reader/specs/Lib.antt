@@ -9,3 +9,4 @@ pub mod Ends
 pub mod Faults
 pub mod Plain
 pub mod Stored
+pub mod Units

@@ -1,8 +1,10 @@
 -- Plain rows, which are read where they lie in a trace: their fields have no quote, comma or end of
 -- a line in them.
-use Rattle.std.specs.Prelude.{◌≡◌, ◌≢◌, ◌<◌, ◌+◌, ◌≤◌, ◌^◌, ℕ, List, [], ◌∷◌, ◌++◌, length, All, Option, Some, codes, option_and_then, option_map, map, Result, Ok, pos, ℤ}
+use Rattle.std.specs.Prelude.{◌≡◌, ◌≢◌, false, ◌<◌, ◌+◌, ◌≤◌, ◌^◌, ℕ, List, [], ◌∷◌, ◌++◌, length, All, Option, Some, codes, option_and_then, option_map, map, Result, Ok, pos, ℤ}
 use Rattle.csv.specs.declared.parser.State.{State}
-use Rattle.firing_reader.specs.Vocabulary.{next_record, default_config, TraceFault, Firing, MOST_ROWS}
+use Rattle.firing_reader.specs.declared.unit.Owner.{Owner}
+use Rattle.firing_reader.specs.declared.unit.Probe.{Probe}
+use Rattle.firing_reader.specs.Vocabulary.{bytes_eq, next_record, default_config, TraceFault, Firing, MOST_ROWS}
 use Rattle.firing_reader.specs.{Column.decimal_of, Column.signed_of, Column.text_of, Left.left_in, Trace.last_number, Trace.next_of, Trace.rows_of}
 use Rattle.firing_reader.specs.Row.{◌>>=◌, within}
 
@@ -41,34 +43,28 @@ whole_of least most bytes = option_and_then (within least most) (decimal_of byte
 abbrev pub int_of : ℕ → List ℕ → Option ℤ
 int_of least bytes = option_map pos (whole_of least 0x7FFF_FFFF bytes)
 
--- the first four columns: numbers, and the fields that write them
-pub record ReadsHead (bytes rest : List ℕ) (number : ℕ) (cpu thread pid : ℤ) : Type 0 where
-  pub x1 : List ℕ
-  pub x2 : List ℕ
+-- the columns 3 to 5: who fired, and the fields that write it
+pub record ReadsOwner (bytes rest : List ℕ) (o : Owner) : Type 0 where
   pub x3 : List ℕ
   pub x4 : List ℕ
-  pub passes : Passes bytes (x1 ∷ x2 ∷ x3 ∷ x4 ∷ []) rest
-  pub is_number : whole_of 1 (2 ^ 62) x1 ≡ Some number
-  pub is_cpu : int_of 0 x2 ≡ Some cpu
-  pub is_thread : int_of 1 x3 ≡ Some thread
-  pub is_pid : int_of 0 x4 ≡ Some pid
-
--- the columns 5 to 10: texts and the time, and the fields that write them
-pub record ReadsNames (bytes rest execname : List ℕ) (time : ℕ)
-    (provider probemod probefunc name : List ℕ) : Type 0 where
   pub x5 : List ℕ
-  pub x6 : List ℕ
+  pub passes : Passes bytes (x3 ∷ x4 ∷ x5 ∷ []) rest
+  pub is_thread : int_of 1 x3 ≡ Some o.thread
+  pub is_pid : int_of 0 x4 ≡ Some o.pid
+  pub is_execname : text_of x5 ≡ Some o.execname
+
+-- the columns 7 to 10: a probe that isn't reserved, and the fields that write it
+pub record ReadsProbe (bytes rest : List ℕ) (p : Probe) : Type 0 where
   pub x7 : List ℕ
   pub x8 : List ℕ
   pub x9 : List ℕ
   pub x10 : List ℕ
-  pub passes : Passes bytes (x5 ∷ x6 ∷ x7 ∷ x8 ∷ x9 ∷ x10 ∷ []) rest
-  pub is_execname : text_of x5 ≡ Some execname
-  pub is_time : whole_of 0 0xFFFF_FFFF_FFFF_FFFF x6 ≡ Some time
-  pub is_provider : text_of x7 ≡ Some provider
-  pub is_probemod : text_of x8 ≡ Some probemod
-  pub is_probefunc : text_of x9 ≡ Some probefunc
-  pub is_name : text_of x10 ≡ Some name
+  pub passes : Passes bytes (x7 ∷ x8 ∷ x9 ∷ x10 ∷ []) rest
+  pub is_provider : text_of x7 ≡ Some p.provider
+  pub is_probemod : text_of x8 ≡ Some p.probemod
+  pub is_probefunc : text_of x9 ≡ Some p.probefunc
+  pub is_name : text_of x10 ≡ Some p.name
+  pub unreserved : bytes_eq p.provider (codes "dtrace") ≡ false
 
 -- the last ten columns: arguments, and the fields that write them
 pub record ReadsArguments (bytes rest : List ℕ) (args : List ℤ) : Type 0 where

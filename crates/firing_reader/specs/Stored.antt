@@ -1,7 +1,11 @@
--- Firings as a trace stores them: rows of small fixed size, a pool of texts, a list of arguments.
-use Rattle.std.specs.Prelude.{◌≡◌, ◌<◌, ◌≤◌, ◌+◌, ◌^◌, ℕ, ℤ, pos, List, [], ◌∷◌, ◌++◌, Some, length, get_or, slice_get, map, take, drop}
+-- Firings as a trace stores them: rows of small fixed size, and apart from them what rows share and
+-- their arguments.
+use Rattle.std.specs.Prelude.{◌≡◌, ◌<◌, ◌≤◌, ◌+◌, ◌*◌, ◌/◌, ◌%◌, ◌^◌, ℕ, ℤ, pos, List, [], ◌∷◌, ◌++◌, Some, length, get_or, slice_get, map, take, drop}
 use Rattle.firing_reader.specs.declared.firing.Firing.{Firing}
-use Rattle.firing_reader.specs.declared.firings.Row.{Row}
+use Rattle.firing_reader.specs.declared.stored_row.Given.{Given}
+use Rattle.firing_reader.specs.declared.stored_row.Row.{Row}
+use Rattle.firing_reader.specs.declared.unit.Owner.{Owner}
+use Rattle.firing_reader.specs.declared.unit.Probe.{Probe}
 
 -- a list that goes on where another ends
 abbrev pub Extends : {X : Type 0} → List X → List X → Type 0
@@ -13,55 +17,69 @@ ten xs = get_or xs 0 (pos 0) ∷ get_or xs 1 (pos 0) ∷ get_or xs 2 (pos 0) ∷
     ∷ get_or xs 4 (pos 0) ∷ get_or xs 5 (pos 0) ∷ get_or xs 6 (pos 0) ∷ get_or xs 7 (pos 0)
     ∷ get_or xs 8 (pos 0) ∷ get_or xs 9 (pos 0) ∷ []
 
--- the arguments that a row has of its own
-abbrev pub given_in : List ℤ → Row → List ℤ
-given_in args r = take r.given (drop r.args args)
+-- where a row's own arguments begin among those of all, and how many they are
+abbrev pub first_of : Given → ℕ
+first_of g = g.packed / 16
+
+abbrev pub count_of : Given → ℕ
+count_of g = g.packed % 16
+
+-- a row's own arguments
+abbrev pub given_in : List ℤ → Given → List ℤ
+given_in args g = take (count_of g) (drop (first_of g) args)
+
+-- there are as many arguments
+abbrev pub IsGivenIn : List ℤ → Given → Type 0
+IsGivenIn args g = first_of g + count_of g ≤ length args
+
+-- what has no place
+abbrev pub no_owner : Owner
+no_owner = record { thread = pos 0; pid = pos 0; execname = [] }
+
+abbrev pub no_probe : Probe
+no_probe = record { provider = []; probemod = []; probefunc = []; name = [] }
 
 -- the firing of a row
-abbrev pub firing_in : List (List ℕ) → List ℤ → Row → Firing
-firing_in texts args r = record {
+abbrev pub firing_in : List Owner → List Probe → List ℤ → Row → Firing
+firing_in owners probes args r = record {
   number = r.number;
   cpu = r.cpu;
-  thread = r.thread;
-  pid = r.pid;
-  execname = get_or texts r.execname [];
+  thread = (get_or owners r.owner no_owner).thread;
+  pid = (get_or owners r.owner no_owner).pid;
+  execname = (get_or owners r.owner no_owner).execname;
   time = r.time;
-  provider = get_or texts r.provider [];
-  probemod = get_or texts r.probemod [];
-  probefunc = get_or texts r.probefunc [];
-  name = get_or texts r.name [];
-  args = ten (given_in args r);
+  provider = (get_or probes r.probe no_probe).provider;
+  probemod = (get_or probes r.probe no_probe).probemod;
+  probefunc = (get_or probes r.probe no_probe).probefunc;
+  name = (get_or probes r.probe no_probe).name;
+  args = ten (given_in args r.given);
 }
 
 -- what a row names is there
-pub record IsRowIn (texts : List (List ℕ)) (args : List ℤ) (r : Row) : Type 0 where
-  pub execname : r.execname < length texts
-  pub provider : r.provider < length texts
-  pub probemod : r.probemod < length texts
-  pub probefunc : r.probefunc < length texts
-  pub name : r.name < length texts
-  pub inside : r.args + r.given ≤ length args
+pub record IsRowIn (owners : List Owner) (probes : List Probe) (args : List ℤ) (r : Row) : Type 0 where
+  pub owner : r.owner < length owners
+  pub probe : r.probe < length probes
+  pub given : IsGivenIn args r.given
 
--- the places in a pool where these other texts are, one for each
-abbrev pub ArePlaces : List (List ℕ) → List ℕ → List (List ℕ) → Type 0
-ArePlaces texts places others = map (slice_get texts) places ≡ map (λ t. Some t) others
+-- the places where these others are, one for each
+abbrev pub ArePlaces : {X : Type 0} → List X → List ℕ → List X → Type 0
+ArePlaces all places others = map (slice_get all) places ≡ map (λ x. Some x) others
 
--- a row with the places of its texts in another pool, and with arguments that begin so much later
-abbrev pub moved_row : List ℕ → ℕ → Row → Row
-moved_row places shift r = record r {
-  execname = get_or places r.execname 0;
-  provider = get_or places r.provider 0;
-  probemod = get_or places r.probemod 0;
-  probefunc = get_or places r.probefunc 0;
-  name = get_or places r.name 0;
-  args = r.args + shift;
+-- as many arguments that begin so much later
+abbrev pub moved_given : ℕ → Given → Given
+moved_given shift g = record { packed = g.packed + 16 * shift }
+
+-- a row with the places of its owner and its probe among others, and with arguments that begin so
+-- much later
+abbrev pub moved_row : List ℕ → List ℕ → ℕ → Row → Row
+moved_row owners probes shift r = record r {
+  owner = get_or owners r.owner 0;
+  probe = get_or probes r.probe 0;
+  given = moved_given shift r.given;
 }
 
--- there is a place for each text that the row names, and for its first argument
-pub record IsMovable (places : List ℕ) (shift : ℕ) (r : Row) : Type 0 where
-  pub execname : r.execname < length places
-  pub provider : r.provider < length places
-  pub probemod : r.probemod < length places
-  pub probefunc : r.probefunc < length places
-  pub name : r.name < length places
-  pub args : r.args + shift < 2 ^ 32
+-- there is a place for the row's owner, for its probe, and for its first argument
+pub record IsMovable (owners probes : List ℕ) (shift : ℕ) (r : Row) : Type 0 where
+  pub owner : r.owner < length owners
+  pub probe : r.probe < length probes
+  pub given : first_of r.given + shift < 2 ^ 28

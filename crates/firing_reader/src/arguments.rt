@@ -1,30 +1,33 @@
 //! Arguments as they are stored: without the zeros at the end.
 
 ghost use Rattle.std.specs.Prelude.{◌≡◌, ◌<◌, ◌≤◌, ◌+◌, ◌^◌, ◌++◌, ℕ, pos, IfSome, get_or, length, take, drop};
-ghost use Rattle.firing_reader.specs.Stored.{Extends, ten};
+ghost use Rattle.firing_reader.specs.Stored.{Extends, IsGivenIn, given_in, ten};
 
-/// Keeps the arguments up to the last that isn't 0: where they begin among all, and how many there
-/// are.
-pub(crate) fn keep_arguments(all: &mut Vec<i64>, args: &[i64; 10]) -> Option<(u32, u32)>
+use crate::stored_row::Given;
+
+/// Keeps the arguments up to the last that isn't 0.
+pub(crate) fn keep_arguments(all: &mut Vec<i64>, args: &[i64; 10]) -> Option<Given>
     ensures grows { Extends all.old.items all.new.items }
-    ensures inside { IfSome result (λ p. p.0 + p.1 ≤ length all.new.items) }
-    ensures args { IfSome result (λ p. ten (take p.1 (drop p.0 all.new.items)) ≡ args.now) }
+    ensures inside { IfSome result (IsGivenIn all.new.items) }
+    ensures args { IfSome result (λ g. ten (given_in all.new.items g) ≡ args.now) }
 {
-    let begin = u32::try_from(all.len()).ok()?;
-    let given = leading_count(args);
-    all.extend_from_slice(&args[..given]).ok()?;
-    Some((begin, given as u32))
+    let first = all.len();
+    let count = leading_count(args);
+    all.extend_from_slice(&args[..count]).ok()?;
+    Given::new(first, count as u32)
 }
 
 /// Adds the arguments of other firings to all: the place of the first of them.
 pub(crate) fn add_arguments(all: &mut Vec<i64>, others: &[i64]) -> Option<u32>
     ensures place { IfSome result (λ place. place ≡ length all.old.items) }
     ensures args { IfSome result (λ _. all.new.items ≡ all.old.items ++ others.now) }
-    ensures few { IfSome result (λ _. length all.new.items < 2 ^ 32) }
+    ensures few { IfSome result (λ _. length all.new.items < 2 ^ 28) }
 {
     let place = u32::try_from(all.len()).ok()?;
     all.extend_from_slice(others).ok()?;
-    u32::try_from(all.len()).ok()?;
+    if all.len() >= 1 << 28 {
+        return None;
+    }
     Some(place)
 }
 

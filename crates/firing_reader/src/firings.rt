@@ -1,40 +1,27 @@
-//! The firings of a trace, as they are stored: rows of small fixed size, each distinct text once,
-//! and of the arguments no zeros at the end.
+//! The firings of a trace, as they are stored: rows of small fixed size, each owner and each probe
+//! once, and of the arguments no zeros at the end.
 
 ghost use Rattle.std.specs.Prelude.{◌≡◌, ◌<◌, ◌++◌, ◌∷◌, [], true, false, All, Some, IfOk, IfSome, MatchOption, slice_get, length, map};
-ghost use Rattle.firing_reader.specs.{Stored.IsMovable, Stored.moved_row as moved_row_of, Trace.last_number as last_number_of};
+ghost use Rattle.firing_reader.specs.{Vocabulary.Firing, Plain.ReadsRow, Stored.IsMovable, Stored.moved_row as moved_row_of, Trace.last_number as last_number_of};
 
 use crate::arguments::{add_arguments, all_ten, keep_arguments};
 use crate::firing::Firing;
-use crate::places::{Places, keep_texts};
-use crate::texts::Texts;
+use crate::owners::Owners;
+use crate::plain::row::row;
+use crate::probes::Probes;
+use crate::stored_row::Row;
+use crate::unit::{Owner, Probe};
 use keyed_hash::HashKey;
 use std::alloc::{AllocError, Global};
 use std::marker::Model;
-
-// A firing: its texts by their places in the pool, and its arguments by where they begin among
-// those of all, and how many there are. Those after them are 0.
-#[derive(Clone, Copy)]
-pub(crate) struct Row {
-    number: u64,
-    time: u64,
-    cpu: i32,
-    thread: i32,
-    pid: i32,
-    execname: u32,
-    provider: u32,
-    probemod: u32,
-    probefunc: u32,
-    name: u32,
-    args: u32,
-    given: u32,
-}
 
 /// The firings of a trace. Each is made when it is asked for, and takes no memory. Contracts see
 /// the list of them.
 #[derive(Drop)]
 pub struct Firings {
-    texts: Texts,
+    alloc: Global,
+    owners: Owners,
+    probes: Probes,
     args: Vec<i64>,
     rows: Vec<Row>,
 }
@@ -44,18 +31,21 @@ impl Model for Firings {
 
     ghost Value = { List Firing };
 
-    ghost view = { λ s. map (firing_in s.texts s.args.items) s.rows.items };
+    ghost view = { λ s. map (firing_in s.owners s.probes s.args.items) s.rows.items };
 
-    ghost invariant = { λ s. All (IsRowIn s.texts s.args.items) s.rows.items };
+    ghost invariant = { λ s. All (IsRowIn s.owners s.probes s.args.items) s.rows.items };
 }
 
 impl Firings {
     pub(crate) fn new(alloc: Global, hash_key: HashKey) -> Result<Firings, AllocError>
         ensures { IfOk result (λ s. s ≡ []) }
     {
-        let texts = Texts::new(alloc, hash_key)?;
+        let owners = Owners::new(alloc, hash_key)?;
+        let probes = Probes::new(alloc, hash_key)?;
         Ok(Firings {
-            texts,
+            alloc,
+            owners,
+            probes,
             args: Vec::new(alloc),
             rows: Vec::new(alloc),
         })
@@ -79,19 +69,30 @@ impl Firings {
         ensures { slice_get self.now at ≡ Some result }
     {
         let row = self.rows[at];
-        let args = row.args as usize;
-        let given = &self.args[args..args + row.given as usize];
+        let first = row.given.first();
+        let given = &self.args[first..first + row.given.count()];
+        let Owner {
+            thread,
+            pid,
+            execname,
+        } = self.owners.at(row.owner);
+        let Probe {
+            provider,
+            probemod,
+            probefunc,
+            name,
+        } = self.probes.at(row.probe);
         Firing {
             number: row.number,
             cpu: row.cpu,
-            thread: row.thread,
-            pid: row.pid,
-            execname: self.texts.at(row.execname),
+            thread,
+            pid,
+            execname,
             time: row.time,
-            provider: self.texts.at(row.provider),
-            probemod: self.texts.at(row.probemod),
-            probefunc: self.texts.at(row.probefunc),
-            name: self.texts.at(row.name),
+            provider,
+            probemod,
+            probefunc,
+            name,
             args: all_ten(given),
         }
     }
@@ -111,25 +112,30 @@ impl Firings {
         ensures { MatchOption result (self.new ≡ self.old)
             (λ _. self.new ≡ self.old ++ firing.now ∷ []) }
     {
-        let before = places_of(self.rows.last());
-        let Some(places) = keep_texts(&mut self.texts, firing, before) else {
+        let Some(owner) = self
+            .owners
+            .keep(firing.thread, firing.pid, &firing.execname)
+        else {
             return None;
         };
-        let Some((args, given)) = keep_arguments(&mut self.args, &firing.args) else {
+        let Some(probe) = self.probes.keep(
+            &firing.provider,
+            &firing.probemod,
+            &firing.probefunc,
+            &firing.name,
+        )
+        else {
+            return None;
+        };
+        let Some(given) = keep_arguments(&mut self.args, &firing.args) else {
             return None;
         };
         let row = Row {
             number: firing.number,
             time: firing.time,
             cpu: firing.cpu,
-            thread: firing.thread,
-            pid: firing.pid,
-            execname: places.execname,
-            provider: places.provider,
-            probemod: places.probemod,
-            probefunc: places.probefunc,
-            name: places.name,
-            args,
+            owner,
+            probe,
             given,
         };
         if push_row(&mut self.rows, row) {
@@ -139,20 +145,52 @@ impl Firings {
         }
     }
 
-    /// These firings, and after them others: each distinct text of theirs is looked up once, and no
-    /// firing is made. It returns None where memory is refused.
+    /// Reads the plain row after a line feed, whose number has to be above the last: what comes from
+    /// its own line feed on. Where it returns None, the firings stay as they were.
+    #[inline(always)]
+    pub(crate) fn read_row<'a>(&mut self, bytes: &'a [u8]) -> Option<&'a [u8]>
+        ensures { MatchOption result (self.new ≡ self.old) (λ rest. (f : Firing)
+            × (self.new ≡ self.old ++ f ∷ []) × ReadsRow bytes.now rest.now f
+            × (last_number_of self.old < f.number)) }
+    {
+        let last = self.last_number();
+        let (row, rest) = row(
+            &mut self.owners,
+            &mut self.probes,
+            &mut self.args,
+            bytes,
+            last,
+        )?;
+        if push_row(&mut self.rows, row) {
+            Some(rest)
+        } else {
+            None
+        }
+    }
+
+    /// These firings, and after them others: each owner and each probe of theirs is looked up once,
+    /// and no firing is made. It returns None where memory is refused.
     pub(crate) fn followed_by(self, others: &Firings) -> Option<Firings>
         ensures { IfSome result (λ all. all ≡ self ++ others.now) }
     {
         let Firings {
-            mut texts,
+            alloc,
+            mut owners,
+            mut probes,
             mut args,
             mut rows,
         } = self;
-        let places = texts.places_of(&others.texts)?;
+        let owner_places = owners.places_of(alloc, &others.owners)?;
+        let probe_places = probes.places_of(alloc, &others.probes)?;
         let shift = add_arguments(&mut args, &others.args)?;
-        add_rows(&mut rows, &others.rows, &places, shift)?;
-        Some(Firings { texts, args, rows })
+        add_rows(&mut rows, &others.rows, &owner_places, &probe_places, shift)?;
+        Some(Firings {
+            alloc,
+            owners,
+            probes,
+            args,
+            rows,
+        })
     }
 }
 
@@ -164,46 +202,35 @@ fn push_row(rows: &mut Vec<Row>, row: Row) -> bool
     rows.push(row).is_ok()
 }
 
-// Adds rows, with the places of their texts in another pool, and with arguments that begin so much
-// later.
-fn add_rows(rows: &mut Vec<Row>, others: &[Row], places: &[u32], shift: u32) -> Option<()>
-    requires { All (IsMovable places.now shift) others.now }
-    ensures { IfSome result (λ _.
-        rows.new.items ≡ rows.old.items ++ map (moved_row_of places.now shift) others.now) }
+// Adds rows, with the places of their owners and probes among others, and with arguments that begin
+// so much later.
+fn add_rows(
+    rows: &mut Vec<Row>,
+    others: &[Row],
+    owners: &[u32],
+    probes: &[u32],
+    shift: u32,
+) -> Option<()>
+    requires { All (IsMovable owners.now probes.now shift) others.now }
+    ensures { IfSome result (λ _. rows.new.items
+        ≡ rows.old.items ++ map (moved_row_of owners.now probes.now shift) others.now) }
 {
     rows.reserve_exact(others.len()).ok()?;
     for row in others {
-        rows.push(moved_row(row, places, shift)).ok()?;
+        rows.push(moved_row(row, owners, probes, shift)).ok()?;
     }
     Some(())
 }
 
 // One such row.
-fn moved_row(row: &Row, places: &[u32], shift: u32) -> Row
-    requires { IsMovable places.now shift row.now }
-    ensures { result ≡ moved_row_of places.now shift row.now }
+fn moved_row(row: &Row, owners: &[u32], probes: &[u32], shift: u32) -> Row
+    requires { IsMovable owners.now probes.now shift row.now }
+    ensures { result ≡ moved_row_of owners.now probes.now shift row.now }
 {
     Row {
-        execname: places[row.execname as usize],
-        provider: places[row.provider as usize],
-        probemod: places[row.probemod as usize],
-        probefunc: places[row.probefunc as usize],
-        name: places[row.name as usize],
-        args: row.args + shift,
+        owner: owners[row.owner as usize],
+        probe: probes[row.probe as usize],
+        given: row.given.moved(shift),
         ..*row
-    }
-}
-
-// The places of a row's texts.
-fn places_of(row: Option<&Row>) -> Places {
-    match row {
-        Some(row) => Places {
-            execname: row.execname,
-            provider: row.provider,
-            probemod: row.probemod,
-            probefunc: row.probefunc,
-            name: row.name,
-        },
-        None => Places::FIRST,
     }
 }

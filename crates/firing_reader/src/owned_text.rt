@@ -2,6 +2,7 @@
 
 ghost use Rattle.std.specs.Prelude.{◌≡◌, ◌↔◌, IfOk, IsTrue};
 
+use crate::same::is_same;
 use crate::text::Text;
 use std::alloc::{AllocError, Global};
 use std::fmt;
@@ -45,7 +46,7 @@ impl OwnedText {
     pub fn is(&self, text: &Text) -> bool
         ensures { IsTrue result ↔ (self.now ≡ text.now) }
     {
-        self.bytes.as_slice() == text.as_bytes()
+        is_same(self.bytes.as_slice(), text.as_bytes())
     }
 }
 

@@ -7,11 +7,12 @@ ghost use Rattle.firing_reader.specs.Trace.{last_number};
 
 use crate::firings::Firings;
 use crate::reading::MOST_ROWS;
-use row::row;
 
-mod field;
+mod arguments;
+pub(crate) mod field;
 pub(crate) mod front;
-mod row;
+pub(crate) mod row;
+pub(crate) mod unit;
 
 /// Reads the rows after a line feed, as long as they are plain, and returns what is left. That
 /// begins at a line feed too, so that csv drops no byte order mark from the row after it.
@@ -27,10 +28,7 @@ pub(crate) fn read_plain<'a>(firings: &mut Firings, bytes: &'a [u8]) -> &'a [u8]
 {
     let mut rest = bytes;
     for _ in 0..MOST_ROWS {
-        let Some((firing, after)) = row(rest, firings.last_number()) else {
-            return rest;
-        };
-        let Some(()) = firings.push(&firing) else {
+        let Some(after) = firings.read_row(rest) else {
             return rest;
         };
         rest = after;

@@ -123,6 +123,8 @@ fn threads_keep_values(rt: HostRuntime) -> Result<(), Fail> {
         assert_eq!(rt; read_own(&table, &keys), after);
     }
     assert_eq!(rt; table.map().len(), 3);
+    let held = table.map().get(&NAME).expect(&rt, "a variable");
+    assert!(rt; held.scalar().is_some() && held.elements().is_empty());
     Ok(())
 }
 

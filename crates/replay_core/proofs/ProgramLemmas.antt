@@ -10,7 +10,8 @@ use Rattle.d_types.specs.Scripts.{IsMeant}
 use Rattle.d_types.specs.Sizes.{descriptions, statements}
 use Rattle.d_types.specs.Typed.{ActionOf, Aggregate, ClauseMeant, Evaluate, Exit, Print, ScriptMeant, Trace}
 use Rattle.d_types.proofs.Sizes.{typed_script_is_small}
-use Rattle.dif_codegen.specs.Meaning.{Does, aggregation_of}
+use Rattle.dif_codegen.specs.Meaning.{Does}
+use Rattle.dif_codegen.proofs.Exiting.{aggregation_of, same_aggregations}
 use Rattle.dif_codegen.specs.Programs.{action_code}
 use Rattle.dif_codegen.specs.declared.program.CompiledClause.{CompiledClause}
 use Rattle.replay_core.specs.Bounds.{place_in, places_among, places_in}
@@ -41,12 +42,12 @@ places_above (a ∷ rest) =
 module _ (slots : Slots) where
   same_places : (c : CompiledClause) (m : ClauseMeant) → Does slots c m → places_among (map action_code c.actions.items) ≡ places_in m
   same_places c m does =
-      places_above (map action_code c.actions.items) ∙ ap above_all does.aggregations ∙ sym (places_above m.statements)
+      places_above (map action_code c.actions.items) ∙ ap above_all (same_aggregations slots (map action_code c.actions.items) m.statements does.actions) ∙ sym (places_above m.statements)
 
   same_statements : (c : CompiledClause) (m : ClauseMeant) → Does slots c m → length c.actions.items ≡ statements m
   same_statements c m does =
       sym (length-map c.actions.items action_code) ∙ sym (length-map (map action_code c.actions.items) (λ a. aggregation_of a))
-      ∙ ap length does.aggregations ∙ length-map m.statements (λ a. aggregation_of a)
+      ∙ ap length (same_aggregations slots (map action_code c.actions.items) m.statements does.actions) ∙ length-map m.statements (λ a. aggregation_of a)
 
   same_probes : (cs : List CompiledClause) (ms : List ClauseMeant) → AllZip (Does slots) cs ms
       → sum_by (λ c. length c.descriptions.items) cs ≡ in_all descriptions ms

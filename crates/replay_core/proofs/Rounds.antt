@@ -1,7 +1,7 @@
 -- A run, from its rounds.
-use Rattle.std.proofs.Common.{◌≡◌, ◌≢◌, ◌≤◌, ℕ, List, All, Option, None, Some, map, length, refl, sym, ap, ◌∙◌, subst}
+use Rattle.std.proofs.Common.{◌≡◌, ◌≢◌, ◌≤◌, ℕ, List, All, Option, None, Some, false, map, length, option_map, refl, sym, ap, ◌∙◌, subst, unwrap_or}
 use Rattle.std.specs.List.Sorted.{IsStrictlyIncreasing}
-use Rattle.d_types.specs.Typed.{ScriptMeant}
+use Rattle.d_types.specs.Typed.{ScriptMeant, has_exit}
 use Rattle.firing_reader.specs.declared.firing.Firing.{Firing}
 use Rattle.firing_reader.specs.Ends.{end_of, with_ends}
 use Rattle.firing_reader.specs.Firings.{number_of}
@@ -16,13 +16,14 @@ use Rattle.replay_core.specs.declared.span.Span.{Span}
 use Rattle.replay_core.specs.declared.span.Span.TheVariants as span
 use Rattle.replay_core.specs.Beginnings.{IsBegunOf, exit_over}
 use Rattle.replay_core.specs.Crews.{GivesBegun, GivesPieces, IsRound, IsRun}
-use Rattle.replay_core.specs.Exit.{firings_over, up_to}
+use Rattle.replay_core.specs.Exit.{first_exit_number, firings_over, up_to}
 use Rattle.replay_core.specs.Groups.{AreGrouped}
 use Rattle.replay_core.specs.Meaning.{exit_of, history, blank_threads}
 use Rattle.replay_core.specs.Working.{IsOfGroup, firings_in}
 use Rattle.replay_core.proofs.Parts.{given_begun, given_pieces}
-use Rattle.replay_core.proofs.RoundOne.{least_none, least_some, pieces_whole}
+use Rattle.replay_core.proofs.RoundOne.{least_none, least_some, none_least, pieces_whole, some_least}
 use Rattle.replay_core.proofs.ExitLemmas.{trace_rises}
+use Rattle.replay_core.proofs.WithoutExit.{script_goes}
 use Rattle.replay_core.proofs.TraceRuns.{all_count, counted_few, counted_grouped, counted_rise, counted_up_to, numbers_small, over_all, over_exit}
 
 -- the firings that count are those of a span
@@ -43,10 +44,38 @@ module _ (m : ScriptMeant) (groups : Groups) (trace : List Firing) (is : IsTrace
   pub over_few : length (firings_over m trace) ≤ 1000002
   over_few = let s = span_over m trace is in subst (λ (fs : List Firing). length fs ≤ 1000002) s.1 (counted_few s.0 trace is)
 
+-- a round over all firings, where no script that is run has an exit
+pub plain_round : (runs : ScriptMeant → Type 0) (groups : Groups) (trace : List Firing) (r : Round) → IsRound (GivesPieces span.All runs groups trace) (grouping groups).count r
+    → ((m : ScriptMeant) → runs m → has_exit m ≡ false) → IsRun runs groups trace r
+plain_round runs groups trace r round without =
+    let made = given_pieces span.All runs groups trace r.pieces.items round.seats round.parts in
+    record {
+      once = round.once;
+      taken = round.taken;
+      each = λ m means. subst (λ (l : List Firing). All (IsOfGroup m (grouping groups) l) r.pieces.items) (all_count (with_ends trace trace) ∙ sym (script_goes m trace (without m means)).0) (made.each m means);
+      roomy = made.roomy;
+    }
+
 module _ (runs : ScriptMeant → Type 0) (groups : Groups) (trace : List Firing) (is : IsTrace trace) (placed : AreOf groups (run_threads trace)) (first : Round)
     (round : IsRound (GivesBegun runs groups trace) (grouping groups).count first) where
   grouped : AreGrouped (grouping groups) (with_ends trace trace)
   grouped = subst (AreGrouped (grouping groups)) (all_count (with_ends trace trace)) (counted_grouped span.All groups trace placed)
+
+  -- what was lowered is the first exit
+  pub least_is : (m : ScriptMeant) → runs m → first.least ≡ first_exit_number m trace
+  least_is m means =
+      let given = given_begun runs groups trace first.least first.pieces.items round.seats round.parts round.lowered round.seen in
+      let fs = with_ends trace trace in
+      let begun = given.0.each m means in
+      here (exit_over m fs) refl
+      (none_least m (grouping groups) fs first.least first.pieces.items (trace_rises trace is) (numbers_small trace is) grouped round.once begun given.1)
+      (some_least m (grouping groups) fs first.least first.pieces.items (trace_rises trace is) (numbers_small trace is) grouped round.once begun given.1)
+    where
+      here : (o : Option (ℕ × ℕ)) → exit_over m (with_ends trace trace) ≡ o
+          → (exit_over m (with_ends trace trace) ≡ None → first.least ≡ no_number) → ((x : ℕ × ℕ) → exit_over m (with_ends trace trace) ≡ Some x → first.least ≡ x.0)
+          → first.least ≡ first_exit_number m trace
+      here None e none some = none e ∙ sym (ap (λ o. unwrap_or (option_map (λ x. x.0) o) no_number) e)
+      here (Some x) e none some = some x e ∙ sym (ap (λ o. unwrap_or (option_map (λ x. x.0) o) no_number) e)
 
   -- round one alone, where nothing was lowered
   pub one_round : first.least ≡ no_number → IsRun runs groups trace first

@@ -1,27 +1,29 @@
 -- The variables of threads, before and after a firing.
-use Rattle.std.specs.Prelude.{◌≡◌, ℕ, zero, suc, ℤ, List, [], ◌∷◌, All, filter, map, Bool, true, false, if◌then◌else◌, Option, None, Some, IsSome}
-use Rattle.std.specs.Map.{lookup, set_value}
+use Rattle.std.specs.Prelude.{◌≡◌, ℕ, zero, suc, ℤ, List, [], ◌∷◌, All, filter, map, Bool, true, false, ◌==◌, if◌then◌else◌, length, Option, None, Some, IsSome, option_map, slice_get}
+use Rattle.std.specs.Map.{lookup, lookup_key, values_of}
 use Rattle.std.specs.Ordering.{int_eq}
 use Rattle.std.proofs.Common.{refl, arith, rules, sym, ap, ◌∙◌, subst}
+use Rattle.std.proofs.lemmas.Bool.Decides.{Decides-eqb, Decides-int_eq}
 use Rattle.std.proofs.lemmas.Cmp.{int_eq_equiv}
 use Rattle.std.proofs.lemmas.List.Elements.{All-append}
-use Rattle.std.proofs.lemmas.Map.{lookup-set_value}
 use Rattle.d_parser.specs.declared.tree.Description.{Description}
 use Rattle.d_values.specs.declared.key.KeyPart.{KeyPart}
 use Rattle.d_values.specs.declared.value.Value.{Value}
 use Rattle.d_values.specs.declared.variable.Var.{Var}
 use Rattle.d_values.specs.Stores.{Locals, Own}
-use Rattle.d_types.specs.Clauses.{Made, run_of}
+use Rattle.d_types.specs.Clauses.{Made, nothing, run_of}
 use Rattle.d_types.specs.Held.{AreTyped, AreTypedOwn, HasTypedBuiltIns, Slots, slots_of}
 use Rattle.d_types.specs.Storage.{Variables, variables}
 use Rattle.d_types.specs.Typed.{ClauseMeant, ScriptMeant}
 use Rattle.d_types.proofs.FiringValues.{locals_unassigned}
 use Rattle.firing_reader.specs.declared.firing.Firing.{Firing}
 use Rattle.replay_core.specs.declared.tables.Tables.{Tables}
+use Rattle.replay_core.specs.Caching.{IsTablesAt}
 use Rattle.replay_core.specs.Meaning.{Threads, at_start, clauses_for, in_turn, firing_result, threads_after}
 use Rattle.replay_core.specs.Patterns.{probe_of, selects}
 use Rattle.replay_core.specs.Scripts.{AreTypedThreads, Keeps}
 use Rattle.replay_core.specs.Threads.{own_in, threads_in}
+use Rattle.replay_core.specs.Turns.{turns}
 
 -- ---- how a firing begins
 
@@ -44,12 +46,6 @@ typed_start slots vars own is typed = subst (AreTyped slots) (sym is) (locals_un
 abbrev pub Writes : (old new : List (ℤ × Tables)) (thread : ℤ) (tables : Tables) → Type 0
 Writes old new thread tables = (q : ℤ) → lookup (int_eq q) new ≡ (if int_eq thread q then Some tables else lookup (int_eq q) old)
 
-pub written : (old new : List (ℤ × Tables)) (thread : ℤ) (was is : Tables) → lookup (int_eq thread) old ≡ Some was → new ≡ set_value (int_eq thread) old is
-    → Writes old new thread is
-written old new thread was is had same q =
-    ap (lookup (int_eq q)) same
-    ∙ lookup-set_value int_eq_equiv (int_eq thread) (λ x y e. int_eq_equiv.congr thread x y e) q is old (subst (λ o. IsSome o) (sym had) (search rules))
-
 own_chosen : (tables : Tables) (o : Option Tables) (made : Made) → variables tables.locals tables.own ≡ made.variables → (b c : Bool) → b ≡ c
     → own_in (if b then Some tables else o) ≡ (if c then made.variables.own else own_in o)
 own_chosen tables o made is true true e = ap (λ v. v.own) is
@@ -62,6 +58,46 @@ pub thread_written : (old new : List (ℤ × Tables)) (thread : ℤ) (tables : T
     → (t : ℤ) → threads_in new t ≡ (if int_eq t thread then made.variables.own else threads_in old t)
 thread_written old new thread tables made writes is t =
     ap own_in (writes t) ∙ own_chosen tables (lookup (int_eq t) old) made is (int_eq thread t) (int_eq t thread) (int_eq_equiv.symm thread t)
+
+-- ---- tables by their index
+
+-- a key that is found passes the test
+key_passes : (test : ℤ → Bool) (entries : List (ℤ × Tables)) (k : ℤ) → lookup_key test entries ≡ Some k → test k ≡ true
+key_passes test [] k e = absurd cc
+key_passes test (p ∷ entries) k e = elim (test p.0) as (λ b. test p.0 ≡ b → (if b then Some p.0 else lookup_key test entries) ≡ Some k → test k ≡ true) [
+  | true ↦ λ passes f. let same : p.0 ≡ k = cc in ap test (sym same) ∙ passes
+  | false ↦ λ fails f. key_passes test entries k f
+] refl e
+
+pub key_found : (thread k : ℤ) (entries : List (ℤ × Tables)) → lookup_key (int_eq thread) entries ≡ Some k → thread ≡ k
+key_found thread k entries e = (Decides-int_eq thread k).0 (key_passes (int_eq thread) entries k e)
+
+pub tables_found : (entries : List (ℤ × Tables)) (i : ℕ) (thread : ℤ) (tables : Tables) → slice_get entries i ≡ Some (thread, tables)
+    → slice_get (values_of entries) i ≡ Some tables
+tables_found [] i thread tables e = absurd (none e)
+  where
+    none : ◌≡◌ {A = Option (ℤ × Tables)} None (Some (thread, tables)) → ⊥
+    none f = cc
+tables_found (p ∷ entries) zero thread tables e = ap (λ o. option_map (λ q. q.1) o) e
+tables_found (p ∷ entries) (suc i) thread tables e = tables_found entries i thread tables e
+
+-- the tables that are lent are those at the index
+pub tables_lent : (entries : List (ℤ × Tables)) (i : ℕ) (thread : ℤ) (lent : Tables) (at : IsTablesAt entries i thread) → Some lent ≡ slice_get (values_of entries) i
+    → lookup (int_eq thread) entries ≡ Some lent
+tables_lent entries i thread lent at read = at.found ∙ sym (read ∙ tables_found entries i thread at.tables at.entry)
+
+-- a thread whose firing ran no clause has what it had
+pub own_stays : (entries : List (ℤ × Tables)) (thread t : ℤ) → threads_in entries t ≡ (if int_eq t thread then threads_in entries thread else threads_in entries t)
+own_stays entries thread t = elim (int_eq t thread) as (λ b. int_eq t thread ≡ b → threads_in entries t ≡ (if b then threads_in entries thread else threads_in entries t)) [
+  | true ↦ λ same. ap (threads_in entries) ((Decides-int_eq t thread).0 same)
+  | false ↦ λ other. refl
+] refl
+
+-- no clause runs at no places
+pub none_turn : (f : Firing) (cs : List ClauseMeant) (places : List ℕ) (start : Variables) → (length places == 0) ≡ true → turns f cs places start ≡ nothing start
+none_turn f cs [] start none = refl
+none_turn f cs (place ∷ places) start none =
+    let zeroth : length (place ∷ places) ≡ 0 = (Decides-eqb (length (place ∷ places)) 0).0 none in absurd (omega arith)
 
 -- ---- types
 

@@ -5,14 +5,14 @@ use Rattle.std.specs.Option.{option_or}
 use Rattle.std.proofs.Common.{refl, sym, ap, ◌∙◌, subst}
 use Rattle.d_types.specs.declared.effect.Effect.{Effect}
 use Rattle.d_types.specs.declared.effect.Effect.TheVariants as ef
-use Rattle.d_types.specs.Typed.{Typed, Typeds, ActionOf, Action, Evaluate, Trace, Print, Exit, Aggregate, ClauseMeant, ScriptMeant}
+use Rattle.d_types.specs.Typed.{Typed, Typeds, ActionOf, Action, Evaluate, Trace, Print, Exit, Aggregate, ClauseMeant, ScriptMeant, has_exit, is_exit}
 use Rattle.d_types.specs.Storage.{Variables}
 use Rattle.d_types.specs.Expressions.{Outcome, Has, Faults, with, number}
 use Rattle.d_types.specs.Clauses.{Evaluation, Made, Ran, by_trees, effect_by, exit_in, effect_then, argument_by, where_predicate, run_of, statements_by, where_true}
 use Rattle.firing_reader.specs.declared.firing.Firing.{Firing}
 use Rattle.firing_reader.specs.Ends.{begin_of, end_of, with_ends}
 use Rattle.firing_reader.specs.Trace.{IsTrace}
-use Rattle.replay_core.specs.Exit.{exit_status, firings_over, has_exit, history_over, is_exit, up_to}
+use Rattle.replay_core.specs.Exit.{exit_status, firings_over, history_over, up_to}
 use Rattle.replay_core.specs.Meaning.{Threads, clauses_for, exit_of, history, in_turn, firing_result, threads_after, blank_threads}
 use Rattle.replay_core.specs.Patterns.{probe_of, selects}
 use Rattle.replay_core.specs.Running.{until_exit}
@@ -56,10 +56,10 @@ module _ (by : Evaluation Typed Typeds) where
   followed_goes (Has effect vars) go goes none = skipped effect (go vars).effects goes ∙ none vars
   followed_goes (Faults vars) go goes none = refl
 
-  statements_go : (all : List Action) (vars : Variables) → list_any is_exit all ≡ false → exit_in (statements_by by all vars).effects ≡ None
+  statements_go : (all : List Action) (vars : Variables) → list_any (λ a. is_exit a) all ≡ false → exit_in (statements_by by all vars).effects ≡ None
   statements_go [] vars without = refl
   statements_go (a ∷ rest) vars without =
-      let both = either (is_exit a) (list_any is_exit rest) without in
+      let both = either (is_exit a) (list_any (λ a. is_exit a) rest) without in
       followed_goes (effect_by by a vars) (statements_by by rest) (effect_goes a vars both.0) (λ vars. statements_go rest vars both.1)
 
   where_goes : (o : Outcome ℕ) (go : Variables → Ran) → ((vars : Variables) → exit_in (go vars).effects ≡ None) → exit_in (where_true o go).effects ≡ None
@@ -67,7 +67,7 @@ module _ (by : Evaluation Typed Typeds) where
   where_goes (Has (suc n) vars) go none = none vars
   where_goes (Faults vars) go none = refl
 
-  guarded_goes : (predicate : Option Typed) (all : List Action) (vars : Variables) → list_any is_exit all ≡ false → exit_in (where_predicate by predicate (statements_by by all) vars).effects ≡ None
+  guarded_goes : (predicate : Option Typed) (all : List Action) (vars : Variables) → list_any (λ a. is_exit a) all ≡ false → exit_in (where_predicate by predicate (statements_by by all) vars).effects ≡ None
   guarded_goes None all vars without = statements_go all vars without
   guarded_goes (Some a) all vars without = where_goes (number (by.value a vars)) (statements_by by all) (λ vars. statements_go all vars without)
 
@@ -75,20 +75,20 @@ module _ (by : Evaluation Typed Typeds) where
 
 abbrev AllGo : List (ℕ × ClauseMeant) → Type 0
 AllGo [] = Unit {0}
-AllGo (c ∷ cs) = (list_any is_exit c.1.statements ≡ false) × AllGo cs
+AllGo (c ∷ cs) = (list_any (λ a. is_exit a) c.1.statements ≡ false) × AllGo cs
 
 all_append : (xs ys : List (ℕ × ClauseMeant)) → AllGo xs → AllGo ys → AllGo (xs ++ ys)
 all_append [] ys a b = b
 all_append (x ∷ xs) ys a b = (a.0, all_append xs ys a.1 b)
 
-all_placed : {D : Type 0} (place : ℕ) (c : ClauseMeant) (ds : List D) → list_any is_exit c.statements ≡ false → AllGo (map (λ d. (place, c)) ds)
+all_placed : {D : Type 0} (place : ℕ) (c : ClauseMeant) (ds : List D) → list_any (λ a. is_exit a) c.statements ≡ false → AllGo (map (λ d. (place, c)) ds)
 all_placed place c [] without = tt
 all_placed place c (d ∷ ds) without = (without, all_placed place c ds without)
 
-clauses_go : (f : Firing) (place : ℕ) (cs : List ClauseMeant) → list_any (λ c. list_any is_exit c.statements) cs ≡ false → AllGo (clauses_for f place cs)
+clauses_go : (f : Firing) (place : ℕ) (cs : List ClauseMeant) → list_any (λ c. list_any (λ a. is_exit a) c.statements) cs ≡ false → AllGo (clauses_for f place cs)
 clauses_go f place [] without = tt
 clauses_go f place (c ∷ cs) without =
-    let both = either (list_any is_exit c.statements) (list_any (λ c. list_any is_exit c.statements) cs) without in
+    let both = either (list_any (λ a. is_exit a) c.statements) (list_any (λ c. list_any (λ a. is_exit a) c.statements) cs) without in
     all_append (map (λ d. (place, c)) (filter (λ d. selects d (probe_of f)) c.descriptions)) (clauses_for f (suc place) cs)
     (all_placed place c (filter (λ d. selects d (probe_of f)) c.descriptions) both.0) (clauses_go f (suc place) cs both.1)
 

@@ -1,7 +1,6 @@
 -- Which firings of a trace count, and how the run ends.
-use Rattle.std.specs.Prelude.{ℕ, Bool, true, false, nat_le, List, filter, Option, None, Some, option_map, unwrap_or}
-use Rattle.d_types.specs.Typed.{Action, Exit, ScriptMeant}
-use Rattle.replay_core.specs.Vocabulary.{Firing, Made, list_any, with_ends}
+use Rattle.std.specs.Prelude.{ℕ, nat_le, List, filter, Option, None, Some, option_map, unwrap_or}
+use Rattle.replay_core.specs.Vocabulary.{Firing, Made, ScriptMeant, no_number, with_ends}
 use Rattle.replay_core.specs.Meaning.{blank_threads, history, exit_of}
 
 -- those up to the one that exits
@@ -22,12 +21,8 @@ history_over m trace = history m (firings_over m trace) blank_threads
 abbrev pub exit_status : List (Firing × Made) → ℕ
 exit_status h = unwrap_or (option_map (λ exit. exit.1) (exit_of h)) 0
 
--- ---- scripts without an exit
-
-abbrev pub is_exit : Action → Bool
-is_exit (Exit a) = true
-is_exit a = false
-
--- some statement of the script is an exit
-abbrev pub has_exit : ScriptMeant → Bool
-has_exit m = list_any (λ c. list_any is_exit c.statements) m.clauses
+-- the number of the first firing of a trace that exits, 2^64 - 1 where none does
+abbrev pub first_exit_number : ScriptMeant → List Firing → ℕ
+first_exit_number m trace =
+    unwrap_or (option_map (λ exit. exit.0)
+    (exit_of (history m (with_ends trace trace) blank_threads))) no_number

@@ -11,6 +11,7 @@ pub mod Selecting
 pub mod Seen
 pub mod Sizes
 pub mod Threads
+pub mod Caching
 pub mod Turns
 pub mod Effects
 pub mod Forms

@@ -15,7 +15,7 @@ pub use Rattle.d_values.specs.declared.int_type.DType.{DType}
 pub use Rattle.d_values.specs.declared.key.KeyPart.{KeyPart}
 pub use Rattle.d_values.specs.declared.value.Value.{Value}
 pub use Rattle.d_values.specs.declared.variable.Var.{Var}
-pub use Rattle.firing_reader.specs.Ends.{begin_of, with_ends}
+pub use Rattle.firing_reader.specs.Ends.{begin_of, end_of, with_ends}
 pub use Rattle.firing_reader.specs.Firings.{HasRanges, number_of}
 pub use Rattle.firing_reader.specs.Trace.{IsTrace}
 pub use Rattle.firing_reader.specs.declared.firing.Firing.{Firing}
@@ -27,7 +27,7 @@ pub use Rattle.d_types.specs.Clauses.{Evaluation, Made, and_then, contributions_
 pub use Rattle.d_types.specs.Expressions.{eval, keys_of, number, text}
 pub use Rattle.d_types.specs.Held.{AreTyped, AreTypedOwn, HasTypedBuiltIns, Slots, slots_of}
 pub use Rattle.d_types.specs.Sizes.{statements}
-pub use Rattle.d_types.specs.Typed.{ActionOf, ClauseMeant, ScriptMeant, Typed, Typeds, functions_in, meant_of, typed_of, typeds_of}
+pub use Rattle.d_types.specs.Typed.{ActionOf, ClauseMeant, ScriptMeant, Typed, Typeds, functions_in, has_exit, is_exit, meant_of, typed_of, typeds_of}
 pub use Rattle.d_types.specs.TypedScripts.{typed_script_of}
 pub use Rattle.d_types.specs.declared.effect.Effect.{Effect}
 pub use Rattle.d_types.specs.declared.typed.TypedExpr.{TypedExpr}

@@ -56,6 +56,10 @@ impl<'a> Lanes for DifLanes<'a> {
 
     ghost runs = { λ l m. IsCompiled m l.program.now };
 
+    fn exits(&self) -> bool {
+        self.program.exits()
+    }
+
     fn lane(&self, alloc: Global) -> Result<DifLane<'a>, AllocError> {
         dif_lane(alloc, self.hash_key, self.program)
     }

@@ -9,7 +9,7 @@ use crate::lanes::Lanes;
 use crate::piece::Piece;
 use crate::span::Span;
 use crate::until::work_until;
-use crate::worker::{Shift, work_on};
+use crate::worker::{Shift, work, work_on};
 use firing_reader::Trace;
 use shard_queue::{ClaimBoard, ClaimSeat, Groups};
 use std::alloc::{AllocError, Global};
@@ -116,8 +116,9 @@ fn at_board<R: Wait, L: Lanes, G: Gate>(
         (Gives span (L.runs lanes.entry.now) groups.entry.now trace.entry.now) board.entry.now) }
 {
     match span {
+        Span::All => work(rt, alloc, board, seat, lanes, trace, groups, gate),
         Span::UntilExit => work_until(rt, alloc, board, seat, lanes, trace, groups, gate),
-        Span::All | Span::UpTo { .. } => {
+        Span::UpTo { .. } => {
             let shift = Shift {
                 lanes,
                 trace,

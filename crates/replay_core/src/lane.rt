@@ -10,7 +10,7 @@ use crate::evaluation::Spare;
 use crate::piece::Piece;
 use crate::selection::Selections;
 use crate::tables::Tables;
-use crate::threads::run_on_thread;
+use crate::threads::{ThreadCache, run_on_thread};
 use aggregations::AggFn;
 use d_parser::Description;
 use firing_reader::Firing;
@@ -24,6 +24,7 @@ pub struct Lane<'a, C: Clause> {
     clauses: &'a [C],
     selections: Selections<'a>,
     threads: IndexMap<i32, Tables, HashKey>,
+    cache: ThreadCache,
     spare: Spare,
     piece: Piece,
     // Memory was refused to a firing.
@@ -57,10 +58,13 @@ impl<'a, C: Clause> Lane<'a, C> {
     {
         let piece = Piece::new(alloc, hash_key, functions)?;
         let descriptions = descriptions(alloc, clauses)?;
+        let selections = Selections::new(alloc, hash_key, descriptions)?;
+        let cache = ThreadCache::new(alloc)?;
         Ok(Lane {
             clauses,
-            selections: Selections::new(alloc, hash_key, descriptions),
+            selections,
             threads: IndexMap::with_hasher(alloc, hash_key),
+            cache,
             spare: Spare::new(alloc),
             piece,
             spent: false,
@@ -111,6 +115,7 @@ impl<'a, C: Clause> Lane<'a, C> {
             self.selections.places(),
             firing,
             &mut self.threads,
+            &mut self.cache,
             &mut self.spare,
             &mut self.piece,
         )

@@ -1,19 +1,23 @@
 //! Where lanes come from.
 
-ghost use Rattle.std.specs.Prelude.{IfOk, IsFalse, []};
+ghost use Rattle.std.specs.Prelude.{◌≡◌, IfOk, IsFalse, []};
 
 use crate::engine::Engine;
 use std::alloc::{AllocError, Global};
 
 /// Gives fresh lanes of one script.
 pub trait Lanes {
-    ghost use Rattle.d_types.specs.Typed.{ScriptMeant};
+    ghost use Rattle.d_types.specs.Typed.{ScriptMeant, has_exit};
     ghost use Rattle.replay_core.specs.Running.{IsLaneOf};
 
     type Lane: Engine + Drop + Send;
 
     /// What its lanes run means this.
     ghost runs: { Self → ScriptMeant → Type 0 };
+
+    /// Whether their script has an `exit`.
+    fn exits(&self) -> bool
+        ensures { (m : ScriptMeant) → runs self.now m → result ≡ has_exit m };
 
     /// A lane that has run no firing.
     fn lane(&self, alloc: Global) -> Result<Self::Lane, AllocError>

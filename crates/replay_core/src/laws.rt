@@ -1,8 +1,10 @@
 //! Laws of what runs mean: each holds of the definitions, and its function computes nothing.
 
 ghost use Rattle.std.specs.Prelude.{◌≡◌, ◌↔◌, ◌∷◌, ℕ, IsTrue, List, None, false, map};
-ghost use Rattle.replay_core.specs.Vocabulary.{Description, Firing, IsStrictlyIncreasing, IsTrace, ScriptMeant, begin_of, number_of, with_ends};
-ghost use Rattle.replay_core.specs.{Exit.exit_status, Exit.firings_over, Exit.has_exit, Exit.history_over, Groups.AreGrouped, Groups.Grouping, Meaning.exit_of, Meaning.history, Meaning.blank_threads, Patterns.Selects, Patterns.selects, Uniting.IsSorted, Uniting.Unite, Uniting.group_history, Uniting.results_in_group, declared.probe.Probe.Probe};
+ghost use Rattle.replay_core.specs.Vocabulary.{AreOf, Description, Firing, Groups, IsStrictlyIncreasing, IsTrace, ScriptMeant, begin_of, grouping, has_exit, number_of, run_threads, with_ends};
+ghost use Rattle.replay_core.specs.declared.round.Round.{Round};
+ghost use Rattle.replay_core.specs.declared.span.Span.TheVariants as span;
+ghost use Rattle.replay_core.specs.{Crews.Gives, Crews.IsRound, Exit.exit_status, Exit.first_exit_number, Exit.firings_over, Exit.history_over, Groups.AreGrouped, Groups.Grouping, Meaning.exit_of, Meaning.history, Meaning.blank_threads, Patterns.Selects, Patterns.selects, Uniting.IsSorted, Uniting.Unite, Uniting.group_history, Uniting.results_in_group, declared.probe.Probe.Probe};
 
 /// A description selects the probes that its patterns match.
 pub fn selected_is_matched()
@@ -36,4 +38,13 @@ pub fn without_exit()
     ensures rows { (m : ScriptMeant) (trace : List Firing) → IsTrace trace
         → exit_of (history m (begin_of trace ∷ trace) blank_threads) ≡ None
         → firings_over m trace ≡ with_ends trace trace }
+{}
+
+/// At the close of a round in which workers watch for exits, the least number is that of the run's
+/// first firing that exits, and 2^64 - 1 where none does, whatever each worker was shown.
+pub fn least_is_the_first_exit()
+    ensures { (m : ScriptMeant) (groups : Groups) (trace : List Firing) (round : Round)
+        → IsTrace trace → AreOf groups (run_threads trace)
+        → IsRound (Gives span.UntilExit (λ n. n ≡ m) groups trace) (grouping groups).count round
+        → round.least ≡ first_exit_number m trace }
 {}

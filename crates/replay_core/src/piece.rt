@@ -5,6 +5,7 @@ ghost use Rattle.replay_core.specs.Vocabulary.{Effect, count_held, fault_line, f
 
 use aggregations::{AggFn, AggTable};
 use d_values::{Key, Text};
+use itoa::Buffer;
 use keyed_hash::HashKey;
 use std::alloc::{AllocError, Global};
 
@@ -112,6 +113,11 @@ impl Piece {
 fn fault_line(alloc: Global, number: u64, place: u64) -> Result<Text, AllocError>
     ensures { IfOk result (λ t. t ≡ fault_line number place) }
 {
-    let line = format!(in alloc; "error: firing {number} clause {place}: divide-by-zero\n")?;
-    Text::from_slice(alloc, line.as_bytes())
+    let mut buffer = Buffer::new();
+    let mut line = Vec::from_slice(alloc, b"error: firing ")?;
+    line.extend_from_slice(buffer.format(number).as_bytes())?;
+    line.extend_from_slice(b" clause ")?;
+    line.extend_from_slice(buffer.format(place).as_bytes())?;
+    line.extend_from_slice(b": divide-by-zero\n")?;
+    Ok(Text::from(line))
 }

@@ -8,11 +8,11 @@ use crate::probe::Probe;
 use d_parser::Description;
 use firing_reader::Firing;
 use indexmap::IndexMap;
-use keyed_hash::HashKey;
+use keyed_hash::{DirectMapped, HashKey};
 use std::alloc::{AllocError, Global};
 
-// How many probes are at hand.
-const AT_HAND: usize = 2048;
+// How many selections are cached.
+const CACHED: usize = 2048;
 
 /// The clauses that run for a probe, by their places among the script's: in the script's order,
 /// each once for each of its descriptions that selects the probe.
@@ -33,9 +33,8 @@ pub(crate) struct Selections<'a> {
     named: IndexMap<Vec<u8>, usize, HashKey>,
     // The name of the probe that is looked for.
     name: Vec<u8>,
-    // The places among those known of some selections, each where some bytes of its probe's name
-    // say: to look there costs less than to look up.
-    at_hand: Vec<usize>,
+    // The places among those known, by a cheap hash of the probe: a hit saves a look-up.
+    cache: DirectMapped<{ CACHED }>,
     // The place among those known of the selection for the probe that fired last.
     last: usize,
 }
@@ -48,19 +47,21 @@ impl<'a> Selections<'a> {
         alloc: Global,
         hash_key: HashKey,
         descriptions: Vec<&'a [Description]>,
-    ) -> Selections<'a>
-        ensures descriptions { result.descriptions.items ≡ descriptions.entry.items }
-        ensures known { AreSelections result }
+    ) -> Result<Selections<'a>, AllocError>
+        ensures descriptions { IfOk result
+            (λ s. s.descriptions.items ≡ descriptions.entry.items) }
+        ensures known { IfOk result AreSelections }
     {
-        Selections {
+        let cache = DirectMapped::new(alloc)?;
+        Ok(Selections {
             alloc,
             descriptions,
             known: Vec::new(alloc),
             named: IndexMap::with_hasher(alloc, hash_key),
             name: Vec::new(alloc),
-            at_hand: Vec::new(alloc),
+            cache,
             last: 0,
-        }
+        })
     }
 
     /// Turns to the selection for the firing's probe.
@@ -70,17 +71,18 @@ impl<'a> Selections<'a> {
         ensures known { AreSelections self.new }
         ensures turned { OnOk result (IsFor (probe_of firing.now) self.new self.new.last) }
     {
-        let hand = hand_of(firing);
-        let place = self.place_at_hand(hand);
+        let slot = slot_of(firing);
+        let place = self.cache.get(slot);
         if self.is_at(place, firing) {
             self.last = place;
             return Ok(());
         }
         self.look_up(firing)?;
-        self.keep_at_hand(hand)
+        self.cache.put(slot, self.last);
+        Ok(())
     }
 
-    // The same for a probe that isn't at hand.
+    // The same for a probe whose place isn't cached.
     #[cold]
     #[inline(never)]
     fn look_up(&mut self, firing: &Firing) -> Result<(), AllocError>
@@ -98,26 +100,6 @@ impl<'a> Selections<'a> {
             }
         }
         self.learn(firing)
-    }
-
-    // The place that is at hand there.
-    fn place_at_hand(&self, hand: usize) -> usize {
-        *self.at_hand.get(hand).unwrap_or(&0)
-    }
-
-    // Puts the place of the selection that it is at among those at hand.
-    fn keep_at_hand(&mut self, hand: usize) -> Result<(), AllocError>
-        ensures descriptions { self.new.descriptions.items ≡ self.old.descriptions.items }
-        ensures known { self.new.known.items ≡ self.old.known.items }
-        ensures last { self.new.last ≡ self.old.last }
-    {
-        if self.at_hand.is_empty() {
-            self.at_hand = vec![in self.alloc; 0; AT_HAND]?;
-        }
-        if hand < self.at_hand.len() {
-            self.at_hand[hand] = self.last;
-        }
-        Ok(())
     }
 
     /// The places of the clauses, by the selection that it is at.
@@ -176,11 +158,13 @@ impl<'a> Selections<'a> {
     }
 }
 
-// Where the selection for the firing's probe is among those at hand.
-fn hand_of(firing: &Firing) -> usize {
+// Where the firing's probe is in the cache.
+fn slot_of(firing: &Firing) -> usize
+    ensures { result < CACHED }
+{
     let function = hash_of(firing.probefunc.as_bytes());
     let name = hash_of(firing.name.as_bytes());
-    (3 * function + 7 * name) % AT_HAND
+    (3 * function + 7 * name) % CACHED
 }
 
 // A hash of some of a name's bytes.

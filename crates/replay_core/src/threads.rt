@@ -1,8 +1,9 @@
 //! The clauses of a firing on the variables of its thread.
 
-ghost use Rattle.std.specs.Prelude.{◌≡◌, ◌+◌, ◌*◌, ◌<◌, ◌≤◌, ◌^◌, ℤ, List, All, IfOk, OnOk, is_some, length, if◌then◌else◌};
+ghost use Rattle.std.specs.Prelude.{◌≡◌, ◌+◌, ◌*◌, ◌<◌, ◌≤◌, ◌^◌, ℤ, List, All, IfOk, MatchOption, OnOk, is_some, length, if◌then◌else◌, true};
+ghost use Rattle.indexmap.specs.IndexMap.{get};
 ghost use Rattle.replay_core.specs.Vocabulary.{AreTyped, AreTypedOwn, ClauseMeant, HasTypedBuiltIns, Slots, count_held, functions_of, int_eq};
-ghost use Rattle.replay_core.specs.{Evaluation.variables_of, Lanes.Notes, Meaning.at_start, Scripts.AllMean, Seen.piece_seen, Threads.threads_in, Turns.turns};
+ghost use Rattle.replay_core.specs.{Caching.IsTablesAt, Evaluation.variables_of, Lanes.Notes, Meaning.at_start, Scripts.AllMean, Seen.piece_seen, Threads.threads_in, Turns.turns};
 
 use crate::clause::Clause;
 use crate::evaluation::Spare;
@@ -13,8 +14,14 @@ use crate::turns::run_in_turn;
 use d_lexer::MOST_BYTES;
 use firing_reader::Firing;
 use indexmap::IndexMap;
-use keyed_hash::HashKey;
+use keyed_hash::{DirectMapped, HashKey};
 use std::alloc::AllocError;
+
+// How many threads are cached.
+const CACHED: usize = 256;
+
+/// The indices of the threads that fired lately.
+pub(crate) type ThreadCache = DirectMapped<{ CACHED }>;
 
 /// Runs the clauses at these places for a firing, on its thread's variables, and returns whether
 /// one exited.
@@ -23,6 +30,7 @@ pub(crate) fn run_on_thread<C: Clause>(
     places: &[usize],
     firing: &Firing,
     threads: &mut IndexMap<i32, Tables, HashKey>,
+    cache: &mut ThreadCache,
     spare: &mut Spare,
     piece: &mut Piece,
 ) -> Result<bool, AllocError>
@@ -55,8 +63,14 @@ pub(crate) fn run_on_thread<C: Clause>(
     ensures held { OnOk result (count_held piece.new.table
         ≤ count_held piece.old.table + MOST_BYTES * length places.now) }
 {
-    match threads.get_mut(&firing.thread) {
-        Some(tables) => {
+    if places.is_empty() {
+        return Ok(false);
+    }
+    match index_of(threads, cache, firing.thread) {
+        Some(index) => {
+            let Some(tables) = threads.get_index_mut(index) else {
+                unreachable!()
+            };
             tables.locals.reset();
             run_on_tables(clauses, places, firing, tables, spare, piece)
         }
@@ -106,4 +120,33 @@ fn run_on_tables<C: Clause>(
         spare,
     };
     run_in_turn(clauses, places, &mut scene, piece)
+}
+
+// The index of the thread's tables.
+fn index_of(
+    threads: &IndexMap<i32, Tables, HashKey>,
+    cache: &mut ThreadCache,
+    thread: i32,
+) -> Option<usize>
+    ensures { MatchOption result (get int_eq threads.now thread ≡ None)
+        (λ i. IsTablesAt threads.now.entries i thread) }
+{
+    let slot = thread.cast_unsigned() as usize % CACHED;
+    let cached = cache.get(slot);
+    if is_at(threads, cached, thread) {
+        return Some(cached);
+    }
+    let (index, _, _) = threads.get_full(&thread)?;
+    cache.put(slot, index);
+    Some(index)
+}
+
+// Whether the thread's tables are at this index.
+fn is_at(threads: &IndexMap<i32, Tables, HashKey>, index: usize, thread: i32) -> bool
+    ensures { result ≡ true → IsTablesAt threads.now.entries index thread }
+{
+    match threads.get_index(index) {
+        Some((there, _)) => *there == thread,
+        None => false,
+    }
 }

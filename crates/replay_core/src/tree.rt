@@ -55,6 +55,10 @@ impl<'a> Lanes for TreeLanes<'a> {
 
     ghost runs = { λ l m. m ≡ typed_script_of l.script.now };
 
+    fn exits(&self) -> bool {
+        self.script.exits()
+    }
+
     fn lane(&self, alloc: Global) -> Result<TreeLane<'a>, AllocError> {
         tree_lane(alloc, self.hash_key, self.script)
     }

@@ -1,7 +1,7 @@
 //! A run by several workers.
 
 ghost use Rattle.std.specs.Prelude.{◌≡◌, ◌+◌, ◌<◌, ◌≤◌, IfOk, vec_len};
-ghost use Rattle.replay_core.specs.Vocabulary.{AreOf, IsTrace, ScriptMeant, flat_map, grouping, run_threads};
+ghost use Rattle.replay_core.specs.Vocabulary.{AreOf, IsTrace, ScriptMeant, end_of, flat_map, grouping, run_threads};
 ghost use Rattle.replay_core.specs.{Crews.IsRun, Exit.firings_over, Groups.IsAllBelow, Pieces.IsWholeOf, Pieces.RunsEachOnce, Seen.whole_seen, Working.IsReady};
 
 use crate::collect_fault::CollectFault;
@@ -71,8 +71,7 @@ pub fn run_all<R: Threads + Wait + Sync, L: Lanes + Sync, G: Gate + Sync>(
     }
 }
 
-// One round, in which workers watch for exits. Where a firing exits, a second one over the firings
-// up to the first that does, and END.
+// One round where the script has no exit, else two.
 fn in_rounds<R: Threads + Wait + Sync, L: Lanes + Sync, G: Gate + Sync>(
     rt: &R,
     alloc: Global,
@@ -90,8 +89,35 @@ fn in_rounds<R: Threads + Wait + Sync, L: Lanes + Sync, G: Gate + Sync>(
     ensures run { IfOk result (IsRun (L.runs lanes.now) groups.now trace.now) }
 {
     let end = trace.firings().last_number() + 1;
-    let until = Span::UntilExit;
-    let first = in_round(rt, alloc, lanes, trace, groups, workers, gate, until)?;
+    if lanes.exits() {
+        until_exit(rt, alloc, lanes, trace, groups, workers, gate, end)
+    } else {
+        in_round(rt, alloc, lanes, trace, groups, workers, gate, Span::All)
+    }
+}
+
+// A round in which workers watch for exits. Where a firing exits, a second one over the firings up
+// to the first that does, and END.
+fn until_exit<R: Threads + Wait + Sync, L: Lanes + Sync, G: Gate + Sync>(
+    rt: &R,
+    alloc: Global,
+    lanes: &L,
+    trace: &Trace,
+    groups: &Groups,
+    workers: u32,
+    gate: &G,
+    end: u64,
+) -> Result<Round, AllocError>
+    requires ready { IsReady (L.runs lanes.now) groups.now trace.now }
+    requires few { (grouping groups.now).count ≤ MOST_GROUPS + 1 }
+    requires workers { (0 < workers) × (workers ≤ MOST_WORKERS) }
+    requires trace { IsTrace trace.now }
+    requires end { end ≡ (end_of trace.now).number }
+    ensures workers { IfOk result (λ r. vec_len r.lists ≡ workers) }
+    ensures run { IfOk result (IsRun (L.runs lanes.now) groups.now trace.now) }
+{
+    let watching = Span::UntilExit;
+    let first = in_round(rt, alloc, lanes, trace, groups, workers, gate, watching)?;
     if first.least == u64::MAX {
         return Ok(first);
     }

@@ -19,12 +19,17 @@ watched_has_failed w = w.has_failed
 abbrev pub watched_has_ended : {T : Type 0} → Watched T → Bool
 watched_has_ended w = w.has_ended
 
+-- whether the last call was a flush, and went well
+abbrev pub watched_is_flushed : {T : Type 0} → Watched T → Bool
+watched_is_flushed w = w.is_flushed
+
 -- a watched writer as a sink, with the bytes that the writer holds
 abbrev pub watched_sink : {T : Type 0} → (T → Option (List ℕ)) → Watched T → SinkSeen
 watched_sink contents w = record {
   bytes = contents (watched_inner w);
   calls = watched_calls w;
   has_failed = watched_has_failed w;
+  is_flushed = watched_is_flushed w;
 }
 
 -- a watched reader as a feed, with the bytes that the reader has left

@@ -1,7 +1,7 @@
 //! A reader or a writer that moves one byte a call and fails at one chosen call: for tests of what
 //! uses streams.
 ghost use Rattle.std.specs.Prelude.{◌≡◌, ◌+◌, ◌-◌, ◌^◌, ◌<◌, ◌≤◌, IfOk, IsErrAnd, IsOk};
-ghost use Rattle.std.specs.{Io.ReadsAtMost, Io.WritesAtMost, Io.KnownBytes.ReadConsumes, Io.KnownBytes.WriteAppends, IoError.error_kind};
+ghost use Rattle.std.specs.{Io.ReadsAtMost, Io.WritesAtMost, Io.KnownBytes.Keeps, Io.KnownBytes.ReadConsumes, Io.KnownBytes.WriteAppends, IoError.error_kind};
 ghost use Rattle.report.specs.Faulty.{faulty_inner, faulty_good_calls};
 
 use std::io;
@@ -99,7 +99,19 @@ impl<W: Write> Write for Faulty<W> {
         self.inner.write(&buf[..room])
     }
 
-    fn flush(&mut self) -> io::Result<()> {
+    fn flush(&mut self) -> io::Result<()>
+        ensures bytes { Keeps (W.contents (faulty_inner self.old))
+            (W.contents (faulty_inner self.new)) }
+        ensures counted { 0 < faulty_good_calls self.old →
+            faulty_good_calls self.new + 1 ≡ faulty_good_calls self.old }
+        ensures fails { faulty_good_calls self.old ≡ 0 →
+            IsErrAnd result (λ e. error_kind e ≡ ErrorKind.Interrupted) }
+        ensures untouched { faulty_good_calls self.old ≡ 0 →
+            faulty_inner self.new ≡ faulty_inner self.old }
+        ensures later { faulty_good_calls self.old ≡ 0 →
+            faulty_good_calls self.new ≡ 2 ^ 64 - 1 }
+    {
+        self.begin()?;
         self.inner.flush()
     }
 }

@@ -18,4 +18,4 @@ pub use reading::{ReadFault, read_to_end};
 pub use rendering::render;
 pub use stream::{Failed, Feed, Sink};
 pub use watched::Watched;
-pub use writing::{WriteFault, emit};
+pub use writing::{WriteFault, emit, send};

@@ -1,7 +1,7 @@
 //! Streams of bytes whose contracts state which bytes went through, how many calls were made, and
 //! whether one has failed.
-ghost use Rattle.std.specs.Prelude.{◌≡◌, ◌↔◌, ◌+◌, ◌<◌, length, IfOk, IsErr, IsTrue, IsFalse};
-ghost use Rattle.std.specs.{Io.ReadsAtMost, Io.WritesAtMost, Io.KnownBytes.ReadConsumes, Io.KnownBytes.WriteAppends};
+ghost use Rattle.std.specs.Prelude.{◌≡◌, ◌↔◌, ◌+◌, ◌<◌, length, IfOk, IsErr, IsOk, IsTrue, IsFalse};
+ghost use Rattle.std.specs.{Io.ReadsAtMost, Io.WritesAtMost, Io.KnownBytes.Keeps, Io.KnownBytes.ReadConsumes, Io.KnownBytes.WriteAppends};
 ghost use Rattle.report.specs.Stream.{FeedSeen, SinkSeen};
 
 use thiserror::Error;
@@ -24,7 +24,16 @@ pub trait Sink {
         ensures progress { IfOk result (λ n. 0 < length piece.now → 0 < n) }
         ensures bytes { WriteAppends (seen self.old).bytes (seen self.new).bytes result piece.now }
         ensures counted { (seen self.new).calls ≡ (seen self.old).calls + 1 }
-        ensures failed { IsTrue (seen self.new).has_failed ↔ IsErr result };
+        ensures failed { IsTrue (seen self.new).has_failed ↔ IsErr result }
+        ensures waits { IsFalse (seen self.new).is_flushed };
+
+    /// Hands on what was put, so that no byte is left in a buffer.
+    fn flush(&mut self) -> Result<(), Failed>
+        requires { IsFalse (seen self.old).has_failed }
+        ensures bytes { Keeps (seen self.old).bytes (seen self.new).bytes }
+        ensures counted { (seen self.new).calls ≡ (seen self.old).calls + 1 }
+        ensures failed { IsTrue (seen self.new).has_failed ↔ IsErr result }
+        ensures flushed { IsTrue (seen self.new).is_flushed ↔ IsOk result };
 }
 
 /// What bytes are read from.

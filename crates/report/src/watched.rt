@@ -1,7 +1,7 @@
 //! A std reader or writer as a stream that counts its calls and notes a failure.
 ghost use Rattle.std.specs.Prelude.{◌≡◌, ◌+◌, ◌<◌, IsFalse, true, false};
 ghost use Rattle.report.specs.Watched.{watched_inner, watched_calls, watched_feed, watched_sink};
-ghost use Rattle.report.specs.Watched.{watched_has_failed, watched_has_ended};
+ghost use Rattle.report.specs.Watched.{watched_has_failed, watched_has_ended, watched_is_flushed};
 
 use crate::stream::{Failed, Feed, Sink};
 use std::io::{Read, Write};
@@ -15,6 +15,7 @@ pub struct Watched<T> {
     good_calls: u64,
     has_failed: bool,
     has_ended: bool,
+    is_flushed: bool,
 }
 
 impl<T> Watched<T> {
@@ -30,12 +31,14 @@ impl<T> Watched<T> {
         ensures calls { watched_calls result ≡ 0 }
         ensures failed { IsFalse (watched_has_failed result) }
         ensures ended { IsFalse (watched_has_ended result) }
+        ensures flushed { IsFalse (watched_is_flushed result) }
     {
         Watched {
             inner,
             good_calls: 0,
             has_failed: false,
             has_ended: false,
+            is_flushed: false,
         }
     }
 
@@ -48,10 +51,12 @@ impl<T> Watched<T> {
 
     // Notes that a call failed.
     fn fail(&mut self) -> Failed
-        ensures { self.new ≡ record self.old { has_failed = true; has_ended = false } }
+        ensures { self.new
+            ≡ record self.old { has_failed = true; has_ended = false; is_flushed = false } }
     {
         self.has_failed = true;
         self.has_ended = false;
+        self.is_flushed = false;
         Failed
     }
 }
@@ -65,7 +70,17 @@ impl<W: Write> Sink for Watched<W> {
             && (taken > 0 || piece.is_empty())
         {
             self.good_calls += 1;
+            self.is_flushed = false;
             return Ok(taken);
+        }
+        Err(self.fail())
+    }
+
+    fn flush(&mut self) -> Result<(), Failed> {
+        if self.good_calls < u64::MAX && self.inner.flush().is_ok() {
+            self.good_calls += 1;
+            self.is_flushed = true;
+            return Ok(());
         }
         Err(self.fail())
     }

@@ -1,12 +1,12 @@
 //! Writing all bytes to a sink, in as many calls as it asks for.
 ghost use Rattle.std.specs.Prelude.{◌↔◌, ◌+◌, ◌≤◌, length, OnOk, OnErr, IsErr, IsTrue, IsFalse};
 ghost use Rattle.std.specs.Io.KnownBytes.{Appends};
-ghost use Rattle.report.specs.Stream.{AppendsBeginning};
+ghost use Rattle.report.specs.Stream.{AppendsBeginning, IsSent};
 
 use crate::stream::Sink;
 use thiserror::Error;
 
-/// The sink failed before it had all bytes.
+/// The sink failed.
 #[derive(Clone, Copy, Debug, PartialEq, Eq, Error)]
 #[error("write failed")]
 pub struct WriteFault;
@@ -35,4 +35,23 @@ pub fn emit<S: Sink>(sink: &mut S, bytes: &[u8]) -> Result<(), WriteFault>
         rest = &rest[taken..];
     }
     Ok(())
+}
+
+/// Writes the bytes as `emit` does, and flushes the sink. A fault comes exactly where the sink
+/// fails.
+///
+/// ```text
+/// let mut sink = Watched::new(BufWriter::new(alloc, file)?);
+/// send(&mut sink, b"  cat  1\n")?; // the file has them
+/// ```
+pub fn send<S: Sink>(sink: &mut S, bytes: &[u8]) -> Result<(), WriteFault>
+    requires { IsFalse (S.seen sink.old).has_failed }
+    ensures fault { IsErr result ↔ IsTrue (S.seen sink.new).has_failed }
+    ensures sent { IsSent bytes.now (S.seen sink.old) (S.seen sink.new) }
+{
+    emit(sink, bytes)?;
+    match sink.flush() {
+        Ok(()) => Ok(()),
+        Err(_) => Err(WriteFault),
+    }
 }

@@ -6,6 +6,7 @@ ghost use Rattle.shard_queue.specs.{Groupings.places_of, Groupings.with_own, Gro
 
 use crate::groups::Groups;
 use crate::listing::MOST_GROUPS;
+use crate::threads::ThreadCache;
 use firing_reader::{Firings, MOST_ROWS, Trace};
 use std::alloc::{AllocError, Global};
 
@@ -45,13 +46,14 @@ impl Groups {
         ensures places { OnOk result ((g : ℕ) → places self.new g
             ≡ places_of (grouping self.old) g (run_threads firings.now)) }
     {
-        self.add(0, 0)?;
+        let mut cache = ThreadCache::new(*self.threads.allocator())?;
+        self.add(&mut cache, 0, 0)?;
         let mut place = 1;
         for at in 0..firings.len() {
-            self.add(firings.get(at).thread, place)?;
+            self.add(&mut cache, firings.get(at).thread, place)?;
             place += 1;
         }
-        self.add(0, place)?;
+        self.add(&mut cache, 0, place)?;
         Ok(())
     }
 }

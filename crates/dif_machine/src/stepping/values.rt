@@ -1,7 +1,7 @@
 //! Instructions that move a value of either kind, or none.
 
 ghost use Rattle.dif_machine.specs.Vocabulary.{Difo, FrameInMemory, Mov, Sets, Ldgs, Ret, Nop};
-ghost use Rattle.dif_machine.specs.Instructions.{Executes, ExecutesAnywhere, HasNext};
+ghost use Rattle.dif_machine.specs.Instructions.{CanExecute, Executes, ExecutesAnywhere, HasNext};
 
 use crate::fault::MachineFault;
 use crate::frame::Frame;
@@ -35,7 +35,8 @@ pub(super) fn ldgs(
     d: Reg,
 ) -> Result<Option<Reg>, MachineFault>
     requires { HasNext frame.old }
-    ensures { (difo : Difo) → Executes (Ldgs v d) difo firing.now frame.old result frame.new }
+    ensures { (difo : Difo) → CanExecute (Ldgs v d) difo firing.now frame.old
+        → Executes (Ldgs v d) difo firing.now frame.old result frame.new }
 {
     frame.put(d, Held::built_in(firing, v));
     Ok(None)

@@ -5,11 +5,10 @@ ghost use Rattle.std.specs.Prelude.{◌≡◌, ◌<◌, ◌≤◌, ◌+◌, ◌*
 ghost use Rattle.std.specs.Str.Parse.{AllDigits, digits_value};
 ghost use Rattle.firing_reader.specs.{Column.signed_of, Column.text_of, Plain.BeginsWith, Plain.Closes, Plain.Passes, Plain.int_of, Plain.whole_of};
 
-use super::front::{
-    after_comma, after_feed, after_minus, after_zero, front, rest_after, word_front,
-};
+use super::front::{after_comma, after_feed, after_minus, front, rest_after, word_front};
 use crate::columns::{negative, positive};
 use crate::text::{TEXT_LIMIT, Text};
+use core::dec2flt::read_digits;
 
 // No number above this is read here: ten of it and a digit still have 64 bits.
 const LARGE: u64 = 1_844_674_407_370_955_160;
@@ -17,54 +16,17 @@ const LARGE: u64 = 1_844_674_407_370_955_160;
 // So many digits write a number of 64 bits.
 const SHORT: usize = 19;
 
-// A number with one more digit after it.
-fn longer(number: u64, digit: u8) -> u64
-    requires few { number < 10 ^ 18 }
-    requires digit { digit < 10 }
-    ensures { result ≡ number * 10 + digit }
-{
-    number * 10 + u64::from(digit)
-}
-
-// How many of these bytes a short number has at most.
-fn short_of(bytes: &[u8]) -> usize
-    ensures inside { result ≤ length bytes.now }
-    ensures few { result ≤ 19 }
-{
-    if bytes.len() < SHORT {
-        bytes.len()
-    } else {
-        SHORT
-    }
-}
-
 // The digits at the front: the number that they write, and how many there are.
 fn digits(bytes: &[u8]) -> Option<(u64, usize)>
     ensures count { IfSome result (λ p. p.1 ≤ length bytes.now) }
     ensures digits { IfSome result (λ p. AllDigits 10 (take p.1 bytes.now)) }
     ensures value { IfSome result (λ p. p.0 ≡ digits_value 10 (take p.1 bytes.now)) }
 {
-    let most = short_of(bytes);
-    let mut number: u64 = 0;
-    for at in 0..most {
-        let b = bytes[at];
-        if !b.is_ascii_digit() {
-            return Some((number, at));
-        }
-        number = longer(number, b - b'0');
-    }
-    if has_digit(bytes, most) {
+    let (count, number) = read_digits(bytes, 0, 0);
+    if count > SHORT {
         return many_digits(bytes);
     }
-    Some((number, most))
-}
-
-// Whether there is a digit at a place.
-fn has_digit(bytes: &[u8], at: usize) -> bool {
-    match bytes.get(at) {
-        Some(b) => b.is_ascii_digit(),
-        None => false,
-    }
+    Some((number, count))
 }
 
 // The same, whatever their number.
@@ -89,6 +51,17 @@ fn many_digits(bytes: &[u8]) -> Option<(u64, usize)>
     Some((number, bytes.len()))
 }
 
+// One digit that a comma ends.
+#[inline(always)]
+fn one_digit(bytes: &[u8]) -> Option<(u8, &[u8])>
+    ensures { IfSome result (λ p. (p.0 < 10) × (bytes.now ≡ (48 + p.0) ∷ 44 ∷ p.1.now)) }
+{
+    match bytes {
+        [digit, b',', rest @ ..] if digit.is_ascii_digit() => Some((*digit - b'0', rest)),
+        _ => None,
+    }
+}
+
 // A number from least to most that a comma ends.
 pub(crate) fn whole(bytes: &[u8], least: u64, most: u64) -> Option<(u64, &[u8])>
     ensures value { IfSome result (λ p. (field : List ℕ)
@@ -108,6 +81,11 @@ pub(crate) fn int(bytes: &[u8], least: u64) -> Option<(i32, &[u8])>
     ensures { IfSome result (λ p. (field : List ℕ)
         × Passes bytes.now (field ∷ []) p.1.now × (int_of least field ≡ Some p.0)) }
 {
+    if least == 0
+        && let Some((digit, rest)) = one_digit(bytes)
+    {
+        return Some((i32::from(digit), rest));
+    }
     let (number, rest) = whole(bytes, least, 0x7fff_ffff)?;
     Some((number as i32, rest))
 }
@@ -190,8 +168,8 @@ pub(crate) fn next_argument(bytes: &[u8]) -> Option<(i64, &[u8])>
     ensures { IfSome result (λ p. (field : List ℕ)
         × Passes bytes.now (field ∷ []) p.1.now × (signed_of field ≡ Some p.0)) }
 {
-    match after_zero(bytes) {
-        Some(rest) => Some((0, rest)),
+    match one_digit(bytes) {
+        Some((digit, rest)) => Some((i64::from(digit), rest)),
         None => other_argument(bytes),
     }
 }

@@ -13,16 +13,6 @@ pub(crate) fn after_comma(bytes: &[u8]) -> Option<&[u8]>
     }
 }
 
-// What comes after a zero and a comma.
-pub(crate) fn after_zero(bytes: &[u8]) -> Option<&[u8]>
-    ensures { IfSome result (λ rest. bytes.now ≡ 48 ∷ 44 ∷ rest.now) }
-{
-    match bytes {
-        [b'0', b',', rest @ ..] => Some(rest),
-        _ => None,
-    }
-}
-
 // What comes after a minus.
 pub(crate) fn after_minus(bytes: &[u8]) -> Option<&[u8]>
     ensures { IfSome result (λ rest. bytes.now ≡ 45 ∷ rest.now) }

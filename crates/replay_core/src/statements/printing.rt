@@ -1,12 +1,13 @@
 //! The texts of `trace` and `printf` (Dynamic Tracing Guide, "Output Formatting").
 
-ghost use Rattle.std.specs.Prelude.{◌≡◌, ◌++◌, ◌∷◌, [], IfOk, string_bytes, unsigned_abs};
+ghost use Rattle.std.specs.Prelude.{◌≡◌, ◌++◌, ◌∷◌, [], IfOk, unsigned_abs};
 ghost use Rattle.d_types.specs.Printing as spec;
 ghost use Rattle.replay_core.specs.Vocabulary.{signed_decimal};
 
 use crate::evaluation::{bytes_in, word_in};
 use d_types::{Conversion, Letter, Piece};
 use d_values::{DType, IntType, Text, Value, convert};
+use itoa::Buffer;
 use std::alloc::{AllocError, Global};
 
 // Three parts in a row.
@@ -38,15 +39,15 @@ fn is_signed(t: DType) -> bool
     }
 }
 
-// A word in decimal, with its sign.
-fn decimal(alloc: Global, t: DType, word: u64) -> Result<String, AllocError>
-    ensures { IfOk result (λ s. string_bytes s ≡ signed_decimal (spec.number_in t word)) }
+// The line of a word in decimal, with its sign.
+fn decimal_line(alloc: Global, t: DType, word: u64) -> Result<Text, AllocError>
+    ensures { IfOk result (λ x. x ≡ signed_decimal (spec.number_in t word) ++ 10 ∷ []) }
 {
+    let mut buffer = Buffer::new();
     if is_signed(t) {
-        let number = word.cast_signed();
-        format!(in alloc; "{number}")
+        line(alloc, buffer.format(word.cast_signed()).as_bytes())
     } else {
-        format!(in alloc; "{word}")
+        line(alloc, buffer.format(word).as_bytes())
     }
 }
 
@@ -54,16 +55,13 @@ fn decimal(alloc: Global, t: DType, word: u64) -> Result<String, AllocError>
 ///
 /// ```text
 /// // `-1` and a line feed
-/// traced(alloc, DType::Int(IntType::INT8), &Value::Int(u64::MAX))?;
+/// trace_line(alloc, DType::Int(IntType::INT8), &Value::Int(u64::MAX))?;
 /// ```
 pub fn trace_line(alloc: Global, t: DType, value: &Value) -> Result<Text, AllocError>
     ensures { IfOk result (λ x. x ≡ spec.trace_line t value.now) }
 {
     match value {
-        Value::Int(word) => {
-            let number = decimal(alloc, t, *word)?;
-            line(alloc, number.as_bytes())
-        }
+        Value::Int(word) => decimal_line(alloc, t, *word),
         Value::Text(text) => line(alloc, text.as_bytes()),
     }
 }
@@ -107,17 +105,6 @@ fn low(t: DType, word: u64) -> u64
     }
 }
 
-// The digits of a number for a letter.
-fn digits(alloc: Global, letter: Letter, number: u64) -> Result<String, AllocError>
-    ensures { IfOk result (λ s. string_bytes s ≡ spec.digits_of letter number) }
-{
-    match letter {
-        Letter::Hexadecimal => format!(in alloc; "{number:x}"),
-        Letter::Octal => format!(in alloc; "{number:o}"),
-        Letter::Signed | Letter::Unsigned | Letter::Text => format!(in alloc; "{number}"),
-    }
-}
-
 // A sign and what follows it, in the conversion's width.
 fn text_in_width(
     alloc: Global,
@@ -153,11 +140,23 @@ fn conversion_text(
         Letter::Text => text_in_width(alloc, c, false, &[], bytes_in(value)),
         Letter::Signed => {
             let word = word_in(value);
-            let body = digits(alloc, Letter::Unsigned, size(t, word))?;
+            let mut buffer = Buffer::new();
+            let body = buffer.format(size(t, word));
             text_in_width(alloc, c, c.zeros, sign(t, word), body.as_bytes())
         }
-        Letter::Unsigned | Letter::Hexadecimal | Letter::Octal => {
-            let body = digits(alloc, c.letter, low(t, word_in(value)))?;
+        Letter::Unsigned => {
+            let mut buffer = Buffer::new();
+            let body = buffer.format(low(t, word_in(value)));
+            text_in_width(alloc, c, c.zeros, &[], body.as_bytes())
+        }
+        Letter::Hexadecimal => {
+            let number = low(t, word_in(value));
+            let body = format!(in alloc; "{number:x}")?;
+            text_in_width(alloc, c, c.zeros, &[], body.as_bytes())
+        }
+        Letter::Octal => {
+            let number = low(t, word_in(value));
+            let body = format!(in alloc; "{number:o}")?;
             text_in_width(alloc, c, c.zeros, &[], body.as_bytes())
         }
     }

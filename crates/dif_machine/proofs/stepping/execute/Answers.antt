@@ -1,11 +1,12 @@
-use Rattle.std.specs.Prelude.{◌<◌}
-use Rattle.std.proofs.Common.{subst}
+use Rattle.std.specs.Prelude.{◌≡◌, ◌<◌, ℕ}
+use Rattle.std.proofs.Common.{ap, subst, ◌∙◌}
 use Rattle.std.proofs.lemmas.List.{length-map}
 use Rattle.d_values.specs.Storage.{variables}
 use Rattle.d_values.specs.Stores.{local_of, own_of}
-use Rattle.dif_machine.specs.Vocabulary.{object_of}
+use Rattle.dif_machine.specs.Vocabulary.{Difo, Firing, FrameInMemory, Instr, Ldga, Reg, Variables, object_of}
+use Rattle.dif_machine.specs.Instructions.{CanExecuteOver}
 use Rattle.dif_machine.specs.Held.{frame_of}
-use Rattle.dif_machine.proofs.Acting.{text_fits, number_fits}
+use Rattle.dif_machine.proofs.Acting.{only_array, text_fits, number_fits}
 use Rattle.dif_machine.proofs.Executing.{can, does}
 use Rattle.dif_machine.proofs.stepping.execute.Goals as goal
 
@@ -55,13 +56,24 @@ pub returns-in-Sets : goal.returns-in-Sets
 returns-in-Sets c = does c.args.difo.now c.args.firing.now c.args.frame.now _ _ c.in-Sets.is c.sets.result c.sets.new.frame (variables c.args.locals.now c.args.own.now) (variables c.args.locals.now c.args.own.now) (c.sets.ensures c.args.difo.now c.args.firing.now (can c.args.difo.now c.args.firing.now c.args.frame.now _ _ (variables c.args.locals.now c.args.own.now) c.in-Sets.is c.requires) (variables c.args.locals.now c.args.own.now))
 
 pub returns-in-Ldgs : goal.returns-in-Ldgs
-returns-in-Ldgs c = does c.args.difo.now c.args.firing.now c.args.frame.now _ _ c.in-Ldgs.is c.ldgs.result c.ldgs.new.frame (variables c.args.locals.now c.args.own.now) (variables c.args.locals.now c.args.own.now) (c.ldgs.ensures c.args.difo.now (variables c.args.locals.now c.args.own.now))
+returns-in-Ldgs c = does c.args.difo.now c.args.firing.now c.args.frame.now _ _ c.in-Ldgs.is c.ldgs.result c.ldgs.new.frame (variables c.args.locals.now c.args.own.now) (variables c.args.locals.now c.args.own.now) (c.ldgs.ensures c.args.difo.now (can c.args.difo.now c.args.firing.now c.args.frame.now _ _ (variables c.args.locals.now c.args.own.now) c.in-Ldgs.is c.requires) (variables c.args.locals.now c.args.own.now))
+
+-- the array is the one that there is
+one_array : (difo : Difo) (f : Firing) (frame : FrameInMemory) (vars : Variables) (read : Instr) (v : ℕ) (a d : Reg) → read ≡ Ldga v a d → CanExecuteOver read difo f frame vars → read ≡ Ldga 0 a d
+one_array difo f frame vars read v a d is h =
+    is ∙ ap (λ v. Ldga v a d) (only_array (object_of difo) f (frame_of (object_of difo) f frame) vars v a d (subst (λ i. CanExecuteOver i difo f frame vars) is h).1)
 
 pub ldga-requires : goal.ldga-requires
-ldga-requires c = can c.args.difo.now c.args.firing.now c.args.frame.now _ _ (variables c.args.locals.now c.args.own.now) c.in-Ldga.is c.requires
+ldga-requires c =
+    let vars = variables c.args.locals.now c.args.own.now in
+    let is = one_array c.args.difo.now c.args.firing.now c.args.frame.now vars _ _ _ _ c.in-Ldga.is c.requires in
+    can c.args.difo.now c.args.firing.now c.args.frame.now _ _ vars is c.requires
 
 pub returns-in-Ldga : goal.returns-in-Ldga
-returns-in-Ldga c = does c.args.difo.now c.args.firing.now c.args.frame.now _ _ c.in-Ldga.is c.ldga.result c.ldga.new.frame (variables c.args.locals.now c.args.own.now) (variables c.args.locals.now c.args.own.now) (c.ldga.ensures (variables c.args.locals.now c.args.own.now))
+returns-in-Ldga c =
+    let vars = variables c.args.locals.now c.args.own.now in
+    let is = one_array c.args.difo.now c.args.firing.now c.args.frame.now vars _ _ _ _ c.in-Ldga.is c.requires in
+    does c.args.difo.now c.args.firing.now c.args.frame.now _ _ is c.ldga.result c.ldga.new.frame vars vars (c.ldga.ensures vars)
 
 pub returns-in-Ldts : goal.returns-in-Ldts
 returns-in-Ldts c = does c.args.difo.now c.args.firing.now c.args.frame.now _ _ c.in-Ldts.is c.ldts.result c.ldts.new.frame (variables c.args.locals.now c.args.own.now) (variables c.args.locals.now c.args.own.now) (c.ldts.ensures c.args.difo.now c.args.firing.now (can c.args.difo.now c.args.firing.now c.args.frame.now _ _ (variables c.args.locals.now c.args.own.now) c.in-Ldts.is c.requires) (local_of c.args.locals.now))

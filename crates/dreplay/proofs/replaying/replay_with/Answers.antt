@@ -46,11 +46,6 @@ returns g c =
       tree = c.in_ok-tree.ensures.read;
       well = c.in_ok-script.ensures.typed.0;
       fits = c.in_ok-script.ensures.typed.1;
-    } in (
-      m,
-      trace,
-      grouping c.in_ok-groups.groups,
-      record { accepted = accepted; reads = c.in_ok-trace.ensures },
-      c.in_ok-groups.ensures.grouped,
-      c.in_ok-replayed.ensures trace (grouping c.in_ok-groups.groups) c.args.plan.now.workers c.in_ok-ran.ensures,
-    )
+    } in
+    let shown = c.in_ok-replayed.ensures c.args.plan.now trace (grouping c.in_ok-groups.groups) c.in_ok-groups.ensures.grouped c.in_ok-ran.ensures in
+    (m, trace, record { accepted = accepted; reads = c.in_ok-trace.ensures }, shown.0, shown.1)

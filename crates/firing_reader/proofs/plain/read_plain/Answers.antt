@@ -13,14 +13,12 @@ loop-init c = record { feed = c.requires.feed; read = goes_none _ _ c.requires.e
 pub loop-preserved : goal.loop-preserved
 unfolding Rises
 loop-preserved c =
-    let pushed = c.in-Some-push.ensures in
-    let row = c.in-Some.ensures.row in
-    let rises = rw c.last_number.ensures at c.in-Some.ensures.rises in
-    let more = length-append c.loop.firings (c.in-Some.firing ∷ []) in
+    let (f, pushed, row, rises) = c.in-Some.ensures in
+    let more = length-append c.loop.firings (f ∷ []) in
     record {
       feed = (row.after, row.is_rest);
-      read = rw pushed (goes_plain c.loop.firings c.in-Some.firing c.loop.rest.now c.in-Some.after.now c.args.bytes.now row rises (omega arith) c.loop.invariant.read);
-      rows = rw pushed (rows_push c.args.bytes.now c.loop.firings c.loop.rest.now c.in-Some.firing c.in-Some.after.now c.loop.invariant.rows row);
-      rises = rw (pushed, last_push c.loop.firings c.in-Some.firing) (rises_join 0 c.loop.firings (last_number c.loop.firings) (c.in-Some.firing ∷ []) c.in-Some.firing.number c.loop.invariant.rises (rises, refl));
+      read = rw pushed (goes_plain c.loop.firings f c.loop.rest.now c.in-Some.after.now c.args.bytes.now row rises (omega arith) c.loop.invariant.read);
+      rows = rw pushed (rows_push c.args.bytes.now c.loop.firings c.loop.rest.now f c.in-Some.after.now c.loop.invariant.rows row);
+      rises = rw (pushed, last_push c.loop.firings f) (rises_join 0 c.loop.firings (last_number c.loop.firings) (f ∷ []) f.number c.loop.invariant.rises (rises, refl));
       few = rw pushed (omega arith);
     }

@@ -7,4 +7,4 @@ pub returns : goal.returns
 returns c =
     let o = object_of c.args.difo.now in
     let f = c.args.firing.now in
-    λ vars. acting.ldga o f (frame_of o f c.args.frame.now) vars 0 _ _ _ _ _ c.number.ensures c.argument-word.ensures (c.put.ensures o f)
+    λ vars. acting.ldga o f (frame_of o f c.args.frame.now) vars _ _ _ _ _ c.number.ensures c.argument-word.ensures (c.put.ensures o f)

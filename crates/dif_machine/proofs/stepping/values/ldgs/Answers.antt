@@ -9,4 +9,7 @@ use Rattle.dif_machine.proofs.stepping.values.ldgs.Goals as goal
 pub returns : goal.returns
 returns c =
     let f = c.args.firing.now in
-    λ difo vars. let o = object_of difo in acting.ldgs o f (frame_of o f c.args.frame.now) vars _ _ _ (c.put.ensures o f ∙ ap (with_content (frame_of o f c.args.frame.now) c.args.d) (c.built_in.ensures.value o []))
+    λ difo can vars.
+    let o = object_of difo in
+    let s = frame_of o f c.args.frame.now in
+    acting.ldgs o f s vars _ _ _ can.0 can.1.1 (c.put.ensures o f ∙ ap (with_content s c.args.d) (c.built_in.ensures.value o []))

@@ -7,20 +7,25 @@ add_rows-requires c =
     let own = c.self.inside.args.items in
     let other = c.others.inside in
     let both : c.add_arguments.new.all.items ≡ own ++ other.args.items = rw (← c.deref.ensures.value) c.in_ok-shift.ensures.args in
-    let few : length (own ++ other.args.items) < 2 ^ 32 = rw both at c.in_ok-shift.ensures.few in
-    rw (c.deref-3.ensures.value, c.deref-2.ensures.value, c.in_ok-shift.ensures.place)
-    (all_movable c.places_of.new.self other.texts c.in_ok-places.places.items own other.args.items other.rows.items c.in_ok-places.ensures.places few c.others.invariant)
+    let few : length (own ++ other.args.items) < 2 ^ 28 = rw both at c.in_ok-shift.ensures.few in
+    rw (c.deref-3.ensures.value, c.deref-4.ensures.value, c.deref-2.ensures.value, c.in_ok-shift.ensures.place)
+    (all_movable c.places_of.new.self other.owners c.in_ok-owner_places.owner_places.items c.places_of-2.new.self other.probes c.in_ok-probe_places.probe_places.items own other.args.items other.rows.items
+        c.in_ok-owner_places.ensures.places c.in_ok-probe_places.ensures.places few c.others.invariant)
 
 pub invariant_of-result : goal.invariant_of-result
 invariant_of-result c =
     let own = c.self.inside in
     let other = c.others.inside in
-    rw (c.in_ok-add_rows.ensures, c.in_ok-shift.ensures.args, c.deref.ensures.value, c.deref-3.ensures.value, c.deref-2.ensures.value, c.in_ok-shift.ensures.place)
-    (followed_in own.texts c.places_of.new.self other.texts c.in_ok-places.places.items own.args.items other.args.items own.rows.items other.rows.items c.places_of.ensures.grows c.in_ok-places.ensures.places c.self.invariant c.others.invariant)
+    rw (c.in_ok-add_rows.ensures, c.in_ok-shift.ensures.args, c.deref.ensures.value, c.deref-3.ensures.value, c.deref-4.ensures.value, c.deref-2.ensures.value, c.in_ok-shift.ensures.place)
+    (followed_in own.owners c.places_of.new.self other.owners c.in_ok-owner_places.owner_places.items own.probes c.places_of-2.new.self other.probes c.in_ok-probe_places.probe_places.items
+        own.args.items other.args.items own.rows.items other.rows.items c.places_of.ensures.grows c.places_of-2.ensures.grows c.in_ok-owner_places.ensures.places c.in_ok-probe_places.ensures.places
+        c.self.invariant c.others.invariant)
 
 pub returns : goal.returns
 returns c =
     let own = c.self.inside in
     let other = c.others.inside in
-    rw (c.in_ok-add_rows.ensures, c.in_ok-shift.ensures.args, c.deref.ensures.value, c.deref-3.ensures.value, c.deref-2.ensures.value, c.in_ok-shift.ensures.place, ← c.self.view_is, ← c.others.view_is)
-    (followed_same own.texts c.places_of.new.self other.texts c.in_ok-places.places.items own.args.items other.args.items own.rows.items other.rows.items c.places_of.ensures.grows c.in_ok-places.ensures.places c.self.invariant c.others.invariant)
+    rw (c.in_ok-add_rows.ensures, c.in_ok-shift.ensures.args, c.deref.ensures.value, c.deref-3.ensures.value, c.deref-4.ensures.value, c.deref-2.ensures.value, c.in_ok-shift.ensures.place, ← c.self.view_is, ← c.others.view_is)
+    (followed_same own.owners c.places_of.new.self other.owners c.in_ok-owner_places.owner_places.items own.probes c.places_of-2.new.self other.probes c.in_ok-probe_places.probe_places.items
+        own.args.items other.args.items own.rows.items other.rows.items c.places_of.ensures.grows c.places_of-2.ensures.grows c.in_ok-owner_places.ensures.places c.in_ok-probe_places.ensures.places
+        c.self.invariant c.others.invariant)

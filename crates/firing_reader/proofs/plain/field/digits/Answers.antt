@@ -1,23 +1,20 @@
-use Rattle.std.proofs.Common.{◌<◌, ◌≤◌, ◌^◌, rules, arith, get_or, take, length, length-take}
-use Rattle.std.specs.Int.{IsInRange}
+use Rattle.std.proofs.Common.{arith, ◌≡◌, ◌<◌, ◌≤◌, ◌^◌, take, length, length-take, refl}
+use native.Mathlib.Nat.{sub-zero}
+use Rattle.std.specs.Prelude.{slice_range}
 use Rattle.std.specs.Str.Parse.{digits_value}
-use Rattle.std.proofs.lemmas.Int.Digits.{digits_more, digits_value_more}
-use Rattle.std.proofs.lemmas.Str.{digit_value_digit}
-use Rattle.firing_reader.proofs.PlainFields.{few_digits}
+use Rattle.core.proofs.dec2flt.Rows.{AllDigits-digits_len}
+use Rattle.firing_reader.proofs.PlainFields.{digits_fit}
 use Rattle.firing_reader.proofs.plain.field.digits.Goals as goal
 
-pub longer-number-requires-clause-few : goal.longer-number-requires-clause-few
-longer-number-requires-clause-few c =
-    let few : length (take c.loop-at.at c.args.bytes.now) ≤ 18 = grind (arith, length-take) in
-    let small : digits_value 10 (take c.loop-at.at c.args.bytes.now) < 10 ^ 18 = few_digits (take c.loop-at.at c.args.bytes.now) c.loop-at.invariant.digits few in
-    omega (arith, small, c.loop-at.invariant.value)
+pub returns-clause-digits : goal.returns-clause-digits
+returns-clause-digits c = AllDigits-digits_len c.args.bytes.now c.read_digits-count.result.0 (omega (arith, c.read_digits-count.ensures.end))
 
-pub loop-at-preserved : goal.loop-at-preserved
-loop-at-preserved c =
-    let in_range : IsInRange 48 57 (get_or c.args.bytes.now c.loop-at.at 0) = search rules in
-    let digit = digit_value_digit _ in_range in
-    let more = digits_value_more 10 c.args.bytes.now c.loop-at.at (omega arith) in
-    record {
-      digits = digits_more 10 c.args.bytes.now c.loop-at.at (omega arith) c.loop-at.invariant.digits (omega arith);
-      value = omega arith;
-    }
+pub returns-clause-value : goal.returns-clause-value
+returns-clause-value c =
+    let n = c.read_digits-count.result.0 in
+    let field = take n c.args.bytes.now in
+    let all = AllDigits-digits_len c.args.bytes.now n (omega (arith, c.read_digits-count.ensures.end)) in
+    let few : length field ≤ 19 = grind (arith, length-take) in
+    let small : digits_value 10 field < 10 ^ 19 = digits_fit field all few in
+    let same : slice_range c.args.bytes.now 0 n ≡ field = rw sub-zero refl in
+    omega (arith, rw same at c.read_digits-count.ensures.value, small)

@@ -1,29 +1,23 @@
-use Rattle.std.proofs.Common.{rules, ◌≡◌, false, ◌∷◌, [], w32}
-use Rattle.std.specs.Prelude.{codes}
-use Rattle.std.specs.Str.{bytes_eq}
+use Rattle.std.proofs.Common.{rules, w32}
 use Rattle.std.proofs.lemmas.Int.{to_z-of_z}
-use Rattle.firing_reader.specs.declared.firing.Firing.{Firing}
-use Rattle.firing_reader.specs.Plain.{ReadsRow}
-use Rattle.firing_reader.proofs.PlainRows.{closes_more, row_read}
-use Rattle.firing_reader.proofs.PlainFirings.{firing_ok, fields}
+use Rattle.firing_reader.specs.declared.stored_row.Row.{Row}
+use Rattle.firing_reader.proofs.RowParts.{row_in, row_parts}
 use Rattle.firing_reader.proofs.plain.row.row.Goals as goal
+
+pub returns-clause-inside : goal.returns-clause-inside
+returns-clause-inside c =
+    let r : Row = record { number = c.in_ok-number.number; time = c.in_ok-time.time; cpu = c.in_ok-cpu.cpu; owner = c.in_ok-owner.owner; probe = c.in_ok-probe.probe; given = c.in_ok-given.given } in
+    let (o, at_o, reads_o) = c.in_ok-owner.ensures.owner in
+    let (p, at_p, reads_p) = c.in_ok-probe.ensures.probe in
+    rw (to_z-of_z w32 c.in_ok-cpu.cpu (search rules)) (row_in c.read.new.self c.read-2.new.self c.read_arguments.new.all.items r o p at_o at_p c.in_ok-given.ensures.inside)
 
 pub returns-clause-row : goal.returns-clause-row
 returns-clause-row c =
-    let f : Firing = record { number = c.in_ok-head.head.number; cpu = c.in_ok-head.head.cpu; thread = c.in_ok-head.head.thread; pid = c.in_ok-head.head.pid; execname = c.in_ok-names.names.execname; time = c.in_ok-names.names.time; provider = c.in_ok-names.names.provider; probemod = c.in_ok-names.names.probemod; probefunc = c.in_ok-names.names.probefunc; name = c.in_ok-names.names.name; args = c.in_ok-args.args } in
-    let h = c.in_ok-head.ensures in
-    let n = c.in_ok-names.ensures in
-    let a = c.in_ok-args.ensures in
-    let names = closes_more _ _ _ (n.x5 ∷ n.x6 ∷ n.x7 ∷ n.x8 ∷ n.x9 ∷ n.x10 ∷ []) (a.x0 ∷ a.x1 ∷ a.x2 ∷ a.x3 ∷ a.x4 ∷ a.x5 ∷ a.x6 ∷ a.x7 ∷ a.x8 ∷ a.x9 ∷ []) n.passes a.closes in
-    let line = closes_more _ _ _ (h.x1 ∷ h.x2 ∷ h.x3 ∷ h.x4 ∷ []) _ h.passes names in
-    let (first, more, starts, joins) = c.starts_with_digit.ensures (search rules) in
-    let (after, is_rest, read) = row_read c.args.bytes.now c.in_ok-line.line.now c.in_ok-args.rest.now _ first more c.in_ok-line.ensures starts joins line in
-    let free : bytes_eq c.in_ok-names.names.provider (codes "dtrace") ≡ false = search rules in
-    let done : ReadsRow c.args.bytes.now c.in_ok-args.rest.now f = record {
-      fields = fields f h n a;
-      after = after;
-      is_rest = is_rest;
-      read = read;
-      firing = firing_ok f h n a free;
-    } in
-    rw (to_z-of_z w32 c.in_ok-head.head.cpu (search rules), to_z-of_z w32 c.in_ok-head.head.thread (search rules), to_z-of_z w32 c.in_ok-head.head.pid (search rules)) done
+    let r : Row = record { number = c.in_ok-number.number; time = c.in_ok-time.time; cpu = c.in_ok-cpu.cpu; owner = c.in_ok-owner.owner; probe = c.in_ok-probe.probe; given = c.in_ok-given.given } in
+    let (o, at_o, reads_o) = c.in_ok-owner.ensures.owner in
+    let (p, at_p, reads_p) = c.in_ok-probe.ensures.probe in
+    let starts = c.starts_with_digit.ensures (search rules) in
+    let done = row_parts c.args.bytes.now c.in_ok-line.line.now c.in_ok-number.rest.now c.in_ok-cpu.rest.now c.in_ok-owner.rest.now c.in_ok-time.rest.now c.in_ok-probe.rest.now c.in_ok-given.rest.now
+        c.read.new.self c.read-2.new.self c.read_arguments.new.all.items r o p c.in_ok-line.ensures starts c.in_ok-number.ensures.value c.in_ok-cpu.ensures at_o reads_o c.in_ok-time.ensures.value at_p reads_p
+        c.in_ok-given.ensures.args in
+    rw (to_z-of_z w32 c.in_ok-cpu.cpu (search rules)) done

@@ -1,0 +1,13 @@
+use Rattle.std.proofs.Common.{sym, subst, ◌∙◌}
+use Rattle.indexmap.specs.IndexMap.{Updates, with_value_at}
+use Rattle.indexmap.proofs.CallerLemmas.{updates-with_value_at}
+use Rattle.d_values.specs.Variables.{same_var, same_var_equiv}
+use Rattle.d_values.proofs.Storing.{kept_of}
+use Rattle.d_values.proofs.clause_locals.put.Goals as goal
+
+pub returns-in-Some-get_index_mut-clause-ok : goal.returns-in-Some-get_index_mut-clause-ok
+returns-in-Some-get_index_mut-clause-ok c =
+    let at = c.in-Some.ensures in
+    let old = c.args.map.now in
+    let puts = updates-with_value_at old c.in-Some.index c.args.value same_var_equiv c.get_index_mut.ensures.unique c.args.var at.held at.entry in
+    subst (λ w. Updates same_var old (with_value_at old c.in-Some.index c.args.value) c.args.var w) (sym (kept_of c.args.value (sym c.is_blank.ensures ∙ c.if-is_blank.false))) puts

@@ -1,0 +1,36 @@
+//! Where a variable is in a map.
+
+ghost use Rattle.std.specs.Prelude.{◌≡◌, None, true, MatchOption};
+ghost use Rattle.indexmap.specs.IndexMap.{get};
+ghost use Rattle.d_values.specs.{Places.IsVarAt, Variables.same_var};
+
+use crate::variable::Var;
+use indexmap::IndexMap;
+use std::hash::BuildHasher;
+
+// The first few entries are compared one by one, which costs less than a look-up.
+const FEW: usize = 8;
+
+/// The index of the variable's entry.
+pub(crate) fn index_of<V, S: BuildHasher>(map: &IndexMap<Var, V, S>, var: Var) -> Option<usize>
+    ensures { MatchOption result (get same_var map.now var ≡ None)
+        (λ i. IsVarAt map.now.entries i var) }
+{
+    for index in 0..map.len().min(FEW) {
+        if is_at(map, index, var) {
+            return Some(index);
+        }
+    }
+    let (index, _, _) = map.get_full(&var)?;
+    Some(index)
+}
+
+// Whether the variable's entry has this index.
+fn is_at<V, S: BuildHasher>(map: &IndexMap<Var, V, S>, index: usize, var: Var) -> bool
+    ensures { result ≡ true → IsVarAt map.now.entries index var }
+{
+    match map.get_index(index) {
+        Some((there, _)) => *there == var,
+        None => false,
+    }
+}

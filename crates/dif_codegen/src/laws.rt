@@ -1,0 +1,12 @@
+//! Laws of what compiled code means: each holds of the definitions, and its function computes
+//! nothing.
+
+ghost use Rattle.dif_codegen.specs.{Correct.end_of, Meaning.value_of, Vocabulary.Firing, Vocabulary.Object, Vocabulary.Variables};
+ghost use Rattle.dif_machine.specs.Runs.{Runs};
+ghost use Rattle.dif_validate.specs.Validity.{IsValid};
+
+/// A run of a valid object ends as its value says.
+pub fn values_are_of_runs()
+    ensures { (o : Object) (f : Firing) (vars : Variables) → IsValid o
+        → Runs o f vars (end_of (value_of f o vars)) }
+{}

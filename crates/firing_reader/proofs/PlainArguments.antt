@@ -1,0 +1,149 @@
+-- Arguments of a plain row.
+use Rattle.std.proofs.Common.{◌≡◌, ◌<◌, ◌≤◌, ◌+◌, ◌-◌, ◌*◌, ℕ, ℤ, pos, zero, suc, List, [], ◌∷◌, ◌++◌, length, get_or, take, drop, map, All, Some, refl, sym, ap, ◌∙◌, arith, length-append, append_assoc, replicate}
+use Rattle.std.proofs.Math.Seq.{take-append_seam}
+use Rattle.std.proofs.lemmas.List.{append_cancel_left, length-replicate, map-append, take-append-drop, append-nil}
+use Rattle.firing_reader.specs.declared.stored_row.Given.{Given}
+use Rattle.firing_reader.specs.Column.{signed_of}
+use Rattle.firing_reader.specs.Plain.{Closes, JoinsField, Passes, ReadsArguments}
+use Rattle.firing_reader.specs.Stored.{count_of, first_of, given_in, ten}
+use Rattle.firing_reader.proofs.PlainFields.{one_joins, one_signed}
+use Rattle.firing_reader.proofs.PlainRows.{closes_more, closes_one, passes_more, passes_one}
+use Rattle.firing_reader.proofs.Stored.{part_kept, ten_same}
+
+-- ---- arguments that are all 0
+
+-- zeros that commas end, and a last one
+abbrev pub zeros : ℕ → List ℕ
+zeros zero = 48 ∷ []
+zeros (suc n) = 48 ∷ 44 ∷ zeros n
+
+zero_joins : All JoinsField (48 ∷ [])
+zero_joins = one_joins 0 (omega arith)
+
+zeros_close : (n : ℕ) (bytes rest after : List ℕ) → bytes ≡ zeros n ++ rest → rest ≡ 10 ∷ after → Closes bytes (replicate (suc n) (48 ∷ [])) rest
+zeros_close zero bytes rest after is feed = closes_one bytes (48 ∷ []) rest after feed (record { split = is; plain = zero_joins })
+zeros_close (suc n) bytes rest after is feed =
+    closes_more bytes (zeros n ++ rest) rest ((48 ∷ []) ∷ []) (replicate (suc n) (48 ∷ []))
+    (passes_one bytes (48 ∷ []) (zeros n ++ rest) (record { split = is; plain = zero_joins }))
+    (zeros_close n (zeros n ++ rest) rest after refl feed)
+
+zeros_found : (n : ℕ) (found bytes rest : List ℕ) → found ≡ zeros n ++ 10 ∷ [] → take (length found) bytes ≡ found → bytes ≡ take (length found - 1) bytes ++ rest
+    → Closes bytes (replicate (suc n) (48 ∷ [])) rest
+zeros_found n found bytes rest is front split =
+    let d = drop (length found) bytes in
+    let whole : bytes ≡ zeros n ++ (10 ∷ d) = sym (take-append-drop (length found) bytes) ∙ ap (λ (l : List ℕ). l ++ d) (front ∙ is) ∙ append_assoc (zeros n) (10 ∷ []) d in
+    let size : length found - 1 ≡ length (zeros n) = omega (arith, ap length is, length-append (zeros n) (10 ∷ [])) in
+    let begin : take (length found - 1) bytes ≡ zeros n = rw size (ap (take (length (zeros n))) whole ∙ take-append_seam (zeros n) (10 ∷ d)) in
+    let rest_is : rest ≡ 10 ∷ d = append_cancel_left (zeros n) rest (10 ∷ d) (ap (λ (l : List ℕ). l ++ rest) (sym begin) ∙ sym split ∙ whole) in
+    zeros_close n bytes rest d (split ∙ ap (λ (l : List ℕ). l ++ rest) begin) rest_is
+
+-- the line of ten zeros from so many before its end on
+zeros_at : (n : ℕ) → n < 10 → take (20 - (20 - 2 * suc n)) (drop (20 - 2 * suc n) (zeros 9 ++ 10 ∷ [])) ≡ zeros n ++ 10 ∷ []
+zeros_at zero lt = refl
+zeros_at (suc zero) lt = refl
+zeros_at (suc (suc zero)) lt = refl
+zeros_at (suc (suc (suc zero))) lt = refl
+zeros_at (suc (suc (suc (suc zero)))) lt = refl
+zeros_at (suc (suc (suc (suc (suc zero))))) lt = refl
+zeros_at (suc (suc (suc (suc (suc (suc zero)))))) lt = refl
+zeros_at (suc (suc (suc (suc (suc (suc (suc zero))))))) lt = refl
+zeros_at (suc (suc (suc (suc (suc (suc (suc (suc zero)))))))) lt = refl
+zeros_at (suc (suc (suc (suc (suc (suc (suc (suc (suc zero))))))))) lt = refl
+zeros_at (suc (suc (suc (suc (suc (suc (suc (suc (suc (suc n)))))))))) lt = absurd (omega arith)
+
+pub zeros_end : (count : ℕ) (found bytes rest : List ℕ) → 1 ≤ count → count ≤ 10 → found ≡ take (20 - (20 - 2 * count)) (drop (20 - 2 * count) (zeros 9 ++ 10 ∷ []))
+    → take (length found) bytes ≡ found → bytes ≡ take (length found - 1) bytes ++ rest → Closes bytes (replicate count (48 ∷ [])) rest
+zeros_end zero found bytes rest least most is front split = absurd (omega arith)
+zeros_end (suc n) found bytes rest least most is front split = zeros_found n found bytes rest (is ∙ zeros_at n (omega arith)) front split
+
+-- ---- arguments, one after the other
+
+-- the arguments that were read so far, and kept after those of other rows
+pub record ReadSoFar (n : ℕ) (bytes rest : List ℕ) (old all : List ℤ) : Type 0 where
+  pub fields : List (List ℕ)
+  pub values : List ℤ
+  pub many : length fields ≡ n
+  pub count : length values ≡ n
+  pub passes : Passes bytes fields rest
+  pub read : map signed_of fields ≡ map (λ a. Some a) values
+  pub kept : all ≡ old ++ values
+
+pub none_so_far : (bytes : List ℕ) (old : List ℤ) → ReadSoFar 0 bytes bytes old old
+none_so_far bytes old = record {
+  fields = [];
+  values = [];
+  many = refl;
+  count = refl;
+  passes = λ before tail. rw (append-nil before) refl;
+  read = refl;
+  kept = sym (append-nil old);
+}
+
+pub one_so_far : (n : ℕ) (bytes rest after : List ℕ) (old all new : List ℤ) (field : List ℕ) (value : ℤ) → ReadSoFar n bytes rest old all → Passes rest (field ∷ []) after
+    → signed_of field ≡ Some value → new ≡ all ++ value ∷ [] → ReadSoFar (n + 1) bytes after old new
+one_so_far n bytes rest after old all new field value h p read is =
+    let fields_more = length-append h.fields (field ∷ []) in
+    let values_more = length-append h.values (value ∷ []) in
+    record {
+      fields = h.fields ++ field ∷ [];
+      values = h.values ++ value ∷ [];
+      many = omega (arith, fields_more, h.many);
+      count = omega (arith, values_more, h.count);
+      passes = passes_more bytes rest after h.fields (field ∷ []) h.passes p;
+      read = map-append signed_of h.fields (field ∷ []) ∙ rw (h.read, read) (sym (map-append (λ (a : ℤ). Some a) h.values (value ∷ [])));
+      kept = is ∙ rw h.kept (append_assoc old h.values (value ∷ []));
+    }
+
+-- ten fields that were read
+ten_read : (fields : List (List ℕ)) (bytes rest : List ℕ) (args : List ℤ) → length fields ≡ 10 → Closes bytes fields rest → map signed_of fields ≡ map (λ a. Some a) args → ReadsArguments bytes rest args
+ten_read (x0 ∷ x1 ∷ x2 ∷ x3 ∷ x4 ∷ x5 ∷ x6 ∷ x7 ∷ x8 ∷ x9 ∷ []) bytes rest args many closes read =
+    record { x0 = x0; x1 = x1; x2 = x2; x3 = x3; x4 = x4; x5 = x5; x6 = x6; x7 = x7; x8 = x8; x9 = x9; closes = closes; values = read }
+ten_read _ bytes rest args many closes read = absurd (omega arith)
+
+-- the arguments of a row are those that were read, and zeros
+given_read : (old values all : List ℤ) (k : ℕ) (g : Given) → all ≡ old ++ values → first_of g ≡ length old → count_of g ≡ length values → length values + k ≡ 10
+    → ten (given_in all g) ≡ values ++ replicate k (pos 0)
+given_read old values all k g is first count some =
+    let own : given_in all g ≡ values = rw (first, count) (part_kept old all values is) in
+    let size = length-append values (replicate k (pos 0)) in
+    let zeros = length-replicate k (pos 0) in
+    rw own (ten_same values (values ++ replicate k (pos 0)) (omega (arith, size, zeros)) (λ i. same values i))
+  where
+    none : (k i : ℕ) → get_or (replicate k (pos 0)) i (pos 0) ≡ pos 0
+    none zero i = refl
+    none (suc k) zero = refl
+    none (suc k) (suc i) = none k i
+
+    same : (values : List ℤ) (i : ℕ) → get_or values i (pos 0) ≡ get_or (values ++ replicate k (pos 0)) i (pos 0)
+    same [] i = sym (none k i)
+    same (v ∷ values) zero = refl
+    same (v ∷ values) (suc i) = same values i
+
+zeros_read : (k : ℕ) → map signed_of (replicate k (48 ∷ [])) ≡ map (λ a. Some a) (replicate k (pos 0))
+zeros_read zero = refl
+zeros_read (suc k) = rw (one_signed 0 (omega arith), zeros_read k) refl
+
+-- zeros after them that are not kept
+pub zeros_last : (n k : ℕ) (bytes rest end : List ℕ) (old all : List ℤ) (g : Given) → ReadSoFar n bytes rest old all → Closes rest (replicate k (48 ∷ [])) end
+    → n + k ≡ 10 → first_of g ≡ length old → count_of g ≡ n → ReadsArguments bytes end (ten (given_in all g))
+zeros_last n k bytes rest end old all g h closes some first count =
+    let zero_field : List ℕ = 48 ∷ [] in
+    let size = length-append h.fields (replicate k zero_field) in
+    let zeros = length-replicate k zero_field in
+    let args = given_read old h.values all k g h.kept first (omega (arith, h.count, count)) (omega (arith, h.count, some)) in
+    rw args (ten_read (h.fields ++ replicate k (48 ∷ [])) bytes end (h.values ++ replicate k (pos 0)) (omega (arith, size, zeros, h.many, some))
+        (closes_more bytes rest end h.fields (replicate k (48 ∷ [])) h.passes closes)
+        (map-append signed_of h.fields (replicate k (48 ∷ [])) ∙ rw (h.read, zeros_read k) (sym (map-append (λ (a : ℤ). Some a) h.values (replicate k (pos 0))))))
+
+-- the last one
+pub value_last : (n : ℕ) (bytes rest end : List ℕ) (old all new : List ℤ) (g : Given) (field : List ℕ) (value : ℤ) → n ≡ 9 → ReadSoFar n bytes rest old all → Closes rest (field ∷ []) end
+    → signed_of field ≡ Some value → new ≡ all ++ value ∷ [] → first_of g ≡ length old → count_of g ≡ 10 → ReadsArguments bytes end (ten (given_in new g))
+value_last n bytes rest end old all new g field value nine h closes read is first count =
+    let fields_more = length-append h.fields (field ∷ []) in
+    let values_more = length-append h.values (value ∷ []) in
+    let kept : new ≡ old ++ (h.values ++ value ∷ []) = is ∙ rw h.kept (append_assoc old h.values (value ∷ [])) in
+    let args = given_read old (h.values ++ value ∷ []) new 0 g kept first (omega (arith, values_more, h.count, count, nine)) (omega (arith, values_more, h.count, nine)) in
+    let all_args = args ∙ append-nil (h.values ++ value ∷ []) in
+    rw all_args (ten_read (h.fields ++ field ∷ []) bytes end (h.values ++ value ∷ []) (omega (arith, fields_more, h.many, nine))
+        (closes_more bytes rest end h.fields (field ∷ []) h.passes closes)
+        (map-append signed_of h.fields (field ∷ []) ∙ rw (h.read, read) (sym (map-append (λ (a : ℤ). Some a) h.values (value ∷ [])))))

@@ -1,0 +1,95 @@
+-- A plain row, as it is stored.
+use Rattle.std.proofs.Common.{◌≡◌, ◌^◌, ℕ, ℤ, List, [], ◌∷◌, ◌++◌, get_or, map, All, Some, refl}
+use Rattle.std.specs.Prelude.{slice_get}
+use Rattle.std.proofs.lemmas.List.Elements.{All-append, All-cons, All-nil}
+use Rattle.firing_reader.specs.declared.firing.Firing.{Firing}
+use Rattle.firing_reader.specs.declared.stored_row.Row.{Row}
+use Rattle.firing_reader.specs.declared.unit.Owner.{Owner}
+use Rattle.firing_reader.specs.declared.unit.Probe.{Probe}
+use Rattle.firing_reader.specs.Plain.{JoinsField, Passes, ReadsArguments, ReadsOwner, ReadsProbe, ReadsRow, int_of, whole_of}
+use Rattle.firing_reader.specs.Stored.{Extends, IsGivenIn, IsRowIn, firing_in, given_in, no_owner, no_probe, ten}
+use Rattle.firing_reader.proofs.PlainFirings.{ReadsNumbers, fields, firing_ok, owner_of, probe_of}
+use Rattle.firing_reader.proofs.PlainRows.{closes_more, row_read}
+use Rattle.firing_reader.proofs.Stored.{named_at, named_in, rows_more, stored}
+
+-- the owner at a place, and the probe at one
+owner_there : (os : List Owner) (p : ℕ) (o : Owner) (b r : List ℕ) → slice_get os p ≡ Some o → ReadsOwner b r o
+    → ReadsOwner b r (record { thread = (get_or os p no_owner).thread; pid = (get_or os p no_owner).pid; execname = (get_or os p no_owner).execname })
+owner_there os p o b r there h =
+    let is = named_at os p o no_owner there in
+    record {
+      x3 = h.x3;
+      x4 = h.x4;
+      x5 = h.x5;
+      passes = h.passes;
+      is_thread = rw is h.is_thread;
+      is_pid = rw is h.is_pid;
+      is_execname = rw is h.is_execname;
+    }
+
+probe_there : (ps : List Probe) (p : ℕ) (q : Probe) (b r : List ℕ) → slice_get ps p ≡ Some q → ReadsProbe b r q
+    → ReadsProbe b r (record { provider = (get_or ps p no_probe).provider; probemod = (get_or ps p no_probe).probemod; probefunc = (get_or ps p no_probe).probefunc; name = (get_or ps p no_probe).name })
+probe_there ps p q b r there h =
+    let is = named_at ps p q no_probe there in
+    record {
+      x7 = h.x7;
+      x8 = h.x8;
+      x9 = h.x9;
+      x10 = h.x10;
+      passes = h.passes;
+      is_provider = rw is h.is_provider;
+      is_probemod = rw is h.is_probemod;
+      is_probefunc = rw is h.is_probefunc;
+      is_name = rw is h.is_name;
+      unreserved = rw is h.unreserved;
+    }
+
+-- the parts of a row, one after the other
+pub row_parts : (bytes line b1 b2 b3 b4 b5 rest : List ℕ) (os : List Owner) (ps : List Probe) (args : List ℤ) (r : Row) (o : Owner) (p : Probe)
+    → bytes ≡ 10 ∷ line → (first : ℕ) × (more : List ℕ) × (line ≡ first ∷ more) × JoinsField first
+    → (field : List ℕ) × Passes line (field ∷ []) b1 × (whole_of 1 (2 ^ 62) field ≡ Some r.number)
+    → (field : List ℕ) × Passes b1 (field ∷ []) b2 × (int_of 0 field ≡ Some r.cpu)
+    → slice_get os r.owner ≡ Some o → ReadsOwner b2 b3 o
+    → (field : List ℕ) × Passes b3 (field ∷ []) b4 × (whole_of 0 0xFFFF_FFFF_FFFF_FFFF field ≡ Some r.time)
+    → slice_get ps r.probe ≡ Some p → ReadsProbe b4 b5 p
+    → ReadsArguments b5 rest (ten (given_in args r.given)) → ReadsRow bytes rest (firing_in os ps args r)
+row_parts bytes line b1 b2 b3 b4 b5 rest os ps args r o p is (first, more, starts, joins) (x1, p1, n1) (x2, p2, n2) at_o reads_o (x6, p6, n6) at_p reads_p a =
+    let f : Firing = firing_in os ps args r in
+    let own = owner_there os r.owner o b2 b3 at_o reads_o in
+    let fired = probe_there ps r.probe p b4 b5 at_p reads_p in
+    let numbers : ReadsNumbers f = record { x1 = x1; x2 = x2; x6 = x6; is_number = n1; is_cpu = n2; is_time = n6 } in
+    let tens = a.x0 ∷ a.x1 ∷ a.x2 ∷ a.x3 ∷ a.x4 ∷ a.x5 ∷ a.x6 ∷ a.x7 ∷ a.x8 ∷ a.x9 ∷ [] in
+    let names = own.x3 ∷ own.x4 ∷ own.x5 ∷ [] in
+    let texts = fired.x7 ∷ fired.x8 ∷ fired.x9 ∷ fired.x10 ∷ [] in
+    let q4 = closes_more b4 b5 rest texts tens fired.passes a.closes in
+    let q3 = closes_more b3 b4 rest (x6 ∷ []) (texts ++ tens) p6 q4 in
+    let q2 = closes_more b2 b3 rest names (x6 ∷ (texts ++ tens)) own.passes q3 in
+    let q1 = closes_more b1 b2 rest (x2 ∷ []) (names ++ (x6 ∷ (texts ++ tens))) p2 q2 in
+    let q0 = closes_more line b1 rest (x1 ∷ []) (x2 ∷ (names ++ (x6 ∷ (texts ++ tens)))) p1 q1 in
+    let (after, is_rest, read) = row_read bytes line rest (x1 ∷ x2 ∷ (names ++ (x6 ∷ (texts ++ tens)))) first more is starts joins q0 in
+    record {
+      fields = fields f numbers own fired a;
+      after = after;
+      is_rest = is_rest;
+      read = read;
+      firing = firing_ok f numbers own fired a;
+    }
+
+-- a row whose owner and whose probe are there
+pub row_in : (os : List Owner) (ps : List Probe) (args : List ℤ) (r : Row) (o : Owner) (p : Probe) → slice_get os r.owner ≡ Some o → slice_get ps r.probe ≡ Some p → IsGivenIn args r.given
+    → IsRowIn os ps args r
+row_in os ps args r o p at_o at_p given = record { owner = named_in os r.owner o at_o; probe = named_in ps r.probe p at_p; given = given }
+
+-- one more row, after what is kept for it
+pub pushed_in : (o q : List Owner) (p u : List Probe) (a b : List ℤ) (rs : List Row) (r : Row) → Extends o q → Extends p u → Extends a b → All (IsRowIn o p a) rs → IsRowIn q u b r
+    → All (IsRowIn q u b) (rs ++ r ∷ [])
+pushed_in o q p u a b rs r eo ep ea all is =
+    All-append (IsRowIn q u b) rs (r ∷ []) (rows_more o q p u a b rs eo ep ea all) (All-cons (IsRowIn q u b) r [] is (All-nil (IsRowIn q u b)))
+
+-- a firing that is stored as a row with its owner, its probe and its arguments
+pub row_stored : (os : List Owner) (ps : List Probe) (args : List ℤ) (rs : List Row) (old : List Firing) (r : Row) (f : Firing) → map (firing_in os ps args) rs ≡ old
+    → slice_get os r.owner ≡ Some (owner_of f) → slice_get ps r.probe ≡ Some (probe_of f) → ten (given_in args r.given) ≡ f.args → r.number ≡ f.number → r.cpu ≡ f.cpu → r.time ≡ f.time
+    → map (firing_in os ps args) (rs ++ r ∷ []) ≡ old ++ f ∷ []
+row_stored os ps args rs old r f is at_o at_p given number cpu time =
+    let one : firing_in os ps args r ≡ f = rw (named_at os r.owner (owner_of f) no_owner at_o, named_at ps r.probe (probe_of f) no_probe at_p, given, number, cpu, time) refl in
+    stored os ps args rs r f old is one

@@ -1,0 +1,138 @@
+//! Bytes of rows that were met before, each with the place of what they mean.
+
+ghost use Rattle.std.specs.Prelude.{◌≡◌, ◌++◌, ◌∷◌, [], IfOk, IfSome, MatchOption, Contains, ◌<◌, vec_len};
+ghost use Rattle.std.specs.Vec.{vec_capacity};
+
+use crate::same::is_same;
+use crate::slots::{NEAR, Slots};
+use keyed_hash::HashKey;
+use std::alloc::{AllocError, Global};
+use std::marker::Model;
+
+// Where the bytes begin among those of all, how many they are, and the place of what they mean.
+#[derive(Clone, Copy)]
+pub(crate) struct Known {
+    begin: u32,
+    count: u32,
+    place: u32,
+}
+
+/// A number of 32 bits.
+pub(crate) fn u32_of(number: usize) -> Option<u32>
+    ensures { IfSome result (λ n. n ≡ number) }
+{
+    u32::try_from(number).ok()
+}
+
+// Adds bytes, where memory is there for them.
+fn add_bytes(all: &mut Vec<u8>, bytes: &[u8]) -> Option<()>
+    ensures { MatchOption result (all.new.items ≡ all.old.items)
+        (λ _. all.new.items ≡ all.old.items ++ bytes.now) }
+{
+    all.extend_from_slice(bytes).ok()
+}
+
+// Makes room for one more, where memory is there for it.
+fn make_room(all: &mut Vec<Known>) -> Option<()>
+    ensures same { all.new.items ≡ all.old.items }
+    ensures room { IfSome result (λ _. vec_len all.new < vec_capacity all.new) }
+{
+    all.reserve(1).ok()
+}
+
+/// Bytes that were met, each with a place. Contracts see the list of them.
+#[derive(Drop)]
+pub(crate) struct Keys {
+    bytes: Vec<u8>,
+    known: Vec<Known>,
+    slots: Slots,
+}
+
+impl Model for Keys {
+    ghost use Rattle.std.specs.Prelude.{All, List, ℕ, map};
+    ghost use Rattle.firing_reader.specs.Units.{IsKnownIn, known_in};
+
+    ghost Value = { List (List ℕ × ℕ) };
+
+    ghost view = { λ k. map (known_in k.bytes.items) k.known.items };
+
+    ghost invariant = { λ k. All (IsKnownIn k.bytes.items) k.known.items };
+}
+
+impl Keys {
+    pub(crate) fn new(alloc: Global, hash_key: HashKey) -> Result<Keys, AllocError>
+        ensures { IfOk result (λ keys. keys ≡ []) }
+    {
+        Ok(Keys {
+            bytes: Vec::new(alloc),
+            known: Vec::new(alloc),
+            slots: Slots::new(alloc, hash_key)?,
+        })
+    }
+
+    // The place that these bytes have, where they are those at this place of the known ones.
+    #[inline(always)]
+    fn place_at(&self, known: u32, key: &[u8]) -> Option<u32>
+        ensures { IfSome result (λ p. Contains self.now (key.now, p)) }
+    {
+        let known = self.known.get(known as usize)?;
+        let begin = known.begin as usize;
+        if !is_same(&self.bytes[begin..begin + known.count as usize], key) {
+            return None;
+        }
+        Some(known.place)
+    }
+
+    /// The place that these bytes have, where they are found.
+    #[inline(always)]
+    pub(crate) fn find(&self, key: &[u8]) -> Option<u32>
+        ensures { IfSome result (λ p. Contains self.now (key.now, p)) }
+    {
+        let tag = self.slots.tag(key);
+        let slot = self.slots.near(tag, 0);
+        if slot.is_of(tag) {
+            if let Some(place) = self.place_at(slot.place, key) {
+                return Some(place);
+            }
+        }
+        self.find_near(key, tag)
+    }
+
+    // The same in the slots after the first.
+    #[inline(never)]
+    fn find_near(&self, key: &[u8], tag: u32) -> Option<u32>
+        ensures { IfSome result (λ p. Contains self.now (key.now, p)) }
+    {
+        for n in 1..NEAR {
+            let slot = self.slots.near(tag, n);
+            if slot.is_empty() {
+                return None;
+            }
+            if slot.is_of(tag) {
+                if let Some(place) = self.place_at(slot.place, key) {
+                    return Some(place);
+                }
+            }
+        }
+        None
+    }
+
+    /// Keeps bytes with a place. Where memory is refused nothing is kept.
+    pub(crate) fn keep(&mut self, key: &[u8], place: u32) -> Option<()>
+        ensures { MatchOption result (self.new ≡ self.old)
+            (λ _. self.new ≡ self.old ++ (key.now, place) ∷ []) }
+    {
+        let begin = u32_of(self.bytes.len())?;
+        let count = u32_of(key.len())?;
+        let known = u32_of(self.known.len())?;
+        make_room(&mut self.known)?;
+        add_bytes(&mut self.bytes, key)?;
+        self.known.push_reserved(Known {
+            begin,
+            count,
+            place,
+        });
+        self.slots.note(self.slots.tag(key), known);
+        Some(())
+    }
+}

@@ -1,0 +1,223 @@
+//! Who fired, each kept once.
+
+ghost use Rattle.std.specs.Prelude.{◌≡◌, ◌<◌, ◌++◌, ◌∷◌, [], true, Some, IfOk, IfSome, MatchOption, slice_get, length, vec_len};
+ghost use Rattle.firing_reader.specs.{declared.unit.Owner.Owner, Plain.ReadsOwner, Stored.ArePlaces, Stored.Extends, Units.GainsOnly};
+
+use crate::keys::{Keys, u32_of};
+use crate::plain::field::{int, text};
+use crate::plain::unit::end_of_three;
+use crate::slots::{NEAR, Slots};
+use crate::text::Text;
+use crate::texts::Texts;
+use crate::unit::Owner;
+use keyed_hash::HashKey;
+use std::alloc::{AllocError, Global};
+use std::marker::Model;
+
+// An owner as it is stored: its text by its place.
+#[derive(Clone, Copy, PartialEq, Eq)]
+pub(crate) struct StoredOwner {
+    thread: i32,
+    pid: i32,
+    execname: u32,
+}
+
+/// The owners of firings. Contracts see the list of them.
+#[derive(Drop)]
+pub(crate) struct Owners {
+    texts: Texts,
+    stored: Vec<StoredOwner>,
+    slots: Slots,
+    keys: Keys,
+}
+
+impl Model for Owners {
+    ghost use Rattle.std.specs.Prelude.{List, map};
+    ghost use Rattle.firing_reader.specs.{declared.unit.Owner.Owner, Units.AreOwners, Units.owner_in};
+
+    ghost Value = { List Owner };
+
+    ghost view = { λ o. map (owner_in o.texts) o.stored.items };
+
+    ghost invariant = { λ o. AreOwners o.texts o.stored.items o.keys };
+}
+
+impl Owners {
+    pub(crate) fn new(alloc: Global, hash_key: HashKey) -> Result<Owners, AllocError>
+        ensures { IfOk result (λ owners. owners ≡ []) }
+    {
+        Ok(Owners {
+            texts: Texts::new(alloc, hash_key)?,
+            stored: Vec::new(alloc),
+            slots: Slots::new(alloc, hash_key)?,
+            keys: Keys::new(alloc, hash_key)?,
+        })
+    }
+
+    pub(crate) fn len(&self) -> usize
+        ensures { result ≡ length self.now }
+    {
+        self.stored.len()
+    }
+
+    /// The owner at a place.
+    #[inline(always)]
+    pub(crate) fn at(&self, place: u32) -> Owner
+        requires { place < length self.now }
+        ensures { slice_get self.now place ≡ Some result }
+    {
+        let stored = self.stored[place as usize];
+        Owner {
+            thread: stored.thread,
+            pid: stored.pid,
+            execname: self.texts.at(stored.execname),
+        }
+    }
+
+    /// The place of an owner, who is kept where they weren't.
+    pub(crate) fn keep(&mut self, thread: i32, pid: i32, execname: &Text) -> Option<u32>
+        ensures grows { Extends self.old self.new }
+        ensures place { IfSome result (λ p. slice_get self.new p ≡ Some (record { thread = thread; pid = pid; execname = execname.now })) }
+    {
+        let execname = self.texts.keep(execname)?;
+        place_of(
+            &mut self.stored,
+            &mut self.slots,
+            StoredOwner {
+                thread,
+                pid,
+                execname,
+            },
+        )
+    }
+
+    // The place of an owner whose fields are new.
+    #[cold]
+    #[inline(never)]
+    fn add(&mut self, key: &[u8]) -> Option<u32>
+        ensures grows { Extends self.old self.new }
+        ensures owner { IfSome result (λ p. (owner : Owner)
+            × (slice_get self.new p ≡ Some owner) × ReadsOwner key.now [] owner) }
+    {
+        let (thread, rest) = int(key, 1)?;
+        let (pid, rest) = int(rest, 0)?;
+        let (execname, rest) = text(rest)?;
+        if !rest.is_empty() {
+            return None;
+        }
+        let place = self.keep(thread, pid, &execname)?;
+        self.keys.keep(key, place)?;
+        Some(place)
+    }
+
+    // The place of the owner whose fields these bytes are, where they were met.
+    #[inline(always)]
+    fn known(&self, key: &[u8]) -> Option<u32>
+        ensures { IfSome result (λ p. (owner : Owner)
+            × (slice_get self.now p ≡ Some owner) × ReadsOwner key.now [] owner) }
+    {
+        self.keys.find(key)
+    }
+
+    // The same, whether they were met or not.
+    #[inline(always)]
+    fn unit(&mut self, key: &[u8]) -> Option<u32>
+        ensures grows { Extends self.old self.new }
+        ensures owner { IfSome result (λ p. (owner : Owner)
+            × (slice_get self.new p ≡ Some owner) × ReadsOwner key.now [] owner) }
+    {
+        match self.known(key) {
+            Some(place) => Some(place),
+            None => self.add(key),
+        }
+    }
+
+    /// The place of the owner whose fields come first, and what comes after them.
+    #[inline(always)]
+    pub(crate) fn read<'a>(&mut self, bytes: &'a [u8]) -> Option<(u32, &'a [u8])>
+        ensures grows { Extends self.old self.new }
+        ensures owner { IfSome result (λ p. (owner : Owner)
+            × (slice_get self.new p.0 ≡ Some owner) × ReadsOwner bytes.now p.1.now owner) }
+    {
+        let (key, rest) = bytes.split_at(end_of_three(bytes));
+        let place = self.unit(key)?;
+        Some((place, rest))
+    }
+
+    /// The places of others' owners, which are kept where they weren't.
+    pub(crate) fn places_of(&mut self, alloc: Global, others: &Owners) -> Option<Vec<u32>>
+        ensures grows { Extends self.old self.new }
+        ensures places { IfSome result (λ places. ArePlaces self.new places.items others.now) }
+    {
+        let mut places = Vec::new(alloc);
+        for place in 0..others.len() {
+            let at = u32_of(place)?;
+            let owner = others.at(at);
+            places
+                .push(self.keep(owner.thread, owner.pid, &owner.execname)?)
+                .ok()?;
+        }
+        Some(places)
+    }
+}
+
+// Whether this owner is stored at a place.
+fn is_at(stored: &[StoredOwner], place: u32, owner: StoredOwner) -> bool
+    ensures { result ≡ true → slice_get stored.now place ≡ Some owner }
+{
+    match stored.get(place as usize) {
+        Some(kept) => *kept == owner,
+        None => false,
+    }
+}
+
+// The place of this owner, where it is found.
+fn find(stored: &[StoredOwner], slots: &Slots, owner: StoredOwner, tag: u32) -> Option<u32>
+    ensures { IfSome result (λ p. slice_get stored.now p ≡ Some owner) }
+{
+    for n in 0..NEAR {
+        let slot = slots.near(tag, n);
+        if slot.is_empty() {
+            return None;
+        }
+        if slot.is_of(tag) && is_at(stored, slot.place, owner) {
+            return Some(slot.place);
+        }
+    }
+    None
+}
+
+// The tag of this owner.
+fn tag_of(slots: &Slots, owner: StoredOwner) -> u32 {
+    let thread = u64::from(owner.thread.cast_unsigned());
+    let pid = u64::from(owner.pid.cast_unsigned());
+    slots.tag_of_pair(thread << 32 | pid, u64::from(owner.execname))
+}
+
+// Stores this owner at a new place.
+fn add(
+    stored: &mut Vec<StoredOwner>,
+    slots: &mut Slots,
+    owner: StoredOwner,
+    tag: u32,
+) -> Option<u32>
+    ensures { MatchOption result (stored.new.items ≡ stored.old.items)
+        (λ p. (stored.new.items ≡ stored.old.items ++ owner ∷ []) × (p ≡ vec_len stored.old)) }
+{
+    let place = u32::try_from(stored.len()).ok()?;
+    stored.push(owner).ok()?;
+    slots.note(tag, place);
+    Some(place)
+}
+
+// The place of this owner, which is stored where it isn't found.
+fn place_of(stored: &mut Vec<StoredOwner>, slots: &mut Slots, owner: StoredOwner) -> Option<u32>
+    ensures grows { GainsOnly owner stored.old.items stored.new.items }
+    ensures place { IfSome result (λ p. slice_get stored.new.items p ≡ Some owner) }
+{
+    let tag = tag_of(slots, owner);
+    match find(stored, slots, owner, tag) {
+        Some(place) => Some(place),
+        None => add(stored, slots, owner, tag),
+    }
+}

@@ -1,0 +1,263 @@
+//! The probes of firings, each kept once.
+
+ghost use Rattle.std.specs.Prelude.{◌≡◌, ◌<◌, ◌++◌, ◌∷◌, [], true, Some, IfOk, IfSome, MatchOption, slice_get, length, vec_len};
+ghost use Rattle.firing_reader.specs.{declared.unit.Probe.Probe, Plain.ReadsProbe, Stored.ArePlaces, Stored.Extends, Units.GainsOnly};
+
+use crate::keys::{Keys, u32_of};
+use crate::plain::field::text;
+use crate::plain::unit::end_of_four;
+use crate::slots::{NEAR, Slots};
+use crate::text::Text;
+use crate::texts::Texts;
+use crate::unit::Probe;
+use keyed_hash::HashKey;
+use std::alloc::{AllocError, Global};
+use std::marker::Model;
+
+// The provider of no recorded firing.
+const RESERVED: &[u8] = b"dtrace";
+
+// A probe as it is stored: its texts by their places.
+#[derive(Clone, Copy, PartialEq, Eq)]
+pub(crate) struct StoredProbe {
+    provider: u32,
+    probemod: u32,
+    probefunc: u32,
+    name: u32,
+}
+
+/// The probes of firings. Contracts see the list of them.
+#[derive(Drop)]
+pub(crate) struct Probes {
+    texts: Texts,
+    stored: Vec<StoredProbe>,
+    slots: Slots,
+    keys: Keys,
+}
+
+impl Model for Probes {
+    ghost use Rattle.std.specs.Prelude.{List, map};
+    ghost use Rattle.firing_reader.specs.{declared.unit.Probe.Probe, Units.AreProbes, Units.probe_in};
+
+    ghost Value = { List Probe };
+
+    ghost view = { λ o. map (probe_in o.texts) o.stored.items };
+
+    ghost invariant = { λ o. AreProbes o.texts o.stored.items o.keys };
+}
+
+impl Probes {
+    pub(crate) fn new(alloc: Global, hash_key: HashKey) -> Result<Probes, AllocError>
+        ensures { IfOk result (λ probes. probes ≡ []) }
+    {
+        Ok(Probes {
+            texts: Texts::new(alloc, hash_key)?,
+            stored: Vec::new(alloc),
+            slots: Slots::new(alloc, hash_key)?,
+            keys: Keys::new(alloc, hash_key)?,
+        })
+    }
+
+    pub(crate) fn len(&self) -> usize
+        ensures { result ≡ length self.now }
+    {
+        self.stored.len()
+    }
+
+    /// The probe at a place.
+    #[inline(always)]
+    pub(crate) fn at(&self, place: u32) -> Probe
+        requires { place < length self.now }
+        ensures { slice_get self.now place ≡ Some result }
+    {
+        let stored = self.stored[place as usize];
+        Probe {
+            provider: self.texts.at(stored.provider),
+            probemod: self.texts.at(stored.probemod),
+            probefunc: self.texts.at(stored.probefunc),
+            name: self.texts.at(stored.name),
+        }
+    }
+
+    /// The place of a probe, which is kept where it wasn't.
+    pub(crate) fn keep(
+        &mut self,
+        provider: &Text,
+        probemod: &Text,
+        probefunc: &Text,
+        name: &Text,
+    ) -> Option<u32>
+        ensures grows { Extends self.old self.new }
+        ensures place { IfSome result (λ p. slice_get self.new p ≡ Some (record {
+          provider = provider.now;
+          probemod = probemod.now;
+          probefunc = probefunc.now;
+          name = name.now;
+        })) }
+    {
+        let stored = stored_of(&mut self.texts, provider, probemod, probefunc, name)?;
+        place_of(&mut self.stored, &mut self.slots, stored)
+    }
+
+    // The place of a probe whose fields are new.
+    #[cold]
+    #[inline(never)]
+    fn add(&mut self, key: &[u8]) -> Option<u32>
+        ensures grows { Extends self.old self.new }
+        ensures probe { IfSome result (λ p. (probe : Probe)
+            × (slice_get self.new p ≡ Some probe) × ReadsProbe key.now [] probe) }
+    {
+        let (provider, rest) = text(key)?;
+        let (probemod, rest) = text(rest)?;
+        let (probefunc, rest) = text(rest)?;
+        let (name, rest) = text(rest)?;
+        if !rest.is_empty() || provider.as_bytes() == RESERVED {
+            return None;
+        }
+        let place = self.keep(&provider, &probemod, &probefunc, &name)?;
+        self.keys.keep(key, place)?;
+        Some(place)
+    }
+
+    // The place of the probe whose fields these bytes are, where they were met.
+    #[inline(always)]
+    fn known(&self, key: &[u8]) -> Option<u32>
+        ensures { IfSome result (λ p. (probe : Probe)
+            × (slice_get self.now p ≡ Some probe) × ReadsProbe key.now [] probe) }
+    {
+        self.keys.find(key)
+    }
+
+    // The same, whether they were met or not.
+    #[inline(always)]
+    fn unit(&mut self, key: &[u8]) -> Option<u32>
+        ensures grows { Extends self.old self.new }
+        ensures probe { IfSome result (λ p. (probe : Probe)
+            × (slice_get self.new p ≡ Some probe) × ReadsProbe key.now [] probe) }
+    {
+        match self.known(key) {
+            Some(place) => Some(place),
+            None => self.add(key),
+        }
+    }
+
+    /// The place of the probe whose fields come first, and what comes after them.
+    #[inline(always)]
+    pub(crate) fn read<'a>(&mut self, bytes: &'a [u8]) -> Option<(u32, &'a [u8])>
+        ensures grows { Extends self.old self.new }
+        ensures probe { IfSome result (λ p. (probe : Probe)
+            × (slice_get self.new p.0 ≡ Some probe) × ReadsProbe bytes.now p.1.now probe) }
+    {
+        let (key, rest) = bytes.split_at(end_of_four(bytes));
+        let place = self.unit(key)?;
+        Some((place, rest))
+    }
+
+    /// The places of others' probes, which are kept where they weren't.
+    pub(crate) fn places_of(&mut self, alloc: Global, others: &Probes) -> Option<Vec<u32>>
+        ensures grows { Extends self.old self.new }
+        ensures places { IfSome result (λ places. ArePlaces self.new places.items others.now) }
+    {
+        let mut places = Vec::new(alloc);
+        for place in 0..others.len() {
+            let at = u32_of(place)?;
+            let probe = others.at(at);
+            places
+                .push(self.keep(
+                    &probe.provider,
+                    &probe.probemod,
+                    &probe.probefunc,
+                    &probe.name,
+                )?)
+                .ok()?;
+        }
+        Some(places)
+    }
+}
+
+// A probe as it is stored, whose texts are kept where they weren't.
+fn stored_of(
+    texts: &mut Texts,
+    provider: &Text,
+    probemod: &Text,
+    probefunc: &Text,
+    name: &Text,
+) -> Option<StoredProbe>
+    ensures grows { Extends texts.old texts.new }
+    ensures provider { IfSome result (λ p. slice_get texts.new p.provider ≡ Some provider.now) }
+    ensures probemod { IfSome result (λ p. slice_get texts.new p.probemod ≡ Some probemod.now) }
+    ensures probefunc { IfSome result (λ p. slice_get texts.new p.probefunc ≡ Some probefunc.now) }
+    ensures name { IfSome result (λ p. slice_get texts.new p.name ≡ Some name.now) }
+{
+    let provider = texts.keep(provider)?;
+    let probemod = texts.keep(probemod)?;
+    let probefunc = texts.keep(probefunc)?;
+    let name = texts.keep(name)?;
+    Some(StoredProbe {
+        provider,
+        probemod,
+        probefunc,
+        name,
+    })
+}
+
+// Whether this probe is stored at a place.
+fn is_at(stored: &[StoredProbe], place: u32, probe: StoredProbe) -> bool
+    ensures { result ≡ true → slice_get stored.now place ≡ Some probe }
+{
+    match stored.get(place as usize) {
+        Some(kept) => *kept == probe,
+        None => false,
+    }
+}
+
+// The place of this probe, where it is found.
+fn find(stored: &[StoredProbe], slots: &Slots, probe: StoredProbe, tag: u32) -> Option<u32>
+    ensures { IfSome result (λ p. slice_get stored.now p ≡ Some probe) }
+{
+    for n in 0..NEAR {
+        let slot = slots.near(tag, n);
+        if slot.is_empty() {
+            return None;
+        }
+        if slot.is_of(tag) && is_at(stored, slot.place, probe) {
+            return Some(slot.place);
+        }
+    }
+    None
+}
+
+// The tag of this probe.
+fn tag_of(slots: &Slots, probe: StoredProbe) -> u32 {
+    let first = u64::from(probe.provider) << 32 | u64::from(probe.probemod);
+    let second = u64::from(probe.probefunc) << 32 | u64::from(probe.name);
+    slots.tag_of_pair(first, second)
+}
+
+// Stores this probe at a new place.
+fn add(
+    stored: &mut Vec<StoredProbe>,
+    slots: &mut Slots,
+    probe: StoredProbe,
+    tag: u32,
+) -> Option<u32>
+    ensures { MatchOption result (stored.new.items ≡ stored.old.items)
+        (λ p. (stored.new.items ≡ stored.old.items ++ probe ∷ []) × (p ≡ vec_len stored.old)) }
+{
+    let place = u32::try_from(stored.len()).ok()?;
+    stored.push(probe).ok()?;
+    slots.note(tag, place);
+    Some(place)
+}
+
+// The place of this probe, which is stored where it isn't found.
+fn place_of(stored: &mut Vec<StoredProbe>, slots: &mut Slots, probe: StoredProbe) -> Option<u32>
+    ensures grows { GainsOnly probe stored.old.items stored.new.items }
+    ensures place { IfSome result (λ p. slice_get stored.new.items p ≡ Some probe) }
+{
+    let tag = tag_of(slots, probe);
+    match find(stored, slots, probe, tag) {
+        Some(place) => Some(place),
+        None => add(stored, slots, probe, tag),
+    }
+}

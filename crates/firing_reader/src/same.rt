@@ -1,0 +1,55 @@
+//! Whether bytes are the same, eight at a time.
+
+ghost use Rattle.std.specs.Prelude.{◌≡◌, ◌≤◌, ◌+◌, ◌↔◌, IsTrue, length, take, drop};
+ghost use Rattle.std.specs.Int.{from_le_bytes, w64};
+
+/// The eight bytes from a place on, as one number.
+#[inline(always)]
+pub(crate) fn word_at(bytes: &[u8], at: usize) -> u64
+    requires { at + 8 ≤ length bytes.now }
+    ensures { result ≡ from_le_bytes w64 (take 8 (drop at bytes.now)) }
+{
+    let word = &bytes[at..at + 8];
+    u64::from_le_bytes([
+        word[0], word[1], word[2], word[3], word[4], word[5], word[6], word[7],
+    ])
+}
+
+/// Whether these are the same bytes.
+#[inline(always)]
+pub(crate) fn is_same(left: &[u8], right: &[u8]) -> bool
+    ensures { IsTrue result ↔ (left.now ≡ right.now) }
+{
+    let count = left.len();
+    if count != right.len() {
+        return false;
+    }
+    if count < 8 {
+        return is_same_short(left, right);
+    }
+    is_same_long(left, right)
+}
+
+// The same of few bytes.
+#[inline(always)]
+fn is_same_short(left: &[u8], right: &[u8]) -> bool
+    ensures { IsTrue result ↔ (left.now ≡ right.now) }
+{
+    left == right
+}
+
+// The same of as many bytes, of which there is a word. The last word may overlap the one before.
+#[inline(always)]
+fn is_same_long(left: &[u8], right: &[u8]) -> bool
+    requires as_many { length left.now ≡ length right.now }
+    requires long { 8 ≤ length left.now }
+    ensures { IsTrue result ↔ (left.now ≡ right.now) }
+{
+    let last = left.len() - 8;
+    for word in 0..left.len() / 8 {
+        if word_at(left, 8 * word) != word_at(right, 8 * word) {
+            return false;
+        }
+    }
+    word_at(left, last) == word_at(right, last)
+}

@@ -1,0 +1,148 @@
+//! Where to look for a thing that was kept, by its hash.
+
+use crate::same::word_at;
+use keyed_hash::HashKey;
+use std::alloc::{AllocError, Global};
+use std::hash::{BuildHasher, Hasher};
+
+// How many slots there are at first.
+const FEWEST: usize = 2048;
+
+// How many slots are looked at for one hash.
+pub(crate) const NEAR: usize = 8;
+
+// No place.
+const NOWHERE: u32 = u32::MAX;
+
+/// The place of a thing, and the upper half of its hash.
+#[derive(Clone, Copy)]
+pub(crate) struct Slot {
+    tag: u32,
+    pub(crate) place: u32,
+}
+
+impl Slot {
+    const EMPTY: Slot = Slot {
+        tag: 0,
+        place: NOWHERE,
+    };
+
+    pub(crate) fn is_empty(self) -> bool {
+        self.place == NOWHERE
+    }
+
+    pub(crate) fn is_of(self, tag: u32) -> bool {
+        self.tag == tag
+    }
+}
+
+/// The places of things by their hashes, which begin at a secret state. Whoever looks asks whether
+/// the thing is there, and keeps one that isn't found: only time and memory depend on what is
+/// found.
+#[derive(Drop)]
+pub(crate) struct Slots {
+    alloc: Global,
+    secret: u64,
+    slots: Vec<Slot>,
+    used: usize,
+}
+
+// The product of two numbers, its upper half added to its lower.
+#[inline(always)]
+fn folded_product(left: u64, right: u64) -> u64 {
+    let product = left as u128 * right as u128;
+    (product & 0xFFFF_FFFF_FFFF_FFFF) as u64 ^ (product >> 64) as u64
+}
+
+// A hash with one more number.
+#[inline(always)]
+fn mixed(hash: u64, word: u64) -> u64 {
+    folded_product(hash ^ word, 0x9E37_79B9_7F4A_7C15)
+}
+
+impl Slots {
+    pub(crate) fn new(alloc: Global, hash_key: HashKey) -> Result<Slots, AllocError> {
+        Ok(Slots {
+            alloc,
+            secret: hash_key.build_hasher().finish(),
+            slots: vec![in alloc; Slot::EMPTY; FEWEST]?,
+            used: 0,
+        })
+    }
+
+    /// The tag of bytes. The last eight may overlap those before, so how many there are is hashed
+    /// too.
+    #[inline(always)]
+    pub(crate) fn tag(&self, key: &[u8]) -> u32 {
+        if key.len() < 8 {
+            return self.short_tag(key);
+        }
+        let mut hash = self.secret;
+        for word in 0..key.len() / 8 {
+            hash = mixed(hash, word_at(key, 8 * word));
+        }
+        hash = mixed(hash, word_at(key, key.len() - 8));
+        (mixed(hash, key.len() as u64) >> 32) as u32
+    }
+
+    // The tag of fewer bytes than a word has.
+    fn short_tag(&self, key: &[u8]) -> u32 {
+        let mut hash = self.secret;
+        for b in key {
+            hash = mixed(hash, u64::from(*b));
+        }
+        (hash >> 32) as u32
+    }
+
+    /// The tag of two numbers.
+    pub(crate) fn tag_of_pair(&self, first: u64, second: u64) -> u32 {
+        (mixed(mixed(self.secret, first), second) >> 32) as u32
+    }
+
+    /// The slot so many places after the first for a tag.
+    #[inline(always)]
+    pub(crate) fn near(&self, tag: u32, n: usize) -> Slot {
+        let at = (tag as usize).wrapping_add(n) & self.slots.len().wrapping_sub(1);
+        match self.slots.get(at) {
+            Some(slot) => *slot,
+            None => Slot::EMPTY,
+        }
+    }
+
+    /// Notes a new place, or returns None where memory is refused. Where no slot near its first is
+    /// free, it won't be found.
+    pub(crate) fn note(&mut self, tag: u32, place: u32) -> Option<()> {
+        if self.used > self.slots.len() / 4 {
+            self.grow()?;
+        }
+        put(&mut self.slots, Slot { tag, place });
+        self.used = self.used.wrapping_add(1);
+        Some(())
+    }
+
+    // Doubles the number of slots.
+    #[cold]
+    #[inline(never)]
+    fn grow(&mut self) -> Option<()> {
+        let more = self.slots.len().checked_mul(2)?;
+        let mut slots = vec![in self.alloc; Slot::EMPTY; more].ok()?;
+        for slot in &self.slots {
+            if !slot.is_empty() {
+                put(&mut slots, *slot);
+            }
+        }
+        self.slots = slots;
+        Some(())
+    }
+}
+
+// Puts a slot at the first free place of those for its tag.
+fn put(slots: &mut [Slot], slot: Slot) {
+    for n in 0..NEAR {
+        let at = (slot.tag as usize).wrapping_add(n) & slots.len().wrapping_sub(1);
+        if at < slots.len() && slots[at].is_empty() {
+            slots[at] = slot;
+            return;
+        }
+    }
+}

@@ -1,0 +1,60 @@
+//! A firing as it is stored.
+
+ghost use Rattle.std.specs.Prelude.{◌≡◌, ◌<◌, ◌≤◌, ◌+◌, ◌^◌, IfSome};
+ghost use Rattle.firing_reader.specs.Stored.{count_of, first_of, moved_given};
+
+/// Where a row's own arguments begin among those of all, and how many they are: at most ten.
+#[derive(Clone, Copy)]
+pub(crate) struct Given {
+    packed: u32,
+}
+
+impl Given {
+    /// So many from a place on, where the place has 28 bits.
+    pub(crate) fn new(first: usize, count: u32) -> Option<Given>
+        requires { count ≤ 10 }
+        ensures first { IfSome result (λ g. first_of g ≡ first) }
+        ensures count { IfSome result (λ g. count_of g ≡ count) }
+    {
+        let first = u32::try_from(first).ok()?;
+        if first >= 1 << 28 {
+            return None;
+        }
+        Some(Given {
+            packed: 16 * first + count,
+        })
+    }
+
+    pub(crate) fn first(self) -> usize
+        ensures { result ≡ first_of self }
+    {
+        (self.packed / 16) as usize
+    }
+
+    pub(crate) fn count(self) -> usize
+        ensures { result ≡ count_of self }
+    {
+        (self.packed % 16) as usize
+    }
+
+    /// As many, so much later.
+    pub(crate) fn moved(self, shift: u32) -> Given
+        requires { first_of self + shift < 2 ^ 28 }
+        ensures { result ≡ moved_given shift self }
+    {
+        Given {
+            packed: self.packed + 16 * shift,
+        }
+    }
+}
+
+/// A firing: its owner and its probe by their places, and its arguments but for zeros at the end.
+#[derive(Clone, Copy)]
+pub(crate) struct Row {
+    pub(crate) number: u64,
+    pub(crate) time: u64,
+    pub(crate) cpu: i32,
+    pub(crate) owner: u32,
+    pub(crate) probe: u32,
+    pub(crate) given: Given,
+}

@@ -1,1 +1,0 @@
-:::hit { @[pid] = count(execname); }

@@ -1,3 +1,0 @@
-:::hit {
-	@[pid] = count(execname);
-}

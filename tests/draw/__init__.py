@@ -1,0 +1,1 @@
+"""What is drawn by chance: scripts and traces, objects, and changes of bytes."""

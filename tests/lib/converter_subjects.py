@@ -1,0 +1,170 @@
+"""The converters and the recorder as subjects of tests/fuzz_tools, and what a trace has to be."""
+import csv
+import io
+import os
+import re
+
+from lib import case_files, harness
+from lib.tool_fuzzing import Round, Subject
+
+LINES = 60  # of a recording that a round begins with
+HEADER = "number,cpu,thread,pid,execname,time,provider,module,function,name," + ",".join(
+    f"arg{n}" for n in range(10)
+)
+HERE_DOCUMENT = re.compile(rb"<<\s*'(\w+)'[^\n]*\n(.*?)\n\1\n", re.DOTALL)
+# The columns that hold a number, and the least and the greatest.
+RANGES = {
+    0: (1, 2**62),
+    1: (0, 2**31 - 1),
+    2: (1, 2**31 - 1),
+    3: (0, 2**31 - 1),
+    5: (0, 2**64 - 1),
+}
+TEXTS = (4, 6, 7, 8, 9)
+NOTHING_CONVERTED = 3
+
+
+def trace_fault(trace):
+    """Says what of a trace dreplay would refuse, by docs/TRACE.md, or nothing."""
+    try:
+        rows = list(csv.reader(io.StringIO(trace.decode("utf-8"), newline="")))
+    except (UnicodeDecodeError, csv.Error) as why:
+        return f"the trace is no CSV: {why}"
+    if not rows or ",".join(rows[0]) != HEADER:
+        return "the trace has no header"
+    before = 0
+    for place, row in enumerate(rows[1:], 1):
+        if len(row) != 20:
+            return f"row {place} has {len(row)} fields"
+        if bad := next((column for column in range(20) if not fits(column, row[column])), None):
+            return f"row {place} has {row[bad][:100]!r} in column {bad + 1}"
+        if row[6] == "dtrace" or int(row[0]) <= before:
+            return f"row {place} is out of order, or of dtrace"
+        before = int(row[0])
+    return ""
+
+
+def fits(column, shown):
+    """Whether a field is one that its column may hold."""
+    if column in TEXTS:
+        return len(shown.encode()) <= 255 and "\0" not in shown
+    if column in RANGES:
+        least, most = RANGES[column]
+        return bool(re.fullmatch(r"\d{1,20}", shown, re.ASCII)) and least <= int(shown) <= most
+    return (
+        shown == ""
+        or bool(re.fullmatch(r"-?\d{1,19}", shown, re.ASCII))
+        and -(2**63) <= int(shown) < 2**63
+    )
+
+
+def converter_fault(result, trial):
+    """Says what is wrong with the trace that a converter wrote, or with its status."""
+    if result.status in (0, 1) and "-o" not in trial.words and not asks_for_help(trial):
+        why = trace_fault(result.stdout)
+        if why:
+            return why
+    if result.status == 1 and b" skipped" not in result.stderr:
+        return "status 1, and no line was skipped"
+    if result.status == 0 and b" skipped" in result.stderr:
+        return "status 0, and a line was skipped"
+    if result.status == NOTHING_CONVERTED:
+        if b": nothing was converted: " not in result.stderr:
+            return f"status 3 with {result.stderr!r}"
+        return "status 3, and something was written" if result.stdout else ""
+    return ""
+
+
+def asks_for_help(trial):
+    return any(word.startswith(("-h", "--h", "--v", "-o", "--s")) for word in trial.words)
+
+
+def some_lines(text):
+    """A text's stretches of as many lines as a round begins with."""
+    lines = text.splitlines(keepends=True)
+    return [
+        b"".join(lines[first : first + LINES])
+        for first in range(0, min(len(lines), 10 * LINES), LINES)
+    ]
+
+
+def recordings(*names):
+    """Recordings of tests/tool_cases: of files, and of the documents within a script."""
+    found = []
+    for name in names:
+        folder = f"{harness.TOP}/tests/tool_cases/{name}"
+        for file in ("recording", "with_processes", "plain"):
+            if os.path.exists(f"{folder}/{file}"):
+                found += some_lines(case_files.read(f"{folder}/{file}"))
+        script = case_files.read(f"{folder}/run")
+        found += [document[2] + b"\n" for document in HERE_DOCUMENT.finditer(script)]
+    return found
+
+
+def rounds_of(texts):
+    return [Round([], {"": text}) for text in texts]
+
+
+OUTPUTS = [["--from-zero"], ["-o", "run.csv"], ["-o", "run.csv", "--split", "3"], ["--split", "2"]]
+STRACE = [
+    case_files.conversion_of(name).bundle for name in case_files.folders(case_files.CONVERSIONS)
+]
+SUBJECTS = [
+    Subject(
+        "dreplay-from-strace",
+        rounds_of(
+            [text for text in STRACE if text]
+            + recordings(
+                "from_strace_terminal",
+                "from_strace_losses",
+                "from_strace_raw_clones",
+                "from_strace_relative_times_add_up",
+            )
+        ),
+        OUTPUTS
+        + [
+            ["--paths"],
+            ["--ppid"],
+            ["--rows", "3"],
+            ["--since", "0.5"],
+            ["--only", "r*,w?it*"],
+            ["-n", 'x,"y'],
+        ],
+        {0, 1, 2, 3},
+        converter_fault,
+    ),
+    Subject(
+        "dreplay-from-perf",
+        rounds_of(
+            recordings(
+                "from_perf_recording", "from_perf_forms", "from_perf_events", "from_perf_records"
+            )
+        ),
+        OUTPUTS + [["--machine", "aarch64"]],
+        {0, 1, 2, 3},
+        converter_fault,
+    ),
+    Subject(
+        "dreplay-from-ftrace",
+        rounds_of(recordings("from_ftrace_recording", "from_ftrace_forms", "from_ftrace_tracers")),
+        OUTPUTS + [["--machine", "x86_64"]],
+        {0, 1, 2, 3},
+        converter_fault,
+    ),
+    Subject(
+        "dreplay-record",
+        [
+            Round(words, {"recording": recording})
+            for recording in STRACE
+            for words in (
+                ["true"],
+                ["-o", "t.csv", "-e", "read,%file", "true"],
+                ["--rows", "2", "--", "true"],
+                ["--paths", "--ppid", "--split", "2", "-o", "t", "true"],
+                ["-p", "99999999"],
+            )
+        ],
+        OUTPUTS[:2] + [["--symbolic"], ["--keep", "kept"]],
+        {0, 1, 2, 125, 127},
+    ),
+]

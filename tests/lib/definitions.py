@@ -1,0 +1,144 @@
+"""The definitions of crates/*/specs as a reader meets them: what each names, and how long it is.
+
+It goes by names, not by the prover: a definition names what its text has of the names that its file
+declares or takes by `use`, through Vocabulary files too. What the code declares isn't followed.
+"""
+import re
+from dataclasses import dataclass, field
+
+from lib.names import TOP, definitions, read
+
+USE = re.compile(r"^(?:pub )?use ([^{\n]*(?:\{[^}]*\})?[^\n]*)$", re.MULTILINE)
+# A name, perhaps behind the name of the module that it is of; or an operator.
+WORD = re.compile(r"(?:([^\W\d][\w']*)\.)?([^\W\d][\w']*)|([^\w\s()\[\]{}.,;]+)")
+
+
+@dataclass
+class Definition:
+    """A definition: its file, its name, the comment above it, and its lines."""
+
+    file: str
+    name: str
+    comment: str = ""
+    lines: list = field(default_factory=list)
+
+    @property
+    def crate(self):
+        return self.file.split("/")[1]
+
+    def words(self):
+        """The words of its lines, in order: what is before a name, and the name or operator."""
+        words = (word for line in self.lines for word in WORD.findall(line))
+        return [*dict.fromkeys((of, name or f"◌{sign}◌") for of, name, sign in words)]
+
+    def constructors(self):
+        """The names of a data type's constructors."""
+        if not self.lines[0].lstrip().removeprefix("pub ").startswith("data "):
+            return set()
+        found = (re.match(r"\s+(\w+) :", line) for line in self.lines[1:])
+        return {it[1] for it in found if it}
+
+
+def module_of(path):
+    """By which name definitions take this file's: crates/x/specs/Y.antt is Rattle.x.specs.Y."""
+    parts = path.removesuffix(".antt").split("/")
+    return ".".join(["Rattle", parts[1], "specs", *parts[3:]])
+
+
+def split(path):
+    """The definitions of a file, in order, and where the names are from that it takes by `use`."""
+    text = read(f"{TOP}/{path}")
+    found, mutual, comment = [], False, ""
+    for line in USE.sub("", text).splitlines():
+        if line.lstrip().startswith("--"):
+            comment += line.strip(" -") + " "
+            continue
+        name = name_of(line, mutual)
+        mutual = line in ("mutual", "abbrev mutual") or mutual and line[:1] in ("", " ")
+        if name:
+            found.append(Definition(path, name, comment.strip()))
+        if found and line.strip() and line not in ("mutual", "abbrev mutual"):
+            found[-1].lines.append(line)
+        comment = ""
+    return found, taken(text)
+
+
+def first_comment(path):
+    """What a file of definitions says of itself, up to the end of its first sentence."""
+    lines = []
+    for line in read(f"{TOP}/{path}").splitlines():
+        if not line.startswith("--"):
+            break
+        lines.append(line.strip(" -"))
+    return re.split(r"(?<=\.) ", " ".join(lines))[0]
+
+
+def name_of(line, mutual):
+    """The name of the definition that begins on this line, if one does."""
+    if mutual and line.startswith("  pub "):
+        head = line.removeprefix("  pub ")
+    elif re.match(r"(unfoldable |abbrev )*pub (?!use |mod )|(record|data) ", line):
+        head = re.sub(r"^(unfoldable |abbrev )*(pub )?", "", line)
+    else:
+        return None
+    return re.match(r"(?:(?:record|data) )?([^\s:({]+)", head)[1]
+
+
+def taken(text):
+    """The names that a file takes, each with the module and the name that it has there."""
+    found = {}
+    for use in USE.findall(text):
+        before, _, group = " ".join(use.split()).partition("{")
+        for part in group.rstrip("}").split(",") if group else [""]:
+            path, _, other = f"{before}{part.strip()}".partition(" as ")
+            module, _, name = path.strip().rpartition(".")
+            found[other.strip() or name] = (module, name)
+    return found
+
+
+class Definitions:
+    """All definitions, and what each names."""
+
+    def __init__(self):
+        self.of, self.takes = {}, {}
+        for path in definitions():
+            module = module_of(path)
+            found, self.takes[module] = split(path)
+            for it in found:
+                self.of[module, it.name] = it
+                for name in it.constructors():
+                    self.of.setdefault((module, name), it)
+
+    def find(self, module, name):
+        """The definition that a module means by a name, its own or one that it takes, if any."""
+        for _ in range(8):
+            if (module, name) in self.of:
+                return self.of[module, name]
+            if name not in self.takes.get(module, {}):
+                return None
+            module, name = self.takes[module][name]
+        return None
+
+    def named_by(self, it):
+        """The definitions that one names, but for itself."""
+        module, found = module_of(it.file), []
+        for of, name in it.words():
+            other = ".".join(self.takes[module].get(of, ("", "")))
+            found += [self.find(other, name)] if other in self.takes else []
+            found += [self.find(module, of), self.find(module, name)]
+        return [named for named in found if named and named is not it]
+
+    def reach(self, roots, without=()):
+        """What a reader of definitions comes to, each before what it names; not those left out."""
+        found, ahead = {}, list(reversed(roots))
+        while ahead:
+            it = ahead.pop()
+            if id(it) not in found and it.name not in without:
+                found[id(it)] = it
+                ahead += reversed(self.named_by(it))
+        return list(found.values())
+
+
+def count(found):
+    """How many lines some definitions have, and how many they are."""
+    return sum(len(it.lines) for it in found), len(found)

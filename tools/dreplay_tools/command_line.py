@@ -1,0 +1,39 @@
+"""A tool's command line: a mistake in it is one line."""
+import argparse
+import re
+
+from .ends import FAILED
+from .labels import cut, printable
+from .version import VERSION
+
+MOST_SAID = 300
+
+
+class CommandLine(argparse.ArgumentParser):
+    """A reader of a command line, with --version and a help that is the tool's doc."""
+
+    def __init__(self, name, doc, epilog):
+        super().__init__(
+            prog=name,
+            description=doc,
+            epilog=epilog,
+            formatter_class=argparse.RawDescriptionHelpFormatter,
+        )
+        self.add_argument(
+            "--version", action="version", version=f"{name} {VERSION}", help="write the version"
+        )
+
+    def error(self, message):
+        # Releases of Python differ in whether they quote the choices of an option.
+        plain = re.sub(r"\(choose from .*\)", lambda found: found[0].replace("'", ""), message)
+        said = cut(printable(plain), MOST_SAID)
+        self.exit(FAILED, f"{self.prog}: {said} ({self.prog} --help)\n")
+
+
+def number(shown):
+    """A number from 1 to 999999999."""
+    if not shown.isascii() or not shown.isdigit() or not 0 < len(shown.lstrip("0")) < 10:
+        raise argparse.ArgumentTypeError(
+            f"{cut(printable(shown), 20)!r} is no number from 1 to 999999999"
+        )
+    return int(shown)

@@ -1,0 +1,194 @@
+"""The lines that explain a refusal: its place in the script or the trace, its cause, what to do,
+and guesses.
+"""
+import csv
+import io
+import itertools
+from dataclasses import dataclass
+
+from . import guesses, labels, places, probes, refusals
+from .script import Script
+from .tokens import MOST_BYTES, decoded, tokens
+from .trace import COLUMNS
+
+NEIGHBOURS = 2  # lines shown before and after the one that is refused
+MOST_SHOWN = 200  # letters shown of a line or field
+
+
+@dataclass
+class Inputs:
+    """The script and the trace, in bytes; none for what isn't given."""
+
+    script: bytes
+    trace: bytes
+    is_bundle: bool = False
+    missing: str = None  # the script's file, where it doesn't exist
+
+
+def shortened(text):
+    """A line or field fit for a terminal: its start, without control bytes."""
+    text = text if len(text) <= MOST_SHOWN else text[:MOST_SHOWN] + ".."
+    return "".join(c if c == "\t" else labels.printable(c) for c in text)
+
+
+def lines(line, refusal, place, given):
+    """The lines that explain a line of dreplay."""
+    shown, guessed = [], []
+    if refusal.kind in ("Lex", "Parse", "Type") and given.script is not None:
+        shown = place_in_script(refusal, place, given.script)
+        guessed = guesses.of_script(refusal, place, given.script, given.is_bundle)
+    elif refusal.kind == "Trace" and given.trace is not None:
+        shown, guessed = place_in_trace(refusal, place, given.trace)
+    elif refusal is refusals.USAGE:
+        guessed = guesses.of_usage(line)
+    elif given.missing:
+        guessed = [f"{given.missing} doesn't exist"]
+    name = f" ({refusal.name})" if refusal.number else ""
+    said = [f"Cause: {refusal.cause}", f"To do: {refusal.remedy}", *map(sentence, guessed)]
+    return [line + name, "", *shown, *said]
+
+
+def sentence(guess):
+    return f"Guess: {guess}" + ("" if guess.endswith("?") else ".")
+
+
+# -- the script
+
+
+def place_in_script(refusal, place, data):
+    """The refused line with its neighbours, and a mark under the refused token."""
+    if "line" not in place:
+        return []
+    script_lines = data.decode("utf-8", "surrogateescape").split("\n")
+    number = place["line"]
+    if number > len(script_lines):
+        return ["This is another script: it has fewer lines.", ""]
+    token = refused_token(refusal, place, data)
+    shown = [
+        line
+        for at in near(script_lines, number)
+        for line in with_mark(script_lines, at, number, token)
+    ]
+    where = (
+        [f"Where: line {token.line}, column {token.column}: {shortened(token.text)}"]
+        if token
+        else []
+    )
+    return [*shown, "", *where]
+
+
+def refused_token(refusal, place, data):
+    """The refused token, whose place among all it notes; none where that can't be told."""
+    if len(data) > MOST_BYTES or guesses.of_encoding(data):
+        return None
+    all_tokens = tokens(decoded(data))
+    at = places.refused_token(refusal, place["line"], all_tokens)
+    if at is None:
+        return None
+    place["token"] = at
+    return all_tokens[at]
+
+
+def near(script_lines, number):
+    last = min(len(script_lines), number + NEIGHBOURS)
+    return [
+        at
+        for at in range(max(1, number - NEIGHBOURS), last + 1)
+        if at < last or script_lines[at - 1] or at == number
+    ]
+
+
+def with_mark(script_lines, at, number, token):
+    """A line of a script, and below it a mark where the refused token stands."""
+    text = script_lines[at - 1]
+    yield f"{'>' if at == number else ' '} {at:4} | {shortened(text)}"
+    if token and at == token.line and token.column <= MOST_SHOWN:
+        before = "".join(
+            c if c == "\t" else " " * labels.width(labels.printable(c))
+            for c in text[: token.column - 1]
+        )
+        word = token.text.split("\n")[0][:MOST_SHOWN]
+        yield f"       | {before}{'^' * max(1, labels.width(labels.printable(word)))}"
+
+
+# -- the trace
+
+
+def fields_of(trace, row):
+    """A row and the one before it, each with the line it begins on, and whether it is the last;
+    none where there is no such row.
+    """
+    start = max(0, row - 2)
+    rows = list(itertools.islice(guesses.records(trace), start, row + 1))
+    wanted = row - 1 - start
+    if len(rows) <= wanted:
+        return None, None, True
+    return rows[wanted], rows[0] if wanted else None, len(rows) == wanted + 1
+
+
+def place_in_trace(refusal, place, trace):
+    """The refused row and what a person would see in it: lines, and guesses."""
+    if "row" not in place:
+        return [], guesses.of_header(trace) if refusal.number == 1 else []
+    found, before, is_last = fields_of(trace, place["row"])
+    if found is None:
+        return [], ["this is another trace: it has fewer rows"]
+    shown = [f"> {row_and_line(place['row'], found)}"]
+    guessed = guess_of_row(refusal, place, found[1], before, is_last, shown)
+    return [*shown, ""], guessed
+
+
+def row_and_line(row, found):
+    line, fields = found
+    return f"row {row}, line {line} | {shortened(','.join(fields))}"
+
+
+def guess_of_row(refusal, place, fields, before, is_last, shown):
+    if refusal.name == "Columns":
+        shown.append(f"  It has {len(fields)} field{'s' * (len(fields) != 1)}.")
+        return guesses.of_columns_of_row(fields, is_last)
+    if refusal.name == "Order" and before:
+        shown.insert(0, f"  {row_and_line(place['row'] - 1, before)}")
+        return order_guess(before[1][0], fields[0])
+    column = place.get("column", 0)
+    if not 1 <= column <= min(len(COLUMNS), len(fields)):
+        return []
+    name, value = COLUMNS[column - 1], fields[column - 1]
+    shown.append(f"  Column {column} is {name}: '{shortened(value)}'")
+    if refusal.name == "Number" and name not in guesses.RANGES:
+        return ["this is another trace: that column is of texts"]
+    if refusal.name == "Number":
+        return [guesses.of_number(name, value)]
+    data = value.encode("latin-1")
+    if b"\0" in data:
+        return ["it has a zero byte"]
+    return (
+        [f"it has {len(data)} bytes"]
+        if len(data) > 255
+        else ["it isn't in UTF-8; Latin-1, perhaps"]
+    )
+
+
+def order_guess(before, after):
+    if before == after:
+        return ["two rows have one number"]
+    if after == "1":
+        return ["numbering begins again: two traces were joined"]
+    return ["the rows aren't in the order of their numbers"]
+
+
+# -- an answer
+
+
+def unmatched(given):
+    """For each description of the script that matches no row a line."""
+    if len(given.script) > MOST_BYTES:
+        return []
+    try:
+        return list(
+            probes.Looked(
+                Script(decoded(given.script)), probes.probes_of(io.BytesIO(given.trace))
+            ).lines()
+        )
+    except csv.Error:
+        return []

@@ -1,0 +1,91 @@
+"""From a recording of strace to a trace in a file."""
+import os
+from dataclasses import dataclass
+
+from . import inputs, strace
+from .conversion import MOST_NAMED, Conversion
+from .folders import merged
+from .output import Output
+from .strace import Shape
+from .strangers import NOTHING_CONVERTED, refuse_strangers
+
+SOME_SKIPPED = 1
+LINES_TO_LOOK_AT = 1000  # the first lines, in which the shape of all is looked for
+
+
+@dataclass
+class Options:
+    """What dreplay-from-strace is asked for on its command line."""
+
+    name: str = "unknown"
+    only: str = None
+    since: int = None
+    rows: int = None
+    threads: str = None
+    out: str = None
+    split: int = None
+    from_zero: bool = False
+    paths: bool = False
+    ppid: bool = False
+
+
+def shape_of(recording):
+    """The shape of a recording's lines, by the first that has one."""
+    start, shape = recording.tell(), None
+    for _, line in zip(range(LINES_TO_LOOK_AT), recording):
+        shape = Shape.of(line.decode("utf-8", "surrogateescape").rstrip("\r\n"))
+        if shape:
+            break
+    shape = shape or Shape(strace.THREAD, strace.CLOCK)
+    recording.seek(start)
+    if shape.on_terminal:
+        shape.on_terminal.look(line.decode("utf-8", "surrogateescape") for line in recording)
+        recording.seek(start)
+    return shape
+
+
+def report(conversion, output, tool):
+    """Says what a reader of the trace should know, and gives the exit status."""
+    skipped = conversion.skipped
+    if skipped > MOST_NAMED:
+        tool.say(f"{skipped} lines skipped in all")
+    if not conversion.understood:
+        alone = conversion.in_summary and not skipped
+        why = (
+            "it is a summary alone (strace -c)"
+            if alone
+            else "no line is one of strace -f -ttt -T -o FILE"
+        )
+        tool.say(f"nothing was converted: {why}")
+        return NOTHING_CONVERTED
+    if conversion.left_out:
+        rows, left_out = conversion.rows.number, conversion.left_out
+        tool.say(
+            f"{rows:,} rows are written; {left_out:,} more lines of the recording are left out"
+        )
+    strangers = conversion.processes.strangers
+    if strangers > 1:
+        tool.say(
+            f"{strangers} threads have no call that began them, so each counts as a process of its "
+            "own: record with dreplay-record"
+        )
+    for told in conversion.losses.told():
+        tool.say(told)
+    for told in output.warnings():
+        tool.say(told)
+    return SOME_SKIPPED if skipped else 0
+
+
+def convert(path, options, tool):
+    """Converts the recording PATH, and returns the exit status."""
+    recording = merged(path) if os.path.isdir(path) else inputs.opened(path)
+    refuse_strangers(recording, "strace")
+    shape, output = shape_of(recording), Output(options.out, options.split)
+    try:
+        conversion = Conversion(options, recording, shape, output, tool)
+        conversion.run()
+        if conversion.understood:
+            output.keep()
+    finally:
+        output.abandon()
+    return report(conversion, output, tool)

@@ -1,0 +1,156 @@
+"""Runs of one script over many traces: each trace has its answer in a folder, and a note on what it
+is of.
+"""
+import concurrent.futures
+import hashlib
+import json
+import os
+import signal
+import subprocess
+import tempfile
+
+from .ends import FAILED, Failure, reason
+from .inputs import opened
+
+PLAN = ["-w", "1", "-g", "1"]  # as many programs run as there are processors, so each is one thread
+MOST_NAME = 100
+REFUSED = "dreplay: trace refused: "
+
+
+class Job:
+    """The run over one trace: where its answer goes, what it is of, and how it ended."""
+
+    def __init__(self, trace, folder, words):
+        self.trace, self.words = trace, words
+        whole = os.path.abspath(trace).encode("utf-8", "surrogateescape")
+        name = f"{os.path.basename(trace)[:MOST_NAME]}-{hashlib.sha256(whole).hexdigest()[:12]}"
+        self.answer = os.path.join(folder, name + ".answer")
+        self.note = os.path.join(folder, name + ".json")
+        self.status, self.line, self.is_answered = None, "", False
+
+    def state(self):
+        """What an answer depends on: script, program and trace as they are now."""
+        found = os.stat(self.trace)
+        return [*self.words.state, found.st_size, found.st_mtime_ns]
+
+    def is_done(self):
+        """Whether an earlier run did this; it is taken then."""
+        try:
+            with open(self.note, encoding="utf-8") as file:
+                told = json.load(file)
+            if told["state"] != self.state():
+                return False
+            self.status, self.line, self.is_answered = (
+                told["status"],
+                told["line"],
+                told["answered"],
+            )
+            return not self.is_answered or os.path.exists(self.answer)
+        except (OSError, ValueError, KeyError, TypeError):
+            return False
+
+    def run(self):
+        """Runs the program over the trace. The answer is there when it is complete."""
+        try:
+            state = self.state()
+            self.run_program()
+        except Failure as why:
+            self.ended(why.status, self.without_name(str(why)))
+        except OSError as why:
+            self.ended(FAILED, self.without_name(reason(why)))
+        if self.is_answered or self.line.startswith(
+            REFUSED
+        ):  # all else may end otherwise next time
+            told = {
+                "state": state,
+                "status": self.status,
+                "line": self.line,
+                "answered": self.is_answered,
+            }
+            replace(self.note, json.dumps(told).encode())
+        return self
+
+    def without_name(self, line):
+        """A line without the trace's name in front, with which it is told later."""
+        name = f"{self.trace}: "
+        return line[len(name) :] if line.startswith(name) else line
+
+    def run_program(self):
+        folder = os.path.dirname(self.answer) or "."
+        with opened(self.trace) as trace, tempfile.NamedTemporaryFile(
+            dir=folder, delete=False
+        ) as out:
+            try:
+                os.lseek(trace.fileno(), 0, os.SEEK_SET)  # its first bytes were looked at
+                ran = subprocess.run(
+                    self.words.command, stdin=trace, stdout=out, stderr=subprocess.PIPE
+                )
+                line = ran.stderr.decode("utf-8", "replace").split("\n")[0]
+                self.ended(ran.returncode, line)
+                if self.is_answered:
+                    os.replace(out.name, self.answer)
+                elif os.path.exists(self.answer):
+                    os.unlink(self.answer)
+            finally:
+                if os.path.exists(out.name):
+                    os.unlink(out.name)
+
+    def ended(self, status, line):
+        """Takes how the program ended. A script may end with any status; a refusal has a line."""
+        self.is_answered = not line and status is not None and status >= 0
+        self.status = status if status >= 0 else 128 - status
+        self.line = line or ("" if self.is_answered else f"dreplay was ended by signal {-status}")
+
+
+class Words:
+    """The command that is run for each trace, and what it is of."""
+
+    def __init__(self, script, program):
+        self.command = [program, "-s", script, *PLAN]
+        with open(script, "rb") as file:
+            found = os.stat(program)
+            self.state = [hashlib.sha256(file.read()).hexdigest(), found.st_size, found.st_mtime_ns]
+
+
+def jobs_of(traces, folder, script, program):
+    """A job for each trace, each trace once."""
+    words = Words(script, program)
+    return list(
+        {job.answer: job for job in (Job(trace, folder, words) for trace in traces)}.values()
+    )
+
+
+def all_run(jobs, at_once):
+    """Runs jobs, some at once, and returns each when it is done. When it is left, no further one
+    begins.
+    """
+    with concurrent.futures.ThreadPoolExecutor(at_once) as pool:
+        waiting = [pool.submit(job.run) for job in jobs]
+        try:
+            for done in concurrent.futures.as_completed(waiting):
+                yield done.result()
+        except KeyboardInterrupt:
+            signal.signal(signal.SIGINT, signal.SIG_IGN)  # those that run end, and leave nothing
+            raise
+        finally:
+            for future in waiting:
+                future.cancel()
+
+
+def refusal_of_script(program, script):
+    """The line and the status with which a script is refused; no line for one that is right."""
+    try:
+        ran = subprocess.run([program, "-s", script], stdin=subprocess.DEVNULL, capture_output=True)
+    except OSError as why:
+        raise Failure(f"{program} can't be run: {reason(why)}")
+    line = ran.stderr.decode("utf-8", "replace").split("\n")[0]
+    return (
+        ("", 0) if line.startswith("dreplay: trace refused: ") else (line, ran.returncode or FAILED)
+    )
+
+
+def replace(path, data):
+    """Writes a file that is either there as a whole or not at all."""
+    with open(path + ".part", "wb") as file:
+        file.write(data)
+    os.replace(path + ".part", path)

@@ -1,0 +1,73 @@
+"""Options that several converters have."""
+import argparse
+import re
+
+MOST_PARTS = 1000
+
+
+def seconds(shown):
+    """A number of seconds, in nanoseconds."""
+    found = re.fullmatch(r"(\d{1,10})(?:\.(\d{1,9}))?", shown, re.ASCII)
+    if not found:
+        raise argparse.ArgumentTypeError(
+            f"{quoted(shown)} is no number of seconds, such as 2 or 0.25"
+        )
+    return int(found[1]) * 10**9 + int((found[2] or "0").ljust(9, "0"))
+
+
+def rows(shown):
+    if not re.fullmatch(r"[1-9]\d{0,17}", shown, re.ASCII):
+        raise argparse.ArgumentTypeError(f"{quoted(shown)} is no number of rows from 1 up")
+    return int(shown)
+
+
+def parts(shown):
+    if not re.fullmatch(r"[1-9]\d{0,3}", shown, re.ASCII) or int(shown) > MOST_PARTS:
+        raise argparse.ArgumentTypeError(
+            f"{quoted(shown)} is no number of parts from 1 to {MOST_PARTS}"
+        )
+    return int(shown)
+
+
+def process(shown):
+    if not re.fullmatch(r"[1-9]\d{0,9}", shown, re.ASCII):
+        raise argparse.ArgumentTypeError(f"{quoted(shown)} is no number of a process")
+    return int(shown)
+
+
+def quoted(shown):
+    return repr(shown if len(shown) <= 40 else shown[:40] + "..")
+
+
+def add_outputs(parser):
+    """The options of where the trace goes, and of its times."""
+    parser.add_argument(
+        "-o",
+        dest="out",
+        metavar="FILE",
+        help="where the trace goes, once it is complete (standard output)",
+    )
+    parser.add_argument(
+        "--split",
+        type=parts,
+        metavar="N",
+        help="cut it by thread into N parts: run.1.csv, run.2.csv ..",
+    )
+    add_from_zero(parser)
+
+
+def add_from_zero(parser):
+    parser.add_argument(
+        "--from-zero",
+        action="store_true",
+        help="times since the first line of the recording, and not since 1970",
+    )
+
+
+def add_machine(parser):
+    parser.add_argument(
+        "--machine",
+        metavar="NAME",
+        help="the machine whose numbers of system calls raw_syscalls has, as 'uname -m' tells it "
+        "(this one)",
+    )

@@ -1,0 +1,245 @@
+"""What perf recorded: lines of 'perf script', or the events that perf's own Python interpreter
+tells.
+"""
+import json
+import mmap
+import os
+import re
+import shutil
+import subprocess
+import tempfile
+
+from .ends import Failure, shortened
+from .fields import BadEvent, integer
+from .tracepoints import Event, Probe, placed, probe_of, raw_call, returned
+from .trace import signed
+
+NOTHING_CONVERTED = 3
+WORDS_OF_A_NAME, MOST_OF_A_RECORD, MOST_OF_A_FORMAT = 64, 100_000, 20_000
+THREAD = re.compile(r"(-?\d{1,10})(?:/(-?\d{1,10}))?", re.ASCII)
+CPU = re.compile(r"\[(\d{1,10})\]", re.ASCII)
+TIME = re.compile(r"(\d{1,11})\.(\d{1,9}):", re.ASCII)
+EVENT = re.compile(r"([\w-]{1,100}):([\w.-]{1,250}):", re.ASCII)
+COUNTER = re.compile(r"[\w./,=-]{1,250}:(?:[ukhpPGHSDWIeb]{1,12}:)?", re.ASCII)
+MODIFIERS = re.compile(r"[ukhpPGHSDWIeb]{1,12}", re.ASCII)
+FRAME = re.compile(r"\s+[0-9a-f]{1,16} ", re.ASCII)
+WORD = re.compile(r"\S+")
+FORMAT = re.compile(rb"name: ([\w.]{1,250})\nID: \d{1,9}\nformat:\n")
+SIGNED_FIELD = re.compile(
+    rb"\tfield:[^;\n]{0,200}?(\w{1,80});\toffset:\d{1,9};\tsize:([124]);\tsigned:1;"
+)
+TEXT_FIELDS = "comm,pid,tid,cpu,time,event,trace"
+
+
+def events_of(line, names):
+    """The event of a line of 'perf script'; no event of a line that is none and may be there."""
+    if (
+        not line.strip()
+        or line.startswith("#")
+        or (FRAME.match(line) and line.rstrip().endswith(")"))
+    ):
+        return []
+    found = beginning(line)
+    if not found:
+        raise BadEvent("it is no event of a tracepoint or a probe")
+    name, first, second, cpu, time, event, rest = found
+    system, function = EVENT.fullmatch(event).groups() if EVENT.fullmatch(event) else ("", "")
+    if not system or MODIFIERS.fullmatch(function):
+        raise BadEvent(f"it is a sample of {shortened(event[:-1])}, and no tracepoint")
+    probe = probe_of(system, function, rest.strip(), names)
+    thread, process = (int(first), None) if second is None else (int(second), int(first))
+    if thread < 0:  # it has ended
+        thread = integer(probe.fields.get("prev_pid", ""))
+        if thread is None or thread < 0:
+            raise BadEvent("its thread had ended, and perf doesn't tell its number")
+        name = probe.fields.get("prev_comm", name)
+    process = None if process is None or process < 0 else process
+    return [Event(name, thread, process, cpu, time, probe)]
+
+
+def beginning(line):
+    """The command, its one number or two, the processor, the time, the event and the rest of a
+    line.
+    """
+    words = []
+    for word in WORD.finditer(line):
+        words.append(word)
+        if len(words) > WORDS_OF_A_NAME + 4:
+            break
+    for place in range(1, len(words) - 1):
+        found = THREAD.fullmatch(words[place][0])
+        after = place + 1
+        cpu = CPU.fullmatch(words[after][0]) if found else None
+        after += cpu is not None
+        time = TIME.fullmatch(words[after][0]) if found and after < len(words) else None
+        if not time:
+            continue
+        after += 1
+        if after + 1 < len(words) and words[after][0].isdigit():
+            after += 1  # how many events there were
+        if after < len(words) and is_event(words[after][0]):
+            name = line[words[0].start() : words[place - 1].end()]
+            event = words[after]
+            return (
+                name,
+                *found.groups(),
+                int(cpu[1]) if cpu else 0,
+                nanoseconds(time),
+                event[0],
+                line[event.end() :],
+            )
+    return None
+
+
+def is_event(word):
+    return bool(EVENT.fullmatch(word) or COUNTER.fullmatch(word))
+
+
+def nanoseconds(found):
+    return int(found[1]) * 10**9 + int(found[2].ljust(9, "0"))
+
+
+# -- perf's own interpreter
+
+
+def events_of_record(line, names, signs):
+    """The event of a line of recorders/perf.py, which is an object of JSON."""
+    try:
+        record = json.loads(line) if len(line) <= MOST_OF_A_RECORD else None
+        if "counter" in record:
+            raise BadEvent(
+                f"it is a sample of {shortened(str(record['counter']))}, and no tracepoint"
+            )
+        if "end" in record:
+            return []
+        system, _, function = str(record["event"]).partition(":")
+        thread, process, cpu, time = (whole(record[key]) for key in ("tid", "pid", "cpu", "time"))
+        name, fields, args = str(record["comm"]), record["fields"], record.get("args")
+        fields = {
+            key: with_sign(value, signs.get((function, key))) for key, value in fields.items()
+        }
+        probe = probe_of_fields(system, function, fields, args, names)
+    except (ValueError, KeyError, TypeError, AttributeError, RecursionError):
+        raise BadEvent("it is no record of recorders/perf.py")
+    return [Event(name, thread, process if process >= 0 else None, cpu, time, probe)]
+
+
+def whole(value):
+    """A number that has no fraction."""
+    if type(value) is not int:
+        raise TypeError
+    return value
+
+
+def with_sign(value, size):
+    """A field's value. perf tells a negative one of less than 64 bits without its sign."""
+    if size and type(value) is int and value >= 1 << (8 * size - 1):
+        return value - (1 << 8 * size)
+    return value
+
+
+def probe_of_fields(system, function, fields, args, names):
+    """The probe of an event by its fields, which are numbers and texts."""
+    number = fields.pop("__syscall_nr", fields.get("id"))
+    if system == "raw_syscalls" and isinstance(number, int):
+        if function == "sys_enter":
+            return raw_call(number, "entry", [bounded(value) for value in args or []], names)
+        return raw_call(number, "return", returned(bounded(fields.get("ret", 0))), names)
+    if system == "syscalls" and function.startswith("sys_enter_"):
+        return Probe(
+            "syscall", function[len("sys_enter_") :], "entry", list(map(bounded, fields.values()))
+        )
+    if system == "syscalls" and function.startswith("sys_exit_"):
+        return Probe(
+            "syscall",
+            function[len("sys_exit_") :],
+            "return",
+            returned(bounded(fields.get("ret", 0))),
+        )
+    for address in ("__probe_ip", "__probe_func", "__probe_ret_ip"):
+        fields.pop(address, None)
+    return placed(system, function, "", list(map(bounded, fields.values())), fields)
+
+
+def bounded(value):
+    """A field's value as an argument; none for a text."""
+    return signed(value) if type(value) is int else None
+
+
+def signs_of(file):
+    """The size of each signed field of less than 64 bits, by event and field, as the recording's
+    formats have it.
+    """
+    signs, doubtful = {}, set()
+    with mmap.mmap(file.fileno(), 0, access=mmap.ACCESS_READ) as whole:
+        for found in FORMAT.finditer(whole):
+            text = whole[found.end() : found.end() + MOST_OF_A_FORMAT].partition(b"\nprint fmt")[0]
+            own = {name.decode(): int(size) for name, size in SIGNED_FIELD.findall(text)}
+            event = found[1].decode()
+            if signs.setdefault(event, own) != own:
+                doubtful.add(event)  # two groups have an event of this name
+    known = ((event, own) for event, own in signs.items() if event not in doubtful)
+    return {(event, name): size for event, own in known for name, size in own.items()}
+
+
+def recorder():
+    """Where recorders/perf.py is, beside the tools' modules."""
+    return os.path.join(
+        os.path.dirname(os.path.dirname(os.path.realpath(__file__))), "recorders/perf.py"
+    )
+
+
+def told(file, tool):
+    """What perf tells of a recording, as a file, and whether it has records or text.
+
+    perf's interpreter ends where the name of a thread isn't UTF-8; the text that perf prints is
+    taken then.
+    """
+    if not shutil.which("perf"):
+        raise Failure(
+            f"perf is not installed; where it is, try 'perf script -i FILE -F {TEXT_FIELDS} --ns'"
+        )
+    records, _ = run_perf(file, "-s", recorder())
+    if ended_well(records):
+        return records, True
+    text, why = run_perf(file, "-F", TEXT_FIELDS, "--ns")
+    if not text.peek(1):
+        raise Failure(
+            f"nothing was converted: perf script tells nothing of it: {shortened(why)}",
+            NOTHING_CONVERTED,
+        )
+    tool.say("perf's Python interpreter can't read it, so the text of perf script is taken")
+    return text, False
+
+
+def run_perf(file, *words):
+    """What 'perf script' writes of a recording, as a file from its start, and its last line of
+    complaint.
+    """
+    number = os.dup(file.fileno())  # perf's own standard input is another file
+    words = ["perf", "script", "-f", "-i", f"/proc/self/fd/{number}", *words]
+    out, said = tempfile.TemporaryFile(), tempfile.TemporaryFile()
+    environment = {**os.environ, "PYTHONUTF8": "1", "PYTHONDONTWRITEBYTECODE": "1"}
+    with subprocess.Popen(
+        words,
+        stdin=subprocess.DEVNULL,
+        stdout=subprocess.PIPE,
+        stderr=said,
+        env=environment,
+        pass_fds=[number],
+    ) as child:
+        shutil.copyfileobj(child.stdout, out, 1 << 20)
+    os.close(number)
+    out.seek(0)
+    said.seek(0)
+    lines = said.read(4096).decode("utf-8", "replace").splitlines()
+    return out, next((line for line in lines if line and "Ignoring" not in line), "no reason")
+
+
+def ended_well(records):
+    """Whether records are complete: the last one is the end."""
+    size = records.seek(0, os.SEEK_END)
+    records.seek(max(0, size - 100))
+    last = records.read().rstrip(b"\n").rpartition(b"\n")[2]
+    records.seek(0)
+    return last.startswith(b'{"end":')

@@ -1,0 +1,162 @@
+"""Which of a script's probe descriptions match a row of a trace, and what those may be meant as
+that match none.
+"""
+import csv
+import difflib
+import functools
+import io
+import itertools
+import re
+from collections import Counter, namedtuple
+
+from .trace import COLUMNS, TEXT_BYTES
+
+Probe = namedtuple("Probe", "provider module function name")
+FIRST = COLUMNS.index("provider")
+OWN = [Probe("dtrace", "", "", "BEGIN"), Probe("dtrace", "", "", "END")]
+MOST_LOOKED_AT = 3_000_000  # comparisons of a description with a probe
+MOST_NEAR = 1000  # probes among which the nearest is sought
+MOST_LIKE = 64  # letters of a name that are compared
+MOST_NAMED = 10
+NEVER = {
+    "tick": (
+        "timers never fire in a trace: `timestamp / 1000000000` as a key gives an entry for each"
+        " second"
+    ),
+    "profile": "timers never fire in a trace",
+    "ERROR": "a fault fires no probe in dreplay: it shows one line, and goes on",
+}
+
+
+def probes_of(file):
+    """How many rows of a trace each probe has; the file is read as bytes that stand as letters."""
+    text = io.TextIOWrapper(file, encoding="latin-1", newline="")
+    text.readline()
+    found, block = Counter(), text.readlines(1 << 24)
+    while block:
+        if any('"' in line for line in block):
+            csv.field_size_limit(2**31 - 1)
+            rows = csv.reader(itertools.chain(block, text))
+            found.update(tuple(row[FIRST : FIRST + 4]) for row in rows if len(row) == len(COLUMNS))
+            break
+        found.update(tuple(line.split(",", FIRST + 4)[FIRST : FIRST + 4]) for line in block)
+        block = text.readlines(1 << 24)
+    return Counter({Probe(*probe): count for probe, count in found.items() if is_probe(probe)})
+
+
+def is_probe(fields):
+    return len(fields) == 4 and max(map(len, fields)) <= TEXT_BYTES
+
+
+def patterns(description):
+    """The four patterns of a description; fields that lack are empty, read from the right."""
+    fields = description.split(":")
+    return Probe(*[""] * (4 - len(fields)), *fields[-4:])
+
+
+def matches(pattern, text):
+    """Whether a pattern is of a text: `*` is any bytes, `?` one, and nothing any text."""
+    if pattern in ("", "*"):
+        return True
+    if "*" not in pattern and "?" not in pattern:
+        return pattern == text
+    pattern = re.sub(r"\*+", "*", pattern)
+    if len(pattern) - pattern.count("*") > len(text):
+        return False
+    at = place = 0
+    star = back = -1
+    while at < len(text):
+        if place < len(pattern) and pattern[place] == "*":
+            star, back, place = place, at, place + 1
+        elif place < len(pattern) and pattern[place] in ("?", text[at]):
+            at, place = at + 1, place + 1
+        elif star >= 0:
+            back += 1
+            at, place = back, star + 1
+        else:
+            return False
+    return not pattern[place:].strip("*")
+
+
+class Looked:
+    """The descriptions of a script beside the probes of a trace."""
+
+    def __init__(self, script, probes):
+        self.probes, self.known, self.left = [*OWN, *probes], {}, MOST_LOOKED_AT
+        self.names = [set(names) for names in zip(*self.probes)]
+        self.wrong, seen = [], set()
+        for clause in script.clauses:
+            for token in clause.descriptions:
+                if token.text not in seen and self.left > 0 and not self.has(patterns(token.text)):
+                    self.wrong.append(token)
+                seen.add(token.text)
+
+    def has(self, wanted):
+        for pattern, names in zip(wanted, self.names):
+            if pattern and not {"*", "?"} & set(pattern) and pattern not in names:
+                return False
+        for probe in self.probes:
+            self.left -= 1
+            if all(self.field(pattern, text) for pattern, text in zip(wanted, probe)):
+                return True
+        return False
+
+    def field(self, pattern, text):
+        key = pattern, text
+        if key not in self.known:
+            if len(self.known) > 500_000:
+                self.known.clear()
+            self.known[key] = matches(pattern, text)
+        return self.known[key]
+
+    def lines(self):
+        """For each description that matches no row a line for a person."""
+        for token in self.wrong[:MOST_NAMED]:
+            yield (
+                f"line {token.line}: {token.text} matches no row:"
+                f" {self.remedy(patterns(token.text))}"
+            )
+        if len(self.wrong) > MOST_NAMED:
+            yield f"{len(self.wrong) - MOST_NAMED:,} more descriptions match no row"
+        if self.left <= 0:
+            yield "there are too many descriptions and probes to look at all"
+
+    def remedy(self, wanted):
+        for begin, why in NEVER.items():
+            if wanted.name.startswith(begin):
+                return why
+        near = self.nearest(wanted)
+        if near:
+            return f"the nearest probe of the trace is {shown(near)}"
+        return (
+            "a script of `::: / tid / { @[probeprov, probemod, probefunc, probename] = count(); }`"
+            " shows what there is"
+        )
+
+    def nearest(self, wanted):
+        """The probe of the trace whose names are most like those of a description."""
+        own = {shown(probe): probe for probe in self.probes[len(OWN) :][:MOST_NEAR]}
+        best, most = None, 0.6
+        for probe in own.values():
+            grade = like(wanted, probe)
+            if grade > most:
+                best, most = probe, grade
+        return best
+
+
+def like(wanted, probe):
+    """How like a description and a probe are, from 0 to 1: that of their fields, where the
+    description has one.
+    """
+    pairs = [(a.strip("*"), b) for a, b in zip(wanted, probe) if a.strip("*")]
+    return sum(likeness(*pair) for pair in pairs) / len(pairs) if pairs else 0
+
+
+@functools.lru_cache(maxsize=50_000)
+def likeness(pattern, text):
+    a, b = pattern[:MOST_LIKE].lower(), text[:MOST_LIKE].lower()
+    return difflib.SequenceMatcher(None, a, b).ratio()
+
+
+def shown(probe):
+    return ":".join(probe)

@@ -1,0 +1,241 @@
+"""An answer as one page for a browser: tables that sort, bars, histograms and heat maps. It loads
+nothing else.
+"""
+from html import escape
+
+from .forms import table
+from .heat import has_heat, heat_of
+from .labels import SHARE, interval, name, numbered, printable
+from .pictures import MOST_CHARTS, and_more, largest
+
+MOST_ROWS = 20_000
+
+STYLE = """
+:root { color-scheme: light dark; --surface: #ffffff; --ink: #1f2328; --muted: #59636e;
+  --grid: #d1d9e0; --bar: #2a6fb0;
+  --head: #f6f8fa; --heat: 42, 111, 176; }
+@media (prefers-color-scheme: dark) { :root { --surface: #0d1117; --ink: #e6edf3;
+  --muted: #9198a1; --grid: #30363d;
+  --bar: #58a6ff; --head: #161b22; --heat: 88, 166, 255; } }
+* { box-sizing: border-box; }
+body { margin: 0 auto; padding: 1rem; max-width: 72rem; background: var(--surface);
+  color: var(--ink);
+  font: 15px/1.45 system-ui, "DejaVu Sans", Verdana, sans-serif; }
+h1 { font-size: 1.5rem; margin: .5rem 0 1rem; overflow-wrap: anywhere; }
+h2 { font-size: 1.15rem; margin: 2rem 0 .25rem; overflow-wrap: anywhere; }
+h3 { font-size: .95rem; margin: 0 0 .4rem; overflow-wrap: anywhere; }
+p, .muted { color: var(--muted); margin: .25rem 0 .75rem; }
+code, pre { font-family: "DejaVu Sans Mono", ui-monospace, monospace; font-size: .85rem; }
+pre { background: var(--head); padding: .75rem; overflow-x: auto; border-radius: 6px;
+  max-height: 24rem; }
+.scroll { overflow-x: auto; }
+table { border-collapse: collapse; font-variant-numeric: tabular-nums; }
+table.data { width: 100%; }
+th, td { padding: .2rem .6rem; text-align: left; vertical-align: top;
+  border-bottom: 1px solid var(--grid);
+  overflow-wrap: anywhere; }
+.number { text-align: right; white-space: nowrap; overflow-wrap: normal; }
+thead th { background: var(--head); position: sticky; top: 0; }
+th button { all: unset; cursor: pointer; font-weight: 600; overflow-wrap: anywhere; }
+th button:focus-visible { outline: 2px solid var(--bar); outline-offset: 2px; }
+th[aria-sort=ascending] button::after { content: " \\25b4"; }
+th[aria-sort=descending] button::after { content: " \\25be"; }
+.bars { width: 38%; min-width: 3rem; } @media (max-width: 40rem) { .data .bars { width: 18%; } }
+.track { position: relative; height: 1rem; margin-top: .2rem; }
+.track i { position: absolute; top: 0; bottom: 0; background: var(--bar); border-radius: 2px;
+  min-width: 2px; }
+.cards { display: grid; gap: 1rem;
+  grid-template-columns: repeat(auto-fill, minmax(min(20rem, 100%), 1fr)); }
+.card { border: 1px solid var(--grid); border-radius: 8px; padding: .75rem; min-width: 0; }
+.card table { width: 100%; } .card th, .card td { border: 0; padding: .05rem .4rem .05rem 0;
+  font-weight: normal; }
+.card th { text-align: right; white-space: nowrap; } .card .bars { width: 55%; min-width: 3rem; }
+.heat { font-size: .75rem; } .heat caption { text-align: left; } .heat th { font-weight: normal;
+  white-space: nowrap; border: 0; padding: .1rem .5rem; }
+.heat td { border: 1px solid var(--surface); padding: 0; min-width: 1.3rem; height: 1.15rem;
+  background: rgba(var(--heat), var(--v, 0)); }
+.heat tbody th { position: sticky; left: 0; background: var(--surface); text-align: right; }
+.heat tfoot th { writing-mode: vertical-rl; transform: rotate(180deg); text-align: right;
+  max-height: 12rem; padding: .3rem 0; }
+"""
+
+SCRIPT = """
+for (const button of document.querySelectorAll("th button"))
+button.addEventListener("click", () => {
+  const head = button.parentElement, body = head.closest("table").tBodies[0];
+  const place = head.cellIndex, up = head.getAttribute("aria-sort") === "descending" ? 1 : -1;
+  const value = row => {
+    const cell = row.cells[place], number = cell.dataset.n;
+    return number === undefined ? cell.textContent : BigInt(number);
+  };
+  const rows = [...body.rows].map(row => [value(row), row]);
+  rows.sort((a, b) => up * (a[0] < b[0] ? -1 : a[0] > b[0] ? 1 : 0));
+  for (const other of head.parentElement.cells) other.removeAttribute("aria-sort");
+  head.setAttribute("aria-sort", up > 0 ? "ascending" : "descending");
+  body.append(...rows.map(row => row[1]));
+});
+"""
+
+HEAD = """<!DOCTYPE html>
+<html lang="en">
+<head>
+<meta charset="utf-8">
+<meta name="viewport" content="width=device-width, initial-scale=1">
+<meta http-equiv="Content-Security-Policy"
+  content="default-src 'none'; style-src 'unsafe-inline'; script-src 'unsafe-inline'">
+<title>{title}</title>
+<style>{style}</style>
+</head>
+<body>
+<h1>{title}</h1>
+"""
+
+
+def page(texts, all_shown, words, script):
+    """The lines of a page."""
+    yield HEAD.format(title=escape(words.title or "An answer of dreplay"), style=STYLE)
+    if not all_shown:
+        yield "<p>No aggregation has an entry.</p>"
+    for shown in all_shown:
+        yield from section(shown, words)
+    if texts:
+        yield "<h2>Texts</h2>"
+        yield f"<pre>{escape(in_lines(texts))}</pre>"
+    yield "<h2>Script</h2>"
+    yield f"<pre>{escape(in_lines(script))}</pre>"
+    yield f"<script>{SCRIPT}</script>\n</body>\n</html>"
+
+
+def in_lines(text):
+    return "\n".join(printable(line.expandtabs()) for line in text.split("\n"))
+
+
+def section(shown, words):
+    """An aggregation: a heat map where there is one, histograms or a table of bars, and all its
+    rows.
+    """
+    aggregation = shown.aggregation
+    yield f"<section>\n<h2>{escape(printable(shown.names))}</h2>"
+    by = f" by {escape(printable(', '.join(aggregation.keys)))}" if aggregation.keys else ""
+    yield (
+        f"<p><code>{escape(printable(aggregation.value_name))}</code>{by};"
+        f" {count_of(len(shown.entries), 'entry', 'entries')}</p>"
+    )
+    if has_heat(shown) and len(shown.entries) > 1:
+        yield from heat_table(heat_of(shown, words))
+    if aggregation.is_histogram:
+        yield '<div class="cards">'
+        for keys, rows in shown.entries[:MOST_CHARTS]:
+            yield from card(keys, rows, words)
+        yield "</div>"
+        if len(shown.entries) > MOST_CHARTS:
+            yield f"<p>{and_more(len(shown.entries) - MOST_CHARTS, 'histograms')}</p>"
+        yield "<details><summary>All buckets</summary>"
+        yield from data_table(shown, words, with_bars=False)
+        yield "</details>"
+    else:
+        yield from data_table(shown, words, with_bars=True)
+    yield "</section>"
+
+
+def count_of(number, one, many):
+    return f"{number:,} {one if number == 1 else many}"
+
+
+def data_table(shown, words, with_bars):
+    """A table whose columns sort at a click."""
+    names, rows = table(shown, words)
+    sorts = [entry[1] for entry in shown.entries] if with_bars else [row[-1] for row in rows]
+    more = len(rows) - MOST_ROWS
+    if more > 0 and with_bars:
+        entries, _ = largest(list(zip(rows, sorts)), MOST_ROWS)
+        rows, sorts = map(list, zip(*entries))
+    rows = rows[:MOST_ROWS]
+    is_number = [
+        *(not is_text for is_text in shown.aggregation.texts),
+        *[True] * (len(names) - len(shown.aggregation.texts)),
+    ]
+    bars = Bars(sorts) if with_bars else None
+    yield '<div class="scroll"><table class="data"><thead><tr>'
+    for title, number in zip(names, is_number):
+        yield (
+            f'<th scope="col"{" class=number" * number}><button'
+            f' type="button">{escape(printable(title))}</button></th>'
+        )
+    yield ("<th class=bars></th>" if with_bars else "") + "</tr></thead><tbody>"
+    for row, value in zip(rows, sorts):
+        cells = [*map(cell, row[:-1], is_number), cell(row[-1], True, value)]
+        yield "<tr>" + "".join(cells) + (
+            f'<td class="bars">{bars.of(value)}</td>' if with_bars else ""
+        ) + "</tr>"
+    yield "</tbody></table></div>"
+    if more > 0:
+        yield f"<p>{and_more(more, 'rows')}</p>"
+
+
+def cell(value, is_number, sort=None):
+    """A cell of a table; numbers sort by what they are."""
+    sort = value if isinstance(value, int) else sort
+    by = f' data-n="{sort}"' if isinstance(sort, int) else ""
+    shown = (
+        f"{value:,}"
+        if isinstance(value, int)
+        else name(value) if not is_number else printable(value)
+    )
+    return f"<td{' class=number' * is_number}{by}>{escape(shown)}</td>"
+
+
+class Bars:
+    """Bars of one scale in the cells of a table, those of numbers below 0 to the left."""
+
+    def __init__(self, values):
+        self.low, self.high = min(0, *values, 0), max(0, *values, 0)
+
+    def of(self, value):
+        span = (self.high - self.low) or 1
+        start = 100 * (min(value, 0) - self.low) / span
+        length = 100 * abs(value) / span
+        return (
+            f'<div class="track"><i style="left:{start:.2f}%;width:{length:.2f}%"></i></div>'
+            if value
+            else ""
+        )
+
+
+def card(keys, rows, words):
+    """A histogram: a row for each bucket."""
+    bars, total = Bars([row.count for row in rows]), sum(row.count for row in rows)
+    unit = SHARE if words.value_unit == SHARE else None
+    title = "  ".join(map(name, keys))
+    yield f'<div class="card">{f"<h3>{escape(title)}</h3>" if title else ""}<table>'
+    for row in rows:
+        yield (
+            f'<tr><th scope="row">{escape(interval(row, words.unit))}</th><td'
+            f' class="bars">{bars.of(row.count)}</td><td'
+            f' class="number">{numbered(row.count, unit, total)}</td></tr>'
+        )
+    yield "</table></div>"
+
+
+def heat_table(heat):
+    yield (
+        '<div class="scroll"><table class="heat"><caption class="muted">by'
+        f" {escape(printable(heat.across))}</caption><tbody>"
+    )
+    for row, label in enumerate(heat.rows):
+        yield f'<tr><th scope="row">{escape(label)}</th>' + "".join(
+            heat_cell(heat, column, row) for column in range(len(heat.columns))
+        ) + "</tr>"
+    labels = "".join(f'<th scope="col">{escape(column)}</th>' for column in heat.columns)
+    yield f"</tbody><tfoot><tr><td></td>{labels}</tr></tfoot></table></div>"
+    for more, what in ((heat.more_columns, "columns"), (heat.more_rows, "rows")):
+        if more:
+            yield f"<p>{and_more(more, what)}</p>"
+
+
+def heat_cell(heat, column, row):
+    value = heat.cells.get((column, row), 0)
+    if not value:
+        return "<td></td>"
+    said = escape(f"{heat.columns[column]}, {heat.rows[row]}: {value:,}")
+    return f'<td style="--v:{heat.strength(column, row):.2f}" title="{said}"></td>'
