@@ -132,8 +132,8 @@ zeros_last n k bytes rest end old all g h closes some first count =
     let zeros = length-replicate k zero_field in
     let args = given_read old h.values all k g h.kept first (omega (arith, h.count, count)) (omega (arith, h.count, some)) in
     rw args (ten_read (h.fields ++ replicate k (48 ∷ [])) bytes end (h.values ++ replicate k (pos 0)) (omega (arith, size, zeros, h.many, some))
-        (closes_more bytes rest end h.fields (replicate k (48 ∷ [])) h.passes closes)
-        (map-append signed_of h.fields (replicate k (48 ∷ [])) ∙ rw (h.read, zeros_read k) (sym (map-append (λ (a : ℤ). Some a) h.values (replicate k (pos 0))))))
+    (closes_more bytes rest end h.fields (replicate k (48 ∷ [])) h.passes closes)
+    (map-append signed_of h.fields (replicate k (48 ∷ [])) ∙ rw (h.read, zeros_read k) (sym (map-append (λ (a : ℤ). Some a) h.values (replicate k (pos 0))))))
 
 -- the last one
 pub value_last : (n : ℕ) (bytes rest end : List ℕ) (old all new : List ℤ) (g : Given) (field : List ℕ) (value : ℤ) → n ≡ 9 → ReadSoFar n bytes rest old all → Closes rest (field ∷ []) end
@@ -145,5 +145,5 @@ value_last n bytes rest end old all new g field value nine h closes read is firs
     let args = given_read old (h.values ++ value ∷ []) new 0 g kept first (omega (arith, values_more, h.count, count, nine)) (omega (arith, values_more, h.count, nine)) in
     let all_args = args ∙ append-nil (h.values ++ value ∷ []) in
     rw all_args (ten_read (h.fields ++ field ∷ []) bytes end (h.values ++ value ∷ []) (omega (arith, fields_more, h.many, nine))
-        (closes_more bytes rest end h.fields (field ∷ []) h.passes closes)
-        (map-append signed_of h.fields (field ∷ []) ∙ rw (h.read, read) (sym (map-append (λ (a : ℤ). Some a) h.values (value ∷ [])))))
+    (closes_more bytes rest end h.fields (field ∷ []) h.passes closes)
+    (map-append signed_of h.fields (field ∷ []) ∙ rw (h.read, read) (sym (map-append (λ (a : ℤ). Some a) h.values (value ∷ [])))))

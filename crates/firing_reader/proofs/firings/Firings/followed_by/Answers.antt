@@ -10,7 +10,7 @@ add_rows-requires c =
     let few : length (own ++ other.args.items) < 2 ^ 28 = rw both at c.in_ok-shift.ensures.few in
     rw (c.deref-3.ensures.value, c.deref-4.ensures.value, c.deref-2.ensures.value, c.in_ok-shift.ensures.place)
     (all_movable c.places_of.new.self other.owners c.in_ok-owner_places.owner_places.items c.places_of-2.new.self other.probes c.in_ok-probe_places.probe_places.items own other.args.items other.rows.items
-        c.in_ok-owner_places.ensures.places c.in_ok-probe_places.ensures.places few c.others.invariant)
+    c.in_ok-owner_places.ensures.places c.in_ok-probe_places.ensures.places few c.others.invariant)
 
 pub invariant_of-result : goal.invariant_of-result
 invariant_of-result c =
@@ -18,8 +18,8 @@ invariant_of-result c =
     let other = c.others.inside in
     rw (c.in_ok-add_rows.ensures, c.in_ok-shift.ensures.args, c.deref.ensures.value, c.deref-3.ensures.value, c.deref-4.ensures.value, c.deref-2.ensures.value, c.in_ok-shift.ensures.place)
     (followed_in own.owners c.places_of.new.self other.owners c.in_ok-owner_places.owner_places.items own.probes c.places_of-2.new.self other.probes c.in_ok-probe_places.probe_places.items
-        own.args.items other.args.items own.rows.items other.rows.items c.places_of.ensures.grows c.places_of-2.ensures.grows c.in_ok-owner_places.ensures.places c.in_ok-probe_places.ensures.places
-        c.self.invariant c.others.invariant)
+    own.args.items other.args.items own.rows.items other.rows.items c.places_of.ensures.grows c.places_of-2.ensures.grows c.in_ok-owner_places.ensures.places c.in_ok-probe_places.ensures.places
+    c.self.invariant c.others.invariant)
 
 pub returns : goal.returns
 returns c =
@@ -27,5 +27,5 @@ returns c =
     let other = c.others.inside in
     rw (c.in_ok-add_rows.ensures, c.in_ok-shift.ensures.args, c.deref.ensures.value, c.deref-3.ensures.value, c.deref-4.ensures.value, c.deref-2.ensures.value, c.in_ok-shift.ensures.place, ← c.self.view_is, ← c.others.view_is)
     (followed_same own.owners c.places_of.new.self other.owners c.in_ok-owner_places.owner_places.items own.probes c.places_of-2.new.self other.probes c.in_ok-probe_places.probe_places.items
-        own.args.items other.args.items own.rows.items other.rows.items c.places_of.ensures.grows c.places_of-2.ensures.grows c.in_ok-owner_places.ensures.places c.in_ok-probe_places.ensures.places
-        c.self.invariant c.others.invariant)
+    own.args.items other.args.items own.rows.items other.rows.items c.places_of.ensures.grows c.places_of-2.ensures.grows c.in_ok-owner_places.ensures.places c.in_ok-probe_places.ensures.places
+    c.self.invariant c.others.invariant)
