@@ -15,7 +15,7 @@ from .ends import Failure
 from .script import Aggregation
 
 HEADER = b"           value  ------------- Distribution ------------- count    \n"
-ROW = re.compile(rb"(.{16}|(?:< |>= )?-?\d{17,20}) \|(@*) +(\d{1,20}) *\n")
+ROW = re.compile(rb"(.{16}|-?\d{16,20}) \|(@*) +(\d{1,20}) *\n")
 FAULT = re.compile(rb"error: firing \d{1,20} clause \d{1,20}: divide-by-zero\n")
 NUMBER = re.compile(rb"-?\d{1,20}")
 OTHER_ANSWER = 1
@@ -262,14 +262,32 @@ class Blocks:
     def block(self, at):
         if self.data[at : at + 1] != b"\n":
             return None
-        ends = {layout: self.end(at + 1, layout) for layout in self.layouts}
-        ends = {layout: end for layout, end in ends.items() if end > at + 1}
+        ends = self.ends_of(at + 1)
         if (
             len(set(ends.values())) > 1
         ):  # numbers, read as a text: the layout that has the shorter texts is meant
             blocks = [Block([layout], at + 1, end) for layout, end in ends.items()]
             return min(blocks, key=lambda block: longest(self.entries(block, block.layouts[0])))
         return Block([*ends], at + 1, max(ends.values())) if ends else None
+
+    def ends_of(self, at):
+        """The layouts by which entries can be read from a place on, with the place after them."""
+        ends, ambiguous = {}, None
+        for layout in self.layouts:
+            try:
+                ends[layout] = self.end(at, layout)
+            except Ambiguous as why:
+                ambiguous = why
+        # After a block comes the empty line of the next one, or nothing.
+        ends = {
+            layout: end
+            for layout, end in ends.items()
+            if end > at and self.data[end : end + 1] in (b"\n", b"")
+        }
+        # Numbers can be taken for texts in many ways: it is no doubt where they are numbers.
+        if ambiguous and all(any(texts) for texts, _ in ends):
+            raise ambiguous
+        return ends
 
     def named(self, blocks):
         """Blocks as aggregations in their order; under all names where those without entries leave

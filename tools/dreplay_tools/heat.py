@@ -10,17 +10,18 @@ from .labels import cut, interval, name, numbered
 from .pictures import and_more, picture, points, text_at
 
 MOST_COLUMNS, MOST_ROWS, MOST_FILLED = 60, 60, 60
+WIDEST_ROW, WIDEST_COLUMN = 30, 24  # of labels
 CELL, GAP, HIGH = 22, 1, 18
 
 
 @dataclass
 class Heat:
-    """A heat map: its title, what its columns are, the labels of columns and rows, and a number for
-    each cell that has one.
+    """A heat map: its title, what its rows and columns are, their labels, and a number for each
+    cell that has one.
     """
 
     title: str
-    across: str
+    axes: str
     columns: list
     rows: list
     cells: dict  # of the places of a column and a row
@@ -74,7 +75,7 @@ def of_histograms(shown, words):
     columns = ["  ".join(map(name, entries[place][0])) for place in order]
     return Heat(
         f"{shown.names} {shown.aggregation.value_name}",
-        ", ".join(shown.aggregation.keys),
+        f"by {', '.join(shown.aggregation.keys)}",
         columns,
         [interval(buckets[ends], words.unit) for ends in rows],
         cells,
@@ -98,7 +99,7 @@ def of_pairs(shown):
     }
     return Heat(
         f"{shown.names} {shown.aggregation.value_name}",
-        ", ".join(shown.aggregation.keys),
+        " by ".join(shown.aggregation.keys),
         [name(key) for key in columns],
         [name(key) for key in rows],
         cells,
@@ -166,16 +167,15 @@ def svg(heats, heading):
         parts += drawn
         y, wide = y + size[1] + 24, max(wide, size[0])
     what = "; ".join(
-        f"heat map of {heat.title} by {heat.across}, up to {heat.most:,}" for heat in heats
+        f"heat map of {heat.title}, {heat.axes}, up to {heat.most:,}" for heat in heats
     )
     return picture(parts, (wide, y), heading or heats[0].title, what)
 
 
 def drawn_at(heat, top):
     """One heat map, and its size."""
-    rows, columns = [cut(row, 30) for row in heat.rows], [
-        cut(column, 24) for column in heat.columns
-    ]
+    rows = [cut(row, WIDEST_ROW) for row in heat.rows]
+    columns = [cut(column, WIDEST_COLUMN) for column in heat.columns]
     left = 28 + round(max(map(points, rows)))
     begin, end = top + 26, top + 26 + HIGH * len(rows)
     parts = [text_at(20, top + 12, cut(heat.title, 84), "chart")]
@@ -200,11 +200,11 @@ def drawn_at(heat, top):
 
 
 def caption(heat):
-    """What the columns are, how strong the strongest cell is, and what isn't drawn."""
+    """What the rows and columns are, how much the strongest cell is, and what isn't drawn."""
     more = [and_more(heat.more_columns, "columns")] * bool(heat.more_columns) + [
         and_more(heat.more_rows, "rows")
     ] * bool(heat.more_rows)
-    return ", ".join([f"by {heat.across}", f"the strongest is {numbered(heat.most, None)}", *more])
+    return ", ".join([heat.axes, f"the strongest is {numbered(heat.most, None)}", *more])
 
 
 def cell(heat, column, row, left, begin):

@@ -7,20 +7,51 @@ from .ends import Failure
 from .trace import HEADER, MOST_ROWS
 
 
+class Replaced:
+    """A file that takes its place only when all of it is there. What is no regular file, such as a
+    pipe, is written as it is.
+    """
+
+    def __init__(self, path, mode="wb", **how):
+        in_place = os.path.exists(path) and not stat.S_ISREG(os.stat(path).st_mode)
+        self.path, self.part = path, None if in_place else f"{path}.part"
+        try:
+            self.file = open(self.part or path, mode, **how)
+        except OSError as why:
+            why.filename = path
+            raise
+
+    def keep(self):
+        """Ends a file that is complete."""
+        self.file.close()
+        if self.part:
+            os.replace(self.part, self.path)
+            self.part = None
+
+    def abandon(self):
+        """Ends a file that isn't complete. One that was to be replaced stays as it was."""
+        part, self.part = self.part, None
+        if part:
+            os.unlink(part)
+
+    def __enter__(self):
+        return self.file
+
+    def __exit__(self, kind, *_):
+        try:
+            if kind is None:
+                self.keep()
+        finally:
+            self.abandon()
+
+
 class Sink:
-    """A trace as it is written. A regular file is replaced only when all of it is there."""
+    """A trace as it is written: to a file, or to standard output."""
 
     def __init__(self, path=None):
-        self.path, self.part, self.rows = path, None, 0
-        self.file, self.begun = self.opened(), False
-
-    def opened(self):
-        if self.path is None:
-            return sys.stdout.buffer
-        if os.path.exists(self.path) and not stat.S_ISREG(os.stat(self.path).st_mode):
-            return open(self.path, "wb")
-        self.part = f"{self.path}.part"
-        return open(self.part, "wb")
+        self.path, self.rows, self.begun = path, 0, False
+        self.replaced = None if path is None else Replaced(path)
+        self.file = self.replaced.file if self.replaced else sys.stdout.buffer
 
     def write(self, shown):
         """Writes rows as they are shown."""
@@ -33,19 +64,15 @@ class Sink:
     def keep(self):
         """Ends a trace that is complete."""
         self.write([])
-        if self.path is None:
+        if self.replaced:
+            self.replaced.keep()
+        else:
             self.file.flush()
-            return
-        self.file.close()
-        if self.part:
-            os.replace(self.part, self.path)
-            self.part = None
 
     def abandon(self):
-        """Ends a trace that isn't complete. A file that was to be replaced stays as it was."""
-        part, self.part = self.part, None
-        if part:
-            os.unlink(part)
+        """Ends a trace that isn't complete."""
+        if self.replaced:
+            self.replaced.abandon()
 
 
 class Output:

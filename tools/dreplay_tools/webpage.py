@@ -4,11 +4,12 @@ nothing else.
 from html import escape
 
 from .forms import table
-from .heat import has_heat, heat_of
-from .labels import SHARE, interval, name, numbered, printable
+from .heat import WIDEST_COLUMN, WIDEST_ROW, caption, has_heat, heat_of
+from .labels import SHARE, cut, interval, name, numbered, printable
 from .pictures import MOST_CHARTS, and_more, largest
 
 MOST_ROWS = 20_000
+WIDEST_INTERVAL = 28  # of a histogram's labels in one line
 
 STYLE = """
 :root { color-scheme: light dark; --surface: #ffffff; --ink: #1f2328; --muted: #59636e;
@@ -28,15 +29,22 @@ p, .muted { color: var(--muted); margin: .25rem 0 .75rem; }
 code, pre { font-family: "DejaVu Sans Mono", ui-monospace, monospace; font-size: .85rem; }
 pre { background: var(--head); padding: .75rem; overflow-x: auto; border-radius: 6px;
   max-height: 24rem; }
-.scroll { overflow-x: auto; }
+/* A shade where there is more to scroll to: the first two layers move, and cover it at the end. */
+.scroll { overflow: auto; max-height: 90vh; margin-bottom: .75rem; background:
+  linear-gradient(var(--surface), var(--surface)) bottom / 100% 10px no-repeat local,
+  linear-gradient(var(--surface), var(--surface)) right / 10px 100% no-repeat local,
+  linear-gradient(transparent, var(--grid)) bottom / 100% 10px no-repeat,
+  linear-gradient(to right, transparent, var(--grid)) right / 10px 100% no-repeat; }
+@media print { .scroll, pre { max-height: none; } }
 table { border-collapse: collapse; font-variant-numeric: tabular-nums; }
 table.data { width: 100%; }
 th, td { padding: .2rem .6rem; text-align: left; vertical-align: top;
   border-bottom: 1px solid var(--grid);
   overflow-wrap: anywhere; }
 .number { text-align: right; white-space: nowrap; overflow-wrap: normal; }
-thead th { background: var(--head); position: sticky; top: 0; }
-th button { all: unset; cursor: pointer; font-weight: 600; overflow-wrap: anywhere; }
+thead th { background: var(--head); position: sticky; top: 0; z-index: 1; }
+thead th, th button { overflow-wrap: break-word; }
+th button { all: unset; cursor: pointer; font-weight: 600; }
 th button:focus-visible { outline: 2px solid var(--bar); outline-offset: 2px; }
 th[aria-sort=ascending] button::after { content: " \\25b4"; }
 th[aria-sort=descending] button::after { content: " \\25be"; }
@@ -44,14 +52,18 @@ th[aria-sort=descending] button::after { content: " \\25be"; }
 .track { position: relative; height: 1rem; margin-top: .2rem; }
 .track i { position: absolute; top: 0; bottom: 0; background: var(--bar); border-radius: 2px;
   min-width: 2px; }
-.cards { display: grid; gap: 1rem;
+.track .zero { background: var(--muted); min-width: 1px; top: -.2rem; bottom: -.2rem; }
+.cards { display: grid; gap: 1rem; margin-bottom: .75rem;
   grid-template-columns: repeat(auto-fill, minmax(min(20rem, 100%), 1fr)); }
-.card { border: 1px solid var(--grid); border-radius: 8px; padding: .75rem; min-width: 0; }
+.card { border: 1px solid var(--grid); border-radius: 8px; padding: .75rem; min-width: 0;
+  overflow-x: auto; }
 .card table { width: 100%; } .card th, .card td { border: 0; padding: .05rem .4rem .05rem 0;
   font-weight: normal; }
-.card th { text-align: right; white-space: nowrap; } .card .bars { width: 55%; min-width: 3rem; }
-.heat { font-size: .75rem; } .heat caption { text-align: left; } .heat th { font-weight: normal;
-  white-space: nowrap; border: 0; padding: .1rem .5rem; }
+.card th { text-align: right; white-space: nowrap; } .card th.long { white-space: normal;
+  overflow-wrap: normal; }
+.card .bars { width: 55%; min-width: 3rem; }
+.heat { font-size: .75rem; } .heat caption { text-align: left; padding-bottom: .3rem; }
+.heat th { font-weight: normal; white-space: nowrap; border: 0; padding: .1rem .5rem; }
 .heat td { border: 1px solid var(--surface); padding: 0; min-width: 1.3rem; height: 1.15rem;
   background: rgba(var(--heat), var(--v, 0)); }
 .heat tbody th { position: sticky; left: 0; background: var(--surface); text-align: right; }
@@ -190,16 +202,17 @@ class Bars:
 
     def __init__(self, values):
         self.low, self.high = min(0, *values, 0), max(0, *values, 0)
+        self.span = (self.high - self.low) or 1
+        self.zero = f'<i class="zero" style="left:{self.percent(0)}"></i>' if self.low < 0 else ""
+
+    def percent(self, value):
+        """Where a number is on the scale."""
+        return f"{100 * (value - self.low) / self.span:.2f}%"
 
     def of(self, value):
-        span = (self.high - self.low) or 1
-        start = 100 * (min(value, 0) - self.low) / span
-        length = 100 * abs(value) / span
-        return (
-            f'<div class="track"><i style="left:{start:.2f}%;width:{length:.2f}%"></i></div>'
-            if value
-            else ""
-        )
+        start, length = self.percent(min(value, 0)), 100 * abs(value) / self.span
+        bar = f'<i style="left:{start};width:{length:.2f}%"></i>' if value else ""
+        return f'<div class="track">{bar}{self.zero}</div>' if bar or self.zero else ""
 
 
 def card(keys, rows, words):
@@ -209,8 +222,10 @@ def card(keys, rows, words):
     title = "  ".join(map(name, keys))
     yield f'<div class="card">{f"<h3>{escape(title)}</h3>" if title else ""}<table>'
     for row in rows:
+        label = interval(row, words.unit)
+        long = " class=long" * (len(label) > WIDEST_INTERVAL)
         yield (
-            f'<tr><th scope="row">{escape(interval(row, words.unit))}</th><td'
+            f'<tr><th scope="row"{long}>{escape(label)}</th><td'
             f' class="bars">{bars.of(row.count)}</td><td'
             f' class="number">{numbered(row.count, unit, total)}</td></tr>'
         )
@@ -219,18 +234,22 @@ def card(keys, rows, words):
 
 def heat_table(heat):
     yield (
-        '<div class="scroll"><table class="heat"><caption class="muted">by'
-        f" {escape(printable(heat.across))}</caption><tbody>"
+        '<div class="scroll"><table class="heat"><caption class="muted">'
+        f"{escape(printable(caption(heat)))}</caption><tbody>"
     )
     for row, label in enumerate(heat.rows):
-        yield f'<tr><th scope="row">{escape(label)}</th>' + "".join(
+        yield f"<tr>{heat_label('row', label, WIDEST_ROW)}" + "".join(
             heat_cell(heat, column, row) for column in range(len(heat.columns))
         ) + "</tr>"
-    labels = "".join(f'<th scope="col">{escape(column)}</th>' for column in heat.columns)
+    labels = "".join(heat_label("col", column, WIDEST_COLUMN) for column in heat.columns)
     yield f"</tbody><tfoot><tr><td></td>{labels}</tr></tfoot></table></div>"
-    for more, what in ((heat.more_columns, "columns"), (heat.more_rows, "rows")):
-        if more:
-            yield f"<p>{and_more(more, what)}</p>"
+
+
+def heat_label(scope, label, most):
+    """The label of a row or a column; a long one is cut, and whole where one points at it."""
+    shown = cut(label, most)
+    whole = f' title="{escape(label)}"' * (shown != label)
+    return f'<th scope="{scope}"{whole}>{escape(shown)}</th>'
 
 
 def heat_cell(heat, column, row):
