@@ -130,7 +130,8 @@ def all_run(jobs, at_once):
             for done in concurrent.futures.as_completed(waiting):
                 yield done.result()
         except KeyboardInterrupt:
-            signal.signal(signal.SIGINT, signal.SIG_IGN)  # those that run end, and leave nothing
+            for number in (signal.SIGINT, signal.SIGTERM):
+                signal.signal(number, signal.SIG_IGN)  # those that run end, and leave nothing
             raise
         finally:
             for future in waiting:
