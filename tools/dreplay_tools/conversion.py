@@ -160,9 +160,10 @@ class Conversion:
         self.wanted, self.words = Wanted(words.only, words.since), words
         self.rows, self.shape, self.tool = Rows(out, words.rows), shape, tool
         self.size = os.fstat(recording.fileno()).st_size or 1
-        self.lines = Ahead(
-            io.TextIOWrapper(recording, encoding="utf-8", errors="surrogateescape", newline="\n")
+        lines = io.TextIOWrapper(
+            recording, encoding="utf-8", errors="surrogateescape", newline="\n"
         )
+        self.lines = Ahead(shape.on_terminal.mended(lines) if shape.on_terminal else lines)
         self.pending, self.arguments, self.losses = {}, Arguments(), Losses()
         self.understood = self.skipped = self.left_out = self.line = 0
         self.in_summary = False

@@ -263,16 +263,34 @@ class Terminal:
     """
 
     ATTACHED = re.compile(r"strace: Process (\d{1,10}) attached", re.ASCII)
+    CONTINUED = re.compile(r" ?<unfinished|[,)]")
 
     def __init__(self):
         self.first, self.alive = THE_THREAD, set()
+
+    def mended(self, lines):
+        """The lines, of which each that strace's own word on a new thread interrupts is whole, and
+        before that word.
+        """
+        lines = iter(lines)
+        for line in lines:
+            at = line.rfind("strace: Process ") if line.endswith(" attached\n") else -1
+            rest = next(lines, None) if at > 0 and self.ATTACHED.match(line, at) else None
+            if rest is None:
+                yield line
+            elif self.CONTINUED.match(rest):
+                yield line[:at] + rest
+                yield line[at:]
+            else:
+                yield line
+                yield rest
 
     def look(self, lines):
         """Looks for the first thread in all lines: it is the first that strace names and hasn't
         attached to.
         """
         born = set()
-        for line in lines:
+        for line in self.mended(lines):
             attached = self.ATTACHED.match(line)
             if attached:
                 born.add(attached[1])
