@@ -1,6 +1,7 @@
 """A tool's command line: a mistake in it is one line."""
 import argparse
 import re
+import sys
 
 from .ends import FAILED
 from .labels import cut, printable
@@ -22,6 +23,14 @@ class CommandLine(argparse.ArgumentParser):
         self.add_argument(
             "--version", action="version", version=f"{name} {VERSION}", help="write the version"
         )
+
+    def _print_message(self, message, file=None):
+        # argparse takes no notice of a help that can't be written.
+        if message and file is sys.stdout and file is not None:
+            file.write(message)
+            file.flush()
+        else:
+            super()._print_message(message, file)
 
     def error(self, message):
         # Releases of Python differ in whether they quote the choices of an option.
