@@ -18,6 +18,8 @@ mod scripts;
 #[cfg(test)]
 mod tests;
 #[cfg(test)]
+mod tests_of_program;
+#[cfg(test)]
 mod tests_of_streams;
 #[cfg(test)]
 mod tests_of_workers;

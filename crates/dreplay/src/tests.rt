@@ -26,19 +26,24 @@ use std::test::Fail;
 use std::thread;
 use std::thread::Threads;
 
-const SCRIPT: &[u8] = b"syscall::read:entry { @[execname] = count(); }";
+pub(crate) const SCRIPT: &[u8] = b"syscall::read:entry { @[execname] = count(); }";
 
-const TRACE: &[u8] = b"number,cpu,thread,pid,execname,time,provider,module,function,name,\
+pub(crate) const TRACE: &[u8] =
+    b"number,cpu,thread,pid,execname,time,provider,module,function,name,\
 arg0,arg1,arg2,arg3,arg4,arg5,arg6,arg7,arg8,arg9\n\
 1,0,7,700,cat,1000,syscall,,read,entry,3,0,0,0,0,0,0,0,0,0\n\
 4,0,8,700,cat,1000,syscall,,write,entry,3,0,0,0,0,0,0,0,0,0";
 
-const BUNDLE: &[u8] = b"syscall::read:entry { @[execname] = count(); }\n---\n\
+const NO_ROWS: &[u8] = b"number,cpu,thread,pid,execname,time,provider,module,function,name,\
+arg0,arg1,arg2,arg3,arg4,arg5,arg6,arg7,arg8,arg9";
+
+pub(crate) const BUNDLE: &[u8] = b"syscall::read:entry { @[execname] = count(); }\n---\n\
 number,cpu,thread,pid,execname,time,provider,module,function,name,\
 arg0,arg1,arg2,arg3,arg4,arg5,arg6,arg7,arg8,arg9\n\
 1,0,7,700,cat,1000,syscall,,read,entry,3,0,0,0,0,0,0,0,0,0";
 
-const SHOWN: &[u8] = b"\n  cat                                                               1\n";
+pub(crate) const SHOWN: &[u8] =
+    b"\n  cat                                                               1\n";
 
 const EXITING: &[u8] = b":::hit / arg0 / { exit(arg0); } :::hit { @ = count(); } \
 dtrace:::END { printf(\"end\\n\"); }";
@@ -172,32 +177,57 @@ fn consume_trace_by_bytes<R: AllocGlobal + Threads + Wait + Sync>(
     (answer, sink.into_inner().into_inner())
 }
 
-// The rows are group 0, BEGIN and END group 1, and the one worker takes both.
-fn expect_ran(rt: &impl Abort, replayed: &Replayed, rows: &[u64], ends: &[u64]) {
+// A plan of one worker and two groups.
+fn of_two_groups() -> Plan
+    ensures { IsInBounds result }
+{
+    Plan {
+        workers: 1,
+        groups: GroupPlan::Dealt(2),
+        engine: EngineKind::Dif,
+        hash_key: HashKey::of_seed(&[]),
+    }
+}
+
+// The one worker takes all groups, in order, and the last is that of BEGIN and END.
+fn expect_ran(rt: &impl Abort, replayed: &Replayed, groups: &[u32], ran: &[&[u64]]) {
     assert_eq!(rt; replayed.by_worker.len(), 1);
-    assert_eq!(rt; replayed.by_worker[0].as_slice(), [0, 1].as_slice());
-    assert_eq!(rt; replayed.ran.len(), 2);
-    assert_eq!(rt; replayed.ran[0].as_slice(), rows);
-    assert_eq!(rt; replayed.ran[1].as_slice(), ends);
+    assert_eq!(rt; replayed.by_worker[0].as_slice(), groups);
+    assert_eq!(rt; replayed.ran.len(), ran.len());
+    for (numbers, wanted) in replayed.ran.iter().zip(ran.iter()) {
+        assert_eq!(rt; numbers.as_slice(), *wanted);
+    }
 }
 
 #[test]
 fn each_firing_is_run_once(rt: HostRuntime) -> Result<(), Fail> {
     let replayed = replay(&rt, rt.alloc(), SCRIPT, TRACE, &serial())?;
     assert_eq!(rt; replayed.bytes.as_slice(), SHOWN);
-    expect_ran(&rt, &replayed, &[1, 4], &[0, 5]);
+    expect_ran(&rt, &replayed, &[0, 1], &[&[1, 4], &[0, 5]]);
     assert_eq!(rt; replayed.status, 0);
     Ok(())
 }
 
 #[test]
+fn begin_and_end_run_without_rows(rt: HostRuntime) -> Result<(), Fail> {
+    let replayed = replay(&rt, rt.alloc(), SCRIPT, NO_ROWS, &of_two_groups())?;
+    assert!(rt; replayed.bytes.is_empty());
+    expect_ran(&rt, &replayed, &[0, 1, 2], &[&[], &[], &[0, 1]]);
+    assert_eq!(rt; replayed.status, 0);
+    Ok(())
+}
+
+const SHOWN_AT_EXIT: &[u8] = b"end\n\n                2\n";
+
+#[test]
 fn firings_after_an_exit_do_not_run(rt: HostRuntime) -> Result<(), Fail> {
     let replayed = replay(&rt, rt.alloc(), EXITING, FOUR_HITS, &serial())?;
-    assert_eq!(rt;
-        replayed.bytes.as_slice(),
-        b"end\n\n                2\n".as_slice()
-    );
-    expect_ran(&rt, &replayed, &[10, 12], &[0, 41]);
+    assert_eq!(rt; replayed.bytes.as_slice(), SHOWN_AT_EXIT);
+    expect_ran(&rt, &replayed, &[0, 1], &[&[10, 12], &[0, 41]]);
+    assert_eq!(rt; replayed.status, 5);
+    let replayed = replay(&rt, rt.alloc(), EXITING, FOUR_HITS, &of_two_groups())?;
+    assert_eq!(rt; replayed.bytes.as_slice(), SHOWN_AT_EXIT);
+    expect_ran(&rt, &replayed, &[0, 1, 2], &[&[10], &[12], &[0, 41]]);
     assert_eq!(rt; replayed.status, 5);
     Ok(())
 }
