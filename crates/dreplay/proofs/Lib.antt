@@ -4,9 +4,12 @@ pub mod CommandLine
 pub mod Dividing
 pub mod Divisions
 pub mod EmptyPieces
+pub mod Grouped
 pub mod HasAnswer
 pub mod Hashed
 pub mod Options
+pub mod PlainRefusals
+pub mod PlainTraces
 pub mod Refusing
 pub mod Trees
 pub mod Unread

@@ -3,7 +3,9 @@
 
 ghost use Rattle.std.specs.Prelude.{◌≡◌, ◌∷◌, ◌⊎◌, [], ℕ, List, Option, Result, Ok, Err};
 ghost use Rattle.clap.specs.Words.{fault_of, matches_of};
-ghost use Rattle.dreplay.specs.{Vocabulary.Asked, Vocabulary.DisplayHelp, Vocabulary.ErrorKind, Vocabulary.Plan, Vocabulary.Refusal, Vocabulary.Replayed, Answer.IsAnswer, Answer.IsSameAnswer, Answer.Shown, Answer.without_line, Bundle.Divides, Plans.IsDefault, Replaying.IsOfPlan, Replaying.IsReplay, Replaying.output_of, Words.Asks, Words.AsksHelp, Words.Mistakes, Words.Runs, Words.file_in, Words.program};
+ghost use Rattle.firing_reader.specs.Ends.{with_ends};
+ghost use Rattle.replay_core.specs.Groups.{AreGrouped};
+ghost use Rattle.dreplay.specs.{Vocabulary.Asked, Vocabulary.DisplayHelp, Vocabulary.ErrorKind, Vocabulary.Firing, Vocabulary.Grouping, Vocabulary.Plan, Vocabulary.Refusal, Vocabulary.Replayed, Answer.IsAnswer, Answer.IsSameAnswer, Answer.Shown, Answer.without_line, Bundle.Divides, Plans.IsDefault, Plans.IsGroupedBy, Plans.IsInBounds, Refusals.plain, Replaying.IsOfPlan, Replaying.IsReplay, Replaying.output_of, Words.Asks, Words.AsksHelp, Words.Mistakes, Words.Runs, Words.file_in, Words.program};
 
 /// A bundle is divided in one way.
 pub fn one_division()
@@ -35,6 +37,18 @@ pub fn replay_answers()
         → IsReplay script trace plan (Ok r) → IsAnswer script trace (Ok (output_of r)) }
     ensures refused { (script trace : List ℕ) (plan : Plan) (e : Refusal)
         → IsReplay script trace plan (Err e) → IsAnswer script trace (Err e) ⊎ IsOfPlan e }
+{}
+
+/// No refusal is a fault's own want of memory: memory that ran out is told as that alone.
+pub fn refusals_are_plain()
+    ensures { (script trace : List ℕ) (plan : Plan) (e : Refusal)
+        → IsReplay script trace plan (Err e) → plain e ≡ e }
+{}
+
+/// By the groups of a plan each firing of a run has a group, BEGIN and END too.
+pub fn plans_have_groups()
+    ensures { (plan : Plan) (trace : List Firing) (grouping : Grouping) → IsInBounds plan
+        → IsGroupedBy plan.groups trace grouping → AreGrouped grouping (with_ends trace trace) }
 {}
 
 /// Two replays of a script and a trace give the same, under whatever plans: the same bytes and
