@@ -39,13 +39,13 @@ pub fn replay_answers()
         → IsReplay script trace plan (Err e) → IsAnswer script trace (Err e) ⊎ IsOfPlan e }
 {}
 
-/// No refusal is a fault's own want of memory: memory that ran out is told as that alone.
+/// Memory that ran out is reported as that alone, and never as a fault of the script or the trace.
 pub fn refusals_are_plain()
     ensures { (script trace : List ℕ) (plan : Plan) (e : Refusal)
         → IsReplay script trace plan (Err e) → plain e ≡ e }
 {}
 
-/// By the groups of a plan each firing of a run has a group, BEGIN and END too.
+/// Under each plan every firing of a run has a group, BEGIN and END too.
 pub fn plans_have_groups()
     ensures { (plan : Plan) (trace : List Firing) (grouping : Grouping) → IsInBounds plan
         → IsGroupedBy plan.groups trace grouping → AreGrouped grouping (with_ends trace trace) }
