@@ -2,7 +2,7 @@
 //! whole, each row checked as dreplay checks it, but for quotes and carriage returns, which it doesn't read. It prints the
 //! lines that mawk prints.
 //!
-//! usage: by_hand counts|latency|heavy < TRACE
+//! usage: by_hand counts|latency|heavy|dense < TRACE
 use std::collections::HashMap;
 use std::error::Error;
 use std::io::{self, BufWriter, Read, Write};
@@ -157,6 +157,73 @@ fn heavy(firings: &[Firing], out: &mut impl Write) -> io::Result<()> {
     })
 }
 
+/// What `dense` asks of the system calls of a trace.
+#[derive(Default)]
+struct Dense<'a> {
+    calls: HashMap<(&'a str, &'a str), u64>,
+    uses: HashMap<i64, u64>,
+    bytes: HashMap<&'a str, i64>,
+    largest: HashMap<(&'a str, i64), i64>,
+    mean: HashMap<&'a str, (u64, u64)>,
+    spread: HashMap<(&'a str, u32), u64>,
+    steps: HashMap<(&'a str, u64), u64>,
+}
+
+impl<'a> Dense<'a> {
+    /// Takes the end of a call that took so long.
+    fn end(&mut self, it: &Firing<'a>, took: u64) {
+        let mean = self.mean.entry(it.function).or_default();
+        *mean = (mean.0 + took, mean.1 + 1);
+        *self.spread.entry((it.program, took.ilog2())).or_default() += 1;
+        *self.steps.entry((it.function, took.min(1_000_000) / 50_000)).or_default() += 1;
+    }
+
+    fn print(&self, out: &mut impl Write) -> io::Result<()> {
+        self.calls.iter().try_for_each(|((program, function), n)| writeln!(out, "{program} {function} {n}"))?;
+        self.uses.iter().try_for_each(|(descriptor, n)| writeln!(out, "{descriptor} {n}"))?;
+        self.bytes.iter().try_for_each(|(program, sum)| writeln!(out, "{program} {sum}"))?;
+        self.largest.iter().try_for_each(|((program, it), sum)| writeln!(out, "{program} {it} {sum}"))?;
+        self.mean.iter().try_for_each(|(function, (sum, n))| writeln!(out, "{function} {}", sum / n))?;
+        self.spread.iter().try_for_each(|((program, log), n)| writeln!(out, "{program} {} {n}", 1u64 << log))?;
+        self.steps.iter().try_for_each(|((function, step), n)| match step {
+            20 => writeln!(out, "{function} >= 1000000 {n}"),
+            _ => writeln!(out, "{function} {} {n}", step * 50_000),
+        })
+    }
+}
+
+fn dense(firings: &[Firing], out: &mut impl Write) -> io::Result<()> {
+    let mut found = Dense::default();
+    let (mut started, mut uses, mut bytes) = (HashMap::new(), HashMap::new(), HashMap::new());
+    for it in firings.iter().filter(|it| it.provider == "syscall") {
+        let [descriptor, _, size, ..] = it.arguments;
+        match it.name {
+            "entry" => {
+                started.insert((it.thread, it.function), it.timestamp);
+                let used = uses.entry((it.thread, descriptor)).or_insert(0);
+                *used += 1;
+                *found.calls.entry((it.program, it.function)).or_default() += 1;
+                let most = found.uses.entry(descriptor).or_default();
+                *most = *used.max(most);
+                if size > 4096 {
+                    let sum = bytes.entry((it.thread, it.function)).or_insert(0);
+                    *sum += size;
+                    *found.bytes.entry(it.program).or_default() += size;
+                    let largest = found.largest.entry((it.program, descriptor)).or_insert(*sum);
+                    *largest = *sum.max(largest);
+                }
+            }
+            "return" => {
+                if let Some(start) = started.remove(&(it.thread, it.function)) {
+                    found.end(it, it.timestamp - start);
+                }
+            }
+            _ => {}
+        }
+    }
+    found.print(out)
+}
+
 fn main() -> Result<(), Box<dyn Error>> {
     let mut trace = Vec::new();
     io::stdin().read_to_end(&mut trace)?;
@@ -166,7 +233,8 @@ fn main() -> Result<(), Box<dyn Error>> {
         Some("counts") => counts(&firings, &mut out)?,
         Some("latency") => latency(&firings, &mut out)?,
         Some("heavy") => heavy(&firings, &mut out)?,
-        _ => return Err("usage: by_hand counts|latency|heavy < TRACE".into()),
+        Some("dense") => dense(&firings, &mut out)?,
+        _ => return Err("usage: by_hand counts|latency|heavy|dense < TRACE".into()),
     }
     Ok(out.flush()?)
 }

@@ -1,8 +1,11 @@
 // Preloaded into the program under test: refuses its Nth allocation, where N is the environment's REFUSE, and says so by one
-// byte on the file descriptor REFUSED. Counting starts once the C library has loaded the program.
+// byte on the file descriptor REFUSED. It counts the allocations in the first eight bytes of the file COUNTED, if it is given
+// one. Counting starts once the C library has loaded the program.
 #include <errno.h>
+#include <fcntl.h>
 #include <stddef.h>
 #include <stdlib.h>
+#include <sys/mman.h>
 #include <unistd.h>
 
 // the C library's own names for what the functions below stand before
@@ -13,16 +16,25 @@ void *__libc_memalign(size_t alignment, size_t size);
 
 static unsigned long left; // allocations up to the refused one, it included; 0: none is refused any more
 
+static unsigned long here;          // the count where no file was given
+static unsigned long *made = &here; // allocations so far
+
 __attribute__((constructor)) static void start(void)
 {
     const char *nth = getenv("REFUSE");
     left = nth ? strtoul(nth, NULL, 10) : 0;
+    const char *counted = getenv("COUNTED");
+    int file = counted ? open(counted, O_RDWR) : -1;
+    void *shared = mmap(NULL, sizeof *made, PROT_READ | PROT_WRITE, MAP_SHARED, file, 0);
+    if (shared != MAP_FAILED)
+        made = shared;
 }
 
 // Whether this allocation is the refused one. A program may allocate in several threads.
 static int refused(void)
 {
     unsigned long before = __atomic_load_n(&left, __ATOMIC_RELAXED);
+    __atomic_add_fetch(made, 1, __ATOMIC_RELAXED);
     while (before && !__atomic_compare_exchange_n(&left, &before, before - 1, 0, __ATOMIC_RELAXED, __ATOMIC_RELAXED)) {
     }
     if (before != 1)

@@ -1,8 +1,8 @@
 //! What holds of all numbers and variables, in other words than the definitions'.
 
-ghost use Rattle.std.specs.Prelude.{◌≡◌, ◌≢◌, ◌/◌, ◌<◌, ℤ, ◌+ℤ◌, ◌*ℤ◌, int_div, int_rem, unsigned_abs, List};
-ghost use Rattle.d_values.specs.Vocabulary.{IntType, KeyPart, Value, Var};
-ghost use Rattle.d_values.specs.{Numbers.wrap, Numbers.IsWrapped, Stores.with_local, Stores.with_own};
+ghost use Rattle.std.specs.Prelude.{◌≡◌, ◌≢◌, ◌/◌, ◌<◌, ◌-◌, ◌%◌, ◌^◌, ℕ, ℤ, pos, neg_ℤ, ◌+ℤ◌, ◌-ℤ◌, ◌*ℤ◌, Ok, int_div, int_rem, unsigned_abs, List};
+ghost use Rattle.d_values.specs.Vocabulary.{ArithmeticOperator, IntType, KeyPart, ShiftOperator, Value, Var, int_cmp};
+ghost use Rattle.d_values.specs.{Numbers.number_of, Numbers.whole_of, Numbers.whole_shift_of, Numbers.wrap, Numbers.IsWrapped, Stores.with_local, Stores.with_own, Words.binary_of, Words.complement_of, Words.narrow, Words.opposite_of, Words.order_of, Words.shift_of};
 
 /// What is wrapped into a type is a number of it, and the same modulo two to the width.
 pub fn wrap_lies_in_type()
@@ -12,6 +12,25 @@ pub fn wrap_lies_in_type()
 /// There is no other such number.
 pub fn one_number()
     ensures { (t : IntType) (z n : ℤ) → IsWrapped t z n → n ≡ wrap t z }
+{}
+
+/// An operator on words is that on the whole numbers which they stand for, wrapped into the type;
+/// their order is that of the numbers, and conversion keeps a word's number, wrapped.
+pub fn operators_are_of_whole_numbers()
+    ensures binary { (op : ArithmeticOperator) (t : IntType) (a b word : ℕ)
+        → a < 2 ^ 64 → b < 2 ^ 64 → binary_of op t a b ≡ Ok word
+        → number_of t word ≡ wrap t (whole_of op (number_of t a) (number_of t b)) }
+    ensures shift { (op : ShiftOperator) (t : IntType) (a count : ℕ) → a < 2 ^ 64
+        → number_of t (shift_of op t a count)
+        ≡ wrap t (whole_shift_of op (number_of t a) (count % t.width)) }
+    ensures opposite { (t : IntType) (a : ℕ) → a < 2 ^ 64
+        → number_of t (opposite_of t a) ≡ wrap t (neg_ℤ (number_of t a)) }
+    ensures complement { (t : IntType) (a : ℕ) → a < 2 ^ 64
+        → number_of t (complement_of t a) ≡ wrap t (neg_ℤ (number_of t a) -ℤ pos 1) }
+    ensures order { (t : IntType) (a b : ℕ)
+        → order_of t a b ≡ int_cmp (number_of t a) (number_of t b) }
+    ensures conversion { (from to : IntType) (a : ℕ) → a < 2 ^ 64
+        → number_of to (narrow to a) ≡ wrap to (number_of from a) }
 {}
 
 /// A quotient times the divisor, and the remainder, are what was divided; the remainder is nearer

@@ -23,19 +23,8 @@ use Rattle.dif_machine.specs.declared.comparing.Comparison.{Comparison}
 use Rattle.dif_machine.specs.Frames.{Frame}
 use Rattle.dif_machine.specs.Frames as frames
 use Rattle.dif_machine.specs.Kinds.{kinds_of}
+use Rattle.dif_machine.specs.Known.{Holds, Fits}
 use Rattle.dif_machine.specs.Steps.{Next, on, on_number, on_text, on_kind}
-
--- a value of the kind is there
-pub record Holds (known : Option Value) (k : Kind) : Type 0 where
-  pub value : Value
-  pub is : known ≡ Some value
-  pub kind : kind_of value ≡ k
-
-pub record Fits (s : Shape) (f : Frame) : Type 0 where
-  pub registers : (r : Reg) (k : Kind) → at s.registers r ≡ Some k → Holds (at f.registers r) k
-  pub compared : s.compared ≡ true → f.comparison ≢ None
-  pub tuple : (ks : List Kind) → s.tuple ≡ Some ks → kinds_of f.tuple ≡ ks
-  pub long : length f.registers ≡ 8
 
 pub fits_within : (u t : Shape) (f : Frame) → Within u t → Fits t f → Fits u f
 fits_within u t f w h = record {

@@ -9,3 +9,4 @@ pub mod Clearing
 pub mod Arriving
 pub mod Loading
 pub mod BuiltIns
+pub mod Numbers

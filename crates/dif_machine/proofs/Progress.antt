@@ -40,12 +40,13 @@ use Rattle.dif_machine.specs.declared.fault.MachineFault.TheVariants.{DivideByZe
 use Rattle.dif_machine.specs.Frames.{Frame}
 use Rattle.dif_machine.specs.Frames as frames
 use Rattle.dif_machine.specs.Kinds.{kind_of_part, kinds_of}
+use Rattle.dif_machine.specs.Known.{Holds, Fits}
 use Rattle.dif_machine.specs.Operators.{result_of, comparison_of, text_comparison_of, holds, call_of}
 use Rattle.dif_machine.specs.Runs.{End, Reaches, ends, faults, goes, Comes, stays, steps_on, RunEnds}
 use Rattle.d_values.specs.Storage.{Variables, as_kind}
 use Rattle.dif_machine.specs.Sources.{built_in_of, built_ins, local_in, own_in}
 use Rattle.dif_machine.specs.Steps.{Next, Goes, Ends, Faults, Stuck, on, on_key, puts_result, pushes, act, step_of, Stepped}
-use Rattle.dif_machine.proofs.Fitting.{Holds, Fits, fits_within, fits_value, fits_place, fits_comparison, fits_tuple, one, two, any, on_there, number_there, text_there, kind_there}
+use Rattle.dif_machine.proofs.Fitting.{fits_within, fits_value, fits_place, fits_comparison, fits_tuple, one, two, any, on_there, number_there, text_there, kind_there}
 
 -- what is known at a frame's place holds of it
 pub record Reached (o : Object) (f : Frame) : Type 0 where
@@ -317,3 +318,8 @@ follows_all o f first s vars valid (steps_on {t} {mid} next after so_far e) = (f
 
 pub not_stuck : (o : Object) (f : Firing) (first vars : Variables) (s : Frame) → IsValid o → Comes o f frames.start first s vars → step_of o f s vars ≢ Stuck
 not_stuck o f first vars s valid comes = never_stuck o f first s vars (follows_all o f first s vars valid comes)
+
+-- and has what is known before its instruction
+pub has_known : (o : Object) (f : Firing) (first vars : Variables) (s : Frame) → IsValid o → Comes o f frames.start first s vars
+    → (shape : Shape) × (before o.code s.pc ≡ Some shape) × Fits shape s
+has_known o f first vars s valid comes = let there = (follows_all o f first s vars valid comes).reached in (there.shape, there.is, there.fits)

@@ -1,9 +1,11 @@
 pub mod Vocabulary
 pub mod Operators
+pub mod Plain
 pub mod Sources
 pub mod Kinds
 pub mod Held
 pub mod Frames
+pub mod Known
 pub mod Steps
 pub mod Instructions
 pub mod Runs

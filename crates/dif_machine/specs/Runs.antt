@@ -2,7 +2,7 @@
 use Rattle.std.specs.Prelude.{◌≡◌, ◌≤◌, ℕ, suc, length, Some, Result, Ok, Err}
 use Rattle.dif_machine.specs.Vocabulary.{Firing, MachineFault, DivideByZero, Memory, Object, Reg, at, Value, ValueRef, lent_value, Variables}
 use Rattle.dif_machine.specs.Frames.{Frame, start}
-use Rattle.dif_machine.specs.Steps.{Goes, Ends, Faults, step_of}
+use Rattle.dif_machine.specs.Steps.{Next, Goes, Ends, Faults, step_of}
 
 -- how a run ends: with a value or at a division by 0, and with the variables
 pub data End : Type 0 where
@@ -30,6 +30,12 @@ pub data Comes (o : Object) (f : Firing) (s : Frame) (vars : Variables)
   steps_on : {t : Frame} {mid : Variables} (next : Frame) (after : Variables)
       → Comes o f s vars t mid → step_of o f t mid ≡ Goes next after
       → Comes o f s vars next after
+
+-- a state whose step ends the run so
+abbrev pub EndsBy : Next → End → Type 0
+EndsBy (Ends value after) end = end ≡ Returns value after
+EndsBy (Faults after) end = end ≡ Divides after
+EndsBy next end = ⊥
 
 -- what a run returns and leaves: where memory ran out, the variables as a state has them that it
 -- came to

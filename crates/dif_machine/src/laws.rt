@@ -1,8 +1,9 @@
 //! Laws of runs.
 
-ghost use Rattle.std.specs.Prelude.{◌≡◌, ◌≢◌, Some, slice_get};
-ghost use Rattle.dif_machine.specs.Vocabulary.{Firing, Instr, IsValid, Object, Value, Variables, kind_of, return_kind};
-ghost use Rattle.dif_machine.specs.{Changes.Changes, Frames.Frame, Frames.start, Steps.Stuck, Steps.step_of, Runs.Comes, Runs.End, Runs.IsOver, Runs.Returns, Runs.Runs};
+ghost use Rattle.std.specs.Prelude.{◌≡◌, ◌≢◌, ◌↔◌, ◌<◌, ◌^◌, ℕ, Some, slice_get};
+ghost use Rattle.dif_validate.specs.{Flow.before, declared.shape.Shape.Shape};
+ghost use Rattle.dif_machine.specs.Vocabulary.{Firing, Instr, IsValid, Object, Operator, Value, Variables, kind_of, return_kind};
+ghost use Rattle.dif_machine.specs.{Changes.Changes, Frames.Frame, Frames.start, Known.Fits, Operators.result_of, Plain.plain_of, Steps.Stuck, Steps.step_of, Runs.Comes, Runs.End, Runs.EndsBy, Runs.IsOver, Runs.Returns, Runs.Runs};
 
 /// An instruction goes to the next place or to its target. It changes the register that it writes,
 /// a comparison the comparison, a push or `flushts` the tuple and a store the variables, and
@@ -30,8 +31,25 @@ pub fn one_end()
         → Runs o f vars a → Runs o f vars b → a ≡ b }
 {}
 
-/// No state that a run of a valid object comes to is stuck.
+/// A run ends as a state says that it comes to.
+pub fn runs_end_at_states()
+    ensures { (o : Object) (f : Firing) (first : Variables) (end : End) → Runs o f first end
+        ↔ ((s : Frame) × (vars : Variables) × Comes o f start first s vars
+        × EndsBy (step_of o f s vars) end) }
+{}
+
+/// No state that a run of a valid object comes to is stuck; and what is known before its
+/// instruction is so there, whichever way led to it.
 pub fn never_stuck()
-    ensures { (o : Object) (f : Firing) (first vars : Variables) (s : Frame) → IsValid o
+    ensures steps { (o : Object) (f : Firing) (first vars : Variables) (s : Frame) → IsValid o
         → Comes o f start first s vars → step_of o f s vars ≢ Stuck }
+    ensures known { (o : Object) (f : Firing) (first vars : Variables) (s : Frame) → IsValid o
+        → Comes o f start first s vars
+        → (shape : Shape) × (before o.code s.pc ≡ Some shape) × Fits shape s }
+{}
+
+/// On numbers of 64 bits each operator is plain arithmetic.
+pub fn operators_are_plain()
+    ensures { (operator : Operator) (a b : ℕ) → a < 2 ^ 64 → b < 2 ^ 64
+        → result_of operator a b ≡ plain_of operator a b }
 {}
