@@ -1,5 +1,7 @@
 -- Buckets: labels rise, so that one bucket alone has a number.
-use Rattle.std.proofs.Common.{◌≡◌, ℕ, zero, suc, ◌+◌, ◌-◌, ◌*◌, ◌^◌, ◌<◌, ◌≤◌, ◌==◌, Bool, true, false, cond, ◌&&◌, ◌||◌, ◌⊎◌, inl, inr, refl, sym, ap, ◌∙◌, subst, arith, ◌/◌, min, eq-eqb, ne_eqb}
+use Rattle.std.proofs.Common.{◌≡◌, ℕ, zero, suc, ◌+◌, ◌-◌, ◌*◌, ◌^◌, ◌<◌, ◌≤◌, ◌==◌, Bool, true}
+use Rattle.std.proofs.Common.{false, cond, ◌&&◌, ◌||◌, ◌⊎◌, inl, inr, refl, sym, ap, ◌∙◌, subst}
+use Rattle.std.proofs.Common.{arith, ◌/◌, min, eq-eqb, ne_eqb}
 use Rattle.std.specs.Prelude.{ℤ, pos, neg_ℤ, ◌+ℤ◌, ◌≤ℤ◌, ◌<ℤ◌, int_le, int_lt}
 use Rattle.std.proofs.lemmas.Bool.{cases_eq, cases_lt, lt-ltb, le-ltb}
 use Rattle.std.proofs.lemmas.Int.{ints, by_lt_z}
@@ -11,7 +13,8 @@ use mir.Syntax.{w64}
 use Rattle.aggregations.specs.declared.function.AggFn.{AggFn}
 use Rattle.aggregations.specs.declared.function.AggFn.TheVariants.{Quantize, Lquantize}
 use Rattle.aggregations.specs.declared.linear_range.LinearRange.{LinearRange}
-use Rattle.aggregations.specs.Buckets.{levels_of, buckets, HasBuckets, power_label, level_label, label, is_greatest_up_to, is_least_from, is_in}
+use Rattle.aggregations.specs.Buckets.{levels_of, buckets, HasBuckets, power_label, level_label}
+use Rattle.aggregations.specs.Buckets.{label, is_greatest_up_to, is_least_from, is_in}
 
 le_true : (a b : ℤ) → a ≤ℤ b → int_le a b ≡ true
 le_true a b h = grind (arith, ints)

@@ -1,5 +1,8 @@
 -- Histograms: counts from the buckets that were used, and what one more argument changes.
-use Rattle.std.proofs.Common.{◌≡◌, ◌≢◌, ℕ, ◌+◌, ◌<◌, ◌==◌, ◌⊎◌, inl, inr, false, cond, List, [], ◌∷◌, ◌++◌, Option, None, Some, refl, sym, ap, ◌∙◌, subst, arith, map, set, get_or, length, count_by, eq-eqb, ne_eqb, add-zero, zero-add, sum, ◌≤◌, ◌^◌, ⊎_elim}
+use Rattle.std.proofs.Common.{◌≡◌, ◌≢◌, ℕ, ◌+◌, ◌<◌, ◌==◌, ◌⊎◌, inl, inr, false, cond, List, []}
+use Rattle.std.proofs.Common.{◌∷◌, ◌++◌, Option, None, Some, refl, sym, ap, ◌∙◌, subst, arith, map}
+use Rattle.std.proofs.Common.{set, get_or, length, count_by, eq-eqb, ne_eqb, add-zero, zero-add}
+use Rattle.std.proofs.Common.{sum, ◌≤◌, ◌^◌, ⊎_elim}
 use Rattle.std.specs.List.{IsDistinct, AllByRecursion}
 use Rattle.std.specs.Map.{keys_of, values_of}
 use Rattle.std.specs.Prelude.{ℤ, nat_eq}
@@ -8,12 +11,15 @@ use Rattle.std.specs.Map.{lookup}
 use Rattle.std.specs.Option.{unwrap_or}
 use Rattle.std.proofs.lemmas.Bool.{cases_eq, cases_lt}
 use Rattle.std.proofs.lemmas.Grind.{get_or-set_at, same_number_lists}
-use Rattle.std.proofs.lemmas.List.{get_or_past, get_or-map, get_or-set_other, length-map, length-set}
+use Rattle.std.proofs.lemmas.List.{get_or_past, get_or-map, get_or-set_other, length-map}
+use Rattle.std.proofs.lemmas.List.{length-set}
 use Rattle.std.proofs.lemmas.List.FromFn.{get_or-range_with_len, length-range_with_len}
-use Rattle.std.proofs.lemmas.List.Sums.{sum_by_push, sum_by-append, sum_by-cons, sum_by-set, get_or-le-sum_by}
+use Rattle.std.proofs.lemmas.List.Sums.{sum_by_push, sum_by-append, sum_by-cons, sum_by-set}
+use Rattle.std.proofs.lemmas.List.Sums.{get_or-le-sum_by}
 use Rattle.aggregations.specs.declared.function.AggFn.{AggFn}
 use Rattle.aggregations.specs.Buckets.{buckets, HasBuckets, is_in, counts_of}
-use Rattle.aggregations.specs.Histograms.{Histogram, histogram_of, with_more, used_at, counts_used, AreUsed}
+use Rattle.aggregations.specs.Histograms.{Histogram, histogram_of, with_more, used_at, counts_used}
+use Rattle.aggregations.specs.Histograms.{AreUsed}
 
 -- ---- a list of what g is at each number below n
 

@@ -1,5 +1,7 @@
 -- One aggregation takes the entries of another.
-use Rattle.std.proofs.Common.{◌≡◌, ℕ, ◌+◌, ◌<◌, ◌≤◌, ◌⊎◌, inl, inr, Bool, true, false, cond, length, get_or, set, drop, List, [], ◌∷◌, ◌++◌, Option, None, Some, refl, sym, ap, ◌∙◌, subst, arith, sum_by, append-nil, zero-add}
+use Rattle.std.proofs.Common.{◌≡◌, ℕ, ◌+◌, ◌<◌, ◌≤◌, ◌⊎◌, inl, inr, Bool, true, false, cond, length}
+use Rattle.std.proofs.Common.{get_or, set, drop, List, [], ◌∷◌, ◌++◌, Option, None, Some, refl, sym}
+use Rattle.std.proofs.Common.{ap, ◌∙◌, subst, arith, sum_by, append-nil, zero-add}
 use Rattle.std.specs.Prelude.{slice_get}
 use Rattle.std.specs.Option.{option_map}
 use Rattle.std.proofs.lemmas.Bool.{cases_eq}
@@ -16,8 +18,10 @@ use Rattle.d_values.specs.KeyLaws.{same_key_decides, same_key_equiv}
 use Rattle.aggregations.specs.declared.function.AggFn.{AggFn}
 use Rattle.aggregations.specs.declared.held.Held.{Held}
 use Rattle.aggregations.specs.Values.{count_in}
-use Rattle.aggregations.specs.Table.{Aggregation, Contribution, functions_of, count_of, count_held, arguments_of, entry_at, IsEntry, HasEntry, StandsFor}
-use Rattle.aggregations.proofs.TableLemmas.{arguments_of-append, slice_get-set_same, slice_get-set_other}
+use Rattle.aggregations.specs.Table.{Aggregation, Contribution, functions_of, count_of, count_held}
+use Rattle.aggregations.specs.Table.{arguments_of, entry_at, IsEntry, HasEntry, StandsFor}
+use Rattle.aggregations.proofs.TableLemmas.{arguments_of-append, slice_get-set_same}
+use Rattle.aggregations.proofs.TableLemmas.{slice_get-set_other}
 use Rattle.aggregations.specs.Entries.{Joins, Puts, TakesAll}
 
 some_is : {T : Type 0} {x y : T} → Some x ≡ Some y → x ≡ y

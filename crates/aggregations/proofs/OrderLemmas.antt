@@ -1,5 +1,8 @@
 -- What a table stands for doesn't depend on the order of the contributions.
-use Rattle.std.proofs.Common.{◌≡◌, ℕ, zero, suc, ◌+◌, ◌*◌, ◌<◌, ◌≤◌, Bool, true, false, cond, List, [], ◌∷◌, length, get_or, All, Contains, sum_by, count_by, Option, None, Some, refl, sym, ap, ◌∙◌, subst, ⊎_elim, zero-add, arith, map, filter}
+use Rattle.std.proofs.Common.{◌≡◌, ℕ, zero, suc, ◌+◌, ◌*◌, ◌<◌, ◌≤◌, Bool, true, false, cond, List}
+use Rattle.std.proofs.Common.{[], ◌∷◌, length, get_or, All, Contains, sum_by, count_by, Option}
+use Rattle.std.proofs.Common.{None, Some, refl, sym, ap, ◌∙◌, subst, ⊎_elim, zero-add, arith, map}
+use Rattle.std.proofs.Common.{filter}
 use Rattle.std.specs.Prelude.{ℤ, pos, negsuc, ◌+ℤ◌, ◌≤ℤ◌, slice_get}
 use Rattle.std.specs.List.{range_with_len}
 use Rattle.std.specs.Ordering.{int_eq}
@@ -14,12 +17,15 @@ use Rattle.std.proofs.lemmas.List.Elements.{All-from_get_or, All-weaker, Contain
 use Rattle.std.proofs.lemmas.List.Sums.{sum_by-cons, sum_by-le, get_or-le-sum_by}
 use Rattle.d_values.specs.declared.key.KeyPart.{KeyPart}
 use Rattle.aggregations.specs.declared.function.AggFn.{AggFn}
-use Rattle.aggregations.specs.declared.function.AggFn.TheVariants.{Count, Sum, Min, Max, Avg, Quantize, Lquantize}
+use Rattle.aggregations.specs.declared.function.AggFn.TheVariants.{Count, Sum, Min, Max, Avg}
+use Rattle.aggregations.specs.declared.function.AggFn.TheVariants.{Quantize, Lquantize}
 use Rattle.aggregations.specs.declared.held.Held.{Held}
-use Rattle.aggregations.specs.declared.held.Held.TheVariants.{Counted, Summed, Least, Greatest, Mean, Counts}
+use Rattle.aggregations.specs.declared.held.Held.TheVariants.{Counted, Summed, Least, Greatest}
+use Rattle.aggregations.specs.declared.held.Held.TheVariants.{Mean, Counts}
 use Rattle.aggregations.specs.Buckets.{buckets, is_in, counts_of}
 use Rattle.aggregations.specs.Values.{total, IsLeast, IsGreatest, IsSum, IsValue}
-use Rattle.aggregations.specs.Table.{Contribution, Aggregation, SameItems, arguments_of, is_for, entry_at, IsEntry, HasEntry, StandsFor}
+use Rattle.aggregations.specs.Table.{Contribution, Aggregation, SameItems, arguments_of, is_for}
+use Rattle.aggregations.specs.Table.{entry_at, IsEntry, HasEntry, StandsFor}
 use Rattle.aggregations.proofs.HistogramLemmas.{seen}
 
 ones : {A : Type 0} (xs : List A) → sum_by (λ x. 1) xs ≡ length xs

@@ -1,6 +1,9 @@
 -- The sum of label times count, over the buckets that were used.
-use Rattle.std.proofs.Common.{◌≡◌, ◌≢◌, ℕ, zero, suc, ◌+◌, ◌-◌, ◌*◌, ◌^◌, ◌<◌, ◌≤◌, ◌⊎◌, inl, inr, Bool, true, false, ◌&&◌, List, [], ◌∷◌, refl, sym, ap, ◌∙◌, subst, arith, rules, tests, sum, map}
-use Rattle.std.specs.Prelude.{ℤ, pos, neg_ℤ, ◌+ℤ◌, ◌*ℤ◌, ◌≤ℤ◌, ◌<ℤ◌, int_le, int_lt, nat_le, unsigned_abs}
+use Rattle.std.proofs.Common.{◌≡◌, ◌≢◌, ℕ, zero, suc, ◌+◌, ◌-◌, ◌*◌, ◌^◌, ◌<◌, ◌≤◌, ◌⊎◌, inl, inr}
+use Rattle.std.proofs.Common.{Bool, true, false, ◌&&◌, List, [], ◌∷◌, refl, sym, ap, ◌∙◌, subst}
+use Rattle.std.proofs.Common.{arith, rules, tests, sum, map}
+use Rattle.std.specs.Prelude.{ℤ, pos, neg_ℤ, ◌+ℤ◌, ◌*ℤ◌, ◌≤ℤ◌, ◌<ℤ◌, int_le, int_lt, nat_le}
+use Rattle.std.specs.Prelude.{unsigned_abs}
 use Rattle.std.specs.List.{range_with_len, enumerate_from}
 use lib.IntN.{*ℤ-zero}
 use Rattle.std.proofs.lemmas.Bool.{cases_eq, cases_lt}
@@ -16,7 +19,8 @@ use Rattle.aggregations.specs.Figures.{rank_of}
 use Rattle.aggregations.specs.Figures.Figure.{Distribution}
 use Rattle.aggregations.specs.Histograms.{used_at, counts_used}
 use Rattle.aggregations.proofs.BucketLemmas.{low_label, high_label, powers, steps_small}
-use Rattle.aggregations.proofs.HistogramLemmas.{AreBuckets, buckets_front, buckets_rest, front_used, passed_used, gone_used, sum-front, seen}
+use Rattle.aggregations.proofs.HistogramLemmas.{AreBuckets, buckets_front, buckets_rest, front_used}
+use Rattle.aggregations.proofs.HistogramLemmas.{passed_used, gone_used, sum-front, seen}
 
 -- ---- totals over numbers in a row
 

@@ -1,19 +1,24 @@
 -- Values of lists joined, and of lists with one more argument.
-use Rattle.std.proofs.Common.{◌≡◌, ◌≢◌, ◌≤◌, ℕ, ◌+◌, List, [], ◌∷◌, ◌++◌, length, refl, sym, ap, ◌∙◌, subst, arith, length-append, sum, map, count_by, Some, None}
+use Rattle.std.proofs.Common.{◌≡◌, ◌≢◌, ◌≤◌, ℕ, ◌+◌, List, [], ◌∷◌, ◌++◌, length, refl, sym, ap}
+use Rattle.std.proofs.Common.{◌∙◌, subst, arith, length-append, sum, map, count_by, Some, None}
 use Rattle.std.specs.List.{range_with_len}
 use Rattle.std.proofs.lemmas.List.Sums.{sum_by-cons}
 use Rattle.std.specs.Prelude.{ℤ, ◌+ℤ◌, ◌≤ℤ◌, ◌<ℤ◌}
 use Rattle.std.specs.Int.{int_wrap, int_min, int_max}
 use mir.Syntax.{w64}
 use Rattle.std.proofs.lemmas.Int.{ints, clamps, int_wrap-add_left, int_wrap-add_right, by_lt_z}
-use Rattle.std.proofs.lemmas.List.Elements.{All-append, All-weaker, All-cons, All-nil, Contains-append_left, Contains-append_right}
+use Rattle.std.proofs.lemmas.List.Elements.{All-append, All-weaker, All-cons, All-nil}
+use Rattle.std.proofs.lemmas.List.Elements.{Contains-append_left, Contains-append_right}
 use Rattle.aggregations.specs.declared.function.AggFn.{AggFn}
-use Rattle.aggregations.specs.declared.function.AggFn.TheVariants.{Count, Sum, Min, Max, Avg, Quantize, Lquantize}
+use Rattle.aggregations.specs.declared.function.AggFn.TheVariants.{Count, Sum, Min, Max, Avg}
+use Rattle.aggregations.specs.declared.function.AggFn.TheVariants.{Quantize, Lquantize}
 use Rattle.aggregations.specs.declared.held.Held.{Held}
-use Rattle.aggregations.specs.declared.held.Held.TheVariants.{Counted, Summed, Least, Greatest, Mean, Counts}
+use Rattle.aggregations.specs.declared.held.Held.TheVariants.{Counted, Summed, Least, Greatest}
+use Rattle.aggregations.specs.declared.held.Held.TheVariants.{Mean, Counts}
 use Rattle.aggregations.specs.Histograms.{Histogram, histogram_of}
 use Rattle.aggregations.specs.Buckets.{HasBuckets, buckets, counts_of, is_in}
-use Rattle.aggregations.specs.Values.{total, IsSum, IsLeast, IsGreatest, IsValue, TakesOne, TakesBoth, count_in}
+use Rattle.aggregations.specs.Values.{total, IsSum, IsLeast, IsGreatest, IsValue, TakesOne}
+use Rattle.aggregations.specs.Values.{TakesBoth, count_in}
 use Rattle.aggregations.specs.Held.{after, count_of, number_of}
 use Rattle.aggregations.specs.Figures.{figure_of, histogram_in}
 use Rattle.std.proofs.lemmas.Option.{same_Some}

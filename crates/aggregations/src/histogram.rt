@@ -1,6 +1,7 @@
 //! Histograms.
 
-ghost use Rattle.std.specs.Prelude.{◌≡◌, ◌+◌, ◌<◌, ◌≤◌, ◌^◌, ℤ, OnOk, OnErr, MatchOption, List, [], ◌∷◌, ◌++◌, length, slice_index, sum};
+ghost use Rattle.std.specs.Prelude.{◌≡◌, ◌+◌, ◌<◌, ◌≤◌, ◌^◌, ℤ, OnOk, OnErr, MatchOption, List, []};
+ghost use Rattle.std.specs.Prelude.{◌∷◌, ◌++◌, length, slice_index, sum};
 
 use crate::function::AggFn;
 use indexmap::IndexMap;
@@ -28,7 +29,9 @@ impl Model for Histogram {
 }
 
 impl Histogram {
-    ghost use Rattle.aggregations.specs.{Buckets.HasBuckets, Buckets.buckets, Figures.Figure, Figures.rank_of, Histograms.IsSpan, Histograms.histogram_of, Histograms.with_more};
+    ghost use Rattle.aggregations.specs.Buckets.{HasBuckets, buckets};
+    ghost use Rattle.aggregations.specs.Figures.{Figure, rank_of};
+    ghost use Rattle.aggregations.specs.Histograms.{IsSpan, histogram_of, with_more};
 
     // Without arguments.
     pub(crate) fn new(alloc: Global, function: AggFn) -> Histogram
@@ -42,6 +45,10 @@ impl Histogram {
     }
 
     /// The function whose buckets it counts.
+    ///
+    /// ```text
+    /// histogram.function(); // AggFn::Quantize
+    /// ```
     pub fn function(&self) -> AggFn
         ensures value { result ≡ self.now.function }
         ensures long { length self.now.counts ≡ buckets result }
@@ -50,6 +57,11 @@ impl Histogram {
     }
 
     /// How many arguments a bucket has: none where the function has no such bucket.
+    ///
+    /// ```text
+    /// // of `quantize`, after the arguments 2 and 3
+    /// histogram.count_at(65); // 2: the bucket of 2
+    /// ```
     pub fn count_at(&self, bucket: u32) -> u64
         ensures { result ≡ slice_index self.now.counts bucket }
     {
@@ -57,6 +69,10 @@ impl Histogram {
     }
 
     /// How many arguments there are, at most 2^52.
+    ///
+    /// ```text
+    /// histogram.total(); // 2, after the arguments 2 and 3
+    /// ```
     pub fn total(&self) -> u64
         ensures value { result ≡ sum self.now.counts }
         ensures few { result ≤ 2 ^ 52 }
@@ -65,6 +81,11 @@ impl Histogram {
     }
 
     /// The first and the last bucket that have arguments. None without arguments.
+    ///
+    /// ```text
+    /// // of `quantize`, after the arguments 0 and 3
+    /// histogram.span(); // Some((63, 65)): the buckets of 0 and of 2
+    /// ```
     pub fn span(&self) -> Option<(u32, u32)>
         ensures { MatchOption result (sum self.now.counts ≡ 0)
             (λ s. IsSpan self.now.counts s.0 s.1) }
@@ -75,6 +96,10 @@ impl Histogram {
     }
 
     /// The sum of label times count.
+    ///
+    /// ```text
+    /// histogram.rank(); // of `quantize`, after the arguments 2, 3 and 4: 2 + 2 + 4
+    /// ```
     pub fn rank(&self) -> i128
         ensures { result ≡ rank_of (Figure.Distribution self.now) }
     {

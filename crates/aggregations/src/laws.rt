@@ -1,7 +1,8 @@
 //! What holds of all values and tables, in other words than the definitions'.
 
 ghost use Rattle.std.specs.Prelude.{◌≡◌, ◌≢◌, ℕ, ◌<◌, ◌==◌, List, [], ℤ};
-ghost use Rattle.aggregations.specs.{Vocabulary.AggFn, declared.held.Held.Held, Buckets.HasBuckets, Buckets.buckets, Buckets.is_in, Values.IsValue};
+ghost use Rattle.aggregations.specs.{Vocabulary.AggFn, declared.held.Held.Held, Values.IsValue};
+ghost use Rattle.aggregations.specs.Buckets.{HasBuckets, buckets, is_in};
 ghost use Rattle.aggregations.specs.Table.{Aggregation, Contribution, SameItems, StandsFor};
 
 /// A table that stands for a list stands for it in any other order.

@@ -1,6 +1,7 @@
 //! Entries: a value made from the arguments that came.
 
-ghost use Rattle.std.specs.Prelude.{◌≡◌, ◌+◌, ◌<◌, ◌≤◌, ◌^◌, ◌∷◌, [], IfOk, OnOk, OnErr, option_copied};
+ghost use Rattle.std.specs.Prelude.{◌≡◌, ◌+◌, ◌<◌, ◌≤◌, ◌^◌, ◌∷◌, [], IfOk, OnOk, OnErr};
+ghost use Rattle.std.specs.Prelude.{option_copied};
 
 use crate::function::AggFn;
 use crate::held::{Held, Mean};
@@ -25,7 +26,9 @@ impl Model for Partial {
 }
 
 impl Partial {
-    ghost use Rattle.aggregations.specs.{Figures.count_at, Figures.figure_of, Figures.histogram_in, Figures.rank_of, Figures.single_in, Values.IsValue, Values.TakesBoth, Values.TakesOne, Values.count_in};
+    ghost use Rattle.aggregations.specs.Figures.{count_at, figure_of, histogram_in, rank_of};
+    ghost use Rattle.aggregations.specs.Figures.{single_in};
+    ghost use Rattle.aggregations.specs.Values.{IsValue, TakesBoth, TakesOne, count_in};
 
     // The value of one argument.
     pub(crate) fn of_one(alloc: Global, function: AggFn, arg: i64) -> Result<Partial, AllocError>
@@ -109,6 +112,13 @@ impl Partial {
     }
 
     /// The histogram that the entry shows. None for a number.
+    ///
+    /// ```text
+    /// // of `quantize`, after the argument 3
+    /// if let Some(histogram) = partial.histogram() {
+    ///     histogram.total(); // 1
+    /// }
+    /// ```
     pub fn histogram(&self) -> Option<&Histogram>
         ensures { option_copied result ≡ histogram_in (figure_of self.now) }
     {
@@ -116,6 +126,11 @@ impl Partial {
     }
 
     /// How many arguments a bucket of the histogram has: 0 where the entry shows a number.
+    ///
+    /// ```text
+    /// // of `quantize`, after the arguments 2 and 3
+    /// partial.count_at(65); // 2: the bucket of 2
+    /// ```
     pub fn count_at(&self, bucket: u32) -> u64
         ensures { result ≡ count_at (figure_of self.now) bucket }
     {
@@ -130,6 +145,10 @@ impl Partial {
     }
 
     /// The number that entries are ordered by: the one shown, or the sum of label times count.
+    ///
+    /// ```text
+    /// partial.rank(); // for `avg` of 1, 2 and 6: 3
+    /// ```
     pub fn rank(&self) -> i128
         ensures { result ≡ rank_of (figure_of self.now) }
     {

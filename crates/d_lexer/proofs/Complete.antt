@@ -1,5 +1,7 @@
 -- What the text has is what is read.
-use Rattle.std.proofs.Common.{◌≡◌, eqb, ◌||◌, ℕ, suc, ◌+◌, Bool, true, false, not, cond, List, [], ◌∷◌, ◌++◌, length, Option, Some, None, Result, Ok, Err, refl, sym, ap, ◌∙◌, arith, append_assoc, length-append, inl, inr}
+use Rattle.std.proofs.Common.{◌≡◌, eqb, ◌||◌, ℕ, suc, ◌+◌, Bool, true, false, not, cond, List, []}
+use Rattle.std.proofs.Common.{◌∷◌, ◌++◌, length, Option, Some, None, Result, Ok, Err, refl, sym, ap}
+use Rattle.std.proofs.Common.{◌∙◌, arith, append_assoc, length-append, inl, inr}
 use Rattle.std.proofs.lemmas.List.{append-nil}
 use Rattle.std.proofs.lemmas.Bool.Decides.{nat_tests}
 use Rattle.std.specs.Char.{is_ascii_digit}
@@ -17,15 +19,23 @@ use Rattle.d_lexer.specs.declared.front.Front.TheVariants.{Gap}
 use Rattle.d_lexer.specs.declared.fault.Flaw.{Flaw}
 use Rattle.d_lexer.specs.declared.fault.Flaw.TheVariants as f
 use Rattle.d_lexer.specs.declared.fault.LexFault.{LexFault}
-use Rattle.d_lexer.specs.Bytes.{is_blank, is_word_start, is_word_byte, is_run_byte, is_inside, is_plain, begins_comment, escape_of, is_declaring}
+use Rattle.d_lexer.specs.Bytes.{is_blank, is_word_start, is_word_byte, is_run_byte, is_inside}
+use Rattle.d_lexer.specs.Bytes.{is_plain, begins_comment, escape_of, is_declaring}
 use Rattle.d_lexer.specs.Numbers.{IsNoNumber}
 use Rattle.d_lexer.specs.Steps.Numbers.{number_of}
 use Rattle.d_lexer.specs.Marks.{mark_of}
 use Rattle.d_lexer.specs.Places.{after_bytes, after_byte, is_head, is_first, is_hash, after}
 use Rattle.d_lexer.specs.Faults.{on_line}
 use Rattle.d_lexer.specs.Steps.OptionLine.{is_option}
-use Rattle.d_lexer.specs.Tokens.{StopsAt, Fills, HasNoEnd, IsPiece, blank, comment, first_line, Past, here, past, IsRunOf, SpellsText, SpellsAggregation, IsMark, SpellsInside, SpellsHead, Spells, begins, StopsText, IsFault, stray, open_comment, text, number, option_line, other_option, End, Clean, Bad, EndsAs, Lexes}
-use Rattle.d_lexer.specs.Steps.Scan.{put, skip_one, text_from, comment_from, mark_at, mark_front, number_front, head_kind, aggregation_front, text_front, inside_at, head_at, token_at, front_at, Scanned, with_first, scan}
+use Rattle.d_lexer.specs.Tokens.{StopsAt, Fills, HasNoEnd, IsPiece, blank, comment, first_line}
+use Rattle.d_lexer.specs.Tokens.{Past, here, past, IsRunOf, SpellsText, SpellsAggregation, IsMark}
+use Rattle.d_lexer.specs.Tokens.{SpellsInside, SpellsHead, Spells, begins, StopsText, IsFault}
+use Rattle.d_lexer.specs.Tokens.{stray, open_comment, text, number, option_line, other_option, End}
+use Rattle.d_lexer.specs.Tokens.{Clean, Bad, EndsAs, Lexes}
+use Rattle.d_lexer.specs.Steps.Scan.{put, skip_one, text_from, comment_from, mark_at, mark_front}
+use Rattle.d_lexer.specs.Steps.Scan.{number_front, head_kind, aggregation_front, text_front}
+use Rattle.d_lexer.specs.Steps.Scan.{inside_at, head_at, token_at, front_at, Scanned, with_first}
+use Rattle.d_lexer.specs.Steps.Scan.{scan}
 use Rattle.d_lexer.proofs.Base.{run_fills, run_is, scan_skip}
 use Rattle.d_lexer.proofs.Steps.{behind_text, behind_none}
 use Rattle.d_lexer.proofs.Numbers.{number_reads, none_reads}

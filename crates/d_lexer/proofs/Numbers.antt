@@ -1,14 +1,19 @@
 -- A run is read as a number exactly where it is one.
-use Rattle.std.proofs.Common.{◌≡◌, ◌≢◌, eqb, ◌||◌, ◌&&◌, ℕ, suc, ◌+◌, ◌*◌, ◌-◌, ◌^◌, ◌<◌, ◌≤◌, Bool, true, false, cond, List, [], ◌∷◌, ◌++◌, length, Option, Some, None, refl, sym, ap, subst, ◌∙◌, arith, lit<, lit≤, nat_lt}
-use Rattle.std.proofs.Math.Nat.{pow-zero, pow-suc, add-mul, mul_assoc, mul_comm, one-le-pow, le-mul_of_pos_right}
+use Rattle.std.proofs.Common.{◌≡◌, ◌≢◌, eqb, ◌||◌, ◌&&◌, ℕ, suc, ◌+◌, ◌*◌, ◌-◌, ◌^◌, ◌<◌, ◌≤◌, Bool}
+use Rattle.std.proofs.Common.{true, false, cond, List, [], ◌∷◌, ◌++◌, length, Option, Some, None}
+use Rattle.std.proofs.Common.{refl, sym, ap, subst, ◌∙◌, arith, lit<, lit≤, nat_lt}
+use Rattle.std.proofs.Math.Nat.{pow-zero, pow-suc, add-mul, mul_assoc, mul_comm, one-le-pow}
+use Rattle.std.proofs.Math.Nat.{le-mul_of_pos_right}
 use Rattle.std.proofs.lemmas.Bool.{eqb-true}
 use Rattle.std.proofs.lemmas.Bool.Decides.{nat_tests}
 use Rattle.std.specs.Prelude.{option_and_then, nat_le}
 use Rattle.std.specs.Char.{is_ascii_digit}
 use Rattle.d_lexer.specs.declared.token.Suffix.{Suffix}
 use Rattle.d_lexer.specs.declared.token.Suffix.TheVariants.{Absent, Unsigned, Long, UnsignedLong}
-use Rattle.d_lexer.specs.Numbers.{digit_of, below, is_u, is_l, suffix_of, is_x, StandFor, IsBase, hexadecimal, octal, decimal, IsNumber, IsNoNumber}
-use Rattle.d_lexer.specs.Steps.Numbers.{with_suffix, number_by, number_from, hex_by, zero_from, number_of}
+use Rattle.d_lexer.specs.Numbers.{digit_of, below, is_u, is_l, suffix_of, is_x, StandFor, IsBase}
+use Rattle.d_lexer.specs.Numbers.{hexadecimal, octal, decimal, IsNumber, IsNoNumber}
+use Rattle.d_lexer.specs.Steps.Numbers.{with_suffix, number_by, number_from, hex_by, zero_from}
+use Rattle.d_lexer.specs.Steps.Numbers.{number_of}
 use Rattle.d_lexer.proofs.Base.{cond_is}
 
 -- one digit more, after a first part

@@ -1,11 +1,13 @@
 -- A line is read as an option line exactly where it is one.
-use Rattle.std.proofs.Common.{◌≡◌, eqb, ℕ, Bool, true, false, List, [], ◌∷◌, ◌++◌, Option, Some, None, Bor, ◌≢◌, MatchOption, refl, ap, ◌∙◌}
+use Rattle.std.proofs.Common.{◌≡◌, eqb, ℕ, Bool, true, false, List, [], ◌∷◌, ◌++◌, Option, Some}
+use Rattle.std.proofs.Common.{None, Bor, ◌≢◌, MatchOption, refl, ap, ◌∙◌}
 use Rattle.std.proofs.lemmas.Bool.{eqb-true, eq-eqb}
 use Rattle.std.specs.List.{AllByRecursion}
 use Rattle.std.specs.Prelude.{codes}
 use Rattle.d_lexer.specs.Bytes.{is_space}
 use Rattle.d_lexer.specs.OptionLine.{is_trailing, AreSpaces, AreWords, option_words, IsOptionLine}
-use Rattle.d_lexer.specs.Steps.OptionLine.{Finds, behind, skip_spaces, spaces, is_trail, and_then, ends, next_word, after_words, is_option}
+use Rattle.d_lexer.specs.Steps.OptionLine.{Finds, behind, skip_spaces, spaces, is_trail, and_then}
+use Rattle.d_lexer.specs.Steps.OptionLine.{ends, next_word, after_words, is_option}
 use Rattle.d_lexer.proofs.Base.{both_true, cond_is}
 
 -- ---- what is read is an option line

@@ -1,5 +1,6 @@
 -- What the answers say of the relations.
-use Rattle.std.proofs.Common.{◌≡◌, ◌⊎◌, ℕ, List, [], ◌∷◌, Result, Ok, Err, refl, sym, ap, subst, ◌∙◌, rules, inl, inr, zero, suc, ◌≤◌, arith, length}
+use Rattle.std.proofs.Common.{◌≡◌, ◌⊎◌, ℕ, List, [], ◌∷◌, Result, Ok, Err, refl, sym, ap, subst}
+use Rattle.std.proofs.Common.{◌∙◌, rules, inl, inr, zero, suc, ◌≤◌, arith, length}
 use Rattle.std.specs.Prelude.{IfOk, IfErr, IsErrOf, IsErrAnd, MatchResult}
 use Rattle.d_lexer.specs.declared.token.Token.{Token}
 use Rattle.d_lexer.specs.declared.place.Place.{Place}

@@ -1,5 +1,7 @@
 -- What is read is what the text has.
-use Rattle.std.proofs.Common.{◌≡◌, eqb, ◌&&◌, ◌||◌, ℕ, zero, suc, ◌+◌, Bool, true, false, cond, List, [], ◌∷◌, ◌++◌, length, Option, Some, None, Result, Ok, Err, refl, sym, ap, subst, ◌∙◌, arith, append_assoc, inl, inr}
+use Rattle.std.proofs.Common.{◌≡◌, eqb, ◌&&◌, ◌||◌, ℕ, zero, suc, ◌+◌, Bool, true, false, cond}
+use Rattle.std.proofs.Common.{List, [], ◌∷◌, ◌++◌, length, Option, Some, None, Result, Ok, Err}
+use Rattle.std.proofs.Common.{refl, sym, ap, subst, ◌∙◌, arith, append_assoc, inl, inr}
 use Rattle.std.proofs.lemmas.Bool.Decides.{nat_tests}
 use Rattle.std.proofs.lemmas.Bool.{eqb-true}
 use Rattle.std.specs.Char.{is_ascii_digit}
@@ -16,12 +18,19 @@ use Rattle.d_lexer.specs.declared.front.Front.TheVariants as front
 use Rattle.d_lexer.specs.declared.front.Front.TheVariants.{Gap}
 use Rattle.d_lexer.specs.declared.fault.Flaw.{Flaw}
 use Rattle.d_lexer.specs.declared.fault.Flaw.TheVariants as f
-use Rattle.d_lexer.specs.Bytes.{next_is, is_blank, is_word_start, is_word_byte, is_run_byte, is_inside, is_plain, begins_comment, escape_of, is_declaring}
+use Rattle.d_lexer.specs.Bytes.{next_is, is_blank, is_word_start, is_word_byte, is_run_byte}
+use Rattle.d_lexer.specs.Bytes.{is_inside, is_plain, begins_comment, escape_of, is_declaring}
 use Rattle.d_lexer.specs.Steps.Numbers.{number_of}
 use Rattle.d_lexer.specs.Places.{after_bytes, after_byte, is_head, is_first, is_hash, after}
 use Rattle.d_lexer.specs.Steps.OptionLine.{is_option}
-use Rattle.d_lexer.specs.Tokens.{Fills, HasNoEnd, IsPiece, blank, comment, first_line, option_line, here, past, IsRunOf, SpellsText, IsMark, SpellsInside, Spells, begins, BreaksText, IsFault, stray, open_comment, text, number, other_option, End, Lexes}
-use Rattle.d_lexer.specs.Steps.Scan.{run_len, run_of, tail, put, skip_one, put_escape, text_from, one_longer, comment_from, mark_at, mark_front, number_front, comment_front, head_kind, aggregation_front, text_front, inside_at, head_at, token_at, front_at, Scanned, scan_by, scan}
+use Rattle.d_lexer.specs.Tokens.{Fills, HasNoEnd, IsPiece, blank, comment, first_line, option_line}
+use Rattle.d_lexer.specs.Tokens.{here, past, IsRunOf, SpellsText, IsMark, SpellsInside, Spells}
+use Rattle.d_lexer.specs.Tokens.{begins, BreaksText, IsFault, stray, open_comment, text, number}
+use Rattle.d_lexer.specs.Tokens.{other_option, End, Lexes}
+use Rattle.d_lexer.specs.Steps.Scan.{run_len, run_of, tail, put, skip_one, put_escape, text_from}
+use Rattle.d_lexer.specs.Steps.Scan.{one_longer, comment_from, mark_at, mark_front, number_front}
+use Rattle.d_lexer.specs.Steps.Scan.{comment_front, head_kind, aggregation_front, text_front}
+use Rattle.d_lexer.specs.Steps.Scan.{inside_at, head_at, token_at, front_at, Scanned, scan_by, scan}
 use Rattle.d_lexer.proofs.Base.{both_true, Split, cond_is, run_splits, run_is}
 use Rattle.d_lexer.proofs.Numbers.{number_is, none_is}
 use Rattle.d_lexer.proofs.OptionLines.{option_is, no_option_is}

@@ -1,5 +1,6 @@
 -- The tables hold each mark as it is spelled.
-use Rattle.std.proofs.Common.{◌≡◌, ◌≢◌, eqb, ◌&&◌, ℕ, Bool, true, cond, List, [], ◌∷◌, Option, Some, None, refl, ap, ◌∙◌}
+use Rattle.std.proofs.Common.{◌≡◌, ◌≢◌, eqb, ◌&&◌, ℕ, Bool, true, cond, List, [], ◌∷◌, Option, Some}
+use Rattle.std.proofs.Common.{None, refl, ap, ◌∙◌}
 use Rattle.std.proofs.lemmas.Bool.{eqb-true}
 use Rattle.std.proofs.lemmas.Slice.Eq.{bytes_eq-Decides}
 use Rattle.std.specs.List.{list_all}

@@ -1,5 +1,6 @@
 -- What the loops keep.
-use Rattle.std.proofs.Common.{◌≡◌, ℕ, suc, ◌+◌, List, [], ◌∷◌, ◌++◌, Option, Some, None, Result, Ok, Err, refl, arith, append_assoc}
+use Rattle.std.proofs.Common.{◌≡◌, ℕ, suc, ◌+◌, List, [], ◌∷◌, ◌++◌, Option, Some, None, Result, Ok}
+use Rattle.std.proofs.Common.{Err, refl, arith, append_assoc}
 use Rattle.d_lexer.specs.Steps.Scan.{one_longer, put, skip_one}
 use Rattle.d_lexer.specs.declared.fault.Flaw.{Flaw}
 

@@ -1,6 +1,8 @@
 -- Where in the bytes, and in which of the four places.
-use Rattle.std.specs.Prelude.{ℕ, ◌+◌, ◌==◌, Bool, true, false, ◌&&◌, ◌||◌, if◌then◌else◌, List, [], ◌∷◌}
-use Rattle.d_lexer.specs.Vocabulary.{Mark, TokenKind, Place, Head, Declaration, Predicate, Body, Position}
+use Rattle.std.specs.Prelude.{ℕ, ◌+◌, ◌==◌, Bool, true, false, ◌&&◌, ◌||◌, if◌then◌else◌, List, []}
+use Rattle.std.specs.Prelude.{◌∷◌}
+use Rattle.d_lexer.specs.Vocabulary.{Mark, TokenKind, Place, Head, Declaration, Predicate, Body}
+use Rattle.d_lexer.specs.Vocabulary.{Position}
 use Rattle.d_lexer.specs.Bytes.{line_feed, hash, is_space, next_is}
 
 -- ---- positions

@@ -1,7 +1,11 @@
 -- Which tokens a script has, and which fault.
-use Rattle.std.specs.Prelude.{◌≡◌, ℕ, ◌+◌, ◌≤◌, ◌⊎◌, Bool, true, false, ◌&&◌, ◌||◌, ◌==◌, Some, None, List, [], ◌∷◌, ◌++◌, length, codes}
-use Rattle.d_lexer.specs.Vocabulary.{AllByRecursion, is_ascii_digit, Mark, Token, TokenKind, Place, Head, Declaration, Predicate, Body, Position, Flaw, LexFault}
-use Rattle.d_lexer.specs.Bytes.{line_feed, quote, hash, star, slash, at_sign, backslash, underscore, next_is, is_blank, is_word_start, is_word_byte, is_run_byte, is_inside, is_plain, begins_comment, escape_of, is_declaring}
+use Rattle.std.specs.Prelude.{◌≡◌, ℕ, ◌+◌, ◌≤◌, ◌⊎◌, Bool, true, false, ◌&&◌, ◌||◌, ◌==◌, Some}
+use Rattle.std.specs.Prelude.{None, List, [], ◌∷◌, ◌++◌, length, codes}
+use Rattle.d_lexer.specs.Vocabulary.{AllByRecursion, is_ascii_digit, Mark, Token, TokenKind, Place}
+use Rattle.d_lexer.specs.Vocabulary.{Head, Declaration, Predicate, Body, Position, Flaw, LexFault}
+use Rattle.d_lexer.specs.Bytes.{line_feed, quote, hash, star, slash, at_sign, backslash, underscore}
+use Rattle.d_lexer.specs.Bytes.{next_is, is_blank, is_word_start, is_word_byte, is_run_byte}
+use Rattle.d_lexer.specs.Bytes.{is_inside, is_plain, begins_comment, escape_of, is_declaring}
 use Rattle.d_lexer.specs.Numbers.{IsNumber, IsNoNumber}
 use Rattle.d_lexer.specs.Places.{after_bytes, is_head, is_first, is_hash, after}
 use Rattle.d_lexer.specs.{Marks.mark_of, Faults.on_line, OptionLine.IsOptionLine}

@@ -2,7 +2,8 @@
 pub use Rattle.std.specs.Char.{is_ascii_digit}
 pub use Rattle.std.specs.List.{AllByRecursion}
 pub use Rattle.d_lexer.specs.declared.fault.Flaw.{Flaw}
-pub use Rattle.d_lexer.specs.declared.fault.Flaw.TheVariants.{BadByte, Unclosed, Constant, Escape, OptionLine}
+pub use Rattle.d_lexer.specs.declared.fault.Flaw.TheVariants.{BadByte, Unclosed, Constant, Escape}
+pub use Rattle.d_lexer.specs.declared.fault.Flaw.TheVariants.{OptionLine}
 pub use Rattle.d_lexer.specs.declared.fault.LexFault.{LexFault}
 pub use Rattle.d_lexer.specs.declared.fault.Stop.{Stop}
 pub use Rattle.d_lexer.specs.declared.fault.TheConstants.{MOST_BYTES}

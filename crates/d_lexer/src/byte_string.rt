@@ -42,6 +42,11 @@ impl ByteString {
     }
 
     /// Lends the bytes.
+    ///
+    /// ```text
+    /// // of the token `"cat"`
+    /// text.as_slice(); // b"cat"
+    /// ```
     pub fn as_slice(&self) -> &[u8]
         ensures { result.now ≡ self.now }
     {

@@ -1,7 +1,10 @@
 //! What is at the front of the bytes.
 
 ghost use Rattle.std.specs.Prelude.{◌≡◌, ◌≤◌, ◌<◌, length, [], IfOk, true, false};
-ghost use Rattle.d_lexer.specs.{Vocabulary.is_ascii_digit, Steps.Scan.Fits, Steps.Scan.Gives, Steps.Scan.comment_from, Steps.Scan.comment_front, Steps.Scan.front_at, Steps.Scan.head_at, Steps.Scan.inside_at, Steps.Scan.mark_at, Steps.Scan.mark_front, Steps.Scan.option_front, Steps.Scan.run_number, Steps.Scan.tail, Steps.Scan.text_from, Steps.Scan.text_front, Steps.Scan.token_at};
+ghost use Rattle.d_lexer.specs.{Vocabulary.is_ascii_digit};
+ghost use Rattle.d_lexer.specs.Steps.Scan.{Fits, Gives, comment_from, comment_front, front_at};
+ghost use Rattle.d_lexer.specs.Steps.Scan.{head_at, inside_at, mark_at, mark_front, option_front};
+ghost use Rattle.d_lexer.specs.Steps.Scan.{run_number, tail, text_from, text_front, token_at};
 ghost use Rattle.d_lexer.specs.Places as spec;
 
 use crate::byte_kinds::{

@@ -2,7 +2,9 @@
 
 ghost use Rattle.std.specs.Prelude.{◌≡◌, ◌≢◌, ℕ, List};
 ghost use Rattle.d_lexer.specs.Vocabulary.{AllByRecursion, Body, LexFault, Mark, Place, Token};
-ghost use Rattle.d_lexer.specs.{Lexing.AreTokens, Lexing.HasOne, Lexing.IsFirstFault, Marks.mark_of, Small.AreSmall, Spans.AreInOrder, Spans.IsInPlace, Spans.HasItsLine, Spelling.spelling};
+ghost use Rattle.d_lexer.specs.{Marks.mark_of, Small.AreSmall, Spelling.spelling};
+ghost use Rattle.d_lexer.specs.Lexing.{AreTokens, HasOne, IsFirstFault};
+ghost use Rattle.d_lexer.specs.Spans.{AreInOrder, IsInPlace, HasItsLine};
 
 /// A script has one list of tokens at most.
 pub fn one_list()

@@ -1,7 +1,11 @@
 //! From the bytes to the tokens.
 
-ghost use Rattle.std.specs.Prelude.{◌≡◌, ◌↔◌, List, ◌+◌, ◌≤◌, ◌<◌, ◌⊎◌, [], ◌∷◌, ◌++◌, length, IfOk, IfErr, IsErrAnd, IsErrOf, MatchResult};
-ghost use Rattle.d_lexer.specs.{Small.AreSmall, Vocabulary.Head, Vocabulary.LexFault, Vocabulary.Place, Vocabulary.Token, Steps.Lexing.Answers, Steps.Lexing.Lexed, Steps.Lexing.Steps, Steps.Scan.scan, Places.after_byte, Places.start};
+ghost use Rattle.std.specs.Prelude.{◌≡◌, ◌↔◌, List, ◌+◌, ◌≤◌, ◌<◌, ◌⊎◌, [], ◌∷◌, ◌++◌, length};
+ghost use Rattle.std.specs.Prelude.{IfOk, IfErr, IsErrAnd, IsErrOf, MatchResult};
+ghost use Rattle.d_lexer.specs.{Small.AreSmall, Steps.Scan.scan};
+ghost use Rattle.d_lexer.specs.Vocabulary.{Head, LexFault, Place, Token};
+ghost use Rattle.d_lexer.specs.Steps.Lexing.{Answers, Lexed, Steps};
+ghost use Rattle.d_lexer.specs.Places.{after_byte, start};
 ghost use Rattle.d_lexer.specs.Lexing as spec;
 
 use crate::closing_slash::settle;

@@ -1,5 +1,7 @@
 -- What spells a script is read as that script.
-use Rattle.std.proofs.Common.{◌≡◌, ℕ, zero, suc, ◌+◌, ◌<◌, ◌≤◌, Bool, true, false, List, [], ◌∷◌, ◌++◌, length, Option, Some, None, refl, sym, ap, subst, ◌∙◌, arith, append_assoc, length-append}
+use Rattle.std.proofs.Common.{◌≡◌, ℕ, zero, suc, ◌+◌, ◌<◌, ◌≤◌, Bool, true, false, List, [], ◌∷◌}
+use Rattle.std.proofs.Common.{◌++◌, length, Option, Some, None, refl, sym, ap, subst, ◌∙◌, arith}
+use Rattle.std.proofs.Common.{append_assoc, length-append}
 use Rattle.std.proofs.lemmas.List.{append-nil}
 use Rattle.d_lexer.specs.declared.token.Mark.{Mark}
 use Rattle.d_lexer.specs.declared.token.Mark.TheVariants as m
@@ -12,15 +14,26 @@ use Rattle.d_parser.specs.declared.tree.DeclaredType.{DeclaredType}
 use Rattle.d_parser.specs.declared.tree.Description.{Description}
 use Rattle.d_parser.specs.declared.words.WordKind.{WordKind}
 use Rattle.d_parser.specs.declared.words.WordKind.TheVariants as w
-use Rattle.d_parser.specs.Tree.{Tree, Trees, StmtTree, Expression, Aggregation, DeclarationTree, OfThread, OfClause, ClauseTree, ItemTree, Declared, Probing}
+use Rattle.d_parser.specs.Tree.{Tree, Trees, StmtTree, Expression, Aggregation, DeclarationTree}
+use Rattle.d_parser.specs.Tree.{OfThread, OfClause, ClauseTree, ItemTree, Declared, Probing}
 use Rattle.d_parser.specs.Words.{word_kind, run, after_run}
 use Rattle.d_parser.specs.Marks.{prefix_of, is_at, same_mark, tail}
 use Rattle.d_parser.specs.Grammar.{token, Begins, Sign}
-use Rattle.d_parser.specs.Script.{IsAggregation, IsStmt, IsSlot, AreFurther, present, AreStmts, IsDescription, FurtherDescriptions, AreDescriptions, IsPredicate, IsClause, IsType, FurtherTypes, AreKeyTypes, IsDeclared, IsItem, IsScript}
+use Rattle.d_parser.specs.Script.{IsAggregation, IsStmt, IsSlot, AreFurther, present, AreStmts}
+use Rattle.d_parser.specs.Script.{IsDescription, FurtherDescriptions, AreDescriptions, IsPredicate}
+use Rattle.d_parser.specs.Script.{IsClause, IsType, FurtherTypes, AreKeyTypes, IsDeclared, IsItem}
+use Rattle.d_parser.specs.Script.{IsScript}
 use Rattle.d_parser.specs.Reading.{◌>>=◌, readers, arguments, part, part_at_mark, operand, whole}
-use Rattle.d_parser.specs.ReadingScripts.{any_word, aggregation, stmt_by, stmt, ends_stmt, slot, further_stmts, stmts, description, descriptions_on, further_descriptions, descriptions, predicate, clause, whole_type, types_on, further_types, key_types, last_apart, typed_name, of_thread, of_clause, declaration_by, item, items, script}
+use Rattle.d_parser.specs.ReadingScripts.{any_word, aggregation, stmt_by, stmt, ends_stmt, slot}
+use Rattle.d_parser.specs.ReadingScripts.{further_stmts, stmts, description, descriptions_on}
+use Rattle.d_parser.specs.ReadingScripts.{further_descriptions, descriptions, predicate, clause}
+use Rattle.d_parser.specs.ReadingScripts.{whole_type, types_on, further_types, key_types}
+use Rattle.d_parser.specs.ReadingScripts.{last_apart, typed_name, of_thread, of_clause}
+use Rattle.d_parser.specs.ReadingScripts.{declaration_by, item, items, script}
 use Rattle.d_parser.proofs.Takes.{sign_one, takes, phrase_takes, keys_take, list_takes}
-use Rattle.d_parser.proofs.Complete.{reach, opens_of, sign_there, sign_follow, sign_tail, sign_at, sign_reach, after_sign, reads, reads_all, phrase_of, keys_read, arguments_read}
+use Rattle.d_parser.proofs.Complete.{reach, opens_of, sign_there, sign_follow, sign_tail, sign_at}
+use Rattle.d_parser.proofs.Complete.{sign_reach, after_sign, reads, reads_all, phrase_of, keys_read}
+use Rattle.d_parser.proofs.Complete.{arguments_read}
 use Rattle.d_parser.proofs.Runs.{run_is, behind_is}
 
 -- ---- statements

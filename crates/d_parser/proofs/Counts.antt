@@ -1,17 +1,25 @@
 -- Each description, statement, declaration and place of a variable has a token of its own.
-use Rattle.std.proofs.Common.{◌≡◌, ℕ, zero, suc, ◌+◌, ◌≤◌, List, [], ◌∷◌, ◌++◌, length, Option, Some, None, refl, ap, arith, length-append}
+use Rattle.std.proofs.Common.{◌≡◌, ℕ, zero, suc, ◌+◌, ◌≤◌, List, [], ◌∷◌, ◌++◌, length, Option}
+use Rattle.std.proofs.Common.{Some, None, refl, ap, arith, length-append}
 use Rattle.d_lexer.specs.declared.token.Mark.TheVariants as m
 use Rattle.d_lexer.specs.declared.token.Token.{Token}
 use Rattle.d_parser.specs.declared.tree.Variable.{Variable}
 use Rattle.d_parser.specs.declared.tree.DeclaredType.{DeclaredType}
 use Rattle.d_parser.specs.declared.tree.Description.{Description}
-use Rattle.d_parser.specs.Tree.{Tree, Known, Read, Call, Unary, Cast, Before, After, Binary, Choice, Assign, Trees, end, more}
-use Rattle.d_parser.specs.Tree.{StmtTree, Expression, Aggregation, DeclarationTree, OfThread, OfClause, ClauseTree, ItemTree, Declared, Probing}
+use Rattle.d_parser.specs.Tree.{Tree, Known, Read, Call, Unary, Cast, Before, After, Binary, Choice}
+use Rattle.d_parser.specs.Tree.{Assign, Trees, end, more}
+use Rattle.d_parser.specs.Tree.{StmtTree, Expression, Aggregation, DeclarationTree, OfThread}
+use Rattle.d_parser.specs.Tree.{OfClause, ClauseTree, ItemTree, Declared, Probing}
 use Rattle.d_parser.specs.Marks.{level_of}
-use Rattle.d_parser.specs.Grammar.{Part, Within, IsPhrase, rank, IsTarget, Spells, SpellsKeys, SpellsList, SpellsMore}
-use Rattle.d_parser.specs.Script.{IsStmt, IsSlot, AreFurther, present, AreStmts, FurtherDescriptions, AreDescriptions, IsPredicate, IsClause, FurtherTypes, AreKeyTypes, IsDeclaration, IsItem, IsScript}
-use Rattle.d_parser.specs.Sizes.{in_all, places, places_in, in_predicate, in_stmt, variables, descriptions, statements, IsWithin}
-use Rattle.d_parser.proofs.Takes.{sign_one, takes, keys_take, list_takes, phrase_takes, variable_takes}
+use Rattle.d_parser.specs.Grammar.{Part, Within, IsPhrase, rank, IsTarget, Spells, SpellsKeys}
+use Rattle.d_parser.specs.Grammar.{SpellsList, SpellsMore}
+use Rattle.d_parser.specs.Script.{IsStmt, IsSlot, AreFurther, present, AreStmts}
+use Rattle.d_parser.specs.Script.{FurtherDescriptions, AreDescriptions, IsPredicate, IsClause}
+use Rattle.d_parser.specs.Script.{FurtherTypes, AreKeyTypes, IsDeclaration, IsItem, IsScript}
+use Rattle.d_parser.specs.Sizes.{in_all, places, places_in, in_predicate, in_stmt, variables}
+use Rattle.d_parser.specs.Sizes.{descriptions, statements, IsWithin}
+use Rattle.d_parser.proofs.Takes.{sign_one, takes, keys_take, list_takes, phrase_takes}
+use Rattle.d_parser.proofs.Takes.{variable_takes}
 
 -- what is spelled so takes n tokens at least
 abbrev pub Uses : ℕ → Part → Type 0

@@ -1,9 +1,11 @@
 -- What is told token by token of depth, and what is true of the whole list.
-use Rattle.std.proofs.Common.{◌≡◌, ℕ, zero, suc, ◌+◌, ◌<◌, ◌≤◌, Bool, true, false, List, [], ◌∷◌, ◌++◌, length, refl, ap, arith, inl, inr}
+use Rattle.std.proofs.Common.{◌≡◌, ℕ, zero, suc, ◌+◌, ◌<◌, ◌≤◌, Bool, true, false, List, [], ◌∷◌}
+use Rattle.std.proofs.Common.{◌++◌, length, refl, ap, arith, inl, inr}
 use Rattle.std.specs.Prelude.{◌||◌, ◌⊎◌, nat_lt}
 use Rattle.std.proofs.lemmas.Bool.{cases_lt, ltb-true, lt-ltb}
 use Rattle.d_lexer.specs.declared.token.Token.{Token}
-use Rattle.d_parser.specs.Limits.{Turn, Opens, Closes, Ends, Goes, turn, opens, closes, ends, openings, closings, endings, IsDeep}
+use Rattle.d_parser.specs.Limits.{Turn, Opens, Closes, Ends, Goes, turn, opens, closes, ends}
+use Rattle.d_parser.specs.Limits.{openings, closings, endings, IsDeep}
 use Rattle.d_parser.specs.Depth.{open_by, row_by, open_after, row_with, is_deep}
 
 -- a stretch that is too deep, after so many open brackets and so many tokens in a row

@@ -1,5 +1,6 @@
 -- A tree of tokens whose numbers are small has small numbers.
-use Rattle.std.proofs.Common.{◌≡◌, ℕ, zero, suc, List, [], ◌∷◌, ◌++◌, Option, Some, None, Result, Ok, Err, sym, subst}
+use Rattle.std.proofs.Common.{◌≡◌, ℕ, zero, suc, List, [], ◌∷◌, ◌++◌, Option, Some, None, Result}
+use Rattle.std.proofs.Common.{Ok, Err, sym, subst}
 use Rattle.std.specs.Prelude.{IfOk}
 use Rattle.d_lexer.specs.Small as token
 use Rattle.d_lexer.specs.declared.token.Mark.{Mark}
@@ -14,12 +15,19 @@ use Rattle.d_parser.specs.declared.tree.Script.{Script}
 use Rattle.d_parser.specs.declared.tree.Variable.{Variable}
 use Rattle.d_parser.specs.declared.tree.Variable.TheVariants as v
 use Rattle.d_parser.specs.declared.words.WordKind.{WordKind}
-use Rattle.d_parser.specs.Tree.{Tree, Known, Read, Call, Unary, Cast, Before, After, Binary, Choice, Assign, Trees, end, more}
-use Rattle.d_parser.specs.Tree.{StmtTree, Expression, Aggregation, DeclarationTree, OfThread, OfClause, ClauseTree, ItemTree, Declared, Probing, script_of}
-use Rattle.d_parser.specs.Grammar.{Part, Begins, Sign, Within, IsPhrase, rank, constant_kind, IsMember, IsVariable, IsTarget, Spells, SpellsKeys, SpellsList, SpellsMore}
+use Rattle.d_parser.specs.Tree.{Tree, Known, Read, Call, Unary, Cast, Before, After, Binary, Choice}
+use Rattle.d_parser.specs.Tree.{Assign, Trees, end, more}
+use Rattle.d_parser.specs.Tree.{StmtTree, Expression, Aggregation, DeclarationTree, OfThread}
+use Rattle.d_parser.specs.Tree.{OfClause, ClauseTree, ItemTree, Declared, Probing, script_of}
+use Rattle.d_parser.specs.Grammar.{Part, Begins, Sign, Within, IsPhrase, rank, constant_kind}
+use Rattle.d_parser.specs.Grammar.{IsMember, IsVariable, IsTarget, Spells, SpellsKeys, SpellsList}
+use Rattle.d_parser.specs.Grammar.{SpellsMore}
 use Rattle.d_parser.specs.Marks.{level_of}
-use Rattle.d_parser.specs.Numbers.{IsSmall, HasSmall, HaveSmall, InPredicate, InStatement, InStatements, AreSmall}
-use Rattle.d_parser.specs.Script.{IsStmt, IsSlot, AreFurther, present, AreStmts, FurtherDescriptions, AreDescriptions, IsPredicate, IsClause, FurtherTypes, AreKeyTypes, IsDeclared, IsDeclaration, IsScript}
+use Rattle.d_parser.specs.Numbers.{IsSmall, HasSmall, HaveSmall, InPredicate, InStatement}
+use Rattle.d_parser.specs.Numbers.{InStatements, AreSmall}
+use Rattle.d_parser.specs.Script.{IsStmt, IsSlot, AreFurther, present, AreStmts}
+use Rattle.d_parser.specs.Script.{FurtherDescriptions, AreDescriptions, IsPredicate, IsClause}
+use Rattle.d_parser.specs.Script.{FurtherTypes, AreKeyTypes, IsDeclared, IsDeclaration, IsScript}
 
 abbrev Small : List Token → Type 0
 Small = token.AreSmall

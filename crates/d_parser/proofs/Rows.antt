@@ -1,6 +1,7 @@
 -- A row of trees as a list.
 use Rattle.std.proofs.Common.{◌≡◌, List, [], ◌∷◌, ◌++◌, refl, ap, map}
-use Rattle.d_parser.specs.declared.tree.Expr.{Expr, Row_of-Expr, end_of-Expr, more_of-Expr, items-the_row-Expr}
+use Rattle.d_parser.specs.declared.tree.Expr.{Expr, Row_of-Expr, end_of-Expr, more_of-Expr}
+use Rattle.d_parser.specs.declared.tree.Expr.{items-the_row-Expr}
 use Rattle.d_parser.specs.declared.tree.Stmt.{Stmt}
 use Rattle.d_parser.specs.declared.tree.Item.{Item}
 use Rattle.d_parser.specs.Tree.{more, add, tree_of, trees_in, trees_of, stmt_of, stmts_of, item_of}

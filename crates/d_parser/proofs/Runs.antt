@@ -1,5 +1,6 @@
 -- The words at the front of a list.
-use Rattle.std.proofs.Common.{◌≡◌, suc, ◌-◌, ◌≤◌, Bool, true, false, cond, List, [], ◌∷◌, ◌++◌, length, take, drop, refl, ap, arith}
+use Rattle.std.proofs.Common.{◌≡◌, suc, ◌-◌, ◌≤◌, Bool, true, false, cond, List, [], ◌∷◌, ◌++◌}
+use Rattle.std.proofs.Common.{length, take, drop, refl, ap, arith}
 use Rattle.d_lexer.specs.declared.token.Token.{Token}
 use Rattle.d_parser.specs.Words.{is_word, AreWords, run, after_run}
 

@@ -1,5 +1,6 @@
 -- What is read as a script spells it.
-use Rattle.std.proofs.Common.{◌≡◌, ℕ, zero, suc, ◌+◌, true, List, [], ◌∷◌, ◌++◌, length, Option, Some, None, refl, sym, ap, subst, ◌∙◌, append_assoc, lit≤}
+use Rattle.std.proofs.Common.{◌≡◌, ℕ, zero, suc, ◌+◌, true, List, [], ◌∷◌, ◌++◌, length, Option}
+use Rattle.std.proofs.Common.{Some, None, refl, sym, ap, subst, ◌∙◌, append_assoc, lit≤}
 use Rattle.std.proofs.lemmas.List.{append-nil}
 use Rattle.d_lexer.specs.declared.token.Mark.TheVariants as m
 use Rattle.d_lexer.specs.declared.token.Token.{Token}
@@ -9,15 +10,27 @@ use Rattle.d_parser.specs.declared.tree.DeclaredType.{DeclaredType}
 use Rattle.d_parser.specs.declared.tree.Description.{Description}
 use Rattle.d_parser.specs.declared.words.WordKind.{WordKind}
 use Rattle.d_parser.specs.declared.words.WordKind.TheVariants as w
-use Rattle.d_parser.specs.Tree.{Tree, StmtTree, Expression, Aggregation, DeclarationTree, OfThread, OfClause, ClauseTree, ItemTree, Declared, Probing}
+use Rattle.d_parser.specs.Tree.{Tree, StmtTree, Expression, Aggregation, DeclarationTree, OfThread}
+use Rattle.d_parser.specs.Tree.{OfClause, ClauseTree, ItemTree, Declared, Probing}
 use Rattle.d_parser.specs.Words.{word_kind, is_word, type_of, AreWords, run, after_run}
 use Rattle.d_parser.specs.Marks.{is_at, tail}
 use Rattle.d_parser.specs.Grammar.{token, Begins, Sign}
-use Rattle.d_parser.specs.Script.{IsStmt, IsSlot, AreFurther, present, AreStmts, description_of, IsDescription, FurtherDescriptions, AreDescriptions, IsPredicate, IsClause, IsType, FurtherTypes, AreKeyTypes, IsDeclaration, IsItem, IsScript}
+use Rattle.d_parser.specs.Script.{IsStmt, IsSlot, AreFurther, present, AreStmts, description_of}
+use Rattle.d_parser.specs.Script.{IsDescription, FurtherDescriptions, AreDescriptions, IsPredicate}
+use Rattle.d_parser.specs.Script.{IsClause, IsType, FurtherTypes, AreKeyTypes, IsDeclaration}
+use Rattle.d_parser.specs.Script.{IsItem, IsScript}
 use Rattle.d_parser.specs.Reading.{◌>>=◌, after_mark, readers, keys, arguments}
-use Rattle.d_parser.specs.ReadingScripts.{word_by, any_word, aggregation, stmt_by, stmt, ends_stmt, slot, further_stmts, stmts, with_rest, description_by, description, descriptions_on, further_descriptions, descriptions, predicate, clause, whole_type, types_on, further_types, key_types, last_by, last_apart, word_of, typed_name, of_thread, of_clause, declaration_by, item_by, item, items, script}
+use Rattle.d_parser.specs.ReadingScripts.{word_by, any_word, aggregation, stmt_by, stmt, ends_stmt}
+use Rattle.d_parser.specs.ReadingScripts.{slot, further_stmts, stmts, with_rest, description_by}
+use Rattle.d_parser.specs.ReadingScripts.{description, descriptions_on, further_descriptions}
+use Rattle.d_parser.specs.ReadingScripts.{descriptions, predicate, clause, whole_type, types_on}
+use Rattle.d_parser.specs.ReadingScripts.{further_types, key_types, last_by, last_apart, word_of}
+use Rattle.d_parser.specs.ReadingScripts.{typed_name, of_thread, of_clause, declaration_by, item_by}
+use Rattle.d_parser.specs.ReadingScripts.{item, items, script}
 use Rattle.d_parser.proofs.Complete.{sign_there}
-use Rattle.d_parser.proofs.Sound.{IfSome, then_sound, test_sound, weaken, after_sound, Whole, KeysOf, ArgumentsOf, SignOf, keys_sound, arguments_sound, readers_sound}
+use Rattle.d_parser.proofs.Sound.{IfSome, then_sound, test_sound, weaken, after_sound, Whole}
+use Rattle.d_parser.proofs.Sound.{KeysOf, ArgumentsOf, SignOf, keys_sound, arguments_sound}
+use Rattle.d_parser.proofs.Sound.{readers_sound}
 use Rattle.d_parser.proofs.Runs.{are_words, run_joined}
 
 -- ---- statements

@@ -1,5 +1,6 @@
 -- What is read with a level left, and with none.
-use Rattle.std.proofs.Common.{◌≡◌, ℕ, zero, suc, ◌+◌, ◌-◌, ◌<◌, ◌≤◌, true, false, List, [], ◌∷◌, ◌++◌, length, take, get_or, Some, None, refl, arith}
+use Rattle.std.proofs.Common.{◌≡◌, ℕ, zero, suc, ◌+◌, ◌-◌, ◌<◌, ◌≤◌, true, false, List, [], ◌∷◌}
+use Rattle.std.proofs.Common.{◌++◌, length, take, get_or, Some, None, refl, arith}
 use Rattle.d_lexer.specs.declared.token.Token.{Token}
 use Rattle.d_parser.specs.Tree.{Tree, Trees}
 use Rattle.d_lexer.specs.declared.token.Mark.TheVariants as m
@@ -10,7 +11,9 @@ use Rattle.d_parser.specs.Marks.{is_at, tail}
 use Rattle.d_parser.specs.Reading.{after_mark, readers, whole, climb_on, further_on}
 use Rattle.d_parser.specs.Words.{run, after_run, type_of}
 use Rattle.d_parser.specs.Tree.{ItemTree}
-use Rattle.d_parser.specs.ReadingScripts.{last_apart, word_of, typed_name, item, items, slot, further_stmts, further_types, types_on, further_descriptions, descriptions_on}
+use Rattle.d_parser.specs.ReadingScripts.{last_apart, word_of, typed_name, item, items, slot}
+use Rattle.d_parser.specs.ReadingScripts.{further_stmts, further_types, types_on}
+use Rattle.d_parser.specs.ReadingScripts.{further_descriptions, descriptions_on}
 
 pub phrase_step : (n k : ℕ) (ts : List Token) → 0 < n → (readers n).phrase k ts ≡ whole (readers (n - 1)) k ts
 phrase_step zero k ts h = absurd (omega arith)

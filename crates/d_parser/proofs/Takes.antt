@@ -1,5 +1,6 @@
 -- What spells a tree has a token at least.
-use Rattle.std.proofs.Common.{◌≡◌, ℕ, zero, suc, ◌<◌, ◌≤◌, List, ◌++◌, length, ap, arith, length-append}
+use Rattle.std.proofs.Common.{◌≡◌, ℕ, zero, suc, ◌<◌, ◌≤◌, List, ◌++◌, length, ap, arith}
+use Rattle.std.proofs.Common.{length-append}
 use Rattle.d_lexer.specs.declared.token.Mark.{Mark}
 use Rattle.d_lexer.specs.declared.token.Mark.TheVariants as m
 use Rattle.d_lexer.specs.declared.token.Token.{Token}
@@ -7,9 +8,11 @@ use Rattle.d_lexer.specs.declared.token.TokenKind.{TokenKind}
 use Rattle.d_lexer.specs.declared.token.TokenKind.TheVariants as kind
 use Rattle.d_parser.specs.declared.tree.Variable.{Variable}
 use Rattle.d_parser.specs.declared.tree.Variable.TheVariants as v
-use Rattle.d_parser.specs.Tree.{Tree, Known, Read, Call, Unary, Cast, Before, After, Binary, Choice, Assign, Trees, end, more}
+use Rattle.d_parser.specs.Tree.{Tree, Known, Read, Call, Unary, Cast, Before, After, Binary, Choice}
+use Rattle.d_parser.specs.Tree.{Assign, Trees, end, more}
 use Rattle.d_parser.specs.Marks.{level_of}
-use Rattle.d_parser.specs.Grammar.{Part, Begins, Sign, Within, IsPhrase, rank, IsVariable, IsTarget, Spells, SpellsKeys, SpellsList, SpellsMore}
+use Rattle.d_parser.specs.Grammar.{Part, Begins, Sign, Within, IsPhrase, rank, IsVariable, IsTarget}
+use Rattle.d_parser.specs.Grammar.{Spells, SpellsKeys, SpellsList, SpellsMore}
 
 pub begins_one : (k : TokenKind) (line : ℕ) (ts rest : List Token) → Begins k line ts rest → length ts ≡ suc (length rest)
 begins_one k line ts rest h = ap length h.is

@@ -1,8 +1,10 @@
 -- Which tokens spell an expression. In each relation the first list begins with the tokens meant,
 -- and the second is what comes after them.
 use Rattle.std.specs.Prelude.{◌≡◌, ◌≤◌, ◌+◌, ℕ, zero, suc, List, ◌∷◌, ◌++◌, Some}
-use Rattle.d_parser.specs.Vocabulary.{Mark, Token, TokenKind, Constant, IntegerType, Variable, WordKind, ASSIGNMENT, CONDITION, OR, UNARY, Prefix, Follow}
-use Rattle.d_parser.specs.Tree.{Tree, Known, Read, Call, Unary, Cast, Before, After, Binary, Choice, Assign, Trees, end, more}
+use Rattle.d_parser.specs.Vocabulary.{Mark, Token, TokenKind, Constant, IntegerType, Variable}
+use Rattle.d_parser.specs.Vocabulary.{WordKind, ASSIGNMENT, CONDITION, OR, UNARY, Prefix, Follow}
+use Rattle.d_parser.specs.Tree.{Tree, Known, Read, Call, Unary, Cast, Before, After, Binary, Choice}
+use Rattle.d_parser.specs.Tree.{Assign, Trees, end, more}
 use Rattle.d_parser.specs.Words.{word_kind, integer_type, AreWords}
 use Rattle.d_parser.specs.Marks.{prefix_of, follow_of, level_of}
 

@@ -2,8 +2,10 @@
 use Rattle.std.specs.Prelude.{ℕ, Bool, false, List, [], ◌∷◌}
 use denote.Enum.Bare.{sameb}
 use Rattle.d_lexer.specs.contracts.token.Mark.{the_type}
-use Rattle.d_parser.specs.Vocabulary.{Mark, Token, TokenKind, UnaryOperator, Step, BinaryOperator, AssignOperator, Prefix, Follow}
-use Rattle.d_parser.specs.Vocabulary.{OR, XOR, AND, BIT_OR, BIT_XOR, BIT_AND, EQUALITY, RELATIONAL, SHIFT, ADDITIVE, MULTIPLICATIVE}
+use Rattle.d_parser.specs.Vocabulary.{Mark, Token, TokenKind, UnaryOperator, Step, BinaryOperator}
+use Rattle.d_parser.specs.Vocabulary.{AssignOperator, Prefix, Follow}
+use Rattle.d_parser.specs.Vocabulary.{OR, XOR, AND, BIT_OR, BIT_XOR, BIT_AND, EQUALITY, RELATIONAL}
+use Rattle.d_parser.specs.Vocabulary.{SHIFT, ADDITIVE, MULTIPLICATIVE}
 
 -- what a mark before an operand does
 abbrev pub prefix_of : Mark → Prefix

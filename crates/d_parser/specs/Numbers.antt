@@ -1,7 +1,9 @@
 -- Scripts whose numbers are below 2 ^ 64, as in each text.
 use Rattle.std.specs.Prelude.{◌<◌, ◌^◌, List, [], ◌∷◌, Option, Some, None}
 use Rattle.d_parser.specs.Vocabulary.{Constant}
-use Rattle.d_parser.specs.Tree.{Tree, Known, Read, Call, Unary, Cast, Before, After, Binary, Choice, Assign, Trees, end, more, StmtTree, Expression, Aggregation, ItemTree, Declared, Probing}
+use Rattle.d_parser.specs.Tree.{Tree, Known, Read, Call, Unary, Cast, Before, After, Binary, Choice}
+use Rattle.d_parser.specs.Tree.{Assign, Trees, end, more, StmtTree, Expression, Aggregation}
+use Rattle.d_parser.specs.Tree.{ItemTree, Declared, Probing}
 
 abbrev pub IsSmall : Constant → Type 0
 IsSmall (Constant.Number value suffix) = value < 2 ^ 64

@@ -1,7 +1,11 @@
 -- The tree at the front of a list, and what is left, read from left to right.
-use Rattle.std.specs.Prelude.{◌≡◌, ℕ, zero, suc, max, nat_le, Bool, true, false, if◌then◌else◌, List, [], ◌∷◌, Option, Some, None, Result, Ok, Err}
-use Rattle.d_parser.specs.Vocabulary.{Mark, Token, TokenKind, Step, IntegerType, Constant, Variable, WordKind, ASSIGNMENT, CONDITION, OR, UNARY, Prefix, Follow, ParseFault}
-use Rattle.d_parser.specs.Tree.{Tree, Known, Read, Call, Unary, Cast, Before, After, Binary, Choice, Assign, Trees, end, more, add}
+use Rattle.std.specs.Prelude.{◌≡◌, ℕ, zero, suc, max, nat_le, Bool, true, false, if◌then◌else◌}
+use Rattle.std.specs.Prelude.{List, [], ◌∷◌, Option, Some, None, Result, Ok, Err}
+use Rattle.d_parser.specs.Vocabulary.{Mark, Token, TokenKind, Step, IntegerType, Constant, Variable}
+use Rattle.d_parser.specs.Vocabulary.{WordKind, ASSIGNMENT, CONDITION, OR, UNARY, Prefix, Follow}
+use Rattle.d_parser.specs.Vocabulary.{ParseFault}
+use Rattle.d_parser.specs.Tree.{Tree, Known, Read, Call, Unary, Cast, Before, After, Binary, Choice}
+use Rattle.d_parser.specs.Tree.{Assign, Trees, end, more, add}
 use Rattle.d_parser.specs.Words.{word_kind, begins_type, integer_type, run, after_run}
 use Rattle.d_parser.specs.Marks.{prefix_of, level_of, follow_at, is_at, same_mark, tail}
 

@@ -1,7 +1,10 @@
 -- The script that a list of tokens spells, read from left to right.
-use Rattle.std.specs.Prelude.{ℕ, zero, suc, ◌+◌, Bool, true, if◌then◌else◌, List, [], ◌∷◌, ◌++◌, length, Option, Some, None}
-use Rattle.d_parser.specs.Vocabulary.{Mark, Token, TokenKind, ASSIGNMENT, DeclaredType, Description, WordKind}
-use Rattle.d_parser.specs.Tree.{Tree, StmtTree, Expression, Aggregation, DeclarationTree, OfThread, OfClause, ClauseTree, ItemTree, Declared, Probing}
+use Rattle.std.specs.Prelude.{ℕ, zero, suc, ◌+◌, Bool, true, if◌then◌else◌, List, [], ◌∷◌, ◌++◌}
+use Rattle.std.specs.Prelude.{length, Option, Some, None}
+use Rattle.d_parser.specs.Vocabulary.{Mark, Token, TokenKind, ASSIGNMENT, DeclaredType, Description}
+use Rattle.d_parser.specs.Vocabulary.{WordKind}
+use Rattle.d_parser.specs.Tree.{Tree, StmtTree, Expression, Aggregation, DeclarationTree, OfThread}
+use Rattle.d_parser.specs.Tree.{OfClause, ClauseTree, ItemTree, Declared, Probing}
 use Rattle.d_parser.specs.Words.{word_kind, type_of, run, after_run}
 use Rattle.d_parser.specs.Reading.{◌>>=◌, Reader, after_mark, readers, keys, arguments}
 use Rattle.d_parser.specs.{Marks.is_at, Marks.tail, Script.description_of}

@@ -1,10 +1,13 @@
 -- Which tokens spell a script: its declarations, and its clauses with their descriptions, predicate
 -- and statements.
-use Rattle.std.specs.Prelude.{◌≡◌, ◌==◌, ◌&&◌, nat_le, ℕ, zero, suc, Bool, if◌then◌else◌, List, [], ◌∷◌, ◌++◌, Option, Some, None}
+use Rattle.std.specs.Prelude.{◌≡◌, ◌==◌, ◌&&◌, nat_le, ℕ, zero, suc, Bool, if◌then◌else◌, List, []}
+use Rattle.std.specs.Prelude.{◌∷◌, ◌++◌, Option, Some, None}
 use Rattle.d_parser.specs.Vocabulary.{Mark, Token, TokenKind, DeclaredType, Description, WordKind}
-use Rattle.d_parser.specs.Tree.{Tree, Trees, StmtTree, Expression, Aggregation, DeclarationTree, OfThread, OfClause, ClauseTree, ItemTree, Declared, Probing}
+use Rattle.d_parser.specs.Tree.{Tree, Trees, StmtTree, Expression, Aggregation, DeclarationTree}
+use Rattle.d_parser.specs.Tree.{OfThread, OfClause, ClauseTree, ItemTree, Declared, Probing}
 use Rattle.d_parser.specs.Words.{word_kind, type_of, AreWords}
-use Rattle.d_parser.specs.Grammar.{Part, Begins, Sign, IsEnclosed, IsExpression, SpellsKeys, SpellsList}
+use Rattle.d_parser.specs.Grammar.{Part, Begins, Sign, IsEnclosed, IsExpression, SpellsKeys}
+use Rattle.d_parser.specs.Grammar.{SpellsList}
 pub use Rattle.std.specs.List.{list_all}
 
 -- ---- statements

@@ -1,6 +1,7 @@
 -- How a script writes operators and types.
 use Rattle.std.specs.Prelude.{ℕ, List, codes}
-use Rattle.d_parser.specs.Vocabulary.{UnaryOperator, BinaryOperator, AssignOperator, Step, IntegerType, DeclaredType}
+use Rattle.d_parser.specs.Vocabulary.{UnaryOperator, BinaryOperator, AssignOperator, Step}
+use Rattle.d_parser.specs.Vocabulary.{IntegerType, DeclaredType}
 
 abbrev pub unary_symbol : UnaryOperator → List ℕ
 unary_symbol UnaryOperator.Not = codes "!"

@@ -7,7 +7,10 @@ pub use Rattle.d_parser.specs.declared.fault.ParseFault.{ParseFault}
 pub use Rattle.d_parser.specs.declared.fault.TheConstants.{MOST_OPEN, MOST_IN_A_ROW, MOST_CLAUSES}
 pub use Rattle.d_parser.specs.declared.marks.Follow.{Follow}
 pub use Rattle.d_parser.specs.declared.marks.Prefix.{Prefix}
-pub use Rattle.d_parser.specs.declared.marks.TheConstants.{ASSIGNMENT, CONDITION, OR, XOR, AND, BIT_OR, BIT_XOR, BIT_AND, EQUALITY, RELATIONAL, SHIFT, ADDITIVE, MULTIPLICATIVE, UNARY}
+pub use Rattle.d_parser.specs.declared.marks.TheConstants.{ASSIGNMENT, CONDITION, OR, XOR, AND}
+pub use Rattle.d_parser.specs.declared.marks.TheConstants.{BIT_OR, BIT_XOR, BIT_AND, EQUALITY}
+pub use Rattle.d_parser.specs.declared.marks.TheConstants.{RELATIONAL, SHIFT, ADDITIVE}
+pub use Rattle.d_parser.specs.declared.marks.TheConstants.{MULTIPLICATIVE, UNARY}
 pub use Rattle.d_parser.specs.declared.operators.AssignOperator.{AssignOperator}
 pub use Rattle.d_parser.specs.declared.operators.BinaryOperator.{BinaryOperator}
 pub use Rattle.d_parser.specs.declared.operators.Step.{Step}

@@ -1,6 +1,8 @@
 -- Reserved words, and the types that words spell.
-use Rattle.std.specs.Prelude.{◌≡◌, ℕ, Bool, true, false, if◌then◌else◌, List, [], ◌∷◌, Option, Some, None, codes}
-use Rattle.d_parser.specs.Vocabulary.{bytes_eq, Token, TokenKind, WordKind, IntegerType, DeclaredType}
+use Rattle.std.specs.Prelude.{◌≡◌, ℕ, Bool, true, false, if◌then◌else◌, List, [], ◌∷◌, Option, Some}
+use Rattle.std.specs.Prelude.{None, codes}
+use Rattle.d_parser.specs.Vocabulary.{bytes_eq, Token, TokenKind, WordKind, IntegerType}
+use Rattle.d_parser.specs.Vocabulary.{DeclaredType}
 
 -- ---- reserved words
 

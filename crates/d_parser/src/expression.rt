@@ -3,7 +3,8 @@
 //! small: the deepest tree fits in 2 MiB.
 
 ghost use Rattle.std.specs.Prelude.{◌≡◌};
-ghost use Rattle.d_parser.specs.{Tree.tree_of, Tree.trees_of, Tree.target_of, Reading.Gives, Words.word_kind};
+ghost use Rattle.d_parser.specs.{Reading.Gives, Words.word_kind};
+ghost use Rattle.d_parser.specs.Tree.{tree_of, trees_of, target_of};
 ghost use Rattle.d_parser.specs.Reading as spec;
 
 use crate::build;

@@ -1,7 +1,8 @@
 //! Laws.
 
 ghost use Rattle.std.specs.Prelude.{◌≡◌, List};
-ghost use Rattle.d_parser.specs.{Vocabulary.Token, Numbers.AreSmall, Tree.ItemTree, Script.IsScript};
+ghost use Rattle.d_parser.specs.{Vocabulary.Token, Numbers.AreSmall, Tree.ItemTree};
+ghost use Rattle.d_parser.specs.{Script.IsScript};
 ghost use Rattle.d_lexer.specs.Small as token;
 
 /// Tokens spell one script at most.

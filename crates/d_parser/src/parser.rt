@@ -1,7 +1,10 @@
 //! From tokens to the tree.
 
 ghost use Rattle.std.specs.Prelude.{◌≡◌, ◌≤◌, ◌<◌, length, IfOk, Some, List, Err};
-ghost use Rattle.d_parser.specs.{Tree.script_of, Tree.ItemTree, Reading.Gives, Limits.IsDeep, Limits.OnlyLimits, Limits.clauses, Numbers.AreSmall, Sizes.IsWithin, Script.IsScript, Vocabulary.ParseFault};
+ghost use Rattle.d_parser.specs.{Reading.Gives, Numbers.AreSmall, Sizes.IsWithin, Script.IsScript};
+ghost use Rattle.d_parser.specs.{Vocabulary.ParseFault};
+ghost use Rattle.d_parser.specs.Tree.{script_of, ItemTree};
+ghost use Rattle.d_parser.specs.Limits.{IsDeep, OnlyLimits, clauses};
 ghost use Rattle.d_lexer.specs.Small as token;
 
 use crate::fault::{MOST_CLAUSES, ParseFault};

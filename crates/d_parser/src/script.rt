@@ -1,7 +1,8 @@
 //! Scripts: declarations and clauses up to the end.
 
 ghost use Rattle.std.specs.Prelude.{◌≤◌, length, map, []};
-ghost use Rattle.d_parser.specs.{Tree.item_of, Tree.declaration_of, Tree.script_of, Reading.Gives, Words.word_kind};
+ghost use Rattle.d_parser.specs.{Reading.Gives, Words.word_kind};
+ghost use Rattle.d_parser.specs.Tree.{item_of, declaration_of, script_of};
 ghost use Rattle.d_parser.specs.ReadingScripts as spec;
 
 use crate::clause::clause;

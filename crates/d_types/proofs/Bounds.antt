@@ -1,6 +1,7 @@
 -- What an aggregating function is given fits into six registers, where its first argument does: the bounds and the step of
 -- lquantize are constants.
-use Rattle.std.proofs.Common.{◌≡◌, ℕ, nat_le, Bool, true, false, ◌&&◌, if◌then◌else◌, Option, Some, None, refl, sym, subst, arith, ℤ}
+use Rattle.std.proofs.Common.{◌≡◌, ℕ, nat_le, Bool, true, false, ◌&&◌, if◌then◌else◌, Option, Some}
+use Rattle.std.proofs.Common.{None, refl, sym, subst, arith, ℤ}
 use Rattle.std.proofs.lemmas.Bool.Decides.{nat_tests}
 use Rattle.d_parser.specs.declared.operators.UnaryOperator.{UnaryOperator}
 use Rattle.d_parser.specs.declared.operators.UnaryOperator.TheVariants as un
@@ -18,7 +19,8 @@ use Rattle.d_types.specs.Typed.{Typed, Typeds, end, more}
 use Rattle.d_types.specs.Needs.{count}
 use Rattle.d_types.specs.Operators.{same_type, conversion_node}
 use Rattle.d_types.specs.Typing.{constant}
-use Rattle.d_types.specs.Aggregations.{number, positive, negative, minus_bound, bound, small, step, buckets, lquantize, function, integers, arguments_fit, first}
+use Rattle.d_types.specs.Aggregations.{number, positive, negative, minus_bound, bound, small, step}
+use Rattle.d_types.specs.Aggregations.{buckets, lquantize, function, integers, arguments_fit, first}
 use Rattle.d_types.specs.Fitting.{Fits}
 use Rattle.d_types.proofs.Fitting.{AllFit, OneFits}
 use Rattle.d_types.specs.Rules.{Types, AllTypes}

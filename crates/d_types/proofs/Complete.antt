@@ -22,7 +22,8 @@ use Rattle.d_types.specs.Variables.{Rows, find, type_at}
 use Rattle.d_types.specs.Operators.{binary_sort, assign_sort, operation_by, choice, as_type}
 use Rattle.d_types.specs.Targets.{space_of, read, load_at, target, slot_for, assignment, step}
 use Rattle.d_types.specs.Typing.{expr, exprs, call_of}
-use Rattle.d_types.specs.Rules.{Types, AllTypes, Joins, Chooses, Loads, Reads, Places, Targets, Fits, Stores, Steps, Calls}
+use Rattle.d_types.specs.Rules.{Types, AllTypes, Joins, Chooses, Loads, Reads, Places, Targets}
+use Rattle.d_types.specs.Rules.{Fits, Stores, Steps, Calls}
 
 -- the list after what is done
 abbrev pub after : Typeds → Typeds → Typeds

@@ -1,5 +1,6 @@
 -- The recursion answers each script that the rules give.
-use Rattle.std.proofs.Common.{◌≡◌, ℕ, ◌≤◌, nat_le, inl, inr, List, [], ◌∷◌, ◌++◌, true, Option, Some, None, Ok, refl, subst, append_assoc, append-nil, arith}
+use Rattle.std.proofs.Common.{◌≡◌, ℕ, ◌≤◌, nat_le, inl, inr, List, [], ◌∷◌, ◌++◌, true, Option}
+use Rattle.std.proofs.Common.{Some, None, Ok, refl, subst, append_assoc, append-nil, arith}
 use Rattle.std.proofs.lemmas.Bool.Decides.{nat_tests}
 use Rattle.d_parser.specs.declared.tree.DeclaredType.{DeclaredType}
 use Rattle.d_parser.specs.Tree as tree
@@ -10,17 +11,20 @@ use Rattle.d_types.specs.declared.typed.Space.TheVariants as s
 use Rattle.d_types.specs.declared.words.Callee.{Callee}
 use Rattle.d_types.specs.declared.words.Callee.TheVariants as f
 use Rattle.d_types.specs.Words.{callee_named}
-use Rattle.d_types.specs.Typed.{Typed, Typeds, end, more, add, Action, Aggs, ClauseMeant, ScriptMeant}
+use Rattle.d_types.specs.Typed.{Typed, Typeds, end, more, add, Action, Aggs, ClauseMeant}
+use Rattle.d_types.specs.Typed.{ScriptMeant}
 use Rattle.d_types.specs.Needs.{need}
 use Rattle.d_types.specs.Variables.{Rows, find}
 use Rattle.d_types.specs.Typing.{whole}
 use Rattle.d_types.specs.Statements.{wholes, evaluate, print, call_statement, action}
 use Rattle.d_types.specs.Aggregations.{is_again, first, find_from, place_for, aggregate}
-use Rattle.d_types.specs.Scripts.{declare, declaration, predicate, statement, statements, clause, items, script}
+use Rattle.d_types.specs.Scripts.{declare, declaration, predicate, statement, statements, clause}
+use Rattle.d_types.specs.Scripts.{items, script}
 use Rattle.d_types.specs.Fitting.{Fits, ScriptFits}
 use Rattle.d_types.proofs.Fitting.{AllFit, OneFits, ActionFits, ActionsFit, ClauseFits, ClausesFit}
 use Rattle.d_types.specs.Rules.{Types, AllTypes}
-use Rattle.d_types.specs.WellTyped.{Evaluates, Prints, Acts, Stands, Joins, Aggregates, Declares, IsDeclared, Tests, Does, AllDo, Probes, AllItems, IsWell}
+use Rattle.d_types.specs.WellTyped.{Evaluates, Prints, Acts, Stands, Joins, Aggregates, Declares}
+use Rattle.d_types.specs.WellTyped.{IsDeclared, Tests, Does, AllDo, Probes, AllItems, IsWell}
 use Rattle.d_types.proofs.Complete.{complete, after, after-add, after-end}
 use Rattle.d_types.proofs.Spelled.{spelled_is_read}
 use Rattle.d_types.proofs.Bounds.{arguments_are_small}

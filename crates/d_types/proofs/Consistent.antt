@@ -1,5 +1,7 @@
 -- The trees that the rules give are consistent with their table of variables.
-use Rattle.std.proofs.Common.{◌≡◌, ℕ, ◌<◌, ◌≤◌, ◌^◌, inl, inr, nat_le, List, [], ◌∷◌, ◌++◌, length, Bool, true, false, not, ◌&&◌, ◌==◌, if◌then◌else◌, IsTrue, Option, refl, sym, ap, ◌∙◌, subst, arith, pos}
+use Rattle.std.proofs.Common.{◌≡◌, ℕ, ◌<◌, ◌≤◌, ◌^◌, inl, inr, nat_le, List, [], ◌∷◌, ◌++◌, length}
+use Rattle.std.proofs.Common.{Bool, true, false, not, ◌&&◌, ◌==◌, if◌then◌else◌, IsTrue, Option}
+use Rattle.std.proofs.Common.{refl, sym, ap, ◌∙◌, subst, arith, pos}
 use Rattle.std.proofs.Math.Bool.{Bool-set}
 use Rattle.std.proofs.lemmas.Bool.Decides.{nat_tests}
 use Rattle.std.proofs.lemmas.Int.{ints}
@@ -30,13 +32,16 @@ use Rattle.d_types.specs.Constants.{type_of_constant, with_l, int_type}
 use Rattle.d_types.specs.Held.{IsWord, Slots, IsConsistent, AreConsistent}
 use Rattle.d_parser.specs.Numbers.{IsSmall, HasSmall, HaveSmall}
 use Rattle.d_types.specs.Operators.{binary_sort, assign_sort, same_type, conversion_node}
-use Rattle.d_types.specs.Rules.{Types, AllTypes, IsInteger, Joins, Chooses, Loads, Reads, Places, Targets, Fits, Stores, Steps, Calls}
+use Rattle.d_types.specs.Rules.{Types, AllTypes, IsInteger, Joins, Chooses, Loads, Reads, Places}
+use Rattle.d_types.specs.Rules.{Targets, Fits, Stores, Steps, Calls}
 use Rattle.d_types.specs.Targets.{new_row, settle_slot, space_of, type_at_once}
 use Rattle.d_types.specs.Typed as typed
 use Rattle.d_types.specs.Typed.{Typed, Typeds, end, more, type_of}
 use Rattle.d_types.specs.Typing.{constant}
 use Rattle.d_types.specs.Variables.{Rows, type_at, set_type}
-use Rattle.d_types.proofs.Growing.{Grows, stays, grows_on, same_rows, push_grows, push_below, set_grows, type_is_set, settled_grows, found_below, consistent_on, all_on}
+use Rattle.d_types.proofs.Growing.{Grows, stays, grows_on, same_rows, push_grows, push_below}
+use Rattle.d_types.proofs.Growing.{set_grows, type_is_set, settled_grows, found_below}
+use Rattle.d_types.proofs.Growing.{consistent_on, all_on}
 
 -- ---- conversions
 

@@ -1,5 +1,6 @@
 -- The trees of a well-typed script are consistent with its last table of variables.
-use Rattle.std.proofs.Common.{◌≡◌, ℕ, zero, suc, List, [], ◌∷◌, slice_get, All, Option, Some, None, refl, sym, ◌∙◌, subst}
+use Rattle.std.proofs.Common.{◌≡◌, ℕ, zero, suc, List, [], ◌∷◌, slice_get, All, Option, Some, None}
+use Rattle.std.proofs.Common.{refl, sym, ◌∙◌, subst}
 use Rattle.std.specs.Option.{option_and_then}
 use Rattle.std.proofs.Math.Logic.{∥∥₁_elim}
 use Rattle.std.proofs.lemmas.List.Elements.{All-nil, All-cons}
@@ -14,12 +15,15 @@ use Rattle.d_types.specs.declared.words.Callee.TheVariants as f
 use Rattle.d_types.specs.Aggregations.{first}
 use Rattle.d_types.specs.Constants.{declared_type}
 use Rattle.d_types.specs.Held.{slots_of, IsConsistent}
-use Rattle.d_parser.specs.Numbers.{HasSmall, HaveSmall, InPredicate, InStatement, InStatements, AreSmall}
+use Rattle.d_parser.specs.Numbers.{HasSmall, HaveSmall, InPredicate, InStatement, InStatements}
+use Rattle.d_parser.specs.Numbers.{AreSmall}
 use Rattle.d_types.specs.Scripts.{declared_kinds, IsMeant}
 use Rattle.d_types.specs.Rules.{AllTypes}
-use Rattle.d_types.specs.Typed.{Typed, Typeds, end, more, Action, Evaluate, Trace, Print, Exit, Aggregate, Aggs, ClauseMeant, ScriptMeant}
+use Rattle.d_types.specs.Typed.{Typed, Typeds, end, more, Action, Evaluate, Trace, Print, Exit}
+use Rattle.d_types.specs.Typed.{Aggregate, Aggs, ClauseMeant, ScriptMeant}
 use Rattle.d_types.specs.Variables.{Rows, type_at, types_in}
-use Rattle.d_types.specs.WellTyped.{Evaluates, Prints, Acts, Stands, Declares, IsDeclared, Tests, Does, AllDo, Probes, AllItems, IsWell}
+use Rattle.d_types.specs.WellTyped.{Evaluates, Prints, Acts, Stands, Declares, IsDeclared, Tests}
+use Rattle.d_types.specs.WellTyped.{Does, AllDo, Probes, AllItems, IsWell}
 use Rattle.d_types.specs.Words.{callee_named}
 use Rattle.d_types.specs.Wholes.{EachIs, AnyIs, ActionIs, ActionsAre, ClauseIs, ClausesAre}
 use Rattle.d_types.proofs.Consistent.{types_leave}

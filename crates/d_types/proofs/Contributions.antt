@@ -1,5 +1,6 @@
 -- How many contributions are made.
-use Rattle.std.proofs.Common.{ℕ, zero, suc, ◌+◌, ◌*◌, ◌^◌, ◌≤◌, List, [], ◌∷◌, length, Option, Some, None, arith}
+use Rattle.std.proofs.Common.{ℕ, zero, suc, ◌+◌, ◌*◌, ◌^◌, ◌≤◌, List, [], ◌∷◌, length, Option, Some}
+use Rattle.std.proofs.Common.{None, arith}
 use Rattle.std.proofs.Math.Nat.{add-mul, mul-add}
 use Rattle.std.proofs.lemmas.Nat.{mul-le}
 use Rattle.d_parser.specs.Sizes.{in_all}
@@ -8,7 +9,8 @@ use Rattle.d_types.specs.declared.effect.Effect.TheVariants as ef
 use Rattle.d_types.specs.Typed.{ActionOf, ClauseMeant, ScriptMeant}
 use Rattle.d_types.specs.Storage.{Variables}
 use Rattle.d_types.specs.Expressions.{Outcome, Has, Faults, number}
-use Rattle.d_types.specs.Clauses.{Evaluation, Ran, effect_by, effect_then, statements_by, where_true, where_predicate, contributions_in, run_by}
+use Rattle.d_types.specs.Clauses.{Evaluation, Ran, effect_by, effect_then, statements_by}
+use Rattle.d_types.specs.Clauses.{where_true, where_predicate, contributions_in, run_by}
 use Rattle.d_types.specs.Scripts.{IsMeant}
 use Rattle.d_types.specs.Sizes.{descriptions, statements, most_runs, HasAtMost}
 use Rattle.d_types.proofs.Sizes.{typed_script_is_small}

@@ -9,9 +9,14 @@ use Rattle.firing_reader.specs.declared.firing.Firing.{Firing}
 use Rattle.d_types.specs.declared.typed.LogicOperator.TheVariants as lo
 use Rattle.d_types.specs.declared.typed.Operation.{Operation}
 use Rattle.d_types.specs.declared.typed.Operation.TheVariants as op
-use Rattle.d_types.specs.Typed.{Typed, Constant, Text, Fixed, Read, Unary, Operate, Compare, CompareText, Logic, Choice, Convert, Assign, Update, Count, Strlen, Strjoin, Typeds, end, more}
+use Rattle.d_types.specs.Typed.{Typed, Constant, Text, Fixed, Read, Unary, Operate, Compare}
+use Rattle.d_types.specs.Typed.{CompareText, Logic, Choice, Convert, Assign, Update, Count, Strlen}
+use Rattle.d_types.specs.Typed.{Strjoin, Typeds, end, more}
 use Rattle.d_types.specs.Storage.{Variables, word_of, value_at}
-use Rattle.d_types.specs.Expressions.{Outcome, Has, Faults, with, word_or_fault, integer, number, text, truth, bit, inverse, at_zero, part_of, unary_of, operation_of, works_in, assignment_outcome, update_outcome, step_outcome, eval, keys_of}
+use Rattle.d_types.specs.Expressions.{Outcome, Has, Faults, with, word_or_fault, integer, number}
+use Rattle.d_types.specs.Expressions.{text, truth, bit, inverse, at_zero, part_of, unary_of}
+use Rattle.d_types.specs.Expressions.{operation_of, works_in, assignment_outcome, update_outcome}
+use Rattle.d_types.specs.Expressions.{step_outcome, eval, keys_of}
 use Rattle.d_types.specs.Laws.{is_division, has_division, has_division_in, is_fault}
 use Rattle.d_types.proofs.Neither.{left, right}
 

@@ -1,5 +1,6 @@
 -- What is typed fits into six registers.
-use Rattle.std.proofs.Common.{◌≡◌, ℕ, nat_le, List, [], ◌∷◌, ◌++◌, Bool, true, false, if◌then◌else◌, Option, Some, None, Result, Ok, refl, subst, arith}
+use Rattle.std.proofs.Common.{◌≡◌, ℕ, nat_le, List, [], ◌∷◌, ◌++◌, Bool, true, false, if◌then◌else◌}
+use Rattle.std.proofs.Common.{Option, Some, None, Result, Ok, refl, subst, arith}
 use Rattle.std.proofs.Math.Bridge.{le_prop}
 use Rattle.std.proofs.Math.Logic.{∥∥₁_elim}
 use Rattle.std.proofs.lemmas.Bool.Decides.{nat_tests}
@@ -9,16 +10,21 @@ use Rattle.d_values.specs.declared.int_type.DType.{DType}
 use Rattle.d_values.specs.declared.int_type.DType.TheVariants.{Int, Text}
 use Rattle.d_types.specs.declared.words.Callee.{Callee}
 use Rattle.d_types.specs.declared.words.Callee.TheVariants as f
-use Rattle.d_types.specs.Faults.{◌>>=◌, Fault, Cause, refuse, unless, Undeclared, Mismatch, NoRegister}
+use Rattle.d_types.specs.Faults.{◌>>=◌, Fault, Cause, refuse, unless, Undeclared, Mismatch}
+use Rattle.d_types.specs.Faults.{NoRegister}
 use Rattle.d_types.specs.Words.{aggregating_named}
-use Rattle.d_types.specs.Typed.{Typed, Typeds, end, more, add, Action, Evaluate, Trace, Print, Exit, Aggregate, Aggs, ClauseMeant, ScriptMeant}
+use Rattle.d_types.specs.Typed.{Typed, Typeds, end, more, add, Action, Evaluate, Trace, Print, Exit}
+use Rattle.d_types.specs.Typed.{Aggregate, Aggs, ClauseMeant, ScriptMeant}
 use Rattle.d_types.specs.Needs.{need}
 use Rattle.d_types.specs.Variables.{Rows, types_in}
 use Rattle.d_types.specs.Formats.{pieces, fit}
 use Rattle.d_types.specs.Typing.{line_of, only, expr, whole}
-use Rattle.d_types.specs.Statements.{wholes, trace, exit_by, exit, print_with, not_printed, print_by, print, evaluate, call_statement, action}
-use Rattle.d_types.specs.Aggregations.{arguments_fit, first, function, find_from, place_for, aggregate}
-use Rattle.d_types.specs.Scripts.{declaration, test_of, predicate, statement, statements, clause, item, items, script, IsMeant}
+use Rattle.d_types.specs.Statements.{wholes, trace, exit_by, exit, print_with, not_printed}
+use Rattle.d_types.specs.Statements.{print_by, print, evaluate, call_statement, action}
+use Rattle.d_types.specs.Aggregations.{arguments_fit, first, function, find_from, place_for}
+use Rattle.d_types.specs.Aggregations.{aggregate}
+use Rattle.d_types.specs.Scripts.{declaration, test_of, predicate, statement, statements, clause}
+use Rattle.d_types.specs.Scripts.{item, items, script, IsMeant}
 use Rattle.d_types.specs.Fitting.{Fits, ScriptFits}
 use Rattle.d_types.specs.Wholes.{EachIs, AnyIs, ActionIs, ActionsAre, ClauseIs, ClausesAre}
 use Rattle.d_types.proofs.Sound.{bound}

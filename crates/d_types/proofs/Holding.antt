@@ -1,5 +1,6 @@
 -- Values are of their types, and variables hold such values.
-use Rattle.std.proofs.Common.{◌≡◌, ℕ, zero, suc, ◌≤◌, List, ◌∷◌, ◌++◌, length, Bool, true, false, ◌&&◌, if◌then◌else◌, Some, refl, sym, ap, ◌∙◌, subst, arith, Ok, Err}
+use Rattle.std.proofs.Common.{◌≡◌, ℕ, zero, suc, ◌≤◌, List, ◌∷◌, ◌++◌, length, Bool, true, false}
+use Rattle.std.proofs.Common.{◌&&◌, if◌then◌else◌, Some, refl, sym, ap, ◌∙◌, subst, arith, Ok, Err}
 use Rattle.std.proofs.lemmas.List.{length-take}
 use Rattle.d_parser.specs.declared.operators.Step.{Step}
 use Rattle.d_parser.specs.declared.operators.UnaryOperator.{UnaryOperator}
@@ -27,11 +28,21 @@ use Rattle.d_types.specs.declared.typed.Operation.TheVariants as op
 use Rattle.d_types.specs.declared.typed.Space.{Space}
 use Rattle.d_types.specs.declared.typed.Space.TheVariants as sp
 use Rattle.d_types.specs.declared.typed.Variable.{Variable}
-use Rattle.d_types.specs.Typed.{Typed, Constant, Text, Fixed, Read, Unary, Operate, Compare, CompareText, Logic, Choice, Convert, Assign, Update, Count, Strlen, Strjoin, Typeds, end, more, type_of, type_of_unary, type_of_operation}
+use Rattle.d_types.specs.Typed.{Typed, Constant, Text, Fixed, Read, Unary, Operate, Compare}
+use Rattle.d_types.specs.Typed.{CompareText, Logic, Choice, Convert, Assign, Update, Count, Strlen}
+use Rattle.d_types.specs.Typed.{Strjoin, Typeds, end, more, type_of, type_of_unary}
+use Rattle.d_types.specs.Typed.{type_of_operation}
 use Rattle.d_types.specs.Variables.{kind_of}
-use Rattle.d_types.specs.Storage.{Variables, word_of, bytes_of, as_kind, var_of, value_in, value_at, set_in, set}
-use Rattle.d_types.specs.Expressions.{Outcome, Has, Faults, with, word_or_fault, integer, number, text, truth, bit, inverse, at_zero, part_of, unary_of, operation_of, works_in, word_as_type, step_result, step_value, assignment_outcome, update_outcome, step_outcome, eval, keys_of}
-use Rattle.d_types.specs.Held.{IsWord, IsOf, HasTypedBuiltIns, Slots, IsKnown, AreTypedLocals, AreTypedOwn, AreTyped, Ends, IsSomeInteger, Takes, IsConsistent, AreConsistent}
+use Rattle.d_types.specs.Storage.{Variables, word_of, bytes_of, as_kind, var_of, value_in, value_at}
+use Rattle.d_types.specs.Storage.{set_in, set}
+use Rattle.d_types.specs.Expressions.{Outcome, Has, Faults, with, word_or_fault, integer, number}
+use Rattle.d_types.specs.Expressions.{text, truth, bit, inverse, at_zero, part_of, unary_of}
+use Rattle.d_types.specs.Expressions.{operation_of, works_in, word_as_type, step_result, step_value}
+use Rattle.d_types.specs.Expressions.{assignment_outcome, update_outcome, step_outcome, eval}
+use Rattle.d_types.specs.Expressions.{keys_of}
+use Rattle.d_types.specs.Held.{IsWord, IsOf, HasTypedBuiltIns, Slots, IsKnown, AreTypedLocals}
+use Rattle.d_types.specs.Held.{AreTypedOwn, AreTyped, Ends, IsSomeInteger, Takes, IsConsistent}
+use Rattle.d_types.specs.Held.{AreConsistent}
 use Rattle.d_types.proofs.ValueTypes.{narrow_is, long_word, truth_is, bit_is, inverse_is}
 
 -- ---- values

@@ -5,12 +5,15 @@ use Rattle.d_values.specs.declared.value.Value.{Value}
 use Rattle.firing_reader.specs.declared.firing.Firing.{Firing}
 use Rattle.d_types.specs.declared.effect.Effect.{Effect}
 use Rattle.d_types.specs.declared.effect.Effect.TheVariants as ef
-use Rattle.d_types.specs.Typed.{Typed, Typeds, end, more, type_of, Action, Evaluate, Trace, Print, Exit, Aggregate, ClauseMeant}
+use Rattle.d_types.specs.Typed.{Typed, Typeds, end, more, type_of, Action, Evaluate, Trace, Print}
+use Rattle.d_types.specs.Typed.{Exit, Aggregate, ClauseMeant}
 use Rattle.d_types.specs.Storage.{Variables}
 use Rattle.d_types.specs.Expressions.{Outcome, Has, Faults, with, number, eval, keys_of}
-use Rattle.d_types.specs.Clauses.{values_of, argument_value, effect_of, Ran, effect_then, statements_of, where_true, by_trees, where_predicate, run_of}
+use Rattle.d_types.specs.Clauses.{values_of, argument_value, effect_of, Ran, effect_then}
+use Rattle.d_types.specs.Clauses.{statements_of, where_true, by_trees, where_predicate, run_of}
 use Rattle.d_types.specs.Printing.{trace_line, printf_text}
-use Rattle.d_types.specs.Held.{IsOf, HasTypedBuiltIns, Slots, AreTyped, Ends, IsConsistent, AreConsistent}
+use Rattle.d_types.specs.Held.{IsOf, HasTypedBuiltIns, Slots, AreTyped, Ends, IsConsistent}
+use Rattle.d_types.specs.Held.{AreConsistent}
 use Rattle.d_types.specs.Wholes.{EachIs, AnyIs, ActionIs, ActionsAre, ClauseIs}
 use Rattle.d_types.proofs.Holding.{one, eval_is, keys_are}
 

@@ -1,5 +1,6 @@
 -- A change in place is the assignment of the operation.
-use Rattle.std.proofs.Common.{◌≡◌, ℕ, List, Bool, true, false, if◌then◌else◌, Result, Ok, Err, refl, sym, ap, ◌∙◌, subst}
+use Rattle.std.proofs.Common.{◌≡◌, ℕ, List, Bool, true, false, if◌then◌else◌, Result, Ok, Err, refl}
+use Rattle.std.proofs.Common.{sym, ap, ◌∙◌, subst}
 use Rattle.d_values.specs.declared.arithmetic.OutOfZero.{OutOfZero}
 use Rattle.d_values.specs.declared.int_type.IntType.{IntType}
 use Rattle.d_values.specs.declared.int_type.DType.{DType}
@@ -15,7 +16,9 @@ use Rattle.d_types.specs.declared.typed.Variable.{Variable}
 use Rattle.d_types.specs.Typed.{Typed, Read, Operate, Convert, Assign, Update, Typeds}
 use Rattle.d_types.specs.Operators.{same_type, conversion_node}
 use Rattle.d_types.specs.Storage.{Variables, word_of, value_at}
-use Rattle.d_types.specs.Expressions.{Outcome, Has, Faults, with, word_or_fault, integer, number, operation_of, works_in, word_as_type, assignment_outcome, update_outcome, eval, keys_of}
+use Rattle.d_types.specs.Expressions.{Outcome, Has, Faults, with, word_or_fault, integer, number}
+use Rattle.d_types.specs.Expressions.{operation_of, works_in, word_as_type, assignment_outcome}
+use Rattle.d_types.specs.Expressions.{update_outcome, eval, keys_of}
 use Rattle.d_types.specs.Held.{IsOf, IsWord}
 use Rattle.d_types.specs.Laws.{AreRepeatable, HoldsItsType, in_place, assigns_in, variables_after}
 use Rattle.d_types.proofs.Consistent.{same_type_is}

@@ -1,5 +1,6 @@
 -- Expressions without assignments leave the variables as they were.
-use Rattle.std.proofs.Common.{◌≡◌, ℕ, zero, suc, false, ◌||◌, ◌∷◌, length, refl, sym, subst, Result, Ok, Err}
+use Rattle.std.proofs.Common.{◌≡◌, ℕ, zero, suc, false, ◌||◌, ◌∷◌, length, refl, sym, subst, Result}
+use Rattle.std.proofs.Common.{Ok, Err}
 use Rattle.d_values.specs.declared.arithmetic.OutOfZero.{OutOfZero}
 use Rattle.d_values.specs.declared.value.Value.{Value}
 use Rattle.d_values.specs.declared.value.Value.TheVariants as va
@@ -8,9 +9,13 @@ use Rattle.d_values.specs.Texts.{text_cmp, joined_text}
 use Rattle.d_values.specs.Words.{narrow, order_of}
 use Rattle.firing_reader.specs.declared.firing.Firing.{Firing}
 use Rattle.d_types.specs.declared.typed.LogicOperator.TheVariants as lo
-use Rattle.d_types.specs.Typed.{Typed, Constant, Text, Fixed, Read, Unary, Operate, Compare, CompareText, Logic, Choice, Convert, Assign, Update, Count, Strlen, Strjoin, Typeds, end, more}
+use Rattle.d_types.specs.Typed.{Typed, Constant, Text, Fixed, Read, Unary, Operate, Compare}
+use Rattle.d_types.specs.Typed.{CompareText, Logic, Choice, Convert, Assign, Update, Count, Strlen}
+use Rattle.d_types.specs.Typed.{Strjoin, Typeds, end, more}
 use Rattle.d_types.specs.Storage.{Variables, value_at}
-use Rattle.d_types.specs.Expressions.{Outcome, Has, Faults, with, word_or_fault, integer, number, text, truth, bit, inverse, at_zero, part_of, unary_of, operation_of, eval, keys_of}
+use Rattle.d_types.specs.Expressions.{Outcome, Has, Faults, with, word_or_fault, integer, number}
+use Rattle.d_types.specs.Expressions.{text, truth, bit, inverse, at_zero, part_of, unary_of}
+use Rattle.d_types.specs.Expressions.{operation_of, eval, keys_of}
 use Rattle.d_types.specs.Laws.{assigns, assigns_in, variables_after}
 use Rattle.d_types.proofs.Neither.{left, right}
 

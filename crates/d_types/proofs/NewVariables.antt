@@ -1,5 +1,6 @@
 -- A new variable.
-use Rattle.std.proofs.Common.{◌≡◌, ℕ, ◌<◌, ◌≤◌, ◌++◌, ◌∷◌, List, [], length, nat_le, true, false, Option, None, Ok, refl, arith}
+use Rattle.std.proofs.Common.{◌≡◌, ℕ, ◌<◌, ◌≤◌, ◌++◌, ◌∷◌, List, [], length, nat_le, true, false}
+use Rattle.std.proofs.Common.{Option, None, Ok, refl, arith}
 use Rattle.std.proofs.lemmas.Bool.Decides.{nat_tests}
 use Rattle.d_values.specs.declared.int_type.DType.{DType}
 use Rattle.d_types.specs.declared.typed.Space.{Space}

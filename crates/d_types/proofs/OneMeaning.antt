@@ -1,5 +1,6 @@
 -- The rules give a script one meaning at most.
-use Rattle.std.proofs.Common.{◌≡◌, ℕ, inl, inr, List, [], ◌∷◌, ◌++◌, Option, Some, None, sym, ap, ◌∙◌, subst}
+use Rattle.std.proofs.Common.{◌≡◌, ℕ, inl, inr, List, [], ◌∷◌, ◌++◌, Option, Some, None, sym, ap}
+use Rattle.std.proofs.Common.{◌∙◌, subst}
 use Rattle.d_parser.specs.Tree as tree
 use Rattle.d_parser.specs.Tree.{Tree, Trees, StmtTree, DeclarationTree, ClauseTree, ItemTree}
 use Rattle.d_values.specs.declared.int_type.DType.{DType}
@@ -9,12 +10,14 @@ use Rattle.d_types.specs.declared.words.Callee.{Callee}
 use Rattle.d_types.specs.declared.words.Callee.TheVariants as f
 use Rattle.d_types.specs.declared.words.Aggregating.{Aggregating}
 use Rattle.d_types.specs.Words.{callee_named}
-use Rattle.d_types.specs.Typed.{Typed, Typeds, end, more, Action, Evaluate, Trace, Print, Exit, Aggregate, Agg, Aggs, ClauseMeant, ScriptMeant}
+use Rattle.d_types.specs.Typed.{Typed, Typeds, end, more, Action, Evaluate, Trace, Print, Exit}
+use Rattle.d_types.specs.Typed.{Aggregate, Agg, Aggs, ClauseMeant, ScriptMeant}
 use Rattle.d_types.specs.Variables.{Rows, kinds_of, types_in}
 use Rattle.d_types.specs.Aggregations.{function, first}
 use Rattle.d_types.specs.Rules.{AllTypes}
 use Rattle.d_types.specs.Spelling.{Spells}
-use Rattle.d_types.specs.WellTyped.{Evaluates, Prints, Acts, Stands, Joins, Aggregates, IsDeclared, Tests, Does, AllDo, Probes, AllItems, IsWell}
+use Rattle.d_types.specs.WellTyped.{Evaluates, Prints, Acts, Stands, Joins, Aggregates, IsDeclared}
+use Rattle.d_types.specs.WellTyped.{Tests, Does, AllDo, Probes, AllItems, IsWell}
 use Rattle.d_types.proofs.Complete.{one_tree}
 use Rattle.d_types.proofs.Spelled.{one_spelling}
 

@@ -1,5 +1,7 @@
 -- The statements of a well-typed script are proper.
-use Rattle.std.proofs.Common.{◌≡◌, ℕ, zero, suc, ◌+◌, ◌≤◌, nat_le, inl, inr, List, [], ◌∷◌, ◌++◌, length, slice_get, All, Bool, true, false, ◌&&◌, if◌then◌else◌, Option, Some, None, refl, sym, ap, ◌∙◌, subst, arith}
+use Rattle.std.proofs.Common.{◌≡◌, ℕ, zero, suc, ◌+◌, ◌≤◌, nat_le, inl, inr, List, [], ◌∷◌, ◌++◌}
+use Rattle.std.proofs.Common.{length, slice_get, All, Bool, true, false, ◌&&◌, if◌then◌else◌}
+use Rattle.std.proofs.Common.{Option, Some, None, refl, sym, ap, ◌∙◌, subst, arith}
 use Rattle.std.specs.Option.{option_map}
 use Rattle.std.specs.Str.{bytes_eq}
 use Rattle.std.proofs.Math.Bool.{Bool-set}
@@ -22,16 +24,20 @@ use Rattle.d_types.specs.declared.words.Aggregating.TheVariants as ag
 use Rattle.d_types.specs.declared.words.Callee.{Callee}
 use Rattle.d_types.specs.declared.words.Callee.TheVariants as f
 use Rattle.d_types.specs.Words.{callee_named}
-use Rattle.d_types.specs.Typed.{Typed, Typeds, end, more, type_of, Action, Evaluate, Trace, Print, Exit, Aggregate, Agg, Aggs, ClauseMeant, ScriptMeant}
+use Rattle.d_types.specs.Typed.{Typed, Typeds, end, more, type_of, Action, Evaluate, Trace, Print}
+use Rattle.d_types.specs.Typed.{Exit, Aggregate, Agg, Aggs, ClauseMeant, ScriptMeant}
 use Rattle.d_types.specs.Needs.{count}
 use Rattle.d_types.specs.Variables.{Rows, kind_of, kinds_of}
 use Rattle.d_types.specs.Variables as variables
-use Rattle.d_types.specs.Aggregations.{is_integer, arguments_fit, first, function, lquantize, buckets, bound, step, find_from, same, is_again}
+use Rattle.d_types.specs.Aggregations.{is_integer, arguments_fit, first, function, lquantize}
+use Rattle.d_types.specs.Aggregations.{buckets, bound, step, find_from, same, is_again}
 use Rattle.d_types.specs.Scripts.{IsMeant}
 use Rattle.d_types.specs.Rules.{Types, AllTypes}
 use Rattle.d_types.specs.Rules as rules
-use Rattle.d_types.specs.WellTyped.{Acts, Stands, Joins, Tests, Does, AllDo, Probes, AllItems, IsWell}
-use Rattle.d_types.specs.Proper.{IsInteger, TakesArgument, Suits, IsProperAction, IsProperPredicate, IsProperClause, IsProperScript}
+use Rattle.d_types.specs.WellTyped.{Acts, Stands, Joins, Tests, Does, AllDo, Probes, AllItems}
+use Rattle.d_types.specs.WellTyped.{IsWell}
+use Rattle.d_types.specs.Proper.{IsInteger, TakesArgument, Suits, IsProperAction, IsProperPredicate}
+use Rattle.d_types.specs.Proper.{IsProperClause, IsProperScript}
 use Rattle.d_types.proofs.SoundScripts.{script_sound}
 
 -- ---- what an aggregating function takes

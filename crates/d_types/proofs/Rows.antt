@@ -1,6 +1,8 @@
 -- A row of typed trees as a list.
 use Rattle.std.proofs.Common.{◌≡◌, List, [], ◌∷◌, ◌++◌, length, refl, ap, ◌∙◌, Vec, Global, arith}
-use Rattle.d_types.specs.declared.typed.TypedExpr.{TypedExpr, Row_of-TypedExpr, end_of-TypedExpr, more_of-TypedExpr, items-the_row-TypedExpr, items_hidden-the_row-TypedExpr-0}
+use Rattle.d_types.specs.declared.typed.TypedExpr.{TypedExpr, Row_of-TypedExpr, end_of-TypedExpr}
+use Rattle.d_types.specs.declared.typed.TypedExpr.{more_of-TypedExpr, items-the_row-TypedExpr}
+use Rattle.d_types.specs.declared.typed.TypedExpr.{items_hidden-the_row-TypedExpr-0}
 use Rattle.d_types.specs.declared.typed.TypedExpr.TheBlock.{hidden-the_row-TypedExpr-0}
 use Rattle.d_types.specs.Typed.{more, add, typed_of, typeds_in, typeds_of}
 use Rattle.d_types.specs.Needs.{count}

@@ -1,5 +1,6 @@
 -- A typed script is as small as its source.
-use Rattle.std.proofs.Common.{◌≡◌, ℕ, suc, ◌+◌, ◌≤◌, inl, inr, List, [], ◌∷◌, length, Bool, true, false, if◌then◌else◌, Option, Some, None, Ok, refl, ap, arith}
+use Rattle.std.proofs.Common.{◌≡◌, ℕ, suc, ◌+◌, ◌≤◌, inl, inr, List, [], ◌∷◌, length, Bool, true}
+use Rattle.std.proofs.Common.{false, if◌then◌else◌, Option, Some, None, Ok, refl, ap, arith}
 use Rattle.std.proofs.Math.Bridge.{le_prop}
 use Rattle.std.proofs.Math.Logic.{∥∥₁_elim}
 use Rattle.d_parser.specs.declared.tree.Variable.{Variable}
@@ -30,8 +31,10 @@ use Rattle.d_types.specs.Typing.{constant}
 use Rattle.d_types.specs.Aggregations.{first}
 use Rattle.d_types.specs.Scripts.{script, IsMeant}
 use Rattle.d_types.specs.Rules.{Types, AllTypes, Joins, Chooses, Reads, Fits, Stores, Calls}
-use Rattle.d_types.specs.WellTyped.{Evaluates, Prints, Acts, Stands, Tests, Does, AllDo, Probes, AllItems, IsWell}
-use Rattle.d_types.specs.Sizes.{places, places_in, in_option, in_action, descriptions, statements, variables, HasAtMost}
+use Rattle.d_types.specs.WellTyped.{Evaluates, Prints, Acts, Stands, Tests, Does, AllDo, Probes}
+use Rattle.d_types.specs.WellTyped.{AllItems, IsWell}
+use Rattle.d_types.specs.Sizes.{places, places_in, in_option, in_action, descriptions, statements}
+use Rattle.d_types.specs.Sizes.{variables, HasAtMost}
 use Rattle.d_types.proofs.SoundScripts.{script_sound}
 
 -- ---- expressions

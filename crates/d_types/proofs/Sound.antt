@@ -1,5 +1,6 @@
 -- What the recursion answers is well typed.
-use Rattle.std.proofs.Common.{◌≡◌, ℕ, inl, inr, List, Bool, true, false, Option, Some, None, Result, Ok, Err, refl, sym, ap, ◌∙◌, subst, if◌then◌else◌}
+use Rattle.std.proofs.Common.{◌≡◌, ℕ, inl, inr, List, Bool, true, false, Option, Some, None, Result}
+use Rattle.std.proofs.Common.{Ok, Err, refl, sym, ap, ◌∙◌, subst, if◌then◌else◌}
 use Rattle.d_parser.specs.declared.operators.Step.{Step}
 use Rattle.d_parser.specs.declared.operators.UnaryOperator.{UnaryOperator}
 use Rattle.d_parser.specs.declared.tree.Variable.{Variable}
@@ -27,10 +28,15 @@ use Rattle.d_types.specs.Words.{callee_named}
 use Rattle.d_types.specs.Typed as typed
 use Rattle.d_types.specs.Typed.{Typed, Typeds, end, more, add, type_of}
 use Rattle.d_types.specs.Variables.{Rows, find, type_at, keys_fit}
-use Rattle.d_types.specs.Operators.{binary_sort, assign_sort, conversion_node, unary, operation_by, choice, as_type}
-use Rattle.d_types.specs.Targets.{line_of_variable, settle_slot, space_of, type_at_once, plain, load, load_at, read, plain_target, slot_for, target, store, store_node, assignment, step}
-use Rattle.d_types.specs.Typing.{line_of, strlen, strjoin, call, call_of, beside, fitting, step_rest, expr, exprs}
-use Rattle.d_types.specs.Rules.{Types, AllTypes, IsInteger, IsText, Joins, Chooses, Loads, Reads, Places, Targets, Fits, Stores, Steps, Calls}
+use Rattle.d_types.specs.Operators.{binary_sort, assign_sort, conversion_node, unary, operation_by}
+use Rattle.d_types.specs.Operators.{choice, as_type}
+use Rattle.d_types.specs.Targets.{line_of_variable, settle_slot, space_of, type_at_once, plain}
+use Rattle.d_types.specs.Targets.{load, load_at, read, plain_target, slot_for, target, store}
+use Rattle.d_types.specs.Targets.{store_node, assignment, step}
+use Rattle.d_types.specs.Typing.{line_of, strlen, strjoin, call, call_of, beside, fitting}
+use Rattle.d_types.specs.Typing.{step_rest, expr, exprs}
+use Rattle.d_types.specs.Rules.{Types, AllTypes, IsInteger, IsText, Joins, Chooses, Loads, Reads}
+use Rattle.d_types.specs.Rules.{Places, Targets, Fits, Stores, Steps, Calls}
 use Rattle.d_types.proofs.Complete.{after, after-add, after-end}
 
 pub bound : {A B : Type 0} (r : Result A Fault) (go : A → Result B Fault) (y : B) → (r >>= go) ≡ Ok y → (x : A) × (r ≡ Ok x) × (go x ≡ Ok y)

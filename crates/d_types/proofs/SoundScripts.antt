@@ -1,5 +1,7 @@
 -- What the recursion answers of a script is well typed.
-use Rattle.std.proofs.Common.{◌≡◌, ℕ, nat_le, inl, inr, List, [], ◌∷◌, ◌++◌, length, Bool, true, false, if◌then◌else◌, Option, Some, None, Result, Ok, Err, refl, sym, ap, ◌∙◌, subst, append_assoc, append-nil}
+use Rattle.std.proofs.Common.{◌≡◌, ℕ, nat_le, inl, inr, List, [], ◌∷◌, ◌++◌, length, Bool, true}
+use Rattle.std.proofs.Common.{false, if◌then◌else◌, Option, Some, None, Result, Ok, Err, refl, sym}
+use Rattle.std.proofs.Common.{ap, ◌∙◌, subst, append_assoc, append-nil}
 use Rattle.d_parser.specs.declared.tree.DeclaredType.{DeclaredType}
 use Rattle.d_parser.specs.Tree as tree
 use Rattle.d_parser.specs.Tree.{Tree, Trees, StmtTree, DeclarationTree, ClauseTree, ItemTree}
@@ -13,21 +15,27 @@ use Rattle.d_types.specs.declared.words.Callee.{Callee}
 use Rattle.d_types.specs.declared.words.Callee.TheVariants as f
 use Rattle.d_types.specs.declared.fault.TypeFault.{TypeFault}
 use Rattle.std.proofs.Common.{IfOk}
-use Rattle.d_types.specs.Faults.{Gives, ◌>>=◌, Fault, refuse, unless, Undeclared, Mismatch, Keys, AggregationRedefined, LquantizeBounds, PrintfArguments, NoRegister}
+use Rattle.d_types.specs.Faults.{Gives, ◌>>=◌, Fault, refuse, unless, Undeclared, Mismatch, Keys}
+use Rattle.d_types.specs.Faults.{AggregationRedefined, LquantizeBounds, PrintfArguments, NoRegister}
 use Rattle.d_types.specs.Words.{callee_named, aggregating_named}
-use Rattle.d_types.specs.Typed.{Typed, Typeds, end, more, add, type_of, Action, Evaluate, Trace, Print, Exit, Aggregate, Agg, Aggs, ClauseMeant, ScriptMeant}
+use Rattle.d_types.specs.Typed.{Typed, Typeds, end, more, add, type_of, Action, Evaluate, Trace}
+use Rattle.d_types.specs.Typed.{Print, Exit, Aggregate, Agg, Aggs, ClauseMeant, ScriptMeant}
 use Rattle.d_types.specs.Needs.{need, count}
 use Rattle.d_types.specs.Variables.{Rows, find, kinds_of, types_in}
 use Rattle.d_types.specs.Variables as variables
 use Rattle.d_types.specs.Formats.{pieces}
 use Rattle.d_types.specs.Formats as formats
 use Rattle.d_types.specs.Typing.{line_of, only, expr, whole}
-use Rattle.d_types.specs.Statements.{wholes, trace, exit_by, exit, not_printed, text_of, print_by, print, evaluate, call_statement, action}
-use Rattle.d_types.specs.Aggregations.{arguments_fit, first, function, find_from, is_again, new_aggregation, place_for, aggregate}
-use Rattle.d_types.specs.Scripts.{declare, declaration, test_of, predicate, statement, statements, clause, item, items, script}
+use Rattle.d_types.specs.Statements.{wholes, trace, exit_by, exit, not_printed, text_of, print_by}
+use Rattle.d_types.specs.Statements.{print, evaluate, call_statement, action}
+use Rattle.d_types.specs.Aggregations.{arguments_fit, first, function, find_from, is_again}
+use Rattle.d_types.specs.Aggregations.{new_aggregation, place_for, aggregate}
+use Rattle.d_types.specs.Scripts.{declare, declaration, test_of, predicate, statement, statements}
+use Rattle.d_types.specs.Scripts.{clause, item, items, script}
 use Rattle.d_types.specs.Fitting.{ScriptFits}
 use Rattle.d_types.specs.Rules.{Types, AllTypes, IsInteger}
-use Rattle.d_types.specs.WellTyped.{Evaluates, Prints, Acts, Stands, Joins, Aggregates, Declares, IsDeclared, Tests, Does, AllDo, Probes, AllItems, IsWell}
+use Rattle.d_types.specs.WellTyped.{Evaluates, Prints, Acts, Stands, Joins, Aggregates, Declares}
+use Rattle.d_types.specs.WellTyped.{IsDeclared, Tests, Does, AllDo, Probes, AllItems, IsWell}
 use Rattle.d_types.proofs.Complete.{after, after-add, after-end}
 use Rattle.d_types.proofs.CompleteScripts.{script_complete}
 use Rattle.d_types.proofs.Sound.{bound, sound}

@@ -1,5 +1,8 @@
 -- Pieces of a format are read as they are spelled.
-use Rattle.std.proofs.Common.{◌≡◌, ℕ, zero, suc, ◌+◌, ◌*◌, ◌-◌, ◌^◌, ◌≤◌, ◌<◌, ◌==◌, ◌||◌, inl, inr, List, [], ◌∷◌, ◌++◌, get_or, Bool, true, false, if◌then◌else◌, Option, Some, decimal, refl, sym, ap, ◌∙◌, subst, append_assoc, append-nil, arith, eqb-true, ne_eqb, le-leb}
+use Rattle.std.proofs.Common.{◌≡◌, ℕ, zero, suc, ◌+◌, ◌*◌, ◌-◌, ◌^◌, ◌≤◌, ◌<◌, ◌==◌, ◌||◌, inl, inr}
+use Rattle.std.proofs.Common.{List, [], ◌∷◌, ◌++◌, get_or, Bool, true, false, if◌then◌else◌, Option}
+use Rattle.std.proofs.Common.{Some, decimal, refl, sym, ap, ◌∙◌, subst, append_assoc, append-nil}
+use Rattle.std.proofs.Common.{arith, eqb-true, ne_eqb, le-leb}
 use Rattle.std.proofs.Math.Bool.{or-true, or-false}
 use Rattle.std.proofs.lemmas.Fmt.{first_decimal, digits_decimal, digits_value-decimal}
 use Rattle.std.proofs.lemmas.Str.Parse.{IsDigitsTest, FoldsDigits, IsNumeralModel, numerals_by_fold}
@@ -13,7 +16,8 @@ use Rattle.d_types.specs.declared.format.Flags.{Flags}
 use Rattle.d_types.specs.declared.format.Place.{Place}
 use Rattle.d_types.specs.declared.format.Place.TheVariants as at
 use Rattle.d_types.specs.Formats.{is_digit, no_flags, pieces_from, pieces}
-use Rattle.d_types.specs.Spelling.{IsOneOf, has, AreFlags, width_text, lengths, letters, IsConversion, IsPiece, Spells}
+use Rattle.d_types.specs.Spelling.{IsOneOf, has, AreFlags, width_text, lengths, letters}
+use Rattle.d_types.specs.Spelling.{IsConversion, IsPiece, Spells}
 
 -- ---- the digits of a width
 

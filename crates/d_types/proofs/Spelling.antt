@@ -1,5 +1,8 @@
 -- What is read as pieces is spelled by them.
-use Rattle.std.proofs.Common.{◌≡◌, ◌≢◌, ℕ, zero, suc, ◌+◌, ◌*◌, ◌-◌, ◌≤◌, ◌<◌, ◌==◌, ◌&&◌, ◌||◌, ◌⊎◌, inl, inr, nat_le, List, [], ◌∷◌, ◌++◌, Bool, true, false, if◌then◌else◌, Option, Some, None, decimal, refl, sym, ap, ◌∙◌, subst, append_assoc, append-nil, arith, eqb-true, eq-eqb}
+use Rattle.std.proofs.Common.{◌≡◌, ◌≢◌, ℕ, zero, suc, ◌+◌, ◌*◌, ◌-◌, ◌≤◌, ◌<◌, ◌==◌, ◌&&◌, ◌||◌}
+use Rattle.std.proofs.Common.{◌⊎◌, inl, inr, nat_le, List, [], ◌∷◌, ◌++◌, Bool, true, false}
+use Rattle.std.proofs.Common.{if◌then◌else◌, Option, Some, None, decimal, refl, sym, ap, ◌∙◌, subst}
+use Rattle.std.proofs.Common.{append_assoc, append-nil, arith, eqb-true, eq-eqb}
 use Rattle.std.proofs.Math.Bool.{or-true, or-false}
 use Rattle.std.proofs.lemmas.Bool.{true≢false, leb-true}
 use Rattle.std.proofs.lemmas.Fmt.{decimal-digits_value}
@@ -11,9 +14,13 @@ use Rattle.d_types.specs.declared.typed.Piece.TheVariants as piece
 use Rattle.d_types.specs.declared.format.Flags.{Flags}
 use Rattle.d_types.specs.declared.format.Place.{Place}
 use Rattle.d_types.specs.declared.format.Place.TheVariants as at
-use Rattle.d_types.specs.Formats.{goes, ends, letter_of, with_letter, at_letter, at_length, is_digit, at_width, at_flags, no_flags, turn, with_piece, is_outside, pieces_at_end, option_then, pieces_from, pieces}
-use Rattle.d_types.specs.Spelling.{IsOneOf, has, AreFlags, width_text, lengths, letters, IsPiece, Spells}
-use Rattle.d_types.proofs.Spelled.{AllDecimal, value_after, numerals, not_less, argument, with_width}
+use Rattle.d_types.specs.Formats.{goes, ends, letter_of, with_letter, at_letter, at_length}
+use Rattle.d_types.specs.Formats.{is_digit, at_width, at_flags, no_flags, turn, with_piece}
+use Rattle.d_types.specs.Formats.{is_outside, pieces_at_end, option_then, pieces_from, pieces}
+use Rattle.d_types.specs.Spelling.{IsOneOf, has, AreFlags, width_text, lengths, letters, IsPiece}
+use Rattle.d_types.specs.Spelling.{Spells}
+use Rattle.d_types.proofs.Spelled.{AllDecimal, value_after, numerals, not_less, argument}
+use Rattle.d_types.proofs.Spelled.{with_width}
 
 -- ---- tests
 

@@ -1,5 +1,7 @@
 -- `++` and `--` are `+= 1` and `-= 1`.
-use Rattle.std.proofs.Common.{◌≡◌, ℕ, ◌+◌, ◌-◌, ◌*◌, ◌%◌, ◌^◌, ◌<◌, ◌≤◌, nat_lt, nat_le, ◌⊎◌, inl, inr, List, Bool, true, false, ◌&&◌, if◌then◌else◌, refl, sym, ap, ◌∙◌, subst, arith}
+use Rattle.std.proofs.Common.{◌≡◌, ℕ, ◌+◌, ◌-◌, ◌*◌, ◌%◌, ◌^◌, ◌<◌, ◌≤◌, nat_lt, nat_le, ◌⊎◌, inl}
+use Rattle.std.proofs.Common.{inr, List, Bool, true, false, ◌&&◌, if◌then◌else◌, refl, sym, ap, ◌∙◌}
+use Rattle.std.proofs.Common.{subst, arith}
 use Rattle.std.proofs.lemmas.Bool.Decides.{nat_tests}
 use Rattle.d_parser.specs.declared.operators.Step.{Step}
 use Rattle.d_parser.specs.declared.operators.Step.TheVariants as st
@@ -20,7 +22,9 @@ use Rattle.d_types.specs.declared.typed.Variable.{Variable}
 use Rattle.d_types.specs.Typed.{Constant, Read, Count, Typeds}
 use Rattle.d_types.specs.Operators.{conversion_node}
 use Rattle.d_types.specs.Storage.{Variables, word_of, value_at}
-use Rattle.d_types.specs.Expressions.{Outcome, Has, Faults, with, word_or_fault, number, operation_of, word_as_type, step_result, assignment_outcome, update_outcome, step_outcome, eval, keys_of}
+use Rattle.d_types.specs.Expressions.{Outcome, Has, Faults, with, word_or_fault, number}
+use Rattle.d_types.specs.Expressions.{operation_of, word_as_type, step_result, assignment_outcome}
+use Rattle.d_types.specs.Expressions.{update_outcome, step_outcome, eval, keys_of}
 use Rattle.d_types.specs.Laws.{operator_of, one_more, variables_after, with_after}
 use Rattle.d_types.proofs.InPlace.{converts}
 use Rattle.d_types.proofs.ValueTypes.{int_word}

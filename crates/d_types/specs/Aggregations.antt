@@ -1,7 +1,11 @@
 -- The typed tree of an aggregation statement, or its first fault.
-use Rattle.std.specs.Prelude.{ℕ, ◌+◌, ◌==◌, ◌&&◌, nat_le, Bool, true, false, if◌then◌else◌, List, [], ◌∷◌, ◌++◌, length, Option, Some, None, Result, Ok, ℤ, pos, neg_ℤ}
-use Rattle.d_types.specs.Vocabulary.{bytes_eq, int_eq, option_map, Int, Text, linear_range, UnaryOperator, Constant, Tree, Trees, DType, AggFn, MOST_KEYS, MOST_STEP, Aggregating}
-use Rattle.d_types.specs.Faults.{Fault, ◌>>=◌, refuse, unless, Undeclared, Mismatch, Keys, AggregationRedefined, LquantizeBounds}
+use Rattle.std.specs.Prelude.{ℕ, ◌+◌, ◌==◌, ◌&&◌, nat_le, Bool, true, false, if◌then◌else◌, List}
+use Rattle.std.specs.Prelude.{[], ◌∷◌, ◌++◌, length, Option, Some, None, Result, Ok, ℤ, pos, neg_ℤ}
+use Rattle.d_types.specs.Vocabulary.{bytes_eq, int_eq, option_map, Int, Text, linear_range}
+use Rattle.d_types.specs.Vocabulary.{UnaryOperator, Constant, Tree, Trees, DType, AggFn, MOST_KEYS}
+use Rattle.d_types.specs.Vocabulary.{MOST_STEP, Aggregating}
+use Rattle.d_types.specs.Faults.{Fault, ◌>>=◌, refuse, unless, Undeclared, Mismatch, Keys}
+use Rattle.d_types.specs.Faults.{AggregationRedefined, LquantizeBounds}
 use Rattle.d_types.specs.Typed.{Typed, Typeds, end, more, type_of, Action, Aggregate, Agg, Aggs}
 use Rattle.d_types.specs.Variables.{Rows, kinds_of, fit}
 use Rattle.d_types.specs.{Words.aggregating_named, Needs.count, Statements.wholes}

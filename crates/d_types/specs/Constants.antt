@@ -1,6 +1,7 @@
 -- The types that constants have, and those that words name.
 use Rattle.std.specs.Prelude.{ℕ, nat_le, if◌then◌else◌}
-use Rattle.d_types.specs.Vocabulary.{Suffix, IntegerType, DeclaredType, IntType, DType, INT8, INT16, INT32, INT64, UINT8, UINT16, UINT32, UINT64}
+use Rattle.d_types.specs.Vocabulary.{Suffix, IntegerType, DeclaredType, IntType, DType, INT8, INT16}
+use Rattle.d_types.specs.Vocabulary.{INT32, INT64, UINT8, UINT16, UINT32, UINT64}
 
 -- the first of int, long and unsigned long that holds the value
 abbrev pub unsuffixed_type : ℕ → IntType

@@ -1,7 +1,14 @@
 -- What an expression means: its value, or the fault, and the variables after it.
-use Rattle.std.specs.Prelude.{ℕ, zero, suc, List, [], ◌∷◌, length, Bool, true, false, Result, Ok, Err, pos, get_or}
-use Rattle.d_types.specs.Vocabulary.{cast_unsigned, w64, UnaryOperator, Step, OutOfZero, IntType, DType, KeyPart, Value, holds_of, text_cmp, joined_text, narrow, binary_of, shift_of, opposite_of, complement_of, order_of, sum_of, difference_of, Firing, Answer, BuiltIn, LogicOperator, Operation, Variable}
-use Rattle.d_types.specs.Typed.{Typed, Constant, Text, Fixed, Read, Unary, Operate, Compare, CompareText, Logic, Choice, Convert, Assign, Update, Count, Strlen, Strjoin, Typeds, end, more}
+use Rattle.std.specs.Prelude.{ℕ, zero, suc, List, [], ◌∷◌, length, Bool, true, false, Result, Ok}
+use Rattle.std.specs.Prelude.{Err, pos, get_or}
+use Rattle.d_types.specs.Vocabulary.{cast_unsigned, w64, UnaryOperator, Step, OutOfZero, IntType}
+use Rattle.d_types.specs.Vocabulary.{DType, KeyPart, Value, holds_of, text_cmp, joined_text, narrow}
+use Rattle.d_types.specs.Vocabulary.{binary_of, shift_of, opposite_of, complement_of, order_of}
+use Rattle.d_types.specs.Vocabulary.{sum_of, difference_of, Firing, Answer, BuiltIn, LogicOperator}
+use Rattle.d_types.specs.Vocabulary.{Operation, Variable}
+use Rattle.d_types.specs.Typed.{Typed, Constant, Text, Fixed, Read, Unary, Operate, Compare}
+use Rattle.d_types.specs.Typed.{CompareText, Logic, Choice, Convert, Assign, Update, Count, Strlen}
+use Rattle.d_types.specs.Typed.{Strjoin, Typeds, end, more}
 use Rattle.d_types.specs.Storage.{Variables, word_of, bytes_of, value_at, set}
 pub use Rattle.d_values.specs.Keys.{part_of}
 pub use Rattle.d_values.specs.Outcomes.{Outcome, Has, Faults, with}

@@ -1,5 +1,6 @@
 -- The formats of printf: bytes, and conversions that begin with a percent sign.
-use Rattle.std.specs.Prelude.{ℕ, ◌+◌, ◌*◌, ◌-◌, ◌==◌, ◌&&◌, ◌||◌, nat_le, Bool, true, false, if◌then◌else◌, List, [], ◌∷◌, ◌++◌, Option, Some, None}
+use Rattle.std.specs.Prelude.{ℕ, ◌+◌, ◌*◌, ◌-◌, ◌==◌, ◌&&◌, ◌||◌, nat_le, Bool, true, false}
+use Rattle.std.specs.Prelude.{if◌then◌else◌, List, [], ◌∷◌, ◌++◌, Option, Some, None}
 use Rattle.d_types.specs.Vocabulary.{Int, Text, DType, Letter, Piece, MOST_WIDTH, Flags, Place}
 use Rattle.d_types.specs.Typed.{Typeds, end, more, type_of}
 

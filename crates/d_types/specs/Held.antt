@@ -1,8 +1,12 @@
 -- Values of a type, variables that hold values of their types, and trees whose parts have the types
 -- that their places ask for.
-use Rattle.std.specs.Prelude.{◌≡◌, ◌≤◌, ℕ, ℤ, List, length, slice_get, Option, Some, option_and_then}
-use Rattle.d_types.specs.Vocabulary.{IntType, DType, KeyPart, Value, Var, IsNumber, bits_of, longest, Firing, BuiltIn, Operation, Variable}
-use Rattle.d_types.specs.Typed.{ScriptMeant, Typed, Constant, Text, Fixed, Read, Unary, Operate, Compare, CompareText, Logic, Choice, Convert, Assign, Update, Count, Strlen, Strjoin, Typeds, end, more, type_of, type_of_built_in}
+use Rattle.std.specs.Prelude.{◌≡◌, ◌≤◌, ℕ, ℤ, List, length, slice_get, Option, Some}
+use Rattle.std.specs.Prelude.{option_and_then}
+use Rattle.d_types.specs.Vocabulary.{IntType, DType, KeyPart, Value, Var, IsNumber, bits_of}
+use Rattle.d_types.specs.Vocabulary.{longest, Firing, BuiltIn, Operation, Variable}
+use Rattle.d_types.specs.Typed.{ScriptMeant, Typed, Constant, Text, Fixed, Read, Unary, Operate}
+use Rattle.d_types.specs.Typed.{Compare, CompareText, Logic, Choice, Convert, Assign, Update, Count}
+use Rattle.d_types.specs.Typed.{Strlen, Strjoin, Typeds, end, more, type_of, type_of_built_in}
 use Rattle.d_types.specs.Storage.{Variables}
 use Rattle.d_types.specs.Variables.{kind_of}
 use Rattle.d_types.specs.Expressions.{Outcome, Has, Faults, built_in_of, works_in}

@@ -1,7 +1,10 @@
 -- What evaluation never does, by what stands in the expression.
 use Rattle.std.specs.Prelude.{◌≡◌, ℕ, Bool, true, false, ◌||◌, List}
-use Rattle.d_types.specs.Vocabulary.{Step, IntType, KeyPart, ArithmeticOperator, Value, INT32, common_of, divides, Firing, Operation, Variable}
-use Rattle.d_types.specs.Typed.{Typed, Constant, Text, Fixed, Read, Unary, Operate, Compare, CompareText, Logic, Choice, Convert, Assign, Update, Count, Strlen, Strjoin, Typeds, end, more}
+use Rattle.d_types.specs.Vocabulary.{Step, IntType, KeyPart, ArithmeticOperator, Value, INT32}
+use Rattle.d_types.specs.Vocabulary.{common_of, divides, Firing, Operation, Variable}
+use Rattle.d_types.specs.Typed.{Typed, Constant, Text, Fixed, Read, Unary, Operate, Compare}
+use Rattle.d_types.specs.Typed.{CompareText, Logic, Choice, Convert, Assign, Update, Count, Strlen}
+use Rattle.d_types.specs.Typed.{Strjoin, Typeds, end, more}
 use Rattle.d_types.specs.Storage.{Variables, value_at}
 use Rattle.d_types.specs.Expressions.{Outcome, Has, Faults, with, works_in, keys_of}
 use Rattle.d_types.specs.{Held.IsOf, Operators.conversion_node}

@@ -1,7 +1,9 @@
 -- How many registers an expression needs.
 use Rattle.std.specs.Prelude.{ℕ, ◌+◌, max}
 use Rattle.d_types.specs.Vocabulary.{LogicOperator}
-use Rattle.d_types.specs.Typed.{Typed, Constant, Text, Fixed, Read, Unary, Operate, Compare, CompareText, Logic, Choice, Convert, Assign, Update, Count, Strlen, Strjoin, Typeds, end, more}
+use Rattle.d_types.specs.Typed.{Typed, Constant, Text, Fixed, Read, Unary, Operate, Compare}
+use Rattle.d_types.specs.Typed.{CompareText, Logic, Choice, Convert, Assign, Update, Count, Strlen}
+use Rattle.d_types.specs.Typed.{Strjoin, Typeds, end, more}
 
 abbrev pub count : Typeds → ℕ
 count end = 0

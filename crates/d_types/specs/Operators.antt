@@ -1,6 +1,9 @@
 -- What operators make of typed operands.
 use Rattle.std.specs.Prelude.{Bool, not, ◌&&◌, ◌==◌, if◌then◌else◌, Option, Some, None}
-use Rattle.d_types.specs.Vocabulary.{Int, Text, UnaryOperator, BinaryOperator, AssignOperator, IntType, DType, ArithmeticOperator, ShiftOperator, ComparisonOperator, promoted_of, common_of, Operation, LogicOperator, BinarySort, AssignSort}
+use Rattle.d_types.specs.Vocabulary.{Int, Text, UnaryOperator, BinaryOperator, AssignOperator}
+use Rattle.d_types.specs.Vocabulary.{IntType, DType, ArithmeticOperator, ShiftOperator}
+use Rattle.d_types.specs.Vocabulary.{ComparisonOperator, promoted_of, common_of, Operation}
+use Rattle.d_types.specs.Vocabulary.{LogicOperator, BinarySort, AssignSort}
 use Rattle.d_types.specs.Typed.{Typed}
 
 -- the table of operators has four kinds of rows

@@ -1,7 +1,9 @@
 -- The texts that trace and printf make of values.
-use Rattle.std.specs.Prelude.{ℕ, ◌+◌, ◌-◌, ◌%◌, ◌^◌, List, [], ◌∷◌, ◌++◌, length, replicate, Bool, false, if◌then◌else◌, ℤ, pos, int_lt, unsigned_abs}
+use Rattle.std.specs.Prelude.{ℕ, ◌+◌, ◌-◌, ◌%◌, ◌^◌, List, [], ◌∷◌, ◌++◌, length, replicate, Bool}
+use Rattle.std.specs.Prelude.{false, if◌then◌else◌, ℤ, pos, int_lt, unsigned_abs}
 use Rattle.std.specs.Fmt.{signed_decimal, digits}
-use Rattle.d_types.specs.Vocabulary.{cast_signed, w64, decimal, DType, Value, Conversion, Letter, Piece}
+use Rattle.d_types.specs.Vocabulary.{cast_signed, w64, decimal, DType, Value, Conversion, Letter}
+use Rattle.d_types.specs.Vocabulary.{Piece}
 use Rattle.d_types.specs.Storage.{word_of, bytes_of}
 
 abbrev pub is_signed : DType → Bool

@@ -4,7 +4,8 @@ use Rattle.std.specs.Prelude.{◌≡◌, ◌<◌, ◌≤◌, true, length, slice
 use Rattle.d_types.specs.Vocabulary.{AggFn, MOST_KEYS}
 use Rattle.d_types.specs.Variables as variables
 use Rattle.d_types.specs.Formats as formats
-use Rattle.d_types.specs.Typed.{Typed, Typeds, type_of, Action, Evaluate, Trace, Print, Exit, Aggregate, Agg, Aggs, ClauseMeant, ScriptMeant}
+use Rattle.d_types.specs.Typed.{Typed, Typeds, type_of, Action, Evaluate, Trace, Print, Exit}
+use Rattle.d_types.specs.Typed.{Aggregate, Agg, Aggs, ClauseMeant, ScriptMeant}
 use Rattle.d_types.specs.{Needs.count, Aggregations.is_integer}
 
 abbrev pub IsInteger : Typed → Type 0

@@ -1,11 +1,17 @@
 -- Which expressions are well typed, and what their typed trees are: no order of faults, and no
 -- faults.
-use Rattle.std.specs.Prelude.{◌≡◌, ℕ, nat_le, List, [], ◌∷◌, ◌++◌, length, ◌⊎◌, true, Option, Some, None}
+use Rattle.std.specs.Prelude.{◌≡◌, ℕ, nat_le, List, [], ◌∷◌, ◌++◌, length, ◌⊎◌, true, Option, Some}
+use Rattle.std.specs.Prelude.{None}
 use Rattle.d_parser.specs.declared.tree.Variable.{Variable}
-use Rattle.d_types.specs.Vocabulary.{Int, Text, Step, Tree, Trees, IntType, DType, INT64, promoted_of, common_of, Answer, BuiltIn, Space, Operation, BinarySort, AssignSort, Callee}
+use Rattle.d_types.specs.Vocabulary.{Int, Text, Step, Tree, Trees, IntType, DType, INT64}
+use Rattle.d_types.specs.Vocabulary.{promoted_of, common_of, Answer, BuiltIn, Space, Operation}
+use Rattle.d_types.specs.Vocabulary.{BinarySort, AssignSort, Callee}
 use Rattle.d_types.specs.Typed.{Typed, Typeds, end, more, type_of}
 use Rattle.d_types.specs.Variables.{Rows, find, type_at, keys_fit, set_type}
-use Rattle.d_types.specs.{Constants.int_type, Words.built_in, Words.callee_named, Needs.count, Operators.binary_sort, Operators.assign_sort, Operators.conversion_node, Targets.most_keys, Targets.new_row, Targets.settle_slot, Targets.space_of, Targets.type_at_once, Typing.constant}
+use Rattle.d_types.specs.{Constants.int_type, Needs.count, Typing.constant}
+use Rattle.d_types.specs.Words.{built_in, callee_named}
+use Rattle.d_types.specs.Operators.{binary_sort, assign_sort, conversion_node}
+use Rattle.d_types.specs.Targets.{most_keys, new_row, settle_slot, space_of, type_at_once}
 
 abbrev pub IsInteger : Typed → IntType → Type 0
 IsInteger x t = type_of x ≡ Int t

@@ -1,11 +1,16 @@
 -- The typed tree of a script, or its first fault: declarations and clauses go in the order of the
 -- text.
-use Rattle.std.specs.Prelude.{◌≡◌, ℕ, nat_le, if◌then◌else◌, List, [], ◌∷◌, ◌++◌, length, map, Option, Some, None, Result, Ok}
-use Rattle.d_types.specs.Vocabulary.{Int, Text, MOST_BYTES, DeclaredType, AreSmall, IsWithin, DeclarationTree, StmtTree, ItemTree, Tree, ClauseTree, Kind, DType, REGISTERS, MOST_KEYS, Space}
+use Rattle.std.specs.Prelude.{◌≡◌, ℕ, nat_le, if◌then◌else◌, List, [], ◌∷◌, ◌++◌, length, map}
+use Rattle.std.specs.Prelude.{Option, Some, None, Result, Ok}
+use Rattle.d_types.specs.Vocabulary.{Int, Text, MOST_BYTES, DeclaredType, AreSmall, IsWithin}
+use Rattle.d_types.specs.Vocabulary.{DeclarationTree, StmtTree, ItemTree, Tree, ClauseTree, Kind}
+use Rattle.d_types.specs.Vocabulary.{DType, REGISTERS, MOST_KEYS, Space}
 use Rattle.d_types.specs.Faults.{Fault, ◌>>=◌, refuse, Mismatch, Keys, NoRegister}
 use Rattle.d_types.specs.Typed.{Typed, type_of, Action, Aggs, ClauseMeant, ScriptMeant}
 use Rattle.d_types.specs.Variables.{Rows, kind_of, find, types_in}
-use Rattle.d_types.specs.{Constants.declared_type, Needs.need, Typing.line_of, Typing.expr, Statements.action, Aggregations.aggregate}
+use Rattle.d_types.specs.{Constants.declared_type, Needs.need, Statements.action}
+use Rattle.d_types.specs.{Aggregations.aggregate}
+use Rattle.d_types.specs.Typing.{line_of, expr}
 
 -- ---- declarations
 

@@ -1,8 +1,11 @@
 -- How large a typed script is.
 use Rattle.std.specs.Prelude.{ℕ, suc, ◌+◌, ◌*◌, ◌≤◌, length, Option, Some, None}
 use Rattle.d_parser.specs.Sizes.{in_all}
-use Rattle.d_types.specs.Typed.{Typed, Constant, Text, Fixed, Read, Unary, Operate, Compare, CompareText, Logic, Choice, Convert, Assign, Update, Count, Strlen, Strjoin, Typeds, end, more}
-use Rattle.d_types.specs.Typed.{Action, Evaluate, Trace, Print, Exit, Aggregate, ClauseMeant, ScriptMeant}
+use Rattle.d_types.specs.Typed.{Typed, Constant, Text, Fixed, Read, Unary, Operate, Compare}
+use Rattle.d_types.specs.Typed.{CompareText, Logic, Choice, Convert, Assign, Update, Count, Strlen}
+use Rattle.d_types.specs.Typed.{Strjoin, Typeds, end, more}
+use Rattle.d_types.specs.Typed.{Action, Evaluate, Trace, Print, Exit, Aggregate, ClauseMeant}
+use Rattle.d_types.specs.Typed.{ScriptMeant}
 
 -- the places of variables in an expression
 abbrev mutual

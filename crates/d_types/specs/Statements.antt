@@ -2,7 +2,8 @@
 use Rattle.std.specs.Prelude.{ℕ, if◌then◌else◌, List, Option, Some, None, Result, Ok}
 use Rattle.d_types.specs.Vocabulary.{Int, Text, Constant, Trees, Tree, DType, Callee}
 use Rattle.d_types.specs.Faults.{Fault, ◌>>=◌, refuse, unless, Mismatch, PrintfArguments}
-use Rattle.d_types.specs.Typed.{Typed, Typeds, end, add, type_of, Action, Evaluate, Trace, Print, Exit}
+use Rattle.d_types.specs.Typed.{Typed, Typeds, end, add, type_of, Action, Evaluate, Trace, Print}
+use Rattle.d_types.specs.Typed.{Exit}
 use Rattle.d_types.specs.Formats.{pieces, fit}
 use Rattle.d_types.specs.{Words.callee_named, Variables.Rows, Typing.only, Typing.whole}
 

@@ -3,7 +3,8 @@
 use Rattle.std.specs.Prelude.{List}
 use Rattle.d_types.specs.Vocabulary.{KeyPart, Var, Value, Space, Variable}
 use Rattle.d_types.specs.Variables.{kind_of}
-pub use Rattle.d_values.specs.Storage.{Variables, variables, set_local, set_own, word_of, bytes_of, as_kind}
+pub use Rattle.d_values.specs.Storage.{Variables, variables, set_local, set_own, word_of, bytes_of}
+pub use Rattle.d_values.specs.Storage.{as_kind}
 
 abbrev pub var_of : Variable → Var
 var_of x = record { slot = x.slot; kind = kind_of x.holds }

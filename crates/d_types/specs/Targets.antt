@@ -1,10 +1,14 @@
 -- Variables that are read and assigned.
-use Rattle.std.specs.Prelude.{ℕ, nat_le, Bool, true, false, if◌then◌else◌, List, [], ◌∷◌, ◌++◌, length, Option, Some, None, Result, Ok}
+use Rattle.std.specs.Prelude.{ℕ, nat_le, Bool, true, false, if◌then◌else◌, List, [], ◌∷◌, ◌++◌}
+use Rattle.std.specs.Prelude.{length, Option, Some, None, Result, Ok}
 use Rattle.d_parser.specs.declared.tree.Variable.{Variable}
-use Rattle.d_types.specs.Vocabulary.{Int, Step, IntType, DType, INT64, promoted_of, common_of, Answer, BuiltIn, Space, Operation, MOST_KEYS, AssignSort}
+use Rattle.d_types.specs.Vocabulary.{Int, Step, IntType, DType, INT64, promoted_of, common_of}
+use Rattle.d_types.specs.Vocabulary.{Answer, BuiltIn, Space, Operation, MOST_KEYS, AssignSort}
 use Rattle.d_types.specs.Faults.{Fault, refuse, GlobalAssignment, Undeclared, Keys, ReadOnly}
 use Rattle.d_types.specs.Variables.{Row, Rows, find, type_at, keys_fit, set_type, kinds_of}
-use Rattle.d_types.specs.{Typed.Typed, Typed.Typeds, Typed.end, Typed.more, Typed.type_of, Needs.count, Words.built_in, Operators.as_type, Operators.conversion_node}
+use Rattle.d_types.specs.{Needs.count, Words.built_in}
+use Rattle.d_types.specs.Typed.{Typed, Typeds, end, more, type_of}
+use Rattle.d_types.specs.Operators.{as_type, conversion_node}
 
 -- the line of a variable's first token
 abbrev pub line_of_variable : Variable → ℕ

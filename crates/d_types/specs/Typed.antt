@@ -1,7 +1,11 @@
 -- Typed trees, without where they lie in memory.
 use Rattle.std.specs.List.{list_any}
 use Rattle.std.specs.Prelude.{ℕ, Bool, true, false, List, [], ◌∷◌, map, Option, Some, None}
-use Rattle.d_types.specs.Vocabulary.{UnaryOperator, Step, Description, IntType, DType, ComparisonOperator, Kind, INT32, INT64, UINT64, AggFn, BuiltIn, Variable, Operation, LogicOperator, Answer, Piece, TypedExpr, Row_of-TypedExpr, end_of-TypedExpr, more_of-TypedExpr, TypedStmt, TypedClause, TypedAggregation}
+use Rattle.d_types.specs.Vocabulary.{UnaryOperator, Step, Description, IntType, DType}
+use Rattle.d_types.specs.Vocabulary.{ComparisonOperator, Kind, INT32, INT64, UINT64, AggFn, BuiltIn}
+use Rattle.d_types.specs.Vocabulary.{Variable, Operation, LogicOperator, Answer, Piece, TypedExpr}
+use Rattle.d_types.specs.Vocabulary.{Row_of-TypedExpr, end_of-TypedExpr, more_of-TypedExpr}
+use Rattle.d_types.specs.Vocabulary.{TypedStmt, TypedClause, TypedAggregation}
 
 mutual
   pub data Typed : Type 0 where

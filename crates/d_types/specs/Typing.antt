@@ -2,10 +2,16 @@
 -- right, then the construct itself.
 use Rattle.std.specs.Prelude.{ℕ, nat_le, take, if◌then◌else◌, Option, Some, None, Result, Ok}
 use Rattle.d_parser.specs.declared.tree.Variable.{Variable}
-use Rattle.d_types.specs.Vocabulary.{Int, Text, Step, AssignOperator, Constant, Tree, Trees, DType, longest, INT64, Answer, REGISTERS, Callee}
+use Rattle.d_types.specs.Vocabulary.{Int, Text, Step, AssignOperator, Constant, Tree, Trees, DType}
+use Rattle.d_types.specs.Vocabulary.{longest, INT64, Answer, REGISTERS, Callee}
 use Rattle.d_types.specs.Faults.{Fault, ◌>>=◌, refuse, unless, Undeclared, Mismatch, NoRegister}
-use Rattle.d_types.specs.Targets.{line_of_variable, space_of, read, target, type_at_once, assignment, step}
-use Rattle.d_types.specs.{Constants.type_of_constant, Constants.int_type, Words.callee_named, Typed.Typed, Typed.Typeds, Typed.end, Typed.more, Typed.add, Typed.type_of, Needs.need, Variables.Rows, Variables.type_at, Operators.assign_sort, Operators.as_type, Operators.unary, Operators.binary, Operators.choice}
+use Rattle.d_types.specs.Targets.{line_of_variable, space_of, read, target, type_at_once}
+use Rattle.d_types.specs.Targets.{assignment, step}
+use Rattle.d_types.specs.{Words.callee_named, Needs.need}
+use Rattle.d_types.specs.Constants.{type_of_constant, int_type}
+use Rattle.d_types.specs.Typed.{Typed, Typeds, end, more, add, type_of}
+use Rattle.d_types.specs.Variables.{Rows, type_at}
+use Rattle.d_types.specs.Operators.{assign_sort, as_type, unary, binary, choice}
 
 -- the line of the first token
 abbrev pub line_of : Tree → ℕ

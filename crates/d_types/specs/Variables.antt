@@ -1,5 +1,6 @@
 -- The table of variables.
-use Rattle.std.specs.Prelude.{ℕ, zero, suc, ◌+◌, Bool, true, false, ◌&&◌, if◌then◌else◌, List, [], ◌∷◌, map, Option, Some, None}
+use Rattle.std.specs.Prelude.{ℕ, zero, suc, ◌+◌, Bool, true, false, ◌&&◌, if◌then◌else◌, List, []}
+use Rattle.std.specs.Prelude.{◌∷◌, map, Option, Some, None}
 use denote.Enum.Bare.{sameb}
 use Rattle.d_types.specs.Vocabulary.{bytes_eq, Kind, DType, Space, Entry}
 use Rattle.d_types.specs.contracts.typed.Space as space

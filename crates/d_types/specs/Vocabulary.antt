@@ -7,7 +7,9 @@ pub use Rattle.d_lexer.specs.declared.fault.TheConstants.{MOST_BYTES}
 pub use Rattle.d_lexer.specs.declared.token.Suffix.{Suffix}
 pub use Rattle.d_parser.specs.Numbers.{AreSmall}
 pub use Rattle.d_parser.specs.Sizes.{IsWithin, in_all}
-pub use Rattle.d_parser.specs.Tree.{Tree, Trees, DeclarationTree, StmtTree, ItemTree, ClauseTree, tree_of, trees_of, item_of, script_of, stmt_of, stmts_of, predicate_of, clause_of, declaration_of}
+pub use Rattle.d_parser.specs.Tree.{Tree, Trees, DeclarationTree, StmtTree, ItemTree, ClauseTree}
+pub use Rattle.d_parser.specs.Tree.{tree_of, trees_of, item_of, script_of, stmt_of, stmts_of}
+pub use Rattle.d_parser.specs.Tree.{predicate_of, clause_of, declaration_of}
 pub use Rattle.d_parser.specs.declared.operators.AssignOperator.{AssignOperator}
 pub use Rattle.d_parser.specs.declared.operators.BinaryOperator.{BinaryOperator}
 pub use Rattle.d_parser.specs.declared.operators.Step.{Step}
@@ -20,8 +22,10 @@ pub use Rattle.d_values.specs.Numbers.{IsNumber, bits_of}
 pub use Rattle.d_values.specs.Operators.{holds_of}
 pub use Rattle.d_values.specs.Stores.{blank}
 pub use Rattle.d_values.specs.Texts.{text_cmp, joined_text, longest}
-pub use Rattle.d_values.specs.Types.{INT8, INT16, INT32, INT64, UINT8, UINT16, UINT32, UINT64, common_of, promoted_of}
-pub use Rattle.d_values.specs.Words.{narrow, binary_of, shift_of, opposite_of, complement_of, order_of, sum_of, difference_of, divides}
+pub use Rattle.d_values.specs.Types.{INT8, INT16, INT32, INT64, UINT8, UINT16, UINT32, UINT64}
+pub use Rattle.d_values.specs.Types.{common_of, promoted_of}
+pub use Rattle.d_values.specs.Words.{narrow, binary_of, shift_of, opposite_of, complement_of}
+pub use Rattle.d_values.specs.Words.{order_of, sum_of, difference_of, divides}
 pub use Rattle.d_values.specs.declared.arithmetic.OutOfZero.{OutOfZero}
 pub use Rattle.d_values.specs.declared.int_type.DType.{DType}
 pub use Rattle.d_values.specs.declared.int_type.DType.TheVariants.{Int, Text}
@@ -58,7 +62,8 @@ pub use Rattle.d_types.specs.declared.typed.Piece.{Piece}
 pub use Rattle.d_types.specs.declared.typed.Space.{Space}
 pub use Rattle.d_types.specs.declared.typed.TypedAggregation.{TypedAggregation}
 pub use Rattle.d_types.specs.declared.typed.TypedClause.{TypedClause}
-pub use Rattle.d_types.specs.declared.typed.TypedExpr.{TypedExpr, Row_of-TypedExpr, end_of-TypedExpr, more_of-TypedExpr}
+pub use Rattle.d_types.specs.declared.typed.TypedExpr.{TypedExpr, Row_of-TypedExpr}
+pub use Rattle.d_types.specs.declared.typed.TypedExpr.{end_of-TypedExpr, more_of-TypedExpr}
 pub use Rattle.d_types.specs.declared.typed.TypedStmt.{TypedStmt}
 pub use Rattle.d_types.specs.declared.typed.Variable.{Variable}
 pub use Rattle.d_types.specs.declared.variables.Entry.{Entry}

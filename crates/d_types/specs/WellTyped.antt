@@ -1,10 +1,19 @@
 -- Which scripts are well typed, and what they mean: no order of faults, and no faults.
-use Rattle.std.specs.Prelude.{◌≡◌, ℕ, nat_le, List, [], ◌∷◌, ◌++◌, length, ◌⊎◌, true, Option, Some, None}
-use Rattle.d_types.specs.Vocabulary.{DeclaredType, Trees, Tree, DeclarationTree, StmtTree, ItemTree, ClauseTree, IntType, AggFn, Piece, Space, MOST_KEYS, Aggregating, Callee}
+use Rattle.std.specs.Prelude.{◌≡◌, ℕ, nat_le, List, [], ◌∷◌, ◌++◌, length, ◌⊎◌, true, Option, Some}
+use Rattle.std.specs.Prelude.{None}
+use Rattle.d_types.specs.Vocabulary.{DeclaredType, Trees, Tree, DeclarationTree, StmtTree, ItemTree}
+use Rattle.d_types.specs.Vocabulary.{ClauseTree, IntType, AggFn, Piece, Space, MOST_KEYS}
+use Rattle.d_types.specs.Vocabulary.{Aggregating, Callee}
 use Rattle.d_types.specs.Variables as variables
 use Rattle.d_types.specs.Formats as formats
-use Rattle.d_types.specs.Typed.{Typed, Typeds, end, more, Action, Evaluate, Trace, Print, Exit, Aggregate, Agg, Aggs, ClauseMeant, ScriptMeant}
-use Rattle.d_types.specs.{Constants.declared_type, Words.callee_named, Words.aggregating_named, Needs.count, Variables.Rows, Variables.kinds_of, Variables.find, Variables.types_in, Spelling.Spells, Statements.text_of, Aggregations.arguments_fit, Aggregations.first, Aggregations.function, Aggregations.find_from, Aggregations.is_again, Scripts.declared_kinds, Rules.Types, Rules.AllTypes, Rules.IsInteger}
+use Rattle.d_types.specs.Typed.{Typed, Typeds, end, more, Action, Evaluate, Trace, Print, Exit}
+use Rattle.d_types.specs.Typed.{Aggregate, Agg, Aggs, ClauseMeant, ScriptMeant}
+use Rattle.d_types.specs.{Constants.declared_type, Needs.count, Spelling.Spells, Statements.text_of}
+use Rattle.d_types.specs.{Scripts.declared_kinds}
+use Rattle.d_types.specs.Words.{callee_named, aggregating_named}
+use Rattle.d_types.specs.Variables.{Rows, kinds_of, find, types_in}
+use Rattle.d_types.specs.Aggregations.{arguments_fit, first, function, find_from, is_again}
+use Rattle.d_types.specs.Rules.{Types, AllTypes, IsInteger}
 
 -- ---- actions
 

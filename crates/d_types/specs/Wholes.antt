@@ -1,6 +1,7 @@
 -- What holds of every whole expression.
 use Rattle.std.specs.Prelude.{List, [], ◌∷◌, Option, Some, None}
-use Rattle.d_types.specs.Typed.{Typed, Typeds, end, more, Action, Evaluate, Trace, Print, Exit, Aggregate, ClauseMeant}
+use Rattle.d_types.specs.Typed.{Typed, Typeds, end, more, Action, Evaluate, Trace, Print, Exit}
+use Rattle.d_types.specs.Typed.{Aggregate, ClauseMeant}
 
 abbrev pub EachIs : (Typed → Type 0) → Typeds → Type 0
 EachIs Is end = Unit {0}

@@ -1,7 +1,9 @@
 //! Expressions that stand as statements, and actions.
 
 ghost use Rattle.std.specs.Prelude.{◌≡◌, option_map};
-ghost use Rattle.d_types.specs.{Vocabulary.tree_of, Vocabulary.trees_of, Vocabulary.Tree, Faults.Gives, Typed.typeds_of, Typed.action_of, Typed.Typeds, Variables.rows_of, Words.callee_named};
+ghost use Rattle.d_types.specs.{Faults.Gives, Variables.rows_of, Words.callee_named};
+ghost use Rattle.d_types.specs.Vocabulary.{tree_of, trees_of, Tree};
+ghost use Rattle.d_types.specs.Typed.{typeds_of, action_of, Typeds};
 ghost use Rattle.d_types.specs.Statements as spec;
 
 use crate::calls::only;

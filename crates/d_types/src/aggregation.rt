@@ -1,7 +1,10 @@
 //! Aggregation statements.
 
 ghost use Rattle.std.specs.Prelude.{◌≡◌, ◌++◌, ◌∷◌, [], IfOk, OnOk, Some, None, length, option_map};
-ghost use Rattle.d_types.specs.{Vocabulary.tree_of, Vocabulary.trees_of, Faults.Gives, Faults.OnlyMemory, Typed.typed_of, Typed.typeds_of, Typed.action_of, Typed.aggs_of, Typed.Aggs, Typed.agg_of, Variables.rows_of, Variables.kinds_of};
+ghost use Rattle.d_types.specs.Vocabulary.{tree_of, trees_of};
+ghost use Rattle.d_types.specs.Faults.{Gives, OnlyMemory};
+ghost use Rattle.d_types.specs.Typed.{typed_of, typeds_of, action_of, aggs_of, Aggs, agg_of};
+ghost use Rattle.d_types.specs.Variables.{rows_of, kinds_of};
 ghost use Rattle.d_types.specs.Aggregations as spec;
 
 use crate::action::wholes;

@@ -1,7 +1,9 @@
 //! Assignments to a slot. None where the types don't fit.
 
 ghost use Rattle.std.specs.Prelude.{◌≡◌, IfOk, option_map};
-ghost use Rattle.d_types.specs.{Faults.OnlyMemory, Typed.typed_of, Typed.typeds_of, Typed.Typed, Typed.type_of, Variables.rows_of, Variables.type_at};
+ghost use Rattle.d_types.specs.{Faults.OnlyMemory};
+ghost use Rattle.d_types.specs.Typed.{typed_of, typeds_of, Typed, type_of};
+ghost use Rattle.d_types.specs.Variables.{rows_of, type_at};
 ghost use Rattle.d_types.specs.Targets as spec;
 
 use crate::constants::integer;

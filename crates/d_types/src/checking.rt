@@ -1,7 +1,10 @@
 //! From scripts to typed scripts.
 
 ghost use Rattle.std.specs.Prelude.{[], map, IfOk};
-ghost use Rattle.d_types.specs.{Vocabulary.AreSmall, Vocabulary.IsWithin, Vocabulary.item_of, Vocabulary.script_of, Faults.Gives, Fitting.ScriptFits, Typed.ScriptMeant, Typed.meant_of, Typed.aggs_of, TypedScripts.typed_script_of, Variables.rows_of, WellTyped.IsWell};
+ghost use Rattle.d_types.specs.{Faults.Gives, Fitting.ScriptFits, TypedScripts.typed_script_of};
+ghost use Rattle.d_types.specs.{Variables.rows_of, WellTyped.IsWell};
+ghost use Rattle.d_types.specs.Vocabulary.{AreSmall, IsWithin, item_of, script_of};
+ghost use Rattle.d_types.specs.Typed.{ScriptMeant, meant_of, aggs_of};
 ghost use Rattle.d_types.specs.Scripts as spec;
 
 use crate::clause::clause;

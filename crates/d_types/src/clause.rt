@@ -1,7 +1,9 @@
 //! Clauses and their statements.
 
 ghost use Rattle.std.specs.Prelude.{[], Some};
-ghost use Rattle.d_types.specs.{Vocabulary.tree_of, Vocabulary.stmt_of, Vocabulary.stmts_of, Vocabulary.predicate_of, Vocabulary.clause_of, Faults.Gives, Typed.action_of, Typed.actions_of, Typed.argument_of, Typed.meant_of, Typed.aggs_of, Variables.rows_of};
+ghost use Rattle.d_types.specs.{Faults.Gives, Variables.rows_of};
+ghost use Rattle.d_types.specs.Vocabulary.{tree_of, stmt_of, stmts_of, predicate_of, clause_of};
+ghost use Rattle.d_types.specs.Typed.{action_of, actions_of, argument_of, meant_of, aggs_of};
 ghost use Rattle.d_types.specs.Scripts as spec;
 
 use crate::action::action;

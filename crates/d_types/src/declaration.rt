@@ -1,7 +1,9 @@
 //! Declarations of variables.
 
 ghost use Rattle.std.specs.Prelude.{◌≡◌, ◌++◌, ◌∷◌, [], IfOk, OnOk, Some};
-ghost use Rattle.d_types.specs.{Vocabulary.declaration_of, Faults.Gives, Faults.OnlyMemory, Variables.rows_of, Variables.find, Constants.declared_type};
+ghost use Rattle.d_types.specs.{Vocabulary.declaration_of, Constants.declared_type};
+ghost use Rattle.d_types.specs.Faults.{Gives, OnlyMemory};
+ghost use Rattle.d_types.specs.Variables.{rows_of, find};
 ghost use Rattle.d_types.specs.Scripts as spec;
 
 use crate::constants::declared_type;

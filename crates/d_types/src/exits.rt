@@ -2,7 +2,8 @@
 
 ghost use Rattle.std.specs.List.{list_any};
 ghost use Rattle.std.specs.Prelude.{◌≡◌};
-ghost use Rattle.d_types.specs.{Typed.action_of, Typed.has_exit, Typed.is_exit, TypedScripts.typed_script_of};
+ghost use Rattle.d_types.specs.{TypedScripts.typed_script_of};
+ghost use Rattle.d_types.specs.Typed.{action_of, has_exit, is_exit};
 
 use crate::typed::{TypedClause, TypedStmt};
 use crate::typed_script::TypedScript;

@@ -1,7 +1,10 @@
 //! From trees of expressions to typed ones.
 
 ghost use Rattle.std.specs.Prelude.{◌≡◌, IfOk};
-ghost use Rattle.d_types.specs.{Vocabulary.tree_of, Vocabulary.trees_of, Vocabulary.Tree, Faults.Gives, Faults.OnlyMemory, Typed.typed_of, Typed.typeds_of, Typed.Typeds, Variables.rows_of};
+ghost use Rattle.d_types.specs.{Variables.rows_of};
+ghost use Rattle.d_types.specs.Vocabulary.{tree_of, trees_of, Tree};
+ghost use Rattle.d_types.specs.Faults.{Gives, OnlyMemory};
+ghost use Rattle.d_types.specs.Typed.{typed_of, typeds_of, Typeds};
 ghost use Rattle.d_types.specs.Typing as spec;
 
 use crate::assignments::{Assignee, assignment, step, type_at_once};

@@ -25,6 +25,11 @@ fn type_of_built_in(built_in: BuiltIn) -> DType
 
 impl TypedExpr {
     /// The type of its value.
+    ///
+    /// ```text
+    /// // of the expression `execname`
+    /// expr.type_of(); // DType::Text
+    /// ```
     pub fn type_of(&self) -> DType
         ensures { result ≡ spec.type_of (spec.typed_of self.now) }
     {

@@ -2,7 +2,12 @@
 
 ghost use Rattle.std.specs.Prelude.{◌≡◌, ◌≤◌, ◌^◌, ◌↔◌, ℕ, List, Ok, Some, length};
 ghost use Rattle.d_types.specs.Vocabulary.{MOST_BYTES, in_all, Firing, Piece, ItemTree, Tree};
-ghost use Rattle.d_types.specs.{Clauses.run_of, Storage.Variables, Fitting.ScriptFits, Formats.pieces, Proper.IsProperScript, Rules.Types, Scripts.IsMeant, Scripts.script, Sizes.HasAtMost, Sizes.most_runs, Spelling.Spells, Typed.ClauseMeant, Typed.ScriptMeant, Typed.Typed, Typing.expr, Variables.Rows, WellTyped.IsWell};
+ghost use Rattle.d_types.specs.{Clauses.run_of, Storage.Variables, Fitting.ScriptFits};
+ghost use Rattle.d_types.specs.{Formats.pieces, Proper.IsProperScript, Rules.Types};
+ghost use Rattle.d_types.specs.{Spelling.Spells, Typing.expr, Variables.Rows, WellTyped.IsWell};
+ghost use Rattle.d_types.specs.Scripts.{IsMeant, script};
+ghost use Rattle.d_types.specs.Sizes.{HasAtMost, most_runs};
+ghost use Rattle.d_types.specs.Typed.{ClauseMeant, ScriptMeant, Typed};
 
 /// An expression is given a typed tree exactly where the rules give it that tree, whatever the
 /// variables before it.

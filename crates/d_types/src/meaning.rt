@@ -1,7 +1,14 @@
 //! Laws of what expressions mean.
 
 ghost use Rattle.std.specs.Prelude.{◌≡◌, ◌↔◌, ℕ, false, All};
-ghost use Rattle.d_types.specs.{Vocabulary.IntType, Vocabulary.blank, Vocabulary.narrow, Vocabulary.Firing, Vocabulary.HasRanges, Vocabulary.Step, Vocabulary.Answer, Vocabulary.Operation, Vocabulary.Variable, Vocabulary.DType, Typed.Typed, Typed.Typeds, Typed.type_of, Typed.ClauseMeant, Typed.ScriptMeant, Storage.Variables, Clauses.run_of, Wholes.ClauseIs, Expressions.number, Expressions.eval, Laws.in_place, Scripts.IsMeant, Held.AreTyped, Held.AreTypedLocals, Held.AreTypedOwn, Held.Ends, Held.HasTypedBuiltIns, Held.IsConsistent, Held.IsOf, Held.IsWord, Held.Slots, Held.slots_of};
+ghost use Rattle.d_types.specs.{Storage.Variables, Clauses.run_of, Wholes.ClauseIs, Laws.in_place};
+ghost use Rattle.d_types.specs.{Scripts.IsMeant};
+ghost use Rattle.d_types.specs.Vocabulary.{IntType, blank, narrow, Firing, HasRanges, Step, Answer};
+ghost use Rattle.d_types.specs.Vocabulary.{Operation, Variable, DType};
+ghost use Rattle.d_types.specs.Typed.{Typed, Typeds, type_of, ClauseMeant, ScriptMeant};
+ghost use Rattle.d_types.specs.Expressions.{number, eval};
+ghost use Rattle.d_types.specs.Held.{AreTyped, AreTypedLocals, AreTypedOwn, Ends, HasTypedBuiltIns};
+ghost use Rattle.d_types.specs.Held.{IsConsistent, IsOf, IsWord, Slots, slots_of};
 ghost use Rattle.d_types.specs.Laws as spec;
 
 /// Where no assignment, `++` or `--` stands, evaluation leaves the variables as they were.

@@ -1,7 +1,9 @@
 //! Variables that are read and assigned.
 
 ghost use Rattle.std.specs.Prelude.{◌≡◌, ◌++◌, ◌∷◌, [], IfOk, OnOk, length};
-ghost use Rattle.d_types.specs.{Faults.Gives, Faults.OnlyMemory, Typed.typed_of, Typed.typeds_of, Typed.Typed, Variables.rows_of, Variables.Rows, Variables.find, Variables.type_at};
+ghost use Rattle.d_types.specs.Faults.{Gives, OnlyMemory};
+ghost use Rattle.d_types.specs.Typed.{typed_of, typeds_of, Typed};
+ghost use Rattle.d_types.specs.Variables.{rows_of, Rows, find, type_at};
 ghost use Rattle.d_types.specs.Targets as spec;
 
 use crate::fault::TypeFault;

@@ -39,6 +39,10 @@ impl TypedScript {
     }
 
     /// Its clauses, in the order of the text.
+    ///
+    /// ```text
+    /// script.clauses().len(); // 2, for a script of two clauses
+    /// ```
     pub fn clauses(&self) -> &[TypedClause]
         ensures { result.now ≡ self.now.clauses.items }
     {
@@ -53,6 +57,10 @@ impl TypedScript {
     }
 
     /// The function of each aggregation, in order.
+    ///
+    /// ```text
+    /// script.functions(alloc)?; // [AggFn::Count], for `@calls = count()`
+    /// ```
     pub fn functions(&self, alloc: Global) -> Result<Vec<AggFn>, AllocError>
         ensures { IfOk result (λ v. v.items ≡ map (λ a. a.function) self.now.aggregations.items) }
     {
@@ -60,6 +68,11 @@ impl TypedScript {
     }
 
     /// The type of each variable, by its slot.
+    ///
+    /// ```text
+    /// // of a script whose only assignment is `this->x = 1`
+    /// script.slots().len(); // 1
+    /// ```
     pub fn slots(&self) -> &[Option<DType>]
         ensures { result.now ≡ self.now.slots.items }
     {

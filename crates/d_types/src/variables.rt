@@ -22,6 +22,10 @@ pub struct Entry {
 }
 
 /// Which key a value of the type is.
+///
+/// ```text
+/// kind_of(DType::Text); // Kind::Text
+/// ```
 pub fn kind_of(t: DType) -> Kind
     ensures { result ≡ spec.kind_of t }
 {

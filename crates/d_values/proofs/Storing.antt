@@ -1,5 +1,7 @@
 -- What is set, before and after.
-use Rattle.std.specs.Prelude.{◌≡◌, ℕ, zero, suc, Bool, true, false, ◌&&◌, if◌then◌else◌, List, [], ◌∷◌, Option, None, Some, unwrap_or, option_map, slice_get, Result, Ok, Err, OnOk, OnErr}
+use Rattle.std.specs.Prelude.{◌≡◌, ℕ, zero, suc, Bool, true, false, ◌&&◌, if◌then◌else◌, List, []}
+use Rattle.std.specs.Prelude.{◌∷◌, Option, None, Some, unwrap_or, option_map, slice_get, Result, Ok}
+use Rattle.std.specs.Prelude.{Err, OnOk, OnErr}
 use Rattle.std.proofs.Common.{refl, sym, ap, ◌∙◌, subst, true≢false}
 use Rattle.std.specs.Map.{lookup, lookup_key, values_of}
 use Rattle.indexmap.specs.Layout.{set_value_at}
@@ -13,7 +15,9 @@ use Rattle.d_values.specs.declared.held.Held.{Held}
 use Rattle.d_values.specs.declared.variable.Var.{Var}
 use Rattle.d_values.specs.Keys.{same_key}
 use Rattle.d_values.specs.Variables.{same_var, same_var_decides}
-use Rattle.d_values.specs.Stores.{Locals, Own, kind_of, blank, is_blank, value_to_keep, local_entry, local_of, AreLocals, with_local, element, own_entry, own_of, AreOwn, with_own}
+use Rattle.d_values.specs.Stores.{Locals, Own, kind_of, blank, is_blank, value_to_keep, local_entry}
+use Rattle.d_values.specs.Stores.{local_of, AreLocals, with_local, element, own_entry, own_of}
+use Rattle.d_values.specs.Stores.{AreOwn, with_own}
 use Rattle.d_values.specs.Tables.{elements_of, pairs_of, value_in, value_at, Sets}
 
 kind_of-blank : (kind : Kind) → kind_of (blank kind) ≡ kind

@@ -1,11 +1,16 @@
 -- The laws of the comparisons of parts and keys: each test decides `≡`, and each order is total and
 -- ties nothing else.
 use Rattle.std.specs.Prelude.{◌≡◌, ◌≢◌, ◌↔◌, ℕ, Bool, IsTrue, List, [], ◌∷◌, ◌++◌, ℤ, pos}
-use Rattle.std.specs.{Cmp.signed_Decides, Cmp.nat_cmp_total, Cmp.int_cmp_total, Cmp.on_total, Cmp.then_total, Cmp.tied_itself, Cmp.Lexicographic.pointwise_decides, Cmp.Lexicographic.lists_total, Cmp.Lexicographic.lists_ties, Ordering.on, Ordering.then_cmp, Ordering.ordering_then, Ordering.is_eq}
+use Rattle.std.specs.Cmp.{signed_Decides, nat_cmp_total, int_cmp_total, on_total, then_total}
+use Rattle.std.specs.Cmp.{tied_itself}
+use Rattle.std.specs.Cmp.Lexicographic.{pointwise_decides, lists_total, lists_ties}
+use Rattle.std.specs.Ordering.{on, then_cmp, ordering_then, is_eq}
 use Rattle.std.proofs.Common.{refl, sym, ap, ◌∙◌, subst, append-nil}
-use Rattle.d_values.specs.Vocabulary.{Decides, IsEquivalence, IsTotalOrder, decided, nat_cmp, int_cmp, eq_by_cmp, Ordering, Less, Equal, Greater, KeyPart}
+use Rattle.d_values.specs.Vocabulary.{Decides, IsEquivalence, IsTotalOrder, decided, nat_cmp}
+use Rattle.d_values.specs.Vocabulary.{int_cmp, eq_by_cmp, Ordering, Less, Equal, Greater, KeyPart}
 use Rattle.d_values.specs.declared.key.KeyPart.TheVariants.{Number, Name}
-use Rattle.d_values.specs.{Texts.text_cmp, Texts.same_text_decides, Texts.text_cmp_total, Texts.text_cmp_ties, Keys.part_cmp, Keys.key_cmp, Keys.same_part, Keys.same_key, Keys.DecidesByFirstDifference}
+use Rattle.d_values.specs.Texts.{text_cmp, same_text_decides, text_cmp_total, text_cmp_ties}
+use Rattle.d_values.specs.Keys.{part_cmp, key_cmp, same_part, same_key, DecidesByFirstDifference}
 
 -- ---- the tests decide `≡`
 

@@ -1,7 +1,8 @@
 -- When keys are the same, and their order.
 use Rattle.std.specs.Prelude.{◌≡◌, ◌≢◌, ℕ, Bool, false, List, [], ◌∷◌, ◌++◌}
 use Rattle.std.specs.{Ordering.int_eq, Hash.i64}
-use Rattle.d_values.specs.Vocabulary.{pointwise, slice_cmp, int_cmp, cast_signed, w64, Ordering, Less, Greater, KeyPart, Value}
+use Rattle.d_values.specs.Vocabulary.{pointwise, slice_cmp, int_cmp, cast_signed, w64, Ordering}
+use Rattle.d_values.specs.Vocabulary.{Less, Greater, KeyPart, Value}
 use Rattle.d_values.specs.declared.key.KeyPart.TheVariants.{Number, Name}
 use Rattle.d_values.specs.Texts.{text_cmp, same_text}
 

@@ -1,8 +1,14 @@
 -- The numbers that words stand for, and the operators on numbers.
-use Rattle.std.specs.Prelude.{◌≡◌, ℕ, ◌-◌, ◌^◌, ℤ, pos, neg_ℤ, ◌+ℤ◌, ◌-ℤ◌, ◌*ℤ◌, ◌≤ℤ◌, ◌<ℤ◌, Bool, ◌&&◌, nat_le, if◌then◌else◌, bit_and, bit_or, bit_xor, int_div, int_rem, unsigned_abs}
+use Rattle.std.specs.Prelude.{◌≡◌, ℕ, ◌-◌, ◌^◌, ℤ, pos, neg_ℤ, ◌+ℤ◌, ◌-ℤ◌, ◌*ℤ◌, ◌≤ℤ◌, ◌<ℤ◌, Bool}
+use Rattle.std.specs.Prelude.{◌&&◌, nat_le, if◌then◌else◌, bit_and, bit_or, bit_xor, int_div}
+use Rattle.std.specs.Prelude.{int_rem, unsigned_abs}
 use Rattle.std.specs.Int.{int_rem_euclid}
-use Rattle.d_values.specs.Vocabulary.{int_shr, cast_signed, w64, IntType, ArithmeticOperator, ShiftOperator}
-use Rattle.d_values.specs.declared.operators.ArithmeticOperator.TheVariants.{Multiply, Divide, Remainder, Add, Subtract, BitAnd, BitXor, BitOr}
+use Rattle.d_values.specs.Vocabulary.{int_shr, cast_signed, w64, IntType, ArithmeticOperator}
+use Rattle.d_values.specs.Vocabulary.{ShiftOperator}
+use Rattle.d_values.specs.declared.operators.ArithmeticOperator.TheVariants.{Multiply, Divide}
+use Rattle.d_values.specs.declared.operators.ArithmeticOperator.TheVariants.{Remainder, Add}
+use Rattle.d_values.specs.declared.operators.ArithmeticOperator.TheVariants.{Subtract, BitAnd}
+use Rattle.d_values.specs.declared.operators.ArithmeticOperator.TheVariants.{BitXor, BitOr}
 use Rattle.d_values.specs.declared.operators.ShiftOperator.TheVariants.{Left, Right}
 
 -- the number that a word is, read with a sign or without

@@ -1,7 +1,9 @@
 -- Comparisons by the order of their operands.
 use Rattle.std.specs.Prelude.{Bool, true, false}
 use Rattle.d_values.specs.Vocabulary.{Ordering, ComparisonOperator}
-use Rattle.d_values.specs.declared.operators.ComparisonOperator.TheVariants.{Less, LessEqual, Greater, GreaterEqual, Equal, NotEqual}
+use Rattle.d_values.specs.declared.operators.ComparisonOperator.TheVariants.{Less, LessEqual}
+use Rattle.d_values.specs.declared.operators.ComparisonOperator.TheVariants.{Greater, GreaterEqual}
+use Rattle.d_values.specs.declared.operators.ComparisonOperator.TheVariants.{Equal, NotEqual}
 
 -- the comparison holds between two operands that stand in this order
 abbrev pub holds_of : ComparisonOperator → Ordering → Bool

@@ -1,5 +1,6 @@
 -- What variables hold.
-use Rattle.std.specs.Prelude.{◌≡◌, Bool, true, false, ◌&&◌, ◌==◌, if◌then◌else◌, List, [], ◌∷◌, Option, None, Some, unwrap_or}
+use Rattle.std.specs.Prelude.{◌≡◌, Bool, true, false, ◌&&◌, ◌==◌, if◌then◌else◌, List, [], ◌∷◌}
+use Rattle.std.specs.Prelude.{Option, None, Some, unwrap_or}
 use Rattle.d_values.specs.Vocabulary.{lookup, KeyPart, Kind, Value, ValueRef, Var}
 use Rattle.d_values.specs.declared.value.Value.TheVariants.{Int, Text}
 use Rattle.d_values.specs.Keys.{same_key}

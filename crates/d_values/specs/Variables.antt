@@ -1,6 +1,7 @@
 -- When variables are the same.
 use Rattle.std.specs.Prelude.{◌≡◌, ℕ, ◌+◌, ◌*◌, Bool, ◌==◌}
-use Rattle.std.proofs.{Common.ap, Common.◌∙◌, Common.refl, Common.arith, lemmas.Bool.Decides.Decides-eqb}
+use Rattle.std.proofs.{lemmas.Bool.Decides.Decides-eqb}
+use Rattle.std.proofs.Common.{ap, ◌∙◌, refl, arith}
 use Rattle.d_values.specs.Vocabulary.{Decides, IsEquivalence, decided, Kind, Var}
 use Rattle.d_values.specs.declared.value.Kind.TheVariants.{Number, Text}
 

@@ -1,8 +1,14 @@
 -- Integers as 64-bit words.
-use Rattle.std.specs.Prelude.{ℕ, ◌+◌, ◌-◌, ◌*◌, ◌/◌, ◌%◌, ◌^◌, Bool, true, false, ◌&&◌, ◌==◌, nat_le, if◌then◌else◌, Result, Ok, Err, bit_and, bit_or, bit_xor, int_div, int_rem}
+use Rattle.std.specs.Prelude.{ℕ, ◌+◌, ◌-◌, ◌*◌, ◌/◌, ◌%◌, ◌^◌, Bool, true, false, ◌&&◌, ◌==◌}
+use Rattle.std.specs.Prelude.{nat_le, if◌then◌else◌, Result, Ok, Err, bit_and, bit_or, bit_xor}
+use Rattle.std.specs.Prelude.{int_div, int_rem}
 use Rattle.std.specs.Int.{cast_unsigned}
-use Rattle.d_values.specs.Vocabulary.{int_shr, cast_signed, w64, nat_cmp, int_cmp, Ordering, IntType, ArithmeticOperator, ShiftOperator, OutOfZero}
-use Rattle.d_values.specs.declared.operators.ArithmeticOperator.TheVariants.{Multiply, Divide, Remainder, Add, Subtract, BitAnd, BitXor, BitOr}
+use Rattle.d_values.specs.Vocabulary.{int_shr, cast_signed, w64, nat_cmp, int_cmp, Ordering}
+use Rattle.d_values.specs.Vocabulary.{IntType, ArithmeticOperator, ShiftOperator, OutOfZero}
+use Rattle.d_values.specs.declared.operators.ArithmeticOperator.TheVariants.{Multiply, Divide}
+use Rattle.d_values.specs.declared.operators.ArithmeticOperator.TheVariants.{Remainder, Add}
+use Rattle.d_values.specs.declared.operators.ArithmeticOperator.TheVariants.{Subtract, BitAnd}
+use Rattle.d_values.specs.declared.operators.ArithmeticOperator.TheVariants.{BitXor, BitOr}
 use Rattle.d_values.specs.declared.operators.ShiftOperator.TheVariants.{Left, Right}
 
 -- the lowest bits of a type as a word: ones above them where their sign is set

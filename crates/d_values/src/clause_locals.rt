@@ -1,7 +1,10 @@
 //! Clause-local variables.
 
 ghost use Rattle.std.specs.Prelude.{◌≡◌, [], unwrap_or, OnOk, OnErr};
-ghost use Rattle.d_values.specs.{Vocabulary.get, Vocabulary.Updates, Stores.blank, Stores.kind_of, Stores.value_to_keep, Stores.lent_value, Stores.local_entry, Stores.local_of, Stores.with_local, Variables.same_var};
+ghost use Rattle.d_values.specs.{Variables.same_var};
+ghost use Rattle.d_values.specs.Vocabulary.{get, Updates};
+ghost use Rattle.d_values.specs.Stores.{blank, kind_of, value_to_keep, lent_value, local_entry};
+ghost use Rattle.d_values.specs.Stores.{local_of, with_local};
 
 use crate::lookup::index_of;
 use crate::value::{Value, ValueRef};
@@ -29,6 +32,11 @@ impl Model for ClauseLocals {
 
 impl ClauseLocals {
     /// No variable is set.
+    ///
+    /// ```text
+    /// let locals = ClauseLocals::new(alloc);
+    /// locals.get(Var { slot: 0, kind: Kind::Number }); // ValueRef::Int(0)
+    /// ```
     pub fn new(alloc: Global) -> ClauseLocals
         ensures { result ≡ [] }
     {
@@ -38,6 +46,12 @@ impl ClauseLocals {
     }
 
     /// Unsets all. Takes no memory.
+    ///
+    /// ```text
+    /// locals.set(var, Value::Int(5))?;
+    /// locals.reset();
+    /// locals.get(var); // ValueRef::Int(0)
+    /// ```
     pub fn reset(&mut self)
         ensures { self.new ≡ [] }
     {
@@ -47,6 +61,11 @@ impl ClauseLocals {
     }
 
     /// What the variable holds. Takes no memory.
+    ///
+    /// ```text
+    /// locals.set(var, Value::Int(5))?;
+    /// locals.get(var); // ValueRef::Int(5)
+    /// ```
     pub fn get(&self, var: Var) -> ValueRef<'_>
         ensures value { lent_value result ≡ local_of self.now var }
         ensures kind { kind_of (lent_value result) ≡ var.kind }

@@ -2,7 +2,8 @@
 
 ghost use Rattle.std.specs.Prelude.{◌≡◌};
 ghost use Rattle.d_values.specs.Vocabulary.{int_cmp};
-ghost use Rattle.d_values.specs.{Numbers.number_of, Words.order_of, Operators.holds_of, Texts.text_cmp};
+ghost use Rattle.d_values.specs.{Numbers.number_of, Words.order_of, Operators.holds_of};
+ghost use Rattle.d_values.specs.{Texts.text_cmp};
 
 use crate::int_type::IntType;
 use crate::operators::ComparisonOperator;

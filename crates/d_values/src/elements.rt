@@ -2,7 +2,8 @@
 
 ghost use Rattle.std.specs.Prelude.{◌≡◌, unwrap_or, IfOk, OnOk, OnErr};
 ghost use Rattle.indexmap.specs.IndexMap.{get, Updates};
-ghost use Rattle.d_values.specs.{Keys.same_key, Stores.blank, Stores.value_to_keep, Stores.lent_value};
+ghost use Rattle.d_values.specs.{Keys.same_key};
+ghost use Rattle.d_values.specs.Stores.{blank, value_to_keep, lent_value};
 
 use crate::key::{Key, copy_in_room};
 use crate::value::{Kind, Value, ValueRef};

@@ -33,6 +33,11 @@ impl Held {
     }
 
     /// What it holds under keys: none that is zero or the empty text. Takes no memory.
+    ///
+    /// ```text
+    /// // after `self->times["cat"] = 5;`
+    /// held.elements().len(); // 1
+    /// ```
     pub fn elements(&self) -> &IndexMap<Key, Value, HashKey>
         ensures { elements_of self.now ≡ with_scalar self.now.scalar result.now.entries }
     {

@@ -1,7 +1,14 @@
 //! Keys of aggregations and of variables.
 
-ghost use Rattle.std.specs.Prelude.{◌≡◌, ◌↔◌, ◌<◌, ◌++◌, ◌∷◌, [], length, IfOk, OnOk, OnErr, IsTrue, slice_set, vec_len, refl};
-ghost use Rattle.d_values.specs.{Vocabulary.ap, Vocabulary.partial_equiv_from_equiv, Vocabulary.po, Vocabulary.flat_map, Vocabulary.as_partial_cmp, Keys.part_cmp, Keys.key_cmp, Keys.same_part, Keys.same_key, Keys.part_writes, Keys.DecidesByFirstDifference, KeyLaws.same_part_decides, KeyLaws.same_part_equiv, KeyLaws.part_cmp_total, KeyLaws.part_cmp_ties, KeyLaws.same_key_decides, KeyLaws.same_key_equiv, KeyLaws.key_cmp_total, KeyLaws.key_cmp_ties};
+ghost use Rattle.std.specs.Prelude.{◌≡◌, ◌↔◌, ◌<◌, ◌++◌, ◌∷◌, [], length, IfOk, OnOk, OnErr};
+ghost use Rattle.std.specs.Prelude.{IsTrue, slice_set, vec_len, refl};
+ghost use Rattle.d_values.specs.Vocabulary.{ap, partial_equiv_from_equiv, po, flat_map};
+ghost use Rattle.d_values.specs.Vocabulary.{as_partial_cmp};
+ghost use Rattle.d_values.specs.Keys.{part_cmp, key_cmp, same_part, same_key, part_writes};
+ghost use Rattle.d_values.specs.Keys.{DecidesByFirstDifference};
+ghost use Rattle.d_values.specs.KeyLaws.{same_part_decides, same_part_equiv, part_cmp_total};
+ghost use Rattle.d_values.specs.KeyLaws.{part_cmp_ties, same_key_decides, same_key_equiv};
+ghost use Rattle.d_values.specs.KeyLaws.{key_cmp_total, key_cmp_ties};
 
 use crate::text::Text;
 use std::alloc::{AllocError, Global};
@@ -171,6 +178,12 @@ impl Key {
     }
 
     /// The parts, from left to right.
+    ///
+    /// ```text
+    /// let mut key = Key::new(alloc);
+    /// key.push(KeyPart::Number(7))?;
+    /// key.parts(); // [KeyPart::Number(7)]
+    /// ```
     pub fn parts(&self) -> &[KeyPart]
         ensures { result.now ≡ self.now }
     {
@@ -194,6 +207,12 @@ impl Key {
     }
 
     /// Puts an integer in the place of a part.
+    ///
+    /// ```text
+    /// // of a key with one part
+    /// key.set_number(0, 8);
+    /// key.parts(); // [KeyPart::Number(8)]
+    /// ```
     pub fn set_number(&mut self, place: usize, number: i64)
         requires { place < length self.old }
         ensures { self.new ≡ slice_set self.old place (KeyPart.Number number) }
@@ -202,6 +221,12 @@ impl Key {
     }
 
     /// Puts a text in the place of a part, in the room of the text that stood there.
+    ///
+    /// ```text
+    /// // of a key with one part
+    /// key.set_name(0, b"cat")?;
+    /// key.parts(); // the text `cat`
+    /// ```
     pub fn set_name(&mut self, place: usize, bytes: &[u8]) -> Result<(), AllocError>
         requires { place < length self.old }
         ensures ok { OnOk result (self.new ≡ slice_set self.old place (KeyPart.Name bytes.now)) }

@@ -1,8 +1,13 @@
 //! What holds of all numbers and variables, in other words than the definitions'.
 
-ghost use Rattle.std.specs.Prelude.{◌≡◌, ◌≢◌, ◌/◌, ◌<◌, ◌-◌, ◌%◌, ◌^◌, ℕ, ℤ, pos, neg_ℤ, ◌+ℤ◌, ◌-ℤ◌, ◌*ℤ◌, Ok, int_div, int_rem, unsigned_abs, List};
-ghost use Rattle.d_values.specs.Vocabulary.{ArithmeticOperator, IntType, KeyPart, ShiftOperator, Value, Var, int_cmp};
-ghost use Rattle.d_values.specs.{Numbers.number_of, Numbers.whole_of, Numbers.whole_shift_of, Numbers.wrap, Numbers.IsWrapped, Stores.with_local, Stores.with_own, Words.binary_of, Words.complement_of, Words.narrow, Words.opposite_of, Words.order_of, Words.shift_of};
+ghost use Rattle.std.specs.Prelude.{◌≡◌, ◌≢◌, ◌/◌, ◌<◌, ◌-◌, ◌%◌, ◌^◌, ℕ, ℤ, pos, neg_ℤ, ◌+ℤ◌};
+ghost use Rattle.std.specs.Prelude.{◌-ℤ◌, ◌*ℤ◌, Ok, int_div, int_rem, unsigned_abs, List};
+ghost use Rattle.d_values.specs.Vocabulary.{ArithmeticOperator, IntType, KeyPart, ShiftOperator};
+ghost use Rattle.d_values.specs.Vocabulary.{Value, Var, int_cmp};
+ghost use Rattle.d_values.specs.Numbers.{number_of, whole_of, whole_shift_of, wrap, IsWrapped};
+ghost use Rattle.d_values.specs.Stores.{with_local, with_own};
+ghost use Rattle.d_values.specs.Words.{binary_of, complement_of, narrow, opposite_of, order_of};
+ghost use Rattle.d_values.specs.Words.{shift_of};
 
 /// What is wrapped into a type is a number of it, and the same modulo two to the width.
 pub fn wrap_lies_in_type()

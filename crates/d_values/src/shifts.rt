@@ -2,7 +2,8 @@
 
 ghost use Rattle.std.specs.Prelude.{◌≡◌, ◌<◌, ◌%◌};
 ghost use Rattle.d_values.specs.Numbers.{number_of, modulo, wrap, whole_shift_of};
-ghost use Rattle.d_values.specs.{Vocabulary.IntType, Words.shift_result, Words.right_of, Words.shift_of};
+ghost use Rattle.d_values.specs.{Vocabulary.IntType};
+ghost use Rattle.d_values.specs.Words.{shift_result, right_of, shift_of};
 
 use crate::int_type::IntType;
 use crate::operators::ShiftOperator;

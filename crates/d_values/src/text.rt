@@ -1,7 +1,9 @@
 //! Texts: byte strings that contracts see as lists of bytes.
 
 ghost use Rattle.std.specs.Prelude.{◌≡◌, ◌↔◌, [], ◌∷◌, IfOk, OnOk, OnErr, IsTrue, refl};
-ghost use Rattle.d_values.specs.{Vocabulary.ap, Vocabulary.partial_equiv_from_equiv, Vocabulary.po, Vocabulary.as_partial_cmp, Texts.same_text, Texts.text_cmp, Texts.same_text_decides, Texts.same_text_equiv, Texts.text_cmp_total, Texts.text_cmp_ties, Texts.joined_text};
+ghost use Rattle.d_values.specs.Vocabulary.{ap, partial_equiv_from_equiv, po, as_partial_cmp};
+ghost use Rattle.d_values.specs.Texts.{same_text, text_cmp, same_text_decides, same_text_equiv};
+ghost use Rattle.d_values.specs.Texts.{text_cmp_total, text_cmp_ties, joined_text};
 
 use std::alloc::{AllocError, Global};
 use std::cmp::Ordering;
@@ -25,6 +27,10 @@ impl Model for Text {
 
 impl Text {
     /// The empty text.
+    ///
+    /// ```text
+    /// Text::new(alloc).as_bytes(); // b""
+    /// ```
     pub fn new(alloc: Global) -> Text
         ensures { result ≡ [] }
     {
@@ -46,6 +52,10 @@ impl Text {
     }
 
     /// Lends the bytes.
+    ///
+    /// ```text
+    /// Text::from_slice(alloc, b"cat")?.as_bytes(); // b"cat"
+    /// ```
     pub fn as_bytes(&self) -> &[u8]
         ensures { result.now ≡ self.now }
     {
@@ -61,6 +71,12 @@ impl Text {
     }
 
     /// Takes these bytes in place of its own, and the room of its own where they fit.
+    ///
+    /// ```text
+    /// let mut text = Text::from_slice(alloc, b"cat")?;
+    /// text.assign(b"ls")?;
+    /// text.as_bytes(); // b"ls"
+    /// ```
     pub fn assign(&mut self, bytes: &[u8]) -> Result<(), AllocError>
         ensures ok { OnOk result (self.new ≡ bytes.now) }
         ensures err { OnErr result (self.new ≡ self.old) }

@@ -1,7 +1,9 @@
 //! Thread-local variables.
 
 ghost use Rattle.std.specs.Prelude.{◌≡◌, [], None, unwrap_or, OnOk, OnErr};
-ghost use Rattle.d_values.specs.{Vocabulary.get, Stores.blank, Stores.kind_of, Stores.value_to_keep, Stores.lent_value, Stores.own_entry, Stores.own_of, Stores.with_own, Stores.AreOwn, Variables.same_var};
+ghost use Rattle.d_values.specs.{Vocabulary.get, Variables.same_var};
+ghost use Rattle.d_values.specs.Stores.{blank, kind_of, value_to_keep, lent_value, own_entry};
+ghost use Rattle.d_values.specs.Stores.{own_of, with_own, AreOwn};
 ghost use Rattle.d_values.specs.Tables.{pairs_of, value_at, Sets};
 
 use crate::held::Held;
@@ -38,6 +40,12 @@ impl Model for ThreadTable {
 
 impl ThreadTable {
     /// Nothing is set, in maps whose hashes have this key.
+    ///
+    /// ```text
+    /// let table = ThreadTable::new(alloc, hash_key);
+    /// let var = Var { slot: 0, kind: Kind::Text };
+    /// table.get(var, &key); // ValueRef::Text(b"")
+    /// ```
     pub fn new(alloc: Global, hash_key: HashKey) -> ThreadTable
         ensures { result ≡ [] }
     {
@@ -48,6 +56,11 @@ impl ThreadTable {
     }
 
     /// What the variable holds under the key. Takes no memory.
+    ///
+    /// ```text
+    /// table.set(var, &key, Value::Int(5))?;
+    /// table.get(var, &key); // ValueRef::Int(5)
+    /// ```
     pub fn get(&self, var: Var, key: &Key) -> ValueRef<'_>
         ensures value { lent_value result ≡ own_of self.now var key.now }
         ensures kind { kind_of (lent_value result) ≡ var.kind }
@@ -79,6 +92,11 @@ impl ThreadTable {
 
     /// Borrows the underlying map, from each variable that was ever set to what it holds. Takes no
     /// memory.
+    ///
+    /// ```text
+    /// // after `self->start = timestamp;`
+    /// table.map().len(); // 1
+    /// ```
     pub fn map(&self) -> &IndexMap<Var, Held, HashKey>
         ensures pairs { pairs_of result.now.entries ≡ self.now }
         ensures set { AreOwn self.now }

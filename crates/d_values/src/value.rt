@@ -40,6 +40,10 @@ impl Clone for Value {
 
 impl Value {
     /// Whether it is an integer or a text.
+    ///
+    /// ```text
+    /// Value::Int(5).kind(); // Kind::Number
+    /// ```
     pub fn kind(&self) -> Kind
         ensures { result ≡ kind_of self.now }
     {
@@ -50,6 +54,10 @@ impl Value {
     }
 
     /// Whether it is zero or the empty text, as a variable is before it is assigned.
+    ///
+    /// ```text
+    /// Value::Int(0).is_blank(); // true
+    /// ```
     pub fn is_blank(&self) -> bool
         ensures { result ≡ is_blank self.now }
     {
@@ -67,6 +75,10 @@ impl Value {
     }
 
     /// Lends it. Takes no memory.
+    ///
+    /// ```text
+    /// Value::Int(5).as_ref(); // ValueRef::Int(5)
+    /// ```
     pub fn as_ref(&self) -> ValueRef<'_>
         ensures { lent_value result ≡ self.now }
     {
@@ -88,6 +100,10 @@ pub enum ValueRef<'a> {
 
 impl ValueRef<'_> {
     /// Zero, or the empty text.
+    ///
+    /// ```text
+    /// ValueRef::blank(Kind::Text); // ValueRef::Text(b"")
+    /// ```
     pub fn blank(kind: Kind) -> ValueRef<'static>
         ensures { lent_value result ≡ blank kind }
     {

@@ -2,7 +2,8 @@
 
 ghost use Rattle.std.specs.Prelude.{◌≡◌};
 ghost use Rattle.std.proofs.Common.{ap};
-ghost use Rattle.d_values.specs.{Vocabulary.partial_equiv_from_equiv, Vocabulary.u32, Variables.code_of, Variables.same_var, Variables.same_var_decides, Variables.same_var_equiv};
+ghost use Rattle.d_values.specs.Vocabulary.{partial_equiv_from_equiv, u32};
+ghost use Rattle.d_values.specs.Variables.{code_of, same_var, same_var_decides, same_var_equiv};
 
 use crate::value::Kind;
 use std::hash::{Hash, Hasher};

@@ -1,6 +1,8 @@
 -- Pieces, one after another.
-use Rattle.std.specs.Prelude.{◌≡◌, ◌≤◌, ◌<◌, ℕ, zero, suc, ◌+◌, get_or, List, [], ◌∷◌, ◌++◌, length, drop, Some, Result, Ok, Err, OnOk, slice_get, slice_set}
-use Rattle.std.proofs.Common.{refl, sym, ap, ◌∙◌, subst, arith, append_assoc, length-append, append-nil}
+use Rattle.std.specs.Prelude.{◌≡◌, ◌≤◌, ◌<◌, ℕ, zero, suc, ◌+◌, get_or, List, [], ◌∷◌, ◌++◌, length}
+use Rattle.std.specs.Prelude.{drop, Some, Result, Ok, Err, OnOk, slice_get, slice_set}
+use Rattle.std.proofs.Common.{refl, sym, ap, ◌∙◌, subst, arith, append_assoc, length-append}
+use Rattle.std.proofs.Common.{append-nil}
 use Rattle.std.proofs.Math.Seq.{set-append_seam}
 use Rattle.d_values.specs.declared.variable.Var.{Var}
 use Rattle.d_types.specs.declared.typed.TypedExpr.{TypedExpr}
@@ -12,10 +14,12 @@ use Rattle.d_types.specs.Typed.{Typed, Typeds, Logic, end, more, typed_of, typed
 use Rattle.d_types.specs.declared.typed.LogicOperator.{LogicOperator}
 use Rattle.dif_validate.specs.declared.register.Reg.{Reg}
 use Rattle.dif_validate.specs.declared.register.Reg.TheVariants.{R1}
-use Rattle.dif_codegen.specs.Code.{code_of, keys_code, pushing, element_code, fetching, saving, lowering, object_of}
+use Rattle.dif_codegen.specs.Code.{code_of, keys_code, pushing, element_code, fetching, saving}
+use Rattle.dif_codegen.specs.Code.{lowering, object_of}
 use Rattle.dif_validate.specs.declared.instruction.Condition.{Condition}
 use Rattle.dif_validate.specs.declared.instruction.Instr.{Instr}
-use Rattle.dif_validate.specs.declared.instruction.Instr.TheVariants.{Ba, Branch, Ret, Mov, Ldtaa, Sttaa}
+use Rattle.dif_validate.specs.declared.instruction.Instr.TheVariants.{Ba, Branch, Ret, Mov, Ldtaa}
+use Rattle.dif_validate.specs.declared.instruction.Instr.TheVariants.{Sttaa}
 use Rattle.dif_validate.specs.declared.object.Difo.{Difo}
 use Rattle.dif_codegen.specs.Drafts.{end_of, Adds, Closes}
 use Rattle.dif_codegen.specs.Pieces.{Place, Maker, nothing, one, behind, both, fork, choice, next}

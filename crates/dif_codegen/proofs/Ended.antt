@@ -11,7 +11,8 @@ use Rattle.dif_machine.specs.declared.fault.MachineFault.{MachineFault}
 use Rattle.dif_machine.specs.declared.fault.MachineFault.TheVariants.{DivideByZero, Memory}
 use Rattle.dif_machine.specs.Frames.{Frame}
 use Rattle.dif_machine.specs.Frames.{start}
-use Rattle.dif_machine.specs.Runs.{End, Returns, Divides, Reaches, ends, faults, goes, RunEnds, Runs, steps}
+use Rattle.dif_machine.specs.Runs.{End, Returns, Divides, Reaches, ends, faults, goes, RunEnds}
+use Rattle.dif_machine.specs.Runs.{Runs, steps}
 use Rattle.dif_machine.proofs.Ending.{is_over, one_end}
 use Rattle.dif_codegen.specs.Correct.{Gives, end_of}
 use Rattle.dif_codegen.specs.Meaning.{goes_on, within, value_of}

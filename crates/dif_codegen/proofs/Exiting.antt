@@ -3,7 +3,8 @@ use Rattle.std.specs.List.{AllZip, list_any}
 use Rattle.std.specs.Prelude.{◌≡◌, ◌||◌, ℕ, List, [], ◌∷◌, map, Option, None, Some}
 use Rattle.std.proofs.Common.{refl, ap, ◌∙◌}
 use Rattle.d_types.specs.Held.{Slots, slots_of}
-use Rattle.d_types.specs.Typed.{Action, ActionOf, Aggregate, ClauseMeant, Evaluate, Exit, Print, ScriptMeant, Trace, has_exit, is_exit}
+use Rattle.d_types.specs.Typed.{Action, ActionOf, Aggregate, ClauseMeant, Evaluate, Exit, Print}
+use Rattle.d_types.specs.Typed.{ScriptMeant, Trace, has_exit, is_exit}
 use Rattle.aggregations.specs.declared.function.AggFn.{AggFn}
 use Rattle.dif_codegen.specs.declared.program.Action as program
 use Rattle.dif_codegen.specs.declared.program.CompiledClause.{CompiledClause}

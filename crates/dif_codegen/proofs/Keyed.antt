@@ -1,7 +1,9 @@
 -- Elements: their keys in registers, the tuple, and what is read and changed.
-use Rattle.std.specs.Prelude.{◌≡◌, ◌≤◌, ◌<◌, ℕ, ◌+◌, List, [], ◌∷◌, ◌++◌, length, Option, Some, None, slice_index_or}
+use Rattle.std.specs.Prelude.{◌≡◌, ◌≤◌, ◌<◌, ℕ, ◌+◌, List, [], ◌∷◌, ◌++◌, length, Option, Some}
+use Rattle.std.specs.Prelude.{None, slice_index_or}
 use Rattle.std.specs.Int.{cast_signed, w64}
-use Rattle.std.proofs.Common.{refl, sym, ap, ◌∙◌, subst, arith, cond, length-append, append_assoc, append-nil}
+use Rattle.std.proofs.Common.{refl, sym, ap, ◌∙◌, subst, arith, cond, length-append, append_assoc}
+use Rattle.std.proofs.Common.{append-nil}
 use Rattle.std.proofs.lemmas.Bool.{lt-ltb}
 use Rattle.d_values.specs.declared.int_type.DType.{DType}
 use Rattle.d_values.specs.declared.int_type.DType.TheVariants as ty
@@ -28,9 +30,11 @@ use Rattle.dif_machine.specs.Frames.{at_place, with_value, with_tuple}
 use Rattle.dif_machine.specs.Runs.{End, Divides, Reaches, goes}
 use Rattle.dif_machine.specs.Sources as machine
 use Rattle.dif_machine.specs.Steps as st
-use Rattle.dif_codegen.specs.Code.{register, push_of, pushing, element_code, fetching, saving, lowering}
+use Rattle.dif_codegen.specs.Code.{register, push_of, pushing, element_code, fetching, saving}
+use Rattle.dif_codegen.specs.Code.{lowering}
 use Rattle.dif_codegen.specs.Pieces.{Place, Maker, one, both, behind}
-use Rattle.dif_codegen.proofs.Leading.{Ready, Done, Usable, done_value, step, Leads, put_leads, keep_leads, none_leads}
+use Rattle.dif_codegen.proofs.Leading.{Ready, Done, Usable, done_value, step, Leads, put_leads}
+use Rattle.dif_codegen.proofs.Leading.{keep_leads, none_leads}
 use Rattle.dif_codegen.proofs.Meaning.{kept_kind, stored_kind, on_kind_is, loads, stores}
 use Rattle.dif_codegen.proofs.Standing.{Stands, stands_front, stands_back, at_is}
 

@@ -1,5 +1,6 @@
 -- Where pieces of code lead.
-use Rattle.std.specs.Prelude.{◌≡◌, ◌≢◌, ◌≤◌, ◌<◌, ℕ, ◌+◌, Bool, true, false, List, [], ◌∷◌, ◌++◌, length, Some, None, Result, Ok, Err, slice_get, slice_index_or}
+use Rattle.std.specs.Prelude.{◌≡◌, ◌≢◌, ◌≤◌, ◌<◌, ℕ, ◌+◌, Bool, true, false, List, [], ◌∷◌, ◌++◌}
+use Rattle.std.specs.Prelude.{length, Some, None, Result, Ok, Err, slice_get, slice_index_or}
 use Rattle.std.proofs.Common.{refl, sym, ap, ◌∙◌, subst, arith, cond, length-append}
 use Rattle.std.proofs.Math.ListN.{length-set}
 use Rattle.std.proofs.lemmas.List.{get_or-set_same, get_or-set_other}
@@ -29,8 +30,10 @@ use Rattle.d_types.specs.Storage as storage
 use Rattle.dif_machine.specs.Steps as st
 use Rattle.dif_codegen.specs.Code.{register}
 use Rattle.dif_codegen.specs.Pieces as pieces
-use Rattle.dif_codegen.specs.Pieces.{Piece, Place, Maker, sequence, behind, both, fork, choice, bit_by, next}
-use Rattle.dif_codegen.proofs.Standing.{has_front, has_back, Stands, stands_front, stands_back, put_is}
+use Rattle.dif_codegen.specs.Pieces.{Piece, Place, Maker, sequence, behind, both, fork, choice}
+use Rattle.dif_codegen.specs.Pieces.{bit_by, next}
+use Rattle.dif_codegen.proofs.Standing.{has_front, has_back, Stands, stands_front, stands_back}
+use Rattle.dif_codegen.proofs.Standing.{put_is}
 
 -- a frame in which an expression may begin
 pub record Ready (s : Frame) : Type 0 where

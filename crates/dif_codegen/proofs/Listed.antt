@@ -1,5 +1,6 @@
 -- Lists that are compiled one by one.
-use Rattle.std.specs.Prelude.{◌≡◌, ◌<◌, ◌≤◌, ℕ, zero, suc, ◌+◌, List, [], ◌∷◌, ◌++◌, All, length, map, drop, get_or, Option, Some, None}
+use Rattle.std.specs.Prelude.{◌≡◌, ◌<◌, ◌≤◌, ℕ, zero, suc, ◌+◌, List, [], ◌∷◌, ◌++◌, All, length}
+use Rattle.std.specs.Prelude.{map, drop, get_or, Option, Some, None}
 use Rattle.std.specs.List.{AllZip}
 use Rattle.std.proofs.Common.{refl, sym, ap, ◌∙◌, subst, arith, append_assoc, append-nil}
 use Rattle.aggregations.specs.declared.function.AggFn.{AggFn}
@@ -10,7 +11,9 @@ use Rattle.firing_reader.specs.declared.firing.Firing.{Firing}
 use Rattle.d_types.specs.Fitting.{Fits}
 use Rattle.d_types.specs.Held.{AreTyped, HasTypedBuiltIns, IsConsistent, Slots, slots_of}
 use Rattle.d_types.specs.Storage.{Variables}
-use Rattle.d_types.specs.Typed.{Action, Aggregate, ClauseMeant, Evaluate, Exit, Print, Trace, Typed, Typeds, agg_of, end, more, meant_of, script_meant, typed_of, typeds_of, type_of}
+use Rattle.d_types.specs.Typed.{Action, Aggregate, ClauseMeant, Evaluate, Exit, Print, Trace, Typed}
+use Rattle.d_types.specs.Typed.{Typeds, agg_of, end, more, meant_of, script_meant, typed_of}
+use Rattle.d_types.specs.Typed.{typeds_of, type_of}
 use Rattle.d_types.specs.Scripts.{IsMeant}
 use Rattle.d_types.specs.Wholes.{ActionIs, ActionsAre, AnyIs, ClauseIs, ClausesAre, EachIs}
 use Rattle.d_types.proofs.ConsistentScripts.{script_is_consistent}
@@ -27,7 +30,8 @@ use Rattle.dif_codegen.specs.declared.program.TypedObject.{TypedObject}
 use Rattle.dif_codegen.specs.Code.{object_of}
 use Rattle.dif_codegen.specs.Correct.{AreObjectsOf, IsActionOf, IsObjectOf, IsOptionalObjectOf}
 use Rattle.dif_codegen.specs.Meaning.{Does, IsProgramOf, run_code}
-use Rattle.dif_codegen.specs.Programs.{ClauseCode, compiled_objects, clause_code, compiled_object, compiled_action, compiled_clause, optional_object}
+use Rattle.dif_codegen.specs.Programs.{ClauseCode, compiled_objects, clause_code, compiled_object}
+use Rattle.dif_codegen.specs.Programs.{compiled_action, compiled_clause, optional_object}
 use Rattle.dif_codegen.proofs.Adding.{IsObject}
 use Rattle.dif_codegen.proofs.Compiled.{computes, is_returning}
 use Rattle.dif_codegen.proofs.SameMeaning.{run_same}

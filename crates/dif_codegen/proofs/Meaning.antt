@@ -1,5 +1,7 @@
 -- What the machine's instructions make is what the language's operators make.
-use Rattle.std.specs.Prelude.{◌≡◌, ◌<◌, ℕ, zero, suc, ◌+◌, ◌-◌, ◌%◌, ◌^◌, bit_and, ◌==◌, ◌&&◌, Bool, true, false, List, [], ◌∷◌, Some, Ok, Err, ℤ, pos, negsuc, slice_get, get_or, nat_lt, nat_le}
+use Rattle.std.specs.Prelude.{◌≡◌, ◌<◌, ℕ, zero, suc, ◌+◌, ◌-◌, ◌%◌, ◌^◌, bit_and, ◌==◌, ◌&&◌, Bool}
+use Rattle.std.specs.Prelude.{true, false, List, [], ◌∷◌, Some, Ok, Err, ℤ, pos, negsuc, slice_get}
+use Rattle.std.specs.Prelude.{get_or, nat_lt, nat_le}
 use Rattle.std.specs.Int.{cast_signed, cast_unsigned, w64}
 use Rattle.std.specs.Ordering.{nat_cmp, int_cmp, int_eq, is_eq}
 use Rattle.std.specs.declared.cmp.Ordering.{Ordering}
@@ -46,8 +48,10 @@ use Rattle.dif_machine.specs.Frames.{at_place}
 use Rattle.dif_machine.specs.Operators.{result_of, comparison_of, text_comparison_of, holds}
 use Rattle.dif_machine.specs.Sources as machine
 use Rattle.dif_machine.specs.Steps as st
-use Rattle.dif_codegen.specs.Code.{operator_of, condition_of, shift_operator, shift_right, step_operator, opposite, load_from, store_to}
-use Rattle.dif_codegen.proofs.Words.{signed_again, unsigned_again, signed_small, unsigned_small, widths, bits}
+use Rattle.dif_codegen.specs.Code.{operator_of, condition_of, shift_operator, shift_right}
+use Rattle.dif_codegen.specs.Code.{step_operator, opposite, load_from, store_to}
+use Rattle.dif_codegen.proofs.Words.{signed_again, unsigned_again, signed_small, unsigned_small}
+use Rattle.dif_codegen.proofs.Words.{widths, bits}
 
 -- ---- operators
 

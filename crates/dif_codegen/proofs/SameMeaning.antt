@@ -8,18 +8,24 @@ use Rattle.firing_reader.specs.declared.firing.Firing.{Firing}
 use Rattle.d_types.specs.declared.effect.Effect.{Effect}
 use Rattle.d_types.specs.declared.effect.Effect.TheVariants as ef
 use Rattle.d_types.specs.Clauses as trees
-use Rattle.d_types.specs.Clauses.{by_trees, effect_by, effect_of, fault_line, effect_then, argument_by, argument_value, where_predicate, run_result, run_with, Ran, run_by, run_of, statements_by, statements_of, where_true}
+use Rattle.d_types.specs.Clauses.{by_trees, effect_by, effect_of, fault_line, effect_then}
+use Rattle.d_types.specs.Clauses.{argument_by, argument_value, where_predicate, run_result}
+use Rattle.d_types.specs.Clauses.{run_with, Ran, run_by, run_of, statements_by, statements_of}
+use Rattle.d_types.specs.Clauses.{where_true}
 use Rattle.d_types.specs.Expressions.{Outcome, Has, Faults, with, number, eval, keys_of, part_of}
 use Rattle.d_types.specs.Fitting.{Fits}
-use Rattle.d_types.specs.Held.{AreConsistent, AreTyped, Ends, HasTypedBuiltIns, IsConsistent, IsOf, Slots}
+use Rattle.d_types.specs.Held.{AreConsistent, AreTyped, Ends, HasTypedBuiltIns, IsConsistent, IsOf}
+use Rattle.d_types.specs.Held.{Slots}
 use Rattle.d_types.specs.Printing.{printf_text, trace_line}
 use Rattle.d_types.specs.Storage.{Variables}
-use Rattle.d_types.specs.Typed.{Action, Aggregate, ClauseMeant, Evaluate, Exit, Print, Trace, Typed, Typeds, end, more, type_of}
+use Rattle.d_types.specs.Typed.{Action, Aggregate, ClauseMeant, Evaluate, Exit, Print, Trace, Typed}
+use Rattle.d_types.specs.Typed.{Typeds, end, more, type_of}
 use Rattle.d_types.specs.Wholes.{ActionIs, ActionsAre, AnyIs, ClauseIs, EachIs}
 use Rattle.d_types.proofs.Holding.{eval_is, keys_are}
 use Rattle.d_types.proofs.HoldingRuns.{run_kept}
 use Rattle.dif_codegen.specs.Meaning.{by_objects, key_of, run_code, value_of, values_of}
-use Rattle.dif_codegen.specs.Programs.{compiled_objects, optional_object, compiled_object, compiled_action, compiled_clause}
+use Rattle.dif_codegen.specs.Programs.{compiled_objects, optional_object, compiled_object}
+use Rattle.dif_codegen.specs.Programs.{compiled_action, compiled_clause}
 use Rattle.dif_codegen.proofs.Compiled.{computes, is_returning}
 use Rattle.dif_codegen.proofs.Ended.{value_is}
 

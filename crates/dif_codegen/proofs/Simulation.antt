@@ -1,5 +1,7 @@
 -- The machine follows the expression.
-use Rattle.std.specs.Prelude.{◌≡◌, ◌≤◌, ◌<◌, ℕ, zero, suc, ◌+◌, ◌-◌, ◌%◌, ◌^◌, ◌==◌, ◌&&◌, Bool, true, false, List, [], ◌∷◌, ◌++◌, length, Some, None, Ok, Err, slice_index_or}
+use Rattle.std.specs.Prelude.{◌≡◌, ◌≤◌, ◌<◌, ℕ, zero, suc, ◌+◌, ◌-◌, ◌%◌, ◌^◌, ◌==◌, ◌&&◌, Bool}
+use Rattle.std.specs.Prelude.{true, false, List, [], ◌∷◌, ◌++◌, length, Some, None, Ok, Err}
+use Rattle.std.specs.Prelude.{slice_index_or}
 use Rattle.std.proofs.Common.{refl, sym, ap, ◌∙◌, subst, arith, cond, length-append}
 use Rattle.d_parser.specs.declared.operators.Step.{Step}
 use Rattle.d_parser.specs.declared.operators.UnaryOperator.{UnaryOperator}
@@ -7,7 +9,8 @@ use Rattle.d_parser.specs.declared.operators.UnaryOperator.TheVariants as un
 use Rattle.d_values.specs.Operators.{holds_of}
 use Rattle.d_values.specs.Texts.{text_cmp, joined_text}
 use Rattle.d_values.specs.Types.{UINT64}
-use Rattle.d_values.specs.Words.{narrow, operate, divides, binary_of, shift_of, order_of, complement_of, opposite_of, difference_of}
+use Rattle.d_values.specs.Words.{narrow, operate, divides, binary_of, shift_of, order_of}
+use Rattle.d_values.specs.Words.{complement_of, opposite_of, difference_of}
 use Rattle.d_values.specs.declared.int_type.IntType.{IntType}
 use Rattle.d_values.specs.declared.int_type.DType.{DType}
 use Rattle.d_values.specs.declared.int_type.DType.TheVariants as ty
@@ -25,19 +28,27 @@ use Rattle.d_types.specs.declared.typed.LogicOperator.TheVariants as lo
 use Rattle.d_types.specs.declared.typed.Operation.{Operation}
 use Rattle.d_types.specs.declared.typed.Operation.TheVariants as op
 use Rattle.d_types.specs.declared.typed.Variable.{Variable}
-use Rattle.d_types.specs.Expressions.{Outcome, Has, Faults, with, number, text, integer, word_or_fault, operation_of, eval, truth, bit, inverse, at_zero, unary_of, built_in_of, assignment_outcome, update_outcome, step_outcome, works_in, word_as_type, step_result, step_value, keys_of}
-use Rattle.d_types.specs.Held.{IsOf, HasTypedBuiltIns, Slots, AreTyped, Ends, IsKnown, IsConsistent, AreConsistent, IsSomeInteger, Takes}
+use Rattle.d_types.specs.Expressions.{Outcome, Has, Faults, with, number, text, integer}
+use Rattle.d_types.specs.Expressions.{word_or_fault, operation_of, eval, truth, bit, inverse}
+use Rattle.d_types.specs.Expressions.{at_zero, unary_of, built_in_of, assignment_outcome}
+use Rattle.d_types.specs.Expressions.{update_outcome, step_outcome, works_in, word_as_type}
+use Rattle.d_types.specs.Expressions.{step_result, step_value, keys_of}
+use Rattle.d_types.specs.Held.{IsOf, HasTypedBuiltIns, Slots, AreTyped, Ends, IsKnown, IsConsistent}
+use Rattle.d_types.specs.Held.{AreConsistent, IsSomeInteger, Takes}
 use Rattle.d_types.specs.Needs.{need, need_of_keys, count}
 use Rattle.d_types.specs.Storage.{Variables, value_at, value_in, var_of, set, word_of}
 use Rattle.d_types.specs.declared.typed.Space.{Space}
 use Rattle.d_types.specs.declared.typed.Space.TheVariants as sp
-use Rattle.d_types.specs.Typed.{Typed, Constant, Text, Fixed, Read, Unary, Operate, Compare, CompareText, Logic, Choice, Convert, Assign, Update, Count, Strlen, Strjoin, Typeds, end, more, type_of}
+use Rattle.d_types.specs.Typed.{Typed, Constant, Text, Fixed, Read, Unary, Operate, Compare}
+use Rattle.d_types.specs.Typed.{CompareText, Logic, Choice, Convert, Assign, Update, Count, Strlen}
+use Rattle.d_types.specs.Typed.{Strjoin, Typeds, end, more, type_of}
 use Rattle.d_types.proofs.Holding.{eval_is, keys_are}
 use Rattle.d_types.proofs.ValueTypes.{narrow_is}
 use Rattle.dif_validate.specs.declared.instruction.Function.TheVariants as fu
 use Rattle.dif_validate.specs.declared.instruction.Condition.TheVariants.{Equal, NotEqual}
 use Rattle.dif_validate.specs.declared.instruction.Instr.{Instr}
-use Rattle.dif_validate.specs.declared.instruction.Instr.TheVariants.{Alu, Not, Cmp, Tst, Scmp, Ldga, Pushtr, Flushts, Call}
+use Rattle.dif_validate.specs.declared.instruction.Instr.TheVariants.{Alu, Not, Cmp, Tst, Scmp}
+use Rattle.dif_validate.specs.declared.instruction.Instr.TheVariants.{Ldga, Pushtr, Flushts, Call}
 use Rattle.dif_validate.specs.declared.instruction.Operator.TheVariants.{Sub, And}
 use Rattle.dif_validate.specs.declared.register.Reg.TheVariants.{R0, R7}
 use Rattle.dif_validate.specs.Objects.{Object}
@@ -47,12 +58,22 @@ use Rattle.dif_machine.specs.Frames as frames
 use Rattle.dif_machine.specs.Operators.{result_of, comparison_of, text_comparison_of}
 use Rattle.dif_machine.specs.Runs.{goes}
 use Rattle.dif_machine.specs.Steps as st
-use Rattle.dif_codegen.specs.Code.{register, operator_of, condition_of, shift_operator, masking, operate_on, differing, narrowing, unary, built_in, fetching, saving, lowering, holding, step_operator, opposite, stepping, answering, measuring, joining, code_of, keys_code}
+use Rattle.dif_codegen.specs.Code.{register, operator_of, condition_of, shift_operator, masking}
+use Rattle.dif_codegen.specs.Code.{operate_on, differing, narrowing, unary, built_in, fetching}
+use Rattle.dif_codegen.specs.Code.{saving, lowering, holding, step_operator, opposite, stepping}
+use Rattle.dif_codegen.specs.Code.{answering, measuring, joining, code_of, keys_code}
 use Rattle.dif_codegen.specs.Pieces as pieces
 use Rattle.dif_codegen.specs.Pieces.{Piece, Place, Maker, one, both, choice, bit_by, behind}
-use Rattle.dif_codegen.proofs.Leading.{Ready, Done, Usable, done_value, step, ready_on, same_ready, Leads, put_leads, none_leads, number_leads, text_leads, alu_leads, both_leads, both_number, both_text, choice_leads, bit_leads}
-use Rattle.dif_codegen.proofs.Meaning.{works, masked, shifts_as, texts_condition, is_zero, is_positive, zero_holds, positive_holds, condition_is, word_small, argument_is, step_is, stepped_back}
-use Rattle.dif_codegen.proofs.Keyed.{AreThere, there_kept, ready_keyed, KeysLead, keys_end, keys_first, keys_both, fetching_leads, saving_leads, lowering_leads}
+use Rattle.dif_codegen.proofs.Leading.{Ready, Done, Usable, done_value, step, ready_on, same_ready}
+use Rattle.dif_codegen.proofs.Leading.{Leads, put_leads, none_leads, number_leads, text_leads}
+use Rattle.dif_codegen.proofs.Leading.{alu_leads, both_leads, both_number, both_text, choice_leads}
+use Rattle.dif_codegen.proofs.Leading.{bit_leads}
+use Rattle.dif_codegen.proofs.Meaning.{works, masked, shifts_as, texts_condition, is_zero}
+use Rattle.dif_codegen.proofs.Meaning.{is_positive, zero_holds, positive_holds, condition_is}
+use Rattle.dif_codegen.proofs.Meaning.{word_small, argument_is, step_is, stepped_back}
+use Rattle.dif_codegen.proofs.Keyed.{AreThere, there_kept, ready_keyed, KeysLead, keys_end}
+use Rattle.dif_codegen.proofs.Keyed.{keys_first, keys_both, fetching_leads, saving_leads}
+use Rattle.dif_codegen.proofs.Keyed.{lowering_leads}
 use Rattle.dif_codegen.proofs.Narrowing.{narrow_leads}
 use Rattle.dif_codegen.proofs.Standing.{Stands, stands_front, stands_back, at_is}
 use Rattle.dif_codegen.proofs.Words.{unsigned_again, unsigned_small}

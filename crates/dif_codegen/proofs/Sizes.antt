@@ -9,7 +9,8 @@ use Rattle.d_types.specs.declared.typed.Variable.{Variable}
 use Rattle.d_types.specs.Needs.{need}
 use Rattle.d_types.proofs.Nodes.{read_is, assign_is, update_is, step_is}
 use Rattle.d_types.specs.declared.typed.TypedExpr.{TypedExpr}
-use Rattle.d_types.specs.Typed.{Typed, Constant, Text, Fixed, Read, Unary, Operate, Compare, CompareText, Logic}
+use Rattle.d_types.specs.Typed.{Typed, Constant, Text, Fixed, Read, Unary, Operate, Compare}
+use Rattle.d_types.specs.Typed.{CompareText, Logic}
 use Rattle.d_types.specs.Typed.{Choice, Convert, Assign, Update, Count, Strlen, Strjoin}
 use Rattle.d_types.specs.Typed.{Typeds, end, more, typed_of, typeds_of}
 

@@ -1,6 +1,8 @@
 -- The code of an expression is typed: from the kinds of the registers below to one more.
-use Rattle.std.specs.Prelude.{◌≡◌, ◌≤◌, ◌<◌, ℕ, suc, ◌+◌, ◌-◌, ◌++◌, ◌==◌, not, Bool, true, false, List, [], ◌∷◌, length, Some, None, slice_get}
-use Rattle.std.proofs.Common.{refl, sym, ap, ◌∙◌, subst, arith, cond, length-append, append_assoc, append-nil}
+use Rattle.std.specs.Prelude.{◌≡◌, ◌≤◌, ◌<◌, ℕ, suc, ◌+◌, ◌-◌, ◌++◌, ◌==◌, not, Bool, true, false}
+use Rattle.std.specs.Prelude.{List, [], ◌∷◌, length, Some, None, slice_get}
+use Rattle.std.proofs.Common.{refl, sym, ap, ◌∙◌, subst, arith, cond, length-append, append_assoc}
+use Rattle.std.proofs.Common.{append-nil}
 use Rattle.std.proofs.lemmas.Bool.{lt-leb, lt-ltb}
 use Rattle.std.proofs.lemmas.Option.{slice_get_past, slice_get_within}
 use Rattle.d_parser.specs.declared.operators.Step.{Step}
@@ -24,13 +26,18 @@ use Rattle.d_types.specs.Expressions.{works_in}
 use Rattle.d_types.specs.Held.{Slots, IsConsistent, AreConsistent}
 use Rattle.d_types.specs.Storage.{var_of}
 use Rattle.d_types.specs.Needs.{need, need_of_keys, count}
-use Rattle.d_types.specs.Typed.{Typed, Constant, Text, Fixed, Read, Unary, Operate, Compare, CompareText, Logic, Choice, Convert, Assign, Update, Count, Strlen, Strjoin, Typeds, end, more, type_of, type_of_built_in}
+use Rattle.d_types.specs.Typed.{Typed, Constant, Text, Fixed, Read, Unary, Operate, Compare}
+use Rattle.d_types.specs.Typed.{CompareText, Logic, Choice, Convert, Assign, Update, Count, Strlen}
+use Rattle.d_types.specs.Typed.{Strjoin, Typeds, end, more, type_of, type_of_built_in}
 use Rattle.d_types.specs.Variables.{kind_of, kinds_of}
 use Rattle.dif_validate.specs.declared.instruction.Function.TheVariants as fu
 use Rattle.dif_validate.specs.declared.instruction.Condition.{Condition}
 use Rattle.dif_validate.specs.declared.instruction.Condition.TheVariants.{Equal, NotEqual}
 use Rattle.dif_validate.specs.declared.instruction.Instr.{Instr}
-use Rattle.dif_validate.specs.declared.instruction.Instr.TheVariants.{Alu, Not, Mov, Cmp, Tst, Scmp, Setx, Sets, Ldgs, Ldga, Pushtr, Pushtv, Flushts, Ldtaa, Sttaa, Call}
+use Rattle.dif_validate.specs.declared.instruction.Instr.TheVariants.{Alu, Not, Mov, Cmp, Tst, Scmp}
+use Rattle.dif_validate.specs.declared.instruction.Instr.TheVariants.{Setx, Sets, Ldgs, Ldga}
+use Rattle.dif_validate.specs.declared.instruction.Instr.TheVariants.{Pushtr, Pushtv, Flushts}
+use Rattle.dif_validate.specs.declared.instruction.Instr.TheVariants.{Ldtaa, Sttaa, Call}
 use Rattle.dif_validate.specs.declared.instruction.Operator.TheVariants.{Sub, Sll, And}
 use Rattle.dif_validate.specs.declared.register.Reg.{Reg}
 use Rattle.dif_validate.specs.declared.register.Reg.TheVariants.{R0, R7}
@@ -44,13 +51,20 @@ use Rattle.dif_validate.specs.Validity.{is_return}
 use Rattle.dif_validate.proofs.Faultless.{IsFine}
 use Rattle.dif_validate.proofs.Flowing.{Within, within_self}
 use Rattle.dif_machine.proofs.Fitting.{put_long}
-use Rattle.dif_codegen.specs.Code.{register, operator_of, condition_of, shift_right, shift_operator, shifts, masking, operate_on, differing, narrowing, unary, built_in, load_from, store_to, push_of, pushing, fetching, saving, lowering, holding, step_operator, opposite, stepping, answering, measuring, joining, code_of, keys_code}
+use Rattle.dif_codegen.specs.Code.{register, operator_of, condition_of, shift_right, shift_operator}
+use Rattle.dif_codegen.specs.Code.{shifts, masking, operate_on, differing, narrowing, unary}
+use Rattle.dif_codegen.specs.Code.{built_in, load_from, store_to, push_of, pushing, fetching}
+use Rattle.dif_codegen.specs.Code.{saving, lowering, holding, step_operator, opposite, stepping}
+use Rattle.dif_codegen.specs.Code.{answering, measuring, joining, code_of, keys_code}
 use Rattle.dif_codegen.specs.Pieces as pieces
-use Rattle.dif_codegen.specs.Pieces.{Piece, Place, Maker, nothing, one, both, fork, choice, bit_by, behind, next}
-use Rattle.dif_codegen.proofs.Levels.{level, level_at, first_of, level_front, level_more, nonzero, write_again, fine_none, fine_one, fine_two, fine_any}
+use Rattle.dif_codegen.specs.Pieces.{Piece, Place, Maker, nothing, one, both, fork, choice, bit_by}
+use Rattle.dif_codegen.specs.Pieces.{behind, next}
+use Rattle.dif_codegen.proofs.Levels.{level, level_at, first_of, level_front, level_more, nonzero}
+use Rattle.dif_codegen.proofs.Levels.{write_again, fine_none, fine_one, fine_two, fine_any}
 use Rattle.dif_codegen.proofs.Simulation.{need_pos, count_fits, count_type}
 use Rattle.dif_codegen.proofs.Standing.{Stands, stands_front, stands_back, has_front, has_back}
-use Rattle.dif_codegen.proofs.Typing.{Types, nothing_types, less_types, both_types, one_types, fork_types}
+use Rattle.dif_codegen.proofs.Typing.{Types, nothing_types, less_types, both_types, one_types}
+use Rattle.dif_codegen.proofs.Typing.{fork_types}
 
 module _ (o : Object) where
   -- a maker's piece at a place

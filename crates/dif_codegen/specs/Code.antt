@@ -1,8 +1,18 @@
 -- The code of an expression.
 use Rattle.std.specs.Prelude.{ℕ, zero, suc, ◌+◌, ◌-◌, Bool, true, false, ◌==◌, if◌then◌else◌}
-use Rattle.d_types.specs.Typed.{Typed, Constant, Text, Fixed, Read, Unary, Operate, Compare, CompareText, Logic, Choice, Convert, Assign, Update, Count, Strlen, Strjoin, Typeds, end, more, type_of}
-use Rattle.dif_codegen.specs.Vocabulary.{UnaryOperator, Step, IntType, DType, ArithmeticOperator, ComparisonOperator, ShiftOperator, Var, Answer, BuiltIn, LogicOperator, Operation, Space, works_in, count, var_of}
-use Rattle.dif_codegen.specs.Vocabulary.{Condition, Equal, NotEqual, Greater, GreaterEqual, Less, LessEqual, Above, AboveEqual, Below, BelowEqual, Function, Instr, Alu, Not, Mov, Cmp, Tst, Scmp, Ldgs, Ldga, Ldts, Stts, Ldls, Stls, Pushtr, Pushtv, Flushts, Ldtaa, Sttaa, Call, Ret, Operator, Or, Xor, And, Sll, Srl, Sra, Sub, Add, Mul, Sdiv, Udiv, Srem, Urem, Reg, R0, R1, R2, R3, R4, R5, R6, R7}
+use Rattle.d_types.specs.Typed.{Typed, Constant, Text, Fixed, Read, Unary, Operate, Compare}
+use Rattle.d_types.specs.Typed.{CompareText, Logic, Choice, Convert, Assign, Update, Count, Strlen}
+use Rattle.d_types.specs.Typed.{Strjoin, Typeds, end, more, type_of}
+use Rattle.dif_codegen.specs.Vocabulary.{UnaryOperator, Step, IntType, DType, ArithmeticOperator}
+use Rattle.dif_codegen.specs.Vocabulary.{ComparisonOperator, ShiftOperator, Var, Answer, BuiltIn}
+use Rattle.dif_codegen.specs.Vocabulary.{LogicOperator, Operation, Space, works_in, count, var_of}
+use Rattle.dif_codegen.specs.Vocabulary.{Condition, Equal, NotEqual, Greater, GreaterEqual, Less}
+use Rattle.dif_codegen.specs.Vocabulary.{LessEqual, Above, AboveEqual, Below, BelowEqual, Function}
+use Rattle.dif_codegen.specs.Vocabulary.{Instr, Alu, Not, Mov, Cmp, Tst, Scmp, Ldgs, Ldga, Ldts}
+use Rattle.dif_codegen.specs.Vocabulary.{Stts, Ldls, Stls, Pushtr, Pushtv, Flushts, Ldtaa, Sttaa}
+use Rattle.dif_codegen.specs.Vocabulary.{Call, Ret, Operator, Or, Xor, And, Sll, Srl, Sra, Sub, Add}
+use Rattle.dif_codegen.specs.Vocabulary.{Mul, Sdiv, Udiv, Srem, Urem, Reg, R0, R1, R2, R3, R4, R5}
+use Rattle.dif_codegen.specs.Vocabulary.{R6, R7}
 use Rattle.dif_codegen.specs.Pieces.{Piece, Maker, nothing, one, number, text, both, choice, bit_by}
 
 -- the register of a number below 8

@@ -1,10 +1,13 @@
 -- What compiled code does.
 use Rattle.std.specs.Prelude.{◌≡◌, List, [], ◌∷◌, Option, Some, None, Result, Ok, Err}
-use Rattle.d_types.specs.Typed.{Action, Evaluate, Trace, Print, Exit, Aggregate, Typeds, end, more, type_of}
+use Rattle.d_types.specs.Typed.{Action, Evaluate, Trace, Print, Exit, Aggregate, Typeds, end, more}
+use Rattle.d_types.specs.Typed.{type_of}
 use Rattle.d_types.specs.Variables.{kind_of}
 use Rattle.dif_validate.specs.Validity.{IsReturning}
 use Rattle.dif_machine.specs.Runs.{End, Returns, Divides, Runs}
-use Rattle.dif_codegen.specs.Vocabulary.{Value, Firing, Outcome, Has, Faults, eval, HasTypedBuiltIns, Slots, AreTyped, Variables, Typed, TypedObject, Object, MachineFault, DivideByZero, Memory}
+use Rattle.dif_codegen.specs.Vocabulary.{Value, Firing, Outcome, Has, Faults, eval}
+use Rattle.dif_codegen.specs.Vocabulary.{HasTypedBuiltIns, Slots, AreTyped, Variables, Typed}
+use Rattle.dif_codegen.specs.Vocabulary.{TypedObject, Object, MachineFault, DivideByZero, Memory}
 use Rattle.dif_codegen.specs.Programs.{ActionCode}
 
 abbrev pub end_of : Outcome Value → End

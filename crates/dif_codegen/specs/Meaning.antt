@@ -4,7 +4,11 @@ use Rattle.std.specs.Prelude.{◌≡◌, ℕ, zero, suc, Bool, List, [], ◌∷�
 use Rattle.d_types.specs.Typed.{is_exit}
 use Rattle.dif_machine.specs.Steps as steps
 use Rattle.dif_machine.specs.{Frames.Frame, Frames.start, Steps.Next, Steps.step_of}
-use Rattle.dif_codegen.specs.Vocabulary.{AllZip, AggFn, DType, KeyPart, Value, Firing, Evaluation, Made, fault_line, run_by, run_of, Outcome, Has, Faults, with, part_of, HasTypedBuiltIns, Slots, AreTyped, slots_of, Variables, ClauseMeant, ScriptMeant, Object, CompiledClause, TypedObject}
+use Rattle.dif_codegen.specs.Vocabulary.{AllZip, AggFn, DType, KeyPart, Value, Firing, Evaluation}
+use Rattle.dif_codegen.specs.Vocabulary.{Made, fault_line, run_by, run_of, Outcome, Has, Faults}
+use Rattle.dif_codegen.specs.Vocabulary.{with, part_of, HasTypedBuiltIns, Slots, AreTyped, slots_of}
+use Rattle.dif_codegen.specs.Vocabulary.{Variables, ClauseMeant, ScriptMeant, Object}
+use Rattle.dif_codegen.specs.Vocabulary.{CompiledClause, TypedObject}
 use Rattle.dif_codegen.specs.Correct.{IsActionOf, IsOptionalObjectOf}
 use Rattle.dif_codegen.specs.Programs.{ClauseCode, clause_code}
 

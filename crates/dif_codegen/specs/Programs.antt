@@ -1,8 +1,10 @@
 -- Compiled clauses, without where they lie in memory, and what clauses are compiled to.
 use Rattle.std.specs.Prelude.{List, [], ◌∷◌, map, Option, Some, None}
 use Rattle.d_types.specs.Typed as typed
-use Rattle.d_types.specs.Typed.{Typeds, end, more, type_of, ActionOf, Evaluate, Trace, Print, Exit, Aggregate}
-use Rattle.dif_codegen.specs.Vocabulary.{Description, Typed, ClauseMeant, Action, CompiledClause, TypedObject}
+use Rattle.d_types.specs.Typed.{Typeds, end, more, type_of, ActionOf, Evaluate, Trace, Print, Exit}
+use Rattle.d_types.specs.Typed.{Aggregate}
+use Rattle.dif_codegen.specs.Vocabulary.{Description, Typed, ClauseMeant, Action, CompiledClause}
+use Rattle.dif_codegen.specs.Vocabulary.{TypedObject}
 use Rattle.dif_codegen.specs.Code.{object_of}
 
 -- a statement with an object in place of each expression

@@ -28,12 +28,23 @@ pub use Rattle.dif_machine.specs.declared.fault.MachineFault.{MachineFault}
 pub use Rattle.dif_machine.specs.declared.fault.MachineFault.TheVariants.{DivideByZero, Memory}
 pub use Rattle.dif_validate.specs.Objects.{Object}
 pub use Rattle.dif_validate.specs.declared.instruction.Condition.{Condition}
-pub use Rattle.dif_validate.specs.declared.instruction.Condition.TheVariants.{Equal, NotEqual, Greater, GreaterEqual, Less, LessEqual, Above, AboveEqual, Below, BelowEqual}
+pub use Rattle.dif_validate.specs.declared.instruction.Condition.TheVariants.{Equal, NotEqual}
+pub use Rattle.dif_validate.specs.declared.instruction.Condition.TheVariants.{Greater, GreaterEqual}
+pub use Rattle.dif_validate.specs.declared.instruction.Condition.TheVariants.{Less, LessEqual}
+pub use Rattle.dif_validate.specs.declared.instruction.Condition.TheVariants.{Above, AboveEqual}
+pub use Rattle.dif_validate.specs.declared.instruction.Condition.TheVariants.{Below, BelowEqual}
 pub use Rattle.dif_validate.specs.declared.instruction.Function.{Function}
 pub use Rattle.dif_validate.specs.declared.instruction.Instr.{Instr}
-pub use Rattle.dif_validate.specs.declared.instruction.Instr.TheVariants.{Alu, Not, Mov, Cmp, Tst, Scmp, Ba, Branch, Setx, Sets, Ldgs, Ldga, Ldts, Stts, Ldls, Stls, Pushtr, Pushtv, Flushts, Ldtaa, Sttaa, Call, Ret}
+pub use Rattle.dif_validate.specs.declared.instruction.Instr.TheVariants.{Alu, Not, Mov, Cmp, Tst}
+pub use Rattle.dif_validate.specs.declared.instruction.Instr.TheVariants.{Scmp, Ba, Branch, Setx}
+pub use Rattle.dif_validate.specs.declared.instruction.Instr.TheVariants.{Sets, Ldgs, Ldga, Ldts}
+pub use Rattle.dif_validate.specs.declared.instruction.Instr.TheVariants.{Stts, Ldls, Stls, Pushtr}
+pub use Rattle.dif_validate.specs.declared.instruction.Instr.TheVariants.{Pushtv, Flushts, Ldtaa}
+pub use Rattle.dif_validate.specs.declared.instruction.Instr.TheVariants.{Sttaa, Call, Ret}
 pub use Rattle.dif_validate.specs.declared.instruction.Operator.{Operator}
-pub use Rattle.dif_validate.specs.declared.instruction.Operator.TheVariants.{Or, Xor, And, Sll, Srl, Sra, Sub, Add, Mul, Sdiv, Udiv, Srem, Urem}
+pub use Rattle.dif_validate.specs.declared.instruction.Operator.TheVariants.{Or, Xor, And, Sll, Srl}
+pub use Rattle.dif_validate.specs.declared.instruction.Operator.TheVariants.{Sra, Sub, Add, Mul}
+pub use Rattle.dif_validate.specs.declared.instruction.Operator.TheVariants.{Sdiv, Udiv, Srem, Urem}
 pub use Rattle.dif_validate.specs.declared.object.Difo.{Difo}
 pub use Rattle.dif_validate.specs.declared.register.Reg.{Reg}
 pub use Rattle.dif_validate.specs.declared.register.Reg.TheVariants.{R0, R1, R2, R3, R4, R5, R6, R7}

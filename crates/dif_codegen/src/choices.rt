@@ -2,7 +2,9 @@
 
 ghost use Rattle.std.specs.Prelude.{◌<◌, false, length, OnOk};
 ghost use Rattle.dif_codegen.specs.Code as spec;
-ghost use Rattle.dif_codegen.specs.{Vocabulary.Cmp, Vocabulary.Scmp, Drafts.Adds, Drafts.Closes, Pieces.bit_by};
+ghost use Rattle.dif_codegen.specs.{Pieces.bit_by};
+ghost use Rattle.dif_codegen.specs.Vocabulary.{Cmp, Scmp};
+ghost use Rattle.dif_codegen.specs.Drafts.{Adds, Closes};
 
 use crate::draft::{narrow, put, put_number};
 use crate::operators::condition_of;

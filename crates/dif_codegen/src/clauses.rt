@@ -1,8 +1,13 @@
 //! Statements, clauses and scripts to compiled ones.
 
 ghost use Rattle.std.specs.Prelude.{◌≡◌, IfOk, map};
-ghost use Rattle.d_types.specs.{Fitting.Fits, Held.IsConsistent, Held.Slots, Typed.action_of, Typed.actions_of, Typed.meant_of, TypedScripts.typed_script_of, Wholes.ActionIs, Wholes.ActionsAre, Wholes.ClauseIs, Wholes.ClausesAre};
-ghost use Rattle.dif_codegen.specs.{Meaning.IsProgramOf, Programs.action_code, Programs.clause_code, Programs.compiled_action, Programs.compiled_clause};
+ghost use Rattle.d_types.specs.{Fitting.Fits, TypedScripts.typed_script_of};
+ghost use Rattle.d_types.specs.Held.{IsConsistent, Slots};
+ghost use Rattle.d_types.specs.Typed.{action_of, actions_of, meant_of};
+ghost use Rattle.d_types.specs.Wholes.{ActionIs, ActionsAre, ClauseIs, ClausesAre};
+ghost use Rattle.dif_codegen.specs.{Meaning.IsProgramOf};
+ghost use Rattle.dif_codegen.specs.Programs.{action_code, clause_code, compiled_action};
+ghost use Rattle.dif_codegen.specs.Programs.{compiled_clause};
 
 use crate::compiling::{compile_expression, compile_expressions, compile_optional};
 use crate::program::{Action, CompiledClause, Program};

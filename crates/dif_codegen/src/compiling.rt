@@ -1,7 +1,10 @@
 //! Expressions to objects.
 
 ghost use Rattle.std.specs.Prelude.{◌≡◌, IfOk};
-ghost use Rattle.d_types.specs.{Fitting.Fits, Held.IsConsistent, Held.Slots, Typed.argument_of, Typed.typed_of, Typed.typeds_of, Variables.kind_of, Wholes.AnyIs, Wholes.EachIs};
+ghost use Rattle.d_types.specs.{Fitting.Fits, Variables.kind_of};
+ghost use Rattle.d_types.specs.Held.{IsConsistent, Slots};
+ghost use Rattle.d_types.specs.Typed.{argument_of, typed_of, typeds_of};
+ghost use Rattle.d_types.specs.Wholes.{AnyIs, EachIs};
 ghost use Rattle.dif_codegen.specs.Programs.{compiled_objects, optional_object, compiled_object};
 
 use crate::draft::put;

@@ -2,7 +2,9 @@
 
 ghost use Rattle.std.specs.Prelude.{OnOk};
 ghost use Rattle.dif_codegen.specs.Pieces as pieces;
-ghost use Rattle.dif_codegen.specs.{Code.answering, Code.built_in, Code.holding, Code.joining, Code.masking, Code.measuring, Code.narrowing, Code.operate_on, Code.stepping, Drafts.Adds};
+ghost use Rattle.dif_codegen.specs.{Drafts.Adds};
+ghost use Rattle.dif_codegen.specs.Code.{answering, built_in, holding, joining, masking, measuring};
+ghost use Rattle.dif_codegen.specs.Code.{narrowing, operate_on, stepping};
 
 use crate::operators::{operator_of, opposite, shift_operator, step_operator};
 use d_parser::Step;

@@ -1,7 +1,9 @@
 //! The code of an expression, one arm for each construct.
 
 ghost use Rattle.std.specs.Prelude.{◌≡◌, ◌≤◌, ◌+◌, OnOk};
-ghost use Rattle.d_types.specs.{Expressions.works_in, Needs.need, Needs.need_of_keys, Needs.need_of_two, Typed.typed_of, Typed.typeds_of, Typed.Typed, Typed.Read, Typed.Assign, Typed.Update, Typed.Count};
+ghost use Rattle.d_types.specs.{Expressions.works_in};
+ghost use Rattle.d_types.specs.Needs.{need, need_of_keys, need_of_two};
+ghost use Rattle.d_types.specs.Typed.{typed_of, typeds_of, Typed, Read, Assign, Update, Count};
 ghost use Rattle.dif_codegen.specs.{Code.code_of, Code.keys_code, Drafts.Adds, Pieces.both};
 
 use crate::choices::{

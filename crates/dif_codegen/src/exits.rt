@@ -3,7 +3,8 @@
 ghost use Rattle.std.specs.List.{list_any};
 ghost use Rattle.std.specs.Prelude.{◌≡◌};
 ghost use Rattle.d_types.specs.Typed.{has_exit, is_exit};
-ghost use Rattle.dif_codegen.specs.{Meaning.IsProgramOf, Meaning.code_exits, Programs.action_code, Vocabulary.ScriptMeant};
+ghost use Rattle.dif_codegen.specs.{Programs.action_code, Vocabulary.ScriptMeant};
+ghost use Rattle.dif_codegen.specs.Meaning.{IsProgramOf, code_exits};
 
 use crate::program::{Action, CompiledClause, Program};
 

@@ -2,7 +2,8 @@
 
 ghost use Rattle.std.specs.Prelude.{◌≡◌, ◌≤◌, ◌+◌, OnOk};
 ghost use Rattle.d_types.specs.{Needs.count, Storage.var_of, Typed.typeds_of};
-ghost use Rattle.dif_codegen.specs.{Code.fetching, Code.element_code, Code.lowering, Code.pushing, Code.saving, Drafts.Adds};
+ghost use Rattle.dif_codegen.specs.{Drafts.Adds};
+ghost use Rattle.dif_codegen.specs.Code.{fetching, element_code, lowering, pushing, saving};
 
 use crate::draft::put;
 use crate::operators::{push_of, register, var_of};

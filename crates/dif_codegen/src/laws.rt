@@ -1,7 +1,8 @@
 //! Laws of what compiled code means: each holds of the definitions, and its function computes
 //! nothing.
 
-ghost use Rattle.dif_codegen.specs.{Correct.end_of, Meaning.value_of, Vocabulary.Firing, Vocabulary.Object, Vocabulary.Variables};
+ghost use Rattle.dif_codegen.specs.{Correct.end_of, Meaning.value_of};
+ghost use Rattle.dif_codegen.specs.Vocabulary.{Firing, Object, Variables};
 ghost use Rattle.dif_machine.specs.Runs.{Runs};
 ghost use Rattle.dif_validate.specs.Validity.{IsValid};
 

@@ -85,6 +85,10 @@ impl Program {
     ghost use Rattle.std.specs.Prelude.{◌≡◌};
 
     /// Its clauses, in the order of the script's.
+    ///
+    /// ```text
+    /// program.clauses().len(); // 2, for a script of two clauses
+    /// ```
     pub fn clauses(&self) -> &[CompiledClause]
         ensures { result.now ≡ self.now.clauses.items }
     {
@@ -92,6 +96,10 @@ impl Program {
     }
 
     /// The functions of the script's aggregations, in order of first appearance.
+    ///
+    /// ```text
+    /// program.aggregations(); // [AggFn::Count], for `@calls = count()`
+    /// ```
     pub fn aggregations(&self) -> &[AggFn]
         ensures { result.now ≡ self.now.functions.items }
     {

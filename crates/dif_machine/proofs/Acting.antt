@@ -1,16 +1,26 @@
 -- What each instruction makes of a state, from what its call read and wrote.
-use Rattle.std.specs.Prelude.{◌≡◌, ◌≢◌, ◌<◌, option_map, ℕ, zero, suc, ◌+◌, ◌++◌, Bool, true, false, List, [], ◌∷◌, length, nat_lt, Option, Some, None, Ok, Err, slice_get}
+use Rattle.std.specs.Prelude.{◌≡◌, ◌≢◌, ◌<◌, option_map, ℕ, zero, suc, ◌+◌, ◌++◌, Bool, true, false}
+use Rattle.std.specs.Prelude.{List, [], ◌∷◌, length, nat_lt, Option, Some, None, Ok, Err, slice_get}
 use Rattle.std.specs.Int.{cast_signed, w64}
 use Rattle.std.proofs.Common.{refl, sym, ap, ◌∙◌, cond}
 use Rattle.std.proofs.lemmas.Bool.{ltb-true}
 use Rattle.d_values.specs.Stores.{with_local, with_own}
 use Rattle.d_values.specs.Storage.{set_local, set_own}
-use Rattle.dif_machine.specs.Vocabulary.{Comparison, Firing, Alu, Not, Mov, Cmp, Tst, Scmp, Ba, Branch, Setx, Sets, Ldgs, Ldga, Ldts, Stts, Ldls, Stls, Pushtr, Pushtv, Flushts, Ldtaa, Sttaa, Call, Ret, Nop, Condition, Function, KeyPart, Number, Name, Kind, NumberKind, TextKind, Object, Operator, OutOfZero, Reg, at, Value, Int, Text, Var, Variables}
-use Rattle.dif_machine.specs.Frames.{Frame, at_place, with_content, with_value, with_comparison, with_tuple}
+use Rattle.dif_machine.specs.Vocabulary.{Comparison, Firing, Alu, Not, Mov, Cmp, Tst, Scmp, Ba}
+use Rattle.dif_machine.specs.Vocabulary.{Branch, Setx, Sets, Ldgs, Ldga, Ldts, Stts, Ldls, Stls}
+use Rattle.dif_machine.specs.Vocabulary.{Pushtr, Pushtv, Flushts, Ldtaa, Sttaa, Call, Ret, Nop}
+use Rattle.dif_machine.specs.Vocabulary.{Condition, Function, KeyPart, Number, Name, Kind}
+use Rattle.dif_machine.specs.Vocabulary.{NumberKind, TextKind, Object, Operator, OutOfZero, Reg, at}
+use Rattle.dif_machine.specs.Vocabulary.{Value, Int, Text, Var, Variables}
+use Rattle.dif_machine.specs.Frames.{Frame, at_place, with_content, with_value, with_comparison}
+use Rattle.dif_machine.specs.Frames.{with_tuple}
 use Rattle.dif_machine.specs.Held.{part_of}
-use Rattle.dif_machine.specs.Operators.{result_of, complement, comparison_of, text_comparison_of, holds, call_of}
+use Rattle.dif_machine.specs.Operators.{result_of, complement, comparison_of, text_comparison_of}
+use Rattle.dif_machine.specs.Operators.{holds, call_of}
 use Rattle.dif_machine.specs.Sources.{built_in_of, argument_of, local_in, own_in}
-use Rattle.dif_machine.specs.Steps.{Next, Goes, Ends, Faults, Stuck, on, on_number, on_text, on_kind, on_key, store_own, store_local, puts, puts_result, pushes, act}
+use Rattle.dif_machine.specs.Steps.{Next, Goes, Ends, Faults, Stuck, on, on_number, on_text}
+use Rattle.dif_machine.specs.Steps.{on_kind, on_key, store_own, store_local, puts, puts_result}
+use Rattle.dif_machine.specs.Steps.{pushes, act}
 
 kind_is : (k : Kind) (value : Value) (other go : Value → Next) → on_kind k (Some value) other ≢ Stuck → on_kind k (Some value) go ≡ go value
 kind_is NumberKind (Int n) other go h = refl

@@ -3,7 +3,8 @@ use Rattle.std.specs.Prelude.{◌≡◌, Result, Ok, Err, IsErrAnd}
 use Rattle.std.proofs.Common.{refl, sym, subst}
 use Rattle.dif_machine.specs.Vocabulary.{Firing, MachineFault, Memory, Object, Value, Variables}
 use Rattle.dif_machine.specs.Frames.{Frame, start}
-use Rattle.dif_machine.specs.Runs.{End, Returns, Divides, Reaches, ends, faults, goes, Comes, stays, steps_on, EndsBy, RunEnds, Runs}
+use Rattle.dif_machine.specs.Runs.{End, Returns, Divides, Reaches, ends, faults, goes, Comes, stays}
+use Rattle.dif_machine.specs.Runs.{steps_on, EndsBy, RunEnds, Runs}
 use Rattle.dif_machine.specs.Steps.{Next, Goes, Ends, Faults, Stuck, step_of}
 use Rattle.dif_machine.proofs.Changing.{end_keeps}
 

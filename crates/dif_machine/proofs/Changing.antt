@@ -1,5 +1,6 @@
 -- One instruction changes no more than it is for.
-use Rattle.std.specs.Prelude.{◌≡◌, ◌≢◌, ℕ, zero, suc, ◌+◌, ◌++◌, Bool, true, false, List, [], ◌∷◌, length, nat_lt, Option, Some, None, Result, Ok, Err, slice_get}
+use Rattle.std.specs.Prelude.{◌≡◌, ◌≢◌, ℕ, zero, suc, ◌+◌, ◌++◌, Bool, true, false, List, [], ◌∷◌}
+use Rattle.std.specs.Prelude.{length, nat_lt, Option, Some, None, Result, Ok, Err, slice_get}
 use Rattle.std.specs.Int.{cast_signed, w64}
 use Rattle.std.proofs.Common.{refl, sym, ap, ◌∙◌, subst, ⊎_elim, cond}
 use Rattle.std.proofs.lemmas.Bool.{cases_eq}
@@ -7,12 +8,18 @@ use Rattle.std.proofs.lemmas.List.{get_or-set_other}
 use Rattle.dif_validate.specs.Flow.{target}
 use Rattle.dif_validate.specs.Registers.{number_of, put}
 use Rattle.dif_validate.specs.declared.register.Reg.TheVariants.{R0, R1, R2, R3, R4, R5, R6, R7}
-use Rattle.dif_machine.specs.Vocabulary.{Comparison, Firing, Instr, Alu, Not, Mov, Cmp, Tst, Scmp, Ba, Branch, Setx, Sets, Ldgs, Ldga, Ldts, Stts, Ldls, Stls, Pushtr, Pushtv, Flushts, Ldtaa, Sttaa, Call, Ret, Nop, KeyPart, Number, Name, Kind, NumberKind, TextKind, Object, OutOfZero, Reg, at, Value, Int, Text, Variables}
+use Rattle.dif_machine.specs.Vocabulary.{Comparison, Firing, Instr, Alu, Not, Mov, Cmp, Tst, Scmp}
+use Rattle.dif_machine.specs.Vocabulary.{Ba, Branch, Setx, Sets, Ldgs, Ldga, Ldts, Stts, Ldls, Stls}
+use Rattle.dif_machine.specs.Vocabulary.{Pushtr, Pushtv, Flushts, Ldtaa, Sttaa, Call, Ret, Nop}
+use Rattle.dif_machine.specs.Vocabulary.{KeyPart, Number, Name, Kind, NumberKind, TextKind, Object}
+use Rattle.dif_machine.specs.Vocabulary.{OutOfZero, Reg, at, Value, Int, Text, Variables}
 use Rattle.dif_machine.specs.Changes.{output_register, compares, fills, stores, Changes}
 use Rattle.dif_machine.specs.Frames.{Frame, at_place, with_value, with_comparison, with_tuple}
-use Rattle.dif_machine.specs.Operators.{result_of, comparison_of, text_comparison_of, holds, call_of}
+use Rattle.dif_machine.specs.Operators.{result_of, comparison_of, text_comparison_of, holds}
+use Rattle.dif_machine.specs.Operators.{call_of}
 use Rattle.dif_machine.specs.Sources.{built_in_of}
-use Rattle.dif_machine.specs.Steps.{Next, Goes, Ends, Stuck, on, on_number, on_text, on_kind, on_key, puts_result, act, step_of}
+use Rattle.dif_machine.specs.Steps.{Next, Goes, Ends, Stuck, on, on_number, on_text, on_kind}
+use Rattle.dif_machine.specs.Steps.{on_key, puts_result, act, step_of}
 use Rattle.dif_machine.proofs.Fitting.{put_set, put_zero}
 
 abbrev register_of : ℕ → Reg

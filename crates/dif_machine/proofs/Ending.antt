@@ -9,7 +9,8 @@ use Rattle.dif_validate.specs.Objects.{Object}
 use Rattle.dif_validate.specs.Validity.{IsValid}
 use Rattle.dif_machine.specs.Frames.{Frame}
 use Rattle.dif_machine.specs.Frames as frames
-use Rattle.dif_machine.specs.Runs.{End, Returns, Divides, Reaches, ends, faults, goes, steps, IsOver, Runs}
+use Rattle.dif_machine.specs.Runs.{End, Returns, Divides, Reaches, ends, faults, goes, steps}
+use Rattle.dif_machine.specs.Runs.{IsOver, Runs}
 use Rattle.d_values.specs.Storage.{Variables}
 use Rattle.dif_machine.specs.Steps.{Next, Goes, Ends, Faults, Stuck, step_of}
 use Rattle.dif_machine.proofs.Progress.{Reached, Onward, progress, start_reached}

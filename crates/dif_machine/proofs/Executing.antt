@@ -1,7 +1,8 @@
 -- A call that executes an instruction, where the instruction is known.
 use Rattle.std.specs.Prelude.{◌≡◌, Option, Result}
 use Rattle.std.proofs.Common.{sym, subst}
-use Rattle.dif_machine.specs.Vocabulary.{Difo, Firing, FrameInMemory, Instr, MachineFault, Reg, Variables}
+use Rattle.dif_machine.specs.Vocabulary.{Difo, Firing, FrameInMemory, Instr, MachineFault, Reg}
+use Rattle.dif_machine.specs.Vocabulary.{Variables}
 use Rattle.dif_machine.specs.Instructions.{CanExecute, CanExecuteOver, ExecutesOver}
 
 module _ (difo : Difo) (f : Firing) (frame : FrameInMemory) where

@@ -1,7 +1,8 @@
 -- Runs of objects that load one value and return it.
 use Rattle.std.specs.Prelude.{◌≡◌, Option, Some, None, IfSome, slice_get}
 use Rattle.std.proofs.Common.{ap, ◌∙◌}
-use Rattle.dif_machine.specs.Vocabulary.{Firing, Instr, Ret, Object, Value, ValueRef, lent_value, Variables}
+use Rattle.dif_machine.specs.Vocabulary.{Firing, Instr, Ret, Object, Value, ValueRef, lent_value}
+use Rattle.dif_machine.specs.Vocabulary.{Variables}
 use Rattle.dif_machine.specs.Frames.{start, with_value}
 use Rattle.dif_machine.specs.Runs.{Returns, ends, goes, Runs}
 use Rattle.dif_machine.specs.Steps.{Goes, on, act}

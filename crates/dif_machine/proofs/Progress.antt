@@ -1,5 +1,7 @@
 -- A valid object is never stuck.
-use Rattle.std.specs.Prelude.{◌≡◌, ◌≢◌, ◌<◌, ℕ, zero, suc, ◌+◌, ◌++◌, Bool, true, false, List, [], ◌∷◌, length, nat_lt, if◌then◌else◌, Option, Some, None, Result, Ok, Err, slice_get}
+use Rattle.std.specs.Prelude.{◌≡◌, ◌≢◌, ◌<◌, ℕ, zero, suc, ◌+◌, ◌++◌, Bool, true, false, List, []}
+use Rattle.std.specs.Prelude.{◌∷◌, length, nat_lt, if◌then◌else◌, Option, Some, None, Result, Ok}
+use Rattle.std.specs.Prelude.{Err, slice_get}
 use Rattle.std.specs.Int.{cast_signed, w64}
 use Rattle.std.proofs.Common.{refl, sym, ap, ◌∙◌, subst, ⊎_elim, arith, cond}
 use Rattle.std.proofs.lemmas.List.{map-append, length-map}
@@ -18,14 +20,19 @@ use Rattle.dif_validate.specs.declared.instruction.Condition.{Condition}
 use Rattle.dif_validate.specs.declared.instruction.Function.{Function}
 use Rattle.dif_validate.specs.declared.instruction.Function.TheVariants.{Strlen, Strjoin}
 use Rattle.dif_validate.specs.declared.instruction.Instr.{Instr}
-use Rattle.dif_validate.specs.declared.instruction.Instr.TheVariants.{Alu, Not, Mov, Cmp, Tst, Scmp, Ba, Branch, Setx, Sets, Ldgs, Ldga, Ldts, Stts, Ldls, Stls, Pushtr, Pushtv, Flushts, Ldtaa, Sttaa, Call, Ret, Nop}
+use Rattle.dif_validate.specs.declared.instruction.Instr.TheVariants.{Alu, Not, Mov, Cmp, Tst, Scmp}
+use Rattle.dif_validate.specs.declared.instruction.Instr.TheVariants.{Ba, Branch, Setx, Sets, Ldgs}
+use Rattle.dif_validate.specs.declared.instruction.Instr.TheVariants.{Ldga, Ldts, Stts, Ldls, Stls}
+use Rattle.dif_validate.specs.declared.instruction.Instr.TheVariants.{Pushtr, Pushtv, Flushts}
+use Rattle.dif_validate.specs.declared.instruction.Instr.TheVariants.{Ldtaa, Sttaa, Call, Ret, Nop}
 use Rattle.dif_validate.specs.declared.register.Reg.{Reg}
 use Rattle.dif_validate.specs.declared.register.Reg.TheVariants.{R0, R1, R2, R3, R4, R5, R6, R7}
 use Rattle.dif_validate.specs.declared.shape.Shape.{Shape}
 use Rattle.dif_validate.specs.Asks.{takes, is_tuple_of, is_some_tuple}
 use Rattle.dif_validate.specs.Faults.{misses_tuple}
 use Rattle.dif_validate.specs.Flow.{falls, target, before}
-use Rattle.dif_validate.specs.Leaves.{leaves, with_register, tuple_with, kind_of_built_in, kind_of_function}
+use Rattle.dif_validate.specs.Leaves.{leaves, with_register, tuple_with, kind_of_built_in}
+use Rattle.dif_validate.specs.Leaves.{kind_of_function}
 use Rattle.dif_validate.specs.Objects.{Object}
 use Rattle.dif_validate.specs.Registers.{at}
 use Rattle.dif_validate.specs.Returns.{return_kind}
@@ -41,12 +48,17 @@ use Rattle.dif_machine.specs.Frames.{Frame}
 use Rattle.dif_machine.specs.Frames as frames
 use Rattle.dif_machine.specs.Kinds.{kind_of_part, kinds_of}
 use Rattle.dif_machine.specs.Known.{Holds, Fits}
-use Rattle.dif_machine.specs.Operators.{result_of, comparison_of, text_comparison_of, holds, call_of}
-use Rattle.dif_machine.specs.Runs.{End, Reaches, ends, faults, goes, Comes, stays, steps_on, RunEnds}
+use Rattle.dif_machine.specs.Operators.{result_of, comparison_of, text_comparison_of, holds}
+use Rattle.dif_machine.specs.Operators.{call_of}
+use Rattle.dif_machine.specs.Runs.{End, Reaches, ends, faults, goes, Comes, stays, steps_on}
+use Rattle.dif_machine.specs.Runs.{RunEnds}
 use Rattle.d_values.specs.Storage.{Variables, as_kind}
 use Rattle.dif_machine.specs.Sources.{built_in_of, built_ins, local_in, own_in}
-use Rattle.dif_machine.specs.Steps.{Next, Goes, Ends, Faults, Stuck, on, on_key, puts_result, pushes, act, step_of, Stepped}
-use Rattle.dif_machine.proofs.Fitting.{fits_within, fits_value, fits_place, fits_comparison, fits_tuple, one, two, any, on_there, number_there, text_there, kind_there}
+use Rattle.dif_machine.specs.Steps.{Next, Goes, Ends, Faults, Stuck, on, on_key, puts_result}
+use Rattle.dif_machine.specs.Steps.{pushes, act, step_of, Stepped}
+use Rattle.dif_machine.proofs.Fitting.{fits_within, fits_value, fits_place, fits_comparison}
+use Rattle.dif_machine.proofs.Fitting.{fits_tuple, one, two, any, on_there, number_there}
+use Rattle.dif_machine.proofs.Fitting.{text_there, kind_there}
 
 -- what is known at a frame's place holds of it
 pub record Reached (o : Object) (f : Frame) : Type 0 where

@@ -1,7 +1,9 @@
 -- What one instruction changes.
 use Rattle.std.specs.Prelude.{◌≡◌, ◌≢◌, ◌+◌, Bool, true, false, Option, Some, None}
 use Rattle.dif_validate.specs.Flow.{target}
-use Rattle.dif_machine.specs.Vocabulary.{Instr, Alu, Not, Mov, Cmp, Tst, Scmp, Ba, Branch, Setx, Sets, Ldgs, Ldga, Ldts, Stts, Ldls, Stls, Pushtr, Pushtv, Flushts, Ldtaa, Sttaa, Call, Ret, Nop, Reg, at, Variables}
+use Rattle.dif_machine.specs.Vocabulary.{Instr, Alu, Not, Mov, Cmp, Tst, Scmp, Ba, Branch, Setx}
+use Rattle.dif_machine.specs.Vocabulary.{Sets, Ldgs, Ldga, Ldts, Stts, Ldls, Stls, Pushtr, Pushtv}
+use Rattle.dif_machine.specs.Vocabulary.{Flushts, Ldtaa, Sttaa, Call, Ret, Nop, Reg, at, Variables}
 use Rattle.dif_machine.specs.Frames.{Frame}
 use Rattle.dif_machine.specs.Steps.{Next, Goes, Ends, Faults, Stuck}
 

@@ -2,7 +2,8 @@
 -- places.
 use Rattle.std.specs.Prelude.{ℕ, List, Option, Some, None, map, option_map, slice_get}
 use Rattle.dif_machine.specs.declared.held.{Cell.Cell, Held.Held}
-use Rattle.dif_machine.specs.Vocabulary.{cast_signed, w64, Firing, FrameInMemory, KeyPart, Number, Name, Object, Value, Int, Text}
+use Rattle.dif_machine.specs.Vocabulary.{cast_signed, w64, Firing, FrameInMemory, KeyPart, Number}
+use Rattle.dif_machine.specs.Vocabulary.{Name, Object, Value, Int, Text}
 use Rattle.dif_machine.specs.Frames.{Frame}
 use Rattle.dif_machine.specs.Sources.{built_in_of}
 

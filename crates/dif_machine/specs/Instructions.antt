@@ -3,7 +3,8 @@
 use Rattle.std.specs.Prelude.{◌≢◌, ◌<◌, ◌-◌, ◌^◌, List, Option, Result}
 use Rattle.d_values.specs.Stores.{Locals, Own, local_of, own_of}
 use Rattle.dif_validate.specs.Objects.{object_of}
-use Rattle.dif_machine.specs.Vocabulary.{Difo, Firing, FrameInMemory, Instr, KeyPart, MachineFault, Reg, Value, Var, Variables}
+use Rattle.dif_machine.specs.Vocabulary.{Difo, Firing, FrameInMemory, Instr, KeyPart, MachineFault}
+use Rattle.dif_machine.specs.Vocabulary.{Reg, Value, Var, Variables}
 use Rattle.dif_machine.specs.Held.{frame_of}
 use Rattle.dif_machine.specs.Steps.{Stepped, Stuck, act}
 

@@ -4,7 +4,14 @@ use Rattle.d_values.specs.Operators.{holds_of}
 use Rattle.d_values.specs.Texts.{text_cmp, joined_text}
 use Rattle.d_values.specs.Types.{INT64, UINT64}
 use Rattle.d_values.specs.Words.{binary_of, shift_of, complement_of, order_of}
-use Rattle.dif_machine.specs.Vocabulary.{Comparison, Condition, Equal, NotEqual, Greater, GreaterEqual, Less, LessEqual, Above, AboveEqual, Below, BelowEqual, Function, Strlen, Strjoin, KeyPart, Name, Operator, Or, Xor, And, Sll, Srl, Sra, Sub, Add, Mul, Sdiv, Udiv, Srem, Urem, OutOfZero, Value, Int, Text, BitOr, BitXor, BitAnd, Subtract, Plus, Multiply, Divide, Remainder, Left, Right, IsEqual, IsNotEqual, IsGreater, IsGreaterEqual, IsLess, IsLessEqual}
+use Rattle.dif_machine.specs.Vocabulary.{Comparison, Condition, Equal, NotEqual, Greater}
+use Rattle.dif_machine.specs.Vocabulary.{GreaterEqual, Less, LessEqual, Above, AboveEqual, Below}
+use Rattle.dif_machine.specs.Vocabulary.{BelowEqual, Function, Strlen, Strjoin, KeyPart, Name}
+use Rattle.dif_machine.specs.Vocabulary.{Operator, Or, Xor, And, Sll, Srl, Sra, Sub, Add, Mul, Sdiv}
+use Rattle.dif_machine.specs.Vocabulary.{Udiv, Srem, Urem, OutOfZero, Value, Int, Text, BitOr}
+use Rattle.dif_machine.specs.Vocabulary.{BitXor, BitAnd, Subtract, Plus, Multiply, Divide}
+use Rattle.dif_machine.specs.Vocabulary.{Remainder, Left, Right, IsEqual, IsNotEqual, IsGreater}
+use Rattle.dif_machine.specs.Vocabulary.{IsGreaterEqual, IsLess, IsLessEqual}
 
 -- the language's operators on integers of 64 bits
 abbrev pub result_of : Operator → ℕ → ℕ → Result ℕ OutOfZero

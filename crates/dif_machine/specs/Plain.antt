@@ -1,8 +1,10 @@
 -- The operators of instructions as arithmetic on whole numbers.
-use Rattle.std.specs.Prelude.{ℕ, ℤ, ◌+◌, ◌-◌, ◌*◌, ◌/◌, ◌%◌, ◌^◌, ◌==◌, if◌then◌else◌, Result, Ok, Err, bit_and, bit_or, bit_xor, int_div, int_rem}
+use Rattle.std.specs.Prelude.{ℕ, ℤ, ◌+◌, ◌-◌, ◌*◌, ◌/◌, ◌%◌, ◌^◌, ◌==◌, if◌then◌else◌, Result, Ok}
+use Rattle.std.specs.Prelude.{Err, bit_and, bit_or, bit_xor, int_div, int_rem}
 use Rattle.std.specs.Int.{int_shr}
 use Rattle.d_values.specs.Numbers.{bits_of}
-use Rattle.dif_machine.specs.Vocabulary.{cast_signed, w64, OutOfZero, Operator, Or, Xor, And, Sll, Srl, Sra, Sub, Add, Mul, Sdiv, Udiv, Srem, Urem}
+use Rattle.dif_machine.specs.Vocabulary.{cast_signed, w64, OutOfZero, Operator, Or, Xor, And, Sll}
+use Rattle.dif_machine.specs.Vocabulary.{Srl, Sra, Sub, Add, Mul, Sdiv, Udiv, Srem, Urem}
 
 -- a register's number, read with a sign
 abbrev pub signed : ℕ → ℤ

@@ -1,6 +1,7 @@
 -- Whole runs.
 use Rattle.std.specs.Prelude.{◌≡◌, ◌≤◌, ℕ, suc, length, Some, Result, Ok, Err}
-use Rattle.dif_machine.specs.Vocabulary.{Firing, MachineFault, DivideByZero, Memory, Object, Reg, at, Value, ValueRef, lent_value, Variables}
+use Rattle.dif_machine.specs.Vocabulary.{Firing, MachineFault, DivideByZero, Memory, Object, Reg}
+use Rattle.dif_machine.specs.Vocabulary.{at, Value, ValueRef, lent_value, Variables}
 use Rattle.dif_machine.specs.Frames.{Frame, start}
 use Rattle.dif_machine.specs.Steps.{Next, Goes, Ends, Faults, step_of}
 

@@ -1,6 +1,7 @@
 -- Where values come from: the firing and the variables.
 use Rattle.std.specs.Prelude.{ℕ, List, [], ◌∷◌, Option, Some, None, ℤ, slice_get}
-use Rattle.dif_machine.specs.Vocabulary.{cast_unsigned, w64, Firing, KeyPart, Value, Int, Text, Var, Variables, as_kind}
+use Rattle.dif_machine.specs.Vocabulary.{cast_unsigned, w64, Firing, KeyPart, Value, Int, Text, Var}
+use Rattle.dif_machine.specs.Vocabulary.{Variables, as_kind}
 
 -- timestamp, cpu, pid, tid, execname, probeprov, probemod, probefunc, probename
 abbrev pub built_ins : Firing → List Value

@@ -1,8 +1,15 @@
 -- The machine: what each instruction does.
-use Rattle.std.specs.Prelude.{◌≡◌, ℕ, zero, suc, ◌+◌, ◌++◌, List, [], ◌∷◌, length, nat_lt, if◌then◌else◌, Option, Some, None, Result, Ok, Err, slice_get}
-use Rattle.dif_machine.specs.Vocabulary.{cast_signed, w64, Firing, Instr, Alu, Not, Mov, Cmp, Tst, Scmp, Ba, Branch, Setx, Sets, Ldgs, Ldga, Ldts, Stts, Ldls, Stls, Pushtr, Pushtv, Flushts, Ldtaa, Sttaa, Call, Ret, Nop, KeyPart, Number, Name, Kind, NumberKind, TextKind, MachineFault, DivideByZero, Memory, Object, OutOfZero, Reg, at, Value, Int, Text, Var, Variables, set_local, set_own}
+use Rattle.std.specs.Prelude.{◌≡◌, ℕ, zero, suc, ◌+◌, ◌++◌, List, [], ◌∷◌, length, nat_lt}
+use Rattle.std.specs.Prelude.{if◌then◌else◌, Option, Some, None, Result, Ok, Err, slice_get}
+use Rattle.dif_machine.specs.Vocabulary.{cast_signed, w64, Firing, Instr, Alu, Not, Mov, Cmp, Tst}
+use Rattle.dif_machine.specs.Vocabulary.{Scmp, Ba, Branch, Setx, Sets, Ldgs, Ldga, Ldts, Stts, Ldls}
+use Rattle.dif_machine.specs.Vocabulary.{Stls, Pushtr, Pushtv, Flushts, Ldtaa, Sttaa, Call, Ret}
+use Rattle.dif_machine.specs.Vocabulary.{Nop, KeyPart, Number, Name, Kind, NumberKind, TextKind}
+use Rattle.dif_machine.specs.Vocabulary.{MachineFault, DivideByZero, Memory, Object, OutOfZero, Reg}
+use Rattle.dif_machine.specs.Vocabulary.{at, Value, Int, Text, Var, Variables, set_local, set_own}
 use Rattle.dif_machine.specs.Frames.{Frame, at_place, with_value, with_comparison, with_tuple}
-use Rattle.dif_machine.specs.Operators.{result_of, complement, comparison_of, text_comparison_of, holds, call_of}
+use Rattle.dif_machine.specs.Operators.{result_of, complement, comparison_of, text_comparison_of}
+use Rattle.dif_machine.specs.Operators.{holds, call_of}
 use Rattle.dif_machine.specs.Sources.{built_in_of, argument_of, local_in, own_in}
 
 -- what follows a state

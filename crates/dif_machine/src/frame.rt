@@ -1,8 +1,12 @@
 //! What changes from step to step, but for the variables.
 
-ghost use Rattle.std.specs.Prelude.{◌≡◌, ◌≢◌, ◌<◌, ◌+◌, ◌-◌, ◌^◌, ◌++◌, ◌∷◌, [], ℕ, List, length, Some, None, IfOk, OnOk};
-ghost use Rattle.dif_machine.specs.Vocabulary.{Firing as Recorded, Object, at, lent_value, object_of};
-ghost use Rattle.dif_machine.specs.{Frames.at_place, Frames.start, Frames.with_comparison, Frames.with_content, Frames.with_tuple, Held.contents, Held.frame_of, Held.held_value, Held.part_of, Held.parts_of};
+ghost use Rattle.std.specs.Prelude.{◌≡◌, ◌≢◌, ◌<◌, ◌+◌, ◌-◌, ◌^◌, ◌++◌, ◌∷◌, [], ℕ, List, length};
+ghost use Rattle.std.specs.Prelude.{Some, None, IfOk, OnOk};
+ghost use Rattle.dif_machine.specs.Vocabulary.{Firing as Recorded, Object, at, lent_value};
+ghost use Rattle.dif_machine.specs.Vocabulary.{object_of};
+ghost use Rattle.dif_machine.specs.Frames.{at_place, start, with_comparison, with_content};
+ghost use Rattle.dif_machine.specs.Frames.{with_tuple};
+ghost use Rattle.dif_machine.specs.Held.{contents, frame_of, held_value, part_of, parts_of};
 
 use crate::comparing::Comparison;
 use crate::held::{Cell, Held};
@@ -31,6 +35,10 @@ pub struct Frame {
 
 impl Frame {
     /// A frame for any number of runs, one after another.
+    ///
+    /// ```text
+    /// let mut frame = Frame::new(alloc);
+    /// ```
     pub fn new(alloc: Global) -> Frame
         ensures { (o : Object) (f : Recorded) → frame_of o f result ≡ start }
     {

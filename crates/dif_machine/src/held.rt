@@ -2,7 +2,8 @@
 
 ghost use Rattle.std.specs.Prelude.{◌≡◌, ◌≢◌, ℕ, List, [], Some, None, OnOk};
 ghost use Rattle.dif_machine.specs.Vocabulary.{Firing as Recorded, Object, lent_value, object_of};
-ghost use Rattle.dif_machine.specs.{Held.content, Held.held_value, Held.part_of, Sources.built_in_of};
+ghost use Rattle.dif_machine.specs.{Sources.built_in_of};
+ghost use Rattle.dif_machine.specs.Held.{content, held_value, part_of};
 
 use crate::sources::built_in;
 use d_values::{Text, ValueRef};

@@ -1,7 +1,8 @@
 //! Keys of elements, each written over an earlier one.
 
 ghost use Rattle.std.specs.Prelude.{◌≡◌, ◌≤◌, ◌<◌, length, pos, replicate, slice_set, IfOk, OnOk};
-ghost use Rattle.dif_machine.specs.{Held.content, Held.part_of, Held.parts_of, Vocabulary.Number, Vocabulary.object_of};
+ghost use Rattle.dif_machine.specs.Held.{content, part_of, parts_of};
+ghost use Rattle.dif_machine.specs.Vocabulary.{Number, object_of};
 
 use crate::held::Cell;
 use d_values::{Key, KeyPart, ValueRef};

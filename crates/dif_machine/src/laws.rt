@@ -2,8 +2,13 @@
 
 ghost use Rattle.std.specs.Prelude.{◌≡◌, ◌≢◌, ◌↔◌, ◌<◌, ◌^◌, ℕ, Some, slice_get};
 ghost use Rattle.dif_validate.specs.{Flow.before, declared.shape.Shape.Shape};
-ghost use Rattle.dif_machine.specs.Vocabulary.{Firing, Instr, IsValid, Object, Operator, Value, Variables, kind_of, return_kind};
-ghost use Rattle.dif_machine.specs.{Changes.Changes, Frames.Frame, Frames.start, Known.Fits, Operators.result_of, Plain.plain_of, Steps.Stuck, Steps.step_of, Runs.Comes, Runs.End, Runs.EndsBy, Runs.IsOver, Runs.Returns, Runs.Runs};
+ghost use Rattle.dif_machine.specs.Vocabulary.{Firing, Instr, IsValid, Object, Operator, Value};
+ghost use Rattle.dif_machine.specs.Vocabulary.{Variables, kind_of, return_kind};
+ghost use Rattle.dif_machine.specs.{Changes.Changes, Known.Fits, Operators.result_of};
+ghost use Rattle.dif_machine.specs.{Plain.plain_of};
+ghost use Rattle.dif_machine.specs.Frames.{Frame, start};
+ghost use Rattle.dif_machine.specs.Steps.{Stuck, step_of};
+ghost use Rattle.dif_machine.specs.Runs.{Comes, End, EndsBy, IsOver, Returns, Runs};
 
 /// An instruction goes to the next place or to its target. It changes the register that it writes,
 /// a comparison the comparison, a push or `flushts` the tuple and a store the variables, and

@@ -2,7 +2,12 @@
 
 ghost use Rattle.std.specs.Prelude.{◌≡◌, IfSome};
 ghost use Rattle.dif_validate.specs.declared.register.Reg.TheVariants.{R1};
-ghost use Rattle.dif_machine.specs.{Vocabulary.NumberKind, Vocabulary.kind_of, Vocabulary.lent_value, Vocabulary.object_of, Vocabulary.variables, Frames.start, Frames.with_value, Held.frame_of, Runs.Returns, Runs.RunEnds, Runs.RunLeaves, Runs.Runs, Runs.value_result, Steps.Goes, Steps.act};
+ghost use Rattle.dif_machine.specs.{Held.frame_of};
+ghost use Rattle.dif_machine.specs.Vocabulary.{NumberKind, kind_of, lent_value, object_of};
+ghost use Rattle.dif_machine.specs.Vocabulary.{variables};
+ghost use Rattle.dif_machine.specs.Frames.{start, with_value};
+ghost use Rattle.dif_machine.specs.Runs.{Returns, RunEnds, RunLeaves, Runs, value_result};
+ghost use Rattle.dif_machine.specs.Steps.{Goes, act};
 
 use crate::fault::MachineFault;
 use crate::frame::Frame;

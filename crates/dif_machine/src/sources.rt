@@ -1,7 +1,8 @@
 //! Where values come from: the firing and the variables.
 
 ghost use Rattle.std.specs.Prelude.{◌≡◌, Some, None, IfOk, MatchOption};
-ghost use Rattle.dif_machine.specs.Vocabulary.{Kind, as_kind, cast_unsigned, kind_of, lent_value, local_of, own_of, w64};
+ghost use Rattle.dif_machine.specs.Vocabulary.{Kind, as_kind, cast_unsigned, kind_of, lent_value};
+ghost use Rattle.dif_machine.specs.Vocabulary.{local_of, own_of, w64};
 ghost use Rattle.dif_machine.specs.Sources as spec;
 
 use d_values::{ClauseLocals, Key, Text, ThreadTable, Value, ValueRef, Var};

@@ -7,7 +7,10 @@ mod values;
 mod variables;
 
 ghost use Rattle.std.specs.Prelude.{◌≢◌};
-ghost use Rattle.dif_machine.specs.{Vocabulary.object_of, Vocabulary.variables, Held.frame_of, Instructions.CanExecuteOver, Instructions.ExecutesOver, Steps.step_of, Steps.Stepped, Steps.Stuck};
+ghost use Rattle.dif_machine.specs.{Held.frame_of};
+ghost use Rattle.dif_machine.specs.Vocabulary.{object_of, variables};
+ghost use Rattle.dif_machine.specs.Instructions.{CanExecuteOver, ExecutesOver};
+ghost use Rattle.dif_machine.specs.Steps.{step_of, Stepped, Stuck};
 
 use crate::fault::MachineFault;
 use crate::frame::Frame;

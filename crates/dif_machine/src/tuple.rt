@@ -1,7 +1,8 @@
 //! The tuple.
 
 ghost use Rattle.std.specs.Prelude.{◌≡◌, ◌≤◌, ◌<◌, ◌++◌, ◌∷◌, [], length, OnOk};
-ghost use Rattle.dif_machine.specs.{Held.contents, Held.part_of, Held.parts_of, Vocabulary.Firing, Vocabulary.Object, Vocabulary.at};
+ghost use Rattle.dif_machine.specs.Held.{contents, part_of, parts_of};
+ghost use Rattle.dif_machine.specs.Vocabulary.{Firing, Object, at};
 
 use crate::held::Cell;
 use dif_validate::Reg;

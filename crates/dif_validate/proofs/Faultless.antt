@@ -1,14 +1,20 @@
 -- What an instruction without a fault has.
-use Rattle.std.specs.Prelude.{◌≡◌, ◌<◌, ℕ, Bool, true, false, ◌||◌, length, Option, Some, None, slice_get}
+use Rattle.std.specs.Prelude.{◌≡◌, ◌<◌, ℕ, Bool, true, false, ◌||◌, length, Option, Some, None}
+use Rattle.std.specs.Prelude.{slice_get}
 use Rattle.std.proofs.Common.{refl, sym, ap, ◌∙◌, subst}
 use Rattle.std.proofs.lemmas.Bool.{leb-false}
 use Rattle.d_values.specs.declared.value.Kind.{Kind}
 use Rattle.dif_validate.specs.declared.fault.DifFault.{DifFault}
-use Rattle.dif_validate.specs.declared.fault.DifFault.TheVariants.{Empty, NoReturn, Backward, OutOfCode, RegisterKind, Unset, TupleShape, TableIndex, Variable, Memory}
+use Rattle.dif_validate.specs.declared.fault.DifFault.TheVariants.{Empty, NoReturn, Backward}
+use Rattle.dif_validate.specs.declared.fault.DifFault.TheVariants.{OutOfCode, RegisterKind, Unset}
+use Rattle.dif_validate.specs.declared.fault.DifFault.TheVariants.{TupleShape, TableIndex, Variable}
+use Rattle.dif_validate.specs.declared.fault.DifFault.TheVariants.{Memory}
 use Rattle.dif_validate.specs.declared.instruction.Instr.{Instr}
 use Rattle.dif_validate.specs.declared.shape.Shape.{Shape}
 use Rattle.dif_validate.specs.Asks.{asks, finds_other, finds_unset, lacks_comparison}
-use Rattle.dif_validate.specs.Faults.{goes_back, goes_out, misses_table, misses_variable, returns_other, misses_tuple, if_so, fault_in, fault_if_reached, first_of, fault_of, fault_there, fault_at}
+use Rattle.dif_validate.specs.Faults.{goes_back, goes_out, misses_table, misses_variable}
+use Rattle.dif_validate.specs.Faults.{returns_other, misses_tuple, if_so, fault_in}
+use Rattle.dif_validate.specs.Faults.{fault_if_reached, first_of, fault_of, fault_there, fault_at}
 use Rattle.dif_validate.specs.Flow.{target, before}
 use Rattle.dif_validate.specs.Objects.{Object}
 use Rattle.dif_validate.specs.Returns.{first_kind_before}

@@ -1,5 +1,6 @@
 -- A valid object returns a kind.
-use Rattle.std.specs.Prelude.{not, ◌≡◌, ◌≤◌, ◌<◌, ℕ, zero, suc, ◌+◌, ◌-◌, true, false, List, [], ◌∷◌, length, Option, Some, None, slice_get}
+use Rattle.std.specs.Prelude.{not, ◌≡◌, ◌≤◌, ◌<◌, ℕ, zero, suc, ◌+◌, ◌-◌, true, false, List, []}
+use Rattle.std.specs.Prelude.{◌∷◌, length, Option, Some, None, slice_get}
 use Rattle.std.proofs.Common.{refl, sym, ap, ◌∙◌, subst, ⊎_elim, inl, inr, ◌⊎◌, arith}
 use Rattle.std.proofs.lemmas.Bool.{cases_lt, cases_Bool, not-false}
 use Rattle.std.proofs.lemmas.Option.{slice_get_cases, slice_get_within}
@@ -16,7 +17,8 @@ use Rattle.dif_validate.specs.Returns.{kind_at_return, first_kind_before, return
 use Rattle.dif_validate.specs.Faults.{fault_at, returns_other}
 use Rattle.dif_validate.specs.Shapes.{is_other, is_same, is_unset, start}
 use Rattle.dif_validate.specs.Validity.{is_return, is_closed, IsValid}
-use Rattle.dif_validate.proofs.Faultless.{IsFaultless, faultless, goes_on, stays_in, returns_no_other}
+use Rattle.dif_validate.proofs.Faultless.{IsFaultless, faultless, goes_on, stays_in}
+use Rattle.dif_validate.proofs.Faultless.{returns_no_other}
 use Rattle.dif_validate.proofs.Flowing.{flows_next, flows_target, same_is}
 
 -- an instruction that isn't followed by the next one jumps or returns

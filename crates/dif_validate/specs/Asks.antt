@@ -1,6 +1,10 @@
 -- What an instruction asks of the registers, the comparison and the tuple.
 use Rattle.std.specs.Prelude.{Bool, true, false, not, ◌&&◌, ◌||◌, List, [], ◌∷◌, length, nat_lt}
-use Rattle.dif_validate.specs.Vocabulary.{Asks, Nothing, Any, One, Two, Flow, Next, Jump, Either, End, Function, Strlen, Strjoin, Instr, Alu, Not, Mov, Cmp, Tst, Scmp, Ba, Branch, Setx, Sets, Ldgs, Ldga, Ldts, Stts, Ldls, Stls, Pushtr, Pushtv, Flushts, Ldtaa, Sttaa, Call, Ret, Nop, Kind, Number, Text, Shape, at}
+use Rattle.dif_validate.specs.Vocabulary.{Asks, Nothing, Any, One, Two, Flow, Next, Jump, Either}
+use Rattle.dif_validate.specs.Vocabulary.{End, Function, Strlen, Strjoin, Instr, Alu, Not, Mov, Cmp}
+use Rattle.dif_validate.specs.Vocabulary.{Tst, Scmp, Ba, Branch, Setx, Sets, Ldgs, Ldga, Ldts, Stts}
+use Rattle.dif_validate.specs.Vocabulary.{Ldls, Stls, Pushtr, Pushtv, Flushts, Ldtaa, Sttaa, Call}
+use Rattle.dif_validate.specs.Vocabulary.{Ret, Nop, Kind, Number, Text, Shape, at}
 use Rattle.dif_validate.specs.Flow.{flow}
 use Rattle.dif_validate.specs.Shapes.{is_other, is_unset}
 

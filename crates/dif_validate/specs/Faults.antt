@@ -1,6 +1,12 @@
 -- The fault of an instruction at its place: of several the first in the order of `DifFault`.
-use Rattle.std.specs.Prelude.{ℕ, Bool, true, false, not, ◌||◌, nat_le, nat_lt, if◌then◌else◌, List, length, Option, Some, None, slice_get}
-use Rattle.dif_validate.specs.Vocabulary.{DifFault, Backward, OutOfCode, RegisterKind, Unset, TupleShape, TableIndex, Variable, Flow, Next, Jump, Either, End, Instr, Alu, Not, Mov, Cmp, Tst, Scmp, Ba, Branch, Setx, Sets, Ldgs, Ldga, Ldts, Stts, Ldls, Stls, Pushtr, Pushtv, Flushts, Ldtaa, Sttaa, Call, Ret, Nop, LAST_BUILT_IN, Kind, Object, Shape, at}
+use Rattle.std.specs.Prelude.{ℕ, Bool, true, false, not, ◌||◌, nat_le, nat_lt, if◌then◌else◌, List}
+use Rattle.std.specs.Prelude.{length, Option, Some, None, slice_get}
+use Rattle.dif_validate.specs.Vocabulary.{DifFault, Backward, OutOfCode, RegisterKind, Unset}
+use Rattle.dif_validate.specs.Vocabulary.{TupleShape, TableIndex, Variable, Flow, Next, Jump}
+use Rattle.dif_validate.specs.Vocabulary.{Either, End, Instr, Alu, Not, Mov, Cmp, Tst, Scmp, Ba}
+use Rattle.dif_validate.specs.Vocabulary.{Branch, Setx, Sets, Ldgs, Ldga, Ldts, Stts, Ldls, Stls}
+use Rattle.dif_validate.specs.Vocabulary.{Pushtr, Pushtv, Flushts, Ldtaa, Sttaa, Call, Ret, Nop}
+use Rattle.dif_validate.specs.Vocabulary.{LAST_BUILT_IN, Kind, Object, Shape, at}
 use Rattle.dif_validate.specs.Asks.{asks, finds_other, finds_unset, lacks_comparison, takes}
 use Rattle.dif_validate.specs.Flow.{flow, target, before}
 use Rattle.dif_validate.specs.Returns.{first_kind_before}

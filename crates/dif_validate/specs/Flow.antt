@@ -1,6 +1,10 @@
 -- Where an instruction leads, and what is known where ways lead to.
-use Rattle.std.specs.Prelude.{ℕ, zero, suc, ◌+◌, Bool, true, false, ◌&&◌, nat_eq, if◌then◌else◌, List, Option, Some, None, slice_get}
-use Rattle.dif_validate.specs.Vocabulary.{Flow, Next, Jump, Either, End, Instr, Alu, Not, Mov, Cmp, Tst, Scmp, Ba, Branch, Setx, Sets, Ldgs, Ldga, Ldts, Stts, Ldls, Stls, Pushtr, Pushtv, Flushts, Ldtaa, Sttaa, Call, Ret, Nop, Shape}
+use Rattle.std.specs.Prelude.{ℕ, zero, suc, ◌+◌, Bool, true, false, ◌&&◌, nat_eq, if◌then◌else◌}
+use Rattle.std.specs.Prelude.{List, Option, Some, None, slice_get}
+use Rattle.dif_validate.specs.Vocabulary.{Flow, Next, Jump, Either, End, Instr, Alu, Not, Mov, Cmp}
+use Rattle.dif_validate.specs.Vocabulary.{Tst, Scmp, Ba, Branch, Setx, Sets, Ldgs, Ldga, Ldts, Stts}
+use Rattle.dif_validate.specs.Vocabulary.{Ldls, Stls, Pushtr, Pushtv, Flushts, Ldtaa, Sttaa, Call}
+use Rattle.dif_validate.specs.Vocabulary.{Ret, Nop, Shape}
 use Rattle.dif_validate.specs.Leaves.{leaves}
 use Rattle.dif_validate.specs.Shapes.{start, meet}
 

@@ -1,6 +1,10 @@
 -- What is known after an instruction.
-use Rattle.std.specs.Prelude.{ℕ, List, [], ◌∷◌, ◌++◌, length, nat_lt, if◌then◌else◌, Option, Some, None, true}
-use Rattle.dif_validate.specs.Vocabulary.{Function, Strlen, Strjoin, Instr, Alu, Not, Mov, Cmp, Tst, Scmp, Ba, Branch, Setx, Sets, Ldgs, Ldga, Ldts, Stts, Ldls, Stls, Pushtr, Pushtv, Flushts, Ldtaa, Sttaa, Call, Ret, Nop, Kind, Number, Text, Reg, Shape, at, put}
+use Rattle.std.specs.Prelude.{ℕ, List, [], ◌∷◌, ◌++◌, length, nat_lt, if◌then◌else◌, Option, Some}
+use Rattle.std.specs.Prelude.{None, true}
+use Rattle.dif_validate.specs.Vocabulary.{Function, Strlen, Strjoin, Instr, Alu, Not, Mov, Cmp, Tst}
+use Rattle.dif_validate.specs.Vocabulary.{Scmp, Ba, Branch, Setx, Sets, Ldgs, Ldga, Ldts, Stts}
+use Rattle.dif_validate.specs.Vocabulary.{Ldls, Stls, Pushtr, Pushtv, Flushts, Ldtaa, Sttaa, Call}
+use Rattle.dif_validate.specs.Vocabulary.{Ret, Nop, Kind, Number, Text, Reg, Shape, at, put}
 
 abbrev pub with_register : Shape → Reg → Option Kind → Shape
 with_register s r kind =

@@ -1,5 +1,6 @@
 -- What the pass over the code knows before an instruction.
-use Rattle.std.specs.Prelude.{◌≡◌, ◌≤◌, ◌<◌, ◌+◌, ℕ, List, length, Option, None, Result, Ok, Err, slice_index_or}
+use Rattle.std.specs.Prelude.{◌≡◌, ◌≤◌, ◌<◌, ◌+◌, ℕ, List, length, Option, None, Result, Ok, Err}
+use Rattle.std.specs.Prelude.{slice_index_or}
 use Rattle.dif_validate.specs.Vocabulary.{DifFault, Kind, Object, Shape}
 use Rattle.dif_validate.specs.Faults.{fault_at}
 use Rattle.dif_validate.specs.Flow.{shape_at}

@@ -1,7 +1,8 @@
 -- The kind that an object returns.
 use Rattle.std.specs.Prelude.{ℕ, zero, suc, List, Option, Some, None, slice_get, length}
 use Rattle.std.specs.Option.{option_or}
-use Rattle.dif_validate.specs.Vocabulary.{Flow, Next, Jump, Either, End, Instr, Kind, Object, Shape, at}
+use Rattle.dif_validate.specs.Vocabulary.{Flow, Next, Jump, Either, End, Instr, Kind, Object, Shape}
+use Rattle.dif_validate.specs.Vocabulary.{at}
 use Rattle.dif_validate.specs.Flow.{flow, before}
 
 -- the kind that an instruction returns where this is known

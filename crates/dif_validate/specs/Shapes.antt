@@ -1,6 +1,8 @@
 -- What is known before an instruction, whichever way led there.
-use Rattle.std.specs.Prelude.{Bool, true, false, not, ◌&&◌, if◌then◌else◌, List, [], ◌∷◌, Option, Some, None}
-use Rattle.dif_validate.specs.Vocabulary.{Kind, Number, Text, Reg, R0, R1, R2, R3, R4, R5, R6, R7, Shape, at}
+use Rattle.std.specs.Prelude.{Bool, true, false, not, ◌&&◌, if◌then◌else◌, List, [], ◌∷◌, Option}
+use Rattle.std.specs.Prelude.{Some, None}
+use Rattle.dif_validate.specs.Vocabulary.{Kind, Number, Text, Reg, R0, R1, R2, R3, R4, R5, R6, R7}
+use Rattle.dif_validate.specs.Vocabulary.{Shape, at}
 
 -- ---- kinds
 

@@ -2,8 +2,14 @@
 use Rattle.std.specs.Prelude.{ℕ, List, ◌++◌, codes}
 use Rattle.std.specs.Fmt.{decimal}
 use Rattle.d_values.specs.declared.variable.Var.{Var}
-use Rattle.dif_validate.specs.Vocabulary.{Kind, Number, Text, Condition, Equal, NotEqual, Greater, GreaterEqual, Less, LessEqual, Above, AboveEqual, Below, BelowEqual, Function, Strlen, Strjoin, Operator, Or, Xor, And, Sll, Srl, Sra, Sub, Add, Mul, Sdiv, Udiv, Srem, Urem, Reg, number_of}
-use Rattle.dif_validate.specs.Vocabulary.{Instr, Alu, Not, Mov, Cmp, Tst, Scmp, Ba, Branch, Setx, Sets, Ldgs, Ldga, Ldts, Stts, Ldls, Stls, Pushtr, Pushtv, Flushts, Ldtaa, Sttaa, Call, Ret, Nop}
+use Rattle.dif_validate.specs.Vocabulary.{Kind, Number, Text, Condition, Equal, NotEqual, Greater}
+use Rattle.dif_validate.specs.Vocabulary.{GreaterEqual, Less, LessEqual, Above, AboveEqual, Below}
+use Rattle.dif_validate.specs.Vocabulary.{BelowEqual, Function, Strlen, Strjoin, Operator, Or, Xor}
+use Rattle.dif_validate.specs.Vocabulary.{And, Sll, Srl, Sra, Sub, Add, Mul, Sdiv, Udiv, Srem, Urem}
+use Rattle.dif_validate.specs.Vocabulary.{Reg, number_of}
+use Rattle.dif_validate.specs.Vocabulary.{Instr, Alu, Not, Mov, Cmp, Tst, Scmp, Ba, Branch, Setx}
+use Rattle.dif_validate.specs.Vocabulary.{Sets, Ldgs, Ldga, Ldts, Stts, Ldls, Stls, Pushtr, Pushtv}
+use Rattle.dif_validate.specs.Vocabulary.{Flushts, Ldtaa, Sttaa, Call, Ret, Nop}
 
 abbrev pub operator_name : Operator → List ℕ
 operator_name Or = codes "or"

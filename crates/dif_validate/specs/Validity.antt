@@ -1,6 +1,10 @@
 -- Which objects are valid, and what the validator returns.
-use Rattle.std.specs.Prelude.{◌≡◌, ◌≢◌, ◌<◌, ℕ, ◌-◌, Bool, true, false, List, [], length, Option, Some, None, Result, Ok, Err, slice_get}
-use Rattle.dif_validate.specs.Vocabulary.{DifFault, Empty, NoReturn, Backward, OutOfCode, RegisterKind, Unset, TupleShape, TableIndex, Variable, Memory, Flow, Next, Jump, Either, End, Instr, Kind, Object}
+use Rattle.std.specs.Prelude.{◌≡◌, ◌≢◌, ◌<◌, ℕ, ◌-◌, Bool, true, false, List, [], length, Option}
+use Rattle.std.specs.Prelude.{Some, None, Result, Ok, Err, slice_get}
+use Rattle.dif_validate.specs.Vocabulary.{DifFault, Empty, NoReturn, Backward, OutOfCode}
+use Rattle.dif_validate.specs.Vocabulary.{RegisterKind, Unset, TupleShape, TableIndex, Variable}
+use Rattle.dif_validate.specs.Vocabulary.{Memory, Flow, Next, Jump, Either, End, Instr, Kind}
+use Rattle.dif_validate.specs.Vocabulary.{Object}
 use Rattle.dif_validate.specs.Faults.{fault_at}
 use Rattle.dif_validate.specs.Flow.{flow}
 use Rattle.dif_validate.specs.Returns.{return_kind}

@@ -1,8 +1,11 @@
 //! The one pass over the code.
 
-ghost use Rattle.std.specs.Prelude.{◌≡◌, ◌<◌, ◌+◌, ℕ, Some, None, true, IfOk, length, nat_eq, slice_index_or, if◌then◌else◌};
+ghost use Rattle.std.specs.Prelude.{◌≡◌, ◌<◌, ◌+◌, ℕ, Some, None, true, IfOk, length, nat_eq};
+ghost use Rattle.std.specs.Prelude.{slice_index_or, if◌then◌else◌};
 ghost use Rattle.dif_validate.specs.Flow.{at_start, falls, further, join, target};
-ghost use Rattle.dif_validate.specs.{Objects.object_of, Pass.Advances, Pass.Knows, Returns.kind_at_return, Validity.Finds, Validity.is_closed};
+ghost use Rattle.dif_validate.specs.{Objects.object_of, Returns.kind_at_return};
+ghost use Rattle.dif_validate.specs.Pass.{Advances, Knows};
+ghost use Rattle.dif_validate.specs.Validity.{Finds, is_closed};
 
 use crate::fault::DifFault;
 use crate::flow::Flow;

@@ -4,7 +4,8 @@ use Rattle.std.specs.Prelude.{Result, Ok, Err}
 use Rattle.dreplay.specs.declared.plan.Plan.{Plan}
 use Rattle.dreplay.specs.declared.plan.Replayed.{Replayed}
 use Rattle.dreplay.specs.declared.refusal.Refusal.{Refusal}
-use Rattle.dreplay.specs.declared.refusal.Refusal.TheVariants.{Lex, Parse, Typing, Trace, Group, Memory}
+use Rattle.dreplay.specs.declared.refusal.Refusal.TheVariants.{Lex, Parse, Typing, Trace, Group}
+use Rattle.dreplay.specs.declared.refusal.Refusal.TheVariants.{Memory}
 use Rattle.dreplay.specs.Answer.{IsAnswer, without_line}
 use Rattle.dreplay.specs.Replaying.{IsOfPlan, IsReplay, output_of}
 use Rattle.dreplay.proofs.Answers.{one_answer}

@@ -1,5 +1,6 @@
 -- A script and a trace have one answer.
-use Rattle.std.proofs.Common.{◌≡◌, ◌<◌, ◌≤◌, ⊎_elim, ℕ, List, length, refl, sym, ap, ◌∙◌, subst, arith}
+use Rattle.std.proofs.Common.{◌≡◌, ◌<◌, ◌≤◌, ⊎_elim, ℕ, List, length, refl, sym, ap, ◌∙◌, subst}
+use Rattle.std.proofs.Common.{arith}
 use Rattle.std.specs.Prelude.{Result, Ok, Err}
 use Rattle.d_lexer.specs.declared.fault.LexFault.{LexFault}
 use Rattle.d_lexer.specs.declared.fault.LexFault.TheVariants as lex
@@ -21,7 +22,8 @@ use Rattle.d_types.proofs.CompleteScripts.{script_complete}
 use Rattle.d_types.proofs.OneMeaning.{one_well}
 use Rattle.report.proofs.Unique.{one_output}
 use Rattle.dreplay.specs.declared.refusal.Refusal.{Refusal}
-use Rattle.dreplay.specs.declared.refusal.Refusal.TheVariants.{Lex, Parse, Typing, Trace, Group, Memory}
+use Rattle.dreplay.specs.declared.refusal.Refusal.TheVariants.{Lex, Parse, Typing, Trace, Group}
+use Rattle.dreplay.specs.declared.refusal.Refusal.TheVariants.{Memory}
 use Rattle.dreplay.specs.Answer.{IsAnswer, IsSameAnswer, IsShown, Shown}
 use Rattle.dreplay.specs.Scripts.{HasTree, IsAccepted, IsMistyped, IsParseFault, IsUnread}
 

@@ -1,15 +1,21 @@
-use Rattle.std.proofs.Common.{◌≡◌, ◌∙◌, ◌∷◌, ◌++◌, ◌≢◌, ◌==◌, refl, true, false, ap, subst, sym, codes, List, [], ℕ, Option, Some, None, Bool, rules, inr}
-use Rattle.clap.specs.Words.{App, Row, first_of, found_of, is_simple, is_simple_and_free, HasMatchesOf, fault_of, kind_of, matches_of, one_of, rows_of, takes}
+use Rattle.std.proofs.Common.{◌≡◌, ◌∙◌, ◌∷◌, ◌++◌, ◌≢◌, ◌==◌, refl, true, false, ap, subst, sym}
+use Rattle.std.proofs.Common.{codes, List, [], ℕ, Option, Some, None, Bool, rules, inr}
+use Rattle.clap.specs.Words.{App, Row, first_of, found_of, is_simple, is_simple_and_free}
+use Rattle.clap.specs.Words.{HasMatchesOf, fault_of, kind_of, matches_of, one_of, rows_of, takes}
 use Rattle.clap.specs.declared.error.Error.{Error}
 use Rattle.clap.specs.declared.parser.matches.ArgMatches.{ArgMatches}
-use Rattle.clap.specs.declared.error.kind.ErrorKind.TheVariants.{DisplayHelp, InvalidValue, OutOfMemory, UnknownArgument}
+use Rattle.clap.specs.declared.error.kind.ErrorKind.TheVariants.{DisplayHelp, InvalidValue}
+use Rattle.clap.specs.declared.error.kind.ErrorKind.TheVariants.{OutOfMemory, UnknownArgument}
 use Rattle.clap.specs.declared.error.kind.ErrorKind.{ErrorKind}
 use Rattle.clap.proofs.OnLiterals.{clap_on_literals}
-use Rattle.dreplay.specs.Words.{Asks, AsksHelp, HasPlan, IsAskedIn, IsFaultOf, IsNumberIn, IsOption, IsPlanFault, IsPlanIn, IsToldAs, Mistakes, Runs, engine_called, file_in, program}
+use Rattle.dreplay.specs.Words.{Asks, AsksHelp, HasPlan, IsAskedIn, IsFaultOf, IsNumberIn, IsOption}
+use Rattle.dreplay.specs.Words.{IsPlanFault, IsPlanIn, IsToldAs, Mistakes, Runs, engine_called}
+use Rattle.dreplay.specs.Words.{file_in, program}
 use Rattle.std.specs.Prelude.{◌≤◌, IfErr, IsSomeAnd, MatchResult, Result, Ok, Err, option_and_then}
 use Rattle.std.proofs.lemmas.Option.{same_Some}
 use Rattle.dreplay.specs.Plans.{IsDefault}
-use Rattle.dreplay.specs.Vocabulary.{IsNumeral, digits_value, without_leading_plus, Dealt, Dif, Plan, MOST_GROUPS, MOST_WORKERS}
+use Rattle.dreplay.specs.Vocabulary.{IsNumeral, digits_value, without_leading_plus, Dealt, Dif}
+use Rattle.dreplay.specs.Vocabulary.{Plan, MOST_GROUPS, MOST_WORKERS}
 use Rattle.dreplay.specs.declared.words.Asked.{Asked}
 use Rattle.dreplay.specs.declared.words.UsageFault.{UsageFault}
 use Rattle.dreplay.specs.declared.words.UsageFault.TheVariants.{Help, Usage, Memory}

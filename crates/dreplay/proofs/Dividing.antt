@@ -1,5 +1,6 @@
 -- A bundle of which some whole lines are passed.
-use Rattle.std.proofs.Common.{◌≡◌, suc, ◌+◌, ◌≤◌, ℕ, List, [], ◌∷◌, ◌++◌, length, take, sym, ap, ◌∙◌, subst, append_assoc, append-nil, length-append, arith}
+use Rattle.std.proofs.Common.{◌≡◌, suc, ◌+◌, ◌≤◌, ℕ, List, [], ◌∷◌, ◌++◌, length, take, sym, ap}
+use Rattle.std.proofs.Common.{◌∙◌, subst, append_assoc, append-nil, length-append, arith}
 use Rattle.std.proofs.lemmas.List.{take_at, length-take-le}
 use Rattle.dreplay.specs.Bundle.{Divides, IsDivider, IsLine}
 

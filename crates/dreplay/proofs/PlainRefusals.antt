@@ -1,5 +1,6 @@
 -- No refusal that replay returns is a fault's own want of memory.
-use Rattle.std.proofs.Common.{◌≡◌, ◌≢◌, ⊎_elim, ℕ, ℤ, Bool, true, false, cond, not, List, [], ◌∷◌, ◌++◌, Option, Some, None, option_map, refl, sym, ◌∙◌, subst}
+use Rattle.std.proofs.Common.{◌≡◌, ◌≢◌, ⊎_elim, ℕ, ℤ, Bool, true, false, cond, not, List, [], ◌∷◌}
+use Rattle.std.proofs.Common.{◌++◌, Option, Some, None, option_map, refl, sym, ◌∙◌, subst}
 use Rattle.std.specs.Prelude.{Err, ◌<◌, ◌≤◌, length}
 use Rattle.std.specs.Option.{option_or}
 use Rattle.d_lexer.specs.Faults.{on_line}
@@ -11,7 +12,9 @@ use Rattle.d_lexer.specs.declared.fault.LexFault.TheVariants as lex
 use Rattle.d_lexer.proofs.Spans.{fault_has_its_line}
 use Rattle.d_parser.specs.declared.fault.ParseFault.{ParseFault}
 use Rattle.d_parser.specs.declared.fault.ParseFault.TheVariants as parse
-use Rattle.d_types.specs.Faults.{Cause, GlobalAssignment, Undeclared, Mismatch, Keys, AggregationRedefined, LquantizeBounds, PrintfArguments, ReadOnly, NoRegister, fault_at}
+use Rattle.d_types.specs.Faults.{Cause, GlobalAssignment, Undeclared, Mismatch, Keys}
+use Rattle.d_types.specs.Faults.{AggregationRedefined, LquantizeBounds, PrintfArguments, ReadOnly}
+use Rattle.d_types.specs.Faults.{NoRegister, fault_at}
 use Rattle.d_types.specs.declared.fault.TypeFault.{TypeFault}
 use Rattle.shard_queue.specs.Faults.{IsListFault, all_of, first_missing, first_wrong}
 use Rattle.shard_queue.specs.Threads.{has, items_of}
@@ -25,7 +28,8 @@ use Rattle.dreplay.specs.Vocabulary.{Firing, GroupPlan, Dealt, Lists, Plan, trac
 use Rattle.firing_reader.specs.declared.fault.TraceFault.{TraceFault}
 use Rattle.firing_reader.specs.declared.fault.TraceFault.TheVariants as trace
 use Rattle.dreplay.specs.declared.refusal.Refusal.{Refusal}
-use Rattle.dreplay.specs.declared.refusal.Refusal.TheVariants.{Lex, Parse, Typing, Trace, Group, Memory}
+use Rattle.dreplay.specs.declared.refusal.Refusal.TheVariants.{Lex, Parse, Typing, Trace, Group}
+use Rattle.dreplay.specs.declared.refusal.Refusal.TheVariants.{Memory}
 use Rattle.dreplay.proofs.PlainTraces.{never_memory}
 
 -- ---- tokens

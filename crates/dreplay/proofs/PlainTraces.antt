@@ -1,12 +1,16 @@
 -- A trace's fault, by its definition, is never want of memory.
-use Rattle.std.proofs.Common.{◌≡◌, ◌≢◌, ℕ, ◌+◌, ◌^◌, Bool, true, false, cond, ◌==◌, nat_lt, List, [], ◌∷◌, Option, Some, None, length}
+use Rattle.std.proofs.Common.{◌≡◌, ◌≢◌, ℕ, ◌+◌, ◌^◌, Bool, true, false, cond, ◌==◌, nat_lt, List}
+use Rattle.std.proofs.Common.{[], ◌∷◌, Option, Some, None, length}
 use Rattle.std.specs.Prelude.{Result, Ok, Err, codes, option_and_then}
 use Rattle.std.specs.Str.{bytes_eq}
 use Rattle.firing_reader.specs.Column.{decimal_of, field, signed_of, text_of}
-use Rattle.firing_reader.specs.Row.{◌>>=◌, args_at, columns_at, int_at, or_fault, row_of, signed_at, text_at, unless_reserved, whole_at, within}
+use Rattle.firing_reader.specs.Row.{◌>>=◌, args_at, columns_at, int_at, or_fault, row_of, signed_at}
+use Rattle.firing_reader.specs.Row.{text_at, unless_reserved, whole_at, within}
 use Rattle.firing_reader.specs.Trace.{above, is_header, next_of, rows_of, trace_in, trace_of}
 use Rattle.firing_reader.specs.declared.fault.TraceFault.{TraceFault}
-use Rattle.firing_reader.specs.declared.fault.TraceFault.TheVariants.{Header, Columns, Number, Order, Text, Reserved, TooMany, Memory}
+use Rattle.firing_reader.specs.declared.fault.TraceFault.TheVariants.{Header, Columns, Number}
+use Rattle.firing_reader.specs.declared.fault.TraceFault.TheVariants.{Order, Text, Reserved}
+use Rattle.firing_reader.specs.declared.fault.TraceFault.TheVariants.{TooMany, Memory}
 use Rattle.firing_reader.specs.declared.firing.Firing.{Firing}
 
 -- no want of memory is what it returns

@@ -6,7 +6,9 @@ use Rattle.firing_reader.specs.Trace.{trace_of}
 use Rattle.d_parser.specs.Tree.{ItemTree}
 use Rattle.d_types.specs.declared.fault.TypeFault.{TypeFault}
 use Rattle.d_types.specs.declared.fault.TypeFault.TheVariants as types
-use Rattle.d_types.specs.Faults.{Fails, GlobalAssignment, Undeclared, Mismatch, Keys, AggregationRedefined, LquantizeBounds, PrintfArguments, ReadOnly, NoRegister}
+use Rattle.d_types.specs.Faults.{Fails, GlobalAssignment, Undeclared, Mismatch, Keys}
+use Rattle.d_types.specs.Faults.{AggregationRedefined, LquantizeBounds, PrintfArguments, ReadOnly}
+use Rattle.d_types.specs.Faults.{NoRegister}
 use Rattle.d_types.specs.Scripts as typing
 use Rattle.d_types.specs.Typed.{ScriptMeant}
 use Rattle.dreplay.specs.declared.plan.Plan.{Plan}

@@ -1,5 +1,6 @@
 -- What is said of a reader's bytes where they were not all read.
-use Rattle.std.proofs.Common.{Global, ◌≡◌, ◌≢◌, ◌⊎◌, ◌∙◌, ◌≤◌, ◌+◌, ℕ, List, [], Option, Some, None, Result, Err, ap, inl, inr, refl, rules, sym}
+use Rattle.std.proofs.Common.{Global, ◌≡◌, ◌≢◌, ◌⊎◌, ◌∙◌, ◌≤◌, ◌+◌, ℕ, List, [], Option, Some, None}
+use Rattle.std.proofs.Common.{Result, Err, ap, inl, inr, refl, rules, sym}
 use Rattle.std.specs.Result.{IsErrAnd}
 use Rattle.std.proofs.lemmas.Result.{err_from_is_err_and}
 use Rattle.report.specs.Stream.{SinkSeen}

@@ -1,8 +1,10 @@
 -- The answer of a script over a trace.
 use Rattle.std.specs.Prelude.{◌≡◌, ℕ, List, Result, Ok, Err}
-use Rattle.replay_core.specs.{Exit.exit_status, Exit.history_over, Meaning.contributions_of, Meaning.texts_of}
+use Rattle.replay_core.specs.Exit.{exit_status, history_over}
+use Rattle.replay_core.specs.Meaning.{contributions_of, texts_of}
 use Rattle.report.specs.Output.{IsOutput}
-use Rattle.dreplay.specs.Vocabulary.{Firing, trace_of, IsRefused, Syntax, ScriptMeant, functions_in, Refusal, Lex, Parse, Typing, Trace, Group, Memory}
+use Rattle.dreplay.specs.Vocabulary.{Firing, trace_of, IsRefused, Syntax, ScriptMeant, functions_in}
+use Rattle.dreplay.specs.Vocabulary.{Refusal, Lex, Parse, Typing, Trace, Group, Memory}
 use Rattle.dreplay.specs.Scripts.{IsAccepted, IsMistyped, IsParseFault}
 
 -- the script means this, and the trace has these firings

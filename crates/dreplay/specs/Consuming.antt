@@ -1,7 +1,9 @@
 -- From a reader's bytes to a writer's.
-use Rattle.std.specs.Prelude.{◌≡◌, ◌≢◌, ◌≤◌, ◌⊎◌, ◌+◌, ℕ, List, Option, Result, Ok, Err, IfSome, IsTrue, IsFalse}
+use Rattle.std.specs.Prelude.{◌≡◌, ◌≢◌, ◌≤◌, ◌⊎◌, ◌+◌, ℕ, List, Option, Result, Ok, Err, IfSome}
+use Rattle.std.specs.Prelude.{IsTrue, IsFalse}
 use Rattle.report.specs.Stream.{FeedSeen, IsSent, SinkSeen}
-use Rattle.dreplay.specs.Vocabulary.{MOST_CALLS, ReadFault, Failed, ConsumeFault, Read, Refused, Write, Refusal, Memory, Plan, Replayed}
+use Rattle.dreplay.specs.Vocabulary.{MOST_CALLS, ReadFault, Failed, ConsumeFault, Read, Refused}
+use Rattle.dreplay.specs.Vocabulary.{Write, Refusal, Memory, Plan, Replayed}
 use Rattle.dreplay.specs.Replaying.{IsReplay}
 
 -- the reader failed, or had not ended after the most calls

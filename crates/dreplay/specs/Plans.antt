@@ -1,7 +1,9 @@
 -- Plans, and which thread is in which group of a plan.
 use Rattle.std.specs.Prelude.{◌≡◌, ◌≤◌, List, ⊤}
-use Rattle.shard_queue.specs.{Faults.IsListed, Faults.IsListFault, Groupings.IsDealt, Threads.items_of}
-use Rattle.dreplay.specs.Vocabulary.{Firing, Grouping, GroupFault, GroupPlan, Dealt, Lists, Plan, Dif, MOST_GROUPS, MOST_WORKERS}
+use Rattle.shard_queue.specs.{Groupings.IsDealt, Threads.items_of}
+use Rattle.shard_queue.specs.Faults.{IsListed, IsListFault}
+use Rattle.dreplay.specs.Vocabulary.{Firing, Grouping, GroupFault, GroupPlan, Dealt, Lists, Plan}
+use Rattle.dreplay.specs.Vocabulary.{Dif, MOST_GROUPS, MOST_WORKERS}
 
 abbrev pub AreInBounds : GroupPlan → Type 0
 AreInBounds (Dealt n) = (1 ≤ n) × (n ≤ MOST_GROUPS)

@@ -1,12 +1,15 @@
 -- How the program ends, and what went to its streams by then.
-use Rattle.std.specs.Prelude.{◌≡◌, ◌≢◌, ◌≤◌, ◌⊎◌, ◌+◌, ℕ, List, Option, Result, Ok, Err, IfNone, IfSome, IsFalse, IsOkAnd, IsTrue, MatchBool, MatchOption, MatchResult, drop, map, string_bytes}
+use Rattle.std.specs.Prelude.{◌≡◌, ◌≢◌, ◌≤◌, ◌⊎◌, ◌+◌, ℕ, List, Option, Result, Ok, Err, IfNone}
+use Rattle.std.specs.Prelude.{IfSome, IsFalse, IsOkAnd, IsTrue, MatchBool, MatchOption, MatchResult}
+use Rattle.std.specs.Prelude.{drop, map, string_bytes}
 use Rattle.std.specs.declared.vec.IntoIter.{IntoIter}
 use Rattle.std.specs.declared.string.String.{String}
 use Rattle.report.specs.Stream.{FeedSeen, IsSent, SinkSeen}
 use Rattle.dreplay.specs.Bundle.{Divides}
 use Rattle.dreplay.specs.Consuming.{HoldsOfInput, IsCutShort, Shows}
 use Rattle.dreplay.specs.Refusals.{IsReported, status_at_end}
-use Rattle.dreplay.specs.Vocabulary.{into_iter_items, ErrorKind, MOST_CALLS, Asked, ConsumeFault, Read, Refused, Write, Refusal, Memory, Replayed, UsageFault}
+use Rattle.dreplay.specs.Vocabulary.{into_iter_items, ErrorKind, MOST_CALLS, Asked, ConsumeFault}
+use Rattle.dreplay.specs.Vocabulary.{Read, Refused, Write, Refusal, Memory, Replayed, UsageFault}
 use Rattle.dreplay.specs.Words.{Asks, IsFaultOf, IsMistake}
 use Rattle.dreplay.specs.declared.program.Streams.{Streams}
 use Rattle.dreplay.specs.declared.words.UsageFault.TheVariants.{Help, Usage}

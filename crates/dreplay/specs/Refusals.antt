@@ -2,7 +2,9 @@
 use Rattle.std.specs.Prelude.{◌≡◌, ℕ, List, [], ◌∷◌, ◌++◌, Result, Ok, Err, codes}
 use Rattle.report.specs.Stream.{IsSent, SinkSeen}
 use Rattle.dreplay.specs.Lines.{column_part, line_part, row_part, thread_part}
-use Rattle.dreplay.specs.Vocabulary.{LexFault, ParseFault, TypeFault, TraceFault, GroupFault, ConsumeFault, Read, Refused, Write, Replayed, Refusal, Lex, Parse, Typing, Trace, Group, Memory}
+use Rattle.dreplay.specs.Vocabulary.{LexFault, ParseFault, TypeFault, TraceFault, GroupFault}
+use Rattle.dreplay.specs.Vocabulary.{ConsumeFault, Read, Refused, Write, Replayed, Refusal, Lex}
+use Rattle.dreplay.specs.Vocabulary.{Parse, Typing, Trace, Group, Memory}
 
 -- want of memory is one thing, whichever part it was in
 abbrev pub plain : Refusal → Refusal

@@ -1,7 +1,10 @@
 -- What replay returns, under any plan.
 use Rattle.std.specs.Prelude.{◌≡◌, ℕ, List, Result, Ok, Err, map, vec_len}
-use Rattle.replay_core.specs.{Exit.firings_over, Groups.IsAllBelow, Groups.SameItems, Groups.numbers_by_group, Pieces.IsWholeOf, Pieces.RunsEachOnce, Seen.whole_seen, declared.workers.Ran.Ran}
-use Rattle.dreplay.specs.Vocabulary.{flat_map, number_of, Firing, ScriptMeant, Grouping, Plan, Replayed, Refusal, Group, Memory}
+use Rattle.replay_core.specs.{Exit.firings_over, Seen.whole_seen, declared.workers.Ran.Ran}
+use Rattle.replay_core.specs.Groups.{IsAllBelow, SameItems, numbers_by_group}
+use Rattle.replay_core.specs.Pieces.{IsWholeOf, RunsEachOnce}
+use Rattle.dreplay.specs.Vocabulary.{flat_map, number_of, Firing, ScriptMeant, Grouping, Plan}
+use Rattle.dreplay.specs.Vocabulary.{Replayed, Refusal, Group, Memory}
 use Rattle.dreplay.specs.Answer.{IsAnswer, IsShown, Means, Shown}
 use Rattle.dreplay.specs.Plans.{IsGroupedBy, IsMisgrouped}
 

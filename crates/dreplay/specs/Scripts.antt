@@ -3,7 +3,8 @@ use Rattle.std.specs.Prelude.{◌≡◌, ◌≤◌, ◌<◌, ℕ, List, Err}
 use Rattle.d_parser.specs.{Limits.IsDeep, Limits.clauses, Script.IsScript, Tree.ItemTree}
 use Rattle.d_types.specs.Scripts as typing
 use Rattle.d_types.specs.{Faults.Fault, Faults.fault_of, Fitting.ScriptFits, WellTyped.IsWell}
-use Rattle.dreplay.specs.Vocabulary.{Token, IsLexed, IsRefused, ParseFault, MOST_CLAUSES, TypeFault, ScriptMeant, Refusal, Lex, Parse}
+use Rattle.dreplay.specs.Vocabulary.{Token, IsLexed, IsRefused, ParseFault, MOST_CLAUSES, TypeFault}
+use Rattle.dreplay.specs.Vocabulary.{ScriptMeant, Refusal, Lex, Parse}
 
 -- these are the script's tokens, and no limit is passed
 pub record HasTokens (script : List ℕ) (tokens : List Token) : Type 0 where

@@ -8,7 +8,8 @@ pub use Rattle.aggregations.specs.Table.{functions_of}
 pub use Rattle.clap.specs.declared.builder.value_parser.ValueParser.TheVariants.{Signed}
 pub use Rattle.clap.specs.declared.error.Error.{Error}
 pub use Rattle.clap.specs.declared.error.kind.ErrorKind.{ErrorKind}
-pub use Rattle.clap.specs.declared.error.kind.ErrorKind.TheVariants.{DisplayHelp, InvalidValue, OutOfMemory, UnknownArgument}
+pub use Rattle.clap.specs.declared.error.kind.ErrorKind.TheVariants.{DisplayHelp, InvalidValue}
+pub use Rattle.clap.specs.declared.error.kind.ErrorKind.TheVariants.{OutOfMemory, UnknownArgument}
 pub use Rattle.d_lexer.specs.Lexing.{IsLexed, IsRefused}
 pub use Rattle.d_lexer.specs.declared.fault.LexFault.{LexFault}
 pub use Rattle.d_lexer.specs.declared.token.Token.{Token}
@@ -38,6 +39,7 @@ pub use Rattle.dreplay.specs.declared.plan.GroupPlan.TheVariants.{Dealt, Lists}
 pub use Rattle.dreplay.specs.declared.plan.Plan.{Plan}
 pub use Rattle.dreplay.specs.declared.plan.Replayed.{Replayed}
 pub use Rattle.dreplay.specs.declared.refusal.Refusal.{Refusal}
-pub use Rattle.dreplay.specs.declared.refusal.Refusal.TheVariants.{Lex, Parse, Typing, Trace, Group, Memory}
+pub use Rattle.dreplay.specs.declared.refusal.Refusal.TheVariants.{Lex, Parse, Typing, Trace, Group}
+pub use Rattle.dreplay.specs.declared.refusal.Refusal.TheVariants.{Memory}
 pub use Rattle.dreplay.specs.declared.words.Asked.{Asked}
 pub use Rattle.dreplay.specs.declared.words.UsageFault.{UsageFault}

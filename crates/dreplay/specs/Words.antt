@@ -1,8 +1,14 @@
 -- What the words after the program's name ask for.
-use Rattle.std.specs.Prelude.{◌≡◌, ◌≢◌, ◌⊎◌, ◌∷◌, ◌++◌, ◌≤◌, ℕ, List, [], Option, Some, None, IsSomeAnd}
-use Rattle.std.specs.Prelude.{codes, fold, if◌then◌else◌, option_and_then, option_map, pos, string_bytes, true}
-use Rattle.clap.specs.Words.{App, IsAmong, Row, Rule, fault_of, first_of, kind_of, matches_of, new_app, new_rule, one_of, with_rule}
-use Rattle.dreplay.specs.Vocabulary.{bytes_eq, IsNumeral, digits_value, without_leading_plus, Signed, Error, ErrorKind, DisplayHelp, OutOfMemory, InvalidValue, UnknownArgument, Asked, UsageFault, EngineKind, Dif, Tree, Dealt, Plan, MOST_GROUPS, MOST_WORKERS}
+use Rattle.std.specs.Prelude.{◌≡◌, ◌≢◌, ◌⊎◌, ◌∷◌, ◌++◌, ◌≤◌, ℕ, List, [], Option, Some, None}
+use Rattle.std.specs.Prelude.{IsSomeAnd}
+use Rattle.std.specs.Prelude.{codes, fold, if◌then◌else◌, option_and_then, option_map, pos}
+use Rattle.std.specs.Prelude.{string_bytes, true}
+use Rattle.clap.specs.Words.{App, IsAmong, Row, Rule, fault_of, first_of, kind_of, matches_of}
+use Rattle.clap.specs.Words.{new_app, new_rule, one_of, with_rule}
+use Rattle.dreplay.specs.Vocabulary.{bytes_eq, IsNumeral, digits_value, without_leading_plus}
+use Rattle.dreplay.specs.Vocabulary.{Signed, Error, ErrorKind, DisplayHelp, OutOfMemory}
+use Rattle.dreplay.specs.Vocabulary.{InvalidValue, UnknownArgument, Asked, UsageFault, EngineKind}
+use Rattle.dreplay.specs.Vocabulary.{Dif, Tree, Dealt, Plan, MOST_GROUPS, MOST_WORKERS}
 use Rattle.dreplay.specs.declared.words.UsageFault.TheVariants.{Help, Usage, Memory}
 
 -- ---- the options

@@ -1,7 +1,8 @@
 //! From the bytes in to the bytes out.
 
 ghost use Rattle.std.specs.Prelude.{◌≡◌, ◌≢◌, List, ℕ, Err, IfErr, IsFalse};
-ghost use Rattle.dreplay.specs.{Bundle.Divides, Consuming.HoldsOfInput, Consuming.IsReadToEnd, Consuming.Shows, Consuming.fault_of_reading, Plans.IsInBounds};
+ghost use Rattle.dreplay.specs.{Bundle.Divides, Plans.IsInBounds};
+ghost use Rattle.dreplay.specs.Consuming.{HoldsOfInput, IsReadToEnd, Shows, fault_of_reading};
 
 use crate::bundle::{Division, divide};
 use crate::plan::{Plan, Replayed};

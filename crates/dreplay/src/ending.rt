@@ -2,7 +2,8 @@
 
 ghost use Rattle.std.specs.Prelude.{◌≡◌, ◌∷◌, ◌++◌, ◌≤◌, [], IsFalse, length};
 ghost use Rattle.report.specs.Stream.{IsSent};
-ghost use Rattle.dreplay.specs.{Lines.reason_bytes, Refusals.IsReported, Refusals.fault_line, Refusals.status_at_end};
+ghost use Rattle.dreplay.specs.{Lines.reason_bytes};
+ghost use Rattle.dreplay.specs.Refusals.{IsReported, fault_line, status_at_end};
 
 use crate::consuming::ConsumeFault;
 use crate::line::{MOST_TEXT, Place, Reason, reason_line};

@@ -1,6 +1,7 @@
 //! Files that scripts are read from.
 
-ghost use Rattle.std.specs.Prelude.{◌≡◌, ◌⊎◌, ℕ, List, Option, Some, None, IfErr, IfOk, IfSome, IsFalse};
+ghost use Rattle.std.specs.Prelude.{◌≡◌, ◌⊎◌, ℕ, List, Option, Some, None, IfErr, IfOk, IfSome};
+ghost use Rattle.std.specs.Prelude.{IsFalse};
 ghost use Rattle.dreplay.specs.Vocabulary.{Memory, Read, Refused};
 
 use crate::consuming::ConsumeFault;

@@ -1,7 +1,9 @@
 //! The groups of a plan.
 
 ghost use Rattle.std.specs.Prelude.{◌≡◌, ◌≤◌, ◌⊎◌, IfErr, IfOk};
-ghost use Rattle.shard_queue.specs.{Groups.AreOf, Groups.grouping, Threads.run_threads, declared.fault.GroupFault.TheVariants.Memory};
+ghost use Rattle.shard_queue.specs.{Threads.run_threads};
+ghost use Rattle.shard_queue.specs.{declared.fault.GroupFault.TheVariants.Memory};
+ghost use Rattle.shard_queue.specs.Groups.{AreOf, grouping};
 ghost use Rattle.dreplay.specs.Plans.{AreInBounds, IsGroupedBy, IsMisgrouped};
 
 use crate::plan::GroupPlan;

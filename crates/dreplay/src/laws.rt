@@ -5,7 +5,13 @@ ghost use Rattle.std.specs.Prelude.{◌≡◌, ◌∷◌, ◌⊎◌, [], ℕ, Li
 ghost use Rattle.clap.specs.Words.{fault_of, matches_of};
 ghost use Rattle.firing_reader.specs.Ends.{with_ends};
 ghost use Rattle.replay_core.specs.Groups.{AreGrouped};
-ghost use Rattle.dreplay.specs.{Vocabulary.Asked, Vocabulary.DisplayHelp, Vocabulary.ErrorKind, Vocabulary.Firing, Vocabulary.Grouping, Vocabulary.Plan, Vocabulary.Refusal, Vocabulary.Replayed, Answer.IsAnswer, Answer.IsSameAnswer, Answer.Shown, Answer.without_line, Bundle.Divides, Plans.IsDefault, Plans.IsGroupedBy, Plans.IsInBounds, Refusals.plain, Replaying.IsOfPlan, Replaying.IsReplay, Replaying.output_of, Words.Asks, Words.AsksHelp, Words.Mistakes, Words.Runs, Words.file_in, Words.program};
+ghost use Rattle.dreplay.specs.{Bundle.Divides, Refusals.plain};
+ghost use Rattle.dreplay.specs.Vocabulary.{Asked, DisplayHelp, ErrorKind, Firing, Grouping, Plan};
+ghost use Rattle.dreplay.specs.Vocabulary.{Refusal, Replayed};
+ghost use Rattle.dreplay.specs.Answer.{IsAnswer, IsSameAnswer, Shown, without_line};
+ghost use Rattle.dreplay.specs.Plans.{IsDefault, IsGroupedBy, IsInBounds};
+ghost use Rattle.dreplay.specs.Replaying.{IsOfPlan, IsReplay, output_of};
+ghost use Rattle.dreplay.specs.Words.{Asks, AsksHelp, Mistakes, Runs, file_in, program};
 
 /// A bundle is divided in one way.
 pub fn one_division()

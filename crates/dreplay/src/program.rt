@@ -1,7 +1,9 @@
 //! What the program does with its words, its files and its streams.
 
 ghost use Rattle.std.specs.Prelude.{◌≡◌, IfOk, IsFalse, MatchResult};
-ghost use Rattle.dreplay.specs.{Plans.IsInBounds, Program.AreUnfailed, Program.Ends, Program.EndsUnasked, Program.IsAsked, Program.IsRunOf, Program.IsUnasked, Program.streams_seen};
+ghost use Rattle.dreplay.specs.{Plans.IsInBounds};
+ghost use Rattle.dreplay.specs.Program.{AreUnfailed, Ends, EndsUnasked, IsAsked, IsRunOf};
+ghost use Rattle.dreplay.specs.Program.{IsUnasked, streams_seen};
 
 use crate::consuming::{ConsumeFault, consume, consume_trace};
 use crate::ending::end;

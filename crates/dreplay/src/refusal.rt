@@ -1,8 +1,10 @@
 //! Why a script or a trace is refused, and what the program says of it.
 
 ghost use Rattle.std.specs.Prelude.{◌≡◌, ◌≤◌, IfOk, length, string_bytes};
-ghost use Rattle.dreplay.specs.declared.refusal.Refusal.TheVariants.{Group, Lex, Memory, Parse, Trace, Typing};
-ghost use Rattle.dreplay.specs.{Lines.reason_bytes, Refusals.refusal_line, Refusals.plain, Refusals.status_of};
+ghost use Rattle.dreplay.specs.declared.refusal.Refusal.TheVariants.{Group, Lex, Memory, Parse};
+ghost use Rattle.dreplay.specs.declared.refusal.Refusal.TheVariants.{Trace, Typing};
+ghost use Rattle.dreplay.specs.{Lines.reason_bytes};
+ghost use Rattle.dreplay.specs.Refusals.{refusal_line, plain, status_of};
 
 use crate::line::{MOST_TEXT, Place, Reason, reason_line};
 use d_lexer::LexFault;

@@ -3,7 +3,11 @@
 ghost use Rattle.std.specs.Prelude.{◌≡◌, ◌≤◌, IfOk, List, unwrap_or, option_map};
 ghost use Rattle.shard_queue.specs.{Groups.AreOf, Groups.grouping, Threads.run_threads};
 ghost use Rattle.replay_core.specs.Exit.{firings_over};
-ghost use Rattle.dreplay.specs.{Vocabulary.Firing, Vocabulary.Grouping, Vocabulary.Plan, Vocabulary.functions_in, Vocabulary.functions_of, Vocabulary.typed_script_of, Answer.IsShown, Plans.IsGroupedBy, Plans.IsInBounds, Replaying.IsCarriedOut, Replaying.IsRunBy, Replaying.IsReplay, Replaying.output_of};
+ghost use Rattle.dreplay.specs.{Answer.IsShown};
+ghost use Rattle.dreplay.specs.Vocabulary.{Firing, Grouping, Plan, functions_in, functions_of};
+ghost use Rattle.dreplay.specs.Vocabulary.{typed_script_of};
+ghost use Rattle.dreplay.specs.Plans.{IsGroupedBy, IsInBounds};
+ghost use Rattle.dreplay.specs.Replaying.{IsCarriedOut, IsRunBy, IsReplay, output_of};
 
 use crate::grouping::groups_of;
 use crate::plan::{EngineKind, Plan, Replayed};

@@ -1,8 +1,13 @@
 //! The words after the program's name.
 
-ghost use Rattle.std.specs.Prelude.{◌≡◌, ◌⊎◌, ℕ, IfErr, IfOk, IfSome, IsErr, IsOkAnd, MatchResult, None, codes, drop, false, map, option_map, string_bytes, true};
+ghost use Rattle.std.specs.Prelude.{◌≡◌, ◌⊎◌, ℕ, IfErr, IfOk, IfSome, IsErr, IsOkAnd, MatchResult};
+ghost use Rattle.std.specs.Prelude.{None, codes, drop, false, map, option_map, string_bytes, true};
 ghost use Rattle.clap.specs.Words.{app_of, found_of, kind_of, rows_of, rule_of, takes};
-ghost use Rattle.dreplay.specs.{Vocabulary.into_iter_items, Words.Asks, Words.HasPlan, Words.IsAskedIn, Words.IsFaultOf, Words.IsMistake, Words.IsNumberIn, Words.IsPlanFault, Words.IsPlanIn, Words.IsToldAs, Words.engine_called, Words.engine_in, Words.file_in, Words.number_option, Words.option, Words.option_or, Words.program, declared.words.UsageFault.TheVariants.Memory};
+ghost use Rattle.dreplay.specs.{Vocabulary.into_iter_items};
+ghost use Rattle.dreplay.specs.{declared.words.UsageFault.TheVariants.Memory};
+ghost use Rattle.dreplay.specs.Words.{Asks, HasPlan, IsAskedIn, IsFaultOf, IsMistake, IsNumberIn};
+ghost use Rattle.dreplay.specs.Words.{IsPlanFault, IsPlanIn, IsToldAs, engine_called, engine_in};
+ghost use Rattle.dreplay.specs.Words.{file_in, number_option, option, option_or, program};
 
 use crate::plan::{EngineKind, GroupPlan, Plan};
 use clap::error::ErrorKind;

@@ -1,5 +1,7 @@
 -- The ranges of BEGIN and END.
-use Rattle.std.specs.Prelude.{◌≡◌, ◌<◌, ◌≤◌, ◌^◌, ◌+◌, ◌-◌, ◌==◌, ℕ, zero, suc, pos, false, true, nat_lt, List, [], ◌∷◌, length, slice_get, codes, replicate, All, FitsSigned, Some}
+use Rattle.std.specs.Prelude.{◌≡◌, ◌<◌, ◌≤◌, ◌^◌, ◌+◌, ◌-◌, ◌==◌, ℕ, zero, suc, pos, false, true}
+use Rattle.std.specs.Prelude.{nat_lt, List, [], ◌∷◌, length, slice_get, codes, replicate, All}
+use Rattle.std.specs.Prelude.{FitsSigned, Some}
 use Rattle.std.proofs.Common.{refl, arith, get_or}
 use Rattle.std.specs.Int.{w64}
 use Rattle.std.specs.List.{list_all, list_any}

@@ -1,5 +1,7 @@
 -- Rows that another store takes over.
-use Rattle.std.proofs.Common.{◌≡◌, ◌<◌, ◌+◌, ◌^◌, ℕ, ℤ, zero, suc, List, [], ◌∷◌, ◌++◌, length, get_or, drop, map, All, Some, refl, sym, ap, ◌∙◌, arith, length-append}
+use Rattle.std.proofs.Common.{◌≡◌, ◌<◌, ◌+◌, ◌^◌, ℕ, ℤ, zero, suc, List, [], ◌∷◌, ◌++◌, length}
+use Rattle.std.proofs.Common.{get_or, drop, map, All, Some, refl, sym, ap, ◌∙◌, arith}
+use Rattle.std.proofs.Common.{length-append}
 use Rattle.std.specs.Prelude.{slice_get}
 use Rattle.std.proofs.Math.Seq.{drop-append-add}
 use Rattle.std.proofs.lemmas.List.{length-map, map-append}
@@ -8,7 +10,8 @@ use Rattle.firing_reader.specs.declared.stored_row.Given.{Given}
 use Rattle.firing_reader.specs.declared.stored_row.Row.{Row}
 use Rattle.firing_reader.specs.declared.unit.Owner.{Owner}
 use Rattle.firing_reader.specs.declared.unit.Probe.{Probe}
-use Rattle.firing_reader.specs.Stored.{ArePlaces, Extends, IsMovable, IsRowIn, count_of, firing_in, first_of, moved_given, moved_row, no_owner, no_probe}
+use Rattle.firing_reader.specs.Stored.{ArePlaces, Extends, IsMovable, IsRowIn, count_of, firing_in}
+use Rattle.firing_reader.specs.Stored.{first_of, moved_given, moved_row, no_owner, no_probe}
 use Rattle.firing_reader.proofs.Stored.{named_at, named_in, named_more, rows_more, seen_all}
 
 -- ---- places

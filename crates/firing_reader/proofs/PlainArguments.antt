@@ -1,7 +1,10 @@
 -- Arguments of a plain row.
-use Rattle.std.proofs.Common.{◌≡◌, ◌<◌, ◌≤◌, ◌+◌, ◌-◌, ◌*◌, ℕ, ℤ, pos, zero, suc, List, [], ◌∷◌, ◌++◌, length, get_or, take, drop, map, All, Some, refl, sym, ap, ◌∙◌, arith, length-append, append_assoc, replicate}
+use Rattle.std.proofs.Common.{◌≡◌, ◌<◌, ◌≤◌, ◌+◌, ◌-◌, ◌*◌, ℕ, ℤ, pos, zero, suc, List, [], ◌∷◌}
+use Rattle.std.proofs.Common.{◌++◌, length, get_or, take, drop, map, All, Some, refl, sym, ap, ◌∙◌}
+use Rattle.std.proofs.Common.{arith, length-append, append_assoc, replicate}
 use Rattle.std.proofs.Math.Seq.{take-append_seam}
-use Rattle.std.proofs.lemmas.List.{append_cancel_left, length-replicate, map-append, take-append-drop, append-nil}
+use Rattle.std.proofs.lemmas.List.{append_cancel_left, length-replicate, map-append}
+use Rattle.std.proofs.lemmas.List.{take-append-drop, append-nil}
 use Rattle.firing_reader.specs.declared.stored_row.Given.{Given}
 use Rattle.firing_reader.specs.Column.{signed_of}
 use Rattle.firing_reader.specs.Plain.{Closes, JoinsField, Passes, ReadsArguments}

@@ -1,5 +1,6 @@
 -- The firing of a plain row.
-use Rattle.std.proofs.Common.{◌≡◌, ◌<◌, ◌≤◌, ◌^◌, ℕ, ℤ, pos, List, [], ◌∷◌, map, Option, Some, None, Result, Ok, refl, ◌∙◌}
+use Rattle.std.proofs.Common.{◌≡◌, ◌<◌, ◌≤◌, ◌^◌, ℕ, ℤ, pos, List, [], ◌∷◌, map, Option, Some, None}
+use Rattle.std.proofs.Common.{Result, Ok, refl, ◌∙◌}
 use Rattle.std.specs.Prelude.{option_map}
 use Rattle.std.proofs.lemmas.Bool.{le-ltb, lt-ltb}
 use Rattle.csv.specs.Records.{field_at}
@@ -10,7 +11,8 @@ use Rattle.firing_reader.specs.declared.unit.Probe.{Probe}
 use Rattle.firing_reader.proofs.PlainFields.{none_read}
 use Rattle.firing_reader.specs.Column.{signed_of}
 use Rattle.firing_reader.specs.Plain.{ReadsArguments, ReadsOwner, ReadsProbe, int_of, whole_of}
-use Rattle.firing_reader.specs.Row.{◌>>=◌, or_fault, args_at, columns_at, int_at, row_of, signed_at, text_at, whole_at}
+use Rattle.firing_reader.specs.Row.{◌>>=◌, or_fault, args_at, columns_at, int_at, row_of, signed_at}
+use Rattle.firing_reader.specs.Row.{text_at, whole_at}
 use Rattle.firing_reader.specs.Trace.{next_of}
 
 or_ok : {A : Type 0} (o : Option A) (x : A) (e : TraceFault) → o ≡ Some x → or_fault o e ≡ Ok x

@@ -1,5 +1,7 @@
 -- What csv reads of bytes that begin with a plain field.
-use Rattle.std.proofs.Common.{◌≡◌, ◌≢◌, ◌<◌, ◌≤◌, ◌+◌, ℕ, suc, false, List, [], ◌∷◌, ◌++◌, length, Some, Result, Ok, Err, refl, ap, ◌∙◌, append_assoc, arith, add-one, length-append, inl, inr, All}
+use Rattle.std.proofs.Common.{◌≡◌, ◌≢◌, ◌<◌, ◌≤◌, ◌+◌, ℕ, suc, false, List, [], ◌∷◌, ◌++◌, length}
+use Rattle.std.proofs.Common.{Some, Result, Ok, Err, refl, ap, ◌∙◌, append_assoc, arith, add-one}
+use Rattle.std.proofs.Common.{length-append, inl, inr, All}
 use Rattle.std.specs.Prelude.{◌==◌}
 use Rattle.std.proofs.lemmas.Bool.Decides.{eqb_tells}
 use Rattle.std.proofs.lemmas.List.Elements.{All-head, All-tail}
@@ -11,7 +13,8 @@ use Rattle.csv.proofs.RoundTrip.{start-same, record-same}
 use Rattle.firing_reader.specs.declared.firing.Firing.{Firing}
 use Rattle.firing_reader.specs.declared.fault.TraceFault.{TraceFault}
 use Rattle.firing_reader.specs.Left.{left_in}
-use Rattle.firing_reader.specs.Plain.{with_front, rows_after, rows_in, Closes, BeginsWith, GoesOn, JoinsField, Passes, ReadsRow}
+use Rattle.firing_reader.specs.Plain.{with_front, rows_after, rows_in, Closes, BeginsWith, GoesOn}
+use Rattle.firing_reader.specs.Plain.{JoinsField, Passes, ReadsRow}
 use Rattle.firing_reader.specs.Trace.{last_number, rows_of}
 use Rattle.firing_reader.proofs.Left.{enough, left_more}
 use Rattle.firing_reader.proofs.Rows.{goes_on, last_push}

@@ -6,8 +6,10 @@ use Rattle.firing_reader.specs.declared.firing.Firing.{Firing}
 use Rattle.firing_reader.specs.declared.stored_row.Row.{Row}
 use Rattle.firing_reader.specs.declared.unit.Owner.{Owner}
 use Rattle.firing_reader.specs.declared.unit.Probe.{Probe}
-use Rattle.firing_reader.specs.Plain.{JoinsField, Passes, ReadsArguments, ReadsOwner, ReadsProbe, ReadsRow, int_of, whole_of}
-use Rattle.firing_reader.specs.Stored.{Extends, IsGivenIn, IsRowIn, firing_in, given_in, no_owner, no_probe, ten}
+use Rattle.firing_reader.specs.Plain.{JoinsField, Passes, ReadsArguments, ReadsOwner, ReadsProbe}
+use Rattle.firing_reader.specs.Plain.{ReadsRow, int_of, whole_of}
+use Rattle.firing_reader.specs.Stored.{Extends, IsGivenIn, IsRowIn, firing_in, given_in, no_owner}
+use Rattle.firing_reader.specs.Stored.{no_probe, ten}
 use Rattle.firing_reader.proofs.PlainFirings.{ReadsNumbers, fields, firing_ok, owner_of, probe_of}
 use Rattle.firing_reader.proofs.PlainRows.{closes_more, row_read}
 use Rattle.firing_reader.proofs.Stored.{named_at, named_in, rows_more, stored}

@@ -1,9 +1,11 @@
 -- What rows share, as a trace stores it.
-use Rattle.std.proofs.Common.{◌≡◌, ◌+◌, ℕ, suc, false, List, [], ◌∷◌, ◌++◌, length, get_or, take, drop, map, All, Option, Some, None, refl, ap, ◌∙◌, arith}
+use Rattle.std.proofs.Common.{◌≡◌, ◌+◌, ℕ, suc, false, List, [], ◌∷◌, ◌++◌, length, get_or, take}
+use Rattle.std.proofs.Common.{drop, map, All, Option, Some, None, refl, ap, ◌∙◌, arith}
 use Rattle.std.specs.Prelude.{Contains, IfSome, codes, slice_get}
 use Rattle.std.proofs.Math.Seq.{drop-append_seam}
 use Rattle.std.proofs.lemmas.List.{map-append, take_all}
-use Rattle.std.proofs.lemmas.List.Elements.{All-append, All-cons, All-contains, All-head, All-nil, All-tail}
+use Rattle.std.proofs.lemmas.List.Elements.{All-append, All-cons, All-contains, All-head, All-nil}
+use Rattle.std.proofs.lemmas.List.Elements.{All-tail}
 use Rattle.std.proofs.lemmas.Option.{get_or_from_slice_get, slice_get-map, slice_get_within}
 use Rattle.firing_reader.specs.Vocabulary.{bytes_eq}
 use Rattle.firing_reader.specs.declared.keys.Known.{Known}
@@ -14,7 +16,8 @@ use Rattle.firing_reader.specs.declared.unit.Probe.{Probe}
 use Rattle.firing_reader.specs.Column.{text_of}
 use Rattle.firing_reader.specs.Plain.{Passes, ReadsOwner, ReadsProbe, int_of}
 use Rattle.firing_reader.specs.Stored.{Extends}
-use Rattle.firing_reader.specs.Units.{AreOwners, AreProbes, IsKnownIn, IsOwnerIn, IsOwnerKey, IsProbeIn, IsProbeKey, known_in, owner_in, probe_in}
+use Rattle.firing_reader.specs.Units.{AreOwners, AreProbes, IsKnownIn, IsOwnerIn, IsOwnerKey}
+use Rattle.firing_reader.specs.Units.{IsProbeIn, IsProbeKey, known_in, owner_in, probe_in}
 use Rattle.firing_reader.proofs.PlainRows.{passes_more, unit_passes}
 use Rattle.firing_reader.proofs.Stored.{found_more, named_in, named_more, part_more, within_more}
 

@@ -1,5 +1,7 @@
 -- Firings as a trace stores them.
-use Rattle.std.proofs.Common.{◌≡◌, ◌<◌, ◌≤◌, ◌+◌, ℕ, ℤ, pos, zero, suc, List, [], ◌∷◌, ◌++◌, length, get_or, take, drop, map, All, Some, refl, sym, ap, ◌∙◌, arith, length-append, append_assoc}
+use Rattle.std.proofs.Common.{◌≡◌, ◌<◌, ◌≤◌, ◌+◌, ℕ, ℤ, pos, zero, suc, List, [], ◌∷◌, ◌++◌, length}
+use Rattle.std.proofs.Common.{get_or, take, drop, map, All, Some, refl, sym, ap, ◌∙◌, arith}
+use Rattle.std.proofs.Common.{length-append, append_assoc}
 use Rattle.std.specs.Prelude.{slice_get}
 use Rattle.std.proofs.Math.ListN.{get_or-append}
 use Rattle.std.proofs.Math.Seq.{drop-append_seam}
@@ -10,7 +12,8 @@ use Rattle.firing_reader.specs.declared.firing.Firing.{Firing}
 use Rattle.firing_reader.specs.declared.stored_row.Row.{Row}
 use Rattle.firing_reader.specs.declared.unit.Owner.{Owner}
 use Rattle.firing_reader.specs.declared.unit.Probe.{Probe}
-use Rattle.firing_reader.specs.Stored.{Extends, IsRowIn, count_of, firing_in, first_of, no_owner, no_probe, ten}
+use Rattle.firing_reader.specs.Stored.{Extends, IsRowIn, count_of, firing_in, first_of, no_owner}
+use Rattle.firing_reader.specs.Stored.{no_probe, ten}
 
 pub extends_same : {X : Type 0} (xs : List X) → Extends xs xs
 extends_same xs = ([], sym (append-nil xs))

@@ -1,11 +1,16 @@
 -- Plain rows, which are read where they lie in a trace: their fields have no quote, comma or end of
 -- a line in them.
-use Rattle.std.specs.Prelude.{◌≡◌, ◌≢◌, false, ◌<◌, ◌+◌, ◌≤◌, ◌^◌, ℕ, List, [], ◌∷◌, ◌++◌, length, All, Option, Some, codes, option_and_then, option_map, map, Result, Ok, pos, ℤ}
+use Rattle.std.specs.Prelude.{◌≡◌, ◌≢◌, false, ◌<◌, ◌+◌, ◌≤◌, ◌^◌, ℕ, List, [], ◌∷◌, ◌++◌, length}
+use Rattle.std.specs.Prelude.{All, Option, Some, codes, option_and_then, option_map, map, Result}
+use Rattle.std.specs.Prelude.{Ok, pos, ℤ}
 use Rattle.csv.specs.declared.parser.State.{State}
 use Rattle.firing_reader.specs.declared.unit.Owner.{Owner}
 use Rattle.firing_reader.specs.declared.unit.Probe.{Probe}
-use Rattle.firing_reader.specs.Vocabulary.{bytes_eq, next_record, default_config, TraceFault, Firing, MOST_ROWS}
-use Rattle.firing_reader.specs.{Column.decimal_of, Column.signed_of, Column.text_of, Left.left_in, Trace.last_number, Trace.next_of, Trace.rows_of}
+use Rattle.firing_reader.specs.Vocabulary.{bytes_eq, next_record, default_config, TraceFault}
+use Rattle.firing_reader.specs.Vocabulary.{Firing, MOST_ROWS}
+use Rattle.firing_reader.specs.{Left.left_in}
+use Rattle.firing_reader.specs.Column.{decimal_of, signed_of, text_of}
+use Rattle.firing_reader.specs.Trace.{last_number, next_of, rows_of}
 use Rattle.firing_reader.specs.Row.{◌>>=◌, within}
 
 -- a byte that only joins a field: no comma, quote, carriage return or line feed

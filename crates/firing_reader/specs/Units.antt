@@ -1,6 +1,7 @@
 -- What rows share, as a trace stores it: owners and probes with the places of their texts, and the
 -- bytes of rows that were met before.
-use Rattle.std.specs.Prelude.{◌≡◌, ◌<◌, ◌≤◌, ◌+◌, ℕ, List, [], ◌++◌, Some, length, get_or, slice_get, map, take, drop, All}
+use Rattle.std.specs.Prelude.{◌≡◌, ◌<◌, ◌≤◌, ◌+◌, ℕ, List, [], ◌++◌, Some, length, get_or}
+use Rattle.std.specs.Prelude.{slice_get, map, take, drop, All}
 use Rattle.firing_reader.specs.declared.keys.Known.{Known}
 use Rattle.firing_reader.specs.declared.owners.StoredOwner.{StoredOwner}
 use Rattle.firing_reader.specs.declared.probes.StoredProbe.{StoredProbe}

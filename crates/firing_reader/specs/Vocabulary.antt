@@ -12,6 +12,8 @@ pub use Rattle.std.specs.Str.Parse.{digits_value}
 pub use Rattle.csv.specs.Machine.{next_record}
 pub use Rattle.csv.specs.Reading.{default_config, records, strip_bom}
 pub use Rattle.firing_reader.specs.declared.fault.TraceFault.{TraceFault}
-pub use Rattle.firing_reader.specs.declared.fault.TraceFault.TheVariants.{Header, Columns, Number, Order, Text, Reserved, TooMany, Memory}
+pub use Rattle.firing_reader.specs.declared.fault.TraceFault.TheVariants.{Header, Columns, Number}
+pub use Rattle.firing_reader.specs.declared.fault.TraceFault.TheVariants.{Order, Text, Reserved}
+pub use Rattle.firing_reader.specs.declared.fault.TraceFault.TheVariants.{TooMany, Memory}
 pub use Rattle.firing_reader.specs.declared.firing.Firing.{Firing}
 pub use Rattle.firing_reader.specs.declared.reading.TheConstants.{MOST_ROWS}

@@ -1,6 +1,7 @@
 //! Arguments as they are stored: without the zeros at the end.
 
-ghost use Rattle.std.specs.Prelude.{◌≡◌, ◌<◌, ◌≤◌, ◌+◌, ◌^◌, ◌++◌, ℕ, pos, IfSome, get_or, length, take, drop};
+ghost use Rattle.std.specs.Prelude.{◌≡◌, ◌<◌, ◌≤◌, ◌+◌, ◌^◌, ◌++◌, ℕ, pos, IfSome, get_or, length};
+ghost use Rattle.std.specs.Prelude.{take, drop};
 ghost use Rattle.firing_reader.specs.Stored.{Extends, IsGivenIn, given_in, ten};
 
 use crate::stored_row::Given;

@@ -1,8 +1,11 @@
 //! The firings of a trace, as they are stored: rows of small fixed size, each owner and each probe
 //! once, and of the arguments no zeros at the end.
 
-ghost use Rattle.std.specs.Prelude.{◌≡◌, ◌<◌, ◌++◌, ◌∷◌, [], true, false, All, Some, IfOk, IfSome, MatchOption, slice_get, length, map};
-ghost use Rattle.firing_reader.specs.{Vocabulary.Firing, Plain.ReadsRow, Stored.IsMovable, Stored.moved_row as moved_row_of, Trace.last_number as last_number_of};
+ghost use Rattle.std.specs.Prelude.{◌≡◌, ◌<◌, ◌++◌, ◌∷◌, [], true, false, All, Some, IfOk, IfSome};
+ghost use Rattle.std.specs.Prelude.{MatchOption, slice_get, length, map};
+ghost use Rattle.firing_reader.specs.{Vocabulary.Firing, Plain.ReadsRow};
+ghost use Rattle.firing_reader.specs.{Trace.last_number as last_number_of};
+ghost use Rattle.firing_reader.specs.Stored.{IsMovable, moved_row as moved_row_of};
 
 use crate::arguments::{add_arguments, all_ten, keep_arguments};
 use crate::firing::Firing;
@@ -27,7 +30,8 @@ pub struct Firings {
 }
 
 impl Model for Firings {
-    ghost use Rattle.firing_reader.specs.{Vocabulary.All, Vocabulary.Firing, Vocabulary.List, Vocabulary.map, Stored.IsRowIn, Stored.firing_in};
+    ghost use Rattle.firing_reader.specs.Vocabulary.{All, Firing, List, map};
+    ghost use Rattle.firing_reader.specs.Stored.{IsRowIn, firing_in};
 
     ghost Value = { List Firing };
 
@@ -52,6 +56,10 @@ impl Firings {
     }
 
     /// How many there are.
+    ///
+    /// ```text
+    /// trace.firings().len(); // 2, for a header and two rows
+    /// ```
     pub fn len(&self) -> usize
         ensures { result ≡ length self.now }
     {
@@ -98,6 +106,10 @@ impl Firings {
     }
 
     /// The number of the last, or 0 where there are none.
+    ///
+    /// ```text
+    /// trace.firings().last_number(); // 9, where the last row begins with 9
+    /// ```
     pub fn last_number(&self) -> u64
         ensures { result ≡ last_number_of self.now }
     {

@@ -28,6 +28,10 @@ impl Model for OwnedText {
 
 impl OwnedText {
     /// A copy of a text, or the error that memory was refused.
+    ///
+    /// ```text
+    /// let execname = OwnedText::new(alloc, firing.execname)?;
+    /// ```
     pub fn new(alloc: Global, text: &Text) -> Result<OwnedText, AllocError>
         ensures { IfOk result (λ owned. owned ≡ text.now) }
     {
@@ -43,6 +47,11 @@ impl OwnedText {
     }
 
     /// Whether it is this text.
+    ///
+    /// ```text
+    /// let execname = OwnedText::new(alloc, firing.execname)?;
+    /// execname.is(firing.execname); // true
+    /// ```
     pub fn is(&self, text: &Text) -> bool
         ensures { IsTrue result ↔ (self.now ≡ text.now) }
     {

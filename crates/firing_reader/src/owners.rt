@@ -1,7 +1,9 @@
 //! Who fired, each kept once.
 
-ghost use Rattle.std.specs.Prelude.{◌≡◌, ◌<◌, ◌++◌, ◌∷◌, [], true, Some, IfOk, IfSome, MatchOption, slice_get, length, vec_len};
-ghost use Rattle.firing_reader.specs.{declared.unit.Owner.Owner, Plain.ReadsOwner, Stored.ArePlaces, Stored.Extends, Units.GainsOnly};
+ghost use Rattle.std.specs.Prelude.{◌≡◌, ◌<◌, ◌++◌, ◌∷◌, [], true, Some, IfOk, IfSome, MatchOption};
+ghost use Rattle.std.specs.Prelude.{slice_get, length, vec_len};
+ghost use Rattle.firing_reader.specs.{declared.unit.Owner.Owner, Plain.ReadsOwner, Units.GainsOnly};
+ghost use Rattle.firing_reader.specs.Stored.{ArePlaces, Extends};
 
 use crate::keys::{Keys, u32_of};
 use crate::plain::field::{int, text};
@@ -33,7 +35,8 @@ pub(crate) struct Owners {
 
 impl Model for Owners {
     ghost use Rattle.std.specs.Prelude.{List, map};
-    ghost use Rattle.firing_reader.specs.{declared.unit.Owner.Owner, Units.AreOwners, Units.owner_in};
+    ghost use Rattle.firing_reader.specs.{declared.unit.Owner.Owner};
+    ghost use Rattle.firing_reader.specs.Units.{AreOwners, owner_in};
 
     ghost Value = { List Owner };
 

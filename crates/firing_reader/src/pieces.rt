@@ -3,7 +3,8 @@
 
 ghost use Rattle.std.specs.Prelude.{◌≡◌, ◌∷◌, ◌++◌, true, ℕ, List, IfSome, Ok};
 ghost use Rattle.std.specs.Thread.{IsSync};
-ghost use Rattle.firing_reader.specs.{Plain.IsPiece, Plain.Rises, Trace.last_number, Trace.trace_of};
+ghost use Rattle.firing_reader.specs.Plain.{IsPiece, Rises};
+ghost use Rattle.firing_reader.specs.Trace.{last_number, trace_of};
 
 use crate::firings::Firings;
 use crate::header::after_header;

@@ -1,7 +1,9 @@
 //! The probes of firings, each kept once.
 
-ghost use Rattle.std.specs.Prelude.{◌≡◌, ◌<◌, ◌++◌, ◌∷◌, [], true, Some, IfOk, IfSome, MatchOption, slice_get, length, vec_len};
-ghost use Rattle.firing_reader.specs.{declared.unit.Probe.Probe, Plain.ReadsProbe, Stored.ArePlaces, Stored.Extends, Units.GainsOnly};
+ghost use Rattle.std.specs.Prelude.{◌≡◌, ◌<◌, ◌++◌, ◌∷◌, [], true, Some, IfOk, IfSome, MatchOption};
+ghost use Rattle.std.specs.Prelude.{slice_get, length, vec_len};
+ghost use Rattle.firing_reader.specs.{declared.unit.Probe.Probe, Plain.ReadsProbe, Units.GainsOnly};
+ghost use Rattle.firing_reader.specs.Stored.{ArePlaces, Extends};
 
 use crate::keys::{Keys, u32_of};
 use crate::plain::field::text;
@@ -37,7 +39,8 @@ pub(crate) struct Probes {
 
 impl Model for Probes {
     ghost use Rattle.std.specs.Prelude.{List, map};
-    ghost use Rattle.firing_reader.specs.{declared.unit.Probe.Probe, Units.AreProbes, Units.probe_in};
+    ghost use Rattle.firing_reader.specs.{declared.unit.Probe.Probe};
+    ghost use Rattle.firing_reader.specs.Units.{AreProbes, probe_in};
 
     ghost Value = { List Probe };
 

@@ -2,7 +2,9 @@
 
 ghost use Rattle.std.specs.Prelude.{◌≤◌, ◌≡◌, ◌∷◌, ℕ, List, length};
 ghost use Rattle.csv.specs.Records.{fields_of};
-ghost use Rattle.firing_reader.specs.{Gives.Gives, Plain.rows_after, Plain.rows_in, Trace.next_of, Trace.trace_of};
+ghost use Rattle.firing_reader.specs.{Gives.Gives};
+ghost use Rattle.firing_reader.specs.Plain.{rows_after, rows_in};
+ghost use Rattle.firing_reader.specs.Trace.{next_of, trace_of};
 
 use crate::fault::TraceFault;
 use crate::firing::Firing;

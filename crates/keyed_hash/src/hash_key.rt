@@ -42,6 +42,10 @@ pub struct HashKey {
 
 impl HashKey {
     /// The key that a seed makes.
+    ///
+    /// ```text
+    /// let hash_key = HashKey::of_seed(b"12345678");
+    /// ```
     pub fn of_seed(seed: &[u8]) -> HashKey
         ensures { result ≡ key_of seed.now }
     {

@@ -1,15 +1,20 @@
 -- Which fault the collector returns, and that sorted pieces can be merged as the pieces could.
-use Rattle.std.proofs.Common.{◌≡◌, ◌≢◌, ℕ, suc, ◌+◌, ◌==◌, ◌<◌, ◌≤◌, Bool, true, false, cond, List, [], ◌∷◌, All, Contains, Option, None, Some, length, map, refl, sym, ap, subst, ⊎_elim, arith, ltb, sum_by}
+use Rattle.std.proofs.Common.{◌≡◌, ◌≢◌, ℕ, suc, ◌+◌, ◌==◌, ◌<◌, ◌≤◌, Bool, true, false, cond, List}
+use Rattle.std.proofs.Common.{[], ◌∷◌, All, Contains, Option, None, Some, length, map, refl, sym}
+use Rattle.std.proofs.Common.{ap, subst, ⊎_elim, arith, ltb, sum_by}
 use Rattle.std.specs.List.Sorted.{IsPermutation}
-use Rattle.std.proofs.lemmas.List.Sorted.{IsPermutation-sym, IsPermutation-map, All-permutation, Contains-permutation, sum_by-IsPermutation}
+use Rattle.std.proofs.lemmas.List.Sorted.{IsPermutation-sym, IsPermutation-map, All-permutation}
+use Rattle.std.proofs.lemmas.List.Sorted.{Contains-permutation, sum_by-IsPermutation}
 use Rattle.std.proofs.lemmas.Bool.{cases_eq}
 use Rattle.aggregations.specs.declared.function.AggFn.{AggFn}
 use Rattle.aggregations.specs.Table.{functions_of, count_held}
 use Rattle.shard_queue.proofs.Lists.{all_cons}
 use Rattle.replay_core.specs.declared.piece.Piece.{Piece}
 use Rattle.replay_core.specs.declared.collect_fault.CollectFault.{CollectFault}
-use Rattle.replay_core.specs.declared.collect_fault.CollectFault.TheVariants.{Twice, Stranger, Missing, Memory}
-use Rattle.replay_core.specs.PiecePlaces.{first_bad, first_bad_after, first_missing, pieces_with_places, pieces_with_groups, IsFault}
+use Rattle.replay_core.specs.declared.collect_fault.CollectFault.TheVariants.{Twice, Stranger}
+use Rattle.replay_core.specs.declared.collect_fault.CollectFault.TheVariants.{Missing, Memory}
+use Rattle.replay_core.specs.PiecePlaces.{first_bad, first_bad_after, first_missing}
+use Rattle.replay_core.specs.PiecePlaces.{pieces_with_places, pieces_with_groups, IsFault}
 use Rattle.replay_core.specs.Tables.{Table, AllHave, CanMerge}
 use Rattle.replay_core.specs.Collecting.{tables_of, IsCollectFault}
 

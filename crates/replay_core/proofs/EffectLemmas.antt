@@ -1,5 +1,6 @@
 -- What a run notes, effect by effect.
-use Rattle.std.specs.Prelude.{◌≡◌, ◌%◌, ℕ, ℤ, List, [], ◌∷◌, ◌++◌, map, Bool, true, false, ◌||◌, Option, None, Some, is_some, length, take, Ok, Err}
+use Rattle.std.specs.Prelude.{◌≡◌, ◌%◌, ℕ, ℤ, List, [], ◌∷◌, ◌++◌, map, Bool, true, false, ◌||◌}
+use Rattle.std.specs.Prelude.{Option, None, Some, is_some, length, take, Ok, Err}
 use Rattle.std.specs.Option.{option_or}
 use Rattle.std.proofs.Common.{refl, sym, ap, ◌∙◌, subst}
 use Rattle.aggregations.specs.Table.{Contribution, contribution}
@@ -7,7 +8,8 @@ use Rattle.d_values.specs.declared.key.KeyPart.{KeyPart}
 use Rattle.d_types.specs.declared.effect.Effect.{Effect}
 use Rattle.d_types.specs.declared.effect.Effect.TheVariants as ef
 use Rattle.d_types.specs.Expressions.{Outcome, Has, Faults, with}
-use Rattle.d_types.specs.Clauses.{Made, Ran, run_result, run_with, effect_then, texts_in, contributions_in, exit_in, and_then}
+use Rattle.d_types.specs.Clauses.{Made, Ran, run_result, run_with, effect_then, texts_in}
+use Rattle.d_types.specs.Clauses.{contributions_in, exit_in, and_then}
 use Rattle.d_types.specs.Storage.{Variables}
 use Rattle.replay_core.specs.declared.evaluation.fault.EvalFault.TheVariants as fault
 use Rattle.replay_core.specs.Effects.{effects_result, NotesEffect, Performs, NotesRun}

@@ -1,5 +1,7 @@
 -- The firings that count are those up to the first that exits.
-use Rattle.std.specs.Prelude.{◌≡◌, ℕ, suc, ◌-◌, ◌<◌, ◌≤◌, nat_le, List, [], ◌∷◌, ◌++◌, filter, map, length, slice_get, if◌then◌else◌, Option, None, Some, is_some, option_map}
+use Rattle.std.specs.Prelude.{◌≡◌, ℕ, suc, ◌-◌, ◌<◌, ◌≤◌, nat_le, List, [], ◌∷◌, ◌++◌, filter, map}
+use Rattle.std.specs.Prelude.{length, slice_get, if◌then◌else◌, Option, None, Some, is_some}
+use Rattle.std.specs.Prelude.{option_map}
 use Rattle.std.specs.List.Sorted.{IsStrictlyIncreasing}
 use Rattle.std.specs.Option.{option_map_or, option_or}
 use Rattle.std.proofs.Common.{refl, sym, ap, ◌∙◌, subst, arith, add-one}
@@ -11,7 +13,8 @@ use Rattle.firing_reader.specs.Ends.{begin_of, end_of}
 use Rattle.firing_reader.specs.Firings.{IsFiring, number_of}
 use Rattle.firing_reader.specs.Trace.{IsTrace, last_number}
 use Rattle.replay_core.specs.Exit.{firings_over, up_to}
-use Rattle.replay_core.specs.Meaning.{Threads, exit_of, history, firing_result, threads_after, blank_threads}
+use Rattle.replay_core.specs.Meaning.{Threads, exit_of, history, firing_result, threads_after}
+use Rattle.replay_core.specs.Meaning.{blank_threads}
 use Rattle.replay_core.specs.Running.{until_exit}
 
 -- numbers rise from above n on

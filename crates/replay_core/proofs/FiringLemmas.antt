@@ -1,7 +1,10 @@
 -- What turns make is what a firing means.
-use Rattle.std.specs.Prelude.{◌≡◌, ℕ, zero, suc, ◌+◌, ◌<◌, ◌≤◌, List, [], ◌∷◌, ◌++◌, All, filter, map, length, slice_get, sum_by, Option, None, Some, option_map, is_some, OnOk, Result, Ok, Err, Bool, true, false, if◌then◌else◌}
+use Rattle.std.specs.Prelude.{◌≡◌, ℕ, zero, suc, ◌+◌, ◌<◌, ◌≤◌, List, [], ◌∷◌, ◌++◌, All, filter}
+use Rattle.std.specs.Prelude.{map, length, slice_get, sum_by, Option, None, Some, option_map}
+use Rattle.std.specs.Prelude.{is_some, OnOk, Result, Ok, Err, Bool, true, false, if◌then◌else◌}
 use Rattle.std.specs.Option.{option_or}
-use Rattle.std.proofs.Common.{refl, sym, ap, ◌∙◌, subst, arith, add-one, add-zero, append_assoc, length-append}
+use Rattle.std.proofs.Common.{refl, sym, ap, ◌∙◌, subst, arith, add-one, add-zero, append_assoc}
+use Rattle.std.proofs.Common.{length-append}
 use Rattle.std.proofs.lemmas.List.{length-map}
 use Rattle.std.proofs.lemmas.List.Sums.{sum_by-cons}
 use Rattle.std.proofs.lemmas.List.Elements.{All-append}
@@ -14,7 +17,8 @@ use Rattle.d_types.specs.Typed.{ClauseMeant, ScriptMeant}
 use Rattle.firing_reader.specs.declared.firing.Firing.{Firing}
 use Rattle.replay_core.specs.declared.probe.Probe.{Probe}
 use Rattle.replay_core.specs.Lanes.{Fires, GoesOnBy, LaneSeen, Notes}
-use Rattle.replay_core.specs.Meaning.{Threads, at_start, clauses_for, history, in_turn, firing_result, texts_of, threads_after}
+use Rattle.replay_core.specs.Meaning.{Threads, at_start, clauses_for, history, in_turn}
+use Rattle.replay_core.specs.Meaning.{firing_result, texts_of, threads_after}
 use Rattle.replay_core.specs.Patterns.{probe_of, selects}
 use Rattle.replay_core.specs.Pieces.{PieceSeen}
 use Rattle.replay_core.specs.Places.{places_for}

@@ -1,7 +1,8 @@
 -- Trees are run as what they stand for.
 use Rattle.std.specs.Prelude.{◌≡◌, ℕ, List, [], ◌∷◌, map, max, Option, None, Some}
 use Rattle.std.proofs.Common.{refl, ap, ◌∙◌}
-use Rattle.d_types.specs.Clauses.{by_trees, effect_by, effect_then, where_predicate, run_result, run_by, statements_by}
+use Rattle.d_types.specs.Clauses.{by_trees, effect_by, effect_then, where_predicate, run_result}
+use Rattle.d_types.specs.Clauses.{run_by, statements_by}
 use Rattle.d_types.specs.Storage.{Variables}
 use Rattle.d_types.specs.Typed.{action_of, actions_of, argument_of}
 use Rattle.d_types.specs.declared.typed.TypedExpr.{TypedExpr}

@@ -1,5 +1,7 @@
 -- The texts of a run, and those of its groups.
-use Rattle.std.proofs.Common.{◌≡◌, ◌≢◌, ℕ, zero, suc, ◌<◌, ◌≤◌, ◌==◌, Bool, true, false, cond, List, [], ◌∷◌, ◌++◌, Option, map, refl, sym, ap, ◌∙◌, subst, ⊎_elim, arith, eq-eqb, ne_eqb, add-one}
+use Rattle.std.proofs.Common.{◌≡◌, ◌≢◌, ℕ, zero, suc, ◌<◌, ◌≤◌, ◌==◌, Bool, true, false, cond, List}
+use Rattle.std.proofs.Common.{[], ◌∷◌, ◌++◌, Option, map, refl, sym, ap, ◌∙◌, subst, ⊎_elim, arith}
+use Rattle.std.proofs.Common.{eq-eqb, ne_eqb, add-one}
 use Rattle.std.specs.List.{flat_map, range_with_len}
 use Rattle.std.specs.List.Sorted.{IsStrictlyIncreasing}
 use Rattle.std.proofs.lemmas.Bool.{cases_eq}
@@ -10,7 +12,8 @@ use Rattle.firing_reader.specs.Firings.{number_of}
 use Rattle.replay_core.specs.Groups.{Grouping, AreGrouped, is_group}
 use Rattle.replay_core.specs.Meaning.{Threads, history, texts_of, threads_after}
 use Rattle.replay_core.specs.Uniting.{with_number, AllFrom, InOrder}
-use Rattle.replay_core.proofs.GroupSums.{AllIn, filter-flat, flat_none, flat_one, flat_same, own_group, part, passed, taken}
+use Rattle.replay_core.proofs.GroupSums.{AllIn, filter-flat, flat_none, flat_one, flat_same}
+use Rattle.replay_core.proofs.GroupSums.{own_group, part, passed, taken}
 
 -- the numbers rise from above n on
 abbrev pub Over : ℕ → List (Firing × Made) → Type 0

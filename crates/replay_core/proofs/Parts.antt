@@ -1,5 +1,7 @@
 -- What workers gave back, one worker after the other.
-use Rattle.std.proofs.Common.{All, List, None, Option, Some, Vec, [], ap, append-nil, append_assoc, ap₂, arith, get_or, if◌then◌else◌, length, map, min, refl, subst, suc, sym, zero, ℕ, ◌++◌, ◌+◌, ◌<◌, ◌∙◌, ◌∷◌, ◌≡◌, ◌≤◌}
+use Rattle.std.proofs.Common.{All, List, None, Option, Some, Vec, [], ap, append-nil, append_assoc}
+use Rattle.std.proofs.Common.{ap₂, arith, get_or, if◌then◌else◌, length, map, min, refl, subst, suc}
+use Rattle.std.proofs.Common.{sym, zero, ℕ, ◌++◌, ◌+◌, ◌<◌, ◌∙◌, ◌∷◌, ◌≡◌, ◌≤◌}
 use Rattle.std.specs.List.{flat_map}
 use Rattle.std.specs.declared.alloc.Global.{Global}
 use Rattle.std.proofs.lemmas.List.{map-append}
@@ -12,7 +14,8 @@ use Rattle.shard_queue.specs.declared.groups.Groups.{Groups}
 use Rattle.shard_queue.specs.Groups.{grouping}
 use Rattle.shard_queue.specs.declared.claim_seat.ClaimSeat.{ClaimSeat}
 use Rattle.shard_queue.specs.declared.board.ClaimBoard.{ClaimBoard}
-use Rattle.shard_queue.specs.Boards.{IsAt, claim_numbers, least_lowered, least_seen, number_lowered, number_seen, claim_seats_at_end}
+use Rattle.shard_queue.specs.Boards.{IsAt, claim_numbers, least_lowered, least_seen, number_lowered}
+use Rattle.shard_queue.specs.Boards.{number_seen, claim_seats_at_end}
 use Rattle.shard_queue.specs.Hands.{IsHandOut}
 use Rattle.shard_queue.proofs.Lists.{all_push, all_cons}
 use Rattle.replay_core.specs.declared.piece.Piece.{Piece}

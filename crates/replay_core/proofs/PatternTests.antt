@@ -1,11 +1,15 @@
 -- The tests of patterns decide what they are to say.
-use Rattle.std.proofs.Common.{◌≡◌, ◌≢◌, ℕ, suc, ◌==◌, ◌⊎◌, inl, inr, ⊎_elim, ◌↔◌, Bool, true, false, cond, ◌&&◌, ◌||◌, List, [], ◌∷◌, ◌++◌, length, All, refl, sym, ap, ◌∙◌, subst, arith}
+use Rattle.std.proofs.Common.{◌≡◌, ◌≢◌, ℕ, suc, ◌==◌, ◌⊎◌, inl, inr, ⊎_elim, ◌↔◌, Bool, true, false}
+use Rattle.std.proofs.Common.{cond, ◌&&◌, ◌||◌, List, [], ◌∷◌, ◌++◌, length, All, refl, sym, ap}
+use Rattle.std.proofs.Common.{◌∙◌, subst, arith}
 use Rattle.std.specs.Prelude.{not, IsTrue}
 use Rattle.std.specs.List.{list_all, zip}
 use Rattle.std.proofs.lemmas.Bool.Decides.{Decides-eqb}
 use Rattle.d_parser.specs.declared.tree.Description.{Description}
 use Rattle.replay_core.specs.declared.probe.Probe.{Probe}
-use Rattle.replay_core.specs.Patterns.{Selects, selects, Takes, Matches, MatchesField, star, question, is_plain, is_same_or_question, passes_after, passes_after_one, matches, field_matches}
+use Rattle.replay_core.specs.Patterns.{Selects, selects, Takes, Matches, MatchesField, star}
+use Rattle.replay_core.specs.Patterns.{question, is_plain, is_same_or_question, passes_after}
+use Rattle.replay_core.specs.Patterns.{passes_after_one, matches, field_matches}
 
 -- ---- tests
 

@@ -1,5 +1,6 @@
 -- What each program of a typed script keeps is what a lane asks for.
-use Rattle.std.specs.Prelude.{◌≡◌, ℕ, ◌+◌, ◌≤◌, List, [], ◌∷◌, All, Option, None, Some, length, map, max, sum_by}
+use Rattle.std.specs.Prelude.{◌≡◌, ℕ, ◌+◌, ◌≤◌, List, [], ◌∷◌, All, Option, None, Some, length, map}
+use Rattle.std.specs.Prelude.{max, sum_by}
 use Rattle.std.specs.List.{AllZip}
 use Rattle.std.proofs.Common.{refl, sym, ap, ◌∙◌, subst, arith, get_or}
 use Rattle.std.proofs.lemmas.List.{length-map}
@@ -8,7 +9,8 @@ use Rattle.d_parser.specs.Sizes.{in_all}
 use Rattle.d_types.specs.Held.{Slots, slots_of}
 use Rattle.d_types.specs.Scripts.{IsMeant}
 use Rattle.d_types.specs.Sizes.{descriptions, statements}
-use Rattle.d_types.specs.Typed.{ActionOf, Aggregate, ClauseMeant, Evaluate, Exit, Print, ScriptMeant, Trace}
+use Rattle.d_types.specs.Typed.{ActionOf, Aggregate, ClauseMeant, Evaluate, Exit, Print}
+use Rattle.d_types.specs.Typed.{ScriptMeant, Trace}
 use Rattle.d_types.proofs.Sizes.{typed_script_is_small}
 use Rattle.dif_codegen.specs.Meaning.{Does}
 use Rattle.dif_codegen.proofs.Exiting.{aggregation_of, same_aggregations}

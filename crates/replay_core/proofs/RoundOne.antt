@@ -1,5 +1,8 @@
 -- At the close of round one the least number is that of the run's first exit.
-use Rattle.std.proofs.Common.{◌≡◌, ◌≢◌, ◌⊎◌, ℕ, zero, suc, ◌<◌, ◌≤◌, Bool, true, false, cond, List, [], ◌∷◌, ◌++◌, All, Option, None, Some, is_some, filter, map, length, get_or, refl, sym, ap, ◌∙◌, subst, ⊎_elim, inl, inr, arith, append-nil, sum_by}
+use Rattle.std.proofs.Common.{◌≡◌, ◌≢◌, ◌⊎◌, ℕ, zero, suc, ◌<◌, ◌≤◌, Bool, true, false, cond, List}
+use Rattle.std.proofs.Common.{[], ◌∷◌, ◌++◌, All, Option, None, Some, is_some, filter, map, length}
+use Rattle.std.proofs.Common.{get_or, refl, sym, ap, ◌∙◌, subst, ⊎_elim, inl, inr, arith}
+use Rattle.std.proofs.Common.{append-nil, sum_by}
 use Rattle.std.specs.Prelude.{option_map, IsSomeAnd}
 use Rattle.std.specs.Option.{option_or}
 use Rattle.std.proofs.lemmas.Bool.{cases_eq}
@@ -10,9 +13,11 @@ use Rattle.firing_reader.specs.declared.firing.Firing.{Firing}
 use Rattle.shard_queue.specs.Least.{no_number}
 use Rattle.shard_queue.proofs.Totals.{below-once, weight_of}
 use Rattle.replay_core.specs.declared.piece.Piece.{Piece}
-use Rattle.replay_core.specs.Beginnings.{ExitsLast, IsBegun, IsBegunOf, IsLeft, exit_over, least_exit, lesser_of}
+use Rattle.replay_core.specs.Beginnings.{ExitsLast, IsBegun, IsBegunOf, IsLeft, exit_over}
+use Rattle.replay_core.specs.Beginnings.{least_exit, lesser_of}
 use Rattle.replay_core.specs.Groups.{AreGrouped, Grouping, IsAllBelow, is_group, of_group}
-use Rattle.replay_core.specs.Meaning.{Threads, exit_of, history, firing_result, threads_after, blank_threads}
+use Rattle.replay_core.specs.Meaning.{Threads, exit_of, history, firing_result, threads_after}
+use Rattle.replay_core.specs.Meaning.{blank_threads}
 use Rattle.replay_core.specs.Pieces.{IsPieceOf}
 use Rattle.replay_core.specs.Running.{threads_over}
 use Rattle.replay_core.specs.Seen.{piece_seen}

@@ -1,5 +1,6 @@
 -- A run, from its rounds.
-use Rattle.std.proofs.Common.{◌≡◌, ◌≢◌, ◌≤◌, ℕ, List, All, Option, None, Some, false, map, length, option_map, refl, sym, ap, ◌∙◌, subst, unwrap_or}
+use Rattle.std.proofs.Common.{◌≡◌, ◌≢◌, ◌≤◌, ℕ, List, All, Option, None, Some, false, map, length}
+use Rattle.std.proofs.Common.{option_map, refl, sym, ap, ◌∙◌, subst, unwrap_or}
 use Rattle.std.specs.List.Sorted.{IsStrictlyIncreasing}
 use Rattle.d_types.specs.Typed.{ScriptMeant, has_exit}
 use Rattle.firing_reader.specs.declared.firing.Firing.{Firing}
@@ -21,10 +22,12 @@ use Rattle.replay_core.specs.Groups.{AreGrouped}
 use Rattle.replay_core.specs.Meaning.{exit_of, history, blank_threads}
 use Rattle.replay_core.specs.Working.{IsOfGroup, firings_in}
 use Rattle.replay_core.proofs.Parts.{given_begun, given_pieces}
-use Rattle.replay_core.proofs.RoundOne.{least_none, least_some, none_least, pieces_whole, some_least}
+use Rattle.replay_core.proofs.RoundOne.{least_none, least_some, none_least, pieces_whole}
+use Rattle.replay_core.proofs.RoundOne.{some_least}
 use Rattle.replay_core.proofs.ExitLemmas.{trace_rises}
 use Rattle.replay_core.proofs.WithoutExit.{script_goes}
-use Rattle.replay_core.proofs.TraceRuns.{all_count, counted_few, counted_grouped, counted_rise, counted_up_to, numbers_small, over_all, over_exit}
+use Rattle.replay_core.proofs.TraceRuns.{all_count, counted_few, counted_grouped, counted_rise}
+use Rattle.replay_core.proofs.TraceRuns.{counted_up_to, numbers_small, over_all, over_exit}
 
 -- the firings that count are those of a span
 span_over : (m : ScriptMeant) (trace : List Firing) → IsTrace trace → (s : Span) × (firings_in s trace ≡ firings_over m trace)

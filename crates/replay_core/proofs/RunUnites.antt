@@ -7,10 +7,12 @@ use Rattle.d_types.specs.Clauses.{Made}
 use Rattle.firing_reader.specs.declared.firing.Firing.{Firing}
 use Rattle.firing_reader.specs.Firings.{number_of}
 use Rattle.replay_core.specs.Groups.{Grouping, AreGrouped, over_groups}
-use Rattle.replay_core.specs.Meaning.{contributions_of, exit_of, history, numbers_of, texts_of, blank_threads}
+use Rattle.replay_core.specs.Meaning.{contributions_of, exit_of, history, numbers_of, texts_of}
+use Rattle.replay_core.specs.Meaning.{blank_threads}
 use Rattle.replay_core.specs.Uniting.{Unite, first_exit, group_history, with_number}
 use Rattle.replay_core.proofs.GroupSums.{flat_same, part, parts_read}
-use Rattle.replay_core.proofs.GroupTexts.{climbs_history, group_in, grouped_history, texts_in_order, texts_unite}
+use Rattle.replay_core.proofs.GroupTexts.{climbs_history, group_in, grouped_history, texts_in_order}
+use Rattle.replay_core.proofs.GroupTexts.{texts_unite}
 use Rattle.replay_core.proofs.GroupExits.{exits_unite, map_same}
 use Rattle.replay_core.proofs.Restricting.{group_restricts}
 

@@ -1,5 +1,7 @@
 -- The variables of threads, before and after a firing.
-use Rattle.std.specs.Prelude.{◌≡◌, ℕ, zero, suc, ℤ, List, [], ◌∷◌, All, filter, map, Bool, true, false, ◌==◌, if◌then◌else◌, length, Option, None, Some, IsSome, option_map, slice_get}
+use Rattle.std.specs.Prelude.{◌≡◌, ℕ, zero, suc, ℤ, List, [], ◌∷◌, All, filter, map, Bool, true}
+use Rattle.std.specs.Prelude.{false, ◌==◌, if◌then◌else◌, length, Option, None, Some, IsSome}
+use Rattle.std.specs.Prelude.{option_map, slice_get}
 use Rattle.std.specs.Map.{lookup, lookup_key, values_of}
 use Rattle.std.specs.Ordering.{int_eq}
 use Rattle.std.proofs.Common.{refl, arith, rules, sym, ap, ◌∙◌, subst}
@@ -19,7 +21,8 @@ use Rattle.d_types.proofs.FiringValues.{locals_unassigned}
 use Rattle.firing_reader.specs.declared.firing.Firing.{Firing}
 use Rattle.replay_core.specs.declared.tables.Tables.{Tables}
 use Rattle.replay_core.specs.Caching.{IsTablesAt}
-use Rattle.replay_core.specs.Meaning.{Threads, at_start, clauses_for, in_turn, firing_result, threads_after}
+use Rattle.replay_core.specs.Meaning.{Threads, at_start, clauses_for, in_turn, firing_result}
+use Rattle.replay_core.specs.Meaning.{threads_after}
 use Rattle.replay_core.specs.Patterns.{probe_of, selects}
 use Rattle.replay_core.specs.Scripts.{AreTypedThreads, Keeps}
 use Rattle.replay_core.specs.Threads.{own_in, threads_in}

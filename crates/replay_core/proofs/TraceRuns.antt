@@ -1,5 +1,8 @@
 -- The firings of a run over a trace.
-use Rattle.std.proofs.Common.{add-one, eq-eqb, false, ne_eqb, None, Option, ◌≡◌, ℕ, ◌-◌, Some, slice_get, zero, suc, ◌+◌, ◌<◌, ◌≤◌, ◌==◌, ◌||◌, Bool, true, cond, List, [], ◌∷◌, ◌++◌, All, map, filter, length, refl, sym, ap, ◌∙◌, subst, arith, length-append}
+use Rattle.std.proofs.Common.{add-one, eq-eqb, false, ne_eqb, None, Option, ◌≡◌, ℕ, ◌-◌, Some}
+use Rattle.std.proofs.Common.{slice_get, zero, suc, ◌+◌, ◌<◌, ◌≤◌, ◌==◌, ◌||◌, Bool, true, cond}
+use Rattle.std.proofs.Common.{List, [], ◌∷◌, ◌++◌, All, map, filter, length, refl, sym, ap, ◌∙◌}
+use Rattle.std.proofs.Common.{subst, arith, length-append}
 use Rattle.std.specs.Prelude.{ℤ, IsSomeAnd, nat_le}
 use Rattle.std.specs.List.Sorted.{IsStrictlyIncreasing}
 use Rattle.std.proofs.lemmas.Bool.{le-leb}

@@ -1,5 +1,6 @@
 -- What each typed script keeps is what a lane asks for.
-use Rattle.std.specs.Prelude.{◌≡◌, ℕ, zero, suc, ◌+◌, ◌<◌, ◌≤◌, List, [], ◌∷◌, All, Option, length, map, sum_by}
+use Rattle.std.specs.Prelude.{◌≡◌, ℕ, zero, suc, ◌+◌, ◌<◌, ◌≤◌, List, [], ◌∷◌, All, Option, length}
+use Rattle.std.specs.Prelude.{map, sum_by}
 use Rattle.std.specs.List.{AllZip}
 use Rattle.std.proofs.Common.{refl, ap, ◌∙◌, subst, arith, get_or}
 use Rattle.std.proofs.Math.ListN as math
@@ -12,7 +13,8 @@ use Rattle.d_types.specs.declared.typed.TypedClause.{TypedClause}
 use Rattle.d_types.specs.Proper.{IsProperAction}
 use Rattle.d_types.specs.Scripts.{IsMeant}
 use Rattle.d_types.specs.Sizes.{descriptions, statements}
-use Rattle.d_types.specs.Typed.{Action, Aggregate, Aggs, ClauseMeant, Evaluate, Exit, Print, ScriptMeant, Trace, agg_of, meant_of, script_meant}
+use Rattle.d_types.specs.Typed.{Action, Aggregate, Aggs, ClauseMeant, Evaluate, Exit, Print}
+use Rattle.d_types.specs.Typed.{ScriptMeant, Trace, agg_of, meant_of, script_meant}
 use Rattle.d_types.specs.Held.{IsConsistent, Slots, slots_of}
 use Rattle.d_types.specs.Wholes.{ClauseIs}
 use Rattle.d_types.proofs.ConsistentScripts.{script_is_consistent}

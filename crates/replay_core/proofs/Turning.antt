@@ -1,5 +1,6 @@
 -- The turns that are left, and those that were taken.
-use Rattle.std.specs.Prelude.{◌≡◌, ℕ, zero, suc, ◌<◌, List, [], ◌∷◌, All, slice_get, Bool, true, false, ◌||◌, Option, None, Some, is_some, length}
+use Rattle.std.specs.Prelude.{◌≡◌, ℕ, zero, suc, ◌<◌, List, [], ◌∷◌, All, slice_get, Bool, true}
+use Rattle.std.specs.Prelude.{false, ◌||◌, Option, None, Some, is_some, length}
 use Rattle.std.specs.Option.{option_or}
 use Rattle.std.specs.List.{AllZip}
 use Rattle.std.proofs.Common.{refl, sym, ap, ◌∙◌, subst, arith, get_or}

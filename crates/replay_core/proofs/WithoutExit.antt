@@ -1,19 +1,24 @@
 -- Without an exit every firing counts.
-use Rattle.std.specs.Prelude.{◌≡◌, ℕ, zero, suc, List, [], ◌∷◌, ◌++◌, filter, map, Bool, true, false, ◌||◌, if◌then◌else◌, Option, None, Some, is_some, option_map, unwrap_or}
+use Rattle.std.specs.Prelude.{◌≡◌, ℕ, zero, suc, List, [], ◌∷◌, ◌++◌, filter, map, Bool, true}
+use Rattle.std.specs.Prelude.{false, ◌||◌, if◌then◌else◌, Option, None, Some, is_some, option_map}
+use Rattle.std.specs.Prelude.{unwrap_or}
 use Rattle.std.specs.List.{list_any}
 use Rattle.std.specs.Option.{option_or}
 use Rattle.std.proofs.Common.{refl, sym, ap, ◌∙◌, subst}
 use Rattle.d_types.specs.declared.effect.Effect.{Effect}
 use Rattle.d_types.specs.declared.effect.Effect.TheVariants as ef
-use Rattle.d_types.specs.Typed.{Typed, Typeds, ActionOf, Action, Evaluate, Trace, Print, Exit, Aggregate, ClauseMeant, ScriptMeant, has_exit, is_exit}
+use Rattle.d_types.specs.Typed.{Typed, Typeds, ActionOf, Action, Evaluate, Trace, Print, Exit}
+use Rattle.d_types.specs.Typed.{Aggregate, ClauseMeant, ScriptMeant, has_exit, is_exit}
 use Rattle.d_types.specs.Storage.{Variables}
 use Rattle.d_types.specs.Expressions.{Outcome, Has, Faults, with, number}
-use Rattle.d_types.specs.Clauses.{Evaluation, Made, Ran, by_trees, effect_by, exit_in, effect_then, argument_by, where_predicate, run_of, statements_by, where_true}
+use Rattle.d_types.specs.Clauses.{Evaluation, Made, Ran, by_trees, effect_by, exit_in, effect_then}
+use Rattle.d_types.specs.Clauses.{argument_by, where_predicate, run_of, statements_by, where_true}
 use Rattle.firing_reader.specs.declared.firing.Firing.{Firing}
 use Rattle.firing_reader.specs.Ends.{begin_of, end_of, with_ends}
 use Rattle.firing_reader.specs.Trace.{IsTrace}
 use Rattle.replay_core.specs.Exit.{exit_status, firings_over, history_over, up_to}
-use Rattle.replay_core.specs.Meaning.{Threads, clauses_for, exit_of, history, in_turn, firing_result, threads_after, blank_threads}
+use Rattle.replay_core.specs.Meaning.{Threads, clauses_for, exit_of, history, in_turn}
+use Rattle.replay_core.specs.Meaning.{firing_result, threads_after, blank_threads}
 use Rattle.replay_core.specs.Patterns.{probe_of, selects}
 use Rattle.replay_core.specs.Running.{until_exit}
 use Rattle.replay_core.proofs.ExitLemmas.{firings_are}

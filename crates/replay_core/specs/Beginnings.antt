@@ -1,5 +1,6 @@
 -- What a worker runs of a group while it watches for exits.
-use Rattle.std.specs.Prelude.{◌≡◌, ◌⊎◌, ℕ, ◌<◌, min, List, [], ◌∷◌, ◌++◌, All, Option, None, Some, is_some, true}
+use Rattle.std.specs.Prelude.{◌≡◌, ◌⊎◌, ℕ, ◌<◌, min, List, [], ◌∷◌, ◌++◌, All, Option, None, Some}
+use Rattle.std.specs.Prelude.{is_some, true}
 use Rattle.replay_core.specs.Vocabulary.{Firing, ScriptMeant, no_number}
 use Rattle.replay_core.specs.declared.piece.Piece.{Piece}
 use Rattle.replay_core.specs.{Groups.Grouping, Groups.of_group, Meaning.exit_of, Meaning.history}

@@ -1,8 +1,10 @@
 -- What a whole has of the pieces of all groups.
-use Rattle.std.specs.Prelude.{◌≡◌, ◌≢◌, ℕ, ◌<◌, List, [], ◌∷◌, None, Some, All, Contains, map, length}
+use Rattle.std.specs.Prelude.{◌≡◌, ◌≢◌, ℕ, ◌<◌, List, [], ◌∷◌, None, Some, All, Contains, map}
+use Rattle.std.specs.Prelude.{length}
 use Rattle.replay_core.specs.Vocabulary.{IsPermutation, flat_map}
 use Rattle.replay_core.specs.declared.{piece.Piece.Piece, whole.Whole.Whole}
-use Rattle.replay_core.specs.declared.collect_fault.CollectFault.{CollectFault, TheVariants.Missing, TheVariants.Memory}
+use Rattle.replay_core.specs.declared.collect_fault.CollectFault.{CollectFault}
+use Rattle.replay_core.specs.declared.collect_fault.CollectFault.TheVariants.{Missing, Memory}
 use Rattle.replay_core.specs.{PiecePlaces.first_bad, PiecePlaces.pieces_with_groups, Tables.Table}
 use Rattle.replay_core.specs.{Tables.Serve, Uniting.IsSorted, Uniting.first_exit}
 

@@ -1,9 +1,13 @@
 -- What the workers of a board give back.
 use Rattle.std.specs.Prelude.{◌≡◌, ◌≤◌, ℕ, true, List, map, All, Vec}
-use Rattle.replay_core.specs.Vocabulary.{ClaimBoard, ClaimSeat, Firing, Global, Groups, IsAt, ScriptMeant, flat_map, grouping, least_lowered, least_seen, number_lowered, number_seen, with_ends}
+use Rattle.replay_core.specs.Vocabulary.{ClaimBoard, ClaimSeat, Firing, Global, Groups, IsAt}
+use Rattle.replay_core.specs.Vocabulary.{ScriptMeant, flat_map, grouping, least_lowered, least_seen}
+use Rattle.replay_core.specs.Vocabulary.{number_lowered, number_seen, with_ends}
 use Rattle.replay_core.specs.declared.{piece.Piece.Piece, round.Round.Round, span.Span.Span}
 use Rattle.replay_core.specs.declared.span.Span.TheVariants as span
-use Rattle.replay_core.specs.{Beginnings.AreBegun, Beginnings.least_exit, Exit.firings_over, Groups.IsAllBelow, Seen.IsRoomy, Working.AreOfGroups, Working.IsOfGroup, Working.firings_in}
+use Rattle.replay_core.specs.{Exit.firings_over, Groups.IsAllBelow, Seen.IsRoomy}
+use Rattle.replay_core.specs.Beginnings.{AreBegun, least_exit}
+use Rattle.replay_core.specs.Working.{AreOfGroups, IsOfGroup, firings_in}
 
 -- a worker's pieces, each with its group, and its seat
 abbrev pub Part : Type 0

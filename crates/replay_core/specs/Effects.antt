@@ -1,7 +1,9 @@
 -- What statements do, as a lane notes it.
 use Rattle.std.specs.Prelude.{◌≡◌, ℕ, Bool, List, [], ◌∷◌, Result, Ok, Err, is_some}
-use Rattle.replay_core.specs.Vocabulary.{Effect, Faults, Firing, Has, Made, Outcome, Variables, contributions_in, exit_in, texts_in}
-use Rattle.replay_core.specs.declared.{evaluation.fault.EvalFault.EvalFault, piece.Piece.Piece, scene.Scene.Scene}
+use Rattle.replay_core.specs.Vocabulary.{Effect, Faults, Firing, Has, Made, Outcome, Variables}
+use Rattle.replay_core.specs.Vocabulary.{contributions_in, exit_in, texts_in}
+use Rattle.replay_core.specs.declared.{evaluation.fault.EvalFault.EvalFault, piece.Piece.Piece}
+use Rattle.replay_core.specs.declared.{scene.Scene.Scene}
 use Rattle.replay_core.specs.{Evaluation.Stays, Evaluation.variables_in, Lanes.Notes}
 use Rattle.replay_core.specs.{Pieces.PieceSeen, Seen.piece_seen}
 

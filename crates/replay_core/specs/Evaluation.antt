@@ -2,7 +2,8 @@
 use Rattle.std.specs.Prelude.{◌≡◌, ℕ, List, Result, Ok, Err}
 use Rattle.replay_core.specs.Vocabulary.{Faults, Firing, Has, KeyPart, Outcome, Typed, Typeds}
 use Rattle.replay_core.specs.Vocabulary.{Value, Variables, eval, keys_of, number, text, variables}
-use Rattle.replay_core.specs.declared.{evaluation.fault.EvalFault.EvalFault, scene.Scene.Scene, tables.Tables.Tables}
+use Rattle.replay_core.specs.declared.{evaluation.fault.EvalFault.EvalFault, scene.Scene.Scene}
+use Rattle.replay_core.specs.declared.{tables.Tables.Tables}
 
 -- ---- scenes
 

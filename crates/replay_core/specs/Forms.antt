@@ -1,7 +1,9 @@
 -- Expressions and statements in the form in which an engine runs them: trees as they are kept.
 use Rattle.std.specs.Prelude.{List}
-use Rattle.d_types.specs.Typed.{ActionOf, Evaluate, Trace, Print, Exit, Aggregate, type_of, typed_of, typeds_of}
-use Rattle.replay_core.specs.Vocabulary.{Evaluation, Firing, TypedExpr, TypedStmt, eval, keys_of, values_of}
+use Rattle.d_types.specs.Typed.{ActionOf, Evaluate, Trace, Print, Exit, Aggregate, type_of}
+use Rattle.d_types.specs.Typed.{typed_of, typeds_of}
+use Rattle.replay_core.specs.Vocabulary.{Evaluation, Firing, TypedExpr, TypedStmt, eval, keys_of}
+use Rattle.replay_core.specs.Vocabulary.{values_of}
 
 -- trees are evaluated as what they stand for
 abbrev pub by_expressions : Firing → Evaluation TypedExpr (List TypedExpr)

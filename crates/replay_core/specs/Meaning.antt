@@ -1,5 +1,6 @@
 -- What a firing means, and what a run means.
-use Rattle.std.specs.Prelude.{ℕ, suc, ℤ, List, [], ◌∷◌, ◌++◌, filter, map, Option, None, option_map, if◌then◌else◌}
+use Rattle.std.specs.Prelude.{ℕ, suc, ℤ, List, [], ◌∷◌, ◌++◌, filter, map, Option, None, option_map}
+use Rattle.std.specs.Prelude.{if◌then◌else◌}
 use Rattle.replay_core.specs.Vocabulary.{ClauseMeant, Contribution, Firing, KeyPart, Made}
 use Rattle.replay_core.specs.Vocabulary.{ScriptMeant, Value, Var, Variables, and_then, blank}
 use Rattle.replay_core.specs.Vocabulary.{flat_map, int_eq, nothing, option_or, run_of}

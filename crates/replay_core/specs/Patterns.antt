@@ -1,5 +1,6 @@
 -- Which probes a description matches.
-use Rattle.std.specs.Prelude.{◌≡◌, ◌⊎◌, ◌==◌, ◌&&◌, ◌||◌, ℕ, Bool, true, false, not, if◌then◌else◌, List, [], ◌∷◌, ◌++◌}
+use Rattle.std.specs.Prelude.{◌≡◌, ◌⊎◌, ◌==◌, ◌&&◌, ◌||◌, ℕ, Bool, true, false, not, if◌then◌else◌}
+use Rattle.std.specs.Prelude.{List, [], ◌∷◌, ◌++◌}
 use Rattle.firing_reader.specs.declared.firing.Firing.{Firing}
 use Rattle.d_parser.specs.declared.tree.Description.{Description}
 use Rattle.replay_core.specs.declared.probe.Probe.{Probe}

@@ -1,7 +1,9 @@
 -- Which fault a list of pieces has, and where the pieces of a list without one stand.
-use Rattle.std.specs.Prelude.{◌≡◌, ℕ, ◌==◌, ◌+◌, Bool, true, false, List, [], ◌∷◌, Option, None, Some, if◌then◌else◌, nat_lt, is_some, slice_index_or}
+use Rattle.std.specs.Prelude.{◌≡◌, ℕ, ◌==◌, ◌+◌, Bool, true, false, List, [], ◌∷◌, Option, None}
+use Rattle.std.specs.Prelude.{Some, if◌then◌else◌, nat_lt, is_some, slice_index_or}
 use Rattle.replay_core.specs.declared.collect_fault.CollectFault.{CollectFault}
-use Rattle.replay_core.specs.declared.collect_fault.CollectFault.TheVariants.{Twice, Stranger, Missing, Memory}
+use Rattle.replay_core.specs.declared.collect_fault.CollectFault.TheVariants.{Twice, Stranger}
+use Rattle.replay_core.specs.declared.collect_fault.CollectFault.TheVariants.{Missing, Memory}
 
 module _ {P : Type 0} where
   -- the first piece of a group that is not below n, or that is there or before it

@@ -4,7 +4,8 @@ use Rattle.aggregations.specs.Table.{StandsFor, count_held}
 use Rattle.replay_core.specs.declared.piece.Piece.{Piece}
 use Rattle.replay_core.specs.declared.tables.Tables.{Tables}
 use Rattle.replay_core.specs.declared.whole.Whole.{Whole}
-use Rattle.replay_core.specs.{Lanes.LaneSeen, Pieces.PieceSeen, Pieces.WholeSeen, Threads.threads_in}
+use Rattle.replay_core.specs.{Lanes.LaneSeen, Threads.threads_in}
+use Rattle.replay_core.specs.Pieces.{PieceSeen, WholeSeen}
 
 abbrev pub piece_seen : Piece → PieceSeen
 piece_seen p = record {

@@ -1,10 +1,12 @@
 -- How the groups of a run unite to it.
-use Rattle.std.specs.Prelude.{◌≡◌, ℕ, ◌==◌, ◌≤◌, nat_lt, List, [], ◌∷◌, filter, map, Option, None, Some, if◌then◌else◌}
+use Rattle.std.specs.Prelude.{◌≡◌, ℕ, ◌==◌, ◌≤◌, nat_lt, List, [], ◌∷◌, filter, map, Option, None}
+use Rattle.std.specs.Prelude.{Some, if◌then◌else◌}
 use Rattle.d_types.specs.Typed.{ScriptMeant}
 use Rattle.d_types.specs.Clauses.{Made}
 use Rattle.firing_reader.specs.declared.firing.Firing.{Firing}
 use Rattle.replay_core.specs.Groups.{Grouping, SameItems, below, is_group, of_group, over_groups}
-use Rattle.replay_core.specs.Meaning.{blank_threads, history, texts_of, contributions_of, numbers_of, exit_of}
+use Rattle.replay_core.specs.Meaning.{blank_threads, history, texts_of, contributions_of}
+use Rattle.replay_core.specs.Meaning.{numbers_of, exit_of}
 
 -- the meaning of a group: the run of its threads' firings alone
 abbrev pub group_history : ScriptMeant → Grouping → List Firing → ℕ → List (Firing × Made)

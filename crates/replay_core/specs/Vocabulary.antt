@@ -19,15 +19,19 @@ pub use Rattle.firing_reader.specs.Ends.{begin_of, end_of, with_ends}
 pub use Rattle.firing_reader.specs.Firings.{HasRanges, number_of}
 pub use Rattle.firing_reader.specs.Trace.{IsTrace}
 pub use Rattle.firing_reader.specs.declared.firing.Firing.{Firing}
-pub use Rattle.aggregations.specs.Table.{Aggregation, Contribution, StandsFor, count_held, functions_of}
+pub use Rattle.aggregations.specs.Table.{Aggregation, Contribution, StandsFor, count_held}
+pub use Rattle.aggregations.specs.Table.{functions_of}
 pub use Rattle.aggregations.specs.declared.function.AggFn.{AggFn}
 pub use Rattle.d_lexer.specs.declared.fault.TheConstants.{MOST_BYTES}
 pub use Rattle.d_parser.specs.declared.tree.Description.{Description}
-pub use Rattle.d_types.specs.Clauses.{Evaluation, Made, and_then, contributions_in, effect_by, exit_in, fault_line, argument_by, nothing, run_of, texts_in, values_of}
+pub use Rattle.d_types.specs.Clauses.{Evaluation, Made, and_then, contributions_in, effect_by}
+pub use Rattle.d_types.specs.Clauses.{exit_in, fault_line, argument_by, nothing, run_of, texts_in}
+pub use Rattle.d_types.specs.Clauses.{values_of}
 pub use Rattle.d_types.specs.Expressions.{eval, keys_of, number, text}
 pub use Rattle.d_types.specs.Held.{AreTyped, AreTypedOwn, HasTypedBuiltIns, Slots, slots_of}
 pub use Rattle.d_types.specs.Sizes.{statements}
-pub use Rattle.d_types.specs.Typed.{ActionOf, ClauseMeant, ScriptMeant, Typed, Typeds, functions_in, has_exit, is_exit, meant_of, typed_of, typeds_of}
+pub use Rattle.d_types.specs.Typed.{ActionOf, ClauseMeant, ScriptMeant, Typed, Typeds, functions_in}
+pub use Rattle.d_types.specs.Typed.{has_exit, is_exit, meant_of, typed_of, typeds_of}
 pub use Rattle.d_types.specs.TypedScripts.{typed_script_of}
 pub use Rattle.d_types.specs.declared.effect.Effect.{Effect}
 pub use Rattle.d_types.specs.declared.typed.TypedExpr.{TypedExpr}
@@ -35,7 +39,8 @@ pub use Rattle.d_types.specs.declared.typed.TypedStmt.{TypedStmt}
 pub use Rattle.dif_codegen.specs.Meaning.{Does}
 pub use Rattle.dif_codegen.specs.Programs.{action_code}
 pub use Rattle.dif_machine.specs.Runs.{value_result}
-pub use Rattle.shard_queue.specs.Boards.{IsAt, IsNew, least_lowered, least_seen, number_lowered, number_seen}
+pub use Rattle.shard_queue.specs.Boards.{IsAt, IsNew, least_lowered, least_seen, number_lowered}
+pub use Rattle.shard_queue.specs.Boards.{number_seen}
 pub use Rattle.shard_queue.specs.Groups.{AreOf, grouping}
 pub use Rattle.shard_queue.specs.Least.{no_number}
 pub use Rattle.shard_queue.specs.Threads.{run_threads}

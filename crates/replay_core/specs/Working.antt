@@ -1,9 +1,12 @@
 -- What a worker makes of the groups that it takes.
 use Rattle.std.specs.Prelude.{◌==◌, ◌||◌, ℕ, nat_le, Bool, true, List, All, filter, take, drop}
-use Rattle.replay_core.specs.Vocabulary.{AreOf, Firing, Groups, ScriptMeant, flat_map, run_threads, with_ends}
+use Rattle.replay_core.specs.Vocabulary.{AreOf, Firing, Groups, ScriptMeant, flat_map, run_threads}
+use Rattle.replay_core.specs.Vocabulary.{with_ends}
 use Rattle.replay_core.specs.declared.{piece.Piece.Piece, span.Span.Span}
 use Rattle.replay_core.specs.declared.span.Span.TheVariants as span
-use Rattle.replay_core.specs.{Groups.Grouping, Groups.of_group, Pieces.IsPieceOf, Seen.IsRoomy, Seen.piece_seen}
+use Rattle.replay_core.specs.{Pieces.IsPieceOf}
+use Rattle.replay_core.specs.Groups.{Grouping, of_group}
+use Rattle.replay_core.specs.Seen.{IsRoomy, piece_seen}
 
 -- the firings at these places
 abbrev pub firings_at : List Firing → List ℕ → List Firing

@@ -1,8 +1,12 @@
 //! Clauses as engines run them.
 
 ghost use Rattle.std.specs.Prelude.{◌≡◌, ◌+◌, ◌≤◌, ◌^◌, ℕ, IfOk, length, map};
-ghost use Rattle.replay_core.specs.Vocabulary.{AreTyped, ClauseMeant, Does, HasTypedBuiltIns, Slots, action_code, count_held, functions_of, meant_of, run_of, statements};
-ghost use Rattle.replay_core.specs.{Bounds.places_among, Bounds.places_in, Effects.IsNotedRun, Evaluation.Stays, Evaluation.variables_in};
+ghost use Rattle.replay_core.specs.Vocabulary.{AreTyped, ClauseMeant, Does, HasTypedBuiltIns};
+ghost use Rattle.replay_core.specs.Vocabulary.{Slots, action_code, count_held, functions_of};
+ghost use Rattle.replay_core.specs.Vocabulary.{meant_of, run_of, statements};
+ghost use Rattle.replay_core.specs.{Effects.IsNotedRun};
+ghost use Rattle.replay_core.specs.Bounds.{places_among, places_in};
+ghost use Rattle.replay_core.specs.Evaluation.{Stays, variables_in};
 
 use crate::piece::Piece;
 use crate::scene::Scene;

@@ -1,7 +1,7 @@
 //! The collector.
 
 ghost use Rattle.std.specs.Prelude.{◌≡◌, ◌<◌, map, length, IfOk, IfErr};
-ghost use Rattle.replay_core.specs.{Collecting.IsCollected, Collecting.IsCollectFault, Collecting.IsMadeOf};
+ghost use Rattle.replay_core.specs.Collecting.{IsCollected, IsCollectFault, IsMadeOf};
 ghost use Rattle.replay_core.specs.{Collecting.tables_of, Tables.CanMerge, Uniting.sooner};
 
 use crate::collect_fault::CollectFault;

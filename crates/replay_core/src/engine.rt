@@ -1,6 +1,7 @@
 //! What runs firings.
 
-ghost use Rattle.std.specs.Prelude.{◌≡◌, ◌<◌, ◌↔◌, Bool, [], ◌∷◌, IfOk, IsErr, IsFalse, IsTrue, OnOk, is_some, length};
+ghost use Rattle.std.specs.Prelude.{◌≡◌, ◌<◌, ◌↔◌, Bool, [], ◌∷◌, IfOk, IsErr, IsFalse, IsTrue};
+ghost use Rattle.std.specs.Prelude.{OnOk, is_some, length};
 
 use crate::piece::Piece;
 use firing_reader::Firing;
@@ -9,7 +10,10 @@ use std::alloc::AllocError;
 /// Runs firings for a script, in the order in which it is given them.
 pub trait Engine {
     ghost use Rattle.replay_core.specs.Vocabulary.{HasRanges, ScriptMeant};
-    ghost use Rattle.replay_core.specs.{Lanes.Fires, Lanes.LaneSeen, Meaning.exit_of, Meaning.history, Seen.IsRoomy, Seen.piece_seen, Sizes.most_firings};
+    ghost use Rattle.replay_core.specs.{Sizes.most_firings};
+    ghost use Rattle.replay_core.specs.Lanes.{Fires, LaneSeen};
+    ghost use Rattle.replay_core.specs.Meaning.{exit_of, history};
+    ghost use Rattle.replay_core.specs.Seen.{IsRoomy, piece_seen};
 
     /// What it runs means this.
     ghost runs: { Self → ScriptMeant → Type 0 };

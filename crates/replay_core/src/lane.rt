@@ -1,8 +1,16 @@
 //! Lanes: what all engines share.
 
-ghost use Rattle.std.specs.Prelude.{◌≡◌, ◌<◌, ◌≤◌, ◌∷◌, [], List, All, IfOk, OnOk, false, true, is_some, length, map, sum_by};
-ghost use Rattle.replay_core.specs.Vocabulary.{AllZip, ClauseMeant, HasRanges, MOST_BYTES, ScriptMeant, Slots, functions_in, functions_of, slots_of};
-ghost use Rattle.replay_core.specs.{Lanes.Fires, Lanes.IsFresh, Meaning.exit_of, Meaning.history, Scripts.AllMean, Scripts.AreTypedThreads, Scripts.RunsAs, Seen.IsRoomy, Seen.lane_seen, Selecting.AreSelections, Sizes.most_firings, Threads.threads_in};
+ghost use Rattle.std.specs.Prelude.{◌≡◌, ◌<◌, ◌≤◌, ◌∷◌, [], List, All, IfOk, OnOk, false, true};
+ghost use Rattle.std.specs.Prelude.{is_some, length, map, sum_by};
+ghost use Rattle.replay_core.specs.Vocabulary.{AllZip, ClauseMeant, HasRanges, MOST_BYTES};
+ghost use Rattle.replay_core.specs.Vocabulary.{ScriptMeant, Slots, functions_in, functions_of};
+ghost use Rattle.replay_core.specs.Vocabulary.{slots_of};
+ghost use Rattle.replay_core.specs.{Selecting.AreSelections, Sizes.most_firings};
+ghost use Rattle.replay_core.specs.{Threads.threads_in};
+ghost use Rattle.replay_core.specs.Lanes.{Fires, IsFresh};
+ghost use Rattle.replay_core.specs.Meaning.{exit_of, history};
+ghost use Rattle.replay_core.specs.Scripts.{AllMean, AreTypedThreads, RunsAs};
+ghost use Rattle.replay_core.specs.Seen.{IsRoomy, lane_seen};
 
 use crate::clause::Clause;
 use crate::engine::Engine;
@@ -41,6 +49,10 @@ pub struct Lane<'a, C: Clause> {
 impl<'a, C: Clause> Lane<'a, C> {
     /// A lane that has run no firing, over clauses and the functions of the aggregations that they
     /// name. The hashes of its maps have this key.
+    ///
+    /// ```text
+    /// let lane = Lane::new(alloc, hash_key, script.clauses(), script.functions(alloc)?)?;
+    /// ```
     pub fn new(
         alloc: Global,
         hash_key: HashKey,

@@ -1,10 +1,20 @@
 //! Laws of what runs mean: each holds of the definitions, and its function computes nothing.
 
 ghost use Rattle.std.specs.Prelude.{◌≡◌, ◌↔◌, ◌∷◌, ℕ, IsTrue, List, None, false, map};
-ghost use Rattle.replay_core.specs.Vocabulary.{AreOf, Description, Firing, Groups, IsStrictlyIncreasing, IsTrace, ScriptMeant, begin_of, grouping, has_exit, number_of, run_threads, with_ends};
+ghost use Rattle.replay_core.specs.Vocabulary.{AreOf, Description, Firing, Groups};
+ghost use Rattle.replay_core.specs.Vocabulary.{IsStrictlyIncreasing, IsTrace, ScriptMeant};
+ghost use Rattle.replay_core.specs.Vocabulary.{begin_of, grouping, has_exit, number_of};
+ghost use Rattle.replay_core.specs.Vocabulary.{run_threads, with_ends};
 ghost use Rattle.replay_core.specs.declared.round.Round.{Round};
 ghost use Rattle.replay_core.specs.declared.span.Span.TheVariants as span;
-ghost use Rattle.replay_core.specs.{Crews.Gives, Crews.IsRound, Exit.exit_status, Exit.first_exit_number, Exit.firings_over, Exit.history_over, Groups.AreGrouped, Groups.Grouping, Meaning.exit_of, Meaning.history, Meaning.blank_threads, Patterns.Selects, Patterns.selects, Uniting.IsSorted, Uniting.Unite, Uniting.group_history, Uniting.results_in_group, declared.probe.Probe.Probe};
+ghost use Rattle.replay_core.specs.{declared.probe.Probe.Probe};
+ghost use Rattle.replay_core.specs.Crews.{Gives, IsRound};
+ghost use Rattle.replay_core.specs.Exit.{exit_status, first_exit_number, firings_over};
+ghost use Rattle.replay_core.specs.Exit.{history_over};
+ghost use Rattle.replay_core.specs.Groups.{AreGrouped, Grouping};
+ghost use Rattle.replay_core.specs.Meaning.{exit_of, history, blank_threads};
+ghost use Rattle.replay_core.specs.Patterns.{Selects, selects};
+ghost use Rattle.replay_core.specs.Uniting.{IsSorted, Unite, group_history, results_in_group};
 
 /// A description selects the probes that its patterns match.
 pub fn selected_is_matched()

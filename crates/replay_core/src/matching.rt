@@ -1,8 +1,10 @@
 //! Which probes a description matches.
 
-ghost use Rattle.std.specs.Prelude.{◌≡◌, ◌≢◌, ◌≤◌, ◌-◌, ◌↔◌, ◌∷◌, ◌++◌, ◌&&◌, ◌==◌, ℕ, List, All, IsTrue, MatchOption, length, take, drop};
+ghost use Rattle.std.specs.Prelude.{◌≡◌, ◌≢◌, ◌≤◌, ◌-◌, ◌↔◌, ◌∷◌, ◌++◌, ◌&&◌, ◌==◌, ℕ, List, All};
+ghost use Rattle.std.specs.Prelude.{IsTrue, MatchOption, length, take, drop};
 ghost use Rattle.std.specs.List.{list_all, zip};
-ghost use Rattle.replay_core.specs.Patterns.{Matches, field_matches, is_plain, is_same_or_question, probe_of, selects};
+ghost use Rattle.replay_core.specs.Patterns.{Matches, field_matches, is_plain, is_same_or_question};
+ghost use Rattle.replay_core.specs.Patterns.{probe_of, selects};
 
 use d_parser::Description;
 use d_values::split_at_first;

@@ -1,6 +1,7 @@
 //! What a lane's firings made.
 
-ghost use Rattle.std.specs.Prelude.{◌≡◌, ◌+◌, ◌<◌, ◌≤◌, ◌^◌, ◌++◌, ◌∷◌, [], ℕ, IfOk, OnOk, length, take};
+ghost use Rattle.std.specs.Prelude.{◌≡◌, ◌+◌, ◌<◌, ◌≤◌, ◌^◌, ◌++◌, ◌∷◌, [], ℕ, IfOk, OnOk, length};
+ghost use Rattle.std.specs.Prelude.{take};
 ghost use Rattle.replay_core.specs.Vocabulary.{Effect, count_held, fault_line, functions_of};
 
 use aggregations::{AggFn, AggTable};

@@ -1,6 +1,7 @@
 //! Where workers get their groups.
 
-ghost use Rattle.std.specs.Prelude.{◌≡◌, ℕ, ◌<◌, ◌≤◌, min, Bool, true, List, [], ◌∷◌, ◌++◌, Contains, IfSome, IfNone};
+ghost use Rattle.std.specs.Prelude.{◌≡◌, ℕ, ◌<◌, ◌≤◌, min, Bool, true, List, [], ◌∷◌, ◌++◌};
+ghost use Rattle.std.specs.Prelude.{Contains, IfSome, IfNone};
 
 use shard_queue::{ClaimBoard, ClaimSeat, GroupQueue, QueueSeat};
 use std::sync::Wait;

@@ -1,9 +1,14 @@
 //! The clauses of a firing on the variables of its thread.
 
-ghost use Rattle.std.specs.Prelude.{◌≡◌, ◌+◌, ◌*◌, ◌<◌, ◌≤◌, ◌^◌, ℤ, List, All, IfOk, MatchOption, OnOk, is_some, length, if◌then◌else◌, true};
+ghost use Rattle.std.specs.Prelude.{◌≡◌, ◌+◌, ◌*◌, ◌<◌, ◌≤◌, ◌^◌, ℤ, List, All, IfOk, MatchOption};
+ghost use Rattle.std.specs.Prelude.{OnOk, is_some, length, if◌then◌else◌, true};
 ghost use Rattle.indexmap.specs.IndexMap.{get};
-ghost use Rattle.replay_core.specs.Vocabulary.{AreTyped, AreTypedOwn, ClauseMeant, HasTypedBuiltIns, Slots, count_held, functions_of, int_eq};
-ghost use Rattle.replay_core.specs.{Caching.IsTablesAt, Evaluation.variables_of, Lanes.Notes, Meaning.at_start, Scripts.AllMean, Seen.piece_seen, Threads.threads_in, Turns.turns};
+ghost use Rattle.replay_core.specs.Vocabulary.{AreTyped, AreTypedOwn, ClauseMeant};
+ghost use Rattle.replay_core.specs.Vocabulary.{HasTypedBuiltIns, Slots, count_held, functions_of};
+ghost use Rattle.replay_core.specs.Vocabulary.{int_eq};
+ghost use Rattle.replay_core.specs.{Caching.IsTablesAt, Evaluation.variables_of, Lanes.Notes};
+ghost use Rattle.replay_core.specs.{Meaning.at_start, Scripts.AllMean, Seen.piece_seen};
+ghost use Rattle.replay_core.specs.{Threads.threads_in, Turns.turns};
 
 use crate::clause::Clause;
 use crate::evaluation::Spare;

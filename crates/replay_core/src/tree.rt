@@ -15,6 +15,10 @@ use std::alloc::{AllocError, Global};
 pub type TreeLane<'a> = Lane<'a, TypedClause>;
 
 /// A lane of the script that has run no firing.
+///
+/// ```text
+/// let lane = tree_lane(alloc, hash_key, &script)?;
+/// ```
 pub fn tree_lane(
     alloc: Global,
     hash_key: HashKey,

@@ -1,8 +1,11 @@
 //! The clauses of a firing, one after the other.
 
-ghost use Rattle.std.specs.Prelude.{◌≡◌, ◌+◌, ◌*◌, ◌<◌, ◌≤◌, ◌^◌, List, All, IfOk, OnOk, is_some, length};
-ghost use Rattle.replay_core.specs.Vocabulary.{AreTyped, ClauseMeant, HasTypedBuiltIns, Slots, count_held, functions_of};
-ghost use Rattle.replay_core.specs.{Evaluation.Stays, Evaluation.variables_in, Lanes.Notes, Scripts.AllMean, Seen.piece_seen, Turns.turns};
+ghost use Rattle.std.specs.Prelude.{◌≡◌, ◌+◌, ◌*◌, ◌<◌, ◌≤◌, ◌^◌, List, All, IfOk, OnOk, is_some};
+ghost use Rattle.std.specs.Prelude.{length};
+ghost use Rattle.replay_core.specs.Vocabulary.{AreTyped, ClauseMeant, HasTypedBuiltIns, Slots};
+ghost use Rattle.replay_core.specs.Vocabulary.{count_held, functions_of};
+ghost use Rattle.replay_core.specs.{Lanes.Notes, Scripts.AllMean, Seen.piece_seen, Turns.turns};
+ghost use Rattle.replay_core.specs.Evaluation.{Stays, variables_in};
 
 use crate::clause::Clause;
 use crate::piece::Piece;

@@ -1,8 +1,11 @@
 //! One worker that watches for exits.
 
 ghost use Rattle.std.specs.Prelude.{◌≡◌, ◌<◌, ◌≤◌, true, [], map, length, All, IfOk, OnOk, IsFalse};
-ghost use Rattle.replay_core.specs.Vocabulary.{AreOf, ScriptMeant, grouping, no_number, run_threads, with_ends};
-ghost use Rattle.replay_core.specs.{Beginnings.AreBegun, Beginnings.IsBegunOf, Beginnings.RunsBeginning, Beginnings.least_exit, Beginnings.lesser_of, Running.IsLaneOf, Seen.IsRoomy, Working.firings_at};
+ghost use Rattle.replay_core.specs.Vocabulary.{AreOf, ScriptMeant, grouping, no_number};
+ghost use Rattle.replay_core.specs.Vocabulary.{run_threads, with_ends};
+ghost use Rattle.replay_core.specs.{Running.IsLaneOf, Seen.IsRoomy, Working.firings_at};
+ghost use Rattle.replay_core.specs.Beginnings.{AreBegun, IsBegunOf, RunsBeginning, least_exit};
+ghost use Rattle.replay_core.specs.Beginnings.{lesser_of};
 
 use crate::engine::Engine;
 use crate::gate::Gate;

@@ -1,8 +1,12 @@
 //! One worker.
 
-ghost use Rattle.std.specs.Prelude.{◌≡◌, ◌<◌, ◌≤◌, ◌∷◌, ◌++◌, true, [], List, map, filter, length, All, IfOk, OnOk, IsFalse};
-ghost use Rattle.replay_core.specs.Vocabulary.{AreOf, Firing, HasRanges, ScriptMeant, grouping, run_threads, with_ends};
-ghost use Rattle.replay_core.specs.{Running.IsLaneOf, Seen.IsRoomy, Sizes.most_firings, Working.AreOfGroups, Working.IsOfGroup, Working.IsReady, Working.firings_at, Working.firings_in, Working.is_in};
+ghost use Rattle.std.specs.Prelude.{◌≡◌, ◌<◌, ◌≤◌, ◌∷◌, ◌++◌, true, [], List, map, filter, length};
+ghost use Rattle.std.specs.Prelude.{All, IfOk, OnOk, IsFalse};
+ghost use Rattle.replay_core.specs.Vocabulary.{AreOf, Firing, HasRanges, ScriptMeant, grouping};
+ghost use Rattle.replay_core.specs.Vocabulary.{run_threads, with_ends};
+ghost use Rattle.replay_core.specs.{Running.IsLaneOf, Seen.IsRoomy, Sizes.most_firings};
+ghost use Rattle.replay_core.specs.Working.{AreOfGroups, IsOfGroup, IsReady, firings_at};
+ghost use Rattle.replay_core.specs.Working.{firings_in, is_in};
 
 use crate::engine::Engine;
 use crate::gate::Gate;

@@ -1,8 +1,11 @@
 //! A run by several workers.
 
 ghost use Rattle.std.specs.Prelude.{◌≡◌, ◌+◌, ◌<◌, ◌≤◌, IfOk, vec_len};
-ghost use Rattle.replay_core.specs.Vocabulary.{AreOf, IsTrace, ScriptMeant, end_of, flat_map, grouping, run_threads};
-ghost use Rattle.replay_core.specs.{Crews.IsRun, Exit.firings_over, Groups.IsAllBelow, Pieces.IsWholeOf, Pieces.RunsEachOnce, Seen.whole_seen, Working.IsReady};
+ghost use Rattle.replay_core.specs.Vocabulary.{AreOf, IsTrace, ScriptMeant, end_of, flat_map};
+ghost use Rattle.replay_core.specs.Vocabulary.{grouping, run_threads};
+ghost use Rattle.replay_core.specs.{Crews.IsRun, Exit.firings_over, Groups.IsAllBelow};
+ghost use Rattle.replay_core.specs.{Seen.whole_seen, Working.IsReady};
+ghost use Rattle.replay_core.specs.Pieces.{IsWholeOf, RunsEachOnce};
 
 use crate::collect_fault::CollectFault;
 use crate::collector::collect;

@@ -3,7 +3,8 @@ use Rattle.std.specs.Prelude.{ℕ, zero, suc, ◌+◌, ◌-◌, ◌*◌, ◌/◌
 use Rattle.std.specs.Prelude.{Bool, false, ◌&&◌, if◌then◌else◌, codes}
 use Rattle.std.specs.Prelude.{List, [], ◌∷◌, ◌++◌, drop, filter, replicate, sum, take}
 use Rattle.report.specs.Vocabulary.{AggFn, Count, Sum, Min, Max, Avg, Quantize, Lquantize}
-use Rattle.report.specs.Vocabulary.{Histogram, buckets, decimal, enumerate_from, flat_map, label, signed_decimal}
+use Rattle.report.specs.Vocabulary.{Histogram, buckets, decimal, enumerate_from, flat_map, label}
+use Rattle.report.specs.Vocabulary.{signed_decimal}
 use Rattle.report.specs.Columns.{space, line_feed, at_left, at_right}
 
 -- from one bucket before the first with arguments to one after the last

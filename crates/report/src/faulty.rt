@@ -1,7 +1,9 @@
 //! A reader or a writer that moves one byte a call and fails at one chosen call: for tests of what
 //! uses streams.
 ghost use Rattle.std.specs.Prelude.{◌≡◌, ◌+◌, ◌-◌, ◌^◌, ◌<◌, ◌≤◌, IfOk, IsErrAnd, IsOk};
-ghost use Rattle.std.specs.{Io.ReadsAtMost, Io.WritesAtMost, Io.KnownBytes.Keeps, Io.KnownBytes.ReadConsumes, Io.KnownBytes.WriteAppends, IoError.error_kind};
+ghost use Rattle.std.specs.{IoError.error_kind};
+ghost use Rattle.std.specs.Io.{ReadsAtMost, WritesAtMost};
+ghost use Rattle.std.specs.Io.KnownBytes.{Keeps, ReadConsumes, WriteAppends};
 ghost use Rattle.report.specs.Faulty.{faulty_inner, faulty_good_calls};
 
 use std::io;
@@ -29,6 +31,10 @@ impl<T> Faulty<T> {
     }
 
     /// The reader or writer itself.
+    ///
+    /// ```text
+    /// Faulty::new(b"abc".as_slice(), 2).into_inner(); // b"abc"
+    /// ```
     pub fn into_inner(self) -> T
         ensures { result ≡ faulty_inner self }
     {

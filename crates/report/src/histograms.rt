@@ -1,7 +1,8 @@
 //! The bytes of a histogram.
 
 ghost use Rattle.std.specs.Prelude.{◌≡◌, ◌<◌, ◌≤◌, ◌^◌, ◌+◌, ◌++◌, OnOk, length, replicate, sum};
-ghost use Rattle.report.specs.{Vocabulary.buckets, Vocabulary.decimal, Vocabulary.flat_map, Vocabulary.signed_decimal, Columns.at_left, Columns.at_right};
+ghost use Rattle.report.specs.Vocabulary.{buckets, decimal, flat_map, signed_decimal};
+ghost use Rattle.report.specs.Columns.{at_left, at_right};
 ghost use Rattle.report.specs.Histograms as spec;
 
 use crate::columns::put_spaces;

@@ -1,8 +1,13 @@
 //! What holds of every listing, of every output and of every entry's line.
 
-ghost use Rattle.std.specs.Prelude.{◌≡◌, ◌+◌, ◌<◌, ◌≤◌, ◌++◌, ℕ, ℤ, List, Some, All, length, slice_get, sum_by};
-ghost use Rattle.report.specs.Vocabulary.{AggFn, Contribution, Held, KeyPart, Name, Single, figure_of, signed_decimal};
-ghost use Rattle.report.specs.{Columns.Fits, Columns.column_width, Columns.spaces, Layout.Entry, Layout.number_bytes, Layout.part_bytes, Layout.entry_bytes, Listing.IsListing, Listing.ComesBefore, Output.IsOutput};
+ghost use Rattle.std.specs.Prelude.{◌≡◌, ◌+◌, ◌<◌, ◌≤◌, ◌++◌, ℕ, ℤ, List, Some, All, length};
+ghost use Rattle.std.specs.Prelude.{slice_get, sum_by};
+ghost use Rattle.report.specs.Vocabulary.{AggFn, Contribution, Held, KeyPart, Name, Single};
+ghost use Rattle.report.specs.Vocabulary.{figure_of, signed_decimal};
+ghost use Rattle.report.specs.{Output.IsOutput};
+ghost use Rattle.report.specs.Columns.{Fits, column_width, spaces};
+ghost use Rattle.report.specs.Layout.{Entry, number_bytes, part_bytes, entry_bytes};
+ghost use Rattle.report.specs.Listing.{IsListing, ComesBefore};
 
 /// Contributions make one listing of an aggregation at most.
 pub fn one_listing()

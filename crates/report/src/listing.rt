@@ -16,6 +16,12 @@ fn rank_and_key<'a>(entry: &(&'a Key, &'a Partial)) -> (i128, &'a Key)
 }
 
 /// The entries of an aggregation, each before the next. The rank of each is worked out once.
+///
+/// ```text
+/// for (key, partial) in listing(alloc, &table, 0)? {
+///     partial.rank(); // no less than the one before
+/// }
+/// ```
 pub fn listing(
     alloc: Global,
     table: &AggTable,

@@ -1,7 +1,11 @@
 //! All that a run shows.
 
 ghost use Rattle.std.specs.Prelude.{◌≡◌, ◌<◌, ◌++◌, List, Some, OnOk, IfOk, map, slice_get, length};
-ghost use Rattle.report.specs.{Vocabulary.AggFn, Vocabulary.Contribution, Vocabulary.StandsFor, Vocabulary.deref_pair, Vocabulary.flat_map, Vocabulary.functions_of, Layout.entry_bytes, Listing.AppendsListing, Listing.listing_bytes, Output.AppendsTables, Output.IsOutput};
+ghost use Rattle.report.specs.{Layout.entry_bytes};
+ghost use Rattle.report.specs.Vocabulary.{AggFn, Contribution, StandsFor, deref_pair, flat_map};
+ghost use Rattle.report.specs.Vocabulary.{functions_of};
+ghost use Rattle.report.specs.Listing.{AppendsListing, listing_bytes};
+ghost use Rattle.report.specs.Output.{AppendsTables, IsOutput};
 ghost use Rattle.d_types.specs.TypedScripts.{typed_script_of};
 
 use crate::layout::put_entry;

@@ -1,7 +1,8 @@
 //! Streams of bytes whose contracts state which bytes went through, how many calls were made, and
 //! whether one has failed.
 ghost use Rattle.std.specs.Prelude.{◌≡◌, ◌↔◌, ◌+◌, ◌<◌, length, IfOk, IsErr, IsOk, IsTrue, IsFalse};
-ghost use Rattle.std.specs.{Io.ReadsAtMost, Io.WritesAtMost, Io.KnownBytes.Keeps, Io.KnownBytes.ReadConsumes, Io.KnownBytes.WriteAppends};
+ghost use Rattle.std.specs.Io.{ReadsAtMost, WritesAtMost};
+ghost use Rattle.std.specs.Io.KnownBytes.{Keeps, ReadConsumes, WriteAppends};
 ghost use Rattle.report.specs.Stream.{FeedSeen, SinkSeen};
 
 use thiserror::Error;

@@ -43,6 +43,11 @@ impl<T> Watched<T> {
     }
 
     /// The reader or writer itself.
+    ///
+    /// ```text
+    /// let sink = Watched::new(Vec::new(alloc));
+    /// let bytes = sink.into_inner(); // none: nothing was written
+    /// ```
     pub fn into_inner(self) -> T
         ensures { result ≡ watched_inner self }
     {

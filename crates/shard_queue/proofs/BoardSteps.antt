@@ -1,21 +1,27 @@
 -- Each step of a board keeps its rule.
-use Rattle.std.proofs.Common.{◌≡◌, ◌≢◌, ℕ, zero, suc, ◌+◌, ◌-◌, ◌%◌, ◌^◌, ◌≤◌, ◌<◌, min, List, [], ◌∷◌, ◌++◌, map, length, set, refl, sym, ap, ◌∙◌, subst, ⊎_elim, inl, inr, arith, lt_of_not-le, slice_index, Bool, false, if◌then◌else◌}
+use Rattle.std.proofs.Common.{◌≡◌, ◌≢◌, ℕ, zero, suc, ◌+◌, ◌-◌, ◌%◌, ◌^◌, ◌≤◌, ◌<◌, min, List, []}
+use Rattle.std.proofs.Common.{◌∷◌, ◌++◌, map, length, set, refl, sym, ap, ◌∙◌, subst, ⊎_elim, inl}
+use Rattle.std.proofs.Common.{inr, arith, lt_of_not-le, slice_index, Bool, false, if◌then◌else◌}
 use mathlib.Core.Option.{some, some-ne-none, some-injective}
 use native.Mathlib.Decide.{dec_le}
 use lib.ListN.{get_elem?}
 use Rattle.std.proofs.lemmas.List.{map-set, map-append}
 use Rattle.atomic_table.proofs.Lists.{at_set, at_snoc, at_map, set_again, set_else}
-use Rattle.atomic_table.specs.Table.{State, Me, Allows, Splits, Joins, Enters, Final, Seen, opening, keeps}
+use Rattle.atomic_table.specs.Table.{State, Me, Allows, Splits, Joins, Enters, Final, Seen, opening}
+use Rattle.atomic_table.specs.Table.{keeps}
 use Rattle.shard_queue.specs.declared.knowledge.Hand.{Hand}
 use Rattle.shard_queue.specs.declared.knowledge.Low.{Low}
 use Rattle.shard_queue.specs.declared.knowledge.BoardView.{BoardView}
 use Rattle.shard_queue.specs.Hands.{hand, one_less, empty_hand, seats_of, IsHandOut}
 use Rattle.shard_queue.specs.Drawing.{Draws}
 use Rattle.shard_queue.specs.Least.{no_number, low, nothing_lowered, IsLeast}
-use Rattle.shard_queue.specs.BoardRule.{view, hand_of, low_of, both, empty_view, Kept, Claimed, Lowered, Looked}
+use Rattle.shard_queue.specs.BoardRule.{view, hand_of, low_of, both, empty_view, Kept, Claimed}
+use Rattle.shard_queue.specs.BoardRule.{Lowered, Looked}
 use Rattle.shard_queue.proofs.Totals.{alone}
-use Rattle.shard_queue.proofs.Drawing.{draws_hit, draws_miss, fresh, word_fits, draws_split, draws_join, draws_enter, draws_whole, draws_first}
-use Rattle.shard_queue.proofs.Least.{least_lower, least_look, least_enter, least_join, least_whole, least_first}
+use Rattle.shard_queue.proofs.Drawing.{draws_hit, draws_miss, fresh, word_fits, draws_split}
+use Rattle.shard_queue.proofs.Drawing.{draws_join, draws_enter, draws_whole, draws_first}
+use Rattle.shard_queue.proofs.Least.{least_lower, least_look, least_enter, least_join, least_whole}
+use Rattle.shard_queue.proofs.Least.{least_first}
 
 -- one of two words is changed
 first_word : (ws : List ℕ) (x : ℕ) → length ws ≡ 2 → (length (set ws 0 x) ≡ 2) × (slice_index (set ws 0 x) 0 ≡ x) × (slice_index (set ws 0 x) 1 ≡ slice_index ws 1)

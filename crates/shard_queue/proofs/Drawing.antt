@@ -1,5 +1,7 @@
 -- Each step of a board keeps what its first word stands for.
-use Rattle.std.proofs.Common.{◌≡◌, ◌≢◌, ℕ, zero, suc, ◌+◌, ◌%◌, ◌^◌, ◌≤◌, ◌<◌, min, List, [], ◌∷◌, ◌++◌, length, set, refl, sym, ap, ◌∙◌, subst, ⊎_elim, arith, mod-eq_of_lt, add-one}
+use Rattle.std.proofs.Common.{◌≡◌, ◌≢◌, ℕ, zero, suc, ◌+◌, ◌%◌, ◌^◌, ◌≤◌, ◌<◌, min, List, [], ◌∷◌}
+use Rattle.std.proofs.Common.{◌++◌, length, set, refl, sym, ap, ◌∙◌, subst, ⊎_elim, arith}
+use Rattle.std.proofs.Common.{mod-eq_of_lt, add-one}
 use mathlib.Core.Option.{some, some-ne-none, some-injective}
 use lib.ListN.{get_elem?}
 use Rattle.atomic_table.proofs.Lists.{at_set}
@@ -7,9 +9,12 @@ use Rattle.shard_queue.specs.declared.knowledge.Hand.{Hand}
 use Rattle.std.specs.Prelude.{sum_by, Contains}
 use Rattle.std.proofs.lemmas.List.Sums.{sum_by-append}
 use Rattle.shard_queue.specs.Numbers.{below}
-use Rattle.shard_queue.specs.Hands.{hand, joint_hand, empty_hand, total, seats_of, seats_at_end, Fits, AllFit, IsHandOut}
+use Rattle.shard_queue.specs.Hands.{hand, joint_hand, empty_hand, total, seats_of, seats_at_end}
+use Rattle.shard_queue.specs.Hands.{Fits, AllFit, IsHandOut}
 use Rattle.shard_queue.specs.Drawing.{Draws}
-use Rattle.shard_queue.proofs.Totals.{total_set, total_snoc, total_le, one_le_total, total_one, sum_by-ones, sum_by-below, below-ones, weight_of, below-times, not_there, fits_set, fits_snoc}
+use Rattle.shard_queue.proofs.Totals.{total_set, total_snoc, total_le, one_le_total, total_one}
+use Rattle.shard_queue.proofs.Totals.{sum_by-ones, sum_by-below, below-ones, weight_of, below-times}
+use Rattle.shard_queue.proofs.Totals.{not_there, fits_set, fits_snoc}
 
 seats_at_end_few : (n : ℕ) (views : List Hand) → AllFit n views → total seats_at_end views ≤ total seats_of views
 seats_at_end_few n views fit = total_le seats_at_end seats_of views (λ by v e. (fit by v e).few)

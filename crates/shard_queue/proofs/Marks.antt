@@ -1,5 +1,7 @@
 -- Each step of a queue keeps what it holds.
-use Rattle.std.proofs.Common.{◌≡◌, ◌≢◌, ℕ, zero, suc, ◌+◌, ◌-◌, ◌≤◌, ◌<◌, min, List, [], ◌∷◌, ◌++◌, length, set, refl, sym, ap, ◌∙◌, subst, ⊎_elim, inl, inr, arith, lt_of_not-le}
+use Rattle.std.proofs.Common.{◌≡◌, ◌≢◌, ℕ, zero, suc, ◌+◌, ◌-◌, ◌≤◌, ◌<◌, min, List, [], ◌∷◌, ◌++◌}
+use Rattle.std.proofs.Common.{length, set, refl, sym, ap, ◌∙◌, subst, ⊎_elim, inl, inr, arith}
+use Rattle.std.proofs.Common.{lt_of_not-le}
 use mathlib.Core.Option.{some, some-ne-none, some-injective}
 use lib.ListN.{get_elem?}
 use Rattle.atomic_table.proofs.Lists.{at_set}
@@ -7,9 +9,12 @@ use Rattle.shard_queue.specs.declared.knowledge.Hand.{Hand}
 use Rattle.std.specs.Prelude.{sum_by, Contains}
 use Rattle.std.proofs.lemmas.List.Sums.{sum_by-append}
 use Rattle.shard_queue.specs.Numbers.{below}
-use Rattle.shard_queue.specs.Hands.{hand, joint_hand, empty_hand, total, seats_of, seats_at_end, Fits, IsHandOut}
+use Rattle.shard_queue.specs.Hands.{hand, joint_hand, empty_hand, total, seats_of, seats_at_end}
+use Rattle.shard_queue.specs.Hands.{Fits, IsHandOut}
 use Rattle.shard_queue.specs.Marks.{count_up, Deals, Took}
-use Rattle.shard_queue.proofs.Totals.{total_set, total_snoc, total_le, one_le_total, total_one, alone, sum_by-ones, sum_by-below, below-ones, weight_of, below-times, not_there, fits_set, fits_snoc}
+use Rattle.shard_queue.proofs.Totals.{total_set, total_snoc, total_le, one_le_total, total_one}
+use Rattle.shard_queue.proofs.Totals.{alone, sum_by-ones, sum_by-below, below-ones, weight_of}
+use Rattle.shard_queue.proofs.Totals.{below-times, not_there, fits_set, fits_snoc}
 
 -- what is taken is the front
 pub front_is : (x : ℕ) (items : List ℕ) (front left : ℕ) → x ∷ items ≡ count_up front left → (less : ℕ) × (left ≡ suc less) × (x ≡ front) × (items ≡ count_up (suc front) less)

@@ -1,5 +1,8 @@
 -- Places of threads, and their numbers.
-use Rattle.std.proofs.Common.{◌≡◌, ℕ, zero, suc, ◌+◌, ◌<◌, ◌≤◌, ◌%◌, ◌==◌, ◌||◌, Bool, true, false, cond, List, [], ◌∷◌, ◌++◌, Some, IsSomeAnd, map, length, drop, set, get_or, option_map, Vec, Global, mod-lt, refl, sym, ap, ◌∙◌, ⊎_elim, arith, add-one, append-nil, append_assoc, eq-eqb, ne_eqb}
+use Rattle.std.proofs.Common.{◌≡◌, ℕ, zero, suc, ◌+◌, ◌<◌, ◌≤◌, ◌%◌, ◌==◌, ◌||◌, Bool, true, false}
+use Rattle.std.proofs.Common.{cond, List, [], ◌∷◌, ◌++◌, Some, IsSomeAnd, map, length, drop, set}
+use Rattle.std.proofs.Common.{get_or, option_map, Vec, Global, mod-lt, refl, sym, ap, ◌∙◌, ⊎_elim}
+use Rattle.std.proofs.Common.{arith, add-one, append-nil, append_assoc, eq-eqb, ne_eqb}
 use Rattle.std.specs.Prelude.{ℤ, slice_index_or, Contains, All}
 use Rattle.std.specs.Ordering.{int_eq}
 use Rattle.std.specs.List.{position_from, range_with_len, zip}

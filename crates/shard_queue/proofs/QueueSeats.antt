@@ -1,5 +1,7 @@
 -- What is known of lists of a queue's seats.
-use Rattle.std.proofs.Common.{◌≡◌, ℕ, ◌+◌, ◌-◌, ◌<◌, List, [], ◌∷◌, ◌++◌, length, refl, sym, ap, ◌∙◌, subst, arith, append_assoc, append-nil, if◌then◌else◌, length-append, Option, None, Some, IfSome}
+use Rattle.std.proofs.Common.{◌≡◌, ℕ, ◌+◌, ◌-◌, ◌<◌, List, [], ◌∷◌, ◌++◌, length, refl, sym, ap}
+use Rattle.std.proofs.Common.{◌∙◌, subst, arith, append_assoc, append-nil, if◌then◌else◌}
+use Rattle.std.proofs.Common.{length-append, Option, None, Some, IfSome}
 use Rattle.crossbeam_queue.specs.Passes.{IsPassOf, Pass, view}
 use Rattle.shard_queue.specs.declared.knowledge.QueueView.{QueueView}
 use Rattle.shard_queue.specs.declared.queue.GroupQueue.{GroupQueue}

@@ -1,5 +1,7 @@
 -- Each step of a queue keeps its rule.
-use Rattle.std.proofs.Common.{◌≡◌, ◌≢◌, ℕ, zero, suc, ◌+◌, ◌-◌, ◌≤◌, ◌<◌, List, [], ◌∷◌, ◌++◌, map, set, refl, sym, ap, ◌∙◌, subst, ⊎_elim, arith, Bool, false, if◌then◌else◌}
+use Rattle.std.proofs.Common.{◌≡◌, ◌≢◌, ℕ, zero, suc, ◌+◌, ◌-◌, ◌≤◌, ◌<◌, List, [], ◌∷◌, ◌++◌, map}
+use Rattle.std.proofs.Common.{set, refl, sym, ap, ◌∙◌, subst, ⊎_elim, arith, Bool, false}
+use Rattle.std.proofs.Common.{if◌then◌else◌}
 use mathlib.Core.Option.{some, some-ne-none, some-injective}
 use native.Mathlib.Decide.{dec_le}
 use lib.ListN.{get_elem?}
@@ -10,9 +12,11 @@ use Rattle.shard_queue.specs.declared.knowledge.Hand.{Hand}
 use Rattle.shard_queue.specs.declared.knowledge.QueueView.{QueueView}
 use Rattle.shard_queue.specs.Hands.{hand, empty_hand, IsHandOut}
 use Rattle.shard_queue.specs.Marks.{Deals, Took}
-use Rattle.shard_queue.specs.QueueRule.{among, hand_in, Know, Dealt, no_seat, one_more, one_put, one_off, one_seat, joint, Taken, More, Total}
+use Rattle.shard_queue.specs.QueueRule.{among, hand_in, Know, Dealt, no_seat, one_more, one_put}
+use Rattle.shard_queue.specs.QueueRule.{one_off, one_seat, joint, Taken, More, Total}
 use Rattle.shard_queue.proofs.Totals.{alone}
-use Rattle.shard_queue.proofs.Marks.{front_is, deals_take, deals_more, deals_first, deals_grow, deals_put, deals_split, deals_join, deals_whole}
+use Rattle.shard_queue.proofs.Marks.{front_is, deals_take, deals_more, deals_first, deals_grow}
+use Rattle.shard_queue.proofs.Marks.{deals_put, deals_split, deals_join, deals_whole}
 
 know_set : (seats : ℕ) (views : List QueueView) (id : ℕ) (w : QueueView) → (0 < w.hand.seats → w.seats ≡ seats) → Know seats views → Know seats (set views id w)
 know_set seats views id w mine all j u e = ⊎_elim

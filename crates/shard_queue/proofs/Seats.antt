@@ -1,11 +1,13 @@
 -- What the views know of lists of seats.
-use Rattle.std.proofs.Common.{◌≡◌, ℕ, min, ◌≤◌, ◌+◌, List, [], ◌∷◌, ◌++◌, sym, ap, ◌∙◌, subst, arith, append_assoc, append-nil, if◌then◌else◌, length-append}
+use Rattle.std.proofs.Common.{◌≡◌, ℕ, min, ◌≤◌, ◌+◌, List, [], ◌∷◌, ◌++◌, sym, ap, ◌∙◌, subst}
+use Rattle.std.proofs.Common.{arith, append_assoc, append-nil, if◌then◌else◌, length-append}
 use Rattle.shard_queue.specs.declared.knowledge.BoardView.{BoardView}
 use Rattle.shard_queue.specs.declared.claim_seat.ClaimSeat.{ClaimSeat}
 use Rattle.shard_queue.specs.Hands.{hand, joint_hand, IsHandOut}
 use Rattle.shard_queue.specs.Least.{no_number}
 use Rattle.shard_queue.specs.BoardRule.{both}
-use Rattle.shard_queue.specs.Boards.{claim_numbers, claim_seats_at_end, number_lowered, number_seen, least_lowered, least_seen, Counts}
+use Rattle.shard_queue.specs.Boards.{claim_numbers, claim_seats_at_end, number_lowered, number_seen}
+use Rattle.shard_queue.specs.Boards.{least_lowered, least_seen, Counts}
 
 pub claim_numbers-more : (ss : List ClaimSeat) (s : ClaimSeat) → claim_numbers (ss ++ s ∷ []) ≡ claim_numbers ss ++ s.taken.items
 claim_numbers-more [] s = append-nil s.taken.items

@@ -1,5 +1,8 @@
 -- The places of all groups, and the firings at them.
-use Rattle.std.proofs.Common.{◌≡◌, ℕ, zero, suc, ◌+◌, ◌<◌, ◌≤◌, Bool, true, false, cond, List, [], ◌∷◌, Option, Some, None, IsSomeAnd, map, length, drop, filter, flat_map, slice_get, sum_by, refl, sym, ap, ◌∙◌, arith, add-one, append-nil, eq-eqb, ne_eqb, lt_of_not-le}
+use Rattle.std.proofs.Common.{◌≡◌, ℕ, zero, suc, ◌+◌, ◌<◌, ◌≤◌, Bool, true, false, cond, List, []}
+use Rattle.std.proofs.Common.{◌∷◌, Option, Some, None, IsSomeAnd, map, length, drop, filter}
+use Rattle.std.proofs.Common.{flat_map, slice_get, sum_by, refl, sym, ap, ◌∙◌, arith, add-one}
+use Rattle.std.proofs.Common.{append-nil, eq-eqb, ne_eqb, lt_of_not-le}
 use mathlib.Core.Logic.{dite}
 use native.Mathlib.Decide.{dec_le}
 use Rattle.std.specs.Prelude.{ℤ, All}

@@ -1,5 +1,8 @@
 -- The first wrong thread of lists, and the first that is missing.
-use Rattle.std.proofs.Common.{◌≡◌, ◌⊎◌, ℕ, ◌+◌, ◌<◌, ◌≤◌, Bool, true, false, cond, not, ◌||◌, List, [], ◌∷◌, ◌++◌, Option, Some, None, map, length, take, drop, get_or, slice_get, option_map, is_some, find, max, refl, sym, ap, ◌∙◌, inl, inr, arith, append_assoc, append-nil}
+use Rattle.std.proofs.Common.{◌≡◌, ◌⊎◌, ℕ, ◌+◌, ◌<◌, ◌≤◌, Bool, true, false, cond, not, ◌||◌, List}
+use Rattle.std.proofs.Common.{[], ◌∷◌, ◌++◌, Option, Some, None, map, length, take, drop, get_or}
+use Rattle.std.proofs.Common.{slice_get, option_map, is_some, find, max, refl, sym, ap, ◌∙◌, inl}
+use Rattle.std.proofs.Common.{inr, arith, append_assoc, append-nil}
 use Rattle.std.specs.Prelude.{ℤ, pos}
 use Rattle.std.specs.Map.{lookup}
 use Rattle.std.specs.List.{zip}
@@ -10,7 +13,8 @@ use Rattle.shard_queue.specs.declared.fault.GroupFault.{GroupFault}
 use Rattle.shard_queue.specs.declared.fault.GroupFault.TheVariants.{Missing, Doubled, Stranger}
 use Rattle.shard_queue.specs.Threads.{has}
 use Rattle.shard_queue.specs.Groupings.{list_of, grouping_by_lists, with_own}
-use Rattle.shard_queue.specs.Faults.{all_of, first_wrong, first_missing, first_unfound, thread_fault}
+use Rattle.shard_queue.specs.Faults.{all_of, first_wrong, first_missing, first_unfound}
+use Rattle.shard_queue.specs.Faults.{thread_fault}
 use Rattle.std.proofs.lemmas.List.{take_all, drop_all, get_or_default}
 use Rattle.std.proofs.lemmas.List.Concat.{flat_map-append}
 use Rattle.shard_queue.proofs.Lists.{drop_next, take_next, fun_ext}

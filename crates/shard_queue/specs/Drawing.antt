@@ -1,6 +1,7 @@
 -- The rule of a board's first word: the seats have drawn the numbers below it, or all below the
 -- end.
-use Rattle.std.specs.Prelude.{◌≡◌, ℕ, ◌+◌, ◌≤◌, ◌<◌, ◌⊎◌, ◌^◌, min, List, [], ◌∷◌, ◌++◌, length, sum_by, Contains}
+use Rattle.std.specs.Prelude.{◌≡◌, ℕ, ◌+◌, ◌≤◌, ◌<◌, ◌⊎◌, ◌^◌, min, List, [], ◌∷◌, ◌++◌, length}
+use Rattle.std.specs.Prelude.{sum_by, Contains}
 use Rattle.shard_queue.specs.Vocabulary.{Hand}
 use Rattle.shard_queue.specs.Numbers.{below}
 use Rattle.shard_queue.specs.Hands.{hand, total, seats_of, seats_at_end, AllFit}

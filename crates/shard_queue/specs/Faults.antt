@@ -1,6 +1,8 @@
 -- Why lists group no threads.
-use Rattle.std.specs.Prelude.{◌≡◌, ◌<◌, ◌≤◌, ◌⊎◌, ℕ, ℤ, not, List, [], ◌∷◌, ◌++◌, length, flat_map, find, if◌then◌else◌, option_map, Option, Some, None}
-use Rattle.shard_queue.specs.Vocabulary.{Doubled, Firing, GroupFault, MOST_GROUPS, Missing, Stranger, TooMany, option_or}
+use Rattle.std.specs.Prelude.{◌≡◌, ◌<◌, ◌≤◌, ◌⊎◌, ℕ, ℤ, not, List, [], ◌∷◌, ◌++◌, length, flat_map}
+use Rattle.std.specs.Prelude.{find, if◌then◌else◌, option_map, Option, Some, None}
+use Rattle.shard_queue.specs.Vocabulary.{Doubled, Firing, GroupFault, MOST_GROUPS, Missing}
+use Rattle.shard_queue.specs.Vocabulary.{Stranger, TooMany, option_or}
 use Rattle.shard_queue.specs.Threads.{has, AreThreads}
 use Rattle.shard_queue.specs.Groupings.{Grouping, grouping_by_lists}
 

@@ -1,5 +1,6 @@
 -- Groupings: how many groups there are, and which thread is in which.
-use Rattle.std.specs.Prelude.{◌≡◌, ℕ, suc, ◌+◌, ◌%◌, ◌==◌, ℤ, Bool, false, List, [], ◌∷◌, length, filter, if◌then◌else◌, option_map, Option, Some, None}
+use Rattle.std.specs.Prelude.{◌≡◌, ℕ, suc, ◌+◌, ◌%◌, ◌==◌, ℤ, Bool, false, List, [], ◌∷◌, length}
+use Rattle.std.specs.Prelude.{filter, if◌then◌else◌, option_map, Option, Some, None}
 use Rattle.shard_queue.specs.Vocabulary.{Firing, int_eq, position_from}
 use Rattle.shard_queue.specs.Threads.{thread_zero, has, AreThreads}
 

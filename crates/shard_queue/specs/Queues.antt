@@ -1,5 +1,6 @@
 -- Which seat is at which queue, and what a list of seats knows.
-use Rattle.std.specs.Prelude.{◌≡◌, ℕ, ◌+◌, ◌++◌, List, [], ◌∷◌, length, false, if◌then◌else◌, Option, None, Some}
+use Rattle.std.specs.Prelude.{◌≡◌, ℕ, ◌+◌, ◌++◌, List, [], ◌∷◌, length, false, if◌then◌else◌}
+use Rattle.std.specs.Prelude.{Option, None, Some}
 use Rattle.shard_queue.specs.Vocabulary.{IsPassOf, Pass, QueueView, pass_view}
 use Rattle.shard_queue.specs.Hands.{hand}
 use Rattle.shard_queue.specs.QueueRule.{among}

@@ -1,6 +1,7 @@
 -- The threads of a trace.
 use Rattle.std.specs.Prelude.{ℤ, pos, Bool, Vec, List, [], ◌∷◌, ◌++◌, map, Contains, ◌↔◌}
-use Rattle.shard_queue.specs.Vocabulary.{Firing, Global, IsStrictlySortedBy, int_cmp, int_eq, list_any, thread_of}
+use Rattle.shard_queue.specs.Vocabulary.{Firing, Global, IsStrictlySortedBy, int_cmp, int_eq}
+use Rattle.shard_queue.specs.Vocabulary.{list_any, thread_of}
 
 -- the thread of BEGIN and END
 abbrev pub thread_zero : ℤ

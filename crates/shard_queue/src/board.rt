@@ -2,7 +2,8 @@
 //! that a seat lowered.
 
 ghost use Rattle.std.specs.Prelude.{◌≡◌, ◌<◌, ◌≤◌, ◌-◌, [], map, All, vec_len, vec_capacity, IfOk};
-ghost use Rattle.shard_queue.specs.{BoardRule.view, Hands.IsHandOut, Hands.hand, Least.nothing_lowered};
+ghost use Rattle.shard_queue.specs.{BoardRule.view, Least.nothing_lowered};
+ghost use Rattle.shard_queue.specs.Hands.{IsHandOut, hand};
 
 use crate::board_rule::{Arrives, Claims, Gathers, OneSeat};
 use crate::claim_seat::ClaimSeat;
@@ -30,7 +31,8 @@ pub struct Closed {
 }
 
 impl ClaimBoard {
-    ghost use Rattle.shard_queue.specs.Boards.{IsAt, IsNew, claim_numbers, claim_seats_at_end, least_lowered, least_seen};
+    ghost use Rattle.shard_queue.specs.Boards.{IsAt, IsNew, claim_numbers, claim_seats_at_end};
+    ghost use Rattle.shard_queue.specs.Boards.{least_lowered, least_seen};
 
     /// A board of the numbers below `end`, and a seat for each worker. Err where memory was
     /// refused.

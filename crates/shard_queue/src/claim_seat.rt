@@ -1,5 +1,6 @@
 //! A worker's place at a board.
-ghost use Rattle.std.specs.Prelude.{◌≡◌, ◌<◌, ◌≤◌, ◌++◌, ◌∷◌, [], true, false, min, if◌then◌else◌, vec_capacity, Contains, IsSome, IfSome, IfNone};
+ghost use Rattle.std.specs.Prelude.{◌≡◌, ◌<◌, ◌≤◌, ◌++◌, ◌∷◌, [], true, false, min, if◌then◌else◌};
+ghost use Rattle.std.specs.Prelude.{vec_capacity, Contains, IsSome, IfSome, IfNone};
 ghost use Rattle.shard_queue.specs.Hands.{hand};
 
 use crate::board::ClaimBoard;

@@ -1,7 +1,8 @@
 //! Threads dealt out into groups.
 
 ghost use Rattle.std.specs.Prelude.{◌≡◌, ◌<◌, ◌≤◌, ◌%◌, map, IfOk};
-ghost use Rattle.shard_queue.specs.{Groupings.IsDealt, Groups.AreOf, Groups.grouping, Numbers.below, Threads.run_threads};
+ghost use Rattle.shard_queue.specs.{Groupings.IsDealt, Numbers.below, Threads.run_threads};
+ghost use Rattle.shard_queue.specs.Groups.{AreOf, grouping};
 
 use crate::groups::Groups;
 use crate::listing::MOST_GROUPS;

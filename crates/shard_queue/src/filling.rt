@@ -1,8 +1,11 @@
 //! The places of each group's firings, noted in one pass over the trace.
 
-ghost use Rattle.std.specs.Prelude.{◌≡◌, ◌<◌, ◌≤◌, ◌+◌, ℕ, [], All, map, length, slice_index_or, IfOk, OnOk, vec_len};
+ghost use Rattle.std.specs.Prelude.{◌≡◌, ◌<◌, ◌≤◌, ◌+◌, ℕ, [], All, map, length, slice_index_or};
+ghost use Rattle.std.specs.Prelude.{IfOk, OnOk, vec_len};
 ghost use Rattle.shard_queue.specs.Vocabulary.{int_eq, lookup, zip};
-ghost use Rattle.shard_queue.specs.{Groupings.places_of, Groupings.with_own, Groups.AreOf, Groups.grouping, Groups.places, Threads.AreThreads, Threads.run_threads};
+ghost use Rattle.shard_queue.specs.Groupings.{places_of, with_own};
+ghost use Rattle.shard_queue.specs.Groups.{AreOf, grouping, places};
+ghost use Rattle.shard_queue.specs.Threads.{AreThreads, run_threads};
 
 use crate::groups::Groups;
 use crate::listing::MOST_GROUPS;

@@ -1,7 +1,10 @@
 //! Groups of threads.
 
-ghost use Rattle.std.specs.Prelude.{◌≡◌, ◌<◌, ◌+◌, ◌∷◌, ◌++◌, [], ℕ, All, IfSome, OnOk, if◌then◌else◌, vec_len};
-ghost use Rattle.shard_queue.specs.{Groupings.is_group, Vocabulary.IsStrictlySortedBy, Vocabulary.IsStrictlySortedBy-prop, Vocabulary.int_cmp};
+ghost use Rattle.std.specs.Prelude.{◌≡◌, ◌<◌, ◌+◌, ◌∷◌, ◌++◌, [], ℕ, All, IfSome, OnOk};
+ghost use Rattle.std.specs.Prelude.{if◌then◌else◌, vec_len};
+ghost use Rattle.shard_queue.specs.{Groupings.is_group};
+ghost use Rattle.shard_queue.specs.Vocabulary.{IsStrictlySortedBy, IsStrictlySortedBy-prop};
+ghost use Rattle.shard_queue.specs.Vocabulary.{int_cmp};
 
 use crate::threads::{ThreadCache, cached_place_of, place_of};
 use std::alloc::AllocError;

@@ -1,9 +1,11 @@
 //! What the definitions of groups and of numbers say in other words: each law is the contract of a
 //! function that has nothing to do.
 
-ghost use Rattle.std.specs.Prelude.{◌≡◌, ◌<◌, ◌≤◌, ◌==◌, ℕ, ℤ, Some, List, All, IsSomeAnd, map, length, count_by, flat_map, slice_get};
+ghost use Rattle.std.specs.Prelude.{◌≡◌, ◌<◌, ◌≤◌, ◌==◌, ℕ, ℤ, Some, List, All, IsSomeAnd, map};
+ghost use Rattle.std.specs.Prelude.{length, count_by, flat_map, slice_get};
 ghost use Rattle.shard_queue.specs.Vocabulary.{Firing, thread_of};
-ghost use Rattle.shard_queue.specs.{Groupings.Grouping, Groupings.of_group, Groupings.places_of, Numbers.IsAllBelow, Numbers.below};
+ghost use Rattle.shard_queue.specs.Groupings.{Grouping, of_group, places_of};
+ghost use Rattle.shard_queue.specs.Numbers.{IsAllBelow, below};
 
 /// A list that has the numbers below `n`, each once, has no others.
 pub fn each_number_once()

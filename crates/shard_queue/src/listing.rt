@@ -1,8 +1,15 @@
 //! Threads grouped by lists.
 
-ghost use Rattle.std.specs.Prelude.{◌≡◌, ◌<◌, ◌≤◌, ◌+◌, ◌++◌, ◌⊎◌, ℕ, ℤ, false, Some, None, [], List, map, take, set, length, slice_get, slice_index_or, is_some, IfOk, OnOk, IfErr, MatchResult};
-ghost use Rattle.shard_queue.specs.Faults.{IsListFault, IsListed, all_of, first_missing, first_unfound, first_wrong, thread_fault};
-ghost use Rattle.shard_queue.specs.{Groupings.list_of, Groups.AreOf, Groups.grouping, Threads.has, Threads.items_of, Threads.run_threads, Vocabulary.Doubled, Vocabulary.IsStrictlySortedBy, Vocabulary.Memory, Vocabulary.Stranger, Vocabulary.int_cmp};
+ghost use Rattle.std.specs.Prelude.{◌≡◌, ◌<◌, ◌≤◌, ◌+◌, ◌++◌, ◌⊎◌, ℕ, ℤ, false, Some, None, []};
+ghost use Rattle.std.specs.Prelude.{List, map, take, set, length, slice_get, slice_index_or};
+ghost use Rattle.std.specs.Prelude.{is_some, IfOk, OnOk, IfErr, MatchResult};
+ghost use Rattle.shard_queue.specs.Faults.{IsListFault, IsListed, all_of, first_missing};
+ghost use Rattle.shard_queue.specs.Faults.{first_unfound, first_wrong, thread_fault};
+ghost use Rattle.shard_queue.specs.{Groupings.list_of};
+ghost use Rattle.shard_queue.specs.Groups.{AreOf, grouping};
+ghost use Rattle.shard_queue.specs.Threads.{has, items_of, run_threads};
+ghost use Rattle.shard_queue.specs.Vocabulary.{Doubled, IsStrictlySortedBy, Memory, Stranger};
+ghost use Rattle.shard_queue.specs.Vocabulary.{int_cmp};
 
 use crate::fault::GroupFault;
 use crate::groups::Groups;

@@ -1,7 +1,10 @@
 //! A queue of numbers, from which each seat takes. After them comes an end mark for each seat.
 
-ghost use Rattle.std.specs.Prelude.{◌≡◌, ◌<◌, ◌≤◌, ◌+◌, ◌-◌, [], None, Some, map, All, IfOk, IfSome, vec_len, vec_capacity};
-ghost use Rattle.shard_queue.specs.{Hands.IsHandOut, Hands.hand, QueueRule.among, QueueRule.joint, Vocabulary.IsPassOf, Vocabulary.pass_view};
+ghost use Rattle.std.specs.Prelude.{◌≡◌, ◌<◌, ◌≤◌, ◌+◌, ◌-◌, [], None, Some, map, All, IfOk};
+ghost use Rattle.std.specs.Prelude.{IfSome, vec_len, vec_capacity};
+ghost use Rattle.shard_queue.specs.Hands.{IsHandOut, hand};
+ghost use Rattle.shard_queue.specs.QueueRule.{among, joint};
+ghost use Rattle.shard_queue.specs.Vocabulary.{IsPassOf, pass_view};
 
 use crate::knowledge::QueueView;
 use crate::listing::MOST_GROUPS;

@@ -1,6 +1,7 @@
 //! A worker's place at a queue.
 
-ghost use Rattle.std.specs.Prelude.{◌≡◌, ◌<◌, ◌≤◌, ◌+◌, ◌++◌, ◌∷◌, [], true, false, if◌then◌else◌, vec_capacity, Contains, IsSome, IfSome, IfNone};
+ghost use Rattle.std.specs.Prelude.{◌≡◌, ◌<◌, ◌≤◌, ◌+◌, ◌++◌, ◌∷◌, [], true, false, if◌then◌else◌};
+ghost use Rattle.std.specs.Prelude.{vec_capacity, Contains, IsSome, IfSome, IfNone};
 ghost use Rattle.shard_queue.specs.{Hands.hand, QueueRule.among, Vocabulary.pass_view};
 
 use crate::knowledge::QueueView;

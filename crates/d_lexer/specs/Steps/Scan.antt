@@ -1,10 +1,17 @@
 -- The tokens from left to right.
-use Rattle.std.specs.Prelude.{◌≡◌, ℕ, zero, suc, ◌+◌, ◌≤◌, ◌==◌, Bool, true, false, ◌&&◌, if◌then◌else◌, Option, Some, None, Result, Ok, Err, List, [], ◌∷◌, length, take, take_while}
-use Rattle.d_lexer.specs.Vocabulary.{is_ascii_digit, Mark, Suffix, Token, TokenKind, Place, Head, Declaration, Predicate, Body, Position, Front, Flaw, Stop, Gap, BadByte, Unclosed, Constant, Escape, OptionLine}
-use Rattle.d_lexer.specs.Bytes.{next_is, is_blank, is_word_start, is_word_byte, is_run_byte, is_inside, begins_comment, escape_of, is_declaring, line_feed, quote, backslash, at_sign, star, slash, underscore, hash}
+use Rattle.std.specs.Prelude.{◌≡◌, ℕ, zero, suc, ◌+◌, ◌≤◌, ◌==◌, Bool, true, false, ◌&&◌}
+use Rattle.std.specs.Prelude.{if◌then◌else◌, Option, Some, None, Result, Ok, Err, List, [], ◌∷◌}
+use Rattle.std.specs.Prelude.{length, take, take_while}
+use Rattle.d_lexer.specs.Vocabulary.{is_ascii_digit, Mark, Suffix, Token, TokenKind, Place, Head}
+use Rattle.d_lexer.specs.Vocabulary.{Declaration, Predicate, Body, Position, Front, Flaw, Stop, Gap}
+use Rattle.d_lexer.specs.Vocabulary.{BadByte, Unclosed, Constant, Escape, OptionLine}
+use Rattle.d_lexer.specs.Bytes.{next_is, is_blank, is_word_start, is_word_byte, is_run_byte}
+use Rattle.d_lexer.specs.Bytes.{is_inside, begins_comment, escape_of, is_declaring, line_feed}
+use Rattle.d_lexer.specs.Bytes.{quote, backslash, at_sign, star, slash, underscore, hash}
 use Rattle.d_lexer.specs.Places.{after_byte, is_first, is_hash, after}
 use Rattle.d_lexer.specs.Tokens.{End, Clean, Bad}
-use Rattle.d_lexer.specs.{Steps.Numbers.number_of, Marks.mark_of, Faults.on_line, Steps.OptionLine.is_option, Outcomes.Gives as GivesBy}
+use Rattle.d_lexer.specs.{Steps.Numbers.number_of, Marks.mark_of, Faults.on_line}
+use Rattle.d_lexer.specs.{Steps.OptionLine.is_option, Outcomes.Gives as GivesBy}
 
 -- the flaw for which a step stops, none where memory was refused
 abbrev pub flaw_of : Stop → Option Flaw

@@ -1,7 +1,8 @@
 //! Instructions that load and store variables.
 
 ghost use Rattle.dif_machine.specs.Vocabulary.{Ldts, Stts, Ldls, Stls, Ldtaa, Sttaa};
-ghost use Rattle.dif_machine.specs.Instructions.{CanExecute, ExecutesOnLocals, ExecutesOnOwn, HasNext, LoadsLocal, LoadsOwn};
+ghost use Rattle.dif_machine.specs.Instructions.{CanExecute, ExecutesOnLocals, ExecutesOnOwn};
+ghost use Rattle.dif_machine.specs.Instructions.{HasNext, LoadsLocal, LoadsOwn};
 
 use crate::fault::MachineFault;
 use crate::frame::Frame;

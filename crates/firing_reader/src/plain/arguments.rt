@@ -1,7 +1,8 @@
 //! The arguments of a plain row.
 
 ghost use Rattle.std.specs.Prelude.{◌≤◌, ◌∷◌, [], IfSome, replicate};
-ghost use Rattle.firing_reader.specs.{Plain.Closes, Plain.ReadsArguments, Stored.Extends, Stored.IsGivenIn, Stored.given_in, Stored.ten};
+ghost use Rattle.firing_reader.specs.Plain.{Closes, ReadsArguments};
+ghost use Rattle.firing_reader.specs.Stored.{Extends, IsGivenIn, given_in, ten};
 
 use super::field::{last_argument, next_argument};
 use super::front::rest_after;

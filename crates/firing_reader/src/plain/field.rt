@@ -1,9 +1,11 @@
 //! The fields of a plain row: each value and what comes after it, or None where csv has to read the
 //! row.
 
-ghost use Rattle.std.specs.Prelude.{◌≡◌, ◌<◌, ◌≤◌, ◌+◌, ◌*◌, ◌^◌, ◌∷◌, [], ℕ, List, IfSome, Some, take, length};
+ghost use Rattle.std.specs.Prelude.{◌≡◌, ◌<◌, ◌≤◌, ◌+◌, ◌*◌, ◌^◌, ◌∷◌, [], ℕ, List, IfSome, Some};
+ghost use Rattle.std.specs.Prelude.{take, length};
 ghost use Rattle.std.specs.Str.Parse.{AllDigits, digits_value};
-ghost use Rattle.firing_reader.specs.{Column.signed_of, Column.text_of, Plain.BeginsWith, Plain.Closes, Plain.Passes, Plain.int_of, Plain.whole_of};
+ghost use Rattle.firing_reader.specs.Column.{signed_of, text_of};
+ghost use Rattle.firing_reader.specs.Plain.{BeginsWith, Closes, Passes, int_of, whole_of};
 
 use super::front::{after_comma, after_feed, after_minus, front, rest_after, word_front};
 use crate::columns::{negative, positive};

@@ -1,6 +1,7 @@
 //! What bytes begin with, and what comes after it.
 
-ghost use Rattle.std.specs.Prelude.{◌≡◌, ◌≤◌, ◌∷◌, ◌++◌, true, false, ℕ, List, All, IfSome, length, take};
+ghost use Rattle.std.specs.Prelude.{◌≡◌, ◌≤◌, ◌∷◌, ◌++◌, true, false, ℕ, List, All, IfSome, length};
+ghost use Rattle.std.specs.Prelude.{take};
 ghost use Rattle.firing_reader.specs.Plain.{IsWordByte, JoinsField};
 
 // What comes after a comma.

@@ -1,7 +1,8 @@
 //! One plain row.
 
 ghost use Rattle.std.specs.Prelude.{◌<◌, IfSome};
-ghost use Rattle.firing_reader.specs.{Plain.ReadsRow, Stored.Extends, Stored.IsRowIn, Stored.firing_in};
+ghost use Rattle.firing_reader.specs.{Plain.ReadsRow};
+ghost use Rattle.firing_reader.specs.Stored.{Extends, IsRowIn, firing_in};
 
 use super::arguments::read_arguments;
 use super::field::{int, whole};

@@ -2,7 +2,8 @@
 
 ghost use Rattle.std.specs.Prelude.{◌≡◌, ◌<◌, length, slice_set};
 ghost use Rattle.d_types.specs.Expressions as spec;
-ghost use Rattle.replay_core.specs.{Vocabulary.Typed, Vocabulary.typed_of, Vocabulary.typeds_of, Evaluation.HasKey, Evaluation.HasText, Evaluation.HasValue, Evaluation.HasWord, Evaluation.Leaves, Evaluation.Meets};
+ghost use Rattle.replay_core.specs.Vocabulary.{Typed, typed_of, typeds_of};
+ghost use Rattle.replay_core.specs.Evaluation.{HasKey, HasText, HasValue, HasWord, Leaves, Meets};
 
 use crate::evaluation::built_in::{built_in, built_in_word};
 use crate::evaluation::changes::{step_variable, update_variable};

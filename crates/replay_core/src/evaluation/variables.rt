@@ -2,7 +2,8 @@
 
 ghost use Rattle.std.specs.Prelude.{◌≡◌, IfOk, OnOk};
 ghost use Rattle.d_types.specs.Storage as spec;
-ghost use Rattle.replay_core.specs.{Vocabulary.kind_of, Vocabulary.lent_value, Evaluation.variables_of};
+ghost use Rattle.replay_core.specs.{Evaluation.variables_of};
+ghost use Rattle.replay_core.specs.Vocabulary.{kind_of, lent_value};
 
 use crate::tables::Tables;
 use d_types::{Space, Variable, kind_of};

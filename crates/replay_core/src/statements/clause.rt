@@ -2,7 +2,8 @@
 
 ghost use Rattle.std.specs.Prelude.{◌≡◌, ◌+◌, ◌≤◌, ◌^◌, IfOk, length, map};
 ghost use Rattle.d_types.specs.Clauses as spec;
-ghost use Rattle.replay_core.specs.{Vocabulary.count_held, Vocabulary.functions_of, Bounds.places_among, Effects.IsNotedRun, Evaluation.Stays};
+ghost use Rattle.replay_core.specs.{Bounds.places_among, Effects.IsNotedRun, Evaluation.Stays};
+ghost use Rattle.replay_core.specs.Vocabulary.{count_held, functions_of};
 
 use crate::evaluation::EvalFault;
 use crate::piece::Piece;

@@ -24,7 +24,8 @@ impl Model for Arguments {
 /// An expression in the form in which an engine evaluates it. Each call leaves the variables as the
 /// evaluation does, also at a division by 0.
 pub(crate) trait Expression: Sized {
-    ghost use Rattle.replay_core.specs.{Vocabulary.Evaluation, Vocabulary.Firing as Recorded, Vocabulary.number, Evaluation.Meets};
+    ghost use Rattle.replay_core.specs.{Evaluation.Meets};
+    ghost use Rattle.replay_core.specs.Vocabulary.{Evaluation, Firing as Recorded, number};
 
     /// What evaluation means.
     ghost by: { Recorded → Evaluation Self (List Self) };

@@ -2,7 +2,9 @@
 
 ghost use Rattle.std.specs.Prelude.{◌≡◌, ◌<◌, length, slice_set};
 ghost use Rattle.dif_codegen.specs.Meaning as spec;
-ghost use Rattle.replay_core.specs.{Vocabulary.Has, Vocabulary.action_code, Vocabulary.number, Vocabulary.part_of, Vocabulary.value_result, Vocabulary.with, Evaluation.Leaves, Evaluation.Meets, Evaluation.Returns, Evaluation.variables_of};
+ghost use Rattle.replay_core.specs.Vocabulary.{Has, action_code, number, part_of, value_result};
+ghost use Rattle.replay_core.specs.Vocabulary.{with};
+ghost use Rattle.replay_core.specs.Evaluation.{Leaves, Meets, Returns, variables_of};
 
 use crate::evaluation::{EvalFault, owned_value, set_part, word_of};
 use crate::piece::Piece;

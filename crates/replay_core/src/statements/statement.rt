@@ -2,7 +2,9 @@
 
 ghost use Rattle.std.specs.Prelude.{◌≡◌, ◌+◌, ◌<◌, ◌≤◌, ◌^◌, List, length};
 ghost use Rattle.d_types.specs.Typed as typed;
-ghost use Rattle.replay_core.specs.{Vocabulary.ActionOf, Vocabulary.count_held, Vocabulary.effect_by, Vocabulary.functions_of, Vocabulary.argument_by, Bounds.place_in, Effects.IsPerformed, Evaluation.Meets};
+ghost use Rattle.replay_core.specs.{Bounds.place_in, Effects.IsPerformed, Evaluation.Meets};
+ghost use Rattle.replay_core.specs.Vocabulary.{ActionOf, count_held, effect_by, functions_of};
+ghost use Rattle.replay_core.specs.Vocabulary.{argument_by};
 
 use crate::evaluation::EvalFault;
 use crate::piece::Piece;

@@ -1,7 +1,8 @@
 //! Trees, walked.
 
 ghost use Rattle.d_types.specs.Clauses as spec;
-ghost use Rattle.replay_core.specs.{Vocabulary.typeds_of, Evaluation.Meets, Forms.by_expressions, Forms.statement_form};
+ghost use Rattle.replay_core.specs.{Vocabulary.typeds_of, Evaluation.Meets};
+ghost use Rattle.replay_core.specs.Forms.{by_expressions, statement_form};
 
 use crate::evaluation::{EvalFault, evaluate, evaluate_key, evaluate_word};
 use crate::piece::Piece;

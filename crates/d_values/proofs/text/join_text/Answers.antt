@@ -1,4 +1,5 @@
-use Rattle.std.proofs.Common.{◌≡◌, ◌<◌, ◌≤◌, ℕ, ◌+◌, ◌-◌, List, ◌++◌, length, take, min, sym, ap, ◌∙◌, arith, append-nil, inl, inr, rules}
+use Rattle.std.proofs.Common.{◌≡◌, ◌<◌, ◌≤◌, ℕ, ◌+◌, ◌-◌, List, ◌++◌, length, take, min, sym, ap}
+use Rattle.std.proofs.Common.{◌∙◌, arith, append-nil, inl, inr, rules}
 use Rattle.std.proofs.lemmas.List.{take-append-le, take_min, take_all, length-take}
 use Rattle.std.proofs.Math.Seq.{take-append-add}
 use Rattle.std.proofs.lemmas.Bool.{cases_lt}

@@ -1,6 +1,7 @@
 use Rattle.d_values.proofs.Narrowing.{high, plain, lower}
 use Rattle.d_values.proofs.word.narrow_word.Goals as goal
-use Rattle.d_values.proofs.word.narrow_word.Goals.{else-t-via-then-t+else-size-low, else-t-via-else-t}
+use Rattle.d_values.proofs.word.narrow_word.Goals.{else-t-via-then-t+else-size-low}
+use Rattle.d_values.proofs.word.narrow_word.Goals.{else-t-via-else-t}
 
 pub returns-then-size-low : goal.returns-then-size-low
 returns-then-size-low c = high c.args.t c.args.word c.if-t-eq64.false c.if-t.true c.if-size-low.true

@@ -5,7 +5,8 @@ use Rattle.d_types.proofs.Nodes.{read_is, assign_is, update_is, step_is}
 use Rattle.dif_codegen.specs.Code.{differing, keys_code}
 use Rattle.dif_codegen.specs.Drafts.{Adds}
 use Rattle.d_types.specs.declared.typed.LogicOperator.TheVariants.{And, Or, Xor}
-use Rattle.dif_codegen.proofs.Adding.{both_adds, choice_adds, emitted_all, key_there, logic_adds, next_key, on_ok, operands_on}
+use Rattle.dif_codegen.proofs.Adding.{both_adds, choice_adds, emitted_all, key_there, logic_adds}
+use Rattle.dif_codegen.proofs.Adding.{next_key, on_ok, operands_on}
 use Rattle.dif_codegen.proofs.Sizes.{assign_calls, read_calls, step_calls, update_calls}
 use Rattle.dif_codegen.proofs.emitting.+emission.Goals as goal
 

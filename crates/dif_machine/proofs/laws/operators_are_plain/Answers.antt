@@ -1,4 +1,5 @@
-use Rattle.std.specs.Prelude.{◌≡◌, ℕ, ℤ, ◌+◌, ◌-◌, ◌*◌, ◌/◌, ◌%◌, ◌^◌, ◌<◌, bit_and, bit_or, bit_xor, int_div, int_rem, Ok, true}
+use Rattle.std.specs.Prelude.{◌≡◌, ℕ, ℤ, ◌+◌, ◌-◌, ◌*◌, ◌/◌, ◌%◌, ◌^◌, ◌<◌, bit_and, bit_or}
+use Rattle.std.specs.Prelude.{bit_xor, int_div, int_rem, Ok, true}
 use Rattle.std.proofs.Common.{ap, arith, sym, ◌∙◌}
 use Rattle.std.specs.Int.{int_shr}
 use Rattle.std.proofs.lemmas.Nat.{and_le_l, or_lt, xor_lt}
@@ -9,7 +10,9 @@ use Rattle.d_values.specs.declared.operators.ArithmeticOperator.TheVariants.{Div
 use Rattle.d_values.specs.declared.operators.ShiftOperator.TheVariants.{Right}
 use Rattle.d_values.specs.Types.{INT64}
 use Rattle.d_values.specs.Words.{narrow}
-use Rattle.dif_validate.specs.declared.instruction.Operator.TheVariants.{Or, Xor, And, Sll, Srl, Sra, Sub, Add, Mul, Sdiv, Udiv, Srem, Urem}
+use Rattle.dif_validate.specs.declared.instruction.Operator.TheVariants.{Or, Xor, And, Sll, Srl}
+use Rattle.dif_validate.specs.declared.instruction.Operator.TheVariants.{Sra, Sub, Add, Mul, Sdiv}
+use Rattle.dif_validate.specs.declared.instruction.Operator.TheVariants.{Udiv, Srem, Urem}
 use Rattle.dif_machine.specs.Plain.{divided_by, signed}
 use Rattle.dif_machine.specs.Vocabulary.{OutOfZero}
 use Rattle.dif_machine.proofs.Numbers.{bits_small, signed_stays, whole}

@@ -2,7 +2,8 @@ use Rattle.std.proofs.Common.{◌≢◌, ◌<◌, arith, length, sym, subst, Ok,
 use Rattle.d_values.specs.Storage.{variables}
 use Rattle.dif_machine.specs.Held.{frame_of}
 use Rattle.dif_machine.specs.Steps.{step_of, Stepped, Stuck}
-use Rattle.dif_machine.proofs.Progress.{follows_start, follows_on, never_stuck, ends_well, ends_badly}
+use Rattle.dif_machine.proofs.Progress.{follows_start, follows_on, never_stuck, ends_well}
+use Rattle.dif_machine.proofs.Progress.{ends_badly}
 use Rattle.dif_machine.proofs.running.run_to_end.Goals as goal
 
 pub loop-register-init : goal.loop-register-init

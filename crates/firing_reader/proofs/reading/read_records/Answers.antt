@@ -2,7 +2,8 @@ use Rattle.std.proofs.Common.{sym, ◌∙◌, inr}
 use Rattle.firing_reader.proofs.PlainRows.{rows_after_none}
 use Rattle.firing_reader.proofs.Rows.{no_rows, no_header, has_header}
 use Rattle.firing_reader.proofs.reading.read_records.Goals as goal
-use Rattle.firing_reader.proofs.reading.read_records.Goals.{then-not-branch-via-then-not-branch, then-not-branch-via-else-not-branch+then-not-is_header}
+use Rattle.firing_reader.proofs.reading.read_records.Goals.{then-not-branch-via-then-not-branch}
+use Rattle.firing_reader.proofs.reading.read_records.Goals.{then-not-branch-via-else-not-branch+then-not-is_header}
 
 pub returns-then-not-branch : goal.returns-then-not-branch
 returns-then-not-branch c =

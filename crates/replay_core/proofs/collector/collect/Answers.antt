@@ -1,4 +1,5 @@
-use Rattle.std.proofs.Common.{◌≡◌, Some, Err, length, sym, ap, ◌∙◌, subst, List, IfErr, Option, arith, rules}
+use Rattle.std.proofs.Common.{◌≡◌, Some, Err, length, sym, ap, ◌∙◌, subst, List, IfErr, Option}
+use Rattle.std.proofs.Common.{arith, rules}
 use Rattle.std.specs.List.Sorted.{IsPermutation}
 use Rattle.replay_core.specs.declared.piece.Piece.{Piece}
 use Rattle.replay_core.specs.PiecePlaces.{pieces_with_places}

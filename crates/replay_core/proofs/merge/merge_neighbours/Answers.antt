@@ -1,4 +1,5 @@
-use Rattle.std.proofs.Common.{rules, arith, ◌≡◌, ◌++◌, ◌∷◌, [], None, Some, length, ap, ap₂, ◌∙◌, sym, subst, append_assoc}
+use Rattle.std.proofs.Common.{rules, arith, ◌≡◌, ◌++◌, ◌∷◌, [], None, Some, length, ap, ap₂, ◌∙◌}
+use Rattle.std.proofs.Common.{sym, subst, append_assoc}
 use Rattle.std.specs.Vec.Iter.{into_iter_items}
 use Rattle.replay_core.specs.Tables.{AllHave}
 use Rattle.replay_core.proofs.Merging.{waiting, neighbours, serve_same, serve_after, serve_one}

@@ -1,4 +1,5 @@
-use Rattle.std.proofs.Common.{◌≡◌, ◌<◌, ◌++◌, ◌∷◌, [], true, false, List, None, is_some, get_or, length, refl, sym, ap, ◌∙◌, subst, arith, rules, append-nil}
+use Rattle.std.proofs.Common.{◌≡◌, ◌<◌, ◌++◌, ◌∷◌, [], true, false, List, None, is_some, get_or}
+use Rattle.std.proofs.Common.{length, refl, sym, ap, ◌∙◌, subst, arith, rules, append-nil}
 use Rattle.std.proofs.lemmas.List.{get_or_default}
 use Rattle.std.specs.Vec.Iter.{into_iter_items}
 use Rattle.replay_core.specs.PiecePlaces.{first_bad_after, is_filled, pieces_with_places}

@@ -16,7 +16,8 @@ use Rattle.replay_core.specs.Meaning.{at_start}
 use Rattle.replay_core.specs.Seen.{piece_seen}
 use Rattle.replay_core.specs.Threads.{threads_in}
 use Rattle.replay_core.specs.Turns.{turns}
-use Rattle.replay_core.proofs.ThreadLemmas.{Writes, none_turn, own_stays, tables_found, tables_lent, typed_start, started, started_new, thread_written}
+use Rattle.replay_core.proofs.ThreadLemmas.{Writes, none_turn, own_stays, tables_found, tables_lent}
+use Rattle.replay_core.proofs.ThreadLemmas.{typed_start, started, started_new, thread_written}
 use Rattle.replay_core.proofs.threads.run_on_thread.Goals as goal
 
 no_tables : (tables : Tables) → ◌≡◌ {A = Option Tables} None (Some tables) → ⊥

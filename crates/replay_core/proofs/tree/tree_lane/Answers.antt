@@ -7,7 +7,8 @@ use Rattle.d_types.specs.Sizes.{statements}
 use Rattle.d_types.specs.Typed.{meant_of}
 use Rattle.d_types.specs.TypedScripts.{typed_script_of}
 use Rattle.replay_core.specs.Bounds.{places_in}
-use Rattle.replay_core.proofs.TreeLemmas.{all_few, all_named, few_probes, functions_same, script_keeps, trees_mean}
+use Rattle.replay_core.proofs.TreeLemmas.{all_few, all_named, few_probes, functions_same}
+use Rattle.replay_core.proofs.TreeLemmas.{script_keeps, trees_mean}
 use Rattle.replay_core.proofs.tree.tree_lane.Goals as goal
 
 pub new-requires-clause-named : goal.new-requires-clause-named

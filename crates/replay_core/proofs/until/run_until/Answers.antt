@@ -1,4 +1,5 @@
-use Rattle.std.proofs.Common.{rules, ◌≡◌, ◌+◌, ◌<◌, ◌≤◌, [], ◌∷◌, ◌++◌, arith, length, take, drop, get_or, min, sym, ap, ◌∙◌, subst, append_assoc, List}
+use Rattle.std.proofs.Common.{rules, ◌≡◌, ◌+◌, ◌<◌, ◌≤◌, [], ◌∷◌, ◌++◌, arith, length, take, drop}
+use Rattle.std.proofs.Common.{get_or, min, sym, ap, ◌∙◌, subst, append_assoc, List}
 use Rattle.std.specs.Prelude.{slice_index}
 use Rattle.std.proofs.lemmas.List.{get_or_default, length-map}
 use Rattle.firing_reader.specs.declared.firing.Firing.{Firing}
@@ -7,7 +8,8 @@ use Rattle.firing_reader.specs.Firings.{number_of}
 use Rattle.replay_core.specs.Beginnings.{exit_over, lesser_of}
 use Rattle.replay_core.specs.Running.{IsLaneOf}
 use Rattle.replay_core.specs.Working.{firings_at}
-use Rattle.replay_core.proofs.BeginLemmas.{at_all, at_next, at_parts, ended_by_exit, ended_by_last, ended_by_number, now_lowered, still_none}
+use Rattle.replay_core.proofs.BeginLemmas.{at_all, at_next, at_parts, ended_by_exit, ended_by_last}
+use Rattle.replay_core.proofs.BeginLemmas.{ended_by_number, now_lowered, still_none}
 use Rattle.replay_core.proofs.RunLemmas.{fires_more}
 use Rattle.replay_core.proofs.WorkSteps.{at_more, few_at}
 use Rattle.replay_core.proofs.until.run_until.Goals as goal

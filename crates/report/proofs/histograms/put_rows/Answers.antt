@@ -1,7 +1,9 @@
-use Rattle.std.proofs.Common.{◌≡◌, ◌-◌, ◌+◌, ◌++◌, length, map, min, sum, arith, sym, ap, ◌∙◌, append-nil, append_assoc}
+use Rattle.std.proofs.Common.{◌≡◌, ◌-◌, ◌+◌, ◌++◌, length, map, min, sum, arith, sym, ap, ◌∙◌}
+use Rattle.std.proofs.Common.{append-nil, append_assoc}
 use Rattle.std.specs.List.{flat_map, range_with_len}
 use Rattle.report.specs.Histograms.{row_bytes}
-use Rattle.report.proofs.Rows.{row_at, row_is, rows_are, rows-none, rows_more, share_le, ordered, last_within}
+use Rattle.report.proofs.Rows.{row_at, row_is, rows_are, rows-none, rows_more, share_le, ordered}
+use Rattle.report.proofs.Rows.{last_within}
 use Rattle.report.proofs.histograms.put_rows.Goals as goal
 
 pub returns-in_default : goal.returns-in_default

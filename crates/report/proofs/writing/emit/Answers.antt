@@ -1,4 +1,5 @@
-use Rattle.std.proofs.Common.{◌+◌, ◌<◌, ◌++◌, ◌∙◌, rules, arith, length, take, drop, ap, sym, subst, take-add, length-drop}
+use Rattle.std.proofs.Common.{◌+◌, ◌<◌, ◌++◌, ◌∙◌, rules, arith, length, take, drop, ap, sym, subst}
+use Rattle.std.proofs.Common.{take-add, length-drop}
 use Rattle.std.proofs.lemmas.List.{take_rest, drop-drop}
 use Rattle.std.specs.Io.KnownBytes.{Appends}
 use Rattle.std.proofs.KnownBytes.{Appends-trans}

@@ -1,4 +1,5 @@
-use Rattle.std.proofs.Common.{◌≡◌, ◌∙◌, ◌∷◌, ◌++◌, [], Some, None, ap, sym, arith, rules, map, take, set, length, get_or, append-nil}
+use Rattle.std.proofs.Common.{◌≡◌, ◌∙◌, ◌∷◌, ◌++◌, [], Some, None, ap, sym, arith, rules, map, take}
+use Rattle.std.proofs.Common.{set, length, get_or, append-nil}
 use Rattle.std.specs.Prelude.{slice_index_or, pos}
 use Rattle.std.proofs.lemmas.Int.{to_z-of_z}
 use Rattle.std.proofs.lemmas.List.{get_or_default, take_all, length-take-le, length-map}

@@ -1,4 +1,5 @@
-use Rattle.std.proofs.Common.{◌≡◌, ◌+◌, ◌≤◌, ◌∷◌, Some, None, cond, sym, subst, ap, ◌∙◌, rules, arith, sum_by}
+use Rattle.std.proofs.Common.{◌≡◌, ◌+◌, ◌≤◌, ◌∷◌, Some, None, cond, sym, subst, ap, ◌∙◌, rules}
+use Rattle.std.proofs.Common.{arith, sum_by}
 use Rattle.std.specs.Map.{values_of, lookup}
 use Rattle.indexmap.proofs.CallerLemmas.{insert_entry-new}
 use Rattle.d_values.specs.Keys.{same_key}

@@ -1,4 +1,5 @@
-use Rattle.std.proofs.Common.{◌≡◌, suc, ◌-◌, ◌*◌, ◌<◌, ◌^◌, rules, arith, sym, subst, ap, ◌∙◌, to_z, of_z}
+use Rattle.std.proofs.Common.{◌≡◌, suc, ◌-◌, ◌*◌, ◌<◌, ◌^◌, rules, arith, sym, subst, ap, ◌∙◌, to_z}
+use Rattle.std.proofs.Common.{of_z}
 use Rattle.std.specs.Prelude.{pos, ◌+ℤ◌, ◌-ℤ◌, ◌*ℤ◌, FitsSigned}
 use mir.Syntax.{w32, w64}
 use Rattle.std.proofs.lemmas.Int.{ints, to_z-of_z}

@@ -1,4 +1,5 @@
-use Rattle.std.proofs.Common.{◌≡◌, ◌+◌, ◌<◌, ◌≤◌, ◌^◌, ℕ, false, None, Some, rules, arith, sym, subst, ap, ◌∙◌, cond, sum}
+use Rattle.std.proofs.Common.{◌≡◌, ◌+◌, ◌<◌, ◌≤◌, ◌^◌, ℕ, false, None, Some, rules, arith, sym}
+use Rattle.std.proofs.Common.{subst, ap, ◌∙◌, cond, sum}
 use Rattle.std.specs.Prelude.{nat_eq}
 use Rattle.std.specs.List.{IsDistinct}
 use Rattle.std.specs.Map.{lookup, keys_of, set_value}
@@ -6,7 +7,8 @@ use Rattle.std.proofs.lemmas.Map.{keys-set_value}
 use Rattle.std.specs.Option.{unwrap_or}
 use Rattle.aggregations.specs.Buckets.{buckets}
 use Rattle.aggregations.specs.Histograms.{with_more, used_at, counts_used}
-use Rattle.aggregations.proofs.HistogramLemmas.{count-le_sum, inserted_used, written_used, kept_inserted, found_written, found_inserted}
+use Rattle.aggregations.proofs.HistogramLemmas.{count-le_sum, inserted_used, written_used}
+use Rattle.aggregations.proofs.HistogramLemmas.{kept_inserted, found_written, found_inserted}
 use Rattle.aggregations.proofs.histogram.Histogram.add.Goals as goal
 
 pub overflow_add-count : goal.overflow_add-count

@@ -1,7 +1,9 @@
-use Rattle.std.proofs.Common.{◌≡◌, ◌<◌, ◌++◌, [], length, sum, refl, sym, subst, ap, ◌∙◌, rules, arith}
+use Rattle.std.proofs.Common.{◌≡◌, ◌<◌, ◌++◌, [], length, sum, refl, sym, subst, ap, ◌∙◌, rules}
+use Rattle.std.proofs.Common.{arith}
 use Rattle.aggregations.specs.Buckets.{buckets}
 use Rattle.aggregations.specs.Histograms.{histogram_of, used_at}
-use Rattle.aggregations.proofs.HistogramLemmas.{Joining, length-table, joining_start, joining_room, joining_more, joining_all, buckets_front}
+use Rattle.aggregations.proofs.HistogramLemmas.{Joining, length-table, joining_start, joining_room}
+use Rattle.aggregations.proofs.HistogramLemmas.{joining_more, joining_all, buckets_front}
 use Rattle.aggregations.proofs.histogram.Histogram.join.Goals as goal
 
 pub loop-bucket-init : goal.loop-bucket-init

@@ -6,7 +6,8 @@ use Rattle.aggregations.specs.Buckets.{label}
 use Rattle.aggregations.specs.Figures.{rank_of}
 use Rattle.aggregations.specs.Figures.Figure.{Distribution}
 use Rattle.aggregations.proofs.HistogramLemmas.{buckets_front, buckets_kept}
-use Rattle.aggregations.proofs.RankLemmas.{Ranking, rank-weight, ranking_start, ranking_more, ranking_fits, ranking_all}
+use Rattle.aggregations.proofs.RankLemmas.{Ranking, rank-weight, ranking_start, ranking_more}
+use Rattle.aggregations.proofs.RankLemmas.{ranking_fits, ranking_all}
 use Rattle.aggregations.proofs.histogram.Histogram.rank.Goals as goal
 
 pub label-requires : goal.label-requires

@@ -3,7 +3,8 @@ use Rattle.std.specs.Prelude.{MatchOption}
 use Rattle.std.specs.List.{reduce}
 use Rattle.std.specs.Map.{keys_of}
 use Rattle.std.proofs.lemmas.Iterator.Adapters.{option_map_id}
-use Rattle.std.proofs.lemmas.Iterator.Consumers.{min_from_yields_List, max_from_yields_List, YieldsList-from_rest, YieldsList-from_copied}
+use Rattle.std.proofs.lemmas.Iterator.Consumers.{min_from_yields_List, max_from_yields_List}
+use Rattle.std.proofs.lemmas.Iterator.Consumers.{YieldsList-from_rest, YieldsList-from_copied}
 use Rattle.aggregations.specs.Histograms.{IsSpan}
 use Rattle.aggregations.proofs.SpanLemmas.{is_span, sum-no_keys}
 use Rattle.aggregations.proofs.histogram.Histogram.span.Goals as goal

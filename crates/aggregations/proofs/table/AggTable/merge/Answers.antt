@@ -1,11 +1,14 @@
-use Rattle.std.proofs.Common.{◌≡◌, ◌+◌, ◌<◌, ◌≤◌, ◌^◌, length, get_or, set, rules, arith, sym, subst, ap, ◌∙◌}
+use Rattle.std.proofs.Common.{◌≡◌, ◌+◌, ◌<◌, ◌≤◌, ◌^◌, length, get_or, set, rules, arith, sym}
+use Rattle.std.proofs.Common.{subst, ap, ◌∙◌}
 use Rattle.std.specs.Vec.Iter.{into_iter_items, into_iter_len}
 use Rattle.std.proofs.lemmas.List.{length_push}
 use Rattle.std.proofs.lemmas.Iterator.Adapters.{YieldsList-from_vec}
-use Rattle.std.proofs.lemmas.Iterator.Consumers.{YieldsList-from_enumerate, YieldsList-turn, YieldsList-end}
+use Rattle.std.proofs.lemmas.Iterator.Consumers.{YieldsList-from_enumerate, YieldsList-turn}
+use Rattle.std.proofs.lemmas.Iterator.Consumers.{YieldsList-end}
 use Rattle.std.proofs.lemmas.List.FromFn.{length-enumerate_from}
 use Rattle.aggregations.specs.Table.{count_held, functions_of}
-use Rattle.aggregations.proofs.MergeLemmas.{MergingTables, enumerated, tables_start, tables_room, tables_length, tables_more, tables_set, tables_all}
+use Rattle.aggregations.proofs.MergeLemmas.{MergingTables, enumerated, tables_start, tables_room}
+use Rattle.aggregations.proofs.MergeLemmas.{tables_length, tables_more, tables_set, tables_all}
 use Rattle.aggregations.proofs.table.AggTable.merge.Goals as goal
 
 pub loop-agg-init : goal.loop-agg-init

@@ -1,4 +1,5 @@
-use Rattle.std.proofs.Common.{rules, arith, ◌≡◌, ◌<◌, Some, refl, sym, ap, ◌∙◌, slice_get, w32, length, ◌+◌, ◌-◌, get_or}
+use Rattle.std.proofs.Common.{rules, arith, ◌≡◌, ◌<◌, Some, refl, sym, ap, ◌∙◌, slice_get, w32}
+use Rattle.std.proofs.Common.{length, ◌+◌, ◌-◌, get_or}
 use Rattle.std.proofs.lemmas.List.{length-map}
 use Rattle.std.proofs.lemmas.Int.{to_z-of_z}
 use Rattle.std.proofs.lemmas.Option.{slice_get-map, slice_get-get_or}

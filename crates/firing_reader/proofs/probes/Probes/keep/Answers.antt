@@ -1,7 +1,8 @@
 use Rattle.std.proofs.Common.{All}
 use Rattle.firing_reader.specs.declared.unit.Probe.{Probe}
 use Rattle.firing_reader.specs.Units.{IsProbeIn}
-use Rattle.firing_reader.proofs.Shared.{HasTexts, probe_placed, probe_texts_in, probes_extend, probes_grow, probes_stored}
+use Rattle.firing_reader.proofs.Shared.{HasTexts, probe_placed, probe_texts_in, probes_extend}
+use Rattle.firing_reader.proofs.Shared.{probes_grow, probes_stored}
 use Rattle.firing_reader.proofs.Stored.{extends_same}
 use Rattle.firing_reader.proofs.probes.Probes.keep.Goals as goal
 

@@ -11,7 +11,8 @@ use Rattle.replay_core.specs.Places.{places_for}
 use Rattle.replay_core.specs.Seen.{piece_seen}
 use Rattle.replay_core.specs.Threads.{threads_in}
 use Rattle.replay_core.specs.Turns.{turns}
-use Rattle.replay_core.proofs.FiringLemmas.{both, goes_on, places_few, places_within, some_same, turns_are}
+use Rattle.replay_core.proofs.FiringLemmas.{both, goes_on, places_few, places_within, some_same}
+use Rattle.replay_core.proofs.FiringLemmas.{turns_are}
 use Rattle.replay_core.proofs.ThreadLemmas.{typed_after}
 use Rattle.replay_core.proofs.lane.Lane.run.Goals as goal
 

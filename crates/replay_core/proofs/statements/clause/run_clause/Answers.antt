@@ -1,7 +1,8 @@
 use Rattle.std.specs.Prelude.{◌≡◌, ◌∷◌, ◌++◌, [], false, length, map, take, Err}
 use Rattle.std.proofs.Common.{rules, subst, sym, ap, ◌∙◌}
 use Rattle.d_types.specs.Expressions.{number}
-use Rattle.d_types.specs.Clauses.{fault_line, where_predicate, run_result, statements_by, where_true}
+use Rattle.d_types.specs.Clauses.{fault_line, where_predicate, run_result, statements_by}
+use Rattle.d_types.specs.Clauses.{where_true}
 use Rattle.replay_core.specs.Effects.{NotesRun}
 use Rattle.replay_core.specs.Evaluation.{Returns, variables_in}
 use Rattle.replay_core.specs.Seen.{piece_seen}

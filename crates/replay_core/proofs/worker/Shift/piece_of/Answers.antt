@@ -1,4 +1,5 @@
-use Rattle.std.proofs.Common.{◌<◌, arith, Bool, filter, length, refl, sym, ap, ◌∙◌, subst, All, ℕ, List}
+use Rattle.std.proofs.Common.{◌<◌, arith, Bool, filter, length, refl, sym, ap, ◌∙◌, subst, All, ℕ}
+use Rattle.std.proofs.Common.{List}
 use Rattle.std.specs.Prelude.{ℤ}
 use Rattle.firing_reader.specs.Ends.{with_ends}
 use Rattle.shard_queue.specs.Groups.{grouping}

@@ -1,4 +1,5 @@
-use Rattle.std.proofs.Common.{rules, ap, arith, sym, ◌∙◌, subst, ◌≡◌, ◌≤◌, ◌++◌, ◌∷◌, [], length, append-nil, append_assoc, length-append}
+use Rattle.std.proofs.Common.{rules, ap, arith, sym, ◌∙◌, subst, ◌≡◌, ◌≤◌, ◌++◌, ◌∷◌, [], length}
+use Rattle.std.proofs.Common.{append-nil, append_assoc, length-append}
 use Rattle.std.proofs.lemmas.List.{map-append, nil_from_length}
 use Rattle.shard_queue.specs.Hands.{IsHandOut}
 use Rattle.shard_queue.specs.Least.{no_number}

@@ -1,4 +1,5 @@
-use Rattle.std.proofs.Common.{◌≡◌, ℕ, ◌∙◌, ◌≤◌, [], Some, None, List, map, length, ap, refl, subst, arith, inl, inr, ⊎_elim}
+use Rattle.std.proofs.Common.{◌≡◌, ℕ, ◌∙◌, ◌≤◌, [], Some, None, List, map, length, ap, refl, subst}
+use Rattle.std.proofs.Common.{arith, inl, inr, ⊎_elim}
 use Rattle.std.specs.Prelude.{ℤ}
 use Rattle.std.specs.Ordering.{int_eq}
 use Rattle.std.specs.List.{zip}
