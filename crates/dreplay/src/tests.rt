@@ -8,6 +8,7 @@ use crate::consuming::{ConsumeFault, consume, consume_trace};
 use crate::plan::{EngineKind, GroupPlan, Plan, Replayed};
 use crate::refusal::{Refusal, refusal_status, refusal_text};
 use crate::replaying::{replay, replay_with};
+use crate::tests_of_workers::{LATENCY, TWO_THREADS};
 use crate::words::{UsageFault, read_words};
 use d_lexer::LexFault;
 use d_parser::ParseFault;
@@ -382,7 +383,7 @@ fn expect_held(rt: &(impl Abort + AllocGlobal + Threads + Wait + Sync), gate: &H
         engine: EngineKind::Dif,
         hash_key: HashKey::of_seed(&[]),
     };
-    let answer = replay_with(rt, rt.alloc(), SCRIPT, TRACE, &plan, gate);
+    let answer = replay_with(rt, rt.alloc(), LATENCY, TWO_THREADS, &plan, gate);
     assert!(rt; answer.is_ok());
     assert_eq!(rt; gate.gave_up.load(Ordering::SeqCst), 0);
     for group in 0..3 {

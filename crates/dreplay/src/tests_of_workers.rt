@@ -22,10 +22,11 @@ use std::test::Fail;
 use std::thread;
 use std::thread::Threads;
 
-const SCRIPT: &[u8] = b":::entry { self->t = timestamp; } \
+pub(crate) const LATENCY: &[u8] = b":::entry { self->t = timestamp; } \
 :::return / self->t / { @[probefunc] = sum(timestamp - self->t); self->t = 0; }";
 
-const TWO_THREADS: &[u8] = b"number,cpu,thread,pid,execname,time,provider,module,function,name,\
+pub(crate) const TWO_THREADS: &[u8] =
+    b"number,cpu,thread,pid,execname,time,provider,module,function,name,\
 arg0,arg1,arg2,arg3,arg4,arg5,arg6,arg7,arg8,arg9\n\
 1,0,1,1,a,100,p,,read,entry,0,0,0,0,0,0,0,0,0,0\n\
 2,0,2,1,a,110,p,,read,entry,0,0,0,0,0,0,0,0,0,0\n\
@@ -59,7 +60,7 @@ fn pieces_of(
 
 #[test]
 fn pieces_are_collected_by_their_groups(rt: HostRuntime) -> Result<(), Fail> {
-    let tree = read_script(rt.alloc(), SCRIPT)?;
+    let tree = read_script(rt.alloc(), LATENCY)?;
     let script = check(rt.alloc(), tree)?;
     for (groups, fault) in COLLECTED {
         let pieces = pieces_of(rt.alloc(), &script, groups)?;
@@ -158,7 +159,7 @@ fn ran_by_two<R: Threads + Wait + Sync>(
     alloc: Global,
     meeting: &Meeting,
 ) -> Result<Ran, Refusal> {
-    let tree = read_script(alloc, SCRIPT)?;
+    let tree = read_script(alloc, LATENCY)?;
     let script = check(alloc, tree)?;
     let trace = read_trace(alloc, HashKey::of_seed(&[]), TWO_THREADS)?;
     let groups = groups_of(alloc, &GroupPlan::Dealt(2), &trace)?;

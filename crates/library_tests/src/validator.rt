@@ -169,7 +169,7 @@ fn tables_of_no_entries(rt: HostRuntime) -> Result<(), Fail> {
     Ok(())
 }
 
-const OBJECTS_WITH_A_FAULT: [Table<'static>; 16] = [
+const OBJECTS_WITH_A_FAULT: [Table<'static>; 17] = [
     (Err(DifFault::Empty), &[&[]]),
     (
         Err(DifFault::NoReturn),
@@ -205,6 +205,13 @@ const OBJECTS_WITH_A_FAULT: [Table<'static>; 16] = [
         &[
             &[TEXT_IN_R1, Tst(R0), IF_EQUAL_4, RETURN, Ret(R1)],
             &[TEXT_IN_R1, Tst(R0), IF_EQUAL_4, Ret(R1), RETURN],
+        ],
+    ),
+    (
+        Err(DifFault::Unset { pc: 0 }),
+        &[
+            &[Mov(R1, R2), RETURN],
+            &[Branch(Condition::Equal, 1), RETURN],
         ],
     ),
     (
