@@ -9,7 +9,8 @@ use Rattle.clap.specs.declared.error.kind.ErrorKind.TheVariants.{OutOfMemory, Un
 use Rattle.clap.specs.declared.error.kind.ErrorKind.{ErrorKind}
 use Rattle.clap.proofs.OnLiterals.{clap_on_literals}
 use Rattle.dreplay.specs.Words.{Asks, AsksHelp, HasPlan, IsAskedIn, IsFaultOf, IsNumberIn, IsOption}
-use Rattle.dreplay.specs.Words.{IsPlanFault, IsPlanIn, IsToldAs, Mistakes, Runs, engine_called}
+use Rattle.dreplay.specs.Words.{IsPlanBy, IsPlanFault, IsPlanIn, IsToldAs, IsValue, Mistakes, Runs}
+use Rattle.dreplay.specs.Words.{SetPlan, engine_called}
 use Rattle.dreplay.specs.Words.{file_in, program}
 use Rattle.std.specs.Prelude.{◌≤◌, IfErr, IsSomeAnd, MatchResult, Result, Ok, Err, option_and_then}
 use Rattle.std.proofs.lemmas.Option.{same_Some}
@@ -220,3 +221,59 @@ pub defaults : (words : List (List ℕ)) (file : Option (List ℕ)) (asked : Ask
     → Asks words asked → IsDefault asked.plan
 defaults words file asked runs asks =
     default_plan (matches_of program words) asked.plan (has_defaults words file runs) asks.named.plan
+
+-- the values that the words give to the options of a plan
+record HasValues (rows : List Row) (w g e : List ℕ) : Type 0 where
+  workers : one_of (codes "workers") rows ≡ Some w
+  groups : one_of (codes "groups") rows ≡ Some g
+  engine : first_of (codes "engine") rows ≡ Some e
+
+no_hyphen : (b : ℕ) → b ≢ 45 → (t : Bool) → (b == 45) ≡ t → (b == 45) ≡ false
+no_hyphen b other false differs = differs
+no_hyphen b other true same = absurd (other (search rules))
+
+workers_value : (b : ℕ) (rest : List ℕ) → (b == 45) ≡ false
+    → HasValues (matches_of program (codes "-w" ∷ (b ∷ rest) ∷ [])) (b ∷ rest) (codes "16") (codes "dif")
+unfolding clap_on_literals
+workers_value b rest other = record {
+  workers = rw (other, other, other) refl;
+  groups = rw (other, other) refl;
+  engine = rw (other, other) refl;
+}
+
+groups_value : (b : ℕ) (rest : List ℕ) → (b == 45) ≡ false
+    → HasValues (matches_of program (codes "-g" ∷ (b ∷ rest) ∷ [])) (codes "4") (b ∷ rest) (codes "dif")
+unfolding clap_on_literals
+groups_value b rest other = record {
+  workers = rw (other, other) refl;
+  groups = rw (other, other, other) refl;
+  engine = rw (other, other) refl;
+}
+
+engine_value : (b : ℕ) (rest : List ℕ) → (b == 45) ≡ false
+    → HasValues (matches_of program (codes "-e" ∷ (b ∷ rest) ∷ [])) (codes "4") (codes "16") (b ∷ rest)
+unfolding clap_on_literals
+engine_value b rest other = record {
+  workers = rw (other, other) refl;
+  groups = rw (other, other) refl;
+  engine = rw (other, other) refl;
+}
+
+has_values : (words : List (List ℕ)) (workers groups engine : List ℕ) → SetPlan words workers groups engine
+    → HasValues (matches_of program words) workers groups engine
+has_values _ _ _ _ (SetPlan.workers w v) = rw v.2 (workers_value v.0 v.1 (no_hyphen v.0 v.3 (v.0 == 45) refl))
+has_values _ _ _ _ (SetPlan.groups g v) = rw v.2 (groups_value v.0 v.1 (no_hyphen v.0 v.3 (v.0 == 45) refl))
+has_values _ _ _ _ (SetPlan.engine e v) = rw v.2 (engine_value v.0 v.1 (no_hyphen v.0 v.3 (v.0 == 45) refl))
+
+plan_by : (rows : List Row) (workers groups engine : List ℕ) (plan : Plan) → HasValues rows workers groups engine
+    → IsPlanIn rows plan → IsPlanBy workers groups engine plan
+plan_by rows workers groups engine plan has is = record {
+  workers = sym (number_is 1 MOST_WORKERS rows (codes "workers") workers plan.workers has.workers is.workers);
+  groups = is.groups.1 ∙ ap Dealt (sym (number_is 1 MOST_GROUPS rows (codes "groups") groups is.groups.0 has.groups is.groups.2));
+  engine = sym (ap (option_and_then engine_called) has.engine) ∙ is.engine;
+}
+
+pub plans_named : (words : List (List ℕ)) (workers groups engine : List ℕ) (asked : Asked)
+    → SetPlan words workers groups engine → Asks words asked → IsPlanBy workers groups engine asked.plan
+plans_named words workers groups engine asked set asks =
+    plan_by (matches_of program words) workers groups engine asked.plan (has_values words workers groups engine set) asks.named.plan

@@ -126,6 +126,23 @@ pub data Runs : List (List ℕ) → Option (List ℕ) → Type 0 where
   script : (file : List ℕ) → ¬ IsOption file → Runs (codes "-s" ∷ file ∷ []) (Some file)
   joined : (b : ℕ) (rest : List ℕ) → b ≢ 61 → Runs ((codes "-s" ++ b ∷ rest) ∷ []) (Some (b ∷ rest))
 
+-- a word that doesn't begin with a hyphen
+abbrev pub IsValue : List ℕ → Type 0
+IsValue word = (b : ℕ) × (rest : List ℕ) × (word ≡ b ∷ rest) × (b ≢ 45)
+
+-- the words that set the workers, the groups or the engine, with the three values that these then
+-- have
+pub data SetPlan : List (List ℕ) → (workers groups engine : List ℕ) → Type 0 where
+  workers : (w : List ℕ) → IsValue w → SetPlan (codes "-w" ∷ w ∷ []) w (codes "16") (codes "dif")
+  groups : (g : List ℕ) → IsValue g → SetPlan (codes "-g" ∷ g ∷ []) (codes "4") g (codes "dif")
+  engine : (e : List ℕ) → IsValue e → SetPlan (codes "-e" ∷ e ∷ []) (codes "4") (codes "16") e
+
+-- the plan with the workers, the groups and the engine that these values name
+pub record IsPlanBy (w g e : List ℕ) (plan : Plan) : Type 0 where
+  pub workers : plan.workers ≡ digits_value 10 (without_leading_plus w)
+  pub groups : plan.groups ≡ Dealt (digits_value 10 (without_leading_plus g))
+  pub engine : engine_called e ≡ Some plan.engine
+
 -- the words that ask for help
 pub data AsksHelp : List (List ℕ) → Type 0 where
   short : AsksHelp (codes "-h" ∷ [])

@@ -11,7 +11,8 @@ ghost use Rattle.dreplay.specs.Vocabulary.{Refusal, Replayed};
 ghost use Rattle.dreplay.specs.Answer.{IsAnswer, IsSameAnswer, Shown, without_line};
 ghost use Rattle.dreplay.specs.Plans.{IsDefault, IsGroupedBy, IsInBounds};
 ghost use Rattle.dreplay.specs.Replaying.{IsOfPlan, IsReplay, output_of};
-ghost use Rattle.dreplay.specs.Words.{Asks, AsksHelp, Mistakes, Runs, file_in, program};
+ghost use Rattle.dreplay.specs.Words.{Asks, AsksHelp, IsPlanBy, Mistakes, Runs, SetPlan};
+ghost use Rattle.dreplay.specs.Words.{file_in, program};
 
 /// A bundle is divided in one way.
 pub fn one_division()
@@ -80,6 +81,14 @@ pub fn runs_accepted()
 pub fn plans_by_default()
     ensures { (words : List (List ℕ)) (file : Option (List ℕ)) (asked : Asked) → Runs words file
         → Asks words asked → IsDefault asked.plan }
+{}
+
+/// `-w W`, `-g G` and `-e E`, each alone, set the workers, the groups and the engine to this value,
+/// and leave the others as they are by default.
+pub fn plans_by_words()
+    ensures { (words : List (List ℕ)) (workers groups engine : List ℕ) (asked : Asked)
+        → SetPlan words workers groups engine → Asks words asked
+        → IsPlanBy workers groups engine asked.plan }
 {}
 
 /// `-h` and `--help` ask for help.
