@@ -188,6 +188,17 @@ pub tables_length : (first all now : List Aggregation) (place : ℕ) → functio
 tables_length first all now place same m =
     sym (length-map now (λ a. a.function)) ∙ ap length (m.functions ∙ same) ∙ length-map all (λ a. a.function)
 
+-- the aggregation at the place has the function of what it takes
+pub tables_function : (first all now : List Aggregation) (place : ℕ) (old more : Aggregation) → functions_of first ≡ functions_of all
+    → MergingTables first all place now → place < length now → old ≡ get_or now place old
+    → place < length all → more ≡ get_or all place more → old.function ≡ more.function
+tables_function first all now place old more same m within was within_all is =
+    let old_there : slice_get now place ≡ Some old = slice_get-get_or now place old within ∙ ap Some (sym was) in
+    let more_there : slice_get all place ≡ Some more = slice_get-get_or all place more within_all ∙ ap Some (sym is) in
+    some_is (sym (ap (option_map (λ a. a.function)) old_there) ∙ sym (slice_get-map (λ a. a.function) now place)
+    ∙ ap (λ fs. slice_get fs place) (m.functions ∙ same) ∙ slice_get-map (λ a. a.function) all place
+    ∙ ap (option_map (λ a. a.function)) more_there)
+
 pub enumerated : (all : List Aggregation) (i : ℕ) (p : ℕ × Aggregation) → i < length (enumerate_from 0 all) → p ≡ get_or (enumerate_from 0 all) i p
     → (p.0 ≡ i) × (i < length all) × (p.1 ≡ get_or all i p.1)
 enumerated all i p lt is =

@@ -9,6 +9,7 @@ mod histogram;
 pub mod laws;
 mod linear_range;
 mod partial;
+mod slot;
 mod table;
 
 pub use function::AggFn;

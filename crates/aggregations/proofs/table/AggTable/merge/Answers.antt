@@ -8,11 +8,15 @@ use Rattle.std.proofs.lemmas.Iterator.Consumers.{YieldsList-end}
 use Rattle.std.proofs.lemmas.List.FromFn.{length-enumerate_from}
 use Rattle.aggregations.specs.Table.{count_held, functions_of}
 use Rattle.aggregations.proofs.MergeLemmas.{MergingTables, enumerated, tables_start, tables_room}
-use Rattle.aggregations.proofs.MergeLemmas.{tables_length, tables_more, tables_set, tables_all}
+use Rattle.aggregations.proofs.MergeLemmas.{tables_function, tables_length}
+use Rattle.aggregations.proofs.MergeLemmas.{tables_more, tables_set, tables_all}
 use Rattle.aggregations.proofs.table.AggTable.merge.Goals as goal
 
 pub loop-agg-init : goal.loop-agg-init
-loop-agg-init c = subst (MergingTables c.args.self.now c.args.other 0) (sym c.self.view_is) (tables_start c.args.self.now c.args.other)
+loop-agg-init c = (
+  subst (MergingTables c.args.self.now c.args.other 0) (sym c.self.view_is) (tables_start c.args.self.now c.args.other),
+  c.self.invariant.1,
+)
 
 pub index_mut-requires : goal.index_mut-requires
 index_mut-requires c =
@@ -25,7 +29,7 @@ index_mut-requires c =
     let item = enumerated all place (c.in-Some.agg, c.in-Some.more) t.0 t.1 in
     let first = c.args.self.now in
     let now = c.loop-agg.self-inside.aggregations.items in
-    let m = subst (λ l. MergingTables first l place now) (sym c.other.view_is) c.loop-agg.invariant in
+    let m = subst (λ l. MergingTables first l place now) (sym c.other.view_is) c.loop-agg.invariant.0 in
     let same = c.requires.functions ∙ ap functions_of (sym c.other.view_is) in
     let many = tables_length first all now place same m in
     let lt = item.1 in
@@ -44,7 +48,7 @@ merge-requires c =
     let item = enumerated all place (c.in-Some.agg, c.in-Some.more) t.0 t.1 in
     let first = c.args.self.now in
     let now = c.loop-agg.self-inside.aggregations.items in
-    let m = subst (λ l. MergingTables first l place now) (sym c.other.view_is) c.loop-agg.invariant in
+    let m = subst (λ l. MergingTables first l place now) (sym c.other.view_is) c.loop-agg.invariant.0 in
     let same = c.requires.functions ∙ ap functions_of (sym c.other.view_is) in
     let many = tables_length first all now place same m in
     let within : place < length now = let lt = item.1 in omega arith in
@@ -52,7 +56,17 @@ merge-requires c =
     let room = tables_room first all now place c.index_mut.result.now c.in-Some.more m within was item.1 item.2 in
     let held : count_held all ≡ count_held c.args.other = ap count_held c.other.view_is in
     let few = c.requires.room in
-    omega arith
+    record {
+      function = tables_function first all now place c.index_mut.result.now c.in-Some.more same m within was item.1 item.2;
+      room = omega arith;
+    }
+
+pub invariant_of-self : goal.invariant_of-self
+invariant_of-self c =
+    let held : count_held c.other.inside.aggregations.items ≡ count_held c.args.other = ap count_held c.other.view_is in
+    let few = c.requires.room in
+    let sum = c.loop-agg.invariant.0.held in
+    (omega arith, c.loop-agg.invariant.1)
 
 pub loop-agg-preserved : goal.loop-agg-preserved
 loop-agg-preserved c =
@@ -65,16 +79,18 @@ loop-agg-preserved c =
     let item = enumerated all place (c.in-Some.agg, c.in-Some.more) t.0 t.1 in
     let first = c.args.self.now in
     let now = c.loop-agg.self-inside.aggregations.items in
-    let m = subst (λ l. MergingTables first l place now) (sym c.other.view_is) c.loop-agg.invariant in
+    let m = subst (λ l. MergingTables first l place now) (sym c.other.view_is) c.loop-agg.invariant.0 in
     let same = c.requires.functions ∙ ap functions_of (sym c.other.view_is) in
     let many = tables_length first all now place same m in
     let within : place < length now = let lt = item.1 in omega arith in
     let was = subst (λ i. c.index_mut.result.now ≡ get_or now i c.index_mut.result.now) item.0 c.index_mut.ensures.value in
     let next = tables_more first all now place c.index_mut.result.now c.in-Some.more c.merge.new.self m within was item.1 item.2
-    c.merge.ensures.function c.in_ok-merge.ensures.ok c.merge.ensures.count in
-    subst (λ n. MergingTables first c.args.other n (set now c.in-Some.agg c.merge.new.self)) (sym (length_push c.loop-agg.yielded (c.in-Some.agg, c.in-Some.more)))
-    (subst (λ i. MergingTables first c.args.other (place + 1) (set now i c.merge.new.self)) (sym item.0)
-    (subst (λ l. MergingTables first l (place + 1) (set now place c.merge.new.self)) c.other.view_is next))
+    c.merge.ensures.function c.in_ok-merge.ensures.ok c.merge.ensures.count in (
+      subst (λ n. MergingTables first c.args.other n (set now c.in-Some.agg c.merge.new.self)) (sym (length_push c.loop-agg.yielded (c.in-Some.agg, c.in-Some.more)))
+          (subst (λ i. MergingTables first c.args.other (place + 1) (set now i c.merge.new.self)) (sym item.0)
+          (subst (λ l. MergingTables first l (place + 1) (set now place c.merge.new.self)) c.other.view_is next)),
+      c.loop-agg.invariant.1,
+    )
 
 pub returns-clause-ok : goal.returns-clause-ok
 returns-clause-ok c =
@@ -85,7 +101,7 @@ returns-clause-ok c =
     let t = YieldsList-end items c.loop-agg.yielded c.loop-agg.agg-iterator c.loop-agg.yielded_by c.next.result c.next.new.self c.in-None.is c.next.ensures.steps in
     let end : length c.loop-agg.yielded ≡ length c.args.other = t.1 ∙ length-enumerate_from 0 all ∙ ap length c.other.view_is in
     let now = c.loop-agg.self-inside.aggregations.items in
-    λ xs ys. tables_all c.args.self.now c.args.other now xs ys c.requires.functions (subst (λ n. MergingTables c.args.self.now c.args.other n now) end c.loop-agg.invariant)
+    λ xs ys. tables_all c.args.self.now c.args.other now xs ys c.requires.functions (subst (λ n. MergingTables c.args.self.now c.args.other n now) end c.loop-agg.invariant.0)
 
 pub invariant_of-self-in_err-merge : goal.invariant_of-self-in_err-merge
 invariant_of-self-in_err-merge c =
@@ -98,7 +114,7 @@ invariant_of-self-in_err-merge c =
     let item = enumerated all place (c.in-Some.agg, c.in-Some.more) t.0 t.1 in
     let first = c.args.self.now in
     let now = c.loop-agg.self-inside.aggregations.items in
-    let m = subst (λ l. MergingTables first l place now) (sym c.other.view_is) c.loop-agg.invariant in
+    let m = subst (λ l. MergingTables first l place now) (sym c.other.view_is) c.loop-agg.invariant.0 in
     let same = c.requires.functions ∙ ap functions_of (sym c.other.view_is) in
     let many = tables_length first all now place same m in
     let within : place < length now = let lt = item.1 in omega arith in
@@ -107,7 +123,7 @@ invariant_of-self-in_err-merge c =
     let held : count_held all ≡ count_held c.args.other = ap count_held c.other.view_is in
     let few = c.requires.room in
     let sum = both.1 in
-    subst (λ i. count_held (set now i c.merge.new.self) ≤ 2 ^ 52) (sym item.0) (omega arith)
+    (subst (λ i. count_held (set now i c.merge.new.self) ≤ 2 ^ 52) (sym item.0) (omega arith), c.loop-agg.invariant.1)
 
 pub returns-in_err-merge-clause-functions : goal.returns-in_err-merge-clause-functions
 returns-in_err-merge-clause-functions c =
@@ -120,7 +136,7 @@ returns-in_err-merge-clause-functions c =
     let item = enumerated all place (c.in-Some.agg, c.in-Some.more) t.0 t.1 in
     let first = c.args.self.now in
     let now = c.loop-agg.self-inside.aggregations.items in
-    let m = subst (λ l. MergingTables first l place now) (sym c.other.view_is) c.loop-agg.invariant in
+    let m = subst (λ l. MergingTables first l place now) (sym c.other.view_is) c.loop-agg.invariant.0 in
     let same = c.requires.functions ∙ ap functions_of (sym c.other.view_is) in
     let many = tables_length first all now place same m in
     let within : place < length now = let lt = item.1 in omega arith in
@@ -139,7 +155,7 @@ returns-in_err-merge-clause-held c =
     let item = enumerated all place (c.in-Some.agg, c.in-Some.more) t.0 t.1 in
     let first = c.args.self.now in
     let now = c.loop-agg.self-inside.aggregations.items in
-    let m = subst (λ l. MergingTables first l place now) (sym c.other.view_is) c.loop-agg.invariant in
+    let m = subst (λ l. MergingTables first l place now) (sym c.other.view_is) c.loop-agg.invariant.0 in
     let same = c.requires.functions ∙ ap functions_of (sym c.other.view_is) in
     let many = tables_length first all now place same m in
     let within : place < length now = let lt = item.1 in omega arith in

@@ -1,0 +1,123 @@
+//! An aggregation's place in a table.
+
+ghost use Rattle.std.specs.Prelude.{◌≡◌, ◌+◌, ◌<◌, ◌≤◌, ◌^◌, [], map, IfOk, IfSome, IsNone, OnOk};
+ghost use Rattle.std.specs.Prelude.{OnErr};
+
+use crate::entries::Entries;
+use crate::function::AggFn;
+use crate::partial::Partial;
+use d_values::Key;
+use indexmap::IndexMap;
+use keyed_hash::HashKey;
+use std::alloc::{AllocError, Global};
+use std::marker::Model;
+
+/// One aggregation. Its entries have a map only once there is one: a script can have thousands of
+/// aggregations in thousands of groups, most of them without an entry.
+#[derive(Drop)]
+pub(crate) struct Slot {
+    function: AggFn,
+    entries: Option<Box<Entries>>,
+}
+
+impl Model for Slot {
+    ghost use Rattle.std.specs.Prelude.{◌≡◌, [], IfSome};
+    ghost use Rattle.std.specs.Option.{option_map, unwrap_or};
+    ghost use Rattle.aggregations.specs.Table.{Aggregation};
+
+    ghost Value = { Aggregation };
+
+    ghost view = { λ s. record {
+      function = s.function;
+      entries = unwrap_or (option_map (λ b. b.value.entries) s.entries) [];
+    } };
+
+    ghost invariant = { λ s. IfSome s.entries (λ b. b.value.function ≡ s.function) };
+}
+
+impl Slot {
+    ghost use Rattle.aggregations.specs.{Table.count_of};
+    ghost use Rattle.aggregations.specs.Vocabulary.{IsDistinct, deref_pair, keys_of, same_key};
+    ghost use Rattle.aggregations.specs.Entries.{TakesAll, TakesArgument};
+
+    /// Without entries.
+    pub(crate) fn new(function: AggFn) -> Slot
+        ensures { result ≡ record { function = function; entries = [] } }
+    {
+        Slot {
+            function,
+            entries: None,
+        }
+    }
+
+    pub(crate) fn function(&self) -> AggFn
+        ensures { result ≡ self.now.function }
+    {
+        self.function
+    }
+
+    /// Takes one argument for the key, which is cloned only where it has no entry yet. A map that
+    /// this makes hashes by the hash key.
+    pub(crate) fn add(
+        &mut self,
+        alloc: Global,
+        hash_key: HashKey,
+        key: &Key,
+        arg: i64,
+    ) -> Result<(), AllocError>
+        requires { count_of self.old < 2 ^ 52 }
+        ensures function { self.new.function ≡ self.old.function }
+        ensures ok { OnOk result (TakesArgument self.old self.new key.now arg) }
+        ensures count { count_of self.new ≤ count_of self.old + 1 }
+        ensures err { OnErr result (self.new ≡ self.old) }
+    {
+        match &mut self.entries {
+            Some(entries) => entries.add(key, arg),
+            None => {
+                let mut entries = Entries::new(alloc, hash_key, self.function);
+                entries.add(key, arg)?;
+                self.entries = Some(Box::new(alloc, entries)?);
+                Ok(())
+            }
+        }
+    }
+
+    /// Takes the arguments of the other's entries too.
+    pub(crate) fn merge(&mut self, other: Slot) -> Result<(), AllocError>
+        requires function { self.old.function ≡ other.function }
+        requires room { count_of self.old + count_of other ≤ 2 ^ 52 }
+        ensures function { self.new.function ≡ self.old.function }
+        ensures ok { OnOk result (TakesAll self.old other self.new) }
+        ensures count { count_of self.new ≤ count_of self.old + count_of other }
+    {
+        let Some(more) = other.entries else {
+            return Ok(());
+        };
+        match &mut self.entries {
+            Some(entries) => entries.merge(Box::into_inner(more)),
+            None => {
+                self.entries = Some(more);
+                Ok(())
+            }
+        }
+    }
+
+    /// The entries, in no promised order.
+    pub(crate) fn list(&self, alloc: Global) -> Result<Vec<(&Key, &Partial)>, AllocError>
+        ensures entries { IfOk result (λ es. map deref_pair es.items ≡ self.now.entries) }
+        ensures once { IsDistinct same_key (keys_of self.now.entries) }
+    {
+        match &self.entries {
+            Some(entries) => entries.list(alloc),
+            None => Ok(Vec::new(alloc)),
+        }
+    }
+
+    /// The map of the entries, where it is made.
+    pub(crate) fn map(&self) -> Option<&IndexMap<Key, Partial, HashKey>>
+        ensures some { IfSome result (λ m. m.now.entries ≡ self.now.entries) }
+        ensures none { IsNone result → self.now.entries ≡ [] }
+    {
+        self.entries.as_ref().map(|entries| entries.map())
+    }
+}
