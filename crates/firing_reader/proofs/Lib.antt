@@ -1,6 +1,7 @@
 pub mod Numerals
 pub mod FieldTexts
 pub mod Left
+pub mod RowEnds
 pub mod Rows
 pub mod Fields
 pub mod RowFaults
@@ -19,3 +20,4 @@ pub mod SameBytes
 pub mod Shared
 pub mod PlainArguments
 pub mod RowParts
+pub mod BlockSteps

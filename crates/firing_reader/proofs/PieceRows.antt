@@ -11,10 +11,11 @@ use Rattle.csv.specs.declared.parser.State.TheVariants as st
 use Rattle.firing_reader.specs.declared.firing.Firing.{Firing}
 use Rattle.firing_reader.specs.Left.{left_in}
 use Rattle.firing_reader.specs.Firings.{number_of}
-use Rattle.firing_reader.specs.Plain.{IsPiece, ReadsRow, ReadsRows, Rises, rows_in}
+use Rattle.firing_reader.specs.Plain.{IsPiece, ReadsMore, ReadsRow, ReadsRows, Rises, rows_in}
 use Rattle.firing_reader.specs.Trace.{last_number, rows_of}
 use Rattle.firing_reader.proofs.Left.{left_more, left_none}
 use Rattle.firing_reader.proofs.PlainRows.{skip_feed}
+use Rattle.firing_reader.proofs.Rows.{last_push, rows_first}
 
 row_tail : (a b t : List ℕ) (f : Firing) → ReadsRow a b f → ReadsRow (a ++ t) (b ++ t) f
 row_tail a b t f h = record {
@@ -45,6 +46,25 @@ unfolding Rises
 rises_join last [] mid gs end h k = rw h k
 rises_join last (f ∷ fs) mid gs end (first, more) k = (first, rises_join f.number fs mid gs end more k)
 
+pub more_first : (bytes : List ℕ) (fs : List Firing) → ReadsMore bytes fs fs bytes
+unfolding ReadsRows Rises
+more_first bytes fs = record { more = []; is_new = sym (append-nil fs); rows = refl; rises = refl }
+
+pub more_row : (bytes : List ℕ) (old fs : List Firing) (mid : List ℕ) (f : Firing) (rest : List ℕ) → ReadsMore bytes old fs mid → ReadsRow mid rest f → last_number fs < f.number → ReadsMore bytes old (fs ++ f ∷ []) rest
+unfolding Rises
+more_row bytes old fs mid f rest h row rises = record {
+  more = h.more ++ f ∷ [];
+  is_new = ap (λ (l : List Firing). l ++ f ∷ []) h.is_new ∙ append_assoc old h.more (f ∷ []);
+  rows = rows_push bytes h.more mid f rest h.rows row;
+  rises = rw (last_push fs f) (rises_join (last_number old) h.more (last_number fs) (f ∷ []) f.number h.rises (rises, refl));
+}
+
+-- bytes that are nothing but rows
+pub more_piece : (bytes : List ℕ) (old new : List Firing) (rest : List ℕ) → old ≡ [] → rest ≡ 10 ∷ [] → ReadsMore bytes old new rest → IsPiece bytes new
+more_piece bytes old new rest none one h =
+    let all : new ≡ h.more = rw none at h.is_new in
+    record { rows = rw (all, ← one) h.rows; rises = rw (← all) at (rw none at h.rises) }
+
 -- two pieces of bytes that share the line feed between them, read apart
 pub pieces : (a : List ℕ) (fs : List Firing) (b : List ℕ) (gs : List Firing) (c : List ℕ) → ReadsRows a fs (10 ∷ []) → ReadsRows (10 ∷ b) gs c → ReadsRows (a ++ b) (fs ++ gs) c
 pieces a fs b gs c h k = rows_join (a ++ b) fs (10 ∷ b) gs c (rows_tail a fs (10 ∷ []) b h) k
@@ -74,8 +94,8 @@ one_feed rest [] is one = is
 one_feed rest (b ∷ more) is one = absurd (omega (arith, ap length is, one))
 
 -- a piece that is the whole
-pub whole_piece : (after : List ℕ) (fs : List Firing) → IsPiece (10 ∷ after) fs → length fs ≤ 1_000_000 → rows_in (10 ∷ after) ≡ Ok fs
-whole_piece after fs is few = rows_all (10 ∷ after) fs 1 0 (last_number fs) is.rows is.rises (omega arith)
+pub whole_piece : (after : List ℕ) (fs : List Firing) → IsPiece (10 ∷ after) fs → length fs ≤ 1_000_000 → rows_in [] (10 ∷ after) ≡ Ok fs
+whole_piece after fs is few = rows_first (left_in st.StartRecord (Some (10 ∷ after))) ∙ rows_all (10 ∷ after) fs 1 0 (last_number fs) is.rows is.rises (omega arith)
 
 -- two pieces that share a line feed are one
 pub piece_join : (bytes left right after : List ℕ) (fs gs : List Firing) → right ≡ 10 ∷ after → bytes ≡ left ++ after → IsPiece left fs → IsPiece right gs

@@ -1,7 +1,7 @@
 -- What csv reads of bytes that begin with a plain field.
 use Rattle.std.proofs.Common.{◌≡◌, ◌≢◌, ◌<◌, ◌≤◌, ◌+◌, ℕ, suc, false, List, [], ◌∷◌, ◌++◌, length}
-use Rattle.std.proofs.Common.{Some, Result, Ok, Err, refl, ap, ◌∙◌, append_assoc, arith, add-one}
-use Rattle.std.proofs.Common.{length-append, inl, inr, All}
+use Rattle.std.proofs.Common.{Some, Ok, Err, refl, sym, ap, ◌∙◌, append_assoc, arith, add-one, inl}
+use Rattle.std.proofs.Common.{inr, All}
 use Rattle.std.specs.Prelude.{◌==◌}
 use Rattle.std.proofs.lemmas.Bool.Decides.{eqb_tells}
 use Rattle.std.proofs.lemmas.List.Elements.{All-head, All-tail}
@@ -13,11 +13,13 @@ use Rattle.csv.proofs.RoundTrip.{start-same, record-same}
 use Rattle.firing_reader.specs.declared.firing.Firing.{Firing}
 use Rattle.firing_reader.specs.declared.fault.TraceFault.{TraceFault}
 use Rattle.firing_reader.specs.Left.{left_in}
-use Rattle.firing_reader.specs.Plain.{with_front, rows_after, rows_in, Closes, BeginsWith, GoesOn}
-use Rattle.firing_reader.specs.Plain.{JoinsField, Passes, ReadsRow}
-use Rattle.firing_reader.specs.Trace.{last_number, rows_of}
-use Rattle.firing_reader.proofs.Left.{enough, left_more}
-use Rattle.firing_reader.proofs.Rows.{goes_on, last_push}
+use Rattle.firing_reader.specs.Blocks.{AreRead}
+use Rattle.firing_reader.specs.Plain.{rows_after, rows_in, Closes, BeginsWith, GoesOn, JoinsField}
+use Rattle.firing_reader.specs.Plain.{Leaves, Passes, ReadsRow}
+use Rattle.firing_reader.specs.RowEnds.{RowsEnd}
+use Rattle.firing_reader.specs.Trace.{last_number}
+use Rattle.firing_reader.proofs.Left.{ends_bytes, enough, left_more, shorter}
+use Rattle.firing_reader.proofs.Rows.{after_err, after_none, after_ok, one_row, rows_first}
 
 pub is_not : (b c : ℕ) → b ≢ c → (b == c) ≡ false
 is_not b c ne = elim (eqb_tells b c) [
@@ -77,30 +79,86 @@ feed_no_mark [] = refl
 feed_no_mark (a ∷ []) = refl
 feed_no_mark (a ∷ b ∷ rest) = refl
 
--- one more row
-pub goes_plain : (firings : List Firing) (f : Firing) (bytes rest all : List ℕ) → ReadsRow bytes rest f → last_number firings < f.number → length firings + 1 ≤ 1_000_000
-    → GoesOn firings bytes all → GoesOn (firings ++ f ∷ []) rest all
-goes_plain firings f bytes rest all h rises few so_far =
-    let read : next_record default_config st.StartRecord [] [] bytes ≡ Some (h.fields, st.StartRecord, h.after) = rw (append-nil bytes, append-nil h.after) at (h.read []) in
-    let more = (left_more st.StartRecord bytes (h.fields, st.StartRecord, h.after) refl read).0 in
-    let left : left_in st.StartRecord (Some rest) ≡ left_in st.StartRecord (Some h.after) = ap (λ (l : List ℕ). left_in st.StartRecord (Some l)) h.is_rest ∙ skip_feed h.after in
-    let next = goes_on firings (length firings + 1) (last_number firings) h.fields (left_in st.StartRecord (Some bytes)) (left_in st.StartRecord (Some h.after)) f (rows_in all) more (h.firing (length firings + 1) (last_number firings) few rises) so_far in
-    rw (left, last_push firings f, length-append firings (f ∷ [])) next
-
-goes_front : (r : Result (List Firing) TraceFault) → with_front [] r ≡ r
-goes_front (Ok es) = refl
-goes_front (Err e) = refl
-
-pub goes_none : (firings : List Firing) (bytes : List ℕ) → firings ≡ [] → GoesOn firings bytes bytes
-goes_none firings bytes none = rw none (goes_front (rows_in bytes))
-
-pub rows_after_none : (firings : List Firing) (rows : List (List (List ℕ))) → firings ≡ [] → rows_after firings rows ≡ rows_of 1 0 rows
-rows_after_none firings rows none = rw none (goes_front (rows_of 1 0 rows))
-
--- what csv reads of the bytes after plain rows
-pub after_plain : (firings : List Firing) (rest bytes : List ℕ) (left : List (List (List ℕ))) → (after : List ℕ) × (rest ≡ 10 ∷ after) → left ≡ records default_config (strip_bom rest)
-    → GoesOn firings rest bytes → rows_after firings left ≡ rows_in bytes
+-- the records of bytes that begin at a line feed
+pub left_feed : (bytes : List ℕ) → (after : List ℕ) × (bytes ≡ 10 ∷ after) → records default_config (strip_bom bytes) ≡ left_in st.StartRecord (Some bytes)
 unfolding left_in
-after_plain firings rest bytes left (after, is) all so_far =
-    let same : left ≡ left_in st.StartRecord (Some rest) = all ∙ rw (is, feed_no_mark after) refl in
-    ap (rows_after firings) same ∙ so_far
+left_feed bytes (after, is) = rw (is, feed_no_mark after) refl
+
+-- a row is the next record, and the rest comes after it
+row_taken : (bytes rest tail : List ℕ) (f : Firing) (h : ReadsRow bytes rest f) → left_in st.StartRecord (Some (bytes ++ tail)) ≡ h.fields ∷ left_in st.StartRecord (Some (rest ++ tail))
+row_taken bytes rest tail f h =
+    let more = (left_more st.StartRecord (bytes ++ tail) (h.fields, st.StartRecord, h.after ++ tail) refl (h.read tail)).0 in
+    let left : left_in st.StartRecord (Some (rest ++ tail)) ≡ left_in st.StartRecord (Some (h.after ++ tail)) = ap (λ (l : List ℕ). left_in st.StartRecord (Some (l ++ tail))) h.is_rest ∙ skip_feed (h.after ++ tail) in
+    more ∙ ap (λ (l : List (List (List ℕ))). h.fields ∷ l) (sym left)
+
+pub goes_first : (firings : List Firing) (bytes : List ℕ) → GoesOn firings bytes firings bytes
+goes_first firings bytes = record { rows = []; read = after_none firings; taken = λ tail. refl }
+
+-- one more row
+pub goes_row : (old : List Firing) (bytes : List ℕ) (firings : List Firing) (mid : List ℕ) (f : Firing) (rest : List ℕ) → ReadsRow mid rest f → last_number firings < f.number → length firings + 1 ≤ 1_000_000
+    → GoesOn old bytes firings mid → GoesOn old bytes (firings ++ f ∷ []) rest
+goes_row old bytes firings mid f rest h rises few g = record {
+  rows = g.rows ++ h.fields ∷ [];
+  read = after_ok old g.rows (h.fields ∷ []) firings g.read ∙ one_row firings f h.fields [] (h.firing (length firings + 1) (last_number firings) few rises) ∙ after_none (firings ++ f ∷ []);
+  taken = λ tail. g.taken tail ∙ ap (λ (l : List (List (List ℕ))). g.rows ++ l) (row_taken mid rest tail f h) ∙ sym (append_assoc g.rows (h.fields ∷ []) (left_in st.StartRecord (Some (rest ++ tail))));
+}
+
+pub goes_both : (a : List Firing) (x : List ℕ) (b : List Firing) (y : List ℕ) (c : List Firing) (z : List ℕ) → GoesOn a x b y → GoesOn b y c z → GoesOn a x c z
+goes_both a x b y c z g h = record {
+  rows = g.rows ++ h.rows;
+  read = after_ok a g.rows h.rows b g.read ∙ h.read;
+  taken = λ tail. g.taken tail ∙ ap (λ (l : List (List (List ℕ))). g.rows ++ l) (h.taken tail) ∙ sym (append_assoc g.rows h.rows (left_in st.StartRecord (Some (z ++ tail))));
+}
+
+pub leaves_first : (bytes : List ℕ) → (after : List ℕ) × (bytes ≡ 10 ∷ after) → Leaves bytes bytes
+leaves_first bytes (after, is) = record { first = 10; front = []; after = after; is_bytes = is; is_rest = is }
+
+pub leaves_row : (bytes mid : List ℕ) (f : Firing) (rest : List ℕ) → Leaves bytes mid → ReadsRow mid rest f → Leaves bytes rest
+leaves_row bytes mid f rest g h =
+    let read : next_record default_config st.StartRecord [] [] mid ≡ Some (h.fields, st.StartRecord, h.after) = rw (append-nil mid, append-nil h.after) at (h.read []) in
+    let less = (shorter default_config st.StartRecord mid (h.fields, st.StartRecord, h.after) refl read).1 in
+    let (front, is) = ends_bytes default_config st.StartRecord [] [] mid (h.fields, st.StartRecord, h.after) read in
+    by front is less
+  where
+    by : (front : List ℕ) → mid ≡ front ++ h.after → length h.after < length mid → Leaves bytes rest
+    by [] is less = absurd (omega (arith, ap length is))
+    by (b ∷ more) is less =
+        let after : g.after ≡ more ++ h.after = cc (g.is_rest, is) in
+        record {
+          first = g.first;
+          front = g.front ++ more;
+          after = h.after;
+          is_bytes = g.is_bytes ∙ ap (λ (l : List ℕ). g.first ∷ l) (ap (λ (l : List ℕ). g.front ++ l) after ∙ sym (append_assoc g.front more h.after));
+          is_rest = h.is_rest;
+        }
+
+-- bytes where rows end, which csv reads
+pub goes_chunk : (a : List Firing) (chunk rest : List ℕ) (b : List Firing) → RowsEnd chunk → rows_in a chunk ≡ Ok b → GoesOn a (chunk ++ rest) b rest
+goes_chunk a chunk rest b ends read = record {
+  rows = left_in st.StartRecord (Some chunk);
+  read = read;
+  taken = λ tail. rw (append_assoc chunk rest tail) (ends (rest ++ tail));
+}
+
+pub fault_chunk : (a : List Firing) (chunk rest : List ℕ) (e : TraceFault) → RowsEnd chunk → rows_in a chunk ≡ Err e → (tail : List ℕ) → rows_in a ((chunk ++ rest) ++ tail) ≡ Err e
+fault_chunk a chunk rest e ends read tail = rw (append_assoc chunk rest tail) (ap (rows_after a) (ends (rest ++ tail)) ∙ after_err a (left_in st.StartRecord (Some chunk)) (left_in st.StartRecord (Some (rest ++ tail))) e read)
+
+-- a line feed where a row ended
+pub goes_feed : (firings : List Firing) (bytes : List ℕ) → GoesOn firings bytes firings (10 ∷ bytes)
+goes_feed firings bytes = record { rows = []; read = after_none firings; taken = λ tail. sym (skip_feed (bytes ++ tail)) }
+
+pub ends_feed : (bytes : List ℕ) → RowsEnd bytes → RowsEnd (10 ∷ bytes)
+ends_feed bytes ends rest = skip_feed (bytes ++ rest) ∙ ends rest ∙ ap (λ (l : List (List (List ℕ))). l ++ left_in st.StartRecord (Some rest)) (sym (skip_feed bytes))
+
+pub goes_reads : (a : List Firing) (x : List ℕ) (b : List Firing) (y : List ℕ) → GoesOn a x b y → (tail : List ℕ) → rows_in a (x ++ tail) ≡ rows_in b (y ++ tail)
+goes_reads a x b y g tail = ap (rows_after a) (g.taken tail) ∙ after_ok a g.rows (left_in st.StartRecord (Some (y ++ tail))) b g.read
+
+-- with nothing more to come
+pub goes_all : (a : List Firing) (x : List ℕ) (b : List Firing) (y : List ℕ) → GoesOn a x b y → rows_in a x ≡ rows_in b y
+goes_all a x b y g = rw (append-nil x, append-nil y) at (goes_reads a x b y g [])
+
+pub goes_rows : (a : List Firing) (x : List ℕ) (b : List Firing) (y : List ℕ) → GoesOn a x b y → AreRead a → AreRead b
+goes_rows a x b y g (rows, read) = (rows ++ g.rows, sym (rows_first (rows ++ g.rows)) ∙ after_ok [] rows g.rows a (rows_first rows ∙ read) ∙ g.read)
+
+pub all_read : (a : List Firing) (bytes : List ℕ) (b : List Firing) → rows_in a bytes ≡ Ok b → AreRead a → AreRead b
+all_read a bytes b all (rows, read) = (rows ++ left_in st.StartRecord (Some bytes), sym (rows_first (rows ++ left_in st.StartRecord (Some bytes))) ∙ after_ok [] rows (left_in st.StartRecord (Some bytes)) a (rows_first rows ∙ read) ∙ all)

@@ -3,6 +3,7 @@ pub mod Gives
 pub mod Column
 pub mod Row
 pub mod Left
+pub mod RowEnds
 pub mod Firings
 pub mod Trace
 pub mod Ends
@@ -10,3 +11,4 @@ pub mod Faults
 pub mod Plain
 pub mod Stored
 pub mod Units
+pub mod Blocks

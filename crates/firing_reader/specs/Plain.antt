@@ -113,6 +113,13 @@ pub record IsPiece (bytes : List ℕ) (fs : List Firing) : Type 0 where
   pub rows : ReadsRows bytes fs (10 ∷ [])
   pub rises : Rises 0 fs (last_number fs)
 
+-- the bytes hold the rows of these firings and of no others, whose numbers go on rising
+pub record ReadsMore (bytes : List ℕ) (old new : List Firing) (rest : List ℕ) : Type 0 where
+  pub more : List Firing
+  pub is_new : new ≡ old ++ more
+  pub rows : ReadsRows bytes more rest
+  pub rises : Rises (last_number old) more (last_number new)
+
 -- firings that were read before, and what is read after them
 abbrev pub with_front : List Firing → Result (List Firing) TraceFault
     → Result (List Firing) TraceFault
@@ -122,14 +129,25 @@ with_front front read = read >>= λ es. Ok (front ++ es)
 abbrev pub rows_after : List Firing → List (List (List ℕ)) → Result (List Firing) TraceFault
 rows_after front rows = with_front front (rows_of (length front + 1) (last_number front) rows)
 
--- all rows of these bytes
-abbrev pub rows_in : List ℕ → Result (List Firing) TraceFault
-rows_in bytes = rows_of 1 0 (left_in State.StartRecord (Some bytes))
+-- the rows of bytes after firings that were read before
+abbrev pub rows_in : List Firing → List ℕ → Result (List Firing) TraceFault
+rows_in front bytes = rows_after front (left_in State.StartRecord (Some bytes))
 
--- these firings and the rows of the rest are the rows of all the bytes
-abbrev pub GoesOn : List Firing → List ℕ → List ℕ → Type 0
-GoesOn firings rest bytes =
-    rows_after firings (left_in State.StartRecord (Some rest)) ≡ rows_in bytes
+-- csv takes rows off the bytes, whatever comes after them, and goes on with the rest; after the old
+-- firings these rows read as the new ones
+pub record GoesOn (old : List Firing) (bytes : List ℕ) (new : List Firing) (rest : List ℕ) : Type 0 where
+  pub rows : List (List (List ℕ))
+  pub read : rows_after old rows ≡ Ok new
+  pub taken : (tail : List ℕ) → left_in State.StartRecord (Some (bytes ++ tail))
+      ≡ rows ++ left_in State.StartRecord (Some (rest ++ tail))
+
+-- the rest is a line feed, and then the last of the bytes, after at least one of them
+pub record Leaves (bytes rest : List ℕ) : Type 0 where
+  pub first : ℕ
+  pub front : List ℕ
+  pub after : List ℕ
+  pub is_bytes : bytes ≡ first ∷ (front ++ after)
+  pub is_rest : rest ≡ 10 ∷ after
 
 -- the header, as it is mostly written
 abbrev pub header_line : List ℕ

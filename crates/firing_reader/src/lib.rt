@@ -15,6 +15,7 @@
 #![tactic(auto)]
 
 mod arguments;
+mod blocks;
 mod columns;
 mod ends;
 mod fault;
@@ -31,6 +32,7 @@ mod probes;
 mod reading;
 mod records;
 mod row;
+mod row_ends;
 mod same;
 mod slots;
 mod stored_row;
@@ -39,6 +41,7 @@ mod texts;
 mod trace;
 mod unit;
 
+pub use blocks::Reader;
 pub use fault::TraceFault;
 pub use firing::Firing;
 pub use firings::Firings;

@@ -1,9 +1,8 @@
 //! Plain rows, without quotes and carriage returns, read where they lie in the trace. csv reads all
 //! others.
 
-ghost use Rattle.std.specs.Prelude.{◌≡◌, ◌≤◌, ◌∷◌, [], ℕ, List, length};
-ghost use Rattle.firing_reader.specs.Plain.{GoesOn, ReadsRows, Rises};
-ghost use Rattle.firing_reader.specs.Trace.{last_number};
+ghost use Rattle.std.specs.Prelude.{◌≡◌, ◌≤◌, ◌∷◌, ℕ, List, length};
+ghost use Rattle.firing_reader.specs.Plain.{GoesOn, Leaves, ReadsMore};
 
 use crate::firings::Firings;
 use crate::reading::MOST_ROWS;
@@ -18,16 +17,16 @@ pub(crate) mod unit;
 /// begins at a line feed too, so that csv drops no byte order mark from the row after it.
 #[inline(never)]
 pub(crate) fn read_plain<'a>(firings: &mut Firings, bytes: &'a [u8]) -> &'a [u8]
-    requires empty { firings.old ≡ [] }
+    requires few { length firings.old ≤ MOST_ROWS }
     requires feed { (after : List ℕ) × (bytes.now ≡ 10 ∷ after) }
     ensures feed { (after : List ℕ) × (result.now ≡ 10 ∷ after) }
-    ensures read { GoesOn firings.new result.now bytes.now }
-    ensures rows { ReadsRows bytes.now firings.new result.now }
-    ensures rises { Rises 0 firings.new (last_number firings.new) }
+    ensures left { Leaves bytes.now result.now }
+    ensures read { GoesOn firings.old bytes.now firings.new result.now }
+    ensures rows { ReadsMore bytes.now firings.old firings.new result.now }
     ensures few { length firings.new ≤ MOST_ROWS }
 {
     let mut rest = bytes;
-    for _ in 0..MOST_ROWS {
+    for _ in firings.len()..MOST_ROWS as usize {
         let Some(after) = firings.read_row(rest) else {
             return rest;
         };

@@ -1,8 +1,11 @@
 //! Reading the rows of a trace.
 
-ghost use Rattle.std.specs.Prelude.{◌≤◌, ◌≡◌, ◌∷◌, ℕ, List, length};
-ghost use Rattle.csv.specs.Records.{fields_of};
-ghost use Rattle.firing_reader.specs.{Gives.Gives};
+ghost use Rattle.std.specs.Prelude.{◌≤◌, ◌≡◌, ◌≢◌, ◌⊎◌, ◌∷◌, [], ℕ, List, Ok, Err, IfOk, IfErr};
+ghost use Rattle.std.specs.Prelude.{OnOk, MatchBool, length};
+ghost use Rattle.csv.specs.{Records.fields_of};
+ghost use Rattle.csv.specs.Reading.{records as records_of, default_config, strip_bom};
+ghost use Rattle.firing_reader.specs.{Vocabulary.Memory};
+ghost use Rattle.firing_reader.specs.Gives.{Gives, GivesBy};
 ghost use Rattle.firing_reader.specs.Plain.{rows_after, rows_in};
 ghost use Rattle.firing_reader.specs.Trace.{next_of, trace_of};
 
@@ -33,20 +36,20 @@ fn read_next(fields: &ByteRecord, row: u32, last: u64) -> Result<Firing, TraceFa
     Ok(firing)
 }
 
-// The firings that were read before and those of the rows that are left.
+// Reads the rows that are left, after firings that were read before.
 fn read_rows(
     records: &mut Records,
     fields: &mut ByteRecord,
-    before: Firings,
-) -> Result<Firings, TraceFault>
-    requires few { length before ≤ MOST_ROWS }
-    ensures { Gives result (rows_after before records.old) }
+    firings: &mut Firings,
+) -> Result<(), TraceFault>
+    requires few { length firings.old ≤ MOST_ROWS }
+    ensures read { GivesBy (λ _. firings.new) result (rows_after firings.old records.old) }
+    ensures few { OnOk result (length firings.new ≤ MOST_ROWS) }
 {
-    let mut firings = before;
     let first = firings.len() as u32 + 1;
     for row in first..MOST_ROWS + 1 {
         if !records.read(fields)? {
-            return Ok(firings);
+            return Ok(());
         }
         let firing = read_next(fields, row, firings.last_number())?;
         let Some(()) = firings.push(&firing) else {
@@ -56,35 +59,85 @@ fn read_rows(
     if records.read(fields)? {
         return Err(TraceFault::TooMany);
     }
-    Ok(firings)
+    Ok(())
 }
 
-// The firings of the rows after a header, whose line feed is the first byte. From the first row on
-// that isn't plain csv reads, and it alone decides what is faulty.
-fn read_after_header(alloc: Global, hash_key: HashKey, bytes: &[u8]) -> Result<Firings, TraceFault>
-    requires { (after : List ℕ) × (bytes.now ≡ 10 ∷ after) }
-    ensures { Gives result (rows_in bytes.now) }
+/// Reads rows by csv, after firings that were read before. The bytes begin at the line feed before
+/// the first of them.
+pub(crate) fn read_by_csv(
+    alloc: Global,
+    firings: &mut Firings,
+    bytes: &[u8],
+) -> Result<(), TraceFault>
+    requires feed { (after : List ℕ) × (bytes.now ≡ 10 ∷ after) }
+    requires few { length firings.old ≤ MOST_ROWS }
+    ensures read { GivesBy (λ _. firings.new) result (rows_in firings.old bytes.now) }
+    ensures few { OnOk result (length firings.new ≤ MOST_ROWS) }
 {
-    let mut firings = Firings::new(alloc, hash_key)?;
-    let rest = read_plain(&mut firings, bytes);
-    let mut records = Records::new(alloc, rest);
+    let mut records = Records::new(alloc, bytes);
     let mut fields = ByteRecord::new(alloc);
     read_rows(&mut records, &mut fields, firings)
 }
 
-// The firings that the bytes of a trace write, all read by csv.
-fn read_records(alloc: Global, hash_key: HashKey, bytes: &[u8]) -> Result<Firings, TraceFault>
-    ensures { Gives result (trace_of bytes.now) }
+/// The same of all that is left: plain rows are read where they lie. From the first row on that
+/// isn't plain csv reads, and it alone decides what is faulty.
+pub(crate) fn read_rest(
+    alloc: Global,
+    firings: &mut Firings,
+    bytes: &[u8],
+) -> Result<(), TraceFault>
+    requires feed { (after : List ℕ) × (bytes.now ≡ 10 ∷ after) }
+    requires few { length firings.old ≤ MOST_ROWS }
+    ensures { GivesBy (λ _. firings.new) result (rows_in firings.old bytes.now) }
+{
+    let rest = read_plain(firings, bytes);
+    read_by_csv(alloc, firings, rest)
+}
+
+/// Reads the header and rows by csv. It returns false where there is no record.
+pub(crate) fn read_records(
+    alloc: Global,
+    firings: &mut Firings,
+    bytes: &[u8],
+) -> Result<bool, TraceFault>
+    requires empty { firings.old ≡ [] }
+    ensures read { IfOk result (λ found. MatchBool found (trace_of bytes.now ≡ Ok firings.new)
+        ((records_of default_config (strip_bom bytes.now) ≡ []) × (firings.new ≡ []))) }
+    ensures faulty { IfErr result (λ e. (e ≡ Memory) ⊎ ((trace_of bytes.now ≡ Err e)
+        × (records_of default_config (strip_bom bytes.now) ≢ []))) }
+    ensures few { OnOk result (length firings.new ≤ MOST_ROWS) }
 {
     let mut records = Records::new(alloc, bytes);
     let mut fields = ByteRecord::new(alloc);
-    if !records.read(&mut fields)? || !is_header(&fields) {
+    if !records.read(&mut fields)? {
+        return Ok(false);
+    }
+    if !is_header(&fields) {
         return Err(TraceFault::Header);
     }
-    read_rows(&mut records, &mut fields, Firings::new(alloc, hash_key)?)
+    read_rows(&mut records, &mut fields, firings)?;
+    Ok(true)
 }
 
-// The firings that the bytes of a trace write.
+/// Reads the bytes of a whole trace.
+pub(crate) fn read_whole(
+    alloc: Global,
+    firings: &mut Firings,
+    bytes: &[u8],
+) -> Result<(), TraceFault>
+    requires empty { firings.old ≡ [] }
+    ensures { GivesBy (λ _. firings.new) result (trace_of bytes.now) }
+{
+    if let Some(rest) = after_header(bytes) {
+        return read_rest(alloc, firings, rest);
+    }
+    if !read_records(alloc, firings, bytes)? {
+        return Err(TraceFault::Header);
+    }
+    Ok(())
+}
+
+/// The firings that the bytes of a trace write.
 pub(crate) fn read_firings(
     alloc: Global,
     hash_key: HashKey,
@@ -92,8 +145,7 @@ pub(crate) fn read_firings(
 ) -> Result<Firings, TraceFault>
     ensures { Gives result (trace_of bytes.now) }
 {
-    match after_header(bytes) {
-        Some(rest) => read_after_header(alloc, hash_key, rest),
-        None => read_records(alloc, hash_key, bytes),
-    }
+    let mut firings = Firings::new(alloc, hash_key)?;
+    read_whole(alloc, &mut firings, bytes)?;
+    Ok(firings)
 }

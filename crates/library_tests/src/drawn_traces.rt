@@ -130,7 +130,7 @@ fn add_row(
 }
 
 // A trace of up to 40 rows.
-fn drawn_trace(alloc: Global, seed: u64) -> Result<Vec<u8>, AllocError> {
+pub(crate) fn drawn_trace(alloc: Global, seed: u64) -> Result<Vec<u8>, AllocError> {
     let mut chance = Chance { state: seed };
     let rare = match seed % 4 {
         0 => 1,

@@ -4,6 +4,8 @@
 #[cfg(test)]
 mod aggregates;
 #[cfg(test)]
+mod blocks;
+#[cfg(test)]
 mod code_generator;
 #[cfg(test)]
 mod drawn_traces;

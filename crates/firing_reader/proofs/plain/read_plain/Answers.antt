@@ -1,24 +1,19 @@
-use Rattle.std.proofs.Common.{refl, arith, length-append, ◌∷◌, []}
-use Rattle.firing_reader.proofs.PlainRows.{goes_none, goes_plain}
-use Rattle.firing_reader.proofs.Rows.{last_push}
-use Rattle.firing_reader.proofs.PieceRows.{rows_push, rises_join}
-use Rattle.firing_reader.specs.Plain.{ReadsRows, Rises}
-use Rattle.firing_reader.specs.Trace.{last_number}
+use Rattle.std.proofs.Common.{arith, length-append, ◌∷◌, []}
+use Rattle.firing_reader.proofs.PlainRows.{goes_first, goes_row, leaves_first, leaves_row}
+use Rattle.firing_reader.proofs.PieceRows.{more_first, more_row}
 use Rattle.firing_reader.proofs.plain.read_plain.Goals as goal
 
 pub loop-init : goal.loop-init
-unfolding ReadsRows Rises
-loop-init c = record { feed = c.requires.feed; read = goes_none _ _ c.requires.empty; rows = rw c.requires.empty refl; rises = rw c.requires.empty refl; few = rw c.requires.empty (omega arith) }
+loop-init c = record { feed = c.requires.feed; left = leaves_first _ c.requires.feed; read = goes_first _ _; rows = more_first _ _; few = omega (arith, c.len-counter.ensures) }
 
 pub loop-preserved : goal.loop-preserved
-unfolding Rises
 loop-preserved c =
     let (f, pushed, row, rises) = c.in-Some.ensures in
     let more = length-append c.loop.firings (f ∷ []) in
     record {
       feed = (row.after, row.is_rest);
-      read = rw pushed (goes_plain c.loop.firings f c.loop.rest.now c.in-Some.after.now c.args.bytes.now row rises (omega arith) c.loop.invariant.read);
-      rows = rw pushed (rows_push c.args.bytes.now c.loop.firings c.loop.rest.now f c.in-Some.after.now c.loop.invariant.rows row);
-      rises = rw (pushed, last_push c.loop.firings f) (rises_join 0 c.loop.firings (last_number c.loop.firings) (f ∷ []) f.number c.loop.invariant.rises (rises, refl));
+      left = leaves_row c.args.bytes.now c.loop.rest.now f c.in-Some.after.now c.loop.invariant.left row;
+      read = rw pushed (goes_row c.args.firings.now c.args.bytes.now c.loop.firings c.loop.rest.now f c.in-Some.after.now row rises (omega arith) c.loop.invariant.read);
+      rows = rw pushed (more_row c.args.bytes.now c.args.firings.now c.loop.firings c.loop.rest.now f c.in-Some.after.now c.loop.invariant.rows row rises);
       few = rw pushed (omega arith);
     }

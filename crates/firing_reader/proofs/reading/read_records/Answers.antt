@@ -1,22 +1,20 @@
 use Rattle.std.proofs.Common.{sym, ◌∙◌, inr}
-use Rattle.firing_reader.proofs.PlainRows.{rows_after_none}
-use Rattle.firing_reader.proofs.Rows.{no_rows, no_header, has_header}
+use Rattle.std.proofs.lemmas.Result.{err_from_is_err_and}
+use Rattle.firing_reader.proofs.Rows.{header_fault, header_other, header_read}
 use Rattle.firing_reader.proofs.reading.read_records.Goals as goal
-use Rattle.firing_reader.proofs.reading.read_records.Goals.{then-not-branch-via-then-not-branch}
-use Rattle.firing_reader.proofs.reading.read_records.Goals.{then-not-branch-via-else-not-branch+then-not-is_header}
 
-pub returns-then-not-branch : goal.returns-then-not-branch
-returns-then-not-branch c =
-    elim c.then-not-branch.branch [
-      | then-not-branch-via-then-not-branch w ↦
-          let taken = rw w.if-not-branch.true at c.in_ok-read.ensures.taken in
-          inr (no_rows _ (sym c.new-records.ensures ∙ taken.0))
-      | then-not-branch-via-else-not-branch+then-not-is_header w ↦
-          let taken = rw w.if-not-branch.false at c.in_ok-read.ensures.taken in
-          inr (no_header _ _ _ (sym c.new-records.ensures ∙ taken) (sym w.is_header.ensures ∙ w.if-not-is_header.true))
-    ]
-
-pub returns : goal.returns
-returns c =
+pub returns-then-not-is_header-clause-faulty : goal.returns-then-not-is_header-clause-faulty
+returns-then-not-is_header-clause-faulty c =
     let taken = rw c.if-not-branch.false at c.in_ok-read.ensures.taken in
-    rw (has_header _ _ _ (sym c.new-records.ensures ∙ taken) (sym c.is_header.ensures ∙ c.if-not-is_header.false)) (rw (rows_after_none _ c.read.new.self c.in_ok-new.ensures) at c.read_rows.ensures)
+    inr (header_other _ _ _ (sym c.new-records.ensures ∙ taken) (sym c.is_header.ensures ∙ c.if-not-is_header.true))
+
+pub returns-in_err-read_rows-clause-faulty : goal.returns-in_err-read_rows-clause-faulty
+returns-in_err-read_rows-clause-faulty c =
+    let taken = rw c.if-not-branch.false at c.in_ok-read.ensures.taken in
+    let p = err_from_is_err_and c.from_residual-in_err-read_rows.result c.from_residual-in_err-read_rows.ensures.1 in
+    rw (p.1, p.2) (header_fault _ _ _ c.args.firings.now c.in_err-read_rows.field-0.0 (sym c.new-records.ensures ∙ taken) (sym c.is_header.ensures ∙ c.if-not-is_header.false) c.requires.empty c.in_err-read_rows.ensures.read)
+
+pub returns-clause-read : goal.returns-clause-read
+returns-clause-read c =
+    let taken = rw c.if-not-branch.false at c.in_ok-read.ensures.taken in
+    header_read _ _ _ c.args.firings.now _ (sym c.new-records.ensures ∙ taken) (sym c.is_header.ensures ∙ c.if-not-is_header.false) c.requires.empty c.in_ok-read_rows.ensures.read

@@ -1,9 +1,10 @@
-use Rattle.std.proofs.Common.{◌≡◌}
+use Rattle.std.proofs.Common.{◌≡◌, ◌+◌, length}
 use Rattle.firing_reader.specs.Plain.{rows_after, with_front}
 use Rattle.firing_reader.specs.Trace.{last_number, rows_of}
 use Rattle.firing_reader.proofs.reading.read_rows.Given as goal
 
 abbrev pub invariant-loop-row : goal.invariant-loop-row
-invariant-loop-row l =
-    with_front l.firings (rows_of l.row (last_number l.firings) l.records)
-    ≡ rows_after l.fn.before l.fn.records
+invariant-loop-row l = record {
+  read : with_front l.firings (rows_of l.row (last_number l.firings) l.records) ≡ rows_after l.fn.firings l.fn.records;
+  few : length l.firings + 1 ≡ l.row;
+}

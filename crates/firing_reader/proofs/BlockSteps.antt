@@ -1,0 +1,202 @@
+-- What a step of reading blocks does.
+use Rattle.std.proofs.Common.{◌≡◌, ◌≢◌, ◌<◌, ◌≤◌, ◌+◌, ◌-◌, ℕ, suc, Bool, true, false, List, []}
+use Rattle.std.proofs.Common.{◌∷◌, ◌++◌, length, take, drop, Some, Ok, Err, refl, sym, ap, ◌∙◌}
+use Rattle.std.proofs.Common.{append_assoc, arith, add-one, inl, inr, length-append, length-drop}
+use Rattle.std.proofs.Common.{take_all}
+use lib.Seq.{paste}
+use Rattle.std.proofs.Math.Seq.{drop-append-add}
+use Rattle.std.proofs.lemmas.Bool.{cond-false, cond-true}
+use Rattle.std.proofs.lemmas.List.{take-append-drop}
+use Rattle.std.proofs.lemmas.List.Edits.{take-paste}
+use Rattle.csv.specs.Reading.{default_config, is_bom, records, strip_bom}
+use Rattle.csv.specs.declared.parser.State.TheVariants as st
+use Rattle.firing_reader.specs.declared.blocks.Stage.{Stage}
+use Rattle.firing_reader.specs.declared.blocks.Stage.TheVariants as stage
+use Rattle.std.specs.Prelude.{◌⊎◌}
+use Rattle.firing_reader.specs.declared.fault.TraceFault.{TraceFault}
+use Rattle.firing_reader.specs.declared.fault.TraceFault.TheVariants.{Memory}
+use Rattle.firing_reader.specs.declared.firing.Firing.{Firing}
+use Rattle.firing_reader.specs.Blocks.{AreRead, Begins, BeginsAtFeed, IsFaultOf, IsKeptAt, reads_at}
+use Rattle.firing_reader.specs.Left.{left_in}
+use Rattle.firing_reader.specs.Plain.{GoesOn, Leaves, header_line, rows_after, rows_in}
+use Rattle.firing_reader.specs.RowEnds.{RowsEnd}
+use Rattle.firing_reader.specs.Trace.{rows_of, trace_in, trace_of}
+use Rattle.firing_reader.proofs.PlainHeader.{after_header}
+use Rattle.firing_reader.proofs.PlainRows.{ends_feed, fault_chunk, goes_both, goes_chunk, goes_feed}
+use Rattle.firing_reader.proofs.PlainRows.{goes_first, goes_reads, goes_rows, skip_feed}
+use Rattle.firing_reader.proofs.Rows.{trace_err, trace_ok, trace_rows}
+
+-- ---- bytes
+
+-- bytes moved to the front, and the rest cut off
+pub front_dropped : (all : List ℕ) (n : ℕ) → n ≤ length all → take (length all - n) (paste all 0 (drop n all) (length all - n)) ≡ drop n all
+front_dropped all n few =
+    let left = length all - n in
+    let same : left ≡ 0 + left = omega arith in
+    let rest : length (drop n all) ≡ left = omega (arith, length-drop n all) in
+    ap (λ (k : ℕ). take k (paste all 0 (drop n all) left)) same ∙ take-paste all 0 (drop n all) left (omega arith) (omega arith) ∙ take_all left (drop n all) (omega arith)
+
+-- what comes after a line feed
+pub after_is : (rest after r : List ℕ) → rest ≡ 10 ∷ after → rest ≡ take 1 rest ++ r → rest ≡ 10 ∷ r
+after_is rest after r is split = split ∙ ap (λ (l : List ℕ). take 1 l ++ r) is
+
+pub chunk_is : (rest r : List ℕ) (e : ℕ) → rest ≡ 10 ∷ r → take (e + 1) rest ≡ 10 ∷ take e r
+chunk_is rest r e is = rw (is, add-one) refl
+
+-- what is left from a place on
+pub left_from : (x rest r : List ℕ) (e at : ℕ) → Leaves x rest → rest ≡ 10 ∷ r → at ≡ (length x - length rest) + e → drop (at + 1) x ≡ drop e r
+left_from x rest r e at h is place =
+    let after : h.after ≡ r = cc (h.is_rest, is) in
+    let size = ap length h.is_bytes in
+    let both = length-append h.front h.after in
+    let one = ap length h.is_rest in
+    let next : at + 1 ≡ suc (length h.front + e) = omega (arith, place, size, both, one) in
+    ap (λ (n : ℕ). drop n x) next ∙ ap (λ (l : List ℕ). drop (suc (length h.front + e)) l) h.is_bytes ∙ drop-append-add h.front h.after e ∙ ap (drop e) after
+
+-- ---- rows
+
+split_at : (rest r : List ℕ) (e : ℕ) → rest ≡ 10 ∷ r → rest ≡ (10 ∷ take e r) ++ drop e r
+split_at rest r e is = is ∙ ap (λ (l : List ℕ). 10 ∷ l) (sym (take-append-drop e r))
+
+-- rows that csv read, after those that were read before
+pub rows_read : (a : List Firing) (x : List ℕ) (b : List Firing) (rest r : List ℕ) (c : List Firing) (e : ℕ) → GoesOn a x b rest → rest ≡ 10 ∷ r → RowsEnd (take e r) → rows_in b (take (e + 1) rest) ≡ Ok c → GoesOn a x c (10 ∷ drop e r)
+rows_read a x b rest r c e g is ends read =
+    let own : rows_in b (10 ∷ take e r) ≡ Ok c = ap (rows_in b) (sym (chunk_is rest r e is)) ∙ read in
+    let chunk = goes_chunk b (10 ∷ take e r) (drop e r) c (ends_feed (take e r) ends) own in
+    let more = goes_both b ((10 ∷ take e r) ++ drop e r) c (drop e r) c (10 ∷ drop e r) chunk (goes_feed c (drop e r)) in
+    goes_both a x b rest c (10 ∷ drop e r) g (rw (split_at rest r e is) more)
+
+-- no row ended after those that were read before
+pub rows_none : (a : List Firing) (x : List ℕ) (b : List Firing) (rest r : List ℕ) → GoesOn a x b rest → rest ≡ 10 ∷ r → GoesOn a x b (10 ∷ drop 0 r)
+rows_none a x b rest r g is = goes_both a x b rest b (10 ∷ r) g (rw is (goes_first b (10 ∷ r)))
+
+pub rows_fault : (a : List Firing) (x : List ℕ) (b : List Firing) (rest r : List ℕ) (f : TraceFault) (e : ℕ) → GoesOn a x b rest → rest ≡ 10 ∷ r → RowsEnd (take e r) → rows_in b (take (e + 1) rest) ≡ Err f
+    → (tail : List ℕ) → rows_in a (x ++ tail) ≡ Err f
+rows_fault a x b rest r f e g is ends read tail =
+    let own : rows_in b (10 ∷ take e r) ≡ Err f = ap (rows_in b) (sym (chunk_is rest r e is)) ∙ read in
+    goes_reads a x b rest g tail ∙ ap (λ (l : List ℕ). rows_in b (l ++ tail)) (split_at rest r e is) ∙ fault_chunk b (10 ∷ take e r) (drop e r) f (ends_feed (take e r) ends) own tail
+
+pub fault_of_rows : (a : List Firing) (x : List ℕ) (b : List Firing) (rest r : List ℕ) (f : TraceFault) (e : ℕ) → GoesOn a x b rest → rest ≡ 10 ∷ r → RowsEnd (take e r) → (f ≡ Memory) ⊎ (rows_in b (take (e + 1) rest) ≡ Err f)
+    → IsFaultOf f (λ tail. rows_in a (x ++ tail))
+fault_of_rows a x b rest r f e g is ends (inl memory) = inl memory
+fault_of_rows a x b rest r f e g is ends (inr read) = inr (rows_fault a x b rest r f e g is ends read)
+
+-- ---- the header, as it is mostly written
+
+none_read : AreRead []
+unfolding rows_of
+none_read = ([], refl)
+
+pub begins_plain : (x rest after : List ℕ) (fs : List Firing) (at : ℕ) → fs ≡ [] → rest ≡ 10 ∷ after → x ≡ header_line ++ 10 ∷ after → at ≡ length x - length rest → Begins x fs (10 ∷ drop (at + 1) x)
+begins_plain x rest after fs at none is all place =
+    let size = ap length all in
+    let both = length-append header_line (10 ∷ after) in
+    let one = ap length is in
+    let next : at + 1 ≡ length header_line + 1 = omega (arith, place, size, both, one) in
+    let left : drop (at + 1) x ≡ after = ap (λ (n : ℕ). drop n x) next ∙ ap (drop (length header_line + 1)) all ∙ drop-append-add header_line (10 ∷ after) 1 in
+    rw (none, left) (record {
+      feed = (after, refl);
+      are_read = none_read;
+      goes_on = λ tail. after_header (x ++ tail) (after ++ tail) (ap (λ (l : List ℕ). l ++ tail) all ∙ append_assoc header_line (10 ∷ after) tail);
+    })
+
+-- ---- a header that csv reads
+
+-- the front of bytes up to a place, and all of them, without their byte order mark
+record IsCut (x : List ℕ) (end : ℕ) (text : List ℕ) : Type 0 where
+  front : strip_bom (take end x) ≡ text
+  all : (tail : List ℕ) → strip_bom (x ++ tail) ≡ text ++ (drop end x ++ tail)
+
+mark_cut : (a b c : ℕ) (rest : List ℕ) (end e : ℕ) → ((xs : List ℕ) → strip_bom (a ∷ b ∷ c ∷ xs) ≡ xs) → end ≡ (length (a ∷ b ∷ c ∷ rest) - length (strip_bom (a ∷ b ∷ c ∷ rest))) + e
+    → IsCut (a ∷ b ∷ c ∷ rest) end (take e (strip_bom (a ∷ b ∷ c ∷ rest)))
+mark_cut a b c rest end e s place =
+    let size = ap length (s rest) in
+    let is : end ≡ suc (suc (suc e)) = omega (arith, place, size) in
+    record {
+      front = ap (λ (n : ℕ). strip_bom (take n (a ∷ b ∷ c ∷ rest))) is ∙ s (take e rest) ∙ ap (take e) (sym (s rest));
+      all = λ tail. s (rest ++ tail) ∙ ap (λ (l : List ℕ). l ++ tail) (sym (take-append-drop e rest)) ∙ append_assoc (take e rest) (drop e rest) tail
+          ∙ ap (λ (l : List ℕ). take e l ++ (drop e rest ++ tail)) (sym (s rest))
+          ∙ ap (λ (n : ℕ). take e (strip_bom (a ∷ b ∷ c ∷ rest)) ++ (drop n (a ∷ b ∷ c ∷ rest) ++ tail)) (sym is);
+    }
+
+other_cut : (a b c : ℕ) (rest : List ℕ) (end e : ℕ) → ((xs : List ℕ) → strip_bom (a ∷ b ∷ c ∷ xs) ≡ a ∷ b ∷ c ∷ xs) → 3 < end → end ≡ (length (a ∷ b ∷ c ∷ rest) - length (strip_bom (a ∷ b ∷ c ∷ rest))) + e
+    → IsCut (a ∷ b ∷ c ∷ rest) end (take e (strip_bom (a ∷ b ∷ c ∷ rest)))
+other_cut a b c rest end e s many place =
+    let x = a ∷ b ∷ c ∷ rest in
+    let size = ap length (s rest) in
+    let same : end ≡ e = omega (arith, place, size) in
+    let is : end ≡ suc (suc (suc (end - 3))) = omega arith in
+    record {
+      front = ap (λ (n : ℕ). strip_bom (take n x)) is ∙ s (take (end - 3) rest) ∙ ap (λ (n : ℕ). take n x) (sym is) ∙ ap (λ (n : ℕ). take n x) same ∙ ap (take e) (sym (s rest));
+      all = λ tail. s (rest ++ tail) ∙ ap (λ (l : List ℕ). l ++ tail) (sym (take-append-drop e x)) ∙ append_assoc (take e x) (drop e x) tail
+          ∙ ap (λ (l : List ℕ). take e l ++ (drop e x ++ tail)) (sym (s rest)) ∙ ap (λ (n : ℕ). take e (strip_bom x) ++ (drop n x ++ tail)) (sym same);
+    }
+
+cut_at : (x : List ℕ) (end e : ℕ) → 3 < end → end ≡ (length x - length (strip_bom x)) + e → e ≤ length (strip_bom x) → IsCut x end (take e (strip_bom x))
+unfolding strip_bom
+cut_at [] end e many place few = absurd (omega (arith, place, few))
+cut_at (a ∷ []) end e many place few = absurd (omega (arith, place, few))
+cut_at (a ∷ b ∷ []) end e many place few = absurd (omega (arith, place, few))
+cut_at (a ∷ b ∷ c ∷ rest) end e many place few = by (is_bom a b c) refl
+  where
+    by : (m : Bool) → is_bom a b c ≡ m → IsCut (a ∷ b ∷ c ∷ rest) end (take e (strip_bom (a ∷ b ∷ c ∷ rest)))
+    by true m = mark_cut a b c rest end e (λ xs. cond-true (is_bom a b c) xs (a ∷ b ∷ c ∷ xs) m) place
+    by false m = other_cut a b c rest end e (λ xs. cond-false (is_bom a b c) xs (a ∷ b ∷ c ∷ xs) m) many place
+
+records_are : (xs : List ℕ) → records default_config xs ≡ left_in st.StartRecord (Some xs)
+unfolding left_in
+records_are xs = refl
+
+abbrev left : List ℕ → List (List (List ℕ))
+left xs = left_in st.StartRecord (Some xs)
+
+-- the records of all bytes, by those up to a place where rows end
+cut_records : (x : List ℕ) (end : ℕ) (text : List ℕ) → IsCut x end text → RowsEnd text → (tail : List ℕ) → records default_config (strip_bom (x ++ tail)) ≡ left text ++ left (drop end x ++ tail)
+cut_records x end text cut ends tail = ap (records default_config) (cut.all tail) ∙ records_are (text ++ (drop end x ++ tail)) ∙ ends (drop end x ++ tail)
+
+own_records : (x : List ℕ) (end : ℕ) (text : List ℕ) → IsCut x end text → records default_config (strip_bom (take end x)) ≡ left text
+own_records x end text cut = ap (records default_config) cut.front ∙ records_are text
+
+pub begins_csv : (x : List ℕ) (end e : ℕ) (fs : List Firing) → 3 < end → end ≡ (length x - length (strip_bom x)) + e → e ≤ length (strip_bom x) → RowsEnd (take e (strip_bom x)) → trace_of (take end x) ≡ Ok fs
+    → Begins x fs (10 ∷ drop end x)
+begins_csv x end e fs many place few ends read =
+    let text = take e (strip_bom x) in
+    let cut = cut_at x end e many place few in
+    let own : trace_in (left text) ≡ Ok fs = ap trace_in (sym (own_records x end text cut)) ∙ read in
+    record {
+      feed = (drop end x, refl);
+      are_read = trace_rows (left text) fs own;
+      goes_on = λ tail. ap trace_in (cut_records x end text cut ends tail) ∙ trace_ok (left text) (left (drop end x ++ tail)) fs own ∙ ap (rows_after fs) (sym (skip_feed (drop end x ++ tail)));
+    }
+
+fault_csv : (x : List ℕ) (end e : ℕ) (f : TraceFault) → 3 < end → end ≡ (length x - length (strip_bom x)) + e → e ≤ length (strip_bom x) → RowsEnd (take e (strip_bom x))
+    → trace_of (take end x) ≡ Err f → records default_config (strip_bom (take end x)) ≢ [] → (tail : List ℕ) → trace_of (x ++ tail) ≡ Err f
+fault_csv x end e f many place few ends read some tail =
+    let text = take e (strip_bom x) in
+    let cut = cut_at x end e many place few in
+    let own = own_records x end text cut in
+    let faulty : trace_in (left text) ≡ Err f = ap trace_in (sym own) ∙ read in
+    ap trace_in (cut_records x end text cut ends tail) ∙ trace_err (left text) (left (drop end x ++ tail)) f (λ none. some (own ∙ none)) faulty
+
+pub fault_of_header : (x : List ℕ) (end e : ℕ) (f : TraceFault) → 3 < end → end ≡ (length x - length (strip_bom x)) + e → e ≤ length (strip_bom x) → RowsEnd (take e (strip_bom x))
+    → (f ≡ Memory) ⊎ ((trace_of (take end x) ≡ Err f) × (records default_config (strip_bom (take end x)) ≢ [])) → IsFaultOf f (λ tail. trace_of (x ++ tail))
+fault_of_header x end e f many place few ends (inl memory) = inl memory
+fault_of_header x end e f many place few ends (inr (read, some)) = inr (fault_csv x end e f many place few ends read some)
+
+-- ---- a reader
+
+-- more bytes at the end
+pub kept_more : (s : Stage) (fs : List Firing) (x block : List ℕ) → IsKeptAt s fs x → IsKeptAt s fs (x ++ block)
+kept_more stage.Header fs x block h = h
+kept_more stage.Rows fs x block ((after, is), are_read) = ((after ++ block, ap (λ (l : List ℕ). l ++ block) is), are_read)
+kept_more (stage.Refused e) fs x block h = h
+
+pub begins_then : (x : List ℕ) (fs : List Firing) (y : List ℕ) (gs : List Firing) (z : List ℕ) → Begins x fs y → GoesOn fs y gs z → (tail : List ℕ) → rows_in gs (z ++ tail) ≡ trace_of (x ++ tail)
+begins_then x fs y gs z h g tail = sym (h.goes_on tail ∙ goes_reads fs y gs z g tail)
+
+pub begins_fault : (x : List ℕ) (fs : List Firing) (y : List ℕ) (e : TraceFault) → Begins x fs y → IsFaultOf e (λ tail. rows_in fs (y ++ tail)) → IsFaultOf e (λ tail. trace_of (x ++ tail))
+begins_fault x fs y e h (inl memory) = inl memory
+begins_fault x fs y e h (inr fault) = inr (λ tail. h.goes_on tail ∙ fault tail)
+
+pub begins_rows : (x : List ℕ) (fs : List Firing) (y : List ℕ) (gs : List Firing) (z : List ℕ) → Begins x fs y → GoesOn fs y gs z → AreRead gs
+begins_rows x fs y gs z h g = goes_rows fs y gs z g h.are_read

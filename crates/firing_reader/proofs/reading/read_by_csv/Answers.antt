@@ -1,0 +1,8 @@
+use Rattle.std.proofs.Common.{◌∙◌}
+use Rattle.firing_reader.proofs.PlainRows.{left_feed}
+use Rattle.firing_reader.proofs.reading.read_by_csv.Goals as goal
+
+pub returns-clause-read : goal.returns-clause-read
+returns-clause-read c =
+    let same = c.new-records.ensures ∙ left_feed c.args.bytes.now c.requires.feed in
+    rw same at c.read_rows.ensures.read

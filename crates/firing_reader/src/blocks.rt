@@ -1,0 +1,257 @@
+//! Reading a trace that comes in blocks.
+
+ghost use Rattle.std.specs.Prelude.{◌≡◌, ◌≢◌, ◌<◌, ◌≤◌, ◌+◌, ◌++◌, ◌∷◌, [], ℕ, List, OnOk, OnErr};
+ghost use Rattle.std.specs.Prelude.{IfOk, IfErr, MatchBool, MatchResult, drop, length};
+ghost use Rattle.firing_reader.specs.{Vocabulary.Memory, Gives.Gives, Trace.trace_of};
+ghost use Rattle.firing_reader.specs.Blocks.{AreRead, Begins, BeginsAtFeed, IsFaultOf, IsKeptAt};
+ghost use Rattle.firing_reader.specs.Blocks.{reads, reads_at};
+ghost use Rattle.firing_reader.specs.Plain.{GoesOn, rows_in};
+ghost use Rattle.firing_reader.specs.declared.blocks.Stage.TheVariants.{Refused};
+
+use crate::fault::TraceFault;
+use crate::firings::Firings;
+use crate::header::{HEADER, MARK, after_header, after_mark};
+use crate::plain::front::rest_after;
+use crate::plain::read_plain;
+use crate::reading::{read_by_csv, read_records, read_rest, read_whole};
+use crate::row_ends::end_of_rows;
+use crate::trace::Trace;
+use keyed_hash::HashKey;
+use std::alloc::{AllocError, Global};
+use std::marker::Model;
+
+// What a reader reads next.
+#[derive(Clone, Copy)]
+enum Stage {
+    // The header.
+    Header,
+    // Rows.
+    Rows,
+    // Nothing, after a fault.
+    Refused(TraceFault),
+}
+
+/// Reads a trace that comes in blocks, which may be cut anywhere. It keeps the firings of the rows
+/// that are whole, and the bytes of the row that isn't. Contracts see these.
+#[derive(Drop)]
+pub struct Reader {
+    alloc: Global,
+    stage: Stage,
+    firings: Firings,
+    // What is not read yet. Rows begin at the line feed before the first of them.
+    left: Vec<u8>,
+    // How many bytes there are at least before some are read.
+    least: usize,
+    // The same after the last time. A row that is not whole waits for as many bytes again, so that a
+    // long one is not looked through at each block.
+    enough: usize,
+}
+
+impl Model for Reader {
+    ghost use Rattle.firing_reader.specs.Blocks.{Taken, IsKeptAt};
+
+    ghost Value = { Taken };
+
+    ghost view = { λ r.
+        record { stage = r.stage; firings = r.firings; left = r.left.items } };
+
+    ghost invariant = { λ r. IsKeptAt r.stage r.firings r.left.items };
+}
+
+impl Reader {
+    /// A reader that has taken nothing. It reads whole rows as soon as it has so many bytes.
+    pub fn new(alloc: Global, hash_key: HashKey, least: usize) -> Result<Reader, AllocError>
+        ensures { IfOk result (λ r. (rest : List ℕ) → reads r rest ≡ trace_of rest) }
+    {
+        let firings = Firings::new(alloc, hash_key)?;
+        Ok(Reader {
+            alloc,
+            stage: Stage::Header,
+            firings,
+            left: Vec::new(alloc),
+            least,
+            enough: least,
+        })
+    }
+
+    /// Takes the next block. Where memory is refused, the reader can only return that.
+    ///
+    /// ```text
+    /// let mut reader = Reader::new(alloc, hash_key, 1)?;
+    /// reader.take(b"number,cp")?;
+    /// reader.take(b"u,")?; // and so on
+    /// let trace = reader.finish()?; // as `read_trace` returns for all bytes at once
+    /// ```
+    pub fn take(&mut self, block: &[u8]) -> Result<(), AllocError>
+        ensures taken { OnOk result
+            ((rest : List ℕ) → reads self.new rest ≡ reads self.old (block.now ++ rest)) }
+        ensures refused { OnErr result (self.new.stage ≡ Refused Memory) }
+    {
+        if let Stage::Refused(_) = self.stage {
+            return Ok(());
+        }
+        if self.left.extend_from_slice(block).is_err() {
+            return refuse(
+                self.alloc,
+                &mut self.stage,
+                &mut self.left,
+                TraceFault::Memory,
+            );
+        }
+        if self.left.len() < self.enough {
+            return Ok(());
+        }
+        self.read()
+    }
+
+    /// The trace of all blocks, or its first fault, exactly as `read_trace` returns it.
+    pub fn finish(self) -> Result<Trace, TraceFault>
+        ensures { Gives result (reads self []) }
+    {
+        let Reader {
+            alloc,
+            stage,
+            mut firings,
+            left,
+            ..
+        } = self;
+        match stage {
+            Stage::Header => read_whole(alloc, &mut firings, &left)?,
+            Stage::Rows => read_rest(alloc, &mut firings, &left)?,
+            Stage::Refused(fault) => return Err(fault),
+        }
+        Ok(Trace::of(firings))
+    }
+
+    // Reads what is whole.
+    fn read(&mut self) -> Result<(), AllocError>
+        ensures taken { OnOk result ((rest : List ℕ) → reads self.new rest ≡ reads self.old rest) }
+        ensures refused { OnErr result (self.new.stage ≡ Refused Memory) }
+    {
+        match advance(self.alloc, self.stage, &mut self.firings, &mut self.left) {
+            Ok(stage) => {
+                self.stage = stage;
+                self.enough = self.least.max(self.left.len().saturating_mul(2));
+                Ok(())
+            }
+            Err(fault) => refuse(self.alloc, &mut self.stage, &mut self.left, fault),
+        }
+    }
+}
+
+// Keeps nothing but a fault. That of memory is returned at once.
+fn refuse(
+    alloc: Global,
+    stage: &mut Stage,
+    left: &mut Vec<u8>,
+    fault: TraceFault,
+) -> Result<(), AllocError>
+    ensures stage { stage.new ≡ Refused fault }
+    ensures memory { OnErr result (fault ≡ Memory) }
+    ensures other { OnOk result (fault ≢ Memory) }
+{
+    *stage = Stage::Refused(fault);
+    *left = Vec::new(alloc);
+    match fault {
+        TraceFault::Memory => Err(AllocError),
+        _ => Ok(()),
+    }
+}
+
+// Reads the header, and the rows in the bytes at hand where csv has to read it. It returns false
+// where the header is not whole yet.
+fn read_header(alloc: Global, firings: &mut Firings, left: &mut Vec<u8>) -> Result<bool, TraceFault>
+    requires { firings.old ≡ [] }
+    ensures found { IfOk result (λ found. MatchBool found
+        (Begins left.old.items firings.new left.new.items)
+        ((firings.new ≡ []) × (left.new.items ≡ left.old.items))) }
+    ensures fault { IfErr result (λ e. IsFaultOf e (λ tail. trace_of (left.old.items ++ tail))) }
+{
+    if let Some(rest) = after_header(left) {
+        let at = left.len() - rest.len();
+        keep_from(left, at);
+        return Ok(true);
+    }
+    if left.len() <= HEADER.len() {
+        return Ok(false);
+    }
+    let text = after_mark(left);
+    let end = left.len() - text.len() + end_of_rows(text);
+    if end <= MARK.len() {
+        return Ok(false);
+    }
+    if !read_records(alloc, firings, &left[..end])? {
+        return Ok(false);
+    }
+    keep_from(left, end - 1);
+    Ok(true)
+}
+
+// Reads the rows that are whole: plain ones where they lie, and from the first other one on by csv.
+fn read_rows(alloc: Global, firings: &mut Firings, left: &mut Vec<u8>) -> Result<(), TraceFault>
+    requires feed { BeginsAtFeed left.old.items }
+    requires are_read { AreRead firings.old }
+    ensures read { OnOk result (GoesOn firings.old left.old.items firings.new left.new.items) }
+    ensures feed { OnOk result (BeginsAtFeed left.new.items) }
+    ensures fault { IfErr result (λ e.
+        IsFaultOf e (λ tail. rows_in firings.old (left.old.items ++ tail))) }
+{
+    let rest = read_plain(firings, left);
+    let end = end_of_rows(rest_after(rest, 1));
+    if end > 0 {
+        read_by_csv(alloc, firings, &rest[..end + 1])?;
+    }
+    let at = left.len() - rest.len() + end;
+    keep_from(left, at);
+    Ok(())
+}
+
+// Reads what is whole, and returns what is to be read next.
+fn advance(
+    alloc: Global,
+    stage: Stage,
+    firings: &mut Firings,
+    left: &mut Vec<u8>,
+) -> Result<Stage, TraceFault>
+    requires { IsKeptAt stage firings.old left.old.items }
+    ensures kept { IfOk result (λ next. IsKeptAt next firings.new left.new.items) }
+    ensures read { IfOk result (λ next. (tail : List ℕ)
+        → reads_at next firings.new (left.new.items ++ tail)
+        ≡ reads_at stage firings.old (left.old.items ++ tail)) }
+    ensures fault { IfErr result (λ e.
+        IsFaultOf e (λ tail. reads_at stage firings.old (left.old.items ++ tail))) }
+{
+    match stage {
+        Stage::Header => {
+            if !read_header(alloc, firings, left)? {
+                return Ok(stage);
+            }
+            read_rows(alloc, firings, left)?;
+            Ok(Stage::Rows)
+        }
+        Stage::Rows => {
+            read_rows(alloc, firings, left)?;
+            Ok(stage)
+        }
+        Stage::Refused(_) => Ok(stage),
+    }
+}
+
+// Drops the bytes before a place, and puts a line feed there, as it stands where a row ended.
+fn keep_from(left: &mut Vec<u8>, at: usize)
+    requires { at < length left.old.items }
+    ensures { left.new.items ≡ 10 ∷ drop (at + 1) left.old.items }
+{
+    drop_front(left, at);
+    left[0] = b'\n';
+}
+
+// Drops so many bytes.
+fn drop_front(left: &mut Vec<u8>, count: usize)
+    requires { count ≤ length left.old.items }
+    ensures { left.new.items ≡ drop count left.old.items }
+{
+    let len = left.len();
+    left.copy_within(count..len, 0);
+    left.truncate(len - count);
+}
