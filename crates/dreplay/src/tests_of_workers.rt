@@ -10,10 +10,11 @@ use crate::plan::GroupPlan;
 use crate::refusal::Refusal;
 use crate::scripts::read_script;
 use d_types::{TypedScript, check};
-use firing_reader::{Firing, read_trace};
+use firing_reader::{Firing, Trace, read_trace};
 use keyed_hash::HashKey;
 use replay_core::{
-    CollectFault, Engine, Lanes, OpenGate, Piece, Ran, TreeLanes, collect, run_all, tree_lane,
+    CollectFault, Engine, Lanes, OpenGate, Piece, Ran, Selections, TreeLanes, collect, run_all,
+    tree_lane,
 };
 use std::alloc::{AllocError, Global};
 use std::sync::Wait;
@@ -114,12 +115,12 @@ impl<'a, E: Engine> Engine for MeetingLane<'a, E> {
 
     ghost is_spent = { λ l. E.is_spent l.lane };
 
-    fn fire(&mut self, firing: &Firing) -> Result<bool, AllocError> {
+    fn fire(&mut self, firing: &Firing, places: &[usize]) -> Result<bool, AllocError> {
         if !self.has_fired && firing.thread != 0 {
             self.meeting.meet();
         }
         self.has_fired = true;
-        self.lane.fire(firing)
+        self.lane.fire(firing, places)
     }
 
     fn finish(self) -> Piece {
@@ -141,6 +142,10 @@ impl<'a, L: Lanes> Lanes for MeetingLanes<'a, L> {
 
     fn exits(&self) -> bool {
         self.lanes.exits()
+    }
+
+    fn selections(&self, alloc: Global, trace: &Trace) -> Result<Selections, AllocError> {
+        self.lanes.selections(alloc, trace)
     }
 
     fn lane(&self, alloc: Global) -> Result<MeetingLane<'a, L::Lane>, AllocError> {

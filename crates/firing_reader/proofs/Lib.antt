@@ -21,3 +21,4 @@ pub mod Shared
 pub mod PlainArguments
 pub mod RowParts
 pub mod BlockSteps
+pub mod Probing

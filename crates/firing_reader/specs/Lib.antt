@@ -10,5 +10,6 @@ pub mod Ends
 pub mod Faults
 pub mod Plain
 pub mod Stored
+pub mod Probing
 pub mod Units
 pub mod Blocks

@@ -3,14 +3,15 @@
 
 ghost use Rattle.std.specs.Prelude.{◌≡◌, ◌<◌, ◌++◌, ◌∷◌, [], true, false, All, Some, IfOk, IfSome};
 ghost use Rattle.std.specs.Prelude.{MatchOption, slice_get, length, map};
-ghost use Rattle.firing_reader.specs.{Vocabulary.Firing, Plain.ReadsRow};
+ghost use Rattle.firing_reader.specs.{Vocabulary.Firing, Plain.ReadsRow, Probing.probe_of};
 ghost use Rattle.firing_reader.specs.{Trace.last_number as last_number_of};
-ghost use Rattle.firing_reader.specs.Stored.{IsMovable, moved_row as moved_row_of};
+ghost use Rattle.firing_reader.specs.Stored.{ArePlaces, IsMovable, moved_row as moved_row_of};
 
 use crate::arguments::{add_arguments, all_ten, keep_arguments};
 use crate::firing::Firing;
 use crate::owners::Owners;
 use crate::plain::row::row;
+use crate::probe_places::ProbePlaces;
 use crate::probes::Probes;
 use crate::stored_row::Row;
 use crate::unit::{Owner, Probe};
@@ -103,6 +104,13 @@ impl Firings {
             name,
             args: all_ten(given),
         }
+    }
+
+    /// Which probe each is of.
+    pub fn probe_places(&self) -> ProbePlaces
+        ensures { ArePlaces result.probes result.places (map probe_of self.now) }
+    {
+        ProbePlaces::new(&self.probes, &self.rows)
     }
 
     /// The number of the last, or 0 where there are none.

@@ -10,11 +10,15 @@ pub(crate) struct Owner<'a> {
     pub(crate) execname: Text<'a>,
 }
 
-/// A row's probe.
+/// What fires: a probe by the four parts of its name.
 #[derive(Drop)]
-pub(crate) struct Probe<'a> {
-    pub(crate) provider: Text<'a>,
-    pub(crate) probemod: Text<'a>,
-    pub(crate) probefunc: Text<'a>,
-    pub(crate) name: Text<'a>,
+pub struct Probe<'a> {
+    /// Who makes it known.
+    pub provider: Text<'a>,
+    /// Where it is, such as a kernel module.
+    pub probemod: Text<'a>,
+    /// In which function.
+    pub probefunc: Text<'a>,
+    /// What it is called, such as `entry`.
+    pub name: Text<'a>,
 }

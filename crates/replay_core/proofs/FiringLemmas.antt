@@ -3,7 +3,7 @@ use Rattle.std.specs.Prelude.{◌≡◌, ℕ, zero, suc, ◌+◌, ◌<◌, ◌�
 use Rattle.std.specs.Prelude.{map, length, slice_get, sum_by, Option, None, Some, option_map}
 use Rattle.std.specs.Prelude.{is_some, OnOk, Result, Ok, Err, Bool, true, false, if◌then◌else◌}
 use Rattle.std.specs.Option.{option_or}
-use Rattle.std.proofs.Common.{refl, sym, ap, ◌∙◌, subst, arith, add-one, add-zero, append_assoc}
+use Rattle.std.proofs.Common.{refl, sym, ap, ◌∙◌, subst, arith, add-one, add-zero}
 use Rattle.std.proofs.Common.{length-append}
 use Rattle.std.proofs.lemmas.List.{length-map}
 use Rattle.std.proofs.lemmas.List.Sums.{sum_by-cons}
@@ -11,14 +11,14 @@ use Rattle.std.proofs.lemmas.List.Elements.{All-append}
 use Rattle.aggregations.specs.Table.{StandsFor, functions_of}
 use Rattle.d_parser.specs.declared.tree.Description.{Description}
 use Rattle.d_types.specs.Clauses.{Made, run_of}
-use Rattle.d_types.specs.Clauses.{nothing, and_then}
+use Rattle.d_types.specs.Clauses.{and_then}
 use Rattle.d_types.specs.Storage.{Variables}
 use Rattle.d_types.specs.Typed.{ClauseMeant, ScriptMeant}
 use Rattle.firing_reader.specs.declared.firing.Firing.{Firing}
-use Rattle.replay_core.specs.declared.probe.Probe.{Probe}
-use Rattle.replay_core.specs.Lanes.{Fires, GoesOnBy, LaneSeen, Notes}
-use Rattle.replay_core.specs.Meaning.{Threads, at_start, clauses_for, history, in_turn}
-use Rattle.replay_core.specs.Meaning.{firing_result, texts_of, threads_after}
+use Rattle.firing_reader.specs.declared.unit.Probe.{Probe}
+use Rattle.replay_core.specs.Lanes.{GoesOnBy, Notes}
+use Rattle.replay_core.specs.Meaning.{Threads, clauses_for, history, in_turn}
+use Rattle.replay_core.specs.Meaning.{firing_result}
 use Rattle.replay_core.specs.Patterns.{probe_of, selects}
 use Rattle.replay_core.specs.Pieces.{PieceSeen}
 use Rattle.replay_core.specs.Places.{places_for}

@@ -1,18 +1,25 @@
--- Places that are selected, clause by clause.
-use Rattle.std.specs.Prelude.{◌≡◌, ℕ, zero, suc, ◌+◌, ◌*◌, ◌<◌, ◌≤◌, List, [], ◌∷◌, ◌++◌, All}
-use Rattle.std.specs.Prelude.{filter, map, length, slice_get, Bool, true, false, if◌then◌else◌}
-use Rattle.std.specs.Prelude.{sum_by, Some}
+-- Clauses that are selected, by their places.
+use Rattle.std.specs.Prelude.{◌≡◌, ℕ, suc, ◌+◌, ◌<◌, ◌≤◌, List, [], ◌∷◌, ◌++◌, All}
+use Rattle.std.specs.Prelude.{filter, map, length, slice_get}
+use Rattle.std.specs.Prelude.{Some}
+use Rattle.std.specs.List.{AllZip}
 use Rattle.std.proofs.Common.{refl, sym, ap, ◌∙◌, subst, arith, append_assoc, add-one, drop, get_or}
-use Rattle.std.proofs.Common.{length-append}
+use Rattle.std.proofs.Common.{take}
 use Rattle.std.proofs.Math.Seq.{drop-cons}
-use Rattle.std.proofs.lemmas.List.{get_or-map, length-map}
-use Rattle.std.proofs.lemmas.List.Elements.{All-append, All-cons, All-nil}
+use Rattle.std.proofs.lemmas.List.{get_or-map, length-map, map-append, take_more}
+use Rattle.std.proofs.lemmas.List.Elements.{All-cons}
+use Rattle.std.proofs.lemmas.Option.{get_or_from_slice_get, slice_get-map, slice_get_within}
 use Rattle.d_parser.specs.declared.tree.Description.{Description}
-use Rattle.replay_core.specs.declared.probe.Probe.{Probe}
-use Rattle.replay_core.specs.declared.selection.Selection.{Selection}
-use Rattle.replay_core.specs.Patterns.{selects}
+use Rattle.firing_reader.specs.declared.unit.Probe.{Probe}
+use Rattle.firing_reader.specs.Ends.{begin_of, end_of, with_ends}
+use Rattle.firing_reader.specs.Stored.{ArePlaces, Extends}
+use Rattle.firing_reader.specs.declared.firing.Firing.{Firing}
+use Rattle.firing_reader.proofs.Moved.{place_more, placed}
+use Rattle.firing_reader.proofs.Stored.{named_at, named_in}
+use Rattle.d_types.specs.Typed.{ScriptMeant}
+use Rattle.replay_core.specs.Patterns.{probe_of, selects}
 use Rattle.replay_core.specs.Places.{places_for}
-use Rattle.replay_core.specs.Selecting.{IsSelection, places_at}
+use Rattle.replay_core.specs.Selecting.{AreFor, list_at, selected_for, selected_in}
 
 -- those of one more clause
 pub places_more : {A : Type 0} (now : A → List Description) (p : Probe) (xs : List A) (i : ℕ) (x : A) (before after all : List ℕ) → i < length xs → x ≡ get_or xs i x
@@ -27,16 +34,81 @@ places_more now p xs i x before after all lt is pushed so_far =
     let rest = places_for p (i + 1) (drop (i + 1) (map now xs)) in
     ap (λ l. l ++ rest) pushed ∙ append_assoc before own rest ∙ ap (λ l. before ++ places_for p i l) (sym cut) ∙ so_far
 
--- ---- one more selection
+-- the last of a list
+pub at_last : {X : Type 0} (xs : List X) (x : X) → slice_get (xs ++ x ∷ []) (length xs) ≡ Some x
+at_last [] x = refl
+at_last (y ∷ xs) x = at_last xs x
 
-pub selections_more : (ds : List (List Description)) (known : List Selection) (s : Selection) → All (IsSelection ds) known → IsSelection ds s → All (IsSelection ds) (known ++ s ∷ [])
-selections_more ds known s all is = All-append (IsSelection ds) known (s ∷ []) all (All-cons (IsSelection ds) s [] is (All-nil (IsSelection ds)))
+-- ---- lists by probe
 
-last_get : {A : Type 0} (xs : List A) (x : A) (n : ℕ) → n ≡ length xs → slice_get (xs ++ x ∷ []) n ≡ Some x
-last_get [] x zero e = refl
-last_get [] x (suc n) e = absurd (omega arith)
-last_get (y ∷ xs) x zero e = absurd (omega arith)
-last_get (y ∷ xs) x (suc n) e = last_get xs x n (omega arith)
+pub at_listed : (lists : List (List ℕ)) (by_probe : List ℕ) (wanted : List (List ℕ)) (i : ℕ) (d : List ℕ) → ArePlaces lists by_probe wanted → i < length wanted
+    → list_at lists (get_or by_probe i 0) ≡ get_or wanted i d
+at_listed lists by_probe wanted i d are lt = named_at lists (get_or by_probe i 0) (get_or wanted i d) [] (placed lists by_probe wanted i d are lt)
 
-pub places_at_last : (known : List Selection) (s : Selection) (n : ℕ) → n ≡ length known → places_at (known ++ s ∷ []) n ≡ s.places.items
-places_at_last known s n e = rw (last_get known s n e) refl
+module _ (lists : List (List ℕ)) (by_probe : List ℕ) (probes : List Probe) (h : Probe → List ℕ) where
+  -- the list of each firing's probe
+  pub rows_listed : (places : List ℕ) (fs : List Firing) → ArePlaces lists by_probe (map h probes) → ArePlaces probes places (map probe_of fs)
+      → map (list_at lists) (map (λ p. get_or by_probe p 0) places) ≡ map (λ f. h (probe_of f)) fs
+  rows_listed [] [] are of = refl
+  rows_listed [] (f ∷ fs) are of = absurd cc
+  rows_listed (p ∷ places) [] are of = absurd cc
+  rows_listed (p ∷ places) (f ∷ fs) are of =
+      let there : slice_get probes p ≡ Some (probe_of f) = cc in
+      let rest : ArePlaces probes places (map probe_of fs) = cc in
+      let within : p < length probes = named_in probes p (probe_of f) there in
+      let inside : p < length (map h probes) = rw length-map within in
+      let is : get_or (map h probes) p (h (probe_of f)) ≡ h (probe_of f) = get_or-map h probes p (probe_of f) (h (probe_of f)) within ∙ ap h (named_at probes p (probe_of f) (probe_of f) there) in
+      let here : list_at lists (get_or by_probe p 0) ≡ h (probe_of f) = at_listed lists by_probe (map h probes) p (h (probe_of f)) are inside ∙ is in
+      rw (here, rows_listed places fs are rest) refl
+
+  -- those of all firings of a run
+  pub run_listed : (begin end : ℕ) (places : List ℕ) (trace : List Firing) → ArePlaces lists by_probe (map h probes) → ArePlaces probes places (map probe_of trace)
+      → slice_get lists begin ≡ Some (h (probe_of (begin_of trace))) → slice_get lists end ≡ Some (h (probe_of (end_of trace)))
+      → selected_in lists begin (map (λ p. get_or by_probe p 0) places) end ≡ map (λ f. h (probe_of f)) (with_ends trace trace)
+  run_listed begin end places trace are of first last =
+      let own : (f : Firing) → List ℕ = λ f. h (probe_of f) in
+      rw (
+        named_at lists begin (h (probe_of (begin_of trace))) [] first,
+        named_at lists end (h (probe_of (end_of trace))) [] last,
+        rows_listed places trace are of,
+        map-append own trace (end_of trace ∷ []),
+      ) refl
+
+-- the list of one more probe
+pub lists_more : (h : Probe → List ℕ) (t u : List (List ℕ)) (places : List ℕ) (probes : List Probe) (i place : ℕ) (p : Probe) → Extends t u → ArePlaces t places (take i (map h probes))
+    → slice_get probes i ≡ Some p → slice_get u place ≡ Some (h p) → ArePlaces u (places ++ place ∷ []) (take (i + 1) (map h probes))
+lists_more h t u places probes i place p grows are there kept =
+    let others = map h probes in
+    let same : slice_get others i ≡ Some (h p) = slice_get-map h probes i ∙ rw there refl in
+    rw (take_more others i (h p) (slice_get_within others i (h p) same), get_or_from_slice_get others i (h p) (h p) same) (place_more t u places (take i others) place (h p) grows are kept)
+
+-- the list of one more row
+pub rows_more : (f : ℕ → ℕ) (places rows : List ℕ) (i p r : ℕ) → rows ≡ take i (map f places) → slice_get places i ≡ Some p → r ≡ f p → rows ++ r ∷ [] ≡ take (i + 1) (map f places)
+rows_more f places rows i p r so_far there is =
+    let same : slice_get (map f places) i ≡ Some (f p) = slice_get-map f places i ∙ rw there refl in
+    rw (take_more (map f places) i (f p) (slice_get_within (map f places) i (f p) same), get_or_from_slice_get (map f places) i (f p) (f p) same, so_far, is) refl
+
+-- ---- what a lane is given
+
+pub zip_length : {A B : Type 0} (R : A → B → Type 0) (xs : List A) (ys : List B) → AllZip R xs ys → length xs ≡ length ys
+zip_length R [] [] zip = refl
+zip_length R [] (y ∷ ys) zip = absurd zip
+zip_length R (x ∷ xs) [] zip = absurd zip
+zip_length R (x ∷ xs) (y ∷ ys) zip = ap suc (zip_length R xs ys zip.1)
+
+pub selected_few : (own : Firing → List ℕ) (most : ℕ) (fs : List Firing) → ((f : Firing) → length (own f) ≤ most) → All (λ places. length places ≤ most) (map own fs)
+selected_few own most [] few = λ k d lt. absurd (omega arith)
+selected_few own most (f ∷ fs) few = All-cons (λ (places : List ℕ). length places ≤ most) (own f) (map own fs) (few f) (selected_few own most fs few)
+
+module _ (m : ScriptMeant) (trace : List Firing) (selected : List (List ℕ)) (are : AreFor trace selected m) where
+  pub selected_within : (i : ℕ) (f : Firing) → slice_get (with_ends trace trace) i ≡ Some f → i < length selected
+  selected_within i f firing = rw (are, length-map) (slice_get_within (with_ends trace trace) i f firing)
+
+  pub selected_is : (i : ℕ) (f : Firing) (places : List ℕ) → slice_get (with_ends trace trace) i ≡ Some f → slice_get selected i ≡ Some places → places ≡ selected_for m f
+  selected_is i f places firing list =
+      let same : slice_get selected i ≡ Some (selected_for m f) = rw are (slice_get-map (selected_for m) (with_ends trace trace) i ∙ rw firing refl) in
+      cc
+
+pub selected_short : (selected : List (List ℕ)) → All (λ places. length places ≤ 65536) selected → (i : ℕ) (places : List ℕ) → slice_get selected i ≡ Some places → length places ≤ 65536
+selected_short selected few i places list =
+    subst (λ (l : List ℕ). length l ≤ 65536) (get_or_from_slice_get selected i places places list) (few i places (slice_get_within selected i places list))

@@ -1,18 +1,9 @@
 -- Which probes a description matches.
 use Rattle.std.specs.Prelude.{◌≡◌, ◌⊎◌, ◌==◌, ◌&&◌, ◌||◌, ℕ, Bool, true, false, not, if◌then◌else◌}
 use Rattle.std.specs.Prelude.{List, [], ◌∷◌, ◌++◌}
-use Rattle.firing_reader.specs.declared.firing.Firing.{Firing}
+pub use Rattle.firing_reader.specs.Probing.{probe_of}
+use Rattle.firing_reader.specs.declared.unit.Probe.{Probe}
 use Rattle.d_parser.specs.declared.tree.Description.{Description}
-use Rattle.replay_core.specs.declared.probe.Probe.{Probe}
-
--- the probe that fired
-abbrev pub probe_of : Firing → Probe
-probe_of f = record {
-  provider = f.provider;
-  probemod = f.probemod;
-  probefunc = f.probefunc;
-  name = f.name;
-}
 
 abbrev pub star : ℕ
 star = 42

@@ -1,7 +1,7 @@
 -- Which clauses run for a probe, by their places.
 use Rattle.std.specs.Prelude.{ℕ, ◌+◌, List, [], ◌∷◌, ◌++◌, filter, map}
 use Rattle.d_parser.specs.declared.tree.Description.{Description}
-use Rattle.replay_core.specs.declared.probe.Probe.{Probe}
+use Rattle.firing_reader.specs.declared.unit.Probe.{Probe}
 use Rattle.replay_core.specs.Patterns.{selects}
 
 -- the places from the given one on: each once for each description that selects the probe

@@ -1,7 +1,7 @@
 -- When clauses of an engine are those of a script.
-use Rattle.std.specs.Prelude.{◌≡◌, ℕ, ℤ, List, All, map}
+use Rattle.std.specs.Prelude.{◌≡◌, ℕ, ℤ, List, All}
 use Rattle.replay_core.specs.Vocabulary.{AggFn, AllZip, AreTyped, AreTypedOwn, ClauseMeant}
-use Rattle.replay_core.specs.Vocabulary.{Description, Firing, HasTypedBuiltIns, ScriptMeant, Slots}
+use Rattle.replay_core.specs.Vocabulary.{Firing, HasTypedBuiltIns, ScriptMeant, Slots}
 use Rattle.replay_core.specs.Vocabulary.{Variables, functions_in, run_of, slots_of}
 use Rattle.replay_core.specs.Meaning.{Threads}
 
@@ -20,11 +20,8 @@ pub record AllMean {C : Type 0} (means : C → Slots → ClauseMeant → Type 0)
   pub each : AllZip (λ c. means c slots) clauses cs
   pub keep : All (Keeps slots) cs
 
--- each clause means the script's, with its descriptions, and the aggregations have the script's
--- functions
+-- each clause means the script's, and the aggregations have the script's functions
 pub record RunsAs {C : Type 0} (means : C → Slots → ClauseMeant → Type 0) (clauses : List C)
-    (descriptions : List (List Description)) (functions : List AggFn) (m : ScriptMeant)
-    : Type 0 where
+    (functions : List AggFn) (m : ScriptMeant) : Type 0 where
   pub clauses_mean : AllMean means (slots_of m) clauses m.clauses
-  pub are_described : descriptions ≡ map (λ c. c.descriptions) m.clauses
   pub have_functions : functions ≡ functions_in m

@@ -1,29 +1,31 @@
--- Selections of clauses.
-use Rattle.std.specs.Prelude.{◌≡◌, ℕ, List, [], All, map, slice_get}
-use Rattle.replay_core.specs.declared.probe.Probe.{Probe}
-use Rattle.replay_core.specs.declared.selection.Selection.{Selection}
-use Rattle.replay_core.specs.declared.selection.Selections.{Selections}
+-- Which clauses are selected for each firing of a run.
+use Rattle.std.specs.Prelude.{◌≡◌, ◌≤◌, ℕ, List, [], ◌∷◌, ◌++◌, All, get_or, length, map}
+use Rattle.replay_core.specs.Patterns.{probe_of}
 use Rattle.replay_core.specs.Places.{places_for}
-use Rattle.replay_core.specs.Vocabulary.{Description, option_map_or}
+use Rattle.replay_core.specs.Vocabulary.{Firing, MOST_BYTES, ScriptMeant, with_ends}
 
--- the places of a selection are those for its probe
-abbrev pub IsSelection : List (List Description) → Selection → Type 0
-IsSelection descriptions s = s.places.items ≡ places_for s.probe 0 descriptions
+-- those for a firing, by their places in the script
+abbrev pub selected_for : ScriptMeant → Firing → List ℕ
+selected_for m f = places_for (probe_of f) 0 (map (λ c. c.descriptions) m.clauses)
 
--- the places of the selection at an index; none where there is no selection
-abbrev pub places_at : List Selection → ℕ → List ℕ
-places_at known i = option_map_or (λ s. s.places.items) (slice_get known i) []
+-- these are the script's for each firing of a run over the trace
+abbrev pub AreFor : List Firing → List (List ℕ) → ScriptMeant → Type 0
+AreFor trace selected m = selected ≡ map (selected_for m) (with_ends trace trace)
 
--- ---- all selections
+-- for each firing of a run over the trace, those that the script selects
+pub record AreSelected (runs : ScriptMeant → Type 0) (trace : List Firing)
+    (selected : List (List ℕ)) : Type 0 where
+  pub few : All (λ places. length places ≤ MOST_BYTES) selected
+  pub each : (m : ScriptMeant) → runs m → AreFor trace selected m
 
--- the descriptions of each clause
-abbrev pub descriptions_of : Selections → List (List Description)
-descriptions_of s = map (λ d. d.now) s.descriptions.items
+-- ---- lists that are kept once
 
--- the places of each are those for its probe
-abbrev pub AreSelections : Selections → Type 0
-AreSelections s = All (IsSelection (descriptions_of s)) s.known.items
+-- the list at a place; an empty one where there is none
+abbrev pub list_at : List (List ℕ) → ℕ → List ℕ
+list_at lists place = get_or lists place []
 
--- the one at a place is for the probe
-abbrev pub IsFor : Probe → Selections → ℕ → Type 0
-IsFor p s place = places_at s.known.items place ≡ places_for p 0 (descriptions_of s)
+-- those of BEGIN, of each row and of END, by the places of their lists
+abbrev pub selected_in : (lists : List (List ℕ)) (begin : ℕ) (rows : List ℕ) (end : ℕ)
+    → List (List ℕ)
+selected_in lists begin rows end =
+    list_at lists begin ∷ (map (list_at lists) rows ++ list_at lists end ∷ [])

@@ -17,6 +17,7 @@ pub use Rattle.d_values.specs.declared.value.Value.{Value}
 pub use Rattle.d_values.specs.declared.variable.Var.{Var}
 pub use Rattle.firing_reader.specs.Ends.{begin_of, end_of, with_ends}
 pub use Rattle.firing_reader.specs.Firings.{HasRanges, number_of}
+pub use Rattle.firing_reader.specs.Stored.{ArePlaces, Extends}
 pub use Rattle.firing_reader.specs.Trace.{IsTrace}
 pub use Rattle.firing_reader.specs.declared.firing.Firing.{Firing}
 pub use Rattle.aggregations.specs.Table.{Aggregation, Contribution, StandsFor, count_held}

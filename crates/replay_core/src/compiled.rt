@@ -7,7 +7,9 @@ ghost use Rattle.replay_core.specs.{Compiled.IsCompiled, Lanes.IsFresh};
 use crate::engine::Engine;
 use crate::lane::Lane;
 use crate::lanes::Lanes;
+use crate::selection::{Selections, select};
 use dif_codegen::{CompiledClause, Program};
+use firing_reader::Trace;
 use keyed_hash::HashKey;
 use std::alloc::{AllocError, Global};
 
@@ -58,6 +60,10 @@ impl<'a> Lanes for DifLanes<'a> {
 
     fn exits(&self) -> bool {
         self.program.exits()
+    }
+
+    fn selections(&self, alloc: Global, trace: &Trace) -> Result<Selections, AllocError> {
+        select(alloc, self.hash_key, self.program.clauses(), trace)
     }
 
     fn lane(&self, alloc: Global) -> Result<DifLane<'a>, AllocError> {

@@ -2,11 +2,13 @@
 
 ghost use Rattle.std.specs.Prelude.{◌≡◌, All, vec_len, IfOk};
 ghost use Rattle.replay_core.specs.Vocabulary.{IsAt, IsNew, grouping};
-ghost use Rattle.replay_core.specs.{Crews.AreParts, Crews.Gives, Crews.IsWork, Working.IsReady};
+ghost use Rattle.replay_core.specs.{Selecting.AreSelected, Working.IsReady};
+ghost use Rattle.replay_core.specs.Crews.{AreParts, Gives, IsWork};
 
 use crate::gate::Gate;
 use crate::lanes::Lanes;
 use crate::piece::Piece;
+use crate::selection::Selections;
 use crate::span::Span;
 use crate::until::work_until;
 use crate::worker::{Shift, work, work_on};
@@ -44,6 +46,7 @@ pub(crate) fn in_threads<R: Threads + Wait + Sync, L: Lanes + Sync, G: Gate + Sy
     seats: Vec<ClaimSeat>,
     lanes: &L,
     trace: &Trace,
+    selections: &Selections,
     groups: &Groups,
     gate: &G,
     span: Span,
@@ -51,6 +54,7 @@ pub(crate) fn in_threads<R: Threads + Wait + Sync, L: Lanes + Sync, G: Gate + Sy
     requires seats { All (λ s. IsAt board.now s × IsNew s) seats.items }
     requires end { board.now.end ≡ (grouping groups.now).count }
     requires ready { IsReady (L.runs lanes.now) groups.now trace.now }
+    requires selected { AreSelected (L.runs lanes.now) trace.now selections.now }
     ensures len { IfOk result (λ v. vec_len v ≡ vec_len seats) }
     ensures works { IfOk result (λ v. All (λ r. IfOk r
         (IsWork (Gives span (L.runs lanes.now) groups.now trace.now) board.now)) v.items) }
@@ -62,6 +66,7 @@ pub(crate) fn in_threads<R: Threads + Wait + Sync, L: Lanes + Sync, G: Gate + Sy
             requires seats { All (λ s. IsAt board.now s × IsNew s) seats.items }
             requires end { board.now.end ≡ (grouping groups.now).count }
             requires ready { IsReady (L.runs lanes.now) groups.now trace.now }
+            requires selected { AreSelected (L.runs lanes.now) trace.now selections.now }
             ensures len { IfOk result (λ v. vec_len v ≡ vec_len seats) }
             ensures works { IfOk result (λ v. All (λ r. IfOk r
                 (IsWork (Gives span (L.runs lanes.entry.now) groups.entry.now trace.entry.now)
@@ -82,10 +87,16 @@ pub(crate) fn in_threads<R: Threads + Wait + Sync, L: Lanes + Sync, G: Gate + Sy
                         requires seat { IsAt board.now seat × IsNew seat }
                         requires end { board.now.end ≡ (grouping groups.now).count }
                         requires ready { IsReady (L.runs lanes.now) groups.now trace.now }
+                        requires selected { AreSelected (L.runs lanes.now)
+                            trace.now selections.now }
                         ensures { IfOk result
                             (IsWork (Gives span (L.runs lanes.entry.now) groups.entry.now
                             trace.entry.now) board.entry.now) }
-                    { at_board(rt, alloc, board, seat, lanes, trace, groups, gate, span) },
+                    {
+                        at_board(
+                            rt, alloc, board, seat, lanes, trace, selections, groups, gate, span,
+                        )
+                    },
                 )?;
                 handles.push_reserved(child);
             }
@@ -105,6 +116,7 @@ fn at_board<R: Wait, L: Lanes, G: Gate>(
     seat: ClaimSeat,
     lanes: &L,
     trace: &Trace,
+    selections: &Selections,
     groups: &Groups,
     gate: &G,
     span: Span,
@@ -112,16 +124,22 @@ fn at_board<R: Wait, L: Lanes, G: Gate>(
     requires seat { IsAt board.now seat × IsNew seat }
     requires end { board.now.end ≡ (grouping groups.now).count }
     requires ready { IsReady (L.runs lanes.now) groups.now trace.now }
+    requires selected { AreSelected (L.runs lanes.now) trace.now selections.now }
     ensures { IfOk result (IsWork
         (Gives span (L.runs lanes.entry.now) groups.entry.now trace.entry.now) board.entry.now) }
 {
     match span {
-        Span::All => work(rt, alloc, board, seat, lanes, trace, groups, gate),
-        Span::UntilExit => work_until(rt, alloc, board, seat, lanes, trace, groups, gate),
+        Span::All => work(
+            rt, alloc, board, seat, lanes, trace, selections, groups, gate,
+        ),
+        Span::UntilExit => work_until(
+            rt, alloc, board, seat, lanes, trace, selections, groups, gate,
+        ),
         Span::UpTo { .. } => {
             let shift = Shift {
                 lanes,
                 trace,
+                selections,
                 groups,
                 gate,
                 span,

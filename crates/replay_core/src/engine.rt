@@ -1,7 +1,7 @@
 //! What runs firings.
 
-ghost use Rattle.std.specs.Prelude.{◌≡◌, ◌<◌, ◌↔◌, Bool, [], ◌∷◌, IfOk, IsErr, IsFalse, IsTrue};
-ghost use Rattle.std.specs.Prelude.{OnOk, is_some, length};
+ghost use Rattle.std.specs.Prelude.{◌≡◌, ◌<◌, ◌≤◌, ◌↔◌, Bool, [], ◌∷◌, IfOk, IsErr, IsFalse};
+ghost use Rattle.std.specs.Prelude.{IsTrue, OnOk, is_some, length};
 
 use crate::piece::Piece;
 use firing_reader::Firing;
@@ -9,8 +9,8 @@ use std::alloc::AllocError;
 
 /// Runs firings for a script, in the order in which it is given them.
 pub trait Engine {
-    ghost use Rattle.replay_core.specs.Vocabulary.{HasRanges, ScriptMeant};
-    ghost use Rattle.replay_core.specs.{Sizes.most_firings};
+    ghost use Rattle.replay_core.specs.Vocabulary.{HasRanges, MOST_BYTES, ScriptMeant};
+    ghost use Rattle.replay_core.specs.{Selecting.selected_for, Sizes.most_firings};
     ghost use Rattle.replay_core.specs.Lanes.{Fires, LaneSeen};
     ghost use Rattle.replay_core.specs.Meaning.{exit_of, history};
     ghost use Rattle.replay_core.specs.Seen.{IsRoomy, piece_seen};
@@ -24,17 +24,23 @@ pub trait Engine {
     /// Memory was refused to a firing.
     ghost is_spent: { Self → Bool };
 
-    /// Runs the clauses for a firing, and returns whether it exits. Once memory was refused, each
-    /// later call is refused too.
-    fn fire(&mut self, firing: &Firing) -> Result<bool, AllocError>
+    /// Runs the clauses at these places for a firing, those that are selected for it, and returns
+    /// whether it exits. Once memory was refused, each later call is refused too.
+    fn fire(&mut self, firing: &Firing, places: &[usize]) -> Result<bool, AllocError>
         requires ranges { HasRanges firing.now }
+        requires selected { (m : ScriptMeant) × runs self.old m
+            × (places.now ≡ selected_for m firing.now) }
+        requires places { length places.now ≤ MOST_BYTES }
         requires few { length (seen self.old).piece.taken < most_firings }
         ensures step { (m : ScriptMeant) → runs self.old m
+            → places.now ≡ selected_for m firing.now
             → OnOk result (Fires m firing.now (seen self.old) (seen self.new)) }
         ensures exits { (m : ScriptMeant) → runs self.old m
+            → places.now ≡ selected_for m firing.now
             → IfOk result (λ exits. exits
             ≡ is_some (exit_of (history m (firing.now ∷ []) (seen self.old).threads))) }
-        ensures script { (m : ScriptMeant) → runs self.old m → runs self.new m }
+        ensures script { (m : ScriptMeant) → runs self.old m
+            → places.now ≡ selected_for m firing.now → runs self.new m }
         ensures spent { IsTrue (is_spent self.old) → IsErr result
             × ((seen self.new).piece.taken ≡ (seen self.old).piece.taken) }
         ensures err { IsTrue (is_spent self.new) ↔ IsErr result };

@@ -1,12 +1,10 @@
 //! Lanes: what all engines share.
 
 ghost use Rattle.std.specs.Prelude.{◌≡◌, ◌<◌, ◌≤◌, ◌∷◌, [], List, All, IfOk, OnOk, false, true};
-ghost use Rattle.std.specs.Prelude.{is_some, length, map, sum_by};
-ghost use Rattle.replay_core.specs.Vocabulary.{AllZip, ClauseMeant, HasRanges, MOST_BYTES};
-ghost use Rattle.replay_core.specs.Vocabulary.{ScriptMeant, Slots, functions_in, functions_of};
-ghost use Rattle.replay_core.specs.Vocabulary.{slots_of};
-ghost use Rattle.replay_core.specs.{Selecting.AreSelections, Sizes.most_firings};
-ghost use Rattle.replay_core.specs.{Threads.threads_in};
+ghost use Rattle.std.specs.Prelude.{is_some, length};
+ghost use Rattle.replay_core.specs.Vocabulary.{HasRanges, MOST_BYTES, ScriptMeant, functions_in};
+ghost use Rattle.replay_core.specs.Vocabulary.{functions_of, slots_of};
+ghost use Rattle.replay_core.specs.{Selecting.selected_for, Sizes.most_firings, Threads.threads_in};
 ghost use Rattle.replay_core.specs.Lanes.{Fires, IsFresh};
 ghost use Rattle.replay_core.specs.Meaning.{exit_of, history};
 ghost use Rattle.replay_core.specs.Scripts.{AllMean, AreTypedThreads, RunsAs};
@@ -16,11 +14,9 @@ use crate::clause::Clause;
 use crate::engine::Engine;
 use crate::evaluation::Spare;
 use crate::piece::Piece;
-use crate::selection::Selections;
 use crate::tables::Tables;
 use crate::threads::{ThreadCache, run_on_thread};
 use aggregations::AggFn;
-use d_parser::Description;
 use firing_reader::Firing;
 use indexmap::IndexMap;
 use keyed_hash::HashKey;
@@ -30,7 +26,6 @@ use std::alloc::{AllocError, Global};
 #[derive(Drop)]
 pub struct Lane<'a, C: Clause> {
     clauses: &'a [C],
-    selections: Selections<'a>,
     threads: IndexMap<i32, Tables, HashKey>,
     cache: ThreadCache,
     spare: Spare,
@@ -39,10 +34,6 @@ pub struct Lane<'a, C: Clause> {
     spent: bool,
     ghost named: { All (λ c. C.places c ≤ length (functions_of piece.table)) clauses.now },
     ghost few: { All (λ c. C.most c ≤ MOST_BYTES) clauses.now },
-    ghost described: { length selections.descriptions.items ≡ length clauses.now },
-    ghost few_descriptions: { sum_by length (map (λ d. d.now) selections.descriptions.items)
-        ≤ MOST_BYTES },
-    ghost known: { AreSelections selections },
     ghost room: { spent ≡ false → IsRoomy piece },
 }
 
@@ -61,7 +52,6 @@ impl<'a, C: Clause> Lane<'a, C> {
     ) -> Result<Lane<'a, C>, AllocError>
         requires named { All (λ c. C.places c ≤ length functions.items) clauses.now }
         requires few { All (λ c. C.most c ≤ MOST_BYTES) clauses.now }
-        requires few_descriptions { sum_by C.probes clauses.now ≤ MOST_BYTES }
         ensures script { IfOk result (λ l. (m : ScriptMeant)
             → AllMean C.means (slots_of m) clauses.now m.clauses → functions.items ≡ functions_in m
             → ⟦<Lane<'a, C> as Engine>⟧.runs l m) }
@@ -69,12 +59,9 @@ impl<'a, C: Clause> Lane<'a, C> {
         ensures unspent { IfOk result (λ l. l.spent ≡ false) }
     {
         let piece = Piece::new(alloc, hash_key, functions)?;
-        let descriptions = descriptions(alloc, clauses)?;
-        let selections = Selections::new(alloc, hash_key, descriptions)?;
         let cache = ThreadCache::new(alloc)?;
         Ok(Lane {
             clauses,
-            selections,
             threads: IndexMap::with_hasher(alloc, hash_key),
             cache,
             spare: Spare::new(alloc),
@@ -83,48 +70,44 @@ impl<'a, C: Clause> Lane<'a, C> {
         })
     }
 
-    // Takes the firing's number, and runs the clauses for it.
-    fn run(&mut self, firing: &Firing) -> Result<bool, AllocError>
+    // Takes the firing's number, and runs the clauses at these places for it.
+    fn run(&mut self, firing: &Firing, places: &[usize]) -> Result<bool, AllocError>
         requires ranges { HasRanges firing.now }
+        requires selected { (m : ScriptMeant)
+            × RunsAs C.means self.old.clauses.now (functions_of self.old.piece.table) m
+            × (places.now ≡ selected_for m firing.now) }
+        requires places { length places.now ≤ MOST_BYTES }
         requires few { length self.old.piece.taken.items < most_firings }
         requires room { IsRoomy self.old.piece }
         requires spent { self.old.spent ≡ true }
         ensures spent { self.new.spent ≡ true }
         ensures script { (m : ScriptMeant)
-            → RunsAs C.means self.old.clauses.now
-            (map (λ d. d.now) self.old.selections.descriptions.items)
-            (functions_of self.old.piece.table) m
-            → RunsAs C.means self.new.clauses.now
-            (map (λ d. d.now) self.new.selections.descriptions.items)
-            (functions_of self.new.piece.table) m }
+            → RunsAs C.means self.old.clauses.now (functions_of self.old.piece.table) m
+            → RunsAs C.means self.new.clauses.now (functions_of self.new.piece.table) m }
         ensures room { OnOk result (IsRoomy self.new.piece) }
         ensures step { OnOk result ((m : ScriptMeant)
-            → RunsAs C.means self.old.clauses.now
-            (map (λ d. d.now) self.old.selections.descriptions.items)
-            (functions_of self.old.piece.table) m
+            → RunsAs C.means self.old.clauses.now (functions_of self.old.piece.table) m
+            → places.now ≡ selected_for m firing.now
             → AreTypedThreads (slots_of m) (threads_in self.old.threads.entries)
             → Fires m firing.now
             (lane_seen self.old.threads.entries self.old.piece)
             (lane_seen self.new.threads.entries self.new.piece)) }
         ensures typed { OnOk result ((m : ScriptMeant)
-            → RunsAs C.means self.old.clauses.now
-            (map (λ d. d.now) self.old.selections.descriptions.items)
-            (functions_of self.old.piece.table) m
+            → RunsAs C.means self.old.clauses.now (functions_of self.old.piece.table) m
+            → places.now ≡ selected_for m firing.now
             → AreTypedThreads (slots_of m) (threads_in self.old.threads.entries)
             → AreTypedThreads (slots_of m) (threads_in self.new.threads.entries)) }
         ensures exits { IfOk result (λ exits. (m : ScriptMeant)
-            → RunsAs C.means self.old.clauses.now
-            (map (λ d. d.now) self.old.selections.descriptions.items)
-            (functions_of self.old.piece.table) m
+            → RunsAs C.means self.old.clauses.now (functions_of self.old.piece.table) m
+            → places.now ≡ selected_for m firing.now
             → AreTypedThreads (slots_of m) (threads_in self.old.threads.entries)
             → exits ≡ is_some
             (exit_of (history m (firing.now ∷ []) (threads_in self.old.threads.entries)))) }
     {
         self.piece.taken.push(firing.number)?;
-        self.selections.turn_to(firing)?;
         run_on_thread(
             self.clauses,
-            self.selections.places(),
+            places,
             firing,
             &mut self.threads,
             &mut self.cache,
@@ -134,41 +117,21 @@ impl<'a, C: Clause> Lane<'a, C> {
     }
 }
 
-// The descriptions of each clause.
-fn descriptions<'a, C: Clause>(
-    alloc: Global,
-    clauses: &'a [C],
-) -> Result<Vec<&'a [Description]>, AllocError>
-    ensures each { IfOk result (λ v. length v.items ≡ length clauses.now) }
-    ensures probes { IfOk result (λ v.
-        sum_by length (map (λ d. d.now) v.items) ≡ sum_by C.probes clauses.now) }
-    ensures meaning { IfOk result (λ v. (slots : Slots) (cs : List ClauseMeant)
-        → AllZip (λ c. C.means c slots) clauses.now cs
-        → map (λ d. d.now) v.items ≡ map (λ c. c.descriptions) cs) }
-{
-    let mut all = Vec::new(alloc);
-    for clause in clauses {
-        all.push(clause.descriptions())?;
-    }
-    Ok(all)
-}
-
 impl<'a, C: Clause> Engine for Lane<'a, C> {
     ghost runs = { λ l m.
-        RunsAs C.means l.clauses.now (map (λ d. d.now) l.selections.descriptions.items)
-        (functions_of l.piece.table) m
+        RunsAs C.means l.clauses.now (functions_of l.piece.table) m
         × (l.spent ≡ false → AreTypedThreads (slots_of m) (threads_in l.threads.entries)) };
 
     ghost seen = { λ l. lane_seen l.threads.entries l.piece };
 
     ghost is_spent = { λ l. l.spent };
 
-    fn fire(&mut self, firing: &Firing) -> Result<bool, AllocError> {
+    fn fire(&mut self, firing: &Firing, places: &[usize]) -> Result<bool, AllocError> {
         if self.spent {
             return Err(AllocError);
         }
         self.spent = true;
-        let exits = self.run(firing)?;
+        let exits = self.run(firing, places)?;
         self.spent = false;
         Ok(exits)
     }

@@ -3,12 +3,14 @@
 ghost use Rattle.std.specs.Prelude.{◌≡◌, IfOk, IsFalse, []};
 
 use crate::engine::Engine;
+use crate::selection::Selections;
+use firing_reader::Trace;
 use std::alloc::{AllocError, Global};
 
 /// Gives fresh lanes of one script.
 pub trait Lanes {
     ghost use Rattle.d_types.specs.Typed.{ScriptMeant, has_exit};
-    ghost use Rattle.replay_core.specs.Running.{IsLaneOf};
+    ghost use Rattle.replay_core.specs.{Running.IsLaneOf, Selecting.AreSelected};
 
     type Lane: Engine + Drop + Send;
 
@@ -18,6 +20,11 @@ pub trait Lanes {
     /// Whether their script has an `exit`.
     fn exits(&self) -> bool
         ensures { (m : ScriptMeant) → runs self.now m → result ≡ has_exit m };
+
+    /// Which of its clauses run for each firing of a run over the trace.
+    fn selections(&self, alloc: Global, trace: &Trace) -> Result<Selections, AllocError>
+        requires { (m : ScriptMeant) × runs self.now m }
+        ensures { IfOk result (AreSelected (runs self.now) trace.now) };
 
     /// A lane that has run no firing.
     fn lane(&self, alloc: Global) -> Result<Self::Lane, AllocError>

@@ -5,9 +5,9 @@ ghost use Rattle.replay_core.specs.Vocabulary.{AreOf, Description, Firing, Group
 ghost use Rattle.replay_core.specs.Vocabulary.{IsStrictlyIncreasing, IsTrace, ScriptMeant};
 ghost use Rattle.replay_core.specs.Vocabulary.{begin_of, grouping, has_exit, number_of};
 ghost use Rattle.replay_core.specs.Vocabulary.{run_threads, with_ends};
+ghost use Rattle.firing_reader.specs.declared.unit.Probe.{Probe};
 ghost use Rattle.replay_core.specs.declared.round.Round.{Round};
 ghost use Rattle.replay_core.specs.declared.span.Span.TheVariants as span;
-ghost use Rattle.replay_core.specs.{declared.probe.Probe.Probe};
 ghost use Rattle.replay_core.specs.Crews.{Gives, IsRound};
 ghost use Rattle.replay_core.specs.Exit.{exit_status, first_exit_number, firings_over};
 ghost use Rattle.replay_core.specs.Exit.{history_over};

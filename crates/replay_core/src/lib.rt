@@ -3,6 +3,7 @@
 #![tactic(auto)]
 
 mod clause;
+mod clause_lists;
 mod collect_fault;
 mod collector;
 mod compiled;
@@ -17,7 +18,6 @@ mod matching;
 mod merge;
 mod piece;
 mod placing;
-mod probe;
 mod round;
 mod run_firings;
 mod scene;
@@ -45,8 +45,8 @@ pub use gate::{Gate, OpenGate};
 pub use lane::Lane;
 pub use lanes::Lanes;
 pub use piece::Piece;
-pub use probe::Probe;
 pub use scene::Scene;
+pub use selection::Selections;
 pub use source::{Exits, Source};
 pub use statements::{printf_text, trace_line};
 pub use tree::{TreeLane, TreeLanes, tree_lane};

@@ -4,20 +4,20 @@ ghost use Rattle.std.specs.Prelude.{◌≡◌, ◌≢◌, ◌≤◌, ◌-◌, �
 ghost use Rattle.std.specs.Prelude.{IsTrue, MatchOption, length, take, drop};
 ghost use Rattle.std.specs.List.{list_all, zip};
 ghost use Rattle.replay_core.specs.Patterns.{Matches, field_matches, is_plain, is_same_or_question};
-ghost use Rattle.replay_core.specs.Patterns.{probe_of, selects};
+ghost use Rattle.replay_core.specs.Patterns.{selects};
 
 use d_parser::Description;
 use d_values::split_at_first;
-use firing_reader::Firing;
+use firing_reader::Probe;
 
-/// Whether each field of the description matches the firing's probe.
-pub(crate) fn is_selected(description: &Description, firing: &Firing) -> bool
-    ensures { result ≡ selects description.now (probe_of firing.now) }
+/// Whether each field of the description matches the probe's.
+pub(crate) fn is_selected(description: &Description, probe: &Probe) -> bool
+    ensures { result ≡ selects description.now probe.now }
 {
-    is_field_match(description.provider.as_slice(), firing.provider.as_bytes())
-        && is_field_match(description.module.as_slice(), firing.probemod.as_bytes())
-        && is_field_match(description.function.as_slice(), firing.probefunc.as_bytes())
-        && is_field_match(description.name.as_slice(), firing.name.as_bytes())
+    is_field_match(description.provider.as_slice(), probe.provider.as_bytes())
+        && is_field_match(description.module.as_slice(), probe.probemod.as_bytes())
+        && is_field_match(description.function.as_slice(), probe.probefunc.as_bytes())
+        && is_field_match(description.name.as_slice(), probe.name.as_bytes())
 }
 
 // An empty field matches everything.

@@ -2,12 +2,14 @@
 
 ghost use Rattle.std.specs.Prelude.{◌≡◌, ◌+◌, ◌<◌, ◌≤◌, IfOk, vec_len};
 ghost use Rattle.replay_core.specs.Vocabulary.{grouping};
-ghost use Rattle.replay_core.specs.{Crews.Gives, Crews.IsRound, Working.IsReady};
+ghost use Rattle.replay_core.specs.{Selecting.AreSelected, Working.IsReady};
+ghost use Rattle.replay_core.specs.Crews.{Gives, IsRound};
 
 use crate::crew::{in_threads, pieces_and_seats};
 use crate::gate::Gate;
 use crate::lanes::Lanes;
 use crate::piece::Piece;
+use crate::selection::Selections;
 use crate::span::Span;
 use firing_reader::Trace;
 use shard_queue::{ClaimBoard, Groups, MOST_GROUPS, MOST_WORKERS};
@@ -30,12 +32,14 @@ pub(crate) fn in_round<R: Threads + Wait + Sync, L: Lanes + Sync, G: Gate + Sync
     alloc: Global,
     lanes: &L,
     trace: &Trace,
+    selections: &Selections,
     groups: &Groups,
     workers: u32,
     gate: &G,
     span: Span,
 ) -> Result<Round, AllocError>
     requires ready { IsReady (L.runs lanes.now) groups.now trace.now }
+    requires selected { AreSelected (L.runs lanes.now) trace.now selections.now }
     requires few { (grouping groups.now).count ≤ MOST_GROUPS + 1 }
     requires workers { (0 < workers) × (workers ≤ MOST_WORKERS) }
     ensures lists { IfOk result (λ r. vec_len r.lists ≡ workers) }
@@ -43,7 +47,9 @@ pub(crate) fn in_round<R: Threads + Wait + Sync, L: Lanes + Sync, G: Gate + Sync
         (Gives span (L.runs lanes.now) groups.now trace.now) (grouping groups.now).count) }
 {
     let (board, seats) = ClaimBoard::open(alloc, groups.len() as u32, workers as usize)?;
-    let results = in_threads(rt, alloc, &board, seats, lanes, trace, groups, gate, span)?;
+    let results = in_threads(
+        rt, alloc, &board, seats, lanes, trace, selections, groups, gate, span,
+    )?;
     let (pieces, seats) = pieces_and_seats(alloc, &board, results, lanes, trace, groups, span)?;
     let closed = board.close(alloc, seats)?;
     Ok(Round {

@@ -1,215 +1,213 @@
-//! Which clauses run for a probe: decided once for each.
+//! Which clauses run for each firing of a run: decided once for each probe, before any fires.
 
-ghost use Rattle.std.specs.Prelude.{◌≡◌, ◌<◌, ◌++◌, true, IfOk, OnOk, filter, map};
-ghost use Rattle.replay_core.specs.{Patterns.probe_of, Patterns.selects, Places.places_for};
+ghost use Rattle.std.specs.Prelude.{◌≡◌, ◌<◌, ◌≤◌, ◌++◌, IfOk, List, OnOk, Some, filter, get_or};
+ghost use Rattle.std.specs.Prelude.{length, map, slice_get, sum_by};
+ghost use Rattle.replay_core.specs.Vocabulary.{AllZip, ArePlaces, ClauseMeant, Extends, MOST_BYTES};
+ghost use Rattle.replay_core.specs.Vocabulary.{ScriptMeant, Slots, slots_of, with_ends};
+ghost use Rattle.replay_core.specs.{Places.places_for, Selecting.AreSelected};
+ghost use Rattle.replay_core.specs.Patterns.{probe_of, selects};
 
+use crate::clause::Clause;
+use crate::clause_lists::ClauseLists;
 use crate::matching::is_selected;
-use crate::probe::Probe;
 use d_parser::Description;
-use firing_reader::Firing;
-use indexmap::IndexMap;
-use keyed_hash::{DirectMapped, HashKey};
+use firing_reader::{Probe, ProbePlaces, Trace};
+use keyed_hash::HashKey;
 use std::alloc::{AllocError, Global};
+use std::marker::Model;
 
-// How many selections are cached.
-const CACHED: usize = 2048;
-
-/// The clauses that run for a probe, by their places among the script's: in the script's order,
-/// each once for each of its descriptions that selects the probe.
+/// Which clauses run for each firing of a run over a trace. Contracts see the places of the
+/// clauses, firing by firing: of BEGIN, of each row, and of END.
 #[derive(Drop)]
-pub(crate) struct Selection {
-    probe: Probe,
-    places: Vec<usize>,
+pub struct Selections {
+    lists: ClauseLists,
+    // The place of each row's list.
+    by_row: Vec<u32>,
+    begin: u32,
+    end: u32,
 }
 
-/// The selections for the probes that fired so far.
-#[derive(Drop)]
-pub(crate) struct Selections<'a> {
-    alloc: Global,
-    // Those of each clause.
-    descriptions: Vec<&'a [Description]>,
-    known: Vec<Selection>,
-    // The place among those known that was last filled or found under the probe's name.
-    named: IndexMap<Vec<u8>, usize, HashKey>,
-    // The name of the probe that is looked for.
-    name: Vec<u8>,
-    // The places among those known, by a cheap hash of the probe: a hit saves a look-up.
-    cache: DirectMapped<{ CACHED }>,
-    // The place among those known of the selection for the probe that fired last.
-    last: usize,
+impl Model for Selections {
+    ghost use Rattle.std.specs.Prelude.{ℕ, List};
+    ghost use Rattle.replay_core.specs.Selecting.{selected_in};
+
+    ghost Value = { List (List ℕ) };
+
+    ghost view = { λ s. selected_in s.lists s.begin s.by_row.items s.end };
 }
 
-impl<'a> Selections<'a> {
-    ghost use Rattle.replay_core.specs.Selecting.{AreSelections, IsFor, places_at};
-
-    /// None yet, of clauses with these descriptions.
-    pub(crate) fn new(
+impl Selections {
+    // Those of clauses with these descriptions.
+    fn new(
         alloc: Global,
         hash_key: HashKey,
-        descriptions: Vec<&'a [Description]>,
-    ) -> Result<Selections<'a>, AllocError>
-        ensures descriptions { IfOk result
-            (λ s. s.descriptions.items ≡ descriptions.entry.items) }
-        ensures known { IfOk result AreSelections }
+        descriptions: &[&[Description]],
+        trace: &Trace,
+    ) -> Result<Selections, AllocError>
+        ensures { IfOk result (λ s.
+            s ≡ map (λ f. places_for (probe_of f) 0 (map (λ d. d.now) descriptions.now))
+            (with_ends trace.now trace.now)) }
     {
-        let cache = DirectMapped::new(alloc)?;
+        let firings = trace.firings().probe_places();
+        let mut lists = ClauseLists::new(alloc, hash_key);
+        let begin = list_for(alloc, &mut lists, descriptions, &trace.begin().into_probe())?;
+        let end = list_for(alloc, &mut lists, descriptions, &trace.end().into_probe())?;
+        let by_probe = lists_for(alloc, &mut lists, descriptions, &firings)?;
+        let by_row = lists_by_row(alloc, &by_probe, &firings)?;
         Ok(Selections {
-            alloc,
-            descriptions,
-            known: Vec::new(alloc),
-            named: IndexMap::with_hasher(alloc, hash_key),
-            name: Vec::new(alloc),
-            cache,
-            last: 0,
+            lists,
+            by_row,
+            begin,
+            end,
         })
     }
 
-    /// Turns to the selection for the firing's probe.
-    pub(crate) fn turn_to(&mut self, firing: &Firing) -> Result<(), AllocError>
-        requires { AreSelections self.old }
-        ensures descriptions { self.new.descriptions.items ≡ self.old.descriptions.items }
-        ensures known { AreSelections self.new }
-        ensures turned { OnOk result (IsFor (probe_of firing.now) self.new self.new.last) }
+    /// The places of the clauses that run for the firing of a run at a place: BEGIN has place 0,
+    /// the rows follow, and END is the last.
+    pub fn at(&self, place: u32) -> &[usize]
+        requires { place < length self.now }
+        ensures { slice_get self.now place ≡ Some result.now }
     {
-        let slot = slot_of(firing);
-        let place = self.cache.get(slot);
-        if self.is_at(place, firing) {
-            self.last = place;
-            return Ok(());
+        if place == 0 {
+            return self.lists.at(self.begin as usize);
         }
-        self.look_up(firing)?;
-        self.cache.put(slot, self.last);
-        Ok(())
-    }
-
-    // The same for a probe whose place isn't cached.
-    #[cold]
-    #[inline(never)]
-    fn look_up(&mut self, firing: &Firing) -> Result<(), AllocError>
-        requires { AreSelections self.old }
-        ensures descriptions { self.new.descriptions.items ≡ self.old.descriptions.items }
-        ensures known { AreSelections self.new }
-        ensures turned { OnOk result (IsFor (probe_of firing.now) self.new self.new.last) }
-    {
-        self.write_name(firing)?;
-        if let Some(place) = self.named.get(&self.name) {
-            let place = *place;
-            if self.is_at(place, firing) {
-                self.last = place;
-                return Ok(());
-            }
+        let row = place as usize - 1;
+        if row >= self.by_row.len() {
+            return self.lists.at(self.end as usize);
         }
-        self.learn(firing)
-    }
-
-    /// The places of the clauses, by the selection that it is at.
-    pub(crate) fn places(&self) -> &[usize]
-        ensures { result.now ≡ places_at self.now.known.items self.now.last }
-    {
-        match self.known.get(self.last) {
-            Some(selection) => &selection.places,
-            None => &[],
-        }
-    }
-
-    // Whether the selection at the place is for the firing's probe.
-    fn is_at(&self, place: usize, firing: &Firing) -> bool
-        requires { AreSelections self.now }
-        ensures { result ≡ true → IsFor (probe_of firing.now) self.now place }
-    {
-        match self.known.get(place) {
-            Some(selection) => selection.probe.is_of(firing),
-            None => false,
-        }
-    }
-
-    // Writes the parts of the probe's name, each after a zero byte, which none of them has.
-    fn write_name(&mut self, firing: &Firing) -> Result<(), AllocError>
-        ensures descriptions { self.new.descriptions.items ≡ self.old.descriptions.items }
-        ensures known { self.new.known.items ≡ self.old.known.items }
-    {
-        self.name.clear();
-        for part in [
-            &firing.name,
-            &firing.probefunc,
-            &firing.probemod,
-            &firing.provider,
-        ] {
-            self.name.extend_from_slice(part.as_bytes())?;
-            self.name.push(0)?;
-        }
-        Ok(())
-    }
-
-    // Adds the selection for the firing's probe, under the name that was written.
-    fn learn(&mut self, firing: &Firing) -> Result<(), AllocError>
-        requires { AreSelections self.old }
-        ensures descriptions { self.new.descriptions.items ≡ self.old.descriptions.items }
-        ensures known { AreSelections self.new }
-        ensures turned { OnOk result (IsFor (probe_of firing.now) self.new self.new.last) }
-    {
-        let probe = Probe::of(self.alloc, firing)?;
-        let places = clause_places(self.alloc, &self.descriptions, firing)?;
-        let place = self.known.len();
-        self.known.push(Selection { probe, places })?;
-        self.last = place;
-        self.named.insert(self.name.clone()?, place)?;
-        Ok(())
+        self.lists.at(self.by_row[row] as usize)
     }
 }
 
-// Where the firing's probe is in the cache.
-fn slot_of(firing: &Firing) -> usize
-    ensures { result < CACHED }
-{
-    let function = hash_of(firing.probefunc.as_bytes());
-    let name = hash_of(firing.name.as_bytes());
-    (3 * function + 7 * name) % CACHED
-}
-
-// A hash of some of a name's bytes.
-fn hash_of(name: &[u8]) -> usize
-    ensures { result < 65536 }
-{
-    match name {
-        [] => 0,
-        [first, ..] => {
-            let middle = name[name.len() / 2] as usize;
-            let last = name[name.len() - 1] as usize;
-            name.len() % 256 + 5 * (*first as usize) + 17 * middle + 67 * last
-        }
-    }
-}
-
-// The places of the clauses that run for the firing.
-fn clause_places(
+// The place of the list of each row's probe.
+fn lists_by_row(
     alloc: Global,
+    by_probe: &[u32],
+    firings: &ProbePlaces,
+) -> Result<Vec<u32>, AllocError>
+    ensures { IfOk result (λ rows. rows.items
+        ≡ map (λ p. get_or by_probe.now p 0) firings.now.places) }
+{
+    let mut rows = Vec::with_capacity(alloc, firings.len())?;
+    for row in 0..firings.len() {
+        rows.push(list_of(by_probe, firings.place(row)))?;
+    }
+    Ok(rows)
+}
+
+// The place of a probe's list.
+fn list_of(by_probe: &[u32], probe: u32) -> u32
+    ensures { result ≡ get_or by_probe.now probe 0 }
+{
+    match by_probe.get(probe as usize) {
+        Some(list) => *list,
+        None => 0,
+    }
+}
+
+/// Which of these clauses run for each firing of a run over the trace.
+pub(crate) fn select<C: Clause>(
+    alloc: Global,
+    hash_key: HashKey,
+    clauses: &[C],
+    trace: &Trace,
+) -> Result<Selections, AllocError>
+    requires { sum_by C.probes clauses.now ≤ MOST_BYTES }
+    ensures { IfOk result (AreSelected
+        (λ m. AllZip (λ c. C.means c (slots_of m)) clauses.now m.clauses) trace.now) }
+{
+    let descriptions = descriptions(alloc, clauses)?;
+    Selections::new(alloc, hash_key, &descriptions, trace)
+}
+
+// The descriptions of each clause.
+fn descriptions<'a, C: Clause>(
+    alloc: Global,
+    clauses: &'a [C],
+) -> Result<Vec<&'a [Description]>, AllocError>
+    ensures each { IfOk result (λ v. length v.items ≡ length clauses.now) }
+    ensures probes { IfOk result (λ v.
+        sum_by length (map (λ d. d.now) v.items) ≡ sum_by C.probes clauses.now) }
+    ensures meaning { IfOk result (λ v. (slots : Slots) (cs : List ClauseMeant)
+        → AllZip (λ c. C.means c slots) clauses.now cs
+        → map (λ d. d.now) v.items ≡ map (λ c. c.descriptions) cs) }
+{
+    let mut all = Vec::new(alloc);
+    for clause in clauses {
+        all.push(clause.descriptions())?;
+    }
+    Ok(all)
+}
+
+// The places of the lists for all probes.
+fn lists_for(
+    alloc: Global,
+    lists: &mut ClauseLists,
     descriptions: &[&[Description]],
-    firing: &Firing,
-) -> Result<Vec<usize>, AllocError>
-    ensures { IfOk result (λ places. places.items
-        ≡ places_for (probe_of firing.now) 0 (map (λ d. d.now) descriptions.now)) }
+    firings: &ProbePlaces,
+) -> Result<Vec<u32>, AllocError>
+    ensures grows { OnOk result (Extends lists.old lists.new) }
+    ensures places { IfOk result (λ places. ArePlaces lists.new places.items
+        (map (λ p. places_for p 0 (map (λ d. d.now) descriptions.now)) firings.now.probes)) }
 {
     let mut places = Vec::new(alloc);
-    for (place, descriptions) in descriptions.iter().enumerate() {
-        add_selected(&mut places, place, descriptions, firing)?;
+    for probe in 0..firings.probe_count() {
+        let Ok(place) = u32::try_from(probe) else {
+            return Err(AllocError);
+        };
+        places.push(list_for(alloc, lists, descriptions, &firings.probe(place))?)?;
     }
     Ok(places)
 }
 
-// The place, once for each of the descriptions that selects the firing.
+// The place of the list for a probe.
+fn list_for(
+    alloc: Global,
+    lists: &mut ClauseLists,
+    descriptions: &[&[Description]],
+    probe: &Probe,
+) -> Result<u32, AllocError>
+    ensures grows { OnOk result (Extends lists.old lists.new) }
+    ensures place { IfOk result (λ p. slice_get lists.new p
+        ≡ Some (places_for probe.now 0 (map (λ d. d.now) descriptions.now))) }
+{
+    let place = lists.keep(clause_places(alloc, descriptions, probe)?)?;
+    match u32::try_from(place) {
+        Ok(place) => Ok(place),
+        Err(_) => Err(AllocError),
+    }
+}
+
+// The places of the clauses that run for the probe: in the script's order, each once for each of
+// its descriptions that selects it.
+fn clause_places(
+    alloc: Global,
+    descriptions: &[&[Description]],
+    probe: &Probe,
+) -> Result<Vec<usize>, AllocError>
+    ensures { IfOk result (λ places. places.items
+        ≡ places_for probe.now 0 (map (λ d. d.now) descriptions.now)) }
+{
+    let mut places = Vec::new(alloc);
+    for (place, descriptions) in descriptions.iter().enumerate() {
+        add_selected(&mut places, place, descriptions, probe)?;
+    }
+    Ok(places)
+}
+
+// The place, once for each of the descriptions that selects the probe.
 fn add_selected(
     places: &mut Vec<usize>,
     place: usize,
     descriptions: &[Description],
-    firing: &Firing,
+    probe: &Probe,
 ) -> Result<(), AllocError>
     ensures { OnOk result (places.new.items
         ≡ places.old.items ++ map (λ d.
-        place) (filter (λ d. selects d (probe_of firing.now)) descriptions.now)) }
+        place) (filter (λ d. selects d probe.now) descriptions.now)) }
 {
     for description in descriptions {
-        if is_selected(description, firing) {
+        if is_selected(description, probe) {
             places.push(place)?;
         }
     }

@@ -7,7 +7,9 @@ ghost use Rattle.replay_core.specs.Lanes.{IsFresh};
 use crate::engine::Engine;
 use crate::lane::Lane;
 use crate::lanes::Lanes;
+use crate::selection::{Selections, select};
 use d_types::{TypedClause, TypedScript};
+use firing_reader::Trace;
 use keyed_hash::HashKey;
 use std::alloc::{AllocError, Global};
 
@@ -61,6 +63,10 @@ impl<'a> Lanes for TreeLanes<'a> {
 
     fn exits(&self) -> bool {
         self.script.exits()
+    }
+
+    fn selections(&self, alloc: Global, trace: &Trace) -> Result<Selections, AllocError> {
+        select(alloc, self.hash_key, self.script.clauses(), trace)
     }
 
     fn lane(&self, alloc: Global) -> Result<TreeLane<'a>, AllocError> {

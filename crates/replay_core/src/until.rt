@@ -1,17 +1,19 @@
 //! One worker that watches for exits.
 
 ghost use Rattle.std.specs.Prelude.{◌≡◌, ◌<◌, ◌≤◌, true, [], map, length, All, IfOk, OnOk, IsFalse};
-ghost use Rattle.replay_core.specs.Vocabulary.{AreOf, ScriptMeant, grouping, no_number};
+ghost use Rattle.replay_core.specs.Vocabulary.{AreOf, MOST_BYTES, ScriptMeant, grouping, no_number};
 ghost use Rattle.replay_core.specs.Vocabulary.{run_threads, with_ends};
 ghost use Rattle.replay_core.specs.{Running.IsLaneOf, Seen.IsRoomy, Working.firings_at};
 ghost use Rattle.replay_core.specs.Beginnings.{AreBegun, IsBegunOf, RunsBeginning, least_exit};
 ghost use Rattle.replay_core.specs.Beginnings.{lesser_of};
+ghost use Rattle.replay_core.specs.Selecting.{AreFor, AreSelected};
 
 use crate::engine::Engine;
 use crate::gate::Gate;
 use crate::lanes::Lanes;
 use crate::piece::Piece;
 use crate::run_firings::firing_at;
+use crate::selection::Selections;
 use crate::source::Exits;
 use firing_reader::Trace;
 use shard_queue::Groups;
@@ -24,7 +26,7 @@ use std::sync::Wait;
 ///
 /// ```text
 /// let (pieces, seat) =
-///     work_until(&rt, alloc, &board, seat, &lanes, &trace, &groups, &OpenGate)?;
+///     work_until(&rt, alloc, &board, seat, &lanes, &trace, &selections, &groups, &OpenGate)?;
 /// ```
 pub fn work_until<R: Wait, S: Exits, L: Lanes, G: Gate>(
     rt: &R,
@@ -33,6 +35,7 @@ pub fn work_until<R: Wait, S: Exits, L: Lanes, G: Gate>(
     mut seat: S::Seat,
     lanes: &L,
     trace: &Trace,
+    selections: &Selections,
     groups: &Groups,
     gate: &G,
 ) -> Result<(Vec<(u32, Piece)>, S::Seat), AllocError>
@@ -42,6 +45,7 @@ where
     requires new { S.lowered seat ≡ no_number }
     requires end { S.end source.now ≡ (grouping groups.now).count }
     requires script { (m : ScriptMeant) × L.runs lanes.now m }
+    requires selected { AreSelected (L.runs lanes.now) trace.now selections.now }
     requires groups { AreOf groups.now (run_threads trace.now) }
     ensures seat { IfOk result (λ r. S.is_at source.entry.now r.1 × (S.at_end r.1 ≡ true)) }
     ensures groups { IfOk result (λ r. map (λ p. p.0) r.0.items ≡ S.list r.1) }
@@ -56,7 +60,9 @@ where
             return Ok((pieces, seat));
         };
         gate.begun(group);
-        let piece = piece_until(alloc, source, &mut seat, lanes, trace, groups, group)?;
+        let piece = piece_until(
+            alloc, source, &mut seat, lanes, trace, selections, groups, group,
+        )?;
         pieces.push((group, piece))?;
     }
     unreachable!()
@@ -69,12 +75,14 @@ fn piece_until<S: Exits, L: Lanes>(
     seat: &mut S::Seat,
     lanes: &L,
     trace: &Trace,
+    selections: &Selections,
     groups: &Groups,
     group: u32,
 ) -> Result<Piece, AllocError>
     requires seat { S.is_at source.now seat.old }
     requires group { group < (grouping groups.now).count }
     requires script { (m : ScriptMeant) × L.runs lanes.now m }
+    requires selected { AreSelected (L.runs lanes.now) trace.now selections.now }
     requires groups { AreOf groups.now (run_threads trace.now) }
     ensures seat { OnOk result (S.is_at source.now seat.new × (S.list seat.new ≡ S.list seat.old)) }
     ensures seen { OnOk result (S.seen seat.new ≤ S.seen seat.old) }
@@ -85,7 +93,14 @@ fn piece_until<S: Exits, L: Lanes>(
     ensures least { IfOk result (λ p. S.lowered seat.new ≡ lesser_of (S.lowered seat.old) p.exit) }
 {
     let mut lane = lanes.lane(alloc)?;
-    run_until(source, seat, &mut lane, trace, groups.places(group))?;
+    run_until(
+        source,
+        seat,
+        &mut lane,
+        trace,
+        selections,
+        groups.places(group),
+    )?;
     Ok(lane.finish())
 }
 
@@ -95,21 +110,25 @@ fn run_until<S: Exits, E: Engine>(
     seat: &mut S::Seat,
     lane: &mut E,
     trace: &Trace,
+    selections: &Selections,
     places: &[u32],
 ) -> Result<(), AllocError>
     requires seat { S.is_at source.now seat.old }
-    requires script { (m : ScriptMeant) × E.runs lane.old m }
+    requires script { (m : ScriptMeant) × E.runs lane.old m
+        × AreFor trace.now selections.now m }
     requires fresh { (m : ScriptMeant) → E.runs lane.old m → IsLaneOf m [] (E.seen lane.old) }
     requires unspent { IsFalse (E.is_spent lane.old) }
+    requires short { All (λ clauses. length clauses ≤ MOST_BYTES) selections.now }
     requires places { All (λ place. place < length (with_ends trace.now trace.now)) places.now }
     requires few { length places.now ≤ length (with_ends trace.now trace.now) }
     ensures seat { OnOk result (S.is_at source.now seat.new × (S.list seat.new ≡ S.list seat.old)) }
     ensures seen { OnOk result (S.seen seat.new ≤ S.seen seat.old) }
     ensures unspent { OnOk result (IsFalse (E.is_spent lane.new)) }
     ensures run { OnOk result ((m : ScriptMeant) → E.runs lane.old m
-        → RunsBeginning m (S.seen seat.new)
+        → AreFor trace.now selections.now m → RunsBeginning m (S.seen seat.new)
         (firings_at (with_ends trace.now trace.now) places.now) (E.seen lane.new)) }
     ensures least { OnOk result ((m : ScriptMeant) → E.runs lane.old m
+        → AreFor trace.now selections.now m
         → S.lowered seat.new ≡ lesser_of (S.lowered seat.old) (E.seen lane.new).piece.exit) }
 {
     for place in places {
@@ -117,7 +136,7 @@ fn run_until<S: Exits, E: Engine>(
         if source.least(seat) < firing.number {
             return Ok(());
         }
-        if lane.fire(&firing)? {
+        if lane.fire(&firing, selections.at(*place))? {
             source.lower(seat, firing.number);
             return Ok(());
         }

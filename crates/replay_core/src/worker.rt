@@ -2,9 +2,10 @@
 
 ghost use Rattle.std.specs.Prelude.{◌≡◌, ◌<◌, ◌≤◌, ◌∷◌, ◌++◌, true, [], List, map, filter, length};
 ghost use Rattle.std.specs.Prelude.{All, IfOk, OnOk, IsFalse};
-ghost use Rattle.replay_core.specs.Vocabulary.{AreOf, Firing, HasRanges, ScriptMeant, grouping};
-ghost use Rattle.replay_core.specs.Vocabulary.{run_threads, with_ends};
+ghost use Rattle.replay_core.specs.Vocabulary.{AreOf, Firing, HasRanges, MOST_BYTES, ScriptMeant};
+ghost use Rattle.replay_core.specs.Vocabulary.{grouping, run_threads, with_ends};
 ghost use Rattle.replay_core.specs.{Running.IsLaneOf, Seen.IsRoomy, Sizes.most_firings};
+ghost use Rattle.replay_core.specs.Selecting.{AreFor, AreSelected, selected_for};
 ghost use Rattle.replay_core.specs.Working.{AreOfGroups, IsOfGroup, IsReady, firings_at};
 ghost use Rattle.replay_core.specs.Working.{firings_in, is_in};
 
@@ -13,6 +14,7 @@ use crate::gate::Gate;
 use crate::lanes::Lanes;
 use crate::piece::Piece;
 use crate::run_firings::firing_at;
+use crate::selection::Selections;
 use crate::source::Source;
 use crate::span::Span;
 use firing_reader::{Firing, Trace};
@@ -24,11 +26,12 @@ use std::sync::Wait;
 /// BEGIN, the rows and END on the group's threads. Err where memory was refused.
 ///
 /// ```text
+/// let selections = lanes.selections(alloc, &trace)?;
 /// let (board, seats) = ClaimBoard::open(alloc, groups.len() as u32, 1)?;
 /// for seat in seats {
 ///     // a piece of each group
 ///     let (pieces, seat) =
-///         work(&rt, alloc, &board, seat, &lanes, &trace, &groups, &OpenGate)?;
+///         work(&rt, alloc, &board, seat, &lanes, &trace, &selections, &groups, &OpenGate)?;
 /// }
 /// ```
 pub fn work<R: Wait, S: Source, L: Lanes, G: Gate>(
@@ -38,6 +41,7 @@ pub fn work<R: Wait, S: Source, L: Lanes, G: Gate>(
     seat: S::Seat,
     lanes: &L,
     trace: &Trace,
+    selections: &Selections,
     groups: &Groups,
     gate: &G,
 ) -> Result<(Vec<(u32, Piece)>, S::Seat), AllocError>
@@ -46,6 +50,7 @@ where
     requires seat { S.is_at source.now seat × (S.list seat ≡ []) }
     requires end { S.end source.now ≡ (grouping groups.now).count }
     requires script { (m : ScriptMeant) × L.runs lanes.now m }
+    requires selected { AreSelected (L.runs lanes.now) trace.now selections.now }
     requires groups { AreOf groups.now (run_threads trace.now) }
     ensures seat { IfOk result (λ r. S.is_at source.entry.now r.1 × (S.at_end r.1 ≡ true)) }
     ensures groups { IfOk result (λ r. map (λ p. p.0) r.0.items ≡ S.list r.1) }
@@ -56,6 +61,7 @@ where
     let shift = Shift {
         lanes,
         trace,
+        selections,
         groups,
         gate,
         span: Span::All,
@@ -64,12 +70,13 @@ where
     Ok(made)
 }
 
-/// What each worker of a run borrows: the script's lanes, the trace and its groups, the gate, and
-/// which firings count.
+/// What each worker of a run borrows: the script's lanes, the trace, which clauses run for its
+/// firings, its groups, the gate, and which firings count.
 #[derive(Drop)]
 pub(crate) struct Shift<'a, L, G> {
     pub(crate) lanes: &'a L,
     pub(crate) trace: &'a Trace,
+    pub(crate) selections: &'a Selections,
     pub(crate) groups: &'a Groups,
     pub(crate) gate: &'a G,
     pub(crate) span: Span,
@@ -88,6 +95,8 @@ where
     requires seat { S.is_at source.now seat × (S.list seat ≡ []) }
     requires end { S.end source.now ≡ (grouping shift.now.groups.now).count }
     requires ready { IsReady (L.runs shift.now.lanes.now) shift.now.groups.now shift.now.trace.now }
+    requires selected { AreSelected
+        (L.runs shift.now.lanes.now) shift.now.trace.now shift.now.selections.now }
     ensures seat { IfOk result (λ r. S.is_at source.entry.now r.1 × (S.at_end r.1 ≡ true)) }
     ensures groups { IfOk result (λ r. map (λ p. p.0) r.0.items ≡ S.list r.1) }
     ensures pieces { IfOk result (λ r. AreOfGroups (L.runs shift.entry.now.lanes.now)
@@ -112,13 +121,16 @@ impl<'a, L: Lanes, G> Shift<'a, L, G> {
         requires group { group < (grouping self.now.groups.now).count }
         requires ready { IsReady
             (L.runs self.now.lanes.now) self.now.groups.now self.now.trace.now }
+        requires selected { AreSelected
+            (L.runs self.now.lanes.now) self.now.trace.now self.now.selections.now }
         ensures piece { IfOk result (λ p. (m : ScriptMeant) → L.runs self.now.lanes.now m
             → IsOfGroup m (grouping self.now.groups.now)
             (firings_in self.now.span self.now.trace.now) (group, p)) }
         ensures roomy { IfOk result IsRoomy }
     {
         let places = self.groups.places(group);
-        let lane = run_at(self.lanes.lane(alloc)?, self.trace, places, self.span)?;
+        let lane = self.lanes.lane(alloc)?;
+        let lane = run_at(lane, self.trace, self.selections, places, self.span)?;
         Ok(lane.finish())
     }
 }
@@ -127,40 +139,54 @@ impl<'a, L: Lanes, G> Shift<'a, L, G> {
 fn run_at<E: Engine + Drop>(
     mut lane: E,
     trace: &Trace,
+    selections: &Selections,
     places: &[u32],
     span: Span,
 ) -> Result<E, AllocError>
-    requires script { (m : ScriptMeant) × E.runs lane m }
+    requires script { (m : ScriptMeant) × E.runs lane m
+        × AreFor trace.now selections.now m }
     requires fresh { (m : ScriptMeant) → E.runs lane m → IsLaneOf m [] (E.seen lane) }
     requires unspent { IsFalse (E.is_spent lane) }
+    requires short { All (λ clauses. length clauses ≤ MOST_BYTES) selections.now }
     requires places { All (λ place. place < length (with_ends trace.now trace.now)) places.now }
     requires few { length places.now ≤ length (with_ends trace.now trace.now) }
-    ensures script { IfOk result (λ l. (m : ScriptMeant) → E.runs lane m → E.runs l m) }
+    ensures script { IfOk result (λ l. (m : ScriptMeant) → E.runs lane m
+        → AreFor trace.now selections.now m → E.runs l m) }
     ensures unspent { IfOk result (λ l. IsFalse (E.is_spent l)) }
     ensures run { IfOk result (λ l. (m : ScriptMeant) → E.runs lane m
-        → IsLaneOf m (filter (is_in span)
+        → AreFor trace.now selections.now m → IsLaneOf m (filter (is_in span)
         (firings_at (with_ends trace.now trace.now) places.now)) (E.seen l)) }
 {
     for place in places {
-        run_one(&mut lane, &firing_at(trace, *place), span)?;
+        let firing = firing_at(trace, *place);
+        run_one(&mut lane, &firing, selections.at(*place), span)?;
     }
     Ok(lane)
 }
 
-// Runs a firing, if it counts.
-fn run_one<E: Engine>(lane: &mut E, firing: &Firing, span: Span) -> Result<(), AllocError>
+// Runs the clauses at these places for a firing, if it counts.
+fn run_one<E: Engine>(
+    lane: &mut E,
+    firing: &Firing,
+    clauses: &[usize],
+    span: Span,
+) -> Result<(), AllocError>
     requires ranges { HasRanges firing.now }
+    requires selected { (m : ScriptMeant) × E.runs lane.old m
+        × (clauses.now ≡ selected_for m firing.now) }
+    requires clauses { length clauses.now ≤ MOST_BYTES }
     requires few { length (E.seen lane.old).piece.taken < most_firings }
     requires unspent { IsFalse (E.is_spent lane.old) }
-    ensures script { (m : ScriptMeant) → E.runs lane.old m → E.runs lane.new m }
+    ensures script { (m : ScriptMeant) → E.runs lane.old m
+        → clauses.now ≡ selected_for m firing.now → E.runs lane.new m }
     ensures unspent { OnOk result (IsFalse (E.is_spent lane.new)) }
     ensures run { OnOk result ((m : ScriptMeant) (before : List Firing) → E.runs lane.old m
-        → IsLaneOf m before (E.seen lane.old)
+        → clauses.now ≡ selected_for m firing.now → IsLaneOf m before (E.seen lane.old)
         → IsLaneOf m (before ++ filter (is_in span) (firing.now ∷ [])) (E.seen lane.new)) }
 {
     if !span.has(firing) {
         return Ok(());
     }
-    let _ = lane.fire(firing)?;
+    let _ = lane.fire(firing, clauses)?;
     Ok(())
 }

@@ -4,7 +4,7 @@ ghost use Rattle.std.specs.Prelude.{◌≡◌, ◌+◌, ◌<◌, ◌≤◌, IfOk
 ghost use Rattle.replay_core.specs.Vocabulary.{AreOf, IsTrace, ScriptMeant, end_of, flat_map};
 ghost use Rattle.replay_core.specs.Vocabulary.{grouping, run_threads};
 ghost use Rattle.replay_core.specs.{Crews.IsRun, Exit.firings_over, Groups.IsAllBelow};
-ghost use Rattle.replay_core.specs.{Seen.whole_seen, Working.IsReady};
+ghost use Rattle.replay_core.specs.{Seen.whole_seen, Selecting.AreSelected, Working.IsReady};
 ghost use Rattle.replay_core.specs.Pieces.{IsWholeOf, RunsEachOnce};
 
 use crate::collect_fault::CollectFault;
@@ -12,6 +12,7 @@ use crate::collector::collect;
 use crate::gate::Gate;
 use crate::lanes::Lanes;
 use crate::round::{Round, in_round};
+use crate::selection::Selections;
 use crate::span::Span;
 use crate::whole::Whole;
 use firing_reader::Trace;
@@ -74,7 +75,7 @@ pub fn run_all<R: Threads + Wait + Sync, L: Lanes + Sync, G: Gate + Sync>(
     }
 }
 
-// One round where the script has no exit, else two.
+// Decides which clauses run for each firing, and then runs the rounds.
 fn in_rounds<R: Threads + Wait + Sync, L: Lanes + Sync, G: Gate + Sync>(
     rt: &R,
     alloc: Global,
@@ -91,11 +92,47 @@ fn in_rounds<R: Threads + Wait + Sync, L: Lanes + Sync, G: Gate + Sync>(
     ensures trace { IfOk result (λ _. IsTrace trace.now) }
     ensures run { IfOk result (IsRun (L.runs lanes.now) groups.now trace.now) }
 {
+    let selections = lanes.selections(alloc, trace)?;
+    let round = in_needed_rounds(rt, alloc, lanes, trace, &selections, groups, workers, gate)?;
+    Ok(round)
+}
+
+// One round where the script has no exit, else two.
+fn in_needed_rounds<R: Threads + Wait + Sync, L: Lanes + Sync, G: Gate + Sync>(
+    rt: &R,
+    alloc: Global,
+    lanes: &L,
+    trace: &Trace,
+    selections: &Selections,
+    groups: &Groups,
+    workers: u32,
+    gate: &G,
+) -> Result<Round, AllocError>
+    requires ready { IsReady (L.runs lanes.now) groups.now trace.now }
+    requires selected { AreSelected (L.runs lanes.now) trace.now selections.now }
+    requires few { (grouping groups.now).count ≤ MOST_GROUPS + 1 }
+    requires workers { (0 < workers) × (workers ≤ MOST_WORKERS) }
+    ensures workers { IfOk result (λ r. vec_len r.lists ≡ workers) }
+    ensures trace { IfOk result (λ _. IsTrace trace.now) }
+    ensures run { IfOk result (IsRun (L.runs lanes.now) groups.now trace.now) }
+{
     let end = trace.firings().last_number() + 1;
     if lanes.exits() {
-        until_exit(rt, alloc, lanes, trace, groups, workers, gate, end)
+        until_exit(
+            rt, alloc, lanes, trace, selections, groups, workers, gate, end,
+        )
     } else {
-        in_round(rt, alloc, lanes, trace, groups, workers, gate, Span::All)
+        in_round(
+            rt,
+            alloc,
+            lanes,
+            trace,
+            selections,
+            groups,
+            workers,
+            gate,
+            Span::All,
+        )
     }
 }
 
@@ -106,12 +143,14 @@ fn until_exit<R: Threads + Wait + Sync, L: Lanes + Sync, G: Gate + Sync>(
     alloc: Global,
     lanes: &L,
     trace: &Trace,
+    selections: &Selections,
     groups: &Groups,
     workers: u32,
     gate: &G,
     end: u64,
 ) -> Result<Round, AllocError>
     requires ready { IsReady (L.runs lanes.now) groups.now trace.now }
+    requires selected { AreSelected (L.runs lanes.now) trace.now selections.now }
     requires few { (grouping groups.now).count ≤ MOST_GROUPS + 1 }
     requires workers { (0 < workers) × (workers ≤ MOST_WORKERS) }
     requires trace { IsTrace trace.now }
@@ -120,7 +159,9 @@ fn until_exit<R: Threads + Wait + Sync, L: Lanes + Sync, G: Gate + Sync>(
     ensures run { IfOk result (IsRun (L.runs lanes.now) groups.now trace.now) }
 {
     let watching = Span::UntilExit;
-    let first = in_round(rt, alloc, lanes, trace, groups, workers, gate, watching)?;
+    let first = in_round(
+        rt, alloc, lanes, trace, selections, groups, workers, gate, watching,
+    )?;
     if first.least == u64::MAX {
         return Ok(first);
     }
@@ -128,6 +169,8 @@ fn until_exit<R: Threads + Wait + Sync, L: Lanes + Sync, G: Gate + Sync>(
         last: first.least,
         end,
     };
-    let second = in_round(rt, alloc, lanes, trace, groups, workers, gate, counted)?;
+    let second = in_round(
+        rt, alloc, lanes, trace, selections, groups, workers, gate, counted,
+    )?;
     Ok(second)
 }

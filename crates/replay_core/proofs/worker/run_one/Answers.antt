@@ -4,6 +4,6 @@ use Rattle.replay_core.proofs.WorkSteps.{counts}
 use Rattle.replay_core.proofs.worker.run_one.Goals as goal
 
 pub returns-clause-run : goal.returns-clause-run
-returns-clause-run g c = λ m before runs is.
+returns-clause-run g c = λ m before runs selected is.
     counts m c.args.span before c.args.firing.now (g.E.Engine.seen c.fire.new.self) (search rules)
-    (fires_more m before c.args.firing.now (g.E.Engine.seen c.args.lane.now) (g.E.Engine.seen c.fire.new.self) is (c.in_ok-fire.ensures.step m runs))
+    (fires_more m before c.args.firing.now (g.E.Engine.seen c.args.lane.now) (g.E.Engine.seen c.fire.new.self) is (c.in_ok-fire.ensures.step m runs selected))

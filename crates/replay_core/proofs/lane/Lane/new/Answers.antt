@@ -1,4 +1,4 @@
-use Rattle.std.specs.Prelude.{◌≡◌, map}
+use Rattle.std.specs.Prelude.{◌≡◌}
 use Rattle.std.proofs.Common.{ap, subst, sym, ◌∙◌}
 use Rattle.d_types.specs.Held.{AreTypedOwn, slots_of}
 use Rattle.d_types.proofs.FiringValues.{own_unassigned}
@@ -11,7 +11,6 @@ returns-clause-script g c = λ m mean functions.
     let none : threads_in c.with_hasher.result.entries ≡ blank_threads = ap threads_in c.with_hasher.ensures.empty in (
       record {
         clauses_mean = mean;
-        are_described = ap (map (λ d. d.now)) c.in_ok-selections.ensures.descriptions ∙ c.in_ok-descriptions.ensures.meaning (slots_of m) m.clauses mean.each;
         have_functions = c.in_ok-piece.ensures.functions ∙ functions;
       },
       λ fresh thread. subst (λ t. AreTypedOwn (slots_of m) (t thread)) (sym none) (own_unassigned (slots_of m)),

@@ -32,9 +32,17 @@ returns-clause-piece g c = λ m runs.
     let t = s.trace.now in
     let fs = with_ends t t in
     let in_group : ℤ → Bool = λ t. is_group c.args.group ((grouping s.groups.now).group t) in
-    let ran = c.in_ok-lane-2.ensures.run m (c.in_ok-lane.ensures.script m runs) in
+    let ran = c.in_ok-lane-2.ensures.run m (c.in_ok-lane.ensures.script m runs) (c.requires.selected.each m runs) in
     let are = ap (firings_at fs) (c.places-places.ensures ∙ c.requires.ready.placed.places c.args.group ∙ ap (places_of (grouping s.groups.now) c.args.group) (sym (threads_are t))) ∙ chosen in_group fs 0 fs refl in
     let all = ap (filter (is_in s.span)) are ∙ filter_swap (is_in s.span) (λ f. in_group f.thread) fs in
     let group = of_group (grouping s.groups.now) c.args.group (filter (is_in s.span) fs) in
     subst (λ p. IsPieceOf m group p) (sym c.finish.ensures.piece)
     (subst (λ l. IsPieceOf m l (g.L.Lane.Engine.seen c.in_ok-lane-2.lane).piece) all ran.piece)
+
+pub run_at-requires-clause-script : goal.run_at-requires-clause-script
+run_at-requires-clause-script g c =
+    let (m, runs) = c.requires.ready.script in
+    (m, c.in_ok-lane.ensures.script m runs, c.requires.selected.each m runs)
+
+pub run_at-requires-clause-short : goal.run_at-requires-clause-short
+run_at-requires-clause-short g c = c.requires.selected.few

@@ -3,7 +3,7 @@ use Rattle.std.specs.Prelude.{List, sum_by}
 use Rattle.std.specs.List.{AllZip}
 use Rattle.d_types.specs.Held.{Slots}
 use Rattle.d_types.specs.Typed.{ClauseMeant}
-use Rattle.replay_core.proofs.lane.descriptions.Given as goal
+use Rattle.replay_core.proofs.selection.descriptions.Given as goal
 
 abbrev pub invariant-loop-clause : goal.invariant-loop-clause
 invariant-loop-clause g l = record {

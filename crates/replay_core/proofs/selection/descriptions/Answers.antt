@@ -1,7 +1,7 @@
 use Rattle.std.specs.Prelude.{◌+◌, ◌<◌, length}
 use Rattle.std.proofs.Common.{arith, ◌∙◌, ap}
 use Rattle.replay_core.proofs.DescriptionLemmas.{meaning_all, meaning_more, one_longer, probes_more}
-use Rattle.replay_core.proofs.lane.descriptions.Goals as goal
+use Rattle.replay_core.proofs.selection.descriptions.Goals as goal
 
 pub loop-clause-preserved : goal.loop-clause-preserved
 loop-clause-preserved g c =

@@ -1,10 +1,9 @@
-use Rattle.std.proofs.Common.{◌≡◌, ◌+◌, ap, false, sym, ◌∙◌}
+use Rattle.std.proofs.Common.{◌≡◌, ◌+◌, ap, sym, ◌∙◌}
 use Rattle.std.proofs.lemmas.Result.{IfOk-weaker}
-use Rattle.d_types.specs.Typed.{ScriptMeant, has_exit}
 use Rattle.firing_reader.specs.Ends.{end_of}
 use Rattle.firing_reader.specs.Trace.{last_number}
 use Rattle.replay_core.proofs.Rounds.{plain_round}
-use Rattle.replay_core.proofs.workers.in_rounds.Goals as goal
+use Rattle.replay_core.proofs.workers.in_needed_rounds.Goals as goal
 
 pub until_exit-requires-clause-end : goal.until_exit-requires-clause-end
 until_exit-requires-clause-end g c =

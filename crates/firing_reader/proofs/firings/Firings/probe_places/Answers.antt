@@ -1,0 +1,12 @@
+use Rattle.firing_reader.proofs.Probing.{are_places, rows_placed}
+use Rattle.firing_reader.proofs.firings.Firings.probe_places.Goals as goal
+
+pub new-requires : goal.new-requires
+new-requires c =
+    let i = c.self.inside in
+    rw c.deref.ensures.value (rows_placed i.owners i.probes i.args.items i.rows.items c.self.invariant)
+
+pub returns : goal.returns
+returns c =
+    let i = c.self.inside in
+    rw (c.new.ensures.probes, c.new.ensures.places, c.deref.ensures.value, ← c.self.view_is) (are_places i.owners i.probes i.args.items i.rows.items c.self.invariant)

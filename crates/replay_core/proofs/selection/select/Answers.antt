@@ -1,0 +1,24 @@
+use Rattle.std.specs.Prelude.{◌≤◌, All, length, map, sum_by}
+use Rattle.std.proofs.Common.{arith, ap, subst, sym, ◌∙◌}
+use Rattle.std.proofs.lemmas.Result.{IfOk-weaker}
+use Rattle.d_types.specs.Held.{slots_of}
+use Rattle.firing_reader.specs.Ends.{with_ends}
+use Rattle.replay_core.specs.Patterns.{probe_of}
+use Rattle.replay_core.specs.Places.{places_for}
+use Rattle.replay_core.proofs.FiringLemmas.{places_few}
+use Rattle.replay_core.proofs.SelectionLemmas.{selected_few}
+use Rattle.replay_core.proofs.selection.select.Goals as goal
+
+pub returns : goal.returns
+returns g c =
+    let all = c.in_ok-descriptions.ensures in
+    let t = c.args.trace.now in
+    let fs = with_ends t t in
+    let ds = map (λ d. d.now) c.deref.result.now in
+    let are = ap (map (λ d. d.now)) c.deref.ensures.value in
+    let many = ap (λ l. sum_by length l) are ∙ all.probes in
+    IfOk-weaker c.new.result _ _ (λ chosen is. record {
+      few = subst (All (λ places. length places ≤ 65536)) (sym is)
+          (selected_few (λ f. places_for (probe_of f) 0 ds) 65536 fs (λ f. let few = places_few (probe_of f) 0 ds in let most = c.requires in omega (arith, few, many, most)));
+      each = λ m zip. is ∙ ap (λ l. map (λ f. places_for (probe_of f) 0 l) fs) (are ∙ all.meaning (slots_of m) m.clauses zip);
+    }) c.new.ensures
