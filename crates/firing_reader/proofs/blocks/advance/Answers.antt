@@ -6,9 +6,10 @@ use Rattle.firing_reader.proofs.blocks.advance.Goals as goal
 pub returns-in_ok-read_rows-in-Header-clause-kept :
     goal.returns-in_ok-read_rows-in-Header-clause-kept
 returns-in_ok-read_rows-in-Header-clause-kept c =
-    let begins = rw c.if-not-branch.false at c.in_ok-read_header-in-Header.ensures.found in
-    (c.in_ok-read_rows-in-Header.ensures.feed,
-        begins_rows _ _ _ _ _ begins c.in_ok-read_rows-in-Header.ensures.read)
+    let begins = rw c.if-not-branch.false at c.in_ok-read_header-in-Header.ensures.found in (
+      c.in_ok-read_rows-in-Header.ensures.feed,
+      begins_rows _ _ _ _ _ begins c.in_ok-read_rows-in-Header.ensures.read,
+    )
 
 pub returns-in_ok-read_rows-in-Header-clause-read :
     goal.returns-in_ok-read_rows-in-Header-clause-read
@@ -19,8 +20,10 @@ returns-in_ok-read_rows-in-Header-clause-read c =
 pub returns-in_ok-read_rows-in-Rows-clause-kept : goal.returns-in_ok-read_rows-in-Rows-clause-kept
 returns-in_ok-read_rows-in-Rows-clause-kept c =
     let kept = rw c.in-Rows.is at c.requires in
-    rw c.in-Rows.is (c.in_ok-read_rows-in-Rows.ensures.feed,
-        goes_rows _ _ _ _ c.in_ok-read_rows-in-Rows.ensures.read kept.1)
+    rw c.in-Rows.is (
+      c.in_ok-read_rows-in-Rows.ensures.feed,
+      goes_rows _ _ _ _ c.in_ok-read_rows-in-Rows.ensures.read kept.1,
+    )
 
 pub returns-in_ok-read_rows-in-Rows-clause-read : goal.returns-in_ok-read_rows-in-Rows-clause-read
 returns-in_ok-read_rows-in-Rows-clause-read c =

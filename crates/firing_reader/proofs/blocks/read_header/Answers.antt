@@ -17,7 +17,7 @@ returns-in-Some-clause-found c =
     let size = ap length c.deref.ensures.value in
     let place : at ≡ length x - length rest = omega (arith, c.len.ensures, size) in
     rw (c.keep_from.ensures, ← c.deref.ensures.value)
-        (begins_plain x rest after c.args.firings.now at c.requires is all place)
+    (begins_plain x rest after c.args.firings.now at c.requires is all place)
 
 pub returns-in_err-read_records-clause-fault : goal.returns-in_err-read_records-clause-fault
 returns-in_err-read_records-clause-fault c =
@@ -32,7 +32,7 @@ returns-in_err-read_records-clause-fault c =
     let many : 3 < end = omega (arith, c.if-end.false) in
     let p = err_from_is_err_and c.from_residual.result c.from_residual.ensures.1 in
     rw (p.1, p.2) (fault_of_header x end e c.in_err-read_records.field-0.0 many place few ends
-        (rw c.deref-3.ensures.value at c.in_err-read_records.ensures.faulty))
+    (rw c.deref-3.ensures.value at c.in_err-read_records.ensures.faulty))
 
 pub returns-clause-found : goal.returns-clause-found
 returns-clause-found c =
@@ -49,4 +49,4 @@ returns-clause-found c =
     let own = rw c.if-not-branch.false at c.in_ok-read_records.ensures.read in
     let read : trace_of (take end x) ≡ Ok c.read_records.new.firings = rw c.deref-3.ensures.value at own in
     rw (c.keep_from-2.ensures, next)
-        (begins_csv x end e c.read_records.new.firings many place few ends read)
+    (begins_csv x end e c.read_records.new.firings many place few ends read)
