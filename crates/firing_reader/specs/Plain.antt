@@ -135,7 +135,8 @@ rows_in front bytes = rows_after front (left_in State.StartRecord (Some bytes))
 
 -- csv takes rows off the bytes, whatever comes after them, and goes on with the rest; after the old
 -- firings these rows read as the new ones
-pub record GoesOn (old : List Firing) (bytes : List ℕ) (new : List Firing) (rest : List ℕ) : Type 0 where
+pub record GoesOn (old : List Firing) (bytes : List ℕ) (new : List Firing) (rest : List ℕ)
+    : Type 0 where
   pub rows : List (List (List ℕ))
   pub read : rows_after old rows ≡ Ok new
   pub taken : (tail : List ℕ) → left_in State.StartRecord (Some (bytes ++ tail))

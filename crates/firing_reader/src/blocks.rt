@@ -42,8 +42,8 @@ pub struct Reader {
     left: Vec<u8>,
     // How many bytes there are at least before some are read.
     least: usize,
-    // The same after the last time. A row that is not whole waits for as many bytes again, so that a
-    // long one is not looked through at each block.
+    // The same after the last time. A row that is not whole waits for as many bytes again, so that
+    // a long one is not looked through at each block.
     enough: usize,
 }
 

@@ -62,19 +62,19 @@ fn read_rows(
     Ok(())
 }
 
-/// Reads rows by csv, after firings that were read before. The bytes begin at the line feed before
-/// the first of them.
+/// Reads rows by csv, after firings that were read before. They begin at the line feed before the
+/// first of them.
 pub(crate) fn read_by_csv(
     alloc: Global,
     firings: &mut Firings,
-    bytes: &[u8],
+    rows: &[u8],
 ) -> Result<(), TraceFault>
-    requires feed { (after : List ℕ) × (bytes.now ≡ 10 ∷ after) }
+    requires feed { (after : List ℕ) × (rows.now ≡ 10 ∷ after) }
     requires few { length firings.old ≤ MOST_ROWS }
-    ensures read { GivesBy (λ _. firings.new) result (rows_in firings.old bytes.now) }
+    ensures read { GivesBy (λ _. firings.new) result (rows_in firings.old rows.now) }
     ensures few { OnOk result (length firings.new ≤ MOST_ROWS) }
 {
-    let mut records = Records::new(alloc, bytes);
+    let mut records = Records::new(alloc, rows);
     let mut fields = ByteRecord::new(alloc);
     read_rows(&mut records, &mut fields, firings)
 }

@@ -11,15 +11,15 @@ use std::test::Fail;
 /// How many traces are drawn.
 const TRACES: u64 = 600;
 
-// Draws numbers by chance. The same seed gives the same numbers.
+/// Draws numbers by chance. The same seed gives the same numbers.
 #[derive(Drop)]
-struct Chance {
-    state: u64,
+pub(crate) struct Chance {
+    pub(crate) state: u64,
 }
 
 impl Chance {
-    // A number below this, or 0.
-    fn below(&mut self, most: usize) -> usize
+    /// A number below this, or 0.
+    pub(crate) fn below(&mut self, most: usize) -> usize
         ensures { result ≤ most }
     {
         self.state = self
@@ -129,7 +129,7 @@ fn add_row(
     Ok(())
 }
 
-// A trace of up to 40 rows.
+/// A trace of up to 40 rows.
 pub(crate) fn drawn_trace(alloc: Global, seed: u64) -> Result<Vec<u8>, AllocError> {
     let mut chance = Chance { state: seed };
     let rare = match seed % 4 {

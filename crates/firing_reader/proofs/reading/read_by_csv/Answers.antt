@@ -4,5 +4,5 @@ use Rattle.firing_reader.proofs.reading.read_by_csv.Goals as goal
 
 pub returns-clause-read : goal.returns-clause-read
 returns-clause-read c =
-    let same = c.new-records.ensures ∙ left_feed c.args.bytes.now c.requires.feed in
+    let same = c.new-records.ensures ∙ left_feed c.args.rows.now c.requires.feed in
     rw same at c.read_rows.ensures.read
