@@ -17,7 +17,7 @@ fn in_blocks(
     least: usize,
 ) -> Result<Trace, TraceFault> {
     let mut reader = Reader::new(alloc, hash_key, least)?;
-    for block in bytes.chunks(size) {
+    for block in bytes.chunks(size.max(1)) {
         reader.take(block)?;
     }
     reader.finish()
