@@ -1,12 +1,12 @@
 # dreplay: what a user needs. Building and proving take the Rattle toolchain's command `rt`, which has to be on PATH.
 #
-#   make            builds dreplay and runs the example of examples/counts
-#   make build      builds it: the program is crates/dreplay/out/dreplay
+#   make            builds dreplay, runs the example of examples/counts, and then builds dreplay-data
+#   make build      builds it: crates/dreplay/out/dreplay, and dreplay-data as crates/dreplay_data/out/dreplay_data
 #   make test       the gate: every proof from nothing, the edits that must fail, then every case over both built programs
 #   make cases      the cases alone, over the program that `make build` leaves
 #   make examples   the examples alone, likewise: each answer is compared with the one beside its script
-#   make install    puts it and its tools into PREFIX/bin (/usr/local/bin, if PREFIX is not given), with man pages,
-#                   completions, pages and examples in PREFIX/share; it builds nothing if the program is there
+#   make install    puts them and the tools into PREFIX/bin (/usr/local/bin, if PREFIX is not given), with man pages,
+#                   completions, pages and examples in PREFIX/share; it builds nothing if the programs are there
 #   make uninstall  removes all of that
 #   make dist       packs it into an archive and a Debian package in dist/, which need no toolchain
 #   make bench      measures it with 1, 2 and 4 workers beside mawk, its instructions where valgrind is installed, and the
@@ -16,6 +16,7 @@
 
 PREFIX ?= /usr/local
 PROGRAM := crates/dreplay/out/dreplay
+DATA_PROGRAM := crates/dreplay_data/out/dreplay_data
 EXAMPLE := examples/counts
 
 .PHONY: help example build test cases examples install uninstall dist bench clean
@@ -25,7 +26,8 @@ EXAMPLE := examples/counts
 help:
 	@sed -n '/^[^#]/q; s/^# \{0,1\}//p' Makefile
 
-example: build
+example:
+	@tools/build dreplay
 	@echo
 	@echo '$$ cat $(EXAMPLE)/script.d'
 	@cat $(EXAMPLE)/script.d
@@ -33,6 +35,7 @@ example: build
 	@$(PROGRAM) < $(EXAMPLE)/bundle
 	@echo
 	@echo '$(EXAMPLE)/README.md says how to read it.'
+	@tools/build
 
 # The compiler builds nothing that it has not proved: the first time takes minutes, after that only what changed.
 build:
@@ -61,31 +64,32 @@ share/fish/vendor_completions.d 644 completions/dreplay.fish
 endef
 export INSTALLED
 
-$(PROGRAM):
+$(PROGRAM) $(DATA_PROGRAM):
 	@$(MAKE) --no-print-directory build
 
-install: $(PROGRAM)
+install: $(PROGRAM) $(DATA_PROGRAM)
 	install -D -m 755 $(PROGRAM) '$(DESTDIR)$(PREFIX)/bin/dreplay'
+	install -m 755 $(DATA_PROGRAM) '$(DESTDIR)$(PREFIX)/bin/dreplay-data'
 	@echo "$$INSTALLED" | while read -r folder mode files; do \
 	    install -d '$(DESTDIR)$(PREFIX)'/"$$folder" && \
 	    install -m "$$mode" $$files '$(DESTDIR)$(PREFIX)'/"$$folder" || exit 1; done
-	@for tool in $(notdir $(TOOLS)); do \
+	@for tool in dreplay-data $(notdir $(TOOLS)); do \
 	    ln -sf dreplay.bash '$(DESTDIR)$(PREFIX)/share/bash-completion/completions/'"$$tool" && \
 	    ln -sf dreplay.fish '$(DESTDIR)$(PREFIX)/share/fish/vendor_completions.d/'"$$tool.fish" || exit 1; done
 	@ln -sf dreplay.bash '$(DESTDIR)$(PREFIX)/share/bash-completion/completions/dreplay'
 	@tools/install-docs '$(DESTDIR)$(PREFIX)/share/doc/dreplay'
 
 uninstall:
-	rm -f '$(DESTDIR)$(PREFIX)/bin/dreplay'
+	rm -f '$(DESTDIR)$(PREFIX)/bin/dreplay' '$(DESTDIR)$(PREFIX)/bin/dreplay-data'
 	@echo "$$INSTALLED" | while read -r folder mode files; do \
 	    for file in $$files; do rm -f '$(DESTDIR)$(PREFIX)'/"$$folder/$${file##*/}"; done; done
-	@for tool in dreplay $(notdir $(TOOLS)); do \
+	@for tool in dreplay dreplay-data $(notdir $(TOOLS)); do \
 	    rm -f '$(DESTDIR)$(PREFIX)/share/bash-completion/completions/'"$$tool" \
 	        '$(DESTDIR)$(PREFIX)/share/fish/vendor_completions.d/'"$$tool.fish"; done
 	@rm -rf '$(DESTDIR)$(PREFIX)/share/dreplay' '$(DESTDIR)$(PREFIX)/share/doc/dreplay'
 
-dist: $(PROGRAM)
-	@tools/make-dist $(PROGRAM)
+dist: $(PROGRAM) $(DATA_PROGRAM)
+	@tools/make-dist $(PROGRAM) $(DATA_PROGRAM)
 
 bench: build
 	@bench/run --workers 1,2,4

@@ -33,7 +33,7 @@ _dreplay_aggregations() {
 _dreplay() {
     local word=${COMP_WORDS[COMP_CWORD]} before=${COMP_WORDS[COMP_CWORD - 1]} tool=${COMP_WORDS[0]##*/} options
     case $tool in
-    dreplay) options='-s -w -g -e -h --help' ;;
+    dreplay | dreplay-data) options='-s -w -g -e -h --help' ;;
     dreplay-from-strace) options='-n --name --only --since --rows --paths --ppid --threads -o --split --from-zero -h --help --version' ;;
     dreplay-from-perf | dreplay-from-ftrace) options='--machine -o --split --from-zero -h --help --version' ;;
     dreplay-record) options='-o -p -e --raw --symbolic --paths --ppid --from-zero --keep --rows --split -h --help --version' ;;
@@ -49,8 +49,8 @@ _dreplay() {
     dreplay-show:--sort) _dreplay_words 'key value' "$word"; return ;;
     dreplay-show:--only) _dreplay_words "$(_dreplay_aggregations)" "$word"; return ;;
     dreplay-record:-p) _dreplay_words "$(cd /proc && echo [0-9]*)" "$word"; return ;;
-    dreplay:-e) _dreplay_words 'dif tree' "$word"; return ;;
-    dreplay:-[wgh] | dreplay:--help) return ;;
+    dreplay:-e | dreplay-data:-e) _dreplay_words 'dif tree' "$word"; return ;;
+    dreplay:-[wgh] | dreplay:--help | dreplay-data:-[wgh] | dreplay-data:--help) return ;;
     esac
     if [[ $word == -* ]]; then
         _dreplay_words "$options" "$word"
@@ -59,4 +59,4 @@ _dreplay() {
     fi
 }
 
-complete -o filenames -F _dreplay dreplay dreplay-from-strace dreplay-from-perf dreplay-from-ftrace dreplay-record dreplay-explain dreplay-show dreplay-many
+complete -o filenames -F _dreplay dreplay dreplay-data dreplay-from-strace dreplay-from-perf dreplay-from-ftrace dreplay-record dreplay-explain dreplay-show dreplay-many

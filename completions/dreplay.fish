@@ -1,11 +1,13 @@
 # Completion of fish for dreplay and its tools.
-for tool in dreplay dreplay-from-strace dreplay-from-perf dreplay-from-ftrace dreplay-record dreplay-explain dreplay-show dreplay-many
+for tool in dreplay dreplay-data dreplay-from-strace dreplay-from-perf dreplay-from-ftrace dreplay-record dreplay-explain dreplay-show dreplay-many
     complete -c $tool -s h -l help -d 'Write a short help'
 end
-complete -c dreplay -s s -r -d 'Take the script from a file'
-complete -c dreplay -s w -x -d 'Workers, from 1 to 16'
-complete -c dreplay -s g -x -d 'Groups, from 1 to 4096'
-complete -c dreplay -s e -x -a 'dif tree' -d 'What evaluates the script'
+for tool in dreplay dreplay-data
+    complete -c $tool -s s -r -d 'Take the script from a file'
+    complete -c $tool -s w -x -d 'Workers, from 1 to 16'
+    complete -c $tool -s g -x -d 'Groups, from 1 to 4096'
+    complete -c $tool -s e -x -a 'dif tree' -d 'What evaluates the script'
+end
 complete -c dreplay-from-strace -s n -l name -x -d 'execname until an execve'
 complete -c dreplay-from-strace -l only -x -d 'These calls alone'
 complete -c dreplay-from-strace -l since -x -d 'Leave out the first seconds'

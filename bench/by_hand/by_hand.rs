@@ -1,6 +1,6 @@
-//! What a careful programmer writes who has one question and no language for it: one thread, std alone, the trace held
-//! whole, each row checked as dreplay checks it, but for quotes and carriage returns, which it doesn't read. It prints the
-//! lines that mawk prints.
+//! What a careful programmer writes who has one question and no language for it: one thread, std
+//! alone, the trace held whole, each row checked as dreplay checks it, but for quotes and carriage
+//! returns, which it doesn't read. It prints the lines that mawk prints.
 //!
 //! usage: by_hand counts|latency|heavy|dense < TRACE
 use std::collections::HashMap;

@@ -1,4 +1,5 @@
-// Writes a bundle whose keys a table would hash alike if hashes had no secret key, or as many others.
+// Writes a bundle whose keys a table would hash alike if hashes had no secret key, or as many
+// others.
 //
 //     floods TABLE KEYS alike|others
 #include <stdint.h>
@@ -35,7 +36,8 @@ static int is_chosen(uint64_t hash) {
     return !alike || (folded & mask) == (UINT32_C(0x2a000000) & mask);
 }
 
-static void row(int32_t thread, const char *name, const char *provider, int64_t first, int64_t second) {
+static void row(int32_t thread, const char *name, const char *provider, int64_t first,
+                int64_t second) {
     written++;
     printf("%ld,0,%d,1,%s,0,%s,,f,hit,%lld,%lld,,,,,,,,\n", written, thread, name, provider,
         (long long)first, (long long)second);
@@ -52,7 +54,8 @@ static void names(void) {
 
 // The second number is the state after the first: their product is 0.
 static void pairs(void) {
-    for (int64_t i = 1; i <= keys; i++) row(1, "a", "p", i, alike ? (int64_t)after(INITIAL, i, 8) : i);
+    for (int64_t i = 1; i <= keys; i++)
+        row(1, "a", "p", i, alike ? (int64_t)after(INITIAL, i, 8) : i);
 }
 
 // There are too few threads of one place and tag: these begin at the first places of the table.
@@ -65,8 +68,10 @@ static void threads(void) {
     }
 }
 
-// Texts of eight digits and four letters, which a table hashes byte by byte, after their length and between other bytes.
-static void texts(const char *before, size_t length, const char *tail, size_t rest, int is_provider) {
+// Texts of eight digits and four letters, which a table hashes byte by byte, after their length and
+// between other bytes.
+static void texts(const char *before, size_t length, const char *tail, size_t rest,
+                  int is_provider) {
     static const char letters[] = "ABCDEFGHIJKLMNOPQRSTUVWXYZabcdefghijklmnopqrstuvwxyz";
     char text[13] = "";
     uint64_t start = after_bytes(after(INITIAL, length + 12 + rest, 8), before, length);

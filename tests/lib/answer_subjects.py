@@ -8,8 +8,9 @@ import re
 import xml.dom.minidom
 import xml.parsers.expat
 
-from lib import case_files, harness
+from lib import case_files
 from lib.tool_fuzzing import CONTROLS, Round, Subject
+from plain import interpreter
 
 ROWS = 60  # of a trace that a round begins with
 LINES = 80  # of an answer
@@ -40,20 +41,34 @@ def trace_of(folder):
 
 
 def scripts():
-    """Scripts with what they show: those of the examples, and of cases of dreplay-show."""
+    """Scripts with an answer of dreplay and a trace: those of the examples."""
     found = []
     for name in case_files.examples():
         path = f"{case_files.EXAMPLES}/{name}"
         answer = first_lines(case_files.read(f"{path}.expected"), LINES)
         found.append((case_files.read(f"{path}.d"), answer, trace_of(os.path.dirname(name))))
-    for name in ("show_forms", "show_absent_aggregations"):
-        path = f"{harness.TOP}/tests/tool_cases/{name}"
-        texts = case_files.read(f"{path}/script.d"), case_files.read(f"{path}/answer")
-        found.append((*texts, trace_of("counts")))
     return found
 
 
+def in_lines():
+    """Scripts with an answer of dreplay-data and a trace: those of the examples, as the interpreter
+    answers over a few rows, and one that has every function and kind of text.
+    """
+    texts = [(script, trace) for script, _, trace in SCRIPTS]
+    texts.append((EVERY_FUNCTION, trace_of("counts")))
+    render = interpreter.data.render
+    return [
+        (script, interpreter.answer(script, trace, render).stdout, trace) for script, trace in texts
+    ]
+
+
+EVERY_FUNCTION = b"""BEGIN { printf("a\\tb"); }
+::: { @n[execname, pid] = count(); @s = sum(arg0); @["a"] = min(arg1); @m[probefunc] = max(arg1);
+    @avg[execname] = avg(arg0); @q[cpu] = quantize(arg0); @l = lquantize(arg1, 0, 100, 7);
+    printf("\xff%s\\n", execname); @h["\xff"] = count(); }
+"""
 SCRIPTS = scripts()
+ANSWERS = in_lines()
 
 
 def form_of(words):
@@ -96,9 +111,12 @@ def many_fault(result, trial):
 
 
 def rounds_of_show():
-    named = [({"script.d": script, "answer": answer}, trace) for script, answer, trace in SCRIPTS]
+    named = [({"script.d": script, "answer": answer}, trace) for script, answer, trace in ANSWERS]
     rounds = [Round(["-s", "script.d", "answer"], texts) for texts, _ in named]
+    rounds += [Round(["answer"], texts) for texts, _ in named]
     rounds += [Round(["-s", "script.d", "answer", "answer"], texts) for texts, _ in named]
+    lines = [answer for _, answer, _ in ANSWERS]
+    rounds += [Round([], {"": answer + other}) for answer, other in zip(lines, lines[1:])]
     rounds += [
         Round(["-s", "script.d", "-t", "trace.csv", "answer"], {**texts, "trace.csv": trace})
         for texts, trace in named
@@ -159,6 +177,6 @@ SUBJECTS = [
         [["--top", "2"], ["--part", "1/2"], ["-o", "more"], ["--list", "a.csv"]],
         {0, 1, 2, 3, 4},
         many_fault,
-        needs_program=True,
+        program="dreplay-data",
     ),
 ]

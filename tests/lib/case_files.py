@@ -1,5 +1,6 @@
 """Reads cases, examples and conversions, and writes a case. tests/README.md says what they are."""
 import collections
+import dataclasses
 import functools
 import itertools
 import os
@@ -8,6 +9,7 @@ import shlex
 import subprocess
 
 from lib import blocks, harness
+from plain import interpreter
 
 CASES = f"{harness.TOP}/tests/cases"
 EXAMPLES = f"{harness.TOP}/examples"
@@ -163,6 +165,16 @@ def load(name):
     if parts is None:
         raise blocks.BadCase("there is no case of this name")
     return case_of(name, parts)
+
+
+def load_as_data(names):
+    """Reads those of these cases that have no words, as dreplay-data has to answer them by the
+    plain interpreter."""
+    for case in map(load, names):
+        if not case.words and not case.shell:
+            answer = interpreter.answer(*interpreter.divide(case.bundle), interpreter.data.render)
+            expected = harness.Result(answer.status, answer.stdout, answer.stderr)
+            yield dataclasses.replace(case, expected=expected)
 
 
 def conversion_of(name):

@@ -5,6 +5,7 @@ import contextlib
 import itertools
 import os
 import random
+import re
 import subprocess
 import tempfile
 from dataclasses import dataclass, field
@@ -12,6 +13,11 @@ from dataclasses import dataclass, field
 TOP = os.path.abspath(f"{os.path.dirname(__file__)}/../..")
 # The gate leaves the program twice: as LLVM builds it, and as Rattle's own compiler does.
 PROGRAMS = [f"{TOP}/crates/dreplay/out/dreplay", f"{TOP}/crates/dreplay/out/dreplay.by-rattle"]
+# The same of dreplay-data.
+DATA_PROGRAMS = [
+    f"{TOP}/crates/dreplay_data/out/dreplay_data",
+    f"{TOP}/crates/dreplay_data/out/dreplay_data.by-rattle",
+]
 
 
 def plans(workers, groups, engines):
@@ -28,7 +34,10 @@ def plans(workers, groups, engines):
 PLANS = plans((1, 2, 16), (1, 2, 4096), ("dif", "tree"))
 # Enough where a call fails: each engine, with one worker and with two.
 FEW_PLANS = plans((1, 2), (2,), ("dif", "tree"))
+# Enough where a call of dreplay-data fails: only what renders a run isn't dreplay's.
+DATA_PLANS = plans((2,), (2,), ("dif",))
 SECONDS = 120
+SYNTAX_LINE = re.compile(rb"(refused: Parse 1) line \d+")
 
 
 @dataclass
@@ -107,6 +116,11 @@ def difference(part, has, wants):
     return f"{part} differs {where}: .. {has[around]!r} .., wanted .. {wants[around]!r} .."
 
 
+def without_syntax_line(result):
+    """A result but for the line of a syntax fault: the pages don't say which one is named."""
+    return Result(result.status, result.stdout, SYNTAX_LINE.sub(rb"\1", result.stderr))
+
+
 def differences(has, wants):
     """Says in one line how a run differs from what was wanted, or nothing."""
     found = []
@@ -140,18 +154,73 @@ def parser_of_programs(doc):
     return made
 
 
+def parser_of_all_programs(doc):
+    """A reader of words that has --data-program too: a dreplay-data to run. all_programs_of reads
+    both off its answer."""
+    made = parser_of_programs(doc)
+    made.add_argument(
+        "--data-program", action="append", metavar="PATH", help="a dreplay-data to run likewise"
+    )
+    return made
+
+
+def all_programs_of(words, tally):
+    """The programs to run that are built, and those of dreplay-data. Where either is given, only
+    what is given is run."""
+    chosen = words.program or [], words.data_program or []
+    if not any(chosen):
+        chosen = PROGRAMS, DATA_PROGRAMS
+    return [tally.built([os.path.abspath(path) for path in paths]) for paths in chosen]
+
+
+def add_program(made, what):
+    """Gives a reader of words --program and --data-program, where one of each is run."""
+    made.add_argument(
+        "--program", default=PROGRAMS[0], metavar="PATH", help=f"the program that {what} run"
+    )
+    made.add_argument(
+        "--data-program", default=DATA_PROGRAMS[0], metavar="PATH", help="the same for dreplay-data"
+    )
+
+
+def programs_by_name(words):
+    """The programs that add_program's words give, by the names under which they are run."""
+    found = {"dreplay": words.program, "dreplay-data": words.data_program}
+    return {name: os.path.abspath(path) for name, path in found.items()}
+
+
+def link_programs(folder, programs):
+    """Puts the programs that are built into a folder, under their names."""
+    for name, path in programs.items():
+        if os.path.exists(path):
+            os.symlink(path, f"{folder}/{name}")
+
+
 def programs_of(words):
     return [os.path.abspath(path) for path in words.program or PROGRAMS]
+
+
+def add_names(made):
+    """Gives a reader of words the names of cases and examples."""
+    names = "a case, a file of tests/cases without .txt, or examples/FOLDER/SCRIPT"
+    made.add_argument("names", nargs="*", metavar="NAME", help=names)
 
 
 def asked(doc):
     """Reads a test script's words by its doc: the programs to run, and the names of cases and
     examples."""
     made = parser_of_programs(doc)
-    names = "a case, a file of tests/cases without .txt, or examples/FOLDER/SCRIPT"
-    made.add_argument("names", nargs="*", metavar="NAME", help=names)
+    add_names(made)
     words = made.parse_args()
     return programs_of(words), words.names
+
+
+def asked_of_all(doc, tally):
+    """The same of a test that runs dreplay-data too: its programs come second."""
+    made = parser_of_all_programs(doc)
+    add_names(made)
+    words = made.parse_args()
+    return *all_programs_of(words, tally), words.names
 
 
 class Tally:

@@ -200,10 +200,25 @@ def misquoted(block, code):
     return first if is_quote and squeezed(block) not in code else ""
 
 
+def is_misplaced(path):
+    """Whether a path begins with a crate, and what follows is no module of it and nothing that the
+    module, or else the crate, declares."""
+    crate, *within = path.split("::")
+    places = [file for file in sources() if file.split("/")[1] == crate]
+    if places and within and f"crates/{crate}/src/{within[0]}.rt" in places:
+        places = [f"crates/{crate}/src/{within.pop(0)}.rt"]
+    text = "\n".join(read(f"{TOP}/{file}") for file in places)
+    heads = (rf"(?m)\b(?:{KINDS}) {name}\b|^ +{name}\b" for name in within)
+    return bool(places) and not all(re.search(head, text) for head in heads)
+
+
 def unknown_names(path, names):
-    """What a page quotes that looks like a name of the tree and isn't among these names."""
+    """What a page quotes that looks like a name of the tree and isn't among these names, or isn't
+    where it leads."""
     text = re.sub(r"(?ms)^```.*?^```", "", read(f"{TOP}/{path}"))
     text = re.sub(r"(?m)^    .*\n", "", text)
     quoted = {code for code in CODE.findall(text) if re.fullmatch(r"[A-Za-z_]\w+(::\w+)*", code)}
     paths = [code for code in quoted if code.split("::")[0] not in OTHER_NAMES]
-    return sorted(code for code in paths if not names.issuperset(code.split("::")))
+    return sorted(
+        code for code in paths if not names.issuperset(code.split("::")) or is_misplaced(code)
+    )

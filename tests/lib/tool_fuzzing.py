@@ -25,7 +25,7 @@ TOOLS = f"{harness.TOP}/tools"
 MOST_SAID = 2_000  # bytes of a line on standard error
 BROKEN = (b"Traceback", b"a fault of this tool", b"Error: ", b"most recent call")
 CONTROLS = re.compile(rb"[\0-\x08\x0b-\x1f\x7f]")
-COMMANDS = ("true", "cat", "zstd")  # that a run finds on PATH, beside the program and a strace
+COMMANDS = ("true", "cat", "zstd")  # that a run finds on PATH, beside the programs and a strace
 # What stands for strace: it runs nothing and attaches to nothing, and has recorded what is there.
 STRACE = """#!/bin/sh
 [ "$1" = -V ] && { echo "strace -- version 6.1"; exit 0; }
@@ -78,7 +78,7 @@ class Subject:
     options: list  # lists of words, of which rounds get some
     statuses: set
     fault: callable = lambda result, trial: ""
-    needs_program: bool = False
+    program: str = ""  # that it needs
 
     @property
     def path(self):
@@ -148,13 +148,13 @@ def preload():
             importlib.import_module(f"dreplay_tools.{name[:-3]}")
 
 
-def run(subject, code, trial, folder, program):
+def run(subject, code, trial, folder, programs):
     """Runs a tool on a round in a folder, and returns its result; the status is a signal's number
     with a minus.
     """
     here = f"{folder}/here"  # what is beside it is in the folder too
     os.mkdir(here)
-    link_commands(f"{folder}/commands", program)
+    link_commands(f"{folder}/commands", programs)
     for name, text in trial.texts.items():
         if name:
             with open(f"{here}/{name}", "wb") as file:
@@ -195,14 +195,13 @@ def be_tool(subject, code, trial, folder, streams):
     os._exit(99)
 
 
-def link_commands(place, program):
+def link_commands(place, programs):
     """Makes a folder with the few commands that a run may need, so that no word can be another."""
     os.mkdir(place)
     for name in COMMANDS:
         if path := shutil.which(name):
             os.symlink(path, f"{place}/{name}")
-    if os.path.exists(program):
-        os.symlink(program, f"{place}/dreplay")
+    harness.link_programs(place, programs)
     with open(f"{place}/strace", "w") as file:
         file.write(STRACE)
     os.chmod(f"{place}/strace", 0o755)

@@ -1,6 +1,7 @@
-// Preloaded into the program under test: refuses its Nth allocation, where N is the environment's REFUSE, and says so by one
-// byte on the file descriptor REFUSED. It counts the allocations in the first eight bytes of the file COUNTED, if it is given
-// one. Counting starts once the C library has loaded the program.
+// Preloaded into the program under test: refuses its Nth allocation, where N is the environment's
+// REFUSE, and says so by one byte on the file descriptor REFUSED. It counts the allocations in the
+// first eight bytes of the file COUNTED, if it is given one. Counting starts once the C library has
+// loaded the program.
 #include <errno.h>
 #include <fcntl.h>
 #include <stddef.h>
@@ -14,7 +15,8 @@ void *__libc_calloc(size_t count, size_t size);
 void *__libc_realloc(void *old, size_t size);
 void *__libc_memalign(size_t alignment, size_t size);
 
-static unsigned long left; // allocations up to the refused one, it included; 0: none is refused any more
+// allocations up to the refused one, it included; 0: none is refused any more
+static unsigned long left;
 
 static unsigned long here;          // the count where no file was given
 static unsigned long *made = &here; // allocations so far
@@ -35,7 +37,9 @@ static int refused(void)
 {
     unsigned long before = __atomic_load_n(&left, __ATOMIC_RELAXED);
     __atomic_add_fetch(made, 1, __ATOMIC_RELAXED);
-    while (before && !__atomic_compare_exchange_n(&left, &before, before - 1, 0, __ATOMIC_RELAXED, __ATOMIC_RELAXED)) {
+    while (before
+           && !__atomic_compare_exchange_n(&left, &before, before - 1, 0, __ATOMIC_RELAXED,
+                                           __ATOMIC_RELAXED)) {
     }
     if (before != 1)
         return 0;

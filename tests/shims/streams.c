@@ -1,7 +1,8 @@
-// Preloaded into the program under test: its reads of standard input and writes of standard output and standard error fail
-// or are short, as the environment says. READ, WRITE and ERROR are for the descriptors 0, 1 and 2. Each is three numbers: the
-// most bytes that a call takes (0: all), which call fails (0: none), and its errno (0: the call takes nothing). RANDOM is the
-// same for calls of getentropy. A call that failed is told by one byte on the descriptor REFUSED.
+// Preloaded into the program under test: its reads of standard input and writes of standard output
+// and standard error fail or are short, as the environment says. READ, WRITE and ERROR are for the
+// descriptors 0, 1 and 2. Each is three numbers: the most bytes that a call takes (0: all), which
+// call fails (0: none), and its errno (0: the call takes nothing). RANDOM is the same for calls of
+// getentropy. A call that failed is told by one byte on the descriptor REFUSED.
 #define _GNU_SOURCE
 #include <dlfcn.h>
 #include <errno.h>

@@ -2,11 +2,12 @@
 
 try() { "$@"; echo "status $?" >&2; }
 
-# Interrupts a tool that waits for more on standard input. It has begun when it has read more than a pipe holds.
+# Interrupts a tool that waits for more on standard input. It has begun when it has read more than a pipe holds, a line that
+# ends in $LINE.
 interrupted() {
     local tool writer
     mkfifo "$T/pipe"
-    { printf '%200000s\n'; : > "$T/begun"; exec sleep 600; } > "$T/pipe" 2> /dev/null & writer=$!
+    { printf '%200000s\n' "${LINE-}"; : > "$T/begun"; exec sleep 600; } > "$T/pipe" 2> /dev/null & writer=$!
     "$@" < "$T/pipe" & tool=$!
     until [ -e "$T/begun" ]; do sleep 0.1; done
     kill -INT $tool; wait $tool; echo "status $?" >&2

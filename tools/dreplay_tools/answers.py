@@ -1,481 +1,325 @@
-"""What dreplay shows: the entries that an answer has of a script's aggregations, read by the
-answer's layout in bytes.
+"""What dreplay-data writes, read line by line: texts, and for each entry of an aggregation all that
+is held of it.
 
-docs/OUTPUT.md has the layout. A part of a key that is a text begins with two spaces and takes 50
-bytes more, or all that it needs; a number takes 17 bytes. So where an entry ends is known without
-looking for the end of its line.
+docs/DATA.md has the format. A line that isn't of it ends the tool, and is named.
 """
-import bisect
 import functools
-import itertools
+import json
 import re
 from dataclasses import dataclass, field
 
-from .ends import Failure
-from .script import Aggregation
+from .ends import Failure, shortened
+from .held import Average, Powers, Steps, figure, rank, rows_of
+from .script import FUNCTIONS, Aggregation
 
-HEADER = b"           value  ------------- Distribution ------------- count    \n"
-ROW = re.compile(rb"(.{16}|-?\d{16,20}) \|(@*) +(\d{1,20}) *\n")
-FAULT = re.compile(rb"error: firing \d{1,20} clause \d{1,20}: divide-by-zero\n")
-NUMBER = re.compile(rb"-?\d{1,20}")
 OTHER_ANSWER = 1
-WIDTH, NUMBER_WIDTH, MOST_TEXT = 50, 16, 255
-ENTRY = 9 * (2 + MOST_TEXT)  # no line of an entry is longer
-MOST_ENDS = 64  # ways to read the start of an entry that are followed at once
+FORMAT, VERSION = "dreplay-data", 1
+NUMBERS = (-(2**63), 2**63 - 1)
+COUNTS = (1, 2**64 - 1)
+FIRINGS = (0, 2**64)
+BOUNDS = (-(2**31), 2**31 - 1)
+STEPS = (1, 65_535)
+MOST_AGGREGATIONS, MOST_KEYS, MOST_DIGITS = 65_536, 8, 30
+MOST_ROWS = 5_000_000  # of the histograms of an aggregation
+SHARED = ("count", "sum")  # functions whose values have a total
+TITLE = re.compile(r"@(?:[A-Za-z_]\w*)?", re.ASCII)
+HEX = re.compile(r"(?:[0-9a-f]{2})*", re.ASCII)
+
+
+class Wrong(Exception):
+    """What is wrong with a line."""
 
 
 @dataclass
-class Bucket:
-    """A bucket from `low` up to `high`, itself not in it; one of both is none at an open end."""
+class Table:
+    """An aggregation of an answer: its place in the script, its buckets where it has histograms,
+    and what is held by key.
+    """
 
-    low: int
-    high: int
-    count: int
+    place: int
+    aggregation: Aggregation
+    buckets: object = None
+    held: dict = field(default_factory=dict)
+
+    @property
+    def title(self):
+        return self.aggregation.title
+
+    @functools.cached_property
+    def kind(self):
+        """What the answers of one script have alike."""
+        of = self.aggregation
+        return self.place, of.title, of.function, of.texts, self.buckets
+
+    def entries(self):
+        """Keys with what is held, in the order of dreplay: ascending by value, then by key."""
+        ranked = [
+            (rank(value, self.buckets), by_bytes(key), key, value)
+            for key, value in self.held.items()
+        ]
+        ranked.sort(key=lambda entry: entry[:2])
+        return [(list(key), value) for _, _, key, value in ranked]
+
+    def shown(self, entries):
+        """Some of the entries as they are shown."""
+        if self.aggregation.is_histogram:
+            rows = sum(len(rows_of(value, self.buckets)) for _, value in entries)
+            if rows > MOST_ROWS:
+                why = f"the histograms of {self.title} have {rows:,} rows: take fewer by --top"
+                raise Failure(why)
+        total = sum(self.held.values()) if self.aggregation.function in SHARED else 0
+        figures = [(key, figure(value, self.buckets)) for key, value in entries]
+        return Shown(self.aggregation, figures, total)
 
 
 @dataclass
 class Shown:
-    """An aggregation with its entries: keys, and a number or the buckets of a histogram."""
+    """An aggregation as it is shown: entries of a key and a number, or the buckets of a histogram.
+    """
 
     aggregation: Aggregation
     entries: list = field(default_factory=list)
-    others: list = field(default_factory=list)  # the aggregations that it may be as well
-    total: int = 0  # of all values, also of those that are left out later
+    total: int = 0  # of all values, also of those that are left out
 
     @property
-    def names(self):
-        titles = [self.aggregation.title, *(other.title for other in self.others[:2])]
-        if len(self.others) <= 2:
-            return " or ".join(titles)
-        return f"{titles[0]}, {titles[1]} or one of {len(self.others) - 1} others"
-
-    def may_be(self, title):
-        return title in (self.aggregation.title, *(other.title for other in self.others[:]))
-
-
-class Ambiguous(Failure):
-    """An entry that can be read in more ways than one."""
-
-    def __init__(self):
-        super().__init__(
-            "a name has spaces or line feeds such that its entry can be read in more ways than one",
-            OTHER_ANSWER,
-        )
-
-
-# -- an entry
-
-
-def number_at(data, at):
-    """The number in a column that begins at a place, and the place after it; none where there is no
-    number.
-    """
-    if data[at : at + 1] != b" ":
-        return None
-    column = data[at + 1 : at + 1 + NUMBER_WIDTH]
-    shown = column.lstrip(b" ")
-    if len(shown) == NUMBER_WIDTH:
-        shown = NUMBER.match(data, at + 1)
-        return (
-            (int(shown[0]), shown.end()) if shown and shown.end() >= at + 1 + NUMBER_WIDTH else None
-        )
-    if len(column) < NUMBER_WIDTH or not NUMBER.fullmatch(shown):
-        return None
-    return int(shown), at + 1 + NUMBER_WIDTH
-
-
-def plain_keys(data, at, texts):
-    """The key of an entry each of whose texts is short and on one line, and the place after it;
-    none for another one.
-    """
-    keys = []
-    for is_text in texts:
-        if is_text:
-            column = data[at + 2 : at + 2 + WIDTH]
-            if data[at : at + 2] != b"  " or len(column) < WIDTH or b"\n" in column:
-                return None
-            keys.append(column.rstrip(b" "))
-            at += 2 + WIDTH
-        else:
-            found = number_at(data, at)
-            if found is None:
-                return None
-            keys.append(found[0])
-            at = found[1]
-    return keys, at
-
-
-def text_ends(data, at, feeds, follows):
-    """The texts that may begin at a place, with the places after them, where something follows that
-    fits.
-    """
-    if data[at : at + 2] != b"  ":
-        return
-    column = data[at + 2 : at + 2 + MOST_TEXT]
-    if not feeds and b"\n" in column:
-        column = column[: column.find(b"\n")]
-    for length in range(WIDTH, len(column) + 1):
-        # A text of more than 50 bytes is written as it is, and so ends with its last letter.
-        if (length == WIDTH or column[length - 1] != 32) and follows(at + 2 + length):
-            yield column[:length].rstrip(b" "), at + 2 + length
-
-
-def keys_at(data, at, layout, feeds):
-    """All ways to read a key that begins at a place: the parts, and the place after them."""
-    texts, is_histogram = layout
-    ways = [([], at)]
-    for place, is_text in enumerate(texts):
-        longer = []
-        for keys, at in ways:
-            if is_text:
-                follows = functools.partial(
-                    may_follow, data, (*texts[place + 1 :], None)[0], is_histogram
-                )
-                longer += [
-                    ([*keys, text], end) for text, end in text_ends(data, at, feeds, follows)
-                ]
-            elif (found := number_at(data, at)) is not None:
-                longer.append(([*keys, found[0]], found[1]))
-        if len(longer) > MOST_ENDS:
-            raise Ambiguous()
-        ways = longer
-    return ways
-
-
-def may_follow(data, is_text, is_histogram, at):
-    """Whether a part may begin at a place: a text, a number, or (for none of both) the value."""
-    if is_text:
-        return data[at : at + 2] == b"  "
-    if is_text is None and is_histogram:
-        return data.startswith(b"\n" + HEADER, at)
-    return number_at(data, at) is not None
-
-
-def value_at(data, at, is_histogram):
-    """The value that follows a key, and the place after its line feed; none where there is none."""
-    if is_histogram:
-        return rows_at(data, at)
-    found = number_at(data, at)
-    if found is None or data[found[1] : found[1] + 1] != b"\n":
-        return None
-    return found[0], found[1] + 1
-
-
-def rows_at(data, at):
-    """The rows of a histogram whose key ends at a place."""
-    if not data.startswith(b"\n" + HEADER, at):
-        return None
-    rows, at = [], at + 1 + len(HEADER)
-    while row := ROW.match(data, at):
-        rows.append((row[1].strip().decode("latin-1"), int(row[3])))
-        at = row.end()
-    return (rows, at + 1) if rows and data[at : at + 1] == b"\n" else None
-
-
-def entry_at(data, at, layout, feeds):
-    """The entry that begins at a place: its key, its value, and the place after it; none where
-    there is none.
-    """
-    texts, is_histogram = layout
-    plain = plain_keys(data, at, texts)
-    if plain is not None and (found := value_at(data, plain[1], is_histogram)):
-        return plain[0], *found
-    if not any(texts):
-        return None
-    ways = [
-        (keys, *found)
-        for keys, end in keys_at(data, at, layout, feeds)
-        if (found := value_at(data, end, is_histogram))
-    ]
-    if len(ways) > 1:
-        raise Ambiguous()
-    return ways[0] if ways else None
-
-
-# -- a block
+    def title(self):
+        return self.aggregation.title
 
 
 @dataclass
-class Block:
-    """A block of an answer: the layouts that it can be read by, and where it begins and ends."""
+class Answer:
+    """One run's texts, in bytes, and its aggregations by their places."""
 
-    layouts: list
-    start: int
-    end: int
+    texts: bytes
+    tables: dict
 
 
-class Blocks:
-    """The blocks of an answer, each an empty line and entries. What begins at a place is read once
-    for each layout.
-    """
+def encoded(text):
+    """A text's bytes."""
+    return text.encode("utf-8", "surrogateescape")
 
-    def __init__(self, data, aggregations, feeds):
-        self.data, self.feeds, self.wanted = data, feeds, aggregations
-        self.layouts = list(dict.fromkeys(layout_of(wanted) for wanted in aggregations))
-        self.parsed, self.ends, self.fitting, self.kinds = {}, {}, {}, {}
-        for place, wanted in enumerate(aggregations):
-            self.kinds.setdefault(kind_of(wanted), []).append(place)
-        self.dead = set()  # places from which on not all is blocks
 
-    def end(self, at, layout):
-        """The place after the entries of a layout from a place on; the place itself where there is
-        none.
-        """
-        passed = []
-        while (at, layout) not in self.ends:
-            entry = entry_at(self.data, at, layout, self.feeds)
-            if entry is None:
-                self.ends[at, layout] = at
-                break
-            self.parsed[at, layout] = entry
-            passed.append(at)
-            at = entry[2]
-            if not layout[0]:  # without keys there is one entry
-                self.ends[at, layout] = at
-        for place in passed:
-            self.ends[place, layout] = self.ends[at, layout]
-        return self.ends[at, layout]
+def by_bytes(key):
+    """A key in the order of dreplay: numbers as numbers, texts byte by byte."""
+    return [encoded(part) if isinstance(part, str) else part for part in key]
 
-    def entries(self, block, layout):
-        at = block.start
-        while at < block.end:
-            keys, value, at = self.parsed[at, layout]
-            yield keys, value
 
-    def read(self, at):
-        """The aggregations that the blocks from a place to the end show; none where not all is
-        blocks, or in another order.
-        """
-        blocks = []
-        while at < len(self.data) and at not in self.dead:
-            block = self.block(at)
-            if block is None or len(blocks) == len(self.wanted):
-                break
-            blocks.append(block)
-            at = block.end
-        if at < len(self.data):
-            if len(blocks) < len(self.wanted):
-                self.dead.update([at], (block.start - 1 for block in blocks))
+# -- lines
+
+
+def whole(digits):
+    """A number of JSON. None of an answer has so many digits that Python takes long."""
+    if len(digits) > MOST_DIGITS:
+        raise ValueError("a number of too many digits")
+    return int(digits)
+
+
+DECODER = json.JSONDecoder(parse_int=whole)
+
+
+def parsed(line):
+    """The object that a line is."""
+    try:
+        found = DECODER.decode(line.decode("utf-8"))
+    except (ValueError, RecursionError):
+        found = None
+    if not isinstance(found, dict):
+        raise Wrong("it is no object of JSON")
+    return found
+
+
+def is_whole(number, ends):
+    return type(number) is int and ends[0] <= number <= ends[1]
+
+
+def text(value):
+    """A text of a line, in which bytes that aren't UTF-8 are surrogates."""
+    if isinstance(value, str):
+        return value if value.isascii() else recoded(value.encode("utf-8", "surrogatepass"))
+    digits = value.get("hex") if isinstance(value, dict) else None
+    if not isinstance(digits, str) or not HEX.fullmatch(digits):
+        raise Wrong("it has a text that is neither a string nor bytes in hexadecimal digits")
+    return recoded(bytes.fromhex(digits))
+
+
+def recoded(data):
+    return data.decode("utf-8", "surrogateescape")
+
+
+def key_of(value):
+    """A key: whole numbers and texts."""
+    if not isinstance(value, list) or len(value) > MOST_KEYS:
+        raise Wrong("it has no key")
+    return tuple(map(part_of, value))
+
+
+def part_of(value):
+    if is_whole(value, NUMBERS):
+        return value
+    if not isinstance(value, (str, dict)):
+        raise Wrong("its key has a part that is neither a number of 64 bits nor a text")
+    return text(value)
+
+
+def number_of(value, ends):
+    if not is_whole(value, ends):
+        raise Wrong("its value is none of its function")
+    return value
+
+
+def members(value, names):
+    """The members of an object by their names."""
+    if not isinstance(value, dict) or not all(name in value for name in names):
+        raise Wrong("its value is none of its function")
+    return [value[name] for name in names]
+
+
+def buckets_of(function, value):
+    """The buckets that an entry's value is of; none where it is no histogram."""
+    if function == "quantize":
+        return Powers()
+    if function != "lquantize":
+        return None
+    lower, upper, step, levels = members(value, ["lower", "upper", "step", "levels"])
+    for number, ends in ((lower, BOUNDS), (upper, BOUNDS), (step, STEPS), (levels, STEPS)):
+        number_of(number, ends)
+    found = Steps(lower, upper, step)
+    if found.levels != levels:
+        raise Wrong("its levels aren't those of its bounds and its step")
+    return found
+
+
+def held_of(function, value, buckets):
+    """What is held: a number, an average's sum and count, or counts by the places of buckets."""
+    if function == "count":
+        return number_of(value, COUNTS)
+    if function == "avg":
+        total, count = members(value, ["sum", "count"])
+        return Average(number_of(total, NUMBERS), number_of(count, COUNTS))
+    if buckets is None:
+        return number_of(value, NUMBERS)
+    return counts_of(members(value, ["counts"])[0], buckets)
+
+
+def counts_of(pairs, buckets):
+    """The counts of a histogram, by the places of its buckets, which ascend."""
+    counts, before = {}, None
+    if not isinstance(pairs, list) or not pairs:
+        raise Wrong("its histogram has no counts")
+    for pair in pairs:
+        if not isinstance(pair, list) or len(pair) != 2 or not is_whole(pair[0], NUMBERS):
+            raise Wrong("its histogram has a count without a label")
+        place = buckets.place(pair[0])
+        if place is None or (before is not None and place <= before):
+            raise Wrong(f"its histogram has no bucket {pair[0]} in this place")
+        counts[place], before = number_of(pair[1], COUNTS), place
+    return counts
+
+
+class Reader:
+    """The answers of one input, on the way through its lines."""
+
+    def __init__(self, script):
+        self.script = script
+        self.answer = None  # that whose last line is still to come
+        self.texts, self.places = [], {}  # places by the names of aggregations
+        self.readers = {"text": self.text, "entry": self.entry}
+
+    def line(self, line):
+        """Takes a line. Returns the answer that it ends, if it ends one."""
+        if self.answer is None:
+            self.begin(line)
             return None
-        return self.named(blocks)
+        found = parsed(line)
+        kind = found.get("kind")
+        if kind == "end":
+            return self.end(found)
+        if not isinstance(kind, str) or kind not in self.readers:
+            raise Wrong("it is none of the lines text, entry and end")
+        self.readers[kind](found)
+        return None
 
-    def block(self, at):
-        if self.data[at : at + 1] != b"\n":
-            return None
-        ends = self.ends_of(at + 1)
-        if (
-            len(set(ends.values())) > 1
-        ):  # numbers, read as a text: the layout that has the shorter texts is meant
-            blocks = [Block([layout], at + 1, end) for layout, end in ends.items()]
-            return min(blocks, key=lambda block: longest(self.entries(block, block.layouts[0])))
-        return Block([*ends], at + 1, max(ends.values())) if ends else None
+    def begin(self, line):
+        try:
+            found = parsed(line)
+        except Wrong:
+            found = {}
+        if found.get("format") != FORMAT:
+            raise Wrong("this isn't what dreplay-data writes: run dreplay-data in place of dreplay")
+        if not is_whole(found.get("version"), (VERSION, VERSION)):
+            raise Wrong(f"this tool reads version {VERSION} of dreplay-data's lines, and no other")
+        self.answer, self.texts, self.places = Answer(b"", {}), [], {}
 
-    def ends_of(self, at):
-        """The layouts by which entries can be read from a place on, with the place after them."""
-        ends, ambiguous = {}, None
-        for layout in self.layouts:
-            try:
-                ends[layout] = self.end(at, layout)
-            except Ambiguous as why:
-                ambiguous = why
-        # After a block comes the empty line of the next one, or nothing.
-        ends = {
-            layout: end
-            for layout, end in ends.items()
-            if end > at and self.data[end : end + 1] in (b"\n", b"")
-        }
-        # Numbers can be taken for texts in many ways: it is no doubt where they are numbers.
-        if ambiguous and all(any(texts) for texts, _ in ends):
-            raise ambiguous
-        return ends
+    def text(self, found):
+        if not is_whole(found.get("firing"), FIRINGS):
+            raise Wrong("it has no number of a firing")
+        self.texts.append(encoded(text(found.get("text"))))
 
-    def named(self, blocks):
-        """Blocks as aggregations in their order; under all names where those without entries leave
-        it open.
-        """
-        first = self.places(blocks, range(len(self.wanted)))
-        last = self.places(blocks[::-1], range(len(self.wanted) - 1, -1, -1))
-        if first is None or last is None:
-            return None
-        return [self.shown(*each) for each in zip(blocks, first, last[::-1])]
+    def entry(self, found):
+        key, function, value = key_of(found.get("key")), found.get("function"), found.get("value")
+        if not isinstance(function, str) or function not in FUNCTIONS:
+            raise Wrong("it has no aggregating function")
+        table = self.table(found, function, key, buckets_of(function, value))
+        if key in table.held:
+            raise Wrong(f"{table.title} has its key twice")
+        table.held[key] = held_of(function, value, table.buckets)
 
-    def shown(self, block, low, high):
-        """A block as the first aggregation that it may be, between two places of the script."""
-        fitting = [
-            places for places in self.kinds.values() if self.fits(self.wanted[places[0]], block)
-        ]
-        between = (
-            places[bisect.bisect_left(places, low) : bisect.bisect_right(places, high)]
-            for places in fitting
-        )
-        may_be = sorted(itertools.chain.from_iterable(between))
-        aggregation = self.wanted[may_be[0]]
-        entries = list(self.entries(block, layout_of(aggregation)))
-        return Shown(aggregation, told(entries, aggregation), Others(self.wanted, may_be[1:]))
+    def table(self, found, function, key, buckets):
+        """The table that an entry belongs to; its first entry makes it."""
+        place, title = found.get("aggregation"), found.get("name")
+        if not is_whole(place, (0, MOST_AGGREGATIONS)):
+            raise Wrong("it has no place of an aggregation")
+        kind = place, title, function, tuple([isinstance(part, str) for part in key]), buckets
+        table = self.answer.tables.get(place)
+        if table is None:
+            table = Table(place, self.aggregation(*kind), buckets)
+            self.answer.tables[place] = table
+        if table.kind != kind:
+            raise Wrong(f"it is of another aggregation than the entries before it: {table.title}")
+        return table
 
-    def places(self, blocks, order):
-        """For each block the first aggregation, in an order, that it can be."""
-        found, order = [], iter(order)
-        for block in blocks:
-            place = next((place for place in order if self.fits(self.wanted[place], block)), None)
-            if place is None:
-                return None
-            found.append(place)
-        return found
+    def aggregation(self, place, title, function, texts, buckets):
+        """The aggregation as the script has it; without a script with what the entry tells."""
+        if not isinstance(title, str) or not TITLE.fullmatch(title):
+            raise Wrong("it has no name of an aggregation")
+        if self.places.setdefault(title, place) != place:
+            raise Wrong(f"it is of another aggregation than the entries before it: {title}")
+        if self.script is None:
+            keys = [f"key{number}" for number in range(1, len(texts) + 1)]
+            return Aggregation(title[1:], keys, texts, function, [])
+        known = self.script.aggregations[place : place + 1]
+        found = [(of.title, of.function, of.texts, range_of(of)) for of in known]
+        if found != [(title, function, texts, buckets if function == "lquantize" else None)]:
+            raise Wrong(f"the script has no such {title}: is this the answer to another one?")
+        return known[0]
 
-    def fits(self, wanted, block):
-        layout = layout_of(wanted)
-        if layout not in block.layouts or not wanted.is_histogram:
-            return layout in block.layouts
-        kind = block.start, kind_of(wanted)
-        if kind not in self.fitting:
-            self.fitting[kind] = all(
-                labels_fit(wanted, rows) for _, rows in self.entries(block, layout)
-            )
-        return self.fitting[kind]
+    def end(self, found):
+        if not is_whole(found.get("firings"), FIRINGS) or "exit" not in found:
+            raise Wrong("it doesn't say whether the run exited, and how many firings were run")
+        answer = Answer(b"".join(self.texts), self.answer.tables)
+        self.answer = None
+        return answer
 
 
-class Others:
-    """Aggregations of a script by their places, as a list that is made when it is asked for."""
-
-    def __init__(self, wanted, places):
-        self.wanted, self.places = wanted, places
-
-    def __len__(self):
-        return len(self.places)
-
-    def __getitem__(self, part):
-        return [self.wanted[place] for place in self.places[part]]
+def range_of(aggregation):
+    return Steps(*aggregation.range) if aggregation.function == "lquantize" else None
 
 
-def layout_of(aggregation):
-    return aggregation.texts, aggregation.is_histogram
+# -- an input
 
 
-def kind_of(aggregation):
-    """What an answer shows alike: the layout, and the labels of histograms."""
-    if not aggregation.is_histogram:
-        return layout_of(aggregation)
-    return (
-        *layout_of(aggregation),
-        aggregation.function,
-        aggregation.range if aggregation.function == "lquantize" else (),
-    )
-
-
-def longest(entries):
-    """How long the longest text of entries' keys is."""
-    return max(
-        (len(key) for keys, _ in entries for key in keys if isinstance(key, bytes)), default=0
-    )
-
-
-def labels_fit(aggregation, rows):
-    """Whether the labels of a histogram are those of an aggregation."""
-    if aggregation.function == "quantize":
-        numbers = [abs(int(label)) for label, _ in rows if re.fullmatch(r"-?\d{1,20}", label)]
-        return len(numbers) == len(rows) and all(number & (number - 1) == 0 for number in numbers)
-    lower, upper, step = aggregation.range
-    if step < 1:
-        return False
-    bound = lower + (upper - lower) // step * step
-    for label, _ in rows:
-        shown = re.fullmatch(r"(< |>= |)(-?\d{1,20})", label)
-        if not shown:
-            return False
-        number = int(shown[2])
-        if shown[1]:
-            if number != (lower if shown[1] == "< " else bound):
-                return False
-        elif not lower <= number < bound or (number - lower) % step:
-            return False
-    return True
-
-
-def told(entries, aggregation):
-    """Entries with texts in place of bytes, and buckets in place of labels."""
-    keys = [
-        [key.decode("utf-8", "surrogateescape") if isinstance(key, bytes) else key for key in keys]
-        for keys, _ in entries
-    ]
-    if not aggregation.is_histogram:
-        return list(zip(keys, (value for _, value in entries)))
-    return [
-        (key, [bucket(label, count, aggregation) for label, count in rows])
-        for key, (_, rows) in zip(keys, entries)
-    ]
-
-
-def bucket(label, count, aggregation):
-    """The bucket that a label of a histogram means."""
-    if aggregation.function == "quantize":
-        low = int(label)
-        if low == 0:
-            return Bucket(0, 1, count)
-        return Bucket(low, 2 * low, count) if low > 0 else Bucket(2 * low + 1, low + 1, count)
-    if label.startswith("<"):
-        return Bucket(None, int(label[1:]), count)
-    if label.startswith(">="):
-        return Bucket(int(label[2:]), None, count)
-    return Bucket(int(label), int(label) + aggregation.range[2], count)
-
-
-# -- an answer
-
-
-def read(answer, script):
-    """The texts of an answer, in bytes, and the aggregations that it shows."""
-    start, shown = found(answer, script, feeds=False)
-    if shown is not None and not hides(answer[:start], script):
-        return answer[:start], shown
-    if script.writes_texts:
-        if shown is None and not hides(answer, script):
-            return answer, []
-        raise Failure(
-            (
-                "the texts can't be told from the aggregations: is it the answer to another script,"
-                " or cut?"
-            ),
-            OTHER_ANSWER,
-        )
-    start, shown = found(answer, script, feeds=True)
-    if shown is None:
-        raise Failure(
-            "this isn't what the script shows: is it the answer to another one?", OTHER_ANSWER
-        )
-    return answer[:start], shown
-
-
-def found(answer, script, feeds):
-    """Where the aggregations of an answer begin, and what they are. None where they don't begin at
-    all.
-    """
-    blocks = Blocks(answer, script.aggregations, feeds)
-    if not script.writes_texts:
-        start = 0
-        while fault := FAULT.match(answer, start):
-            start = fault.end()
-        return start, blocks.read(start)
-    at = -1
-    while (at := answer.find(b"\n", at + 1)) >= 0:
-        # An entry begins with a space, or with an empty line where it is a histogram without a key.
-        if answer[at + 1 : at + 2] in (b" ", b"\n") and (shown := blocks.read(at)):
-            return at, shown
-    return len(answer), None
-
-
-def hides(texts, script):
-    """Whether the end of what was taken for texts has what may be entries: by names with line
-    feeds, or as it is cut.
-    """
-    if not texts or not script.writes_texts:
-        return False
-    if HEADER in texts and any(wanted.is_histogram for wanted in script.aggregations):
-        return True
-    ends = texts[-ENTRY:].rstrip(b"\n") + b"\n"
-    with_keys = [
-        wanted for wanted in script.aggregations if wanted.keys and not wanted.is_histogram
-    ]
-    blocks = Blocks(ends, with_keys, feeds=True)
-    starts = [found.end() for found in re.finditer(rb"\n(?= )", ends)]
-    return any(blocks.end(at, layout) > at for at in starts for layout in blocks.layouts)
+def read(lines, name, script=None):
+    """The answers that an input holds one after the other. A script names the columns."""
+    reader, number = Reader(script), 0
+    for number, line in enumerate(lines, 1):
+        try:
+            answer = reader.line(line)
+        except Wrong as why:
+            raise Failure(shortened(f"{name}: line {number}: {why}", 900), OTHER_ANSWER)
+        if answer is not None:
+            yield answer
+    if number == 0:
+        why = "it is empty, and no answer of dreplay-data: was the trace refused?"
+        raise Failure(f"{name}: {why}", OTHER_ANSWER)
+    if reader.answer is not None:
+        raise Failure(f"{name}: line {number}: the last line is missing: is it cut?", OTHER_ANSWER)

@@ -6,6 +6,7 @@ import io
 import json
 import re
 
+from .answers import SHARED
 from .ends import Failure
 from .labels import SHARE, interval, numbered, padded, printable, width
 
@@ -18,8 +19,8 @@ def total_of(shown):
     too.
     """
     function = shown.aggregation.function
-    if function not in ("count", "sum"):
-        raise Failure(f"{shown.names} is of {function}: only counts and sums have shares")
+    if function not in SHARED:
+        raise Failure(f"{shown.title} is of {function}: only counts and sums have shares")
     return shown.total
 
 
@@ -67,7 +68,7 @@ def as_table(shown, words):
         for is_right, texts in zip(right, [*shown.aggregation.texts, *[False] * len(names)])
     ]
     right[-1] = True
-    lines = [printable(shown.names)]
+    lines = [printable(shown.title)]
     for row in (names, *cells):
         shown_cells = (padded(*cell) for cell in zip(row, widths, right))
         lines.append(("  " + "  ".join(shown_cells)).rstrip())
@@ -78,7 +79,7 @@ def as_markdown(shown, words):
     names, rows = table(shown, words)
     ends = ["---"] * (len(names) - 1) + ["---:"]
     lines = [
-        f"**{marked(shown.names)}**",
+        f"**{marked(shown.title)}**",
         "",
         in_bars(map(marked, names)),
         "|" + "|".join(ends) + "|",
@@ -128,7 +129,7 @@ def as_json(texts, all_shown):
         aggregation = shown.aggregation
         told.append(
             {
-                "name": shown.names,
+                "name": shown.title,
                 "keys": aggregation.keys,
                 "function": aggregation.value_name,
                 "entries": entries,
@@ -142,13 +143,13 @@ def as_folded(shown):
     """A line for each entry, as flame graphs read them: the parts of the key, and the number."""
     if shown.aggregation.is_histogram or not shown.aggregation.keys:
         raise Failure(
-            f"{shown.names} has no stacks: folded stacks are of counts and sums with keys"
+            f"{shown.title} has no stacks: folded stacks are of counts and sums with keys"
         )
     lines = []
     for keys, value in shown.entries:
         if value < 0:
             raise Failure(
-                f"{shown.names} has a number below 0: folded stacks are of counts and sums that"
+                f"{shown.title} has a number below 0: folded stacks are of counts and sums that"
                 " have none"
             )
         lines.append(";".join(frame(key) for key in keys) + f" {value}")

@@ -49,7 +49,7 @@ def has_heat(shown):
 def heat_of(shown, words):
     if not has_heat(shown):
         raise Failure(
-            f"{shown.names} has no heat map: one is made of histograms by key, or of counts and"
+            f"{shown.title} has no heat map: one is made of histograms by key, or of counts and"
             " sums by two keys"
         )
     return of_histograms(shown, words) if shown.aggregation.is_histogram else of_pairs(shown)
@@ -74,7 +74,7 @@ def of_histograms(shown, words):
     }
     columns = ["  ".join(map(name, entries[place][0])) for place in order]
     return Heat(
-        f"{shown.names} {shown.aggregation.value_name}",
+        f"{shown.title} {shown.aggregation.value_name}",
         f"by {', '.join(shown.aggregation.keys)}",
         columns,
         [interval(buckets[ends], words.unit) for ends in rows],
@@ -98,7 +98,7 @@ def of_pairs(shown):
         if keys[1] in column_places and keys[0] in row_places
     }
     return Heat(
-        f"{shown.names} {shown.aggregation.value_name}",
+        f"{shown.title} {shown.aggregation.value_name}",
         " by ".join(shown.aggregation.keys),
         [name(key) for key in columns],
         [name(key) for key in rows],

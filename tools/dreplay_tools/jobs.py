@@ -99,7 +99,8 @@ class Job:
         """Takes how the program ended. A script may end with any status; a refusal has a line."""
         self.is_answered = not line and status is not None and status >= 0
         self.status = status if status >= 0 else 128 - status
-        self.line = line or ("" if self.is_answered else f"dreplay was ended by signal {-status}")
+        killed = f"dreplay-data was ended by signal {-status}"
+        self.line = line or ("" if self.is_answered else killed)
 
 
 class Words:

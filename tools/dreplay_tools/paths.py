@@ -6,7 +6,8 @@ AT = {
     0: "access acct chdir chmod chown chown32 chroot creat execve getxattr lchown lchown32 "
     "lgetxattr link listxattr llistxattr lremovexattr lsetxattr lstat lstat64 mkdir mknod mount "
     "open pivot_root readlink removexattr rename rmdir setxattr stat stat64 statfs statfs64 "
-    "swapoff swapon symlink symlinkat truncate truncate64 umount umount2 unlink uselib utime utimes",
+    "swapoff swapon symlink symlinkat truncate truncate64 umount umount2 unlink uselib utime "
+    "utimes",
     1: "execveat faccessat faccessat2 fchmodat fchmodat2 fchownat fspick fstatat64 futimesat "
     "getxattrat inotify_add_watch linkat listxattrat mkdirat mknodat mount_setattr move_mount "
     "name_to_handle_at newfstatat open_tree openat openat2 quotactl readlinkat removexattrat "
@@ -17,7 +18,7 @@ PATHS = {name: place for place, names in AT.items() for name in names.split()}
 
 
 def path_of(name, args):
-    """The path that a call takes, or that of its first descriptor (strace -y); empty without one."""
+    """The path that a call takes, or that of its first descriptor (strace -y), or no bytes."""
     place = PATHS.get(name)
     if place is not None and place < len(args):
         path = constant(args[place])

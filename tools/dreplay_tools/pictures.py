@@ -57,7 +57,7 @@ def charts(all_shown, words):
 def histogram(shown, keys, rows, words):
     total = sum(row.count for row in rows)
     unit = SHARE if words.value_unit == SHARE else None
-    what = f"{shown.names} {shown.aggregation.value_name}"
+    what = f"{shown.title} {shown.aggregation.value_name}"
     title = "  ".join(map(name, keys))
     return Chart(
         title or what,
@@ -74,13 +74,13 @@ def bars_of(shown, words):
     """The chart of an aggregation of numbers: the largest entries."""
     total = total_of(shown) if words.value_unit == SHARE else 0
     entries, more = largest(shown.entries, MOST_BARS)
-    labels = [[name(key) for key in keys] or [shown.names] for keys, _ in entries]
+    labels = [[name(key) for key in keys] or [shown.title] for keys, _ in entries]
     right = [not is_text for is_text in shown.aggregation.texts] or [False]
     values = [value for _, value in entries]
     unit = None if words.value_unit == SHARE else words.value_unit
     shown_values = [numbered(value, words.value_unit, total) for value in values]
     return Chart(
-        f"{shown.names} {shown.aggregation.value_name}",
+        f"{shown.title} {shown.aggregation.value_name}",
         "",
         labels,
         right,

@@ -14,10 +14,11 @@ SECONDS = 10
 ESCAPES = re.compile(r'\\[^abtnvfr"\'?\\]')
 
 
-def program():
-    """The program: the one beside this tool, else that of PATH; none where there is none."""
-    beside = os.path.join(os.path.dirname(os.path.realpath(sys.argv[0])), "dreplay")
-    return beside if os.access(beside, os.X_OK) else shutil.which("dreplay")
+def program(name="dreplay"):
+    """The program of a name: the one beside this tool, else that of PATH; none where there is none.
+    """
+    beside = os.path.join(os.path.dirname(os.path.realpath(sys.argv[0])), name)
+    return beside if os.access(beside, os.X_OK) else shutil.which(name)
 
 
 def refused_token(refusal, line, tokens):

@@ -101,22 +101,6 @@ class Script:
                     self.clauses.append(clause)
                     clause = Clause()
 
-    @property
-    def writes_texts(self):
-        """Whether a statement is a call of trace or printf."""
-        return any(
-            some[0].text in ("trace", "printf") and len(some) > 1 and some[1].text == "("
-            for clause in self.clauses
-            for some in clause.statements
-        )
-
-    @property
-    def can_fault(self):
-        """Whether something is divided."""
-        return any(
-            token.text in ("/", "%", "/=", "%=") and token.place != "head" for token in self.tokens
-        )
-
 
 def of_bytes(data):
     """The script that a file holds."""

@@ -113,8 +113,9 @@ def page(texts, all_shown, words, script):
     if texts:
         yield "<h2>Texts</h2>"
         yield f"<pre>{escape(in_lines(texts))}</pre>"
-    yield "<h2>Script</h2>"
-    yield f"<pre>{escape(in_lines(script))}</pre>"
+    if script is not None:
+        yield "<h2>Script</h2>"
+        yield f"<pre>{escape(in_lines(script.text))}</pre>"
     yield f"<script>{SCRIPT}</script>\n</body>\n</html>"
 
 
@@ -127,7 +128,7 @@ def section(shown, words):
     rows.
     """
     aggregation = shown.aggregation
-    yield f"<section>\n<h2>{escape(printable(shown.names))}</h2>"
+    yield f"<section>\n<h2>{escape(printable(shown.title))}</h2>"
     by = f" by {escape(printable(', '.join(aggregation.keys)))}" if aggregation.keys else ""
     yield (
         f"<p><code>{escape(printable(aggregation.value_name))}</code>{by};"

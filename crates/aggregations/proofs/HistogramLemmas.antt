@@ -16,8 +16,8 @@ use Rattle.std.proofs.lemmas.List.{length-set}
 use Rattle.std.proofs.lemmas.List.FromFn.{get_or-range_with_len, length-range_with_len}
 use Rattle.std.proofs.lemmas.List.Sums.{sum_by_push, sum_by-append, sum_by-cons, sum_by-set}
 use Rattle.std.proofs.lemmas.List.Sums.{get_or-le-sum_by}
-use Rattle.aggregations.specs.declared.function.AggFn.{AggFn}
-use Rattle.aggregations.specs.Buckets.{buckets, HasBuckets, is_in, counts_of}
+use Rattle.aggregations.specs.declared.scale.Scale.{Scale}
+use Rattle.aggregations.specs.Buckets.{buckets, is_in, counts_of}
 use Rattle.aggregations.specs.Histograms.{Histogram, histogram_of, with_more, used_at, counts_used}
 use Rattle.aggregations.specs.Histograms.{AreUsed}
 
@@ -54,19 +54,19 @@ changed_at f g n k v within here others =
 
 -- ---- the buckets that were used
 
-abbrev pub seen : AggFn → List ℕ → Histogram
-seen f counts = record { function = f; counts = counts }
+abbrev pub seen : Scale → List ℕ → Histogram
+seen f counts = record { scale = f; counts = counts }
 
-pub count_used : (f : AggFn) (used : List (ℕ × ℕ)) (b : ℕ) → b < buckets f → get_or (counts_used f used) b 0 ≡ used_at used b
+pub count_used : (f : Scale) (used : List (ℕ × ℕ)) (b : ℕ) → b < buckets f → get_or (counts_used f used) b 0 ≡ used_at used b
 count_used f used b lt = table_at (used_at used) (buckets f) b lt
 
-more_used : (f : AggFn) (old new : List (ℕ × ℕ)) (k more : ℕ) → k < buckets f → used_at new k ≡ used_at old k + more
+more_used : (f : Scale) (old new : List (ℕ × ℕ)) (k more : ℕ) → k < buckets f → used_at new k ≡ used_at old k + more
     → ((q : ℕ) → q ≢ k → used_at new q ≡ used_at old q) → seen f (counts_used f new) ≡ with_more (seen f (counts_used f old)) k more
 more_used f old new k more within here others =
     ap (seen f) (changed_at (used_at old) (used_at new) (buckets f) k (get_or (counts_used f old) k 0 + more) within
     (here ∙ ap (λ n. n + more) (sym (count_used f old k within))) (λ b lt ne. others b ne))
 
-pub inserted_used : (f : AggFn) (old new : List (ℕ × ℕ)) (k more : ℕ) → k < buckets f → lookup (nat_eq k) old ≡ None
+pub inserted_used : (f : Scale) (old new : List (ℕ × ℕ)) (k more : ℕ) → k < buckets f → lookup (nat_eq k) old ≡ None
     → ((q : ℕ) → lookup (nat_eq q) new ≡ cond (nat_eq k q) (Some more) (lookup (nat_eq q) old))
     → seen f (counts_used f new) ≡ with_more (seen f (counts_used f old)) k more
 inserted_used f old new k more within gone up = more_used f old new k more within
@@ -75,7 +75,7 @@ inserted_used f old new k more within gone up = more_used f old new k more withi
     omega arith)
     (λ q ne. ap (λ o. unwrap_or o 0) (up q ∙ ap (λ b. cond b (Some more) (lookup (nat_eq q) old)) (ne_eqb k q (λ e. ne (sym e)))))
 
-pub written_used : (f : AggFn) (old new : List (ℕ × ℕ)) (k was more : ℕ) → k < buckets f → lookup (nat_eq k) old ≡ Some was
+pub written_used : (f : Scale) (old new : List (ℕ × ℕ)) (k was more : ℕ) → k < buckets f → lookup (nat_eq k) old ≡ Some was
     → lookup (nat_eq k) new ≡ Some (was + more)
     → ((q : ℕ) → nat_eq k q ≡ false → lookup (nat_eq q) new ≡ lookup (nat_eq q) old)
     → seen f (counts_used f new) ≡ with_more (seen f (counts_used f old)) k more
@@ -87,7 +87,7 @@ written_used f old new k was more within there here others = more_used f old new
 
 -- ---- one more argument
 
-pub histogram_noted : (f : AggFn) (h new : Histogram) (k : ℕ) (x : ℤ) (args : List ℤ) → k < buckets f
+pub histogram_noted : (f : Scale) (h new : Histogram) (k : ℕ) (x : ℤ) (args : List ℤ) → k < buckets f
     → ((b : ℕ) → b < buckets f → is_in f b x ≡ (b == k)) → h ≡ histogram_of f args → new ≡ with_more h k 1
     → new ≡ histogram_of f (args ++ x ∷ [])
 histogram_noted f h new k x args within only was is =
@@ -115,22 +115,22 @@ passed k m b rest ne = ap (λ t. cond t (Some m) (lookup (nat_eq b) rest)) (ne_e
 pub passed_used : (k m b : ℕ) (rest : List (ℕ × ℕ)) → b ≢ k → used_at ((k, m) ∷ rest) b ≡ used_at rest b
 passed_used k m b rest ne = ap (λ o. unwrap_or o 0) (passed k m b rest ne)
 
--- buckets of the function, each once and with arguments
-pub record AreBuckets (f : AggFn) (used : List (ℕ × ℕ)) : Type 0 where
+-- buckets of the scale, each once and with arguments
+pub record AreBuckets (f : Scale) (used : List (ℕ × ℕ)) : Type 0 where
   pub apart : IsDistinct nat_eq (keys_of used)
   pub each : (b m : ℕ) → lookup (nat_eq b) used ≡ Some m → (b < buckets f) × (0 < m)
 
-pub buckets_front : (f : AggFn) (k m : ℕ) (rest : List (ℕ × ℕ)) → AreBuckets f ((k, m) ∷ rest) → (k < buckets f) × (0 < m)
+pub buckets_front : (f : Scale) (k m : ℕ) (rest : List (ℕ × ℕ)) → AreBuckets f ((k, m) ∷ rest) → (k < buckets f) × (0 < m)
 buckets_front f k m rest are = are.each k m (ap (λ b. cond b (Some m) (lookup (nat_eq k) rest)) (eq-eqb k k refl))
 
-gone_after : (f : AggFn) (k m : ℕ) (rest : List (ℕ × ℕ)) → AreBuckets f ((k, m) ∷ rest) → lookup (nat_eq k) rest ≡ None
+gone_after : (f : Scale) (k m : ℕ) (rest : List (ℕ × ℕ)) → AreBuckets f ((k, m) ∷ rest) → lookup (nat_eq k) rest ≡ None
 unfolding IsDistinct
 gone_after f k m rest are = left_out k rest are.apart.0
 
-pub gone_used : (f : AggFn) (k m : ℕ) (rest : List (ℕ × ℕ)) → AreBuckets f ((k, m) ∷ rest) → used_at rest k ≡ 0
+pub gone_used : (f : Scale) (k m : ℕ) (rest : List (ℕ × ℕ)) → AreBuckets f ((k, m) ∷ rest) → used_at rest k ≡ 0
 gone_used f k m rest are = ap (λ o. unwrap_or o 0) (gone_after f k m rest are)
 
-pub buckets_rest : (f : AggFn) (k m : ℕ) (rest : List (ℕ × ℕ)) → AreBuckets f ((k, m) ∷ rest) → AreBuckets f rest
+pub buckets_rest : (f : Scale) (k m : ℕ) (rest : List (ℕ × ℕ)) → AreBuckets f ((k, m) ∷ rest) → AreBuckets f rest
 unfolding IsDistinct
 buckets_rest f k m rest are = record {
   apart = are.apart.1;
@@ -147,7 +147,7 @@ pub sum-with_more : (h : Histogram) (k more : ℕ) → k < length h.counts → s
 sum-with_more h k more within = sum-changed h.counts k more within
 
 -- the counts with one more bucket
-pub sum-front : (f : AggFn) (k m : ℕ) (rest : List (ℕ × ℕ)) → AreBuckets f ((k, m) ∷ rest)
+pub sum-front : (f : Scale) (k m : ℕ) (rest : List (ℕ × ℕ)) → AreBuckets f ((k, m) ∷ rest)
     → sum (counts_used f ((k, m) ∷ rest)) ≡ sum (counts_used f rest) + m
 sum-front f k m rest are =
     let within = (buckets_front f k m rest are).0 in
@@ -164,7 +164,7 @@ none_used [] = refl
 none_used (b ∷ bs) = let more = none_used bs in let e = sum_by-cons (λ x. x) 0 (map (used_at []) bs) in omega arith
 
 -- all counts are those of the buckets that were used
-pub sum-used : (f : AggFn) (used : List (ℕ × ℕ)) → AreBuckets f used → sum (counts_used f used) ≡ sum (values_of used)
+pub sum-used : (f : Scale) (used : List (ℕ × ℕ)) → AreBuckets f used → sum (counts_used f used) ≡ sum (values_of used)
 sum-used f [] are = none_used (range_with_len 0 (buckets f))
 sum-used f ((k, m) ∷ rest) are =
     let front = sum-front f k m rest are in
@@ -172,20 +172,19 @@ sum-used f ((k, m) ∷ rest) are =
     let e = sum_by-cons (λ x. x) m (values_of rest) in
     omega arith
 
-pub kept_none : (f : AggFn) → HasBuckets f → AreUsed f []
+pub kept_none : (f : Scale) → AreUsed f []
 unfolding IsDistinct
-kept_none f has = record {
-  has = has;
+kept_none f = record {
   apart = tt;
   each = λ b m there. absurd cc;
   few = let none = none_used (range_with_len 0 (buckets f)) in omega arith;
 }
 
-pub buckets_kept : (f : AggFn) (used : List (ℕ × ℕ)) → AreUsed f used → AreBuckets f used
+pub buckets_kept : (f : Scale) (used : List (ℕ × ℕ)) → AreUsed f used → AreBuckets f used
 buckets_kept f used kept = record { apart = kept.apart; each = kept.each }
 
 -- what is kept for a bucket is its count, and past the last bucket nothing is
-pub count_kept : (f : AggFn) (used : List (ℕ × ℕ)) (b : ℕ) → AreUsed f used → get_or (counts_used f used) b 0 ≡ used_at used b
+pub count_kept : (f : Scale) (used : List (ℕ × ℕ)) (b : ℕ) → AreUsed f used → get_or (counts_used f used) b 0 ≡ used_at used b
 count_kept f used b kept = ⊎_elim (λ (lt : b < buckets f). count_used f used b lt)
     (λ (le : buckets f ≤ b). get_or_past (counts_used f used) b 0 (subst (λ n. n ≤ b) (sym (length-table (used_at used) (buckets f))) le) ∙ sym (nothing (lookup (nat_eq b) used) refl le))
     (cases_lt b (buckets f))
@@ -194,11 +193,10 @@ count_kept f used b kept = ⊎_elim (λ (lt : b < buckets f). count_used f used 
     nothing None e le = ap (λ o. unwrap_or o 0) e
     nothing (Some m) e le = let h = kept.each b m e in absurd (omega arith)
 
-pub kept_inserted : (f : AggFn) (old new : List (ℕ × ℕ)) (k more : ℕ) → k < buckets f → 0 < more → AreUsed f old
+pub kept_inserted : (f : Scale) (old new : List (ℕ × ℕ)) (k more : ℕ) → k < buckets f → 0 < more → AreUsed f old
     → seen f (counts_used f new) ≡ with_more (seen f (counts_used f old)) k more → sum (counts_used f old) + more ≤ 2 ^ 52
     → ((q n : ℕ) → lookup (nat_eq q) new ≡ Some n → (q ≡ k) × (0 < n) ⊎ (lookup (nat_eq q) old ≡ Some n)) → IsDistinct nat_eq (keys_of new) → AreUsed f new
 kept_inserted f old new k more within some was is room at apart = record {
-  has = was.has;
   apart = apart;
   each = λ q n there. ⊎_elim (λ (h : (q ≡ k) × (0 < n)). (subst (λ b. b < buckets f) (sym h.0) within, h.1)) (λ (h : lookup (nat_eq q) old ≡ Some n). was.each q n h) (at q n there);
   few =
@@ -207,7 +205,7 @@ kept_inserted f old new k more within some was is room at apart = record {
       omega arith;
 }
 
-pub count-le_sum : (f : AggFn) (used : List (ℕ × ℕ)) (b : ℕ) → AreUsed f used → used_at used b ≤ sum (counts_used f used)
+pub count-le_sum : (f : Scale) (used : List (ℕ × ℕ)) (b : ℕ) → AreUsed f used → used_at used b ≤ sum (counts_used f used)
 count-le_sum f used b kept = ⊎_elim
     (λ (lt : b < buckets f). let one = get_or-le-sum_by (λ n. n) (counts_used f used) b 0 (subst (λ n. b < n) (sym (length-table (used_at used) (buckets f))) lt) in let is = count_kept f used b kept in omega arith)
     (λ (le : buckets f ≤ b). let past = get_or_past (counts_used f used) b 0 (subst (λ n. n ≤ b) (sym (length-table (used_at used) (buckets f))) le) in let is = count_kept f used b kept in omega arith)
@@ -232,30 +230,30 @@ found_inserted old new k n some up = found_written old new k n some
     (up k ∙ ap (λ b. cond b (Some n) (lookup (nat_eq k) old)) (eq-eqb k k refl))
     (λ q e. up q ∙ ap (λ b. cond b (Some n) (lookup (nat_eq q) old)) e)
 
--- ---- two histograms of one function
+-- ---- two histograms of one scale
 
 -- `first` takes `other`, and is `now`, with the buckets `rest` of `other` still to come
-pub record Joining (f : AggFn) (first other : Histogram) (rest : List (ℕ × ℕ)) (now : Histogram) : Type 0 where
-  pub function : now.function ≡ f
+pub record Joining (f : Scale) (first other : Histogram) (rest : List (ℕ × ℕ)) (now : Histogram) : Type 0 where
+  pub scale : now.scale ≡ f
   pub length : length now.counts ≡ buckets f
   pub are : AreBuckets f rest
   pub counts : (b : ℕ) → b < buckets f → get_or now.counts b 0 + used_at rest b ≡ get_or first.counts b 0 + get_or other.counts b 0
   pub held : sum now.counts + sum (counts_used f rest) ≡ sum first.counts + sum other.counts
 
-pub joining_start : (f g : AggFn) (first other : Histogram) (all : List (ℕ × ℕ)) → first.function ≡ f → length first.counts ≡ buckets f → seen g (counts_used g all) ≡ other
+pub joining_start : (f g : Scale) (first other : Histogram) (all : List (ℕ × ℕ)) → first.scale ≡ f → length first.counts ≡ buckets f → seen g (counts_used g all) ≡ other
     → buckets f ≡ buckets g → AreUsed g all → Joining f first other all first
 joining_start f g first other all same len is many used = record {
-  function = same;
+  scale = same;
   length = len;
   are = record { apart = used.apart; each = λ b m there. let e = used.each b m there in (subst (λ n. b < n) (sym many) e.0, e.1) };
   counts = λ b lt. ap (λ n. get_or first.counts b 0 + n) (sym (count_used g all b (subst (λ n. b < n) many lt)) ∙ ap (λ h. get_or h.counts b 0) is);
   held = ap (λ l. sum first.counts + sum l) (ap (λ n. map (used_at all) (range_with_len 0 n)) many ∙ ap (λ h. h.counts) is);
 }
 
-pub joining_more : (f : AggFn) (first other now : Histogram) (rest : List (ℕ × ℕ)) (k m : ℕ) → Joining f first other ((k, m) ∷ rest) now
+pub joining_more : (f : Scale) (first other now : Histogram) (rest : List (ℕ × ℕ)) (k m : ℕ) → Joining f first other ((k, m) ∷ rest) now
     → Joining f first other rest (with_more now k m)
 joining_more f first other now rest k m j = record {
-  function = j.function;
+  scale = j.scale;
   length = length-set now.counts k (get_or now.counts k 0 + m) ∙ j.length;
   are = buckets_rest f k m rest j.are;
   counts = λ b lt. at b lt (cases_eq b k);
@@ -283,14 +281,14 @@ joining_more f first other now rest k m j = record {
         omega arith
 
 -- the room for the front bucket
-pub joining_room : (f : AggFn) (first other now : Histogram) (rest : List (ℕ × ℕ)) (k m : ℕ) → Joining f first other ((k, m) ∷ rest) now
+pub joining_room : (f : Scale) (first other now : Histogram) (rest : List (ℕ × ℕ)) (k m : ℕ) → Joining f first other ((k, m) ∷ rest) now
     → sum now.counts + m ≤ sum first.counts + sum other.counts
 joining_room f first other now rest k m j = let front = sum-front f k m rest j.are in let all = j.held in omega arith
 
-pub joining_all : (f : AggFn) (first other now : Histogram) (xs ys : List ℤ) → Joining f first other [] now
+pub joining_all : (f : Scale) (first other now : Histogram) (xs ys : List ℤ) → Joining f first other [] now
     → first ≡ histogram_of f xs → other ≡ histogram_of f ys → now ≡ histogram_of f (xs ++ ys)
 joining_all f first other now xs ys j a b' =
-    ap (λ g. seen g now.counts) j.function
+    ap (λ g. seen g now.counts) j.scale
     ∙ ap (seen f) (same_number_lists now.counts (counts_of f (xs ++ ys)) (j.length ∙ sym (length-table (λ b. count_by (is_in f b) (xs ++ ys)) (buckets f)))
     (λ b lt. let within : b < buckets f = subst (λ n. b < n) j.length lt in
     let sums = j.counts b within in

@@ -19,6 +19,8 @@ use Rattle.d_values.specs.declared.key.KeyPart.{KeyPart}
 use Rattle.aggregations.specs.declared.function.AggFn.{AggFn}
 use Rattle.aggregations.specs.declared.function.AggFn.TheVariants.{Count, Sum, Min, Max, Avg}
 use Rattle.aggregations.specs.declared.function.AggFn.TheVariants.{Quantize, Lquantize}
+use Rattle.aggregations.specs.declared.scale.Scale.{Scale}
+use Rattle.aggregations.specs.declared.scale.Scale.TheVariants.{Powers, Steps}
 use Rattle.aggregations.specs.declared.held.Held.{Held}
 use Rattle.aggregations.specs.declared.held.Held.TheVariants.{Counted, Summed, Least, Greatest}
 use Rattle.aggregations.specs.declared.held.Held.TheVariants.{Mean, Counts}
@@ -145,7 +147,7 @@ nil_of : (l : List ℤ) → length l ≡ 0 → l ≡ []
 nil_of [] e = refl
 nil_of (x ∷ l) e = absurd (omega arith)
 
-same_counts : (f : AggFn) (xs ys : List ℤ) → SameItems xs ys → counts_of f xs ≡ counts_of f ys
+same_counts : (f : Scale) (xs ys : List ℤ) → SameItems xs ys → counts_of f xs ≡ counts_of f ys
 same_counts f xs ys same = each (range_with_len 0 (buckets f))
   where
     each : (bs : List ℕ) → map (λ b. count_by (is_in f b) xs) bs ≡ map (λ b. count_by (is_in f b) ys) bs
@@ -159,8 +161,8 @@ same_value Sum (Summed s) xs ys same h = same_sum s xs ys same h
 same_value Min (Least m) xs ys same h = same_least m xs ys same h
 same_value Max (Greatest m) xs ys same h = same_greatest m xs ys same h
 same_value Avg (Mean m) xs ys same h = (same_sum m.sum xs ys same h.0, h.1 ∙ same_length xs ys same)
-same_value Quantize (Counts h) xs ys same is = is ∙ ap (seen Quantize) (same_counts Quantize xs ys same)
-same_value (Lquantize r) (Counts h) xs ys same is = is ∙ ap (seen (Lquantize r)) (same_counts (Lquantize r) xs ys same)
+same_value Quantize (Counts h) xs ys same is = is ∙ ap (seen Powers) (same_counts Powers xs ys same)
+same_value (Lquantize r) (Counts h) xs ys same is = is ∙ ap (seen (Steps r)) (same_counts (Steps r) xs ys same)
 same_value _ _ xs ys same h = absurd h
 
 pub same_entry : (f : AggFn) (o : Option Held) (xs ys : List ℤ) → SameItems xs ys → IsEntry f o xs → IsEntry f o ys

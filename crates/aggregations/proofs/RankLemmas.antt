@@ -9,11 +9,11 @@ use lib.IntN.{*ℤ-zero}
 use Rattle.std.proofs.lemmas.Bool.{cases_eq, cases_lt}
 use Rattle.std.proofs.lemmas.Int.{ints, unsigned_abs-mul}
 use Rattle.std.proofs.Math.Nat.{mul-le-mul_right}
-use Rattle.aggregations.specs.declared.function.AggFn.{AggFn}
-use Rattle.aggregations.specs.declared.function.AggFn.TheVariants.{Quantize, Lquantize}
+use Rattle.aggregations.specs.declared.scale.Scale.{Scale}
+use Rattle.aggregations.specs.declared.scale.Scale.TheVariants.{Powers, Steps}
 use Rattle.aggregations.specs.declared.linear_range.LinearRange.{LinearRange}
 use Rattle.aggregations.specs.Ranges.{are_bounds, is_one_to}
-use Rattle.aggregations.specs.Buckets.{buckets, label, power_label, level_label, levels_of}
+use Rattle.aggregations.specs.Buckets.{buckets, label, levels_of}
 use Rattle.aggregations.specs.Values.{total}
 use Rattle.aggregations.specs.Figures.{rank_of}
 use Rattle.aggregations.specs.Figures.Figure.{Distribution}
@@ -53,14 +53,14 @@ map-enumerate h g a (suc n) = ap (λ l. h a (g a) ∷ l) (map-enumerate h g (a +
 
 -- ---- the weight of buckets
 
-pub weight : AggFn → List (ℕ × ℕ) → ℤ
+pub weight : Scale → List (ℕ × ℕ) → ℤ
 weight f used = total (map (λ b. label f b *ℤ pos (used_at used b)) (range_with_len 0 (buckets f)))
 
-pub rank-weight : (f : AggFn) (used : List (ℕ × ℕ)) → rank_of (Distribution (seen f (counts_used f used))) ≡ weight f used
+pub rank-weight : (f : Scale) (used : List (ℕ × ℕ)) → rank_of (Distribution (seen f (counts_used f used))) ≡ weight f used
 unfolding weight
 rank-weight f used = ap total (map-enumerate (λ b n. label f b *ℤ pos n) (used_at used) 0 (buckets f))
 
-weight-none : (f : AggFn) → weight f [] ≡ pos 0
+weight-none : (f : Scale) → weight f [] ≡ pos 0
 unfolding weight
 weight-none f = each 0 (buckets f)
   where
@@ -69,7 +69,7 @@ weight-none f = each 0 (buckets f)
     each a (suc n) = ap (λ z. z +ℤ total (map (λ b. label f b *ℤ pos (used_at [] b)) (range_with_len (a + 1) n))) (*ℤ-zero (label f a))
         ∙ ap (λ z. pos 0 +ℤ z) (each (a + 1) n)
 
-weight-front : (f : AggFn) (k m : ℕ) (rest : List (ℕ × ℕ)) → AreBuckets f ((k, m) ∷ rest)
+weight-front : (f : Scale) (k m : ℕ) (rest : List (ℕ × ℕ)) → AreBuckets f ((k, m) ∷ rest)
     → weight f ((k, m) ∷ rest) ≡ label f k *ℤ pos m +ℤ weight f rest
 unfolding weight
 weight-front f k m rest are = total_more (λ b. label f b *ℤ pos (used_at ((k, m) ∷ rest) b)) (λ b. label f b *ℤ pos (used_at rest b))
@@ -88,15 +88,15 @@ second_of : (s t : Bool) → (s && t) ≡ true → t ≡ true
 second_of true t e = e
 second_of false t e = absurd cc
 
-pub power_small : (b : ℕ) → b < 127 → unsigned_abs (power_label b) ≤ 2 ^ 62
+pub power_small : (b : ℕ) → b < 127 → unsigned_abs (label Powers b) ≤ 2 ^ 62
 power_small b lt = at (cases_lt b 63) (cases_eq b 63)
   where
-    at : ((b < 63) ⊎ (63 ≤ b)) → ((b ≡ 63) ⊎ (b ≡ 63 → ⊥)) → unsigned_abs (power_label b) ≤ 2 ^ 62
+    at : ((b < 63) ⊎ (63 ≤ b)) → ((b ≡ 63) ⊎ (b ≡ 63 → ⊥)) → unsigned_abs (label Powers b) ≤ 2 ^ 62
     at (inl low) either =
         let is = low_label b (62 - b) low refl in
         let p = powers (62 - b) 62 (omega arith) in
         omega (arith, ints)
-    at (inr high) (inl e) = subst (λ i. unsigned_abs (power_label i) ≤ 2 ^ 62) (sym e) (omega (arith, ints))
+    at (inr high) (inl e) = subst (λ i. unsigned_abs (label Powers i) ≤ 2 ^ 62) (sym e) (omega (arith, ints))
     at (inr high) (inr ne) =
         let is = high_label b (b - 64) (omega arith) refl in
         let p = powers (b - 64) 62 (omega arith) in
@@ -126,7 +126,7 @@ range_known r =
     at_most : (n : ℕ) → nat_le n 65535 ≡ true → n ≤ 65535
     at_most n e = search (rules, tests)
 
-pub level_small : (r : LinearRange) (b : ℕ) → b < levels_of r + 2 → unsigned_abs (level_label r b) ≤ 2 ^ 62
+pub level_small : (r : LinearRange) (b : ℕ) → b < levels_of r + 2 → unsigned_abs (label (Steps r) b) ≤ 2 ^ 62
 level_small r zero lt = let known = range_known r in let low = known.0 in let high = known.1 in omega (arith, ints)
 level_small r (suc i) lt =
     let known = range_known r in
@@ -137,30 +137,29 @@ level_small r (suc i) lt =
     let p = steps_small i r.step (omega arith) (omega arith) in
     omega (arith, ints)
 
-pub label_small : (f : AggFn) (b : ℕ) → b < buckets f → unsigned_abs (label f b) ≤ 2 ^ 62
-label_small Quantize b lt = power_small b lt
-label_small (Lquantize r) b lt = level_small r b lt
-label_small f b lt = absurd (omega arith)
+pub label_small : (f : Scale) (b : ℕ) → b < buckets f → unsigned_abs (label f b) ≤ 2 ^ 62
+label_small Powers b lt = power_small b lt
+label_small (Steps r) b lt = level_small r b lt
 
 -- ---- a loop over the buckets
 
 -- the rank so far, with the buckets `rest` of `all` still to come, of which `done` arguments are through
-pub record Ranking (f : AggFn) (all rest : List (ℕ × ℕ)) (rank : ℤ) : Type 0 where
+pub record Ranking (f : Scale) (all rest : List (ℕ × ℕ)) (rank : ℤ) : Type 0 where
   pub are : AreBuckets f rest
   pub adds : rank +ℤ weight f rest ≡ weight f all
   pub done : ℕ
   pub counted : done + sum (counts_used f rest) ≡ sum (counts_used f all)
   pub small : unsigned_abs rank ≤ 2 ^ 62 * done
 
-pub ranking_start : (f : AggFn) (all : List (ℕ × ℕ)) → AreBuckets f all → Ranking f all all (pos 0)
+pub ranking_start : (f : Scale) (all : List (ℕ × ℕ)) → AreBuckets f all → Ranking f all all (pos 0)
 ranking_start f all are = record { are = are; adds = omega (arith, ints); done = 0; counted = omega arith; small = omega (arith, ints) }
 
-product_small : (f : AggFn) (k m : ℕ) → k < buckets f → unsigned_abs (label f k *ℤ pos m) ≤ 2 ^ 62 * m
+product_small : (f : Scale) (k m : ℕ) → k < buckets f → unsigned_abs (label f k *ℤ pos m) ≤ 2 ^ 62 * m
 product_small f k m lt =
     let p = mul-le-mul_right m (label_small f k lt) in
     subst (λ n. n ≤ 2 ^ 62 * m) (sym (unsigned_abs-mul (label f k) (pos m))) p
 
-pub ranking_more : (f : AggFn) (all rest : List (ℕ × ℕ)) (k m : ℕ) (rank : ℤ) → Ranking f all ((k, m) ∷ rest) rank
+pub ranking_more : (f : Scale) (all rest : List (ℕ × ℕ)) (k m : ℕ) (rank : ℤ) → Ranking f all ((k, m) ∷ rest) rank
     → Ranking f all rest (rank +ℤ label f k *ℤ pos m)
 ranking_more f all rest k m rank r = record {
   are = buckets_rest f k m rest r.are;
@@ -171,7 +170,7 @@ ranking_more f all rest k m rank r = record {
 }
 
 -- what is added and what comes of it are small
-pub ranking_fits : (f : AggFn) (all rest : List (ℕ × ℕ)) (k m : ℕ) (rank : ℤ) → sum (counts_used f all) ≤ 2 ^ 52 → Ranking f all ((k, m) ∷ rest) rank
+pub ranking_fits : (f : Scale) (all rest : List (ℕ × ℕ)) (k m : ℕ) (rank : ℤ) → sum (counts_used f all) ≤ 2 ^ 52 → Ranking f all ((k, m) ∷ rest) rank
     → (unsigned_abs (label f k *ℤ pos m) ≤ 2 ^ 114) × (unsigned_abs (rank +ℤ label f k *ℤ pos m) ≤ 2 ^ 114)
 ranking_fits f all rest k m rank few r =
     let front = sum-front f k m rest r.are in
@@ -180,5 +179,5 @@ ranking_fits f all rest k m rank few r =
     let p = product_small f k m (buckets_front f k m rest r.are).0 in
     (omega arith, omega (arith, ints))
 
-pub ranking_all : (f : AggFn) (all : List (ℕ × ℕ)) (rank : ℤ) → Ranking f all [] rank → rank ≡ weight f all
+pub ranking_all : (f : Scale) (all : List (ℕ × ℕ)) (rank : ℤ) → Ranking f all [] rank → rank ≡ weight f all
 ranking_all f all rank r = let none = weight-none f in let was = r.adds in omega (arith, ints)

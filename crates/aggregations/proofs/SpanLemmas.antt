@@ -11,7 +11,7 @@ use Rattle.std.proofs.lemmas.Cmp.{nat_eq_equiv}
 use Rattle.std.proofs.lemmas.List.Elements.{All-contains, All-cons, All-nil, Contains-get_or}
 use Rattle.std.proofs.lemmas.List.Elements.{Contains-append_right}
 use Rattle.std.proofs.lemmas.Map.Views.{IsSome-lookup_from_Contains, Contains-keys_from_lookup}
-use Rattle.aggregations.specs.declared.function.AggFn.{AggFn}
+use Rattle.aggregations.specs.declared.scale.Scale.{Scale}
 use Rattle.aggregations.specs.Buckets.{buckets}
 use Rattle.aggregations.specs.Histograms.{used_at, counts_used, AreUsed, IsSpan}
 use Rattle.aggregations.proofs.HistogramLemmas.{count_kept, none_used}
@@ -63,11 +63,11 @@ greatest_key (k ∷ ks) m e =
     )
 
 -- no keys, no counts
-pub sum-no_keys : (f : AggFn) (used : List (ℕ × ℕ)) → reduce min (keys_of used) ≡ None → sum (counts_used f used) ≡ 0
+pub sum-no_keys : (f : Scale) (used : List (ℕ × ℕ)) → reduce min (keys_of used) ≡ None → sum (counts_used f used) ≡ 0
 sum-no_keys f [] e = none_used (range_with_len 0 (buckets f))
 sum-no_keys f (b ∷ used) e = absurd cc
 
-module _ (f : AggFn) (used : List (ℕ × ℕ)) (kept : AreUsed f used) where
+module _ (f : Scale) (used : List (ℕ × ℕ)) (kept : AreUsed f used) where
   has_count : (b : ℕ) → Contains (keys_of used) b → 0 < used_at used b
   has_count b there = at (lookup (nat_eq b) used) refl (IsSome-lookup_from_Contains nat_eq_equiv b used there)
     where

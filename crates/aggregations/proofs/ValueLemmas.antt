@@ -12,11 +12,13 @@ use Rattle.std.proofs.lemmas.List.Elements.{Contains-append_left, Contains-appen
 use Rattle.aggregations.specs.declared.function.AggFn.{AggFn}
 use Rattle.aggregations.specs.declared.function.AggFn.TheVariants.{Count, Sum, Min, Max, Avg}
 use Rattle.aggregations.specs.declared.function.AggFn.TheVariants.{Quantize, Lquantize}
+use Rattle.aggregations.specs.declared.scale.Scale.{Scale}
+use Rattle.aggregations.specs.declared.scale.Scale.TheVariants.{Powers, Steps}
 use Rattle.aggregations.specs.declared.held.Held.{Held}
 use Rattle.aggregations.specs.declared.held.Held.TheVariants.{Counted, Summed, Least, Greatest}
 use Rattle.aggregations.specs.declared.held.Held.TheVariants.{Mean, Counts}
 use Rattle.aggregations.specs.Histograms.{Histogram, histogram_of}
-use Rattle.aggregations.specs.Buckets.{HasBuckets, buckets, counts_of, is_in}
+use Rattle.aggregations.specs.Buckets.{buckets, counts_of, is_in}
 use Rattle.aggregations.specs.Values.{total, IsSum, IsLeast, IsGreatest, IsValue, TakesOne}
 use Rattle.aggregations.specs.Values.{TakesBoth, count_in}
 use Rattle.aggregations.specs.Held.{after, count_of, number_of}
@@ -77,11 +79,11 @@ mean_noted Avg s x n xs a = (sum_noted s x xs a.0, let h = a.1 in simp length-ap
 mean_noted _ s x n xs a = absurd a
 
 pub counts_noted : (f : AggFn) (h new : Histogram) (x : ℤ) (xs : List ℤ)
-    → ((args : List ℤ) → h ≡ histogram_of h.function args → new ≡ histogram_of h.function (args ++ x ∷ []))
+    → ((args : List ℤ) → h ≡ histogram_of h.scale args → new ≡ histogram_of h.scale (args ++ x ∷ []))
     → IsValue f (Counts h) xs → IsValue f (Counts new) (xs ++ x ∷ [])
-counts_noted Quantize h new x xs step is = let same : h.function ≡ Quantize = ap (λ h. h.function) is in
+counts_noted Quantize h new x xs step is = let same : h.scale ≡ Powers = ap (λ h. h.scale) is in
     subst (λ g. new ≡ histogram_of g (xs ++ x ∷ [])) same (step xs (subst (λ g. h ≡ histogram_of g xs) (sym same) is))
-counts_noted (Lquantize r) h new x xs step is = let same : h.function ≡ Lquantize r = ap (λ h. h.function) is in
+counts_noted (Lquantize r) h new x xs step is = let same : h.scale ≡ Steps r = ap (λ h. h.scale) is in
     subst (λ g. new ≡ histogram_of g (xs ++ x ∷ [])) same (step xs (subst (λ g. h ≡ histogram_of g xs) (sym same) is))
 counts_noted _ h new x xs step is = absurd is
 
@@ -89,17 +91,12 @@ pub noted_as : (old new p q : Held) (x : ℤ) → old ≡ p → new ≡ q → Ta
 noted_as old new p q x was is takes =
     subst (λ h. TakesOne h x new) (sym was) (subst (λ h. TakesOne p x h) (sym is) takes)
 
-pub counts_value : (f : AggFn) (h : Histogram) (args : List ℤ) → HasBuckets f → h ≡ histogram_of f args → IsValue f (Counts h) args
-counts_value Quantize h args some is = is
-counts_value (Lquantize r) h args some is = is
-counts_value _ h args some is = absurd (omega arith)
-
-none_in : (f : AggFn) (bs : List ℕ) → sum (map (λ b. count_by (is_in f b) []) bs) ≡ 0
+none_in : (f : Scale) (bs : List ℕ) → sum (map (λ b. count_by (is_in f b) []) bs) ≡ 0
 none_in f [] = refl
 none_in f (b ∷ bs) = let more = none_in f bs in let e = sum_by-cons (λ x. x) 0 (map (λ b. count_by (is_in f b) []) bs) in omega arith
 
 -- a histogram without arguments holds no counts
-pub sum-none : (f : AggFn) → sum (counts_of f []) ≡ 0
+pub sum-none : (f : Scale) → sum (counts_of f []) ≡ 0
 sum-none f = none_in f (range_with_len 0 (buckets f))
 
 pub counted_noted : (n : ℕ) (x : ℤ) → TakesOne (Counted n) x (Counted (n + 1))
@@ -138,10 +135,10 @@ both_as old other new p q was is takes =
     subst (λ h. TakesBoth h other new) (sym was) (subst (λ h. TakesBoth p other h) (sym is) takes)
 
 pub counts_joined : (f : AggFn) (h more new : Histogram) (xs ys : List ℤ)
-    → ((function : AggFn) (xs ys : List ℤ) → h ≡ histogram_of function xs → more ≡ histogram_of function ys → new ≡ histogram_of function (xs ++ ys))
+    → ((scale : Scale) (xs ys : List ℤ) → h ≡ histogram_of scale xs → more ≡ histogram_of scale ys → new ≡ histogram_of scale (xs ++ ys))
     → IsValue f (Counts h) xs → IsValue f (Counts more) ys → IsValue f (Counts new) (xs ++ ys)
-counts_joined Quantize h more new xs ys step a b = step Quantize xs ys a b
-counts_joined (Lquantize r) h more new xs ys step a b = step (Lquantize r) xs ys a b
+counts_joined Quantize h more new xs ys step a b = step Powers xs ys a b
+counts_joined (Lquantize r) h more new xs ys step a b = step (Steps r) xs ys a b
 counts_joined _ h more new xs ys step a b = absurd a
 
 -- the histogram that is held
@@ -208,5 +205,5 @@ value_exists Sum (x ∷ xs) some = (Summed (int_wrap w64 (total (x ∷ xs))), re
 value_exists Min (x ∷ xs) some = let least = least_exists x xs in (Least least.0, least.1)
 value_exists Max (x ∷ xs) some = let greatest = greatest_exists x xs in (Greatest greatest.0, greatest.1)
 value_exists Avg (x ∷ xs) some = (Mean (record { sum = int_wrap w64 (total (x ∷ xs)); count = length (x ∷ xs) }), (refl, refl))
-value_exists Quantize (x ∷ xs) some = (Counts (histogram_of Quantize (x ∷ xs)), refl)
-value_exists (Lquantize r) (x ∷ xs) some = (Counts (histogram_of (Lquantize r) (x ∷ xs)), refl)
+value_exists Quantize (x ∷ xs) some = (Counts (histogram_of Powers (x ∷ xs)), refl)
+value_exists (Lquantize r) (x ∷ xs) some = (Counts (histogram_of (Steps r) (x ∷ xs)), refl)

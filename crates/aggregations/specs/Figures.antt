@@ -36,6 +36,15 @@ abbrev pub histogram_in : Figure → Option Histogram
 histogram_in (Single z) = None
 histogram_in (Distribution h) = Some h
 
+-- the total and the number of arguments that a mean is of, where one is shown
+abbrev pub mean_in : Held → Option (ℤ × ℕ)
+mean_in (Counted n) = None
+mean_in (Summed s) = None
+mean_in (Least m) = None
+mean_in (Greatest m) = None
+mean_in (Mean m) = Some (m.sum, m.count)
+mean_in (Counts h) = None
+
 -- how many arguments a bucket has
 abbrev pub count_at : Figure → ℕ → ℕ
 count_at (Single z) bucket = 0
@@ -45,4 +54,4 @@ count_at (Distribution h) bucket = slice_index h.counts bucket
 abbrev pub rank_of : Figure → ℤ
 rank_of (Single z) = z
 rank_of (Distribution h) =
-    total (map (λ b. label h.function b.0 *ℤ pos b.1) (enumerate_from 0 h.counts))
+    total (map (λ b. label h.scale b.0 *ℤ pos b.1) (enumerate_from 0 h.counts))

@@ -1,24 +1,24 @@
--- Histograms: how many arguments each bucket of a function has.
+-- Histograms: how many arguments each bucket of a scale has.
 use Rattle.std.specs.Prelude.{◌≡◌, ℕ, ◌+◌, ◌<◌, ◌≤◌, ◌^◌, nat_eq, ℤ, Some}
 use Rattle.std.specs.Prelude.{List, map, sum, slice_index, slice_set}
 use Rattle.std.specs.List.{range_with_len, IsDistinct}
 use Rattle.std.specs.{Map.lookup, Map.keys_of, Option.unwrap_or}
-use Rattle.aggregations.specs.Vocabulary.{AggFn}
-use Rattle.aggregations.specs.Buckets.{buckets, HasBuckets, counts_of}
+use Rattle.aggregations.specs.Vocabulary.{Scale}
+use Rattle.aggregations.specs.Buckets.{buckets, counts_of}
 
--- a histogram as contracts see it: a count for each bucket of the function
+-- a histogram as contracts see it: a count for each bucket of the scale
 pub record Histogram : Type 0 where
-  pub function : AggFn
+  pub scale : Scale
   pub counts : List ℕ
 
 -- the histogram of the arguments
-abbrev pub histogram_of : AggFn → List ℤ → Histogram
-histogram_of function args = record { function = function; counts = counts_of function args }
+abbrev pub histogram_of : Scale → List ℤ → Histogram
+histogram_of scale args = record { scale = scale; counts = counts_of scale args }
 
 -- with more in one bucket
 abbrev pub with_more : Histogram → ℕ → ℕ → Histogram
 with_more h bucket more = record {
-  function = h.function;
+  scale = h.scale;
   counts = slice_set h.counts bucket (slice_index h.counts bucket + more);
 }
 
@@ -26,17 +26,16 @@ with_more h bucket more = record {
 abbrev pub used_at : List (ℕ × ℕ) → ℕ → ℕ
 used_at used bucket = unwrap_or (lookup (nat_eq bucket) used) 0
 
--- a count for each bucket of the function, from those that were used
-abbrev pub counts_used : AggFn → List (ℕ × ℕ) → List ℕ
-counts_used function used = map (used_at used) (range_with_len 0 (buckets function))
+-- a count for each bucket of the scale, from those that were used
+abbrev pub counts_used : Scale → List (ℕ × ℕ) → List ℕ
+counts_used scale used = map (used_at used) (range_with_len 0 (buckets scale))
 
--- what is kept: buckets of the function, each once and with arguments, and at most 2^52 arguments
-pub record AreUsed (function : AggFn) (used : List (ℕ × ℕ)) : Type 0 where
-  pub has : HasBuckets function
+-- what is kept: buckets of the scale, each once and with arguments, and at most 2^52 arguments
+pub record AreUsed (scale : Scale) (used : List (ℕ × ℕ)) : Type 0 where
   pub apart : IsDistinct nat_eq (keys_of used)
   pub each : (bucket count : ℕ) → lookup (nat_eq bucket) used ≡ Some count
-      → (bucket < buckets function) × (0 < count)
-  pub few : sum (counts_used function used) ≤ 2 ^ 52
+      → (bucket < buckets scale) × (0 < count)
+  pub few : sum (counts_used scale used) ≤ 2 ^ 52
 
 -- from the first bucket that has arguments to the last
 pub record IsSpan (counts : List ℕ) (first last : ℕ) : Type 0 where

@@ -1,8 +1,8 @@
 -- The value of an aggregation, from the arguments in their order.
 use Rattle.std.specs.Prelude.{◌≡◌, ℕ, ◌<◌, ◌≤◌, ◌^◌, ℤ, pos, ◌+ℤ◌, ◌≤ℤ◌}
-use Rattle.std.specs.Prelude.{List, [], ◌∷◌, ◌++◌, All, Contains, length, sum}
+use Rattle.std.specs.Prelude.{List, [], ◌∷◌, ◌++◌, All, Contains, length, sum, IsSomeAnd}
 use Rattle.std.specs.Int.{int_wrap, w64}
-use Rattle.aggregations.specs.Vocabulary.{AggFn, Count, Sum, Min, Max, Avg, Quantize, Lquantize}
+use Rattle.aggregations.specs.Vocabulary.{AggFn, Count, Sum, Min, Max, Avg}
 use Rattle.aggregations.specs.declared.held.Held.{
   Held,
   TheVariants.Counted,
@@ -12,7 +12,7 @@ use Rattle.aggregations.specs.declared.held.Held.{
   TheVariants.Mean,
   TheVariants.Counts,
 }
-use Rattle.aggregations.specs.Histograms.{histogram_of}
+use Rattle.aggregations.specs.{Buckets.scale_of, Histograms.histogram_of}
 
 -- the whole numbers, added up
 abbrev pub total : List ℤ → ℤ
@@ -38,8 +38,8 @@ IsValue Sum (Summed s) args = IsSum s args
 IsValue Min (Least m) args = IsLeast m args
 IsValue Max (Greatest m) args = IsGreatest m args
 IsValue Avg (Mean m) args = IsSum m.sum args × (m.count ≡ length args)
-IsValue Quantize (Counts h) args = h ≡ histogram_of Quantize args
-IsValue (Lquantize r) (Counts h) args = h ≡ histogram_of (Lquantize r) args
+IsValue function (Counts h) args =
+    IsSomeAnd (scale_of function) (λ scale. h ≡ histogram_of scale args)
 IsValue function held args = ⊥
 
 -- whatever old is made of, new is made of that and one more

@@ -9,3 +9,5 @@ pub use Rattle.aggregations.specs.declared.linear_range.LinearRange.{LinearRange
 pub use Rattle.aggregations.specs.declared.function.AggFn.{AggFn}
 pub use Rattle.aggregations.specs.declared.function.AggFn.TheVariants.{Count, Sum, Min, Max, Avg}
 pub use Rattle.aggregations.specs.declared.function.AggFn.TheVariants.{Quantize, Lquantize}
+pub use Rattle.aggregations.specs.declared.scale.Scale.{Scale}
+pub use Rattle.aggregations.specs.declared.scale.Scale.TheVariants.{Powers, Steps}

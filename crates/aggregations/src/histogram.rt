@@ -3,15 +3,15 @@
 ghost use Rattle.std.specs.Prelude.{◌≡◌, ◌+◌, ◌<◌, ◌≤◌, ◌^◌, ℤ, OnOk, OnErr, MatchOption, List, []};
 ghost use Rattle.std.specs.Prelude.{◌∷◌, ◌++◌, length, slice_index, sum};
 
-use crate::function::AggFn;
+use crate::scale::Scale;
 use indexmap::IndexMap;
 use std::alloc::{AllocError, Global};
 use std::marker::Model;
 
-/// How many arguments each bucket of a function has. Only buckets that have arguments take room.
+/// How many arguments each bucket of a scale has. Only buckets that have arguments take room.
 #[derive(Drop)]
 pub struct Histogram {
-    function: AggFn,
+    scale: Scale,
     used: IndexMap<u32, u64>,
 }
 
@@ -21,42 +21,41 @@ impl Model for Histogram {
     ghost Value = { spec.Histogram };
 
     ghost view = { λ h. record {
-      function = h.function;
-      counts = spec.counts_used h.function h.used.entries;
+      scale = h.scale;
+      counts = spec.counts_used h.scale h.used.entries;
     } };
 
-    ghost invariant = { λ h. spec.AreUsed h.function h.used.entries };
+    ghost invariant = { λ h. spec.AreUsed h.scale h.used.entries };
 }
 
 impl Histogram {
-    ghost use Rattle.aggregations.specs.Buckets.{HasBuckets, buckets};
+    ghost use Rattle.aggregations.specs.Buckets.{buckets};
     ghost use Rattle.aggregations.specs.Figures.{Figure, rank_of};
     ghost use Rattle.aggregations.specs.Histograms.{IsSpan, histogram_of, with_more};
 
     // Without arguments.
-    pub(crate) fn new(alloc: Global, function: AggFn) -> Histogram
-        requires { HasBuckets function }
-        ensures { result ≡ histogram_of function [] }
+    pub(crate) fn new(alloc: Global, scale: Scale) -> Histogram
+        ensures { result ≡ histogram_of scale [] }
     {
         Histogram {
-            function,
+            scale,
             used: IndexMap::new(alloc),
         }
     }
 
-    /// The function whose buckets it counts.
+    /// The scale whose buckets it counts.
     ///
     /// ```text
-    /// histogram.function(); // AggFn::Quantize
+    /// histogram.scale(); // Scale::Powers
     /// ```
-    pub fn function(&self) -> AggFn
-        ensures value { result ≡ self.now.function }
+    pub fn scale(&self) -> Scale
+        ensures value { result ≡ self.now.scale }
         ensures long { length self.now.counts ≡ buckets result }
     {
-        self.function
+        self.scale
     }
 
-    /// How many arguments a bucket has: none where the function has no such bucket.
+    /// How many arguments a bucket has: none where the scale has no such bucket.
     ///
     /// ```text
     /// // of `quantize`, after the arguments 2 and 3
@@ -105,14 +104,14 @@ impl Histogram {
     {
         let mut rank = 0;
         for (bucket, count) in &self.used {
-            rank += i128::from(self.function.label(*bucket)) * i128::from(*count);
+            rank += i128::from(self.scale.label(*bucket)) * i128::from(*count);
         }
         rank
     }
 
     // Counts more arguments for a bucket.
     fn add(&mut self, bucket: u32, more: u64) -> Result<(), AllocError>
-        requires bucket { bucket < buckets self.old.function }
+        requires bucket { bucket < buckets self.old.scale }
         requires some { 0 < more }
         requires room { sum self.old.counts + more ≤ 2 ^ 52 }
         ensures ok { OnOk result (self.new ≡ with_more self.old bucket more) }
@@ -131,25 +130,25 @@ impl Histogram {
     pub(crate) fn note(&mut self, arg: i64) -> Result<(), AllocError>
         requires { sum self.old.counts < 2 ^ 52 }
         ensures value { OnOk result ((args : List ℤ)
-            → self.old ≡ histogram_of self.old.function args
-            → self.new ≡ histogram_of self.old.function (args ++ arg ∷ [])) }
-        ensures function { self.new.function ≡ self.old.function }
+            → self.old ≡ histogram_of self.old.scale args
+            → self.new ≡ histogram_of self.old.scale (args ++ arg ∷ [])) }
+        ensures scale { self.new.scale ≡ self.old.scale }
         ensures count { sum self.new.counts ≤ sum self.old.counts + 1 }
         ensures err { OnErr result (self.new ≡ self.old) }
     {
-        let bucket = self.function.bucket_of(arg);
+        let bucket = self.scale.bucket_of(arg);
         self.add(bucket, 1)
     }
 
-    // Takes the arguments of another histogram of the function too.
+    // Takes the arguments of another histogram of the scale too.
     pub(crate) fn join(&mut self, other: &Histogram) -> Result<(), AllocError>
         requires { sum self.old.counts + sum other.now.counts ≤ 2 ^ 52 }
-        ensures value { OnOk result ((function : AggFn) (xs ys : List ℤ)
-            → self.old ≡ histogram_of function xs
-            → other.now ≡ histogram_of function ys → self.new ≡ histogram_of function (xs ++ ys)) }
+        ensures value { OnOk result ((scale : Scale) (xs ys : List ℤ)
+            → self.old ≡ histogram_of scale xs
+            → other.now ≡ histogram_of scale ys → self.new ≡ histogram_of scale (xs ++ ys)) }
         ensures count { sum self.new.counts ≤ sum self.old.counts + sum other.now.counts }
     {
-        if other.function.buckets() == self.function.buckets() {
+        if other.scale.buckets() == self.scale.buckets() {
             for (bucket, more) in &other.used {
                 self.add(*bucket, *more)?;
             }

@@ -1,8 +1,9 @@
 //! What holds of all values and tables, in other words than the definitions'.
 
 ghost use Rattle.std.specs.Prelude.{◌≡◌, ◌≢◌, ℕ, ◌<◌, ◌==◌, List, [], ℤ};
-ghost use Rattle.aggregations.specs.{Vocabulary.AggFn, declared.held.Held.Held, Values.IsValue};
-ghost use Rattle.aggregations.specs.Buckets.{HasBuckets, buckets, is_in};
+ghost use Rattle.aggregations.specs.Vocabulary.{AggFn, Scale};
+ghost use Rattle.aggregations.specs.{declared.held.Held.Held, Values.IsValue};
+ghost use Rattle.aggregations.specs.Buckets.{buckets, is_in};
 ghost use Rattle.aggregations.specs.Table.{Aggregation, Contribution, SameItems, StandsFor};
 
 /// A table that stands for a list stands for it in any other order.
@@ -23,9 +24,8 @@ pub fn one_value()
         → IsValue function x args → IsValue function y args → x ≡ y }
 {}
 
-/// Each number is in one bucket of a function that makes histograms, and in no other.
+/// Each number is in one bucket of a scale, and in no other.
 pub fn one_bucket()
-    ensures { (function : AggFn) (x : ℤ) → HasBuckets function
-        → (bucket : ℕ) × (bucket < buckets function)
-        × ((b : ℕ) → b < buckets function → is_in function b x ≡ (b == bucket)) }
+    ensures { (scale : Scale) (x : ℤ) → (bucket : ℕ) × (bucket < buckets scale)
+        × ((b : ℕ) → b < buckets scale → is_in scale b x ≡ (b == bucket)) }
 {}

@@ -1,7 +1,6 @@
 //! Aggregations: for each of them and each key, a value made from the arguments that came.
 #![tactic(auto)]
 
-mod buckets;
 mod entries;
 mod function;
 mod held;
@@ -9,6 +8,7 @@ mod histogram;
 pub mod laws;
 mod linear_range;
 mod partial;
+mod scale;
 mod slot;
 mod table;
 
@@ -16,4 +16,5 @@ pub use function::AggFn;
 pub use histogram::Histogram;
 pub use linear_range::{LinearRange, MOST_LEVELS, MOST_STEP};
 pub use partial::Partial;
+pub use scale::Scale;
 pub use table::AggTable;

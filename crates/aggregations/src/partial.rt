@@ -6,6 +6,7 @@ ghost use Rattle.std.specs.Prelude.{option_copied};
 use crate::function::AggFn;
 use crate::held::{Held, Mean};
 use crate::histogram::Histogram;
+use crate::scale::Scale;
 use std::alloc::{AllocError, Global};
 use std::marker::Model;
 
@@ -26,9 +27,11 @@ impl Model for Partial {
 }
 
 impl Partial {
-    ghost use Rattle.aggregations.specs.Figures.{count_at, figure_of, histogram_in, rank_of};
-    ghost use Rattle.aggregations.specs.Figures.{single_in};
+    ghost use Rattle.aggregations.specs.Figures.{count_at, figure_of, histogram_in, mean_in};
+    ghost use Rattle.aggregations.specs.Figures.{rank_of, single_in};
+    ghost use Rattle.aggregations.specs.Histograms.{histogram_of};
     ghost use Rattle.aggregations.specs.Values.{IsValue, TakesBoth, TakesOne, count_in};
+    ghost use Rattle.aggregations.specs.declared.held.Held.TheVariants.{Counts};
 
     // The value of one argument.
     pub(crate) fn of_one(alloc: Global, function: AggFn, arg: i64) -> Result<Partial, AllocError>
@@ -54,14 +57,21 @@ impl Partial {
                     held: Held::Mean(mean),
                 })
             }
-            AggFn::Quantize | AggFn::Lquantize(_) => {
-                let mut histogram = Histogram::new(alloc, function);
-                histogram.note(arg)?;
-                Ok(Partial {
-                    held: Held::Counts(histogram),
-                })
-            }
+            AggFn::Quantize => Partial::of_scale(alloc, Scale::Powers, arg),
+            AggFn::Lquantize(range) => Partial::of_scale(alloc, Scale::Steps(range), arg),
         }
+    }
+
+    // The histogram of one argument.
+    fn of_scale(alloc: Global, scale: Scale, arg: i64) -> Result<Partial, AllocError>
+        ensures value { IfOk result (λ p. p ≡ Counts (histogram_of scale (arg ∷ []))) }
+        ensures count { IfOk result (λ p. count_in p ≤ 1) }
+    {
+        let mut histogram = Histogram::new(alloc, scale);
+        histogram.note(arg)?;
+        Ok(Partial {
+            held: Held::Counts(histogram),
+        })
     }
 
     // Takes one more argument.
@@ -108,6 +118,25 @@ impl Partial {
             Held::Summed(x) | Held::Least(x) | Held::Greatest(x) => Some(*x),
             Held::Mean(mean) => Some(mean.sum / mean.count as i64),
             Held::Counts(_) => None,
+        }
+    }
+
+    /// The total, wrapped into 64 bits, and the number of the arguments whose mean the entry shows.
+    /// None where it shows no mean.
+    ///
+    /// ```text
+    /// partial.mean(); // for `avg` of 1, 2 and 6: Some((9, 3))
+    /// ```
+    pub fn mean(&self) -> Option<(i64, u64)>
+        ensures { result ≡ mean_in self.now }
+    {
+        match &self.held {
+            Held::Mean(mean) => Some((mean.sum, mean.count)),
+            Held::Counted(_)
+            | Held::Summed(_)
+            | Held::Least(_)
+            | Held::Greatest(_)
+            | Held::Counts(_) => None,
         }
     }
 

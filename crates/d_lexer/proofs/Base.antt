@@ -4,9 +4,9 @@ use Rattle.std.proofs.Common.{length, take, take_while, refl, sym, ap, subst, �
 use Rattle.std.proofs.lemmas.List.Sums.{take_while-cons}
 use Rattle.d_lexer.specs.declared.place.Place.{Place}
 use Rattle.d_lexer.specs.declared.position.Position.{Position}
-use Rattle.d_lexer.specs.Places.{after_bytes, after_byte}
+use Rattle.d_lexer.specs.Places.{position_after, after_byte}
 use Rattle.d_lexer.specs.Tokens.{Fills}
-use Rattle.d_lexer.specs.Steps.Scan.{run_len, run_of, scan}
+use Rattle.d_lexer.specs.Steps.Scan.{run_len, front_run, scan}
 
 -- z is own and rest, own has n bytes, and P holds of them
 pub record Split (P : List ℕ → List ℕ → Type 0) (n : ℕ) (z : List ℕ) : Type 0 where
@@ -39,7 +39,7 @@ run_fills test [] [] h = refl
 run_fills test [] (b ∷ rest) h = let s = h.stops in run_cons test b rest ∙ rw s refl
 run_fills test (b ∷ own) rest h = let s = h.all.0 in run_cons test b (own ++ rest) ∙ rw s (ap suc (run_fills test own rest (record { all = h.all.1; stops = h.stops })))
 
-pub run_is : (test : ℕ → Bool) (own rest : List ℕ) → Fills test own rest → run_of test (own ++ rest) ≡ own
+pub run_is : (test : ℕ → Bool) (own rest : List ℕ) → Fills test own rest → front_run test (own ++ rest) ≡ own
 run_is test own rest h = rw (run_fills test own rest h) (take_own own rest)
 
 run_more : (test : ℕ → Bool) (b : ℕ) (z : List ℕ) → test b ≡ true → Split (Fills test) (run_len test z) z → Split (Fills test) (suc (run_len test z)) (b ∷ z)
@@ -55,7 +55,7 @@ run_splits test (b ∷ z) =
 
 -- ---- passing bytes
 
-pub scan_skip : (p : Place) (pos : Position) (own rest : List ℕ) → scan (length own) p pos (own ++ rest) ≡ scan 0 p (after_bytes pos own) rest
+pub scan_skip : (p : Place) (pos : Position) (own rest : List ℕ) → scan (length own) p pos (own ++ rest) ≡ scan 0 p (position_after pos own) rest
 unfolding scan
 scan_skip p pos [] rest = refl
 scan_skip p pos (b ∷ own) rest = scan_skip p (after_byte pos b) own rest

@@ -19,22 +19,28 @@ use Rattle.d_lexer.specs.declared.front.Front.TheVariants.{Gap}
 use Rattle.d_lexer.specs.declared.fault.Flaw.{Flaw}
 use Rattle.d_lexer.specs.declared.fault.Flaw.TheVariants as f
 use Rattle.d_lexer.specs.declared.fault.LexFault.{LexFault}
-use Rattle.d_lexer.specs.Bytes.{is_blank, is_word_start, is_word_byte, is_run_byte, is_inside}
-use Rattle.d_lexer.specs.Bytes.{is_plain, begins_comment, escape_of, is_declaring}
+use Rattle.d_lexer.specs.Bytes.{is_blank_byte, is_word_start, is_word_byte, is_run_byte, is_inside}
+use Rattle.d_lexer.specs.Bytes.{stands_for_itself, begins_comment, escape_of, is_declaring}
 use Rattle.d_lexer.specs.Numbers.{IsNoNumber}
-use Rattle.d_lexer.specs.Steps.Numbers.{number_of}
+use Rattle.d_lexer.specs.Steps.Numbers.{number_spelled}
 use Rattle.d_lexer.specs.Marks.{mark_of}
-use Rattle.d_lexer.specs.Places.{after_bytes, after_byte, is_head, is_first, is_hash, after}
+use Rattle.d_lexer.specs.Places.{position_after, after_byte, is_head, is_first, is_hash}
+use Rattle.d_lexer.specs.Places.{place_after}
 use Rattle.d_lexer.specs.Faults.{on_line}
 use Rattle.d_lexer.specs.Steps.OptionLine.{is_option}
-use Rattle.d_lexer.specs.Tokens.{StopsAt, Fills, HasNoEnd, IsPiece, blank, comment, first_line}
-use Rattle.d_lexer.specs.Tokens.{Past, here, past, IsRunOf, SpellsText, SpellsAggregation, IsMark}
-use Rattle.d_lexer.specs.Tokens.{SpellsInside, SpellsHead, Spells, begins, StopsText, IsFault}
-use Rattle.d_lexer.specs.Tokens.{stray, open_comment, text, number, option_line, other_option, End}
+use Rattle.d_lexer.specs.Tokens.{StopsAt, Fills, HasNoEnd, IsSeparator, blank, comment, first_line}
+use Rattle.d_lexer.specs.Tokens.{Past, here, past, IsLongestRun, SpellsText, SpellsAggregation}
+use Rattle.d_lexer.specs.Tokens.{IsMark}
+use Rattle.d_lexer.specs.Tokens.{SpellsInside, SpellsHead, SpellsToken, begins, StopsText}
+use Rattle.d_lexer.specs.Tokens.{IsFrontFault}
+use Rattle.d_lexer.specs.Tokens.{stray, open_comment, text, number, option_line, other_option}
+use Rattle.d_lexer.specs.Tokens.{TokensEnd}
 use Rattle.d_lexer.specs.Tokens.{Clean, Bad, EndsAs, Lexes}
-use Rattle.d_lexer.specs.Steps.Scan.{put, skip_one, text_from, comment_from, mark_at, mark_front}
+use Rattle.d_lexer.specs.Steps.Scan.{with_byte, skip_one, text_from, comment_from, mark_at}
+use Rattle.d_lexer.specs.Steps.Scan.{mark_front}
 use Rattle.d_lexer.specs.Steps.Scan.{number_front, head_kind, aggregation_front, text_front}
-use Rattle.d_lexer.specs.Steps.Scan.{inside_at, head_at, token_at, front_at, Scanned, with_first}
+use Rattle.d_lexer.specs.Steps.Scan.{inside_at, head_at, token_at, front_at, Scanned}
+use Rattle.d_lexer.specs.Steps.Scan.{with_first_token}
 use Rattle.d_lexer.specs.Steps.Scan.{scan}
 use Rattle.d_lexer.proofs.Base.{run_fills, run_is, scan_skip}
 use Rattle.d_lexer.proofs.Steps.{behind_text, behind_none}
@@ -64,7 +70,7 @@ unfolding comment_from
 comment_open [] h = refl
 comment_open (b ∷ z) h = rw (h.0, comment_open z h.1) refl
 
-front_blank : (p : Place) (pos : Position) (b : ℕ) (z : List ℕ) → is_blank b ≡ true → front_at p pos b z ≡ Ok (Gap 0)
+front_blank : (p : Place) (pos : Position) (b : ℕ) (z : List ℕ) → is_blank_byte b ≡ true → front_at p pos b z ≡ Ok (Gap 0)
 unfolding front_at
 front_blank p pos b z e = rw e refl
 
@@ -82,7 +88,7 @@ front_option : (p : Place) (pos : Position) (w rest : List ℕ) (c : Bool) → i
 unfolding front_at
 front_option p pos w rest c e1 e2 e3 h = rw (e1, e2, run_is is_inside w rest h, run_fills is_inside w rest h, e3) refl
 
-piece_reads : (p : Place) (pos : Position) (own rest : List ℕ) → IsPiece p pos own rest → Reads p pos own rest (λ n. Ok (Gap n))
+piece_reads : (p : Place) (pos : Position) (own rest : List ℕ) → IsSeparator p pos own rest → Reads p pos own rest (λ n. Ok (Gap n))
 piece_reads p pos own rest (blank b is e) = record { first = b; others = []; is = is; read = front_blank p pos b rest e }
 piece_reads p pos own rest (comment body is h) = record { first = 47; others = 42 ∷ (body ++ 42 ∷ (47 ∷ [])); is = is; read = front_comment p pos body rest h }
 piece_reads p pos own rest (first_line w is e h) = record { first = 35; others = w; is = is; read = front_first p pos w rest e h }
@@ -90,7 +96,7 @@ piece_reads p pos own rest (option_line w is e1 e2 e3 h) = record { first = 35; 
 
 -- ---- tokens
 
-front_token : (p : Place) (pos : Position) (b : ℕ) (z : List ℕ) → is_blank b ≡ false → begins_comment (b ∷ z) ≡ false → is_first pos b z ≡ false → is_hash p pos b ≡ false → front_at p pos b z ≡ token_at p b z
+front_token : (p : Place) (pos : Position) (b : ℕ) (z : List ℕ) → is_blank_byte b ≡ false → begins_comment (b ∷ z) ≡ false → is_first pos b z ≡ false → is_hash p pos b ≡ false → front_at p pos b z ≡ token_at p b z
 unfolding front_at
 front_token p pos b z e1 e2 e3 e4 = rw (e1, e2, e3, e4) refl
 
@@ -100,7 +106,7 @@ no_first pos b z e = grind (arith, nat_tests)
 no_hash : (p : Place) (pos : Position) (b : ℕ) → eqb b 35 ≡ false → is_hash p pos b ≡ false
 no_hash p pos b e = grind (arith, nat_tests)
 
-front_plain : (p : Place) (pos : Position) (b : ℕ) (z : List ℕ) → is_blank b ≡ false → eqb b 47 ≡ false → eqb b 35 ≡ false → front_at p pos b z ≡ token_at p b z
+front_plain : (p : Place) (pos : Position) (b : ℕ) (z : List ℕ) → is_blank_byte b ≡ false → eqb b 47 ≡ false → eqb b 35 ≡ false → front_at p pos b z ≡ token_at p b z
 front_plain p pos b z e1 e2 e3 = front_token p pos b z e1 (rw e2 refl) (no_first pos b z e3) (no_hash p pos b e3)
 
 token_inside : (p : Place) (b : ℕ) (z : List ℕ) → is_head p ≡ false → token_at p b z ≡ inside_at p b z
@@ -110,23 +116,23 @@ token_inside Declaration b z e = refl
 token_inside Predicate b z e = refl
 token_inside Body b z e = refl
 
-front_inside : (p : Place) (pos : Position) (b : ℕ) (z : List ℕ) → is_head p ≡ false → is_blank b ≡ false → eqb b 47 ≡ false → eqb b 35 ≡ false → front_at p pos b z ≡ inside_at p b z
+front_inside : (p : Place) (pos : Position) (b : ℕ) (z : List ℕ) → is_head p ≡ false → is_blank_byte b ≡ false → eqb b 47 ≡ false → eqb b 35 ≡ false → front_at p pos b z ≡ inside_at p b z
 front_inside p pos b z i e1 e2 e3 = front_plain p pos b z e1 e2 e3 ∙ token_inside p b z i
 
-word_bytes : (b : ℕ) → is_word_start b ≡ true → (is_blank b ≡ false) × (eqb b 47 ≡ false) × (eqb b 35 ≡ false)
+word_bytes : (b : ℕ) → is_word_start b ≡ true → (is_blank_byte b ≡ false) × (eqb b 47 ≡ false) × (eqb b 35 ≡ false)
 word_bytes b h = (grind (arith, nat_tests), grind (arith, nat_tests), grind (arith, nat_tests))
 
-run_bytes : (b : ℕ) → is_run_byte b ≡ true → (is_blank b ≡ false) × (eqb b 47 ≡ false) × (eqb b 35 ≡ false)
+run_bytes : (b : ℕ) → is_run_byte b ≡ true → (is_blank_byte b ≡ false) × (eqb b 47 ≡ false) × (eqb b 35 ≡ false)
 run_bytes b h = (grind (arith, nat_tests), grind (arith, nat_tests), grind (arith, nat_tests))
 
-digit_bytes : (b : ℕ) → is_ascii_digit b ≡ true → (is_blank b ≡ false) × (eqb b 47 ≡ false) × (eqb b 35 ≡ false) × (is_word_start b ≡ false)
+digit_bytes : (b : ℕ) → is_ascii_digit b ≡ true → (is_blank_byte b ≡ false) × (eqb b 47 ≡ false) × (eqb b 35 ≡ false) × (is_word_start b ≡ false)
 digit_bytes b h = (grind (arith, nat_tests), grind (arith, nat_tests), grind (arith, nat_tests), grind (arith, nat_tests))
 
 inside_word : (p : Place) (b : ℕ) (z rest : List ℕ) → is_word_start b ≡ true → Fills is_word_byte z rest → inside_at p b (z ++ rest) ≡ Ok (front.Token (kind.Word (b ∷ z)) (length z))
 unfolding inside_at
 inside_word p b z rest e h = rw (e, run_is is_word_byte z rest h, run_fills is_word_byte z rest h) refl
 
-inside_number : (p : Place) (b : ℕ) (z rest : List ℕ) (o : Option (ℕ × Suffix)) → is_ascii_digit b ≡ true → Fills is_word_byte z rest → number_of (b ∷ z) ≡ o → inside_at p b (z ++ rest) ≡ number_front o (length z)
+inside_number : (p : Place) (b : ℕ) (z rest : List ℕ) (o : Option (ℕ × Suffix)) → is_ascii_digit b ≡ true → Fills is_word_byte z rest → number_spelled (b ∷ z) ≡ o → inside_at p b (z ++ rest) ≡ number_front o (length z)
 unfolding inside_at
 inside_number p b z rest o e h n = let s = digit_bytes b e in rw (s.3, e, run_is is_word_byte z rest h, run_fills is_word_byte z rest h, n) refl
 
@@ -138,7 +144,7 @@ agg_alone : (rest : List ℕ) → StopsAt is_word_start rest → aggregation_fro
 agg_alone [] h = refl
 agg_alone (b ∷ rest) h = rw h refl
 
-agg_word : (w rest : List ℕ) → IsRunOf is_word_start is_word_byte w rest → aggregation_front (w ++ rest) ≡ Ok (front.Token (kind.AggregationName w) (length w))
+agg_word : (w rest : List ℕ) → IsLongestRun is_word_start is_word_byte w rest → aggregation_front (w ++ rest) ≡ Ok (front.Token (kind.AggregationName w) (length w))
 agg_word [] rest h = absurd h
 agg_word (b ∷ w) rest h = let e = h.0 in rw (e, run_is is_word_byte w rest h.1, run_fills is_word_byte w rest h.1) refl
 
@@ -148,22 +154,22 @@ inside_text p z = refl
 
 -- ---- text constants
 
-plain_bytes : (b : ℕ) → is_plain b ≡ true → (eqb b 34 ≡ false) × (eqb b 10 ≡ false) × (eqb b 0 ≡ false) × (eqb b 92 ≡ false)
+plain_bytes : (b : ℕ) → stands_for_itself b ≡ true → (eqb b 34 ≡ false) × (eqb b 10 ≡ false) × (eqb b 0 ≡ false) × (eqb b 92 ≡ false)
 plain_bytes b h = (grind (arith, nat_tests), grind (arith, nat_tests), grind (arith, nat_tests), grind (arith, nat_tests))
 
-text_plain : (x : ℕ) (z : List ℕ) → is_plain x ≡ true → text_from false (x ∷ z) ≡ put x (text_from false z)
+text_plain : (x : ℕ) (z : List ℕ) → stands_for_itself x ≡ true → text_from false (x ∷ z) ≡ with_byte x (text_from false z)
 unfolding text_from
 text_plain x z h = let s = plain_bytes x h in rw (s.0, s.1, s.2, s.3) refl
 
-text_escape : (e x : ℕ) (z : List ℕ) → escape_of e ≡ Some x → text_from false (92 ∷ (e ∷ z)) ≡ skip_one (put x (text_from false z))
+text_escape : (e x : ℕ) (z : List ℕ) → escape_of e ≡ Some x → text_from false (92 ∷ (e ∷ z)) ≡ skip_one (with_byte x (text_from false z))
 unfolding text_from
 text_escape e x z h = rw h refl
 
-put_behind : (x n m : ℕ) (w : List ℕ) (r : Result (List ℕ × ℕ) Flaw) → m ≡ suc n → put x (behind_text w n r) ≡ behind_text (x ∷ w) m r
+put_behind : (x n m : ℕ) (w : List ℕ) (r : Result (List ℕ × ℕ) Flaw) → m ≡ suc n → with_byte x (behind_text w n r) ≡ behind_text (x ∷ w) m r
 put_behind x n m w (Err g) e = refl
 put_behind x n m w (Ok t) e = let k : suc (n + t.1) ≡ m + t.1 = omega arith in rw k refl
 
-put_behind2 : (x n m : ℕ) (w : List ℕ) (r : Result (List ℕ × ℕ) Flaw) → m ≡ suc (suc n) → skip_one (put x (behind_text w n r)) ≡ behind_text (x ∷ w) m r
+put_behind2 : (x n m : ℕ) (w : List ℕ) (r : Result (List ℕ × ℕ) Flaw) → m ≡ suc (suc n) → skip_one (with_byte x (behind_text w n r)) ≡ behind_text (x ∷ w) m r
 put_behind2 x n m w (Err g) e = refl
 put_behind2 x n m w (Ok t) e = let k : suc (suc (n + t.1)) ≡ m + t.1 = omega arith in rw k refl
 
@@ -173,9 +179,9 @@ text_goes (x ∷ w) body rest h =
     let further = text_goes w h.1 rest h.4 in
     elim h.3 [
       | inl p ↦ (let is : body ≡ x ∷ h.1 = h.2 ∙ ap (λ (xs : List ℕ). xs ++ h.1) p.1 in
-          rw is (text_plain x (h.1 ++ rest) p.0 ∙ ap (put x) further ∙ put_behind x (length h.1) (suc (length h.1)) w (text_from false rest) refl))
+          rw is (text_plain x (h.1 ++ rest) p.0 ∙ ap (with_byte x) further ∙ put_behind x (length h.1) (suc (length h.1)) w (text_from false rest) refl))
       | inr p ↦ (let is : body ≡ 92 ∷ (p.0 ∷ h.1) = h.2 ∙ ap (λ (xs : List ℕ). xs ++ h.1) p.2 in
-          rw is (text_escape p.0 x (h.1 ++ rest) p.1 ∙ ap (λ r. skip_one (put x r)) further ∙ put_behind2 x (length h.1) (suc (suc (length h.1))) w (text_from false rest) refl))
+          rw is (text_escape p.0 x (h.1 ++ rest) p.1 ∙ ap (λ r. skip_one (with_byte x r)) further ∙ put_behind2 x (length h.1) (suc (suc (length h.1))) w (text_from false rest) refl))
     ]
 
 text_ends : (rest : List ℕ) → text_from false (34 ∷ rest) ≡ Ok ([], 1)
@@ -195,8 +201,8 @@ text_stops f.OptionLine rest h = absurd h
 reads : (p : Place) (pos : Position) (b : ℕ) (z rest own : List ℕ) (t : TokenKind) → own ≡ b ∷ z → front_at p pos b (z ++ rest) ≡ Ok (front.Token t (length z)) → Reads p pos own rest (λ n. Ok (front.Token t n))
 reads p pos b z rest own t is read = record { first = b; others = z; is = is; read = read }
 
-mark_bytes : (p : Place) (b : ℕ) → is_free p b ≡ true → (is_blank b ≡ false) × (begins p b ≡ false) × (eqb b 35 ≡ false)
-mark_bytes p b h = of_free (is_blank b) (begins p b) (eqb b 35) h where
+mark_bytes : (p : Place) (b : ℕ) → is_free p b ≡ true → (is_blank_byte b ≡ false) × (begins p b ≡ false) × (eqb b 35 ≡ false)
+mark_bytes p b h = of_free (is_blank_byte b) (begins p b) (eqb b 35) h where
   of_free : (x y z : Bool) → not (x || y || z) ≡ true → (x ≡ false) × (y ≡ false) × (z ≡ false)
   of_free true y z e = absurd cc
   of_free false true z e = absurd cc
@@ -241,7 +247,7 @@ mark_reads p pos (b ∷ z) rest k h =
     ∙ token_mark p b (z ++ rest) m.1
     ∙ ap mark_front (mark_complete p b z rest k h))
 
-head_run : (pos : Position) (own rest : List ℕ) (t : TokenKind) → head_kind own ≡ t → IsRunOf is_run_byte is_run_byte own rest → Reads Head pos own rest (λ n. Ok (front.Token t n))
+head_run : (pos : Position) (own rest : List ℕ) (t : TokenKind) → head_kind own ≡ t → IsLongestRun is_run_byte is_run_byte own rest → Reads Head pos own rest (λ n. Ok (front.Token t n))
 unfolding token_at head_at
 head_run pos [] rest t e h = absurd h
 head_run pos (b ∷ z) rest t e h =
@@ -265,17 +271,17 @@ head_reads pos own rest (kind.Number n s) h = absurd h
 head_reads pos own rest (kind.TextConstant w) h = absurd h
 
 module _ (p : Place) (pos : Position) (i : is_head p ≡ false) where
-  word_reads : (own rest w : List ℕ) → w ≡ own → IsRunOf is_word_start is_word_byte own rest → Reads p pos own rest (λ n. Ok (front.Token (kind.Word w) n))
+  word_reads : (own rest w : List ℕ) → w ≡ own → IsLongestRun is_word_start is_word_byte own rest → Reads p pos own rest (λ n. Ok (front.Token (kind.Word w) n))
   word_reads [] rest w e h = absurd h
   word_reads (b ∷ z) rest w e h =
       let m = word_bytes b h.0 in
       reads p pos b z rest (b ∷ z) (kind.Word w) refl (front_inside p pos b (z ++ rest) i m.0 m.1 m.2 ∙ inside_word p b z rest h.0 h.1 ∙ ap (λ (x : List ℕ). Ok (front.Token (kind.Word x) (length z))) (sym e))
 
-  none_run : (own rest : List ℕ) → IsRunOf is_ascii_digit is_word_byte own rest → IsNoNumber own → number_of own ≡ None
+  none_run : (own rest : List ℕ) → IsLongestRun is_ascii_digit is_word_byte own rest → IsNoNumber own → number_spelled own ≡ None
   none_run [] rest h none = absurd h
   none_run (b ∷ z) rest h none = none_reads b z h.0 none
 
-  number_run : (own rest : List ℕ) (o : Option (ℕ × Suffix)) → number_of own ≡ o → IsRunOf is_ascii_digit is_word_byte own rest → Reads p pos own rest (λ n. number_front o n)
+  number_run : (own rest : List ℕ) (o : Option (ℕ × Suffix)) → number_spelled own ≡ o → IsLongestRun is_ascii_digit is_word_byte own rest → Reads p pos own rest (λ n. number_front o n)
   number_run [] rest o e h = absurd h
   number_run (b ∷ z) rest o e h =
       let m = digit_bytes b h.0 in
@@ -303,7 +309,7 @@ module _ (p : Place) (pos : Position) (i : is_head p ≡ false) where
   inside_reads own rest (kind.TextConstant w) h = text_reads own rest w h.0 h.1 h.2
   inside_reads own rest (kind.Mark k) h = mark_reads p pos own rest k h
 
-pub token_reads : (p : Place) (pos : Position) (own rest : List ℕ) (t : TokenKind) → Spells p own rest t → Reads p pos own rest (λ n. Ok (front.Token t n))
+pub token_reads : (p : Place) (pos : Position) (own rest : List ℕ) (t : TokenKind) → SpellsToken p own rest t → Reads p pos own rest (λ n. Ok (front.Token t n))
 token_reads Head pos own rest t h = head_reads pos own rest t h
 token_reads Declaration pos own rest t h = inside_reads Declaration pos refl own rest t h
 token_reads Predicate pos own rest t h = inside_reads Predicate pos refl own rest t h
@@ -329,7 +335,7 @@ comment_fails p pos z h = rw (comment_open z h) refl
 number_fails : (p : Place) (pos : Position) (bytes own rest : List ℕ) → bytes ≡ own ++ rest → Reads p pos own rest (λ n. number_front None n) → Fails p pos bytes f.Constant
 number_fails p pos bytes own rest is r = record { first = r.first; others = r.others ++ rest; is = is ∙ ap (λ (xs : List ℕ). xs ++ rest) r.is; read = r.read }
 
-pub fault_fails : (p : Place) (pos : Position) (bytes : List ℕ) (g : Flaw) → IsFault p pos bytes g → Fails p pos bytes g
+pub fault_fails : (p : Place) (pos : Position) (bytes : List ℕ) (g : Flaw) → IsFrontFault p pos bytes g → Fails p pos bytes g
 fault_fails p pos bytes g (stray b z is h) =
     record {
       first = b;
@@ -346,14 +352,14 @@ fault_fails p pos bytes g (other_option w rest is e1 e2 e3 h) = record { first =
 
 -- ---- all of the text
 
-scan_gap : (p : Place) (pos : Position) (b : ℕ) (own rest : List ℕ) → front_at p pos b (own ++ rest) ≡ Ok (Gap (length own)) → scan 0 p pos (b ∷ (own ++ rest)) ≡ scan 0 p (after_bytes pos (b ∷ own)) rest
+scan_gap : (p : Place) (pos : Position) (b : ℕ) (own rest : List ℕ) → front_at p pos b (own ++ rest) ≡ Ok (Gap (length own)) → scan 0 p pos (b ∷ (own ++ rest)) ≡ scan 0 p (position_after pos (b ∷ own)) rest
 unfolding scan
 scan_gap p pos b own rest e = rw e (scan_skip p (after_byte pos b) own rest)
 
 scan_token : (p : Place) (pos : Position) (b : ℕ) (own rest : List ℕ) (t : TokenKind) → front_at p pos b (own ++ rest) ≡ Ok (front.Token t (length own)) →
-    scan 0 p pos (b ∷ (own ++ rest)) ≡ with_first (record { kind = t; start = pos.at; stop = pos.at + suc (length own); line = pos.line }) (scan 0 (after p t) (after_bytes pos (b ∷ own)) rest)
+    scan 0 p pos (b ∷ (own ++ rest)) ≡ with_first_token (record { kind = t; start = pos.at; stop = pos.at + suc (length own); line = pos.line }) (scan 0 (place_after p t) (position_after pos (b ∷ own)) rest)
 unfolding scan
-scan_token p pos b own rest t e = rw e (ap (with_first (record { kind = t; start = pos.at; stop = pos.at + suc (length own); line = pos.line })) (scan_skip (after p t) (after_byte pos b) own rest))
+scan_token p pos b own rest t e = rw e (ap (with_first_token (record { kind = t; start = pos.at; stop = pos.at + suc (length own); line = pos.line })) (scan_skip (place_after p t) (after_byte pos b) own rest))
 
 scan_fault : (p : Place) (pos : Position) (b : ℕ) (z : List ℕ) (g : Flaw) → front_at p pos b z ≡ Err g → scan 0 p pos (b ∷ z) ≡ ([], Bad (on_line g pos.line))
 unfolding scan
@@ -365,13 +371,13 @@ scan_past p Then r k (here h) = k _ _ h
 scan_past p Then r k {pos = pos} {bytes = bytes} (past own rest is piece more) =
     let f = piece_reads p pos own rest piece in
     let whole : bytes ≡ f.first ∷ (f.others ++ rest) = is ∙ ap (λ (xs : List ℕ). xs ++ rest) f.is in
-    let moved_is : after_bytes pos (f.first ∷ f.others) ≡ after_bytes pos own = ap (after_bytes pos) (sym f.is) in
+    let moved_is : position_after pos (f.first ∷ f.others) ≡ position_after pos own = ap (position_after pos) (sym f.is) in
     rw whole (scan_gap p pos f.first f.others rest f.read ∙ ap (λ (q : Position). scan 0 p q rest) moved_is ∙ scan_past p Then r k more)
 
-abbrev nothing_then : End → Scanned
+abbrev nothing_then : TokensEnd → Scanned
 nothing_then end = ([], end)
 
-ends : (p : Place) (end : End) (pos : Position) (bytes : List ℕ) → EndsAs p end pos bytes → scan 0 p pos bytes ≡ ([], end)
+ends : (p : Place) (end : TokensEnd) (pos : Position) (bytes : List ℕ) → EndsAs p end pos bytes → scan 0 p pos bytes ≡ ([], end)
 unfolding scan
 ends p Clean pos bytes h = rw h refl
 ends p (Bad fault) pos bytes h =
@@ -379,15 +385,15 @@ ends p (Bad fault) pos bytes h =
     ap (scan 0 p pos) s.is ∙ scan_fault p pos s.first s.others h.0 s.read ∙ ap (λ (x : LexFault). nothing_then (Bad x)) (sym h.2)
 
 -- the tokens that a text has, and how they end, are what is read
-pub complete : (ts : List Token) (end : End) (p : Place) (pos : Position) (bytes : List ℕ) → Lexes p pos bytes ts end → scan 0 p pos bytes ≡ (ts, end)
+pub complete : (ts : List Token) (end : TokensEnd) (p : Place) (pos : Position) (bytes : List ℕ) → Lexes p pos bytes ts end → scan 0 p pos bytes ≡ (ts, end)
 complete [] end p pos bytes h = scan_past p (EndsAs p end) ([], end) (λ q z e. ends p end q z e) h
 complete (t ∷ ts) end p pos bytes h =
-    scan_past p _ (t ∷ ts, end) (λ q z e. one q z e.0 e.1 e.2 e.3 e.4 e.5 e.6 (complete ts end (after p t.kind) (after_bytes q e.0) e.1 e.7)) h where
-      one : (q : Position) (z own rest : List ℕ) → z ≡ own ++ rest → Spells p own rest t.kind → t.start ≡ q.at → t.stop ≡ q.at + length own → t.line ≡ q.line → scan 0 (after p t.kind) (after_bytes q own) rest ≡ (ts, end) → scan 0 p q z ≡ (t ∷ ts, end)
+    scan_past p _ (t ∷ ts, end) (λ q z e. one q z e.0 e.1 e.2 e.3 e.4 e.5 e.6 (complete ts end (place_after p t.kind) (position_after q e.0) e.1 e.7)) h where
+      one : (q : Position) (z own rest : List ℕ) → z ≡ own ++ rest → SpellsToken p own rest t.kind → t.start ≡ q.at → t.stop ≡ q.at + length own → t.line ≡ q.line → scan 0 (place_after p t.kind) (position_after q own) rest ≡ (ts, end) → scan 0 p q z ≡ (t ∷ ts, end)
       one q z own rest is spells e1 e2 e3 more =
           let s = token_reads p q own rest t.kind spells in
           let whole : z ≡ s.first ∷ (s.others ++ rest) = is ∙ ap (λ (xs : List ℕ). xs ++ rest) s.is in
-          let further : scan 0 (after p t.kind) (after_bytes q (s.first ∷ s.others)) rest ≡ (ts, end) = ap (λ (xs : List ℕ). scan 0 (after p t.kind) (after_bytes q xs) rest) (sym s.is) ∙ more in
+          let further : scan 0 (place_after p t.kind) (position_after q (s.first ∷ s.others)) rest ≡ (ts, end) = ap (λ (xs : List ℕ). scan 0 (place_after p t.kind) (position_after q xs) rest) (sym s.is) ∙ more in
           let stop : q.at + suc (length s.others) ≡ t.stop = ap (λ (xs : List ℕ). q.at + length xs) (sym s.is) ∙ sym e2 in
           let lexeme : record { kind = t.kind; start = q.at; stop = q.at + suc (length s.others); line = q.line } ≡ t = rw (stop, ← e1, ← e3) refl in
-          ap (scan 0 p q) whole ∙ scan_token p q s.first s.others rest t.kind s.read ∙ (λ i. with_first (lexeme i) (further i))
+          ap (scan 0 p q) whole ∙ scan_token p q s.first s.others rest t.kind s.read ∙ (λ i. with_first_token (lexeme i) (further i))

@@ -5,15 +5,15 @@ use Rattle.std.proofs.lemmas.Bool.{eqb-true}
 use Rattle.d_lexer.specs.declared.token.Mark.{Mark}
 use Rattle.d_lexer.specs.declared.place.Place.{Place}
 use Rattle.d_lexer.specs.declared.place.Place.TheVariants.{Head, Declaration, Predicate, Body}
-use Rattle.d_lexer.specs.Bytes.{entry_of, is_blank}
-use Rattle.d_lexer.specs.Marks.{mark_of, singles, of_head, doubles, settings, shifts, arrows}
+use Rattle.d_lexer.specs.Bytes.{entry_of, is_blank_byte}
+use Rattle.d_lexer.specs.Marks.{mark_of, singles, of_head, doubles, settings, shift_marks, arrows}
 use Rattle.d_lexer.specs.Tokens.{IsMark, begins}
 use Rattle.d_lexer.specs.Steps.Scan.{mark_at, with_length}
 use Rattle.d_lexer.proofs.Base.{both_true, Split, cond_is}
 
 -- a byte with which a mark may begin
 abbrev pub is_free : Place → ℕ → Bool
-is_free p b = not (is_blank b || begins p b || eqb b 35)
+is_free p b = not (is_blank_byte b || begins p b || eqb b 35)
 
 abbrev all_free : Place → List (ℕ × Mark) → Bool
 all_free p [] = true
@@ -40,8 +40,8 @@ two_free p a b k h1 h2 h3 e =
     f)
     e
 
-three_free : (p : Place) (a b c : ℕ) (k : Mark) → all_free p shifts ≡ true → cond (eqb c 61 && eqb a b) (entry_of shifts a) None ≡ Some k → is_free p a ≡ true
-three_free p a b c k h e = cond_is (λ (o : Option Mark). o ≡ Some k → is_free p a ≡ true) (eqb c 61 && eqb a b) (entry_of shifts a) None (λ _ f. in_free p shifts a k h f) (λ _ f. absurd cc) e
+three_free : (p : Place) (a b c : ℕ) (k : Mark) → all_free p shift_marks ≡ true → cond (eqb c 61 && eqb a b) (entry_of shift_marks a) None ≡ Some k → is_free p a ≡ true
+three_free p a b c k h e = cond_is (λ (o : Option Mark). o ≡ Some k → is_free p a ≡ true) (eqb c 61 && eqb a b) (entry_of shift_marks a) None (λ _ f. in_free p shift_marks a k h f) (λ _ f. absurd cc) e
 
 pub mark_free : (p : Place) (a : ℕ) (w : List ℕ) (k : Mark) → mark_of p (a ∷ w) ≡ Some k → is_free p a ≡ true
 unfolding mark_of

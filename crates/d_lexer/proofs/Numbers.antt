@@ -10,10 +10,11 @@ use Rattle.std.specs.Prelude.{option_and_then, nat_le}
 use Rattle.std.specs.Char.{is_ascii_digit}
 use Rattle.d_lexer.specs.declared.token.Suffix.{Suffix}
 use Rattle.d_lexer.specs.declared.token.Suffix.TheVariants.{Absent, Unsigned, Long, UnsignedLong}
-use Rattle.d_lexer.specs.Numbers.{digit_of, below, is_u, is_l, suffix_of, is_x, StandFor, IsBase}
-use Rattle.d_lexer.specs.Numbers.{hexadecimal, octal, decimal, IsNumber, IsNoNumber}
+use Rattle.d_lexer.specs.Numbers.{digit_of, digit_below, is_u, is_l, suffix_of, is_x}
+use Rattle.d_lexer.specs.Numbers.{DigitsStandFor, IsBase}
+use Rattle.d_lexer.specs.Numbers.{hexadecimal, octal, decimal, IsIntegerConstant, IsNoNumber}
 use Rattle.d_lexer.specs.Steps.Numbers.{with_suffix, number_by, number_from, hex_by, zero_from}
-use Rattle.d_lexer.specs.Steps.Numbers.{number_of}
+use Rattle.d_lexer.specs.Steps.Numbers.{number_spelled}
 use Rattle.d_lexer.proofs.Base.{cond_is}
 
 -- one digit more, after a first part
@@ -31,7 +32,7 @@ record ReadAs (base acc : ℕ) (z : List ℕ) (n : ℕ) (s : Suffix) : Type 0 wh
   behind : List ℕ
   own : ℕ
   is : z ≡ digits ++ behind
-  value : StandFor base digits own
+  value : DigitsStandFor base digits own
   whole : n ≡ acc * base ^ length digits + own
   fits : n < 2 ^ 64
   suffix : suffix_of behind ≡ Some s
@@ -118,9 +119,9 @@ some_none o k e f = cc
 
 -- ---- whole runs
 
-hex_is : (x d k : ℕ) (z : List ℕ) (n : ℕ) (s : Suffix) → is_x x ≡ true → digit_of 16 d ≡ Some k → ReadAs 16 0 (d ∷ z) n s → IsNumber (48 ∷ (x ∷ (d ∷ z))) n s
+hex_is : (x d k : ℕ) (z : List ℕ) (n : ℕ) (s : Suffix) → is_x x ≡ true → digit_of 16 d ≡ Some k → ReadAs 16 0 (d ∷ z) n s → IsIntegerConstant (48 ∷ (x ∷ (d ∷ z))) n s
 hex_is x d k z n s is dk r = by r.digits r.is r.value r.whole where
-  by : (digits : List ℕ) → (d ∷ z) ≡ digits ++ r.behind → StandFor 16 digits r.own → n ≡ 0 * 16 ^ length digits + r.own → IsNumber (48 ∷ (x ∷ (d ∷ z))) n s
+  by : (digits : List ℕ) → (d ∷ z) ≡ digits ++ r.behind → DigitsStandFor 16 digits r.own → n ≡ 0 * 16 ^ length digits + r.own → IsIntegerConstant (48 ∷ (x ∷ (d ∷ z))) n s
   by [] cut value whole = absurd (some_none (digit_of 16 d) k dk (no_digit 16 d (suffix_letter d z s (ap suffix_of cut ∙ r.suffix))))
   by (e ∷ digits) cut value whole =
       let n_is : n ≡ r.own = whole ∙ no_first (16 ^ length (e ∷ digits)) r.own in
@@ -131,12 +132,12 @@ hex_is x d k z n s is dk r = by r.digits r.is r.value r.whole where
         behind = r.behind;
         is = ap (λ (xs : List ℕ). 48 ∷ (x ∷ xs)) cut;
         stated = hexadecimal x e digits refl refl is refl;
-        value = subst (StandFor 16 (e ∷ digits)) (sym n_is) value;
+        value = subst (DigitsStandFor 16 (e ∷ digits)) (sym n_is) value;
         fits = r.fits;
         suffix = r.suffix;
       }
 
-octal_is : (z : List ℕ) (n : ℕ) (s : Suffix) → ReadAs 8 0 z n s → IsNumber (48 ∷ z) n s
+octal_is : (z : List ℕ) (n : ℕ) (s : Suffix) → ReadAs 8 0 z n s → IsIntegerConstant (48 ∷ z) n s
 octal_is z n s r =
     record {
       base = 8;
@@ -150,7 +151,7 @@ octal_is z n s r =
       suffix = r.suffix;
     }
 
-decimal_is : (d : ℕ) (z : List ℕ) (n : ℕ) (s : Suffix) → d ≢ 48 → digit_of 10 d ≡ Some (d - 48) → ReadAs 10 (d - 48) z n s → IsNumber (d ∷ z) n s
+decimal_is : (d : ℕ) (z : List ℕ) (n : ℕ) (s : Suffix) → d ≢ 48 → digit_of 10 d ≡ Some (d - 48) → ReadAs 10 (d - 48) z n s → IsIntegerConstant (d ∷ z) n s
 decimal_is d z n s other dk r =
     record {
       base = 10;
@@ -164,20 +165,20 @@ decimal_is d z n s other dk r =
       suffix = r.suffix;
     }
 
-hex_by_is : (x d : ℕ) (z : List ℕ) (n : ℕ) (s : Suffix) → is_x x ≡ true → (o : Option ℕ) → digit_of 16 d ≡ o → hex_by (d ∷ z) o ≡ Some (n, s) → IsNumber (48 ∷ (x ∷ (d ∷ z))) n s
+hex_by_is : (x d : ℕ) (z : List ℕ) (n : ℕ) (s : Suffix) → is_x x ≡ true → (o : Option ℕ) → digit_of 16 d ≡ o → hex_by (d ∷ z) o ≡ Some (n, s) → IsIntegerConstant (48 ∷ (x ∷ (d ∷ z))) n s
 hex_by_is x d z n s is None dk e = absurd cc
 hex_by_is x d z n s is (Some k) dk e = hex_is x d k z n s is dk (read_is 16 0 (d ∷ z) n s (lit< tt) e)
 
-zero_is : (z : List ℕ) (n : ℕ) (s : Suffix) → zero_from z ≡ Some (n, s) → IsNumber (48 ∷ z) n s
+zero_is : (z : List ℕ) (n : ℕ) (s : Suffix) → zero_from z ≡ Some (n, s) → IsIntegerConstant (48 ∷ z) n s
 unfolding number_from
 zero_is [] n s e = octal_is [] n s (read_is 8 0 [] n s (lit< tt) e)
 zero_is (c ∷ []) n s e =
-    cond_is (λ (o : Option (ℕ × Suffix)). o ≡ Some (n, s) → IsNumber (48 ∷ (c ∷ [])) n s) (is_x c) None (number_from 8 0 (c ∷ []))
+    cond_is (λ (o : Option (ℕ × Suffix)). o ≡ Some (n, s) → IsIntegerConstant (48 ∷ (c ∷ [])) n s) (is_x c) None (number_from 8 0 (c ∷ []))
     (λ _ f. absurd cc)
     (λ _ f. octal_is (c ∷ []) n s (read_is 8 0 (c ∷ []) n s (lit< tt) f))
     e
 zero_is (c ∷ d ∷ z) n s e =
-    cond_is (λ (o : Option (ℕ × Suffix)). o ≡ Some (n, s) → IsNumber (48 ∷ (c ∷ (d ∷ z))) n s) (is_x c) (hex_by (d ∷ z) (digit_of 16 d)) (number_from 8 0 (c ∷ (d ∷ z)))
+    cond_is (λ (o : Option (ℕ × Suffix)). o ≡ Some (n, s) → IsIntegerConstant (48 ∷ (c ∷ (d ∷ z))) n s) (is_x c) (hex_by (d ∷ z) (digit_of 16 d)) (number_from 8 0 (c ∷ (d ∷ z)))
     (λ is f. hex_by_is c d z n s is (digit_of 16 d) refl f)
     (λ _ f. octal_is (c ∷ (d ∷ z)) n s (read_is 8 0 (c ∷ (d ∷ z)) n s (lit< tt) f))
     e
@@ -189,10 +190,10 @@ ten_digit b digit =
     rw (e1, e2) refl
 
 -- what is read of a run that begins with a digit is its number
-pub number_is : (b : ℕ) (z : List ℕ) (n : ℕ) (s : Suffix) → is_ascii_digit b ≡ true → number_of (b ∷ z) ≡ Some (n, s) → IsNumber (b ∷ z) n s
-unfolding number_of
+pub number_is : (b : ℕ) (z : List ℕ) (n : ℕ) (s : Suffix) → is_ascii_digit b ≡ true → number_spelled (b ∷ z) ≡ Some (n, s) → IsIntegerConstant (b ∷ z) n s
+unfolding number_spelled
 number_is b z n s digit e =
-    cond_is (λ (o : Option (ℕ × Suffix)). o ≡ Some (n, s) → IsNumber (b ∷ z) n s) (eqb b 48) (zero_from z) (number_from 10 (b - 48) z)
+    cond_is (λ (o : Option (ℕ × Suffix)). o ≡ Some (n, s) → IsIntegerConstant (b ∷ z) n s) (eqb b 48) (zero_from z) (number_from 10 (b - 48) z)
     (λ same f. let b_is : b ≡ 48 = eqb-true b 48 same in rw b_is (zero_is z n s f))
     (λ other f.
     let low : b - 48 < 2 ^ 64 = grind (arith, nat_tests) in
@@ -209,7 +210,7 @@ first_part base acc k p m n positive n_is low =
     let le : acc * base + k ≤ (acc * base + k) * p = le-mul_of_pos_right (acc * base + k) positive in
     omega (arith, le, whole)
 
-stands_read : (base acc : ℕ) (digits behind : List ℕ) (m n : ℕ) (s : Suffix) → 0 < base → StandFor base digits m → suffix_of behind ≡ Some s → n ≡ acc * base ^ length digits + m → n < 2 ^ 64 →
+stands_read : (base acc : ℕ) (digits behind : List ℕ) (m n : ℕ) (s : Suffix) → 0 < base → DigitsStandFor base digits m → suffix_of behind ≡ Some s → n ≡ acc * base ^ length digits + m → n < 2 ^ 64 →
     number_from base acc (digits ++ behind) ≡ Some (n, s)
 unfolding number_from suffix_of
 stands_read base acc [] [] m n s positive value tail n_is low =
@@ -233,14 +234,14 @@ stands_read base acc (d ∷ digits) behind m n s positive value tail n_is low =
 -- a digit of a base up to ten is an ASCII digit less 48
 plain_digit : (base d k : ℕ) → base ≤ 10 → digit_of base d ≡ Some k → (is_ascii_digit d ≡ true) × (k ≡ d - 48)
 plain_digit base d k small e = by (nat_le 48 d && nat_le d 57) (nat_le 97 d && nat_le d 102) (nat_le 65 d && nat_le d 70) refl refl refl e where
-  high : (v : ℕ) → 10 ≤ v → below base (Some v) ≡ Some k → ⊥
+  high : (v : ℕ) → 10 ≤ v → digit_below base (Some v) ≡ Some k → ⊥
   high v ten f = cond_is (λ (o : Option ℕ). o ≡ Some k → ⊥) (nat_lt v base) (Some v) None (λ low _. absurd (grind (arith, nat_tests))) (λ _ g. cc) f
 
-  low_digit : (v : ℕ) → below base (Some v) ≡ Some k → k ≡ v
+  low_digit : (v : ℕ) → digit_below base (Some v) ≡ Some k → k ≡ v
   low_digit v f = cond_is (λ (o : Option ℕ). o ≡ Some k → k ≡ v) (nat_lt v base) (Some v) None (λ _ g. cc) (λ _ g. absurd cc) f
 
   by : (x y z : Bool) → (nat_le 48 d && nat_le d 57) ≡ x → (nat_le 97 d && nat_le d 102) ≡ y → (nat_le 65 d && nat_le d 70) ≡ z →
-      below base (cond x (Some (d - 48)) (cond y (Some (d - 87)) (cond z (Some (d - 55)) None))) ≡ Some k → (is_ascii_digit d ≡ true) × (k ≡ d - 48)
+      digit_below base (cond x (Some (d - 48)) (cond y (Some (d - 87)) (cond z (Some (d - 55)) None))) ≡ Some k → (is_ascii_digit d ≡ true) × (k ≡ d - 48)
   by true y z ex ey ez f = (grind (arith, nat_tests), low_digit (d - 48) f)
   by false true z ex ey ez f = absurd (high (d - 87) (grind (arith, nat_tests)) f)
   by false false true ex ey ez f = absurd (high (d - 55) (grind (arith, nat_tests)) f)
@@ -249,57 +250,57 @@ plain_digit base d k small e = by (nat_le 48 d && nat_le d 57) (nat_le 97 d && n
 octal_first : (c : ℕ) (z : List ℕ) → is_x c ≡ false → zero_from (c ∷ z) ≡ number_from 8 0 (c ∷ z)
 octal_first c z e = rw e refl
 
-zero_octal : (ds behind : List ℕ) (m : ℕ) (s : Suffix) → StandFor 8 ds m → suffix_of behind ≡ Some s → zero_from (ds ++ behind) ≡ number_from 8 0 (ds ++ behind)
+zero_octal : (ds behind : List ℕ) (m : ℕ) (s : Suffix) → DigitsStandFor 8 ds m → suffix_of behind ≡ Some s → zero_from (ds ++ behind) ≡ number_from 8 0 (ds ++ behind)
 unfolding number_from
 zero_octal [] [] m s value tail = refl
 zero_octal [] (b ∷ z) m s value tail = let letter = suffix_letter b z s tail in octal_first b z (grind (arith, nat_tests))
 zero_octal (d ∷ ds) behind m s value tail = let digit = (plain_digit 8 d value.0 (lit≤ tt) value.2).0 in octal_first d (ds ++ behind) (grind (arith, nat_tests))
 
-hex_first : (x d k : ℕ) (z : List ℕ) → is_x x ≡ true → digit_of 16 d ≡ Some k → number_of (48 ∷ (x ∷ (d ∷ z))) ≡ number_from 16 0 (d ∷ z)
-unfolding number_of
+hex_first : (x d k : ℕ) (z : List ℕ) → is_x x ≡ true → digit_of 16 d ≡ Some k → number_spelled (48 ∷ (x ∷ (d ∷ z))) ≡ number_from 16 0 (d ∷ z)
+unfolding number_spelled
 hex_first x d k z is dk = rw (is, dk) refl
 
-zero_first : (z : List ℕ) → number_of (48 ∷ z) ≡ zero_from z
-unfolding number_of
+zero_first : (z : List ℕ) → number_spelled (48 ∷ z) ≡ zero_from z
+unfolding number_spelled
 zero_first z = refl
 
-decimal_first : (d : ℕ) (z : List ℕ) → eqb d 48 ≡ false → number_of (d ∷ z) ≡ number_from 10 (d - 48) z
-unfolding number_of
+decimal_first : (d : ℕ) (z : List ℕ) → eqb d 48 ≡ false → number_spelled (d ∷ z) ≡ number_from 10 (d - 48) z
+unfolding number_spelled
 decimal_first d z e = rw e refl
 
 behind_zero : (x n : ℕ) → n ≡ 0 * x + n
 behind_zero x n = sym (no_first x n)
 
 -- a number is what is read
-pub number_reads : (own : List ℕ) (n : ℕ) (s : Suffix) → IsNumber own n s → number_of own ≡ Some (n, s)
+pub number_reads : (own : List ℕ) (n : ℕ) (s : Suffix) → IsIntegerConstant own n s → number_spelled own ≡ Some (n, s)
 number_reads own n s h = by h.base h.before h.digits h.stated h.is h.value where
-  by : (base : ℕ) (before digits : List ℕ) → IsBase base before digits → own ≡ before ++ (digits ++ h.behind) → StandFor base digits n → number_of own ≡ Some (n, s)
+  by : (base : ℕ) (before digits : List ℕ) → IsBase base before digits → own ≡ before ++ (digits ++ h.behind) → DigitsStandFor base digits n → number_spelled own ≡ Some (n, s)
   by base before digits (hexadecimal x d ds b_is before_is x_is digits_is) is value =
-      let v : StandFor 16 (d ∷ ds) n = subst (λ (xs : List ℕ). StandFor 16 xs n) digits_is (subst (λ (b : ℕ). StandFor b digits n) b_is value) in
+      let v : DigitsStandFor 16 (d ∷ ds) n = subst (λ (xs : List ℕ). DigitsStandFor 16 xs n) digits_is (subst (λ (b : ℕ). DigitsStandFor b digits n) b_is value) in
       let own_is : own ≡ 48 ∷ (x ∷ (d ∷ (ds ++ h.behind))) = rw (digits_is, before_is) at is in
       let dk = v.2 in
-      ap number_of own_is ∙ hex_first x d v.0 (ds ++ h.behind) x_is dk
+      ap number_spelled own_is ∙ hex_first x d v.0 (ds ++ h.behind) x_is dk
       ∙ stands_read 16 0 (d ∷ ds) h.behind n n s (lit< tt) v h.suffix (behind_zero (16 ^ length (d ∷ ds)) n) h.fits
   by base before digits (octal ds b_is before_is digits_is) is value =
-      let v : StandFor 8 (48 ∷ ds) n = subst (λ (xs : List ℕ). StandFor 8 xs n) digits_is (subst (λ (b : ℕ). StandFor b digits n) b_is value) in
+      let v : DigitsStandFor 8 (48 ∷ ds) n = subst (λ (xs : List ℕ). DigitsStandFor 8 xs n) digits_is (subst (λ (b : ℕ). DigitsStandFor b digits n) b_is value) in
       let own_is : own ≡ 48 ∷ (ds ++ h.behind) = rw (digits_is, before_is) at is in
       let no_more : v.0 ≡ 0 = let e = v.2 in cc in
-      ap number_of own_is ∙ zero_first (ds ++ h.behind) ∙ zero_octal ds h.behind v.1 s v.3 h.suffix
+      ap number_spelled own_is ∙ zero_first (ds ++ h.behind) ∙ zero_octal ds h.behind v.1 s v.3 h.suffix
       ∙ stands_read 8 0 ds h.behind v.1 n s (lit< tt) v.3 h.suffix (v.4 ∙ ap (λ (k : ℕ). k * 8 ^ length ds + v.1) no_more) h.fits
   by base before digits (decimal d ds b_is before_is digits_is other) is value =
-      let v : StandFor 10 (d ∷ ds) n = subst (λ (xs : List ℕ). StandFor 10 xs n) digits_is (subst (λ (b : ℕ). StandFor b digits n) b_is value) in
+      let v : DigitsStandFor 10 (d ∷ ds) n = subst (λ (xs : List ℕ). DigitsStandFor 10 xs n) digits_is (subst (λ (b : ℕ). DigitsStandFor b digits n) b_is value) in
       let own_is : own ≡ d ∷ (ds ++ h.behind) = rw (digits_is, before_is) at is in
       let digit = plain_digit 10 d v.0 (lit≤ tt) v.2 in
       let not_zero : eqb d 48 ≡ false = grind (arith, nat_tests) in
-      ap number_of own_is ∙ decimal_first d (ds ++ h.behind) not_zero
+      ap number_spelled own_is ∙ decimal_first d (ds ++ h.behind) not_zero
       ∙ stands_read 10 (d - 48) ds h.behind v.1 n s (lit< tt) v.3 h.suffix (v.4 ∙ ap (λ (k : ℕ). k * 10 ^ length ds + v.1) digit.1) h.fits
 
 -- a run that is no number is read as none
-pub none_is : (b : ℕ) (z : List ℕ) → is_ascii_digit b ≡ true → number_of (b ∷ z) ≡ None → IsNoNumber (b ∷ z)
+pub none_is : (b : ℕ) (z : List ℕ) → is_ascii_digit b ≡ true → number_spelled (b ∷ z) ≡ None → IsNoNumber (b ∷ z)
 none_is b z digit e n s h = let f = number_reads (b ∷ z) n s h in cc
 
-pub none_reads : (b : ℕ) (z : List ℕ) → is_ascii_digit b ≡ true → IsNoNumber (b ∷ z) → number_of (b ∷ z) ≡ None
-none_reads b z digit none = by (number_of (b ∷ z)) refl where
-  by : (o : Option (ℕ × Suffix)) → number_of (b ∷ z) ≡ o → o ≡ None
+pub none_reads : (b : ℕ) (z : List ℕ) → is_ascii_digit b ≡ true → IsNoNumber (b ∷ z) → number_spelled (b ∷ z) ≡ None
+none_reads b z digit none = by (number_spelled (b ∷ z)) refl where
+  by : (o : Option (ℕ × Suffix)) → number_spelled (b ∷ z) ≡ o → o ≡ None
   by None e = refl
   by (Some x) e = absurd (none x.0 x.1 (number_is b z x.0 x.1 digit e))

@@ -5,19 +5,21 @@ use Rattle.std.proofs.lemmas.Bool.{eqb-true, eq-eqb}
 use Rattle.std.specs.List.{AllByRecursion}
 use Rattle.std.specs.Prelude.{codes}
 use Rattle.d_lexer.specs.Bytes.{is_space}
-use Rattle.d_lexer.specs.OptionLine.{is_trailing, AreSpaces, AreWords, option_words, IsOptionLine}
-use Rattle.d_lexer.specs.Steps.OptionLine.{Finds, behind, skip_spaces, spaces, is_trail, and_then}
-use Rattle.d_lexer.specs.Steps.OptionLine.{ends, next_word, after_words, is_option}
+use Rattle.d_lexer.specs.OptionLine.{is_trailing, AreSpaces, AreSpacedWords, option_words}
+use Rattle.d_lexer.specs.OptionLine.{IsOptionLine}
+use Rattle.d_lexer.specs.Steps.OptionLine.{FindsBytes, after_option_word, skip_spaces, after_spaces}
+use Rattle.d_lexer.specs.Steps.OptionLine.{is_trail, found_then}
+use Rattle.d_lexer.specs.Steps.OptionLine.{ends_line, next_word, after_option_words, is_option}
 use Rattle.d_lexer.proofs.Base.{both_true, cond_is}
 
 -- ---- what is read is an option line
 
-behind_is : (w z r : List ℕ) → behind w z ≡ Some r → z ≡ w ++ r
-unfolding behind
+behind_is : (w z r : List ℕ) → after_option_word w z ≡ Some r → z ≡ w ++ r
+unfolding after_option_word
 behind_is [] z r e = cc
 behind_is (c ∷ w) [] r e = absurd cc
 behind_is (c ∷ w) (b ∷ z) r e =
-    cond_is (λ (o : Option (List ℕ)). o ≡ Some r → (b ∷ z) ≡ c ∷ (w ++ r)) (eqb b c) (behind w z) None
+    cond_is (λ (o : Option (List ℕ)). o ≡ Some r → (b ∷ z) ≡ c ∷ (w ++ r)) (eqb b c) (after_option_word w z) None
     (λ same f. let b_is : b ≡ c = eqb-true b c same in rw b_is (ap (λ (xs : List ℕ). c ∷ xs) (behind_is w z r f)))
     (λ _ f. absurd cc)
     e
@@ -34,8 +36,8 @@ skip_is (b ∷ z) =
     (λ e. let s = skip_is z in (b ∷ s.0, (e, s.1), ap (λ (xs : List ℕ). b ∷ xs) s.2))
     (λ _. ([], tt, refl))
 
-spaces_is : (z r : List ℕ) → spaces z ≡ Some r → (own : List ℕ) × AreSpaces own × (z ≡ own ++ r)
-unfolding spaces
+spaces_is : (z r : List ℕ) → after_spaces z ≡ Some r → (own : List ℕ) × AreSpaces own × (z ≡ own ++ r)
+unfolding after_spaces
 spaces_is [] r e = absurd cc
 spaces_is (b ∷ z) r e =
     cond_is (λ (o : Option (List ℕ)). o ≡ Some r → (own : List ℕ) × AreSpaces own × ((b ∷ z) ≡ own ++ r)) (is_space b) (Some (skip_spaces z)) None
@@ -49,35 +51,35 @@ trail_is (b ∷ z) e = let h = both_true (is_trailing b) (is_trail z) e in (h.0,
 
 -- what is after the first search, where both find
 abbrev Found : Option (List ℕ) → (List ℕ → Option (List ℕ)) → Type 0
-Found o k = (z : List ℕ) × (o ≡ Some z) × (ends (k z) ≡ true)
+Found o k = (z : List ℕ) × (o ≡ Some z) × (ends_line (k z) ≡ true)
 
-found : (o : Option (List ℕ)) (k : List ℕ → Option (List ℕ)) → ends (and_then o k) ≡ true → Found o k
+found : (o : Option (List ℕ)) (k : List ℕ → Option (List ℕ)) → ends_line (found_then o k) ≡ true → Found o k
 found None k e = absurd cc
 found (Some z) k e = (z, refl, e)
 
 -- a search that finds, and then another
-both_found : (o : Option (List ℕ)) (k : List ℕ → Option (List ℕ)) (r : List ℕ) → and_then o k ≡ Some r → (z : List ℕ) × (o ≡ Some z) × (k z ≡ Some r)
+both_found : (o : Option (List ℕ)) (k : List ℕ → Option (List ℕ)) (r : List ℕ) → found_then o k ≡ Some r → (z : List ℕ) × (o ≡ Some z) × (k z ≡ Some r)
 both_found None k r e = absurd cc
 both_found (Some z) k r e = (z, refl, e)
 
-words_are : (ws : List (List ℕ)) (z : List ℕ) → ends (after_words ws z) ≡ true → AreWords ws z
+words_are : (ws : List (List ℕ)) (z : List ℕ) → ends_line (after_option_words ws z) ≡ true → AreSpacedWords ws z
 words_are [] z e = trail_is z e
 words_are (w ∷ ws) z e =
-    let s = found (next_word w z) (after_words ws) e in
-    let t = both_found (spaces z) (behind w) s.0 s.1 in
+    let s = found (next_word w z) (after_option_words ws) e in
+    let t = both_found (after_spaces z) (after_option_word w) s.0 s.1 in
     let own = spaces_is z t.0 t.1 in
     (own.0, s.0, own.1, own.2 ∙ ap (λ (xs : List ℕ). own.0 ++ xs) (behind_is w t.0 s.0 t.2), words_are ws s.0 s.2)
 
 pub option_is : (own : List ℕ) → is_option own ≡ true → IsOptionLine own
 unfolding is_option
 option_is own e =
-    let s = found (behind (codes "#pragma") own) (after_words option_words) e in
+    let s = found (after_option_word (codes "#pragma") own) (after_option_words option_words) e in
     (s.0, behind_is (codes "#pragma") own s.0 s.1, words_are option_words s.0 s.2)
 
 -- ---- an option line is read
 
-behind_own : (w r : List ℕ) → behind w (w ++ r) ≡ Some r
-unfolding behind
+behind_own : (w r : List ℕ) → after_option_word w (w ++ r) ≡ Some r
+unfolding after_option_word
 behind_own [] r = refl
 behind_own (c ∷ w) r = rw (eq-eqb c c refl) (behind_own w r)
 
@@ -92,8 +94,8 @@ skip_own [] [] r h word = absurd word
 skip_own [] (b ∷ w) r h word = rw word refl
 skip_own (c ∷ own) w r h word = let s = h.0 in rw s (skip_own own w r h.1 word)
 
-spaces_own : (own w r : List ℕ) → AreSpaces own → BeginsWord w → spaces (own ++ (w ++ r)) ≡ Some (w ++ r)
-unfolding spaces
+spaces_own : (own w r : List ℕ) → AreSpaces own → BeginsWord w → after_spaces (own ++ (w ++ r)) ≡ Some (w ++ r)
+unfolding after_spaces
 spaces_own [] w r h word = absurd h
 spaces_own (c ∷ own) w r h word = let s = h.0 in rw (s, skip_own own w r h.1 word) refl
 
@@ -104,16 +106,16 @@ trail_own (b ∷ z) h = rw (h.0, trail_own z h.1) refl
 abbrev AllBegin : List (List ℕ) → Type 0
 AllBegin ws = AllByRecursion BeginsWord ws
 
-words_read : (ws : List (List ℕ)) (z : List ℕ) → AllBegin ws → AreWords ws z → ends (after_words ws z) ≡ true
+words_read : (ws : List (List ℕ)) (z : List ℕ) → AllBegin ws → AreSpacedWords ws z → ends_line (after_option_words ws z) ≡ true
 words_read [] z begin h = trail_own z h
 words_read (w ∷ ws) z begin h =
-    let e : spaces z ≡ Some (w ++ h.1) = ap spaces h.3 ∙ spaces_own h.0 w h.1 h.2 begin.0 in
+    let e : after_spaces z ≡ Some (w ++ h.1) = ap after_spaces h.3 ∙ spaces_own h.0 w h.1 h.2 begin.0 in
     rw (e, behind_own w h.1) (words_read ws h.1 begin.1 h.4)
 
 pub option_reads : (own : List ℕ) → IsOptionLine own → is_option own ≡ true
 unfolding is_option
 option_reads own h =
-    let e : behind (codes "#pragma") own ≡ Some h.0 = ap (behind (codes "#pragma")) h.1 ∙ behind_own (codes "#pragma") h.0 in
+    let e : after_option_word (codes "#pragma") own ≡ Some h.0 = ap (after_option_word (codes "#pragma")) h.1 ∙ behind_own (codes "#pragma") h.0 in
     rw e (words_read option_words h.0 (refl, (refl, (refl, tt))) h.2)
 
 pub no_option_is : (own : List ℕ) → is_option own ≡ false → IsOptionLine own → ⊥
@@ -126,9 +128,9 @@ no_option_reads own none = by (is_option own) refl where
   by false e = refl
 
 -- what is left after a prefix
-pub behind_found : (w z : List ℕ) (r : Option (Bor (List ℕ))) → MatchOption r ((rest : List ℕ) → z ≢ w ++ rest) (λ x. z ≡ w ++ x.now) → Finds (λ x. x.now) r (behind w z)
-behind_found w z (Some x) h = ap (behind w) h ∙ behind_own w x.now
-behind_found w z None h = by (behind w z) refl where
-  by : (o : Option (List ℕ)) → behind w z ≡ o → o ≡ None
+pub behind_found : (w z : List ℕ) (r : Option (Bor (List ℕ))) → MatchOption r ((rest : List ℕ) → z ≢ w ++ rest) (λ x. z ≡ w ++ x.now) → FindsBytes (λ x. x.now) r (after_option_word w z)
+behind_found w z (Some x) h = ap (after_option_word w) h ∙ behind_own w x.now
+behind_found w z None h = by (after_option_word w z) refl where
+  by : (o : Option (List ℕ)) → after_option_word w z ≡ o → o ≡ None
   by None e = refl
   by (Some rest) e = absurd (h rest (behind_is w z rest e))

@@ -9,18 +9,18 @@ use Rattle.d_lexer.specs.declared.token.Suffix.{Suffix}
 use Rattle.d_lexer.specs.declared.place.Place.{Place}
 use Rattle.d_lexer.specs.declared.place.Place.TheVariants.{Head, Declaration, Predicate, Body}
 use Rattle.d_lexer.specs.declared.position.Position.{Position}
-use Rattle.d_lexer.specs.Places.{start, after}
-use Rattle.d_lexer.specs.Tokens.{Past, here, past, Spells, End, Clean, Lexes}
+use Rattle.d_lexer.specs.Places.{first_position, place_after}
+use Rattle.d_lexer.specs.Tokens.{Past, here, past, SpellsToken, TokensEnd, Clean, Lexes}
 use Rattle.d_lexer.specs.Lexing.{open_kind, settle_token, settle, opens_body, AreTokens}
-use Rattle.d_lexer.specs.Small.{IsSmall, AreSmall}
+use Rattle.d_lexer.specs.Small.{HasSmallNumber, HaveSmallNumbers}
 
-number_small : (p : Place) (own rest : List ℕ) (n : ℕ) (s : Suffix) → Spells p own rest (kind.Number n s) → n < 2 ^ 64
+number_small : (p : Place) (own rest : List ℕ) (n : ℕ) (s : Suffix) → SpellsToken p own rest (kind.Number n s) → n < 2 ^ 64
 number_small Head own rest n s h = absurd h
 number_small Declaration own rest n s h = h.0.fits
 number_small Predicate own rest n s h = h.0.fits
 number_small Body own rest n s h = h.0.fits
 
-spelled_small : (p : Place) (own rest : List ℕ) (k : TokenKind) → Spells p own rest k → IsSmall k
+spelled_small : (p : Place) (own rest : List ℕ) (k : TokenKind) → SpellsToken p own rest k → HasSmallNumber k
 spelled_small p own rest (kind.Number n s) h = number_small p own rest n s h
 spelled_small p own rest (kind.DescriptionRun w) h = tt
 spelled_small p own rest (kind.Word w) h = tt
@@ -33,22 +33,22 @@ behind : (p : Place) (Then : Position → List ℕ → Type 0) (P : Type 0) → 
 behind p Then P k (here h) = k _ _ h
 behind p Then P k (past own rest cut piece more) = behind p Then P k more
 
-lexed_small : (ts : List Token) (end : End) (p : Place) (pos : Position) (bytes : List ℕ) → Lexes p pos bytes ts end → AreSmall ts
+lexed_small : (ts : List Token) (end : TokensEnd) (p : Place) (pos : Position) (bytes : List ℕ) → Lexes p pos bytes ts end → HaveSmallNumbers ts
 lexed_small [] end p pos bytes h = tt
 lexed_small (t ∷ ts) end p pos bytes h =
-    behind p _ (AreSmall (t ∷ ts)) (λ q z e. (spelled_small p e.0 e.1 t.kind e.3, lexed_small ts end (after p t.kind) _ e.1 e.7)) h
+    behind p _ (HaveSmallNumbers (t ∷ ts)) (λ q z e. (spelled_small p e.0 e.1 t.kind e.3, lexed_small ts end (place_after p t.kind) _ e.1 e.7)) h
 
-opened_small : (k : TokenKind) → IsSmall k → IsSmall (open_kind k)
+opened_small : (k : TokenKind) → HasSmallNumber k → HasSmallNumber (open_kind k)
 opened_small (kind.Mark m.ClosingSlash) h = tt
 opened_small k h = h
 
-settled_small : (t : Token) (b : Bool) → IsSmall t.kind → IsSmall (settle_token t b).kind
+settled_small : (t : Token) (b : Bool) → HasSmallNumber t.kind → HasSmallNumber (settle_token t b).kind
 settled_small t true h = h
 settled_small t false h = opened_small t.kind h
 
-settle_small : (ts : List Token) → AreSmall ts → AreSmall (settle ts)
+settle_small : (ts : List Token) → HaveSmallNumbers ts → HaveSmallNumbers (settle ts)
 settle_small [] h = tt
 settle_small (t ∷ ts) h = (settled_small t (opens_body ts) h.0, settle_small ts h.1)
 
-pub tokens_small : (bytes : List ℕ) (ts : List Token) → AreTokens bytes ts → AreSmall ts
-tokens_small bytes ts a = subst AreSmall (sym a.2) (settle_small a.0 (lexed_small a.0 Clean Head start bytes a.1))
+pub tokens_small : (bytes : List ℕ) (ts : List Token) → AreTokens bytes ts → HaveSmallNumbers ts
+tokens_small bytes ts a = subst HaveSmallNumbers (sym a.2) (settle_small a.0 (lexed_small a.0 Clean Head first_position bytes a.1))

@@ -18,16 +18,22 @@ use Rattle.d_lexer.specs.declared.front.Front.TheVariants as front
 use Rattle.d_lexer.specs.declared.front.Front.TheVariants.{Gap}
 use Rattle.d_lexer.specs.declared.fault.Flaw.{Flaw}
 use Rattle.d_lexer.specs.declared.fault.Flaw.TheVariants as f
-use Rattle.d_lexer.specs.Bytes.{next_is, is_blank, is_word_start, is_word_byte, is_run_byte}
-use Rattle.d_lexer.specs.Bytes.{is_inside, is_plain, begins_comment, escape_of, is_declaring}
-use Rattle.d_lexer.specs.Steps.Numbers.{number_of}
-use Rattle.d_lexer.specs.Places.{after_bytes, after_byte, is_head, is_first, is_hash, after}
+use Rattle.d_lexer.specs.Bytes.{next_is, is_blank_byte, is_word_start, is_word_byte, is_run_byte}
+use Rattle.d_lexer.specs.Bytes.{is_inside, stands_for_itself, begins_comment, escape_of}
+use Rattle.d_lexer.specs.Bytes.{is_declaring}
+use Rattle.d_lexer.specs.Steps.Numbers.{number_spelled}
+use Rattle.d_lexer.specs.Places.{position_after, after_byte, is_head, is_first, is_hash}
+use Rattle.d_lexer.specs.Places.{place_after}
 use Rattle.d_lexer.specs.Steps.OptionLine.{is_option}
-use Rattle.d_lexer.specs.Tokens.{Fills, HasNoEnd, IsPiece, blank, comment, first_line, option_line}
-use Rattle.d_lexer.specs.Tokens.{here, past, IsRunOf, SpellsText, IsMark, SpellsInside, Spells}
-use Rattle.d_lexer.specs.Tokens.{begins, BreaksText, IsFault, stray, open_comment, text, number}
-use Rattle.d_lexer.specs.Tokens.{other_option, End, Lexes}
-use Rattle.d_lexer.specs.Steps.Scan.{run_len, run_of, tail, put, skip_one, put_escape, text_from}
+use Rattle.d_lexer.specs.Tokens.{Fills, HasNoEnd, IsSeparator, blank, comment, first_line}
+use Rattle.d_lexer.specs.Tokens.{option_line}
+use Rattle.d_lexer.specs.Tokens.{here, past, IsLongestRun, SpellsText, IsMark, SpellsInside}
+use Rattle.d_lexer.specs.Tokens.{SpellsToken}
+use Rattle.d_lexer.specs.Tokens.{begins, BreaksText, IsFrontFault, stray, open_comment, text}
+use Rattle.d_lexer.specs.Tokens.{number}
+use Rattle.d_lexer.specs.Tokens.{other_option, TokensEnd, Lexes}
+use Rattle.d_lexer.specs.Steps.Scan.{run_len, front_run, tail, with_byte, skip_one, put_escape}
+use Rattle.d_lexer.specs.Steps.Scan.{text_from}
 use Rattle.d_lexer.specs.Steps.Scan.{one_longer, comment_from, mark_at, mark_front, number_front}
 use Rattle.d_lexer.specs.Steps.Scan.{comment_front, head_kind, aggregation_front, text_front}
 use Rattle.d_lexer.specs.Steps.Scan.{inside_at, head_at, token_at, front_at, Scanned, scan_by, scan}
@@ -37,9 +43,9 @@ use Rattle.d_lexer.proofs.OptionLines.{option_is, no_option_is}
 use Rattle.d_lexer.proofs.Marks.{MarkIs, mark_sound}
 
 abbrev pub FrontIs : Place → Position → ℕ → List ℕ → Result Front Flaw → Type 0
-FrontIs p pos b z (Ok (Gap m)) = Split (λ own rest. IsPiece p pos (b ∷ own) rest) m z
-FrontIs p pos b z (Ok (front.Token t m)) = Split (λ own rest. Spells p (b ∷ own) rest t) m z
-FrontIs p pos b z (Err g) = IsFault p pos (b ∷ z) g
+FrontIs p pos b z (Ok (Gap m)) = Split (λ own rest. IsSeparator p pos (b ∷ own) rest) m z
+FrontIs p pos b z (Ok (front.Token t m)) = Split (λ own rest. SpellsToken p (b ∷ own) rest t) m z
+FrontIs p pos b z (Err g) = IsFrontFault p pos (b ∷ z) g
 
 -- ---- comments
 
@@ -90,7 +96,7 @@ abbrev TextIs : List ℕ → Result (List ℕ × ℕ) Flaw → Type 0
 TextIs z (Err g) = BreaksText z g
 TextIs z (Ok t) = Split (λ own rest. (body : List ℕ) × (own ≡ body ++ 34 ∷ []) × SpellsText body t.0) t.1 z
 
-text_plain : (b : ℕ) (z : List ℕ) → is_plain b ≡ true → (r : Result (List ℕ × ℕ) Flaw) → TextIs z r → TextIs (b ∷ z) (put b r)
+text_plain : (b : ℕ) (z : List ℕ) → stands_for_itself b ≡ true → (r : Result (List ℕ × ℕ) Flaw) → TextIs z r → TextIs (b ∷ z) (with_byte b r)
 text_plain b z e (Err g) h = (b ∷ h.0, b ∷ h.1, h.2, ap (λ (xs : List ℕ). b ∷ xs) h.3, (b ∷ [], h.0, refl, inl (e, refl), h.4), h.5)
 text_plain b z e (Ok t) s =
     record {
@@ -101,7 +107,7 @@ text_plain b z e (Ok t) s =
       holds = (b ∷ s.holds.0, ap (λ (xs : List ℕ). b ∷ xs) s.holds.1, (b ∷ [], s.holds.0, refl, inl (e, refl), s.holds.2));
     }
 
-text_escaped : (c x : ℕ) (z : List ℕ) → escape_of c ≡ Some x → (r : Result (List ℕ × ℕ) Flaw) → TextIs z r → TextIs (92 ∷ (c ∷ z)) (skip_one (put x r))
+text_escaped : (c x : ℕ) (z : List ℕ) → escape_of c ≡ Some x → (r : Result (List ℕ × ℕ) Flaw) → TextIs z r → TextIs (92 ∷ (c ∷ z)) (skip_one (with_byte x r))
 text_escaped c x z e (Err g) h = (92 ∷ (c ∷ h.0), x ∷ h.1, h.2, ap (λ (xs : List ℕ). 92 ∷ (c ∷ xs)) h.3, (92 ∷ (c ∷ []), h.0, refl, inr (c, e, refl), h.4), h.5)
 text_escaped c x z e (Ok t) s =
     record {
@@ -125,9 +131,9 @@ text_step b z plain escape =
     (λ e. let s : b ≡ 10 = eqb-true b 10 e in ([], [], b ∷ z, refl, refl, inr (inl (z, rw s refl))))
     (λ e2. cond_is (TextIs (b ∷ z)) (eqb b 0) (Err f.BadByte) _
     (λ e. let s : b ≡ 0 = eqb-true b 0 e in ([], [], b ∷ z, refl, refl, (z, rw s refl)))
-    (λ e3. cond_is (TextIs (b ∷ z)) (eqb b 92) (skip_one (text_from true z)) (put b (text_from false z))
+    (λ e3. cond_is (TextIs (b ∷ z)) (eqb b 92) (skip_one (text_from true z)) (with_byte b (text_from false z))
     (λ e. let s : b ≡ 92 = eqb-true b 92 e in rw s escape)
-    (λ e4. let is : is_plain b ≡ true = rw (e1, e2, e3, e4) refl in text_plain b z is (text_from false z) plain))))
+    (λ e4. let is : stands_for_itself b ≡ true = rw (e1, e2, e3, e4) refl in text_plain b z is (text_from false z) plain))))
 
 text_sound : (z : List ℕ) → TextIs z (text_from false z)
 unfolding text_from
@@ -137,7 +143,7 @@ text_sound (b ∷ c ∷ z) = text_step b (c ∷ z) (text_sound (c ∷ z)) (text_
 
 -- ---- tokens
 
-inside_spells : (p : Place) (own rest : List ℕ) (t : TokenKind) → is_head p ≡ false → SpellsInside p own rest t → Spells p own rest t
+inside_spells : (p : Place) (own rest : List ℕ) (t : TokenKind) → is_head p ≡ false → SpellsInside p own rest t → SpellsToken p own rest t
 inside_spells Head own rest t e h = absurd cc
 inside_spells Declaration own rest t e h = h
 inside_spells Predicate own rest t e h = h
@@ -151,12 +157,12 @@ inside_begins Body b e h = h
 
 -- what is known of a byte that begins neither a piece nor a line
 pub record IsTokenByte (p : Place) (pos : Position) (b : ℕ) (z : List ℕ) : Type 0 where
-  pub no_blank : is_blank b ≡ false
+  pub no_blank : is_blank_byte b ≡ false
   pub no_comment : begins_comment (b ∷ z) ≡ false
   pub no_first : is_first pos b z ≡ false
   pub no_hash : is_hash p pos b ≡ false
 
-mark_front_sound : (p : Place) (pos : Position) (b : ℕ) (z : List ℕ) → IsTokenByte p pos b z → begins p b ≡ false → ((own rest : List ℕ) (k : Mark) → IsMark p own rest k → Spells p own rest (kind.Mark k)) →
+mark_front_sound : (p : Place) (pos : Position) (b : ℕ) (z : List ℕ) → IsTokenByte p pos b z → begins p b ≡ false → ((own rest : List ℕ) (k : Mark) → IsMark p own rest k → SpellsToken p own rest (kind.Mark k)) →
     (o : Option (Mark × ℕ)) → MarkIs p b z o → FrontIs p pos b z (mark_front o)
 mark_front_sound p pos b z h e spells None none = stray b z refl (record { no_blank = h.no_blank; no_comment = h.no_comment; no_first = h.no_first; no_hash = h.no_hash; no_token = e; no_mark = none })
 mark_front_sound p pos b z h e spells (Some k) s =
@@ -168,24 +174,24 @@ mark_front_sound p pos b z h e spells (Some k) s =
       holds = spells (b ∷ s.own) s.rest k.0 (record { is = s.holds.0; longest = s.holds.1; no_comment = rw (← s.is) h.no_comment });
     }
 
-run_of_is : (test : ℕ → Bool) (z : List ℕ) (s : Split (Fills test) (run_len test z) z) → run_of test z ≡ s.own
-run_of_is test z s = subst (λ (xs : List ℕ). run_of test xs ≡ s.own) (sym s.is) (run_is test s.own s.rest s.holds)
+run_of_is : (test : ℕ → Bool) (z : List ℕ) (s : Split (Fills test) (run_len test z) z) → front_run test z ≡ s.own
+run_of_is test z s = subst (λ (xs : List ℕ). front_run test xs ≡ s.own) (sym s.is) (run_is test s.own s.rest s.holds)
 
 number_sound : (p : Place) (pos : Position) (b : ℕ) (z : List ℕ) → is_head p ≡ false → is_ascii_digit b ≡ true → (s : Split (Fills is_word_byte) (run_len is_word_byte z) z) →
-    (o : Option (ℕ × Suffix)) → number_of (b ∷ run_of is_word_byte z) ≡ o → FrontIs p pos b z (number_front o (run_len is_word_byte z))
+    (o : Option (ℕ × Suffix)) → number_spelled (b ∷ front_run is_word_byte z) ≡ o → FrontIs p pos b z (number_front o (run_len is_word_byte z))
 number_sound p pos b z inside e s None n =
-    let run : run_of is_word_byte z ≡ s.own = run_of_is is_word_byte z s in
+    let run : front_run is_word_byte z ≡ s.own = run_of_is is_word_byte z s in
     number (b ∷ s.own) s.rest inside (ap (λ (xs : List ℕ). b ∷ xs) s.is) (e, s.holds) (none_is b s.own e (rw (← run) n))
 number_sound p pos b z inside e s (Some v) n =
-    let run : run_of is_word_byte z ≡ s.own = run_of_is is_word_byte z s in
+    let run : front_run is_word_byte z ≡ s.own = run_of_is is_word_byte z s in
     record { own = s.own; rest = s.rest; is = s.is; size = s.size; holds = inside_spells p (b ∷ s.own) s.rest (kind.Number v.0 v.1) inside (number_is b s.own v.0 v.1 e (rw (← run) n), (e, s.holds)) }
 
 agg_sound : (p : Place) (pos : Position) (z : List ℕ) → is_head p ≡ false → FrontIs p pos 64 z (aggregation_front z)
 agg_sound p pos [] inside = record { own = []; rest = []; is = refl; size = refl; holds = inside_spells p (64 ∷ []) [] (kind.AggregationName (95 ∷ [])) inside (inl (refl, refl, tt)) }
 agg_sound p pos (b ∷ z) inside =
-    cond_is (FrontIs p pos 64 (b ∷ z)) (is_word_start b) (Ok (front.Token (kind.AggregationName (b ∷ run_of is_word_byte z)) (suc (run_len is_word_byte z)))) (Ok (front.Token (kind.AggregationName (95 ∷ [])) 0))
+    cond_is (FrontIs p pos 64 (b ∷ z)) (is_word_start b) (Ok (front.Token (kind.AggregationName (b ∷ front_run is_word_byte z)) (suc (run_len is_word_byte z)))) (Ok (front.Token (kind.AggregationName (95 ∷ [])) 0))
     (λ e. let s = run_splits is_word_byte z in
-    let run : run_of is_word_byte z ≡ s.own = run_of_is is_word_byte z s in
+    let run : front_run is_word_byte z ≡ s.own = run_of_is is_word_byte z s in
     record {
       own = b ∷ s.own;
       rest = s.rest;
@@ -207,7 +213,7 @@ inside_sound p pos b z inside h =
     (λ e. let s = run_splits is_word_byte z in
     record { own = s.own; rest = s.rest; is = s.is; size = s.size; holds = rw (run_of_is is_word_byte z s) (inside_spells p (b ∷ s.own) s.rest (kind.Word (b ∷ s.own)) inside (refl, (e, s.holds))) })
     (λ e1. cond_is (FrontIs p pos b z) (is_ascii_digit b) _ _
-    (λ e. number_sound p pos b z inside e (run_splits is_word_byte z) (number_of (b ∷ run_of is_word_byte z)) refl)
+    (λ e. number_sound p pos b z inside e (run_splits is_word_byte z) (number_spelled (b ∷ front_run is_word_byte z)) refl)
     (λ e2. cond_is (FrontIs p pos b z) (eqb b 64) _ _
     (λ e. let s : b ≡ 64 = eqb-true b 64 e in rw s (agg_sound p pos z inside))
     (λ e3. cond_is (FrontIs p pos b z) (eqb b 34) _ _
@@ -215,8 +221,8 @@ inside_sound p pos b z inside h =
     (λ e4. let none : (is_word_start b || is_ascii_digit b || eqb b 64 || eqb b 34) ≡ false = rw (e1, e2, e3, e4) refl in
     mark_front_sound p pos b z h (inside_begins p b inside none) (λ own rest k m. inside_spells p own rest (kind.Mark k) inside m) (mark_at p b z) (mark_sound p b z)))))
 
-head_kind_sound : (own rest : List ℕ) → IsRunOf is_run_byte is_run_byte own rest → Spells Head own rest (head_kind own)
-head_kind_sound own rest h = cond_is (λ (t : TokenKind). Spells Head own rest t) (is_declaring own) (kind.Word own) (kind.DescriptionRun own) (λ e. (refl, e, h)) (λ e. (refl, e, h))
+head_kind_sound : (own rest : List ℕ) → IsLongestRun is_run_byte is_run_byte own rest → SpellsToken Head own rest (head_kind own)
+head_kind_sound own rest h = cond_is (λ (t : TokenKind). SpellsToken Head own rest t) (is_declaring own) (kind.Word own) (kind.DescriptionRun own) (λ e. (refl, e, h)) (λ e. (refl, e, h))
 
 head_sound : (pos : Position) (b : ℕ) (z : List ℕ) → IsTokenByte Head pos b z → FrontIs Head pos b z (head_at b z)
 unfolding head_at
@@ -253,17 +259,17 @@ line_hash : (p : Place) (pos : Position) (b : ℕ) → is_hash p pos b ≡ true 
 line_hash p pos b e = grind (arith, nat_tests)
 
 option_sound : (p : Place) (pos : Position) (z : List ℕ) → is_first pos 35 z ≡ false → is_hash p pos 35 ≡ true → (s : Split (Fills is_inside) (run_len is_inside z) z) →
-    FrontIs p pos 35 z (cond (is_option (35 ∷ run_of is_inside z)) (Ok (Gap (run_len is_inside z))) (Err f.OptionLine))
+    FrontIs p pos 35 z (cond (is_option (35 ∷ front_run is_inside z)) (Ok (Gap (run_len is_inside z))) (Err f.OptionLine))
 option_sound p pos z no_first is s =
     let first : is_first pos 35 (s.own ++ s.rest) ≡ false = rw (← s.is) no_first in
-    cond_is (FrontIs p pos 35 z) (is_option (35 ∷ run_of is_inside z)) _ _
+    cond_is (FrontIs p pos 35 z) (is_option (35 ∷ front_run is_inside z)) _ _
     (λ e. record { own = s.own; rest = s.rest; is = s.is; size = s.size; holds = option_line s.own refl first is (option_is (35 ∷ s.own) (rw (← run_of_is is_inside z s) e)) s.holds })
     (λ e. other_option s.own s.rest (ap (λ (xs : List ℕ). 35 ∷ xs) s.is) first is (no_option_is (35 ∷ s.own) (rw (← run_of_is is_inside z s) e)) s.holds)
 
 pub front_sound : (p : Place) (pos : Position) (b : ℕ) (z : List ℕ) → FrontIs p pos b z (front_at p pos b z)
 unfolding front_at
 front_sound p pos b z =
-    cond_is (FrontIs p pos b z) (is_blank b) _ _
+    cond_is (FrontIs p pos b z) (is_blank_byte b) _ _
     (λ e. record { own = []; rest = z; is = refl; size = refl; holds = blank b refl e })
     (λ e1. cond_is (FrontIs p pos b z) (begins_comment (b ∷ z)) _ _
     (λ e. let h = both_true (eqb b 47) (next_is 42 z) e in
@@ -284,7 +290,7 @@ front_sound p pos b z =
 
 -- ---- all of the text
 
-past_gap : (p : Place) (pos : Position) (bytes own rest : List ℕ) (ts : List Token) (end : End) → bytes ≡ own ++ rest → IsPiece p pos own rest → Lexes p (after_bytes pos own) rest ts end → Lexes p pos bytes ts end
+past_gap : (p : Place) (pos : Position) (bytes own rest : List ℕ) (ts : List Token) (end : TokensEnd) → bytes ≡ own ++ rest → IsSeparator p pos own rest → Lexes p (position_after pos own) rest ts end → Lexes p pos bytes ts end
 past_gap p pos bytes own rest [] end is h l = past own rest is h l
 past_gap p pos bytes own rest (t ∷ ts) end is h l = past own rest is h l
 
@@ -292,17 +298,17 @@ abbrev IsRight : Place → Position → List ℕ → Scanned → Type 0
 IsRight p pos bytes s = Lexes p pos bytes s.0 s.1
 
 by_front : (p : Place) (pos : Position) (b : ℕ) (z : List ℕ) →
-    ((n : ℕ) (q : Place) (own rest : List ℕ) → z ≡ own ++ rest → n ≡ length own → IsRight q (after_bytes (after_byte pos b) own) rest (scan n q (after_byte pos b) z)) →
+    ((n : ℕ) (q : Place) (own rest : List ℕ) → z ≡ own ++ rest → n ≡ length own → IsRight q (position_after (after_byte pos b) own) rest (scan n q (after_byte pos b) z)) →
     (r : Result Front Flaw) → FrontIs p pos b z r → IsRight p pos (b ∷ z) (scan_by (λ n q. scan n q (after_byte pos b) z) p pos r)
 by_front p pos b z go (Err g) h = here (g, h, refl)
 by_front p pos b z go (Ok (Gap n)) s =
     let then = scan n p (after_byte pos b) z in
     past_gap p pos (b ∷ z) (b ∷ s.own) s.rest then.0 then.1 (ap (λ (xs : List ℕ). b ∷ xs) s.is) s.holds (go n p s.own s.rest s.is s.size)
 by_front p pos b z go (Ok (front.Token t n)) s =
-    here (b ∷ s.own, s.rest, ap (λ (xs : List ℕ). b ∷ xs) s.is, s.holds, refl, ap (λ (k : ℕ). pos.at + suc k) s.size, refl, go n (after p t) s.own s.rest s.is s.size)
+    here (b ∷ s.own, s.rest, ap (λ (xs : List ℕ). b ∷ xs) s.is, s.holds, refl, ap (λ (k : ℕ). pos.at + suc k) s.size, refl, go n (place_after p t) s.own s.rest s.is s.size)
 
 -- what scan answers when n bytes are to be passed is right for what is after these
-pub scan_sound : (bytes own rest : List ℕ) (n : ℕ) (p : Place) (pos : Position) → bytes ≡ own ++ rest → n ≡ length own → IsRight p (after_bytes pos own) rest (scan n p pos bytes)
+pub scan_sound : (bytes own rest : List ℕ) (n : ℕ) (p : Place) (pos : Position) → bytes ≡ own ++ rest → n ≡ length own → IsRight p (position_after pos own) rest (scan n p pos bytes)
 unfolding scan
 scan_sound [] [] rest n p pos is size = here (sym is)
 scan_sound [] (c ∷ own) rest n p pos is size = absurd cc
@@ -314,7 +320,7 @@ scan_sound (b ∷ z) (c ∷ own) rest zero p pos is size = absurd (omega arith)
 scan_sound (b ∷ z) (c ∷ own) rest (suc n) p pos is size =
     let same : b ≡ c = cc in
     let more : z ≡ own ++ rest = cc in
-    subst (λ (x : ℕ). IsRight p (after_bytes (after_byte pos x) own) rest (scan n p (after_byte pos b) z)) same (scan_sound z own rest n p (after_byte pos b) more (omega arith))
+    subst (λ (x : ℕ). IsRight p (position_after (after_byte pos x) own) rest (scan n p (after_byte pos b) z)) same (scan_sound z own rest n p (after_byte pos b) more (omega arith))
 
 pub whole_sound : (p : Place) (pos : Position) (bytes : List ℕ) → IsRight p pos bytes (scan 0 p pos bytes)
 whole_sound p pos bytes = scan_sound bytes [] bytes 0 p pos refl refl

@@ -10,9 +10,10 @@ use Rattle.d_lexer.specs.declared.place.Place.{Place}
 use Rattle.d_lexer.specs.declared.place.Place.TheVariants.{Head}
 use Rattle.d_lexer.specs.declared.position.Position.{Position}
 use Rattle.d_lexer.specs.declared.fault.LexFault.{LexFault}
-use Rattle.d_lexer.specs.Places.{start, after_byte, after_bytes, after}
+use Rattle.d_lexer.specs.Places.{first_position, after_byte, position_after, place_after}
 use Rattle.d_lexer.specs.Faults.{on_line}
-use Rattle.d_lexer.specs.Tokens.{Past, here, past, Spells, End, Clean, Bad, EndsAs, Lexes}
+use Rattle.d_lexer.specs.Tokens.{Past, here, past, SpellsToken, TokensEnd, Clean, Bad, EndsAs}
+use Rattle.d_lexer.specs.Tokens.{Lexes}
 use Rattle.d_lexer.specs.Lexing.{settle, settle_token, opens_body, AreTokens, IsFirstFault}
 use Rattle.d_lexer.specs.Spans.{line_after, IsInPlace, AreInOrder, HasItsLine}
 use Rattle.d_lexer.proofs.Complete.{token_reads, fault_fails}
@@ -28,11 +29,11 @@ one_line pos b = by (eqb b 10) where
   by true = omega arith
   by false = omega arith
 
-moved_at : (own : List ℕ) (pos : Position) → (after_bytes pos own).at ≡ pos.at + length own
+moved_at : (own : List ℕ) (pos : Position) → (position_after pos own).at ≡ pos.at + length own
 moved_at [] pos = omega arith
 moved_at (b ∷ own) pos = moved_at own (after_byte pos b) ∙ omega arith
 
-moved_line : (own : List ℕ) (pos : Position) → (after_bytes pos own).line ≡ pos.line + count_by (λ c. eqb c 10) own
+moved_line : (own : List ℕ) (pos : Position) → (position_after pos own).line ≡ pos.line + count_by (λ c. eqb c 10) own
 moved_line [] pos = omega arith
 moved_line (b ∷ own) pos =
     let more = moved_line own (after_byte pos b) in
@@ -40,7 +41,7 @@ moved_line (b ∷ own) pos =
     let e : count_by (λ c. eqb c 10) (b ∷ own) ≡ count_by (λ c. eqb c 10) (b ∷ []) + count_by (λ c. eqb c 10) own = sum_by-append (λ c. cond (eqb c 10) 1 0) (b ∷ []) own in
     more ∙ ap (λ (n : ℕ). n + count_by (λ c. eqb c 10) own) one ∙ add_assoc pos.line (count_by (λ c. eqb c 10) (b ∷ [])) (count_by (λ c. eqb c 10) own) ∙ ap (λ (n : ℕ). pos.line + n) (sym e)
 
-behind_more : (before own : List ℕ) (pos : Position) → IsBehind before pos → IsBehind (before ++ own) (after_bytes pos own)
+behind_more : (before own : List ℕ) (pos : Position) → IsBehind before pos → IsBehind (before ++ own) (position_after pos own)
 behind_more before own pos h =
     let e : count_by (λ c. eqb c 10) (before ++ own) ≡ count_by (λ c. eqb c 10) before + count_by (λ c. eqb c 10) own = sum_by-append (λ c. cond (eqb c 10) 1 0) before own in
     record {
@@ -69,16 +70,16 @@ record AllStand (all : List ℕ) (from : ℕ) (ts : List Token) : Type 0 where
 stand_more : (all : List ℕ) (from : ℕ) (t : Token) (ts : List Token) → IsInPlace all t → from ≤ t.start → t.start < t.stop → AllStand all t.stop ts → AllStand all from (t ∷ ts)
 stand_more all from t ts s low nonempty more = record { each = (s, more.each); order = (low, nonempty, more.order) }
 
-stand : (ts : List Token) (end : End) (p : Place) (all before : List ℕ) (pos : Position) (bytes : List ℕ) (from : ℕ) → all ≡ before ++ bytes → IsBehind before pos → from ≤ pos.at →
+stand : (ts : List Token) (end : TokensEnd) (p : Place) (all before : List ℕ) (pos : Position) (bytes : List ℕ) (from : ℕ) → all ≡ before ++ bytes → IsBehind before pos → from ≤ pos.at →
     Lexes p pos bytes ts end → AllStand all from ts
 stand [] end p all before pos bytes from is at low h = record { each = tt; order = tt }
 stand (t ∷ ts) end p all before pos bytes from is at low h =
     past_behind p _ (AllStand all from (t ∷ ts)) all from
     (λ b q z cut here_at below e.
     one b q z e.0 e.1 cut here_at below e.2 e.3 e.4 e.5 e.6
-    (stand ts end (after p t.kind) all (b ++ e.0) (after_bytes q e.0) e.1 t.stop (cut_more all b z e.0 e.1 cut e.2) (behind_more b e.0 q here_at) (omega (arith, e.5, moved_at e.0 q)) e.7))
+    (stand ts end (place_after p t.kind) all (b ++ e.0) (position_after q e.0) e.1 t.stop (cut_more all b z e.0 e.1 cut e.2) (behind_more b e.0 q here_at) (omega (arith, e.5, moved_at e.0 q)) e.7))
     before is at low h where
-      one : (b : List ℕ) (q : Position) (z own rest : List ℕ) → all ≡ b ++ z → IsBehind b q → from ≤ q.at → z ≡ own ++ rest → Spells p own rest t.kind → t.start ≡ q.at → t.stop ≡ q.at + length own → t.line ≡ q.line →
+      one : (b : List ℕ) (q : Position) (z own rest : List ℕ) → all ≡ b ++ z → IsBehind b q → from ≤ q.at → z ≡ own ++ rest → SpellsToken p own rest t.kind → t.start ≡ q.at → t.stop ≡ q.at + length own → t.line ≡ q.line →
           AllStand all t.stop ts → AllStand all from (t ∷ ts)
       one b q z own rest cut here_at below z_is spells e1 e2 e3 more =
           let r = token_reads p q own rest t.kind spells in
@@ -88,7 +89,7 @@ stand (t ∷ ts) end p all before pos bytes from is at low h =
           (omega (arith, e1)) (omega (arith, e1, e2, long))
           more
 
-at_start : IsBehind [] start
+at_start : IsBehind [] first_position
 at_start = record { at = refl; line = refl }
 
 -- settling leaves spans and lines
@@ -108,8 +109,8 @@ settle_order : (from : ℕ) (ts : List Token) → AreInOrder from ts → AreInOr
 settle_order from [] h = tt
 settle_order from (t ∷ ts) h = settled_order from t (opens_body ts) (settle ts) h.0 h.1 (settle_order t.stop ts h.2)
 
-all_stand : (bytes : List ℕ) (ts : List Token) (end : End) → Lexes Head start bytes ts end → AllStand bytes 0 ts
-all_stand bytes ts end h = stand ts end Head bytes [] start bytes 0 refl at_start (omega arith) h
+all_stand : (bytes : List ℕ) (ts : List Token) (end : TokensEnd) → Lexes Head first_position bytes ts end → AllStand bytes 0 ts
+all_stand bytes ts end h = stand ts end Head bytes [] first_position bytes 0 refl at_start (omega arith) h
 
 pub tokens_are_in_place : (bytes : List ℕ) (ts : List Token) → AreTokens bytes ts → AllByRecursion (IsInPlace bytes) ts
 tokens_are_in_place bytes ts a = rw a.2 (settle_stands bytes a.0 (all_stand bytes a.0 Clean a.1).each)
@@ -129,8 +130,8 @@ stated [] fault p all before pos bytes is at h =
 stated (t ∷ ts) fault p all before pos bytes is at h =
     past_behind p _ (HasItsLine all fault) all 0
     (λ b q z cut here_at _ e.
-    stated ts fault (after p t.kind) all (b ++ e.0) (after_bytes q e.0) e.1 (cut_more all b z e.0 e.1 cut e.2) (behind_more b e.0 q here_at) e.7)
+    stated ts fault (place_after p t.kind) all (b ++ e.0) (position_after q e.0) e.1 (cut_more all b z e.0 e.1 cut e.2) (behind_more b e.0 q here_at) e.7)
     before is at (omega arith) h
 
 pub fault_has_its_line : (bytes : List ℕ) (fault : LexFault) → IsFirstFault bytes fault → HasItsLine bytes fault
-fault_has_its_line bytes fault a = stated a.0 fault Head bytes [] start bytes refl at_start a.1
+fault_has_its_line bytes fault a = stated a.0 fault Head bytes [] first_position bytes refl at_start a.1

@@ -10,7 +10,7 @@ use Rattle.d_lexer.specs.declared.token.Mark.TheVariants as m
 use Rattle.d_lexer.specs.declared.place.Place.{Place}
 use Rattle.d_lexer.specs.declared.place.Place.TheVariants.{Head, Declaration, Predicate, Body}
 use Rattle.d_lexer.specs.Bytes.{entry_of}
-use Rattle.d_lexer.specs.Marks.{singles, of_head, doubles, settings, shifts, arrows, mark_of}
+use Rattle.d_lexer.specs.Marks.{singles, of_head, doubles, settings, shift_marks, arrows, mark_of}
 use Rattle.d_lexer.specs.Spelling.{spelling}
 use Rattle.d_lexer.proofs.Base.{both_true, cond_is}
 
@@ -56,14 +56,14 @@ two_is a b k e =
     f)
     e
 
-three_is : (a b c : ℕ) (k : Mark) → cond (eqb c 61 && eqb a b) (entry_of shifts a) None ≡ Some k → (a ∷ (b ∷ (c ∷ []))) ≡ spelling k
+three_is : (a b c : ℕ) (k : Mark) → cond (eqb c 61 && eqb a b) (entry_of shift_marks a) None ≡ Some k → (a ∷ (b ∷ (c ∷ []))) ≡ spelling k
 three_is a b c k e =
-    cond_is (λ (o : Option Mark). o ≡ Some k → (a ∷ (b ∷ (c ∷ []))) ≡ spelling k) (eqb c 61 && eqb a b) (entry_of shifts a) None
+    cond_is (λ (o : Option Mark). o ≡ Some k → (a ∷ (b ∷ (c ∷ []))) ≡ spelling k) (eqb c 61 && eqb a b) (entry_of shift_marks a) None
     (λ same f.
     let both = both_true (eqb c 61) (eqb a b) same in
     let c_is : c ≡ 61 = eqb-true c 61 both.0 in
     let b_is : a ≡ b = eqb-true a b both.1 in
-    rw (c_is, ← b_is) (in_table shifted shifts a k refl f))
+    rw (c_is, ← b_is) (in_table shifted shift_marks a k refl f))
     (λ _ f. absurd cc)
     e
 

@@ -1,7 +1,7 @@
 -- What the loops keep.
 use Rattle.std.proofs.Common.{◌≡◌, ℕ, suc, ◌+◌, List, [], ◌∷◌, ◌++◌, Option, Some, None, Result, Ok}
 use Rattle.std.proofs.Common.{Err, refl, arith, append_assoc}
-use Rattle.d_lexer.specs.Steps.Scan.{one_longer, put, skip_one}
+use Rattle.d_lexer.specs.Steps.Scan.{one_longer, with_byte, skip_one}
 use Rattle.d_lexer.specs.declared.fault.Flaw.{Flaw}
 
 -- so many more
@@ -22,10 +22,10 @@ pub behind_none : (r : Result (List ℕ × ℕ) Flaw) → behind_text [] 0 r ≡
 behind_none (Err g) = refl
 behind_none (Ok t) = let k : 0 + t.1 ≡ t.1 = omega arith in rw k refl
 
-pub behind_plain : (w : List ℕ) (n x : ℕ) (r : Result (List ℕ × ℕ) Flaw) → behind_text (w ++ x ∷ []) (n + 1) r ≡ behind_text w n (put x r)
+pub behind_plain : (w : List ℕ) (n x : ℕ) (r : Result (List ℕ × ℕ) Flaw) → behind_text (w ++ x ∷ []) (n + 1) r ≡ behind_text w n (with_byte x r)
 behind_plain w n x (Err g) = refl
 behind_plain w n x (Ok t) = let k : (n + 1) + t.1 ≡ n + suc t.1 = omega arith in rw (append_assoc w (x ∷ []) t.0, k) refl
 
-pub behind_escape : (w : List ℕ) (n x : ℕ) (r : Result (List ℕ × ℕ) Flaw) → behind_text (w ++ x ∷ []) (n + 2) r ≡ behind_text w n (skip_one (put x r))
+pub behind_escape : (w : List ℕ) (n x : ℕ) (r : Result (List ℕ × ℕ) Flaw) → behind_text (w ++ x ∷ []) (n + 2) r ≡ behind_text w n (skip_one (with_byte x r))
 behind_escape w n x (Err g) = refl
 behind_escape w n x (Ok t) = let k : (n + 2) + t.1 ≡ n + suc (suc t.1) = omega arith in rw (append_assoc w (x ∷ []) t.0, k) refl

@@ -36,8 +36,8 @@ underscore = 95
 -- ---- kinds of bytes
 
 -- space, tab, line feed, vertical tab, form feed, carriage return
-abbrev pub is_blank : ℕ → Bool
-is_blank b = b == space || (nat_le 9 b && nat_le b 13)
+abbrev pub is_blank_byte : ℕ → Bool
+is_blank_byte b = b == space || (nat_le 9 b && nat_le b 13)
 
 -- a space or a tab
 abbrev pub is_space : ℕ → Bool
@@ -85,8 +85,8 @@ abbrev pub escape_of : ℕ → Option ℕ
 escape_of e = entry_of escapes e
 
 -- a byte that stands for itself in a text constant
-abbrev pub is_plain : ℕ → Bool
-is_plain b = not (b == quote || b == backslash || b == line_feed || b == 0)
+abbrev pub stands_for_itself : ℕ → Bool
+stands_for_itself b = not (b == quote || b == backslash || b == line_feed || b == 0)
 
 -- the words that begin a declaration
 abbrev pub is_declaring : List ℕ → Bool

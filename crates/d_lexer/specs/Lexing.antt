@@ -1,7 +1,7 @@
 -- The tokens of a script, and why it has none.
 use Rattle.std.specs.Prelude.{◌≡◌, ℕ, ◌<◌, ◌≤◌, ◌⊎◌, Bool, true, false, List, [], ◌∷◌, length}
 use Rattle.d_lexer.specs.Vocabulary.{Token, TokenKind, Head, LexFault, Mark, MOST_BYTES}
-use Rattle.d_lexer.specs.Places.{start}
+use Rattle.d_lexer.specs.Places.{first_position}
 use Rattle.d_lexer.specs.Tokens.{Clean, Bad, Lexes}
 
 -- ---- the closing slash of a predicate
@@ -41,11 +41,11 @@ settle (t ∷ ts) = settle_token t (opens_body ts) ∷ settle ts
 -- the tokens of all the bytes
 abbrev pub AreTokens : List ℕ → List Token → Type 0
 AreTokens bytes ts =
-    (plain : List Token) × Lexes Head start bytes plain Clean × (ts ≡ settle plain)
+    (plain : List Token) × Lexes Head first_position bytes plain Clean × (ts ≡ settle plain)
 
 -- what is wrong after the tokens that come before it
 abbrev pub IsFirstFault : List ℕ → LexFault → Type 0
-IsFirstFault bytes fault = (plain : List Token) × Lexes Head start bytes plain (Bad fault)
+IsFirstFault bytes fault = (plain : List Token) × Lexes Head first_position bytes plain (Bad fault)
 
 -- the script is within the limit, and these are its tokens
 abbrev pub IsLexed : List ℕ → List Token → Type 0

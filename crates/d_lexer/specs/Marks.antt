@@ -36,8 +36,8 @@ settings =
     ∷ (124, mark.OrAssign) ∷ (94, mark.XorAssign) ∷ []
 
 -- doubled and followed by =: <<= >>=
-abbrev pub shifts : List (ℕ × Mark)
-shifts = (60, mark.ShiftLeftAssign) ∷ (62, mark.ShiftRightAssign) ∷ []
+abbrev pub shift_marks : List (ℕ × Mark)
+shift_marks = (60, mark.ShiftLeftAssign) ∷ (62, mark.ShiftRightAssign) ∷ []
 
 -- followed by >: ->
 abbrev pub arrows : List (ℕ × Mark)
@@ -67,7 +67,7 @@ mark_two Body a b = two_bytes a b
 
 -- outside the head: a mark of three bytes
 abbrev pub three_bytes : ℕ → ℕ → ℕ → Option Mark
-three_bytes a b c = if c == 61 && a == b then entry_of shifts a else None
+three_bytes a b c = if c == 61 && a == b then entry_of shift_marks a else None
 
 -- a mark of three bytes; the head has none
 abbrev pub mark_three : Place → ℕ → ℕ → ℕ → Option Mark

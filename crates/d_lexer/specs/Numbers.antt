@@ -13,13 +13,13 @@ digit_value d =
     else (if nat_le 65 d && nat_le d 70 then Some (d - 55) else None))
 
 -- a value that is below the base
-abbrev pub below : ℕ → Option ℕ → Option ℕ
-below base None = None
-below base (Some k) = if nat_lt k base then Some k else None
+abbrev pub digit_below : ℕ → Option ℕ → Option ℕ
+digit_below base None = None
+digit_below base (Some k) = if nat_lt k base then Some k else None
 
 -- the same, where it is a digit of the base
 abbrev pub digit_of : ℕ → ℕ → Option ℕ
-digit_of base d = below base (digit_value d)
+digit_of base d = digit_below base (digit_value d)
 
 -- the letters of suffixes, in either case
 abbrev pub is_u : ℕ → Bool
@@ -40,10 +40,10 @@ suffix_of (a ∷ b ∷ c ∷ d ∷ z) = None
 -- ---- the relation
 
 -- the digits of the base stand for the number: each for its value times a power of the base
-abbrev pub StandFor : ℕ → List ℕ → ℕ → Type 0
-StandFor base [] n = n ≡ 0
-StandFor base (d ∷ ds) n =
-    (k : ℕ) × (m : ℕ) × (digit_of base d ≡ Some k) × StandFor base ds m
+abbrev pub DigitsStandFor : ℕ → List ℕ → ℕ → Type 0
+DigitsStandFor base [] n = n ≡ 0
+DigitsStandFor base (d ∷ ds) n =
+    (k : ℕ) × (m : ℕ) × (digit_of base d ≡ Some k) × DigitsStandFor base ds m
     × (n ≡ k * base ^ length ds + m)
 
 -- x in either case
@@ -60,17 +60,17 @@ pub data IsBase (base : ℕ) (before digits : List ℕ) : Type 0 where
       → IsBase base before digits
 
 -- the bytes are digits that stand for n, below 2 ^ 64, and a suffix
-pub record IsNumber (own : List ℕ) (n : ℕ) (s : Suffix) : Type 0 where
+pub record IsIntegerConstant (own : List ℕ) (n : ℕ) (s : Suffix) : Type 0 where
   pub base : ℕ
   pub before : List ℕ
   pub digits : List ℕ
   pub behind : List ℕ
   pub is : own ≡ before ++ (digits ++ behind)
   pub stated : IsBase base before digits
-  pub value : StandFor base digits n
+  pub value : DigitsStandFor base digits n
   pub fits : n < 2 ^ 64
   pub suffix : suffix_of behind ≡ Some s
 
 -- the bytes stand for no number
 abbrev pub IsNoNumber : List ℕ → Type 0
-IsNoNumber own = (n : ℕ) (s : Suffix) → IsNumber own n s → ⊥
+IsNoNumber own = (n : ℕ) (s : Suffix) → IsIntegerConstant own n s → ⊥

@@ -15,10 +15,11 @@ AreSpaces [] = ⊥
 AreSpaces (b ∷ bs) = AllByRecursion (λ c. is_space c ≡ true) (b ∷ bs)
 
 -- these words with spaces before each, and then perhaps spaces and carriage returns
-abbrev pub AreWords : List (List ℕ) → List ℕ → Type 0
-AreWords [] z = AllByRecursion (λ c. is_trailing c ≡ true) z
-AreWords (w ∷ ws) z =
-    (own : List ℕ) × (rest : List ℕ) × AreSpaces own × (z ≡ own ++ (w ++ rest)) × AreWords ws rest
+abbrev pub AreSpacedWords : List (List ℕ) → List ℕ → Type 0
+AreSpacedWords [] z = AllByRecursion (λ c. is_trailing c ≡ true) z
+AreSpacedWords (w ∷ ws) z =
+    (own : List ℕ) × (rest : List ℕ) × AreSpaces own × (z ≡ own ++ (w ++ rest))
+    × AreSpacedWords ws rest
 
 -- the words after #pragma
 abbrev pub option_words : List (List ℕ)
@@ -27,4 +28,4 @@ option_words = codes "D" ∷ codes "option" ∷ codes "quiet" ∷ []
 -- a line's bytes from its # on
 abbrev pub IsOptionLine : List ℕ → Type 0
 IsOptionLine own =
-    (rest : List ℕ) × (own ≡ codes "#pragma" ++ rest) × AreWords option_words rest
+    (rest : List ℕ) × (own ≡ codes "#pragma" ++ rest) × AreSpacedWords option_words rest

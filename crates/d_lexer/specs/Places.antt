@@ -8,8 +8,8 @@ use Rattle.d_lexer.specs.Bytes.{line_feed, hash, is_space, next_is}
 -- ---- positions
 
 -- the first byte's: line 1, which has held nothing yet
-abbrev pub start : Position
-start = record { at = 0; line = 1; fresh = true }
+abbrev pub first_position : Position
+first_position = record { at = 0; line = 1; fresh = true }
 
 -- a line feed ends the line; spaces and tabs leave it fresh
 abbrev pub after_byte : Position → ℕ → Position
@@ -20,9 +20,9 @@ after_byte pos b = record {
 }
 
 -- the position after the bytes
-abbrev pub after_bytes : Position → List ℕ → Position
-after_bytes pos [] = pos
-after_bytes pos (b ∷ bs) = after_bytes (after_byte pos b) bs
+abbrev pub position_after : Position → List ℕ → Position
+position_after pos [] = pos
+position_after pos (b ∷ bs) = position_after (after_byte pos b) bs
 
 -- ---- lines that are no tokens
 
@@ -44,21 +44,21 @@ is_hash p pos b = is_head p && pos.fresh && b == hash
 -- ---- where the script goes on after a token
 
 -- braces, a slash of the head and a semicolon of a declaration lead elsewhere
-abbrev pub after_mark : Place → Mark → Place
-after_mark p Mark.OpenBrace = Body
-after_mark p Mark.CloseBrace = Head
-after_mark Head Mark.Slash = Predicate
-after_mark Declaration Mark.Semicolon = Head
-after_mark p k = p
+abbrev pub place_after_mark : Place → Mark → Place
+place_after_mark p Mark.OpenBrace = Body
+place_after_mark p Mark.CloseBrace = Head
+place_after_mark Head Mark.Slash = Predicate
+place_after_mark Declaration Mark.Semicolon = Head
+place_after_mark p k = p
 
 -- a word of the head is self or this
-abbrev pub after : Place → TokenKind → Place
-after p (TokenKind.Mark k) = after_mark p k
-after Head (TokenKind.Word w) = Declaration
-after Declaration (TokenKind.Word w) = Declaration
-after Predicate (TokenKind.Word w) = Predicate
-after Body (TokenKind.Word w) = Body
-after p (TokenKind.DescriptionRun w) = p
-after p (TokenKind.AggregationName w) = p
-after p (TokenKind.Number n s) = p
-after p (TokenKind.TextConstant w) = p
+abbrev pub place_after : Place → TokenKind → Place
+place_after p (TokenKind.Mark k) = place_after_mark p k
+place_after Head (TokenKind.Word w) = Declaration
+place_after Declaration (TokenKind.Word w) = Declaration
+place_after Predicate (TokenKind.Word w) = Predicate
+place_after Body (TokenKind.Word w) = Body
+place_after p (TokenKind.DescriptionRun w) = p
+place_after p (TokenKind.AggregationName w) = p
+place_after p (TokenKind.Number n s) = p
+place_after p (TokenKind.TextConstant w) = p

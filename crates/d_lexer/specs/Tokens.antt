@@ -4,10 +4,11 @@ use Rattle.std.specs.Prelude.{None, List, [], ◌∷◌, ◌++◌, length, codes
 use Rattle.d_lexer.specs.Vocabulary.{AllByRecursion, is_ascii_digit, Mark, Token, TokenKind, Place}
 use Rattle.d_lexer.specs.Vocabulary.{Head, Declaration, Predicate, Body, Position, Flaw, LexFault}
 use Rattle.d_lexer.specs.Bytes.{line_feed, quote, hash, star, slash, at_sign, backslash, underscore}
-use Rattle.d_lexer.specs.Bytes.{next_is, is_blank, is_word_start, is_word_byte, is_run_byte}
-use Rattle.d_lexer.specs.Bytes.{is_inside, is_plain, begins_comment, escape_of, is_declaring}
-use Rattle.d_lexer.specs.Numbers.{IsNumber, IsNoNumber}
-use Rattle.d_lexer.specs.Places.{after_bytes, is_head, is_first, is_hash, after}
+use Rattle.d_lexer.specs.Bytes.{next_is, is_blank_byte, is_word_start, is_word_byte, is_run_byte}
+use Rattle.d_lexer.specs.Bytes.{is_inside, stands_for_itself, begins_comment, escape_of}
+use Rattle.d_lexer.specs.Bytes.{is_declaring}
+use Rattle.d_lexer.specs.Numbers.{IsIntegerConstant, IsNoNumber}
+use Rattle.d_lexer.specs.Places.{position_after, is_head, is_first, is_hash, place_after}
 use Rattle.d_lexer.specs.{Marks.mark_of, Faults.on_line, OptionLine.IsOptionLine}
 
 -- ---- what separates tokens
@@ -28,33 +29,35 @@ HasNoEnd [] = Unit {0}
 HasNoEnd (b ∷ bs) = ((b == star && next_is slash bs) ≡ false) × HasNoEnd bs
 
 -- one piece of what separates tokens: a blank, a comment, the first line, an option line
-pub data IsPiece (p : Place) (pos : Position) : (own rest : List ℕ) → Type 0 where
-  blank : {own rest : List ℕ} (b : ℕ) → own ≡ b ∷ [] → is_blank b ≡ true → IsPiece p pos own rest
+pub data IsSeparator (p : Place) (pos : Position) : (own rest : List ℕ) → Type 0 where
+  blank : {own rest : List ℕ} (b : ℕ) → own ≡ b ∷ [] → is_blank_byte b ≡ true
+      → IsSeparator p pos own rest
   comment : {own rest : List ℕ} (body : List ℕ) → own ≡ codes "/*" ++ (body ++ codes "*/")
-      → HasNoEnd body → IsPiece p pos own rest
+      → HasNoEnd body → IsSeparator p pos own rest
   first_line : {own rest : List ℕ} (w : List ℕ) → own ≡ hash ∷ w
-      → is_first pos hash (w ++ rest) ≡ true → Fills is_inside w rest → IsPiece p pos own rest
+      → is_first pos hash (w ++ rest) ≡ true → Fills is_inside w rest → IsSeparator p pos own rest
   option_line : {own rest : List ℕ} (w : List ℕ) → own ≡ hash ∷ w
       → is_first pos hash (w ++ rest) ≡ false → is_hash p pos hash ≡ true
-      → IsOptionLine own → Fills is_inside w rest → IsPiece p pos own rest
+      → IsOptionLine own → Fills is_inside w rest → IsSeparator p pos own rest
 
 -- zero or more pieces, followed by input that satisfies Then
 pub data Past (p : Place) (Then : Position → List ℕ → Type 0) : Position → List ℕ → Type 0 where
   here : {pos : Position} {bytes : List ℕ} → Then pos bytes → Past p Then pos bytes
   past : {pos : Position} {bytes : List ℕ} (own rest : List ℕ) → bytes ≡ own ++ rest
-      → IsPiece p pos own rest → Past p Then (after_bytes pos own) rest → Past p Then pos bytes
+      → IsSeparator p pos own rest → Past p Then (position_after pos own) rest
+      → Past p Then pos bytes
 
 -- ---- one token
 
 -- the longest run at the front that begins with a byte of the first kind and goes on with the other
-abbrev pub IsRunOf : (first other : ℕ → Bool) → (own rest : List ℕ) → Type 0
-IsRunOf first other [] rest = ⊥
-IsRunOf first other (b ∷ bs) rest = (first b ≡ true) × Fills other bs rest
+abbrev pub IsLongestRun : (first other : ℕ → Bool) → (own rest : List ℕ) → Type 0
+IsLongestRun first other [] rest = ⊥
+IsLongestRun first other (b ∷ bs) rest = (first b ≡ true) × Fills other bs rest
 
 -- how one byte of a text constant is written: as it is, or as an escape
 abbrev pub SpellsByte : List ℕ → ℕ → Type 0
 SpellsByte own x =
-    ((is_plain x ≡ true) × (own ≡ x ∷ []))
+    ((stands_for_itself x ≡ true) × (own ≡ x ∷ []))
     ⊎ ((e : ℕ) × (escape_of e ≡ Some x) × (own ≡ backslash ∷ (e ∷ [])))
 
 -- how the bytes of a text constant are written, one after the other
@@ -75,15 +78,16 @@ pub record IsMark (p : Place) (own rest : List ℕ) (k : Mark) : Type 0 where
 abbrev pub SpellsAggregation : (own rest w : List ℕ) → Type 0
 SpellsAggregation own rest w =
     ((own ≡ at_sign ∷ []) × (w ≡ underscore ∷ []) × StopsAt is_word_start rest)
-    ⊎ ((own ≡ at_sign ∷ w) × IsRunOf is_word_start is_word_byte w rest)
+    ⊎ ((own ≡ at_sign ∷ w) × IsLongestRun is_word_start is_word_byte w rest)
 
 -- a token of a declaration, a predicate or a body
 abbrev pub SpellsInside : Place → (own rest : List ℕ) → TokenKind → Type 0
 SpellsInside p own rest (TokenKind.DescriptionRun w) = ⊥
-SpellsInside p own rest (TokenKind.Word w) = (w ≡ own) × IsRunOf is_word_start is_word_byte own rest
+SpellsInside p own rest (TokenKind.Word w) = (w ≡ own)
+    × IsLongestRun is_word_start is_word_byte own rest
 SpellsInside p own rest (TokenKind.AggregationName w) = SpellsAggregation own rest w
 SpellsInside p own rest (TokenKind.Number n s) =
-    IsNumber own n s × IsRunOf is_ascii_digit is_word_byte own rest
+    IsIntegerConstant own n s × IsLongestRun is_ascii_digit is_word_byte own rest
 SpellsInside p own rest (TokenKind.TextConstant w) =
     (body : List ℕ) × (own ≡ quote ∷ (body ++ quote ∷ [])) × SpellsText body w
 SpellsInside p own rest (TokenKind.Mark k) = IsMark p own rest k
@@ -91,20 +95,20 @@ SpellsInside p own rest (TokenKind.Mark k) = IsMark p own rest k
 -- a token of the head: self and this are words
 abbrev pub SpellsHead : (own rest : List ℕ) → TokenKind → Type 0
 SpellsHead own rest (TokenKind.DescriptionRun w) =
-    (w ≡ own) × (is_declaring own ≡ false) × IsRunOf is_run_byte is_run_byte own rest
+    (w ≡ own) × (is_declaring own ≡ false) × IsLongestRun is_run_byte is_run_byte own rest
 SpellsHead own rest (TokenKind.Word w) =
-    (w ≡ own) × (is_declaring own ≡ true) × IsRunOf is_run_byte is_run_byte own rest
+    (w ≡ own) × (is_declaring own ≡ true) × IsLongestRun is_run_byte is_run_byte own rest
 SpellsHead own rest (TokenKind.AggregationName w) = ⊥
 SpellsHead own rest (TokenKind.Number n s) = ⊥
 SpellsHead own rest (TokenKind.TextConstant w) = ⊥
 SpellsHead own rest (TokenKind.Mark k) = IsMark Head own rest k
 
 -- own is the longest spelling of the token at the front of own ++ rest
-abbrev pub Spells : Place → (own rest : List ℕ) → TokenKind → Type 0
-Spells Head own rest t = SpellsHead own rest t
-Spells Declaration own rest t = SpellsInside Declaration own rest t
-Spells Predicate own rest t = SpellsInside Predicate own rest t
-Spells Body own rest t = SpellsInside Body own rest t
+abbrev pub SpellsToken : Place → (own rest : List ℕ) → TokenKind → Type 0
+SpellsToken Head own rest t = SpellsHead own rest t
+SpellsToken Declaration own rest t = SpellsInside Declaration own rest t
+SpellsToken Predicate own rest t = SpellsInside Predicate own rest t
+SpellsToken Body own rest t = SpellsInside Body own rest t
 
 -- ---- one fault
 
@@ -121,7 +125,7 @@ begins Body b = begins_inside b
 
 -- nothing begins with the byte at the front
 pub record IsStray (p : Place) (pos : Position) (b : ℕ) (z : List ℕ) : Type 0 where
-  pub no_blank : is_blank b ≡ false
+  pub no_blank : is_blank_byte b ≡ false
   pub no_comment : begins_comment (b ∷ z) ≡ false
   pub no_first : is_first pos b z ≡ false
   pub no_hash : is_hash p pos b ≡ false
@@ -146,39 +150,40 @@ BreaksText z g =
     × SpellsText body w × StopsText g rest
 
 -- the fault at the front of the bytes
-pub data IsFault (p : Place) (pos : Position) : List ℕ → Flaw → Type 0 where
+pub data IsFrontFault (p : Place) (pos : Position) : List ℕ → Flaw → Type 0 where
   stray : {bytes : List ℕ} (b : ℕ) (z : List ℕ) → bytes ≡ b ∷ z → IsStray p pos b z
-      → IsFault p pos bytes Flaw.BadByte
+      → IsFrontFault p pos bytes Flaw.BadByte
   open_comment : {bytes : List ℕ} (z : List ℕ) → bytes ≡ codes "/*" ++ z → HasNoEnd z
-      → IsFault p pos bytes Flaw.Unclosed
+      → IsFrontFault p pos bytes Flaw.Unclosed
   text : {bytes : List ℕ} {g : Flaw} (z : List ℕ) → is_head p ≡ false → bytes ≡ quote ∷ z
-      → BreaksText z g → IsFault p pos bytes g
+      → BreaksText z g → IsFrontFault p pos bytes g
   number : {bytes : List ℕ} (own rest : List ℕ) → is_head p ≡ false → bytes ≡ own ++ rest
-      → IsRunOf is_ascii_digit is_word_byte own rest → IsNoNumber own
-      → IsFault p pos bytes Flaw.Constant
+      → IsLongestRun is_ascii_digit is_word_byte own rest → IsNoNumber own
+      → IsFrontFault p pos bytes Flaw.Constant
   other_option : {bytes : List ℕ} (w rest : List ℕ) → bytes ≡ hash ∷ (w ++ rest)
       → is_first pos hash (w ++ rest) ≡ false → is_hash p pos hash ≡ true
       → (IsOptionLine (hash ∷ w) → ⊥) → Fills is_inside w rest
-      → IsFault p pos bytes Flaw.OptionLine
+      → IsFrontFault p pos bytes Flaw.OptionLine
 
 -- ---- all of the bytes
 
 -- how the tokens end: with the bytes, or at a fault
-pub data End : Type 0 where
-  Clean : End
-  Bad : LexFault → End
+pub data TokensEnd : Type 0 where
+  Clean : TokensEnd
+  Bad : LexFault → TokensEnd
 
 -- what is left where the tokens end
-abbrev pub EndsAs : Place → End → Position → List ℕ → Type 0
+abbrev pub EndsAs : Place → TokensEnd → Position → List ℕ → Type 0
 EndsAs p Clean pos bytes = bytes ≡ []
-EndsAs p (Bad fault) pos bytes = (g : Flaw) × IsFault p pos bytes g × (fault ≡ on_line g pos.line)
+EndsAs p (Bad fault) pos bytes = (g : Flaw) × IsFrontFault p pos bytes g
+    × (fault ≡ on_line g pos.line)
 
 -- the tokens at the front of the bytes, which begin at this place and position, and what comes
 -- after them
-abbrev pub Lexes : Place → Position → List ℕ → List Token → End → Type 0
+abbrev pub Lexes : Place → Position → List ℕ → List Token → TokensEnd → Type 0
 Lexes p pos bytes [] end = Past p (EndsAs p end) pos bytes
 Lexes p pos bytes (t ∷ ts) end =
     Past p (λ here z.
-    (own : List ℕ) × (rest : List ℕ) × (z ≡ own ++ rest) × Spells p own rest t.kind
+    (own : List ℕ) × (rest : List ℕ) × (z ≡ own ++ rest) × SpellsToken p own rest t.kind
     × (t.start ≡ here.at) × (t.stop ≡ here.at + length own) × (t.line ≡ here.line)
-    × Lexes (after p t.kind) (after_bytes here own) rest ts end) pos bytes
+    × Lexes (place_after p t.kind) (position_after here own) rest ts end) pos bytes

@@ -5,7 +5,7 @@ ghost use Rattle.d_lexer.specs.Bytes as spec;
 ghost use Rattle.d_lexer.specs.Steps.Scan as scan;
 
 pub(crate) fn is_blank(b: u8) -> bool
-    ensures { result ≡ spec.is_blank b }
+    ensures { result ≡ spec.is_blank_byte b }
 {
     b == b' ' || (9 <= b && b <= 13)
 }

@@ -20,7 +20,7 @@ pub enum LexFault {
     /// A comment or a text constant without its end.
     #[error("line {line}: a comment or a text constant without an end")]
     Unclosed { line: usize },
-    /// A number that is no integer constant below 2^64.
+    /// A number that isn't a valid integer constant, or is 2^64 or more.
     #[error("line {line}: not an integer constant below 2^64")]
     Constant { line: usize },
     /// A backslash in a text constant before a byte that makes no escape.

@@ -2,7 +2,7 @@
 
 ghost use Rattle.std.specs.Prelude.{◌≡◌, ◌≤◌, ◌<◌, length, [], IfOk, true, false};
 ghost use Rattle.d_lexer.specs.{Vocabulary.is_ascii_digit};
-ghost use Rattle.d_lexer.specs.Steps.Scan.{Fits, Gives, comment_from, comment_front, front_at};
+ghost use Rattle.d_lexer.specs.Steps.Scan.{FitsFront, Gives, comment_from, comment_front, front_at};
 ghost use Rattle.d_lexer.specs.Steps.Scan.{head_at, inside_at, mark_at, mark_front, option_front};
 ghost use Rattle.d_lexer.specs.Steps.Scan.{run_number, tail, text_from, text_front, token_at};
 ghost use Rattle.d_lexer.specs.Places as spec;
@@ -163,7 +163,7 @@ pub(crate) fn look(
 ) -> Result<Front, Stop>
     requires { length rest.now ≤ MOST_BYTES }
     ensures is { Gives result (front_at place pos b rest.now) }
-    ensures fits { IfOk result (λ f. Fits f (length rest.now)) }
+    ensures fits { IfOk result (λ f. FitsFront f (length rest.now)) }
 {
     front_at(alloc, place, pos, b, rest)
 }

@@ -2,7 +2,7 @@
 
 ghost use Rattle.std.specs.Prelude.{◌≡◌, ◌≢◌, ℕ, List};
 ghost use Rattle.d_lexer.specs.Vocabulary.{AllByRecursion, Body, LexFault, Mark, Place, Token};
-ghost use Rattle.d_lexer.specs.{Marks.mark_of, Small.AreSmall, Spelling.spelling};
+ghost use Rattle.d_lexer.specs.{Marks.mark_of, Small.HaveSmallNumbers, Spelling.spelling};
 ghost use Rattle.d_lexer.specs.Lexing.{AreTokens, HasOne, IsFirstFault};
 ghost use Rattle.d_lexer.specs.Spans.{AreInOrder, IsInPlace, HasItsLine};
 
@@ -59,5 +59,5 @@ pub fn spellings_are_marks()
 
 /// Numbers are below 2^64.
 pub fn numbers_are_small()
-    ensures { (bytes : List ℕ) (ts : List Token) → AreTokens bytes ts → AreSmall ts }
+    ensures { (bytes : List ℕ) (ts : List Token) → AreTokens bytes ts → HaveSmallNumbers ts }
 {}

@@ -33,7 +33,7 @@ fn suffix_of(bytes: &[u8]) -> Option<Suffix>
 }
 
 fn one_more(base: u64, n: u64, k: u64) -> Option<u64>
-    ensures { result ≡ spec.one_more base n k }
+    ensures { result ≡ spec.one_digit_more base n k }
 {
     n.checked_mul(base)?.checked_add(k)
 }
@@ -76,10 +76,10 @@ fn zero_from(bytes: &[u8]) -> Option<(u64, Suffix)>
 
 /// The value and the suffix that a run of letters and digits spells, given by its first digit and
 /// the rest; none where the run is no number, or one over 2^64-1.
-#[tactic(auto, unfolding(crate::specs::Steps::Numbers::number_of))]
+#[tactic(auto, unfolding(crate::specs::Steps::Numbers::number_spelled))]
 pub(crate) fn number_of(b: u8, rest: &[u8]) -> Option<(u64, Suffix)>
     requires { is_ascii_digit b ≡ true }
-    ensures { result ≡ spec.number_of (b ∷ rest.now) }
+    ensures { result ≡ spec.number_spelled (b ∷ rest.now) }
 {
     if b == b'0' {
         zero_from(rest)

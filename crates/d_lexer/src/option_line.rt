@@ -2,13 +2,13 @@
 
 ghost use Rattle.std.specs.Prelude.{◌≡◌, ◌++◌, codes};
 ghost use Rattle.d_lexer.specs.Steps.OptionLine as spec;
-ghost use Rattle.d_lexer.specs.Steps.OptionLine.{Finds};
+ghost use Rattle.d_lexer.specs.Steps.OptionLine.{FindsBytes};
 
 use crate::byte_kinds::is_space;
 
 // What is left after a word.
 fn behind<'a>(word: &[u8], bytes: &'a [u8]) -> Option<&'a [u8]>
-    ensures { Finds (λ r. r.now) result (spec.behind word.now bytes.now) }
+    ensures { FindsBytes (λ r. r.now) result (spec.after_option_word word.now bytes.now) }
 {
     bytes.strip_prefix(word)
 }
@@ -27,10 +27,10 @@ fn skip_spaces(bytes: &[u8]) -> &[u8]
     rest
 }
 
-#[tactic(auto, unfolding(crate::specs::Steps::OptionLine::spaces))]
+#[tactic(auto, unfolding(crate::specs::Steps::OptionLine::after_spaces))]
 // What is left after one space at least.
 fn spaces(bytes: &[u8]) -> Option<&[u8]>
-    ensures { Finds (λ r. r.now) result (spec.spaces bytes.now) }
+    ensures { FindsBytes (λ r. r.now) result (spec.after_spaces bytes.now) }
 {
     match bytes {
         [b, after @ ..] => {
@@ -53,16 +53,16 @@ fn is_trail(bytes: &[u8]) -> bool
 
 // What is left after spaces and a word.
 fn next_word<'a>(word: &[u8], bytes: &'a [u8]) -> Option<&'a [u8]>
-    ensures { Finds (λ r. r.now) result (spec.next_word word.now bytes.now) }
+    ensures { FindsBytes (λ r. r.now) result (spec.next_word word.now bytes.now) }
 {
     behind(word, spaces(bytes)?)
 }
 
-#[tactic(auto, unfolding(crate::specs::Steps::OptionLine::behind))]
+#[tactic(auto, unfolding(crate::specs::Steps::OptionLine::after_option_word))]
 fn after_words(bytes: &[u8]) -> Option<&[u8]>
-    ensures { Finds (λ r. r.now) result
-        (spec.and_then (spec.behind (codes "#pragma") (codes "#" ++ bytes.now))
-        (spec.after_words spec.option_words)) }
+    ensures { FindsBytes (λ r. r.now) result
+        (spec.found_then (spec.after_option_word (codes "#pragma") (codes "#" ++ bytes.now))
+        (spec.after_option_words spec.option_words)) }
 {
     let rest = behind(b"pragma", bytes)?;
     let rest = next_word(b"D", rest)?;

@@ -21,7 +21,7 @@ pub enum Place {
 impl Place {
     /// Where the script goes on after a token.
     pub(crate) fn after(self, kind: &TokenKind) -> Place
-        ensures { result ≡ spec.after self kind.now }
+        ensures { result ≡ spec.place_after self kind.now }
     {
         match (self, kind) {
             (_, TokenKind::Mark(mark)) => self.after_mark(*mark),
@@ -35,7 +35,7 @@ impl Place {
     }
 
     fn after_mark(self, mark: Mark) -> Place
-        ensures { result ≡ spec.after_mark self mark }
+        ensures { result ≡ spec.place_after_mark self mark }
     {
         match (self, mark) {
             (_, Mark::OpenBrace) => Place::Body,

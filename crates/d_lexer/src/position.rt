@@ -16,7 +16,7 @@ pub struct Position {
 
 impl Position {
     pub(crate) fn start() -> Position
-        ensures { result ≡ spec.start }
+        ensures { result ≡ spec.first_position }
     {
         Position {
             at: 0,
@@ -42,7 +42,7 @@ impl Position {
     pub(crate) fn pass_all(self, bytes: &[u8]) -> Position
         requires at { self.at + length bytes.now ≤ MOST_BYTES }
         requires line { self.line ≤ self.at + 1 }
-        ensures is { result ≡ spec.after_bytes self bytes.now }
+        ensures is { result ≡ spec.position_after self bytes.now }
         ensures at { result.at ≡ self.at + length bytes.now }
         ensures line { result.line ≤ result.at + 1 }
     {

@@ -2,10 +2,10 @@
 
 ghost use Rattle.std.specs.Prelude.{◌≡◌, ◌↔◌, List, ◌+◌, ◌≤◌, ◌<◌, ◌⊎◌, [], ◌∷◌, ◌++◌, length};
 ghost use Rattle.std.specs.Prelude.{IfOk, IfErr, IsErrAnd, IsErrOf, MatchResult};
-ghost use Rattle.d_lexer.specs.{Small.AreSmall, Steps.Scan.scan};
+ghost use Rattle.d_lexer.specs.{Small.HaveSmallNumbers, Steps.Scan.scan};
 ghost use Rattle.d_lexer.specs.Vocabulary.{Head, LexFault, Place, Token};
-ghost use Rattle.d_lexer.specs.Steps.Lexing.{Answers, Lexed, Steps};
-ghost use Rattle.d_lexer.specs.Places.{after_byte, start};
+ghost use Rattle.d_lexer.specs.Steps.Lexing.{Answers, Lexed, StepGives};
+ghost use Rattle.d_lexer.specs.Places.{after_byte, first_position};
 ghost use Rattle.d_lexer.specs.Lexing as spec;
 
 use crate::closing_slash::settle;
@@ -40,7 +40,7 @@ fn step(
     tokens: &mut Vec<Token>,
 ) -> Result<(Place, usize), LexFault>
     requires at { cursor.pos.at + length rest.now < MOST_BYTES }
-    ensures is { Steps tokens.old.items tokens.new.items result
+    ensures is { StepGives tokens.old.items tokens.new.items result
         (scan 0 cursor.place cursor.pos (b ∷ rest.now))
         (λ n q. scan n q (after_byte cursor.pos b) rest.now) }
     ensures fits { IfOk result (λ r. r.1 ≤ length rest.now) }
@@ -84,7 +84,7 @@ fn jump(pos: Position, b: u8, rest: &[u8], n: usize) -> (Position, &[u8])
 // The tokens, whose slashes of a predicate are all read as closing ones.
 fn scan_tokens(alloc: Global, bytes: &[u8]) -> Result<Vec<Token>, LexFault>
     requires { length bytes.now ≤ MOST_BYTES }
-    ensures { Answers (λ ts. ts.items) result (scan 0 Head start bytes.now) }
+    ensures { Answers (λ ts. ts.items) result (scan 0 Head first_position bytes.now) }
 {
     let mut tokens: Vec<Token> = Vec::new(alloc);
     let mut rest = bytes;
@@ -103,7 +103,7 @@ fn scan_tokens(alloc: Global, bytes: &[u8]) -> Result<Vec<Token>, LexFault>
 // The tokens, once it is known which slash closes a predicate.
 fn final_tokens(alloc: Global, bytes: &[u8]) -> Result<Vec<Token>, LexFault>
     requires { length bytes.now ≤ MOST_BYTES }
-    ensures { Lexed (λ ts. ts.items) result (scan 0 Head start bytes.now) }
+    ensures { Lexed (λ ts. ts.items) result (scan 0 Head first_position bytes.now) }
 {
     let mut tokens = scan_tokens(alloc, bytes)?;
     settle(&mut tokens);
@@ -131,7 +131,7 @@ pub fn lex(alloc: Global, bytes: &[u8]) -> Result<Vec<Token>, LexFault>
     ensures refused { (fault : LexFault) → spec.IsRefused bytes.now fault
         → IsErrAnd result (λ e. (e ≡ fault) ⊎ (e ≡ LexFault.Memory)) }
     ensures few { IfOk result (λ ts. length ts.items ≤ MOST_BYTES) }
-    ensures small { IfOk result (λ ts. AreSmall ts.items) }
+    ensures small { IfOk result (λ ts. HaveSmallNumbers ts.items) }
 {
     if bytes.len() > MOST_BYTES {
         return Err(LexFault::TooLong);

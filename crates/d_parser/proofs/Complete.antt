@@ -29,7 +29,7 @@ use Rattle.d_parser.specs.declared.marks.Follow.{Follow}
 use Rattle.d_parser.specs.declared.marks.Follow.TheVariants as f
 use Rattle.d_parser.specs.Tree.{Tree, Known, Read, Call, Unary, Cast, Before, After, Binary, Choice}
 use Rattle.d_parser.specs.Tree.{Assign, Trees, end, more, add}
-use Rattle.d_parser.specs.Words.{word_kind, kind_of, begins_type, only_integer, type_from}
+use Rattle.d_parser.specs.Words.{word_kind, word_kind_of, begins_type, only_integer, type_from}
 use Rattle.d_parser.specs.Words.{integer_type, is_word, AreWords, run, after_run}
 use Rattle.d_parser.specs.Marks.{prefix_of, follow_of, level_of, follow_at, kind_is, is_at}
 use Rattle.d_parser.specs.Marks.{same_mark, tail}
@@ -376,7 +376,7 @@ typed_from w.Signed ts to h = refl
 typed_from w.Unsigned ts to h = refl
 typed_from (w.Fixed t) ts to h = refl
 
-typed_word : (t : TokenKind) → is_word t ≡ true → begins_type (kind_of t) ≡ true → typed_by t ≡ true
+typed_word : (t : TokenKind) → is_word t ≡ true → begins_type (word_kind_of t) ≡ true → typed_by t ≡ true
 typed_word (kind.Word name) h e = e
 typed_word (kind.DescriptionRun name) h e = absurd cc
 typed_word (kind.AggregationName name) h e = absurd cc
@@ -386,7 +386,7 @@ typed_word (kind.Mark mark) h e = absurd cc
 
 typed_words : (words close : List Token) (to : IntegerType) → AreWords words → integer_type words ≡ Some to → is_typed (words ++ close) ≡ true
 typed_words [] close to h e = absurd cc
-typed_words (t ∷ ts) close to h e = typed_word t.kind h.0 (typed_from (kind_of t.kind) ts to e)
+typed_words (t ∷ ts) close to h e = typed_word t.kind h.0 (typed_from (word_kind_of t.kind) ts to e)
 
 cast_part : (line : ℕ) (to : IntegerType) (a : Tree) → Reads a → IsPart (Cast line to a)
 unfolding part part_at_mark part_in_parentheses part_at_cast

@@ -26,10 +26,11 @@ use Rattle.d_parser.specs.Script.{IsScript}
 use Rattle.d_parser.specs.Reading.{◌>>=◌, readers, arguments, part, part_at_mark, operand, whole}
 use Rattle.d_parser.specs.ReadingScripts.{any_word, aggregation, stmt_by, stmt, ends_stmt, slot}
 use Rattle.d_parser.specs.ReadingScripts.{further_stmts, stmts, description, descriptions_on}
-use Rattle.d_parser.specs.ReadingScripts.{further_descriptions, descriptions, predicate, clause}
+use Rattle.d_parser.specs.ReadingScripts.{further_descriptions, descriptions_reader}
+use Rattle.d_parser.specs.ReadingScripts.{predicate_reader, clause_reader}
 use Rattle.d_parser.specs.ReadingScripts.{whole_type, types_on, further_types, key_types}
 use Rattle.d_parser.specs.ReadingScripts.{last_apart, typed_name, of_thread, of_clause}
-use Rattle.d_parser.specs.ReadingScripts.{declaration_by, item, items, script}
+use Rattle.d_parser.specs.ReadingScripts.{declaration_by, item_reader, items_reader, script_reader}
 use Rattle.d_parser.proofs.Takes.{sign_one, takes, phrase_takes, keys_take, list_takes}
 use Rattle.d_parser.proofs.Complete.{reach, opens_of, sign_there, sign_follow, sign_tail, sign_at}
 use Rattle.d_parser.proofs.Complete.{sign_reach, after_sign, reads, reads_all, phrase_of, keys_read}
@@ -170,8 +171,8 @@ further_take (d ∷ ds) ts rest h =
     let three = further_take ds h.1 rest h.4 in
     omega arith
 
-all_descriptions_read : (n : ℕ) (ds : List Description) (ts rest : List Token) → AreDescriptions ds ts rest → is_at m.Comma rest ≡ false → length ts < n → descriptions n ts ≡ Some (ds, rest)
-unfolding descriptions
+all_descriptions_read : (n : ℕ) (ds : List Description) (ts rest : List Token) → AreDescriptions ds ts rest → is_at m.Comma rest ≡ false → length ts < n → descriptions_reader n ts ≡ Some (ds, rest)
+unfolding descriptions_reader
 all_descriptions_read n [] ts rest h e len = absurd h
 all_descriptions_read n (d ∷ ds) ts rest h e len =
     let one : length ts ≡ suc (length h.0) = ap length h.1.begins.is in
@@ -184,8 +185,8 @@ descriptions_take (d ∷ ds) ts rest h =
     let two = further_take ds h.0 rest h.2 in
     omega arith
 
-predicate_read : (n : ℕ) (o : Option Tree) (ts rest more : List Token) → IsPredicate o ts rest → Sign m.OpenBrace rest more → length ts < n → predicate n ts ≡ Some (o, rest)
-unfolding predicate
+predicate_read : (n : ℕ) (o : Option Tree) (ts rest more : List Token) → IsPredicate o ts rest → Sign m.OpenBrace rest more → length ts < n → predicate_reader n ts ≡ Some (o, rest)
+unfolding predicate_reader
 predicate_read n None ts rest more h s len = rw (h, sign_at m.OpenBrace m.Slash rest more s) refl
 predicate_read n (Some t) ts rest more h s len =
     let one = sign_one m.Slash ts h.0 h.2 in
@@ -204,8 +205,8 @@ predicate_starts : (o : Option Tree) (ts rest more : List Token) → IsPredicate
 predicate_starts None ts rest more h s = rw (h, sign_at m.OpenBrace m.Comma rest more s) refl
 predicate_starts (Some t) ts rest more h s = sign_at m.Slash m.Comma ts h.0 h.2
 
-clause_read : (n : ℕ) (c : ClauseTree) (ts rest : List Token) → IsClause c ts rest → length ts < n → clause n ts ≡ Some (c, rest)
-unfolding clause
+clause_read : (n : ℕ) (c : ClauseTree) (ts rest : List Token) → IsClause c ts rest → length ts < n → clause_reader n ts ≡ Some (c, rest)
+unfolding clause_reader
 clause_read n c ts rest h len =
     let one = descriptions_take c.descriptions ts h.at_predicate h.descriptions in
     let two = predicate_takes c.predicate h.at_predicate h.at_brace h.predicate in
@@ -340,19 +341,19 @@ clause_local_read line t name ts rest h =
 
 -- ---- scripts
 
-declared_item : (n line : ℕ) (first : List ℕ) (which : WordKind) (d : DeclarationTree) (ts behind rest : List Token) → Begins (kind.Word first) line ts behind → word_kind first ≡ which → declaration_by which n line behind ≡ Some (d, rest) → item n ts ≡ Some (Declared d, rest)
-unfolding item
+declared_item : (n line : ℕ) (first : List ℕ) (which : WordKind) (d : DeclarationTree) (ts behind rest : List Token) → Begins (kind.Word first) line ts behind → word_kind first ≡ which → declaration_by which n line behind ≡ Some (d, rest) → item_reader n ts ≡ Some (Declared d, rest)
+unfolding item_reader
 declared_item n line first which d ts behind rest h w e = rw h.is (rw w (rw e refl))
 
-probing_item : (n line : ℕ) (run : List ℕ) (ts behind : List Token) → Begins (kind.DescriptionRun run) line ts behind → item n ts ≡ (clause n ts >>= λ c. Some (Probing c.0, c.1))
-unfolding item
+probing_item : (n line : ℕ) (run : List ℕ) (ts behind : List Token) → Begins (kind.DescriptionRun run) line ts behind → item_reader n ts ≡ (clause_reader n ts >>= λ c. Some (Probing c.0, c.1))
+unfolding item_reader
 probing_item n line run ts behind h = rw h.is refl
 
-first_run : (n : ℕ) (ds : List Description) (ts rest : List Token) → AreDescriptions ds ts rest → item n ts ≡ (clause n ts >>= λ c. Some (Probing c.0, c.1))
+first_run : (n : ℕ) (ds : List Description) (ts rest : List Token) → AreDescriptions ds ts rest → item_reader n ts ≡ (clause_reader n ts >>= λ c. Some (Probing c.0, c.1))
 first_run n [] ts rest h = absurd h
 first_run n (d ∷ ds) ts rest h = probing_item n h.1.line h.1.run ts h.0 h.1.begins
 
-item_read : (n : ℕ) (i : ItemTree) (ts rest : List Token) → IsItem i ts rest → length ts < n → item n ts ≡ Some (i, rest)
+item_read : (n : ℕ) (i : ItemTree) (ts rest : List Token) → IsItem i ts rest → length ts < n → item_reader n ts ≡ Some (i, rest)
 item_read n (Declared (OfThread line t name all)) ts rest h len = declared_item n line h.first w.Thread (OfThread line t name all) ts h.at_type rest h.begins h.reserved (thread_read n line t name all ts rest h len)
 item_read n (Declared (OfClause line t name)) ts rest h len = declared_item n line h.first w.Clause (OfClause line t name) ts h.at_type rest h.begins h.reserved (clause_local_read line t name ts rest h)
 item_read n (Probing c) ts rest h len = first_run n c.descriptions ts h.at_predicate h.descriptions ∙ rw (clause_read n c ts rest h len) refl
@@ -362,21 +363,21 @@ item_takes n (Declared (OfThread line t name all)) ts rest h = declared_takes w.
 item_takes n (Declared (OfClause line t name)) ts rest h = declared_takes w.Clause line t name [] ts rest h
 item_takes n (Probing c) ts rest h = clause_takes c ts rest h
 
-items_goes : (n turns : ℕ) (all : List ItemTree) (ts : List Token) (x : ItemTree × List Token) → item n ts ≡ Some x → items n (suc turns) all ts ≡ items n turns (all ++ x.0 ∷ []) x.1
-unfolding items item
+items_goes : (n turns : ℕ) (all : List ItemTree) (ts : List Token) (x : ItemTree × List Token) → item_reader n ts ≡ Some x → items_reader n (suc turns) all ts ≡ items_reader n turns (all ++ x.0 ∷ []) x.1
+unfolding items_reader item_reader
 items_goes n turns all [] x e = absurd cc
 items_goes n turns all (t ∷ ts) x e = rw e refl
 
-items_read : (l : List ItemTree) (n turns : ℕ) (all : List ItemTree) (ts : List Token) → IsScript l ts → length ts < n → length ts < turns → items n turns all ts ≡ Some (all ++ l)
-unfolding items
+items_read : (l : List ItemTree) (n turns : ℕ) (all : List ItemTree) (ts : List Token) → IsScript l ts → length ts < n → length ts < turns → items_reader n turns all ts ≡ Some (all ++ l)
+unfolding items_reader
 items_read l n zero all ts h len t = absurd (omega arith)
 items_read [] n (suc turns) all ts h len t = rw (h, append-nil all) refl
 items_read (i ∷ l) n (suc turns) all ts h len t =
     let less = item_takes n i ts h.0 h.1 in
     items_goes n turns all ts (i, h.0) (item_read n i ts h.0 h.1 len) ∙ (items_read l n turns (all ++ i ∷ []) h.0 h.2 (omega arith) (omega arith) ∙ ap (λ (xs : List ItemTree). Some xs) (append_assoc all (i ∷ []) l))
 
-pub script_complete : (l : List ItemTree) (ts : List Token) → IsScript l ts → script ts ≡ Some l
-unfolding script
+pub script_complete : (l : List ItemTree) (ts : List Token) → IsScript l ts → script_reader ts ≡ Some l
+unfolding script_reader
 script_complete l ts h = items_read l (length ts + 1) (length ts + 1) [] ts h (omega arith) (omega arith)
 
 -- a list has one script at most

@@ -4,7 +4,8 @@ use Rattle.std.proofs.Common.{◌++◌, length, refl, ap, arith, inl, inr}
 use Rattle.std.specs.Prelude.{◌||◌, ◌⊎◌, nat_lt}
 use Rattle.std.proofs.lemmas.Bool.{cases_lt, ltb-true, lt-ltb}
 use Rattle.d_lexer.specs.declared.token.Token.{Token}
-use Rattle.d_parser.specs.Limits.{Turn, Opens, Closes, Ends, Goes, turn, opens, closes, ends}
+use Rattle.d_parser.specs.Limits.{BracketTurn, Opens, Closes, Ends, Goes, bracket_turn, opens}
+use Rattle.d_parser.specs.Limits.{closes, ends}
 use Rattle.d_parser.specs.Limits.{openings, closings, endings, IsDeep}
 use Rattle.d_parser.specs.Depth.{open_by, row_by, open_after, row_with, is_deep}
 
@@ -21,26 +22,26 @@ record Front (b r : ℕ) (ts : List Token) : Type 0 where
 
 -- ---- a step
 
-deeper : (u : Turn) (b x y : ℕ) → 64 + y < open_by u b + x → (64 + (closes u + y) < b + (opens u + x)) ⊎ (64 + y < x)
+deeper : (u : BracketTurn) (b x y : ℕ) → 64 + y < open_by u b + x → (64 + (closes u + y) < b + (opens u + x)) ⊎ (64 + y < x)
 deeper Opens b x y h = inl (omega arith)
 deeper Closes zero x y h = inr (omega arith)
 deeper Closes (suc b) x y h = inl (omega arith)
 deeper Ends b x y h = inl (omega arith)
 deeper Goes b x y h = inl (omega arith)
 
-shallower : (u : Turn) (b x y : ℕ) → 64 + (closes u + y) < b + (opens u + x) → 64 + y < open_by u b + x
+shallower : (u : BracketTurn) (b x y : ℕ) → 64 + (closes u + y) < b + (opens u + x) → 64 + y < open_by u b + x
 shallower Opens b x y h = omega arith
 shallower Closes b x y h = omega arith
 shallower Ends b x y h = omega arith
 shallower Goes b x y h = omega arith
 
-longer : (u : Turn) (r n e : ℕ) → 1024 < row_by u r + n → e ≡ 0 → ((1024 < r + suc n) × (ends u + e ≡ 0)) ⊎ (1024 < n)
+longer : (u : BracketTurn) (r n e : ℕ) → 1024 < row_by u r + n → e ≡ 0 → ((1024 < r + suc n) × (ends u + e ≡ 0)) ⊎ (1024 < n)
 longer Opens r n e h k = inl (omega arith, omega arith)
 longer Closes r n e h k = inl (omega arith, omega arith)
 longer Ends r n e h k = inr (omega arith)
 longer Goes r n e h k = inl (omega arith, omega arith)
 
-shorter : (u : Turn) (r n e : ℕ) → 1024 < r + suc n → ends u + e ≡ 0 → (1024 < row_by u r + n) × (e ≡ 0)
+shorter : (u : BracketTurn) (r n e : ℕ) → 1024 < r + suc n → ends u + e ≡ 0 → (1024 < row_by u r + n) × (e ≡ 0)
 shorter Opens r n e h k = (omega arith, omega arith)
 shorter Closes r n e h k = (omega arith, omega arith)
 shorter Ends r n e h k = absurd (omega arith)
@@ -65,11 +66,11 @@ front t p q ts b r e f = record { p = t ∷ p; q = q; is = ap (λ (l : List Toke
 step : (t : Token) (ts : List Token) (b r : ℕ) → Front (open_after t.kind b) (row_with t.kind r) ts → Front b r (t ∷ ts) ⊎ IsDeep (t ∷ ts)
 step t ts b r f =
     elim f.full [
-      | inl d ↦ elim (deeper (turn t.kind) b (openings f.p) (closings f.p) d) [
+      | inl d ↦ elim (deeper (bracket_turn t.kind) b (openings f.p) (closings f.p) d) [
         | inl w ↦ inl (front t f.p f.q ts b r f.is (inl w))
         | inr w ↦ inr (here t f.p f.q ts f.is (inl w))
       ]
-      | inr l ↦ elim (longer (turn t.kind) r (length f.p) (endings f.p) l.0 l.1) [
+      | inr l ↦ elim (longer (bracket_turn t.kind) r (length f.p) (endings f.p) l.0 l.1) [
         | inl w ↦ inl (front t f.p f.q ts b r f.is (inr w))
         | inr w ↦ inr (here t f.p f.q ts f.is (inr (w, l.1)))
       ]
@@ -117,8 +118,8 @@ front_deep [] q b r le short f = elim f [
 ]
 front_deep (t ∷ p) q b r le short f =
     go_on t (p ++ q) b r (λ le2 short2. front_deep p q (open_after t.kind b) (row_with t.kind r) le2 short2 (elim f [
-      | inl d ↦ inl (shallower (turn t.kind) b (openings p) (closings p) d)
-      | inr l ↦ inr (shorter (turn t.kind) r (length p) (endings p) l.0 l.1)
+      | inl d ↦ inl (shallower (bracket_turn t.kind) b (openings p) (closings p) d)
+      | inr l ↦ inr (shorter (bracket_turn t.kind) r (length p) (endings p) l.0 l.1)
     ]))
 
 part_deep : (before stretch behind : List Token) (b r : ℕ) → b ≤ 64 → r ≤ 1024 → (64 + closings stretch < openings stretch) ⊎ ((1024 < length stretch) × (endings stretch ≡ 0)) → is_deep b r (before ++ stretch ++ behind) ≡ true

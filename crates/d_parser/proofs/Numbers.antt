@@ -30,7 +30,7 @@ use Rattle.d_parser.specs.Script.{FurtherDescriptions, AreDescriptions, IsPredic
 use Rattle.d_parser.specs.Script.{FurtherTypes, AreKeyTypes, IsDeclared, IsDeclaration, IsScript}
 
 abbrev Small : List Token → Type 0
-Small = token.AreSmall
+Small = token.HaveSmallNumbers
 
 -- what is spelled by small tokens is as Q says, and leaves small tokens
 abbrev Keeps : Type 0 → Part → Type 0
@@ -40,7 +40,7 @@ Keeps Q P = (ts rest : List Token) → Small ts → P ts rest → Q × Small res
 abbrev Leaves : Part → Type 0
 Leaves P = (ts rest : List Token) → Small ts → P ts rest → Small rest
 
-begins_small : (k : TokenKind) (line : ℕ) → Keeps (token.IsSmall k) (Begins k line)
+begins_small : (k : TokenKind) (line : ℕ) → Keeps (token.HasSmallNumber k) (Begins k line)
 begins_small k line ts rest s h = subst Small h.is s
 
 sign_small : (mark : Mark) → Leaves (Sign mark)
@@ -75,7 +75,7 @@ variable_small (v.Clause line name) ts rest s h = member_small _ name line ts re
 target_small : (x : Variable) (all : Trees) → Keeps (HaveSmall all) (SpellsKeys all) → Keeps (HaveSmall all) (IsTarget x all (SpellsKeys all))
 target_small x all f ts rest s h = f h.behind rest (variable_small x ts h.behind s h.variable) h.keys
 
-constant_small : (k : Constant) → token.IsSmall (constant_kind k) → IsSmall k
+constant_small : (k : Constant) → token.HasSmallNumber (constant_kind k) → IsSmall k
 constant_small (c.Number value suffix) h = h
 constant_small (c.Text bytes) h = tt
 

@@ -12,7 +12,7 @@ use Rattle.d_parser.specs.declared.words.WordKind.{WordKind}
 use Rattle.d_parser.specs.declared.words.WordKind.TheVariants as w
 use Rattle.d_parser.specs.Tree.{Tree, StmtTree, Expression, Aggregation, DeclarationTree, OfThread}
 use Rattle.d_parser.specs.Tree.{OfClause, ClauseTree, ItemTree, Declared, Probing}
-use Rattle.d_parser.specs.Words.{word_kind, is_word, type_of, AreWords, run, after_run}
+use Rattle.d_parser.specs.Words.{word_kind, is_word, type_of_words, AreWords, run, after_run}
 use Rattle.d_parser.specs.Marks.{is_at, tail}
 use Rattle.d_parser.specs.Grammar.{token, Begins, Sign}
 use Rattle.d_parser.specs.Script.{IsStmt, IsSlot, AreFurther, present, AreStmts, description_of}
@@ -23,10 +23,12 @@ use Rattle.d_parser.specs.Reading.{◌>>=◌, after_mark, readers, keys, argumen
 use Rattle.d_parser.specs.ReadingScripts.{word_by, any_word, aggregation, stmt_by, stmt, ends_stmt}
 use Rattle.d_parser.specs.ReadingScripts.{slot, further_stmts, stmts, with_rest, description_by}
 use Rattle.d_parser.specs.ReadingScripts.{description, descriptions_on, further_descriptions}
-use Rattle.d_parser.specs.ReadingScripts.{descriptions, predicate, clause, whole_type, types_on}
-use Rattle.d_parser.specs.ReadingScripts.{further_types, key_types, last_by, last_apart, word_of}
+use Rattle.d_parser.specs.ReadingScripts.{descriptions_reader, predicate_reader, clause_reader}
+use Rattle.d_parser.specs.ReadingScripts.{whole_type, types_on}
+use Rattle.d_parser.specs.ReadingScripts.{further_types, key_types, last_by, last_apart}
+use Rattle.d_parser.specs.ReadingScripts.{spelled_word}
 use Rattle.d_parser.specs.ReadingScripts.{typed_name, of_thread, of_clause, declaration_by, item_by}
-use Rattle.d_parser.specs.ReadingScripts.{item, items, script}
+use Rattle.d_parser.specs.ReadingScripts.{item_reader, items_reader, script_reader}
 use Rattle.d_parser.proofs.Complete.{sign_there}
 use Rattle.d_parser.proofs.Sound.{IfSome, then_sound, test_sound, weaken, after_sound, Whole}
 use Rattle.d_parser.proofs.Sound.{KeysOf, ArgumentsOf, SignOf, keys_sound, arguments_sound}
@@ -175,8 +177,8 @@ further_descriptions_sound (suc turns) all ts =
 abbrev DescriptionsOf : List Token → List Description × List Token → Type 0
 DescriptionsOf ts x = AreDescriptions x.0 ts x.1
 
-descriptions_sound : (n : ℕ) (ts : List Token) → IfSome (DescriptionsOf ts) (descriptions n ts)
-unfolding descriptions
+descriptions_sound : (n : ℕ) (ts : List Token) → IfSome (DescriptionsOf ts) (descriptions_reader n ts)
+unfolding descriptions_reader
 descriptions_sound n ts =
     then_sound (DescriptionOf ts) (DescriptionsOf ts) (description ts) (λ d. further_descriptions n (d.0 ∷ []) d.1) (description_sound ts)
     (λ d h. weaken (FurtherDescribed (d.0 ∷ []) d.1) (DescriptionsOf ts) (further_descriptions n (d.0 ∷ []) d.1)
@@ -186,8 +188,8 @@ descriptions_sound n ts =
 abbrev PredicateOf : List Token → Option Tree × List Token → Type 0
 PredicateOf ts x = IsPredicate x.0 ts x.1
 
-predicate_sound : (n : ℕ) (ts : List Token) → IfSome (PredicateOf ts) (predicate n ts)
-unfolding predicate
+predicate_sound : (n : ℕ) (ts : List Token) → IfSome (PredicateOf ts) (predicate_reader n ts)
+unfolding predicate_reader
 predicate_sound n ts =
     test_sound (PredicateOf ts) (is_at m.Slash ts) ((readers n).phrase 1 (tail ts) >>= λ x. after_mark m.ClosingSlash x.1 >>= λ rest. Some (Some x.0, rest)) (Some (None, ts))
     (λ e. then_sound (Whole 1 (tail ts)) (PredicateOf ts) ((readers n).phrase 1 (tail ts)) (λ x. after_mark m.ClosingSlash x.1 >>= λ rest. Some (Some x.0, rest)) ((readers_sound n).phrase 1 (tail ts) (lit≤ tt) (lit≤ tt))
@@ -198,11 +200,11 @@ predicate_sound n ts =
 abbrev ClauseOf : List Token → ClauseTree × List Token → Type 0
 ClauseOf ts x = IsClause x.0 ts x.1
 
-pub clause_sound : (n : ℕ) (ts : List Token) → IfSome (ClauseOf ts) (clause n ts)
-unfolding clause
+pub clause_sound : (n : ℕ) (ts : List Token) → IfSome (ClauseOf ts) (clause_reader n ts)
+unfolding clause_reader
 clause_sound n ts =
-    then_sound (DescriptionsOf ts) (ClauseOf ts) (descriptions n ts) (λ d. predicate n d.1 >>= λ p. after_mark m.OpenBrace p.1 >>= λ rest. stmts n rest >>= λ s. Some (record { descriptions = d.0; predicate = p.0; statements = s.0 }, s.1)) (descriptions_sound n ts)
-    (λ d h. then_sound (PredicateOf d.1) (ClauseOf ts) (predicate n d.1) (λ p. after_mark m.OpenBrace p.1 >>= λ rest. stmts n rest >>= λ s. Some (record { descriptions = d.0; predicate = p.0; statements = s.0 }, s.1)) (predicate_sound n d.1)
+    then_sound (DescriptionsOf ts) (ClauseOf ts) (descriptions_reader n ts) (λ d. predicate_reader n d.1 >>= λ p. after_mark m.OpenBrace p.1 >>= λ rest. stmts n rest >>= λ s. Some (record { descriptions = d.0; predicate = p.0; statements = s.0 }, s.1)) (descriptions_sound n ts)
+    (λ d h. then_sound (PredicateOf d.1) (ClauseOf ts) (predicate_reader n d.1) (λ p. after_mark m.OpenBrace p.1 >>= λ rest. stmts n rest >>= λ s. Some (record { descriptions = d.0; predicate = p.0; statements = s.0 }, s.1)) (predicate_sound n d.1)
     (λ p g. then_sound (SignOf m.OpenBrace p.1) (ClauseOf ts) (after_mark m.OpenBrace p.1) (λ rest. stmts n rest >>= λ s. Some (record { descriptions = d.0; predicate = p.0; statements = s.0 }, s.1)) (after_sound m.OpenBrace p.1)
     (λ rest o. then_sound (StmtsOf rest) (ClauseOf ts) (stmts n rest) (λ s. Some (record { descriptions = d.0; predicate = p.0; statements = s.0 }, s.1)) (stmts_sound n rest)
     (λ s k. record { at_predicate = d.1; at_brace = p.1; at_stmts = rest; descriptions = h; predicate = g; opens = o; stmts = k }))))
@@ -212,13 +214,13 @@ clause_sound n ts =
 abbrev TypeOf : List Token → DeclaredType × List Token → Type 0
 TypeOf ts x = IsType x.0 ts x.1
 
-type_by_sound : (o : Option DeclaredType) (ts : List Token) → type_of (run ts) ≡ o → IfSome (TypeOf ts) (with_rest (after_run ts) o)
+type_by_sound : (o : Option DeclaredType) (ts : List Token) → type_of_words (run ts) ≡ o → IfSome (TypeOf ts) (with_rest (after_run ts) o)
 type_by_sound None ts e = tt
 type_by_sound (Some t) ts e = record { words = run ts; is = run_joined ts; are_words = are_words ts; spells = e }
 
 type_sound : (ts : List Token) → IfSome (TypeOf ts) (whole_type ts)
 unfolding whole_type
-type_sound ts = type_by_sound (type_of (run ts)) ts refl
+type_sound ts = type_by_sound (type_of_words (run ts)) ts refl
 
 pub record Typed (all : List DeclaredType) (ts : List Token) (x : List DeclaredType × List Token) : Type 0 where
   pub others : List DeclaredType
@@ -274,7 +276,7 @@ words_apart : (words : List Token) (t : Token) → AreWords (words ++ t ∷ []) 
 words_apart [] t h = (tt, h.0)
 words_apart (w ∷ words) t h = let g = words_apart words t h.1 in ((h.0, g.0), g.1)
 
-word_is : (t : TokenKind) → is_word t ≡ true → t ≡ kind.Word (word_of t)
+word_is : (t : TokenKind) → is_word t ≡ true → t ≡ kind.Word (spelled_word t)
 word_is (kind.Word word) h = refl
 word_is (kind.DescriptionRun name) h = absurd cc
 word_is (kind.AggregationName name) h = absurd cc
@@ -289,11 +291,11 @@ pub record TypedName (ts : List Token) (x : (DeclaredType × List ℕ) × List T
   pub spells : IsType x.0.0 ts at_name
   pub word : Begins (kind.Word x.0.1) line at_name x.1
 
-some_type : (o : Option DeclaredType) (words : List Token) → type_of words ≡ o → IfSome (λ t. type_of words ≡ Some t) o
+some_type : (o : Option DeclaredType) (words : List Token) → type_of_words words ≡ o → IfSome (λ t. type_of_words words ≡ Some t) o
 some_type None words e = tt
 some_type (Some t) words e = e
 
-named_type : (ts words : List Token) (last : Token) (t : DeclaredType) → run ts ≡ words ++ last ∷ [] → type_of words ≡ Some t → TypedName ts ((t, word_of last.kind), after_run ts)
+named_type : (ts words : List Token) (last : Token) (t : DeclaredType) → run ts ≡ words ++ last ∷ [] → type_of_words words ≡ Some t → TypedName ts ((t, spelled_word last.kind), after_run ts)
 named_type ts words last t e h =
     let apart = words_apart words last (subst AreWords e (are_words ts)) in
     let whole : ts ≡ words ++ (last ∷ after_run ts) = run_joined ts ∙ (ap (λ (xs : List Token). xs ++ after_run ts) e ∙ append_assoc words (last ∷ []) (after_run ts)) in
@@ -307,8 +309,8 @@ named_type ts words last t e h =
 typed_name_sound : (ts : List Token) → IfSome (TypedName ts) (typed_name ts)
 unfolding typed_name
 typed_name_sound ts =
-    then_sound (Apart (run ts)) (TypedName ts) (last_apart (run ts)) (λ x. type_of x.0 >>= λ t. Some ((t, word_of x.1.kind), after_run ts)) (apart_sound (run ts))
-    (λ x e. then_sound (λ t. type_of x.0 ≡ Some t) (TypedName ts) (type_of x.0) (λ t. Some ((t, word_of x.1.kind), after_run ts)) (some_type (type_of x.0) x.0 refl)
+    then_sound (Apart (run ts)) (TypedName ts) (last_apart (run ts)) (λ x. type_of_words x.0 >>= λ t. Some ((t, spelled_word x.1.kind), after_run ts)) (apart_sound (run ts))
+    (λ x e. then_sound (λ t. type_of_words x.0 ≡ Some t) (TypedName ts) (type_of_words x.0) (λ t. Some ((t, spelled_word x.1.kind), after_run ts)) (some_type (type_of_words x.0) x.0 refl)
     (λ t h. named_type ts x.0 x.1 t e h))
 
 abbrev DeclarationOf : List Token → DeclarationTree × List Token → Type 0
@@ -347,8 +349,8 @@ declared_sound (w.Fixed t) n line name start ts e h = tt
 abbrev ItemOf : List Token → ItemTree × List Token → Type 0
 ItemOf ts x = IsItem x.0 ts x.1
 
-probing_sound : (n : ℕ) (ts : List Token) → IfSome (ItemOf ts) (clause n ts >>= λ c. Some (Probing c.0, c.1))
-probing_sound n ts = then_sound (ClauseOf ts) (ItemOf ts) (clause n ts) (λ c. Some (Probing c.0, c.1)) (clause_sound n ts) (λ c h. h)
+probing_sound : (n : ℕ) (ts : List Token) → IfSome (ItemOf ts) (clause_reader n ts >>= λ c. Some (Probing c.0, c.1))
+probing_sound n ts = then_sound (ClauseOf ts) (ItemOf ts) (clause_reader n ts) (λ c. Some (Probing c.0, c.1)) (clause_sound n ts) (λ c h. h)
 
 item_by_sound : (n : ℕ) (t : TokenKind) (start stop line : ℕ) (ts : List Token) → IfSome (ItemOf (token t start stop line ∷ ts)) (item_by n t line ts (token t start stop line ∷ ts))
 item_by_sound n (kind.Word word) start stop line ts =
@@ -360,8 +362,8 @@ item_by_sound n (kind.Number value suffix) start stop line ts = probing_sound n 
 item_by_sound n (kind.TextConstant bytes) start stop line ts = probing_sound n (token (kind.TextConstant bytes) start stop line ∷ ts)
 item_by_sound n (kind.Mark mark) start stop line ts = probing_sound n (token (kind.Mark mark) start stop line ∷ ts)
 
-item_sound : (n : ℕ) (ts : List Token) → IfSome (ItemOf ts) (item n ts)
-unfolding item
+item_sound : (n : ℕ) (ts : List Token) → IfSome (ItemOf ts) (item_reader n ts)
+unfolding item_reader
 item_sound n [] = tt
 item_sound n (t ∷ ts) = item_by_sound n t.kind t.start t.stop t.line ts
 
@@ -370,17 +372,17 @@ pub record Itemised (all : List ItemTree) (ts : List Token) (x : List ItemTree) 
   pub spells : IsScript others ts
   pub is : x ≡ all ++ others
 
-items_sound : (n turns : ℕ) (all : List ItemTree) (ts : List Token) → IfSome (Itemised all ts) (items n turns all ts)
-unfolding items
+items_sound : (n turns : ℕ) (all : List ItemTree) (ts : List Token) → IfSome (Itemised all ts) (items_reader n turns all ts)
+unfolding items_reader
 items_sound n zero all ts = tt
 items_sound n (suc turns) all [] = record { others = []; spells = refl; is = sym (append-nil all) }
 items_sound n (suc turns) all (t ∷ ts) =
-    then_sound (ItemOf (t ∷ ts)) (Itemised all (t ∷ ts)) (item n (t ∷ ts)) (λ x. items n turns (all ++ x.0 ∷ []) x.1) (item_sound n (t ∷ ts))
-    (λ x h. weaken (Itemised (all ++ x.0 ∷ []) x.1) (Itemised all (t ∷ ts)) (items n turns (all ++ x.0 ∷ []) x.1)
+    then_sound (ItemOf (t ∷ ts)) (Itemised all (t ∷ ts)) (item_reader n (t ∷ ts)) (λ x. items_reader n turns (all ++ x.0 ∷ []) x.1) (item_sound n (t ∷ ts))
+    (λ x h. weaken (Itemised (all ++ x.0 ∷ []) x.1) (Itemised all (t ∷ ts)) (items_reader n turns (all ++ x.0 ∷ []) x.1)
     (λ y g. record { others = x.0 ∷ g.others; spells = (x.1, h, g.spells); is = g.is ∙ append_assoc all (x.0 ∷ []) g.others })
     (items_sound n turns (all ++ x.0 ∷ []) x.1))
 
-pub script_sound : (ts : List Token) → IfSome (λ all. IsScript all ts) (script ts)
-unfolding script
+pub script_sound : (ts : List Token) → IfSome (λ all. IsScript all ts) (script_reader ts)
+unfolding script_reader
 script_sound ts =
-    weaken (Itemised [] ts) (λ all. IsScript all ts) (items (length ts + 1) (length ts + 1) [] ts) (λ x g. subst (λ (all : List ItemTree). IsScript all ts) (sym g.is) g.spells) (items_sound (length ts + 1) (length ts + 1) [] ts)
+    weaken (Itemised [] ts) (λ all. IsScript all ts) (items_reader (length ts + 1) (length ts + 1) [] ts) (λ x g. subst (λ (all : List ItemTree). IsScript all ts) (sym g.is) g.spells) (items_sound (length ts + 1) (length ts + 1) [] ts)

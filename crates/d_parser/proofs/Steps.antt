@@ -9,9 +9,10 @@ use Rattle.d_parser.specs.declared.tree.Description.{Description}
 use Rattle.d_parser.specs.Tree.{StmtTree}
 use Rattle.d_parser.specs.Marks.{is_at, tail}
 use Rattle.d_parser.specs.Reading.{after_mark, readers, whole, climb_on, further_on}
-use Rattle.d_parser.specs.Words.{run, after_run, type_of}
+use Rattle.d_parser.specs.Words.{run, after_run, type_of_words}
 use Rattle.d_parser.specs.Tree.{ItemTree}
-use Rattle.d_parser.specs.ReadingScripts.{last_apart, word_of, typed_name, item, items, slot}
+use Rattle.d_parser.specs.ReadingScripts.{last_apart, spelled_word, typed_name, item_reader}
+use Rattle.d_parser.specs.ReadingScripts.{items_reader, slot}
 use Rattle.d_parser.specs.ReadingScripts.{further_stmts, further_types, types_on}
 use Rattle.d_parser.specs.ReadingScripts.{further_descriptions, descriptions_on}
 
@@ -81,29 +82,29 @@ last_taken (t ∷ (u ∷ ts)) x h e =
     let below = last_taken (u ∷ ts) x (omega arith) (rw n at e) in
     rw (n, below) refl
 
-pub typed_some : (ts words rest : List Token) (x : Token) (t : DeclaredType) → words ≡ run ts → rest ≡ after_run ts → 1 ≤ length words → x ≡ get_or words (length words - 1) x → type_of (take (length words - 1) words) ≡ Some t → typed_name ts ≡ Some ((t, word_of x.kind), rest)
+pub typed_some : (ts words rest : List Token) (x : Token) (t : DeclaredType) → words ≡ run ts → rest ≡ after_run ts → 1 ≤ length words → x ≡ get_or words (length words - 1) x → type_of_words (take (length words - 1) words) ≡ Some t → typed_name ts ≡ Some ((t, spelled_word x.kind), rest)
 unfolding typed_name
 typed_some ts words rest x t own behind len last e = rw (← own, ← behind) (rw (last_taken words x len last) (rw e refl))
 
-pub typed_none : (ts words : List Token) (x : Token) → words ≡ run ts → 1 ≤ length words → x ≡ get_or words (length words - 1) x → type_of (take (length words - 1) words) ≡ None → typed_name ts ≡ None
+pub typed_none : (ts words : List Token) (x : Token) → words ≡ run ts → 1 ≤ length words → x ≡ get_or words (length words - 1) x → type_of_words (take (length words - 1) words) ≡ None → typed_name ts ≡ None
 unfolding typed_name
 typed_none ts words x own len last e = rw (← own) (rw (last_taken words x len last) (rw e refl))
 
-pub items_fail : (k n c : ℕ) (all : List ItemTree) (ts : List Token) → c < n → 1 ≤ length ts → item k ts ≡ None → items k (n - c) all ts ≡ None
-unfolding items
+pub items_fail : (k n c : ℕ) (all : List ItemTree) (ts : List Token) → c < n → 1 ≤ length ts → item_reader k ts ≡ None → items_reader k (n - c) all ts ≡ None
+unfolding items_reader
 items_fail k n c all [] h l e = absurd (omega arith)
 items_fail k n c all (t ∷ ts) h l e = rw (at_suc n c h) (rw e refl)
 
-pub items_stop : (k n c : ℕ) (all : List ItemTree) (ts : List Token) → c < n → length ts ≡ 0 → items k (n - c) all ts ≡ Some all
-unfolding items
+pub items_stop : (k n c : ℕ) (all : List ItemTree) (ts : List Token) → c < n → length ts ≡ 0 → items_reader k (n - c) all ts ≡ Some all
+unfolding items_reader
 items_stop k n c all [] h e = rw (at_suc n c h) refl
 items_stop k n c all (t ∷ ts) h e = absurd (omega arith)
 
-pub items_goes : (k n c : ℕ) (all : List ItemTree) (ts : List Token) (x : ItemTree × List Token) → c < n → 1 ≤ length ts → item k ts ≡ Some x → items k (n - c) all ts ≡ items k (n - (c + 1)) (all ++ x.0 ∷ []) x.1
-unfolding items
+pub items_goes : (k n c : ℕ) (all : List ItemTree) (ts : List Token) (x : ItemTree × List Token) → c < n → 1 ≤ length ts → item_reader k ts ≡ Some x → items_reader k (n - c) all ts ≡ items_reader k (n - (c + 1)) (all ++ x.0 ∷ []) x.1
+unfolding items_reader
 items_goes k n c all [] x h l e = absurd (omega arith)
 items_goes k n c all (t ∷ ts) x h l e = rw (at_suc n c h) (rw e refl)
 
-pub items_end : (k n c : ℕ) (all : List ItemTree) (ts : List Token) → n ≤ c → items k (n - c) all ts ≡ None
-unfolding items
+pub items_end : (k n c : ℕ) (all : List ItemTree) (ts : List Token) → n ≤ c → items_reader k (n - c) all ts ≡ None
+unfolding items_reader
 items_end k n c all ts h = let e : n - c ≡ 0 = omega arith in rw e refl

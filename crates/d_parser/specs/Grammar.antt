@@ -26,7 +26,7 @@ pub record Sign (mark : Mark) (ts rest : List Token) : Type 0 where
   pub line : ℕ
   pub begins : Begins (TokenKind.Mark mark) line ts rest
 
--- so many pairs of parentheses round a part
+-- n pairs of parentheses round a part
 abbrev pub Within : ℕ → Part → Part
 Within zero Inner ts rest = Inner ts rest
 Within (suc n) Inner ts rest =
@@ -40,7 +40,7 @@ pub record IsPhrase (Bare : Part) (own k : ℕ) (ts rest : List Token) : Type 0 
   pub high : pairs ≡ 0 → k ≤ own
   pub within : Within pairs Bare ts rest
 
--- the level of a tree that stands without parentheses
+-- the level of a tree without parentheses
 abbrev pub rank : Tree → ℕ
 rank (Assign op x keys a) = ASSIGNMENT
 rank (Choice test a b) = CONDITION
@@ -106,8 +106,8 @@ pub record IsCast (line : ℕ) (to : IntegerType) (ts rest : List Token) : Type 
   pub closes : Sign Mark.CloseParenthesis close rest
 
 abbrev mutual
-  -- The tokens spell the tree, with no parentheses round it. Above each clause stands its line of
-  -- the grammar (docs/GRAMMAR.md).
+  -- The tokens spell the tree, with no parentheses round it. Above each clause is its line of the
+  -- grammar (docs/GRAMMAR.md).
   pub Spells : Tree → Part
   -- post = number | text
   Spells (Known line constant) ts rest = Begins (constant_kind constant) line ts rest
@@ -174,9 +174,6 @@ abbrev mutual
   SpellsMore (more a list) ts rest =
       (first : List Token) × (behind : List Token) × Sign Mark.Comma ts first
       × IsPhrase (Spells a) (rank a) ASSIGNMENT first behind × SpellsMore list behind rest
-
-abbrev pub IsPhraseOf : Tree → ℕ → Part
-IsPhraseOf t k ts rest = IsPhrase (Spells t) (rank t) k ts rest
 
 abbrev pub IsExpression : Tree → Part
 IsExpression t ts rest = IsPhrase (Spells t) (rank t) ASSIGNMENT ts rest

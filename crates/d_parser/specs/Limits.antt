@@ -5,47 +5,47 @@ use Rattle.d_parser.specs.Vocabulary.{Mark, Token, TokenKind, ParseFault, MOST_O
 use Rattle.d_parser.specs.Vocabulary.{MOST_CLAUSES}
 
 -- what a token does to the brackets that are open, and to the row that it is in
-pub data Turn : Type 0 where
-  Opens : Turn
-  Closes : Turn
-  Ends : Turn
-  Goes : Turn
+pub data BracketTurn : Type 0 where
+  Opens : BracketTurn
+  Closes : BracketTurn
+  Ends : BracketTurn
+  Goes : BracketTurn
 
-abbrev pub turn : TokenKind → Turn
-turn (TokenKind.Mark Mark.OpenParenthesis) = Opens
-turn (TokenKind.Mark Mark.OpenBracket) = Opens
-turn (TokenKind.Mark Mark.CloseParenthesis) = Closes
-turn (TokenKind.Mark Mark.CloseBracket) = Closes
-turn (TokenKind.Mark Mark.Semicolon) = Ends
-turn (TokenKind.Mark Mark.OpenBrace) = Ends
-turn (TokenKind.Mark Mark.CloseBrace) = Ends
-turn t = Goes
+abbrev pub bracket_turn : TokenKind → BracketTurn
+bracket_turn (TokenKind.Mark Mark.OpenParenthesis) = Opens
+bracket_turn (TokenKind.Mark Mark.OpenBracket) = Opens
+bracket_turn (TokenKind.Mark Mark.CloseParenthesis) = Closes
+bracket_turn (TokenKind.Mark Mark.CloseBracket) = Closes
+bracket_turn (TokenKind.Mark Mark.Semicolon) = Ends
+bracket_turn (TokenKind.Mark Mark.OpenBrace) = Ends
+bracket_turn (TokenKind.Mark Mark.CloseBrace) = Ends
+bracket_turn t = Goes
 
-abbrev pub opens : Turn → ℕ
+abbrev pub opens : BracketTurn → ℕ
 opens Opens = 1
 opens u = 0
 
-abbrev pub closes : Turn → ℕ
+abbrev pub closes : BracketTurn → ℕ
 closes Closes = 1
 closes u = 0
 
-abbrev pub ends : Turn → ℕ
+abbrev pub ends : BracketTurn → ℕ
 ends Ends = 1
 ends u = 0
 
 -- how many parentheses and brackets these tokens open, and how many they close
 abbrev pub openings : List Token → ℕ
 openings [] = 0
-openings (t ∷ ts) = opens (turn t.kind) + openings ts
+openings (t ∷ ts) = opens (bracket_turn t.kind) + openings ts
 
 abbrev pub closings : List Token → ℕ
 closings [] = 0
-closings (t ∷ ts) = closes (turn t.kind) + closings ts
+closings (t ∷ ts) = closes (bracket_turn t.kind) + closings ts
 
 -- how many of them are semicolons and braces
 abbrev pub endings : List Token → ℕ
 endings [] = 0
-endings (t ∷ ts) = ends (turn t.kind) + endings ts
+endings (t ∷ ts) = ends (bracket_turn t.kind) + endings ts
 
 -- Somewhere in the list a stretch of tokens opens over 64 more brackets than it closes, or is over
 -- 1,024 tokens long with no semicolon or brace.

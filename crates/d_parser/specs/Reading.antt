@@ -238,7 +238,7 @@ module _ (down : Readers) where
       then (down.phrase ASSIGNMENT (tail ts) >>= λ next. down.further (add all next.0) next.1)
       else Some (all, ts)
 
--- with at most so many levels below
+-- with at most n levels below
 abbrev pub readers : ℕ → Readers
 readers zero = record { phrase = λ k ts. None; climb = λ k left ts. None; further = λ all ts. None }
 readers (suc n) = record {

@@ -5,7 +5,7 @@ use Rattle.d_parser.specs.Vocabulary.{Mark, Token, TokenKind, ASSIGNMENT, Declar
 use Rattle.d_parser.specs.Vocabulary.{WordKind}
 use Rattle.d_parser.specs.Tree.{Tree, StmtTree, Expression, Aggregation, DeclarationTree, OfThread}
 use Rattle.d_parser.specs.Tree.{OfClause, ClauseTree, ItemTree, Declared, Probing}
-use Rattle.d_parser.specs.Words.{word_kind, type_of, run, after_run}
+use Rattle.d_parser.specs.Words.{word_kind, type_of_words, run, after_run}
 use Rattle.d_parser.specs.Reading.{◌>>=◌, Reader, after_mark, readers, keys, arguments}
 use Rattle.d_parser.specs.{Marks.is_at, Marks.tail, Script.description_of}
 
@@ -42,12 +42,12 @@ stmt n (t ∷ ts) = stmt_by n t.kind t.line ts (t ∷ ts)
 abbrev pub ends_stmt : List Token → Bool
 ends_stmt ts = if is_at Mark.Semicolon ts then true else is_at Mark.CloseBrace ts
 
--- with the statement at the front, if there is one
+-- these statements, and the one at the front if there is one
 unfoldable pub slot : ℕ → List StmtTree → Reader (List StmtTree)
 slot n all ts =
     if ends_stmt ts then Some (all, ts) else (stmt n ts >>= λ s. Some (all ++ s.0 ∷ [], s.1))
 
--- the statements after semicolons, in at most so many turns
+-- the statements after semicolons, `turns` of them at most
 unfoldable pub further_stmts : ℕ → ℕ → List StmtTree → Reader (List StmtTree)
 further_stmts n zero all ts = None
 further_stmts n (suc turns) all ts =
@@ -80,24 +80,25 @@ descriptions_on next all ts =
     if is_at Mark.Comma ts then (description (tail ts) >>= λ d. next (all ++ d.0 ∷ []) d.1)
     else Some (all, ts)
 
--- in at most so many turns
+-- the descriptions after commas, `turns` of them at most
 abbrev pub further_descriptions : ℕ → List Description → Reader (List Description)
 further_descriptions zero all ts = None
 further_descriptions (suc turns) all ts = descriptions_on (further_descriptions turns) all ts
 
-unfoldable pub descriptions : ℕ → Reader (List Description)
-descriptions n ts = description ts >>= λ d. further_descriptions n (d.0 ∷ []) d.1
+unfoldable pub descriptions_reader : ℕ → Reader (List Description)
+descriptions_reader n ts = description ts >>= λ d. further_descriptions n (d.0 ∷ []) d.1
 
-unfoldable pub predicate : ℕ → Reader (Option Tree)
-predicate n ts =
+unfoldable pub predicate_reader : ℕ → Reader (Option Tree)
+predicate_reader n ts =
     if is_at Mark.Slash ts
     then ((readers n).phrase ASSIGNMENT (tail ts) >>= λ x.
     after_mark Mark.ClosingSlash x.1 >>= λ rest. Some (Some x.0, rest))
     else Some (None, ts)
 
-unfoldable pub clause : ℕ → Reader ClauseTree
-clause n ts =
-    descriptions n ts >>= λ d. predicate n d.1 >>= λ p. after_mark Mark.OpenBrace p.1 >>= λ rest.
+unfoldable pub clause_reader : ℕ → Reader ClauseTree
+clause_reader n ts =
+    descriptions_reader n ts >>= λ d. predicate_reader n d.1 >>= λ p.
+    after_mark Mark.OpenBrace p.1 >>= λ rest.
     stmts n rest >>= λ s.
     Some (record { descriptions = d.0; predicate = p.0; statements = s.0 }, s.1)
 
@@ -105,7 +106,7 @@ clause n ts =
 
 -- the type that the words at the front spell
 unfoldable pub whole_type : Reader DeclaredType
-whole_type ts = with_rest (after_run ts) (type_of (run ts))
+whole_type ts = with_rest (after_run ts) (type_of_words (run ts))
 
 -- the type after a comma, and then the next ones
 unfoldable pub types_on : (List DeclaredType → Reader (List DeclaredType)) → List DeclaredType
@@ -115,7 +116,7 @@ types_on next all ts =
     then (whole_type (tail ts) >>= λ t. next (all ++ t.0 ∷ []) t.1)
     else (after_mark Mark.CloseBracket ts >>= λ rest. Some (all, rest))
 
--- in at most so many turns
+-- the types after commas, `turns` of them at most
 abbrev pub further_types : ℕ → List DeclaredType → Reader (List DeclaredType)
 further_types zero all ts = None
 further_types (suc turns) all ts = types_on (further_types turns) all ts
@@ -134,17 +135,18 @@ abbrev pub last_apart : List Token → Option (List Token × Token)
 last_apart [] = None
 last_apart (t ∷ ts) = last_by t (last_apart ts)
 
-abbrev pub word_of : TokenKind → List ℕ
-word_of (TokenKind.Word word) = word
-word_of t = []
+abbrev pub spelled_word : TokenKind → List ℕ
+spelled_word (TokenKind.Word word) = word
+spelled_word t = []
 
 abbrev pub some_word : TokenKind → Option (List ℕ)
-some_word t = Some (word_of t)
+some_word t = Some (spelled_word t)
 
 -- a type and a word
 unfoldable pub typed_name : Reader (DeclaredType × List ℕ)
 typed_name ts =
-    last_apart (run ts) >>= λ x. type_of x.0 >>= λ t. Some ((t, word_of x.1.kind), after_run ts)
+    last_apart (run ts) >>= λ x. type_of_words x.0 >>= λ t.
+    Some ((t, spelled_word x.1.kind), after_run ts)
 
 -- after `self`
 unfoldable pub of_thread : ℕ → ℕ → Reader DeclarationTree
@@ -169,17 +171,18 @@ declaration_by k n line ts = None
 abbrev pub item_by : ℕ → TokenKind → ℕ → List Token → Reader ItemTree
 item_by n (TokenKind.Word word) line behind ts =
     declaration_by (word_kind word) n line behind >>= λ d. Some (Declared d.0, d.1)
-item_by n t line behind ts = clause n ts >>= λ c. Some (Probing c.0, c.1)
+item_by n t line behind ts = clause_reader n ts >>= λ c. Some (Probing c.0, c.1)
 
-unfoldable pub item : ℕ → Reader ItemTree
-item n [] = None
-item n (t ∷ ts) = item_by n t.kind t.line ts (t ∷ ts)
+unfoldable pub item_reader : ℕ → Reader ItemTree
+item_reader n [] = None
+item_reader n (t ∷ ts) = item_by n t.kind t.line ts (t ∷ ts)
 
-unfoldable pub items : ℕ → ℕ → List ItemTree → List Token → Option (List ItemTree)
-items n zero all ts = None
-items n (suc turns) all [] = Some all
-items n (suc turns) all (t ∷ ts) = item n (t ∷ ts) >>= λ x. items n turns (all ++ x.0 ∷ []) x.1
+unfoldable pub items_reader : ℕ → ℕ → List ItemTree → List Token → Option (List ItemTree)
+items_reader n zero all ts = None
+items_reader n (suc turns) all [] = Some all
+items_reader n (suc turns) all (t ∷ ts) = item_reader n (t ∷ ts) >>= λ x.
+    items_reader n turns (all ++ x.0 ∷ []) x.1
 
 -- the script that all tokens spell
-unfoldable pub script : List Token → Option (List ItemTree)
-script ts = items (length ts + 1) (length ts + 1) [] ts
+unfoldable pub script_reader : List Token → Option (List ItemTree)
+script_reader ts = items_reader (length ts + 1) (length ts + 1) [] ts

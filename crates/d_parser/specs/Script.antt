@@ -5,7 +5,7 @@ use Rattle.std.specs.Prelude.{◌∷◌, ◌++◌, Option, Some, None}
 use Rattle.d_parser.specs.Vocabulary.{Mark, Token, TokenKind, DeclaredType, Description, WordKind}
 use Rattle.d_parser.specs.Tree.{Tree, Trees, StmtTree, Expression, Aggregation, DeclarationTree}
 use Rattle.d_parser.specs.Tree.{OfThread, OfClause, ClauseTree, ItemTree, Declared, Probing}
-use Rattle.d_parser.specs.Words.{word_kind, type_of, AreWords}
+use Rattle.d_parser.specs.Words.{word_kind, type_of_words, AreWords}
 use Rattle.d_parser.specs.Grammar.{Part, Begins, Sign, IsEnclosed, IsExpression, SpellsKeys}
 use Rattle.d_parser.specs.Grammar.{SpellsList}
 pub use Rattle.std.specs.List.{list_all}
@@ -149,7 +149,7 @@ pub record IsType (t : DeclaredType) (ts rest : List Token) : Type 0 where
   pub words : List Token
   pub is : ts ≡ words ++ rest
   pub are_words : AreWords words
-  pub spells : type_of words ≡ Some t
+  pub spells : type_of_words words ≡ Some t
 
 -- a comma before each, and then `]`
 abbrev pub FurtherTypes : List DeclaredType → Part

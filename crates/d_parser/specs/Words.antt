@@ -59,24 +59,24 @@ widths_of WordKind.Long (WordKind.Long ∷ (WordKind.Int ∷ [])) =
     Some (IntegerType.Int64, IntegerType.Uint64)
 widths_of k ks = None
 
-abbrev pub signed_of : Option (IntegerType × IntegerType) → Option DeclaredType
-signed_of None = None
-signed_of (Some both) = Some (DeclaredType.Integer both.0)
+abbrev pub signed_type_of : Option (IntegerType × IntegerType) → Option DeclaredType
+signed_type_of None = None
+signed_type_of (Some both) = Some (DeclaredType.Integer both.0)
 
 abbrev pub unsigned_of : Option (IntegerType × IntegerType) → Option DeclaredType
 unsigned_of None = None
 unsigned_of (Some both) = Some (DeclaredType.Integer both.1)
 
 -- what a token's word stands for
-abbrev pub kind_of : TokenKind → WordKind
-kind_of (TokenKind.Word word) = word_kind word
-kind_of t = WordKind.Plain
+abbrev pub word_kind_of : TokenKind → WordKind
+word_kind_of (TokenKind.Word word) = word_kind word
+word_kind_of t = WordKind.Plain
 
--- the same of a first word and the others' tokens
+-- widths_of, of a first word and the others' tokens
 abbrev pub widths_with : WordKind → List Token → Option (IntegerType × IntegerType)
 widths_with k [] = widths_of k []
-widths_with k (a ∷ []) = widths_of k (kind_of a.kind ∷ [])
-widths_with k (a ∷ (b ∷ [])) = widths_of k (kind_of a.kind ∷ (kind_of b.kind ∷ []))
+widths_with k (a ∷ []) = widths_of k (word_kind_of a.kind ∷ [])
+widths_with k (a ∷ (b ∷ [])) = widths_of k (word_kind_of a.kind ∷ (word_kind_of b.kind ∷ []))
 widths_with k ts = None
 
 -- the type that words spell, by the first and the others
@@ -84,21 +84,21 @@ abbrev pub type_from : WordKind → List Token → Option DeclaredType
 type_from (WordKind.Fixed t) [] = Some (DeclaredType.Integer t)
 type_from WordKind.Text [] = Some DeclaredType.Text
 type_from WordKind.Signed [] = Some (DeclaredType.Integer IntegerType.Int32)
-type_from WordKind.Signed (a ∷ ts) = signed_of (widths_with (kind_of a.kind) ts)
+type_from WordKind.Signed (a ∷ ts) = signed_type_of (widths_with (word_kind_of a.kind) ts)
 type_from WordKind.Unsigned [] = Some (DeclaredType.Integer IntegerType.Uint32)
-type_from WordKind.Unsigned (a ∷ ts) = unsigned_of (widths_with (kind_of a.kind) ts)
-type_from k ts = signed_of (widths_with k ts)
+type_from WordKind.Unsigned (a ∷ ts) = unsigned_of (widths_with (word_kind_of a.kind) ts)
+type_from k ts = signed_type_of (widths_with k ts)
 
-abbrev pub type_of : List Token → Option DeclaredType
-type_of [] = None
-type_of (t ∷ ts) = type_from (kind_of t.kind) ts
+abbrev pub type_of_words : List Token → Option DeclaredType
+type_of_words [] = None
+type_of_words (t ∷ ts) = type_from (word_kind_of t.kind) ts
 
 abbrev pub only_integer : Option DeclaredType → Option IntegerType
 only_integer (Some (DeclaredType.Integer t)) = Some t
 only_integer o = None
 
 abbrev pub integer_type : List Token → Option IntegerType
-integer_type ts = only_integer (type_of ts)
+integer_type ts = only_integer (type_of_words ts)
 
 -- ---- runs of words
 

@@ -70,13 +70,13 @@ fn descriptions_on<'a>(
     further_descriptions(alloc, turns, all, rest)
 }
 
-#[tactic(auto, unfolding(crate::specs::ReadingScripts::descriptions))]
+#[tactic(auto, unfolding(crate::specs::ReadingScripts::descriptions_reader))]
 fn descriptions(
     alloc: Global,
     fuel: usize,
     tokens: &[Token],
 ) -> Result<(Vec<Description>, &[Token]), ParseFault>
-    ensures { Gives (λ x. (x.0.items, x.1.now)) result (spec.descriptions fuel tokens.now) }
+    ensures { Gives (λ x. (x.0.items, x.1.now)) result (spec.descriptions_reader fuel tokens.now) }
 {
     let (first, rest) = description(alloc, tokens)?;
     let mut all = Vec::new(alloc);
@@ -84,13 +84,14 @@ fn descriptions(
     further_descriptions(alloc, fuel, all, rest)
 }
 
-#[tactic(auto, unfolding(crate::specs::ReadingScripts::predicate))]
+#[tactic(auto, unfolding(crate::specs::ReadingScripts::predicate_reader))]
 fn predicate(
     alloc: Global,
     fuel: usize,
     tokens: &[Token],
 ) -> Result<(Option<Expr>, &[Token]), ParseFault>
-    ensures { Gives (λ x. (predicate_of x.0, x.1.now)) result (spec.predicate fuel tokens.now) }
+    ensures { Gives (λ x. (predicate_of x.0, x.1.now)) result
+        (spec.predicate_reader fuel tokens.now) }
 {
     if !is_at(Mark::Slash, tokens) {
         return Ok((None, tokens));
@@ -100,13 +101,13 @@ fn predicate(
 }
 
 /// A clause at the front.
-#[tactic(auto, unfolding(crate::specs::ReadingScripts::clause))]
+#[tactic(auto, unfolding(crate::specs::ReadingScripts::clause_reader))]
 pub(crate) fn clause(
     alloc: Global,
     fuel: usize,
     tokens: &[Token],
 ) -> Result<(Clause, &[Token]), ParseFault>
-    ensures { Gives (λ x. (clause_of x.0, x.1.now)) result (spec.clause fuel tokens.now) }
+    ensures { Gives (λ x. (clause_of x.0, x.1.now)) result (spec.clause_reader fuel tokens.now) }
 {
     let (descriptions, rest) = descriptions(alloc, fuel, tokens)?;
     let (predicate, rest) = predicate(alloc, fuel, rest)?;

@@ -373,7 +373,7 @@ fn choice<'a>(
     }
 }
 
-/// What stands after the question mark.
+/// What comes after the question mark.
 #[cycle(expression)]
 #[inline(never)]
 #[tactic(auto, unfolding(crate::specs::Reading::alternatives))]

@@ -28,7 +28,7 @@ pub enum ParseFault {
 /// The most brackets and parentheses that may be open at once.
 pub const MOST_OPEN: usize = 64;
 
-/// The most tokens that may stand without a semicolon or a brace between them.
+/// The most tokens that a script may have without a semicolon or a brace between them.
 pub const MOST_IN_A_ROW: usize = 1024;
 
 /// The most clauses that a script may have.

@@ -12,6 +12,7 @@ pub fn one_script()
 
 /// Where the numbers of tokens are below 2^64, those of their script are.
 pub fn numbers_are_small()
-    ensures { (ts : List Token) (items : List ItemTree) → token.AreSmall ts → IsScript items ts
+    ensures { (ts : List Token) (items : List ItemTree) → token.HaveSmallNumbers ts
+        → IsScript items ts
         → AreSmall items }
 {}

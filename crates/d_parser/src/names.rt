@@ -11,7 +11,7 @@ use crate::words::{WordKind, integer_type, kind_of, split_run, type_length, word
 use d_lexer::{ByteString, Mark, Token, TokenKind};
 use std::alloc::Global;
 
-/// The line of the token after so many others.
+/// The line of the token after the first `count`.
 pub(crate) fn line_after(count: usize, tokens: &[Token]) -> usize {
     match tokens.get(count) {
         Some(token) => token.line,
@@ -32,7 +32,7 @@ pub(crate) fn last_line(tokens: &[Token]) -> usize {
     }
 }
 
-/// The tokens after a mark that has to stand there.
+/// The tokens after a mark that has to be at the front.
 pub(crate) fn after_mark(mark: Mark, tokens: &[Token]) -> Result<&[Token], ParseFault>
     ensures { Gives (λ rest. rest.now) result (spec.after_mark mark tokens.now) }
 {

@@ -27,7 +27,7 @@ use std::alloc::Global;
 #[tactic(auto, using(crate::proofs::Answering::found_of, crate::proofs::Answering::only_of, crate::proofs::Answering::passed_of, crate::proofs::Deep::deep_is, crate::proofs::Deep::is_deep_of))]
 pub fn parse(alloc: Global, tokens: &[Token]) -> Result<Script, ParseFault>
     requires few { length tokens.now ≤ MOST_BYTES }
-    requires small { token.AreSmall tokens.now }
+    requires small { token.HaveSmallNumbers tokens.now }
     // Brackets and rows of tokens are checked first.
     ensures deep { IsDeep tokens.now → result ≡ Err ParseFault.TooDeep }
     // Then clauses are counted.

@@ -32,13 +32,13 @@ fn declaration<'a>(
     }
 }
 
-#[tactic(auto, unfolding(crate::specs::ReadingScripts::item))]
+#[tactic(auto, unfolding(crate::specs::ReadingScripts::item_reader))]
 fn item<'a>(
     alloc: Global,
     fuel: usize,
     tokens: &'a [Token],
 ) -> Result<(Item, &'a [Token]), ParseFault>
-    ensures { Gives (λ x. (item_of x.0, x.1.now)) result (spec.item fuel tokens.now) }
+    ensures { Gives (λ x. (item_of x.0, x.1.now)) result (spec.item_reader fuel tokens.now) }
 {
     let [token, rest @ ..] = tokens else {
         return Err(ParseFault::Syntax { line: AT_END });
@@ -57,7 +57,7 @@ fn item<'a>(
 
 #[tactic(auto, using(crate::proofs::Steps::items_fail, crate::proofs::Steps::items_end))]
 fn items(alloc: Global, fuel: usize, tokens: &[Token]) -> Result<Vec<Item>, ParseFault>
-    ensures { Gives (λ x. map item_of x.items) result (spec.items fuel fuel [] tokens.now) }
+    ensures { Gives (λ x. map item_of x.items) result (spec.items_reader fuel fuel [] tokens.now) }
 {
     let mut all = Vec::new(alloc);
     let mut rest = tokens;
@@ -75,10 +75,10 @@ fn items(alloc: Global, fuel: usize, tokens: &[Token]) -> Result<Vec<Item>, Pars
 }
 
 /// The script that all tokens spell.
-#[tactic(auto, unfolding(crate::specs::ReadingScripts::script))]
+#[tactic(auto, unfolding(crate::specs::ReadingScripts::script_reader))]
 pub(crate) fn script(alloc: Global, tokens: &[Token]) -> Result<Script, ParseFault>
     requires { length tokens.now ≤ MOST_BYTES }
-    ensures { Gives script_of result (spec.script tokens.now) }
+    ensures { Gives script_of result (spec.script_reader tokens.now) }
 {
     match items(alloc, tokens.len() + 1, tokens) {
         Ok(items) => Ok(Script { items }),

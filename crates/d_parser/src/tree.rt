@@ -201,7 +201,7 @@ pub enum Constant {
 pub struct Target {
     /// Whose value, or with keys which array.
     pub variable: Variable,
-    /// None where no brackets stand.
+    /// None without brackets.
     pub keys: Vec<Expr>,
 }
 

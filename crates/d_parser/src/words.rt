@@ -80,7 +80,7 @@ pub(crate) fn word_kind(word: &[u8]) -> WordKind
 
 /// What a token's word stands for.
 pub(crate) fn kind_of(token: &Token) -> WordKind
-    ensures { result ≡ spec.kind_of token.now.kind }
+    ensures { result ≡ spec.word_kind_of token.now.kind }
 {
     match &token.kind {
         TokenKind::Word(word) => word_kind(word.as_slice()),
@@ -174,7 +174,7 @@ fn type_from(first: WordKind, others: &[Token]) -> Option<DeclaredType>
 
 /// The type that words spell.
 pub(crate) fn type_of(words: &[Token]) -> Option<DeclaredType>
-    ensures { result ≡ spec.type_of words.now }
+    ensures { result ≡ spec.type_of_words words.now }
 {
     match words {
         [first, others @ ..] => type_from(kind_of(first), others),

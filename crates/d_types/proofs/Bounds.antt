@@ -19,26 +19,28 @@ use Rattle.d_types.specs.Typed.{Typed, Typeds, end, more}
 use Rattle.d_types.specs.Needs.{count}
 use Rattle.d_types.specs.Operators.{same_type, conversion_node}
 use Rattle.d_types.specs.Typing.{constant}
-use Rattle.d_types.specs.Aggregations.{number, positive, negative, minus_bound, bound, small, step}
-use Rattle.d_types.specs.Aggregations.{buckets, lquantize, function, integers, arguments_fit, first}
-use Rattle.d_types.specs.Fitting.{Fits}
+use Rattle.d_types.specs.Aggregations.{constant_number, positive, negative, minus_bound, bound}
+use Rattle.d_types.specs.Aggregations.{small, step}
+use Rattle.d_types.specs.Aggregations.{buckets_between, lquantize, function, integers}
+use Rattle.d_types.specs.Aggregations.{arguments_fit, first}
+use Rattle.d_types.specs.Fitting.{FitsRegisters}
 use Rattle.d_types.proofs.Fitting.{AllFit, OneFits}
 use Rattle.d_types.specs.Rules.{Types, AllTypes}
 use Rattle.d_types.specs.Variables.{Rows}
 
-constant_is_small : (a : Constant) → Fits (constant a)
+constant_is_small : (a : Constant) → FitsRegisters (constant a)
 constant_is_small (c.Number v suffix) = omega arith
 constant_is_small (c.Text bytes) = omega arith
 
-converted_is_small : (t u : IntType) (x : Typed) → Fits x → Fits (conversion_node t u x)
+converted_is_small : (t u : IntType) (x : Typed) → FitsRegisters x → FitsRegisters (conversion_node t u x)
 converted_is_small t u x h = either (same_type t u)
   where
-    either : (b : Bool) → Fits (if b then x else typed.Convert t u x)
+    either : (b : Bool) → FitsRegisters (if b then x else typed.Convert t u x)
     either true = h
     either false = h
 
-number_is_small : (t : Tree) (v : ℕ) (rows : Rows) (x : Typed) (last : Rows) → number t ≡ Some v → Types rows t x last → Fits x
-number_is_small (tree.Known line a) v rows x last h types = subst Fits (sym types.0) (constant_is_small a)
+number_is_small : (t : Tree) (v : ℕ) (rows : Rows) (x : Typed) (last : Rows) → constant_number t ≡ Some v → Types rows t x last → FitsRegisters x
+number_is_small (tree.Known line a) v rows x last h types = subst FitsRegisters (sym types.0) (constant_is_small a)
 number_is_small (tree.Read y keys) v rows x last h types = cc
 number_is_small (tree.Unary line op a) v rows x last h types = cc
 number_is_small (tree.Cast line to a) v rows x last h types = cc
@@ -61,19 +63,19 @@ small_of : (o : Option ℕ) (n : ℕ) → small o ≡ Some n → (v : ℕ) × (o
 small_of None n h = cc
 small_of (Some v) n h = (v, refl)
 
-signed_of : (op : UnaryOperator) (a : Tree) (z : ℤ) → minus_bound op a ≡ Some z → (v : ℕ) × (number a ≡ Some v)
-signed_of un.Negate a z h = negative_of (number a) z h
+signed_of : (op : UnaryOperator) (a : Tree) (z : ℤ) → minus_bound op a ≡ Some z → (v : ℕ) × (constant_number a ≡ Some v)
+signed_of un.Negate a z h = negative_of (constant_number a) z h
 signed_of un.Not a z h = cc
 signed_of un.Complement a z h = cc
 signed_of un.Keep a z h = cc
 
 -- a constant, or a minus before one
-bound_is_small : (t : Tree) (z : ℤ) (rows : Rows) (x : Typed) (last : Rows) → bound t ≡ Some z → Types rows t x last → Fits x
-bound_is_small (tree.Known line a) z rows x last h types = subst Fits (sym types.0) (constant_is_small a)
+bound_is_small : (t : Tree) (z : ℤ) (rows : Rows) (x : Typed) (last : Rows) → bound t ≡ Some z → Types rows t x last → FitsRegisters x
+bound_is_small (tree.Known line a) z rows x last h types = subst FitsRegisters (sym types.0) (constant_is_small a)
 bound_is_small (tree.Unary line op a) z rows x last h types =
     let n = signed_of op a z h in
-    let inner : Fits (conversion_node types.1 (promoted_of types.1) types.0) = converted_is_small types.1 (promoted_of types.1) types.0 (number_is_small a n.0 rows types.0 last n.1 types.2) in
-    subst Fits (sym types.4) inner
+    let inner : FitsRegisters (conversion_node types.1 (promoted_of types.1) types.0) = converted_is_small types.1 (promoted_of types.1) types.0 (number_is_small a n.0 rows types.0 last n.1 types.2) in
+    subst FitsRegisters (sym types.4) inner
 bound_is_small (tree.Read y keys) z rows x last h types = cc
 bound_is_small (tree.Cast line to a) z rows x last h types = cc
 bound_is_small (tree.Call line f args) z rows x last h types = cc
@@ -83,10 +85,10 @@ bound_is_small (tree.Binary op a b) z rows x last h types = cc
 bound_is_small (tree.Choice a b d) z rows x last h types = cc
 bound_is_small (tree.Assign op y keys a) z rows x last h types = cc
 
-step_is_small : (t : Tree) (n : ℕ) (rows : Rows) (x : Typed) (last : Rows) → step t ≡ Some n → Types rows t x last → Fits x
-step_is_small t n rows x last h types = let v = small_of (number t) n h in number_is_small t v.0 rows x last v.1 types
+step_is_small : (t : Tree) (n : ℕ) (rows : Rows) (x : Typed) (last : Rows) → step t ≡ Some n → Types rows t x last → FitsRegisters x
+step_is_small t n rows x last h types = let v = small_of (constant_number t) n h in number_is_small t v.0 rows x last v.1 types
 
-buckets_of : (lower upper : Option ℤ) (s : Option ℕ) (f : AggFn) → buckets lower upper s ≡ Some f →
+buckets_of : (lower upper : Option ℤ) (s : Option ℕ) (f : AggFn) → buckets_between lower upper s ≡ Some f →
     (a : ℤ) × (b : ℤ) × (n : ℕ) × (lower ≡ Some a) × (upper ≡ Some b) × (s ≡ Some n)
 buckets_of (Some a) (Some b) (Some n) f h = (a, b, n, refl, refl, refl)
 buckets_of None upper s f h = cc
@@ -101,7 +103,7 @@ bounds_are_small (tree.more e (tree.more l (tree.more u tree.end))) rows xs last
     let all = buckets_of (bound l) (bound u) (Some 1) f h in
     let lower = types.4 in
     let upper = lower.4 in
-    let head : Fits types.0 = subst (λ (k : Typeds). OneFits (first k)) types.5 fit in
+    let head : FitsRegisters types.0 = subst (λ (k : Typeds). OneFits (first k)) types.5 fit in
     let none : AllFit upper.1 = subst AllFit (sym upper.4.0) tt in
     let one : AllFit lower.1 = subst AllFit (sym upper.5) (bound_is_small u all.1 lower.2 upper.0 upper.2 all.4 upper.3, none) in
     let two : AllFit types.1 = subst AllFit (sym lower.5) (bound_is_small l all.0 types.2 lower.0 lower.2 all.3 lower.3, one) in
@@ -111,7 +113,7 @@ bounds_are_small (tree.more e (tree.more l (tree.more u (tree.more s tree.end)))
     let lower = types.4 in
     let upper = lower.4 in
     let width = upper.4 in
-    let head : Fits types.0 = subst (λ (k : Typeds). OneFits (first k)) types.5 fit in
+    let head : FitsRegisters types.0 = subst (λ (k : Typeds). OneFits (first k)) types.5 fit in
     let none : AllFit width.1 = subst AllFit (sym width.4.0) tt in
     let one : AllFit upper.1 = subst AllFit (sym width.5) (step_is_small s all.2 upper.2 width.0 width.2 all.5 width.3, none) in
     let two : AllFit lower.1 = subst AllFit (sym upper.5) (bound_is_small u all.1 lower.2 upper.0 upper.2 all.4 upper.3, one) in

@@ -17,20 +17,22 @@ use Rattle.d_types.specs.declared.operators.AssignSort.{AssignSort}
 use Rattle.d_types.specs.declared.operators.AssignSort.TheVariants as sg
 use Rattle.d_types.specs.Faults.{Fault}
 use Rattle.d_types.specs.Words.{callee_named}
-use Rattle.d_types.specs.Typed.{Typed, Typeds, end, more, add, type_of}
+use Rattle.d_types.specs.Typed.{Typed, Typeds, end, more, with_typed, type_of}
 use Rattle.d_types.specs.Variables.{Rows, find, type_at}
 use Rattle.d_types.specs.Operators.{binary_sort, assign_sort, operation_by, choice, as_type}
-use Rattle.d_types.specs.Targets.{space_of, read, load_at, target, slot_for, assignment, step}
-use Rattle.d_types.specs.Typing.{expr, exprs, call_of}
-use Rattle.d_types.specs.Rules.{Types, AllTypes, Joins, Chooses, Loads, Reads, Places, Targets}
-use Rattle.d_types.specs.Rules.{Fits, Stores, Steps, Calls}
+use Rattle.d_types.specs.Targets.{space_of, read_variable, load_at, target, slot_for, assignment}
+use Rattle.d_types.specs.Targets.{step}
+use Rattle.d_types.specs.Typing.{expr, exprs, typed_call}
+use Rattle.d_types.specs.Rules.{Types, AllTypes, JoinsOperands, Chooses, Loads, Reads, Places}
+use Rattle.d_types.specs.Rules.{Targets}
+use Rattle.d_types.specs.Rules.{FitsType, Stores, Steps, Calls}
 
 -- the list after what is done
 abbrev pub after : Typeds → Typeds → Typeds
 after end ks = ks
 after (more x rest) ks = more x (after rest ks)
 
-pub after-add : (done : Typeds) (x : Typed) (ks : Typeds) → after (add done x) ks ≡ after done (more x ks)
+pub after-add : (done : Typeds) (x : Typed) (ks : Typeds) → after (with_typed done x) ks ≡ after done (more x ks)
 after-add end x ks = refl
 after-add (more y rest) x ks = ap (more y) (after-add rest x ks)
 
@@ -38,7 +40,7 @@ pub after-end : (done : Typeds) → after done end ≡ done
 after-end end = refl
 after-end (more y rest) = ap (more y) (after-end rest)
 
-joins_complete : (sort : BinarySort) (x y z : Typed) → Joins sort x y z → operation_by sort (type_of x) (type_of y) x y ≡ Some z
+joins_complete : (sort : BinarySort) (x y z : Typed) → JoinsOperands sort x y z → operation_by sort (type_of x) (type_of y) x y ≡ Some z
 joins_complete (bs.Arithmetic op) x y z h = rw (h.2, h.3, h.4) refl
 joins_complete (bs.Shift op) x y z h = rw (h.2, h.3, h.4) refl
 joins_complete (bs.Compare op) x y z (inl h) = rw (h.2, h.3, h.4) refl
@@ -53,7 +55,7 @@ loads_complete : (space : Space) (line : ℕ) (name : List ℕ) (rows : Rows) (k
     load_at space line rows (find space name rows) ks ≡ Ok z
 loads_complete space line name rows ks z h = rw (h.2, h.3, h.4, h.5) refl
 
-reads_complete : (rows : Rows) (x : Variable) (ks : Typeds) (z : Typed) → Reads rows x ks z → read rows x ks ≡ Ok z
+reads_complete : (rows : Rows) (x : Variable) (ks : Typeds) (z : Typed) → Reads rows x ks z → read_variable rows x ks ≡ Ok z
 reads_complete rows (v.Plain line name) ks z h = rw (h.1, h.2, h.3) refl
 reads_complete rows (v.Thread line name) ks z h = loads_complete s.Thread line name rows ks z h
 reads_complete rows (v.Clause line name) ks z h = loads_complete s.Clause line name rows ks z h
@@ -69,7 +71,7 @@ targets_complete rows (v.Plain line name) t ks slot last h = absurd h
 targets_complete rows (v.Thread line name) t ks slot last h = places_complete s.Thread line name rows t ks slot last h
 targets_complete rows (v.Clause line name) t ks slot last h = places_complete s.Clause line name rows t ks slot last h
 
-fits_complete : (x : Typed) (t : DType) (y : Typed) → Fits x t y → as_type (type_of x) t x ≡ Some y
+fits_complete : (x : Typed) (t : DType) (y : Typed) → FitsType x t y → as_type (type_of x) t x ≡ Some y
 fits_complete x (Int u) y h = rw (h.1, h.2) refl
 fits_complete x Text y h = rw (h.0, h.1) refl
 
@@ -85,7 +87,7 @@ steps_complete : (by : Step) (answer : Answer) (space : Space) (slot : ℕ) (ks 
 steps_complete by answer space slot ks rows z h = rw (h.1, h.2) refl
 
 calls_complete : (line : ℕ) (name : List ℕ) (ks : Typeds) (rows : Rows) (z : Typed) → Calls name ks z →
-    call_of line (callee_named name) ks rows ≡ Ok (z, rows)
+    typed_call line (callee_named name) ks rows ≡ Ok (z, rows)
 calls_complete line name ks rows z (inl h) = rw (h.1, h.2, h.3, h.4) refl
 calls_complete line name ks rows z (inr h) = rw (h.2, h.3, h.4, h.5, h.6) refl
 
@@ -111,7 +113,7 @@ mutual
       exprs done rows ts ≡ Ok (after done ks, last)
   all_complete done rows tree.end ks last h = rw (h.0, h.1, after-end done) refl
   all_complete done rows (tree.more a rest) ks last h =
-      rw (complete rows a h.0 h.2 h.3, all_complete (add done h.0) h.2 rest h.1 last h.4, after-add done h.0 h.1, h.5) refl
+      rw (complete rows a h.0 h.2 h.3, all_complete (with_typed done h.0) h.2 rest h.1 last h.4, after-add done h.0 h.1, h.5) refl
 
 pub one_tree : (rows : Rows) (t : Tree) (y z : Typed) (m n : Rows) → Types rows t y m → Types rows t z n → (y ≡ z) × (m ≡ n)
 one_tree rows t y z m n g h =

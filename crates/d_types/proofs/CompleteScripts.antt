@@ -11,7 +11,7 @@ use Rattle.d_types.specs.declared.typed.Space.TheVariants as s
 use Rattle.d_types.specs.declared.words.Callee.{Callee}
 use Rattle.d_types.specs.declared.words.Callee.TheVariants as f
 use Rattle.d_types.specs.Words.{callee_named}
-use Rattle.d_types.specs.Typed.{Typed, Typeds, end, more, add, Action, Aggs, ClauseMeant}
+use Rattle.d_types.specs.Typed.{Typed, Typeds, end, more, with_typed, Action, Aggs, ClauseMeant}
 use Rattle.d_types.specs.Typed.{ScriptMeant}
 use Rattle.d_types.specs.Needs.{need}
 use Rattle.d_types.specs.Variables.{Rows, find}
@@ -20,16 +20,17 @@ use Rattle.d_types.specs.Statements.{wholes, evaluate, print, call_statement, ac
 use Rattle.d_types.specs.Aggregations.{is_again, first, find_from, place_for, aggregate}
 use Rattle.d_types.specs.Scripts.{declare, declaration, predicate, statement, statements, clause}
 use Rattle.d_types.specs.Scripts.{items, script}
-use Rattle.d_types.specs.Fitting.{Fits, ScriptFits}
+use Rattle.d_types.specs.Fitting.{FitsRegisters, ScriptFits}
 use Rattle.d_types.proofs.Fitting.{AllFit, OneFits, ActionFits, ActionsFit, ClauseFits, ClausesFit}
 use Rattle.d_types.specs.Rules.{Types, AllTypes}
-use Rattle.d_types.specs.WellTyped.{Evaluates, Prints, Acts, Stands, Joins, Aggregates, Declares}
-use Rattle.d_types.specs.WellTyped.{IsDeclared, Tests, Does, AllDo, Probes, AllItems, IsWell}
+use Rattle.d_types.specs.WellTyped.{Evaluates, Prints, Acts, Stands, JoinsAggregation, Aggregates}
+use Rattle.d_types.specs.WellTyped.{Declares}
+use Rattle.d_types.specs.WellTyped.{DeclaresRow, Tests, Does, AllDo, Probes, AllItems, IsWell}
 use Rattle.d_types.proofs.Complete.{complete, after, after-add, after-end}
 use Rattle.d_types.proofs.Spelled.{spelled_is_read}
 use Rattle.d_types.proofs.Bounds.{arguments_are_small}
 
-whole_complete : (rows : Rows) (t : Tree) (x : Typed) (last : Rows) → Types rows t x last → Fits x → whole rows t ≡ Ok (x, last)
+whole_complete : (rows : Rows) (t : Tree) (x : Typed) (last : Rows) → Types rows t x last → FitsRegisters x → whole rows t ≡ Ok (x, last)
 whole_complete rows t x last h small =
     let fits : nat_le (need x) 6 ≡ true = grind (arith, nat_tests, small) in
     rw (complete rows t x last h, fits) refl
@@ -38,7 +39,7 @@ wholes_complete : (done : Typeds) (rows : Rows) (ts : Trees) (ks : Typeds) (last
 wholes_complete done rows tree.end ks last h d = rw (h.0, h.1, after-end done) refl
 wholes_complete done rows (tree.more a rest) ks last h d =
     let all : AllFit (more h.0 h.1) = subst AllFit h.5 d in
-    rw (whole_complete rows a h.0 h.2 h.3 all.0, wholes_complete (add done h.0) h.2 rest h.1 last h.4 all.1, after-add done h.0 h.1, h.5) refl
+    rw (whole_complete rows a h.0 h.2 h.3 all.0, wholes_complete (with_typed done h.0) h.2 rest h.1 last h.4 all.1, after-add done h.0 h.1, h.5) refl
 
 evaluates_complete : (rows : Rows) (t : Tree) (a : Action) (last : Rows) → Evaluates rows t a last → ActionFits a → evaluate rows t ≡ Ok (a, last)
 evaluates_complete rows t a last h d = rw (whole_complete rows t h.0 last h.1 (subst ActionFits h.2 d), h.2) refl
@@ -69,7 +70,7 @@ stands_complete rows (tree.Binary op d e) a last h fit = evaluates_complete rows
 stands_complete rows (tree.Choice c d e) a last h fit = evaluates_complete rows (tree.Choice c d e) a last h fit
 stands_complete rows (tree.Assign op x keys e) a last h fit = evaluates_complete rows (tree.Assign op x keys e) a last h fit
 
-joins_complete : (line : ℕ) (name : List ℕ) (ks : Typeds) (g : Option AggFn) (aggs : Aggs) (place : ℕ) (known : Aggs) → Joins name ks g aggs place known →
+joins_complete : (line : ℕ) (name : List ℕ) (ks : Typeds) (g : Option AggFn) (aggs : Aggs) (place : ℕ) (known : Aggs) → JoinsAggregation name ks g aggs place known →
     place_for line name ks g aggs (find_from 0 name aggs) ≡ Ok (place, known)
 joins_complete line name ks g aggs place known (inl h) = rw (h.1, h.2, h.3, h.4, h.5) refl
 joins_complete line name ks g aggs place known (inr h) = rw (h.1, h.2, h.3, h.4) refl
@@ -79,7 +80,7 @@ again_some None known h = cc
 again_some (Some f) known h = (f, refl)
 
 -- an aggregation that is joined has a function
-joined_function : (name : List ℕ) (ks : Typeds) (g : Option AggFn) (aggs : Aggs) (place : ℕ) (known : Aggs) → Joins name ks g aggs place known → (f : AggFn) × (g ≡ Some f)
+joined_function : (name : List ℕ) (ks : Typeds) (g : Option AggFn) (aggs : Aggs) (place : ℕ) (known : Aggs) → JoinsAggregation name ks g aggs place known → (f : AggFn) × (g ≡ Some f)
 joined_function name ks g aggs place known (inl h) = (h.0, h.3)
 joined_function name ks g aggs place known (inr h) = again_some g _ h.3
 
@@ -94,7 +95,7 @@ declares_complete : (space : Space) (line : ℕ) (name : List ℕ) (t : Declared
     declare space line name t keys rows (find space name rows) ≡ Ok last
 declares_complete space line name t keys rows last h = rw (h.0, h.1, h.2) refl
 
-declared_complete : (rows : Rows) (d : DeclarationTree) (last : Rows) → IsDeclared rows d last → declaration rows d ≡ Ok last
+declared_complete : (rows : Rows) (d : DeclarationTree) (last : Rows) → DeclaresRow rows d last → declaration rows d ≡ Ok last
 declared_complete rows (tree.OfThread line t name keys) last h = declares_complete s.Thread line name t keys rows last h
 declared_complete rows (tree.OfClause line t name) last h = declares_complete s.Clause line name t [] rows last h
 

@@ -32,8 +32,9 @@ use Rattle.d_types.specs.Constants.{type_of_constant, with_l, int_type}
 use Rattle.d_types.specs.Held.{IsWord, Slots, IsConsistent, AreConsistent}
 use Rattle.d_parser.specs.Numbers.{IsSmall, HasSmall, HaveSmall}
 use Rattle.d_types.specs.Operators.{binary_sort, assign_sort, same_type, conversion_node}
-use Rattle.d_types.specs.Rules.{Types, AllTypes, IsInteger, Joins, Chooses, Loads, Reads, Places}
-use Rattle.d_types.specs.Rules.{Targets, Fits, Stores, Steps, Calls}
+use Rattle.d_types.specs.Rules.{Types, AllTypes, IsInteger, JoinsOperands, Chooses, Loads, Reads}
+use Rattle.d_types.specs.Rules.{Places}
+use Rattle.d_types.specs.Rules.{Targets, FitsType, Stores, Steps, Calls}
 use Rattle.d_types.specs.Targets.{new_row, settle_slot, space_of, type_at_once}
 use Rattle.d_types.specs.Typed as typed
 use Rattle.d_types.specs.Typed.{Typed, Typeds, end, more, type_of}
@@ -129,7 +130,7 @@ module _ (slots : Slots) where
   is : (x z : Typed) → z ≡ x → Fine x → Fine z
   is x z e h = subst Fine (sym e) h
 
-  joins_fine : (sort : BinarySort) (x y z : Typed) → Fine x → Fine y → Joins sort x y z → Fine z
+  joins_fine : (sort : BinarySort) (x y z : Typed) → Fine x → Fine y → JoinsOperands sort x y z → Fine z
   joins_fine (bs.Arithmetic op) x y z g h j =
       is _ z j.4 (
         (is_converted slots j.0 (common_of j.0 j.1) x j.2, is_converted slots j.1 (common_of j.0 j.1) y j.3),
@@ -204,7 +205,7 @@ targets_grow rows (v.Clause line name) t keys slot after h = places_grow s.Claus
 abbrev Leaves : Rows → Typed → Rows → Type 0
 Leaves rows z after = Grows rows after × IsConsistent (type_at after) z
 
-fits_fine : (slots : Slots) (x : Typed) (t : DType) (y : Typed) → IsConsistent slots x → Fits x t y → (type_of y ≡ t) × IsConsistent slots y
+fits_fine : (slots : Slots) (x : Typed) (t : DType) (y : Typed) → IsConsistent slots x → FitsType x t y → (type_of y ≡ t) × IsConsistent slots y
 fits_fine slots x (Int u) y h j =
     (ap type_of j.2 ∙ is_converted slots j.0 u x j.1, is slots _ y j.2 (converted_fits slots j.0 u x j.1 h))
 fits_fine slots x Text y h j = (ap type_of j.1 ∙ j.0, is slots x y j.1 h)

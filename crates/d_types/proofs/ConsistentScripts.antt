@@ -22,7 +22,7 @@ use Rattle.d_types.specs.Rules.{AllTypes}
 use Rattle.d_types.specs.Typed.{Typed, Typeds, end, more, Action, Evaluate, Trace, Print, Exit}
 use Rattle.d_types.specs.Typed.{Aggregate, Aggs, ClauseMeant, ScriptMeant}
 use Rattle.d_types.specs.Variables.{Rows, type_at, types_in}
-use Rattle.d_types.specs.WellTyped.{Evaluates, Prints, Acts, Stands, Declares, IsDeclared, Tests}
+use Rattle.d_types.specs.WellTyped.{Evaluates, Prints, Acts, Stands, Declares, DeclaresRow, Tests}
 use Rattle.d_types.specs.WellTyped.{Does, AllDo, Probes, AllItems, IsWell}
 use Rattle.d_types.specs.Words.{callee_named}
 use Rattle.d_types.specs.Wholes.{EachIs, AnyIs, ActionIs, ActionsAre, ClauseIs, ClausesAre}
@@ -152,7 +152,7 @@ declares_leave : (space : Space) (name : List ℕ) (t : DeclaredType) (keys : Li
 declares_leave space name t keys rows after h =
     subst (λ (r : Rows). Grows rows r) (sym h.2) (push_grows rows (record { space = space; word = name; keys = declared_kinds keys; holds = Some (declared_type t) }))
 
-declared_leaves : (rows : Rows) (d : DeclarationTree) (after : Rows) → IsDeclared rows d after → Grows rows after
+declared_leaves : (rows : Rows) (d : DeclarationTree) (after : Rows) → DeclaresRow rows d after → Grows rows after
 declared_leaves rows (tree.OfThread line t name keys) after h = declares_leave s.Thread name t keys rows after h
 declared_leaves rows (tree.OfClause line t name) after h = declares_leave s.Clause name t [] rows after h
 

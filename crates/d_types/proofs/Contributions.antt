@@ -8,11 +8,11 @@ use Rattle.d_types.specs.declared.effect.Effect.{Effect}
 use Rattle.d_types.specs.declared.effect.Effect.TheVariants as ef
 use Rattle.d_types.specs.Typed.{ActionOf, ClauseMeant, ScriptMeant}
 use Rattle.d_types.specs.Storage.{Variables}
-use Rattle.d_types.specs.Expressions.{Outcome, Has, Faults, number}
+use Rattle.d_types.specs.Expressions.{Outcome, Has, Faults, number_outcome}
 use Rattle.d_types.specs.Clauses.{Evaluation, Ran, effect_by, effect_then, statements_by}
 use Rattle.d_types.specs.Clauses.{where_true, where_predicate, contributions_in, run_by}
 use Rattle.d_types.specs.Scripts.{IsMeant}
-use Rattle.d_types.specs.Sizes.{descriptions, statements, most_runs, HasAtMost}
+use Rattle.d_types.specs.Sizes.{description_count, statement_count, most_runs, HasAtMost}
 use Rattle.d_types.proofs.Sizes.{typed_script_is_small}
 
 one_each : (all : List Effect) → length (contributions_in all) ≤ length all
@@ -38,7 +38,7 @@ module _ {E Es : Type 0} (by : Evaluation E Es) where
 
   guarded_few : (predicate : Option E) (all : List (ActionOf E Es)) (vars : Variables) → length (where_predicate by predicate (statements_by by all) vars).effects ≤ length all
   guarded_few None all vars = statements_few all vars
-  guarded_few (Some a) all vars = where_true_few (length all) (number (by.value a vars)) (statements_by by all) (statements_few all)
+  guarded_few (Some a) all vars = where_true_few (length all) (number_outcome (by.value a vars)) (statements_by by all) (statements_few all)
 
   -- whatever evaluates the expressions
   pub run_is_few : (line : List ℕ) (predicate : Option E) (all : List (ActionOf E Es)) (vars : Variables) → length (run_by by line predicate all vars).contributions ≤ length all
@@ -52,16 +52,16 @@ module _ {E Es : Type 0} (by : Evaluation E Es) where
 products : (a b c d : ℕ) → a * b + c * d ≤ (a + c) * (b + d)
 products a b c d = let e = add-mul a c (b + d) in let g = mul-add a b d in let h = mul-add c b d in omega (arith, e, g, h)
 
-runs_below : (all : List ClauseMeant) → in_all most_runs all ≤ in_all descriptions all * in_all statements all
+runs_below : (all : List ClauseMeant) → in_all most_runs all ≤ in_all description_count all * in_all statement_count all
 runs_below [] = omega arith
 runs_below (c ∷ rest) =
     let others = runs_below rest in
-    let both = products (descriptions c) (statements c) (in_all descriptions rest) (in_all statements rest) in
+    let both = products (description_count c) (statement_count c) (in_all description_count rest) (in_all statement_count rest) in
     omega (arith, others, both)
 
 runs_are_few : (m : ScriptMeant) → HasAtMost 65536 m → in_all most_runs m.clauses ≤ 2 ^ 32
 runs_are_few m small =
-    let product = mul-le (in_all descriptions m.clauses) (in_all statements m.clauses) 65536 65536 small.few_descriptions small.few_statements in
+    let product = mul-le (in_all description_count m.clauses) (in_all statement_count m.clauses) 65536 65536 small.few_descriptions small.few_statements in
     let below = runs_below m.clauses in
     omega (arith, product, below)
 

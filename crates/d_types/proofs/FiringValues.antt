@@ -20,7 +20,7 @@ use Rattle.d_values.proofs.Narrowing.{extended_low}
 use Rattle.firing_reader.specs.declared.firing.Firing.{Firing}
 use Rattle.firing_reader.specs.Firings.{HasRanges, IsIntFrom}
 use Rattle.d_types.specs.declared.typed.BuiltIn.TheVariants as bi
-use Rattle.d_types.specs.Variables.{kind_of}
+use Rattle.d_types.specs.Variables.{kind_of_type}
 use Rattle.d_types.specs.Held.{IsWord, IsOf, HasTypedBuiltIns, Slots, AreTypedLocals, AreTypedOwn}
 use Rattle.d_types.proofs.ValueTypes.{narrow_is}
 
@@ -69,7 +69,7 @@ zero_is t =
     let same : narrow t 0 ≡ 0 = ap (sign_extension t) low ∙ extended_low t 0 (pow_pos (t.width - 1)) in
     subst (IsWord t) same (narrow_is t 0)
 
-blank_is : (t : DType) → IsOf t (blank (kind_of t))
+blank_is : (t : DType) → IsOf t (blank (kind_of_type t))
 blank_is (ty.Int t) = zero_is t
 blank_is ty.Text = omega arith
 

@@ -13,7 +13,8 @@ use Rattle.d_types.specs.declared.words.Callee.TheVariants as f
 use Rattle.d_types.specs.Faults.{◌>>=◌, Fault, Cause, refuse, unless, Undeclared, Mismatch}
 use Rattle.d_types.specs.Faults.{NoRegister}
 use Rattle.d_types.specs.Words.{aggregating_named}
-use Rattle.d_types.specs.Typed.{Typed, Typeds, end, more, add, Action, Evaluate, Trace, Print, Exit}
+use Rattle.d_types.specs.Typed.{Typed, Typeds, end, more, with_typed, Action, Evaluate, Trace}
+use Rattle.d_types.specs.Typed.{Print, Exit}
 use Rattle.d_types.specs.Typed.{Aggregate, Aggs, ClauseMeant, ScriptMeant}
 use Rattle.d_types.specs.Needs.{need}
 use Rattle.d_types.specs.Variables.{Rows, types_in}
@@ -25,27 +26,27 @@ use Rattle.d_types.specs.Aggregations.{arguments_fit, first, function, find_from
 use Rattle.d_types.specs.Aggregations.{aggregate}
 use Rattle.d_types.specs.Scripts.{declaration, test_of, predicate, statement, statements, clause}
 use Rattle.d_types.specs.Scripts.{item, items, script, IsMeant}
-use Rattle.d_types.specs.Fitting.{Fits, ScriptFits}
+use Rattle.d_types.specs.Fitting.{FitsRegisters, ScriptFits}
 use Rattle.d_types.specs.Wholes.{EachIs, AnyIs, ActionIs, ActionsAre, ClauseIs, ClausesAre}
 use Rattle.d_types.proofs.Sound.{bound}
 
 abbrev pub AllFit : Typeds → Type 0
-AllFit = EachIs Fits
+AllFit = EachIs FitsRegisters
 
 abbrev pub OneFits : Option Typed → Type 0
-OneFits = AnyIs Fits
+OneFits = AnyIs FitsRegisters
 
 abbrev pub ActionFits : Action → Type 0
-ActionFits = ActionIs Fits
+ActionFits = ActionIs FitsRegisters
 
 abbrev pub ActionsFit : List Action → Type 0
-ActionsFit = ActionsAre Fits
+ActionsFit = ActionsAre FitsRegisters
 
 abbrev pub ClauseFits : ClauseMeant → Type 0
-ClauseFits = ClauseIs Fits
+ClauseFits = ClauseIs FitsRegisters
 
 abbrev pub ClausesFit : List ClauseMeant → Type 0
-ClausesFit = ClausesAre Fits
+ClausesFit = ClausesAre FitsRegisters
 
 pub within : {A : Type 0} (cause : Cause) (line : ℕ) (b : Bool) (x y : A) → ◌≡◌ {A = Result A Fault} (if b then Ok x else refuse cause line) (Ok y) → (b ≡ true) × (x ≡ y)
 within cause line false x y h = cc
@@ -55,13 +56,13 @@ pub is_some_of : {A : Type 0} (cause : Cause) (line : ℕ) (o : Option A) (x : A
 is_some_of cause line None x h = cc
 is_some_of cause line (Some y) x h = cc
 
-pub whole_fits : (rows : Rows) (t : Tree) (x : Typed × Rows) → whole rows t ≡ Ok x → Fits x.0
+pub whole_fits : (rows : Rows) (t : Tree) (x : Typed × Rows) → whole rows t ≡ Ok x → FitsRegisters x.0
 whole_fits rows t x h =
     let p = bound (expr rows t) _ _ h in
     let q = within _ _ (nat_le (need p.0.0) 6) p.0 x p.2 in
-    subst (λ (y : Typed × Rows). Fits y.0) q.1 (grind (arith, nat_tests, q.0))
+    subst (λ (y : Typed × Rows). FitsRegisters y.0) q.1 (grind (arith, nat_tests, q.0))
 
-add_fits : (done : Typeds) (x : Typed) → AllFit done → Fits x → AllFit (add done x)
+add_fits : (done : Typeds) (x : Typed) → AllFit done → FitsRegisters x → AllFit (with_typed done x)
 add_fits end x d h = (h, tt)
 add_fits (more y rest) x d h = (d.0, add_fits rest x d.1 h)
 
@@ -71,14 +72,14 @@ wholes_fit done rows tree.end k d h =
     subst (λ (y : Typeds × Rows). AllFit y.0) same d
 wholes_fit done rows (tree.more a rest) k d h =
     let p = bound (whole rows a) _ _ h in
-    wholes_fit (add done p.0.0) p.0.1 rest k (add_fits done p.0.0 d (whole_fits rows a p.0 p.1)) p.2
+    wholes_fit (with_typed done p.0.0) p.0.1 rest k (add_fits done p.0.0 d (whole_fits rows a p.0 p.1)) p.2
 
 all_fit : (rows : Rows) (ts : Trees) (k : Typeds × Rows) → wholes end rows ts ≡ Ok k → AllFit k.0
 all_fit rows ts k h = wholes_fit end rows ts k tt h
 
-only_fits : (args : Typeds) (x : Typed) → AllFit args → only args ≡ Some x → Fits x
+only_fits : (args : Typeds) (x : Typed) → AllFit args → only args ≡ Some x → FitsRegisters x
 only_fits end x d h = cc
-only_fits (more y end) x d h = let same : y ≡ x = cc in subst Fits same d.0
+only_fits (more y end) x d h = let same : y ≡ x = cc in subst FitsRegisters same d.0
 only_fits (more y (more z rest)) x d h = cc
 
 answered : (a : Action) (rows : Rows) (r : Action × Rows) → ◌≡◌ {A = Result (Action × Rows) Fault} (Ok (a, rows)) (Ok r) → ActionFits a → ActionFits r.0
@@ -90,7 +91,7 @@ trace_fits line rows ts r h =
     let q = bound (unless _ line (only p.0.0)) _ _ p.2 in
     answered (Trace q.0) p.0.1 r q.2 (only_fits p.0.0 q.0 (all_fit rows ts p.0 p.1) (is_some_of _ line _ q.0 q.1))
 
-exit_by_fits : (line : ℕ) (t : DType) (x : Typed) (rows : Rows) (r : Action × Rows) → Fits x → exit_by line t x rows ≡ Ok r → ActionFits r.0
+exit_by_fits : (line : ℕ) (t : DType) (x : Typed) (rows : Rows) (r : Action × Rows) → FitsRegisters x → exit_by line t x rows ≡ Ok r → ActionFits r.0
 exit_by_fits line (Int t) x rows r d h = answered (Exit x) rows r h d
 exit_by_fits line Text x rows r d h = cc
 
@@ -188,7 +189,7 @@ tested_fits : (t : DType) (e : Tree) (x : Typed) (rows : Rows) (r : Option Typed
 tested_fits Text e x rows r h = cc
 tested_fits (Int u) e x rows r h =
     let q = within NoRegister (line_of e) (nat_le (need x) 6) (Some x, rows) r h in
-    let small : Fits x = grind (arith, nat_tests, q.0) in
+    let small : FitsRegisters x = grind (arith, nat_tests, q.0) in
     subst (λ (y : Option Typed × Rows). OneFits y.0) q.1 small
 
 predicate_fits : (rows : Rows) (o : Option Tree) (r : Option Typed × Rows) → predicate rows o ≡ Ok r → OneFits r.0

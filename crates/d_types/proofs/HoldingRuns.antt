@@ -8,18 +8,18 @@ use Rattle.d_types.specs.declared.effect.Effect.TheVariants as ef
 use Rattle.d_types.specs.Typed.{Typed, Typeds, end, more, type_of, Action, Evaluate, Trace, Print}
 use Rattle.d_types.specs.Typed.{Exit, Aggregate, ClauseMeant}
 use Rattle.d_types.specs.Storage.{Variables}
-use Rattle.d_types.specs.Expressions.{Outcome, Has, Faults, with, number, eval, keys_of}
+use Rattle.d_types.specs.Expressions.{Outcome, Has, Faults, with, number_outcome, eval, keys_of}
 use Rattle.d_types.specs.Clauses.{values_of, argument_value, effect_of, Ran, effect_then}
 use Rattle.d_types.specs.Clauses.{statements_of, where_true, by_trees, where_predicate, run_of}
 use Rattle.d_types.specs.Printing.{trace_line, printf_text}
-use Rattle.d_types.specs.Held.{IsOf, HasTypedBuiltIns, Slots, AreTyped, Ends, IsConsistent}
+use Rattle.d_types.specs.Held.{IsOf, HasTypedBuiltIns, Slots, AreTyped, EndsTyped, IsConsistent}
 use Rattle.d_types.specs.Held.{AreConsistent}
 use Rattle.d_types.specs.Wholes.{EachIs, AnyIs, ActionIs, ActionsAre, ClauseIs}
 use Rattle.d_types.proofs.Holding.{one, eval_is, keys_are}
 
 module _ (slots : Slots) (f : Firing) (fit : HasTypedBuiltIns f) where
   abbrev Kept : {A : Type 0} → Outcome A → Type 0
-  Kept o = Ends slots (λ x. Unit {0}) o
+  Kept o = EndsTyped slots (λ x. Unit {0}) o
 
   all_are : (keys : Typeds) → EachIs (IsConsistent slots) keys → AreConsistent slots keys
   all_are end h = tt
@@ -31,11 +31,11 @@ module _ (slots : Slots) (f : Firing) (fit : HasTypedBuiltIns f) where
   behind a go vars is good rest =
       one slots (IsOf (type_of a)) (λ x. Unit {0}) (eval f a vars) go (eval_is slots f fit a vars is good) (λ x late fits well. rest x late well)
 
-  word_kept : (o : Outcome Value) → Kept o → Kept (number o)
+  word_kept : (o : Outcome Value) → Kept o → Kept (number_outcome o)
   word_kept (Has x vars) good = good
   word_kept (Faults vars) good = good
 
-  number_kept : (a : Typed) (vars : Variables) → IsConsistent slots a → AreTyped slots vars → Kept (number (eval f a vars))
+  number_kept : (a : Typed) (vars : Variables) → IsConsistent slots a → AreTyped slots vars → Kept (number_outcome (eval f a vars))
   number_kept a vars is good = behind a _ vars is good (λ x late well. (tt, well))
 
   values_kept : (all : Typeds) (vars : Variables) → EachIs (IsConsistent slots) all → AreTyped slots vars → Kept (values_of f all vars)
@@ -48,7 +48,7 @@ module _ (slots : Slots) (f : Firing) (fit : HasTypedBuiltIns f) where
   given_kept : (argument : Option Typed) (vars : Variables) → AnyIs (IsConsistent slots) argument → AreTyped slots vars → Kept (argument_value f argument vars)
   given_kept None vars is good = (tt, good)
   given_kept (Some a) vars is good =
-      one slots (λ y. Unit {0}) (λ y. Unit {0}) (number (eval f a vars)) (λ word. Has (cast_signed w64 word)) (number_kept a vars is good) (λ w late any well. (tt, well))
+      one slots (λ y. Unit {0}) (λ y. Unit {0}) (number_outcome (eval f a vars)) (λ word. Has (cast_signed w64 word)) (number_kept a vars is good) (λ w late any well. (tt, well))
 
   effect_kept : (a : Action) (vars : Variables) → ActionIs (IsConsistent slots) a → AreTyped slots vars → Kept (effect_of f a vars)
   effect_kept (Evaluate a) vars is good = behind a (λ x. Has ef.Nothing) vars is good (λ x late well. (tt, well))
@@ -57,7 +57,7 @@ module _ (slots : Slots) (f : Firing) (fit : HasTypedBuiltIns f) where
       one slots (λ y. Unit {0}) (λ y. Unit {0}) (values_of f all vars) (λ values. Has (ef.Says (printf_text format values))) (values_kept all vars is good)
       (λ xs late any well. (tt, well))
   effect_kept (Exit a) vars is good =
-      one slots (λ y. Unit {0}) (λ y. Unit {0}) (number (eval f a vars)) (λ word. Has (ef.Exits (word % 256))) (number_kept a vars is good)
+      one slots (λ y. Unit {0}) (λ y. Unit {0}) (number_outcome (eval f a vars)) (λ word. Has (ef.Exits (word % 256))) (number_kept a vars is good)
       (λ w late any well. (tt, well))
   effect_kept (Aggregate place keys argument) vars is good =
       one slots (λ y. Unit {0}) (λ y. Unit {0}) (keys_of f keys vars) (λ key vars. with (argument_value f argument vars) (λ z. Has (ef.Adds place key z)))
@@ -84,7 +84,7 @@ module _ (slots : Slots) (f : Firing) (fit : HasTypedBuiltIns f) where
   guarded_kept : (predicate : Option Typed) (go : Variables → Ran) (vars : Variables) → AnyIs (IsConsistent slots) predicate → AreTyped slots vars →
       ((late : Variables) → AreTyped slots late → AreTyped slots (go late).variables) → AreTyped slots (where_predicate (by_trees f) predicate go vars).variables
   guarded_kept None go vars is good rest = rest vars good
-  guarded_kept (Some a) go vars is good rest = where_true_kept (number (eval f a vars)) go (number_kept a vars is good) rest
+  guarded_kept (Some a) go vars is good rest = where_true_kept (number_outcome (eval f a vars)) go (number_kept a vars is good) rest
 
   pub run_kept : (place : ℕ) (clause : ClauseMeant) (vars : Variables) → ClauseIs (IsConsistent slots) clause → AreTyped slots vars →
       AreTyped slots (run_of f place clause vars).variables

@@ -12,9 +12,10 @@ use Rattle.d_types.specs.declared.typed.LogicOperator.TheVariants as lo
 use Rattle.d_types.specs.Typed.{Typed, Constant, Text, Fixed, Read, Unary, Operate, Compare}
 use Rattle.d_types.specs.Typed.{CompareText, Logic, Choice, Convert, Assign, Update, Count, Strlen}
 use Rattle.d_types.specs.Typed.{Strjoin, Typeds, end, more}
-use Rattle.d_types.specs.Storage.{Variables, value_at}
-use Rattle.d_types.specs.Expressions.{Outcome, Has, Faults, with, word_or_fault, integer, number}
-use Rattle.d_types.specs.Expressions.{text, truth, bit, inverse, at_zero, part_of, unary_of}
+use Rattle.d_types.specs.Storage.{Variables, value_of_variable}
+use Rattle.d_types.specs.Expressions.{Outcome, Has, Faults, with, word_or_fault, integer}
+use Rattle.d_types.specs.Expressions.{number_outcome}
+use Rattle.d_types.specs.Expressions.{text_outcome, truth, bit, inverse, at_zero, part_of, unary_of}
 use Rattle.d_types.specs.Expressions.{operation_of, eval, keys_of}
 use Rattle.d_types.specs.Laws.{assigns, assigns_in, variables_after}
 use Rattle.d_types.proofs.Neither.{left, right}
@@ -27,11 +28,11 @@ one : {A B : Type 0} (vars : Variables) (o : Outcome A) (go : A → Variables �
 one vars (Has x after) go same rest = let P : Variables → Type 0 = λ v. Keeps vars (go x v) in subst P (sym same) (rest x)
 one vars (Faults after) go same rest = same
 
-word : (vars : Variables) (o : Outcome Value) → Keeps vars o → Keeps vars (number o)
+word : (vars : Variables) (o : Outcome Value) → Keeps vars o → Keeps vars (number_outcome o)
 word vars (Has x after) same = same
 word vars (Faults after) same = same
 
-bytes : (vars : Variables) (o : Outcome Value) → Keeps vars o → Keeps vars (text o)
+bytes : (vars : Variables) (o : Outcome Value) → Keeps vars o → Keeps vars (text_outcome o)
 bytes vars (Has x after) same = same
 bytes vars (Faults after) same = same
 
@@ -49,58 +50,58 @@ mutual
   eval_keeps f (Text bs) vars none = refl
   eval_keeps f (Fixed b) vars none = refl
   eval_keeps f (Read x keys) vars none =
-      one vars (keys_of f keys vars) (λ key vars. Has (value_at vars x key) vars) (keys_keep f keys vars none) (λ key. refl)
+      one vars (keys_of f keys vars) (λ key vars. Has (value_of_variable vars x key) vars) (keys_keep f keys vars none) (λ key. refl)
   eval_keeps f (Unary o t a) vars none =
-      one vars (number (eval f a vars)) (λ x. Has (va.Int (unary_of o t x))) (word vars (eval f a vars) (eval_keeps f a vars none)) (λ x. refl)
+      one vars (number_outcome (eval f a vars)) (λ x. Has (va.Int (unary_of o t x))) (word vars (eval f a vars) (eval_keeps f a vars none)) (λ x. refl)
   eval_keeps f (Operate o a b) vars none =
-      one vars (number (eval f a vars)) (λ x vars. with (number (eval f b vars)) (λ y vars. integer (word_or_fault (operation_of o x y) vars)))
+      one vars (number_outcome (eval f a vars)) (λ x vars. with (number_outcome (eval f b vars)) (λ y vars. integer (word_or_fault (operation_of o x y) vars)))
       (word vars (eval f a vars) (eval_keeps f a vars (left (assigns a) (assigns b) none)))
-      (λ x. one vars (number (eval f b vars)) (λ y vars. integer (word_or_fault (operation_of o x y) vars))
+      (λ x. one vars (number_outcome (eval f b vars)) (λ y vars. integer (word_or_fault (operation_of o x y) vars))
       (word vars (eval f b vars) (eval_keeps f b vars (right (assigns a) (assigns b) none))) (λ y. quotient vars (operation_of o x y)))
   eval_keeps f (Compare o t a b) vars none =
-      one vars (number (eval f a vars)) (λ x vars. with (number (eval f b vars)) (λ y. Has (va.Int (truth (holds_of o (order_of t x y))))))
+      one vars (number_outcome (eval f a vars)) (λ x vars. with (number_outcome (eval f b vars)) (λ y. Has (va.Int (truth (holds_of o (order_of t x y))))))
       (word vars (eval f a vars) (eval_keeps f a vars (left (assigns a) (assigns b) none)))
-      (λ x. one vars (number (eval f b vars)) (λ y. Has (va.Int (truth (holds_of o (order_of t x y)))))
+      (λ x. one vars (number_outcome (eval f b vars)) (λ y. Has (va.Int (truth (holds_of o (order_of t x y)))))
       (word vars (eval f b vars) (eval_keeps f b vars (right (assigns a) (assigns b) none))) (λ y. refl))
   eval_keeps f (CompareText o a b) vars none =
-      one vars (text (eval f a vars)) (λ x vars. with (text (eval f b vars)) (λ y. Has (va.Int (truth (holds_of o (text_cmp x y))))))
+      one vars (text_outcome (eval f a vars)) (λ x vars. with (text_outcome (eval f b vars)) (λ y. Has (va.Int (truth (holds_of o (text_cmp x y))))))
       (bytes vars (eval f a vars) (eval_keeps f a vars (left (assigns a) (assigns b) none)))
-      (λ x. one vars (text (eval f b vars)) (λ y. Has (va.Int (truth (holds_of o (text_cmp x y)))))
+      (λ x. one vars (text_outcome (eval f b vars)) (λ y. Has (va.Int (truth (holds_of o (text_cmp x y)))))
       (bytes vars (eval f b vars) (eval_keeps f b vars (right (assigns a) (assigns b) none))) (λ y. refl))
   eval_keeps f (Logic lo.And a b) vars none =
-      one vars (number (eval f a vars)) (λ x vars. at_zero x (Has (va.Int 0) vars) (with (number (eval f b vars)) (λ y. Has (va.Int (bit y)))))
+      one vars (number_outcome (eval f a vars)) (λ x vars. at_zero x (Has (va.Int 0) vars) (with (number_outcome (eval f b vars)) (λ y. Has (va.Int (bit y)))))
       (word vars (eval f a vars) (eval_keeps f a vars (left (assigns a) (assigns b) none)))
-      (λ x. by_zero vars x (Has (va.Int 0) vars) (with (number (eval f b vars)) (λ y. Has (va.Int (bit y)))) refl
-      (one vars (number (eval f b vars)) (λ y. Has (va.Int (bit y)))
+      (λ x. by_zero vars x (Has (va.Int 0) vars) (with (number_outcome (eval f b vars)) (λ y. Has (va.Int (bit y)))) refl
+      (one vars (number_outcome (eval f b vars)) (λ y. Has (va.Int (bit y)))
       (word vars (eval f b vars) (eval_keeps f b vars (right (assigns a) (assigns b) none))) (λ y. refl)))
   eval_keeps f (Logic lo.Or a b) vars none =
-      one vars (number (eval f a vars)) (λ x vars. at_zero x (with (number (eval f b vars)) (λ y. Has (va.Int (bit y)))) (Has (va.Int 1) vars))
+      one vars (number_outcome (eval f a vars)) (λ x vars. at_zero x (with (number_outcome (eval f b vars)) (λ y. Has (va.Int (bit y)))) (Has (va.Int 1) vars))
       (word vars (eval f a vars) (eval_keeps f a vars (left (assigns a) (assigns b) none)))
-      (λ x. by_zero vars x (with (number (eval f b vars)) (λ y. Has (va.Int (bit y)))) (Has (va.Int 1) vars)
-      (one vars (number (eval f b vars)) (λ y. Has (va.Int (bit y)))
+      (λ x. by_zero vars x (with (number_outcome (eval f b vars)) (λ y. Has (va.Int (bit y)))) (Has (va.Int 1) vars)
+      (one vars (number_outcome (eval f b vars)) (λ y. Has (va.Int (bit y)))
       (word vars (eval f b vars) (eval_keeps f b vars (right (assigns a) (assigns b) none))) (λ y. refl)) refl)
   eval_keeps f (Logic lo.Xor a b) vars none =
-      one vars (number (eval f a vars)) (λ x vars. with (number (eval f b vars)) (λ y. Has (va.Int (at_zero x (bit y) (inverse y)))))
+      one vars (number_outcome (eval f a vars)) (λ x vars. with (number_outcome (eval f b vars)) (λ y. Has (va.Int (at_zero x (bit y) (inverse y)))))
       (word vars (eval f a vars) (eval_keeps f a vars (left (assigns a) (assigns b) none)))
-      (λ x. one vars (number (eval f b vars)) (λ y. Has (va.Int (at_zero x (bit y) (inverse y))))
+      (λ x. one vars (number_outcome (eval f b vars)) (λ y. Has (va.Int (at_zero x (bit y) (inverse y))))
       (word vars (eval f b vars) (eval_keeps f b vars (right (assigns a) (assigns b) none))) (λ y. refl))
   eval_keeps f (Choice t c a b) vars none =
       let others : (assigns a || assigns b) ≡ false = right (assigns c) (assigns a || assigns b) none in
-      one vars (number (eval f c vars)) (λ x vars. at_zero x (eval f b vars) (eval f a vars))
+      one vars (number_outcome (eval f c vars)) (λ x vars. at_zero x (eval f b vars) (eval f a vars))
       (word vars (eval f c vars) (eval_keeps f c vars (left (assigns c) (assigns a || assigns b) none)))
       (λ x. by_zero vars x (eval f b vars) (eval f a vars)
       (eval_keeps f b vars (right (assigns a) (assigns b) others)) (eval_keeps f a vars (left (assigns a) (assigns b) others)))
   eval_keeps f (Convert t u a) vars none =
-      one vars (number (eval f a vars)) (λ x. Has (va.Int (narrow u x))) (word vars (eval f a vars) (eval_keeps f a vars none)) (λ x. refl)
+      one vars (number_outcome (eval f a vars)) (λ x. Has (va.Int (narrow u x))) (word vars (eval f a vars) (eval_keeps f a vars none)) (λ x. refl)
   eval_keeps f (Assign x keys a) vars none = cc
   eval_keeps f (Update o x keys a) vars none = cc
   eval_keeps f (Count step answer x keys) vars none = cc
   eval_keeps f (Strlen a) vars none =
-      one vars (text (eval f a vars)) (λ x. Has (va.Int (length x))) (bytes vars (eval f a vars) (eval_keeps f a vars none)) (λ x. refl)
+      one vars (text_outcome (eval f a vars)) (λ x. Has (va.Int (length x))) (bytes vars (eval f a vars) (eval_keeps f a vars none)) (λ x. refl)
   eval_keeps f (Strjoin a b) vars none =
-      one vars (text (eval f a vars)) (λ x vars. with (text (eval f b vars)) (λ y. Has (va.Text (joined_text x y))))
+      one vars (text_outcome (eval f a vars)) (λ x vars. with (text_outcome (eval f b vars)) (λ y. Has (va.Text (joined_text x y))))
       (bytes vars (eval f a vars) (eval_keeps f a vars (left (assigns a) (assigns b) none)))
-      (λ x. one vars (text (eval f b vars)) (λ y. Has (va.Text (joined_text x y)))
+      (λ x. one vars (text_outcome (eval f b vars)) (λ y. Has (va.Text (joined_text x y)))
       (bytes vars (eval f b vars) (eval_keeps f b vars (right (assigns a) (assigns b) none))) (λ y. refl))
 
   pub keys_keep : (f : Firing) (keys : Typeds) (vars : Variables) → assigns_in keys ≡ false → Keeps vars (keys_of f keys vars)

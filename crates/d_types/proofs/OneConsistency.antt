@@ -15,7 +15,8 @@ use Rattle.d_values.proofs.Lawful.{one_number}
 use Rattle.d_values.proofs.Wrapping.{number-narrow}
 use Rattle.d_types.specs.declared.typed.Operation.{Operation}
 use Rattle.d_types.specs.declared.typed.Operation.TheVariants as op
-use Rattle.d_types.specs.Held.{IsWord, Slots, IsSomeInteger, Takes, IsConsistent, AreConsistent}
+use Rattle.d_types.specs.Held.{IsWord, Slots, IsSomeInteger, TakesOperands, IsConsistent}
+use Rattle.d_types.specs.Held.{AreConsistent}
 use Rattle.d_types.specs.Typed.{Typed, Constant, Text, Fixed, Read, Unary, Operate, Compare}
 use Rattle.d_types.specs.Typed.{CompareText, Logic, Choice, Convert, Assign, Update, Count, Strlen}
 use Rattle.d_types.specs.Typed.{Strjoin, Typeds, end, more}
@@ -53,7 +54,7 @@ integer_prop t a b = same b.0 (let both : ty.Int a.0 ≡ ty.Int b.0 = sym a.1 �
         subst (λ (v : IntType). (q : t ≡ ty.Int v) → ◌≡◌ {A = IsSomeInteger t} a (v, q)) e
         (λ q. ap (λ (p : t ≡ ty.Int a.0). (a.0, p)) (DType-set t (ty.Int a.0) a.1 q))
 
-takes_prop : (o : Operation) (left right : DType) → IsProp (Takes o left right)
+takes_prop : (o : Operation) (left right : DType) → IsProp (TakesOperands o left right)
 takes_prop (op.Arithmetic o t) left right = hlevel DType-set
 takes_prop (op.Shift o t) left right = hlevel (DType-set, integer_prop)
 

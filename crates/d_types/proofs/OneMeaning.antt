@@ -12,11 +12,12 @@ use Rattle.d_types.specs.declared.words.Aggregating.{Aggregating}
 use Rattle.d_types.specs.Words.{callee_named}
 use Rattle.d_types.specs.Typed.{Typed, Typeds, end, more, Action, Evaluate, Trace, Print, Exit}
 use Rattle.d_types.specs.Typed.{Aggregate, Agg, Aggs, ClauseMeant, ScriptMeant}
-use Rattle.d_types.specs.Variables.{Rows, kinds_of, types_in}
+use Rattle.d_types.specs.Variables.{Rows, kinds_of_typed, types_in}
 use Rattle.d_types.specs.Aggregations.{function, first}
 use Rattle.d_types.specs.Rules.{AllTypes}
-use Rattle.d_types.specs.Spelling.{Spells}
-use Rattle.d_types.specs.WellTyped.{Evaluates, Prints, Acts, Stands, Joins, Aggregates, IsDeclared}
+use Rattle.d_types.specs.Spelling.{SpellsFormat}
+use Rattle.d_types.specs.WellTyped.{Evaluates, Prints, Acts, Stands, JoinsAggregation, Aggregates}
+use Rattle.d_types.specs.WellTyped.{DeclaresRow}
 use Rattle.d_types.specs.WellTyped.{Tests, Does, AllDo, Probes, AllItems, IsWell}
 use Rattle.d_types.proofs.Complete.{one_tree}
 use Rattle.d_types.proofs.Spelled.{one_spelling}
@@ -46,7 +47,7 @@ prints_one rows tree.end a b m n g h = absurd g
 prints_one rows (tree.more t rest) a b m n g h =
     let texts : Some g.0 ≡ Some h.0 = sym g.3 ∙ h.3 in
     let format : g.0 ≡ h.0 = cc in
-    let pieces : g.1 ≡ h.1 = one_spelling h.0 g.1 h.1 (subst (λ (bytes : List ℕ). Spells g.1 bytes) format g.5) h.5 in
+    let pieces : g.1 ≡ h.1 = one_spelling h.0 g.1 h.1 (subst (λ (bytes : List ℕ). SpellsFormat g.1 bytes) format g.5) h.5 in
     let p = one_list rows rest g.2 h.2 m n g.4 h.4 in
     (g.7 ∙ ap (λ (ps : List Piece). Print ps g.2) pieces ∙ ap (λ (ks : Typeds). Print h.1 ks) p.0 ∙ sym h.7, p.1)
 
@@ -77,11 +78,11 @@ stands_one rows (tree.Assign op x keys e) a b m n g h = evaluates_one rows (tree
 
 -- ---- aggregation statements
 
-joins_one : (name : List ℕ) (ks : Typeds) (o : Option AggFn) (aggs : Aggs) (p q : ℕ) (m n : Aggs) → Joins name ks o aggs p m → Joins name ks o aggs q n → (p ≡ q) × (m ≡ n)
+joins_one : (name : List ℕ) (ks : Typeds) (o : Option AggFn) (aggs : Aggs) (p q : ℕ) (m n : Aggs) → JoinsAggregation name ks o aggs p m → JoinsAggregation name ks o aggs q n → (p ≡ q) × (m ≡ n)
 joins_one name ks o aggs p q m n (inl j) (inl k) =
     let both : Some j.0 ≡ Some k.0 = sym j.3 ∙ k.3 in
     let same : j.0 ≡ k.0 = cc in
-    (j.4 ∙ sym k.4, j.5 ∙ ap (λ (h : AggFn). aggs ++ record { name = name; keys = kinds_of ks; function = h } ∷ []) same ∙ sym k.5)
+    (j.4 ∙ sym k.4, j.5 ∙ ap (λ (h : AggFn). aggs ++ record { name = name; keys = kinds_of_typed ks; function = h } ∷ []) same ∙ sym k.5)
 joins_one name ks o aggs p q m n (inl j) (inr k) = let no : ◌≡◌ {A = Option (ℕ × Agg)} None (Some (q, k.0)) = sym j.1 ∙ k.1 in cc
 joins_one name ks o aggs p q m n (inr j) (inl k) = let no : ◌≡◌ {A = Option (ℕ × Agg)} None (Some (p, j.0)) = sym k.1 ∙ j.1 in cc
 joins_one name ks o aggs p q m n (inr j) (inr k) =
@@ -100,8 +101,8 @@ aggregates_one name keys word args rows aggs a b m n late last g h =
     let named : Some g.2 ≡ Some h.2 = sym g.6 ∙ h.6 in
     let same : g.2 ≡ h.2 = cc in
     let x = one_list h.4 args g.1 h.1 m n (subst (λ (r : Rows). AllTypes r args g.1 m) k.1 g.7) h.7 in
-    let placed : Joins name h.0 (function h.2 args) aggs g.3 late =
-    subst (λ (ks : Typeds). Joins name ks (function h.2 args) aggs g.3 late) k.0 (subst (λ (c : Aggregating). Joins name g.0 (function c args) aggs g.3 late) same g.9)
+    let placed : JoinsAggregation name h.0 (function h.2 args) aggs g.3 late =
+    subst (λ (ks : Typeds). JoinsAggregation name ks (function h.2 args) aggs g.3 late) k.0 (subst (λ (c : Aggregating). JoinsAggregation name g.0 (function c args) aggs g.3 late) same g.9)
     in
     let j = joins_one name h.0 (function h.2 args) aggs g.3 h.3 late last placed h.9 in (
       g.10 ∙ ap (λ (place : ℕ). Aggregate place g.0 (first g.1)) j.0 ∙ ap (λ (ks : Typeds). Aggregate h.3 ks (first g.1)) k.0
@@ -141,7 +142,7 @@ probes_one rows aggs c a b m n late last g h =
     let clause : Option Typed → List Action → ClauseMeant = λ o l. record { descriptions = c.descriptions; predicate = o; statements = l } in
     (g.5 ∙ ap (λ (o : Option Typed). clause o g.1) p.0 ∙ ap (λ (l : List Action). clause h.0 l) q.0 ∙ sym h.5, q.1, q.2)
 
-declared_one : (rows : Rows) (d : DeclarationTree) (m n : Rows) → IsDeclared rows d m → IsDeclared rows d n → m ≡ n
+declared_one : (rows : Rows) (d : DeclarationTree) (m n : Rows) → DeclaresRow rows d m → DeclaresRow rows d n → m ≡ n
 declared_one rows (tree.OfThread line t name keys) m n g h = g.2 ∙ sym h.2
 declared_one rows (tree.OfClause line t name) m n g h = g.2 ∙ sym h.2
 

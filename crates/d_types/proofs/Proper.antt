@@ -27,16 +27,17 @@ use Rattle.d_types.specs.Words.{callee_named}
 use Rattle.d_types.specs.Typed.{Typed, Typeds, end, more, type_of, Action, Evaluate, Trace, Print}
 use Rattle.d_types.specs.Typed.{Exit, Aggregate, Agg, Aggs, ClauseMeant, ScriptMeant}
 use Rattle.d_types.specs.Needs.{count}
-use Rattle.d_types.specs.Variables.{Rows, kind_of, kinds_of}
+use Rattle.d_types.specs.Variables.{Rows, kind_of_type, kinds_of_typed}
 use Rattle.d_types.specs.Variables as variables
 use Rattle.d_types.specs.Aggregations.{is_integer, arguments_fit, first, function, lquantize}
-use Rattle.d_types.specs.Aggregations.{buckets, bound, step, find_from, same, is_again}
+use Rattle.d_types.specs.Aggregations.{buckets_between, bound, step, find_from, same, is_again}
 use Rattle.d_types.specs.Scripts.{IsMeant}
 use Rattle.d_types.specs.Rules.{Types, AllTypes}
 use Rattle.d_types.specs.Rules as rules
-use Rattle.d_types.specs.WellTyped.{Acts, Stands, Joins, Tests, Does, AllDo, Probes, AllItems}
+use Rattle.d_types.specs.WellTyped.{Acts, Stands, JoinsAggregation, Tests, Does, AllDo, Probes}
+use Rattle.d_types.specs.WellTyped.{AllItems}
 use Rattle.d_types.specs.WellTyped.{IsWell}
-use Rattle.d_types.specs.Proper.{IsInteger, TakesArgument, Suits, IsProperAction, IsProperPredicate}
+use Rattle.d_types.specs.Proper.{IsInteger, HasArgument, Suits, IsProperAction, IsProperPredicate}
 use Rattle.d_types.specs.Proper.{IsProperClause, IsProperScript}
 use Rattle.d_types.proofs.SoundScripts.{script_sound}
 
@@ -53,7 +54,7 @@ Takes true (Some x) = ⊥
 Takes false None = ⊥
 Takes false (Some x) = IsInteger x
 
-taken : (function : AggFn) (o : Option Typed) → Takes (is_count function) o → TakesArgument function o
+taken : (function : AggFn) (o : Option Typed) → Takes (is_count function) o → HasArgument function o
 taken fn.Count None h = h
 taken fn.Count (Some x) h = h
 taken fn.Sum None h = h
@@ -101,7 +102,7 @@ ranged : (o : Option _) (h : AggFn) → option_map fn.Lquantize o ≡ Some h →
 ranged None h e = cc
 ranged (Some r) h e = let same : fn.Lquantize r ≡ h = cc in ap is_count (sym same)
 
-bounded : (lower upper : Option _) (s : Option ℕ) (h : AggFn) → buckets lower upper s ≡ Some h → is_count h ≡ false
+bounded : (lower upper : Option _) (s : Option ℕ) (h : AggFn) → buckets_between lower upper s ≡ Some h → is_count h ≡ false
 bounded (Some lower) (Some upper) (Some s) h e = ranged (linear_range lower upper s) h e
 bounded (Some lower) (Some upper) None h e = cc
 bounded (Some lower) None s h e = cc
@@ -148,7 +149,7 @@ again_counted None h e = cc
 again_counted (Some g) h e = (g, refl, same_count g h e)
 
 -- the function of a statement takes the first of its arguments
-argument_taken : (g : Aggregating) (args : Trees) (xs : Typeds) (h : AggFn) → arguments_fit g xs ≡ true → is_count h ≡ counts g → TakesArgument h (first xs)
+argument_taken : (g : Aggregating) (args : Trees) (xs : Typeds) (h : AggFn) → arguments_fit g xs ≡ true → is_count h ≡ counts g → HasArgument h (first xs)
 argument_taken g args xs h e c = taken h (first xs) (subst (λ b. Takes b (first xs)) (sym c) (first_taken g xs e))
 
 -- ---- keys
@@ -157,17 +158,17 @@ same_kind : (a : Kind) → sameb kind.the_type a a ≡ true
 same_kind k.Number = refl
 same_kind k.Text = refl
 
-own_kinds : (keys : Typeds) → variables.fit (kinds_of keys) keys ≡ true
+own_kinds : (keys : Typeds) → variables.fit (kinds_of_typed keys) keys ≡ true
 own_kinds end = refl
-own_kinds (more x rest) = rw (same_kind (kind_of (type_of x))) (own_kinds rest)
+own_kinds (more x rest) = rw (same_kind (kind_of_type (type_of x))) (own_kinds rest)
 
 as_many : (kinds : List Kind) (keys : Typeds) → variables.fit kinds keys ≡ true → count keys ≡ length kinds
 as_many [] end e = refl
 as_many [] (more x rest) e = cc
 as_many (a ∷ kinds) end e = cc
-as_many (a ∷ kinds) (more x rest) e = let one : count rest ≡ length kinds = as_many kinds rest (both_true (sameb kind.the_type (kind_of (type_of x)) a) (variables.fit kinds rest) e).1 in omega (arith, one)
+as_many (a ∷ kinds) (more x rest) e = let one : count rest ≡ length kinds = as_many kinds rest (both_true (sameb kind.the_type (kind_of_type (type_of x)) a) (variables.fit kinds rest) e).1 in omega (arith, one)
 
-counted_kinds : (keys : Typeds) → length (kinds_of keys) ≡ count keys
+counted_kinds : (keys : Typeds) → length (kinds_of_typed keys) ≡ count keys
 counted_kinds end = refl
 counted_kinds (more x rest) = let one = counted_kinds rest in omega (arith, one)
 
@@ -265,9 +266,9 @@ stands_proper rows (tree.Assign op x keys e) a after aggs h = subst (IsProperAct
 
 -- the statement that names an aggregation first, and each later one
 joins_proper : (name : List ℕ) (ks : Typeds) (g : Aggregating) (args : Trees) (xs : Typeds) (aggs : Aggs) (place : ℕ) (known : Aggs) → Few aggs → arguments_fit g xs ≡ true →
-    Joins name ks (function g args) aggs place known → Leaves aggs (Aggregate place ks (first xs)) known
+    JoinsAggregation name ks (function g args) aggs place known → Leaves aggs (Aggregate place ks (first xs)) known
 joins_proper name ks g args xs aggs place known few fits (inl j) =
-    let new : Agg = record { name = name; keys = kinds_of ks; function = j.0 } in
+    let new : Agg = record { name = name; keys = kinds_of_typed ks; function = j.0 } in
     let small : count ks ≤ 8 = grind (arith, nat_tests, j.2) in
     let short : length new.keys ≤ 8 = omega (arith, counted_kinds ks, small) in
     let suits : Suits (Some new) ks (first xs) = (own_kinds ks, small, argument_taken g args xs j.0 fits (counted g args j.0 j.3)) in
@@ -339,7 +340,7 @@ well_is_proper source m h = (items_proper [] [] source m.clauses h.0 m.aggregati
 
 -- ---- one proof at most
 
-takes_prop : (function : AggFn) (o : Option Typed) → IsProp (TakesArgument function o)
+takes_prop : (function : AggFn) (o : Option Typed) → IsProp (HasArgument function o)
 takes_prop fn.Count None = hlevel
 takes_prop fn.Count (Some x) = hlevel
 takes_prop fn.Sum None = hlevel

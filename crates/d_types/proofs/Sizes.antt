@@ -30,59 +30,61 @@ use Rattle.d_types.specs.Targets.{space_of}
 use Rattle.d_types.specs.Typing.{constant}
 use Rattle.d_types.specs.Aggregations.{first}
 use Rattle.d_types.specs.Scripts.{script, IsMeant}
-use Rattle.d_types.specs.Rules.{Types, AllTypes, Joins, Chooses, Reads, Fits, Stores, Calls}
+use Rattle.d_types.specs.Rules.{Types, AllTypes, JoinsOperands, Chooses, Reads, FitsType, Stores}
+use Rattle.d_types.specs.Rules.{Calls}
 use Rattle.d_types.specs.WellTyped.{Evaluates, Prints, Acts, Stands, Tests, Does, AllDo, Probes}
 use Rattle.d_types.specs.WellTyped.{AllItems, IsWell}
-use Rattle.d_types.specs.Sizes.{places, places_in, in_option, in_action, descriptions, statements}
-use Rattle.d_types.specs.Sizes.{variables, HasAtMost}
+use Rattle.d_types.specs.Sizes.{place_count, place_count_in, in_option, in_action}
+use Rattle.d_types.specs.Sizes.{description_count, statement_count}
+use Rattle.d_types.specs.Sizes.{variable_count, HasAtMost}
 use Rattle.d_types.proofs.SoundScripts.{script_sound}
 
 -- ---- expressions
 
-one_of_both : (b : Bool) (t u : IntType) (x : Typed) → places (if b then x else typed.Convert t u x) ≡ places x
+one_of_both : (b : Bool) (t u : IntType) (x : Typed) → place_count (if b then x else typed.Convert t u x) ≡ place_count x
 one_of_both true t u x = refl
 one_of_both false t u x = refl
 
-in_converted : (t u : IntType) (x : Typed) → places (conversion_node t u x) ≡ places x
+in_converted : (t u : IntType) (x : Typed) → place_count (conversion_node t u x) ≡ place_count x
 in_converted t u x = one_of_both (same_type t u) t u x
 
-in_joined : (sort : BinarySort) (x y z : Typed) → Joins sort x y z → places z ≡ places x + places y
+in_joined : (sort : BinarySort) (x y z : Typed) → JoinsOperands sort x y z → place_count z ≡ place_count x + place_count y
 in_joined (bs.Arithmetic op) x y z h = rw (h.4, in_converted _ _ x, in_converted _ _ y) refl
 in_joined (bs.Shift op) x y z h = rw (h.4, in_converted _ _ x) refl
 in_joined (bs.Compare op) x y z (inl h) = rw (h.4, in_converted _ _ x, in_converted _ _ y) refl
 in_joined (bs.Compare op) x y z (inr h) = rw (h.2) refl
 in_joined (bs.Logic op) x y z h = rw (h.4) refl
 
-in_chosen : (x y u z : Typed) → Chooses x y u z → places z ≡ places x + places y + places u
+in_chosen : (x y u z : Typed) → Chooses x y u z → place_count z ≡ place_count x + place_count y + place_count u
 in_chosen x y u z (inl h) = rw (h.6, in_converted _ _ y, in_converted _ _ u) refl
 in_chosen x y u z (inr h) = rw (h.4) refl
 
-in_read : (rows : Rows) (x : Variable) (ks : Typeds) (z : Typed) → Reads rows x ks z → places z ≤ suc (places_in ks)
+in_read : (rows : Rows) (x : Variable) (ks : Typeds) (z : Typed) → Reads rows x ks z → place_count z ≤ suc (place_count_in ks)
 in_read rows (v.Plain line name) ks z h = rw (h.3) (omega arith)
 in_read rows (v.Thread line name) ks z h = rw (h.5) (omega arith)
 in_read rows (v.Clause line name) ks z h = rw (h.5) (omega arith)
 
-in_fitted : (x : Typed) (t : DType) (y : Typed) → Fits x t y → places y ≡ places x
+in_fitted : (x : Typed) (t : DType) (y : Typed) → FitsType x t y → place_count y ≡ place_count x
 in_fitted x (Int u) y h = rw (h.2) (in_converted h.0 u x)
 in_fitted x Text y h = rw (h.1) refl
 
 in_stored : (sort : AssignSort) (space : Space) (slot : ℕ) (ks : Typeds) (x : Typed) (rows : Rows) (z : Typed) (last : Rows) →
-    Stores sort space slot ks x rows z last → places z ≡ suc (places_in ks) + places x
+    Stores sort space slot ks x rows z last → place_count z ≡ suc (place_count_in ks) + place_count x
 in_stored sg.Set space slot ks x rows z last (inl h) = rw (h.1) refl
 in_stored sg.Set space slot ks x rows z last (inr h) = rw (h.4, in_fitted x h.0 h.1 h.3) refl
 in_stored (sg.Arithmetic op) space slot ks x rows z last h = rw (h.4, in_converted _ _ x) refl
 in_stored (sg.Shift op) space slot ks x rows z last h = rw (h.4) refl
 
-in_called : (name : List ℕ) (ks : Typeds) (z : Typed) → Calls name ks z → places z ≤ places_in ks
+in_called : (name : List ℕ) (ks : Typeds) (z : Typed) → Calls name ks z → place_count z ≤ place_count_in ks
 in_called name ks z (inl h) = rw (h.2, h.4) (omega arith)
 in_called name ks z (inr h) = rw (h.3, h.6) (omega arith)
 
-in_constant : (k : Constant) → places (constant k) ≡ 0
+in_constant : (k : Constant) → place_count (constant k) ≡ 0
 in_constant (c.Number n suffix) = refl
 in_constant (c.Text bytes) = refl
 
 mutual
-  few : (rows : Rows) (t : Tree) (z : Typed) (last : Rows) → Types rows t z last → places z ≤ source.places t
+  few : (rows : Rows) (t : Tree) (z : Typed) (last : Rows) → Types rows t z last → place_count z ≤ source.places t
   few rows (tree.Known line k) z last h = rw (h.0, in_constant k) (omega arith)
   few rows (tree.Read x keys) z last h = grind (arith, few_in rows keys h.0 last h.1, in_read last x h.0 z h.2)
   few rows (tree.Call line g args) z last h = grind (arith, few_in rows args h.0 last h.1, in_called g h.0 z h.2)
@@ -97,7 +99,7 @@ mutual
   few rows (tree.Assign op x keys a) z last h =
       grind (arith, few_in rows keys h.0 h.3 h.6, few h.4 a h.1 h.5 h.8, in_stored (assign_sort op) (space_of x) h.2 h.0 h.1 h.5 z last h.9)
 
-  few_in : (rows : Rows) (ts : Trees) (ks : Typeds) (last : Rows) → AllTypes rows ts ks last → places_in ks ≤ source.places_in ts
+  few_in : (rows : Rows) (ts : Trees) (ks : Typeds) (last : Rows) → AllTypes rows ts ks last → place_count_in ks ≤ source.places_in ts
   few_in rows tree.end ks last h = rw (h.0) (omega arith)
   few_in rows (tree.more a rest) ks last h =
       let one = few rows a h.0 h.2 h.3 in
@@ -134,7 +136,7 @@ few_standing rows (tree.Binary op d e) a last h = few_evaluated rows (tree.Binar
 few_standing rows (tree.Choice t d e) a last h = few_evaluated rows (tree.Choice t d e) a last h
 few_standing rows (tree.Assign op x keys e) a last h = few_evaluated rows (tree.Assign op x keys e) a last h
 
-in_first : (args : Typeds) → in_option (first args) ≤ places_in args
+in_first : (args : Typeds) → in_option (first args) ≤ place_count_in args
 in_first end = omega arith
 in_first (more x rest) = omega arith
 
@@ -167,7 +169,7 @@ few_tested rows None p last h = rw (h.0) (omega arith)
 few_tested rows (Some t) p last h = rw (h.4) (few rows t h.0 last h.2)
 
 few_probed : (rows : Rows) (aggs : Aggs) (d : ClauseTree) (m : ClauseMeant) (last : Rows) (known : Aggs) → Probes rows aggs d m last known →
-    (descriptions m ≡ length d.descriptions) × (statements m ≡ length d.statements) × (variables m ≤ source.in_predicate d.predicate + in_all source.in_stmt d.statements)
+    (description_count m ≡ length d.descriptions) × (statement_count m ≡ length d.statements) × (variable_count m ≤ source.in_predicate d.predicate + in_all source.in_stmt d.statements)
 few_probed rows aggs d m last known h =
     let tested = few_tested rows d.predicate h.0 h.2 h.3 in
     let done = all_few h.2 aggs d.statements h.1 last known h.4 in
@@ -176,8 +178,8 @@ few_probed rows aggs d m last known h =
 -- so many, where there are as many in the source or more
 abbrev Sizes : List ClauseMeant → List ItemTree → Type 0
 Sizes all items =
-    (in_all descriptions all ≡ in_all source.descriptions items) × (in_all statements all ≡ in_all source.statements items)
-    × (in_all variables all ≤ in_all source.variables items)
+    (in_all description_count all ≡ in_all source.descriptions items) × (in_all statement_count all ≡ in_all source.statements items)
+    × (in_all variable_count all ≤ in_all source.variables items)
 
 sizes : (rows : Rows) (aggs : Aggs) (items : List ItemTree) (all : List ClauseMeant) (last : Rows) (known : Aggs) → AllItems rows aggs items all last known → Sizes all items
 sizes rows aggs [] all last known h = rw (h.0) (refl, refl, omega arith)

@@ -26,17 +26,19 @@ use Rattle.d_types.specs.Faults.{◌>>=◌, Fault, Cause, refuse}
 use Rattle.d_types.specs.Constants.{int_type}
 use Rattle.d_types.specs.Words.{callee_named}
 use Rattle.d_types.specs.Typed as typed
-use Rattle.d_types.specs.Typed.{Typed, Typeds, end, more, add, type_of}
+use Rattle.d_types.specs.Typed.{Typed, Typeds, end, more, with_typed, type_of}
 use Rattle.d_types.specs.Variables.{Rows, find, type_at, keys_fit}
 use Rattle.d_types.specs.Operators.{binary_sort, assign_sort, conversion_node, unary, operation_by}
 use Rattle.d_types.specs.Operators.{choice, as_type}
 use Rattle.d_types.specs.Targets.{line_of_variable, settle_slot, space_of, type_at_once, plain}
-use Rattle.d_types.specs.Targets.{load, load_at, read, plain_target, slot_for, target, store}
+use Rattle.d_types.specs.Targets.{load, load_at, read_variable, plain_target, slot_for, target}
+use Rattle.d_types.specs.Targets.{store}
 use Rattle.d_types.specs.Targets.{store_node, assignment, step}
-use Rattle.d_types.specs.Typing.{line_of, strlen, strjoin, call, call_of, beside, fitting}
+use Rattle.d_types.specs.Typing.{line_of, strlen, strjoin, call, typed_call, beside, fitting}
 use Rattle.d_types.specs.Typing.{step_rest, expr, exprs}
-use Rattle.d_types.specs.Rules.{Types, AllTypes, IsInteger, IsText, Joins, Chooses, Loads, Reads}
-use Rattle.d_types.specs.Rules.{Places, Targets, Fits, Stores, Steps, Calls}
+use Rattle.d_types.specs.Rules.{Types, AllTypes, IsInteger, HasTextType, JoinsOperands, Chooses}
+use Rattle.d_types.specs.Rules.{Loads, Reads}
+use Rattle.d_types.specs.Rules.{Places, Targets, FitsType, Stores, Steps, Calls}
 use Rattle.d_types.proofs.Complete.{after, after-add, after-end}
 
 pub bound : {A B : Type 0} (r : Result A Fault) (go : A → Result B Fault) (y : B) → (r >>= go) ≡ Ok y → (x : A) × (r ≡ Ok x) × (go x ≡ Ok y)
@@ -71,7 +73,7 @@ cast_sound : (to : IntType) (k : DType) (x z : Typed) → type_of x ≡ k → as
 cast_sound to (Int t) x z p e = (t, p, sym (some_is _ _ e))
 cast_sound to Text x z p e = cc
 
-joins_sound : (sort : BinarySort) (k l : DType) (x y z : Typed) → type_of x ≡ k → type_of y ≡ l → operation_by sort k l x y ≡ Some z → Joins sort x y z
+joins_sound : (sort : BinarySort) (k l : DType) (x y z : Typed) → type_of x ≡ k → type_of y ≡ l → operation_by sort k l x y ≡ Some z → JoinsOperands sort x y z
 joins_sound (bs.Arithmetic op) (Int t) (Int u) x y z p q e = (t, u, p, q, sym (some_is _ _ e))
 joins_sound (bs.Arithmetic op) Text l x y z p q e = cc
 joins_sound (bs.Arithmetic op) (Int t) Text x y z p q e = cc
@@ -119,7 +121,7 @@ plain_sound line None ks z h = cc
 plain_sound line (Some b) end z h = (b, refl, refl, cc)
 plain_sound line (Some b) (more x rest) z h = cc
 
-reads_sound : (rows : Rows) (x : Variable) (ks : Typeds) (z : Typed) → read rows x ks ≡ Ok z → Reads rows x ks z
+reads_sound : (rows : Rows) (x : Variable) (ks : Typeds) (z : Typed) → read_variable rows x ks ≡ Ok z → Reads rows x ks z
 reads_sound rows (v.Plain line name) ks z h = plain_sound line _ ks z h
 reads_sound rows (v.Thread line name) ks z h = loads_sound s.Thread line name rows ks z h
 reads_sound rows (v.Clause line name) ks z h = loads_sound s.Clause line name rows ks z h
@@ -159,7 +161,7 @@ two a b m n h =
     let same : (a, m) ≡ (b, n) = some_is _ _ h in
     (sym (ap (λ (p : Typed × Rows). p.0) same), sym (ap (λ (p : Typed × Rows). p.1) same))
 
-fits_sound : (x : Typed) (k t : DType) (y : Typed) → type_of x ≡ k → as_type k t x ≡ Some y → Fits x t y
+fits_sound : (x : Typed) (k t : DType) (y : Typed) → type_of x ≡ k → as_type k t x ≡ Some y → FitsType x t y
 fits_sound x (Int t) (Int u) y p e = (t, p, sym (some_is _ _ e))
 fits_sound x Text Text y p e = (p, sym (some_is _ _ e))
 fits_sound x (Int t) Text y p e = cc
@@ -198,11 +200,11 @@ steps_sound by answer space None slot ks rows z p h = cc
 
 -- ---- calls
 
-lengths_sound : (k : DType) (x z : Typed) → type_of x ≡ k → strlen k x ≡ Some z → IsText x × (z ≡ typed.Strlen x)
+lengths_sound : (k : DType) (x z : Typed) → type_of x ≡ k → strlen k x ≡ Some z → HasTextType x × (z ≡ typed.Strlen x)
 lengths_sound Text x z p e = (p, sym (some_is _ _ e))
 lengths_sound (Int t) x z p e = cc
 
-strjoin_sound : (k l : DType) (x y z : Typed) → type_of x ≡ k → type_of y ≡ l → strjoin k l x y ≡ Some z → IsText x × IsText y × (z ≡ typed.Strjoin x y)
+strjoin_sound : (k l : DType) (x y z : Typed) → type_of x ≡ k → type_of y ≡ l → strjoin k l x y ≡ Some z → HasTextType x × HasTextType y × (z ≡ typed.Strjoin x y)
 strjoin_sound Text Text x y z p q e = (p, q, sym (some_is _ _ e))
 strjoin_sound (Int t) l x y z p q e = cc
 strjoin_sound Text (Int u) x y z p q e = cc
@@ -220,7 +222,7 @@ call_sound f.Printf name ks z p h = cc
 call_sound f.Exit name ks z p h = cc
 
 calls_sound : (line : ℕ) (name : List ℕ) (o : Option Callee) (ks : Typeds) (rows : Rows) (z : Typed) (last : Rows) →
-    callee_named name ≡ o → call_of line o ks rows ≡ Ok (z, last) → Calls name ks z × (rows ≡ last)
+    callee_named name ≡ o → typed_call line o ks rows ≡ Ok (z, last) → Calls name ks z × (rows ≡ last)
 calls_sound line name None ks rows z last p h = cc
 calls_sound line name (Some callee) ks rows z last p h =
     let q = fitted line rows (call callee ks) z last h in
@@ -247,7 +249,7 @@ mutual
   sound rows (tree.Known line c) z last h = let f = kept rows _ z last h in (sym f.0, sym f.1)
   sound rows (tree.Read x keys) z last h =
       let p = bound (exprs end rows keys) _ _ h in
-      let q = bound (read p.0.1 x p.0.0) _ _ p.2 in
+      let q = bound (read_variable p.0.1 x p.0.0) _ _ p.2 in
       let f = kept p.0.1 q.0 z last q.2 in (
         p.0.0,
         subst (AllTypes rows keys p.0.0) f.1 (alone rows keys p.0.0 p.0.1 (all_sound end rows keys p.0.0 p.0.1 p.1)),
@@ -325,5 +327,5 @@ mutual
       (end, (refl, sym (ap (λ (p : Typeds × Rows). p.1) same)), sym (ap (λ (p : Typeds × Rows). p.0) same) ∙ sym (after-end done))
   all_sound done rows (tree.more a rest) ks last h =
       let p = bound (expr rows a) _ _ h in
-      let r = all_sound (add done p.0.0) p.0.1 rest ks last p.2 in
+      let r = all_sound (with_typed done p.0.0) p.0.1 rest ks last p.2 in
       (more p.0.0 r.0, (p.0.0, r.0, p.0.1, sound rows a p.0.0 p.0.1 p.1, r.1, refl), r.2 ∙ after-add done p.0.0 r.0)

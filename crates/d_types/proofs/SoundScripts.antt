@@ -18,15 +18,17 @@ use Rattle.std.proofs.Common.{IfOk}
 use Rattle.d_types.specs.Faults.{Gives, ◌>>=◌, Fault, refuse, unless, Undeclared, Mismatch, Keys}
 use Rattle.d_types.specs.Faults.{AggregationRedefined, LquantizeBounds, PrintfArguments, NoRegister}
 use Rattle.d_types.specs.Words.{callee_named, aggregating_named}
-use Rattle.d_types.specs.Typed.{Typed, Typeds, end, more, add, type_of, Action, Evaluate, Trace}
+use Rattle.d_types.specs.Typed.{Typed, Typeds, end, more, with_typed, type_of, Action, Evaluate}
+use Rattle.d_types.specs.Typed.{Trace}
 use Rattle.d_types.specs.Typed.{Print, Exit, Aggregate, Agg, Aggs, ClauseMeant, ScriptMeant}
 use Rattle.d_types.specs.Needs.{need, count}
-use Rattle.d_types.specs.Variables.{Rows, find, kinds_of, types_in}
+use Rattle.d_types.specs.Variables.{Rows, find, kinds_of_typed, types_in}
 use Rattle.d_types.specs.Variables as variables
 use Rattle.d_types.specs.Formats.{pieces}
 use Rattle.d_types.specs.Formats as formats
 use Rattle.d_types.specs.Typing.{line_of, only, expr, whole}
-use Rattle.d_types.specs.Statements.{wholes, trace, exit_by, exit, not_printed, text_of, print_by}
+use Rattle.d_types.specs.Statements.{wholes, trace, exit_by, exit, not_printed, text_of_constant}
+use Rattle.d_types.specs.Statements.{print_by}
 use Rattle.d_types.specs.Statements.{print, evaluate, call_statement, action}
 use Rattle.d_types.specs.Aggregations.{arguments_fit, first, function, find_from, is_again}
 use Rattle.d_types.specs.Aggregations.{new_aggregation, place_for, aggregate}
@@ -34,8 +36,9 @@ use Rattle.d_types.specs.Scripts.{declare, declaration, test_of, predicate, stat
 use Rattle.d_types.specs.Scripts.{clause, item, items, script}
 use Rattle.d_types.specs.Fitting.{ScriptFits}
 use Rattle.d_types.specs.Rules.{Types, AllTypes, IsInteger}
-use Rattle.d_types.specs.WellTyped.{Evaluates, Prints, Acts, Stands, Joins, Aggregates, Declares}
-use Rattle.d_types.specs.WellTyped.{IsDeclared, Tests, Does, AllDo, Probes, AllItems, IsWell}
+use Rattle.d_types.specs.WellTyped.{Evaluates, Prints, Acts, Stands, JoinsAggregation, Aggregates}
+use Rattle.d_types.specs.WellTyped.{Declares}
+use Rattle.d_types.specs.WellTyped.{DeclaresRow, Tests, Does, AllDo, Probes, AllItems, IsWell}
 use Rattle.d_types.proofs.Complete.{after, after-add, after-end}
 use Rattle.d_types.proofs.CompleteScripts.{script_complete}
 use Rattle.d_types.proofs.Sound.{bound, sound}
@@ -58,7 +61,7 @@ wholes_sound done rows tree.end k h =
     (end, (refl, sym (ap (λ (p : Typeds × Rows). p.1) same)), sym (ap (λ (p : Typeds × Rows). p.0) same) ∙ sym (after-end done))
 wholes_sound done rows (tree.more a rest) k h =
     let p = bound (whole rows a) _ _ h in
-    let r = wholes_sound (add done p.0.0) p.0.1 rest k p.2 in
+    let r = wholes_sound (with_typed done p.0.0) p.0.1 rest k p.2 in
     (more p.0.0 r.0, (p.0.0, r.0, p.0.1, whole_sound rows a p.0 p.1, r.1, refl), r.2 ∙ after-add done p.0.0 r.0)
 
 all_whole : (rows : Rows) (ts : Trees) (k : Typeds × Rows) → wholes end rows ts ≡ Ok k → AllTypes rows ts k.0 k.1
@@ -103,7 +106,7 @@ exit_sound line name rows ts r h =
 not_printed_never : (line : ℕ) (rows : Rows) (ts : Trees) (r : Action × Rows) → not_printed line rows ts ≡ Ok r → ⊥
 not_printed_never line rows ts r h = let p = bound (wholes end rows ts) _ _ h in let no = p.2 in cc
 
-print_by_sound : (o : Option (List ℕ)) (line : ℕ) (rows : Rows) (t : Tree) (ts : Trees) (r : Action × Rows) → text_of t ≡ o → print_by o line rows t ts ≡ Ok r →
+print_by_sound : (o : Option (List ℕ)) (line : ℕ) (rows : Rows) (t : Tree) (ts : Trees) (r : Action × Rows) → text_of_constant t ≡ o → print_by o line rows t ts ≡ Ok r →
     Prints rows (tree.more t ts) r.0 r.1
 print_by_sound None line rows t ts r e h = absurd (not_printed_never line rows (tree.more t ts) r h)
 print_by_sound (Some format) line rows t ts r e h =
@@ -140,23 +143,23 @@ stands_sound rows (tree.Assign op x keys e) r h = evaluates_sound rows (tree.Ass
 -- ---- aggregation statements
 
 joins_sound : (line : ℕ) (name : List ℕ) (ks : Typeds) (g : Option AggFn) (aggs : Aggs) (o : Option (ℕ × Agg)) (r : ℕ × Aggs) →
-    find_from 0 name aggs ≡ o → place_for line name ks g aggs o ≡ Ok r → Joins name ks g aggs r.0 r.1
+    find_from 0 name aggs ≡ o → place_for line name ks g aggs o ≡ Ok r → JoinsAggregation name ks g aggs r.0 r.1
 joins_sound line name ks g aggs None r e h = fresh (nat_le (count ks) 8) refl h
   where
-    fresh : (b : Bool) → nat_le (count ks) 8 ≡ b → (if b then (unless LquantizeBounds line g >>= new_aggregation name ks aggs) else refuse Keys line) ≡ Ok r → Joins name ks g aggs r.0 r.1
+    fresh : (b : Bool) → nat_le (count ks) 8 ≡ b → (if b then (unless LquantizeBounds line g >>= new_aggregation name ks aggs) else refuse Keys line) ≡ Ok r → JoinsAggregation name ks g aggs r.0 r.1
     fresh false d k = cc
     fresh true d k =
         let q = bound (unless LquantizeBounds line g) _ _ k in
         let same = ok_is _ _ q.2 in
-        subst (λ (y : ℕ × Aggs). Joins name ks g aggs y.0 y.1) same (inl (q.0, e, d, is_some_of LquantizeBounds line g q.0 q.1, refl, refl))
+        subst (λ (y : ℕ × Aggs). JoinsAggregation name ks g aggs y.0 y.1) same (inl (q.0, e, d, is_some_of LquantizeBounds line g q.0 q.1, refl, refl))
 joins_sound line name ks g aggs (Some p) r e h = again (variables.fit p.1.keys ks) refl h
   where
     again : (b : Bool) → variables.fit p.1.keys ks ≡ b →
-        (if b then (if is_again g p.1.function then Ok (p.0, aggs) else refuse AggregationRedefined line) else refuse Keys line) ≡ Ok r → Joins name ks g aggs r.0 r.1
+        (if b then (if is_again g p.1.function then Ok (p.0, aggs) else refuse AggregationRedefined line) else refuse Keys line) ≡ Ok r → JoinsAggregation name ks g aggs r.0 r.1
     again false d k = cc
     again true d k =
         let w = within AggregationRedefined line (is_again g p.1.function) (p.0, aggs) r k in
-        subst (λ (y : ℕ × Aggs). Joins name ks g aggs y.0 y.1) w.1 (inr (p.1, e, d, w.0, refl))
+        subst (λ (y : ℕ × Aggs). JoinsAggregation name ks g aggs y.0 y.1) w.1 (inr (p.1, e, d, w.0, refl))
 
 joined_sound : (b : Bool) (line : ℕ) (keys args : Typeds) (place : Result (ℕ × Aggs) Fault) (rows : Rows) (r : Action × (Rows × Aggs)) →
     (if b then (place >>= λ a. Ok (Aggregate a.0 keys (first args), (rows, a.1))) else refuse Mismatch line) ≡ Ok r →
@@ -194,7 +197,7 @@ declares_sound space line name t keys rows None last e h =
     (e, w.0, sym w.1)
 declares_sound space line name t keys rows (Some slot) last e h = cc
 
-declared_sound : (rows : Rows) (d : DeclarationTree) (last : Rows) → declaration rows d ≡ Ok last → IsDeclared rows d last
+declared_sound : (rows : Rows) (d : DeclarationTree) (last : Rows) → declaration rows d ≡ Ok last → DeclaresRow rows d last
 declared_sound rows (tree.OfThread line t name keys) last h = declares_sound s.Thread line name t keys rows _ last refl h
 declared_sound rows (tree.OfClause line t name) last h = declares_sound s.Clause line name t [] rows _ last refl h
 

@@ -16,8 +16,8 @@ use Rattle.d_types.specs.declared.format.Flags.{Flags}
 use Rattle.d_types.specs.declared.format.Place.{Place}
 use Rattle.d_types.specs.declared.format.Place.TheVariants as at
 use Rattle.d_types.specs.Formats.{is_digit, no_flags, pieces_from, pieces}
-use Rattle.d_types.specs.Spelling.{IsOneOf, has, AreFlags, width_text, lengths, letters}
-use Rattle.d_types.specs.Spelling.{IsConversion, IsPiece, Spells}
+use Rattle.d_types.specs.Spelling.{IsOneOf, has_byte, AreFlags, width_text, lengths, letters}
+use Rattle.d_types.specs.Spelling.{IsConversion, SpellsPiece, SpellsFormat}
 
 -- ---- the digits of a width
 
@@ -149,17 +149,17 @@ width_then_end done f (suc n) size rest l k none small sized lettered =
 -- ---- flags
 
 abbrev pub with_flags : Flags → List ℕ → Flags
-with_flags f flags = record { left = has 45 flags || f.left; zeros = has 48 flags || f.zeros; width = f.width }
+with_flags f flags = record { left = has_byte 45 flags || f.left; zeros = has_byte 48 flags || f.zeros; width = f.width }
 
 flags_read : (done : List Piece) (f : Flags) (flags body rest : List ℕ) → AreFlags flags →
     pieces_from done (at.Flagged f) ((flags ++ body) ++ rest) ≡ pieces_from done (at.Flagged (with_flags f flags)) (body ++ rest)
 flags_read done f [] body rest all = refl
 flags_read done f (b ∷ flags) body rest (inl e, all) =
     rw e (flags_read done (record { left = true; zeros = f.zeros; width = f.width }) flags body rest all
-    ∙ ap (λ left. pieces_from done (at.Flagged (record { left = left; zeros = has 48 flags || f.zeros; width = f.width })) (body ++ rest)) (or-true (has 45 flags)))
+    ∙ ap (λ left. pieces_from done (at.Flagged (record { left = left; zeros = has_byte 48 flags || f.zeros; width = f.width })) (body ++ rest)) (or-true (has_byte 45 flags)))
 flags_read done f (b ∷ flags) body rest (inr (inl e), all) =
     rw e (flags_read done (record { left = f.left; zeros = true; width = f.width }) flags body rest all
-    ∙ ap (λ zeros. pieces_from done (at.Flagged (record { left = has 45 flags || f.left; zeros = zeros; width = f.width })) (body ++ rest)) (or-true (has 48 flags)))
+    ∙ ap (λ zeros. pieces_from done (at.Flagged (record { left = has_byte 45 flags || f.left; zeros = zeros; width = f.width })) (body ++ rest)) (or-true (has_byte 48 flags)))
 flags_read done f (b ∷ flags) body rest (inr (inr none), all) = absurd none
 
 -- the first flag follows the percent sign
@@ -170,7 +170,7 @@ first_flag_read done b bs (inr (inr none)) = absurd none
 
 -- the conversion that the flags begin
 abbrev with_both : List ℕ → ℕ → Letter → Piece
-with_both flags w k = piece.Argument (record { left = has 45 flags || false; zeros = has 48 flags || false; width = w; letter = k })
+with_both flags w k = piece.Argument (record { left = has_byte 45 flags || false; zeros = has_byte 48 flags || false; width = w; letter = k })
 
 opened_read : (done : List Piece) (flags size rest : List ℕ) (w l : ℕ) (k : Letter) → AreFlags flags → w ≤ 255 → IsOneOf size lengths → IsOneOf l (letters k) →
     Reads done at.Opened (flags ++ (width_text w ++ (size ++ l ∷ []))) (with_both flags w k) rest
@@ -185,26 +185,26 @@ opened_read done (b ∷ flags) size rest w l k all small sized lettered =
 
 conversion_read : (done : List Piece) (c : Conversion) (text rest : List ℕ) → IsConversion c text → Reads done at.Outside text (piece.Argument c) rest
 conversion_read done c text rest h =
-    let same : with_both h.0 c.width c.letter ≡ piece.Argument c = rw (or-false (has 45 h.0), or-false (has 48 h.0), ← h.4, ← h.5) refl in
+    let same : with_both h.0 c.width c.letter ≡ piece.Argument c = rw (or-false (has_byte 45 h.0), or-false (has_byte 48 h.0), ← h.4, ← h.5) refl in
     rw h.9 (opened_read done h.0 h.1 rest c.width h.2 c.letter h.3 h.6 h.7 h.8 ∙ ap (λ p. pieces_from (done ++ p ∷ []) at.Outside rest) same)
 
 byte_read : (done : List Piece) (b : ℕ) (rest : List ℕ) (t : Bool) → (b == 37) ≡ t → Reads done at.Outside (if t then 37 ∷ 37 ∷ [] else b ∷ []) (piece.Byte b) rest
 byte_read done b rest true e = rw (eqb-true b 37 e) refl
 byte_read done b rest false e = rw e refl
 
-piece_read : (done : List Piece) (p : Piece) (text rest : List ℕ) → IsPiece p text → Reads done at.Outside text p rest
+piece_read : (done : List Piece) (p : Piece) (text rest : List ℕ) → SpellsPiece p text → Reads done at.Outside text p rest
 piece_read done (piece.Byte b) text rest h = rw h (byte_read done b rest (b == 37) refl)
 piece_read done (piece.Argument c) text rest h = conversion_read done c text rest h
 
-all_read : (done ps : List Piece) (format : List ℕ) → Spells ps format → pieces_from done at.Outside format ≡ Some (done ++ ps)
+all_read : (done ps : List Piece) (format : List ℕ) → SpellsFormat ps format → pieces_from done at.Outside format ≡ Some (done ++ ps)
 all_read done [] format h = rw (h, append-nil done) refl
 all_read done (p ∷ ps) format h =
     rw h.4 (piece_read done p h.0 h.1 h.2 ∙ all_read (done ++ p ∷ []) ps h.1 h.3 ∙ ap (λ all. Some all) (append_assoc done (p ∷ []) ps))
 
-pub spelled_is_read : (format : List ℕ) (ps : List Piece) → Spells ps format → pieces format ≡ Some ps
+pub spelled_is_read : (format : List ℕ) (ps : List Piece) → SpellsFormat ps format → pieces format ≡ Some ps
 spelled_is_read format ps h = all_read [] ps format h
 
-pub one_spelling : (format : List ℕ) (ps qs : List Piece) → Spells ps format → Spells qs format → ps ≡ qs
+pub one_spelling : (format : List ℕ) (ps qs : List Piece) → SpellsFormat ps format → SpellsFormat qs format → ps ≡ qs
 one_spelling format ps qs g h =
     let both : ◌≡◌ {A = Option (List Piece)} (Some ps) (Some qs) = sym (spelled_is_read format ps g) ∙ spelled_is_read format qs h in
     cc

@@ -17,8 +17,9 @@ use Rattle.d_types.specs.declared.format.Place.TheVariants as at
 use Rattle.d_types.specs.Formats.{goes, ends, letter_of, with_letter, at_letter, at_length}
 use Rattle.d_types.specs.Formats.{is_digit, at_width, at_flags, no_flags, turn, with_piece}
 use Rattle.d_types.specs.Formats.{is_outside, pieces_at_end, option_then, pieces_from, pieces}
-use Rattle.d_types.specs.Spelling.{IsOneOf, has, AreFlags, width_text, lengths, letters, IsPiece}
-use Rattle.d_types.specs.Spelling.{Spells}
+use Rattle.d_types.specs.Spelling.{IsOneOf, has_byte, AreFlags, width_text, lengths, letters}
+use Rattle.d_types.specs.Spelling.{SpellsPiece}
+use Rattle.d_types.specs.Spelling.{SpellsFormat}
 use Rattle.d_types.proofs.Spelled.{AllDecimal, value_after, numerals, not_less, argument}
 use Rattle.d_types.proofs.Spelled.{with_width}
 
@@ -51,11 +52,11 @@ WithDigits f p text =
 abbrev WithFlags : Flags → Piece → List ℕ → Type 0
 WithFlags f p text =
     (flags : List ℕ) × (w : ℕ) × (tail : List ℕ) × AreFlags flags × (w ≤ 255)
-    × Closes (record { left = has 45 flags || f.left; zeros = has 48 flags || f.zeros; width = w }) p tail × (text ≡ flags ++ (width_text w ++ tail))
+    × Closes (record { left = has_byte 45 flags || f.left; zeros = has_byte 48 flags || f.zeros; width = w }) p tail × (text ≡ flags ++ (width_text w ++ tail))
 
 -- the text that ends the piece
 abbrev Ends : Place → Piece → List ℕ → Type 0
-Ends at.Outside p text = IsPiece p text
+Ends at.Outside p text = SpellsPiece p text
 Ends at.Opened p text = ((p ≡ piece.Byte 37) × (text ≡ 37 ∷ [])) ⊎ WithFlags no_flags p text
 Ends (at.Flagged f) p text = WithFlags f p text
 Ends (at.Width f) p text = WithDigits f p text
@@ -203,7 +204,7 @@ flags_step f b q o none h =
             w.2,
             (inl refl, w.3),
             w.4,
-            subst (λ left. Closes (record { left = left; zeros = has 48 w.0 || f.zeros; width = w.1 }) p w.2) (or-true (has 45 w.0)) w.5,
+            subst (λ left. Closes (record { left = left; zeros = has_byte 48 w.0 || f.zeros; width = w.1 }) p w.2) (or-true (has_byte 45 w.0)) w.5,
             ap (λ rest. 45 ∷ rest) w.6,
           )) e.1
       | inr n ↦ elim (either (b == 48) _ _ _ n.1) [
@@ -214,7 +215,7 @@ flags_step f b q o none h =
               w.2,
               (inr (inl refl), w.3),
               w.4,
-              subst (λ zeros. Closes (record { left = has 45 w.0 || f.left; zeros = zeros; width = w.1 }) p w.2) (or-true (has 48 w.0)) w.5,
+              subst (λ zeros. Closes (record { left = has_byte 45 w.0 || f.left; zeros = zeros; width = w.1 }) p w.2) (or-true (has_byte 48 w.0)) w.5,
               ap (λ rest. 48 ∷ rest) w.6,
             )) e.1
         | inr m ↦ steps_as (WithDigits f) (WithFlags f) b q o
@@ -233,7 +234,7 @@ opened_step b q o h =
     ]
 
 -- what follows a percent sign makes a piece with it
-percent_piece : (p : Piece) (text : List ℕ) → Ends at.Opened p text → IsPiece p (37 ∷ text)
+percent_piece : (p : Piece) (text : List ℕ) → Ends at.Opened p text → SpellsPiece p (37 ∷ text)
 percent_piece p text (inl h) = rw (h.0, h.1) refl
 percent_piece p text (inr h) =
     rw h.5.5 (
@@ -241,8 +242,8 @@ percent_piece p text (inr h) =
       h.5.0,
       h.5.1,
       h.3,
-      or-false (has 45 h.0),
-      or-false (has 48 h.0),
+      or-false (has_byte 45 h.0),
+      or-false (has_byte 48 h.0),
       h.4,
       h.5.3,
       h.5.4,
@@ -252,7 +253,7 @@ percent_piece p text (inr h) =
 outside_step : (b : ℕ) (q : Place) (o : Option Piece) → turn at.Outside b ≡ Some (q, o) → Steps (Ends at.Outside) b q o
 outside_step b q o h =
     elim (either (b == 37) _ _ _ h) [
-      | inl e ↦ goes_step (Ends at.Outside) b at.Opened q o refl tt (λ p text w. subst (λ c. IsPiece p (c ∷ text)) (sym (eqb-true b 37 e.0)) (percent_piece p text w)) e.1
+      | inl e ↦ goes_step (Ends at.Outside) b at.Opened q o refl tt (λ p text w. subst (λ c. SpellsPiece p (c ∷ text)) (sym (eqb-true b 37 e.0)) (percent_piece p text w)) e.1
       | inr n ↦ ends_step (Ends at.Outside) b (piece.Byte b) q o (rw n.0 refl) n.1
     ]
 
@@ -270,9 +271,9 @@ abbrev From : Place → List Piece → List ℕ → Type 0
 From place ps rest =
     ((place ≡ at.Outside) × (ps ≡ []) × (rest ≡ []))
     ⊎ ((p : Piece) × (others : List Piece) × (text : List ℕ) × (behind : List ℕ)
-    × (ps ≡ p ∷ others) × (rest ≡ text ++ behind) × Ends place p text × Spells others behind)
+    × (ps ≡ p ∷ others) × (rest ≡ text ++ behind) × Ends place p text × SpellsFormat others behind)
 
-from_outside : (ps : List Piece) (rest : List ℕ) → From at.Outside ps rest → Spells ps rest
+from_outside : (ps : List Piece) (rest : List ℕ) → From at.Outside ps rest → SpellsFormat ps rest
 from_outside ps rest (inl h) = rw h.1 h.2
 from_outside ps rest (inr h) = rw h.4 (h.2, h.3, h.6, h.7, h.5)
 
@@ -319,5 +320,5 @@ behind done place (b ∷ bs) ps fine h =
     let s = step place b t.0.0 t.0.1 fine t.1 in
     further done place b bs ps t.0.0 t.0.1 s (behind (with_piece done t.0.1) t.0.0 bs ps (fine_after place b t.0.0 t.0.1 s) t.2)
 
-pub read_is_spelled : (format : List ℕ) (ps : List Piece) → pieces format ≡ Some ps → Spells ps format
+pub read_is_spelled : (format : List ℕ) (ps : List Piece) → pieces format ≡ Some ps → SpellsFormat ps format
 read_is_spelled format ps h = let r = behind [] at.Outside format ps tt h in rw r.1 (from_outside r.0 format r.2)

@@ -11,7 +11,7 @@ use Rattle.d_values.specs.declared.int_type.DType.TheVariants as ty
 use Rattle.d_values.specs.declared.key.KeyPart.{KeyPart}
 use Rattle.d_values.specs.declared.value.Value.{Value}
 use Rattle.d_values.specs.declared.value.Value.TheVariants as va
-use Rattle.d_values.specs.Types.{INT32, rank_of, higher, common_of}
+use Rattle.d_values.specs.Types.{INT32, type_rank, higher, common_of}
 use Rattle.d_values.specs.Words.{sign_extension, narrow, operate}
 use Rattle.d_values.proofs.Narrowing.{extended_low}
 use Rattle.d_values.proofs.Wrapping.{by_width}
@@ -21,11 +21,11 @@ use Rattle.d_types.specs.declared.typed.Operation.TheVariants as op
 use Rattle.d_types.specs.declared.typed.Variable.{Variable}
 use Rattle.d_types.specs.Typed.{Constant, Read, Count, Typeds}
 use Rattle.d_types.specs.Operators.{conversion_node}
-use Rattle.d_types.specs.Storage.{Variables, word_of, value_at}
-use Rattle.d_types.specs.Expressions.{Outcome, Has, Faults, with, word_or_fault, number}
+use Rattle.d_types.specs.Storage.{Variables, word_of, value_of_variable}
+use Rattle.d_types.specs.Expressions.{Outcome, Has, Faults, with, word_or_fault, number_outcome}
 use Rattle.d_types.specs.Expressions.{operation_of, word_as_type, step_result, assignment_outcome}
 use Rattle.d_types.specs.Expressions.{update_outcome, step_outcome, eval, keys_of}
-use Rattle.d_types.specs.Laws.{operator_of, one_more, variables_after, with_after}
+use Rattle.d_types.specs.Laws.{operator_of_step, changed_by_one, variables_after, with_after}
 use Rattle.d_types.proofs.InPlace.{converts}
 use Rattle.d_types.proofs.ValueTypes.{int_word}
 
@@ -55,7 +55,7 @@ whole = record { signs = λ w. omega arith; inner = λ w. omega arith; more = λ
 wide : (t : IntType) → ((common_of t INT32).width ≡ t.width) × (32 ≤ t.width) ⊎ ((common_of t INT32).width ≡ 32) × (t.width < 32)
 wide t = by (nat_lt t.width 32) refl
   where
-    at : (b : Bool) → nat_lt (rank_of t) 64 ≡ b → 32 ≤ t.width → (if b then INT32 else t).width ≡ t.width
+    at : (b : Bool) → nat_lt (type_rank t) 64 ≡ b → 32 ≤ t.width → (if b then INT32 else t).width ≡ t.width
     at true e h = absurd (ranked t.signed e)
       where
         ranked : (s : Bool) → nat_lt (2 * t.width + (if s then 0 else 1)) 64 ≡ true → ⊥
@@ -66,7 +66,7 @@ wide t = by (nat_lt t.width 32) refl
     by : (b : Bool) → nat_lt t.width 32 ≡ b →
         ((higher (if b then INT32 else t) INT32).width ≡ t.width) × (32 ≤ t.width) ⊎ ((higher (if b then INT32 else t) INT32).width ≡ 32) × (t.width < 32)
     by true e = let low : t.width < 32 = grind (arith, nat_tests) in inr (refl, low)
-    by false e = let high : 32 ≤ t.width = grind (arith, nat_tests) in inl (at (nat_lt (rank_of t) 64) refl high, high)
+    by false e = let high : 32 ≤ t.width = grind (arith, nat_tests) in inl (at (nat_lt (type_rank t) 64) refl high, high)
 
 nests : (t : IntType) → Nests t.width (common_of t INT32).width
 nests t =
@@ -100,47 +100,47 @@ module _ (t : IntType) where
   one_is : narrow common 1 ≡ 1
   one_is = ap (sign_extension common) (nests t).one ∙ extended_low common 1 (nests t).positive
 
-  step_is : (by : Step) (old : ℕ) → narrow t (narrow common (operate (operator_of by) common.signed (narrow common old) 1)) ≡ narrow t (step_result by old)
+  step_is : (by : Step) (old : ℕ) → narrow t (narrow common (operate (operator_of_step by) common.signed (narrow common old) 1)) ≡ narrow t (step_result by old)
   step_is st.Increment old = ap (sign_extension t) (lowest ((narrow common old + 1) % 2 ^ 64) ∙ (nests t).more (narrow common old) old (lowest old))
   step_is st.Decrement old = ap (sign_extension t) (lowest ((narrow common old + (2 ^ 64 - 1)) % 2 ^ 64) ∙ (nests t).less (narrow common old) old (lowest old))
 
-  result_is : (by : Step) (x y : ℕ) (vars : Variables) → word_or_fault (operation_of (op.Arithmetic (operator_of by) common) x y) vars ≡ Has (narrow common (operate (operator_of by) common.signed x y)) vars
+  result_is : (by : Step) (x y : ℕ) (vars : Variables) → word_or_fault (operation_of (op.Arithmetic (operator_of_step by) common) x y) vars ≡ Has (narrow common (operate (operator_of_step by) common.signed x y)) vars
   result_is st.Increment x y vars = refl
   result_is st.Decrement x y vars = refl
 
   pub step_is_update : (f : Firing) (by : Step) (x : Variable) (keys : Typeds) (vars : Variables) → x.holds ≡ ty.Int t →
-      eval f (Count by an.New x keys) vars ≡ eval f (one_more by t x keys) vars
+      eval f (Count by an.New x keys) vars ≡ eval f (changed_by_one by t x keys) vars
   step_is_update f by x keys vars e = each (keys_of f keys vars)
     where
       at : (key : List KeyPart) (vars : Variables) →
-          step_outcome by an.New x key (word_of (value_at vars x key)) vars
-          ≡ with (number (eval f (conversion_node INT32 common (Constant INT32 1)) vars)) (λ y after. with (word_or_fault (operation_of (op.Arithmetic (operator_of by) common) (narrow common (word_of (value_at vars x key))) y) after) (update_outcome x key))
+          step_outcome by an.New x key (word_of (value_of_variable vars x key)) vars
+          ≡ with (number_outcome (eval f (conversion_node INT32 common (Constant INT32 1)) vars)) (λ y after. with (word_or_fault (operation_of (op.Arithmetic (operator_of_step by) common) (narrow common (word_of (value_of_variable vars x key))) y) after) (update_outcome x key))
       at key vars =
-          let old = word_of (value_at vars x key) in
+          let old = word_of (value_of_variable vars x key) in
           let first = narrow common old in
           let right : eval f (conversion_node INT32 common (Constant INT32 1)) vars ≡ Has (va.Int 1) vars =
           converts f INT32 common (Constant INT32 1) vars (int_word 1 (omega arith)) ∙ ap (λ n. Has (va.Int n) vars) one_is
           in
-          let word : word_as_type x.holds (step_result by old) ≡ word_as_type x.holds (narrow common (operate (operator_of by) common.signed first 1)) =
-          ap (λ (u : DType). word_as_type u (step_result by old)) e ∙ sym (step_is by old) ∙ ap (λ (u : DType). word_as_type u (narrow common (operate (operator_of by) common.signed first 1))) (sym e)
+          let word : word_as_type x.holds (step_result by old) ≡ word_as_type x.holds (narrow common (operate (operator_of_step by) common.signed first 1)) =
+          ap (λ (u : DType). word_as_type u (step_result by old)) e ∙ sym (step_is by old) ∙ ap (λ (u : DType). word_as_type u (narrow common (operate (operator_of_step by) common.signed first 1))) (sym e)
           in
           ap (λ n. assignment_outcome x key (va.Int n) vars) word
           ∙ sym (ap (λ (o : Outcome ℕ). with o (update_outcome x key)) (result_is by first 1 vars))
-          ∙ sym (ap (λ (o : Outcome Value). with (number o) (λ y after. with (word_or_fault (operation_of (op.Arithmetic (operator_of by) common) first y) after) (update_outcome x key))) right)
+          ∙ sym (ap (λ (o : Outcome Value). with (number_outcome o) (λ y after. with (word_or_fault (operation_of (op.Arithmetic (operator_of_step by) common) first y) after) (update_outcome x key))) right)
 
       each : (k : Outcome (List KeyPart)) →
-          with k (λ key vars. step_outcome by an.New x key (word_of (value_at vars x key)) vars)
-          ≡ with k (λ key vars. with (number (eval f (conversion_node INT32 common (Constant INT32 1)) vars)) (λ y after. with (word_or_fault (operation_of (op.Arithmetic (operator_of by) common) (narrow common (word_of (value_at vars x key))) y) after) (update_outcome x key)))
+          with k (λ key vars. step_outcome by an.New x key (word_of (value_of_variable vars x key)) vars)
+          ≡ with k (λ key vars. with (number_outcome (eval f (conversion_node INT32 common (Constant INT32 1)) vars)) (λ y after. with (word_or_fault (operation_of (op.Arithmetic (operator_of_step by) common) (narrow common (word_of (value_of_variable vars x key))) y) after) (update_outcome x key)))
       each (Has key after) = at key after
       each (Faults after) = refl
 
 -- after the variable they have the value that it had
 pub old_is_read : (f : Firing) (by : Step) (x : Variable) (keys : Typeds) (vars : Variables) →
-    eval f (Count by an.Old x keys) vars ≡ with_after (variables_after (eval f (Count by an.New x keys) vars)) (number (eval f (Read x keys) vars))
+    eval f (Count by an.Old x keys) vars ≡ with_after (variables_after (eval f (Count by an.New x keys) vars)) (number_outcome (eval f (Read x keys) vars))
 old_is_read f by x keys vars = each (keys_of f keys vars)
   where
     each : (k : Outcome (List KeyPart)) →
-        with k (λ key vars. step_outcome by an.Old x key (word_of (value_at vars x key)) vars)
-        ≡ with_after (variables_after (with k (λ key vars. step_outcome by an.New x key (word_of (value_at vars x key)) vars))) (number (with k (λ key vars. Has (value_at vars x key) vars)))
+        with k (λ key vars. step_outcome by an.Old x key (word_of (value_of_variable vars x key)) vars)
+        ≡ with_after (variables_after (with k (λ key vars. step_outcome by an.New x key (word_of (value_of_variable vars x key)) vars))) (number_outcome (with k (λ key vars. Has (value_of_variable vars x key) vars)))
     each (Has key after) = refl
     each (Faults after) = refl

@@ -6,47 +6,48 @@ use Rattle.std.proofs.Math.Seq.{drop-cons}
 use Rattle.d_values.specs.declared.int_type.DType.{DType}
 use Rattle.d_types.specs.declared.variables.Entry.{Entry}
 use Rattle.d_types.specs.Typed.{Typeds}
-use Rattle.d_types.specs.Variables.{Rows, row_of, rows_of, type_at, keys_fit, fit, set_type}
+use Rattle.d_types.specs.Variables.{Rows, row_of_entry, rows_of_entries, type_at, keys_fit, fit}
+use Rattle.d_types.specs.Variables.{set_type}
 
 pub front : {A : Type 0} (xs : List A) (n : ℕ) (x : A) → n < length xs → x ≡ get_or xs n x → drop n xs ≡ x ∷ drop (n + 1) xs
 front xs n x h e = rw add-one (drop-cons xs n x h ∙ ap (λ y. y ∷ drop (suc n) xs) (sym e))
 
-pub type_at_within : (es : List Entry) (n : ℕ) (e : Entry) → n < length es → e ≡ get_or es n e → type_at (rows_of es) n ≡ e.holds
+pub type_at_within : (es : List Entry) (n : ℕ) (e : Entry) → n < length es → e ≡ get_or es n e → type_at (rows_of_entries es) n ≡ e.holds
 type_at_within [] n e h same = absurd (omega arith)
 type_at_within (x ∷ es) zero e h same = ap (λ (y : Entry). y.holds) (sym same)
 type_at_within (x ∷ es) (suc n) e h same = type_at_within es n e (omega arith) same
 
-pub type_at_past : (es : List Entry) (n : ℕ) → length es ≤ n → type_at (rows_of es) n ≡ None
+pub type_at_past : (es : List Entry) (n : ℕ) → length es ≤ n → type_at (rows_of_entries es) n ≡ None
 type_at_past [] n h = refl
 type_at_past (x ∷ es) zero h = absurd (omega arith)
 type_at_past (x ∷ es) (suc n) h = type_at_past es n (omega arith)
 
 pub keys_fit_within : (es : List Entry) (n : ℕ) (e : Entry) (keys : Typeds) → n < length es → e ≡ get_or es n e →
-    keys_fit (rows_of es) n keys ≡ fit e.keys.items keys
+    keys_fit (rows_of_entries es) n keys ≡ fit e.keys.items keys
 keys_fit_within [] n e keys h same = absurd (omega arith)
 keys_fit_within (x ∷ es) zero e keys h same = ap (λ (y : Entry). fit y.keys.items keys) (sym same)
 keys_fit_within (x ∷ es) (suc n) e keys h same = keys_fit_within es n e keys (omega arith) same
 
-pub keys_fit_past : (es : List Entry) (n : ℕ) (keys : Typeds) → length es ≤ n → keys_fit (rows_of es) n keys ≡ false
+pub keys_fit_past : (es : List Entry) (n : ℕ) (keys : Typeds) → length es ≤ n → keys_fit (rows_of_entries es) n keys ≡ false
 keys_fit_past [] n keys h = refl
 keys_fit_past (x ∷ es) zero keys h = absurd (omega arith)
 keys_fit_past (x ∷ es) (suc n) keys h = keys_fit_past es n keys (omega arith)
 
 pub set_type_within : (es : List Entry) (n : ℕ) (e : Entry) (t : DType) → n < length es →
-    rows_of (slice_set es n (record { space = (get_or es n e).space; name = (get_or es n e).name; keys = (get_or es n e).keys; holds = Some t })) ≡ set_type n t (rows_of es)
+    rows_of_entries (slice_set es n (record { space = (get_or es n e).space; name = (get_or es n e).name; keys = (get_or es n e).keys; holds = Some t })) ≡ set_type n t (rows_of_entries es)
 set_type_within [] n e t h = absurd (omega arith)
 set_type_within (x ∷ es) zero e t h = refl
-set_type_within (x ∷ es) (suc n) e t h = ap (λ (rs : Rows). row_of x ∷ rs) (set_type_within es n e t (omega arith))
+set_type_within (x ∷ es) (suc n) e t h = ap (λ (rs : Rows). row_of_entry x ∷ rs) (set_type_within es n e t (omega arith))
 
-pub set_type_past : (es : List Entry) (n : ℕ) (t : DType) → length es ≤ n → set_type n t (rows_of es) ≡ rows_of es
+pub set_type_past : (es : List Entry) (n : ℕ) (t : DType) → length es ≤ n → set_type n t (rows_of_entries es) ≡ rows_of_entries es
 set_type_past [] n t h = refl
 set_type_past (x ∷ es) zero t h = absurd (omega arith)
-set_type_past (x ∷ es) (suc n) t h = ap (λ (rs : Rows). row_of x ∷ rs) (set_type_past es n t (omega arith))
+set_type_past (x ∷ es) (suc n) t h = ap (λ (rs : Rows). row_of_entry x ∷ rs) (set_type_past es n t (omega arith))
 
-pub rows_length : (es : List Entry) → length (rows_of es) ≡ length es
+pub rows_length : (es : List Entry) → length (rows_of_entries es) ≡ length es
 rows_length [] = refl
-rows_length (x ∷ xs) = let e : length (rows_of xs) ≡ length xs = rows_length xs in omega arith
+rows_length (x ∷ xs) = let e : length (rows_of_entries xs) ≡ length xs = rows_length xs in omega arith
 
-pub rows_push : (es : List Entry) (e : Entry) → rows_of (es ++ e ∷ []) ≡ rows_of es ++ row_of e ∷ []
+pub rows_push : (es : List Entry) (e : Entry) → rows_of_entries (es ++ e ∷ []) ≡ rows_of_entries es ++ row_of_entry e ∷ []
 rows_push [] e = refl
-rows_push (x ∷ es) e = ap (λ (rs : Rows). row_of x ∷ rs) (rows_push es e)
+rows_push (x ∷ es) e = ap (λ (rs : Rows). row_of_entry x ∷ rs) (rows_push es e)

@@ -7,7 +7,7 @@ use Rattle.d_types.specs.Vocabulary.{MOST_STEP, Aggregating}
 use Rattle.d_types.specs.Faults.{Fault, ◌>>=◌, refuse, unless, Undeclared, Mismatch, Keys}
 use Rattle.d_types.specs.Faults.{AggregationRedefined, LquantizeBounds}
 use Rattle.d_types.specs.Typed.{Typed, Typeds, end, more, type_of, Action, Aggregate, Agg, Aggs}
-use Rattle.d_types.specs.Variables.{Rows, kinds_of, fit}
+use Rattle.d_types.specs.Variables.{Rows, kinds_of_typed, fit}
 use Rattle.d_types.specs.{Words.aggregating_named, Needs.count, Statements.wholes}
 
 -- ---- bounds and steps, which are read from the text
@@ -17,17 +17,17 @@ number_in (Constant.Number v suffix) = Some v
 number_in (Constant.Text bytes) = None
 
 -- a constant's value, the type aside
-abbrev pub number : Tree → Option ℕ
-number (Tree.Known line c) = number_in c
-number (Tree.Read x keys) = None
-number (Tree.Unary line op a) = None
-number (Tree.Cast line to a) = None
-number (Tree.Call line name args) = None
-number (Tree.Before line by x keys) = None
-number (Tree.After x keys by) = None
-number (Tree.Binary op a b) = None
-number (Tree.Choice a b d) = None
-number (Tree.Assign op x keys a) = None
+abbrev pub constant_number : Tree → Option ℕ
+constant_number (Tree.Known line c) = number_in c
+constant_number (Tree.Read x keys) = None
+constant_number (Tree.Unary line op a) = None
+constant_number (Tree.Cast line to a) = None
+constant_number (Tree.Call line name args) = None
+constant_number (Tree.Before line by x keys) = None
+constant_number (Tree.After x keys by) = None
+constant_number (Tree.Binary op a b) = None
+constant_number (Tree.Choice a b d) = None
+constant_number (Tree.Assign op x keys a) = None
 
 abbrev pub positive : Option ℕ → Option ℤ
 positive None = None
@@ -38,7 +38,7 @@ negative None = None
 negative (Some v) = if nat_le v 2147483648 then Some (neg_ℤ (pos v)) else None
 
 abbrev pub minus_bound : UnaryOperator → Tree → Option ℤ
-minus_bound UnaryOperator.Negate a = negative (number a)
+minus_bound UnaryOperator.Negate a = negative (constant_number a)
 minus_bound UnaryOperator.Not a = None
 minus_bound UnaryOperator.Complement a = None
 minus_bound UnaryOperator.Keep a = None
@@ -61,18 +61,19 @@ small None = None
 small (Some v) = if nat_le v MOST_STEP then Some v else None
 
 abbrev pub step : Tree → Option ℕ
-step t = small (number t)
+step t = small (constant_number t)
 
-abbrev pub buckets : Option ℤ → Option ℤ → Option ℕ → Option AggFn
-buckets (Some lower) (Some upper) (Some s) = option_map AggFn.Lquantize (linear_range lower upper s)
-buckets lower upper s = None
+abbrev pub buckets_between : Option ℤ → Option ℤ → Option ℕ → Option AggFn
+buckets_between (Some lower) (Some upper) (Some s) =
+    option_map AggFn.Lquantize (linear_range lower upper s)
+buckets_between lower upper s = None
 
 -- `lquantize(e, lower, upper)` has steps of 1, and `lquantize(e, lower, upper, step)` its own
 abbrev pub lquantize : Trees → Option AggFn
 lquantize (Trees.more e (Trees.more lower (Trees.more upper Trees.end))) =
-    buckets (bound lower) (bound upper) (Some 1)
+    buckets_between (bound lower) (bound upper) (Some 1)
 lquantize (Trees.more e (Trees.more lower (Trees.more upper (Trees.more s Trees.end)))) =
-    buckets (bound lower) (bound upper) (step s)
+    buckets_between (bound lower) (bound upper) (step s)
 lquantize args = None
 
 -- a function with its bounds, where they are in range
@@ -96,18 +97,18 @@ integers end = true
 integers (more x rest) = is_integer (type_of x) && integers rest
 
 -- count() takes nothing, lquantize three or four arguments, the others one
-abbrev pub takes : Aggregating → ℕ → Bool
-takes Aggregating.Count n = nat_le n 0
-takes Aggregating.Lquantize n = nat_le 3 n && nat_le n 4
-takes Aggregating.Sum n = nat_le 1 n && nat_le n 1
-takes Aggregating.Min n = nat_le 1 n && nat_le n 1
-takes Aggregating.Max n = nat_le 1 n && nat_le n 1
-takes Aggregating.Avg n = nat_le 1 n && nat_le n 1
-takes Aggregating.Quantize n = nat_le 1 n && nat_le n 1
+abbrev pub takes_arguments : Aggregating → ℕ → Bool
+takes_arguments Aggregating.Count n = nat_le n 0
+takes_arguments Aggregating.Lquantize n = nat_le 3 n && nat_le n 4
+takes_arguments Aggregating.Sum n = nat_le 1 n && nat_le n 1
+takes_arguments Aggregating.Min n = nat_le 1 n && nat_le n 1
+takes_arguments Aggregating.Max n = nat_le 1 n && nat_le n 1
+takes_arguments Aggregating.Avg n = nat_le 1 n && nat_le n 1
+takes_arguments Aggregating.Quantize n = nat_le 1 n && nat_le n 1
 
 -- integers, of the number that the function takes
 abbrev pub arguments_fit : Aggregating → Typeds → Bool
-arguments_fit f args = takes f (count args) && integers args
+arguments_fit f args = takes_arguments f (count args) && integers args
 
 -- the first argument is what is aggregated
 abbrev pub first : Typeds → Option Typed
@@ -141,7 +142,7 @@ is_again (Some f) g = same f g
 
 abbrev pub new_aggregation : List ℕ → Typeds → Aggs → AggFn → Result (ℕ × Aggs) Fault
 new_aggregation name keys aggs f =
-    Ok (length aggs, aggs ++ record { name = name; keys = kinds_of keys; function = f } ∷ [])
+    Ok (length aggs, aggs ++ record { name = name; keys = kinds_of_typed keys; function = f } ∷ [])
 
 -- the place of an aggregation, and all of them with it: the first statement fixes its keys and its
 -- function

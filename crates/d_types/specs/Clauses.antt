@@ -6,7 +6,7 @@ use Rattle.d_types.specs.Vocabulary.{decimal, cast_signed, w64, Contribution, co
 use Rattle.d_types.specs.Vocabulary.{KeyPart, Value, Firing, Effect}
 use Rattle.d_types.specs.Typed.{Typed, Typeds, end, more, type_of, ActionOf, Action, Evaluate}
 use Rattle.d_types.specs.Typed.{Trace, Print, Exit, Aggregate, ClauseMeant}
-use Rattle.d_types.specs.Expressions.{Outcome, Has, Faults, with, number, eval, keys_of}
+use Rattle.d_types.specs.Expressions.{Outcome, Has, Faults, with, number_outcome, eval, keys_of}
 use Rattle.d_types.specs.{Storage.Variables, Printing.trace_line, Printing.printf_text}
 
 -- ---- evaluation
@@ -36,7 +36,8 @@ module _ {E Es : Type 0} (by : Evaluation E Es) where
   -- what an aggregating function is given, as a signed number; 0 where it takes nothing
   abbrev pub argument_by : Option E → Variables → Outcome ℤ
   argument_by None vars = Has (pos 0) vars
-  argument_by (Some a) vars = with (number (by.value a vars)) (λ word. Has (cast_signed w64 word))
+  argument_by (Some a) vars =
+      with (number_outcome (by.value a vars)) (λ word. Has (cast_signed w64 word))
 
   -- what a statement does beside its assignments, or the fault
   abbrev pub effect_by : ActionOf E Es → Variables → Outcome Effect
@@ -46,7 +47,7 @@ module _ {E Es : Type 0} (by : Evaluation E Es) where
   effect_by (Print format arguments) vars =
       with (by.values arguments vars) (λ values. Has (Effect.Says (printf_text format values)))
   effect_by (Exit a) vars =
-      with (number (by.value a vars)) (λ word. Has (Effect.Exits (word % 256)))
+      with (number_outcome (by.value a vars)) (λ word. Has (Effect.Exits (word % 256)))
   effect_by (Aggregate place keys argument) vars =
       with (by.key keys vars)
       (λ key vars. with (argument_by argument vars) (λ z. Has (Effect.Adds place key z)))
@@ -85,7 +86,7 @@ abbrev pub where_predicate : {E Es : Type 0} → Evaluation E Es → Option E �
     → Variables
     → Ran
 where_predicate by None go vars = go vars
-where_predicate by (Some a) go vars = where_true (number (by.value a vars)) go
+where_predicate by (Some a) go vars = where_true (number_outcome (by.value a vars)) go
 
 -- ---- a run
 
@@ -128,8 +129,8 @@ run_result line all = record {
 }
 
 -- nothing is made, and the variables stay
-abbrev pub nothing : Variables → Made
-nothing vars = record { texts = []; contributions = []; exit = None; variables = vars }
+abbrev pub nothing_made : Variables → Made
+nothing_made vars = record { texts = []; contributions = []; exit = None; variables = vars }
 
 -- what two runs made, one after the other: the first exit counts, and the variables are those after
 -- the second

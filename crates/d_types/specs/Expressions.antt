@@ -9,7 +9,7 @@ use Rattle.d_types.specs.Vocabulary.{Operation, Variable}
 use Rattle.d_types.specs.Typed.{Typed, Constant, Text, Fixed, Read, Unary, Operate, Compare}
 use Rattle.d_types.specs.Typed.{CompareText, Logic, Choice, Convert, Assign, Update, Count, Strlen}
 use Rattle.d_types.specs.Typed.{Strjoin, Typeds, end, more}
-use Rattle.d_types.specs.Storage.{Variables, word_of, bytes_of, value_at, set}
+use Rattle.d_types.specs.Storage.{Variables, word_of, bytes_of, value_of_variable, set}
 pub use Rattle.d_values.specs.Keys.{part_of}
 pub use Rattle.d_values.specs.Outcomes.{Outcome, Has, Faults, with}
 
@@ -22,11 +22,11 @@ word_or_fault (Err e) vars = Faults vars
 
 -- ---- values
 
-abbrev pub number : Outcome Value → Outcome ℕ
-number o = with o (λ x. Has (word_of x))
+abbrev pub number_outcome : Outcome Value → Outcome ℕ
+number_outcome o = with o (λ x. Has (word_of x))
 
-abbrev pub text : Outcome Value → Outcome (List ℕ)
-text o = with o (λ x. Has (bytes_of x))
+abbrev pub text_outcome : Outcome Value → Outcome (List ℕ)
+text_outcome o = with o (λ x. Has (bytes_of x))
 
 abbrev pub integer : Outcome ℕ → Outcome Value
 integer o = with o (λ word. Has (Value.Int word))
@@ -51,17 +51,17 @@ abbrev pub at_zero : {A : Type 0} → ℕ → A → A → A
 at_zero zero a b = a
 at_zero (suc n) a b = b
 
-abbrev pub built_in_of : Firing → BuiltIn → Value
-built_in_of f (BuiltIn.Argument n) = Value.Int (cast_unsigned w64 (get_or f.args n (pos 0)))
-built_in_of f BuiltIn.Timestamp = Value.Int f.time
-built_in_of f BuiltIn.Cpu = Value.Int (cast_unsigned w64 f.cpu)
-built_in_of f BuiltIn.Pid = Value.Int (cast_unsigned w64 f.pid)
-built_in_of f BuiltIn.Tid = Value.Int (cast_unsigned w64 f.thread)
-built_in_of f BuiltIn.Execname = Value.Text f.execname
-built_in_of f BuiltIn.Probeprov = Value.Text f.provider
-built_in_of f BuiltIn.Probemod = Value.Text f.probemod
-built_in_of f BuiltIn.Probefunc = Value.Text f.probefunc
-built_in_of f BuiltIn.Probename = Value.Text f.name
+abbrev pub built_in_value : Firing → BuiltIn → Value
+built_in_value f (BuiltIn.Argument n) = Value.Int (cast_unsigned w64 (get_or f.args n (pos 0)))
+built_in_value f BuiltIn.Timestamp = Value.Int f.time
+built_in_value f BuiltIn.Cpu = Value.Int (cast_unsigned w64 f.cpu)
+built_in_value f BuiltIn.Pid = Value.Int (cast_unsigned w64 f.pid)
+built_in_value f BuiltIn.Tid = Value.Int (cast_unsigned w64 f.thread)
+built_in_value f BuiltIn.Execname = Value.Text f.execname
+built_in_value f BuiltIn.Probeprov = Value.Text f.provider
+built_in_value f BuiltIn.Probemod = Value.Text f.probemod
+built_in_value f BuiltIn.Probefunc = Value.Text f.probefunc
+built_in_value f BuiltIn.Probename = Value.Text f.name
 
 -- ---- operators
 
@@ -116,47 +116,50 @@ abbrev mutual
   pub eval : Firing → Typed → Variables → Outcome Value
   eval f (Constant t word) vars = Has (Value.Int word) vars
   eval f (Text bytes) vars = Has (Value.Text bytes) vars
-  eval f (Fixed b) vars = Has (built_in_of f b) vars
+  eval f (Fixed b) vars = Has (built_in_value f b) vars
   eval f (Read x keys) vars =
-      with (keys_of f keys vars) (λ key vars. Has (value_at vars x key) vars)
-  eval f (Unary o t a) vars = with (number (eval f a vars)) (λ x. Has (Value.Int (unary_of o t x)))
+      with (keys_of f keys vars) (λ key vars. Has (value_of_variable vars x key) vars)
+  eval f (Unary o t a) vars =
+      with (number_outcome (eval f a vars)) (λ x. Has (Value.Int (unary_of o t x)))
   eval f (Operate o a b) vars =
-      with (number (eval f a vars)) (λ x vars. with (number (eval f b vars))
+      with (number_outcome (eval f a vars)) (λ x vars. with (number_outcome (eval f b vars))
       (λ y vars. integer (word_or_fault (operation_of o x y) vars)))
   eval f (Compare o t a b) vars =
-      with (number (eval f a vars)) (λ x vars. with (number (eval f b vars))
+      with (number_outcome (eval f a vars)) (λ x vars. with (number_outcome (eval f b vars))
       (λ y. Has (Value.Int (truth (holds_of o (order_of t x y))))))
   eval f (CompareText o a b) vars =
-      with (text (eval f a vars)) (λ x vars. with (text (eval f b vars))
+      with (text_outcome (eval f a vars)) (λ x vars. with (text_outcome (eval f b vars))
       (λ y. Has (Value.Int (truth (holds_of o (text_cmp x y))))))
   eval f (Logic LogicOperator.And a b) vars =
-      with (number (eval f a vars)) (λ x vars. at_zero x (Has (Value.Int 0) vars)
-      (with (number (eval f b vars)) (λ y. Has (Value.Int (bit y)))))
+      with (number_outcome (eval f a vars)) (λ x vars. at_zero x (Has (Value.Int 0) vars)
+      (with (number_outcome (eval f b vars)) (λ y. Has (Value.Int (bit y)))))
   eval f (Logic LogicOperator.Or a b) vars =
-      with (number (eval f a vars)) (λ x vars. at_zero x
-      (with (number (eval f b vars)) (λ y. Has (Value.Int (bit y)))) (Has (Value.Int 1) vars))
+      with (number_outcome (eval f a vars)) (λ x vars. at_zero x
+      (with (number_outcome (eval f b vars)) (λ y. Has (Value.Int (bit y)))) (Has
+      (Value.Int 1) vars))
   eval f (Logic LogicOperator.Xor a b) vars =
-      with (number (eval f a vars)) (λ x vars. with (number (eval f b vars))
+      with (number_outcome (eval f a vars)) (λ x vars. with (number_outcome (eval f b vars))
       (λ y. Has (Value.Int (at_zero x (bit y) (inverse y)))))
   eval f (Choice t c a b) vars =
-      with (number (eval f c vars)) (λ x vars. at_zero x (eval f b vars) (eval f a vars))
-  eval f (Convert t u a) vars = with (number (eval f a vars)) (λ x. Has (Value.Int (narrow u x)))
+      with (number_outcome (eval f c vars)) (λ x vars. at_zero x (eval f b vars) (eval f a vars))
+  eval f (Convert t u a) vars =
+      with (number_outcome (eval f a vars)) (λ x. Has (Value.Int (narrow u x)))
   -- the keys, then the right side, then the change
   eval f (Assign x keys a) vars =
       with (keys_of f keys vars) (λ key vars. with (eval f a vars) (assignment_outcome x key))
   -- the variable is read before the right side is evaluated
   eval f (Update o x keys a) vars =
-      with (keys_of f keys vars) (λ key vars. with (number (eval f a vars)) (λ y after.
+      with (keys_of f keys vars) (λ key vars. with (number_outcome (eval f a vars)) (λ y after.
       with (word_or_fault
-      (operation_of o (narrow (works_in o) (word_of (value_at vars x key))) y) after)
+      (operation_of o (narrow (works_in o) (word_of (value_of_variable vars x key))) y) after)
       (update_outcome x key)))
   eval f (Count step answer x keys) vars =
       with (keys_of f keys vars)
-      (λ key vars. step_outcome step answer x key (word_of (value_at vars x key)) vars)
-  eval f (Strlen a) vars = with (text (eval f a vars)) (λ x. Has (Value.Int (length x)))
+      (λ key vars. step_outcome step answer x key (word_of (value_of_variable vars x key)) vars)
+  eval f (Strlen a) vars = with (text_outcome (eval f a vars)) (λ x. Has (Value.Int (length x)))
   eval f (Strjoin a b) vars =
-      with (text (eval f a vars))
-      (λ x vars. with (text (eval f b vars)) (λ y. Has (Value.Text (joined_text x y))))
+      with (text_outcome (eval f a vars))
+      (λ x vars. with (text_outcome (eval f b vars)) (λ y. Has (Value.Text (joined_text x y))))
 
   -- keys, from left to right
   pub keys_of : Firing → Typeds → Variables → Outcome (List KeyPart)

@@ -20,19 +20,19 @@ pub record Fault : Type 0 where
   pub line : ℕ
 
 -- how a script's fault is reported
-abbrev pub fault_at : Cause → ℕ → TypeFault
-fault_at (GlobalAssignment name) line = TypeFault.GlobalAssignment name line
-fault_at Undeclared line = TypeFault.Undeclared line
-fault_at Mismatch line = TypeFault.Mismatch line
-fault_at Keys line = TypeFault.Keys line
-fault_at AggregationRedefined line = TypeFault.AggregationRedefined line
-fault_at LquantizeBounds line = TypeFault.LquantizeBounds line
-fault_at PrintfArguments line = TypeFault.PrintfArguments line
-fault_at ReadOnly line = TypeFault.ReadOnly line
-fault_at NoRegister line = TypeFault.NoRegister line
+abbrev pub type_fault_at : Cause → ℕ → TypeFault
+type_fault_at (GlobalAssignment name) line = TypeFault.GlobalAssignment name line
+type_fault_at Undeclared line = TypeFault.Undeclared line
+type_fault_at Mismatch line = TypeFault.Mismatch line
+type_fault_at Keys line = TypeFault.Keys line
+type_fault_at AggregationRedefined line = TypeFault.AggregationRedefined line
+type_fault_at LquantizeBounds line = TypeFault.LquantizeBounds line
+type_fault_at PrintfArguments line = TypeFault.PrintfArguments line
+type_fault_at ReadOnly line = TypeFault.ReadOnly line
+type_fault_at NoRegister line = TypeFault.NoRegister line
 
-abbrev pub fault_of : Fault → TypeFault
-fault_of first = fault_at first.cause first.line
+abbrev pub type_fault_of : Fault → TypeFault
+type_fault_of first = type_fault_at first.cause first.line
 
 -- what comes first is refused first
 infixl 10 ◌>>=◌

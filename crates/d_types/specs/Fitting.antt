@@ -5,8 +5,8 @@ use Rattle.d_types.specs.Typed.{Typed, ScriptMeant}
 use Rattle.d_types.specs.Needs.{need}
 use Rattle.d_types.specs.Wholes.{ClausesAre}
 
-abbrev pub Fits : Typed → Type 0
-Fits x = need x ≤ REGISTERS
+abbrev pub FitsRegisters : Typed → Type 0
+FitsRegisters x = need x ≤ REGISTERS
 
 abbrev pub ScriptFits : ScriptMeant → Type 0
-ScriptFits m = ClausesAre Fits m.clauses
+ScriptFits m = ClausesAre FitsRegisters m.clauses

@@ -4,7 +4,7 @@ use Rattle.std.specs.Prelude.{if◌then◌else◌, List, [], ◌∷◌, ◌++◌
 use Rattle.d_types.specs.Vocabulary.{Int, Text, DType, Letter, Piece, MOST_WIDTH, Flags, Place}
 use Rattle.d_types.specs.Typed.{Typeds, end, more, type_of}
 
--- what a byte does: where the next byte stands, and the piece that it ends, if any
+-- what a byte does: where the next byte is, and the piece that it ends, if any
 abbrev pub Turn : Type 0
 Turn = Option (Place × Option Piece)
 
@@ -98,17 +98,17 @@ abbrev pub pieces : List ℕ → Option (List Piece)
 pieces bs = pieces_from [] Place.Outside bs
 
 -- %s takes a text, the others an integer
-abbrev pub takes : Letter → DType → Bool
-takes Letter.Text Text = true
-takes Letter.Text (Int t) = false
-takes Letter.Signed Text = false
-takes Letter.Signed (Int t) = true
-takes Letter.Unsigned Text = false
-takes Letter.Unsigned (Int t) = true
-takes Letter.Hexadecimal Text = false
-takes Letter.Hexadecimal (Int t) = true
-takes Letter.Octal Text = false
-takes Letter.Octal (Int t) = true
+abbrev pub takes_type : Letter → DType → Bool
+takes_type Letter.Text Text = true
+takes_type Letter.Text (Int t) = false
+takes_type Letter.Signed Text = false
+takes_type Letter.Signed (Int t) = true
+takes_type Letter.Unsigned Text = false
+takes_type Letter.Unsigned (Int t) = true
+takes_type Letter.Hexadecimal Text = false
+takes_type Letter.Hexadecimal (Int t) = true
+takes_type Letter.Octal Text = false
+takes_type Letter.Octal (Int t) = true
 
 -- an argument for each conversion, of its kind
 abbrev pub fit : List Piece → Typeds → Bool
@@ -116,4 +116,4 @@ fit [] end = true
 fit [] (more x rest) = false
 fit (Piece.Byte b ∷ ps) args = fit ps args
 fit (Piece.Argument c ∷ ps) end = false
-fit (Piece.Argument c ∷ ps) (more x rest) = takes c.letter (type_of x) && fit ps rest
+fit (Piece.Argument c ∷ ps) (more x rest) = takes_type c.letter (type_of x) && fit ps rest

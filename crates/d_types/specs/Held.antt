@@ -8,8 +8,8 @@ use Rattle.d_types.specs.Typed.{ScriptMeant, Typed, Constant, Text, Fixed, Read,
 use Rattle.d_types.specs.Typed.{Compare, CompareText, Logic, Choice, Convert, Assign, Update, Count}
 use Rattle.d_types.specs.Typed.{Strlen, Strjoin, Typeds, end, more, type_of, type_of_built_in}
 use Rattle.d_types.specs.Storage.{Variables}
-use Rattle.d_types.specs.Variables.{kind_of}
-use Rattle.d_types.specs.Expressions.{Outcome, Has, Faults, built_in_of, works_in}
+use Rattle.d_types.specs.Variables.{kind_of_type}
+use Rattle.d_types.specs.Expressions.{Outcome, Has, Faults, built_in_value, works_in}
 
 -- ---- values
 
@@ -25,7 +25,7 @@ IsOf _ _ = ⊥
 
 -- each built-in of the firing is a value of its type
 abbrev pub HasTypedBuiltIns : Firing → Type 0
-HasTypedBuiltIns f = (b : BuiltIn) → IsOf (type_of_built_in b) (built_in_of f b)
+HasTypedBuiltIns f = (b : BuiltIn) → IsOf (type_of_built_in b) (built_in_value f b)
 
 -- ---- variables
 
@@ -44,13 +44,13 @@ IsKnown slots x = slots x.slot ≡ Some x.holds
 abbrev pub AreTypedLocals : Slots → (Var → Value) → Type 0
 AreTypedLocals slots locals =
     (slot : ℕ) (t : DType) → slots slot ≡ Some t
-    → IsOf t (locals (record { slot = slot; kind = kind_of t }))
+    → IsOf t (locals (record { slot = slot; kind = kind_of_type t }))
 
 -- each of a thread's variables holds a value of its type, at each key
 abbrev pub AreTypedOwn : Slots → (Var → List KeyPart → Value) → Type 0
 AreTypedOwn slots own =
     (slot : ℕ) (t : DType) (key : List KeyPart) → slots slot ≡ Some t
-    → IsOf t (own (record { slot = slot; kind = kind_of t }) key)
+    → IsOf t (own (record { slot = slot; kind = kind_of_type t }) key)
 
 -- all variables hold values of their types
 abbrev pub AreTyped : Slots → Variables → Type 0
@@ -58,9 +58,9 @@ AreTyped slots vars = AreTypedLocals slots vars.locals × AreTypedOwn slots vars
 
 -- what an evaluation gives is such, and the variables after it hold values of their types, also
 -- after a fault
-abbrev pub Ends : {A : Type 0} → Slots → (A → Type 0) → Outcome A → Type 0
-Ends slots Is (Has x vars) = Is x × AreTyped slots vars
-Ends slots Is (Faults vars) = AreTyped slots vars
+abbrev pub EndsTyped : {A : Type 0} → Slots → (A → Type 0) → Outcome A → Type 0
+EndsTyped slots Is (Has x vars) = Is x × AreTyped slots vars
+EndsTyped slots Is (Faults vars) = AreTyped slots vars
 
 -- ---- trees
 
@@ -69,9 +69,9 @@ abbrev pub IsSomeInteger : DType → Type 0
 IsSomeInteger t = (u : IntType) × (t ≡ DType.Int u)
 
 -- both operands have the operation's type; a shift's count is any integer
-abbrev pub Takes : Operation → DType → DType → Type 0
-Takes (Operation.Arithmetic o t) left right = (left ≡ DType.Int t) × (right ≡ DType.Int t)
-Takes (Operation.Shift o t) left right = (left ≡ DType.Int t) × IsSomeInteger right
+abbrev pub TakesOperands : Operation → DType → DType → Type 0
+TakesOperands (Operation.Arithmetic o t) left right = (left ≡ DType.Int t) × (right ≡ DType.Int t)
+TakesOperands (Operation.Shift o t) left right = (left ≡ DType.Int t) × IsSomeInteger right
 
 abbrev mutual
   -- each constant is a value of its type, each variable has the type of its slot, and each part the
@@ -83,7 +83,7 @@ abbrev mutual
   IsConsistent slots (Read x keys) = IsKnown slots x × AreConsistent slots keys
   IsConsistent slots (Unary o t a) = (type_of a ≡ DType.Int t) × IsConsistent slots a
   IsConsistent slots (Operate o a b) =
-      Takes o (type_of a) (type_of b) × IsConsistent slots a × IsConsistent slots b
+      TakesOperands o (type_of a) (type_of b) × IsConsistent slots a × IsConsistent slots b
   IsConsistent slots (Compare o t a b) =
       (type_of a ≡ DType.Int t) × (type_of b ≡ DType.Int t) × IsConsistent slots a
       × IsConsistent slots b
@@ -101,7 +101,7 @@ abbrev mutual
       IsKnown slots x × AreConsistent slots keys × (type_of a ≡ x.holds) × IsConsistent slots a
   IsConsistent slots (Update o x keys a) =
       IsKnown slots x × AreConsistent slots keys × IsSomeInteger x.holds
-      × Takes o (DType.Int (works_in o)) (type_of a) × IsConsistent slots a
+      × TakesOperands o (DType.Int (works_in o)) (type_of a) × IsConsistent slots a
   IsConsistent slots (Count step answer x keys) =
       IsKnown slots x × AreConsistent slots keys × IsSomeInteger x.holds
   IsConsistent slots (Strlen a) = (type_of a ≡ DType.Text) × IsConsistent slots a

@@ -1,11 +1,11 @@
--- What evaluation never does, by what stands in the expression.
+-- What evaluation never does, by what the expression has.
 use Rattle.std.specs.Prelude.{◌≡◌, ℕ, Bool, true, false, ◌||◌, List}
 use Rattle.d_types.specs.Vocabulary.{Step, IntType, KeyPart, ArithmeticOperator, Value, INT32}
 use Rattle.d_types.specs.Vocabulary.{common_of, divides, Firing, Operation, Variable}
 use Rattle.d_types.specs.Typed.{Typed, Constant, Text, Fixed, Read, Unary, Operate, Compare}
 use Rattle.d_types.specs.Typed.{CompareText, Logic, Choice, Convert, Assign, Update, Count, Strlen}
 use Rattle.d_types.specs.Typed.{Strjoin, Typeds, end, more}
-use Rattle.d_types.specs.Storage.{Variables, value_at}
+use Rattle.d_types.specs.Storage.{Variables, value_of_variable}
 use Rattle.d_types.specs.Expressions.{Outcome, Has, Faults, with, works_in, keys_of}
 use Rattle.d_types.specs.{Held.IsOf, Operators.conversion_node}
 
@@ -15,7 +15,7 @@ is_division (Operation.Arithmetic o t) = divides o
 is_division (Operation.Shift o t) = false
 
 abbrev mutual
-  -- an assignment, `++` or `--` stands in it
+  -- it has an assignment, `++` or `--`
   pub assigns : Typed → Bool
   assigns (Constant t word) = false
   assigns (Text bytes) = false
@@ -39,7 +39,7 @@ abbrev mutual
   assigns_in (more a rest) = assigns a || assigns_in rest
 
 abbrev mutual
-  -- `/`, `%`, `/=` or `%=` stands in it
+  -- it has `/`, `%`, `/=` or `%=`
   pub has_division : Typed → Bool
   has_division (Constant t word) = false
   has_division (Text bytes) = false
@@ -83,7 +83,7 @@ AreRepeatable f keys vars =
 abbrev pub HoldsItsType : Firing → Variable → Typeds → Variables → Type 0
 HoldsItsType f x keys vars =
     (key : List KeyPart) (after : Variables) → keys_of f keys vars ≡ Has key after
-    → IsOf x.holds (value_at after x key)
+    → IsOf x.holds (value_of_variable after x key)
 
 -- `x[keys] op e` as a value of the type t of x
 abbrev pub in_place : Operation → IntType → Variable → Typeds → Typed → Typed
@@ -91,14 +91,14 @@ in_place o t x keys e =
     conversion_node (works_in o) t (Operate o (conversion_node t (works_in o) (Read x keys)) e)
 
 -- the operator of `++` and of `--`
-abbrev pub operator_of : Step → ArithmeticOperator
-operator_of Step.Increment = ArithmeticOperator.Add
-operator_of Step.Decrement = ArithmeticOperator.Subtract
+abbrev pub operator_of_step : Step → ArithmeticOperator
+operator_of_step Step.Increment = ArithmeticOperator.Add
+operator_of_step Step.Decrement = ArithmeticOperator.Subtract
 
 -- `x[keys] += 1` or `x[keys] -= 1`, of a variable of type t
-abbrev pub one_more : Step → IntType → Variable → Typeds → Typed
-one_more by t x keys =
-    Update (Operation.Arithmetic (operator_of by) (common_of t INT32)) x keys
+abbrev pub changed_by_one : Step → IntType → Variable → Typeds → Typed
+changed_by_one by t x keys =
+    Update (Operation.Arithmetic (operator_of_step by) (common_of t INT32)) x keys
     (conversion_node INT32 (common_of t INT32) (Constant INT32 1))
 
 -- what there is, as an integer, with these variables after it

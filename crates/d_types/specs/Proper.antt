@@ -12,18 +12,18 @@ abbrev pub IsInteger : Typed → Type 0
 IsInteger x = is_integer (type_of x) ≡ true
 
 -- count() takes nothing, and each other function an integer
-abbrev pub TakesArgument : AggFn → Option Typed → Type 0
-TakesArgument AggFn.Count None = Unit {0}
-TakesArgument AggFn.Count (Some x) = ⊥
-TakesArgument function None = ⊥
-TakesArgument function (Some x) = IsInteger x
+abbrev pub HasArgument : AggFn → Option Typed → Type 0
+HasArgument AggFn.Count None = Unit {0}
+HasArgument AggFn.Count (Some x) = ⊥
+HasArgument function None = ⊥
+HasArgument function (Some x) = IsInteger x
 
 -- keys of the aggregation's kinds, at most 8 of them, and what its function takes
 abbrev pub Suits : Option Agg → Typeds → Option Typed → Type 0
 Suits None keys argument = ⊥
 Suits (Some a) keys argument =
     (variables.fit a.keys keys ≡ true) × (count keys ≤ MOST_KEYS)
-    × TakesArgument a.function argument
+    × HasArgument a.function argument
 
 -- each part is of the kind that its place asks for, and an aggregation is one of the script's
 abbrev pub IsProperAction : Aggs → Action → Type 0

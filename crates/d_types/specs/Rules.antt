@@ -16,28 +16,28 @@ use Rattle.d_types.specs.Targets.{most_keys, new_row, settle_slot, space_of, typ
 abbrev pub IsInteger : Typed → IntType → Type 0
 IsInteger x t = type_of x ≡ Int t
 
-abbrev pub IsText : Typed → Type 0
-IsText x = type_of x ≡ Text
+abbrev pub HasTextType : Typed → Type 0
+HasTextType x = type_of x ≡ Text
 
 -- ---- operators
 
 -- z is the operator between x and y
-abbrev pub Joins : BinarySort → Typed → Typed → Typed → Type 0
-Joins (BinarySort.Arithmetic op) x y z =
+abbrev pub JoinsOperands : BinarySort → Typed → Typed → Typed → Type 0
+JoinsOperands (BinarySort.Arithmetic op) x y z =
     (t : IntType) × (u : IntType) × IsInteger x t × IsInteger y u
     × (z ≡ Typed.Operate (Operation.Arithmetic op (common_of t u))
     (conversion_node t (common_of t u) x)
     (conversion_node u (common_of t u) y))
-Joins (BinarySort.Shift op) x y z =
+JoinsOperands (BinarySort.Shift op) x y z =
     (t : IntType) × (u : IntType) × IsInteger x t × IsInteger y u
     × (z ≡ Typed.Operate (Operation.Shift op (promoted_of t))
     (conversion_node t (promoted_of t) x) y)
-Joins (BinarySort.Compare op) x y z =
+JoinsOperands (BinarySort.Compare op) x y z =
     ((t : IntType) × (u : IntType) × IsInteger x t × IsInteger y u
     × (z ≡ Typed.Compare op (common_of t u) (conversion_node t (common_of t u) x)
     (conversion_node u (common_of t u) y)))
-    ⊎ (IsText x × IsText y × (z ≡ Typed.CompareText op x y))
-Joins (BinarySort.Logic op) x y z =
+    ⊎ (HasTextType x × HasTextType y × (z ≡ Typed.CompareText op x y))
+JoinsOperands (BinarySort.Logic op) x y z =
     (t : IntType) × (u : IntType) × IsInteger x t × IsInteger y u × (z ≡ Typed.Logic op x y)
 
 -- z is `x ? y : w`
@@ -46,7 +46,8 @@ Chooses x y w z =
     ((c : IntType) × (t : IntType) × (u : IntType) × IsInteger x c × IsInteger y t × IsInteger w u
     × (z ≡ Typed.Choice (Int (common_of t u)) x (conversion_node t (common_of t u) y)
     (conversion_node u (common_of t u) w)))
-    ⊎ ((c : IntType) × IsInteger x c × IsText y × IsText w × (z ≡ Typed.Choice Text x y w))
+    ⊎ ((c : IntType) × IsInteger x c × HasTextType y × HasTextType w
+    × (z ≡ Typed.Choice Text x y w))
 
 -- ---- variables that are read
 
@@ -83,9 +84,9 @@ Targets rows (Variable.Clause line name) t keys slot after =
     Places Space.Clause name rows t keys slot after
 
 -- y is x as a value of the type
-abbrev pub Fits : Typed → DType → Typed → Type 0
-Fits x (Int u) y = (t : IntType) × IsInteger x t × (y ≡ conversion_node t u x)
-Fits x Text y = IsText x × (y ≡ x)
+abbrev pub FitsType : Typed → DType → Typed → Type 0
+FitsType x (Int u) y = (t : IntType) × IsInteger x t × (y ≡ conversion_node t u x)
+FitsType x Text y = HasTextType x × (y ≡ x)
 
 -- z assigns x to the slot
 abbrev pub Stores : AssignSort → Space → ℕ → Typeds → Typed → Rows → Typed → Rows → Type 0
@@ -93,7 +94,7 @@ Stores AssignSort.Set space slot keys x rows z after =
     ((type_at rows slot ≡ None)
     × (z ≡ Typed.Assign (record { space = space; slot = slot; holds = type_of x }) keys x)
     × (after ≡ set_type slot (type_of x) rows))
-    ⊎ ((t : DType) × (y : Typed) × (type_at rows slot ≡ Some t) × Fits x t y
+    ⊎ ((t : DType) × (y : Typed) × (type_at rows slot ≡ Some t) × FitsType x t y
     × (z ≡ Typed.Assign (record { space = space; slot = slot; holds = t }) keys y) × (after ≡ rows))
 Stores (AssignSort.Arithmetic op) space slot keys x rows z after =
     (t : IntType) × (u : IntType) × (type_at rows slot ≡ Some (Int t)) × IsInteger x u
@@ -117,10 +118,10 @@ Steps by answer space slot keys rows z =
 -- z calls the function of this name
 abbrev pub Calls : List ℕ → Typeds → Typed → Type 0
 Calls name args z =
-    ((x : Typed) × (callee_named name ≡ Some Callee.Strlen) × (args ≡ more x end) × IsText x
+    ((x : Typed) × (callee_named name ≡ Some Callee.Strlen) × (args ≡ more x end) × HasTextType x
     × (z ≡ Typed.Strlen x))
     ⊎ ((x : Typed) × (y : Typed) × (callee_named name ≡ Some Callee.Strjoin)
-    × (args ≡ more x (more y end)) × IsText x × IsText y × (z ≡ Typed.Strjoin x y))
+    × (args ≡ more x (more y end)) × HasTextType x × HasTextType y × (z ≡ Typed.Strjoin x y))
 
 -- ---- expressions
 
@@ -148,7 +149,7 @@ abbrev mutual
       × Steps by Answer.Old (space_of v) slot ks after z
   Types rows (Tree.Binary op a b) z after =
       (x : Typed) × (y : Typed) × (mid : Rows) × Types rows a x mid × Types mid b y after
-      × Joins (binary_sort op) x y z
+      × JoinsOperands (binary_sort op) x y z
   Types rows (Tree.Choice c a b) z after =
       (x : Typed) × (y : Typed) × (u : Typed) × (mid : Rows) × (late : Rows)
       × Types rows c x mid × Types mid a y late × Types late b u after × Chooses x y u z

@@ -7,7 +7,7 @@ use Rattle.d_types.specs.Vocabulary.{DeclarationTree, StmtTree, ItemTree, Tree, 
 use Rattle.d_types.specs.Vocabulary.{DType, REGISTERS, MOST_KEYS, Space}
 use Rattle.d_types.specs.Faults.{Fault, ◌>>=◌, refuse, Mismatch, Keys, NoRegister}
 use Rattle.d_types.specs.Typed.{Typed, type_of, Action, Aggs, ClauseMeant, ScriptMeant}
-use Rattle.d_types.specs.Variables.{Rows, kind_of, find, types_in}
+use Rattle.d_types.specs.Variables.{Rows, kind_of_type, find, types_in}
 use Rattle.d_types.specs.{Constants.declared_type, Needs.need, Statements.action}
 use Rattle.d_types.specs.{Aggregations.aggregate}
 use Rattle.d_types.specs.Typing.{line_of, expr}
@@ -15,7 +15,7 @@ use Rattle.d_types.specs.Typing.{line_of, expr}
 -- ---- declarations
 
 abbrev pub declared_kinds : List DeclaredType → List Kind
-declared_kinds all = map (λ t. kind_of (declared_type t)) all
+declared_kinds all = map (λ t. kind_of_type (declared_type t)) all
 
 -- a variable is declared before it is assigned, and once
 abbrev pub declare : Space → ℕ → List ℕ → DeclaredType → List DeclaredType → Rows → Option ℕ

@@ -7,9 +7,9 @@ abbrev pub IsOneOf : {A : Type 0} → A → List A → Type 0
 IsOneOf x [] = ⊥
 IsOneOf x (y ∷ others) = (x ≡ y) ⊎ IsOneOf x others
 
-abbrev pub has : ℕ → List ℕ → Bool
-has b [] = false
-has b (c ∷ others) = (c == b) || has b others
+abbrev pub has_byte : ℕ → List ℕ → Bool
+has_byte b [] = false
+has_byte b (c ∷ others) = (c == b) || has_byte b others
 
 -- - and 0, in any order and number
 abbrev pub AreFlags : List ℕ → Type 0
@@ -21,7 +21,7 @@ abbrev pub width_text : ℕ → List ℕ
 width_text zero = []
 width_text (suc n) = decimal (suc n)
 
--- what may stand before the letter, and says nothing
+-- what may come before the letter, and says nothing
 abbrev pub lengths : List (List ℕ)
 lengths = codes "" ∷ codes "h" ∷ codes "hh" ∷ codes "l" ∷ codes "ll" ∷ []
 
@@ -36,17 +36,18 @@ letters Letter.Text = codes "s"
 abbrev pub IsConversion : Conversion → List ℕ → Type 0
 IsConversion c text =
     (flags : List ℕ) × (size : List ℕ) × (l : ℕ)
-    × AreFlags flags × (c.left ≡ has 45 flags) × (c.zeros ≡ has 48 flags)
+    × AreFlags flags × (c.left ≡ has_byte 45 flags) × (c.zeros ≡ has_byte 48 flags)
     × (c.width ≤ MOST_WIDTH) × IsOneOf size lengths × IsOneOf l (letters c.letter)
     × (text ≡ codes "%" ++ (flags ++ (width_text c.width ++ (size ++ l ∷ []))))
 
 -- a byte stands for itself, but a percent sign is written twice
-abbrev pub IsPiece : Piece → List ℕ → Type 0
-IsPiece (Piece.Byte b) text = text ≡ (if b == 37 then codes "%%" else b ∷ [])
-IsPiece (Piece.Argument c) text = IsConversion c text
+abbrev pub SpellsPiece : Piece → List ℕ → Type 0
+SpellsPiece (Piece.Byte b) text = text ≡ (if b == 37 then codes "%%" else b ∷ [])
+SpellsPiece (Piece.Argument c) text = IsConversion c text
 
 -- the format is the pieces' texts, one after another
-abbrev pub Spells : List Piece → List ℕ → Type 0
-Spells [] format = format ≡ []
-Spells (p ∷ ps) format =
-    (text : List ℕ) × (rest : List ℕ) × IsPiece p text × Spells ps rest × (format ≡ text ++ rest)
+abbrev pub SpellsFormat : List Piece → List ℕ → Type 0
+SpellsFormat [] format = format ≡ []
+SpellsFormat (p ∷ ps) format =
+    (text : List ℕ) × (rest : List ℕ) × SpellsPiece p text × SpellsFormat ps rest
+    × (format ≡ text ++ rest)

@@ -2,7 +2,8 @@
 use Rattle.std.specs.Prelude.{ℕ, if◌then◌else◌, List, Option, Some, None, Result, Ok}
 use Rattle.d_types.specs.Vocabulary.{Int, Text, Constant, Trees, Tree, DType, Callee}
 use Rattle.d_types.specs.Faults.{Fault, ◌>>=◌, refuse, unless, Mismatch, PrintfArguments}
-use Rattle.d_types.specs.Typed.{Typed, Typeds, end, add, type_of, Action, Evaluate, Trace, Print}
+use Rattle.d_types.specs.Typed.{Typed, Typeds, end, with_typed, type_of, Action, Evaluate, Trace}
+use Rattle.d_types.specs.Typed.{Print}
 use Rattle.d_types.specs.Typed.{Exit}
 use Rattle.d_types.specs.Formats.{pieces, fit}
 use Rattle.d_types.specs.{Words.callee_named, Variables.Rows, Typing.only, Typing.whole}
@@ -10,7 +11,7 @@ use Rattle.d_types.specs.{Words.callee_named, Variables.Rows, Typing.only, Typin
 -- expressions that are no parts of others, after those that are typed
 abbrev pub wholes : Typeds → Rows → Trees → Result (Typeds × Rows) Fault
 wholes done rows Trees.end = Ok (done, rows)
-wholes done rows (Trees.more a rest) = whole rows a >>= λ x. wholes (add done x.0) x.1 rest
+wholes done rows (Trees.more a rest) = whole rows a >>= λ x. wholes (with_typed done x.0) x.1 rest
 
 -- ---- actions
 
@@ -38,18 +39,18 @@ print_with line rows format args =
 abbrev pub not_printed : ℕ → Rows → Trees → Result (Action × Rows) Fault
 not_printed line rows args = wholes end rows args >>= λ k. refuse PrintfArguments line
 
-abbrev pub text_of : Tree → Option (List ℕ)
-text_of (Tree.Known l (Constant.Text bytes)) = Some bytes
-text_of (Tree.Known l (Constant.Number v suffix)) = None
-text_of (Tree.Read x keys) = None
-text_of (Tree.Unary line op a) = None
-text_of (Tree.Cast line to a) = None
-text_of (Tree.Call line name args) = None
-text_of (Tree.Before line by x keys) = None
-text_of (Tree.After x keys by) = None
-text_of (Tree.Binary op a b) = None
-text_of (Tree.Choice a b d) = None
-text_of (Tree.Assign op x keys a) = None
+abbrev pub text_of_constant : Tree → Option (List ℕ)
+text_of_constant (Tree.Known l (Constant.Text bytes)) = Some bytes
+text_of_constant (Tree.Known l (Constant.Number v suffix)) = None
+text_of_constant (Tree.Read x keys) = None
+text_of_constant (Tree.Unary line op a) = None
+text_of_constant (Tree.Cast line to a) = None
+text_of_constant (Tree.Call line name args) = None
+text_of_constant (Tree.Before line by x keys) = None
+text_of_constant (Tree.After x keys by) = None
+text_of_constant (Tree.Binary op a b) = None
+text_of_constant (Tree.Choice a b d) = None
+text_of_constant (Tree.Assign op x keys a) = None
 
 abbrev pub print_by : Option (List ℕ) → ℕ → Rows → Tree → Trees → Result (Action × Rows) Fault
 print_by (Some format) line rows first rest = print_with line rows format rest
@@ -58,13 +59,13 @@ print_by None line rows first rest = not_printed line rows (Trees.more first res
 -- the format is a text constant, which is no value
 abbrev pub print : ℕ → Rows → Trees → Result (Action × Rows) Fault
 print line rows Trees.end = not_printed line rows Trees.end
-print line rows (Trees.more first rest) = print_by (text_of first) line rows first rest
+print line rows (Trees.more first rest) = print_by (text_of_constant first) line rows first rest
 
--- an expression for what it assigns
+-- an expression as a statement: only its assignments count
 abbrev pub evaluate : Rows → Tree → Result (Action × Rows) Fault
 evaluate rows t = whole rows t >>= λ x. Ok (Evaluate x.0, x.1)
 
--- a call that stands as a whole statement is an action
+-- a call that is a whole statement is an action
 abbrev pub call_statement : Option Callee → ℕ → List ℕ → Rows → Trees → Result (Action × Rows) Fault
 call_statement (Some Callee.Trace) line name rows args = trace line rows args
 call_statement (Some Callee.Exit) line name rows args = exit line rows args
@@ -73,7 +74,7 @@ call_statement (Some Callee.Strlen) line name rows args = evaluate rows (Tree.Ca
 call_statement (Some Callee.Strjoin) line name rows args = evaluate rows (Tree.Call line name args)
 call_statement None line name rows args = evaluate rows (Tree.Call line name args)
 
--- an expression that stands as a statement
+-- an expression that is a whole statement
 abbrev pub action : Rows → Tree → Result (Action × Rows) Fault
 action rows (Tree.Call line name args) = call_statement (callee_named name) line name rows args
 action rows (Tree.Known line c) = evaluate rows (Tree.Known line c)

@@ -1,21 +1,21 @@
--- The variables of expressions, by their storage. Zero or the empty text stands where nothing was
--- assigned.
+-- The variables of expressions, by their storage. Those that were never
+-- assigned have zero or the empty text.
 use Rattle.std.specs.Prelude.{List}
 use Rattle.d_types.specs.Vocabulary.{KeyPart, Var, Value, Space, Variable}
-use Rattle.d_types.specs.Variables.{kind_of}
+use Rattle.d_types.specs.Variables.{kind_of_type}
 pub use Rattle.d_values.specs.Storage.{Variables, variables, set_local, set_own, word_of, bytes_of}
 pub use Rattle.d_values.specs.Storage.{as_kind}
 
 abbrev pub var_of : Variable → Var
-var_of x = record { slot = x.slot; kind = kind_of x.holds }
+var_of x = record { slot = x.slot; kind = kind_of_type x.holds }
 
-abbrev pub value_in : Space → Variables → Var → List KeyPart → Value
-value_in Space.Thread vars var key = vars.own var key
-value_in Space.Clause vars var key = vars.locals var
+abbrev pub value_in_space : Space → Variables → Var → List KeyPart → Value
+value_in_space Space.Thread vars var key = vars.own var key
+value_in_space Space.Clause vars var key = vars.locals var
 
 -- the value of a variable at the key, which is empty for a scalar
-abbrev pub value_at : Variables → Variable → List KeyPart → Value
-value_at vars x key = value_in x.space vars (var_of x) key
+abbrev pub value_of_variable : Variables → Variable → List KeyPart → Value
+value_of_variable vars x key = value_in_space x.space vars (var_of x) key
 
 abbrev pub set_in : Space → Variables → Var → List KeyPart → Value → Variables
 set_in Space.Thread vars var key value = set_own vars var key value
@@ -23,4 +23,4 @@ set_in Space.Clause vars var key value = set_local vars var value
 
 -- the variables once one was given a value of its kind at the key
 abbrev pub set : Variables → Variable → List KeyPart → Value → Variables
-set vars x key value = set_in x.space vars (var_of x) key (as_kind (kind_of x.holds) value)
+set vars x key value = set_in x.space vars (var_of x) key (as_kind (kind_of_type x.holds) value)

@@ -5,7 +5,7 @@ use Rattle.d_parser.specs.declared.tree.Variable.{Variable}
 use Rattle.d_types.specs.Vocabulary.{Int, Step, IntType, DType, INT64, promoted_of, common_of}
 use Rattle.d_types.specs.Vocabulary.{Answer, BuiltIn, Space, Operation, MOST_KEYS, AssignSort}
 use Rattle.d_types.specs.Faults.{Fault, refuse, GlobalAssignment, Undeclared, Keys, ReadOnly}
-use Rattle.d_types.specs.Variables.{Row, Rows, find, type_at, keys_fit, set_type, kinds_of}
+use Rattle.d_types.specs.Variables.{Row, Rows, find, type_at, keys_fit, set_type, kinds_of_typed}
 use Rattle.d_types.specs.{Needs.count, Words.built_in}
 use Rattle.d_types.specs.Typed.{Typed, Typeds, end, more, type_of}
 use Rattle.d_types.specs.Operators.{as_type, conversion_node}
@@ -37,11 +37,11 @@ load_at space line rows (Some slot) keys =
     load space line slot (type_at rows slot) (keys_fit rows slot keys) keys
 
 -- a variable or built-in that is read
-abbrev pub read : Rows → Variable → Typeds → Result Typed Fault
-read rows (Variable.Plain line name) keys = plain line (built_in name) keys
-read rows (Variable.Thread line name) keys =
+abbrev pub read_variable : Rows → Variable → Typeds → Result Typed Fault
+read_variable rows (Variable.Plain line name) keys = plain line (built_in name) keys
+read_variable rows (Variable.Thread line name) keys =
     load_at Space.Thread line rows (find Space.Thread name rows) keys
-read rows (Variable.Clause line name) keys =
+read_variable rows (Variable.Clause line name) keys =
     load_at Space.Clause line rows (find Space.Clause name rows) keys
 
 -- ---- variables that are assigned
@@ -62,7 +62,8 @@ settle_slot None slot (Some t) rows = set_type slot t rows
 settle_slot _ slot _ rows = rows
 
 abbrev pub new_row : Space → List ℕ → Option DType → Typeds → Row
-new_row space name t keys = record { space = space; word = name; keys = kinds_of keys; holds = t }
+new_row space name t keys =
+    record { space = space; word = name; keys = kinds_of_typed keys; holds = t }
 
 -- the slot, and the table with it: the first target fixes the keys, the others have the same
 abbrev pub slot_for : Space → ℕ → List ℕ → Rows → Option DType → Typeds → Option ℕ

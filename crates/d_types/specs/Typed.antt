@@ -59,9 +59,9 @@ typeds_of [] = end
 typeds_of (a ∷ rest) = more (typed_of a) (typeds_of rest)
 
 -- with one more at the end
-abbrev pub add : Typeds → Typed → Typeds
-add end x = more x end
-add (more y rest) x = more y (add rest x)
+abbrev pub with_typed : Typeds → Typed → Typeds
+with_typed end x = more x end
+with_typed (more y rest) x = more y (with_typed rest x)
 
 -- ---- the type of a value
 
@@ -156,9 +156,9 @@ has_exit m = list_any (λ c. list_any (λ a. is_exit a) c.statements) m.clauses
 abbrev pub functions_in : ScriptMeant → List AggFn
 functions_in m = map (λ a. a.function) m.aggregations
 
-abbrev pub argument_of : Option TypedExpr → Option Typed
-argument_of None = None
-argument_of (Some a) = Some (typed_of a)
+abbrev pub typed_argument : Option TypedExpr → Option Typed
+typed_argument None = None
+typed_argument (Some a) = Some (typed_of a)
 
 abbrev pub action_of : TypedStmt → Action
 action_of (TypedStmt.Evaluate a) = Evaluate (typed_of a)
@@ -166,7 +166,7 @@ action_of (TypedStmt.Trace a) = Trace (typed_of a)
 action_of (TypedStmt.Print format arguments) = Print format.items (typeds_of arguments.items)
 action_of (TypedStmt.Exit a) = Exit (typed_of a)
 action_of (TypedStmt.Aggregate place keys argument) =
-    Aggregate place (typeds_of keys.items) (argument_of argument)
+    Aggregate place (typeds_of keys.items) (typed_argument argument)
 
 abbrev pub actions_of : List TypedStmt → List Action
 actions_of all = map action_of all
@@ -174,7 +174,7 @@ actions_of all = map action_of all
 abbrev pub meant_of : TypedClause → ClauseMeant
 meant_of c = record {
   descriptions = c.descriptions.items;
-  predicate = argument_of c.predicate;
+  predicate = typed_argument c.predicate;
   statements = actions_of c.statements.items;
 }
 

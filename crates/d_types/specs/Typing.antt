@@ -5,11 +5,11 @@ use Rattle.d_parser.specs.declared.tree.Variable.{Variable}
 use Rattle.d_types.specs.Vocabulary.{Int, Text, Step, AssignOperator, Constant, Tree, Trees, DType}
 use Rattle.d_types.specs.Vocabulary.{longest, INT64, Answer, REGISTERS, Callee}
 use Rattle.d_types.specs.Faults.{Fault, ◌>>=◌, refuse, unless, Undeclared, Mismatch, NoRegister}
-use Rattle.d_types.specs.Targets.{line_of_variable, space_of, read, target, type_at_once}
+use Rattle.d_types.specs.Targets.{line_of_variable, space_of, read_variable, target, type_at_once}
 use Rattle.d_types.specs.Targets.{assignment, step}
 use Rattle.d_types.specs.{Words.callee_named, Needs.need}
 use Rattle.d_types.specs.Constants.{type_of_constant, int_type}
-use Rattle.d_types.specs.Typed.{Typed, Typeds, end, more, add, type_of}
+use Rattle.d_types.specs.Typed.{Typed, Typeds, end, more, with_typed, type_of}
 use Rattle.d_types.specs.Variables.{Rows, type_at}
 use Rattle.d_types.specs.Operators.{assign_sort, as_type, unary, binary, choice}
 
@@ -68,9 +68,9 @@ beside rows (Some x) = Some (x, rows)
 abbrev pub fitting : ℕ → Option (Typed × Rows) → Result (Typed × Rows) Fault
 fitting line x = unless Mismatch line x
 
-abbrev pub call_of : ℕ → Option Callee → Typeds → Rows → Result (Typed × Rows) Fault
-call_of line None args rows = refuse Undeclared line
-call_of line (Some f) args rows = fitting line (beside rows (call f args))
+abbrev pub typed_call : ℕ → Option Callee → Typeds → Rows → Result (Typed × Rows) Fault
+typed_call line None args rows = refuse Undeclared line
+typed_call line (Some f) args rows = fitting line (beside rows (call f args))
 
 -- ---- expressions
 
@@ -83,9 +83,10 @@ step_rest rows line by answer v keys =
 abbrev mutual
   pub expr : Rows → Tree → Result (Typed × Rows) Fault
   expr rows (Tree.Known line c) = Ok (constant c, rows)
-  expr rows (Tree.Read v keys) = exprs end rows keys >>= λ k. read k.1 v k.0 >>= λ y. Ok (y, k.1)
+  expr rows (Tree.Read v keys) = exprs end rows keys >>= λ k. read_variable k.1 v k.0 >>= λ y.
+      Ok (y, k.1)
   expr rows (Tree.Call line f args) =
-      exprs end rows args >>= λ k. call_of line (callee_named f) k.0 k.1
+      exprs end rows args >>= λ k. typed_call line (callee_named f) k.0 k.1
   expr rows (Tree.Unary line op a) =
       expr rows a >>= λ x. fitting line (beside x.1 (unary op (type_of x.0) x.0))
   expr rows (Tree.Cast line t a) =
@@ -110,7 +111,7 @@ abbrev mutual
   -- a list, after those that are typed
   pub exprs : Typeds → Rows → Trees → Result (Typeds × Rows) Fault
   exprs done rows Trees.end = Ok (done, rows)
-  exprs done rows (Trees.more a rest) = expr rows a >>= λ x. exprs (add done x.0) x.1 rest
+  exprs done rows (Trees.more a rest) = expr rows a >>= λ x. exprs (with_typed done x.0) x.1 rest
 
 -- an assignment, once its target's keys are typed
 abbrev pub assign_rest : Rows → AssignOperator → Variable → Typeds → Tree

@@ -18,23 +18,23 @@ pub record Row : Type 0 where
 abbrev pub Rows : Type 0
 Rows = List Row
 
-abbrev pub row_of : Entry → Row
-row_of e = record { space = e.space; word = e.name; keys = e.keys.items; holds = e.holds }
+abbrev pub row_of_entry : Entry → Row
+row_of_entry e = record { space = e.space; word = e.name; keys = e.keys.items; holds = e.holds }
 
-abbrev pub rows_of : List Entry → Rows
-rows_of es = map row_of es
+abbrev pub rows_of_entries : List Entry → Rows
+rows_of_entries es = map row_of_entry es
 
-abbrev pub kind_of : DType → Kind
-kind_of (DType.Int t) = Kind.Number
-kind_of DType.Text = Kind.Text
+abbrev pub kind_of_type : DType → Kind
+kind_of_type (DType.Int t) = Kind.Number
+kind_of_type DType.Text = Kind.Text
 
-abbrev pub is_named : Space → List ℕ → Row → Bool
-is_named s w r = sameb space.the_type r.space s && bytes_eq r.word w
+abbrev pub names_row : Space → List ℕ → Row → Bool
+names_row s w r = sameb space.the_type r.space s && bytes_eq r.word w
 
 -- the slot of a variable, in a table whose first slot is n
 abbrev pub find_from : ℕ → Space → List ℕ → Rows → Option ℕ
 find_from n s w [] = None
-find_from n s w (r ∷ rs) = if is_named s w r then Some n else find_from (n + 1) s w rs
+find_from n s w (r ∷ rs) = if names_row s w r then Some n else find_from (n + 1) s w rs
 
 abbrev pub find : Space → List ℕ → Rows → Option ℕ
 find s w rows = find_from 0 s w rows
@@ -50,7 +50,7 @@ abbrev pub fit : List Kind → Typeds → Bool
 fit [] end = true
 fit [] (more y keys) = false
 fit (x ∷ kinds) end = false
-fit (x ∷ kinds) (more y keys) = sameb kind.the_type (kind_of (type_of y)) x && fit kinds keys
+fit (x ∷ kinds) (more y keys) = sameb kind.the_type (kind_of_type (type_of y)) x && fit kinds keys
 
 abbrev pub keys_fit : Rows → ℕ → Typeds → Bool
 keys_fit [] n keys = false
@@ -66,6 +66,6 @@ set_type n t [] = []
 set_type zero t (r ∷ rs) = record r { holds = Some t } ∷ rs
 set_type (suc n) t (r ∷ rs) = r ∷ set_type n t rs
 
-abbrev pub kinds_of : Typeds → List Kind
-kinds_of end = []
-kinds_of (more x rest) = kind_of (type_of x) ∷ kinds_of rest
+abbrev pub kinds_of_typed : Typeds → List Kind
+kinds_of_typed end = []
+kinds_of_typed (more x rest) = kind_of_type (type_of x) ∷ kinds_of_typed rest

@@ -8,10 +8,11 @@ use Rattle.d_types.specs.Variables as variables
 use Rattle.d_types.specs.Formats as formats
 use Rattle.d_types.specs.Typed.{Typed, Typeds, end, more, Action, Evaluate, Trace, Print, Exit}
 use Rattle.d_types.specs.Typed.{Aggregate, Agg, Aggs, ClauseMeant, ScriptMeant}
-use Rattle.d_types.specs.{Constants.declared_type, Needs.count, Spelling.Spells, Statements.text_of}
+use Rattle.d_types.specs.{Constants.declared_type, Needs.count, Spelling.SpellsFormat}
+use Rattle.d_types.specs.{Statements.text_of_constant}
 use Rattle.d_types.specs.{Scripts.declared_kinds}
 use Rattle.d_types.specs.Words.{callee_named, aggregating_named}
-use Rattle.d_types.specs.Variables.{Rows, kinds_of, find, types_in}
+use Rattle.d_types.specs.Variables.{Rows, kinds_of_typed, find, types_in}
 use Rattle.d_types.specs.Aggregations.{arguments_fit, first, function, find_from, is_again}
 use Rattle.d_types.specs.Rules.{Types, AllTypes, IsInteger}
 
@@ -24,9 +25,9 @@ Evaluates rows t a after = (x : Typed) × Types rows t x after × (a ≡ Evaluat
 abbrev pub Prints : Rows → Trees → Action → Rows → Type 0
 Prints rows Trees.end a after = ⊥
 Prints rows (Trees.more t rest) a after =
-    (format : List ℕ) × (ps : List Piece) × (ks : Typeds) × (text_of t ≡ Some format)
+    (format : List ℕ) × (ps : List Piece) × (ks : Typeds) × (text_of_constant t ≡ Some format)
     × AllTypes rows rest ks after
-    × Spells ps format × (formats.fit ps ks ≡ true) × (a ≡ Print ps ks)
+    × SpellsFormat ps format × (formats.fit ps ks ≡ true) × (a ≡ Print ps ks)
 
 abbrev pub Acts : Option Callee → ℕ → List ℕ → Rows → Trees → Action → Rows → Type 0
 Acts (Some Callee.Trace) line name rows args a after =
@@ -37,7 +38,7 @@ Acts (Some Callee.Exit) line name rows args a after =
 Acts (Some Callee.Printf) line name rows args a after = Prints rows args a after
 Acts callee line name rows args a after = Evaluates rows (Tree.Call line name args) a after
 
--- an expression that stands as a statement
+-- an expression that is a whole statement
 abbrev pub Stands : Rows → Tree → Action → Rows → Type 0
 Stands rows (Tree.Call line name args) a after =
     Acts (callee_named name) line name rows args a after
@@ -46,11 +47,11 @@ Stands rows t a after = Evaluates rows t a after
 -- ---- aggregation statements
 
 -- the place of an aggregation: new, or with the keys and the function that it had
-abbrev pub Joins : List ℕ → Typeds → Option AggFn → Aggs → ℕ → Aggs → Type 0
-Joins name ks g aggs place after =
+abbrev pub JoinsAggregation : List ℕ → Typeds → Option AggFn → Aggs → ℕ → Aggs → Type 0
+JoinsAggregation name ks g aggs place after =
     ((h : AggFn) × (find_from 0 name aggs ≡ None) × (nat_le (count ks) MOST_KEYS ≡ true)
     × (g ≡ Some h) × (place ≡ length aggs)
-    × (after ≡ aggs ++ record { name = name; keys = kinds_of ks; function = h } ∷ []))
+    × (after ≡ aggs ++ record { name = name; keys = kinds_of_typed ks; function = h } ∷ []))
     ⊎ ((known : Agg) × (find_from 0 name aggs ≡ Some (place, known))
     × (variables.fit known.keys ks ≡ true)
     × (is_again g known.function ≡ true) × (after ≡ aggs))
@@ -61,7 +62,8 @@ Aggregates name keys word args rows aggs a after known =
     (ks : Typeds) × (xs : Typeds) × (g : Aggregating) × (place : ℕ) × (mid : Rows)
     × AllTypes rows keys ks mid × (aggregating_named word ≡ Some g) × AllTypes mid args xs after
     × (arguments_fit g xs ≡ true)
-    × Joins name ks (function g args) aggs place known × (a ≡ Aggregate place ks (first xs))
+    × JoinsAggregation name ks (function g args) aggs place known
+    × (a ≡ Aggregate place ks (first xs))
 
 -- ---- clauses and scripts
 
@@ -75,10 +77,10 @@ Declares space name t keys rows after =
       holds = Some (declared_type t);
     } ∷ [])
 
-abbrev pub IsDeclared : Rows → DeclarationTree → Rows → Type 0
-IsDeclared rows (DeclarationTree.OfThread line t name keys) after =
+abbrev pub DeclaresRow : Rows → DeclarationTree → Rows → Type 0
+DeclaresRow rows (DeclarationTree.OfThread line t name keys) after =
     Declares Space.Thread name t keys rows after
-IsDeclared rows (DeclarationTree.OfClause line t name) after =
+DeclaresRow rows (DeclarationTree.OfClause line t name) after =
     Declares Space.Clause name t [] rows after
 
 abbrev pub Tests : Rows → Option Tree → Option Typed → Rows → Type 0
@@ -106,7 +108,7 @@ Probes rows aggs c m after known =
 abbrev pub AllItems : Rows → Aggs → List ItemTree → List ClauseMeant → Rows → Aggs → Type 0
 AllItems rows aggs [] all after known = (all ≡ []) × (after ≡ rows) × (known ≡ aggs)
 AllItems rows aggs (ItemTree.Declared d ∷ rest) all after known =
-    (mid : Rows) × IsDeclared rows d mid × AllItems mid aggs rest all after known
+    (mid : Rows) × DeclaresRow rows d mid × AllItems mid aggs rest all after known
 AllItems rows aggs (ItemTree.Probing c ∷ rest) all after known =
     (m : ClauseMeant) × (others : List ClauseMeant) × (mid : Rows) × (so_far : Aggs)
     × Probes rows aggs c m mid so_far × AllItems mid so_far rest others after known

@@ -1,7 +1,7 @@
-//! Expressions that stand as statements, and actions.
+//! Expressions as statements, and actions.
 
 ghost use Rattle.std.specs.Prelude.{◌≡◌, option_map};
-ghost use Rattle.d_types.specs.{Faults.Gives, Variables.rows_of, Words.callee_named};
+ghost use Rattle.d_types.specs.{Faults.Gives, Variables.rows_of_entries, Words.callee_named};
 ghost use Rattle.d_types.specs.Vocabulary.{tree_of, trees_of, Tree};
 ghost use Rattle.d_types.specs.Typed.{typeds_of, action_of, Typeds};
 ghost use Rattle.d_types.specs.Statements as spec;
@@ -25,8 +25,8 @@ pub(crate) fn wholes(
     table: &mut Vec<Entry>,
     list: &[Expr],
 ) -> Result<Vec<TypedExpr>, TypeFault>
-    ensures { Gives (λ xs. (typeds_of xs.items, rows_of table.new.items)) result
-        (spec.wholes Typeds.end (rows_of table.old.items) (trees_of list.now)) }
+    ensures { Gives (λ xs. (typeds_of xs.items, rows_of_entries table.new.items)) result
+        (spec.wholes Typeds.end (rows_of_entries table.old.items) (trees_of list.now)) }
 {
     let mut done = Vec::new(alloc);
     for e in list {
@@ -43,8 +43,8 @@ fn trace(
     line: usize,
     args: &[Expr],
 ) -> Result<TypedStmt, TypeFault>
-    ensures { Gives (λ s. (action_of s, rows_of table.new.items)) result
-        (spec.trace line (rows_of table.old.items) (trees_of args.now)) }
+    ensures { Gives (λ s. (action_of s, rows_of_entries table.new.items)) result
+        (spec.trace line (rows_of_entries table.old.items) (trees_of args.now)) }
 {
     let args = wholes(alloc, table, args)?;
     match only(args) {
@@ -60,8 +60,8 @@ fn exit(
     line: usize,
     args: &[Expr],
 ) -> Result<TypedStmt, TypeFault>
-    ensures { Gives (λ s. (action_of s, rows_of table.new.items)) result
-        (spec.exit line (rows_of table.old.items) (trees_of args.now)) }
+    ensures { Gives (λ s. (action_of s, rows_of_entries table.new.items)) result
+        (spec.exit line (rows_of_entries table.old.items) (trees_of args.now)) }
 {
     let args = wholes(alloc, table, args)?;
     let Some(x) = only(args) else {
@@ -81,8 +81,8 @@ fn print_with(
     format: &ByteString,
     args: &[Expr],
 ) -> Result<TypedStmt, TypeFault>
-    ensures { Gives (λ s. (action_of s, rows_of table.new.items)) result
-        (spec.print_with line (rows_of table.old.items) format.now (trees_of args.now)) }
+    ensures { Gives (λ s. (action_of s, rows_of_entries table.new.items)) result
+        (spec.print_with line (rows_of_entries table.old.items) format.now (trees_of args.now)) }
 {
     let args = wholes(alloc, table, args)?;
     let Some(format) = pieces(alloc, format.as_slice())? else {
@@ -101,8 +101,8 @@ fn print(
     line: usize,
     args: &[Expr],
 ) -> Result<TypedStmt, TypeFault>
-    ensures { Gives (λ s. (action_of s, rows_of table.new.items)) result
-        (spec.print line (rows_of table.old.items) (trees_of args.now)) }
+    ensures { Gives (λ s. (action_of s, rows_of_entries table.new.items)) result
+        (spec.print line (rows_of_entries table.old.items) (trees_of args.now)) }
 {
     if let [first, rest @ ..] = args {
         if let Some(format) = text_of(first) {
@@ -115,7 +115,7 @@ fn print(
 
 /// The bytes of a text constant.
 fn text_of(e: &Expr) -> Option<&ByteString>
-    ensures { option_map (λ b. b.now) result ≡ spec.text_of (tree_of e.now) }
+    ensures { option_map (λ b. b.now) result ≡ spec.text_of_constant (tree_of e.now) }
 {
     match e {
         Expr::Constant {
@@ -139,14 +139,14 @@ fn text_of(e: &Expr) -> Option<&ByteString>
 }
 
 fn evaluate(alloc: Global, table: &mut Vec<Entry>, e: &Expr) -> Result<TypedStmt, TypeFault>
-    ensures { Gives (λ s. (action_of s, rows_of table.new.items)) result
-        (spec.evaluate (rows_of table.old.items) (tree_of e.now)) }
+    ensures { Gives (λ s. (action_of s, rows_of_entries table.new.items)) result
+        (spec.evaluate (rows_of_entries table.old.items) (tree_of e.now)) }
 {
     let x = whole(alloc, table, e)?;
     Ok(TypedStmt::Evaluate(x))
 }
 
-/// A call that stands as a statement.
+/// A call that is a whole statement.
 #[derive(Clone, Copy)]
 struct Call<'a> {
     line: usize,
@@ -161,9 +161,9 @@ fn call_statement(
     e: &Expr,
 ) -> Result<TypedStmt, TypeFault>
     requires { tree_of e.now ≡ Tree.Call call.line call.name.now (trees_of call.args.now) }
-    ensures { Gives (λ s. (action_of s, rows_of table.new.items)) result
+    ensures { Gives (λ s. (action_of s, rows_of_entries table.new.items)) result
         (spec.call_statement (callee_named call.entry.name.now) call.entry.line
-        call.entry.name.now (rows_of table.old.items) (trees_of call.entry.args.now)) }
+        call.entry.name.now (rows_of_entries table.old.items) (trees_of call.entry.args.now)) }
 {
     let Call { line, name, args } = call;
     match callee_named(name) {
@@ -174,14 +174,14 @@ fn call_statement(
     }
 }
 
-/// An expression that stands as a statement.
+/// An expression that is a whole statement.
 pub(crate) fn action(
     alloc: Global,
     table: &mut Vec<Entry>,
     e: &Expr,
 ) -> Result<TypedStmt, TypeFault>
-    ensures { Gives (λ s. (action_of s, rows_of table.new.items)) result
-        (spec.action (rows_of table.old.items) (tree_of e.now)) }
+    ensures { Gives (λ s. (action_of s, rows_of_entries table.new.items)) result
+        (spec.action (rows_of_entries table.old.items) (tree_of e.now)) }
 {
     match e {
         Expr::Call {

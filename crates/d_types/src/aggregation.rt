@@ -4,7 +4,7 @@ ghost use Rattle.std.specs.Prelude.{◌≡◌, ◌++◌, ◌∷◌, [], IfOk, On
 ghost use Rattle.d_types.specs.Vocabulary.{tree_of, trees_of};
 ghost use Rattle.d_types.specs.Faults.{Gives, OnlyMemory};
 ghost use Rattle.d_types.specs.Typed.{typed_of, typeds_of, action_of, aggs_of, Aggs, agg_of};
-ghost use Rattle.d_types.specs.Variables.{rows_of, kinds_of};
+ghost use Rattle.d_types.specs.Variables.{rows_of_entries, kinds_of_typed};
 ghost use Rattle.d_types.specs.Aggregations as spec;
 
 use crate::action::wholes;
@@ -20,7 +20,7 @@ use d_values::DType;
 use std::alloc::Global;
 
 fn number_of(e: &Expr) -> Option<u64>
-    ensures { result ≡ spec.number (tree_of e.now) }
+    ensures { result ≡ spec.constant_number (tree_of e.now) }
 {
     match e {
         Expr::Constant {
@@ -106,7 +106,7 @@ fn linear(range: Option<LinearRange>) -> Option<AggFn>
 }
 
 fn buckets(lower: Option<i32>, upper: Option<i32>, step: Option<u16>) -> Option<AggFn>
-    ensures { result ≡ spec.buckets lower upper step }
+    ensures { result ≡ spec.buckets_between lower upper step }
 {
     match (lower, upper, step) {
         (Some(lower), Some(upper), Some(step)) => { linear(LinearRange::new(lower, upper, step)) }
@@ -158,7 +158,7 @@ fn integers(args: &[TypedExpr]) -> bool
 }
 
 fn takes(aggregating: Aggregating, n: usize) -> bool
-    ensures { result ≡ spec.takes aggregating n }
+    ensures { result ≡ spec.takes_arguments aggregating n }
 {
     match aggregating {
         Aggregating::Count => n <= 0,
@@ -248,7 +248,11 @@ fn define(
 ) -> Result<usize, TypeFault>
     ensures place { IfOk result (λ place. place ≡ length (aggs_of aggs.old.items)) }
     ensures added { OnOk result (aggs_of aggs.new.items ≡ aggs_of aggs.old.items
-        ++ record { name = name.now; keys = kinds_of (typeds_of keys.now); function = function }
+        ++ record {
+          name = name.now;
+          keys = kinds_of_typed (typeds_of keys.now);
+          function = function;
+        }
         ∷ []) }
     ensures err { OnlyMemory result }
 {
@@ -321,10 +325,13 @@ pub(crate) fn aggregate(
     aggs: &mut Vec<TypedAggregation>,
     written: WrittenAggregation<'_>,
 ) -> Result<TypedStmt, TypeFault>
-    ensures { Gives (λ s. (action_of s, (rows_of table.new.items, aggs_of aggs.new.items))) result
+    ensures { Gives (λ s. (
+      action_of s,
+      (rows_of_entries table.new.items, aggs_of aggs.new.items),
+    )) result
         (spec.aggregate written.entry.line written.entry.name.now (trees_of written.entry.keys.now)
         written.entry.function.now (trees_of written.entry.arguments.now)
-        (rows_of table.old.items) (aggs_of aggs.old.items)) }
+        (rows_of_entries table.old.items) (aggs_of aggs.old.items)) }
 {
     let line = written.line;
     let keys = wholes(alloc, table, written.keys)?;

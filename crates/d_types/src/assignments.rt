@@ -3,7 +3,7 @@
 ghost use Rattle.std.specs.Prelude.{◌≡◌, IfOk, option_map};
 ghost use Rattle.d_types.specs.{Faults.OnlyMemory};
 ghost use Rattle.d_types.specs.Typed.{typed_of, typeds_of, Typed, type_of};
-ghost use Rattle.d_types.specs.Variables.{rows_of, type_at};
+ghost use Rattle.d_types.specs.Variables.{rows_of_entries, type_at};
 ghost use Rattle.d_types.specs.Targets as spec;
 
 use crate::constants::integer;
@@ -76,9 +76,9 @@ fn store(
     to: Assignee,
     x: TypedExpr,
 ) -> Result<Option<TypedExpr>, TypeFault>
-    ensures ok { IfOk result (λ y. option_map (λ z. (typed_of z, rows_of table.new)) y
-        ≡ spec.store to.space (type_at (rows_of table.old) to.slot) to.slot
-        (typeds_of to.keys.items) (typed_of x) (rows_of table.old)) }
+    ensures ok { IfOk result (λ y. option_map (λ z. (typed_of z, rows_of_entries table.new)) y
+        ≡ spec.store to.space (type_at (rows_of_entries table.old) to.slot) to.slot
+        (typeds_of to.keys.items) (typed_of x) (rows_of_entries table.old)) }
     ensures err { OnlyMemory result }
 {
     let Assignee { space, slot, keys } = to;
@@ -107,10 +107,10 @@ pub(crate) fn assignment(
     to: Assignee,
     x: TypedExpr,
 ) -> Result<Option<TypedExpr>, TypeFault>
-    ensures ok { IfOk result (λ y. option_map (λ z. (typed_of z, rows_of table.new)) y
-        ≡ spec.assignment sort to.space (type_at (rows_of table.old) to.slot)
+    ensures ok { IfOk result (λ y. option_map (λ z. (typed_of z, rows_of_entries table.new)) y
+        ≡ spec.assignment sort to.space (type_at (rows_of_entries table.old) to.slot)
         (type_of (typed_of x)) to.slot (typeds_of to.keys.items) (typed_of x)
-        (rows_of table.old)) }
+        (rows_of_entries table.old)) }
     ensures err { OnlyMemory result }
 {
     let Assignee { space, slot, keys } = to;
@@ -139,7 +139,7 @@ pub(crate) fn step(
     to: Assignee,
 ) -> Result<Option<TypedExpr>, TypeFault>
     ensures ok { IfOk result (λ y. option_map typed_of y ≡ spec.step by answer to.space
-        (type_at (rows_of table.now) to.slot) to.slot (typeds_of to.keys.items)) }
+        (type_at (rows_of_entries table.now) to.slot) to.slot (typeds_of to.keys.items)) }
     ensures err { OnlyMemory result }
 {
     let Assignee { space, slot, keys } = to;

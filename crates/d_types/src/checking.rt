@@ -2,7 +2,7 @@
 
 ghost use Rattle.std.specs.Prelude.{[], map, IfOk};
 ghost use Rattle.d_types.specs.{Faults.Gives, Fitting.ScriptFits, TypedScripts.typed_script_of};
-ghost use Rattle.d_types.specs.{Variables.rows_of, WellTyped.IsWell};
+ghost use Rattle.d_types.specs.{Variables.rows_of_entries, WellTyped.IsWell};
 ghost use Rattle.d_types.specs.Vocabulary.{AreSmall, IsWithin, item_of, script_of};
 ghost use Rattle.d_types.specs.Typed.{ScriptMeant, meant_of, aggs_of};
 ghost use Rattle.d_types.specs.Scripts as spec;
@@ -25,8 +25,11 @@ fn item(
     item: &Item,
 ) -> Result<(), TypeFault>
     ensures { Gives
-        (λ x. (map meant_of done.new.items, (rows_of table.new.items, aggs_of aggs.new.items)))
-        result (spec.item (map meant_of done.old.items) (rows_of table.old.items)
+        (λ x. (
+          map meant_of done.new.items,
+          (rows_of_entries table.new.items, aggs_of aggs.new.items),
+        ))
+        result (spec.item (map meant_of done.old.items) (rows_of_entries table.old.items)
         (aggs_of aggs.old.items) (item_of item.now)) }
 {
     match item {
@@ -46,8 +49,12 @@ fn items(
     list: &[Item],
 ) -> Result<Vec<TypedClause>, TypeFault>
     ensures { Gives
-        (λ all. (map meant_of all.items, (rows_of table.new.items, aggs_of aggs.new.items))) result
-        (spec.items [] (rows_of table.old.items) (aggs_of aggs.old.items) (map item_of list.now)) }
+        (λ all. (
+          map meant_of all.items,
+          (rows_of_entries table.new.items, aggs_of aggs.new.items),
+        )) result
+        (spec.items [] (rows_of_entries table.old.items) (aggs_of aggs.old.items)
+        (map item_of list.now)) }
 {
     let mut done = Vec::new(alloc);
     for next in list {

@@ -1,9 +1,9 @@
 //! Clauses and their statements.
 
 ghost use Rattle.std.specs.Prelude.{[], Some};
-ghost use Rattle.d_types.specs.{Faults.Gives, Variables.rows_of};
+ghost use Rattle.d_types.specs.{Faults.Gives, Variables.rows_of_entries};
 ghost use Rattle.d_types.specs.Vocabulary.{tree_of, stmt_of, stmts_of, predicate_of, clause_of};
-ghost use Rattle.d_types.specs.Typed.{action_of, actions_of, argument_of, meant_of, aggs_of};
+ghost use Rattle.d_types.specs.Typed.{action_of, actions_of, typed_argument, meant_of, aggs_of};
 ghost use Rattle.d_types.specs.Scripts as spec;
 
 use crate::action::action;
@@ -18,8 +18,8 @@ use d_values::DType;
 use std::alloc::Global;
 
 fn test_of(alloc: Global, table: &mut Vec<Entry>, e: &Expr) -> Result<Option<TypedExpr>, TypeFault>
-    ensures { Gives (λ p. (argument_of p, rows_of table.new.items)) result
-        (spec.predicate (rows_of table.old.items) (Some (tree_of e.now))) }
+    ensures { Gives (λ p. (typed_argument p, rows_of_entries table.new.items)) result
+        (spec.predicate (rows_of_entries table.old.items) (Some (tree_of e.now))) }
 {
     let x = expr(alloc, table, e)?;
     if x.type_of() == DType::Text {
@@ -36,8 +36,8 @@ fn predicate(
     table: &mut Vec<Entry>,
     predicate: &Option<Expr>,
 ) -> Result<Option<TypedExpr>, TypeFault>
-    ensures { Gives (λ p. (argument_of p, rows_of table.new.items)) result
-        (spec.predicate (rows_of table.old.items) (predicate_of predicate.now)) }
+    ensures { Gives (λ p. (typed_argument p, rows_of_entries table.new.items)) result
+        (spec.predicate (rows_of_entries table.old.items) (predicate_of predicate.now)) }
 {
     match predicate {
         Some(e) => test_of(alloc, table, e),
@@ -51,8 +51,11 @@ fn statement(
     aggs: &mut Vec<TypedAggregation>,
     statement: &Stmt,
 ) -> Result<TypedStmt, TypeFault>
-    ensures { Gives (λ s. (action_of s, (rows_of table.new.items, aggs_of aggs.new.items))) result
-        (spec.statement (rows_of table.old.items) (aggs_of aggs.old.items)
+    ensures { Gives (λ s. (
+      action_of s,
+      (rows_of_entries table.new.items, aggs_of aggs.new.items),
+    )) result
+        (spec.statement (rows_of_entries table.old.items) (aggs_of aggs.old.items)
         (stmt_of statement.now)) }
 {
     match statement {
@@ -83,8 +86,11 @@ fn statements(
     list: &[Stmt],
 ) -> Result<Vec<TypedStmt>, TypeFault>
     ensures { Gives
-        (λ all. (actions_of all.items, (rows_of table.new.items, aggs_of aggs.new.items))) result
-        (spec.statements [] (rows_of table.old.items) (aggs_of aggs.old.items)
+        (λ all. (
+          actions_of all.items,
+          (rows_of_entries table.new.items, aggs_of aggs.new.items),
+        )) result
+        (spec.statements [] (rows_of_entries table.old.items) (aggs_of aggs.old.items)
         (stmts_of list.now)) }
 {
     let mut done = Vec::new(alloc);
@@ -102,8 +108,12 @@ pub(crate) fn clause(
     aggs: &mut Vec<TypedAggregation>,
     clause: &Clause,
 ) -> Result<TypedClause, TypeFault>
-    ensures { Gives (λ c. (meant_of c, (rows_of table.new.items, aggs_of aggs.new.items))) result
-        (spec.clause (rows_of table.old.items) (aggs_of aggs.old.items) (clause_of clause.now)) }
+    ensures { Gives (λ c. (
+      meant_of c,
+      (rows_of_entries table.new.items, aggs_of aggs.new.items),
+    )) result
+        (spec.clause (rows_of_entries table.old.items) (aggs_of aggs.old.items)
+        (clause_of clause.now)) }
 {
     let predicate = predicate(alloc, table, &clause.predicate)?;
     let statements = statements(alloc, table, aggs, &clause.statements)?;

@@ -3,7 +3,7 @@
 ghost use Rattle.std.specs.Prelude.{◌≡◌, ◌++◌, ◌∷◌, [], IfOk, OnOk, Some};
 ghost use Rattle.d_types.specs.{Vocabulary.declaration_of, Constants.declared_type};
 ghost use Rattle.d_types.specs.Faults.{Gives, OnlyMemory};
-ghost use Rattle.d_types.specs.Variables.{rows_of, find};
+ghost use Rattle.d_types.specs.Variables.{rows_of_entries, find};
 ghost use Rattle.d_types.specs.Scripts as spec;
 
 use crate::constants::declared_type;
@@ -31,7 +31,7 @@ fn add_declared(
     declared: DeclaredType,
     keys: &[DeclaredType],
 ) -> Result<(), TypeFault>
-    ensures added { OnOk result (rows_of table.new.items ≡ rows_of table.old.items
+    ensures added { OnOk result (rows_of_entries table.new.items ≡ rows_of_entries table.old.items
         ++ record {
           space = variable.entry.space;
           word = variable.entry.name.now;
@@ -60,11 +60,11 @@ fn declare(
     declared: DeclaredType,
     keys: &[DeclaredType],
 ) -> Result<(), TypeFault>
-    ensures { Gives (λ x. rows_of table.new.items) result
+    ensures { Gives (λ x. rows_of_entries table.new.items) result
         (spec.declare variable.entry.space variable.entry.line variable.entry.name.now declared
         keys.now
-        (rows_of table.old.items)
-        (find variable.entry.space variable.entry.name.now (rows_of table.old.items))) }
+        (rows_of_entries table.old.items)
+        (find variable.entry.space variable.entry.name.now (rows_of_entries table.old.items))) }
 {
     let line = variable.line;
     match find(table, variable.space, variable.name.as_slice()) {
@@ -85,8 +85,8 @@ pub(crate) fn declaration(
     table: &mut Vec<Entry>,
     declaration: &Declaration,
 ) -> Result<(), TypeFault>
-    ensures { Gives (λ x. rows_of table.new.items) result
-        (spec.declaration (rows_of table.old.items) (declaration_of declaration.now)) }
+    ensures { Gives (λ x. rows_of_entries table.new.items) result
+        (spec.declaration (rows_of_entries table.old.items) (declaration_of declaration.now)) }
 {
     match declaration {
         Declaration::Thread {

@@ -1,7 +1,7 @@
 //! From trees of expressions to typed ones.
 
 ghost use Rattle.std.specs.Prelude.{◌≡◌, IfOk};
-ghost use Rattle.d_types.specs.{Variables.rows_of};
+ghost use Rattle.d_types.specs.{Variables.rows_of_entries};
 ghost use Rattle.d_types.specs.Vocabulary.{tree_of, trees_of, Tree};
 ghost use Rattle.d_types.specs.Faults.{Gives, OnlyMemory};
 ghost use Rattle.d_types.specs.Typed.{typed_of, typeds_of, Typeds};
@@ -59,8 +59,8 @@ fn constant_expr(alloc: Global, constant: &Constant) -> Result<TypedExpr, TypeFa
 /// The typed tree of a part.
 #[cycle(typing)]
 pub(crate) fn expr(alloc: Global, table: &mut Vec<Entry>, e: &Expr) -> Result<TypedExpr, TypeFault>
-    ensures { Gives (λ x. (typed_of x, rows_of table.new.items)) result
-        (spec.expr (rows_of table.old.items) (tree_of e.now)) }
+    ensures { Gives (λ x. (typed_of x, rows_of_entries table.new.items)) result
+        (spec.expr (rows_of_entries table.old.items) (tree_of e.now)) }
 {
     match e {
         Expr::Constant { constant, .. } => constant_expr(alloc, constant),
@@ -104,8 +104,9 @@ fn unary_expr(
     operator: UnaryOperator,
     operand: &Expr,
 ) -> Result<TypedExpr, TypeFault>
-    ensures { Gives (λ x. (typed_of x, rows_of table.new.items)) result
-        (spec.expr (rows_of table.old.items) (Tree.Unary line operator (tree_of operand.now))) }
+    ensures { Gives (λ x. (typed_of x, rows_of_entries table.new.items)) result
+        (spec.expr (rows_of_entries table.old.items)
+        (Tree.Unary line operator (tree_of operand.now))) }
 {
     let x = expr(alloc, table, operand)?;
     match unary(alloc, operator, x)? {
@@ -122,8 +123,8 @@ fn cast_expr(
     to: IntegerType,
     operand: &Expr,
 ) -> Result<TypedExpr, TypeFault>
-    ensures { Gives (λ x. (typed_of x, rows_of table.new.items)) result
-        (spec.expr (rows_of table.old.items) (Tree.Cast line to (tree_of operand.now))) }
+    ensures { Gives (λ x. (typed_of x, rows_of_entries table.new.items)) result
+        (spec.expr (rows_of_entries table.old.items) (Tree.Cast line to (tree_of operand.now))) }
 {
     let x = expr(alloc, table, operand)?;
     match as_type(alloc, DType::Int(int_type(to)), x)? {
@@ -140,8 +141,8 @@ fn binary_expr(
     left: &Expr,
     right: &Expr,
 ) -> Result<TypedExpr, TypeFault>
-    ensures { Gives (λ x. (typed_of x, rows_of table.new.items)) result
-        (spec.expr (rows_of table.old.items)
+    ensures { Gives (λ x. (typed_of x, rows_of_entries table.new.items)) result
+        (spec.expr (rows_of_entries table.old.items)
         (Tree.Binary operator (tree_of left.now) (tree_of right.now))) }
 {
     let x = expr(alloc, table, left)?;
@@ -156,8 +157,8 @@ fn binary_expr(
 
 #[cycle(typing)]
 fn read_expr(alloc: Global, table: &mut Vec<Entry>, target: &Target) -> Result<TypedExpr, TypeFault>
-    ensures { Gives (λ x. (typed_of x, rows_of table.new.items)) result
-        (spec.expr (rows_of table.old.items)
+    ensures { Gives (λ x. (typed_of x, rows_of_entries table.new.items)) result
+        (spec.expr (rows_of_entries table.old.items)
         (Tree.Read target.now.variable (trees_of target.now.keys.items))) }
 {
     let keys = exprs(alloc, table, &target.keys)?;
@@ -172,8 +173,9 @@ fn call_expr(
     function: &[u8],
     args: &[Expr],
 ) -> Result<TypedExpr, TypeFault>
-    ensures { Gives (λ x. (typed_of x, rows_of table.new.items)) result
-        (spec.expr (rows_of table.old.items) (Tree.Call line function.now (trees_of args.now))) }
+    ensures { Gives (λ x. (typed_of x, rows_of_entries table.new.items)) result
+        (spec.expr (rows_of_entries table.old.items)
+        (Tree.Call line function.now (trees_of args.now))) }
 {
     let args = exprs(alloc, table, args)?;
     let Some(callee) = callee_named(function) else {
@@ -207,8 +209,8 @@ fn step_rest(
     operator: StepOperator,
     to: TypedTarget<'_>,
 ) -> Result<TypedExpr, TypeFault>
-    ensures { Gives (λ x. (typed_of x, rows_of table.new.items)) result
-        (spec.step_rest (rows_of table.old.items) operator.line operator.by operator.answer
+    ensures { Gives (λ x. (typed_of x, rows_of_entries table.new.items)) result
+        (spec.step_rest (rows_of_entries table.old.items) operator.line operator.by operator.answer
         to.entry.variable.now (typeds_of to.entry.keys.items)) }
 {
     let TypedTarget { variable, keys } = to;
@@ -230,8 +232,8 @@ fn before_expr(
     by: Step,
     target: &Target,
 ) -> Result<TypedExpr, TypeFault>
-    ensures { Gives (λ x. (typed_of x, rows_of table.new.items)) result
-        (spec.expr (rows_of table.old.items)
+    ensures { Gives (λ x. (typed_of x, rows_of_entries table.new.items)) result
+        (spec.expr (rows_of_entries table.old.items)
         (Tree.Before line by target.now.variable (trees_of target.now.keys.items))) }
 {
     let variable = &target.variable;
@@ -248,8 +250,8 @@ fn after_expr(
     target: &Target,
     by: Step,
 ) -> Result<TypedExpr, TypeFault>
-    ensures { Gives (λ x. (typed_of x, rows_of table.new.items)) result
-        (spec.expr (rows_of table.old.items)
+    ensures { Gives (λ x. (typed_of x, rows_of_entries table.new.items)) result
+        (spec.expr (rows_of_entries table.old.items)
         (Tree.After target.now.variable (trees_of target.now.keys.items) by)) }
 {
     let variable = &target.variable;
@@ -268,8 +270,8 @@ fn choice_expr(
     first: &Expr,
     second: &Expr,
 ) -> Result<TypedExpr, TypeFault>
-    ensures { Gives (λ x. (typed_of x, rows_of table.new.items)) result
-        (spec.expr (rows_of table.old.items)
+    ensures { Gives (λ x. (typed_of x, rows_of_entries table.new.items)) result
+        (spec.expr (rows_of_entries table.old.items)
         (Tree.Choice (tree_of test.now) (tree_of first.now) (tree_of second.now))) }
 {
     let x = expr(alloc, table, test)?;
@@ -291,8 +293,8 @@ fn assign_expr(
     target: &Target,
     value: &Expr,
 ) -> Result<TypedExpr, TypeFault>
-    ensures { Gives (λ x. (typed_of x, rows_of table.new.items)) result
-        (spec.expr (rows_of table.old.items)
+    ensures { Gives (λ x. (typed_of x, rows_of_entries table.new.items)) result
+        (spec.expr (rows_of_entries table.old.items)
         (Tree.Assign operator target.now.variable (trees_of target.now.keys.items)
         (tree_of value.now))) }
 {
@@ -316,8 +318,8 @@ fn assign_rest(
     to: TypedTarget<'_>,
     value: &Expr,
 ) -> Result<TypedExpr, TypeFault>
-    ensures { Gives (λ x. (typed_of x, rows_of table.new.items)) result
-        (spec.assign_rest (rows_of table.old.items) operator to.entry.variable.now
+    ensures { Gives (λ x. (typed_of x, rows_of_entries table.new.items)) result
+        (spec.assign_rest (rows_of_entries table.old.items) operator to.entry.variable.now
         (typeds_of to.entry.keys.items) (tree_of value.now)) }
 {
     let TypedTarget { variable, keys } = to;
@@ -340,8 +342,8 @@ pub(crate) fn exprs(
     table: &mut Vec<Entry>,
     list: &[Expr],
 ) -> Result<Vec<TypedExpr>, TypeFault>
-    ensures { Gives (λ xs. (typeds_of xs.items, rows_of table.new.items)) result
-        (spec.exprs Typeds.end (rows_of table.old.items) (trees_of list.now)) }
+    ensures { Gives (λ xs. (typeds_of xs.items, rows_of_entries table.new.items)) result
+        (spec.exprs Typeds.end (rows_of_entries table.old.items) (trees_of list.now)) }
 {
     let mut done = Vec::new(alloc);
     for e in list {
@@ -353,8 +355,8 @@ pub(crate) fn exprs(
 
 /// The typed tree of an expression that is no part of another.
 pub(crate) fn whole(alloc: Global, table: &mut Vec<Entry>, e: &Expr) -> Result<TypedExpr, TypeFault>
-    ensures { Gives (λ x. (typed_of x, rows_of table.new.items)) result
-        (spec.whole (rows_of table.old.items) (tree_of e.now)) }
+    ensures { Gives (λ x. (typed_of x, rows_of_entries table.new.items)) result
+        (spec.whole (rows_of_entries table.old.items) (tree_of e.now)) }
 {
     let x = expr(alloc, table, e)?;
     if fits(&x, REGISTERS) {

@@ -20,7 +20,7 @@ pub struct Flags {
     pub width: u8,
 }
 
-/// Where a byte of a format stands.
+/// Where a byte of a format is.
 #[derive(Clone, Copy)]
 pub enum Place {
     Outside,
@@ -37,8 +37,8 @@ pub enum Place {
     Sized(Flags),
 }
 
-/// What a byte does: where the next one stands, and the piece that it ends. None where it can't
-/// stand there.
+/// What a byte does: where the next one is, and the piece that it ends. None where the byte can't
+/// be there.
 type Turn = Option<(Place, Option<Piece>)>;
 
 fn letter_of(byte: u8) -> Option<Letter>
@@ -190,7 +190,7 @@ pub(crate) fn pieces(alloc: Global, format: &[u8]) -> Result<Option<Vec<Piece>>,
 }
 
 fn takes(letter: Letter, t: DType) -> bool
-    ensures { result ≡ spec.takes letter t }
+    ensures { result ≡ spec.takes_type letter t }
 {
     match letter {
         Letter::Signed | Letter::Unsigned | Letter::Hexadecimal | Letter::Octal => {

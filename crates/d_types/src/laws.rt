@@ -4,7 +4,8 @@ ghost use Rattle.std.specs.Prelude.{◌≡◌, ◌≤◌, ◌^◌, ◌↔◌, �
 ghost use Rattle.d_types.specs.Vocabulary.{MOST_BYTES, in_all, Firing, Piece, ItemTree, Tree};
 ghost use Rattle.d_types.specs.{Clauses.run_of, Storage.Variables, Fitting.ScriptFits};
 ghost use Rattle.d_types.specs.{Formats.pieces, Proper.IsProperScript, Rules.Types};
-ghost use Rattle.d_types.specs.{Spelling.Spells, Typing.expr, Variables.Rows, WellTyped.IsWell};
+ghost use Rattle.d_types.specs.{Spelling.SpellsFormat, Typing.expr, Variables.Rows};
+ghost use Rattle.d_types.specs.{WellTyped.IsWell};
 ghost use Rattle.d_types.specs.Scripts.{IsMeant, script};
 ghost use Rattle.d_types.specs.Sizes.{HasAtMost, most_runs};
 ghost use Rattle.d_types.specs.Typed.{ClauseMeant, ScriptMeant, Typed};
@@ -64,11 +65,13 @@ pub fn one_meaning()
 
 /// A format is read exactly where it is spelled by pieces, and as these pieces.
 pub fn formats_spelled()
-    ensures { (format : List ℕ) (ps : List Piece) → (pieces format ≡ Some ps) ↔ Spells ps format }
+    ensures { (format : List ℕ) (ps : List Piece)
+        → (pieces format ≡ Some ps) ↔ SpellsFormat ps format }
 {}
 
 /// A format is spelled by one list of pieces at most.
 pub fn one_format()
-    ensures { (format : List ℕ) (ps qs : List Piece) → Spells ps format → Spells qs format
+    ensures { (format : List ℕ) (ps qs : List Piece) → SpellsFormat ps format
+        → SpellsFormat qs format
         → ps ≡ qs }
 {}

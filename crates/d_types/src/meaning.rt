@@ -6,18 +6,19 @@ ghost use Rattle.d_types.specs.{Scripts.IsMeant};
 ghost use Rattle.d_types.specs.Vocabulary.{IntType, blank, narrow, Firing, HasRanges, Step, Answer};
 ghost use Rattle.d_types.specs.Vocabulary.{Operation, Variable, DType};
 ghost use Rattle.d_types.specs.Typed.{Typed, Typeds, type_of, ClauseMeant, ScriptMeant};
-ghost use Rattle.d_types.specs.Expressions.{number, eval};
-ghost use Rattle.d_types.specs.Held.{AreTyped, AreTypedLocals, AreTypedOwn, Ends, HasTypedBuiltIns};
+ghost use Rattle.d_types.specs.Expressions.{number_outcome, eval};
+ghost use Rattle.d_types.specs.Held.{AreTyped, AreTypedLocals, AreTypedOwn, EndsTyped};
+ghost use Rattle.d_types.specs.Held.{HasTypedBuiltIns};
 ghost use Rattle.d_types.specs.Held.{IsConsistent, IsOf, IsWord, Slots, slots_of};
 ghost use Rattle.d_types.specs.Laws as spec;
 
-/// Where no assignment, `++` or `--` stands, evaluation leaves the variables as they were.
+/// Without an assignment, `++` or `--`, evaluation leaves the variables as they were.
 pub fn only_assignments_change_variables()
     ensures { (f : Firing) (e : Typed) (vars : Variables) → spec.assigns e ≡ false
         → spec.variables_after (eval f e vars) ≡ vars }
 {}
 
-/// Where no `/` or `%` stands, evaluation gives a value.
+/// Without a `/` or `%`, evaluation gives a value.
 pub fn only_divisions_fault()
     ensures { (f : Firing) (e : Typed) (vars : Variables) → spec.has_division e ≡ false
         → spec.is_fault (eval f e vars) ≡ false }
@@ -29,7 +30,7 @@ pub fn only_divisions_fault()
 pub fn values_are_of_their_types()
     ensures values { (slots : Slots) (f : Firing) (e : Typed) (vars : Variables)
         → HasTypedBuiltIns f → IsConsistent slots e → AreTyped slots vars
-        → Ends slots (IsOf (type_of e)) (eval f e vars) }
+        → EndsTyped slots (IsOf (type_of e)) (eval f e vars) }
     ensures words { (t : IntType) (word : ℕ) → IsWord t word ↔ (narrow t word ≡ word) }
 {}
 
@@ -68,9 +69,10 @@ pub fn changes_in_place_are_assignments()
     ensures new { (f : Firing) (t : IntType) (by : Step) (x : Variable) (keys : Typeds)
         (vars : Variables)
         → x.holds ≡ DType.Int t
-        → eval f (Typed.Count by Answer.New x keys) vars ≡ eval f (spec.one_more by t x keys) vars }
+        → eval f (Typed.Count by Answer.New x keys) vars
+        ≡ eval f (spec.changed_by_one by t x keys) vars }
     ensures old { (f : Firing) (by : Step) (x : Variable) (keys : Typeds) (vars : Variables)
         → eval f (Typed.Count by Answer.Old x keys) vars
         ≡ spec.with_after (spec.variables_after (eval f (Typed.Count by Answer.New x keys) vars))
-        (number (eval f (Typed.Read x keys) vars)) }
+        (number_outcome (eval f (Typed.Read x keys) vars)) }
 {}

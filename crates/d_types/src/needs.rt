@@ -38,7 +38,7 @@ fn step_fits(keys: &[TypedExpr], registers: usize) -> bool
     keys_fit(keys, registers) && keys.len() < registers
 }
 
-/// Whether the keys fit, and what comes after them.
+/// Whether the keys fit, and what comes after them, as `value` says.
 #[cycle(needs)]
 fn both_fit(keys: &[TypedExpr], value: bool, registers: usize) -> bool
     ensures { result ≡ nat_le (spec.need_of_keys 0 (typeds_of keys.now)) registers && value }
@@ -54,7 +54,7 @@ fn value_fits(value: &TypedExpr, waiting: usize, registers: usize) -> bool
     waiting <= registers && fits(value, registers - waiting)
 }
 
-/// Whether an expression needs at most so many registers.
+/// Whether an expression needs no more than these registers.
 #[cycle(needs)]
 pub(crate) fn fits(e: &TypedExpr, registers: usize) -> bool
     ensures { result ≡ nat_le (spec.need (typed_of e.now)) registers }

@@ -3,7 +3,7 @@
 ghost use Rattle.std.specs.Prelude.{◌≡◌, ◌++◌, ◌∷◌, [], IfOk, OnOk, length};
 ghost use Rattle.d_types.specs.Faults.{Gives, OnlyMemory};
 ghost use Rattle.d_types.specs.Typed.{typed_of, typeds_of, Typed};
-ghost use Rattle.d_types.specs.Variables.{rows_of, Rows, find, type_at};
+ghost use Rattle.d_types.specs.Variables.{rows_of_entries, Rows, find, type_at};
 ghost use Rattle.d_types.specs.Targets as spec;
 
 use crate::fault::TypeFault;
@@ -71,7 +71,7 @@ fn load_at(
     keys: Vec<TypedExpr>,
 ) -> Result<TypedExpr, TypeFault>
     ensures { Gives typed_of result
-        (spec.load_at space line (rows_of table.now) found (typeds_of keys.items)) }
+        (spec.load_at space line (rows_of_entries table.now) found (typeds_of keys.items)) }
 {
     let Some(slot) = found else {
         return Err(TypeFault::Undeclared { line });
@@ -94,7 +94,7 @@ pub(crate) fn read(
     keys: Vec<TypedExpr>,
 ) -> Result<TypedExpr, TypeFault>
     ensures { Gives typed_of result
-        (spec.read (rows_of table.now) variable.now (typeds_of keys.items)) }
+        (spec.read_variable (rows_of_entries table.now) variable.now (typeds_of keys.items)) }
 {
     match variable {
         d_parser::Variable::Plain { line, name } => plain(*line, built_in(name.as_slice()), &keys),
@@ -147,8 +147,9 @@ fn most_keys(space: Space) -> usize
 }
 
 fn settle(table: &mut [Entry], slot: usize, holds: Option<DType>)
-    ensures { rows_of table.new
-        ≡ spec.settle_slot (type_at (rows_of table.old) slot) slot holds (rows_of table.old) }
+    ensures { rows_of_entries table.new
+        ≡ spec.settle_slot (type_at (rows_of_entries table.old) slot) slot holds
+        (rows_of_entries table.old) }
 {
     if type_at(table, slot).is_none() {
         if let Some(holds) = holds {
@@ -173,8 +174,8 @@ fn add_entry(
     holds: Option<DType>,
     keys: &[TypedExpr],
 ) -> Result<usize, TypeFault>
-    ensures slot { IfOk result (λ slot. slot ≡ length (rows_of table.old.items)) }
-    ensures added { OnOk result (rows_of table.new.items ≡ rows_of table.old.items
+    ensures slot { IfOk result (λ slot. slot ≡ length (rows_of_entries table.old.items)) }
+    ensures added { OnOk result (rows_of_entries table.new.items ≡ rows_of_entries table.old.items
         ++ spec.new_row variable.entry.space variable.entry.name.now holds (typeds_of keys.now)
         ∷ []) }
     ensures err { OnlyMemory result }
@@ -199,11 +200,11 @@ fn slot_for(
     holds: Option<DType>,
     keys: &[TypedExpr],
 ) -> Result<usize, TypeFault>
-    ensures { Gives (λ slot. (slot, rows_of table.new.items)) result
+    ensures { Gives (λ slot. (slot, rows_of_entries table.new.items)) result
         (spec.slot_for variable.entry.space variable.entry.line variable.entry.name.now
-        (rows_of table.old.items)
+        (rows_of_entries table.old.items)
         holds (typeds_of keys.now)
-        (find variable.entry.space variable.entry.name.now (rows_of table.old.items))) }
+        (find variable.entry.space variable.entry.name.now (rows_of_entries table.old.items))) }
 {
     match find(table, variable.space, variable.name.as_slice()) {
         None => {
@@ -235,8 +236,8 @@ pub(crate) fn target(
     holds: Option<DType>,
     keys: &[TypedExpr],
 ) -> Result<usize, TypeFault>
-    ensures { Gives (λ slot. (slot, rows_of table.new.items)) result
-        (spec.target (rows_of table.old.items) variable.now holds (typeds_of keys.now)) }
+    ensures { Gives (λ slot. (slot, rows_of_entries table.new.items)) result
+        (spec.target (rows_of_entries table.old.items) variable.now holds (typeds_of keys.now)) }
 {
     match variable {
         d_parser::Variable::Plain { line, name } => {

@@ -50,6 +50,10 @@ impl TypedScript {
     }
 
     /// Its aggregations, in order of first appearance.
+    ///
+    /// ```text
+    /// script.aggs().len(); // 1, for a script that has `@calls` alone
+    /// ```
     pub fn aggs(&self) -> &[TypedAggregation]
         ensures { result.now ≡ self.now.aggregations.items }
     {

@@ -1,7 +1,7 @@
 //! The table of variables.
 
 ghost use Rattle.std.specs.Prelude.{◌≡◌, ◌<◌, [], Some, None, IfOk, map};
-ghost use Rattle.d_types.specs.{Variables.rows_of, Typed.typeds_of};
+ghost use Rattle.d_types.specs.{Variables.rows_of_entries, Typed.typeds_of};
 ghost use Rattle.d_types.specs.Variables as spec;
 
 use crate::typed::{Space, TypedExpr};
@@ -27,7 +27,7 @@ pub struct Entry {
 /// kind_of(DType::Text); // Kind::Text
 /// ```
 pub fn kind_of(t: DType) -> Kind
-    ensures { result ≡ spec.kind_of t }
+    ensures { result ≡ spec.kind_of_type t }
 {
     match t {
         DType::Int(_) => Kind::Number,
@@ -36,14 +36,14 @@ pub fn kind_of(t: DType) -> Kind
 }
 
 fn is_named(entry: &Entry, space: Space, name: &[u8]) -> bool
-    ensures { result ≡ spec.is_named space name.now (spec.row_of entry.now) }
+    ensures { result ≡ spec.names_row space name.now (spec.row_of_entry entry.now) }
 {
     entry.space == space && entry.name.as_slice() == name
 }
 
 /// The slot of a variable.
 pub(crate) fn find(table: &[Entry], space: Space, name: &[u8]) -> Option<usize>
-    ensures { result ≡ spec.find space name.now (rows_of table.now) }
+    ensures { result ≡ spec.find space name.now (rows_of_entries table.now) }
 {
     for (slot, entry) in table.iter().enumerate() {
         if is_named(entry, space, name) {
@@ -56,7 +56,7 @@ pub(crate) fn find(table: &[Entry], space: Space, name: &[u8]) -> Option<usize>
 /// The type of a slot's variable, once it is known.
 #[tactic(auto, using(crate::proofs::Tables::type_at_within, crate::proofs::Tables::type_at_past))]
 pub(crate) fn type_at(table: &[Entry], slot: usize) -> Option<DType>
-    ensures { result ≡ spec.type_at (rows_of table.now) slot }
+    ensures { result ≡ spec.type_at (rows_of_entries table.now) slot }
 {
     if slot < table.len() {
         table[slot].holds
@@ -85,14 +85,14 @@ pub(crate) fn fit(kinds: &[Kind], keys: &[TypedExpr]) -> bool
 /// Whether a slot has such keys.
 #[tactic(auto, using(crate::proofs::Tables::keys_fit_within, crate::proofs::Tables::keys_fit_past))]
 pub(crate) fn keys_fit(table: &[Entry], slot: usize, keys: &[TypedExpr]) -> bool
-    ensures { result ≡ spec.keys_fit (rows_of table.now) slot (typeds_of keys.now) }
+    ensures { result ≡ spec.keys_fit (rows_of_entries table.now) slot (typeds_of keys.now) }
 {
     slot < table.len() && fit(&table[slot].keys, keys)
 }
 
 /// Gives a slot's variable its type.
 pub(crate) fn set_type(table: &mut [Entry], slot: usize, t: DType)
-    ensures { rows_of table.new ≡ spec.set_type slot t (rows_of table.old) }
+    ensures { rows_of_entries table.new ≡ spec.set_type slot t (rows_of_entries table.old) }
 {
     if slot < table.len() {
         table[slot].holds = Some(t);
@@ -101,7 +101,7 @@ pub(crate) fn set_type(table: &mut [Entry], slot: usize, t: DType)
 
 /// The kinds of keys.
 pub(crate) fn kinds_of(alloc: Global, keys: &[TypedExpr]) -> Result<Vec<Kind>, AllocError>
-    ensures { IfOk result (λ kinds. kinds.items ≡ spec.kinds_of (typeds_of keys.now)) }
+    ensures { IfOk result (λ kinds. kinds.items ≡ spec.kinds_of_typed (typeds_of keys.now)) }
 {
     let mut kinds = Vec::new(alloc);
     for key in keys {

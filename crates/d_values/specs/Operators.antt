@@ -5,7 +5,7 @@ use Rattle.d_values.specs.declared.operators.ComparisonOperator.TheVariants.{Les
 use Rattle.d_values.specs.declared.operators.ComparisonOperator.TheVariants.{Greater, GreaterEqual}
 use Rattle.d_values.specs.declared.operators.ComparisonOperator.TheVariants.{Equal, NotEqual}
 
--- the comparison holds between two operands that stand in this order
+-- the comparison holds between two operands in this order
 abbrev pub holds_of : ComparisonOperator → Ordering → Bool
 holds_of Less Ordering.Less = true
 holds_of Less Ordering.Equal = false

@@ -32,11 +32,11 @@ abbrev pub promoted_of : IntType → IntType
 promoted_of t = if nat_lt t.width 32 then INT32 else t
 
 -- the place of a promoted type among int, unsigned int, long, unsigned long
-abbrev pub rank_of : IntType → ℕ
-rank_of t = 2 * t.width + (if t.signed then 0 else 1)
+abbrev pub type_rank : IntType → ℕ
+type_rank t = 2 * t.width + (if t.signed then 0 else 1)
 
 abbrev pub higher : IntType → IntType → IntType
-higher t u = if nat_lt (rank_of t) (rank_of u) then u else t
+higher t u = if nat_lt (type_rank t) (type_rank u) then u else t
 
 -- the type that two operands are brought to: of their promoted types the one of higher rank
 abbrev pub common_of : IntType → IntType → IntType

@@ -6,15 +6,16 @@ use Rattle.d_values.specs.Vocabulary.{Decides, IsEquivalence, decided, Kind, Var
 use Rattle.d_values.specs.declared.value.Kind.TheVariants.{Number, Text}
 
 -- a number for each variable
-abbrev pub code_of : Var → ℕ
-code_of v = elim v.kind [ Number ↦ 2 * v.slot | Text ↦ 2 * v.slot + 1 ]
+abbrev pub variable_number : Var → ℕ
+variable_number v = elim v.kind [ Number ↦ 2 * v.slot | Text ↦ 2 * v.slot + 1 ]
 
 -- the same slot and the same kind
 abbrev pub same_var : Var → Var → Bool
-same_var v w = code_of v == code_of w
+same_var v w = variable_number v == variable_number w
 
 same_parts : (m n : ℕ) (k l : Kind)
-    → code_of (record { slot = m; kind = k }) ≡ code_of (record { slot = n; kind = l })
+    → variable_number (record { slot = m; kind = k })
+    ≡ variable_number (record { slot = n; kind = l })
     → ◌≡◌ {A = Var} (record { slot = m; kind = k }) (record { slot = n; kind = l })
 same_parts m n Number Number e =
     let s : m ≡ n = omega arith in ap (λ i. record { slot = i; kind = Number }) s
@@ -25,8 +26,9 @@ same_parts m n Text Text e =
 
 pub same_var_decides : (v w : Var) → Decides (same_var v w) (v ≡ w)
 same_var_decides v w = (
-  λ e. same_parts v.slot w.slot v.kind w.kind ((Decides-eqb (code_of v) (code_of w)).0 e),
-  λ e. (Decides-eqb (code_of v) (code_of w)).1 (ap code_of e),
+  λ e. same_parts v.slot w.slot v.kind w.kind
+      ((Decides-eqb (variable_number v) (variable_number w)).0 e),
+  λ e. (Decides-eqb (variable_number v) (variable_number w)).1 (ap variable_number e),
 )
 
 pub same_var_equiv : IsEquivalence same_var

@@ -10,7 +10,7 @@ use crate::operators::ComparisonOperator;
 use std::cmp::Ordering;
 
 impl ComparisonOperator {
-    /// Whether it holds between two operands that stand in this order.
+    /// Whether it holds between two operands in this order.
     ///
     /// ```text
     /// ComparisonOperator::LessEqual.holds(Ordering::Equal); // true

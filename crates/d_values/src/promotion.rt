@@ -1,7 +1,7 @@
 //! The types that operands are brought to (Guide, "Type Promotion").
 
 ghost use Rattle.std.specs.Prelude.{◌≡◌};
-ghost use Rattle.d_values.specs.Types.{promoted_of, common_of, rank_of};
+ghost use Rattle.d_values.specs.Types.{promoted_of, common_of, type_rank};
 
 use crate::int_type::IntType;
 
@@ -18,7 +18,7 @@ pub fn promotion_of(t: IntType) -> IntType
 
 // The place of a promoted type among int, unsigned int, long, unsigned long.
 fn rank(t: IntType) -> u8
-    ensures { result ≡ rank_of t }
+    ensures { result ≡ type_rank t }
 {
     2 * t.width + u8::from(!t.signed)
 }

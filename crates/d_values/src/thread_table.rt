@@ -16,7 +16,7 @@ use keyed_hash::HashKey;
 use std::alloc::{AllocError, Global};
 use std::marker::Model;
 
-// Up to so many variables of a thread take no more room than they need: most threads have few.
+// Most threads have few variables: up to this number, they take no more room than they need.
 const FEW: usize = 4;
 
 /// The thread-local variables of a thread (Guide, "Thread-Local Variables"), scalars under the

@@ -3,7 +3,8 @@
 ghost use Rattle.std.specs.Prelude.{◌≡◌};
 ghost use Rattle.std.proofs.Common.{ap};
 ghost use Rattle.d_values.specs.Vocabulary.{partial_equiv_from_equiv, u32};
-ghost use Rattle.d_values.specs.Variables.{code_of, same_var, same_var_decides, same_var_equiv};
+ghost use Rattle.d_values.specs.Variables.{variable_number, same_var, same_var_decides};
+ghost use Rattle.d_values.specs.Variables.{same_var_equiv};
 
 use crate::value::Kind;
 use std::hash::{Hash, Hasher};
@@ -21,7 +22,7 @@ pub struct Var {
 impl Var {
     // A number of its own.
     fn code(self) -> u32
-        ensures { result ≡ code_of self }
+        ensures { result ≡ variable_number self }
     {
         match self.kind {
             Kind::Number => 2 * u32::from(self.slot),
@@ -45,9 +46,10 @@ impl Eq for Var {
 }
 
 impl Hash for Var {
-    ghost hash_input = { λ v. u32 (code_of v) };
+    ghost hash_input = { λ v. u32 (variable_number v) };
 
-    ghost respects_eq = { λ x y same. ap (λ v. u32 (code_of v)) ((same_var_decides x y).0 same) };
+    ghost respects_eq = { λ x y same.
+        ap (λ v. u32 (variable_number v)) ((same_var_decides x y).0 same) };
 
     fn hash<H: Hasher>(&self, state: &mut H) {
         self.code().hash(state);

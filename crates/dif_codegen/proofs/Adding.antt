@@ -15,14 +15,15 @@ use Rattle.d_types.specs.declared.typed.LogicOperator.{LogicOperator}
 use Rattle.dif_validate.specs.declared.register.Reg.{Reg}
 use Rattle.dif_validate.specs.declared.register.Reg.TheVariants.{R1}
 use Rattle.dif_codegen.specs.Code.{code_of, keys_code, pushing, element_code, fetching, saving}
-use Rattle.dif_codegen.specs.Code.{lowering, object_of}
+use Rattle.dif_codegen.specs.Code.{lowering, object_code}
 use Rattle.dif_validate.specs.declared.instruction.Condition.{Condition}
 use Rattle.dif_validate.specs.declared.instruction.Instr.{Instr}
 use Rattle.dif_validate.specs.declared.instruction.Instr.TheVariants.{Ba, Branch, Ret, Mov, Ldtaa}
 use Rattle.dif_validate.specs.declared.instruction.Instr.TheVariants.{Sttaa}
 use Rattle.dif_validate.specs.declared.object.Difo.{Difo}
-use Rattle.dif_codegen.specs.Drafts.{end_of, Adds, Closes}
-use Rattle.dif_codegen.specs.Pieces.{Place, Maker, nothing, one, behind, both, fork, choice, next}
+use Rattle.dif_codegen.specs.Drafts.{end_of_draft, Adds, ClosesBranch}
+use Rattle.dif_codegen.specs.Pieces.{Place, Maker, nothing, one_instr, behind, both, fork}
+use Rattle.dif_codegen.specs.Pieces.{choice_code, next}
 
 -- a list after another
 ends : {A : Type 0} (x y z p q : List A) → y ≡ x ++ p → z ≡ y ++ q → z ≡ x ++ (p ++ q)
@@ -34,14 +35,14 @@ place_is pl pl' a b c = ap (λ n. record { at = n; texts = pl.texts; numbers = p
 grown : {A : Type 0} (x y p : List A) → y ≡ x ++ p → length y ≡ length x + length p
 grown x y p e = ap length e ∙ length-append x p
 
-moved : (g : Maker) (a b : Difo) → Adds g a b → end_of b ≡ behind (end_of a) (g (end_of a))
+moved : (g : Maker) (a b : Difo) → Adds g a b → end_of_draft b ≡ behind (end_of_draft a) (g (end_of_draft a))
 moved g a b h =
-    let p = g (end_of a) in
-    place_is (end_of b) (behind (end_of a) p) (grown a.code.items b.code.items p.code h.code) (grown a.texts.items b.texts.items p.texts h.texts) (grown a.numbers.items b.numbers.items p.numbers h.numbers)
+    let p = g (end_of_draft a) in
+    place_is (end_of_draft b) (behind (end_of_draft a) p) (grown a.code.items b.code.items p.code h.code) (grown a.texts.items b.texts.items p.texts h.texts) (grown a.numbers.items b.numbers.items p.numbers h.numbers)
 
 pub both_adds : (g h : Maker) (a b c : Difo) → Adds g a b → Adds h b c → Adds (both g h) a c
 both_adds g h a b c u v =
-    let p = g (end_of a) in
+    let p = g (end_of_draft a) in
     let e = moved g a b u in
     record {
       code = ends _ _ _ _ _ u.code (v.code ∙ ap (λ pl. b.code.items ++ (h pl).code) e);
@@ -52,12 +53,12 @@ both_adds g h a b c u v =
 -- two pieces at once, and then a third
 pub operands_adds : (g h k : Maker) (a b c : Difo) → Adds (both g h) a b → Adds k b c → Adds (both g (both h k)) a c
 operands_adds g h k a b c u v =
-    let pl = end_of a in
+    let pl = end_of_draft a in
     let p = g pl in
     let pl1 = behind pl p in
     let q = h pl1 in
     let pl2 = behind pl1 q in
-    let e : end_of b ≡ pl2 =
+    let e : end_of_draft b ≡ pl2 =
     moved (both g h) a b u
     ∙ place_is (behind pl ((both g h) pl)) pl2 (omega (arith, length-append p.code q.code)) (omega (arith, length-append p.texts q.texts)) (omega (arith, length-append p.numbers q.numbers)) in
     record {
@@ -76,18 +77,18 @@ two_writes c p q x y i j =
     ∙ append_assoc c (i ∷ p) (j ∷ q)
 
 -- a branch, its first side, a jump and its second side, once the targets are written
-pub fork_adds : (condition : Condition) (g h : Maker) (a b c d e z : Difo) (branch jump : ℕ) → branch ≡ length a.code.items → Adds (one (Branch condition 0)) a b → Adds g b c → jump ≡ length c.code.items → Adds (one (Ba 0)) c d → Adds h d e → Closes branch condition jump e z → Adds (fork condition g h) a z
+pub fork_adds : (condition : Condition) (g h : Maker) (a b c d e z : Difo) (branch jump : ℕ) → branch ≡ length a.code.items → Adds (one_instr (Branch condition 0)) a b → Adds g b c → jump ≡ length c.code.items → Adds (one_instr (Ba 0)) c d → Adds h d e → ClosesBranch branch condition jump e z → Adds (fork condition g h) a z
 fork_adds condition g h a b c d e z branch jump s0 u v s1 w x closed =
-    let pl = end_of a in
+    let pl = end_of_draft a in
     let pl1 = next pl in
-    let eb : end_of b ≡ pl1 = moved (one (Branch condition 0)) a b u ∙ place_is _ _ refl (omega arith) (omega arith) in
+    let eb : end_of_draft b ≡ pl1 = moved (one_instr (Branch condition 0)) a b u ∙ place_is _ _ refl (omega arith) (omega arith) in
     let p = g pl1 in
     let vc : c.code.items ≡ b.code.items ++ p.code = v.code ∙ ap (λ q. b.code.items ++ (g q).code) eb in
     let vt : c.texts.items ≡ b.texts.items ++ p.texts = v.texts ∙ ap (λ q. b.texts.items ++ (g q).texts) eb in
     let vn : c.numbers.items ≡ b.numbers.items ++ p.numbers = v.numbers ∙ ap (λ q. b.numbers.items ++ (g q).numbers) eb in
-    let ec : end_of c ≡ behind pl1 p = moved g b c v ∙ ap (λ q. behind q (g q)) eb in
+    let ec : end_of_draft c ≡ behind pl1 p = moved g b c v ∙ ap (λ q. behind q (g q)) eb in
     let pl3 = next (behind pl1 p) in
-    let ed : end_of d ≡ pl3 = moved (one (Ba 0)) c d w ∙ place_is _ (next (end_of c)) refl (omega arith) (omega arith) ∙ ap next ec in
+    let ed : end_of_draft d ≡ pl3 = moved (one_instr (Ba 0)) c d w ∙ place_is _ (next (end_of_draft c)) refl (omega arith) (omega arith) ∙ ap next ec in
     let q = h pl3 in
     let xc : e.code.items ≡ d.code.items ++ q.code = x.code ∙ ap (λ r. d.code.items ++ (h r).code) ed in
     let xt : e.texts.items ≡ d.texts.items ++ q.texts = x.texts ∙ ap (λ r. d.texts.items ++ (h r).texts) ed in
@@ -118,8 +119,8 @@ fork_adds condition g h a b c d e z branch jump s0 u v s1 w x closed =
     }
 
 -- after a test
-pub choice_adds : (test : Instr) (condition : Condition) (g h : Maker) (o a b c d e z : Difo) (branch jump : ℕ) → Adds (one test) o a → branch ≡ length a.code.items → Adds (one (Branch condition 0)) a b → Adds g b c → jump ≡ length c.code.items → Adds (one (Ba 0)) c d → Adds h d e → Closes branch condition jump e z → Adds (choice test condition g h) o z
-choice_adds test condition g h o a b c d e z branch jump t s0 u v s1 w x closed = both_adds (one test) (fork condition g h) o a z t (fork_adds condition g h a b c d e z branch jump s0 u v s1 w x closed)
+pub choice_adds : (test : Instr) (condition : Condition) (g h : Maker) (o a b c d e z : Difo) (branch jump : ℕ) → Adds (one_instr test) o a → branch ≡ length a.code.items → Adds (one_instr (Branch condition 0)) a b → Adds g b c → jump ≡ length c.code.items → Adds (one_instr (Ba 0)) c d → Adds h d e → ClosesBranch branch condition jump e z → Adds (choice_code test condition g h) o z
+choice_adds test condition g h o a b c d e z branch jump t s0 u v s1 w x closed = both_adds (one_instr test) (fork condition g h) o a z t (fork_adds condition g h a b c d e z branch jump s0 u v s1 w x closed)
 
 -- ---- keys
 
@@ -146,7 +147,7 @@ pushed_all keys i q d h = subst (λ ks. Adds (pushing ks q) d d) (sym (dropped k
 pub emitted_all : (keys : List TypedExpr) (i q : ℕ) (d : Difo) → length keys ≤ i → Adds (keys_code (typeds_of (drop i keys)) q) d d
 emitted_all keys i q d h = subst (λ ks. Adds (keys_code ks q) d d) (sym (dropped keys i h)) (no_adds d)
 
-pub lowering_adds : (keys : List TypedExpr) (a d : Reg) (x z : Difo) → 1 ≤ length keys → Adds (one (Mov a d)) x z → Adds (lowering (typeds_of keys) a d) x z
+pub lowering_adds : (keys : List TypedExpr) (a d : Reg) (x z : Difo) → 1 ≤ length keys → Adds (one_instr (Mov a d)) x z → Adds (lowering (typeds_of keys) a d) x z
 lowering_adds [] a d x z h u = absurd (omega arith)
 lowering_adds (k ∷ keys) a d x z h u = u
 
@@ -184,17 +185,17 @@ logic_adds o o' x y r a z e h = subst (λ o. Adds (code_of (Logic o x y) r) a z)
 
 -- the whole object
 pub record IsObject (e : Typed) (d : Difo) : Type 0 where
-  pub code : d.code.items ≡ (object_of e).code
-  pub texts : d.texts.items ≡ (object_of e).texts
-  pub numbers : d.numbers.items ≡ (object_of e).numbers
+  pub code : d.code.items ≡ (object_code e).code
+  pub texts : d.texts.items ≡ (object_code e).texts
+  pub numbers : d.numbers.items ≡ (object_code e).numbers
 
-pub drafted : (e : Typed) (a b c : Difo) → a.code.items ≡ [] → a.texts.items ≡ [] → a.numbers.items ≡ [] → Adds (code_of e 1) a b → Adds (one (Ret R1)) b c → IsObject e c
+pub drafted : (e : Typed) (a b c : Difo) → a.code.items ≡ [] → a.texts.items ≡ [] → a.numbers.items ≡ [] → Adds (code_of e 1) a b → Adds (one_instr (Ret R1)) b c → IsObject e c
 drafted e a b c ec et en u v =
-    let h = both_adds (code_of e 1) (one (Ret R1)) a b c u v in
+    let h = both_adds (code_of e 1) (one_instr (Ret R1)) a b c u v in
     let pl : Place = record { at = 0; texts = 0; numbers = 0 } in
-    let place : end_of a ≡ pl = place_is (end_of a) pl (ap length ec) (ap length et) (ap length en) in
+    let place : end_of_draft a ≡ pl = place_is (end_of_draft a) pl (ap length ec) (ap length et) (ap length en) in
     record {
-      code = h.code ∙ ap (λ l. l ++ (both (code_of e 1) (one (Ret R1)) (end_of a)).code) ec ∙ ap (λ p. (both (code_of e 1) (one (Ret R1)) p).code) place;
-      texts = h.texts ∙ ap (λ l. l ++ (both (code_of e 1) (one (Ret R1)) (end_of a)).texts) et ∙ ap (λ p. (both (code_of e 1) (one (Ret R1)) p).texts) place;
-      numbers = h.numbers ∙ ap (λ l. l ++ (both (code_of e 1) (one (Ret R1)) (end_of a)).numbers) en ∙ ap (λ p. (both (code_of e 1) (one (Ret R1)) p).numbers) place;
+      code = h.code ∙ ap (λ l. l ++ (both (code_of e 1) (one_instr (Ret R1)) (end_of_draft a)).code) ec ∙ ap (λ p. (both (code_of e 1) (one_instr (Ret R1)) p).code) place;
+      texts = h.texts ∙ ap (λ l. l ++ (both (code_of e 1) (one_instr (Ret R1)) (end_of_draft a)).texts) et ∙ ap (λ p. (both (code_of e 1) (one_instr (Ret R1)) p).texts) place;
+      numbers = h.numbers ∙ ap (λ l. l ++ (both (code_of e 1) (one_instr (Ret R1)) (end_of_draft a)).numbers) en ∙ ap (λ p. (both (code_of e 1) (one_instr (Ret R1)) p).numbers) place;
     }

@@ -9,7 +9,7 @@ use Rattle.aggregations.specs.declared.function.AggFn.{AggFn}
 use Rattle.dif_codegen.specs.declared.program.Action as program
 use Rattle.dif_codegen.specs.declared.program.CompiledClause.{CompiledClause}
 use Rattle.dif_codegen.specs.Correct.{IsActionOf}
-use Rattle.dif_codegen.specs.Meaning.{Does, IsProgramOf, code_exits}
+use Rattle.dif_codegen.specs.Meaning.{IsSameClause, IsProgramOf, code_exits}
 use Rattle.dif_codegen.specs.Programs.{ActionCode, action_code, clause_code}
 
 -- the place of the aggregation that a statement adds to, if any
@@ -79,7 +79,7 @@ module _ (slots : Slots) where
   same_aggregations (x ∷ xs) (a ∷ rest) zip =
       ap (λ o. o ∷ map (λ a. aggregation_of a) xs) (same_aggregation x a zip.0) ∙ ap (λ l. aggregation_of a ∷ l) (same_aggregations xs rest zip.1)
 
-  clauses_exit : (cs : List CompiledClause) (ms : List ClauseMeant) → AllZip (Does slots) cs ms → code_exits cs ≡ list_any (λ c. list_any (λ a. is_exit a) c.statements) ms
+  clauses_exit : (cs : List CompiledClause) (ms : List ClauseMeant) → AllZip (IsSameClause slots) cs ms → code_exits cs ≡ list_any (λ c. list_any (λ a. is_exit a) c.statements) ms
   clauses_exit [] [] zip = refl
   clauses_exit [] (m ∷ ms) zip = absurd zip
   clauses_exit (c ∷ cs) [] zip = absurd zip

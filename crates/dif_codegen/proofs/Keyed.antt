@@ -16,12 +16,12 @@ use Rattle.firing_reader.specs.declared.firing.Firing.{Firing}
 use Rattle.d_types.specs.declared.typed.Space.{Space}
 use Rattle.d_types.specs.declared.typed.Space.TheVariants as sp
 use Rattle.d_types.specs.Expressions.{Outcome, Has, Faults, with, part_of}
-use Rattle.d_types.specs.Held.{IsOf, Slots, AreTyped, Ends}
+use Rattle.d_types.specs.Held.{IsOf, Slots, AreTyped, EndsTyped}
 use Rattle.d_types.specs.Needs.{count}
 use Rattle.d_types.specs.Storage as storage
-use Rattle.d_types.specs.Storage.{Variables, value_in, set_in}
+use Rattle.d_types.specs.Storage.{Variables, value_in_space, set_in}
 use Rattle.d_types.specs.Typed.{Typed, Typeds, end, more, type_of}
-use Rattle.d_types.specs.Variables.{kind_of}
+use Rattle.d_types.specs.Variables.{kind_of_type}
 use Rattle.dif_validate.specs.declared.instruction.Instr.TheVariants.{Mov, Flushts, Ldtaa, Sttaa}
 use Rattle.dif_validate.specs.Objects.{Object}
 use Rattle.dif_validate.specs.Registers.{at}
@@ -32,7 +32,7 @@ use Rattle.dif_machine.specs.Sources as machine
 use Rattle.dif_machine.specs.Steps as st
 use Rattle.dif_codegen.specs.Code.{register, push_of, pushing, element_code, fetching, saving}
 use Rattle.dif_codegen.specs.Code.{lowering}
-use Rattle.dif_codegen.specs.Pieces.{Place, Maker, one, both, behind}
+use Rattle.dif_codegen.specs.Pieces.{Place, Maker, one_instr, both, behind}
 use Rattle.dif_codegen.proofs.Leading.{Ready, Done, Usable, done_value, step, Leads, put_leads}
 use Rattle.dif_codegen.proofs.Leading.{keep_leads, none_leads}
 use Rattle.dif_codegen.proofs.Meaning.{kept_kind, stored_kind, on_kind_is, loads, stores}
@@ -86,7 +86,7 @@ module _ (o : Object) (f : Firing) where
   keys_join a rest r pc1 pc2 s vars w x (Faults w2) is l m = l (Divides w2) m
   keys_join a rest r pc1 pc2 s vars w x (Has key w2) is l m = λ end c. l end (λ t d. m t d end (λ u k. c u (join_keyed a rest r pc1 pc2 s t u x key is d k)))
 
-  pub keys_first : (slots : Slots) (a : Typed) (rest : Typeds) (r pc1 pc2 : ℕ) (s : Frame) (vars : Variables) (z : Outcome Value) (go : Variables → Outcome (List KeyPart)) → Leads o f r pc1 s vars z → Ends slots (IsOf (type_of a)) z
+  pub keys_first : (slots : Slots) (a : Typed) (rest : Typeds) (r pc1 pc2 : ℕ) (s : Frame) (vars : Variables) (z : Outcome Value) (go : Variables → Outcome (List KeyPart)) → Leads o f r pc1 s vars z → EndsTyped slots (IsOf (type_of a)) z
       → ((x : Value) (w : Variables) (t : Frame) → AreTyped slots w → Done r pc1 s t x → KeysLead rest (r + 1) pc2 t w (go w)) → KeysLead (more a rest) r pc2 s vars (with z (λ x vars. with (go vars) (λ key. Has (part_of x ∷ key))))
   keys_first slots a rest r pc1 pc2 s vars (Faults w) go l is m = l
   keys_first slots a rest r pc1 pc2 s vars (Has x w) go l is m = keys_join a rest r pc1 pc2 s vars w x (go w) is.0 l (λ t d. m x w t is.1 d)
@@ -99,13 +99,13 @@ module _ (o : Object) (f : Firing) where
   keys_chain keys r pc1 pc2 s vars vars1 key (Has x w) a b = λ end c. a end (λ t d. b t d end (λ u e. c u (done_keyed keys r pc1 pc2 s t u key x d e)))
 
   -- keys, and what goes on with them
-  pub keys_both : (slots : Slots) (keys : Typeds) (r : ℕ) (pl : Place) (g h : Maker) (s : Frame) (vars : Variables) (z : Outcome (List KeyPart)) (k : List KeyPart → Variables → Outcome Value) → Ends slots (λ key. Unit {0}) z → Stands o pl (both g h pl)
+  pub keys_both : (slots : Slots) (keys : Typeds) (r : ℕ) (pl : Place) (g h : Maker) (s : Frame) (vars : Variables) (z : Outcome (List KeyPart)) (k : List KeyPart → Variables → Outcome Value) → EndsTyped slots (λ key. Unit {0}) z → Stands o pl (both g h pl)
       → (Stands o pl (g pl) → KeysLead keys r (pl.at + length (g pl).code) s vars z)
       → ((pl1 : Place) → Stands o pl1 (h pl1) → (key : List KeyPart) (vars1 : Variables) (t : Frame) → AreTyped slots vars1 → Keyed keys r pl1.at s t key → Leads o f r (pl1.at + length (h pl1).code) t vars1 (k key vars1))
       → Leads o f r (pl.at + length (both g h pl).code) s vars (with z k)
   keys_both slots keys r pl g h s vars z k typed stands a b = by z typed (a (stands_front o pl (g pl) (h (behind pl (g pl))) stands))
     where
-      by : (y : Outcome (List KeyPart)) → Ends slots (λ key. Unit {0}) y → KeysLead keys r (pl.at + length (g pl).code) s vars y → Leads o f r (pl.at + length (both g h pl).code) s vars (with y k)
+      by : (y : Outcome (List KeyPart)) → EndsTyped slots (λ key. Unit {0}) y → KeysLead keys r (pl.at + length (g pl).code) s vars y → Leads o f r (pl.at + length (both g h pl).code) s vars (with y k)
       by (Faults w) is l = l
       by (Has key w) is l =
           let p = g pl in
@@ -135,34 +135,34 @@ module _ (o : Object) (f : Firing) where
       let v = there.0 in
       let p = part_of v in
       let s1 = with_tuple s (s.tuple ++ p ∷ []) in
-      let pl1 = behind pl (one (push_of (type_of a) (register r)) pl) in
+      let pl1 = behind pl (one_instr (push_of (type_of a) (register r)) pl) in
       let n : s.pc + 1 ≡ pl1.at = omega arith in
       let size : length s.tuple < 8 = let l = ap length tup in omega arith in
       let grown : length (done ++ p ∷ []) + count rest ≤ 8 = omega (arith, length-append done (p ∷ [])) in
       let len : pl1.at + length (pushing rest (r + 1) pl1).code ≡ pl.at + length (pushing (more a rest) r pl).code = omega arith in
       goes s1 vars (step o f s vars pl.at (push_of (type_of a) (register r)) e stands.code.0 ∙ push_is (type_of a) v r s vars there.3 (omega arith) there.2 size)
-      (pushes_on rest (r + 1) pl1 s1 vars there.1 (done ++ p ∷ []) (omega arith) grown there.5 (ap (λ l. l ++ p ∷ []) tup) n (stands_back o pl (one (push_of (type_of a) (register r)) pl) (pushing rest (r + 1) pl1) stands) last
+      (pushes_on rest (r + 1) pl1 s1 vars there.1 (done ++ p ∷ []) (omega arith) grown there.5 (ap (λ l. l ++ p ∷ []) tup) n (stands_back o pl (one_instr (push_of (type_of a) (register r)) pl) (pushing rest (r + 1) pl1) stands) last
       (λ t at same tuple. c t (at ∙ len) same (tuple ∙ append_assoc done (p ∷ []) there.1 ∙ ap (λ k. done ++ k) (sym there.4))))
 
   -- ---- what is read
 
   pub fetching_leads : (w : Space) (keys : Typeds) (slot : ℕ) (t : DType) (r q : ℕ) (pl : Place) (s : Frame) (vars : Variables) (key : List KeyPart) → Usable q → Ready s → r + count keys ≤ 8 → count keys ≤ 8 → AreThere keys r s.registers key
-      → IsOf t (value_in w vars (record { slot = slot; kind = kind_of t }) key) → s.pc ≡ pl.at → Stands o pl (fetching w keys (record { slot = slot; kind = kind_of t }) r (register q) pl)
-      → Leads o f q (pl.at + length (fetching w keys (record { slot = slot; kind = kind_of t }) r (register q) pl).code) s vars (Has (value_in w vars (record { slot = slot; kind = kind_of t }) key) vars)
+      → IsOf t (value_in_space w vars (record { slot = slot; kind = kind_of_type t }) key) → s.pc ≡ pl.at → Stands o pl (fetching w keys (record { slot = slot; kind = kind_of_type t }) r (register q) pl)
+      → Leads o f q (pl.at + length (fetching w keys (record { slot = slot; kind = kind_of_type t }) r (register q) pl).code) s vars (Has (value_in_space w vars (record { slot = slot; kind = kind_of_type t }) key) vars)
   fetching_leads sp.Clause keys slot t r q pl s vars key u ready few short there is e stands = put_leads o f q pl.at _ s vars vars _ u ready.long e stands.code.0 (loads sp.Clause slot t (register q) o f s vars is)
   fetching_leads sp.Thread end slot t r q pl s vars key u ready few short there is e stands =
-      let x : Var = record { slot = slot; kind = kind_of t } in
+      let x : Var = record { slot = slot; kind = kind_of_type t } in
       subst (λ k. Leads o f q (pl.at + 1) s vars (Has (vars.own x k) vars)) (sym there)
       (put_leads o f q pl.at _ s vars vars _ u ready.long e stands.code.0 (loads sp.Thread slot t (register q) o f s vars (subst (λ k. IsOf t (vars.own x k)) there is)))
   fetching_leads sp.Thread (more k ks) slot t r q pl s vars key u ready few short there is e stands =
-      let x : Var = record { slot = slot; kind = kind_of t } in
+      let x : Var = record { slot = slot; kind = kind_of_type t } in
       let v = vars.own x key in
       let p = pushing (more k ks) r pl in
       let i = Ldtaa x (register q) in
       let pl1 = behind pl p in
-      let after = stands_back o pl p (both (one i) (one Flushts) pl1) stands in
+      let after = stands_back o pl p (both (one_instr i) (one_instr Flushts) pl1) stands in
       let size : pl1.at + 2 ≡ pl.at + length (element_code (more k ks) r i pl).code = omega (arith, length-append p.code (i ∷ Flushts ∷ [])) in
-      λ last c. pushes_on (more k ks) r pl s vars key [] few (omega arith) there ready.empty e (stands_front o pl p (both (one i) (one Flushts) pl1) stands) last
+      λ last c. pushes_on (more k ks) r pl s vars key [] few (omega arith) there ready.empty e (stands_front o pl p (both (one_instr i) (one_instr Flushts) pl1) stands) last
       (λ t1 place same tup.
       let t2 = with_value t1 (register q) v in
       let t3 = with_tuple t2 [] in
@@ -171,8 +171,8 @@ module _ (o : Object) (f : Firing) where
       let n2 : t1.pc + 1 + 1 ≡ pl.at + length (element_code (more k ks) r i pl).code = omega arith in
       let d = done_value t1 q v u long in
       let read : st.act i o f t1 vars ≡ st.puts t1 (register q) v vars =
-      ap (λ l. st.on_key l (st.puts t1 (register q) (machine.own_in vars x l) vars)) tup
-      ∙ on_key_is key there.1 (part_of there.0) (st.puts t1 (register q) (machine.own_in vars x key) vars) there.4
+      ap (λ l. st.on_key l (st.puts t1 (register q) (machine.own_value vars x l) vars)) tup
+      ∙ on_key_is key there.1 (part_of there.0) (st.puts t1 (register q) (machine.own_value vars x key) vars) there.4
       ∙ ap (λ v. st.puts t1 (register q) v vars) (kept_kind t v is) in
       goes t2 vars (step o f t1 vars pl1.at i place after.code.0 ∙ read)
       (goes t3 vars (step o f t2 vars (pl1.at + 1) Flushts n1 after.code.1.0)
@@ -181,32 +181,32 @@ module _ (o : Object) (f : Firing) where
   -- ---- what is changed
 
   pub saving_leads : (w : Space) (keys : Typeds) (slot : ℕ) (t : DType) (r q : ℕ) (pl : Place) (s : Frame) (vars : Variables) (key : List KeyPart) (v : Value) → q ≤ 7 → Ready s → r + count keys ≤ 8 → count keys ≤ 8 → AreThere keys r s.registers key
-      → slice_index_or s.registers q None ≡ Some v → IsOf t v → s.pc ≡ pl.at → Stands o pl (saving w keys (record { slot = slot; kind = kind_of t }) r (register q) pl)
-      → Leads o f q (pl.at + length (saving w keys (record { slot = slot; kind = kind_of t }) r (register q) pl).code) s vars (Has v (set_in w vars (record { slot = slot; kind = kind_of t }) key (storage.as_kind (kind_of t) v)))
+      → slice_index_or s.registers q None ≡ Some v → IsOf t v → s.pc ≡ pl.at → Stands o pl (saving w keys (record { slot = slot; kind = kind_of_type t }) r (register q) pl)
+      → Leads o f q (pl.at + length (saving w keys (record { slot = slot; kind = kind_of_type t }) r (register q) pl).code) s vars (Has v (set_in w vars (record { slot = slot; kind = kind_of_type t }) key (storage.as_kind (kind_of_type t) v)))
   saving_leads sp.Clause keys slot t r q pl s vars key v le ready few short there val is e stands =
       keep_leads o f q pl.at v s vars _ _ ready.long e stands.code.0 val (stores sp.Clause slot t (register q) o f s vars v is (at_is s.registers q le ∙ val))
   saving_leads sp.Thread end slot t r q pl s vars key v le ready few short there val is e stands =
-      let x : Var = record { slot = slot; kind = kind_of t } in
-      subst (λ k. Leads o f q (pl.at + 1) s vars (Has v (set_in sp.Thread vars x k (storage.as_kind (kind_of t) v)))) (sym there)
+      let x : Var = record { slot = slot; kind = kind_of_type t } in
+      subst (λ k. Leads o f q (pl.at + 1) s vars (Has v (set_in sp.Thread vars x k (storage.as_kind (kind_of_type t) v)))) (sym there)
       (keep_leads o f q pl.at v s vars _ _ ready.long e stands.code.0 val (stores sp.Thread slot t (register q) o f s vars v is (at_is s.registers q le ∙ val)))
   saving_leads sp.Thread (more k ks) slot t r q pl s vars key v le ready few short there val is e stands =
-      let x : Var = record { slot = slot; kind = kind_of t } in
+      let x : Var = record { slot = slot; kind = kind_of_type t } in
       let p = pushing (more k ks) r pl in
       let i = Sttaa x (register q) in
       let pl1 = behind pl p in
-      let new = set_in sp.Thread vars x key (storage.as_kind (kind_of t) v) in
-      let after = stands_back o pl p (both (one i) (one Flushts) pl1) stands in
+      let new = set_in sp.Thread vars x key (storage.as_kind (kind_of_type t) v) in
+      let after = stands_back o pl p (both (one_instr i) (one_instr Flushts) pl1) stands in
       let size : pl1.at + 2 ≡ pl.at + length (element_code (more k ks) r i pl).code = omega (arith, length-append p.code (i ∷ Flushts ∷ [])) in
-      λ last c. pushes_on (more k ks) r pl s vars key [] few (omega arith) there ready.empty e (stands_front o pl p (both (one i) (one Flushts) pl1) stands) last
+      λ last c. pushes_on (more k ks) r pl s vars key [] few (omega arith) there ready.empty e (stands_front o pl p (both (one_instr i) (one_instr Flushts) pl1) stands) last
       (λ t1 place same tup.
       let t2 = at_place t1 (t1.pc + 1) in
       let t3 = with_tuple t2 [] in
       let n1 : t1.pc + 1 ≡ pl1.at + 1 = omega arith in
       let n2 : t1.pc + 1 + 1 ≡ pl.at + length (element_code (more k ks) r i pl).code = omega arith in
       let wrote : st.act i o f t1 vars ≡ st.Goes t2 new =
-      ap (λ l. st.on_key l (st.on_kind (kind_of t) (at t1.registers (register q)) (st.store_own t1 vars x l))) tup
-      ∙ on_key_is key there.1 (part_of there.0) (st.on_kind (kind_of t) (at t1.registers (register q)) (st.store_own t1 vars x key)) there.4
-      ∙ ap (λ y. st.on_kind (kind_of t) y (st.store_own t1 vars x key)) (at_is t1.registers q le ∙ ap (λ xs. slice_index_or xs q None) same ∙ val)
+      ap (λ l. st.on_key l (st.on_kind (kind_of_type t) (at t1.registers (register q)) (st.store_own t1 vars x l))) tup
+      ∙ on_key_is key there.1 (part_of there.0) (st.on_kind (kind_of_type t) (at t1.registers (register q)) (st.store_own t1 vars x key)) there.4
+      ∙ ap (λ y. st.on_kind (kind_of_type t) y (st.store_own t1 vars x key)) (at_is t1.registers q le ∙ ap (λ xs. slice_index_or xs q None) same ∙ val)
       ∙ on_kind_is t v (st.store_own t1 vars x key) is
       ∙ ap (λ y. st.store_own t1 vars x key y) (sym (stored_kind t v is)) in
       goes t2 new (step o f t1 vars pl1.at i place after.code.0 ∙ wrote)

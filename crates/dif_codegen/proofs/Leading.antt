@@ -11,8 +11,9 @@ use Rattle.d_values.specs.declared.int_type.DType.TheVariants as ty
 use Rattle.d_values.specs.declared.value.Value.{Value}
 use Rattle.d_values.specs.declared.value.Value.TheVariants.{Int, Text}
 use Rattle.firing_reader.specs.declared.firing.Firing.{Firing}
-use Rattle.d_types.specs.Expressions.{Outcome, Has, Faults, with, number, text, word_or_fault}
-use Rattle.d_types.specs.Held.{IsOf, IsWord, Slots, AreTyped, Ends}
+use Rattle.d_types.specs.Expressions.{Outcome, Has, Faults, with, number_outcome, text_outcome}
+use Rattle.d_types.specs.Expressions.{word_or_fault}
+use Rattle.d_types.specs.Held.{IsOf, IsWord, Slots, AreTyped, EndsTyped}
 use Rattle.d_types.specs.Storage.{Variables}
 use Rattle.dif_validate.specs.declared.instruction.Condition.{Condition}
 use Rattle.dif_validate.specs.declared.instruction.Instr.{Instr}
@@ -30,7 +31,7 @@ use Rattle.d_types.specs.Storage as storage
 use Rattle.dif_machine.specs.Steps as st
 use Rattle.dif_codegen.specs.Code.{register}
 use Rattle.dif_codegen.specs.Pieces as pieces
-use Rattle.dif_codegen.specs.Pieces.{Piece, Place, Maker, sequence, behind, both, fork, choice}
+use Rattle.dif_codegen.specs.Pieces.{Piece, Place, Maker, sequence, behind, both, fork, choice_code}
 use Rattle.dif_codegen.specs.Pieces.{bit_by, next}
 use Rattle.dif_codegen.proofs.Standing.{has_front, has_back, Stands, stands_front, stands_back}
 use Rattle.dif_codegen.proofs.Standing.{put_is}
@@ -148,16 +149,16 @@ module _ (o : Object) (f : Firing) where
           (λ t d. ends_at r (pl1.at + length q.code) _ t w (k x w) e (b pl1 (stands_back o pl p q stands) x w t is d))
 
   -- of which the second goes on with the first one's number
-  pub both_number : (slots : Slots) (r r1 : ℕ) (pl : Place) (g h : Maker) (s : Frame) (vars : Variables) (u : DType) (it : IntType) (z : Outcome Value) (k : ℕ → Variables → Outcome Value) → r ≤ r1 → u ≡ ty.Int it → Ends slots (IsOf u) z → Stands o pl (both g h pl)
+  pub both_number : (slots : Slots) (r r1 : ℕ) (pl : Place) (g h : Maker) (s : Frame) (vars : Variables) (u : DType) (it : IntType) (z : Outcome Value) (k : ℕ → Variables → Outcome Value) → r ≤ r1 → u ≡ ty.Int it → EndsTyped slots (IsOf u) z → Stands o pl (both g h pl)
       → (Stands o pl (g pl) → Leads r1 (pl.at + length (g pl).code) s vars z)
       → ((pl1 : Place) → Stands o pl1 (h pl1) → (x : ℕ) (vars1 : Variables) (t : Frame) → IsWord it x → AreTyped slots vars1 → Done r1 pl1.at s t (Int x) → Leads r (pl1.at + length (h pl1).code) t vars1 (k x vars1))
-      → Leads r (pl.at + length (both g h pl).code) s vars (with (number z) k)
+      → Leads r (pl.at + length (both g h pl).code) s vars (with (number_outcome z) k)
   both_number slots r r1 pl g h s vars u it z k le same typed stands a b =
       subst (Leads r (pl.at + length (both g h pl).code) s vars) (sym (numbered z))
       (both_leads r r1 pl g h s vars z (λ v. k (storage.word_of v)) le stands a
-      (λ pl1 st1 v vars1 t is d. on v vars1 pl1 st1 t (subst (λ y. Ends slots (IsOf (ty.Int it)) y) is (subst (λ w. Ends slots (IsOf w) z) same typed)) d))
+      (λ pl1 st1 v vars1 t is d. on v vars1 pl1 st1 t (subst (λ y. EndsTyped slots (IsOf (ty.Int it)) y) is (subst (λ w. EndsTyped slots (IsOf w) z) same typed)) d))
     where
-      numbered : (z : Outcome Value) → with (number z) k ≡ with z (λ v. k (storage.word_of v))
+      numbered : (z : Outcome Value) → with (number_outcome z) k ≡ with z (λ v. k (storage.word_of v))
       numbered (Has (Int x) w) = refl
       numbered (Has (Text bytes) w) = refl
       numbered (Faults w) = refl
@@ -167,16 +168,16 @@ module _ (o : Object) (f : Firing) where
       on (Text bytes) vars1 pl1 st1 t is d = absurd is.0
 
   -- or text
-  pub both_text : (slots : Slots) (r r1 : ℕ) (pl : Place) (g h : Maker) (s : Frame) (vars : Variables) (u : DType) (z : Outcome Value) (k : List ℕ → Variables → Outcome Value) → r ≤ r1 → u ≡ ty.Text → Ends slots (IsOf u) z → Stands o pl (both g h pl)
+  pub both_text : (slots : Slots) (r r1 : ℕ) (pl : Place) (g h : Maker) (s : Frame) (vars : Variables) (u : DType) (z : Outcome Value) (k : List ℕ → Variables → Outcome Value) → r ≤ r1 → u ≡ ty.Text → EndsTyped slots (IsOf u) z → Stands o pl (both g h pl)
       → (Stands o pl (g pl) → Leads r1 (pl.at + length (g pl).code) s vars z)
       → ((pl1 : Place) → Stands o pl1 (h pl1) → (x : List ℕ) (vars1 : Variables) (t : Frame) → AreTyped slots vars1 → Done r1 pl1.at s t (Text x) → Leads r (pl1.at + length (h pl1).code) t vars1 (k x vars1))
-      → Leads r (pl.at + length (both g h pl).code) s vars (with (text z) k)
+      → Leads r (pl.at + length (both g h pl).code) s vars (with (text_outcome z) k)
   both_text slots r r1 pl g h s vars u z k le same typed stands a b =
       subst (Leads r (pl.at + length (both g h pl).code) s vars) (sym (spelled z))
       (both_leads r r1 pl g h s vars z (λ v. k (storage.bytes_of v)) le stands a
-      (λ pl1 st1 v vars1 t is d. on v vars1 pl1 st1 t (subst (λ y. Ends slots (IsOf ty.Text) y) is (subst (λ w. Ends slots (IsOf w) z) same typed)) d))
+      (λ pl1 st1 v vars1 t is d. on v vars1 pl1 st1 t (subst (λ y. EndsTyped slots (IsOf ty.Text) y) is (subst (λ w. EndsTyped slots (IsOf w) z) same typed)) d))
     where
-      spelled : (z : Outcome Value) → with (text z) k ≡ with z (λ v. k (storage.bytes_of v))
+      spelled : (z : Outcome Value) → with (text_outcome z) k ≡ with z (λ v. k (storage.bytes_of v))
       spelled (Has (Int x) w) = refl
       spelled (Has (Text bytes) w) = refl
       spelled (Faults w) = refl
@@ -236,17 +237,17 @@ module _ (o : Object) (f : Firing) where
       (jump_leads r (pl1.at + length p.code) end t vars a back.0 (la pl1 stp t there refl refl)))
 
   -- after a test
-  pub choice_leads : (r : ℕ) (pl : Place) (test : Instr) (condition : Condition) (g h : Maker) (s : Frame) (vars : Variables) (known : Comparison) (a b : Outcome Value) (way : Bool) → s.pc ≡ pl.at → Stands o pl (choice test condition g h pl)
+  pub choice_leads : (r : ℕ) (pl : Place) (test : Instr) (condition : Condition) (g h : Maker) (s : Frame) (vars : Variables) (known : Comparison) (a b : Outcome Value) (way : Bool) → s.pc ≡ pl.at → Stands o pl (choice_code test condition g h pl)
       → st.act test o f s vars ≡ st.Goes (with_comparison s known) vars → holds condition known ≡ way
       → ((pl1 : Place) → Stands o pl1 (g pl1) → (t : Frame) → t.pc ≡ pl1.at → t.registers ≡ s.registers → t.tuple ≡ s.tuple → Leads r (pl1.at + length (g pl1).code) t vars a)
       → ((pl1 : Place) → Stands o pl1 (h pl1) → (t : Frame) → t.pc ≡ pl1.at → t.registers ≡ s.registers → t.tuple ≡ s.tuple → Leads r (pl1.at + length (h pl1).code) t vars b)
-      → Leads r (pl.at + length (choice test condition g h pl).code) s vars (cond way b a)
+      → Leads r (pl.at + length (choice_code test condition g h pl).code) s vars (cond way b a)
   choice_leads r pl test condition g h s vars known a b way e stands op is la lb =
       let t = with_comparison s known in
-      let p : Piece = pieces.one test pl in
+      let p : Piece = pieces.one_instr test pl in
       let pl1 = behind pl p in
       let there : s.pc + 1 ≡ pl1.at = omega arith in
-      let last : pl1.at + length (fork condition g h pl1).code ≡ pl.at + length (choice test condition g h pl).code = omega arith in
+      let last : pl1.at + length (fork condition g h pl1).code ≡ pl.at + length (choice_code test condition g h pl).code = omega arith in
       ends_at r _ _ s vars (cond way b a) last
       (before_leads r (pl1.at + length (fork condition g h pl1).code) s t vars (cond way b a) refl refl
       (λ x w. goes t vars (step s vars pl.at test e stands.code.0 ∙ op) w)

@@ -8,7 +8,7 @@ use Rattle.d_types.specs.declared.typed.TypedAggregation.{TypedAggregation}
 use Rattle.d_types.specs.declared.typed.TypedClause.{TypedClause}
 use Rattle.d_types.specs.declared.typed.TypedExpr.{TypedExpr}
 use Rattle.firing_reader.specs.declared.firing.Firing.{Firing}
-use Rattle.d_types.specs.Fitting.{Fits}
+use Rattle.d_types.specs.Fitting.{FitsRegisters}
 use Rattle.d_types.specs.Held.{AreTyped, HasTypedBuiltIns, IsConsistent, Slots, slots_of}
 use Rattle.d_types.specs.Storage.{Variables}
 use Rattle.d_types.specs.Typed.{Action, Aggregate, ClauseMeant, Evaluate, Exit, Print, Trace, Typed}
@@ -27,9 +27,9 @@ use Rattle.dif_validate.specs.Objects as objects
 use Rattle.dif_validate.specs.Objects.{Object}
 use Rattle.dif_codegen.specs.declared.program.CompiledClause.{CompiledClause}
 use Rattle.dif_codegen.specs.declared.program.TypedObject.{TypedObject}
-use Rattle.dif_codegen.specs.Code.{object_of}
+use Rattle.dif_codegen.specs.Code.{object_code}
 use Rattle.dif_codegen.specs.Correct.{AreObjectsOf, IsActionOf, IsObjectOf, IsOptionalObjectOf}
-use Rattle.dif_codegen.specs.Meaning.{Does, IsProgramOf, run_code}
+use Rattle.dif_codegen.specs.Meaning.{IsSameClause, IsProgramOf, run_code}
 use Rattle.dif_codegen.specs.Programs.{ClauseCode, compiled_objects, clause_code, compiled_object}
 use Rattle.dif_codegen.specs.Programs.{compiled_action, compiled_clause, optional_object}
 use Rattle.dif_codegen.proofs.Adding.{IsObject}
@@ -49,34 +49,34 @@ map-append g (x ∷ xs) ys = ap (λ l. g x ∷ l) (map-append g xs ys)
 -- ---- what stands in place of expressions
 
 module _ (slots : Slots) where
-  is_object : (e : Typed) → IsConsistent slots e → Fits e → IsObjectOf slots (compiled_object e) e
+  is_object : (e : Typed) → IsConsistent slots e → FitsRegisters e → IsObjectOf slots (compiled_object e) e
   is_object e is few = record {
     valid = is_returning slots e is few (compiled_object e).object refl refl refl;
     returns = refl;
     computes = computes slots e is few (compiled_object e).object refl refl refl;
   }
 
-  are_objects : (es : Typeds) → EachIs (IsConsistent slots) es → EachIs Fits es → AreObjectsOf slots (compiled_objects es) es
+  are_objects : (es : Typeds) → EachIs (IsConsistent slots) es → EachIs FitsRegisters es → AreObjectsOf slots (compiled_objects es) es
   are_objects end is few = tt
   are_objects (more e es) is few = (is_object e is.0 few.0, are_objects es is.1 few.1)
 
-  is_optional : (e : Option Typed) → AnyIs (IsConsistent slots) e → AnyIs Fits e → IsOptionalObjectOf slots (optional_object e) e
+  is_optional : (e : Option Typed) → AnyIs (IsConsistent slots) e → AnyIs FitsRegisters e → IsOptionalObjectOf slots (optional_object e) e
   is_optional None is few = tt
   is_optional (Some e) is few = is_object e is few
 
-  is_action : (a : Action) → ActionIs (IsConsistent slots) a → ActionIs Fits a → IsActionOf slots (compiled_action a) a
+  is_action : (a : Action) → ActionIs (IsConsistent slots) a → ActionIs FitsRegisters a → IsActionOf slots (compiled_action a) a
   is_action (Evaluate e) is few = is_object e is few
   is_action (Trace e) is few = is_object e is few
   is_action (Print format es) is few = (refl, are_objects es is few)
   is_action (Exit e) is few = is_object e is few
   is_action (Aggregate place es e) is few = (refl, are_objects es is.0 few.0, is_optional e is.1 few.1)
 
-  are_actions : (all : List Action) → ActionsAre (IsConsistent slots) all → ActionsAre Fits all → AllZip (IsActionOf slots) (map compiled_action all) all
+  are_actions : (all : List Action) → ActionsAre (IsConsistent slots) all → ActionsAre FitsRegisters all → AllZip (IsActionOf slots) (map compiled_action all) all
   are_actions [] is few = tt
   are_actions (a ∷ rest) is few = (is_action a is.0 few.0, are_actions rest is.1 few.1)
 
 -- a clause that was compiled does what it means
-does : (slots : Slots) (c : CompiledClause) (m : ClauseMeant) → ClauseIs (IsConsistent slots) m → ClauseIs Fits m → clause_code c ≡ compiled_clause m → Does slots c m
+does : (slots : Slots) (c : CompiledClause) (m : ClauseMeant) → ClauseIs (IsConsistent slots) m → ClauseIs FitsRegisters m → clause_code c ≡ compiled_clause m → IsSameClause slots c m
 does slots c m is few same =
     let runs = λ (f : Firing) (place : ℕ) (vars : Variables) (fit : HasTypedBuiltIns f) (good : AreTyped slots vars).
     ap (λ c. run_code f place c vars) same ∙ run_same slots f fit place m vars is few good in
@@ -88,8 +88,8 @@ does slots c m is few same =
       typed = λ f place vars fit good. subst (λ made. AreTyped slots made.variables) (sym (runs f place vars fit good)) (run_kept slots f fit place m vars is good);
     }
 
-pub all_do : (slots : Slots) (cs : List CompiledClause) (ms : List ClauseMeant) → ClausesAre (IsConsistent slots) ms → ClausesAre Fits ms
-    → map clause_code cs ≡ map compiled_clause ms → AllZip (Does slots) cs ms
+pub all_do : (slots : Slots) (cs : List CompiledClause) (ms : List ClauseMeant) → ClausesAre (IsConsistent slots) ms → ClausesAre FitsRegisters ms
+    → map clause_code cs ≡ map compiled_clause ms → AllZip (IsSameClause slots) cs ms
 all_do slots [] [] is few same = tt
 all_do slots [] (m ∷ ms) is few same = cc
 all_do slots (c ∷ cs) [] is few same = cc
@@ -109,8 +109,8 @@ same_object e d o t h is same =
     let made : o ≡ (compiled_object e).object =
     is
     ∙ ap (λ (l : List Instr). record { code = l; texts = d.texts.items; numbers = d.numbers.items }) h.code
-    ∙ ap (λ (l : List (List ℕ)). record { code = (object_of e).code; texts = l; numbers = d.numbers.items }) h.texts
-    ∙ ap (λ (l : List ℕ). record { code = (object_of e).code; texts = (object_of e).texts; numbers = l }) h.numbers in
+    ∙ ap (λ (l : List (List ℕ)). record { code = (object_code e).code; texts = l; numbers = d.numbers.items }) h.texts
+    ∙ ap (λ (l : List ℕ). record { code = (object_code e).code; texts = (object_code e).texts; numbers = l }) h.numbers in
     ap (λ (o : Object). record { object = o; returns = t }) made ∙ ap (λ (t : DType). record { object = (compiled_object e).object; returns = t }) same
 
 -- ---- one after the other

@@ -37,8 +37,8 @@ use Rattle.d_types.specs.Held.{IsOf, IsWord}
 use Rattle.d_types.specs.Expressions.{step_result}
 use Rattle.d_types.proofs.ValueTypes.{narrow_leaves}
 use Rattle.d_types.specs.Storage as storage
-use Rattle.d_types.specs.Storage.{Variables, value_in, set_in}
-use Rattle.d_types.specs.Variables.{kind_of}
+use Rattle.d_types.specs.Storage.{Variables, value_in_space, set_in}
+use Rattle.d_types.specs.Variables.{kind_of_type}
 use Rattle.dif_validate.specs.declared.instruction.Condition.TheVariants.{Equal, NotEqual}
 use Rattle.dif_validate.specs.declared.register.Reg.{Reg}
 use Rattle.dif_validate.specs.Objects.{Object}
@@ -240,39 +240,39 @@ argument_is (x ∷ xs) (suc n) = argument_is xs n
 
 -- ---- variables
 
-pub kept_kind : (t : DType) (v : Value) → IsOf t v → storage.as_kind (kind_of t) v ≡ v
+pub kept_kind : (t : DType) (v : Value) → IsOf t v → storage.as_kind (kind_of_type t) v ≡ v
 kept_kind (ty.Int t) (Int word) is = refl
 kept_kind (ty.Int t) (Text bytes) is = absurd is
 kept_kind ty.Text (Int word) is = absurd is
 kept_kind ty.Text (Text bytes) is = refl
 
-pub stored_kind : (t : DType) (v : Value) → IsOf t v → storage.as_kind (kind_of t) v ≡ v
+pub stored_kind : (t : DType) (v : Value) → IsOf t v → storage.as_kind (kind_of_type t) v ≡ v
 stored_kind (ty.Int t) (Int word) is = refl
 stored_kind (ty.Int t) (Text bytes) is = absurd is
 stored_kind ty.Text (Int word) is = absurd is
 stored_kind ty.Text (Text bytes) is = refl
 
-pub on_kind_is : (t : DType) (v : Value) (go : Value → st.Next) → IsOf t v → st.on_kind (kind_of t) (Some v) go ≡ go v
+pub on_kind_is : (t : DType) (v : Value) (go : Value → st.Next) → IsOf t v → st.on_kind (kind_of_type t) (Some v) go ≡ go v
 on_kind_is (ty.Int t) (Int word) go is = refl
 on_kind_is (ty.Int t) (Text bytes) go is = absurd is
 on_kind_is ty.Text (Int word) go is = absurd is
 on_kind_is ty.Text (Text bytes) go is = refl
 
-pub loads : (w : Space) (slot : ℕ) (t : DType) (d : Reg) (o : Object) (f : Firing) (s : Frame) (vars : Variables) → IsOf t (value_in w vars (record { slot = slot; kind = kind_of t }) [])
-    → st.act (load_from w (record { slot = slot; kind = kind_of t }) d) o f s vars ≡ st.puts s d (value_in w vars (record { slot = slot; kind = kind_of t }) []) vars
+pub loads : (w : Space) (slot : ℕ) (t : DType) (d : Reg) (o : Object) (f : Firing) (s : Frame) (vars : Variables) → IsOf t (value_in_space w vars (record { slot = slot; kind = kind_of_type t }) [])
+    → st.act (load_from w (record { slot = slot; kind = kind_of_type t }) d) o f s vars ≡ st.puts s d (value_in_space w vars (record { slot = slot; kind = kind_of_type t }) []) vars
 loads sp.Thread slot t d o f s vars is = ap (λ v. st.puts s d v vars) (kept_kind t _ is)
 loads sp.Clause slot t d o f s vars is = ap (λ v. st.puts s d v vars) (kept_kind t _ is)
 
 pub stores : (w : Space) (slot : ℕ) (t : DType) (a : Reg) (o : Object) (f : Firing) (s : Frame) (vars : Variables) (v : Value) → IsOf t v → at s.registers a ≡ Some v
-    → st.act (store_to w (record { slot = slot; kind = kind_of t }) a) o f s vars ≡ st.Goes (at_place s (s.pc + 1)) (set_in w vars (record { slot = slot; kind = kind_of t }) [] (storage.as_kind (kind_of t) v))
+    → st.act (store_to w (record { slot = slot; kind = kind_of_type t }) a) o f s vars ≡ st.Goes (at_place s (s.pc + 1)) (set_in w vars (record { slot = slot; kind = kind_of_type t }) [] (storage.as_kind (kind_of_type t) v))
 stores sp.Thread slot t a o f s vars v is has =
-    ap (λ x. st.on_kind (kind_of t) x (st.store_own s vars (record { slot = slot; kind = kind_of t }) [])) has
-    ∙ on_kind_is t v (st.store_own s vars (record { slot = slot; kind = kind_of t }) []) is
-    ∙ ap (λ x. st.store_own s vars (record { slot = slot; kind = kind_of t }) [] x) (sym (stored_kind t v is))
+    ap (λ x. st.on_kind (kind_of_type t) x (st.store_own s vars (record { slot = slot; kind = kind_of_type t }) [])) has
+    ∙ on_kind_is t v (st.store_own s vars (record { slot = slot; kind = kind_of_type t }) []) is
+    ∙ ap (λ x. st.store_own s vars (record { slot = slot; kind = kind_of_type t }) [] x) (sym (stored_kind t v is))
 stores sp.Clause slot t a o f s vars v is has =
-    ap (λ x. st.on_kind (kind_of t) x (st.store_local s vars (record { slot = slot; kind = kind_of t }))) has
-    ∙ on_kind_is t v (st.store_local s vars (record { slot = slot; kind = kind_of t })) is
-    ∙ ap (λ x. st.store_local s vars (record { slot = slot; kind = kind_of t }) x) (sym (stored_kind t v is))
+    ap (λ x. st.on_kind (kind_of_type t) x (st.store_local s vars (record { slot = slot; kind = kind_of_type t }))) has
+    ∙ on_kind_is t v (st.store_local s vars (record { slot = slot; kind = kind_of_type t })) is
+    ∙ ap (λ x. st.store_local s vars (record { slot = slot; kind = kind_of_type t }) x) (sym (stored_kind t v is))
 
 -- ---- steps by one
 

@@ -28,15 +28,18 @@ use Rattle.d_types.specs.declared.typed.LogicOperator.TheVariants as lo
 use Rattle.d_types.specs.declared.typed.Operation.{Operation}
 use Rattle.d_types.specs.declared.typed.Operation.TheVariants as op
 use Rattle.d_types.specs.declared.typed.Variable.{Variable}
-use Rattle.d_types.specs.Expressions.{Outcome, Has, Faults, with, number, text, integer}
+use Rattle.d_types.specs.Expressions.{Outcome, Has, Faults, with, number_outcome, text_outcome}
+use Rattle.d_types.specs.Expressions.{integer}
 use Rattle.d_types.specs.Expressions.{word_or_fault, operation_of, eval, truth, bit, inverse}
-use Rattle.d_types.specs.Expressions.{at_zero, unary_of, built_in_of, assignment_outcome}
+use Rattle.d_types.specs.Expressions.{at_zero, unary_of, built_in_value, assignment_outcome}
 use Rattle.d_types.specs.Expressions.{update_outcome, step_outcome, works_in, word_as_type}
 use Rattle.d_types.specs.Expressions.{step_result, step_value, keys_of}
-use Rattle.d_types.specs.Held.{IsOf, HasTypedBuiltIns, Slots, AreTyped, Ends, IsKnown, IsConsistent}
-use Rattle.d_types.specs.Held.{AreConsistent, IsSomeInteger, Takes}
+use Rattle.d_types.specs.Held.{IsOf, HasTypedBuiltIns, Slots, AreTyped, EndsTyped, IsKnown}
+use Rattle.d_types.specs.Held.{IsConsistent}
+use Rattle.d_types.specs.Held.{AreConsistent, IsSomeInteger, TakesOperands}
 use Rattle.d_types.specs.Needs.{need, need_of_keys, count}
-use Rattle.d_types.specs.Storage.{Variables, value_at, value_in, var_of, set, word_of}
+use Rattle.d_types.specs.Storage.{Variables, value_of_variable, value_in_space, var_of, set}
+use Rattle.d_types.specs.Storage.{word_of}
 use Rattle.d_types.specs.declared.typed.Space.{Space}
 use Rattle.d_types.specs.declared.typed.Space.TheVariants as sp
 use Rattle.d_types.specs.Typed.{Typed, Constant, Text, Fixed, Read, Unary, Operate, Compare}
@@ -59,11 +62,13 @@ use Rattle.dif_machine.specs.Operators.{result_of, comparison_of, text_compariso
 use Rattle.dif_machine.specs.Runs.{goes}
 use Rattle.dif_machine.specs.Steps as st
 use Rattle.dif_codegen.specs.Code.{register, operator_of, condition_of, shift_operator, masking}
-use Rattle.dif_codegen.specs.Code.{operate_on, differing, narrowing, unary, built_in, fetching}
+use Rattle.dif_codegen.specs.Code.{operate_on, differing, narrowing, unary_code, built_in_code}
+use Rattle.dif_codegen.specs.Code.{fetching}
 use Rattle.dif_codegen.specs.Code.{saving, lowering, holding, step_operator, opposite, stepping}
 use Rattle.dif_codegen.specs.Code.{answering, measuring, joining, code_of, keys_code}
 use Rattle.dif_codegen.specs.Pieces as pieces
-use Rattle.dif_codegen.specs.Pieces.{Piece, Place, Maker, one, both, choice, bit_by, behind}
+use Rattle.dif_codegen.specs.Pieces.{Piece, Place, Maker, one_instr, both, choice_code, bit_by}
+use Rattle.dif_codegen.specs.Pieces.{behind}
 use Rattle.dif_codegen.proofs.Leading.{Ready, Done, Usable, done_value, step, ready_on, same_ready}
 use Rattle.dif_codegen.proofs.Leading.{Leads, put_leads, none_leads, number_leads, text_leads}
 use Rattle.dif_codegen.proofs.Leading.{alu_leads, both_leads, both_number, both_text, choice_leads}
@@ -106,7 +111,7 @@ count_fits (more a rest) n m le h =
     let q = count_fits rest (n + 1) m (omega arith) (omega arith) in
     omega arith
 
-pub count_type : (o' : Operation) (u : DType) → Takes o' (ty.Int (works_in o')) u → IsSomeInteger u
+pub count_type : (o' : Operation) (u : DType) → TakesOperands o' (ty.Int (works_in o')) u → IsSomeInteger u
 count_type (op.Arithmetic o' t) u takes = (t, takes.1)
 count_type (op.Shift o' t) u takes = takes.1
 
@@ -153,15 +158,15 @@ module _ (o : Object) (f : Firing) where
       positive_leads r _ s vars x (bit_leads o f r pl (Tst (register r)) NotEqual s vars (comparison_of x 0) (is_positive x) u long e stands (tested r x s vars u.high val) (positive_holds x))
 
   -- a word of 64 bits, then brought to its type
-  word_leads : (t : IntType) (r : ℕ) (pl : Place) (i : Instr) (word z : ℕ) (s : Frame) (vars : Variables) → Usable r → r < 7 → length s.registers ≡ 8 → s.pc ≡ pl.at → word < 2 ^ 64 → narrow t word ≡ z → Stands o pl (both (one i) (narrowing t (register r)) pl)
-      → st.act i o f s vars ≡ st.puts s (register r) (va.Int word) vars → Leads o f r (pl.at + length (both (one i) (narrowing t (register r)) pl).code) s vars (Has (va.Int z) vars)
+  word_leads : (t : IntType) (r : ℕ) (pl : Place) (i : Instr) (word z : ℕ) (s : Frame) (vars : Variables) → Usable r → r < 7 → length s.registers ≡ 8 → s.pc ≡ pl.at → word < 2 ^ 64 → narrow t word ≡ z → Stands o pl (both (one_instr i) (narrowing t (register r)) pl)
+      → st.act i o f s vars ≡ st.puts s (register r) (va.Int word) vars → Leads o f r (pl.at + length (both (one_instr i) (narrowing t (register r)) pl).code) s vars (Has (va.Int z) vars)
   word_leads t r pl i word z s vars u lt long e small same stands is =
-      then_leads r r pl (one i) (narrowing t (register r)) s vars vars (va.Int word) (Has (va.Int z) vars) (omega arith) stands
+      then_leads r r pl (one_instr i) (narrowing t (register r)) s vars vars (va.Int word) (Has (va.Int z) vars) (omega arith) stands
       (λ st1. put_leads o f r pl.at (va.Int word) s vars vars i u long e st1.code.0 is)
       (λ pl1 st1 t1 d. subst (λ n. Leads o f r (pl1.at + length (narrowing t (register r) pl1).code) t1 vars (Has (va.Int n) vars)) same (narrow_leads o f t r pl1 word t1 vars u lt d.long d.at d.value small st1))
 
   unary_leads : (o' : UnaryOperator) (t : IntType) (r : ℕ) (pl : Place) (x : ℕ) (s : Frame) (vars : Variables) → Usable r → r < 7 → Ready s → s.pc ≡ pl.at → slice_index_or s.registers r None ≡ Some (va.Int x)
-      → Stands o pl (unary o' t (register r) pl) → Leads o f r (pl.at + length (unary o' t (register r) pl).code) s vars (Has (va.Int (unary_of o' t x)) vars)
+      → Stands o pl (unary_code o' t (register r) pl) → Leads o f r (pl.at + length (unary_code o' t (register r) pl).code) s vars (Has (va.Int (unary_of o' t x)) vars)
   unary_leads un.Not t r pl x s vars u lt ready e val stands =
       inverse_leads r _ s vars x (bit_leads o f r pl (Tst (register r)) Equal s vars (comparison_of x 0) (is_zero x) u ready.long e stands (tested r x s vars u.high val) (zero_holds x))
   unary_leads un.Complement t r pl x s vars u lt ready e val stands =
@@ -173,8 +178,8 @@ module _ (o : Object) (f : Firing) where
   unary_leads un.Keep t r pl x s vars u lt ready e val stands = none_leads o f r pl.at (va.Int x) s vars ready.long e val
 
   operator_leads : (a : ArithmeticOperator) (t : IntType) (r : ℕ) (pl : Place) (x y : ℕ) (s : Frame) (vars : Variables) → Usable r → r + 1 < 7 → length s.registers ≡ 8 → s.pc ≡ pl.at → slice_index_or s.registers r None ≡ Some (va.Int x) → slice_index_or s.registers (r + 1) None ≡ Some (va.Int y)
-      → Stands o pl (both (one (Alu (operator_of a t.signed) (register r) (register (r + 1)) (register r))) (narrowing t (register r)) pl)
-      → Leads o f r (pl.at + length (both (one (Alu (operator_of a t.signed) (register r) (register (r + 1)) (register r))) (narrowing t (register r)) pl).code) s vars (integer (word_or_fault (binary_of a t x y) vars))
+      → Stands o pl (both (one_instr (Alu (operator_of a t.signed) (register r) (register (r + 1)) (register r))) (narrowing t (register r)) pl)
+      → Leads o f r (pl.at + length (both (one_instr (Alu (operator_of a t.signed) (register r) (register (r + 1)) (register r))) (narrowing t (register r)) pl).code) s vars (integer (word_or_fault (binary_of a t x y) vars))
   operator_leads a t r pl x y s vars u lt long e vx vy stands = by (divides a && (y == 0)) (works a t x y).is
     where
       i : Instr
@@ -187,7 +192,7 @@ module _ (o : Object) (f : Firing) where
       at_r1 = at_is s.registers (r + 1) (omega arith) ∙ vy
 
       by : (none : Bool) → result_of (operator_of a t.signed) x y ≡ cond none (Err (record {})) (Ok (works a t x y).word)
-          → Leads o f r (pl.at + length (both (one i) (narrowing t (register r)) pl).code) s vars (integer (word_or_fault (cond none (Err (record {})) (Ok (narrow t (operate a t.signed x y)))) vars))
+          → Leads o f r (pl.at + length (both (one_instr i) (narrowing t (register r)) pl).code) s vars (integer (word_or_fault (cond none (Err (record {})) (Ok (narrow t (operate a t.signed x y)))) vars))
       by true is = alu_leads o f r pl.at x y (Err (record {})) (register r) (register (r + 1)) (operator_of a t.signed) s vars u long e stands.code.0 at_r at_r1 is
       by false is =
           word_leads t r pl i (works a t x y).word (narrow t (operate a t.signed x y)) s vars u (omega arith) long e (works a t x y).small (works a t x y).same stands
@@ -196,7 +201,7 @@ module _ (o : Object) (f : Firing) where
   masking_leads : (t : IntType) (r : ℕ) (pl : Place) (y : ℕ) (s : Frame) (vars : Variables) → Usable r → r < 7 → length s.registers ≡ 8 → s.pc ≡ pl.at → slice_index_or s.registers r None ≡ Some (va.Int y)
       → Stands o pl (masking t (register r) pl) → Leads o f r (pl.at + length (masking t (register r) pl).code) s vars (Has (va.Int (y % t.width)) vars)
   masking_leads t r pl y s vars u lt long e vy stands =
-      then_leads r 7 pl (pieces.number (t.width - 1) R7) (one (Alu And (register r) R7 (register r))) s vars vars (va.Int (t.width - 1)) (Has (va.Int (y % t.width)) vars) (omega arith) stands
+      then_leads r 7 pl (pieces.number (t.width - 1) R7) (one_instr (Alu And (register r) R7 (register r))) s vars vars (va.Int (t.width - 1)) (Has (va.Int (y % t.width)) vars) (omega arith) stands
       (λ st1. number_leads o f 7 pl (t.width - 1) s vars (record { low = omega arith; high = omega arith }) long e st1)
       (λ pl1 st1 t1 d. put_leads o f r pl1.at (va.Int (y % t.width)) t1 vars vars (Alu And (register r) R7 (register r)) u d.long d.at st1.code.0
       (rw (at_is t1.registers r u.high, d.kept r lt, vy, d.value) (ap (λ w. st.puts t1 (register r) (va.Int w) vars) (masked t.width y t.known))))
@@ -207,7 +212,7 @@ module _ (o : Object) (f : Firing) where
   operated_leads (op.Shift a t) r pl x y s vars u lt long e vx vy stands =
       let i = Alu (shift_operator a t.signed) (register r) (register (r + 1)) (register r) in
       let h = shifts_as a t x y in
-      then_leads r (r + 1) pl (masking t (register (r + 1))) (both (one i) (narrowing t (register r))) s vars vars (va.Int (y % t.width)) (Has (va.Int (shift_of a t x y)) vars) (omega arith) stands
+      then_leads r (r + 1) pl (masking t (register (r + 1))) (both (one_instr i) (narrowing t (register r))) s vars vars (va.Int (y % t.width)) (Has (va.Int (shift_of a t x y)) vars) (omega arith) stands
       (λ st1. masking_leads t (r + 1) pl y s vars (record { low = omega arith; high = omega arith }) lt long e vy st1)
       (λ pl1 st1 t1 d. word_leads t r pl1 i h.word (shift_of a t x y) t1 vars u (omega arith) d.long d.at h.small h.same st1
       (rw (at_is t1.registers r u.high, d.kept r (omega arith), vx, at_is t1.registers (r + 1) (omega arith), d.value, h.is) refl))
@@ -227,12 +232,12 @@ module _ (o : Object) (f : Firing) where
       (λ pl1 st1 t te tr tt'.
       positive_leads r _ t vars y (bit_leads o f r pl1 test NotEqual t vars (comparison_of y 0) (is_positive y) u (ap length tr ∙ long) te st1 (tested (r + 1) y t vars lt (ap (λ xs. slice_index_or xs (r + 1) None) tr ∙ vy)) (positive_holds y))))
 
-  built_in_leads : (b : BuiltIn) (r : ℕ) (pl : Place) (s : Frame) (vars : Variables) → Usable r → length s.registers ≡ 8 → s.pc ≡ pl.at → Stands o pl (built_in b (register r) pl)
-      → Leads o f r (pl.at + length (built_in b (register r) pl).code) s vars (Has (built_in_of f b) vars)
+  built_in_leads : (b : BuiltIn) (r : ℕ) (pl : Place) (s : Frame) (vars : Variables) → Usable r → length s.registers ≡ 8 → s.pc ≡ pl.at → Stands o pl (built_in_code b (register r) pl)
+      → Leads o f r (pl.at + length (built_in_code b (register r) pl).code) s vars (Has (built_in_value f b) vars)
   built_in_leads (bi.Argument n) r pl s vars u long e stands =
-      then_leads r r pl (pieces.number n (register r)) (one (Ldga 0 (register r) (register r))) s vars vars (va.Int n) (Has (built_in_of f (bi.Argument n)) vars) (omega arith) stands
+      then_leads r r pl (pieces.number n (register r)) (one_instr (Ldga 0 (register r) (register r))) s vars vars (va.Int n) (Has (built_in_value f (bi.Argument n)) vars) (omega arith) stands
       (λ st1. number_leads o f r pl n s vars u long e st1)
-      (λ pl1 st1 t d. put_leads o f r pl1.at (built_in_of f (bi.Argument n)) t vars vars _ u d.long d.at st1.code.0 (rw (at_is t.registers r u.high, d.value) (ap (λ w. st.puts t (register r) (va.Int w) vars) (argument_is f.args n))))
+      (λ pl1 st1 t d. put_leads o f r pl1.at (built_in_value f (bi.Argument n)) t vars vars _ u d.long d.at st1.code.0 (rw (at_is t.registers r u.high, d.value) (ap (λ w. st.puts t (register r) (va.Int w) vars) (argument_is f.args n))))
   built_in_leads bi.Timestamp r pl s vars u long e stands = put_leads o f r pl.at _ s vars vars _ u long e stands.code.0 refl
   built_in_leads bi.Cpu r pl s vars u long e stands = put_leads o f r pl.at _ s vars vars _ u long e stands.code.0 refl
   built_in_leads bi.Pid r pl s vars u long e stands = put_leads o f r pl.at _ s vars vars _ u long e stands.code.0 refl
@@ -274,10 +279,10 @@ module _ (o : Object) (f : Firing) where
       let i = Alu (step_operator step) (register r) R7 (register r) in
       let mid = narrow UINT64 (step_result step word) in
       let z = word_as_type t (step_result step word) in
-      then_leads r 7 pl (pieces.number 1 R7) (both (one i) (holding t (register r))) s vars vars (va.Int 1) (Has (va.Int z) vars) (omega arith) stands
+      then_leads r 7 pl (pieces.number 1 R7) (both (one_instr i) (holding t (register r))) s vars vars (va.Int 1) (Has (va.Int z) vars) (omega arith) stands
       (λ st1. number_leads o f 7 pl 1 s vars (record { low = omega arith; high = omega arith }) long e st1)
       (λ pl1 st1 t1 d.
-      then_leads r r pl1 (one i) (holding t (register r)) t1 vars vars (va.Int mid) (Has (va.Int z) vars) (omega arith) st1
+      then_leads r r pl1 (one_instr i) (holding t (register r)) t1 vars vars (va.Int mid) (Has (va.Int z) vars) (omega arith) st1
       (λ st2. put_leads o f r pl1.at (va.Int mid) t1 vars vars i u d.long d.at st2.code.0 (rw (at_is t1.registers r u.high, d.kept r lt, val, d.value, step_is step word) refl))
       (λ pl2 st2 t2 d2. subst (λ n. Leads o f r (pl2.at + length (holding t (register r) pl2).code) t2 vars (Has (va.Int n) vars)) (held_again t (step_result step word) some)
       (holding_leads t r pl2 mid t2 vars some u lt d2.long d2.at d2.value (unsigned_small (step_result step word)) st2)))
@@ -367,10 +372,10 @@ module _ (o : Object) (f : Firing) where
       (c s4 (record { at = n4; value = d.value; kept = d.kept; long = d.long; tuple = sym ready.empty })))))
 
   -- a variable holds a value of its type
-  of_its_type : (slots : Slots) (vars : Variables) (x : Variable) (key : List KeyPart) → AreTyped slots vars → IsKnown slots x → IsOf x.holds (value_at vars x key)
+  of_its_type : (slots : Slots) (vars : Variables) (x : Variable) (key : List KeyPart) → AreTyped slots vars → IsKnown slots x → IsOf x.holds (value_of_variable vars x key)
   of_its_type slots vars x key good known = by x.space
     where
-      by : (w : Space) → IsOf x.holds (value_in w vars (var_of x) key)
+      by : (w : Space) → IsOf x.holds (value_in_space w vars (var_of x) key)
       by sp.Thread = good.1 x.slot x.holds key known
       by sp.Clause = good.0 x.slot x.holds known
 
@@ -383,17 +388,17 @@ module _ (o : Object) (f : Firing) where
       expr_leads (Fixed b) c r pl s vars good low high ready e stands = built_in_leads b r pl s vars (record { low = low; high = omega arith }) ready.long e stands
       expr_leads (Read x keys) c r pl s vars good low high ready e stands =
           let n = count_fits keys 0 (need_of_keys 0 keys) (omega arith) (omega arith) in
-          keys_both o f slots keys r pl (keys_code keys r) (fetching x.space keys (var_of x) r (register r)) s vars (keys_of f keys vars) (λ key vars. Has (value_at vars x key) vars) (keys_are slots f fit keys vars c.1 good) stands
+          keys_both o f slots keys r pl (keys_code keys r) (fetching x.space keys (var_of x) r (register r)) s vars (keys_of f keys vars) (λ key vars. Has (value_of_variable vars x key) vars) (keys_are slots f fit keys vars c.1 good) stands
           (λ st1. keys_lead keys c.1 r 0 r pl s vars (omega arith) good low (omega arith) ready e st1)
           (λ pl1 st1 key vars1 t1 well d.
           fetching_leads o f x.space keys x.slot x.holds r r pl1 t1 vars1 key (record { low = low; high = omega arith }) (ready_keyed keys r _ s t1 key low ready d) (omega arith) (omega arith) d.there (of_its_type slots vars1 x key well c.0) d.at st1)
       expr_leads (Unary o' t a) c r pl s vars good low high ready e stands =
-          both_number o f slots r r pl (code_of a r) (unary o' t (register r)) s vars (type_of a) t (eval f a vars) (λ x. Has (va.Int (unary_of o' t x))) (omega arith) c.0 (eval_is slots f fit a vars c.1 good) stands
+          both_number o f slots r r pl (code_of a r) (unary_code o' t (register r)) s vars (type_of a) t (eval f a vars) (λ x. Has (va.Int (unary_of o' t x))) (omega arith) c.0 (eval_is slots f fit a vars c.1 good) stands
           (λ st1. expr_leads a c.1 r pl s vars good low high ready e st1)
           (λ pl1 st1 x vars1 t1 is well d. unary_leads o' t r pl1 x t1 vars1 (record { low = low; high = omega arith }) (omega (arith, need_pos a)) (ready_on r _ s t1 _ low ready d) d.at d.value st1)
       expr_leads (Operate (op.Arithmetic o' t) a b) c r pl s vars good low high ready e stands =
-          let last = both (one (Alu (operator_of o' t.signed) (register r) (register (r + 1)) (register r))) (narrowing t (register r)) in
-          both_number o f slots r r pl (code_of a r) (both (code_of b (r + 1)) last) s vars (type_of a) t (eval f a vars) (λ x vars. with (number (eval f b vars)) (λ y vars. integer (word_or_fault (binary_of o' t x y) vars))) (omega arith) c.0.0 (eval_is slots f fit a vars c.1 good) stands
+          let last = both (one_instr (Alu (operator_of o' t.signed) (register r) (register (r + 1)) (register r))) (narrowing t (register r)) in
+          both_number o f slots r r pl (code_of a r) (both (code_of b (r + 1)) last) s vars (type_of a) t (eval f a vars) (λ x vars. with (number_outcome (eval f b vars)) (λ y vars. integer (word_or_fault (binary_of o' t x y) vars))) (omega arith) c.0.0 (eval_is slots f fit a vars c.1 good) stands
           (λ st1. expr_leads a c.1 r pl s vars good low (omega arith) ready e st1)
           (λ pl1 st1 x vars1 t1 is well d.
           both_number o f slots r (r + 1) pl1 (code_of b (r + 1)) last t1 vars1 (type_of b) t (eval f b vars1) (λ y vars. integer (word_or_fault (binary_of o' t x y) vars)) (omega arith) c.0.1 (eval_is slots f fit b vars1 c.2 well) st1
@@ -402,7 +407,7 @@ module _ (o : Object) (f : Firing) where
       expr_leads (Compare o' t a b) c r pl s vars good low high ready e stands =
           let test = Cmp (register r) (register (r + 1)) in
           let last = bit_by test (condition_of o' t.signed) (register r) in
-          both_number o f slots r r pl (code_of a r) (both (code_of b (r + 1)) last) s vars (type_of a) t (eval f a vars) (λ x vars. with (number (eval f b vars)) (λ y. Has (va.Int (truth (holds_of o' (order_of t x y)))))) (omega arith) c.0 (eval_is slots f fit a vars c.2 good) stands
+          both_number o f slots r r pl (code_of a r) (both (code_of b (r + 1)) last) s vars (type_of a) t (eval f a vars) (λ x vars. with (number_outcome (eval f b vars)) (λ y. Has (va.Int (truth (holds_of o' (order_of t x y)))))) (omega arith) c.0 (eval_is slots f fit a vars c.2 good) stands
           (λ st1. expr_leads a c.2 r pl s vars good low (omega arith) ready e st1)
           (λ pl1 st1 x vars1 t1 is well d.
           both_number o f slots r (r + 1) pl1 (code_of b (r + 1)) last t1 vars1 (type_of b) t (eval f b vars1) (λ y. Has (va.Int (truth (holds_of o' (order_of t x y))))) (omega arith) c.1 (eval_is slots f fit b vars1 c.3 well) st1
@@ -414,7 +419,7 @@ module _ (o : Object) (f : Firing) where
           (condition_is o' t x y (word_small t x is) (word_small t y is')))))
       expr_leads (Operate (op.Shift o' t) a b) c r pl s vars good low high ready e stands =
           let last = operate_on (op.Shift o' t) (register r) (register (r + 1)) in
-          both_number o f slots r r pl (code_of a r) (both (code_of b (r + 1)) last) s vars (type_of a) t (eval f a vars) (λ x vars. with (number (eval f b vars)) (λ y vars. integer (word_or_fault (operation_of (op.Shift o' t) x y) vars))) (omega arith) c.0.0 (eval_is slots f fit a vars c.1 good) stands
+          both_number o f slots r r pl (code_of a r) (both (code_of b (r + 1)) last) s vars (type_of a) t (eval f a vars) (λ x vars. with (number_outcome (eval f b vars)) (λ y vars. integer (word_or_fault (operation_of (op.Shift o' t) x y) vars))) (omega arith) c.0.0 (eval_is slots f fit a vars c.1 good) stands
           (λ st1. expr_leads a c.1 r pl s vars good low (omega arith) ready e st1)
           (λ pl1 st1 x vars1 t1 is well d.
           both_number o f slots r (r + 1) pl1 (code_of b (r + 1)) last t1 vars1 (type_of b) c.0.1.0 (eval f b vars1) (λ y vars. integer (word_or_fault (operation_of (op.Shift o' t) x y) vars)) (omega arith) c.0.1.1 (eval_is slots f fit b vars1 c.2 well) st1
@@ -423,7 +428,7 @@ module _ (o : Object) (f : Firing) where
       expr_leads (CompareText o' a b) c r pl s vars good low high ready e stands =
           let test = Scmp (register r) (register (r + 1)) in
           let last = bit_by test (condition_of o' false) (register r) in
-          both_text o f slots r r pl (code_of a r) (both (code_of b (r + 1)) last) s vars (type_of a) (eval f a vars) (λ x vars. with (text (eval f b vars)) (λ y. Has (va.Int (truth (holds_of o' (text_cmp x y)))))) (omega arith) c.0 (eval_is slots f fit a vars c.2 good) stands
+          both_text o f slots r r pl (code_of a r) (both (code_of b (r + 1)) last) s vars (type_of a) (eval f a vars) (λ x vars. with (text_outcome (eval f b vars)) (λ y. Has (va.Int (truth (holds_of o' (text_cmp x y)))))) (omega arith) c.0 (eval_is slots f fit a vars c.2 good) stands
           (λ st1. expr_leads a c.2 r pl s vars good low (omega arith) ready e st1)
           (λ pl1 st1 x vars1 t1 well d.
           both_text o f slots r (r + 1) pl1 (code_of b (r + 1)) last t1 vars1 (type_of b) (eval f b vars1) (λ y. Has (va.Int (truth (holds_of o' (text_cmp x y))))) (omega arith) c.1 (eval_is slots f fit b vars1 c.3 well) st1
@@ -435,7 +440,7 @@ module _ (o : Object) (f : Firing) where
           (texts_condition o' x y))))
       expr_leads (Logic lo.Xor a b) c r pl s vars good low high ready e stands =
           let last = differing (register r) (register (r + 1)) in
-          both_number o f slots r r pl (code_of a r) (both (code_of b (r + 1)) last) s vars (type_of a) c.0.0 (eval f a vars) (λ x vars. with (number (eval f b vars)) (λ y. Has (va.Int (at_zero x (bit y) (inverse y))))) (omega arith) c.0.1 (eval_is slots f fit a vars c.2 good) stands
+          both_number o f slots r r pl (code_of a r) (both (code_of b (r + 1)) last) s vars (type_of a) c.0.0 (eval f a vars) (λ x vars. with (number_outcome (eval f b vars)) (λ y. Has (va.Int (at_zero x (bit y) (inverse y))))) (omega arith) c.0.1 (eval_is slots f fit a vars c.2 good) stands
           (λ st1. expr_leads a c.2 r pl s vars good low (omega arith) ready e st1)
           (λ pl1 st1 x vars1 t1 is well d.
           both_number o f slots r (r + 1) pl1 (code_of b (r + 1)) last t1 vars1 (type_of b) c.1.0 (eval f b vars1) (λ y. Has (va.Int (at_zero x (bit y) (inverse y)))) (omega arith) c.1.1 (eval_is slots f fit b vars1 c.3 well) st1
@@ -444,11 +449,11 @@ module _ (o : Object) (f : Firing) where
       expr_leads (Logic lo.And a b) c r pl s vars good low high ready e stands =
           let u : Usable r = record { low = low; high = omega (arith, need_pos a) } in
           let second = both (code_of b r) (bit_by (Tst (register r)) NotEqual (register r)) in
-          both_number o f slots r r pl (code_of a r) (choice (Tst (register r)) Equal second (pieces.number 0 (register r))) s vars (type_of a) c.0.0 (eval f a vars) (λ x vars. at_zero x (Has (va.Int 0) vars) (with (number (eval f b vars)) (λ y. Has (va.Int (bit y))))) (omega arith) c.0.1 (eval_is slots f fit a vars c.2 good) stands
+          both_number o f slots r r pl (code_of a r) (choice_code (Tst (register r)) Equal second (pieces.number 0 (register r))) s vars (type_of a) c.0.0 (eval f a vars) (λ x vars. at_zero x (Has (va.Int 0) vars) (with (number_outcome (eval f b vars)) (λ y. Has (va.Int (bit y))))) (omega arith) c.0.1 (eval_is slots f fit a vars c.2 good) stands
           (λ st1. expr_leads a c.2 r pl s vars good low (omega arith) ready e st1)
           (λ pl1 st1 x vars1 t1 is well d.
-          zero_leads r _ t1 vars1 x (Has (va.Int 0) vars1) (with (number (eval f b vars1)) (λ y. Has (va.Int (bit y))))
-          (choice_leads o f r pl1 (Tst (register r)) Equal second (pieces.number 0 (register r)) t1 vars1 (comparison_of x 0) (with (number (eval f b vars1)) (λ y. Has (va.Int (bit y)))) (Has (va.Int 0) vars1) (is_zero x) d.at st1 (tested r x t1 vars1 u.high d.value) (zero_holds x)
+          zero_leads r _ t1 vars1 x (Has (va.Int 0) vars1) (with (number_outcome (eval f b vars1)) (λ y. Has (va.Int (bit y))))
+          (choice_leads o f r pl1 (Tst (register r)) Equal second (pieces.number 0 (register r)) t1 vars1 (comparison_of x 0) (with (number_outcome (eval f b vars1)) (λ y. Has (va.Int (bit y)))) (Has (va.Int 0) vars1) (is_zero x) d.at st1 (tested r x t1 vars1 u.high d.value) (zero_holds x)
           (λ pl2 st2 t2 te tr tt'.
           let ready2 = same_ready t1 t2 tr tt' (ready_on r _ s t1 _ low ready d) in
           both_number o f slots r r pl2 (code_of b r) (bit_by (Tst (register r)) NotEqual (register r)) t2 vars1 (type_of b) c.1.0 (eval f b vars1) (λ y. Has (va.Int (bit y))) (omega arith) c.1.1 (eval_is slots f fit b vars1 c.3 well) st2
@@ -458,11 +463,11 @@ module _ (o : Object) (f : Firing) where
       expr_leads (Logic lo.Or a b) c r pl s vars good low high ready e stands =
           let u : Usable r = record { low = low; high = omega (arith, need_pos a) } in
           let second = both (code_of b r) (bit_by (Tst (register r)) NotEqual (register r)) in
-          both_number o f slots r r pl (code_of a r) (choice (Tst (register r)) Equal (pieces.number 1 (register r)) second) s vars (type_of a) c.0.0 (eval f a vars) (λ x vars. at_zero x (with (number (eval f b vars)) (λ y. Has (va.Int (bit y)))) (Has (va.Int 1) vars)) (omega arith) c.0.1 (eval_is slots f fit a vars c.2 good) stands
+          both_number o f slots r r pl (code_of a r) (choice_code (Tst (register r)) Equal (pieces.number 1 (register r)) second) s vars (type_of a) c.0.0 (eval f a vars) (λ x vars. at_zero x (with (number_outcome (eval f b vars)) (λ y. Has (va.Int (bit y)))) (Has (va.Int 1) vars)) (omega arith) c.0.1 (eval_is slots f fit a vars c.2 good) stands
           (λ st1. expr_leads a c.2 r pl s vars good low (omega arith) ready e st1)
           (λ pl1 st1 x vars1 t1 is well d.
-          zero_leads r _ t1 vars1 x (with (number (eval f b vars1)) (λ y. Has (va.Int (bit y)))) (Has (va.Int 1) vars1)
-          (choice_leads o f r pl1 (Tst (register r)) Equal (pieces.number 1 (register r)) second t1 vars1 (comparison_of x 0) (Has (va.Int 1) vars1) (with (number (eval f b vars1)) (λ y. Has (va.Int (bit y)))) (is_zero x) d.at st1 (tested r x t1 vars1 u.high d.value) (zero_holds x)
+          zero_leads r _ t1 vars1 x (with (number_outcome (eval f b vars1)) (λ y. Has (va.Int (bit y)))) (Has (va.Int 1) vars1)
+          (choice_leads o f r pl1 (Tst (register r)) Equal (pieces.number 1 (register r)) second t1 vars1 (comparison_of x 0) (Has (va.Int 1) vars1) (with (number_outcome (eval f b vars1)) (λ y. Has (va.Int (bit y)))) (is_zero x) d.at st1 (tested r x t1 vars1 u.high d.value) (zero_holds x)
           (λ pl2 st2 t2 te tr tt'. number_leads o f r pl2 1 t2 vars1 u (ap length tr ∙ d.long) te st2)
           (λ pl2 st2 t2 te tr tt'.
           let ready2 = same_ready t1 t2 tr tt' (ready_on r _ s t1 _ low ready d) in
@@ -470,7 +475,7 @@ module _ (o : Object) (f : Firing) where
           (λ st3. expr_leads b c.3 r pl2 t2 vars1 well low (omega arith) ready2 te st3)
           (λ pl3 st3 y vars3 t3 is' well' d3. bit_of_leads r pl3 y t3 vars3 u d3.long d3.at d3.value st3))))
       expr_leads (Choice t z a b) c r pl s vars good low high ready e stands =
-          both_number o f slots r r pl (code_of z r) (choice (Tst (register r)) Equal (code_of a r) (code_of b r)) s vars (type_of z) c.0.0 (eval f z vars) (λ x vars. at_zero x (eval f b vars) (eval f a vars)) (omega arith) c.0.1 (eval_is slots f fit z vars c.3 good) stands
+          both_number o f slots r r pl (code_of z r) (choice_code (Tst (register r)) Equal (code_of a r) (code_of b r)) s vars (type_of z) c.0.0 (eval f z vars) (λ x vars. at_zero x (eval f b vars) (eval f a vars)) (omega arith) c.0.1 (eval_is slots f fit z vars c.3 good) stands
           (λ st1. expr_leads z c.3 r pl s vars good low (omega arith) ready e st1)
           (λ pl1 st1 x vars1 t1 is well d.
           let ready1 = ready_on r _ s t1 _ low ready d in
@@ -496,7 +501,7 @@ module _ (o : Object) (f : Firing) where
           both_leads o f r q pl1 (code_of a q) (both save back) t1 vars1 (eval f a vars1) (assignment_outcome x key) (omega arith) st1
           (λ st2. expr_leads a c.3 q pl1 t1 vars1 well (omega arith) (omega arith) ready1 d.at st2)
           (λ pl2 st2 v vars2 t2 is d2.
-          let typed : IsOf (type_of a) v × AreTyped slots vars2 = subst (Ends slots (IsOf (type_of a))) is (eval_is slots f fit a vars1 c.3 well) in
+          let typed : IsOf (type_of a) v × AreTyped slots vars2 = subst (EndsTyped slots (IsOf (type_of a))) is (eval_is slots f fit a vars1 c.3 well) in
           let fits : IsOf x.holds v = subst (λ u. IsOf u v) c.2 typed.0 in
           let there = there_kept keys r t1.registers t2.registers key (λ k less. d2.kept k less) d.there in
           saved r q pl2 x keys key v t2 vars2 refl low (omega arith) (ready_on q _ t1 t2 v (omega arith) ready1 d2) there d2.at d2.value fits st2))
@@ -510,16 +515,16 @@ module _ (o : Object) (f : Firing) where
           let hold = both (holding x.holds (register q)) (both save back) in
           let act = both (operate_on o' (register q) (register (q + 1))) hold in
           let t = works_in o' in
-          let old = λ (key : List KeyPart) (vars : Variables). narrow t (word_of (value_at vars x key)) in
+          let old = λ (key : List KeyPart) (vars : Variables). narrow t (word_of (value_of_variable vars x key)) in
           let u : Usable q = record { low = omega arith; high = omega arith } in
           keys_both o f slots keys r pl (keys_code keys r) (both (fetching x.space keys var r (register q)) (both (narrowing t (register q)) (both (code_of a (q + 1)) act))) s vars (keys_of f keys vars)
-          (λ key vars. with (number (eval f a vars)) (λ y after. with (word_or_fault (operation_of o' (old key vars) y) after) (update_outcome x key))) (keys_are slots f fit keys vars c.1 good) stands
+          (λ key vars. with (number_outcome (eval f a vars)) (λ y after. with (word_or_fault (operation_of o' (old key vars) y) after) (update_outcome x key))) (keys_are slots f fit keys vars c.1 good) stands
           (λ st1. keys_lead keys c.1 r 0 r pl s vars (omega arith) good low (omega arith) ready e st1)
           (λ pl1 st1 key vars1 t1 well d.
           let ready1 = ready_keyed keys r _ s t1 key low ready d in
-          let value = value_at vars1 x key in
+          let value = value_of_variable vars1 x key in
           let is = of_its_type slots vars1 x key well c.0 in
-          let z = with (number (eval f a vars1)) (λ y after. with (word_or_fault (operation_of o' (old key vars1) y) after) (update_outcome x key)) in
+          let z = with (number_outcome (eval f a vars1)) (λ y after. with (word_or_fault (operation_of o' (old key vars1) y) after) (update_outcome x key)) in
           then_leads r q pl1 (fetching x.space keys var r (register q)) (both (narrowing t (register q)) (both (code_of a (q + 1)) act)) t1 vars1 vars1 value z (omega arith) st1
           (λ st2. fetching_leads o f x.space keys x.slot x.holds r q pl1 t1 vars1 key u ready1 (omega arith) (omega arith) d.there is d.at st2)
           (λ pl2 st2 t2 d2.
@@ -553,11 +558,11 @@ module _ (o : Object) (f : Firing) where
           let rest = both (answering answer step x.holds (register q)) (lowering keys (register q) (register r)) in
           let u : Usable q = record { low = omega arith; high = omega arith } in
           keys_both o f slots keys r pl (keys_code keys r) (both (fetching x.space keys var r (register q)) (both (stepping step x.holds (register q)) (both save rest))) s vars (keys_of f keys vars)
-          (λ key vars. step_outcome step answer x key (word_of (value_at vars x key)) vars) (keys_are slots f fit keys vars c.1 good) stands
+          (λ key vars. step_outcome step answer x key (word_of (value_of_variable vars x key)) vars) (keys_are slots f fit keys vars c.1 good) stands
           (λ st1. keys_lead keys c.1 r 0 r pl s vars (omega arith) good low (omega arith) ready e st1)
           (λ pl1 st1 key vars1 t1 well d.
           let ready1 = ready_keyed keys r _ s t1 key low ready d in
-          let value = value_at vars1 x key in
+          let value = value_of_variable vars1 x key in
           let old = word_of value in
           let new = word_as_type x.holds (step_result step old) in
           let is = of_its_type slots vars1 x key well c.0 in
@@ -587,7 +592,7 @@ module _ (o : Object) (f : Firing) where
       expr_leads (Strjoin a b) c r pl s vars good low high ready e stands =
           let m = need_pos b in
           let last = joining (register r) (register (r + 1)) in
-          both_text o f slots r r pl (code_of a r) (both (code_of b (r + 1)) last) s vars (type_of a) (eval f a vars) (λ x vars. with (text (eval f b vars)) (λ y. Has (va.Text (joined_text x y)))) (omega arith) c.0 (eval_is slots f fit a vars c.2 good) stands
+          both_text o f slots r r pl (code_of a r) (both (code_of b (r + 1)) last) s vars (type_of a) (eval f a vars) (λ x vars. with (text_outcome (eval f b vars)) (λ y. Has (va.Text (joined_text x y)))) (omega arith) c.0 (eval_is slots f fit a vars c.2 good) stands
           (λ st1. expr_leads a c.2 r pl s vars good low (omega arith) ready e st1)
           (λ pl1 st1 x vars1 t1 well d.
           let ready1 = ready_on r _ s t1 _ low ready d in

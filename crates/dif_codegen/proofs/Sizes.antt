@@ -21,7 +21,7 @@ abbrev mutual
   size (Fixed b) = 1
   size (Read x keys) = 2 + sizes keys
   size (Unary o t a) = 1 + size a
-  size (Operate o a b) = 2 + size a + size b
+  size (Operate o a b) = 3 + size a + size b
   size (Compare o t a b) = 2 + size a + size b
   size (CompareText o a b) = 2 + size a + size b
   size (Logic o a b) = 3 + size a + size b
@@ -31,7 +31,7 @@ abbrev mutual
   size (Update o x keys a) = 2 + sizes keys + size a
   size (Count step answer x keys) = 2 + sizes keys
   size (Strlen a) = 1 + size a
-  size (Strjoin a b) = 2 + size a + size b
+  size (Strjoin a b) = 3 + size a + size b
 
   pub sizes : Typeds → ℕ
   sizes end = 0

@@ -13,7 +13,8 @@ use Rattle.dif_codegen.specs.Vocabulary.{Stts, Ldls, Stls, Pushtr, Pushtv, Flush
 use Rattle.dif_codegen.specs.Vocabulary.{Call, Ret, Operator, Or, Xor, And, Sll, Srl, Sra, Sub, Add}
 use Rattle.dif_codegen.specs.Vocabulary.{Mul, Sdiv, Udiv, Srem, Urem, Reg, R0, R1, R2, R3, R4, R5}
 use Rattle.dif_codegen.specs.Vocabulary.{R6, R7}
-use Rattle.dif_codegen.specs.Pieces.{Piece, Maker, nothing, one, number, text, both, choice, bit_by}
+use Rattle.dif_codegen.specs.Pieces.{Piece, Maker, nothing, one_instr, number, text, both}
+use Rattle.dif_codegen.specs.Pieces.{choice_code, bit_by}
 
 -- the register of a number below 8
 abbrev pub register : ℕ → Reg
@@ -60,17 +61,18 @@ shift_right false = Srl
 -- zeros
 abbrev pub shifts : ℕ → Bool → Reg → Maker
 shifts count signed d =
-    both (number count R7) (both (one (Alu Sll d R7 d)) (one (Alu (shift_right signed) d R7 d)))
+    both (number count R7)
+    (both (one_instr (Alu Sll d R7 d)) (one_instr (Alu (shift_right signed) d R7 d)))
 
 -- the word brought to its type; one of 64 bits is
 abbrev pub narrowing : IntType → Reg → Maker
 narrowing t d = if t.width == 64 then nothing else shifts (64 - t.width) t.signed d
 
-abbrev pub unary : UnaryOperator → IntType → Reg → Maker
-unary UnaryOperator.Not t d = bit_by (Tst d) Equal d
-unary UnaryOperator.Complement t d = both (one (Not d d)) (narrowing t d)
-unary UnaryOperator.Negate t d = both (one (Alu Sub R0 d d)) (narrowing t d)
-unary UnaryOperator.Keep t d = nothing
+abbrev pub unary_code : UnaryOperator → IntType → Reg → Maker
+unary_code UnaryOperator.Not t d = bit_by (Tst d) Equal d
+unary_code UnaryOperator.Complement t d = both (one_instr (Not d d)) (narrowing t d)
+unary_code UnaryOperator.Negate t d = both (one_instr (Alu Sub R0 d d)) (narrowing t d)
+unary_code UnaryOperator.Keep t d = nothing
 
 abbrev pub shift_operator : ShiftOperator → Bool → Operator
 shift_operator ShiftOperator.Left signed = Sll
@@ -78,32 +80,32 @@ shift_operator ShiftOperator.Right signed = shift_right signed
 
 -- a shift's count modulo the width, which is a power of two
 abbrev pub masking : IntType → Reg → Maker
-masking t c = both (number (t.width - 1) R7) (one (Alu And c R7 c))
+masking t c = both (number (t.width - 1) R7) (one_instr (Alu And c R7 c))
 
 -- an operator on two registers, into the first
 abbrev pub operate_on : Operation → Reg → Reg → Maker
 operate_on (Operation.Arithmetic o t) a b =
-    both (one (Alu (operator_of o t.signed) a b a)) (narrowing t a)
+    both (one_instr (Alu (operator_of o t.signed) a b a)) (narrowing t a)
 operate_on (Operation.Shift o t) a b =
-    both (masking t b) (both (one (Alu (shift_operator o t.signed) a b a)) (narrowing t a))
+    both (masking t b) (both (one_instr (Alu (shift_operator o t.signed) a b a)) (narrowing t a))
 
 -- 1 where one of two registers is 0 and the other isn't, into the first
 abbrev pub differing : Reg → Reg → Maker
-differing a b = choice (Tst a) Equal (bit_by (Tst b) Equal a) (bit_by (Tst b) NotEqual a)
+differing a b = choice_code (Tst a) Equal (bit_by (Tst b) Equal a) (bit_by (Tst b) NotEqual a)
 
 -- ---- what is read and changed
 
-abbrev pub built_in : BuiltIn → Reg → Maker
-built_in (BuiltIn.Argument n) d = both (number n d) (one (Ldga 0 d d))
-built_in BuiltIn.Timestamp d = one (Ldgs 0 d)
-built_in BuiltIn.Cpu d = one (Ldgs 1 d)
-built_in BuiltIn.Pid d = one (Ldgs 2 d)
-built_in BuiltIn.Tid d = one (Ldgs 3 d)
-built_in BuiltIn.Execname d = one (Ldgs 4 d)
-built_in BuiltIn.Probeprov d = one (Ldgs 5 d)
-built_in BuiltIn.Probemod d = one (Ldgs 6 d)
-built_in BuiltIn.Probefunc d = one (Ldgs 7 d)
-built_in BuiltIn.Probename d = one (Ldgs 8 d)
+abbrev pub built_in_code : BuiltIn → Reg → Maker
+built_in_code (BuiltIn.Argument n) d = both (number n d) (one_instr (Ldga 0 d d))
+built_in_code BuiltIn.Timestamp d = one_instr (Ldgs 0 d)
+built_in_code BuiltIn.Cpu d = one_instr (Ldgs 1 d)
+built_in_code BuiltIn.Pid d = one_instr (Ldgs 2 d)
+built_in_code BuiltIn.Tid d = one_instr (Ldgs 3 d)
+built_in_code BuiltIn.Execname d = one_instr (Ldgs 4 d)
+built_in_code BuiltIn.Probeprov d = one_instr (Ldgs 5 d)
+built_in_code BuiltIn.Probemod d = one_instr (Ldgs 6 d)
+built_in_code BuiltIn.Probefunc d = one_instr (Ldgs 7 d)
+built_in_code BuiltIn.Probename d = one_instr (Ldgs 8 d)
 
 abbrev pub load_from : Space → Var → Reg → Instr
 load_from Space.Thread x d = Ldts x d
@@ -123,29 +125,29 @@ push_of DType.Text a = Pushtr a
 -- the values in this register and those after it as the parts of a key
 abbrev pub pushing : Typeds → ℕ → Maker
 pushing end r = nothing
-pushing (more a rest) r = both (one (push_of (type_of a) (register r))) (pushing rest (r + 1))
+pushing (more a rest) r = both (one_instr (push_of (type_of a) (register r))) (pushing rest (r + 1))
 
 -- an instruction on an element, whose keys are in this register and those after it; the tuple is
 -- empty again after it
 abbrev pub element_code : Typeds → ℕ → Instr → Maker
-element_code keys r i = both (pushing keys r) (both (one i) (one Flushts))
+element_code keys r i = both (pushing keys r) (both (one_instr i) (one_instr Flushts))
 
 -- the value of a variable
 abbrev pub fetching : Space → Typeds → Var → ℕ → Reg → Maker
-fetching Space.Clause keys x r d = one (load_from Space.Clause x d)
-fetching Space.Thread end x r d = one (load_from Space.Thread x d)
+fetching Space.Clause keys x r d = one_instr (load_from Space.Clause x d)
+fetching Space.Thread end x r d = one_instr (load_from Space.Thread x d)
 fetching Space.Thread (more k ks) x r d = element_code (more k ks) r (Ldtaa x d)
 
 -- a value into a variable
 abbrev pub saving : Space → Typeds → Var → ℕ → Reg → Maker
-saving Space.Clause keys x r a = one (store_to Space.Clause x a)
-saving Space.Thread end x r a = one (store_to Space.Thread x a)
+saving Space.Clause keys x r a = one_instr (store_to Space.Clause x a)
+saving Space.Thread end x r a = one_instr (store_to Space.Thread x a)
 saving Space.Thread (more k ks) x r a = element_code (more k ks) r (Sttaa x a)
 
 -- from after the keys to where they began
 abbrev pub lowering : Typeds → Reg → Reg → Maker
 lowering end a d = nothing
-lowering (more k ks) a d = one (Mov a d)
+lowering (more k ks) a d = one_instr (Mov a d)
 
 -- ---- changes
 
@@ -164,7 +166,8 @@ opposite Step.Decrement = Step.Increment
 
 -- one more or one less
 abbrev pub stepping : Step → DType → Reg → Maker
-stepping step t d = both (number 1 R7) (both (one (Alu (step_operator step) d R7 d)) (holding t d))
+stepping step t d =
+    both (number 1 R7) (both (one_instr (Alu (step_operator step) d R7 d)) (holding t d))
 
 -- what a step gives, from the new word
 abbrev pub answering : Answer → Step → DType → Reg → Maker
@@ -174,12 +177,13 @@ answering Answer.Old step t d = stepping (opposite step) t d
 -- ---- functions of texts
 
 abbrev pub measuring : Reg → Maker
-measuring d = both (one (Pushtr d)) (both (one (Call Function.Strlen d)) (one Flushts))
+measuring d =
+    both (one_instr (Pushtr d)) (both (one_instr (Call Function.Strlen d)) (one_instr Flushts))
 
 abbrev pub joining : Reg → Reg → Maker
 joining d a =
-    both (one (Pushtr d))
-    (both (one (Pushtr a)) (both (one (Call Function.Strjoin d)) (one Flushts)))
+    both (one_instr (Pushtr d))
+    (both (one_instr (Pushtr a)) (both (one_instr (Call Function.Strjoin d)) (one_instr Flushts)))
 
 -- ---- expressions
 
@@ -188,10 +192,10 @@ abbrev mutual
   pub code_of : Typed → ℕ → Maker
   code_of (Constant t word) r = number word (register r)
   code_of (Text bytes) r = text bytes (register r)
-  code_of (Fixed b) r = built_in b (register r)
+  code_of (Fixed b) r = built_in_code b (register r)
   code_of (Read x keys) r =
       both (keys_code keys r) (fetching x.space keys (var_of x) r (register r))
-  code_of (Unary o t a) r = both (code_of a r) (unary o t (register r))
+  code_of (Unary o t a) r = both (code_of a r) (unary_code o t (register r))
   code_of (Operate o a b) r =
       both (code_of a r) (both (code_of b (r + 1)) (operate_on o (register r) (register (r + 1))))
   code_of (Compare o t a b) r =
@@ -206,16 +210,16 @@ abbrev mutual
       both (code_of a r) (both (code_of b (r + 1)) (differing (register r) (register (r + 1))))
   code_of (Logic LogicOperator.And a b) r =
       both (code_of a r)
-      (choice (Tst (register r)) Equal
+      (choice_code (Tst (register r)) Equal
       (both (code_of b r) (bit_by (Tst (register r)) NotEqual (register r)))
       (number 0 (register r)))
   code_of (Logic LogicOperator.Or a b) r =
       both (code_of a r)
-      (choice (Tst (register r)) Equal
+      (choice_code (Tst (register r)) Equal
       (number 1 (register r))
       (both (code_of b r) (bit_by (Tst (register r)) NotEqual (register r))))
   code_of (Choice t c a b) r =
-      both (code_of c r) (choice (Tst (register r)) Equal (code_of a r) (code_of b r))
+      both (code_of c r) (choice_code (Tst (register r)) Equal (code_of a r) (code_of b r))
   code_of (Convert t u a) r = both (code_of a r) (narrowing u (register r))
   code_of (Assign x keys a) r =
       both (keys_code keys r)
@@ -248,5 +252,5 @@ abbrev mutual
   keys_code (more a rest) r = both (code_of a r) (keys_code rest (r + 1))
 
 -- the whole object: the value into the first register, and its return
-abbrev pub object_of : Typed → Piece
-object_of e = both (code_of e 1) (one (Ret R1)) (record { at = 0; texts = 0; numbers = 0 })
+abbrev pub object_code : Typed → Piece
+object_code e = both (code_of e 1) (one_instr (Ret R1)) (record { at = 0; texts = 0; numbers = 0 })

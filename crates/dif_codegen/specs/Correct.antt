@@ -2,7 +2,7 @@
 use Rattle.std.specs.Prelude.{◌≡◌, List, [], ◌∷◌, Option, Some, None, Result, Ok, Err}
 use Rattle.d_types.specs.Typed.{Action, Evaluate, Trace, Print, Exit, Aggregate, Typeds, end, more}
 use Rattle.d_types.specs.Typed.{type_of}
-use Rattle.d_types.specs.Variables.{kind_of}
+use Rattle.d_types.specs.Variables.{kind_of_type}
 use Rattle.dif_validate.specs.Validity.{IsReturning}
 use Rattle.dif_machine.specs.Runs.{End, Returns, Divides, Runs}
 use Rattle.dif_codegen.specs.Vocabulary.{Value, Firing, Outcome, Has, Faults, eval}
@@ -10,19 +10,19 @@ use Rattle.dif_codegen.specs.Vocabulary.{HasTypedBuiltIns, Slots, AreTyped, Vari
 use Rattle.dif_codegen.specs.Vocabulary.{TypedObject, Object, MachineFault, DivideByZero, Memory}
 use Rattle.dif_codegen.specs.Programs.{ActionCode}
 
-abbrev pub end_of : Outcome Value → End
-end_of (Has value vars) = Returns value vars
-end_of (Faults vars) = Divides vars
+abbrev pub end_of_outcome : Outcome Value → End
+end_of_outcome (Has value vars) = Returns value vars
+end_of_outcome (Faults vars) = Divides vars
 
 -- a run of the object, from any firing and variables that hold values of their types, ends as the
 -- expression means
 abbrev pub Computes : Slots → Object → Typed → Type 0
 Computes slots o e = (f : Firing) (vars : Variables) → HasTypedBuiltIns f → AreTyped slots vars
-    → Runs o f vars (end_of (eval f e vars))
+    → Runs o f vars (end_of_outcome (eval f e vars))
 
 -- a valid object that returns a value of the expression's type, and computes it
 pub record IsObjectOf (slots : Slots) (x : TypedObject) (e : Typed) : Type 0 where
-  pub valid : IsReturning x.object (kind_of (type_of e))
+  pub valid : IsReturning x.object (kind_of_type (type_of e))
   pub returns : x.returns ≡ type_of e
   pub computes : Computes slots x.object e
 

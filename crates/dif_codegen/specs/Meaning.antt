@@ -21,35 +21,36 @@ goes_on (steps.Ends value after) vars go = Has value after
 goes_on (steps.Faults after) vars go = Faults after
 goes_on steps.Stuck vars go = Faults vars
 
--- at most so many steps from a state
-abbrev pub within : ℕ → Firing → Object → Frame → Variables → Outcome Value
-within zero f o s vars = Faults vars
-within (suc n) f o s vars = goes_on (step_of o f s vars) vars (within n f o)
+-- at most n steps from a state
+abbrev pub ends_within : ℕ → Firing → Object → Frame → Variables → Outcome Value
+ends_within zero f o s vars = Faults vars
+ends_within (suc n) f o s vars = goes_on (step_of o f s vars) vars (ends_within n f o)
 
 -- a run of an object: valid code makes at most as many steps as it has instructions
 abbrev pub value_of : Firing → Object → Variables → Outcome Value
-value_of f o vars = within (length o.code) f o start vars
+value_of f o vars = ends_within (length o.code) f o start vars
 
 -- ---- clauses
 
-abbrev pub values_of : Firing → List TypedObject → Variables → Outcome (List (DType × Value))
-values_of f [] vars = Has [] vars
-values_of f (x ∷ rest) vars =
+abbrev pub values_of_objects : Firing → List TypedObject → Variables
+    → Outcome (List (DType × Value))
+values_of_objects f [] vars = Has [] vars
+values_of_objects f (x ∷ rest) vars =
     with (value_of f x.object vars)
-    (λ v vars. with (values_of f rest vars) (λ vs. Has ((x.returns, v) ∷ vs)))
+    (λ v vars. with (values_of_objects f rest vars) (λ vs. Has ((x.returns, v) ∷ vs)))
 
-abbrev pub key_of : Firing → List TypedObject → Variables → Outcome (List KeyPart)
-key_of f [] vars = Has [] vars
-key_of f (x ∷ rest) vars =
+abbrev pub key_of_objects : Firing → List TypedObject → Variables → Outcome (List KeyPart)
+key_of_objects f [] vars = Has [] vars
+key_of_objects f (x ∷ rest) vars =
     with (value_of f x.object vars)
-    (λ v vars. with (key_of f rest vars) (λ key. Has (part_of v ∷ key)))
+    (λ v vars. with (key_of_objects f rest vars) (λ key. Has (part_of v ∷ key)))
 
 -- that of objects
 abbrev pub by_objects : Firing → Evaluation TypedObject (List TypedObject)
 by_objects f = record {
   value = λ x. value_of f x.object;
-  values = values_of f;
-  key = key_of f;
+  values = values_of_objects f;
+  key = key_of_objects f;
   type = λ x. x.returns;
 }
 
@@ -63,7 +64,7 @@ run_code f place c vars =
 -- a compiled clause is the same clause, with a valid object that computes it in place of each
 -- expression. From any variables that hold values of their types each run makes what a run of the
 -- clause makes, and leaves such variables
-pub record Does (slots : Slots) (c : CompiledClause) (meant : ClauseMeant) : Type 0 where
+pub record IsSameClause (slots : Slots) (c : CompiledClause) (meant : ClauseMeant) : Type 0 where
   pub descriptions : c.descriptions.items ≡ meant.descriptions
   pub predicate : IsOptionalObjectOf slots c.predicate meant.predicate
   pub actions : AllZip (IsActionOf slots) (clause_code c).actions meant.statements
@@ -81,4 +82,4 @@ code_exits clauses = list_any (λ c. list_any (λ a. is_exit a) (clause_code c).
 pub record IsProgramOf (m : ScriptMeant) (clauses : List CompiledClause) (functions : List AggFn)
     : Type 0 where
   pub have_functions : functions ≡ map (λ a. a.function) m.aggregations
-  pub do_the_same : AllZip (Does (slots_of m)) clauses m.clauses
+  pub do_the_same : AllZip (IsSameClause (slots_of m)) clauses m.clauses

@@ -8,7 +8,7 @@ pub record Piece : Type 0 where
   pub texts : List (List ℕ)
   pub numbers : List ℕ
 
--- where a piece stands: how many instructions, texts and numbers come before it
+-- where a piece is: how many instructions, texts and numbers come before it
 pub record Place : Type 0 where
   pub at : ℕ
   pub texts : ℕ
@@ -21,8 +21,8 @@ Maker = Place → Piece
 abbrev pub nothing : Maker
 nothing pl = record { code = []; texts = []; numbers = [] }
 
-abbrev pub one : Instr → Maker
-one i pl = record { code = i ∷ []; texts = []; numbers = [] }
+abbrev pub one_instr : Instr → Maker
+one_instr i pl = record { code = i ∷ []; texts = []; numbers = [] }
 
 -- a constant into a register
 abbrev pub number : ℕ → Reg → Maker
@@ -47,11 +47,11 @@ behind pl p = record {
   numbers = pl.numbers + length p.numbers;
 }
 
-abbrev pub after : Piece → Maker → Maker
-after p h pl = sequence p (h (behind pl p))
+abbrev pub after_piece : Piece → Maker → Maker
+after_piece p h pl = sequence p (h (behind pl p))
 
 abbrev pub both : Maker → Maker → Maker
-both g h pl = after (g pl) h pl
+both g h pl = after_piece (g pl) h pl
 
 -- ---- one or the other
 
@@ -75,9 +75,9 @@ abbrev pub fork : Condition → Maker → Maker → Maker
 fork condition g h pl = fork_after condition (g (next pl)) h pl
 
 -- after a test
-abbrev pub choice : Instr → Condition → Maker → Maker → Maker
-choice test condition g h = both (one test) (fork condition g h)
+abbrev pub choice_code : Instr → Condition → Maker → Maker → Maker
+choice_code test condition g h = both (one_instr test) (fork condition g h)
 
 -- 1 where the branch is taken, and else 0
 abbrev pub bit_by : Instr → Condition → Reg → Maker
-bit_by test condition d = choice test condition (number 0 d) (number 1 d)
+bit_by test condition d = choice_code test condition (number 0 d) (number 1 d)

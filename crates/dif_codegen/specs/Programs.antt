@@ -5,7 +5,7 @@ use Rattle.d_types.specs.Typed.{Typeds, end, more, type_of, ActionOf, Evaluate, 
 use Rattle.d_types.specs.Typed.{Aggregate}
 use Rattle.dif_codegen.specs.Vocabulary.{Description, Typed, ClauseMeant, Action, CompiledClause}
 use Rattle.dif_codegen.specs.Vocabulary.{TypedObject}
-use Rattle.dif_codegen.specs.Code.{object_of}
+use Rattle.dif_codegen.specs.Code.{object_code}
 
 -- a statement with an object in place of each expression
 abbrev pub ActionCode : Type 0
@@ -37,9 +37,9 @@ clause_code c = record {
 abbrev pub compiled_object : Typed → TypedObject
 compiled_object e = record {
   object = record {
-    code = (object_of e).code;
-    texts = (object_of e).texts;
-    numbers = (object_of e).numbers;
+    code = (object_code e).code;
+    texts = (object_code e).texts;
+    numbers = (object_code e).numbers;
   };
   returns = type_of e;
 }

@@ -4,7 +4,7 @@ ghost use Rattle.std.specs.Prelude.{◌<◌, false, length, OnOk};
 ghost use Rattle.dif_codegen.specs.Code as spec;
 ghost use Rattle.dif_codegen.specs.{Pieces.bit_by};
 ghost use Rattle.dif_codegen.specs.Vocabulary.{Cmp, Scmp};
-ghost use Rattle.dif_codegen.specs.Drafts.{Adds, Closes};
+ghost use Rattle.dif_codegen.specs.Drafts.{Adds, ClosesBranch};
 
 use crate::draft::{narrow, put, put_number};
 use crate::operators::condition_of;
@@ -17,7 +17,7 @@ use std::alloc::AllocError;
 pub(crate) fn close(draft: &mut Difo, branch: usize, condition: Condition, jump: usize)
     requires first { branch < length draft.old.code.items }
     requires second { jump < length draft.old.code.items }
-    ensures { Closes branch condition jump draft.old draft.new }
+    ensures { ClosesBranch branch condition jump draft.old draft.new }
 {
     draft.code[branch] = Instr::Branch(condition, jump + 1);
     draft.code[jump] = Instr::Ba(draft.code.len());
@@ -92,7 +92,7 @@ pub(crate) fn put_unary(
     t: IntType,
     d: Reg,
 ) -> Result<(), AllocError>
-    ensures { OnOk result (Adds (spec.unary op t d) draft.old draft.new) }
+    ensures { OnOk result (Adds (spec.unary_code op t d) draft.old draft.new) }
 {
     match op {
         UnaryOperator::Not => put_bit(draft, Instr::Tst(d), Condition::Equal, d),

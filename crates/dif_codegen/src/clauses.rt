@@ -1,7 +1,7 @@
 //! Statements, clauses and scripts to compiled ones.
 
 ghost use Rattle.std.specs.Prelude.{◌≡◌, IfOk, map};
-ghost use Rattle.d_types.specs.{Fitting.Fits, TypedScripts.typed_script_of};
+ghost use Rattle.d_types.specs.{Fitting.FitsRegisters, TypedScripts.typed_script_of};
 ghost use Rattle.d_types.specs.Held.{IsConsistent, Slots};
 ghost use Rattle.d_types.specs.Typed.{action_of, actions_of, meant_of};
 ghost use Rattle.d_types.specs.Wholes.{ActionIs, ActionsAre, ClauseIs, ClausesAre};
@@ -15,7 +15,7 @@ use d_types::{Piece, TypedClause, TypedScript, TypedStmt};
 use std::alloc::{AllocError, Global};
 
 fn compile_statement(alloc: Global, s: &TypedStmt) -> Result<Action, AllocError>
-    requires few { ActionIs Fits (action_of s.now) }
+    requires few { ActionIs FitsRegisters (action_of s.now) }
     requires consistent { (slots : Slots) × ActionIs (IsConsistent slots) (action_of s.now) }
     ensures { IfOk result (λ a. action_code a ≡ compiled_action (action_of s.now)) }
 {
@@ -37,7 +37,7 @@ fn compile_statement(alloc: Global, s: &TypedStmt) -> Result<Action, AllocError>
 }
 
 fn compile_statements(alloc: Global, all: &[TypedStmt]) -> Result<Vec<Action>, AllocError>
-    requires few { ActionsAre Fits (actions_of all.now) }
+    requires few { ActionsAre FitsRegisters (actions_of all.now) }
     requires consistent { (slots : Slots) × ActionsAre (IsConsistent slots) (actions_of all.now) }
     ensures { IfOk result (λ v. map action_code v.items
         ≡ map compiled_action (actions_of all.now)) }
@@ -50,7 +50,7 @@ fn compile_statements(alloc: Global, all: &[TypedStmt]) -> Result<Vec<Action>, A
 }
 
 fn compile_clause(alloc: Global, c: &TypedClause) -> Result<CompiledClause, AllocError>
-    requires few { ClauseIs Fits (meant_of c.now) }
+    requires few { ClauseIs FitsRegisters (meant_of c.now) }
     requires consistent { (slots : Slots) × ClauseIs (IsConsistent slots) (meant_of c.now) }
     ensures { IfOk result (λ r. clause_code r ≡ compiled_clause (meant_of c.now)) }
 {
@@ -65,7 +65,7 @@ fn compile_clause(alloc: Global, c: &TypedClause) -> Result<CompiledClause, Allo
 }
 
 fn compile_clauses(alloc: Global, all: &[TypedClause]) -> Result<Vec<CompiledClause>, AllocError>
-    requires few { ClausesAre Fits (map meant_of all.now) }
+    requires few { ClausesAre FitsRegisters (map meant_of all.now) }
     requires consistent { (slots : Slots) × ClausesAre (IsConsistent slots) (map meant_of all.now) }
     ensures { IfOk result (λ v. map clause_code v.items
         ≡ map compiled_clause (map meant_of all.now)) }

@@ -3,7 +3,8 @@
 ghost use Rattle.std.specs.Prelude.{OnOk};
 ghost use Rattle.dif_codegen.specs.Pieces as pieces;
 ghost use Rattle.dif_codegen.specs.{Drafts.Adds};
-ghost use Rattle.dif_codegen.specs.Code.{answering, built_in, holding, joining, masking, measuring};
+ghost use Rattle.dif_codegen.specs.Code.{answering, built_in_code, holding, joining, masking};
+ghost use Rattle.dif_codegen.specs.Code.{measuring};
 ghost use Rattle.dif_codegen.specs.Code.{narrowing, operate_on, stepping};
 
 use crate::operators::{operator_of, opposite, shift_operator, step_operator};
@@ -15,7 +16,7 @@ use std::alloc::AllocError;
 
 /// Adds one instruction.
 pub(crate) fn put(draft: &mut Difo, i: Instr) -> Result<(), AllocError>
-    ensures { OnOk result (Adds (pieces.one i) draft.old draft.new) }
+    ensures { OnOk result (Adds (pieces.one_instr i) draft.old draft.new) }
 {
     draft.code.push(i)?;
     Ok(())
@@ -142,7 +143,7 @@ pub(crate) fn join(draft: &mut Difo, d: Reg, a: Reg) -> Result<(), AllocError>
 
 /// Loads a built-in variable.
 pub(crate) fn put_built_in(draft: &mut Difo, b: BuiltIn, d: Reg) -> Result<(), AllocError>
-    ensures { OnOk result (Adds (built_in b d) draft.old draft.new) }
+    ensures { OnOk result (Adds (built_in_code b d) draft.old draft.new) }
 {
     match b {
         BuiltIn::Argument(n) => {

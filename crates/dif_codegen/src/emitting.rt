@@ -1,10 +1,12 @@
 //! The code of an expression, one arm for each construct.
 
-ghost use Rattle.std.specs.Prelude.{◌≡◌, ◌≤◌, ◌+◌, OnOk};
+ghost use Rattle.std.specs.Prelude.{◌≡◌, ◌≤◌, ◌+◌, max, OnOk};
 ghost use Rattle.d_types.specs.{Expressions.works_in};
 ghost use Rattle.d_types.specs.Needs.{need, need_of_keys, need_of_two};
-ghost use Rattle.d_types.specs.Typed.{typed_of, typeds_of, Typed, Read, Assign, Update, Count};
+ghost use Rattle.d_types.specs.Typed.{typed_of, typeds_of, Typed, Read, Operate, Assign, Update};
+ghost use Rattle.d_types.specs.Typed.{Count, Strjoin};
 ghost use Rattle.dif_codegen.specs.{Code.code_of, Code.keys_code, Drafts.Adds, Pieces.both};
+ghost use Rattle.dif_codegen.specs.Vocabulary.{DType};
 
 use crate::choices::{
     close, put_bit, put_comparison, put_differing, put_text_comparison, put_unary,
@@ -13,11 +15,11 @@ use crate::draft::{
     hold, join, measure, narrow, operate, put, put_answer, put_built_in, put_number, put_step,
     put_text,
 };
-use crate::keys::{after, fetch, lower, save};
+use crate::keys::{Target, after, fetch, lower, save};
 use crate::operators::register;
 use d_parser::Step;
-use d_types::{Answer, LogicOperator, Operation, TypedExpr, Variable};
-use d_values::{DType, IntType};
+use d_types::{Answer, LogicOperator, Operation, TypedExpr};
+use d_values::IntType;
 use dif_validate::{Condition, Difo, Instr};
 use std::alloc::AllocError;
 
@@ -43,7 +45,7 @@ pub(crate) fn emit(draft: &mut Difo, e: &TypedExpr, r: u8) -> Result<(), AllocEr
         TypedExpr::Constant(_, word) => put_number(draft, *word, d),
         TypedExpr::Text(text) => put_text(draft, text, d),
         TypedExpr::BuiltIn(b) => put_built_in(draft, *b, d),
-        TypedExpr::Read(x, keys) => emit_read(draft, *x, keys, r),
+        TypedExpr::Read(x, keys) => emit_read(draft, Target { variable: *x, keys }, r),
         TypedExpr::Unary(op, t, a) => {
             emit(draft, a, r)?;
             put_unary(draft, *op, *t, d)
@@ -56,10 +58,7 @@ pub(crate) fn emit(draft: &mut Difo, e: &TypedExpr, r: u8) -> Result<(), AllocEr
             emit(draft, a, r)?;
             measure(draft, d)
         }
-        TypedExpr::Operate(op, a, b) => {
-            emit_operands(draft, a, b, r)?;
-            operate(draft, *op, d, register(r + 1))
-        }
+        TypedExpr::Operate(op, a, b) => emit_operation(draft, *op, a, b, r),
         TypedExpr::Compare(op, t, a, b) => {
             emit_operands(draft, a, b, r)?;
             put_comparison(draft, *op, *t, d, register(r + 1))
@@ -68,15 +67,18 @@ pub(crate) fn emit(draft: &mut Difo, e: &TypedExpr, r: u8) -> Result<(), AllocEr
             emit_operands(draft, a, b, r)?;
             put_text_comparison(draft, *op, d, register(r + 1))
         }
-        TypedExpr::Strjoin(a, b) => {
-            emit_operands(draft, a, b, r)?;
-            join(draft, d, register(r + 1))
-        }
+        TypedExpr::Strjoin(a, b) => emit_join(draft, a, b, r),
         TypedExpr::Logic(op, a, b) => emit_logic(draft, *op, a, b, r),
-        TypedExpr::Choice(t, c, a, b) => emit_choice(draft, *t, c, a, b, r),
-        TypedExpr::Assign(x, keys, a) => emit_assign(draft, *x, keys, a, r),
-        TypedExpr::Update(op, x, keys, a) => emit_update(draft, *op, *x, keys, a, r),
-        TypedExpr::Step(step, answer, x, keys) => emit_step(draft, *step, *answer, *x, keys, r),
+        TypedExpr::Choice(_, c, a, b) => emit_choice(draft, c, a, b, r),
+        TypedExpr::Assign(x, keys, a) => emit_assign(draft, Target { variable: *x, keys }, a, r),
+        TypedExpr::Update(op, x, keys, a) => {
+            let target = Target { variable: *x, keys };
+            emit_update(draft, *op, target, a, r)
+        }
+        TypedExpr::Step(step, answer, x, keys) => {
+            let target = Target { variable: *x, keys };
+            emit_step(draft, *step, *answer, target, r)
+        }
     }
 }
 
@@ -90,6 +92,32 @@ fn emit_operands(draft: &mut Difo, a: &TypedExpr, b: &TypedExpr, r: u8) -> Resul
 {
     emit(draft, a, r)?;
     emit(draft, b, r + 1)
+}
+
+#[cycle(emission)]
+fn emit_operation(
+    draft: &mut Difo,
+    op: Operation,
+    a: &TypedExpr,
+    b: &TypedExpr,
+    r: u8,
+) -> Result<(), AllocError>
+    requires few { r + need (Operate op (typed_of a.now) (typed_of b.now)) ≤ 7 }
+    ensures { OnOk result
+        (Adds (code_of (Operate op (typed_of a.now) (typed_of b.now)) r) draft.old draft.new) }
+{
+    emit_operands(draft, a, b, r)?;
+    operate(draft, op, register(r), register(r + 1))
+}
+
+#[cycle(emission)]
+fn emit_join(draft: &mut Difo, a: &TypedExpr, b: &TypedExpr, r: u8) -> Result<(), AllocError>
+    requires few { r + need (Strjoin (typed_of a.now) (typed_of b.now)) ≤ 7 }
+    ensures { OnOk result
+        (Adds (code_of (Strjoin (typed_of a.now) (typed_of b.now)) r) draft.old draft.new) }
+{
+    emit_operands(draft, a, b, r)?;
+    join(draft, register(r), register(r + 1))
 }
 
 #[cycle(emission)]
@@ -142,15 +170,14 @@ fn emit_logic(
 #[cycle(emission)]
 fn emit_choice(
     draft: &mut Difo,
-    t: DType,
     c: &TypedExpr,
     a: &TypedExpr,
     b: &TypedExpr,
     r: u8,
 ) -> Result<(), AllocError>
     requires few { r
-        + need (Typed.Choice t (typed_of c.now) (typed_of a.now) (typed_of b.now)) ≤ 7 }
-    ensures { OnOk result
+        + max (need (typed_of c.now)) (max (need (typed_of a.now)) (need (typed_of b.now))) ≤ 7 }
+    ensures { (t : DType) → OnOk result
         (Adds (code_of (Typed.Choice t (typed_of c.now) (typed_of a.now) (typed_of b.now)) r)
         draft.old draft.new) }
 {
@@ -182,32 +209,30 @@ fn emit_keys(draft: &mut Difo, keys: &[TypedExpr], r: u8) -> Result<(), AllocErr
 
 #[cycle(emission)]
 #[tactic(auto, using(crate::proofs::Adding::keys_need))]
-fn emit_read(draft: &mut Difo, x: Variable, keys: &[TypedExpr], r: u8) -> Result<(), AllocError>
-    requires few { r + need (Read x (typeds_of keys.now)) ≤ 7 }
-    ensures { OnOk result (Adds (code_of (Read x (typeds_of keys.now)) r) draft.old draft.new) }
+fn emit_read(draft: &mut Difo, target: Target<'_>, r: u8) -> Result<(), AllocError>
+    requires few { r + need (Read target.variable (typeds_of target.keys.now)) ≤ 7 }
+    ensures { OnOk result
+        (Adds (code_of (Read target.entry.variable (typeds_of target.entry.keys.now)) r)
+        draft.old draft.new) }
 {
-    emit_keys(draft, keys, r)?;
-    fetch(draft, x, keys, r, register(r))
+    emit_keys(draft, target.keys, r)?;
+    fetch(draft, target, r, register(r))
 }
 
 #[cycle(emission)]
 #[tactic(auto, using(crate::proofs::Adding::keys_need))]
-fn emit_assign(
-    draft: &mut Difo,
-    x: Variable,
-    keys: &[TypedExpr],
-    a: &TypedExpr,
-    r: u8,
-) -> Result<(), AllocError>
-    requires few { r + need (Assign x (typeds_of keys.now) (typed_of a.now)) ≤ 7 }
+fn emit_assign(draft: &mut Difo, target: Target<'_>, a: &TypedExpr, r: u8) -> Result<(), AllocError>
+    requires few { r
+        + need (Assign target.variable (typeds_of target.keys.now) (typed_of a.now)) ≤ 7 }
     ensures { OnOk result
-        (Adds (code_of (Assign x (typeds_of keys.now) (typed_of a.now)) r) draft.old draft.new) }
+        (Adds (code_of (Assign target.entry.variable (typeds_of target.entry.keys.now)
+        (typed_of a.now)) r) draft.old draft.new) }
 {
-    emit_keys(draft, keys, r)?;
-    let q = after(keys, r);
+    emit_keys(draft, target.keys, r)?;
+    let q = after(target.keys, r);
     emit(draft, a, q)?;
-    save(draft, x, keys, r, register(q))?;
-    lower(draft, keys, register(q), register(r))
+    save(draft, target, r, register(q))?;
+    lower(draft, target.keys, register(q), register(r))
 }
 
 #[cycle(emission)]
@@ -215,26 +240,26 @@ fn emit_assign(
 fn emit_update(
     draft: &mut Difo,
     operation: Operation,
-    x: Variable,
-    keys: &[TypedExpr],
+    target: Target<'_>,
     a: &TypedExpr,
     r: u8,
 ) -> Result<(), AllocError>
-    requires few { r + need (Update operation x (typeds_of keys.now) (typed_of a.now)) ≤ 7 }
+    requires few { r
+        + need (Update operation target.variable (typeds_of target.keys.now) (typed_of a.now)) ≤ 7 }
     ensures { OnOk result
-        (Adds (code_of (Update operation x (typeds_of keys.now) (typed_of a.now)) r)
-        draft.old draft.new) }
+        (Adds (code_of (Update operation target.entry.variable (typeds_of target.entry.keys.now)
+        (typed_of a.now)) r) draft.old draft.new) }
 {
-    emit_keys(draft, keys, r)?;
-    let q = after(keys, r);
+    emit_keys(draft, target.keys, r)?;
+    let q = after(target.keys, r);
     let d = register(q);
-    fetch(draft, x, keys, r, d)?;
+    fetch(draft, target, r, d)?;
     narrow(draft, works_in(operation), d)?;
     emit(draft, a, q + 1)?;
     operate(draft, operation, d, register(q + 1))?;
-    hold(draft, x.holds, d)?;
-    save(draft, x, keys, r, d)?;
-    lower(draft, keys, d, register(r))
+    hold(draft, target.variable.holds, d)?;
+    save(draft, target, r, d)?;
+    lower(draft, target.keys, d, register(r))
 }
 
 #[cycle(emission)]
@@ -243,19 +268,21 @@ fn emit_step(
     draft: &mut Difo,
     step: Step,
     answer: Answer,
-    x: Variable,
-    keys: &[TypedExpr],
+    target: Target<'_>,
     r: u8,
 ) -> Result<(), AllocError>
-    requires few { r + need (Count step answer x (typeds_of keys.now)) ≤ 7 }
+    requires few { r
+        + need (Count step answer target.variable (typeds_of target.keys.now)) ≤ 7 }
     ensures { OnOk result
-        (Adds (code_of (Count step answer x (typeds_of keys.now)) r) draft.old draft.new) }
+        (Adds (code_of (Count step answer target.entry.variable (typeds_of target.entry.keys.now))
+        r) draft.old draft.new) }
 {
-    emit_keys(draft, keys, r)?;
-    let d = register(after(keys, r));
-    fetch(draft, x, keys, r, d)?;
-    put_step(draft, step, x.holds, d)?;
-    save(draft, x, keys, r, d)?;
-    put_answer(draft, answer, step, x.holds, d)?;
-    lower(draft, keys, d, register(r))
+    let holds = target.variable.holds;
+    emit_keys(draft, target.keys, r)?;
+    let d = register(after(target.keys, r));
+    fetch(draft, target, r, d)?;
+    put_step(draft, step, holds, d)?;
+    save(draft, target, r, d)?;
+    put_answer(draft, answer, step, holds, d)?;
+    lower(draft, target.keys, d, register(r))
 }

@@ -11,6 +11,15 @@ use d_types::{Space, TypedExpr, Variable};
 use dif_validate::{Difo, Instr, Reg};
 use std::alloc::AllocError;
 
+/// A variable, or its element at these keys.
+#[derive(Clone, Copy)]
+pub(crate) struct Target<'a> {
+    /// The variable.
+    pub(crate) variable: Variable,
+    /// The keys, none where it is the variable itself.
+    pub(crate) keys: &'a [TypedExpr],
+}
+
 /// The number of the register after the keys.
 #[tactic(auto, using(crate::proofs::Adding::counted))]
 pub(crate) fn after(keys: &[TypedExpr], r: u8) -> u8
@@ -44,19 +53,15 @@ fn put_keyed(draft: &mut Difo, keys: &[TypedExpr], r: u8, i: Instr) -> Result<()
 }
 
 /// Loads a variable.
-pub(crate) fn fetch(
-    draft: &mut Difo,
-    x: Variable,
-    keys: &[TypedExpr],
-    r: u8,
-    d: Reg,
-) -> Result<(), AllocError>
-    requires few { r + count (typeds_of keys.now) ≤ 8 }
+pub(crate) fn fetch(draft: &mut Difo, target: Target<'_>, r: u8, d: Reg) -> Result<(), AllocError>
+    requires few { r + count (typeds_of target.keys.now) ≤ 8 }
     ensures { OnOk result
-        (Adds (fetching x.space (typeds_of keys.now) (var_of x) r d) draft.old draft.new) }
+        (Adds (fetching target.entry.variable.space (typeds_of target.entry.keys.now)
+        (var_of target.entry.variable) r d) draft.old draft.new) }
 {
-    let var = var_of(x);
-    match x.space {
+    let Target { variable, keys } = target;
+    let var = var_of(variable);
+    match variable.space {
         Space::Clause => put(draft, Instr::Ldls(var, d)),
         Space::Thread => match keys {
             [] => put(draft, Instr::Ldts(var, d)),
@@ -66,19 +71,15 @@ pub(crate) fn fetch(
 }
 
 /// Stores a variable.
-pub(crate) fn save(
-    draft: &mut Difo,
-    x: Variable,
-    keys: &[TypedExpr],
-    r: u8,
-    a: Reg,
-) -> Result<(), AllocError>
-    requires few { r + count (typeds_of keys.now) ≤ 8 }
+pub(crate) fn save(draft: &mut Difo, target: Target<'_>, r: u8, a: Reg) -> Result<(), AllocError>
+    requires few { r + count (typeds_of target.keys.now) ≤ 8 }
     ensures { OnOk result
-        (Adds (saving x.space (typeds_of keys.now) (var_of x) r a) draft.old draft.new) }
+        (Adds (saving target.entry.variable.space (typeds_of target.entry.keys.now)
+        (var_of target.entry.variable) r a) draft.old draft.new) }
 {
-    let var = var_of(x);
-    match x.space {
+    let Target { variable, keys } = target;
+    let var = var_of(variable);
+    match variable.space {
         Space::Clause => put(draft, Instr::Stls(var, a)),
         Space::Thread => match keys {
             [] => put(draft, Instr::Stts(var, a)),

@@ -7,7 +7,6 @@ use d_values::{ClauseLocals, DType, ThreadTable, ValueRef};
 use dif_machine::{Frame, MachineFault, run_in};
 use dif_validate::ValidDifo;
 use firing_reader::Firing;
-use std::alloc::Global;
 
 /// The object of an expression.
 #[derive(Drop)]
@@ -27,12 +26,11 @@ impl TypedObject {
     ///
     /// ```text
     /// // of `timestamp`, where the firing's time is 1000
-    /// object.run_in(alloc, &firing, &mut frame, &mut locals, &mut own)?; // ValueRef::Int(1000)
+    /// object.run_in(&firing, &mut frame, &mut locals, &mut own)?; // ValueRef::Int(1000)
     /// ```
     #[inline(always)]
     pub fn run_in<'a>(
         &'a self,
-        alloc: Global,
         firing: &'a Firing,
         frame: &'a mut Frame,
         locals: &mut ClauseLocals,
@@ -43,7 +41,7 @@ impl TypedObject {
     {
         // That it is valid.
         let _ = self.object.difo();
-        run_in(alloc, &self.object, firing, frame, locals, own)
+        run_in(&self.object, firing, frame, locals, own)
     }
 }
 

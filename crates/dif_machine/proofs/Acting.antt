@@ -14,10 +14,10 @@ use Rattle.dif_machine.specs.Vocabulary.{NumberKind, TextKind, Object, Operator,
 use Rattle.dif_machine.specs.Vocabulary.{Value, Int, Text, Var, Variables}
 use Rattle.dif_machine.specs.Frames.{Frame, at_place, with_content, with_value, with_comparison}
 use Rattle.dif_machine.specs.Frames.{with_tuple}
-use Rattle.dif_machine.specs.Held.{part_of}
+use Rattle.dif_machine.specs.Held.{part_of_cell}
 use Rattle.dif_machine.specs.Operators.{result_of, complement, comparison_of, text_comparison_of}
 use Rattle.dif_machine.specs.Operators.{holds, call_of}
-use Rattle.dif_machine.specs.Sources.{built_in_of, argument_of, local_in, own_in}
+use Rattle.dif_machine.specs.Sources.{built_in_of, argument_of, local_in, own_value}
 use Rattle.dif_machine.specs.Steps.{Next, Goes, Ends, Faults, Stuck, on, on_number, on_text}
 use Rattle.dif_machine.specs.Steps.{on_kind, on_key, store_own, store_local, puts, puts_result}
 use Rattle.dif_machine.specs.Steps.{pushes, act}
@@ -175,11 +175,11 @@ module _ (o : Object) (f : Firing) (s : Frame) (vars : Variables) where
 
   -- ---- the tuple
 
-  pub pushtr : (a : Reg) (t : Frame) (some : Variables) → act (Pushtr a) o f s some ≢ Stuck → t ≡ with_tuple s (s.tuple ++ part_of (at s.registers a) ∷ [])
+  pub pushtr : (a : Reg) (t : Frame) (some : Variables) → act (Pushtr a) o f s some ≢ Stuck → t ≡ with_tuple s (s.tuple ++ part_of_cell (at s.registers a) ∷ [])
       → act (Pushtr a) o f s vars ≡ Goes t vars
   pushtr a t some runs e = by (at s.registers a) runs e
     where
-      by : (v : Option Value) → on_text v (λ bytes. pushes s (Name bytes) some) ≢ Stuck → t ≡ with_tuple s (s.tuple ++ part_of v ∷ [])
+      by : (v : Option Value) → on_text v (λ bytes. pushes s (Name bytes) some) ≢ Stuck → t ≡ with_tuple s (s.tuple ++ part_of_cell v ∷ [])
           → on_text v (λ bytes. pushes s (Name bytes) vars) ≡ Goes t vars
       by None runs e = absurd (runs refl)
       by (Some (Int n)) runs e = absurd (runs refl)
@@ -187,11 +187,11 @@ module _ (o : Object) (f : Firing) (s : Frame) (vars : Variables) where
           fits_8 (nat_lt (length s.tuple) 8) (Goes (with_tuple s (s.tuple ++ Name x ∷ [])) some) _ runs
           ∙ goes_to (with_tuple s (s.tuple ++ Name x ∷ [])) t e
 
-  pub pushtv : (a : Reg) (t : Frame) (some : Variables) → act (Pushtv a) o f s some ≢ Stuck → t ≡ with_tuple s (s.tuple ++ part_of (at s.registers a) ∷ [])
+  pub pushtv : (a : Reg) (t : Frame) (some : Variables) → act (Pushtv a) o f s some ≢ Stuck → t ≡ with_tuple s (s.tuple ++ part_of_cell (at s.registers a) ∷ [])
       → act (Pushtv a) o f s vars ≡ Goes t vars
   pushtv a t some runs e = by (at s.registers a) runs e
     where
-      by : (v : Option Value) → on_number v (λ n. pushes s (Number (cast_signed w64 n)) some) ≢ Stuck → t ≡ with_tuple s (s.tuple ++ part_of v ∷ [])
+      by : (v : Option Value) → on_number v (λ n. pushes s (Number (cast_signed w64 n)) some) ≢ Stuck → t ≡ with_tuple s (s.tuple ++ part_of_cell v ∷ [])
           → on_number v (λ n. pushes s (Number (cast_signed w64 n)) vars) ≡ Goes t vars
       by None runs e = absurd (runs refl)
       by (Some (Text x)) runs e = absurd (runs refl)
@@ -221,10 +221,10 @@ module _ (o : Object) (f : Firing) (s : Frame) (vars : Variables) where
 
   -- ---- variables
 
-  pub ldts : (x : Var) (d : Reg) (value : Value) (key : List KeyPart) (t : Frame) → key ≡ [] → value ≡ own_in vars x key → t ≡ with_content s d (Some value)
+  pub ldts : (x : Var) (d : Reg) (value : Value) (key : List KeyPart) (t : Frame) → key ≡ [] → value ≡ own_value vars x key → t ≡ with_content s d (Some value)
       → act (Ldts x d) o f s vars ≡ Goes t vars
   ldts x d value key t k w e =
-      ap (λ key. puts s d (own_in vars x key) vars) (sym k)
+      ap (λ key. puts s d (own_value vars x key) vars) (sym k)
       ∙ ap (λ value. puts s d value vars) (sym w)
       ∙ goes_to (with_value s d value) t e
 
@@ -235,10 +235,10 @@ module _ (o : Object) (f : Firing) (s : Frame) (vars : Variables) where
       ∙ goes_to (with_value s d value) t e
 
   pub ldtaa : (x : Var) (d : Reg) (value : Value) (t : Frame) (some : Variables) → act (Ldtaa x d) o f s some ≢ Stuck
-      → value ≡ own_in vars x s.tuple → t ≡ with_content s d (Some value)
+      → value ≡ own_value vars x s.tuple → t ≡ with_content s d (Some value)
       → act (Ldtaa x d) o f s vars ≡ Goes t vars
   ldtaa x d value t some runs w e =
-      key_is s.tuple (puts s d (own_in some x s.tuple) some) _ runs
+      key_is s.tuple (puts s d (own_value some x s.tuple) some) _ runs
       ∙ ap (λ value. puts s d value vars) (sym w) ∙ goes_to (with_value s d value) t e
 
   module _ (x : Var) (a : Reg) (value : Value) (t : Frame) (some : Variables) (p : at s.registers a ≡ Some value) (e : t ≡ at_place s (s.pc + 1)) where

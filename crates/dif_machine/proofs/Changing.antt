@@ -5,22 +5,23 @@ use Rattle.std.specs.Int.{cast_signed, w64}
 use Rattle.std.proofs.Common.{refl, sym, ap, ◌∙◌, subst, ⊎_elim, cond}
 use Rattle.std.proofs.lemmas.Bool.{cases_eq}
 use Rattle.std.proofs.lemmas.List.{get_or-set_other}
-use Rattle.dif_validate.specs.Flow.{target}
-use Rattle.dif_validate.specs.Registers.{number_of, put}
+use Rattle.dif_validate.specs.Flow.{jump_target}
+use Rattle.dif_validate.specs.Registers.{register_number, put}
 use Rattle.dif_validate.specs.declared.register.Reg.TheVariants.{R0, R1, R2, R3, R4, R5, R6, R7}
+use Rattle.dif_validate.proofs.Writes.{put_set, put_zero}
 use Rattle.dif_machine.specs.Vocabulary.{Comparison, Firing, Instr, Alu, Not, Mov, Cmp, Tst, Scmp}
 use Rattle.dif_machine.specs.Vocabulary.{Ba, Branch, Setx, Sets, Ldgs, Ldga, Ldts, Stts, Ldls, Stls}
 use Rattle.dif_machine.specs.Vocabulary.{Pushtr, Pushtv, Flushts, Ldtaa, Sttaa, Call, Ret, Nop}
 use Rattle.dif_machine.specs.Vocabulary.{KeyPart, Number, Name, Kind, NumberKind, TextKind, Object}
 use Rattle.dif_machine.specs.Vocabulary.{OutOfZero, Reg, at, Value, Int, Text, Variables}
-use Rattle.dif_machine.specs.Changes.{output_register, compares, fills, stores, Changes}
+use Rattle.dif_validate.specs.Rows.{ComparesTwo, StoresVariable, row_of}
+use Rattle.dif_machine.specs.Changes.{output_register, fills, Changes}
 use Rattle.dif_machine.specs.Frames.{Frame, at_place, with_value, with_comparison, with_tuple}
 use Rattle.dif_machine.specs.Operators.{result_of, comparison_of, text_comparison_of, holds}
 use Rattle.dif_machine.specs.Operators.{call_of}
 use Rattle.dif_machine.specs.Sources.{built_in_of}
 use Rattle.dif_machine.specs.Steps.{Next, Goes, Ends, Stuck, on, on_number, on_text, on_kind}
 use Rattle.dif_machine.specs.Steps.{on_key, puts_result, act, step_of}
-use Rattle.dif_machine.proofs.Fitting.{put_set, put_zero}
 
 abbrev register_of : ℕ → Reg
 register_of zero = R0
@@ -32,7 +33,7 @@ register_of (suc (suc (suc (suc (suc zero))))) = R5
 register_of (suc (suc (suc (suc (suc (suc zero)))))) = R6
 register_of (suc (suc (suc (suc (suc (suc (suc n))))))) = R7
 
-again : (r : Reg) → register_of (number_of r) ≡ r
+again : (r : Reg) → register_of (register_number r) ≡ r
 again R0 = refl
 again R1 = refl
 again R2 = refl
@@ -42,15 +43,15 @@ again R5 = refl
 again R6 = refl
 again R7 = refl
 
-same_register : (d r : Reg) → number_of d ≡ number_of r → d ≡ r
+same_register : (d r : Reg) → register_number d ≡ register_number r → d ≡ r
 same_register d r e = sym (again d) ∙ ap register_of e ∙ again r
 
 put_other : (xs : List (Option Value)) (d r : Reg) (x : Option Value) → Some d ≢ Some r → at (put xs d x) r ≡ at xs r
 put_other xs d r x ne =
     ⊎_elim
     (λ zero. ap (λ l. at l r) (put_zero xs d x zero))
-    (λ other. ap (λ l. at l r) (put_set xs d x other) ∙ get_or-set_other xs (number_of d) (number_of r) x None (λ e. ne (ap Some (same_register d r (sym e)))))
-    (cases_eq (number_of d) 0)
+    (λ other. ap (λ l. at l r) (put_set xs d x other) ∙ get_or-set_other xs (register_number d) (register_number r) x None (λ e. ne (ap Some (same_register d r (sym e)))))
+    (cases_eq (register_number d) 0)
 
 module _ (s : Frame) (vars : Variables) (i : Instr) where
   number : (v : Option Value) (go : ℕ → Next) → ((x : ℕ) → Changes i s vars (go x)) → Changes i s vars (on_number v go)
@@ -88,11 +89,11 @@ module _ (s : Frame) (vars : Variables) (i : Instr) where
   result d (Ok word) e = value d (Int word) e
   result d (Err none) e = refl
 
-  comparison : (known : Comparison) → compares i ≡ true → Changes i s vars (Goes (with_comparison s known) vars)
+  comparison : (known : Comparison) → (row_of i).change ≡ ComparesTwo → Changes i s vars (Goes (with_comparison s known) vars)
   comparison known e = record {
     place = λ ne. absurd (ne refl);
     registers = λ r ne. refl;
-    comparison = λ h. absurd (let x : true ≡ false = sym e ∙ h in cc);
+    comparison = λ h. absurd (h e);
     tuple = λ h. refl;
     variables = λ h. refl;
   }
@@ -110,19 +111,19 @@ module _ (s : Frame) (vars : Variables) (i : Instr) where
   push true p e = tuple (s.tuple ++ p ∷ []) e
   push false p e = tt
 
-  store : (after : Variables) → stores i ≡ true → Changes i s vars (Goes (at_place s (s.pc + 1)) after)
+  store : (after : Variables) → (row_of i).change ≡ StoresVariable → Changes i s vars (Goes (at_place s (s.pc + 1)) after)
   store after e = record {
     place = λ ne. absurd (ne refl);
     registers = λ r ne. refl;
     comparison = λ h. refl;
     tuple = λ h. refl;
-    variables = λ h. absurd (let x : true ≡ false = sym e ∙ h in cc);
+    variables = λ h. absurd (h e);
   }
 
-  go : (to : ℕ) → (to ≢ s.pc + 1 → target i ≡ Some to) → Changes i s vars (Goes (at_place s to) vars)
+  go : (to : ℕ) → (to ≢ s.pc + 1 → jump_target i ≡ Some to) → Changes i s vars (Goes (at_place s to) vars)
   go to h = record { place = h; registers = λ r ne. refl; comparison = λ h. refl; tuple = λ h. refl; variables = λ h. refl }
 
-  branch : (b : Bool) (to : ℕ) → target i ≡ Some to → Changes i s vars (Goes (at_place s (cond b to (s.pc + 1))) vars)
+  branch : (b : Bool) (to : ℕ) → jump_target i ≡ Some to → Changes i s vars (Goes (at_place s (cond b to (s.pc + 1))) vars)
   branch true to e = go to (λ ne. e)
   branch false to e = go (s.pc + 1) (λ ne. absurd (ne refl))
 

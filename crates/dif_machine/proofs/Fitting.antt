@@ -4,7 +4,6 @@ use Rattle.std.specs.Prelude.{length, Option, Some, None, slice_index_or, slice_
 use Rattle.std.proofs.Common.{refl, sym, ap, ◌∙◌, subst, ⊎_elim, arith}
 use Rattle.std.proofs.lemmas.Bool.{cases_eq}
 use Rattle.std.proofs.lemmas.List.{get_or-set_same, get_or-set_other}
-use Rattle.std.proofs.Math.ListN.{length-set}
 use Rattle.d_values.specs.Stores.{kind_of}
 use Rattle.d_values.specs.declared.key.KeyPart.{KeyPart}
 use Rattle.d_values.specs.declared.value.Kind.{Kind}
@@ -13,21 +12,21 @@ use Rattle.d_values.specs.declared.value.Value.{Value}
 use Rattle.d_values.specs.declared.value.Value.TheVariants as va
 use Rattle.dif_validate.specs.declared.asks.Asks.TheVariants.{Any, One, Two}
 use Rattle.dif_validate.specs.declared.register.Reg.{Reg}
-use Rattle.dif_validate.specs.declared.register.Reg.TheVariants.{R0, R1, R2, R3, R4, R5, R6, R7}
 use Rattle.dif_validate.specs.declared.shape.Shape.{Shape}
 use Rattle.dif_validate.specs.Asks.{finds_other, finds_unset}
-use Rattle.dif_validate.specs.Leaves.{with_register, with_comparison, with_tuple}
-use Rattle.dif_validate.specs.Registers.{number_of, at, put}
+use Rattle.dif_validate.specs.Leaves.{with_register, shape_compared, shape_with_tuple}
+use Rattle.dif_validate.specs.Registers.{register_number, at, put}
 use Rattle.dif_validate.specs.Shapes.{is_other, is_unset}
 use Rattle.dif_validate.proofs.Flowing.{Within}
+use Rattle.dif_validate.proofs.Writes.{number_below, put_set, put_zero, put_long}
 use Rattle.dif_machine.specs.declared.comparing.Comparison.{Comparison}
 use Rattle.dif_machine.specs.Frames.{Frame}
 use Rattle.dif_machine.specs.Frames as frames
 use Rattle.dif_machine.specs.Kinds.{kinds_of}
-use Rattle.dif_machine.specs.Known.{Holds, Fits}
+use Rattle.dif_machine.specs.Known.{Holds, FitsShape}
 use Rattle.dif_machine.specs.Steps.{Next, on, on_number, on_text, on_kind}
 
-pub fits_within : (u t : Shape) (f : Frame) → Within u t → Fits t f → Fits u f
+pub fits_within : (u t : Shape) (f : Frame) → Within u t → FitsShape t f → FitsShape u f
 fits_within u t f w h = record {
   registers = λ r k e. h.registers r k (w.registers r k e);
   compared = λ e. h.compared (w.compared e);
@@ -37,50 +36,10 @@ fits_within u t f w h = record {
 
 -- ---- writes
 
-pub number_below : (r : Reg) → number_of r < 8
-number_below R0 = omega arith
-number_below R1 = omega arith
-number_below R2 = omega arith
-number_below R3 = omega arith
-number_below R4 = omega arith
-number_below R5 = omega arith
-number_below R6 = omega arith
-number_below R7 = omega arith
-
 pub set_found : {A : Type 0} (xs : List (Option A)) (n : ℕ) (x : Option A) (y : A) → slice_index_or (slice_set xs n x) n None ≡ Some y → x ≡ Some y
 set_found [] n x y h = cc
 set_found (z ∷ xs) zero x y h = h
 set_found (z ∷ xs) (suc n) x y h = set_found xs n x y h
-
-pub put_set : {A : Type 0} (xs : List (Option A)) (d : Reg) (x : Option A) → number_of d ≢ 0 → put xs d x ≡ slice_set xs (number_of d) x
-put_set xs R0 x h = absurd (h refl)
-put_set xs R1 x h = refl
-put_set xs R2 x h = refl
-put_set xs R3 x h = refl
-put_set xs R4 x h = refl
-put_set xs R5 x h = refl
-put_set xs R6 x h = refl
-put_set xs R7 x h = refl
-
-pub put_zero : {A : Type 0} (xs : List (Option A)) (d : Reg) (x : Option A) → number_of d ≡ 0 → put xs d x ≡ xs
-put_zero xs R0 x h = refl
-put_zero xs R1 x h = absurd (omega arith)
-put_zero xs R2 x h = absurd (omega arith)
-put_zero xs R3 x h = absurd (omega arith)
-put_zero xs R4 x h = absurd (omega arith)
-put_zero xs R5 x h = absurd (omega arith)
-put_zero xs R6 x h = absurd (omega arith)
-put_zero xs R7 x h = absurd (omega arith)
-
-pub put_long : {A : Type 0} (xs : List (Option A)) (d : Reg) (x : Option A) → length (put xs d x) ≡ length xs
-put_long xs R0 x = refl
-put_long xs R1 x = length-set xs 1 x
-put_long xs R2 x = length-set xs 2 x
-put_long xs R3 x = length-set xs 3 x
-put_long xs R4 x = length-set xs 4 x
-put_long xs R5 x = length-set xs 5 x
-put_long xs R6 x = length-set xs 6 x
-put_long xs R7 x = length-set xs 7 x
 
 -- what is known of a register after a write holds
 put_fits : (ks : List (Option Kind)) (vs : List (Option Value)) (d : Reg) (k : Option Kind) (v : Value) → length vs ≡ 8
@@ -88,23 +47,23 @@ put_fits : (ks : List (Option Kind)) (vs : List (Option Value)) (d : Reg) (k : O
     → (r : Reg) (j : Kind) → at (put ks d k) r ≡ Some j → Holds (at (put vs d (Some v)) r) j
 put_fits ks vs d k v long old new r j h =
     ⊎_elim
-    (λ (z : number_of d ≡ 0).
+    (λ (z : register_number d ≡ 0).
     subst (λ xs. Holds (at xs r) j) (sym (put_zero vs d (Some v) z)) (old r j (ap (λ xs. at xs r) (sym (put_zero ks d k z)) ∙ h)))
-    (λ (nz : number_of d ≡ 0 → ⊥).
-    let h' : slice_index_or (slice_set ks (number_of d) k) (number_of r) None ≡ Some j = ap (λ xs. at xs r) (sym (put_set ks d k nz)) ∙ h in
+    (λ (nz : register_number d ≡ 0 → ⊥).
+    let h' : slice_index_or (slice_set ks (register_number d) k) (register_number r) None ≡ Some j = ap (λ xs. at xs r) (sym (put_set ks d k nz)) ∙ h in
     subst (λ xs. Holds (at xs r) j) (sym (put_set vs d (Some v) nz))
     (⊎_elim
-    (λ (same : number_of r ≡ number_of d).
-    let inside : number_of d < length vs = omega (arith, number_below d) in
-    let found : k ≡ Some j = set_found ks (number_of d) k j (ap (λ n. slice_index_or (slice_set ks (number_of d) k) n None) (sym same) ∙ h') in
-    record { value = v; is = ap (λ n. slice_index_or (slice_set vs (number_of d) (Some v)) n None) same ∙ get_or-set_same vs (number_of d) (Some v) None inside; kind = new j found })
-    (λ (other : number_of r ≡ number_of d → ⊥).
-    let was = old r j (sym (get_or-set_other ks (number_of d) (number_of r) k None other) ∙ h') in
-    record { value = was.value; is = get_or-set_other vs (number_of d) (number_of r) (Some v) None other ∙ was.is; kind = was.kind })
-    (cases_eq (number_of r) (number_of d))))
-    (cases_eq (number_of d) 0)
+    (λ (same : register_number r ≡ register_number d).
+    let inside : register_number d < length vs = omega (arith, number_below d) in
+    let found : k ≡ Some j = set_found ks (register_number d) k j (ap (λ n. slice_index_or (slice_set ks (register_number d) k) n None) (sym same) ∙ h') in
+    record { value = v; is = ap (λ n. slice_index_or (slice_set vs (register_number d) (Some v)) n None) same ∙ get_or-set_same vs (register_number d) (Some v) None inside; kind = new j found })
+    (λ (other : register_number r ≡ register_number d → ⊥).
+    let was = old r j (sym (get_or-set_other ks (register_number d) (register_number r) k None other) ∙ h') in
+    record { value = was.value; is = get_or-set_other vs (register_number d) (register_number r) (Some v) None other ∙ was.is; kind = was.kind })
+    (cases_eq (register_number r) (register_number d))))
+    (cases_eq (register_number d) 0)
 
-pub fits_value : (s : Shape) (f : Frame) (d : Reg) (k : Option Kind) (v : Value) → Fits s f → ((j : Kind) → k ≡ Some j → kind_of v ≡ j) → Fits (with_register s d k) (frames.with_value f d v)
+pub fits_value : (s : Shape) (f : Frame) (d : Reg) (k : Option Kind) (v : Value) → FitsShape s f → ((j : Kind) → k ≡ Some j → kind_of v ≡ j) → FitsShape (with_register s d k) (frames.with_value f d v)
 fits_value s f d k v h is = record {
   registers = put_fits s.registers f.registers d k v h.long h.registers is;
   compared = h.compared;
@@ -112,13 +71,13 @@ fits_value s f d k v h is = record {
   long = put_long f.registers d (Some v) ∙ h.long;
 }
 
-pub fits_place : (s : Shape) (f : Frame) (pc : ℕ) → Fits s f → Fits s (frames.at_place f pc)
+pub fits_place : (s : Shape) (f : Frame) (pc : ℕ) → FitsShape s f → FitsShape s (frames.at_place f pc)
 fits_place s f pc h = record { registers = h.registers; compared = h.compared; tuple = h.tuple; long = h.long }
 
-pub fits_comparison : (s : Shape) (f : Frame) (known : Comparison) → Fits s f → Fits (with_comparison s) (frames.with_comparison f known)
+pub fits_comparison : (s : Shape) (f : Frame) (known : Comparison) → FitsShape s f → FitsShape (shape_compared s) (frames.with_comparison f known)
 fits_comparison s f known h = record { registers = h.registers; compared = λ e n. cc; tuple = h.tuple; long = h.long }
 
-pub fits_tuple : (s : Shape) (f : Frame) (o : Option (List Kind)) (parts : List KeyPart) → Fits s f → ((ks : List Kind) → o ≡ Some ks → kinds_of parts ≡ ks) → Fits (with_tuple s o) (frames.with_tuple f parts)
+pub fits_tuple : (s : Shape) (f : Frame) (o : Option (List Kind)) (parts : List KeyPart) → FitsShape s f → ((ks : List Kind) → o ≡ Some ks → kinds_of parts ≡ ks) → FitsShape (shape_with_tuple s o) (frames.with_tuple f parts)
 fits_tuple s f o parts h is = record { registers = h.registers; compared = h.compared; tuple = is; long = h.long }
 
 -- ---- what an instruction asks for is there

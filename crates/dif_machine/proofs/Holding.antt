@@ -3,17 +3,17 @@ use Rattle.std.specs.Prelude.{◌≡◌, ◌≢◌, ◌<◌, ◌+◌, ℕ, List,
 use Rattle.std.specs.Prelude.{slice_set}
 use Rattle.std.proofs.Common.{refl, sym, ap, ◌∙◌, arith}
 use Rattle.std.proofs.lemmas.List.{map-set, get_or-map}
-use Rattle.dif_validate.specs.Registers.{number_of}
+use Rattle.dif_validate.specs.Registers.{register_number}
 use Rattle.dif_validate.specs.declared.register.Reg.TheVariants.{R0, R1, R2, R3, R4, R5, R6, R7}
+use Rattle.dif_validate.proofs.Writes.{put_set}
 use Rattle.dif_machine.specs.declared.held.Cell.{Cell}
 use Rattle.dif_machine.specs.declared.held.Held.{Held}
 use Rattle.dif_machine.specs.declared.held.Held.TheVariants as held
 use Rattle.dif_machine.specs.Vocabulary.{Firing, Object, Reg, at, put, Value}
 use Rattle.dif_machine.specs.Frames.{Frame, with_content}
 use Rattle.dif_machine.specs.Held.{content, contents, held_value}
-use Rattle.dif_machine.proofs.Fitting.{put_set}
 
-pub not_first : (d : Reg) → (d ≡ R0 → ⊥) → number_of d ≢ 0
+pub not_first : (d : Reg) → (d ≡ R0 → ⊥) → register_number d ≢ 0
 not_first R0 h = absurd (h refl)
 not_first R1 h = λ e. omega (arith, e)
 not_first R2 h = λ e. omega (arith, e)
@@ -37,11 +37,11 @@ module _ (o : Object) (f : Firing) where
   elsewhere a b (held.BuiltIn v) own = refl
   elsewhere a b held.Own own = absurd (own refl)
 
-  pub at_content : (cells : List Cell) (a : Reg) (d : Cell) → number_of a < length cells → at (contents o f cells) a ≡ content o f (slice_index_or cells (number_of a) d)
-  at_content cells a d inside = get_or-map (content o f) cells (number_of a) d None inside
+  pub at_content : (cells : List Cell) (a : Reg) (d : Cell) → register_number a < length cells → at (contents o f cells) a ≡ content o f (slice_index_or cells (register_number a) d)
+  at_content cells a d inside = get_or-map (content o f) cells (register_number a) d None inside
 
-  pub put_content : (cells : List Cell) (d : Reg) (cell : Cell) (x : Option Value) → number_of d ≢ 0 → content o f cell ≡ x → contents o f (slice_set cells (number_of d) cell) ≡ put (contents o f cells) d x
+  pub put_content : (cells : List Cell) (d : Reg) (cell : Cell) (x : Option Value) → register_number d ≢ 0 → content o f cell ≡ x → contents o f (slice_set cells (register_number d) cell) ≡ put (contents o f cells) d x
   put_content cells d cell x other e =
-      map-set (content o f) cells (number_of d) cell
-      ∙ ap (slice_set (contents o f cells) (number_of d)) e
+      map-set (content o f) cells (register_number d) cell
+      ∙ ap (slice_set (contents o f cells) (register_number d)) e
       ∙ sym (put_set (contents o f cells) d x other)

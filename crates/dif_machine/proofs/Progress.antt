@@ -28,15 +28,15 @@ use Rattle.dif_validate.specs.declared.instruction.Instr.TheVariants.{Ldtaa, Stt
 use Rattle.dif_validate.specs.declared.register.Reg.{Reg}
 use Rattle.dif_validate.specs.declared.register.Reg.TheVariants.{R0, R1, R2, R3, R4, R5, R6, R7}
 use Rattle.dif_validate.specs.declared.shape.Shape.{Shape}
-use Rattle.dif_validate.specs.Asks.{takes, is_tuple_of, is_some_tuple}
+use Rattle.dif_validate.specs.Asks.{takes_tuple, is_tuple_of, is_some_tuple}
 use Rattle.dif_validate.specs.Faults.{misses_tuple}
-use Rattle.dif_validate.specs.Flow.{falls, target, before}
-use Rattle.dif_validate.specs.Leaves.{leaves, with_register, tuple_with, kind_of_built_in}
-use Rattle.dif_validate.specs.Leaves.{kind_of_function}
+use Rattle.dif_validate.specs.Flow.{falls, jump_target, before}
+use Rattle.dif_validate.specs.Leaves.{leaves, with_register, tuple_with}
+use Rattle.dif_validate.specs.Rows.{kind_of_built_in, kind_of_function}
 use Rattle.dif_validate.specs.Objects.{Object}
 use Rattle.dif_validate.specs.Registers.{at}
 use Rattle.dif_validate.specs.Returns.{return_kind}
-use Rattle.dif_validate.specs.Shapes.{start}
+use Rattle.dif_validate.specs.Shapes.{first_shape}
 use Rattle.dif_validate.specs.Validity.{IsValid}
 use Rattle.dif_validate.proofs.Faultless.{IsFaultless, faultless, goes_on, stays_in}
 use Rattle.dif_validate.proofs.Flowing.{flows_next, flows_target}
@@ -47,13 +47,13 @@ use Rattle.dif_machine.specs.declared.fault.MachineFault.TheVariants.{DivideByZe
 use Rattle.dif_machine.specs.Frames.{Frame}
 use Rattle.dif_machine.specs.Frames as frames
 use Rattle.dif_machine.specs.Kinds.{kind_of_part, kinds_of}
-use Rattle.dif_machine.specs.Known.{Holds, Fits}
+use Rattle.dif_machine.specs.Known.{Holds, FitsShape}
 use Rattle.dif_machine.specs.Operators.{result_of, comparison_of, text_comparison_of, holds}
 use Rattle.dif_machine.specs.Operators.{call_of}
 use Rattle.dif_machine.specs.Runs.{End, Reaches, ends, faults, goes, Comes, stays, steps_on}
 use Rattle.dif_machine.specs.Runs.{RunEnds}
 use Rattle.d_values.specs.Storage.{Variables, as_kind}
-use Rattle.dif_machine.specs.Sources.{built_in_of, built_ins, local_in, own_in}
+use Rattle.dif_machine.specs.Sources.{built_in_of, built_ins, local_in, own_value}
 use Rattle.dif_machine.specs.Steps.{Next, Goes, Ends, Faults, Stuck, on, on_key, puts_result}
 use Rattle.dif_machine.specs.Steps.{pushes, act, step_of, Stepped}
 use Rattle.dif_machine.proofs.Fitting.{fits_within, fits_value, fits_place, fits_comparison}
@@ -65,7 +65,7 @@ pub record Reached (o : Object) (f : Frame) : Type 0 where
   pub inside : f.pc < length o.code
   pub shape : Shape
   pub is : before o.code f.pc ≡ Some shape
-  pub fits : Fits shape f
+  pub fits : FitsShape shape f
 
 -- a step goes further, to where what is known holds, or ends with a value of the object's kind
 abbrev pub Onward : Object → ℕ → Next → Type 0
@@ -88,9 +88,9 @@ pushed_is (Some js) parts p h ks e = by (nat_lt (length js) 8) e
     by true e = map-append kind_of_part parts (p ∷ []) ∙ ap (λ l. l ++ kind_of_part p ∷ []) (h js refl) ∙ (let x : Some (js ++ kind_of_part p ∷ []) ≡ Some ks = e in cc)
     by false e = cc
 
-tuple_known : (i : Instr) (t : Option (List Kind)) → misses_tuple i t ≡ false → (ks : List Kind) × (t ≡ Some ks) × (takes i ks ≡ true)
+tuple_known : (i : Instr) (t : Option (List Kind)) → misses_tuple i t ≡ false → (ks : List Kind) × (t ≡ Some ks) × (takes_tuple i ks ≡ true)
 tuple_known i None h = cc
-tuple_known i (Some ks) h = (ks, refl, not-false (takes i ks) h)
+tuple_known i (Some ks) h = (ks, refl, not-false (takes_tuple i ks) h)
 
 called : (function : Function) (parts : List KeyPart) (ks : List Kind) → kinds_of parts ≡ ks → is_tuple_of function ks ≡ true
     → (v : Value) × (call_of function parts ≡ Some v) × (kind_of v ≡ kind_of_function function)
@@ -130,13 +130,13 @@ there xs n h = ⊎_elim (λ a. (a.0, a.2)) (λ b. absurd (omega (arith, b.0))) (
 is_kind : (v : Value) (k : Kind) → kind_of v ≡ k → (j : Kind) → Some k ≡ Some j → kind_of v ≡ j
 is_kind v k e j h = cc
 
-module _ (o : Object) (valid : IsValid o) (f : Firing) (s : Frame) (vars : Variables) (inside : s.pc < length o.code) (t : Shape) (is : before o.code s.pc ≡ Some t) (fits : Fits t s) where
+module _ (o : Object) (valid : IsValid o) (f : Firing) (s : Frame) (vars : Variables) (inside : s.pc < length o.code) (t : Shape) (is : before o.code s.pc ≡ Some t) (fits : FitsShape t s) where
   abbrev Good : Next → Type 0
   Good = Onward o s.pc
 
   module _ (i : Instr) (at_pc : slice_get o.code s.pc ≡ Some i) (fine : IsFaultless o s.pc i t) where
     -- on to the next instruction
-    fall : (next : Frame) (after : Variables) → next.pc ≡ s.pc + 1 → falls i ≡ true → Fits (leaves i t) next → Good (Goes next after)
+    fall : (next : Frame) (after : Variables) → next.pc ≡ s.pc + 1 → falls i ≡ true → FitsShape (leaves i t) next → Good (Goes next after)
     fall next after e f' h =
         let has = flows_next o.code s.pc i t at_pc is (s.pc + 1) (omega arith) f' in (
           omega arith,
@@ -149,7 +149,7 @@ module _ (o : Object) (valid : IsValid o) (f : Firing) (s : Frame) (vars : Varia
         )
 
     -- to a target
-    jump : (to : ℕ) → target i ≡ Some to → leaves i t ≡ t → Good (Goes (frames.at_place s to) vars)
+    jump : (to : ℕ) → jump_target i ≡ Some to → leaves i t ≡ t → Good (Goes (frames.at_place s to) vars)
     jump to e same =
         let less = goes_on i s.pc to fine.forward e in
         let has = flows_target o.code s.pc i t at_pc is to to less e in (
@@ -158,22 +158,22 @@ module _ (o : Object) (valid : IsValid o) (f : Firing) (s : Frame) (vars : Varia
             inside = stays_in i (length o.code) to fine.inside e;
             shape = has.shape;
             is = has.is;
-            fits = fits_within has.shape (leaves i t) (frames.at_place s to) has.within (subst (λ u. Fits u (frames.at_place s to)) (sym same) (fits_place t s to fits));
+            fits = fits_within has.shape (leaves i t) (frames.at_place s to) has.within (subst (λ u. FitsShape u (frames.at_place s to)) (sym same) (fits_place t s to fits));
           },
         )
 
     result_good : (d : Reg) (r : Result ℕ OutOfZero) → falls i ≡ true → leaves i t ≡ with_register t d (Some Number) → Good (puts_result s d r vars)
     result_good d (Err e) on l = tt
-    result_good d (Ok word) on l = fall _ vars refl on (subst (λ u. Fits u (frames.with_value s d (va.Int word))) (sym l) (fits_value t s d (Some Number) (va.Int word) fits (λ j e. cc)))
+    result_good d (Ok word) on l = fall _ vars refl on (subst (λ u. FitsShape u (frames.with_value s d (va.Int word))) (sym l) (fits_value t s d (Some Number) (va.Int word) fits (λ j e. cc)))
 
     value_good : (d : Reg) (k : Option Kind) (v : Value) → falls i ≡ true → leaves i t ≡ with_register t d k → ((j : Kind) → k ≡ Some j → kind_of v ≡ j) → Good (Goes (frames.with_value s d v) vars)
-    value_good d k v on l h = fall _ vars refl on (subst (λ u. Fits u (frames.with_value s d v)) (sym l) (fits_value t s d k v fits h))
+    value_good d k v on l h = fall _ vars refl on (subst (λ u. FitsShape u (frames.with_value s d v)) (sym l) (fits_value t s d k v fits h))
 
     push_good : (p : KeyPart) (ks : List Kind) → falls i ≡ true → leaves i t ≡ record { registers = t.registers; compared = t.compared; tuple = tuple_with t.tuple (kind_of_part p) } → t.tuple ≡ Some ks → nat_lt (length ks) 8 ≡ true → Good (pushes s p vars)
     push_good p ks on l e small =
         let same : nat_lt (length s.tuple) 8 ≡ true = ap (λ n. nat_lt n 8) (length_of s.tuple ks (fits.tuple ks e)) ∙ small in
         subst (λ b. Good (cond b (Goes (frames.with_tuple s (s.tuple ++ p ∷ [])) vars) Stuck)) (sym same)
-        (fall _ vars refl on (subst (λ u. Fits u (frames.with_tuple s (s.tuple ++ p ∷ []))) (sym l) (fits_tuple t s (tuple_with t.tuple (kind_of_part p)) (s.tuple ++ p ∷ []) fits (pushed_is t.tuple s.tuple p fits.tuple))))
+        (fall _ vars refl on (subst (λ u. FitsShape u (frames.with_tuple s (s.tuple ++ p ∷ []))) (sym l) (fits_tuple t s (tuple_with t.tuple (kind_of_part p)) (s.tuple ++ p ∷ []) fits (pushed_is t.tuple s.tuple p fits.tuple))))
 
     key_good : (next : Next) (ks : List Kind) → t.tuple ≡ Some ks → ks ≢ [] → Good next → Good (on_key s.tuple next)
     key_good next ks e some h = by s.tuple (fits.tuple ks e)
@@ -183,7 +183,7 @@ module _ (o : Object) (valid : IsValid o) (f : Firing) (s : Frame) (vars : Varia
         by (p ∷ ps) x = h
 
   compared_good : (i : Instr) (at_pc : slice_get o.code s.pc ≡ Some i) (fine : IsFaultless o s.pc i t) (known : _) → falls i ≡ true → leaves i t ≡ record { registers = t.registers; compared = true; tuple = t.tuple } → Good (Goes (frames.with_comparison s known) vars)
-  compared_good i at_pc fine known on l = fall i at_pc fine _ vars refl on (subst (λ u. Fits u (frames.with_comparison s known)) (sym l) (fits_comparison t s known fits))
+  compared_good i at_pc fine known on l = fall i at_pc fine _ vars refl on (subst (λ u. FitsShape u (frames.with_comparison s known)) (sym l) (fits_comparison t s known fits))
 
   -- a register of the kind
   has_one : (k : Kind) (a : Reg) → at t.registers a ≡ Some k → Holds (at s.registers a) k
@@ -235,7 +235,7 @@ module _ (o : Object) (valid : IsValid o) (f : Firing) (s : Frame) (vars : Varia
   act_good (Ldga (suc v) a d) p fine = absurd (omega (arith, ltb-false 0 (suc v) fine.variable))
   act_good (Ldga zero a d) p fine =
       number_there Good (at s.registers a) _ (has_one Number a (one Number a t fine.fine.kinds fine.fine.set)) (λ n. value_good (Ldga 0 a d) p fine d (Some Number) _ refl refl (λ j e. cc))
-  act_good (Ldts x d) p fine = value_good (Ldts x d) p fine d (Some x.kind) (own_in vars x []) refl refl (is_kind (own_in vars x []) x.kind (as_kind_is x.kind (vars.own x [])))
+  act_good (Ldts x d) p fine = value_good (Ldts x d) p fine d (Some x.kind) (own_value vars x []) refl refl (is_kind (own_value vars x []) x.kind (as_kind_is x.kind (vars.own x [])))
   act_good (Stts x a) p fine =
       kind_there Good x.kind (at s.registers a) _ (has_one x.kind a (one x.kind a t fine.fine.kinds fine.fine.set))
       (λ v e. fall (Stts x a) p fine _ (record { locals = vars.locals; own = with_own vars.own x [] v }) refl refl (fits_place t s _ fits))
@@ -252,7 +252,7 @@ module _ (o : Object) (valid : IsValid o) (f : Firing) (s : Frame) (vars : Varia
   act_good Flushts p fine = fall Flushts p fine _ vars refl refl (fits_tuple t s (Some []) [] fits (λ ks e. cc))
   act_good (Ldtaa x d) p fine =
       let ks = tuple_known (Ldtaa x d) t.tuple fine.fine.tuple in
-      key_good (Ldtaa x d) p fine _ ks.0 ks.1 (some_tuple ks.0 ks.2) (value_good (Ldtaa x d) p fine d (Some x.kind) (own_in vars x s.tuple) refl refl (is_kind (own_in vars x s.tuple) x.kind (as_kind_is x.kind (vars.own x s.tuple))))
+      key_good (Ldtaa x d) p fine _ ks.0 ks.1 (some_tuple ks.0 ks.2) (value_good (Ldtaa x d) p fine d (Some x.kind) (own_value vars x s.tuple) refl refl (is_kind (own_value vars x s.tuple) x.kind (as_kind_is x.kind (vars.own x s.tuple))))
   act_good (Sttaa x a) p fine =
       let ks = tuple_known (Sttaa x a) t.tuple fine.fine.tuple in
       key_good (Sttaa x a) p fine _ ks.0 ks.1 (some_tuple ks.0 ks.2)
@@ -277,7 +277,7 @@ progress o valid f s vars r =
 
 -- ---- whole runs
 
-start_registers : (r : Reg) (k : Kind) → at start.registers r ≡ Some k → Holds (at frames.start.registers r) k
+start_registers : (r : Reg) (k : Kind) → at first_shape.registers r ≡ Some k → Holds (at frames.start.registers r) k
 start_registers R0 k e = record { value = va.Int 0; is = refl; kind = cc }
 start_registers R1 k e = cc
 start_registers R2 k e = cc
@@ -290,7 +290,7 @@ start_registers R7 k e = cc
 pub start_reached : (o : Object) → IsValid o → Reached o frames.start
 start_reached o valid = record {
   inside = closed_inside o.code valid.closed;
-  shape = start;
+  shape = first_shape;
   is = refl;
   fits = record { registers = start_registers; compared = λ e. cc; tuple = λ ks e. cc; long = refl };
 }
@@ -333,5 +333,5 @@ not_stuck o f first vars s valid comes = never_stuck o f first s vars (follows_a
 
 -- and has what is known before its instruction
 pub has_known : (o : Object) (f : Firing) (first vars : Variables) (s : Frame) → IsValid o → Comes o f frames.start first s vars
-    → (shape : Shape) × (before o.code s.pc ≡ Some shape) × Fits shape s
+    → (shape : Shape) × (before o.code s.pc ≡ Some shape) × FitsShape shape s
 has_known o f first vars s valid comes = let there = (follows_all o f first s vars valid comes).reached in (there.shape, there.is, there.fits)

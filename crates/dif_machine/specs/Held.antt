@@ -1,9 +1,10 @@
 -- What the registers and the tuple of a frame hold: constants and texts of the firing by their
 -- places.
 use Rattle.std.specs.Prelude.{ℕ, List, Option, Some, None, map, option_map, slice_get}
+use Rattle.dif_machine.specs.declared.context.Context.{Context}
 use Rattle.dif_machine.specs.declared.held.{Cell.Cell, Held.Held}
 use Rattle.dif_machine.specs.Vocabulary.{cast_signed, w64, Firing, FrameInMemory, KeyPart, Number}
-use Rattle.dif_machine.specs.Vocabulary.{Name, Object, Value, Int, Text}
+use Rattle.dif_machine.specs.Vocabulary.{Name, Object, Reg, Value, Int, Text, at, object_of}
 use Rattle.dif_machine.specs.Frames.{Frame}
 use Rattle.dif_machine.specs.Sources.{built_in_of}
 
@@ -21,16 +22,21 @@ content o f cell = held_value o f cell.text cell.held
 abbrev pub contents : Object → Firing → List Cell → List (Option Value)
 contents o f cells = map (content o f) cells
 
+-- what a register of the frame holds
+abbrev pub register_content : Context → FrameInMemory → Reg → Option Value
+register_content context frame a =
+    at (contents (object_of context.difo.now) context.firing.now frame.registers) a
+
 -- what a cell holds as a part of a key: an integer as a signed one
-abbrev pub part_of : Option Value → KeyPart
-part_of None = Number (cast_signed w64 0)
-part_of (Some (Int word)) = Number (cast_signed w64 word)
-part_of (Some (Text bytes)) = Name bytes
+abbrev pub part_of_cell : Option Value → KeyPart
+part_of_cell None = Number (cast_signed w64 0)
+part_of_cell (Some (Int word)) = Number (cast_signed w64 word)
+part_of_cell (Some (Text bytes)) = Name bytes
 
 abbrev pub parts_of : Object → Firing → List Cell → List KeyPart
-parts_of o f cells = map (λ cell. part_of (content o f cell)) cells
+parts_of o f cells = map (λ cell. part_of_cell (content o f cell)) cells
 
--- the frame that stands in memory so
+-- the frame that memory holds so
 abbrev pub frame_of : Object → Firing → FrameInMemory → Frame
 frame_of o f frame = record {
   pc = frame.pc;

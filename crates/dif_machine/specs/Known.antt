@@ -13,7 +13,7 @@ pub record Holds (known : Option Value) (k : Kind) : Type 0 where
 
 -- each register that has a kind holds a value of it, a comparison is there, and the tuple has these
 -- kinds; there are eight registers
-pub record Fits (s : Shape) (f : Frame) : Type 0 where
+pub record FitsShape (s : Shape) (f : Frame) : Type 0 where
   pub registers : (r : Reg) (k : Kind) → at s.registers r ≡ Some k → Holds (at f.registers r) k
   pub compared : s.compared ≡ true → f.comparison ≢ None
   pub tuple : (ks : List Kind) → s.tuple ≡ Some ks → kinds_of f.tuple ≡ ks

@@ -25,5 +25,5 @@ argument_of f n = word_or_zero (slice_get f.args n)
 abbrev pub local_in : Variables → Var → Value
 local_in vars x = as_kind x.kind (vars.locals x)
 
-abbrev pub own_in : Variables → Var → List KeyPart → Value
-own_in vars x key = as_kind x.kind (vars.own x key)
+abbrev pub own_value : Variables → Var → List KeyPart → Value
+own_value vars x key = as_kind x.kind (vars.own x key)

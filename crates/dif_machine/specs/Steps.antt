@@ -10,7 +10,7 @@ use Rattle.dif_machine.specs.Vocabulary.{at, Value, Int, Text, Var, Variables, s
 use Rattle.dif_machine.specs.Frames.{Frame, at_place, with_value, with_comparison, with_tuple}
 use Rattle.dif_machine.specs.Operators.{result_of, complement, comparison_of, text_comparison_of}
 use Rattle.dif_machine.specs.Operators.{holds, call_of}
-use Rattle.dif_machine.specs.Sources.{built_in_of, argument_of, local_in, own_in}
+use Rattle.dif_machine.specs.Sources.{built_in_of, argument_of, local_in, own_value}
 
 -- what follows a state
 pub data Next : Type 0 where
@@ -93,7 +93,7 @@ act (Ldgs v d) o f s vars = on (built_in_of f v) (λ x. puts s d x vars)
 act (Ldga zero a d) o f s vars =
     on_number (at s.registers a) (λ n. puts s d (Int (argument_of f n)) vars)
 act (Ldga (suc v) a d) o f s vars = Stuck
-act (Ldts x d) o f s vars = puts s d (own_in vars x []) vars
+act (Ldts x d) o f s vars = puts s d (own_value vars x []) vars
 act (Stts x a) o f s vars = on_kind x.kind (at s.registers a) (store_own s vars x [])
 act (Ldls x d) o f s vars = puts s d (local_in vars x) vars
 act (Stls x a) o f s vars = on_kind x.kind (at s.registers a) (store_local s vars x)
@@ -102,7 +102,7 @@ act (Pushtr a) o f s vars =
 act (Pushtv a) o f s vars =
     on_number (at s.registers a) (λ n. pushes s (Number (cast_signed w64 n)) vars)
 act Flushts o f s vars = Goes (with_tuple s []) vars
-act (Ldtaa x d) o f s vars = on_key s.tuple (puts s d (own_in vars x s.tuple) vars)
+act (Ldtaa x d) o f s vars = on_key s.tuple (puts s d (own_value vars x s.tuple) vars)
 act (Sttaa x a) o f s vars =
     on_key s.tuple (on_kind x.kind (at s.registers a) (store_own s vars x s.tuple))
 act (Call function d) o f s vars = on (call_of function s.tuple) (λ value. puts s d value vars)
@@ -114,7 +114,7 @@ abbrev pub step_of : Object → Firing → Frame → Variables → Next
 step_of o f s vars = on (slice_get o.code s.pc) (λ i. act i o f s vars)
 
 -- what a call that makes a step from these variables returns and leaves; where the step ends the
--- run, the value is in a register; where memory ran out, all as it was
+-- run, the value is in a register; where memory ran out, no variable has changed
 abbrev pub Stepped : Variables → Next → Result (Option Reg) MachineFault → Frame → Variables
     → Type 0
 Stepped vars next (Ok None) s after = next ≡ Goes s after

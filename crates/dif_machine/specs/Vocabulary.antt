@@ -11,12 +11,14 @@ pub use Rattle.d_values.specs.declared.operators.ArithmeticOperator.TheVariants.
 pub use Rattle.d_values.specs.declared.operators.ArithmeticOperator.TheVariants.{Add as Plus}
 pub use Rattle.d_values.specs.declared.operators.ArithmeticOperator.TheVariants.{Multiply, Divide}
 pub use Rattle.d_values.specs.declared.operators.ArithmeticOperator.TheVariants.{Remainder}
-pub use Rattle.d_values.specs.declared.operators.ComparisonOperator.TheVariants.{Equal as IsEqual}
-pub use Rattle.d_values.specs.declared.operators.ComparisonOperator.TheVariants.{NotEqual as IsNotEqual}
-pub use Rattle.d_values.specs.declared.operators.ComparisonOperator.TheVariants.{Greater as IsGreater}
-pub use Rattle.d_values.specs.declared.operators.ComparisonOperator.TheVariants.{GreaterEqual as IsGreaterEqual}
-pub use Rattle.d_values.specs.declared.operators.ComparisonOperator.TheVariants.{Less as IsLess}
-pub use Rattle.d_values.specs.declared.operators.ComparisonOperator.TheVariants.{LessEqual as IsLessEqual}
+pub use Rattle.d_values.specs.declared.operators.ComparisonOperator.TheVariants.{
+  Equal as IsEqual,
+  NotEqual as IsNotEqual,
+  Greater as IsGreater,
+  GreaterEqual as IsGreaterEqual,
+  Less as IsLess,
+  LessEqual as IsLessEqual,
+}
 pub use Rattle.d_values.specs.declared.operators.ShiftOperator.TheVariants.{Left, Right}
 pub use Rattle.d_values.specs.declared.value.Kind.{Kind}
 pub use Rattle.d_values.specs.declared.value.Kind.TheVariants.{Number as NumberKind}

@@ -6,21 +6,24 @@ ghost use Rattle.dif_machine.specs.Vocabulary.{Firing as Recorded, Object, at, l
 ghost use Rattle.dif_machine.specs.Vocabulary.{object_of};
 ghost use Rattle.dif_machine.specs.Frames.{at_place, start, with_comparison, with_content};
 ghost use Rattle.dif_machine.specs.Frames.{with_tuple};
-ghost use Rattle.dif_machine.specs.Held.{contents, frame_of, held_value, part_of, parts_of};
+ghost use Rattle.dif_machine.specs.Held.{contents, frame_of, held_value, part_of_cell, parts_of};
+ghost use Rattle.dif_machine.specs.Held.{register_content};
 
 use crate::comparing::Comparison;
+use crate::context::Context;
 use crate::held::{Cell, Held};
 use crate::keys::LastKey;
 use crate::sources::owned_value;
 use crate::tuple::{Tuple, eight_cells};
 use d_values::{Text, Value, ValueRef};
-use dif_validate::{Difo, Reg};
-use firing_reader::Firing;
+use dif_validate::Reg;
 use std::alloc::{AllocError, Global};
 
-/// The place in the code, the registers, the comparison and the tuple.
+/// The place in the code, the registers, the comparison and the tuple, and what makes their texts.
 #[derive(Drop)]
 pub struct Frame {
+    /// Where the memory of its texts and keys comes from.
+    pub(crate) alloc: Global,
     /// The place of the instruction that is next.
     pub pc: usize,
     /// The registers.
@@ -43,6 +46,7 @@ impl Frame {
         ensures { (o : Object) (f : Recorded) → frame_of o f result ≡ start }
     {
         let mut frame = Frame {
+            alloc,
             pc: 0,
             registers: eight_cells(alloc),
             comparison: None,
@@ -64,52 +68,45 @@ impl Frame {
     }
 
     /// Lends what a register holds.
-    pub(crate) fn lend<'a>(&'a self, difo: &'a Difo, firing: &'a Firing, a: Reg) -> ValueRef<'a>
-        requires { at (contents (object_of difo.now) firing.now self.now.registers) a ≢ None }
-        ensures { at (contents (object_of difo.now) firing.now self.now.registers) a
-            ≡ Some (lent_value result) }
+    pub(crate) fn lend<'a>(&'a self, context: Context<'a>, a: Reg) -> ValueRef<'a>
+        requires { register_content context self.now a ≢ None }
+        ensures { register_content context.entry self.now a ≡ Some (lent_value result) }
     {
-        self.registers[a.number()].lend(difo, firing)
+        self.registers[a.number()].lend(context)
     }
 
-    // The same in the machine's loop, which would else note where each text of the firing stands.
+    // Lends it too, out of line: inlined, the machine's loop would keep each text's address.
     #[inline(never)]
-    fn lend_apart<'a>(&'a self, difo: &'a Difo, firing: &'a Firing, a: Reg) -> ValueRef<'a>
-        requires { at (contents (object_of difo.now) firing.now self.now.registers) a ≢ None }
-        ensures { at (contents (object_of difo.now) firing.now self.now.registers) a
-            ≡ Some (lent_value result) }
+    fn lend_apart<'a>(&'a self, context: Context<'a>, a: Reg) -> ValueRef<'a>
+        requires { register_content context self.now a ≢ None }
+        ensures { register_content context.entry self.now a ≡ Some (lent_value result) }
     {
-        self.lend(difo, firing, a)
+        self.lend(context, a)
     }
 
-    /// The integer that a register holds. Most are at hand.
-    pub(crate) fn number(&self, difo: &Difo, firing: &Firing, a: Reg) -> u64
-        requires set { at (contents (object_of difo.now) firing.now self.now.registers) a ≢ None }
-        requires number { (bytes : List ℕ)
-            → at (contents (object_of difo.now) firing.now self.now.registers) a
+    /// The integer that a register holds, usually without a look into the object or the firing.
+    pub(crate) fn number(&self, context: Context<'_>, a: Reg) -> u64
+        requires set { register_content context self.now a ≢ None }
+        requires number { (bytes : List ℕ) → register_content context self.now a
             ≢ Some (Value.Text bytes) }
-        ensures { at (contents (object_of difo.now) firing.now self.now.registers) a
-            ≡ Some (Value.Int result) }
+        ensures { register_content context.entry self.now a ≡ Some (Value.Int result) }
     {
         if let Held::Int(word) = self.registers[a.number()].held {
             return word;
         }
-        match self.lend_apart(difo, firing, a) {
+        match self.lend_apart(context, a) {
             ValueRef::Int(n) => n,
             ValueRef::Text(_) => unreachable!(),
         }
     }
 
     /// The bytes of the text that a register holds.
-    pub(crate) fn text<'a>(&'a self, difo: &'a Difo, firing: &'a Firing, a: Reg) -> &'a [u8]
-        requires set { at (contents (object_of difo.now) firing.now self.now.registers) a ≢ None }
-        requires text { (n : ℕ)
-            → at (contents (object_of difo.now) firing.now self.now.registers) a
-            ≢ Some (Value.Int n) }
-        ensures { at (contents (object_of difo.now) firing.now self.now.registers) a
-            ≡ Some (Value.Text result.now) }
+    pub(crate) fn text<'a>(&'a self, context: Context<'a>, a: Reg) -> &'a [u8]
+        requires set { register_content context self.now a ≢ None }
+        requires text { (n : ℕ) → register_content context self.now a ≢ Some (Value.Int n) }
+        ensures { register_content context.entry self.now a ≡ Some (Value.Text result.now) }
     {
-        match self.lend_apart(difo, firing, a) {
+        match self.lend_apart(context, a) {
             ValueRef::Int(_) => unreachable!(),
             ValueRef::Text(bytes) => bytes,
         }
@@ -117,21 +114,14 @@ impl Frame {
 
     /// A copy of what a register holds.
     #[inline(always)]
-    pub(crate) fn value(
-        &self,
-        alloc: Global,
-        difo: &Difo,
-        firing: &Firing,
-        a: Reg,
-    ) -> Result<Value, AllocError>
-        requires { at (contents (object_of difo.now) firing.now self.now.registers) a ≢ None }
-        ensures { IfOk result (λ value.
-            at (contents (object_of difo.now) firing.now self.now.registers) a ≡ Some value) }
+    pub(crate) fn value(&self, context: Context<'_>, a: Reg) -> Result<Value, AllocError>
+        requires { register_content context self.now a ≢ None }
+        ensures { IfOk result (λ value. register_content context.entry self.now a ≡ Some value) }
     {
         if let Held::Int(word) = self.registers[a.number()].held {
             return Ok(Value::Int(word));
         }
-        owned_value(alloc, self.lend_apart(difo, firing, a))
+        owned_value(self.alloc, self.lend_apart(context, a))
     }
 
     /// Copies what a register holds into another, and goes on. Only a text of the run's own is
@@ -219,7 +209,7 @@ impl Frame {
         requires room { length self.old.tuple < 8 }
         ensures { OnOk result ((o : Object) (f : Recorded) → frame_of o f self.new
             ≡ with_tuple (frame_of o f self.old) (parts_of o f self.old.tuple
-            ++ part_of (at (contents o f self.old.registers) a) ∷ [])) }
+            ++ part_of_cell (at (contents o f self.old.registers) a) ∷ [])) }
     {
         self.tuple.push(&self.registers, a)?;
         self.pc += 1;
@@ -238,19 +228,15 @@ impl Frame {
 
     /// Writes the tuple as a key.
     #[inline(always)]
-    pub(crate) fn write_key(
-        &mut self,
-        alloc: Global,
-        difo: &Difo,
-        firing: &Firing,
-    ) -> Result<(), AllocError>
+    pub(crate) fn write_key(&mut self, context: Context<'_>) -> Result<(), AllocError>
         ensures same { (o : Object) (f : Recorded)
             → frame_of o f self.new ≡ frame_of o f self.old }
         ensures key { OnOk result
-            (self.new.key ≡ parts_of (object_of difo.now) firing.now self.old.tuple) }
+            (self.new.key
+            ≡ parts_of (object_of context.entry.difo.now) context.entry.firing.now self.old.tuple) }
     {
         let cells = self.tuple.cells();
-        self.key.write(alloc, cells, difo, firing)
+        self.key.write(self.alloc, cells, context)
     }
 }
 

@@ -3,11 +3,11 @@
 ghost use Rattle.std.specs.Prelude.{◌≡◌, ◌≢◌, ℕ, List, [], Some, None, OnOk};
 ghost use Rattle.dif_machine.specs.Vocabulary.{Firing as Recorded, Object, lent_value, object_of};
 ghost use Rattle.dif_machine.specs.{Sources.built_in_of};
-ghost use Rattle.dif_machine.specs.Held.{content, held_value, part_of};
+ghost use Rattle.dif_machine.specs.Held.{content, held_value, part_of_cell};
 
+use crate::context::Context;
 use crate::sources::built_in;
 use d_values::{Text, ValueRef};
-use dif_validate::Difo;
 use firing_reader::Firing;
 use std::alloc::{AllocError, Global};
 
@@ -59,20 +59,22 @@ impl Cell {
     }
 
     /// Lends what it holds, and 0 where that is nothing.
-    pub(crate) fn lend<'a>(&'a self, difo: &'a Difo, firing: &'a Firing) -> ValueRef<'a>
-        ensures value { content (object_of difo.now) firing.now self.now ≢ None
-            → content (object_of difo.now) firing.now self.now ≡ Some (lent_value result) }
-        ensures part { part_of (content (object_of difo.now) firing.now self.now)
-            ≡ part_of (Some (lent_value result)) }
+    pub(crate) fn lend<'a>(&'a self, context: Context<'a>) -> ValueRef<'a>
+        ensures value { content (object_of context.entry.difo.now) context.entry.firing.now self.now
+            ≢ None → content (object_of context.entry.difo.now) context.entry.firing.now self.now
+            ≡ Some (lent_value result) }
+        ensures part { part_of_cell
+            (content (object_of context.entry.difo.now) context.entry.firing.now self.now)
+            ≡ part_of_cell (Some (lent_value result)) }
     {
         match self.held {
             Held::Unset => ValueRef::Int(0),
             Held::Int(word) => ValueRef::Int(word),
-            Held::Constant(i) => match difo.texts.get(i) {
+            Held::Constant(i) => match context.difo.texts.get(i) {
                 Some(text) => ValueRef::Text(text.as_bytes()),
                 None => ValueRef::Int(0),
             },
-            Held::BuiltIn(v) => match built_in(firing, v) {
+            Held::BuiltIn(v) => match built_in(context.firing, v) {
                 Some(lent) => lent,
                 None => ValueRef::Int(0),
             },

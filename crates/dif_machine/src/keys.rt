@@ -1,13 +1,12 @@
 //! Keys of elements, each written over an earlier one.
 
 ghost use Rattle.std.specs.Prelude.{◌≡◌, ◌≤◌, ◌<◌, length, pos, replicate, slice_set, IfOk, OnOk};
-ghost use Rattle.dif_machine.specs.Held.{content, part_of, parts_of};
+ghost use Rattle.dif_machine.specs.Held.{content, part_of_cell, parts_of};
 ghost use Rattle.dif_machine.specs.Vocabulary.{Number, object_of};
 
+use crate::context::Context;
 use crate::held::Cell;
 use d_values::{Key, KeyPart, ValueRef};
-use dif_validate::Difo;
-use firing_reader::Firing;
 use std::alloc::{AllocError, Global};
 use std::marker::Model;
 
@@ -61,20 +60,21 @@ impl LastKey {
         &mut self,
         alloc: Global,
         cells: &[Cell],
-        difo: &Difo,
-        firing: &Firing,
+        context: Context<'_>,
     ) -> Result<(), AllocError>
         requires { length cells.now ≤ 8 }
-        ensures { OnOk result (self.new ≡ parts_of (object_of difo.now) firing.now cells.now) }
+        ensures { OnOk result
+            (self.new
+            ≡ parts_of (object_of context.entry.difo.now) context.entry.firing.now cells.now) }
     {
         self.parts = cells.len();
         resize(alloc, &mut self.keys[self.parts], cells.len())?;
-        write_over(&mut self.keys[self.parts], cells, difo, firing)?;
+        write_over(&mut self.keys[self.parts], cells, context)?;
         Ok(())
     }
 }
 
-// Makes a key of so many parts of one that may have others.
+// Gives a key this number of parts: where it has another, it becomes one of zeros.
 fn resize(alloc: Global, key: &mut Key, parts: usize) -> Result<(), AllocError>
     ensures { OnOk result (length key.new ≡ parts) }
 {
@@ -85,7 +85,7 @@ fn resize(alloc: Global, key: &mut Key, parts: usize) -> Result<(), AllocError>
     Ok(())
 }
 
-/// A key of so many zeros.
+/// A key whose parts are all 0.
 ///
 /// ```text
 /// key_of_zeros(alloc, 2)?.parts(); // [KeyPart::Number(0), KeyPart::Number(0)]
@@ -101,31 +101,32 @@ pub fn key_of_zeros(alloc: Global, parts: usize) -> Result<Key, AllocError>
 }
 
 // Writes what cells hold over a key of as many parts.
-fn write_over(key: &mut Key, cells: &[Cell], difo: &Difo, firing: &Firing) -> Result<(), AllocError>
+fn write_over(key: &mut Key, cells: &[Cell], context: Context<'_>) -> Result<(), AllocError>
     requires { length key.old ≡ length cells.now }
-    ensures { OnOk result (key.new ≡ parts_of (object_of difo.now) firing.now cells.now) }
+    ensures { OnOk result
+        (key.new ≡ parts_of (object_of context.entry.difo.now) context.entry.firing.now cells.now) }
 {
     for (place, cell) in cells.iter().enumerate() {
-        write_part(key, place, cell, difo, firing)?;
+        write_part(key, place, cell, context)?;
     }
     Ok(())
 }
 
-// Puts what a cell holds in the place of a key's part. In the loop it would note where each text of
-// the firing stands.
+// Puts what a cell holds in the place of a key's part. Inlined, the loop would keep each text's
+// address.
 #[inline(never)]
 fn write_part(
     key: &mut Key,
     place: usize,
     cell: &Cell,
-    difo: &Difo,
-    firing: &Firing,
+    context: Context<'_>,
 ) -> Result<(), AllocError>
     requires { place < length key.old }
     ensures { OnOk result (key.new
-        ≡ slice_set key.old place (part_of (content (object_of difo.now) firing.now cell.now))) }
+        ≡ slice_set key.old place (part_of_cell
+        (content (object_of context.entry.difo.now) context.entry.firing.now cell.now))) }
 {
-    match cell.lend(difo, firing) {
+    match cell.lend(context) {
         ValueRef::Int(word) => {
             key.set_number(place, word.cast_signed());
             Ok(())

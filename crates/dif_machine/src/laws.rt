@@ -4,7 +4,7 @@ ghost use Rattle.std.specs.Prelude.{◌≡◌, ◌≢◌, ◌↔◌, ◌<◌, �
 ghost use Rattle.dif_validate.specs.{Flow.before, declared.shape.Shape.Shape};
 ghost use Rattle.dif_machine.specs.Vocabulary.{Firing, Instr, IsValid, Object, Operator, Value};
 ghost use Rattle.dif_machine.specs.Vocabulary.{Variables, kind_of, return_kind};
-ghost use Rattle.dif_machine.specs.{Changes.Changes, Known.Fits, Operators.result_of};
+ghost use Rattle.dif_machine.specs.{Changes.Changes, Known.FitsShape, Operators.result_of};
 ghost use Rattle.dif_machine.specs.{Plain.plain_of};
 ghost use Rattle.dif_machine.specs.Frames.{Frame, start};
 ghost use Rattle.dif_machine.specs.Steps.{Stuck, step_of};
@@ -50,7 +50,7 @@ pub fn never_stuck()
         → Comes o f start first s vars → step_of o f s vars ≢ Stuck }
     ensures known { (o : Object) (f : Firing) (first vars : Variables) (s : Frame) → IsValid o
         → Comes o f start first s vars
-        → (shape : Shape) × (before o.code s.pc ≡ Some shape) × Fits shape s }
+        → (shape : Shape) × (before o.code s.pc ≡ Some shape) × FitsShape shape s }
 {}
 
 /// On numbers of 64 bits each operator is plain arithmetic.

@@ -2,6 +2,7 @@
 #![tactic(auto)]
 
 mod comparing;
+mod context;
 mod fault;
 mod frame;
 mod held;
@@ -13,10 +14,13 @@ mod sources;
 mod stepping;
 mod tuple;
 
-pub use comparing::Comparison;
 pub use fault::MachineFault;
 pub use frame::Frame;
-pub use held::{Cell, Held};
-pub use keys::{LastKey, key_of_zeros};
+pub use keys::key_of_zeros;
 pub use running::{run, run_in};
+
+// Of what a frame is made. No caller needs them: they are public since definitions speak of them.
+pub use comparing::Comparison;
+pub use held::{Cell, Held};
+pub use keys::LastKey;
 pub use tuple::Tuple;

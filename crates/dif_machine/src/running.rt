@@ -3,39 +3,40 @@
 ghost use Rattle.std.specs.Prelude.{◌≡◌, IfSome};
 ghost use Rattle.dif_validate.specs.declared.register.Reg.TheVariants.{R1};
 ghost use Rattle.dif_machine.specs.{Held.frame_of};
-ghost use Rattle.dif_machine.specs.Vocabulary.{NumberKind, kind_of, lent_value, object_of};
-ghost use Rattle.dif_machine.specs.Vocabulary.{variables};
+ghost use Rattle.dif_machine.specs.Vocabulary.{IsValid, NumberKind, kind_of, lent_value};
+ghost use Rattle.dif_machine.specs.Vocabulary.{object_of, variables};
 ghost use Rattle.dif_machine.specs.Frames.{start, with_value};
 ghost use Rattle.dif_machine.specs.Runs.{Returns, RunEnds, RunLeaves, Runs, value_result};
 ghost use Rattle.dif_machine.specs.Steps.{Goes, act};
 
+use crate::context::Context;
 use crate::fault::MachineFault;
 use crate::frame::Frame;
 use crate::sources::{built_in, owned_value};
 use crate::stepping::step;
 use d_values::{ClauseLocals, Key, ThreadTable, Value, ValueRef};
-use dif_validate::{Difo, Instr, Reg, ValidDifo};
+use dif_validate::{Instr, Reg, ValidDifo};
 use firing_reader::Firing;
 use std::alloc::Global;
 
-// Runs an object to its end. The register that is returned holds what the object returns. It isn't
-// inlined: an object that only loads is run without what the loop sets up.
+// Runs a valid object to its end. The register that is returned holds what the object returns. It
+// isn't inlined: an object that only loads is run without what the loop sets up.
 #[inline(never)]
 fn run_to_end(
-    alloc: Global,
-    valid: &ValidDifo,
-    firing: &Firing,
+    context: Context<'_>,
     frame: &mut Frame,
     locals: &mut ClauseLocals,
     own: &mut ThreadTable,
 ) -> Result<Reg, MachineFault>
-    ensures { RunLeaves valid.now firing.now (variables locals.old own.old)
-        result (frame_of valid.now firing.now frame.new) (variables locals.new own.new) }
+    requires { IsValid (object_of context.difo.now) }
+    ensures { RunLeaves (object_of context.entry.difo.now) context.entry.firing.now
+        (variables locals.old own.old) result
+        (frame_of (object_of context.entry.difo.now) context.entry.firing.now frame.new)
+        (variables locals.new own.new) }
 {
-    let difo = valid.difo();
     frame.restart();
     loop {
-        match step(alloc, difo, firing, frame, locals, own) {
+        match step(context, frame, locals, own) {
             Ok(Some(register)) => return Ok(register),
             Ok(None) => {}
             Err(fault) => return Err(fault),
@@ -43,7 +44,7 @@ fn run_to_end(
     }
 }
 
-// An integer as one that needs no loan, and no text.
+// A value that borrows nothing, if it is an integer.
 fn integer_of(value: ValueRef<'_>) -> Option<ValueRef<'static>>
     ensures { IfSome result (λ lent. (lent_value lent ≡ lent_value value.entry)
         × (kind_of (lent_value lent) ≡ NumberKind)) }
@@ -59,17 +60,17 @@ fn integer_of(value: ValueRef<'_>) -> Option<ValueRef<'static>>
 fn source<'a>(
     alloc: Global,
     instr: &Instr,
-    difo: &'a Difo,
-    firing: &'a Firing,
+    context: Context<'a>,
     locals: &ClauseLocals,
     own: &ThreadTable,
 ) -> Option<ValueRef<'a>>
     ensures { IfSome result (λ lent.
-        act instr.now (object_of difo.now) firing.now start (variables locals.now own.now)
+        act instr.now (object_of context.entry.difo.now) context.entry.firing.now start
+        (variables locals.now own.now)
         ≡ Goes (with_value start R1 (lent_value lent)) (variables locals.now own.now)) }
 {
     if let Instr::Ldgs(v, Reg::R1) = *instr {
-        return built_in(firing, v);
+        return built_in(context.firing, v);
     }
     if let Instr::Ldls(x, Reg::R1) = *instr {
         return integer_of(locals.get(x));
@@ -78,11 +79,11 @@ fn source<'a>(
         return integer_of(own.get(x, &Key::new(alloc)));
     }
     if let Instr::Sets(i, Reg::R1) = *instr {
-        let text = difo.texts.get(i)?;
+        let text = context.difo.texts.get(i)?;
         return Some(ValueRef::Text(text.as_bytes()));
     }
     if let Instr::Setx(i, Reg::R1) = *instr {
-        let word = difo.numbers.get(i)?;
+        let word = context.difo.numbers.get(i)?;
         return Some(ValueRef::Int(*word));
     }
     None
@@ -92,20 +93,19 @@ fn source<'a>(
 #[inline(always)]
 fn single_load<'a>(
     alloc: Global,
-    difo: &'a Difo,
-    firing: &'a Firing,
+    context: Context<'a>,
     locals: &ClauseLocals,
     own: &ThreadTable,
 ) -> Option<ValueRef<'a>>
     ensures { IfSome result (λ lent.
-        Runs (object_of difo.now) firing.now (variables locals.now own.now)
-        (Returns (lent_value lent) (variables locals.now own.now))) }
+        Runs (object_of context.entry.difo.now) context.entry.firing.now
+        (variables locals.now own.now) (Returns (lent_value lent) (variables locals.now own.now))) }
 {
-    let Some(Instr::Ret(Reg::R1)) = difo.code.get(1) else {
+    let Some(Instr::Ret(Reg::R1)) = context.difo.code.get(1) else {
         return None;
     };
-    match difo.code.get(0) {
-        Some(first) => source(alloc, first, difo, firing, locals, own),
+    match context.difo.code.get(0) {
+        Some(first) => source(alloc, first, context, locals, own),
         None => None,
     }
 }
@@ -116,11 +116,10 @@ fn single_load<'a>(
 /// ```text
 /// let mut frame = Frame::new(alloc);
 /// // ldgs 4, r1; ret r1
-/// let value = run_in(alloc, &valid, &firing, &mut frame, &mut locals, &mut own)?; // Text(b"cat")
+/// let value = run_in(&valid, &firing, &mut frame, &mut locals, &mut own)?; // Text(b"cat")
 /// ```
 #[inline(always)]
 pub fn run_in<'a>(
-    alloc: Global,
     valid: &'a ValidDifo,
     firing: &'a Firing,
     frame: &'a mut Frame,
@@ -130,12 +129,15 @@ pub fn run_in<'a>(
     ensures { RunEnds valid.now firing.now (variables locals.old own.old)
         (value_result result) (variables locals.new own.new) }
 {
-    let difo = valid.difo();
-    if let Some(lent) = single_load(alloc, difo, firing, &*locals, &*own) {
+    let context = Context {
+        difo: valid.difo(),
+        firing,
+    };
+    if let Some(lent) = single_load(frame.alloc, context, &*locals, &*own) {
         return Ok(lent);
     }
-    let register = run_to_end(alloc, valid, firing, frame, locals, own)?;
-    Ok(frame.lend(difo, firing, register))
+    let register = run_to_end(context, frame, locals, own)?;
+    Ok(frame.lend(context, register))
 }
 
 /// Runs an object from its first instruction to its end, and returns what it returns. The variables
@@ -157,7 +159,7 @@ pub fn run(
         result (variables locals.new own.new) }
 {
     let mut frame = Frame::new(alloc);
-    let lent = run_in(alloc, valid, firing, &mut frame, locals, own)?;
+    let lent = run_in(valid, firing, &mut frame, locals, own)?;
     let value = owned_value(alloc, lent)?;
     Ok(value)
 }

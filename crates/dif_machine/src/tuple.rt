@@ -1,7 +1,7 @@
 //! The tuple.
 
 ghost use Rattle.std.specs.Prelude.{◌≡◌, ◌≤◌, ◌<◌, ◌++◌, ◌∷◌, [], length, OnOk};
-ghost use Rattle.dif_machine.specs.Held.{contents, part_of, parts_of};
+ghost use Rattle.dif_machine.specs.Held.{contents, part_of_cell, parts_of};
 ghost use Rattle.dif_machine.specs.Vocabulary.{Firing, Object, at};
 
 use crate::held::Cell;
@@ -50,7 +50,7 @@ impl Tuple {
     pub(crate) fn push(&mut self, registers: &[Cell; 8], a: Reg) -> Result<(), AllocError>
         requires { length self.old < 8 }
         ensures { OnOk result ((o : Object) (f : Firing) → parts_of o f self.new
-            ≡ parts_of o f self.old ++ part_of (at (contents o f registers.now) a) ∷ []) }
+            ≡ parts_of o f self.old ++ part_of_cell (at (contents o f registers.now) a) ∷ []) }
     {
         self.cells[self.len].assign(&registers[a.number()])?;
         self.len += 1;

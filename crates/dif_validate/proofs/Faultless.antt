@@ -14,17 +14,18 @@ use Rattle.dif_validate.specs.declared.shape.Shape.{Shape}
 use Rattle.dif_validate.specs.Asks.{asks, finds_other, finds_unset, lacks_comparison}
 use Rattle.dif_validate.specs.Faults.{goes_back, goes_out, misses_table, misses_variable}
 use Rattle.dif_validate.specs.Faults.{returns_other, misses_tuple, if_so, fault_in}
-use Rattle.dif_validate.specs.Faults.{fault_if_reached, first_of, fault_of, fault_there, fault_at}
-use Rattle.dif_validate.specs.Flow.{target, before}
+use Rattle.dif_validate.specs.Faults.{fault_if_reached, first_of_faults, fault_of_instr}
+use Rattle.dif_validate.specs.Faults.{fault_there, fault_at_place}
+use Rattle.dif_validate.specs.Flow.{jump_target, before}
 use Rattle.dif_validate.specs.Objects.{Object}
 use Rattle.dif_validate.specs.Returns.{first_kind_before}
-use Rattle.dif_validate.specs.Validity.{is_closed, IsFirst, IsRefused}
+use Rattle.dif_validate.specs.Validity.{is_closed, IsFirst, IsInvalid}
 
 if_so_none : (wrong : Bool) (fault : DifFault) (rest : Option DifFault) → if_so wrong fault rest ≡ None → (wrong ≡ false) × (rest ≡ None)
 if_so_none true fault rest h = cc
 if_so_none false fault rest h = (refl, h)
 
-first_of_none : (a b : Option DifFault) → first_of a b ≡ None → (a ≡ None) × (b ≡ None)
+first_of_none : (a b : Option DifFault) → first_of_faults a b ≡ None → (a ≡ None) × (b ≡ None)
 first_of_none None b h = (refl, h)
 first_of_none (Some fault) b h = cc
 
@@ -55,7 +56,7 @@ fine i pc kind s h =
     let y = or_none (finds_unset (asks i) s) _ b.0 in
     record { kinds = x.0; set = y.0; compared = y.1; tuple = c.0 }
 
-faultless_by : (o : Object) (pc : ℕ) (i : Instr) (kind : Option Kind) (s : Shape) → fault_of o pc i kind (Some s) ≡ None → IsFaultless o pc i s
+faultless_by : (o : Object) (pc : ℕ) (i : Instr) (kind : Option Kind) (s : Shape) → fault_of_instr o pc i kind (Some s) ≡ None → IsFaultless o pc i s
 faultless_by o pc i kind s h =
     let a = if_so_none (goes_back i pc) _ _ h in
     let b = if_so_none (goes_out i (length o.code)) _ _ a.1 in
@@ -64,16 +65,16 @@ faultless_by o pc i kind s h =
     let e = if_so_none (misses_variable i) _ _ d.1 in
     record { forward = a.0; inside = b.0; fine = fine i pc kind s c.0; table = d.0; variable = e.0 }
 
-pub faultless : (o : Object) (pc : ℕ) (i : Instr) (s : Shape) → fault_at o pc ≡ None → slice_get o.code pc ≡ Some i → before o.code pc ≡ Some s → IsFaultless o pc i s
+pub faultless : (o : Object) (pc : ℕ) (i : Instr) (s : Shape) → fault_at_place o pc ≡ None → slice_get o.code pc ≡ Some i → before o.code pc ≡ Some s → IsFaultless o pc i s
 faultless o pc i s none there is =
     faultless_by o pc i (first_kind_before o.code pc) s
-    (ap (fault_of o pc i (first_kind_before o.code pc)) (sym is) ∙ ap (fault_there o pc) (sym there) ∙ none)
+    (ap (fault_of_instr o pc i (first_kind_before o.code pc)) (sym is) ∙ ap (fault_there o pc) (sym there) ∙ none)
 
 -- a `ret` returns no other kind than an earlier one
-pub returns_no_other : (o : Object) (pc : ℕ) (i : Instr) (s : Shape) → fault_at o pc ≡ None → slice_get o.code pc ≡ Some i → before o.code pc ≡ Some s → returns_other i (first_kind_before o.code pc) s ≡ false
+pub returns_no_other : (o : Object) (pc : ℕ) (i : Instr) (s : Shape) → fault_at_place o pc ≡ None → slice_get o.code pc ≡ Some i → before o.code pc ≡ Some s → returns_other i (first_kind_before o.code pc) s ≡ false
 returns_no_other o pc i s none there is =
     let kind = first_kind_before o.code pc in
-    let h : fault_of o pc i kind (Some s) ≡ None = ap (fault_of o pc i kind) (sym is) ∙ ap (fault_there o pc) (sym there) ∙ none in
+    let h : fault_of_instr o pc i kind (Some s) ≡ None = ap (fault_of_instr o pc i kind) (sym is) ∙ ap (fault_there o pc) (sym there) ∙ none in
     let a = if_so_none (goes_back i pc) _ _ h in
     let b = if_so_none (goes_out i (length o.code)) _ _ a.1 in
     let c = first_of_none (fault_in i pc kind s) _ b.1 in
@@ -82,14 +83,14 @@ returns_no_other o pc i s none there is =
 
 -- ---- branches
 
-pub goes_on : (i : Instr) (pc to : ℕ) → goes_back i pc ≡ false → target i ≡ Some to → pc < to
+pub goes_on : (i : Instr) (pc to : ℕ) → goes_back i pc ≡ false → jump_target i ≡ Some to → pc < to
 goes_on i pc to h is = leb-false to pc (rw is at h)
 
-pub stays_in : (i : Instr) (size to : ℕ) → goes_out i size ≡ false → target i ≡ Some to → to < size
+pub stays_in : (i : Instr) (size to : ℕ) → goes_out i size ≡ false → jump_target i ≡ Some to → to < size
 stays_in i size to h is = leb-false size to (rw is at h)
 
 -- also of an instruction that isn't reached
-pub branches_well : (o : Object) (pc : ℕ) (i : Instr) (kind : Option Kind) (way : Option Shape) → fault_of o pc i kind way ≡ None → (goes_back i pc ≡ false) × (goes_out i (length o.code) ≡ false)
+pub branches_well : (o : Object) (pc : ℕ) (i : Instr) (kind : Option Kind) (way : Option Shape) → fault_of_instr o pc i kind way ≡ None → (goes_back i pc ≡ false) × (goes_out i (length o.code) ≡ false)
 branches_well o pc i kind way h =
     let a = if_so_none (goes_back i pc) _ _ h in
     let b = if_so_none (goes_out i (length o.code)) _ _ a.1 in
@@ -97,13 +98,13 @@ branches_well o pc i kind way h =
 
 -- ---- the fault of an instruction is that of a place
 
-abbrev IsOfPlace : DifFault → Type 0
+abbrev pub IsOfPlace : DifFault → Type 0
 IsOfPlace Empty = ⊥
 IsOfPlace NoReturn = ⊥
 IsOfPlace Memory = ⊥
 IsOfPlace _ = Unit {0}
 
-abbrev AreOfPlace : Option DifFault → Type 0
+abbrev pub AreOfPlace : Option DifFault → Type 0
 AreOfPlace None = Unit {0}
 AreOfPlace (Some fault) = IsOfPlace fault
 
@@ -111,7 +112,7 @@ if_so_placed : (wrong : Bool) (fault : DifFault) (rest : Option DifFault) → Is
 if_so_placed true fault rest a b = a
 if_so_placed false fault rest a b = b
 
-first_of_placed : (a b : Option DifFault) → AreOfPlace a → AreOfPlace b → AreOfPlace (first_of a b)
+first_of_placed : (a b : Option DifFault) → AreOfPlace a → AreOfPlace b → AreOfPlace (first_of_faults a b)
 first_of_placed None b x y = y
 first_of_placed (Some fault) b x y = x
 
@@ -121,7 +122,7 @@ reached_placed i pc kind (Some s) =
     if_so_placed (finds_other (asks i) s || returns_other i kind s) (RegisterKind pc) _ tt
     (if_so_placed (finds_unset (asks i) s || lacks_comparison i s) (Unset pc) _ tt (if_so_placed (misses_tuple i s.tuple) (TupleShape pc) None tt tt))
 
-fault_placed : (o : Object) (pc : ℕ) (i : Option Instr) → AreOfPlace (fault_there o pc i)
+pub fault_placed : (o : Object) (pc : ℕ) (i : Option Instr) → AreOfPlace (fault_there o pc i)
 fault_placed o pc None = tt
 fault_placed o pc (Some i) =
     if_so_placed (goes_back i pc) (Backward pc) _ tt
@@ -130,7 +131,7 @@ fault_placed o pc (Some i) =
     (if_so_placed (misses_table i o) (TableIndex pc) _ tt (if_so_placed (misses_variable i) (Variable pc) None tt tt))))
 
 -- so the first fault is the reason of a refusal
-pub refused : (o : Object) (pc : ℕ) (fault : DifFault) → is_closed o.code ≡ true → IsFirst o pc fault → IsRefused o fault
+pub refused : (o : Object) (pc : ℕ) (fault : DifFault) → is_closed o.code ≡ true → IsFirst o pc fault → IsInvalid o fault
 refused o pc Empty closed h = absurd (subst AreOfPlace h.here (fault_placed o pc (slice_get o.code pc)))
 refused o pc NoReturn closed h = absurd (subst AreOfPlace h.here (fault_placed o pc (slice_get o.code pc)))
 refused o pc Memory closed h = tt

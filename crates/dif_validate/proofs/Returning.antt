@@ -10,19 +10,19 @@ use Rattle.dif_validate.specs.declared.instruction.Instr.{Instr}
 use Rattle.dif_validate.specs.declared.instruction.Instr.TheVariants.{Ba, Ret}
 use Rattle.dif_validate.specs.declared.register.Reg.{Reg}
 use Rattle.dif_validate.specs.declared.shape.Shape.{Shape}
-use Rattle.dif_validate.specs.Flow.{falls, target, before}
+use Rattle.dif_validate.specs.Flow.{falls, jump_target, before}
 use Rattle.dif_validate.specs.Objects.{Object}
 use Rattle.dif_validate.specs.Registers.{at}
 use Rattle.dif_validate.specs.Returns.{kind_at_return, first_kind_before, return_kind}
-use Rattle.dif_validate.specs.Faults.{fault_at, returns_other}
-use Rattle.dif_validate.specs.Shapes.{is_other, is_same, is_unset, start}
+use Rattle.dif_validate.specs.Faults.{fault_at_place, returns_other}
+use Rattle.dif_validate.specs.Shapes.{is_other, is_same, is_unset, first_shape}
 use Rattle.dif_validate.specs.Validity.{is_return, is_closed, IsValid}
 use Rattle.dif_validate.proofs.Faultless.{IsFaultless, faultless, goes_on, stays_in}
 use Rattle.dif_validate.proofs.Faultless.{returns_no_other}
 use Rattle.dif_validate.proofs.Flowing.{flows_next, flows_target, same_is}
 
 -- an instruction that isn't followed by the next one jumps or returns
-halts : (i : Instr) → falls i ≡ false → ((to : ℕ) × (target i ≡ Some to)) ⊎ ((a : Reg) × (i ≡ Ret a))
+halts : (i : Instr) → falls i ≡ false → ((to : ℕ) × (jump_target i ≡ Some to)) ⊎ ((a : Reg) × (i ≡ Ret a))
 halts (Ba to) h = inl (to, refl)
 halts (Ret a) h = inr (a, refl)
 halts _ h = cc
@@ -76,7 +76,7 @@ module _ (o : Object) (valid : IsValid o) where
         let has = flows_next o.code pc i s there is (pc + 1) (omega arith) f in
         again (pc + 1) has.shape (omega arith) (next_inside o pc i valid.closed there f) has.is
 
-    off : (i : Instr) → slice_get o.code pc ≡ Some i → IsFaultless o pc i s → (((to : ℕ) × (target i ≡ Some to)) ⊎ ((a : Reg) × (i ≡ Ret a))) → Kinded
+    off : (i : Instr) → slice_get o.code pc ≡ Some i → IsFaultless o pc i s → (((to : ℕ) × (jump_target i ≡ Some to)) ⊎ ((a : Reg) × (i ≡ Ret a))) → Kinded
     off i there fine (inl t) =
         let less = goes_on i pc t.0 fine.forward t.1 in
         let has = flows_target o.code pc i s there is t.0 t.0 less t.1 in
@@ -101,7 +101,7 @@ module _ (o : Object) (valid : IsValid o) where
   from (suc fuel) pc s enough inside is = here pc s inside is (λ q t less within reached. from fuel q t (omega arith) within reached)
 
   pub some_kind : 0 < length o.code → Kinded
-  some_kind inside = from (length o.code) 0 start (omega arith) inside refl
+  some_kind inside = from (length o.code) 0 first_shape (omega arith) inside refl
 
 pub closed_inside : (code : List Instr) → is_closed code ≡ true → 0 < length code
 closed_inside [] h = cc
@@ -123,7 +123,7 @@ agrees (Some j) s a k is h =
     let other : not (is_same j k) ≡ false = ap (is_other j) (sym is) ∙ h in
     ap Some (same_is j k (not-false (is_same j k) other))
 
-pub returns_its_kind : (o : Object) (pc : ℕ) (s : Shape) (a : Reg) (k : Kind) → fault_at o pc ≡ None → slice_get o.code pc ≡ Some (Ret a) → before o.code pc ≡ Some s → at s.registers a ≡ Some k → return_kind o ≡ Some k
+pub returns_its_kind : (o : Object) (pc : ℕ) (s : Shape) (a : Reg) (k : Kind) → fault_at_place o pc ≡ None → slice_get o.code pc ≡ Some (Ret a) → before o.code pc ≡ Some s → at s.registers a ≡ Some k → return_kind o ≡ Some k
 returns_its_kind o pc s a k none there is set =
     let inside : pc < length o.code = slice_get_within o.code pc (Ret a) there in
     kind_kept o.code (suc pc) (length o.code) k

@@ -1,39 +1,15 @@
 -- What an instruction asks of the registers, the comparison and the tuple.
 use Rattle.std.specs.Prelude.{Bool, true, false, not, ◌&&◌, ◌||◌, List, [], ◌∷◌, length, nat_lt}
 use Rattle.dif_validate.specs.Vocabulary.{Asks, Nothing, Any, One, Two, Flow, Next, Jump, Either}
-use Rattle.dif_validate.specs.Vocabulary.{End, Function, Strlen, Strjoin, Instr, Alu, Not, Mov, Cmp}
-use Rattle.dif_validate.specs.Vocabulary.{Tst, Scmp, Ba, Branch, Setx, Sets, Ldgs, Ldga, Ldts, Stts}
-use Rattle.dif_validate.specs.Vocabulary.{Ldls, Stls, Pushtr, Pushtv, Flushts, Ldtaa, Sttaa, Call}
-use Rattle.dif_validate.specs.Vocabulary.{Ret, Nop, Kind, Number, Text, Shape, at}
+use Rattle.dif_validate.specs.Vocabulary.{End, Function, Strlen, Strjoin, Instr, Kind, Text, Shape}
+use Rattle.dif_validate.specs.Vocabulary.{at}
+use Rattle.dif_validate.specs.Rows.{TupleNeed, AnyTuple, WithRoom, Filled, TupleOf, row_of}
 use Rattle.dif_validate.specs.Flow.{flow}
 use Rattle.dif_validate.specs.Shapes.{is_other, is_unset}
 
 -- the registers that it reads
 abbrev pub asks : Instr → Asks
-asks (Alu op a b d) = Two Number a b
-asks (Not a d) = One Number a
-asks (Mov a d) = Any a
-asks (Cmp a b) = Two Number a b
-asks (Tst a) = One Number a
-asks (Scmp a b) = Two Text a b
-asks (Ba to) = Nothing
-asks (Branch condition to) = Nothing
-asks (Setx i d) = Nothing
-asks (Sets i d) = Nothing
-asks (Ldgs v d) = Nothing
-asks (Ldga v a d) = One Number a
-asks (Ldts x d) = Nothing
-asks (Stts x a) = One x.kind a
-asks (Ldls x d) = Nothing
-asks (Stls x a) = One x.kind a
-asks (Pushtr a) = One Text a
-asks (Pushtv a) = One Number a
-asks Flushts = Nothing
-asks (Ldtaa x d) = Nothing
-asks (Sttaa x a) = One x.kind a
-asks (Call f d) = Nothing
-asks (Ret a) = Any a
-asks Nop = Nothing
+asks i = (row_of i).asks
 
 -- one of them is set and of another kind
 abbrev pub finds_other : Asks → Shape → Bool
@@ -72,28 +48,11 @@ is_some_tuple [] = false
 is_some_tuple (k ∷ ks) = true
 
 -- it can take the tuple
-abbrev pub takes : Instr → List Kind → Bool
-takes (Alu op a b d) tuple = true
-takes (Not a d) tuple = true
-takes (Mov a d) tuple = true
-takes (Cmp a b) tuple = true
-takes (Tst a) tuple = true
-takes (Scmp a b) tuple = true
-takes (Ba to) tuple = true
-takes (Branch condition to) tuple = true
-takes (Setx i d) tuple = true
-takes (Sets i d) tuple = true
-takes (Ldgs v d) tuple = true
-takes (Ldga v a d) tuple = true
-takes (Ldts x d) tuple = true
-takes (Stts x a) tuple = true
-takes (Ldls x d) tuple = true
-takes (Stls x a) tuple = true
-takes (Pushtr a) tuple = nat_lt (length tuple) 8
-takes (Pushtv a) tuple = nat_lt (length tuple) 8
-takes Flushts tuple = true
-takes (Ldtaa x d) tuple = is_some_tuple tuple
-takes (Sttaa x a) tuple = is_some_tuple tuple
-takes (Call f d) tuple = is_tuple_of f tuple
-takes (Ret a) tuple = true
-takes Nop tuple = true
+abbrev pub takes_by : TupleNeed → List Kind → Bool
+takes_by AnyTuple tuple = true
+takes_by WithRoom tuple = nat_lt (length tuple) 8
+takes_by Filled tuple = is_some_tuple tuple
+takes_by (TupleOf f) tuple = is_tuple_of f tuple
+
+abbrev pub takes_tuple : Instr → List Kind → Bool
+takes_tuple i tuple = takes_by (row_of i).tuple tuple

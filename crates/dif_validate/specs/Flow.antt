@@ -1,39 +1,14 @@
 -- Where an instruction leads, and what is known where ways lead to.
 use Rattle.std.specs.Prelude.{ℕ, zero, suc, ◌+◌, Bool, true, false, ◌&&◌, nat_eq, if◌then◌else◌}
 use Rattle.std.specs.Prelude.{List, Option, Some, None, slice_get}
-use Rattle.dif_validate.specs.Vocabulary.{Flow, Next, Jump, Either, End, Instr, Alu, Not, Mov, Cmp}
-use Rattle.dif_validate.specs.Vocabulary.{Tst, Scmp, Ba, Branch, Setx, Sets, Ldgs, Ldga, Ldts, Stts}
-use Rattle.dif_validate.specs.Vocabulary.{Ldls, Stls, Pushtr, Pushtv, Flushts, Ldtaa, Sttaa, Call}
-use Rattle.dif_validate.specs.Vocabulary.{Ret, Nop, Shape}
+use Rattle.dif_validate.specs.Vocabulary.{Flow, Next, Jump, Either, End, Instr, Shape}
+use Rattle.dif_validate.specs.Rows.{row_of}
 use Rattle.dif_validate.specs.Leaves.{leaves}
-use Rattle.dif_validate.specs.Shapes.{start, meet}
+use Rattle.dif_validate.specs.Shapes.{first_shape, meet}
 
 -- where an instruction leads
 abbrev pub flow : Instr → Flow
-flow (Alu op a b d) = Next
-flow (Not a d) = Next
-flow (Mov a d) = Next
-flow (Cmp a b) = Next
-flow (Tst a) = Next
-flow (Scmp a b) = Next
-flow (Ba to) = Jump to
-flow (Branch condition to) = Either to
-flow (Setx i d) = Next
-flow (Sets i d) = Next
-flow (Ldgs v d) = Next
-flow (Ldga v a d) = Next
-flow (Ldts x d) = Next
-flow (Stts x a) = Next
-flow (Ldls x d) = Next
-flow (Stls x a) = Next
-flow (Pushtr a) = Next
-flow (Pushtv a) = Next
-flow Flushts = Next
-flow (Ldtaa x d) = Next
-flow (Sttaa x a) = Next
-flow (Call f d) = Next
-flow (Ret a) = End a
-flow Nop = Next
+flow i = (row_of i).flow
 
 abbrev pub has_next : Flow → Bool
 has_next Next = true
@@ -45,15 +20,15 @@ has_next (End a) = false
 abbrev pub falls : Instr → Bool
 falls i = has_next (flow i)
 
-abbrev pub target_of : Flow → Option ℕ
-target_of Next = None
-target_of (Jump to) = Some to
-target_of (Either to) = Some to
-target_of (End a) = None
+abbrev pub flow_target : Flow → Option ℕ
+flow_target Next = None
+flow_target (Jump to) = Some to
+flow_target (Either to) = Some to
+flow_target (End a) = None
 
 -- the place that it jumps to
-abbrev pub target : Instr → Option ℕ
-target i = target_of (flow i)
+abbrev pub jump_target : Instr → Option ℕ
+jump_target i = flow_target (flow i)
 
 abbrev pub is_place : Option ℕ → ℕ → Bool
 is_place None pc = false
@@ -72,7 +47,7 @@ to_next i q s pc =
 
 -- and as its target
 abbrev pub to_target : Instr → Shape → ℕ → Option Shape
-to_target i s pc = if is_place (target i) pc then Some (leaves i s) else None
+to_target i s pc = if is_place (jump_target i) pc then Some (leaves i s) else None
 
 -- what is known at pc by one instruction more, that at q, if it is reached
 abbrev pub further : Option Shape → Option Instr → ℕ → Option Shape → ℕ → Option Shape
@@ -80,13 +55,13 @@ further way (Some i) q (Some s) pc =
     join (join way (to_next i q s pc)) (to_target i s pc)
 further way _ q _ pc = way
 
-abbrev pub at_start : ℕ → Option Shape
-at_start zero = Some start
-at_start (suc pc) = None
+abbrev pub shape_at_start : ℕ → Option Shape
+shape_at_start zero = Some first_shape
+shape_at_start (suc pc) = None
 
 -- what is known at pc by the instructions before n
 abbrev pub shape_at : List Instr → ℕ → ℕ → Option Shape
-shape_at code zero pc = at_start pc
+shape_at code zero pc = shape_at_start pc
 shape_at code (suc q) pc =
     further (shape_at code q pc) (slice_get code q) q (shape_at code q q) pc
 

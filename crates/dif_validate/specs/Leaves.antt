@@ -1,21 +1,20 @@
 -- What is known after an instruction.
-use Rattle.std.specs.Prelude.{ℕ, List, [], ◌∷◌, ◌++◌, length, nat_lt, if◌then◌else◌, Option, Some}
+use Rattle.std.specs.Prelude.{List, [], ◌∷◌, ◌++◌, length, nat_lt, if◌then◌else◌, Option, Some}
 use Rattle.std.specs.Prelude.{None, true}
-use Rattle.dif_validate.specs.Vocabulary.{Function, Strlen, Strjoin, Instr, Alu, Not, Mov, Cmp, Tst}
-use Rattle.dif_validate.specs.Vocabulary.{Scmp, Ba, Branch, Setx, Sets, Ldgs, Ldga, Ldts, Stts}
-use Rattle.dif_validate.specs.Vocabulary.{Ldls, Stls, Pushtr, Pushtv, Flushts, Ldtaa, Sttaa, Call}
-use Rattle.dif_validate.specs.Vocabulary.{Ret, Nop, Kind, Number, Text, Reg, Shape, at, put}
+use Rattle.dif_validate.specs.Vocabulary.{Instr, Kind, Reg, Shape, at, put}
+use Rattle.dif_validate.specs.Rows.{Change, Puts, Copies, ComparesTwo, Pushes, Empties}
+use Rattle.dif_validate.specs.Rows.{StoresVariable, NoChange, row_of}
 
 abbrev pub with_register : Shape → Reg → Option Kind → Shape
 with_register s r kind =
     record { registers = put s.registers r kind; compared = s.compared; tuple = s.tuple }
 
-abbrev pub with_comparison : Shape → Shape
-with_comparison s =
+abbrev pub shape_compared : Shape → Shape
+shape_compared s =
     record { registers = s.registers; compared = true; tuple = s.tuple }
 
-abbrev pub with_tuple : Shape → Option (List Kind) → Shape
-with_tuple s tuple =
+abbrev pub shape_with_tuple : Shape → Option (List Kind) → Shape
+shape_with_tuple s tuple =
     record { registers = s.registers; compared = s.compared; tuple = tuple }
 
 -- one more at the end, up to 8
@@ -24,36 +23,15 @@ tuple_with None kind = None
 tuple_with (Some tuple) kind =
     if nat_lt (length tuple) 8 then Some (tuple ++ kind ∷ []) else None
 
--- timestamp, cpu, pid and tid are numbers, and all others texts
-abbrev pub kind_of_built_in : ℕ → Kind
-kind_of_built_in v = if nat_lt v 4 then Number else Text
-
-abbrev pub kind_of_function : Function → Kind
-kind_of_function Strlen = Number
-kind_of_function Strjoin = Text
+-- what is known after a change
+abbrev pub shape_after : Change → Shape → Shape
+shape_after (Puts kind d) s = with_register s d (Some kind)
+shape_after (Copies a d) s = with_register s d (at s.registers a)
+shape_after ComparesTwo s = shape_compared s
+shape_after (Pushes kind) s = shape_with_tuple s (tuple_with s.tuple kind)
+shape_after Empties s = shape_with_tuple s (Some [])
+shape_after StoresVariable s = s
+shape_after NoChange s = s
 
 abbrev pub leaves : Instr → Shape → Shape
-leaves (Alu op a b d) s = with_register s d (Some Number)
-leaves (Not a d) s = with_register s d (Some Number)
-leaves (Mov a d) s = with_register s d (at s.registers a)
-leaves (Cmp a b) s = with_comparison s
-leaves (Tst a) s = with_comparison s
-leaves (Scmp a b) s = with_comparison s
-leaves (Ba to) s = s
-leaves (Branch condition to) s = s
-leaves (Setx i d) s = with_register s d (Some Number)
-leaves (Sets i d) s = with_register s d (Some Text)
-leaves (Ldgs v d) s = with_register s d (Some (kind_of_built_in v))
-leaves (Ldga v a d) s = with_register s d (Some Number)
-leaves (Ldts x d) s = with_register s d (Some x.kind)
-leaves (Stts x a) s = s
-leaves (Ldls x d) s = with_register s d (Some x.kind)
-leaves (Stls x a) s = s
-leaves (Pushtr a) s = with_tuple s (tuple_with s.tuple Text)
-leaves (Pushtv a) s = with_tuple s (tuple_with s.tuple Number)
-leaves Flushts s = with_tuple s (Some [])
-leaves (Ldtaa x d) s = with_register s d (Some x.kind)
-leaves (Sttaa x a) s = s
-leaves (Call f d) s = with_register s d (Some (kind_of_function f))
-leaves (Ret a) s = s
-leaves Nop s = s
+leaves i s = shape_after (row_of i).change s

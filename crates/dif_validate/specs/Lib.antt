@@ -2,9 +2,11 @@ pub mod Registers
 pub mod Objects
 pub mod Vocabulary
 pub mod Shapes
+pub mod Rows
 pub mod Asks
 pub mod Leaves
 pub mod Flow
+pub mod Ways
 pub mod Returns
 pub mod Faults
 pub mod Validity

@@ -2,10 +2,10 @@
 use Rattle.std.specs.Prelude.{◌≡◌, ◌≤◌, ◌<◌, ◌+◌, ℕ, List, length, Option, None, Result, Ok, Err}
 use Rattle.std.specs.Prelude.{slice_index_or}
 use Rattle.dif_validate.specs.Vocabulary.{DifFault, Kind, Object, Shape}
-use Rattle.dif_validate.specs.Faults.{fault_at}
+use Rattle.dif_validate.specs.Faults.{fault_at_place}
 use Rattle.dif_validate.specs.Flow.{shape_at}
 use Rattle.dif_validate.specs.Returns.{first_kind_before}
-use Rattle.dif_validate.specs.Validity.{IsRefused}
+use Rattle.dif_validate.specs.Validity.{IsInvalid}
 
 -- at each place ahead what the instructions so far make known there, and the kind that they return;
 -- none has a fault
@@ -15,9 +15,9 @@ pub record Knows (o : Object) (pc : ℕ) (ways : List (Option Shape)) (kind : Op
   pub ahead : (k : ℕ) → pc ≤ k → k < length o.code
       → slice_index_or ways k None ≡ shape_at o.code pc k
   pub returned : kind ≡ first_kind_before o.code pc
-  pub clean : (q : ℕ) → q < pc → fault_at o q ≡ None
+  pub clean : (q : ℕ) → q < pc → fault_at_place o q ≡ None
 
 -- one instruction more, or its fault
 abbrev pub Advances : Object → ℕ → List (Option Shape) → Result (Option Kind) DifFault → Type 0
 Advances o pc ways (Ok kind) = Knows o (pc + 1) ways kind
-Advances o pc ways (Err fault) = IsRefused o fault
+Advances o pc ways (Err fault) = IsInvalid o fault

@@ -30,8 +30,8 @@ is_unset (Some kind) = false
 
 -- at the start the first register is a number, all others are unset, nothing was compared, and the
 -- tuple is empty
-abbrev pub start : Shape
-start = record {
+abbrev pub first_shape : Shape
+first_shape = record {
   registers = Some Number ∷ None ∷ None ∷ None ∷ None ∷ None ∷ None ∷ None ∷ [];
   compared = false;
   tuple = Some [];

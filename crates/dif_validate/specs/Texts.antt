@@ -6,7 +6,7 @@ use Rattle.dif_validate.specs.Vocabulary.{Kind, Number, Text, Condition, Equal, 
 use Rattle.dif_validate.specs.Vocabulary.{GreaterEqual, Less, LessEqual, Above, AboveEqual, Below}
 use Rattle.dif_validate.specs.Vocabulary.{BelowEqual, Function, Strlen, Strjoin, Operator, Or, Xor}
 use Rattle.dif_validate.specs.Vocabulary.{And, Sll, Srl, Sra, Sub, Add, Mul, Sdiv, Udiv, Srem, Urem}
-use Rattle.dif_validate.specs.Vocabulary.{Reg, number_of}
+use Rattle.dif_validate.specs.Vocabulary.{Reg, register_number}
 use Rattle.dif_validate.specs.Vocabulary.{Instr, Alu, Not, Mov, Cmp, Tst, Scmp, Ba, Branch, Setx}
 use Rattle.dif_validate.specs.Vocabulary.{Sets, Ldgs, Ldga, Ldts, Stts, Ldls, Stls, Pushtr, Pushtv}
 use Rattle.dif_validate.specs.Vocabulary.{Flushts, Ldtaa, Sttaa, Call, Ret, Nop}
@@ -43,15 +43,15 @@ function_name Strlen = codes "strlen"
 function_name Strjoin = codes "strjoin"
 
 abbrev pub register_name : Reg → List ℕ
-register_name r = codes "r" ++ decimal (number_of r)
+register_name r = codes "r" ++ decimal (register_number r)
 
-abbrev pub letter_of : Kind → List ℕ
-letter_of Number = codes "n"
-letter_of Text = codes "t"
+abbrev pub kind_letter : Kind → List ℕ
+kind_letter Number = codes "n"
+kind_letter Text = codes "t"
 
 -- the letter of its kind, and its slot
 abbrev pub variable_name : Var → List ℕ
-variable_name x = letter_of x.kind ++ decimal x.slot
+variable_name x = kind_letter x.kind ++ decimal x.slot
 
 -- an instruction's name and its one, two or three operands
 abbrev pub one : (name a : List ℕ) → List ℕ
@@ -63,29 +63,29 @@ two name a b = name ++ codes " " ++ a ++ codes ", " ++ b
 abbrev pub three : (name a b c : List ℕ) → List ℕ
 three name a b c = name ++ codes " " ++ a ++ codes ", " ++ b ++ codes ", " ++ c
 
-abbrev pub text_of : Instr → List ℕ
-text_of (Alu op a b d) =
+abbrev pub instr_text : Instr → List ℕ
+instr_text (Alu op a b d) =
     three (operator_name op) (register_name a) (register_name b) (register_name d)
-text_of (Not a d) = two (codes "not") (register_name a) (register_name d)
-text_of (Mov a d) = two (codes "mov") (register_name a) (register_name d)
-text_of (Cmp a b) = two (codes "cmp") (register_name a) (register_name b)
-text_of (Tst a) = one (codes "tst") (register_name a)
-text_of (Scmp a b) = two (codes "scmp") (register_name a) (register_name b)
-text_of (Ba to) = one (codes "ba") (decimal to)
-text_of (Branch condition to) = one (branch_name condition) (decimal to)
-text_of (Setx i d) = two (codes "setx") (decimal i) (register_name d)
-text_of (Sets i d) = two (codes "sets") (decimal i) (register_name d)
-text_of (Ldgs v d) = two (codes "ldgs") (decimal v) (register_name d)
-text_of (Ldga v a d) = three (codes "ldga") (decimal v) (register_name a) (register_name d)
-text_of (Ldts x d) = two (codes "ldts") (variable_name x) (register_name d)
-text_of (Stts x a) = two (codes "stts") (variable_name x) (register_name a)
-text_of (Ldls x d) = two (codes "ldls") (variable_name x) (register_name d)
-text_of (Stls x a) = two (codes "stls") (variable_name x) (register_name a)
-text_of (Pushtr a) = one (codes "pushtr") (register_name a)
-text_of (Pushtv a) = one (codes "pushtv") (register_name a)
-text_of Flushts = codes "flushts"
-text_of (Ldtaa x d) = two (codes "ldtaa") (variable_name x) (register_name d)
-text_of (Sttaa x a) = two (codes "sttaa") (variable_name x) (register_name a)
-text_of (Call function d) = two (codes "call") (function_name function) (register_name d)
-text_of (Ret a) = one (codes "ret") (register_name a)
-text_of Nop = codes "nop"
+instr_text (Not a d) = two (codes "not") (register_name a) (register_name d)
+instr_text (Mov a d) = two (codes "mov") (register_name a) (register_name d)
+instr_text (Cmp a b) = two (codes "cmp") (register_name a) (register_name b)
+instr_text (Tst a) = one (codes "tst") (register_name a)
+instr_text (Scmp a b) = two (codes "scmp") (register_name a) (register_name b)
+instr_text (Ba to) = one (codes "ba") (decimal to)
+instr_text (Branch condition to) = one (branch_name condition) (decimal to)
+instr_text (Setx i d) = two (codes "setx") (decimal i) (register_name d)
+instr_text (Sets i d) = two (codes "sets") (decimal i) (register_name d)
+instr_text (Ldgs v d) = two (codes "ldgs") (decimal v) (register_name d)
+instr_text (Ldga v a d) = three (codes "ldga") (decimal v) (register_name a) (register_name d)
+instr_text (Ldts x d) = two (codes "ldts") (variable_name x) (register_name d)
+instr_text (Stts x a) = two (codes "stts") (variable_name x) (register_name a)
+instr_text (Ldls x d) = two (codes "ldls") (variable_name x) (register_name d)
+instr_text (Stls x a) = two (codes "stls") (variable_name x) (register_name a)
+instr_text (Pushtr a) = one (codes "pushtr") (register_name a)
+instr_text (Pushtv a) = one (codes "pushtv") (register_name a)
+instr_text Flushts = codes "flushts"
+instr_text (Ldtaa x d) = two (codes "ldtaa") (variable_name x) (register_name d)
+instr_text (Sttaa x a) = two (codes "sttaa") (variable_name x) (register_name a)
+instr_text (Call function d) = two (codes "call") (function_name function) (register_name d)
+instr_text (Ret a) = one (codes "ret") (register_name a)
+instr_text Nop = codes "nop"

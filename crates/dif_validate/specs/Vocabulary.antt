@@ -34,4 +34,4 @@ pub use Rattle.dif_validate.specs.declared.register.Reg.{Reg}
 pub use Rattle.dif_validate.specs.declared.register.Reg.TheVariants.{R0, R1, R2, R3, R4, R5, R6, R7}
 pub use Rattle.dif_validate.specs.declared.shape.Shape.{Shape}
 pub use Rattle.dif_validate.specs.Objects.{Object, object_of}
-pub use Rattle.dif_validate.specs.Registers.{number_of, at, put}
+pub use Rattle.dif_validate.specs.Registers.{register_number, at, put}

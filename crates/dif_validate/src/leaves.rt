@@ -2,6 +2,7 @@
 
 ghost use Rattle.std.specs.Prelude.{◌≡◌};
 ghost use Rattle.dif_validate.specs.Leaves as spec;
+ghost use Rattle.dif_validate.specs.Rows as rows;
 
 use crate::instruction::{Function, Instr};
 use crate::register::Reg;
@@ -21,7 +22,7 @@ impl Shape {
 
     // With two values compared.
     fn with_comparison(mut self) -> Shape
-        ensures { result ≡ spec.with_comparison self }
+        ensures { result ≡ spec.shape_compared self }
     {
         self.compared = true;
         self
@@ -29,7 +30,7 @@ impl Shape {
 
     // With the tuple.
     fn with_tuple(mut self, tuple: Option<Tuple>) -> Shape
-        ensures { result ≡ spec.with_tuple self tuple }
+        ensures { result ≡ spec.shape_with_tuple self tuple }
     {
         self.tuple = tuple;
         self
@@ -37,7 +38,7 @@ impl Shape {
 
     // With one more at the end of the tuple.
     fn with_one_more(mut self, kind: Kind) -> Shape
-        ensures { result ≡ spec.with_tuple self (spec.tuple_with self.tuple kind) }
+        ensures { result ≡ spec.shape_with_tuple self (spec.tuple_with self.tuple kind) }
     {
         let tuple = tuple_with(self.tuple.take(), kind);
         self.with_tuple(tuple)
@@ -82,7 +83,7 @@ impl Shape {
 impl Function {
     /// The kind of its value.
     pub(crate) fn kind(self) -> Kind
-        ensures { result ≡ spec.kind_of_function self }
+        ensures { result ≡ rows.kind_of_function self }
     {
         match self {
             Function::Strlen => Kind::Number,
@@ -93,7 +94,7 @@ impl Function {
 
 // The kind of a built-in variable.
 fn kind_of_built_in(v: u8) -> Kind
-    ensures { result ≡ spec.kind_of_built_in v }
+    ensures { result ≡ rows.kind_of_built_in v }
 {
     if v < 4 { Kind::Number } else { Kind::Text }
 }

@@ -6,6 +6,7 @@ mod fault;
 mod faults;
 mod flow;
 mod instruction;
+pub mod laws;
 mod leaves;
 mod object;
 mod pass;
@@ -14,10 +15,13 @@ mod shape;
 mod show;
 mod valid;
 
-pub use asks::Asks;
 pub use fault::DifFault;
 pub use instruction::{Condition, Function, Instr, Operator};
 pub use object::Difo;
 pub use register::Reg;
-pub use shape::{Shape, Tuple};
 pub use valid::{ValidDifo, validate};
+
+// What the validator asks and knows. No caller needs them: they are public since definitions speak
+// of them.
+pub use asks::Asks;
+pub use shape::{Shape, Tuple};

@@ -2,7 +2,7 @@
 
 ghost use Rattle.std.specs.Prelude.{◌≡◌, ◌<◌, ◌+◌, ℕ, Some, None, true, IfOk, length, nat_eq};
 ghost use Rattle.std.specs.Prelude.{slice_index_or, if◌then◌else◌};
-ghost use Rattle.dif_validate.specs.Flow.{at_start, falls, further, join, target};
+ghost use Rattle.dif_validate.specs.Flow.{shape_at_start, falls, further, join, jump_target};
 ghost use Rattle.dif_validate.specs.{Objects.object_of, Returns.kind_at_return};
 ghost use Rattle.dif_validate.specs.Pass.{Advances, Knows};
 ghost use Rattle.dif_validate.specs.Validity.{Finds, is_closed};
@@ -15,11 +15,11 @@ use crate::shape::Shape;
 use d_values::Kind;
 use std::alloc::{AllocError, Global};
 
-// What is known at each of so many places before the first instruction.
+// What is known at each place before the first instruction.
 fn start(alloc: Global, size: usize) -> Result<Vec<Option<Shape>>, AllocError>
     ensures long { IfOk result (λ ways. length ways.items ≡ size) }
     ensures known { IfOk result (λ ways. (pc : ℕ) → pc < size
-        → slice_index_or ways.items pc None ≡ at_start pc) }
+        → slice_index_or ways.items pc None ≡ shape_at_start pc) }
 {
     let mut ways = Vec::new(alloc);
     for pc in 0..size {
@@ -49,7 +49,7 @@ fn meet_at(ways: &mut Vec<Option<Shape>>, to: usize, shape: Shape)
 // What a reached instruction makes known where it leads.
 fn send(ways: &mut Vec<Option<Shape>>, i: Instr, pc: usize, shape: Shape)
     requires next { falls i ≡ true → pc + 1 < length ways.old.items }
-    requires inside { (to : ℕ) → target i ≡ Some to → to < length ways.old.items }
+    requires inside { (to : ℕ) → jump_target i ≡ Some to → to < length ways.old.items }
     ensures long { length ways.new.items ≡ length ways.old.items }
     ensures sent { (k : ℕ) → slice_index_or ways.new.items k None
         ≡ further (slice_index_or ways.old.items k None) (Some i) pc (Some shape) k }

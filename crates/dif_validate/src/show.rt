@@ -85,7 +85,7 @@ impl fmt::Display for Function {
 }
 
 impl fmt::Display for Instr {
-    ghost output = { λ i. Some (spec.text_of i) };
+    ghost output = { λ i. Some (spec.instr_text i) };
 
     fn fmt<W: fmt::Write>(&self, f: &mut fmt::Formatter<W>) -> fmt::Result {
         match self {

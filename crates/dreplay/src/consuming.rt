@@ -1,44 +1,15 @@
-//! From the bytes in to the bytes out.
+//! From the bytes of a bundle to its report.
 
 ghost use Rattle.std.specs.Prelude.{◌≡◌, ◌≢◌, List, ℕ, Err, IfErr, IsFalse};
-ghost use Rattle.dreplay.specs.{Bundle.Divides, Plans.IsInBounds};
-ghost use Rattle.dreplay.specs.Consuming.{HoldsOfInput, IsReadToEnd, Shows, fault_of_reading};
+ghost use Rattle.consumer.specs.{Bundle.Divides, Plans.IsInBounds};
+ghost use Rattle.consumer.specs.Consuming.{HoldsOfInput, IsReadToEnd, WritesAnswer};
+ghost use Rattle.report.specs.{Report.IsReport};
 
-use crate::bundle::{Division, divide};
-use crate::plan::{Plan, Replayed};
-use crate::refusal::Refusal;
-use crate::replaying::replay;
-use report::{Feed, ReadFault, Sink, read_to_end, send};
+use consumer::{ConsumeFault, Consumer, Plan, Replayed};
+use report::{Feed, Report, Sink};
 use std::alloc::Global;
 use std::sync::Wait;
 use std::thread::Threads;
-use thiserror::Error;
-
-/// Why an answer was not written.
-#[derive(Debug, Drop, Error)]
-pub enum ConsumeFault {
-    /// The reader failed, or had not ended after 2^32 calls. Nothing was written.
-    #[error("read failed")]
-    Read,
-    /// There is no answer. Nothing was written.
-    #[error("{0}")]
-    Refused(Refusal),
-    /// The writer failed. A beginning of the answer was written, or all of it where it failed as it
-    /// was flushed.
-    #[error("write failed")]
-    Write,
-}
-
-impl From<ReadFault> for ConsumeFault {
-    ghost from_gives = { λ fault e. e ≡ fault_of_reading fault };
-
-    fn from(fault: ReadFault) -> ConsumeFault {
-        match fault {
-            ReadFault::Failed => ConsumeFault::Read,
-            ReadFault::Memory => ConsumeFault::Refused(Refusal::Memory),
-        }
-    }
-}
 
 /// Reads a bundle to its end, runs its script over its trace, writes what the script shows and
 /// flushes the writer. Nothing is written unless there is an answer.
@@ -64,67 +35,14 @@ pub fn consume<R: Threads + Wait + Sync, F: Feed, S: Sink>(
     ensures shown { result ≢ Err ConsumeFault.Read
         → HoldsOfInput (F.seen feed.old).remaining (λ bundle.
         (script trace : List ℕ) × Divides bundle script trace
-        × Shows script trace plan.now (S.seen sink.old) (S.seen sink.new) result) }
+        × WritesAnswer IsReport script trace plan.now (S.seen sink.old) (S.seen sink.new)
+        result) }
     ensures untouched { result ≢ Err ConsumeFault.Write → IfErr result (λ e. sink.new ≡ sink.old) }
 {
-    let bundle = read_to_end(alloc, feed)?;
-    show(rt, alloc, divide(&bundle), sink, plan)
-}
-
-/// Reads a trace to its end, runs the script over it, writes what the script shows and flushes the
-/// writer. Nothing is written unless there is an answer.
-///
-/// ```text
-/// let mut feed = Watched::new(trace.as_slice());
-/// let mut sink = Watched::new(Vec::new(alloc));
-/// consume_trace(&rt, alloc, b"BEGIN { trace(1); }", &mut feed, &mut sink, &plan)?;
-/// sink.into_inner(); // `1` and a line feed
-/// ```
-pub fn consume_trace<R: Threads + Wait + Sync, F: Feed, S: Sink>(
-    rt: &R,
-    alloc: Global,
-    script: &[u8],
-    feed: &mut F,
-    sink: &mut S,
-    plan: &Plan,
-) -> Result<Replayed, ConsumeFault>
-    requires plan { IsInBounds plan.now }
-    requires feed { IsFalse (F.seen feed.old).has_failed }
-    requires sink { IsFalse (S.seen sink.old).has_failed }
-    ensures read { IsReadToEnd (F.seen feed.old) (F.seen feed.new) result }
-    ensures shown { result ≢ Err ConsumeFault.Read
-        → HoldsOfInput (F.seen feed.old).remaining (λ trace.
-        Shows script.now trace plan.now (S.seen sink.old) (S.seen sink.new) result) }
-    ensures untouched { result ≢ Err ConsumeFault.Write → IfErr result (λ e. sink.new ≡ sink.old) }
-{
-    let trace = read_to_end(alloc, feed)?;
-    let parts = Division {
-        script,
-        trace: &trace,
+    let consumer = Consumer {
+        rt,
+        alloc,
+        layout: Report,
     };
-    show(rt, alloc, parts, sink, plan)
-}
-
-// Runs a script over a trace, and writes what the script shows.
-fn show<R: Threads + Wait + Sync, S: Sink>(
-    rt: &R,
-    alloc: Global,
-    parts: Division<'_>,
-    sink: &mut S,
-    plan: &Plan,
-) -> Result<Replayed, ConsumeFault>
-    requires plan { IsInBounds plan.now }
-    requires sink { IsFalse (S.seen sink.old).has_failed }
-    ensures read { result ≢ Err ConsumeFault.Read }
-    ensures shown { Shows parts.entry.script.now parts.entry.trace.now plan.now
-        (S.seen sink.old) (S.seen sink.new) result }
-    ensures untouched { result ≢ Err ConsumeFault.Write → IfErr result (λ e. sink.new ≡ sink.old) }
-{
-    match replay(rt, alloc, parts.script, parts.trace, plan) {
-        Ok(replayed) => match send(sink, &replayed.bytes) {
-            Ok(()) => Ok(replayed),
-            Err(_) => Err(ConsumeFault::Write),
-        },
-        Err(refusal) => Err(ConsumeFault::Refused(refusal)),
-    }
+    consumer.consume(feed, sink, plan)
 }

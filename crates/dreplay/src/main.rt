@@ -3,32 +3,14 @@
 //! the script from the file of the option `-s`.
 #![tactic(auto)]
 
-mod bundle;
-mod consuming;
-mod ending;
-mod files;
-mod grouping;
-pub mod laws;
-mod line;
-mod plan;
-mod program;
-mod refusal;
-mod replaying;
-mod scripts;
-#[cfg(test)]
-mod tests;
-#[cfg(test)]
-mod tests_of_program;
-#[cfg(test)]
-mod tests_of_streams;
-#[cfg(test)]
-mod tests_of_workers;
-mod words;
+pub mod consuming;
+mod help;
+pub mod replaying;
 
-use files::SystemFiles;
+use consumer::{Consumer, Streams, SystemFiles};
+use help::HELP;
 use keyed_hash::HashKey;
-use program::Streams;
-use report::Watched;
+use report::{Report, Watched};
 use std::env::args;
 use std::process::ExitCode;
 
@@ -39,8 +21,12 @@ fn main(rt: HostRuntime) -> ExitCode {
         output: Watched::new(rt.stdout()),
         errors: Watched::new(rt.stderr()),
     };
+    let consumer = Consumer {
+        rt: &rt,
+        alloc: rt.alloc(),
+        layout: Report,
+    };
     let hash_key = HashKey::random(&rt);
-    let words = args(&rt);
-    let status = program::program(&rt, rt.alloc(), hash_key, &files, words, &mut streams);
+    let status = consumer.program(HELP, hash_key, &files, args(&rt), &mut streams);
     ExitCode::from(status)
 }

@@ -22,3 +22,4 @@ pub mod PlainArguments
 pub mod RowParts
 pub mod BlockSteps
 pub mod Probing
+pub mod Written

@@ -13,3 +13,4 @@ pub mod Stored
 pub mod Probing
 pub mod Units
 pub mod Blocks
+pub mod Written

@@ -57,7 +57,8 @@ firing_in owners probes args r = record {
 }
 
 -- what a row names is there
-pub record IsRowIn (owners : List Owner) (probes : List Probe) (args : List ℤ) (r : Row) : Type 0 where
+pub record IsRowIn (owners : List Owner) (probes : List Probe) (args : List ℤ) (r : Row)
+    : Type 0 where
   pub owner : r.owner < length owners
   pub probe : r.probe < length probes
   pub given : IsGivenIn args r.given

@@ -48,18 +48,20 @@ pub record IsOwnerKey (owners : List Owner) (key : List ℕ × ℕ) : Type 0 whe
   pub there : slice_get owners key.1 ≡ Some owner
   pub reads : ReadsOwner key.0 [] owner
 
--- the same of a probe
+-- bytes that were met are the fields of the probe at their place
 pub record IsProbeKey (probes : List Probe) (key : List ℕ × ℕ) : Type 0 where
   pub probe : Probe
   pub there : slice_get probes key.1 ≡ Some probe
   pub reads : ReadsProbe key.0 [] probe
 
 -- owners that are stored, and the bytes that were met of them
-pub record AreOwners (texts : List (List ℕ)) (stored : List StoredOwner) (keys : List (List ℕ × ℕ)) : Type 0 where
+pub record AreOwners (texts : List (List ℕ)) (stored : List StoredOwner)
+    (keys : List (List ℕ × ℕ)) : Type 0 where
   pub texts_in : All (IsOwnerIn texts) stored
   pub keys_in : All (IsOwnerKey (map (owner_in texts) stored)) keys
 
--- the same of probes
-pub record AreProbes (texts : List (List ℕ)) (stored : List StoredProbe) (keys : List (List ℕ × ℕ)) : Type 0 where
+-- probes that are stored, and the bytes that were met of them
+pub record AreProbes (texts : List (List ℕ)) (stored : List StoredProbe)
+    (keys : List (List ℕ × ℕ)) : Type 0 where
   pub texts_in : All (IsProbeIn texts) stored
   pub keys_in : All (IsProbeKey (map (probe_in texts) stored)) keys

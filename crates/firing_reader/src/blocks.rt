@@ -59,7 +59,7 @@ impl Model for Reader {
 }
 
 impl Reader {
-    /// A reader that has taken nothing. It reads whole rows as soon as it has so many bytes.
+    /// A reader that has taken nothing. It reads whole rows as soon as it has `least` bytes.
     pub fn new(alloc: Global, hash_key: HashKey, least: usize) -> Result<Reader, AllocError>
         ensures { IfOk result (λ r. (rest : List ℕ) → reads r rest ≡ trace_of rest) }
     {
@@ -237,7 +237,7 @@ fn advance(
     }
 }
 
-// Drops the bytes before a place, and puts a line feed there, as it stands where a row ended.
+// Drops the bytes before a place, and puts a line feed there, as where a row ended.
 fn keep_from(left: &mut Vec<u8>, at: usize)
     requires { at < length left.old.items }
     ensures { left.new.items ≡ 10 ∷ drop (at + 1) left.old.items }
@@ -246,7 +246,7 @@ fn keep_from(left: &mut Vec<u8>, at: usize)
     left[0] = b'\n';
 }
 
-// Drops so many bytes.
+// Drops the first `count` bytes.
 fn drop_front(left: &mut Vec<u8>, count: usize)
     requires { count ≤ length left.old.items }
     ensures { left.new.items ≡ drop count left.old.items }

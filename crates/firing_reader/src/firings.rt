@@ -107,6 +107,10 @@ impl Firings {
     }
 
     /// Which probe each is of.
+    ///
+    /// ```text
+    /// trace.firings().probe_places().probe_count(); // 2, where the rows are of two probes
+    /// ```
     pub fn probe_places(&self) -> ProbePlaces
         ensures { ArePlaces result.probes result.places (map probe_of self.now) }
     {
@@ -165,8 +169,8 @@ impl Firings {
         }
     }
 
-    /// Reads the plain row after a line feed, whose number has to be above the last: what comes from
-    /// its own line feed on. Where it returns None, the firings stay as they were.
+    /// Reads the plain row after a line feed, whose number has to be above the last: what comes
+    /// from its own line feed on. Where it returns None, the firings stay as they were.
     #[inline(always)]
     pub(crate) fn read_row<'a>(&mut self, bytes: &'a [u8]) -> Option<&'a [u8]>
         ensures { MatchOption result (self.new ≡ self.old) (λ rest. (f : Firing)

@@ -80,7 +80,8 @@ impl Owners {
     /// The place of an owner, who is kept where they weren't.
     pub(crate) fn keep(&mut self, thread: i32, pid: i32, execname: &Text) -> Option<u32>
         ensures grows { Extends self.old self.new }
-        ensures place { IfSome result (λ p. slice_get self.new p ≡ Some (record { thread = thread; pid = pid; execname = execname.now })) }
+        ensures place { IfSome result (λ p. slice_get self.new p
+            ≡ Some (record { thread = thread; pid = pid; execname = execname.now })) }
     {
         let execname = self.texts.keep(execname)?;
         place_of(

@@ -50,7 +50,7 @@ fn follows(first: &Firings, second: &Firings) -> bool
     second.len() == 0 || first.last_number() < second.get(0).number
 }
 
-// The firings of bytes that are nothing but plain rows, read by so many workers.
+// The firings of bytes that are nothing but plain rows, read by several workers.
 fn read_pieces<R: Threads + Sync>(
     rt: &R,
     alloc: Global,
@@ -88,7 +88,7 @@ fn read_pieces<R: Threads + Sync>(
     first.followed_by(&second)
 }
 
-// The firings of a trace that is nothing but a header and plain rows, read by so many workers.
+// The firings of a trace that is nothing but a header and plain rows, read by several workers.
 pub(crate) fn read_plain_trace<R: Threads + Sync>(
     rt: &R,
     alloc: Global,

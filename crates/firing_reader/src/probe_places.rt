@@ -11,6 +11,14 @@ use std::marker::Model;
 
 /// The probes of firings, and of each firing the place of its own among them. Two firings with the
 /// same place are of the same probe.
+///
+/// ```text
+/// // of rows of the probes p::read:entry, p::read:return and p::read:entry
+/// let places = trace.firings().probe_places();
+/// places.len(); // 3
+/// places.probe_count(); // 2
+/// places.probe(1).name; // `return`
+/// ```
 #[derive(Drop)]
 pub struct ProbePlaces<'a> {
     probes: &'a Probes,
@@ -85,6 +93,10 @@ fn probe_at(rows: &[Row], at: usize) -> u32
 
 impl<'a> Firing<'a> {
     /// Its probe.
+    ///
+    /// ```text
+    /// trace.firings().get(0).into_probe().name; // `entry`, of a row of p::read:entry
+    /// ```
     pub fn into_probe(self) -> Probe<'a>
         ensures { result ≡ probe_of self.entry }
     {

@@ -79,8 +79,8 @@ pub(crate) fn read_by_csv(
     read_rows(&mut records, &mut fields, firings)
 }
 
-/// The same of all that is left: plain rows are read where they lie. From the first row on that
-/// isn't plain csv reads, and it alone decides what is faulty.
+/// Reads all rows that are left: plain ones where they lie. From the first row on that isn't plain,
+/// csv reads, and it alone decides what is faulty.
 pub(crate) fn read_rest(
     alloc: Global,
     firings: &mut Firings,

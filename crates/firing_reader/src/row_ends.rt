@@ -3,7 +3,7 @@
 ghost use Rattle.std.specs.Prelude.{◌≡◌, ◌≤◌, length, take};
 ghost use Rattle.firing_reader.specs.RowEnds.{RowsEnd, place_after, plain_after};
 
-// Where csv stands after a byte.
+// Where csv is after a byte.
 #[derive(Clone, Copy)]
 enum Place {
     // Between two rows.

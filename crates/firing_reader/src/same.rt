@@ -30,7 +30,7 @@ pub(crate) fn is_same(left: &[u8], right: &[u8]) -> bool
     is_same_long(left, right)
 }
 
-// The same of few bytes.
+// Whether fewer than eight bytes are the same.
 #[inline(always)]
 fn is_same_short(left: &[u8], right: &[u8]) -> bool
     ensures { IsTrue result ↔ (left.now ≡ right.now) }
@@ -38,7 +38,7 @@ fn is_same_short(left: &[u8], right: &[u8]) -> bool
     left == right
 }
 
-// The same of as many bytes, of which there is a word. The last word may overlap the one before.
+// Whether eight bytes or more are the same, by words. The last word may overlap the one before.
 #[inline(always)]
 fn is_same_long(left: &[u8], right: &[u8]) -> bool
     requires as_many { length left.now ≡ length right.now }

@@ -99,7 +99,7 @@ impl Slots {
         (mixed(mixed(self.secret, first), second) >> 32) as u32
     }
 
-    /// The slot so many places after the first for a tag.
+    /// The slot that is `n` after the first for a tag.
     #[inline(always)]
     pub(crate) fn near(&self, tag: u32, n: usize) -> Slot {
         let at = (tag as usize).wrapping_add(n) & self.slots.len().wrapping_sub(1);

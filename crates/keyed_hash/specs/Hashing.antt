@@ -9,7 +9,7 @@ use Rattle.keyed_hash.specs.declared.hash_key.KeyedHasher.{KeyedHasher}
 abbrev pub words_in : List ℕ → ℕ
 words_in bytes = length bytes / 8
 
--- the state after the first so many words
+-- the state after the first n words
 abbrev pub after_words : FoldHasher → List ℕ → ℕ → FoldHasher
 after_words state bytes zero = state
 after_words state bytes (suc n) =

@@ -211,6 +211,7 @@ fn has_buckets(
                 all = all.wrapping_add(*count);
             }
             if let Some(histogram) = partial.histogram() {
+                assert_eq!(rt; function.scale(), Some(histogram.scale()));
                 assert_eq!(rt; histogram.total(), all);
                 assert_eq!(rt;
                     histogram.span().map(|span| span.0),
@@ -232,6 +233,7 @@ fn histograms(rt: HostRuntime) -> Result<(), Fail> {
     let quantize = AggFn::Quantize;
     assert_eq!(rt; quantize.buckets(), 127);
     assert_eq!(rt; AggFn::Count.buckets(), 0);
+    assert_eq!(rt; AggFn::Count.scale(), None);
     let few = [(63, 0, 1), (64, 1, 1), (65, 2, 2), (66, 4, 1)];
     has_buckets(&rt, alloc, quantize, (&[0, 1, 2], &[3, 4]), &few, 9)?;
     let least = -4611686018427387904;

@@ -8,7 +8,7 @@ use keyed_hash::HashKey;
 use std::alloc::Global;
 use std::test::Fail;
 
-// Reads a trace in blocks of so many bytes.
+// Reads a trace in blocks of this size.
 fn in_blocks(
     alloc: Global,
     hash_key: HashKey,

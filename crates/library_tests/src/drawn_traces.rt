@@ -176,8 +176,8 @@ fn drawn_traces_read_the_same_in_every_way(rt: HostRuntime) -> Result<(), Fail> 
 // How many rows are cut.
 const ROWS: u64 = 200;
 
-// A trace of so many rows, all plain, whose texts, times and arguments come again and again: pieces
-// of it have some of their texts in common.
+// A trace of `ROWS` plain rows, whose texts, times and arguments come again and again: pieces of it
+// have some of their texts in common.
 fn varied_rows(alloc: Global) -> Result<Vec<u8>, AllocError> {
     let mut chance = Chance { state: 7 };
     let mut bytes = whole_trace(alloc, HEADER, b"", b"")?;
@@ -204,7 +204,7 @@ fn plain_rows_read_the_same_in_pieces(rt: HostRuntime) -> Result<(), Fail> {
     Ok(())
 }
 
-// A trace of so many rows, all plain.
+// A trace of `ROWS` plain rows.
 fn plain_rows(alloc: Global) -> Result<Vec<u8>, AllocError> {
     let mut bytes = whole_trace(alloc, HEADER, b"", b"")?;
     for number in 1..ROWS + 1 {

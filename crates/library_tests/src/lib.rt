@@ -24,7 +24,13 @@ mod parser;
 #[cfg(test)]
 mod parser_faults;
 #[cfg(test)]
+mod programs;
+#[cfg(test)]
+mod replays;
+#[cfg(test)]
 mod shards;
+#[cfg(test)]
+mod streams;
 #[cfg(test)]
 mod traces;
 #[cfg(test)]
@@ -33,3 +39,5 @@ mod types;
 mod validator;
 #[cfg(test)]
 mod value_tables;
+#[cfg(test)]
+mod workers;

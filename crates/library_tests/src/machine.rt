@@ -424,7 +424,7 @@ fn run_in_frame(
     };
     let mut locals = ClauseLocals::new(alloc);
     let mut own = ThreadTable::new(alloc, HashKey::of_seed(&[]));
-    match run_in(alloc, &valid, &firing, frame, &mut locals, &mut own) {
+    match run_in(&valid, &firing, frame, &mut locals, &mut own) {
         Ok(ValueRef::Int(word)) => Ok(Shown::Number(word)),
         Ok(ValueRef::Text(bytes)) => Ok(Shown::Bytes(Vec::from_slice(alloc, bytes)?)),
         Err(fault) => Ok(Shown::Fault(fault)),

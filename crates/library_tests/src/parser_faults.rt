@@ -5,10 +5,10 @@ use std::alloc::{AllocError, Global};
 use std::test::Fail;
 use std::thread;
 
-// Times, what is opened, stands inside and is closed so many times in trace( and ), and how that
-// prints: at a limit.
+// A number of times; what is opened that often, is inside once and is closed that often, in trace(
+// and ); and how that prints: at a limit.
 const DEEPEST: [(usize, [&str; 3], [&str; 3]); 6] = [
-    // 1,024 tokens in a row, with trace, its parentheses and what stands inside
+    // 1,024 tokens in a row, with trace, its parentheses and what is inside
     (1020, ["~", "5", ""], ["(~", "5", ")"]),
     (510, ["", "1", "+1"], ["(", "1", " + 1)"]),
     (510, ["x=", "1", ""], ["(x = ", "1", ")"]),
@@ -67,7 +67,7 @@ fn depth(rt: HostRuntime) -> Result<(), Fail> {
     Ok(())
 }
 
-// Scripts of a part so many times, and what they are.
+// A number of times, a part that a script has that often, and what the script is.
 const MANY: [(usize, [&str; 3], [&str; 3]); 6] = [
     (256, [":::a{}", "", ""], [":::a { }\n", "", ""]),
     (257, [":::a{}", "", ""], ["", "TooManyClauses", ""]),

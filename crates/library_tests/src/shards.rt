@@ -13,7 +13,8 @@ use std::test::Fail;
 use std::thread;
 
 const HEADER: &str =
-    "number,cpu,thread,pid,execname,time,provider,module,function,name,arg0,arg1,arg2,arg3,arg4,arg5,arg6,arg7,arg8,arg9\n";
+    "number,cpu,thread,pid,execname,time,provider,module,function,name,arg0,arg1,arg2,arg3,arg4,\
+    arg5,arg6,arg7,arg8,arg9\n";
 
 // A trace in which these threads fire, in this order.
 fn trace_of(rt: &impl Abort, alloc: Global, threads: &[i32]) -> Result<Trace, AllocError> {

@@ -15,7 +15,14 @@ use Rattle.firing_reader.specs.Trace.{IsTrace, last_number}
 use Rattle.replay_core.specs.Exit.{firings_over, up_to}
 use Rattle.replay_core.specs.Meaning.{Threads, exit_of, history, firing_result, threads_after}
 use Rattle.replay_core.specs.Meaning.{blank_threads}
-use Rattle.replay_core.specs.Running.{until_exit}
+
+-- the firings up to the first that exits
+abbrev pub until_exit : ScriptMeant → List Firing → Threads → List Firing
+until_exit m [] threads = []
+until_exit m (f ∷ fs) threads =
+    f ∷ (if is_some (firing_result m f (threads f.thread)).exit
+    then []
+    else until_exit m fs (threads_after m f threads))
 
 -- numbers rise from above n on
 abbrev pub Rises : ℕ → List Firing → Type 0
@@ -102,7 +109,7 @@ unfolding last_from
 rises_end n [] e r lt = (lt, tt)
 rises_end n (f ∷ fs) e r lt = (r.0, rises_end f.number fs e r.1 lt)
 
-rises_is : (n : ℕ) (fs : List Firing) → IsStrictlyIncreasing (n ∷ map number_of fs) → Rises n fs
+pub rises_is : (n : ℕ) (fs : List Firing) → IsStrictlyIncreasing (n ∷ map number_of fs) → Rises n fs
 rises_is n [] all = tt
 rises_is n (f ∷ fs) all = (all 0 (omega arith), rises_is f.number fs (λ k within. rw add-one (rw add-one at (all (suc k) (omega arith)))))
 

@@ -4,7 +4,7 @@ use Rattle.std.proofs.Common.{refl, ap, ◌∙◌}
 use Rattle.d_types.specs.Clauses.{by_trees, effect_by, effect_then, where_predicate, run_result}
 use Rattle.d_types.specs.Clauses.{run_by, statements_by}
 use Rattle.d_types.specs.Storage.{Variables}
-use Rattle.d_types.specs.Typed.{action_of, actions_of, argument_of}
+use Rattle.d_types.specs.Typed.{action_of, actions_of, typed_argument}
 use Rattle.d_types.specs.declared.typed.TypedExpr.{TypedExpr}
 use Rattle.d_types.specs.declared.typed.TypedStmt.{TypedStmt}
 use Rattle.d_types.specs.declared.typed.TypedStmt.TheVariants as s
@@ -42,7 +42,7 @@ module _ (f : Firing) where
       ∙ ap (effect_then (effect_by (by_trees f) (action_of x) vars)) (λ i v. statements_same rest v i)
 
   pub run_same : (line : List ℕ) (predicate : Option TypedExpr) (all : List TypedStmt) (vars : Variables)
-      → run_by (by_expressions f) line predicate (map statement_form all) vars ≡ run_by (by_trees f) line (argument_of predicate) (actions_of all) vars
+      → run_by (by_expressions f) line predicate (map statement_form all) vars ≡ run_by (by_trees f) line (typed_argument predicate) (actions_of all) vars
   run_same line None all vars = ap (run_result line) (statements_same all vars)
   run_same line (Some e) all vars =
       ap (λ go. run_result line (where_predicate (by_expressions f) (Some e) go vars)) (λ i v. statements_same all v i)

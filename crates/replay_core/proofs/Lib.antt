@@ -1,4 +1,5 @@
 pub mod KeyParts
+pub mod RepeatLemmas
 pub mod PatternTests
 pub mod Stars
 pub mod Noting
@@ -12,6 +13,7 @@ pub mod RunLemmas
 pub mod PlaceLemmas
 pub mod DescriptionLemmas
 pub mod ExitLemmas
+pub mod LeastExit
 pub mod TreeLemmas
 pub mod FormLemmas
 pub mod ProgramLemmas
@@ -19,6 +21,8 @@ pub mod Weights
 pub mod GroupSums
 pub mod Restricting
 pub mod NumberOrder
+pub mod PlacesMerged
+pub mod DescribedLemmas
 pub mod GroupTexts
 pub mod GroupExits
 pub mod RunUnites

@@ -6,7 +6,7 @@ use Rattle.std.proofs.Common.{refl, sym, ap, ◌∙◌, subst, append_assoc}
 use Rattle.std.proofs.lemmas.List.{map-append}
 use Rattle.aggregations.specs.Table.{StandsFor}
 use Rattle.d_types.specs.Clauses.{Made}
-use Rattle.d_types.specs.Clauses.{nothing, and_then}
+use Rattle.d_types.specs.Clauses.{nothing_made, and_then}
 use Rattle.d_types.specs.Storage.{Variables}
 use Rattle.replay_core.specs.Pieces.{PieceSeen}
 use Rattle.replay_core.specs.Lanes.{Notes}
@@ -19,7 +19,7 @@ pub or_none : {A : Type 0} (o : Option A) → o ≡ option_or o None
 or_none None = refl
 or_none (Some x) = refl
 
-pub notes_nothing : (number : ℕ) (vars : Variables) (p : PieceSeen) → Notes number (nothing vars) p p
+pub notes_nothing : (number : ℕ) (vars : Variables) (p : PieceSeen) → Notes number (nothing_made vars) p p
 notes_nothing number vars p = record {
   texts = append_nil p.texts;
   functions = refl;

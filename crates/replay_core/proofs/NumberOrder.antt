@@ -1,4 +1,7 @@
 -- Lists sorted by number.
+use Rattle.std.proofs.Common.{take, drop, zero, true, false, ltb, leb, ◌+◌, subst, length-drop}
+use Rattle.std.specs.List.Sorted.{IsPartitionPoint}
+use Rattle.std.proofs.lemmas.List.{get_or-drop}
 use Rattle.std.proofs.Common.{◌≡◌, ◌≢◌, ◌⊎◌, ℕ, suc, ◌==◌, ◌<◌, ◌≤◌, ◌&&◌, not, cond, List, [], ◌∷◌}
 use Rattle.std.proofs.Common.{length, get_or, refl, sym, ap, ◌∙◌, ⊎_elim, arith, eq-eqb, ne_eqb}
 use Rattle.std.specs.List.Sorted.{IsNonDecreasingBy, IsPermutation, IsStableByKey, ties}
@@ -68,3 +71,64 @@ module _ {T : Type 0} where
 
   pub is_sorted : (xs ys : List (ℕ × T)) → IsNonDecreasingBy (λ e. e.0) ys → IsPermutation xs ys → IsStableByKey (λ e. e.0) nat_cmp xs ys → IsSorted xs ys
   is_sorted xs ys up moved stable = record { order = in_order_from ys up; each = each_from_stable xs ys moved stable }
+
+  -- ---- those of one number
+
+  at_from : (n : ℕ) (xs : List (ℕ × T)) (j : ℕ) (d : ℕ × T) → AllFrom n xs → j < length xs → n ≤ (get_or xs j d).0
+  at_from n [] j d h lt = absurd (omega arith)
+  at_from n (x ∷ xs) zero d h lt = h.0
+  at_from n (x ∷ xs) (suc j) d h lt = at_from n xs j d h.1 (omega arith)
+
+  pub non_decreasing : (xs : List (ℕ × T)) → InOrder xs → IsNonDecreasingBy (λ e. e.0) xs
+  non_decreasing [] h i j d le lt = absurd (omega arith)
+  non_decreasing (x ∷ xs) h zero zero d le lt = omega arith
+  non_decreasing (x ∷ xs) h zero (suc j) d le lt = at_from x.0 xs j d h.0 (omega arith)
+  non_decreasing (x ∷ xs) h (suc i) zero d le lt = absurd (omega arith)
+  non_decreasing (x ∷ xs) h (suc i) (suc j) d le lt = non_decreasing xs h.1 i j d (omega arith) (omega arith)
+
+  -- the first so many of those that have no lesser number
+  front_of : (n : ℕ) (xs : List (ℕ × T)) (i : ℕ) → ((k : ℕ) (d : ℕ × T) → k < i → (get_or xs k d).0 ≡ n) → ((k : ℕ) (d : ℕ × T) → i ≤ k → k < length xs → n < (get_or xs k d).0)
+      → i ≤ length xs → take i xs ≡ with_number n xs
+  front_of n [] zero same more le = refl
+  front_of n [] (suc i) same more le = absurd (omega arith)
+  front_of n (x ∷ xs) zero same more le =
+      front_of n xs zero (λ k d lt. absurd (omega arith)) (λ k d from lt. more (suc k) d (omega arith) (omega arith)) (omega arith)
+      ∙ sym (with_other n x xs (λ e. let gt = more 0 x (omega arith) (omega arith) in omega arith))
+  front_of n (x ∷ xs) (suc i) same more le =
+      ap (λ l. x ∷ l) (front_of n xs i (λ k d lt. same (suc k) d (omega arith)) (λ k d from lt. more (suc k) d (omega arith) (omega arith)) (omega arith))
+      ∙ sym (with_here n x xs (same 0 x (omega arith)))
+
+  -- what comes after those of lesser numbers
+  pub after_less : (n : ℕ) (xs : List (ℕ × T)) (i : ℕ) → ((k : ℕ) (d : ℕ × T) → k < i → (get_or xs k d).0 < n) → i ≤ length xs → with_number n xs ≡ with_number n (drop i xs)
+  after_less n xs zero less le = refl
+  after_less n [] (suc i) less le = absurd (omega arith)
+  after_less n (x ∷ xs) (suc i) less le =
+      with_other n x xs (λ e. let lt = less 0 x (omega arith) in omega arith)
+      ∙ after_less n xs i (λ k d lt. less (suc k) d (omega arith)) (omega arith)
+
+  pub sought : (n : ℕ) (xs : List (ℕ × T)) (from count : ℕ) → from ≤ length xs → count ≤ length (drop from xs)
+      → ((k : ℕ) (d : ℕ × T) → k < from → (get_or xs k d).0 < n) → ((k : ℕ) (d : ℕ × T) → k < count → (get_or (drop from xs) k d).0 ≡ n)
+      → ((k : ℕ) (d : ℕ × T) → count ≤ k → k < length (drop from xs) → n < (get_or (drop from xs) k d).0)
+      → take count (drop from xs) ≡ with_number n xs
+  sought n xs from count within inside less same more = front_of n (drop from xs) count same more inside ∙ sym (after_less n xs from less within)
+
+  -- those between the first that is no less and the first that is more
+  pub sought_between : (n : ℕ) (xs rest : List (ℕ × T)) (less count : ℕ) → less ≤ length xs → rest ≡ drop less xs → IsPartitionPoint (λ y. ltb y.0 n ≡ true) (λ y. ltb y.0 n ≡ false) xs less
+      → count ≤ length rest → IsPartitionPoint (λ y. leb y.0 n ≡ true) (λ y. leb y.0 n ≡ false) rest count → take count rest ≡ with_number n xs
+  sought_between n xs rest less count within is first inside second =
+      let long : length rest ≡ length (drop less xs) = ap length is in
+      let all = length-drop less xs in
+      let low : (k : ℕ) (d : ℕ × T) → k < less → (get_or xs k d).0 < n = λ k d lt.
+      let t : ltb (get_or xs k d).0 n ≡ true = first.0 k d (omega arith) lt in grind (arith, nat_tests) in
+      let high : (k : ℕ) (d : ℕ × T) → k < length rest → n ≤ (get_or (drop less xs) k d).0 = λ k d lt.
+      let t : ltb (get_or xs (less + k) d).0 n ≡ false = first.1 (less + k) d (omega arith) (omega arith) in
+      let le : n ≤ (get_or xs (less + k) d).0 = grind (arith, nat_tests) in
+      subst (λ (e : ℕ × T). n ≤ e.0) (sym (get_or-drop less xs k d)) le in
+      let same : (k : ℕ) (d : ℕ × T) → k < count → (get_or (drop less xs) k d).0 ≡ n = λ k d lt.
+      let t : leb (get_or (drop less xs) k d).0 n ≡ true = subst (λ l. leb (get_or l k d).0 n ≡ true) is (second.0 k d (omega arith) lt) in
+      let le : (get_or (drop less xs) k d).0 ≤ n = grind (arith, nat_tests) in
+      let ge = high k d (omega arith) in omega arith in
+      let more : (k : ℕ) (d : ℕ × T) → count ≤ k → k < length (drop less xs) → n < (get_or (drop less xs) k d).0 = λ k d from lt.
+      let t : leb (get_or (drop less xs) k d).0 n ≡ false = subst (λ l. leb (get_or l k d).0 n ≡ false) is (second.1 k d from (omega arith)) in
+      grind (arith, nat_tests) in
+      ap (take count) is ∙ sought n xs less count within (omega arith) low same more

@@ -1,6 +1,6 @@
 -- What workers gave back, one worker after the other.
-use Rattle.std.proofs.Common.{All, List, None, Option, Some, Vec, [], ap, append-nil, append_assoc}
-use Rattle.std.proofs.Common.{ap₂, arith, get_or, if◌then◌else◌, length, map, min, refl, subst, suc}
+use Rattle.std.proofs.Common.{All, IfOk, List, None, Ok, Option, Result, Some, Vec, [], ap}
+use Rattle.std.proofs.Common.{append-nil, append_assoc, ap₂, arith, get_or, if◌then◌else◌, length, map, min, refl, subst, suc}
 use Rattle.std.proofs.Common.{sym, zero, ℕ, ◌++◌, ◌+◌, ◌<◌, ◌∙◌, ◌∷◌, ◌≡◌, ◌≤◌}
 use Rattle.std.specs.List.{flat_map}
 use Rattle.std.specs.declared.alloc.Global.{Global}
@@ -17,31 +17,45 @@ use Rattle.shard_queue.specs.declared.board.ClaimBoard.{ClaimBoard}
 use Rattle.shard_queue.specs.Boards.{IsAt, claim_numbers, least_lowered, least_seen, number_lowered}
 use Rattle.shard_queue.specs.Boards.{number_seen, claim_seats_at_end}
 use Rattle.shard_queue.specs.Hands.{IsHandOut}
-use Rattle.shard_queue.proofs.Lists.{all_push, all_cons}
+use Rattle.shard_queue.proofs.Lists.{all_cons}
 use Rattle.replay_core.specs.declared.piece.Piece.{Piece}
 use Rattle.replay_core.specs.Groups.{IsAllBelow}
 use Rattle.replay_core.specs.declared.round.Round.{Round}
 use Rattle.replay_core.specs.declared.span.Span.{Span}
-use Rattle.replay_core.specs.Crews.{AreParts, GivesBegun, GivesPieces, IsRound, IsWork, Part}
+use Rattle.replay_core.specs.Crews.{AreFinished, AreParts, GivesBegun, GivesPieces, IsRound}
+use Rattle.replay_core.specs.Crews.{IsWork, Part}
 use Rattle.replay_core.specs.Beginnings.{AreBegun, IsBegunOf, least_exit, lesser_of}
 use Rattle.replay_core.specs.Seen.{IsRoomy}
 use Rattle.replay_core.specs.Working.{AreOfGroups, IsOfGroup, firings_in}
 use Rattle.replay_core.proofs.BeginLemmas.{seen_less}
 
-pub no_parts : (P : Part → Type 0) (pieces : List (ℕ × Piece)) (seats : List ClaimSeat) → pieces ≡ [] → seats ≡ [] → AreParts P pieces seats
-no_parts P pieces seats a b = record { parts = []; each = λ k d lt. absurd (omega arith); all = a; seated = b }
+pub none_finished : {E : Type 0} (pieces : List (ℕ × Piece)) (seats : List ClaimSeat) → pieces ≡ [] → seats ≡ [] → AreFinished {E = E} [] pieces seats
+none_finished pieces seats a b = record { parts = []; each = refl; all = a; seated = b }
 
 pieces_more : (ps : List Part) (p : Part) → flat_map (λ q. q.0.items) (ps ++ p ∷ []) ≡ flat_map (λ q. q.0.items) ps ++ p.0.items
 pieces_more [] p = append-nil p.0.items
 pieces_more (q ∷ ps) p = ap (λ xs. q.0.items ++ xs) (pieces_more ps p) ∙ sym (append_assoc q.0.items (flat_map (λ r. r.0.items) ps) p.0.items)
 
-pub parts_more : (P : Part → Type 0) (pieces new : List (ℕ × Piece)) (seats more : List ClaimSeat) (part : Vec (ℕ × Piece) Global) (seat : ClaimSeat) → AreParts P pieces seats → P (part, seat)
-    → new ≡ pieces ++ part.items → more ≡ seats ++ seat ∷ [] → AreParts P new more
-parts_more P pieces new seats more part seat are one a b = record {
+pub one_finished : {E : Type 0} (results : List (Result Part E)) (result : Result Part E) (pieces new : List (ℕ × Piece)) (seats more : List ClaimSeat) (part : Vec (ℕ × Piece) Global) (seat : ClaimSeat)
+    → AreFinished results pieces seats → result ≡ Ok (part, seat) → new ≡ pieces ++ part.items → more ≡ seats ++ seat ∷ [] → AreFinished (results ++ result ∷ []) new more
+one_finished results result pieces new seats more part seat are one a b = record {
   parts = are.parts ++ (part, seat) ∷ [];
-  each = all_push P are.parts _ (part, seat) are.each one refl;
+  each = ap₂ (λ rs r. rs ++ r ∷ []) are.each one ∙ sym (map-append Ok are.parts ((part, seat) ∷ []));
   all = a ∙ ap (λ xs. xs ++ part.items) are.all ∙ sym (pieces_more are.parts (part, seat));
   seated = b ∙ ap (λ xs. xs ++ seat ∷ []) are.seated ∙ sym (map-append (λ p. p.1) are.parts ((part, seat) ∷ []));
+}
+
+of_finished : {E : Type 0} (P : Part → Type 0) (ps : List Part) → All (λ (r : Result Part E). IfOk r P) (map Ok ps) → All P ps
+of_finished P [] each = λ k d lt. absurd (omega arith)
+of_finished P (p ∷ ps) each = all_cons P p ps (each 0 (Ok p) (omega arith)) (of_finished P ps (λ k d lt. each (suc k) d (omega arith)))
+
+-- what holds of each worker that came to its end holds of all
+pub finished_parts : {E : Type 0} (P : Part → Type 0) (results : List (Result Part E)) (pieces : List (ℕ × Piece)) (seats : List ClaimSeat) → AreFinished results pieces seats → All (λ r. IfOk r P) results → AreParts P pieces seats
+finished_parts P results pieces seats are each = record {
+  parts = are.parts;
+  each = of_finished P are.parts (subst (λ rs. All (λ r. IfOk r P) rs) are.each each);
+  all = are.all;
+  seated = are.seated;
 }
 
 -- what seats have drawn, as their lists

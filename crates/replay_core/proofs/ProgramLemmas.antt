@@ -8,11 +8,11 @@ use Rattle.std.proofs.lemmas.List.Sums.{sum_by-cons}
 use Rattle.d_parser.specs.Sizes.{in_all}
 use Rattle.d_types.specs.Held.{Slots, slots_of}
 use Rattle.d_types.specs.Scripts.{IsMeant}
-use Rattle.d_types.specs.Sizes.{descriptions, statements}
+use Rattle.d_types.specs.Sizes.{description_count, statement_count}
 use Rattle.d_types.specs.Typed.{ActionOf, Aggregate, ClauseMeant, Evaluate, Exit, Print}
 use Rattle.d_types.specs.Typed.{ScriptMeant, Trace}
 use Rattle.d_types.proofs.Sizes.{typed_script_is_small}
-use Rattle.dif_codegen.specs.Meaning.{Does}
+use Rattle.dif_codegen.specs.Meaning.{IsSameClause}
 use Rattle.dif_codegen.proofs.Exiting.{aggregation_of, same_aggregations}
 use Rattle.dif_codegen.specs.Programs.{action_code}
 use Rattle.dif_codegen.specs.declared.program.CompiledClause.{CompiledClause}
@@ -42,17 +42,17 @@ places_above (a ∷ rest) =
     ap (λ n. max n (places_among rest)) (place_above a) ∙ ap (λ n. max (above (aggregation_of a)) n) (places_above rest)
 
 module _ (slots : Slots) where
-  same_places : (c : CompiledClause) (m : ClauseMeant) → Does slots c m → places_among (map action_code c.actions.items) ≡ places_in m
+  same_places : (c : CompiledClause) (m : ClauseMeant) → IsSameClause slots c m → places_among (map action_code c.actions.items) ≡ places_in m
   same_places c m does =
       places_above (map action_code c.actions.items) ∙ ap above_all (same_aggregations slots (map action_code c.actions.items) m.statements does.actions) ∙ sym (places_above m.statements)
 
-  same_statements : (c : CompiledClause) (m : ClauseMeant) → Does slots c m → length c.actions.items ≡ statements m
+  same_statements : (c : CompiledClause) (m : ClauseMeant) → IsSameClause slots c m → length c.actions.items ≡ statement_count m
   same_statements c m does =
       sym (length-map c.actions.items action_code) ∙ sym (length-map (map action_code c.actions.items) (λ a. aggregation_of a))
       ∙ ap length (same_aggregations slots (map action_code c.actions.items) m.statements does.actions) ∙ length-map m.statements (λ a. aggregation_of a)
 
-  same_probes : (cs : List CompiledClause) (ms : List ClauseMeant) → AllZip (Does slots) cs ms
-      → sum_by (λ c. length c.descriptions.items) cs ≡ in_all descriptions ms
+  same_probes : (cs : List CompiledClause) (ms : List ClauseMeant) → AllZip (IsSameClause slots) cs ms
+      → sum_by (λ c. length c.descriptions.items) cs ≡ in_all description_count ms
   same_probes [] [] zip = refl
   same_probes [] (m ∷ ms) zip = absurd zip
   same_probes (c ∷ cs) [] zip = absurd zip
@@ -61,21 +61,21 @@ module _ (slots : Slots) where
       ∙ ap (λ n. n + sum_by (λ (c : CompiledClause). length c.descriptions.items) cs) (ap length zip.0.descriptions)
       ∙ ap (λ n. length m.descriptions + n) (same_probes cs ms zip.1)
 
-module _ (m : ScriptMeant) (typed : ∥ IsMeant m ∥₁) (cs : List CompiledClause) (zip : AllZip (Does (slots_of m)) cs m.clauses) where
+module _ (m : ScriptMeant) (typed : ∥ IsMeant m ∥₁) (cs : List CompiledClause) (zip : AllZip (IsSameClause (slots_of m)) cs m.clauses) where
   pub program_named : All (λ c. places_among (map action_code c.actions.items) ≤ length m.aggregations) cs
   program_named k d lt =
-      let at = zip_with_at (Does (slots_of m)) (λ c. places_in c ≤ length m.aggregations) cs m.clauses k d zip (script_named m typed) lt in
+      let at = zip_with_at (IsSameClause (slots_of m)) (λ c. places_in c ≤ length m.aggregations) cs m.clauses k d zip (script_named m typed) lt in
       subst (λ n. n ≤ length m.aggregations) (sym (same_places (slots_of m) (get_or cs k d) at.0 at.2)) at.3
 
-  few_here : All (λ c. statements c ≤ 65536) m.clauses
+  few_here : All (λ c. statement_count c ≤ 65536) m.clauses
   few_here k d lt =
       let small = (typed_script_is_small m typed).few_statements in
-      let one = one_of_all statements m.clauses k d lt in
+      let one = one_of_all statement_count m.clauses k d lt in
       omega (arith, small, one)
 
   pub program_few : All (λ c. length c.actions.items ≤ 65536) cs
   program_few k d lt =
-      let at = zip_with_at (Does (slots_of m)) (λ c. statements c ≤ 65536) cs m.clauses k d zip few_here lt in
+      let at = zip_with_at (IsSameClause (slots_of m)) (λ c. statement_count c ≤ 65536) cs m.clauses k d zip few_here lt in
       subst (λ n. n ≤ 65536) (sym (same_statements (slots_of m) (get_or cs k d) at.0 at.2)) at.3
 
   pub program_few_probes : sum_by (λ c. length c.descriptions.items) cs ≤ 65536

@@ -16,7 +16,7 @@ use Rattle.replay_core.specs.Meaning.{Threads, contributions_of, exit_of, histor
 use Rattle.replay_core.specs.Meaning.{numbers_of, texts_of, threads_after, blank_threads}
 use Rattle.replay_core.specs.Pieces.{IsPieceOf, PieceSeen}
 use Rattle.replay_core.proofs.FiringLemmas.{some_same}
-use Rattle.replay_core.specs.Running.{IsLaneOf, threads_over, until_exit}
+use Rattle.replay_core.specs.Running.{IsLaneOf, threads_over}
 
 -- ---- a history in two parts
 

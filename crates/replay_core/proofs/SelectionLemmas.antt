@@ -1,15 +1,13 @@
 -- Clauses that are selected, by their places.
 use Rattle.std.specs.Prelude.{◌≡◌, ℕ, suc, ◌+◌, ◌<◌, ◌≤◌, List, [], ◌∷◌, ◌++◌, All}
-use Rattle.std.specs.Prelude.{filter, map, length, slice_get}
+use Rattle.std.specs.Prelude.{map, length, slice_get}
 use Rattle.std.specs.Prelude.{Some}
 use Rattle.std.specs.List.{AllZip}
-use Rattle.std.proofs.Common.{refl, sym, ap, ◌∙◌, subst, arith, append_assoc, add-one, drop, get_or}
+use Rattle.std.proofs.Common.{refl, ap, ◌∙◌, subst, arith, get_or}
 use Rattle.std.proofs.Common.{take}
-use Rattle.std.proofs.Math.Seq.{drop-cons}
 use Rattle.std.proofs.lemmas.List.{get_or-map, length-map, map-append, take_more}
 use Rattle.std.proofs.lemmas.List.Elements.{All-cons}
 use Rattle.std.proofs.lemmas.Option.{get_or_from_slice_get, slice_get-map, slice_get_within}
-use Rattle.d_parser.specs.declared.tree.Description.{Description}
 use Rattle.firing_reader.specs.declared.unit.Probe.{Probe}
 use Rattle.firing_reader.specs.Ends.{begin_of, end_of, with_ends}
 use Rattle.firing_reader.specs.Stored.{ArePlaces, Extends}
@@ -17,27 +15,8 @@ use Rattle.firing_reader.specs.declared.firing.Firing.{Firing}
 use Rattle.firing_reader.proofs.Moved.{place_more, placed}
 use Rattle.firing_reader.proofs.Stored.{named_at, named_in}
 use Rattle.d_types.specs.Typed.{ScriptMeant}
-use Rattle.replay_core.specs.Patterns.{probe_of, selects}
-use Rattle.replay_core.specs.Places.{places_for}
+use Rattle.replay_core.specs.Patterns.{probe_of}
 use Rattle.replay_core.specs.Selecting.{AreFor, list_at, selected_for, selected_in}
-
--- those of one more clause
-pub places_more : {A : Type 0} (now : A → List Description) (p : Probe) (xs : List A) (i : ℕ) (x : A) (before after all : List ℕ) → i < length xs → x ≡ get_or xs i x
-    → after ≡ before ++ map (λ d. i) (filter (λ d. selects d p) (now x))
-    → before ++ places_for p i (drop i (map now xs)) ≡ all → after ++ places_for p (i + 1) (drop (i + 1) (map now xs)) ≡ all
-places_more now p xs i x before after all lt is pushed so_far =
-    let inside : i < length (map now xs) = simp length-map lt in
-    let here : get_or (map now xs) i (now x) ≡ now x = get_or-map now xs i x (now x) lt ∙ ap now (sym is) in
-    let cut : drop i (map now xs) ≡ now x ∷ drop (i + 1) (map now xs) =
-    drop-cons (map now xs) i (now x) inside ∙ ap (λ y. y ∷ drop (suc i) (map now xs)) here ∙ ap (λ n. now x ∷ drop n (map now xs)) (sym (add-one i)) in
-    let own = map (λ (d : Description). i) (filter (λ d. selects d p) (now x)) in
-    let rest = places_for p (i + 1) (drop (i + 1) (map now xs)) in
-    ap (λ l. l ++ rest) pushed ∙ append_assoc before own rest ∙ ap (λ l. before ++ places_for p i l) (sym cut) ∙ so_far
-
--- the last of a list
-pub at_last : {X : Type 0} (xs : List X) (x : X) → slice_get (xs ++ x ∷ []) (length xs) ≡ Some x
-at_last [] x = refl
-at_last (y ∷ xs) x = at_last xs x
 
 -- ---- lists by probe
 

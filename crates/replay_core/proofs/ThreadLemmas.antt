@@ -13,7 +13,7 @@ use Rattle.d_values.specs.declared.key.KeyPart.{KeyPart}
 use Rattle.d_values.specs.declared.value.Value.{Value}
 use Rattle.d_values.specs.declared.variable.Var.{Var}
 use Rattle.d_values.specs.Stores.{Locals, Own}
-use Rattle.d_types.specs.Clauses.{Made, nothing, run_of}
+use Rattle.d_types.specs.Clauses.{Made, nothing_made, run_of}
 use Rattle.d_types.specs.Held.{AreTyped, AreTypedOwn, HasTypedBuiltIns, Slots, slots_of}
 use Rattle.d_types.specs.Storage.{Variables, variables}
 use Rattle.d_types.specs.Typed.{ClauseMeant, ScriptMeant}
@@ -97,7 +97,7 @@ own_stays entries thread t = elim (int_eq t thread) as (λ b. int_eq t thread �
 ] refl
 
 -- no clause runs at no places
-pub none_turn : (f : Firing) (cs : List ClauseMeant) (places : List ℕ) (start : Variables) → (length places == 0) ≡ true → turns f cs places start ≡ nothing start
+pub none_turn : (f : Firing) (cs : List ClauseMeant) (places : List ℕ) (start : Variables) → (length places == 0) ≡ true → turns f cs places start ≡ nothing_made start
 none_turn f cs [] start none = refl
 none_turn f cs (place ∷ places) start none =
     let zeroth : length (place ∷ places) ≡ 0 = (Decides-eqb (length (place ∷ places)) 0).0 none in absurd (omega arith)

@@ -12,7 +12,7 @@ use Rattle.d_types.specs.declared.typed.TypedAggregation.{TypedAggregation}
 use Rattle.d_types.specs.declared.typed.TypedClause.{TypedClause}
 use Rattle.d_types.specs.Proper.{IsProperAction}
 use Rattle.d_types.specs.Scripts.{IsMeant}
-use Rattle.d_types.specs.Sizes.{descriptions, statements}
+use Rattle.d_types.specs.Sizes.{description_count, statement_count}
 use Rattle.d_types.specs.Typed.{Action, Aggregate, Aggs, ClauseMeant, Evaluate, Exit, Print}
 use Rattle.d_types.specs.Typed.{ScriptMeant, Trace, agg_of, meant_of, script_meant}
 use Rattle.d_types.specs.Held.{IsConsistent, Slots, slots_of}
@@ -48,7 +48,7 @@ pub script_named : (m : ScriptMeant) → ∥ IsMeant m ∥₁ → All (λ c. pla
 script_named m typed k d lt = places_below m.aggregations (get_or m.clauses k d).statements (script_is_proper m typed k d lt).statements
 
 -- the sum, by recursion from the front
-total : (cs : List TypedClause) → sum_by (λ c. length c.descriptions.items) cs ≡ in_all descriptions (map meant_of cs)
+total : (cs : List TypedClause) → sum_by (λ c. length c.descriptions.items) cs ≡ in_all description_count (map meant_of cs)
 total [] = refl
 total (c ∷ cs) = sum_by-cons (λ (c : TypedClause). length c.descriptions.items) c cs ∙ ap (λ n. length c.descriptions.items + n) (total cs)
 
@@ -63,14 +63,14 @@ module _ (clauses : List TypedClause) (aggs : List TypedAggregation) (slots : Li
       let few = length-map aggs agg_of in
       subst (λ c. places_in c ≤ length aggs) here (omega (arith, below, few))
 
-  pub all_few : All (λ c. statements (meant_of c) ≤ 65536) clauses
+  pub all_few : All (λ c. statement_count (meant_of c) ≤ 65536) clauses
   all_few k d lt =
       let m = script_meant clauses aggs slots in
       let many = length-map clauses meant_of in
       let small = (typed_script_is_small m typed).few_statements in
-      let one = one_of_all statements m.clauses k (meant_of d) (omega arith) in
+      let one = one_of_all statement_count m.clauses k (meant_of d) (omega arith) in
       let here = math.get_or-map meant_of clauses k d in
-      subst (λ c. statements c ≤ 65536) here (omega (arith, small, one))
+      subst (λ c. statement_count c ≤ 65536) here (omega (arith, small, one))
 
   pub few_probes : sum_by (λ c. length c.descriptions.items) clauses ≤ 65536
   few_probes =

@@ -1,16 +1,19 @@
 -- The turns that are left, and those that were taken.
 use Rattle.std.specs.Prelude.{◌≡◌, ℕ, zero, suc, ◌<◌, List, [], ◌∷◌, All, slice_get, Bool, true}
-use Rattle.std.specs.Prelude.{false, ◌||◌, Option, None, Some, is_some, length}
+use Rattle.std.specs.Prelude.{false, ◌+◌, ◌||◌, Option, None, Some, is_some, length}
 use Rattle.std.specs.Option.{option_or}
 use Rattle.std.specs.List.{AllZip}
 use Rattle.std.proofs.Common.{refl, sym, ap, ◌∙◌, subst, arith, get_or}
 use Rattle.d_types.specs.Clauses.{Made}
-use Rattle.d_types.specs.Clauses.{and_then}
+use Rattle.d_types.specs.Clauses.{and_then, run_of}
+use Rattle.d_types.specs.Held.{AreTyped, HasTypedBuiltIns, Slots}
 use Rattle.d_types.specs.Storage.{Variables}
 use Rattle.d_types.specs.Typed.{ClauseMeant}
 use Rattle.firing_reader.specs.declared.firing.Firing.{Firing}
+use Rattle.replay_core.specs.Effects.{NotesRun}
 use Rattle.replay_core.specs.Lanes.{Notes}
 use Rattle.replay_core.specs.Pieces.{PieceSeen}
+use Rattle.replay_core.specs.Scripts.{AllMean, Keeps}
 use Rattle.replay_core.specs.Turns.{run_at, turns}
 use Rattle.replay_core.proofs.Noting.{notes_nothing, notes_then}
 
@@ -63,6 +66,22 @@ module _ (f : Firing) (cs : List ClauseMeant) where
         told = ap (λ b. b || is_some (turns f cs left after).exit) more_is ∙ some_or exits made.exit (turns f cs left after).exit
             ∙ ap (λ m. exits || is_some m.exit) (sym turn) ∙ so_far.told;
       }
+
+  -- one more turn, of a clause that means the script's
+  pub turn_more : {C : Type 0} (means : C → Slots → ClauseMeant → Type 0) (slots : Slots) (clauses : List C) (clause : C)
+      (all left : List ℕ) (place : ℕ) (before now after : Variables) (old new next : PieceSeen) (exits more : Bool)
+      → AllMean means slots clauses cs → place < length clauses → clause ≡ get_or clauses place clause → HasTypedBuiltIns f
+      → ((c : ClauseMeant) → means clause slots c → NotesRun f.number (run_of f (place + 1) c now) new next after more)
+      → AreTyped slots now × Continues f cs all (place ∷ left) before now old new exits
+      → AreTyped slots after × Continues f cs all left before after old next (exits || more)
+  turn_more means slots clauses clause all left place before now after old new next exits more mean inside is fit ran so_far =
+      let at = zip_with_at (λ x. means x slots) (Keeps slots) clauses cs place clause mean.each mean.keep inside in
+      let run = run_of f (place + 1) at.0 now in
+      let here = ran at.0 (subst (λ x. means x slots at.0) (sym is) at.2) in
+      let runs : run_at f place (slice_get cs place) now ≡ run = ap (λ o. run_at f place o now) at.1 in (
+        subst (AreTyped slots) (sym here.variables) (at.3 f (place + 1) now fit so_far.0),
+        continues_more all left place before now after old new next exits (exits || more) run so_far.1 runs (sym here.variables) here.notes (ap (λ b. exits || b) here.exited),
+      )
 
   -- none is left
   pub continues_all : (all : List ℕ) (before now : Variables) (old new : PieceSeen) (exits : Bool) → Continues f cs all [] before now old new exits

@@ -10,7 +10,7 @@ use Rattle.d_types.specs.declared.effect.Effect.TheVariants as ef
 use Rattle.d_types.specs.Typed.{Typed, Typeds, ActionOf, Action, Evaluate, Trace, Print, Exit}
 use Rattle.d_types.specs.Typed.{Aggregate, ClauseMeant, ScriptMeant, has_exit, is_exit}
 use Rattle.d_types.specs.Storage.{Variables}
-use Rattle.d_types.specs.Expressions.{Outcome, Has, Faults, with, number}
+use Rattle.d_types.specs.Expressions.{Outcome, Has, Faults, with, number_outcome}
 use Rattle.d_types.specs.Clauses.{Evaluation, Made, Ran, by_trees, effect_by, exit_in, effect_then}
 use Rattle.d_types.specs.Clauses.{argument_by, where_predicate, run_of, statements_by, where_true}
 use Rattle.firing_reader.specs.declared.firing.Firing.{Firing}
@@ -20,8 +20,7 @@ use Rattle.replay_core.specs.Exit.{exit_status, firings_over, history_over, up_t
 use Rattle.replay_core.specs.Meaning.{Threads, clauses_for, exit_of, history, in_turn}
 use Rattle.replay_core.specs.Meaning.{firing_result, threads_after, blank_threads}
 use Rattle.replay_core.specs.Patterns.{probe_of, selects}
-use Rattle.replay_core.specs.Running.{until_exit}
-use Rattle.replay_core.proofs.ExitLemmas.{firings_are}
+use Rattle.replay_core.proofs.ExitLemmas.{firings_are, until_exit}
 
 either : (a b : Bool) → (a || b) ≡ false → (a ≡ false) × (b ≡ false)
 either true b e = absurd (let c : true ≡ false = e in cc)
@@ -74,7 +73,7 @@ module _ (by : Evaluation Typed Typeds) where
 
   guarded_goes : (predicate : Option Typed) (all : List Action) (vars : Variables) → list_any (λ a. is_exit a) all ≡ false → exit_in (where_predicate by predicate (statements_by by all) vars).effects ≡ None
   guarded_goes None all vars without = statements_go all vars without
-  guarded_goes (Some a) all vars without = where_goes (number (by.value a vars)) (statements_by by all) (λ vars. statements_go all vars without)
+  guarded_goes (Some a) all vars without = where_goes (number_outcome (by.value a vars)) (statements_by by all) (λ vars. statements_go all vars without)
 
 -- ---- a firing
 

@@ -1,5 +1,5 @@
 -- What the workers of a board give back.
-use Rattle.std.specs.Prelude.{◌≡◌, ◌≤◌, ℕ, true, List, map, All, Vec}
+use Rattle.std.specs.Prelude.{◌≡◌, ◌≤◌, ℕ, true, List, map, All, Vec, Result, Ok}
 use Rattle.replay_core.specs.Vocabulary.{ClaimBoard, ClaimSeat, Firing, Global, Groups, IsAt}
 use Rattle.replay_core.specs.Vocabulary.{ScriptMeant, flat_map, grouping, least_lowered, least_seen}
 use Rattle.replay_core.specs.Vocabulary.{number_lowered, number_seen, with_ends}
@@ -41,6 +41,14 @@ pub record AreParts (P : Part → Type 0) (pieces : List (ℕ × Piece)) (seats 
     : Type 0 where
   pub parts : List Part
   pub each : All P parts
+  pub all : pieces ≡ flat_map (λ p. p.0.items) parts
+  pub seated : seats ≡ map (λ p. p.1) parts
+
+-- every worker came to its end, and the pieces and the seats are theirs, in order
+pub record AreFinished {E : Type 0} (results : List (Result Part E)) (pieces : List (ℕ × Piece))
+    (seats : List ClaimSeat) : Type 0 where
+  pub parts : List Part
+  pub each : results ≡ map Ok parts
   pub all : pieces ≡ flat_map (λ p. p.0.items) parts
   pub seated : seats ≡ map (λ p. p.1) parts
 

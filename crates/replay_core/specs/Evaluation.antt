@@ -1,7 +1,8 @@
 -- What calls that evaluate return and leave.
 use Rattle.std.specs.Prelude.{◌≡◌, ℕ, List, Result, Ok, Err}
 use Rattle.replay_core.specs.Vocabulary.{Faults, Firing, Has, KeyPart, Outcome, Typed, Typeds}
-use Rattle.replay_core.specs.Vocabulary.{Value, Variables, eval, keys_of, number, text, variables}
+use Rattle.replay_core.specs.Vocabulary.{Value, Variables, eval, keys_of, number_outcome}
+use Rattle.replay_core.specs.Vocabulary.{text_outcome, variables}
 use Rattle.replay_core.specs.declared.{evaluation.fault.EvalFault.EvalFault, scene.Scene.Scene}
 use Rattle.replay_core.specs.declared.{tables.Tables.Tables}
 
@@ -35,10 +36,10 @@ abbrev pub HasValue : Typed → Result Value EvalFault → (old new : Scene) →
 HasValue e = Meets (λ f. eval f e)
 
 abbrev pub HasWord : Typed → Result ℕ EvalFault → (old new : Scene) → Type 0
-HasWord e = Meets (λ f vars. number (eval f e vars))
+HasWord e = Meets (λ f vars. number_outcome (eval f e vars))
 
 abbrev pub HasText : Typed → Result (List ℕ) EvalFault → (old new : Scene) → Type 0
-HasText e = Meets (λ f vars. text (eval f e vars))
+HasText e = Meets (λ f vars. text_outcome (eval f e vars))
 
 abbrev pub HasKey : Typeds → Result (List KeyPart) EvalFault → (old new : Scene) → Type 0
 HasKey keys = Meets (λ f. keys_of f keys)

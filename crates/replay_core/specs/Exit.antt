@@ -1,5 +1,6 @@
 -- Which firings of a trace count, and how the run ends.
-use Rattle.std.specs.Prelude.{ℕ, nat_le, List, filter, Option, None, Some, option_map, unwrap_or}
+use Rattle.std.specs.Prelude.{ℕ, ◌≤◌, nat_le, List, filter, map, Contains, Option, None, Some}
+use Rattle.std.specs.Prelude.{option_map, unwrap_or}
 use Rattle.replay_core.specs.Vocabulary.{Firing, Made, ScriptMeant, no_number, with_ends}
 use Rattle.replay_core.specs.Meaning.{blank_threads, history, exit_of}
 
@@ -26,3 +27,12 @@ abbrev pub first_exit_number : ScriptMeant → List Firing → ℕ
 first_exit_number m trace =
     unwrap_or (option_map (λ exit. exit.0)
     (exit_of (history m (with_ends trace trace) blank_threads))) no_number
+
+-- what each firing exits with: its number and the status
+abbrev pub exits_of : List (Firing × Made) → List (Option (ℕ × ℕ))
+exits_of h = map (λ x. option_map (λ status. (x.0.number, status)) x.1.exit) h
+
+-- one of these, and none has a lesser number
+pub record IsLeastExit (exits : List (Option (ℕ × ℕ))) (exit : ℕ × ℕ) : Type 0 where
+  pub one : Contains exits (Some exit)
+  pub least : (other : ℕ × ℕ) → Contains exits (Some other) → exit.0 ≤ other.0

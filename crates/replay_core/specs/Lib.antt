@@ -4,6 +4,7 @@ pub mod Meaning
 pub mod Exit
 pub mod Groups
 pub mod Pieces
+pub mod Layouts
 pub mod Lanes
 pub mod Bounds
 pub mod Places
@@ -20,6 +21,7 @@ pub mod Compiled
 pub mod Running
 pub mod Evaluation
 pub mod Uniting
+pub mod Described
 pub mod Tables
 pub mod PiecePlaces
 pub mod Collecting

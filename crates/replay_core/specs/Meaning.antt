@@ -3,7 +3,7 @@ use Rattle.std.specs.Prelude.{ℕ, suc, ℤ, List, [], ◌∷◌, ◌++◌, filt
 use Rattle.std.specs.Prelude.{if◌then◌else◌}
 use Rattle.replay_core.specs.Vocabulary.{ClauseMeant, Contribution, Firing, KeyPart, Made}
 use Rattle.replay_core.specs.Vocabulary.{ScriptMeant, Value, Var, Variables, and_then, blank}
-use Rattle.replay_core.specs.Vocabulary.{flat_map, int_eq, nothing, option_or, run_of}
+use Rattle.replay_core.specs.Vocabulary.{flat_map, int_eq, nothing_made, option_or, run_of}
 use Rattle.replay_core.specs.Patterns.{probe_of, selects}
 
 -- what the threads keep: each its own variables, at each key
@@ -26,7 +26,7 @@ clauses_for f place (c ∷ cs) =
 
 -- they run one after the other
 abbrev pub in_turn : Firing → List (ℕ × ClauseMeant) → Variables → Made
-in_turn f [] vars = nothing vars
+in_turn f [] vars = nothing_made vars
 in_turn f (c ∷ cs) vars =
     let first = run_of f c.0 c.1 vars in and_then first (in_turn f cs first.variables)
 

@@ -1,9 +1,9 @@
 -- What a lane made of the firings that it was given.
-use Rattle.std.specs.Prelude.{◌≡◌, List, [], ◌∷◌, is_some, if◌then◌else◌}
+use Rattle.std.specs.Prelude.{◌≡◌, List, [], ◌∷◌}
 use Rattle.d_types.specs.Typed.{ScriptMeant}
 use Rattle.firing_reader.specs.declared.firing.Firing.{Firing}
 use Rattle.replay_core.specs.Lanes.{LaneSeen}
-use Rattle.replay_core.specs.Meaning.{Threads, firing_result, threads_after, blank_threads}
+use Rattle.replay_core.specs.Meaning.{Threads, threads_after, blank_threads}
 use Rattle.replay_core.specs.Pieces.{IsPieceOf}
 
 -- what the threads keep after these firings
@@ -15,11 +15,3 @@ threads_over m (f ∷ fs) threads = threads_over m fs (threads_after m f threads
 pub record IsLaneOf (m : ScriptMeant) (fs : List Firing) (lane : LaneSeen) : Type 0 where
   pub threads : lane.threads ≡ threads_over m fs blank_threads
   pub piece : IsPieceOf m fs lane.piece
-
--- the firings up to the first that exits
-abbrev pub until_exit : ScriptMeant → List Firing → Threads → List Firing
-until_exit m [] threads = []
-until_exit m (f ∷ fs) threads =
-    f ∷ (if is_some (firing_result m f (threads f.thread)).exit
-    then []
-    else until_exit m fs (threads_after m f threads))

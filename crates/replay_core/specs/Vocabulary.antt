@@ -26,18 +26,19 @@ pub use Rattle.aggregations.specs.declared.function.AggFn.{AggFn}
 pub use Rattle.d_lexer.specs.declared.fault.TheConstants.{MOST_BYTES}
 pub use Rattle.d_parser.specs.declared.tree.Description.{Description}
 pub use Rattle.d_types.specs.Clauses.{Evaluation, Made, and_then, contributions_in, effect_by}
-pub use Rattle.d_types.specs.Clauses.{exit_in, fault_line, argument_by, nothing, run_of, texts_in}
+pub use Rattle.d_types.specs.Clauses.{exit_in, fault_line, argument_by, nothing_made, run_of}
+pub use Rattle.d_types.specs.Clauses.{texts_in}
 pub use Rattle.d_types.specs.Clauses.{values_of}
-pub use Rattle.d_types.specs.Expressions.{eval, keys_of, number, text}
+pub use Rattle.d_types.specs.Expressions.{eval, keys_of, number_outcome, text_outcome}
 pub use Rattle.d_types.specs.Held.{AreTyped, AreTypedOwn, HasTypedBuiltIns, Slots, slots_of}
-pub use Rattle.d_types.specs.Sizes.{statements}
+pub use Rattle.d_types.specs.Sizes.{statement_count}
 pub use Rattle.d_types.specs.Typed.{ActionOf, ClauseMeant, ScriptMeant, Typed, Typeds, functions_in}
 pub use Rattle.d_types.specs.Typed.{has_exit, is_exit, meant_of, typed_of, typeds_of}
 pub use Rattle.d_types.specs.TypedScripts.{typed_script_of}
 pub use Rattle.d_types.specs.declared.effect.Effect.{Effect}
 pub use Rattle.d_types.specs.declared.typed.TypedExpr.{TypedExpr}
 pub use Rattle.d_types.specs.declared.typed.TypedStmt.{TypedStmt}
-pub use Rattle.dif_codegen.specs.Meaning.{Does}
+pub use Rattle.dif_codegen.specs.Meaning.{IsSameClause}
 pub use Rattle.dif_codegen.specs.Programs.{action_code}
 pub use Rattle.dif_machine.specs.Runs.{value_result}
 pub use Rattle.shard_queue.specs.Boards.{IsAt, IsNew, least_lowered, least_seen, number_lowered}

@@ -1,9 +1,10 @@
 //! Clauses as engines run them.
 
 ghost use Rattle.std.specs.Prelude.{◌≡◌, ◌+◌, ◌≤◌, ◌^◌, ℕ, IfOk, length, map};
-ghost use Rattle.replay_core.specs.Vocabulary.{AreTyped, ClauseMeant, Does, HasTypedBuiltIns};
+ghost use Rattle.replay_core.specs.Vocabulary.{AreTyped, ClauseMeant, IsSameClause};
+ghost use Rattle.replay_core.specs.Vocabulary.{HasTypedBuiltIns};
 ghost use Rattle.replay_core.specs.Vocabulary.{Slots, action_code, count_held, functions_of};
-ghost use Rattle.replay_core.specs.Vocabulary.{meant_of, run_of, statements};
+ghost use Rattle.replay_core.specs.Vocabulary.{meant_of, run_of, statement_count};
 ghost use Rattle.replay_core.specs.{Effects.IsNotedRun};
 ghost use Rattle.replay_core.specs.Bounds.{places_among, places_in};
 ghost use Rattle.replay_core.specs.Evaluation.{Stays, variables_in};
@@ -56,7 +57,7 @@ pub trait Clause {
 impl Clause for TypedClause {
     ghost means = { λ c slots meant. meant ≡ meant_of c };
 
-    ghost most = { λ c. statements (meant_of c) };
+    ghost most = { λ c. statement_count (meant_of c) };
 
     ghost places = { λ c. places_in (meant_of c) };
 
@@ -78,7 +79,7 @@ impl Clause for TypedClause {
 
 // The objects of a compiled clause, run by the machine.
 impl Clause for CompiledClause {
-    ghost means = { λ c slots meant. Does slots c meant };
+    ghost means = { λ c slots meant. IsSameClause slots c meant };
 
     ghost most = { λ c. length c.actions.items };
 

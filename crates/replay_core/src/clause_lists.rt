@@ -1,8 +1,9 @@
 //! Lists of clauses, equal ones kept once.
 
-ghost use Rattle.std.specs.Prelude.{◌≡◌, [], true, IfOk, IfSome, Some, map, slice_get};
+ghost use Rattle.std.specs.Prelude.{◌≡◌, [], true, IfOk, IfSome, Some, slice_get};
 ghost use Rattle.replay_core.specs.{Selecting.list_at, Vocabulary.Extends};
 
+use crate::clause_places::ClausePlaces;
 use indexmap::IndexMap;
 use keyed_hash::HashKey;
 use std::alloc::{AllocError, Global};
@@ -12,17 +13,21 @@ use std::marker::Model;
 /// Lists of clauses by their places among a script's. Contracts see the lists.
 #[derive(Drop)]
 pub(crate) struct ClauseLists {
-    lists: Vec<Vec<usize>>,
+    lists: Vec<ClausePlaces>,
+    // One without clauses.
+    empty: ClausePlaces,
     // By the hash of a list, the place of the one that was last kept.
     hashed: IndexMap<u64, usize, HashKey>,
 }
 
 impl Model for ClauseLists {
-    ghost use Rattle.std.specs.Prelude.{ℕ, List, map};
+    ghost use Rattle.std.specs.Prelude.{◌≡◌, ℕ, List, []};
 
     ghost Value = { List (List ℕ) };
 
-    ghost view = { λ s. map (λ list. list.items) s.lists.items };
+    ghost view = { λ s. s.lists.items };
+
+    ghost invariant = { λ s. s.empty ≡ [] };
 }
 
 impl ClauseLists {
@@ -31,24 +36,25 @@ impl ClauseLists {
     {
         ClauseLists {
             lists: Vec::new(alloc),
+            empty: ClausePlaces::new(alloc),
             hashed: IndexMap::with_hasher(alloc, hash_key),
         }
     }
 
     /// The list at a place; an empty one where there is none.
-    pub(crate) fn at(&self, place: usize) -> &[usize]
+    pub(crate) fn at(&self, place: usize) -> &ClausePlaces
         ensures { result.now ≡ list_at self.now place }
     {
         match self.lists.get(place) {
             Some(list) => list,
-            None => &[],
+            None => &self.empty,
         }
     }
 
     /// The place of a list, which is kept where it wasn't.
-    pub(crate) fn keep(&mut self, list: Vec<usize>) -> Result<usize, AllocError>
+    pub(crate) fn keep(&mut self, list: ClausePlaces) -> Result<usize, AllocError>
         ensures grows { Extends self.old self.new }
-        ensures place { IfOk result (λ p. slice_get self.new p ≡ Some list.items) }
+        ensures place { IfOk result (λ p. slice_get self.new p ≡ Some list) }
     {
         let hash = hash_of(*self.hashed.hasher(), &list);
         match self.kept_at(hash, &list) {
@@ -58,7 +64,7 @@ impl ClauseLists {
     }
 
     // The place of a list that is found by its hash.
-    fn kept_at(&self, hash: u64, list: &[usize]) -> Option<usize>
+    fn kept_at(&self, hash: u64, list: &ClausePlaces) -> Option<usize>
         ensures { IfSome result (λ p. slice_get self.now p ≡ Some list.now) }
     {
         let place = *self.hashed.get(&hash)?;
@@ -70,9 +76,9 @@ impl ClauseLists {
     }
 
     // Keeps a list at a new place.
-    fn add(&mut self, hash: u64, list: Vec<usize>) -> Result<usize, AllocError>
+    fn add(&mut self, hash: u64, list: ClausePlaces) -> Result<usize, AllocError>
         ensures grows { Extends self.old self.new }
-        ensures place { IfOk result (λ p. slice_get self.new p ≡ Some list.items) }
+        ensures place { IfOk result (λ p. slice_get self.new p ≡ Some list) }
     {
         let place = self.lists.len();
         self.lists.push(list)?;
@@ -82,19 +88,20 @@ impl ClauseLists {
 }
 
 // Whether this list is at a place.
-fn is_at(lists: &[Vec<usize>], place: usize, list: &[usize]) -> bool
-    ensures { result ≡ true → slice_get (map (λ l. l.items) lists.now) place ≡ Some list.now }
+fn is_at(lists: &[ClausePlaces], place: usize, list: &ClausePlaces) -> bool
+    ensures { result ≡ true → slice_get lists.now place ≡ Some list.now }
 {
     match lists.get(place) {
-        Some(kept) => kept.as_slice() == list,
+        Some(kept) => kept.is_same(list),
         None => false,
     }
 }
 
-fn hash_of(hash_key: HashKey, list: &[usize]) -> u64 {
+fn hash_of(hash_key: HashKey, list: &ClausePlaces) -> u64 {
     let mut hasher = hash_key.build_hasher();
-    for place in list {
-        hasher.write(&place.to_le_bytes());
+    for repeat in &list.repeats {
+        hasher.write(&repeat.place.to_le_bytes());
+        hasher.write(&repeat.times.to_le_bytes());
     }
     hasher.finish()
 }

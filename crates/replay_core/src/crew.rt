@@ -3,12 +3,11 @@
 ghost use Rattle.std.specs.Prelude.{◌≡◌, All, vec_len, IfOk};
 ghost use Rattle.replay_core.specs.Vocabulary.{IsAt, IsNew, grouping};
 ghost use Rattle.replay_core.specs.{Selecting.AreSelected, Working.IsReady};
-ghost use Rattle.replay_core.specs.Crews.{AreParts, Gives, IsWork};
+ghost use Rattle.replay_core.specs.Crews.{AreFinished, Gives, IsWork};
 
 use crate::gate::Gate;
 use crate::lanes::Lanes;
 use crate::piece::Piece;
-use crate::selection::Selections;
 use crate::span::Span;
 use crate::until::work_until;
 use crate::worker::{Shift, work, work_on};
@@ -41,24 +40,24 @@ impl<'a, L: Lanes> Promise<Worked> for Works<'a, L> {
 /// are joined too.
 pub(crate) fn in_threads<R: Threads + Wait + Sync, L: Lanes + Sync, G: Gate + Sync>(
     rt: &R,
-    alloc: Global,
     board: &ClaimBoard,
     seats: Vec<ClaimSeat>,
-    lanes: &L,
-    trace: &Trace,
-    selections: &Selections,
-    groups: &Groups,
-    gate: &G,
+    shift: &Shift<L, G>,
     span: Span,
 ) -> Result<Vec<Worked>, AllocError>
     requires seats { All (λ s. IsAt board.now s × IsNew s) seats.items }
-    requires end { board.now.end ≡ (grouping groups.now).count }
-    requires ready { IsReady (L.runs lanes.now) groups.now trace.now }
-    requires selected { AreSelected (L.runs lanes.now) trace.now selections.now }
+    requires end { board.now.end ≡ (grouping shift.now.groups.now).count }
+    requires ready { IsReady (L.runs shift.now.lanes.now) shift.now.groups.now shift.now.trace.now }
+    requires selected { AreSelected
+        (L.runs shift.now.lanes.now) shift.now.trace.now shift.now.selections.now }
     ensures len { IfOk result (λ v. vec_len v ≡ vec_len seats) }
-    ensures works { IfOk result (λ v. All (λ r. IfOk r
-        (IsWork (Gives span (L.runs lanes.now) groups.now trace.now) board.now)) v.items) }
+    ensures works { IfOk result (λ v. All (λ r. IfOk r (IsWork
+        (Gives span (L.runs shift.now.lanes.now) shift.now.groups.now shift.now.trace.now)
+        board.now)) v.items) }
 {
+    // Callers are told nothing of a closure that captures what has a lifetime in its type.
+    let (alloc, lanes, trace) = (shift.alloc, shift.lanes, shift.trace);
+    let (selections, groups, gate) = (shift.selections, shift.groups, shift.gate);
     thread::scope(
         thread::scope_env(),
         rt,
@@ -93,9 +92,15 @@ pub(crate) fn in_threads<R: Threads + Wait + Sync, L: Lanes + Sync, G: Gate + Sy
                             (IsWork (Gives span (L.runs lanes.entry.now) groups.entry.now
                             trace.entry.now) board.entry.now) }
                     {
-                        at_board(
-                            rt, alloc, board, seat, lanes, trace, selections, groups, gate, span,
-                        )
+                        let shift = Shift {
+                            alloc,
+                            lanes,
+                            trace,
+                            selections,
+                            groups,
+                            gate,
+                        };
+                        at_board(rt, board, seat, &shift, span)
                     },
                 )?;
                 handles.push_reserved(child);
@@ -111,60 +116,34 @@ pub(crate) fn in_threads<R: Threads + Wait + Sync, L: Lanes + Sync, G: Gate + Sy
 // One worker at the board.
 fn at_board<R: Wait, L: Lanes, G: Gate>(
     rt: &R,
-    alloc: Global,
     board: &ClaimBoard,
     seat: ClaimSeat,
-    lanes: &L,
-    trace: &Trace,
-    selections: &Selections,
-    groups: &Groups,
-    gate: &G,
+    shift: &Shift<L, G>,
     span: Span,
 ) -> Worked
     requires seat { IsAt board.now seat × IsNew seat }
-    requires end { board.now.end ≡ (grouping groups.now).count }
-    requires ready { IsReady (L.runs lanes.now) groups.now trace.now }
-    requires selected { AreSelected (L.runs lanes.now) trace.now selections.now }
-    ensures { IfOk result (IsWork
-        (Gives span (L.runs lanes.entry.now) groups.entry.now trace.entry.now) board.entry.now) }
+    requires end { board.now.end ≡ (grouping shift.now.groups.now).count }
+    requires ready { IsReady (L.runs shift.now.lanes.now) shift.now.groups.now shift.now.trace.now }
+    requires selected { AreSelected
+        (L.runs shift.now.lanes.now) shift.now.trace.now shift.now.selections.now }
+    ensures { IfOk result (IsWork (Gives span
+        (L.runs shift.entry.now.lanes.now) shift.entry.now.groups.now shift.entry.now.trace.now)
+        board.entry.now) }
 {
     match span {
-        Span::All => work(
-            rt, alloc, board, seat, lanes, trace, selections, groups, gate,
-        ),
-        Span::UntilExit => work_until(
-            rt, alloc, board, seat, lanes, trace, selections, groups, gate,
-        ),
-        Span::UpTo { .. } => {
-            let shift = Shift {
-                lanes,
-                trace,
-                selections,
-                groups,
-                gate,
-                span,
-            };
-            work_on(rt, alloc, board, seat, &shift)
-        }
+        Span::All => work(rt, board, seat, shift),
+        Span::UntilExit => work_until(rt, board, seat, shift),
+        Span::UpTo { .. } => work_on(rt, board, seat, shift, span),
     }
 }
 
 /// All pieces and all seats, where every worker came to its end.
-pub(crate) fn pieces_and_seats<L: Lanes>(
+pub(crate) fn pieces_and_seats(
     alloc: Global,
-    board: &ClaimBoard,
     results: Vec<Worked>,
-    lanes: &L,
-    trace: &Trace,
-    groups: &Groups,
-    span: Span,
 ) -> Result<(Vec<(u32, Piece)>, Vec<ClaimSeat>), AllocError>
-    requires { All (λ r. IfOk r
-        (IsWork (Gives span (L.runs lanes.now) groups.now trace.now) board.now)) results.items }
     ensures len { IfOk result (λ r. vec_len r.1 ≡ vec_len results) }
-    ensures parts { IfOk result (λ r. AreParts
-        (IsWork (Gives span (L.runs lanes.now) groups.now trace.now) board.now)
-        r.0.items r.1.items) }
+    ensures parts { IfOk result (λ r. AreFinished results.items r.0.items r.1.items) }
 {
     let mut pieces = Vec::new(alloc);
     let mut seats = Vec::new(alloc);

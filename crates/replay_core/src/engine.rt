@@ -3,6 +3,7 @@
 ghost use Rattle.std.specs.Prelude.{◌≡◌, ◌<◌, ◌≤◌, ◌↔◌, Bool, [], ◌∷◌, IfOk, IsErr, IsFalse};
 ghost use Rattle.std.specs.Prelude.{IsTrue, OnOk, is_some, length};
 
+use crate::clause_places::ClausePlaces;
 use crate::piece::Piece;
 use firing_reader::Firing;
 use std::alloc::AllocError;
@@ -26,7 +27,7 @@ pub trait Engine {
 
     /// Runs the clauses at these places for a firing, those that are selected for it, and returns
     /// whether it exits. Once memory was refused, each later call is refused too.
-    fn fire(&mut self, firing: &Firing, places: &[usize]) -> Result<bool, AllocError>
+    fn fire(&mut self, firing: &Firing, places: &ClausePlaces) -> Result<bool, AllocError>
         requires ranges { HasRanges firing.now }
         requires selected { (m : ScriptMeant) × runs self.old m
             × (places.now ≡ selected_for m firing.now) }

@@ -11,11 +11,12 @@ ghost use Rattle.replay_core.specs.Scripts.{AllMean, AreTypedThreads, RunsAs};
 ghost use Rattle.replay_core.specs.Seen.{IsRoomy, lane_seen};
 
 use crate::clause::Clause;
+use crate::clause_places::ClausePlaces;
 use crate::engine::Engine;
 use crate::evaluation::Spare;
 use crate::piece::Piece;
 use crate::tables::Tables;
-use crate::threads::{ThreadCache, run_on_thread};
+use crate::threads::{Due, ThreadCache, run_on_thread};
 use aggregations::AggFn;
 use firing_reader::Firing;
 use indexmap::IndexMap;
@@ -71,7 +72,7 @@ impl<'a, C: Clause> Lane<'a, C> {
     }
 
     // Takes the firing's number, and runs the clauses at these places for it.
-    fn run(&mut self, firing: &Firing, places: &[usize]) -> Result<bool, AllocError>
+    fn run(&mut self, firing: &Firing, places: &ClausePlaces) -> Result<bool, AllocError>
         requires ranges { HasRanges firing.now }
         requires selected { (m : ScriptMeant)
             × RunsAs C.means self.old.clauses.now (functions_of self.old.piece.table) m
@@ -105,10 +106,13 @@ impl<'a, C: Clause> Lane<'a, C> {
             (exit_of (history m (firing.now ∷ []) (threads_in self.old.threads.entries)))) }
     {
         self.piece.taken.push(firing.number)?;
-        run_on_thread(
-            self.clauses,
+        let due = Due {
+            clauses: self.clauses,
             places,
             firing,
+        };
+        run_on_thread(
+            &due,
             &mut self.threads,
             &mut self.cache,
             &mut self.spare,
@@ -126,7 +130,7 @@ impl<'a, C: Clause> Engine for Lane<'a, C> {
 
     ghost is_spent = { λ l. l.spent };
 
-    fn fire(&mut self, firing: &Firing, places: &[usize]) -> Result<bool, AllocError> {
+    fn fire(&mut self, firing: &Firing, places: &ClausePlaces) -> Result<bool, AllocError> {
         if self.spent {
             return Err(AllocError);
         }

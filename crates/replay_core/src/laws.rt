@@ -1,6 +1,6 @@
 //! Laws of what runs mean: each holds of the definitions, and its function computes nothing.
 
-ghost use Rattle.std.specs.Prelude.{◌≡◌, ◌↔◌, ◌∷◌, ℕ, IsTrue, List, None, false, map};
+ghost use Rattle.std.specs.Prelude.{◌≡◌, ◌↔◌, ◌∷◌, ◌++◌, ℕ, IsTrue, List, None, Some, false, map};
 ghost use Rattle.replay_core.specs.Vocabulary.{AreOf, Description, Firing, Groups};
 ghost use Rattle.replay_core.specs.Vocabulary.{IsStrictlyIncreasing, IsTrace, ScriptMeant};
 ghost use Rattle.replay_core.specs.Vocabulary.{begin_of, grouping, has_exit, number_of};
@@ -9,16 +9,33 @@ ghost use Rattle.firing_reader.specs.declared.unit.Probe.{Probe};
 ghost use Rattle.replay_core.specs.declared.round.Round.{Round};
 ghost use Rattle.replay_core.specs.declared.span.Span.TheVariants as span;
 ghost use Rattle.replay_core.specs.Crews.{Gives, IsRound};
-ghost use Rattle.replay_core.specs.Exit.{exit_status, first_exit_number, firings_over};
-ghost use Rattle.replay_core.specs.Exit.{history_over};
+ghost use Rattle.replay_core.specs.Exit.{IsLeastExit, exit_status, exits_of, first_exit_number};
+ghost use Rattle.replay_core.specs.Exit.{firings_over, history_over};
 ghost use Rattle.replay_core.specs.Groups.{AreGrouped, Grouping};
-ghost use Rattle.replay_core.specs.Meaning.{exit_of, history, blank_threads};
+ghost use Rattle.replay_core.specs.Meaning.{Threads, exit_of, history, blank_threads};
 ghost use Rattle.replay_core.specs.Patterns.{Selects, selects};
+ghost use Rattle.replay_core.specs.Running.{threads_over};
 ghost use Rattle.replay_core.specs.Uniting.{IsSorted, Unite, group_history, results_in_group};
 
 /// A description selects the probes that its patterns match.
 pub fn selected_is_matched()
     ensures { (d : Description) (p : Probe) → IsTrue (selects d p) ↔ Selects d p }
+{}
+
+/// A run over firings and then others is that over the first, and after it that over the others,
+/// which finds the variables as the first left them.
+pub fn history_of_parts()
+    ensures { (m : ScriptMeant) (fs gs : List Firing) (threads : Threads)
+        → history m (fs ++ gs) threads
+        ≡ history m fs threads ++ history m gs (threads_over m fs threads) }
+{}
+
+/// Where numbers rise, the first firing that exits is the one with the least number.
+pub fn first_exit_is_least()
+    ensures { (m : ScriptMeant) (fs : List Firing) (threads : Threads) (exit : ℕ × ℕ)
+        → IsStrictlyIncreasing (map number_of fs)
+        → (exit_of (history m fs threads) ≡ Some exit)
+        ↔ IsLeastExit (exits_of (history m fs threads)) exit }
 {}
 
 /// A firing's thread belongs to one group: what a group's firings make alone is what the run makes

@@ -37,7 +37,8 @@ fn is_match(pattern: &[u8], text: &[u8]) -> bool
     }
 }
 
-fn is_literal(pattern: &[u8]) -> bool
+/// Whether the pattern matches itself alone.
+pub(crate) fn is_literal(pattern: &[u8]) -> bool
     ensures { result ≡ list_all is_plain pattern.now }
 {
     pattern.iter().all(|p| *p != b'*' && *p != b'?')

@@ -44,13 +44,6 @@ impl Piece {
         })
     }
 
-    /// How many texts are noted.
-    pub fn text_count(&self) -> usize
-        ensures { result ≡ length (piece_seen self.now).texts }
-    {
-        self.texts.len()
-    }
-
     /// Notes a text at the firing of this number.
     pub fn note_text(&mut self, number: u64, text: Text) -> Result<(), AllocError>
         ensures table { self.new.table ≡ self.old.table }

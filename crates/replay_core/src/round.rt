@@ -9,11 +9,10 @@ use crate::crew::{in_threads, pieces_and_seats};
 use crate::gate::Gate;
 use crate::lanes::Lanes;
 use crate::piece::Piece;
-use crate::selection::Selections;
 use crate::span::Span;
-use firing_reader::Trace;
-use shard_queue::{ClaimBoard, Groups, MOST_GROUPS, MOST_WORKERS};
-use std::alloc::{AllocError, Global};
+use crate::worker::Shift;
+use shard_queue::{ClaimBoard, MOST_GROUPS, MOST_WORKERS};
+use std::alloc::AllocError;
 use std::sync::Wait;
 use std::thread::Threads;
 
@@ -29,29 +28,25 @@ pub(crate) struct Round {
 /// Runs so many workers over all groups.
 pub(crate) fn in_round<R: Threads + Wait + Sync, L: Lanes + Sync, G: Gate + Sync>(
     rt: &R,
-    alloc: Global,
-    lanes: &L,
-    trace: &Trace,
-    selections: &Selections,
-    groups: &Groups,
+    shift: &Shift<L, G>,
     workers: u32,
-    gate: &G,
     span: Span,
 ) -> Result<Round, AllocError>
-    requires ready { IsReady (L.runs lanes.now) groups.now trace.now }
-    requires selected { AreSelected (L.runs lanes.now) trace.now selections.now }
-    requires few { (grouping groups.now).count ≤ MOST_GROUPS + 1 }
+    requires ready { IsReady (L.runs shift.now.lanes.now) shift.now.groups.now shift.now.trace.now }
+    requires selected { AreSelected
+        (L.runs shift.now.lanes.now) shift.now.trace.now shift.now.selections.now }
+    requires few { (grouping shift.now.groups.now).count ≤ MOST_GROUPS + 1 }
     requires workers { (0 < workers) × (workers ≤ MOST_WORKERS) }
     ensures lists { IfOk result (λ r. vec_len r.lists ≡ workers) }
     ensures round { IfOk result (IsRound
-        (Gives span (L.runs lanes.now) groups.now trace.now) (grouping groups.now).count) }
+        (Gives span (L.runs shift.now.lanes.now) shift.now.groups.now shift.now.trace.now)
+        (grouping shift.now.groups.now).count) }
 {
-    let (board, seats) = ClaimBoard::open(alloc, groups.len() as u32, workers as usize)?;
-    let results = in_threads(
-        rt, alloc, &board, seats, lanes, trace, selections, groups, gate, span,
-    )?;
-    let (pieces, seats) = pieces_and_seats(alloc, &board, results, lanes, trace, groups, span)?;
-    let closed = board.close(alloc, seats)?;
+    let end = shift.groups.len() as u32;
+    let (board, seats) = ClaimBoard::open(shift.alloc, end, workers as usize)?;
+    let results = in_threads(rt, &board, seats, shift, span)?;
+    let (pieces, seats) = pieces_and_seats(shift.alloc, results)?;
+    let closed = board.close(shift.alloc, seats)?;
     Ok(Round {
         pieces,
         lists: closed.lists,

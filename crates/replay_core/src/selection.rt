@@ -1,15 +1,17 @@
 //! Which clauses run for each firing of a run: decided once for each probe, before any fires.
 
-ghost use Rattle.std.specs.Prelude.{◌≡◌, ◌<◌, ◌≤◌, ◌++◌, IfOk, List, OnOk, Some, filter, get_or};
+ghost use Rattle.std.specs.Prelude.{◌≡◌, ◌<◌, ◌≤◌, IfOk, List, OnOk, Some, get_or};
 ghost use Rattle.std.specs.Prelude.{length, map, slice_get, sum_by};
-ghost use Rattle.replay_core.specs.Vocabulary.{AllZip, ArePlaces, ClauseMeant, Extends, MOST_BYTES};
+ghost use Rattle.replay_core.specs.Vocabulary.{AllZip, ArePlaces, ClauseMeant, Description};
+ghost use Rattle.replay_core.specs.Vocabulary.{Extends, MOST_BYTES};
 ghost use Rattle.replay_core.specs.Vocabulary.{ScriptMeant, Slots, slots_of, with_ends};
-ghost use Rattle.replay_core.specs.{Places.places_for, Selecting.AreSelected};
-ghost use Rattle.replay_core.specs.Patterns.{probe_of, selects};
+ghost use Rattle.replay_core.specs.{Described.IsTableOf, Places.places_for};
+ghost use Rattle.replay_core.specs.{Patterns.probe_of, Selecting.AreSelected};
 
 use crate::clause::Clause;
 use crate::clause_lists::ClauseLists;
-use crate::matching::is_selected;
+use crate::clause_places::ClausePlaces;
+use crate::description_table::DescriptionTable;
 use d_parser::Description;
 use firing_reader::{Probe, ProbePlaces, Trace};
 use keyed_hash::HashKey;
@@ -49,10 +51,11 @@ impl Selections {
             (with_ends trace.now trace.now)) }
     {
         let firings = trace.firings().probe_places();
+        let table = DescriptionTable::new(alloc, hash_key, descriptions)?;
         let mut lists = ClauseLists::new(alloc, hash_key);
-        let begin = list_for(alloc, &mut lists, descriptions, &trace.begin().into_probe())?;
-        let end = list_for(alloc, &mut lists, descriptions, &trace.end().into_probe())?;
-        let by_probe = lists_for(alloc, &mut lists, descriptions, &firings)?;
+        let begin = list_for(alloc, &mut lists, &table, &trace.begin().into_probe())?;
+        let end = list_for(alloc, &mut lists, &table, &trace.end().into_probe())?;
+        let by_probe = lists_for(alloc, &mut lists, &table, &firings)?;
         let by_row = lists_by_row(alloc, &by_probe, &firings)?;
         Ok(Selections {
             lists,
@@ -64,7 +67,7 @@ impl Selections {
 
     /// The places of the clauses that run for the firing of a run at a place: BEGIN has place 0,
     /// the rows follow, and END is the last.
-    pub fn at(&self, place: u32) -> &[usize]
+    pub fn at(&self, place: u32) -> &ClausePlaces
         requires { place < length self.now }
         ensures { slice_get self.now place ≡ Some result.now }
     {
@@ -143,19 +146,20 @@ fn descriptions<'a, C: Clause>(
 fn lists_for(
     alloc: Global,
     lists: &mut ClauseLists,
-    descriptions: &[&[Description]],
+    table: &DescriptionTable,
     firings: &ProbePlaces,
 ) -> Result<Vec<u32>, AllocError>
     ensures grows { OnOk result (Extends lists.old lists.new) }
-    ensures places { IfOk result (λ places. ArePlaces lists.new places.items
-        (map (λ p. places_for p 0 (map (λ d. d.now) descriptions.now)) firings.now.probes)) }
+    ensures places { (ds : List (List Description)) → IsTableOf table.now ds
+        → IfOk result (λ places. ArePlaces lists.new places.items
+        (map (λ p. places_for p 0 ds) firings.now.probes)) }
 {
     let mut places = Vec::new(alloc);
     for probe in 0..firings.probe_count() {
         let Ok(place) = u32::try_from(probe) else {
             return Err(AllocError);
         };
-        places.push(list_for(alloc, lists, descriptions, &firings.probe(place))?)?;
+        places.push(list_for(alloc, lists, table, &firings.probe(place))?)?;
     }
     Ok(places)
 }
@@ -164,52 +168,17 @@ fn lists_for(
 fn list_for(
     alloc: Global,
     lists: &mut ClauseLists,
-    descriptions: &[&[Description]],
+    table: &DescriptionTable,
     probe: &Probe,
 ) -> Result<u32, AllocError>
     ensures grows { OnOk result (Extends lists.old lists.new) }
-    ensures place { IfOk result (λ p. slice_get lists.new p
-        ≡ Some (places_for probe.now 0 (map (λ d. d.now) descriptions.now))) }
+    ensures place { (ds : List (List Description)) → IsTableOf table.now ds
+        → IfOk result (λ p. slice_get lists.new p ≡ Some (places_for probe.now 0 ds)) }
 {
-    let place = lists.keep(clause_places(alloc, descriptions, probe)?)?;
+    let clauses = table.clauses(alloc, probe)?;
+    let place = lists.keep(ClausePlaces::of(alloc, &clauses)?)?;
     match u32::try_from(place) {
         Ok(place) => Ok(place),
         Err(_) => Err(AllocError),
     }
-}
-
-// The places of the clauses that run for the probe: in the script's order, each once for each of
-// its descriptions that selects it.
-fn clause_places(
-    alloc: Global,
-    descriptions: &[&[Description]],
-    probe: &Probe,
-) -> Result<Vec<usize>, AllocError>
-    ensures { IfOk result (λ places. places.items
-        ≡ places_for probe.now 0 (map (λ d. d.now) descriptions.now)) }
-{
-    let mut places = Vec::new(alloc);
-    for (place, descriptions) in descriptions.iter().enumerate() {
-        add_selected(&mut places, place, descriptions, probe)?;
-    }
-    Ok(places)
-}
-
-// The place, once for each of the descriptions that selects the probe.
-fn add_selected(
-    places: &mut Vec<usize>,
-    place: usize,
-    descriptions: &[Description],
-    probe: &Probe,
-) -> Result<(), AllocError>
-    ensures { OnOk result (places.new.items
-        ≡ places.old.items ++ map (λ d.
-        place) (filter (λ d. selects d probe.now) descriptions.now)) }
-{
-    for description in descriptions {
-        if is_selected(description, probe) {
-            places.push(place)?;
-        }
-    }
-    Ok(())
 }

@@ -11,6 +11,7 @@ ghost use Rattle.replay_core.specs.{Meaning.at_start, Scripts.AllMean, Seen.piec
 ghost use Rattle.replay_core.specs.{Threads.threads_in, Turns.turns};
 
 use crate::clause::Clause;
+use crate::clause_places::ClausePlaces;
 use crate::evaluation::Spare;
 use crate::piece::Piece;
 use crate::scene::Scene;
@@ -28,103 +29,109 @@ const CACHED: usize = 256;
 /// The indices of the threads that fired lately.
 pub(crate) type ThreadCache = DirectMapped<{ CACHED }>;
 
-/// Runs the clauses at these places for a firing, on its thread's variables, and returns whether
-/// one exited.
+/// What runs for a firing: the clauses at these places, in their order.
+#[derive(Drop)]
+pub(crate) struct Due<'a, C> {
+    pub(crate) clauses: &'a [C],
+    pub(crate) places: &'a ClausePlaces,
+    pub(crate) firing: &'a Firing<'a>,
+}
+
+/// Runs the clauses that are due on the variables of the firing's thread, and returns whether one
+/// exited.
 pub(crate) fn run_on_thread<C: Clause>(
-    clauses: &[C],
-    places: &[usize],
-    firing: &Firing,
+    due: &Due<C>,
     threads: &mut IndexMap<i32, Tables, HashKey>,
     cache: &mut ThreadCache,
     spare: &mut Spare,
     piece: &mut Piece,
 ) -> Result<bool, AllocError>
-    requires there { All (λ place. place < length clauses.now) places.now }
-    requires named { All (λ c. C.places c ≤ length (functions_of piece.old.table)) clauses.now }
-    requires few { All (λ c. C.most c ≤ MOST_BYTES) clauses.now }
-    requires room { count_held piece.old.table + MOST_BYTES * length places.now ≤ 2 ^ 52 }
+    requires there { All (λ place. place < length due.now.clauses.now) due.now.places.now }
+    requires named { All (λ c.
+        C.places c ≤ length (functions_of piece.old.table)) due.now.clauses.now }
+    requires few { All (λ c. C.most c ≤ MOST_BYTES) due.now.clauses.now }
+    requires room { count_held piece.old.table + MOST_BYTES * length due.now.places.now ≤ 2 ^ 52 }
     ensures functions { functions_of piece.new.table ≡ functions_of piece.old.table }
     ensures taken { piece.new.taken.items ≡ piece.old.taken.items }
     ensures notes { OnOk result ((slots : Slots) (cs : List ClauseMeant)
-        → AllMean C.means slots clauses.now cs → HasTypedBuiltIns firing.now
-        → AreTypedOwn slots (threads_in threads.old.entries firing.now.thread) →
-        let start = at_start (threads_in threads.old.entries firing.now.thread) in
-        let made = turns firing.now cs places.now start in
-        Notes firing.now.number made (piece_seen piece.old) (piece_seen piece.new)) }
+        → AllMean C.means slots due.now.clauses.now cs → HasTypedBuiltIns due.now.firing.now
+        → AreTypedOwn slots (threads_in threads.old.entries due.now.firing.now.thread) →
+        let start = at_start (threads_in threads.old.entries due.now.firing.now.thread) in
+        let made = turns due.now.firing.now cs due.now.places.now start in
+        Notes due.now.firing.now.number made (piece_seen piece.old) (piece_seen piece.new)) }
     ensures threads { OnOk result ((slots : Slots) (cs : List ClauseMeant)
-        → AllMean C.means slots clauses.now cs → HasTypedBuiltIns firing.now
-        → AreTypedOwn slots (threads_in threads.old.entries firing.now.thread) →
-        let start = at_start (threads_in threads.old.entries firing.now.thread) in
-        let made = turns firing.now cs places.now start in
+        → AllMean C.means slots due.now.clauses.now cs → HasTypedBuiltIns due.now.firing.now
+        → AreTypedOwn slots (threads_in threads.old.entries due.now.firing.now.thread) →
+        let start = at_start (threads_in threads.old.entries due.now.firing.now.thread) in
+        let made = turns due.now.firing.now cs due.now.places.now start in
         (thread : ℤ) → threads_in threads.new.entries thread
-        ≡ (if int_eq thread firing.now.thread then made.variables.own
+        ≡ (if int_eq thread due.now.firing.now.thread then made.variables.own
         else threads_in threads.old.entries thread)) }
     ensures exits { IfOk result (λ exits. (slots : Slots) (cs : List ClauseMeant)
-        → AllMean C.means slots clauses.now cs → HasTypedBuiltIns firing.now
-        → AreTypedOwn slots (threads_in threads.old.entries firing.now.thread) →
-        let start = at_start (threads_in threads.old.entries firing.now.thread) in
-        let made = turns firing.now cs places.now start in
+        → AllMean C.means slots due.now.clauses.now cs → HasTypedBuiltIns due.now.firing.now
+        → AreTypedOwn slots (threads_in threads.old.entries due.now.firing.now.thread) →
+        let start = at_start (threads_in threads.old.entries due.now.firing.now.thread) in
+        let made = turns due.now.firing.now cs due.now.places.now start in
         exits ≡ is_some made.exit) }
     ensures held { OnOk result (count_held piece.new.table
-        ≤ count_held piece.old.table + MOST_BYTES * length places.now) }
+        ≤ count_held piece.old.table + MOST_BYTES * length due.now.places.now) }
 {
-    if places.is_empty() {
+    if due.places.is_empty() {
         return Ok(false);
     }
-    match index_of(threads, cache, firing.thread) {
+    match index_of(threads, cache, due.firing.thread) {
         Some(index) => {
             let Some(tables) = threads.get_index_mut(index) else {
                 unreachable!()
             };
             tables.locals.reset();
-            run_on_tables(clauses, places, firing, tables, spare, piece)
+            run_on_tables(due, tables, spare, piece)
         }
         None => {
             let mut tables = Tables::new(*threads.allocator(), *threads.hasher());
-            let exits = run_on_tables(clauses, places, firing, &mut tables, spare, piece)?;
-            threads.insert(firing.thread, tables)?;
+            let exits = run_on_tables(due, &mut tables, spare, piece)?;
+            threads.insert(due.firing.thread, tables)?;
             Ok(exits)
         }
     }
 }
 
-// Runs the clauses at these places for a firing on these tables, and returns whether one exited.
+// Runs the clauses that are due on these tables, and returns whether one exited.
 fn run_on_tables<C: Clause>(
-    clauses: &[C],
-    places: &[usize],
-    firing: &Firing,
+    due: &Due<C>,
     tables: &mut Tables,
     spare: &mut Spare,
     piece: &mut Piece,
 ) -> Result<bool, AllocError>
-    requires there { All (λ place. place < length clauses.now) places.now }
-    requires named { All (λ c. C.places c ≤ length (functions_of piece.old.table)) clauses.now }
-    requires few { All (λ c. C.most c ≤ MOST_BYTES) clauses.now }
-    requires room { count_held piece.old.table + MOST_BYTES * length places.now ≤ 2 ^ 52 }
+    requires there { All (λ place. place < length due.now.clauses.now) due.now.places.now }
+    requires named { All (λ c.
+        C.places c ≤ length (functions_of piece.old.table)) due.now.clauses.now }
+    requires few { All (λ c. C.most c ≤ MOST_BYTES) due.now.clauses.now }
+    requires room { count_held piece.old.table + MOST_BYTES * length due.now.places.now ≤ 2 ^ 52 }
     ensures functions { functions_of piece.new.table ≡ functions_of piece.old.table }
     ensures taken { piece.new.taken.items ≡ piece.old.taken.items }
     ensures notes { OnOk result ((slots : Slots) (cs : List ClauseMeant)
-        → AllMean C.means slots clauses.now cs → HasTypedBuiltIns firing.now
+        → AllMean C.means slots due.now.clauses.now cs → HasTypedBuiltIns due.now.firing.now
         → AreTyped slots (variables_of tables.old) →
-        let made = turns firing.now cs places.now (variables_of tables.old) in
-        Notes firing.now.number made (piece_seen piece.old) (piece_seen piece.new)
+        let made = turns due.now.firing.now cs due.now.places.now (variables_of tables.old) in
+        Notes due.now.firing.now.number made (piece_seen piece.old) (piece_seen piece.new)
         × (variables_of tables.new ≡ made.variables)) }
     ensures exits { IfOk result (λ exits. (slots : Slots) (cs : List ClauseMeant)
-        → AllMean C.means slots clauses.now cs → HasTypedBuiltIns firing.now
+        → AllMean C.means slots due.now.clauses.now cs → HasTypedBuiltIns due.now.firing.now
         → AreTyped slots (variables_of tables.old) →
-        let made = turns firing.now cs places.now (variables_of tables.old) in
+        let made = turns due.now.firing.now cs due.now.places.now (variables_of tables.old) in
         exits ≡ is_some made.exit) }
     ensures held { OnOk result (count_held piece.new.table
-        ≤ count_held piece.old.table + MOST_BYTES * length places.now) }
+        ≤ count_held piece.old.table + MOST_BYTES * length due.now.places.now) }
 {
     let alloc = *piece.taken.allocator();
     let mut scene = Scene {
         alloc,
-        firing,
+        firing: due.firing,
         tables,
         spare,
     };
-    run_in_turn(clauses, places, &mut scene, piece)
+    run_in_turn(due.clauses, due.places, &mut scene, piece)
 }
 
 // The index of the thread's tables.

@@ -8,6 +8,7 @@ ghost use Rattle.replay_core.specs.{Lanes.Notes, Scripts.AllMean, Seen.piece_see
 ghost use Rattle.replay_core.specs.Evaluation.{Stays, variables_in};
 
 use crate::clause::Clause;
+use crate::clause_places::ClausePlaces;
 use crate::piece::Piece;
 use crate::scene::Scene;
 use d_lexer::MOST_BYTES;
@@ -16,7 +17,7 @@ use std::alloc::AllocError;
 /// Runs the clauses at these places for a firing, and returns whether one exited.
 pub(crate) fn run_in_turn<C: Clause>(
     clauses: &[C],
-    places: &[usize],
+    places: &ClausePlaces,
     scene: &mut Scene<'_>,
     piece: &mut Piece,
 ) -> Result<bool, AllocError>
@@ -42,10 +43,19 @@ pub(crate) fn run_in_turn<C: Clause>(
         ≤ count_held piece.old.table + MOST_BYTES * length places.now) }
 {
     let mut exits = false;
-    for place in places {
-        let place = *place;
+    let mut at = 0;
+    let mut turn = 1;
+    while at < places.repeats.len() {
+        let repeat = &places.repeats[at];
+        let place = repeat.place as usize;
         let exited = clauses[place].run(place as u64 + 1, scene, piece)?;
         exits |= exited;
+        if turn < repeat.times {
+            turn += 1;
+        } else {
+            at += 1;
+            turn = 1;
+        }
     }
     Ok(exits)
 }

@@ -13,11 +13,9 @@ use crate::gate::Gate;
 use crate::lanes::Lanes;
 use crate::piece::Piece;
 use crate::run_firings::firing_at;
-use crate::selection::Selections;
 use crate::source::Exits;
-use firing_reader::Trace;
-use shard_queue::Groups;
-use std::alloc::{AllocError, Global};
+use crate::worker::Shift;
+use std::alloc::AllocError;
 use std::sync::Wait;
 
 /// Takes groups until it is at the end, and makes a piece of a beginning of each. A beginning
@@ -25,118 +23,103 @@ use std::sync::Wait;
 /// found to exit. Err where memory was refused.
 ///
 /// ```text
-/// let (pieces, seat) =
-///     work_until(&rt, alloc, &board, seat, &lanes, &trace, &selections, &groups, &OpenGate)?;
+/// let (pieces, seat) = work_until(&rt, &board, seat, &shift)?;
 /// ```
 pub fn work_until<R: Wait, S: Exits, L: Lanes, G: Gate>(
     rt: &R,
-    alloc: Global,
     source: &S,
     mut seat: S::Seat,
-    lanes: &L,
-    trace: &Trace,
-    selections: &Selections,
-    groups: &Groups,
-    gate: &G,
+    shift: &Shift<L, G>,
 ) -> Result<(Vec<(u32, Piece)>, S::Seat), AllocError>
 where
     S::Seat: Drop,
     requires seat { S.is_at source.now seat × (S.list seat ≡ []) }
     requires new { S.lowered seat ≡ no_number }
-    requires end { S.end source.now ≡ (grouping groups.now).count }
-    requires script { (m : ScriptMeant) × L.runs lanes.now m }
-    requires selected { AreSelected (L.runs lanes.now) trace.now selections.now }
-    requires groups { AreOf groups.now (run_threads trace.now) }
+    requires end { S.end source.now ≡ (grouping shift.now.groups.now).count }
+    requires script { (m : ScriptMeant) × L.runs shift.now.lanes.now m }
+    requires selected { AreSelected
+        (L.runs shift.now.lanes.now) shift.now.trace.now shift.now.selections.now }
+    requires groups { AreOf shift.now.groups.now (run_threads shift.now.trace.now) }
     ensures seat { IfOk result (λ r. S.is_at source.entry.now r.1 × (S.at_end r.1 ≡ true)) }
     ensures groups { IfOk result (λ r. map (λ p. p.0) r.0.items ≡ S.list r.1) }
-    ensures pieces { IfOk result (λ r. AreBegun (L.runs lanes.entry.now) (S.seen r.1)
-        (grouping groups.entry.now)
-        (with_ends trace.entry.now trace.entry.now) r.0.items) }
+    ensures pieces { IfOk result (λ r. AreBegun (L.runs shift.entry.now.lanes.now) (S.seen r.1)
+        (grouping shift.entry.now.groups.now)
+        (with_ends shift.entry.now.trace.now shift.entry.now.trace.now) r.0.items) }
     ensures least { IfOk result (λ r. S.lowered r.1 ≡ least_exit r.0.items) }
 {
-    let mut pieces = Vec::new(alloc);
+    let mut pieces = Vec::new(shift.alloc);
     for _ in rt.forever() {
         let Some(group) = source.take(rt, &mut seat) else {
             return Ok((pieces, seat));
         };
-        gate.begun(group);
-        let piece = piece_until(
-            alloc, source, &mut seat, lanes, trace, selections, groups, group,
-        )?;
+        shift.gate.begun(group);
+        let piece = piece_until(source, &mut seat, shift, group)?;
         pieces.push((group, piece))?;
     }
     unreachable!()
 }
 
 // What a beginning of a group's firings makes.
-fn piece_until<S: Exits, L: Lanes>(
-    alloc: Global,
+fn piece_until<S: Exits, L: Lanes, G>(
     source: &S,
     seat: &mut S::Seat,
-    lanes: &L,
-    trace: &Trace,
-    selections: &Selections,
-    groups: &Groups,
+    shift: &Shift<L, G>,
     group: u32,
 ) -> Result<Piece, AllocError>
     requires seat { S.is_at source.now seat.old }
-    requires group { group < (grouping groups.now).count }
-    requires script { (m : ScriptMeant) × L.runs lanes.now m }
-    requires selected { AreSelected (L.runs lanes.now) trace.now selections.now }
-    requires groups { AreOf groups.now (run_threads trace.now) }
+    requires group { group < (grouping shift.now.groups.now).count }
+    requires script { (m : ScriptMeant) × L.runs shift.now.lanes.now m }
+    requires selected { AreSelected
+        (L.runs shift.now.lanes.now) shift.now.trace.now shift.now.selections.now }
+    requires groups { AreOf shift.now.groups.now (run_threads shift.now.trace.now) }
     ensures seat { OnOk result (S.is_at source.now seat.new × (S.list seat.new ≡ S.list seat.old)) }
     ensures seen { OnOk result (S.seen seat.new ≤ S.seen seat.old) }
-    ensures piece { IfOk result (λ p. (m : ScriptMeant) → L.runs lanes.now m
-        → IsBegunOf m (S.seen seat.new) (grouping groups.now)
-        (with_ends trace.now trace.now) (group, p)) }
+    ensures piece { IfOk result (λ p. (m : ScriptMeant) → L.runs shift.now.lanes.now m
+        → IsBegunOf m (S.seen seat.new) (grouping shift.now.groups.now)
+        (with_ends shift.now.trace.now shift.now.trace.now) (group, p)) }
     ensures roomy { IfOk result IsRoomy }
     ensures least { IfOk result (λ p. S.lowered seat.new ≡ lesser_of (S.lowered seat.old) p.exit) }
 {
-    let mut lane = lanes.lane(alloc)?;
-    run_until(
-        source,
-        seat,
-        &mut lane,
-        trace,
-        selections,
-        groups.places(group),
-    )?;
+    let mut lane = shift.lanes.lane(shift.alloc)?;
+    run_until(source, seat, &mut lane, shift, shift.groups.places(group))?;
     Ok(lane.finish())
 }
 
 // Runs a beginning of the firings at these places.
-fn run_until<S: Exits, E: Engine>(
+fn run_until<S: Exits, E: Engine, L, G>(
     source: &S,
     seat: &mut S::Seat,
     lane: &mut E,
-    trace: &Trace,
-    selections: &Selections,
+    shift: &Shift<L, G>,
     places: &[u32],
 ) -> Result<(), AllocError>
     requires seat { S.is_at source.now seat.old }
     requires script { (m : ScriptMeant) × E.runs lane.old m
-        × AreFor trace.now selections.now m }
+        × AreFor shift.now.trace.now shift.now.selections.now m }
     requires fresh { (m : ScriptMeant) → E.runs lane.old m → IsLaneOf m [] (E.seen lane.old) }
     requires unspent { IsFalse (E.is_spent lane.old) }
-    requires short { All (λ clauses. length clauses ≤ MOST_BYTES) selections.now }
-    requires places { All (λ place. place < length (with_ends trace.now trace.now)) places.now }
-    requires few { length places.now ≤ length (with_ends trace.now trace.now) }
+    requires short { All (λ clauses. length clauses ≤ MOST_BYTES) shift.now.selections.now }
+    requires places { All (λ place. place
+        < length (with_ends shift.now.trace.now shift.now.trace.now)) places.now }
+    requires few { length places.now
+        ≤ length (with_ends shift.now.trace.now shift.now.trace.now) }
     ensures seat { OnOk result (S.is_at source.now seat.new × (S.list seat.new ≡ S.list seat.old)) }
     ensures seen { OnOk result (S.seen seat.new ≤ S.seen seat.old) }
     ensures unspent { OnOk result (IsFalse (E.is_spent lane.new)) }
     ensures run { OnOk result ((m : ScriptMeant) → E.runs lane.old m
-        → AreFor trace.now selections.now m → RunsBeginning m (S.seen seat.new)
-        (firings_at (with_ends trace.now trace.now) places.now) (E.seen lane.new)) }
+        → AreFor shift.now.trace.now shift.now.selections.now m
+        → RunsBeginning m (S.seen seat.new) (firings_at
+        (with_ends shift.now.trace.now shift.now.trace.now) places.now) (E.seen lane.new)) }
     ensures least { OnOk result ((m : ScriptMeant) → E.runs lane.old m
-        → AreFor trace.now selections.now m
+        → AreFor shift.now.trace.now shift.now.selections.now m
         → S.lowered seat.new ≡ lesser_of (S.lowered seat.old) (E.seen lane.new).piece.exit) }
 {
     for place in places {
-        let firing = firing_at(trace, *place);
+        let firing = firing_at(shift.trace, *place);
         if source.least(seat) < firing.number {
             return Ok(());
         }
-        if lane.fire(&firing, selections.at(*place))? {
+        if lane.fire(&firing, shift.selections.at(*place))? {
             source.lower(seat, firing.number);
             return Ok(());
         }

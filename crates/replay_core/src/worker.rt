@@ -9,6 +9,7 @@ ghost use Rattle.replay_core.specs.Selecting.{AreFor, AreSelected, selected_for}
 ghost use Rattle.replay_core.specs.Working.{AreOfGroups, IsOfGroup, IsReady, firings_at};
 ghost use Rattle.replay_core.specs.Working.{firings_in, is_in};
 
+use crate::clause_places::ClausePlaces;
 use crate::engine::Engine;
 use crate::gate::Gate;
 use crate::lanes::Lanes;
@@ -22,73 +23,66 @@ use shard_queue::Groups;
 use std::alloc::{AllocError, Global};
 use std::sync::Wait;
 
+/// What each worker of a run is given: where its memory comes from, the script's lanes, the trace,
+/// which clauses run for its firings, its groups and the gate.
+#[derive(Drop)]
+pub struct Shift<'a, L, G> {
+    pub alloc: Global,
+    pub lanes: &'a L,
+    pub trace: &'a Trace,
+    pub selections: &'a Selections,
+    pub groups: &'a Groups,
+    pub gate: &'a G,
+}
+
 /// Takes groups until it is at the end, and makes a piece of each: what the script makes of
 /// BEGIN, the rows and END on the group's threads. Err where memory was refused.
 ///
 /// ```text
 /// let selections = lanes.selections(alloc, &trace)?;
+/// let shift = Shift {
+///     alloc,
+///     lanes: &lanes,
+///     trace: &trace,
+///     selections: &selections,
+///     groups: &groups,
+///     gate: &OpenGate,
+/// };
 /// let (board, seats) = ClaimBoard::open(alloc, groups.len() as u32, 1)?;
 /// for seat in seats {
-///     // a piece of each group
-///     let (pieces, seat) =
-///         work(&rt, alloc, &board, seat, &lanes, &trace, &selections, &groups, &OpenGate)?;
+///     let (pieces, seat) = work(&rt, &board, seat, &shift)?; // a piece of each group
 /// }
 /// ```
 pub fn work<R: Wait, S: Source, L: Lanes, G: Gate>(
     rt: &R,
-    alloc: Global,
     source: &S,
     seat: S::Seat,
-    lanes: &L,
-    trace: &Trace,
-    selections: &Selections,
-    groups: &Groups,
-    gate: &G,
+    shift: &Shift<L, G>,
 ) -> Result<(Vec<(u32, Piece)>, S::Seat), AllocError>
 where
     S::Seat: Drop,
     requires seat { S.is_at source.now seat × (S.list seat ≡ []) }
-    requires end { S.end source.now ≡ (grouping groups.now).count }
-    requires script { (m : ScriptMeant) × L.runs lanes.now m }
-    requires selected { AreSelected (L.runs lanes.now) trace.now selections.now }
-    requires groups { AreOf groups.now (run_threads trace.now) }
+    requires end { S.end source.now ≡ (grouping shift.now.groups.now).count }
+    requires script { (m : ScriptMeant) × L.runs shift.now.lanes.now m }
+    requires selected { AreSelected
+        (L.runs shift.now.lanes.now) shift.now.trace.now shift.now.selections.now }
+    requires groups { AreOf shift.now.groups.now (run_threads shift.now.trace.now) }
     ensures seat { IfOk result (λ r. S.is_at source.entry.now r.1 × (S.at_end r.1 ≡ true)) }
     ensures groups { IfOk result (λ r. map (λ p. p.0) r.0.items ≡ S.list r.1) }
-    ensures pieces { IfOk result (λ r. AreOfGroups (L.runs lanes.entry.now)
-        (grouping groups.entry.now)
-        (with_ends trace.entry.now trace.entry.now) r.0.items) }
+    ensures pieces { IfOk result (λ r. AreOfGroups (L.runs shift.entry.now.lanes.now)
+        (grouping shift.entry.now.groups.now)
+        (with_ends shift.entry.now.trace.now shift.entry.now.trace.now) r.0.items) }
 {
-    let shift = Shift {
-        lanes,
-        trace,
-        selections,
-        groups,
-        gate,
-        span: Span::All,
-    };
-    let made = work_on(rt, alloc, source, seat, &shift)?;
-    Ok(made)
+    work_on(rt, source, seat, shift, Span::All)
 }
 
-/// What each worker of a run borrows: the script's lanes, the trace, which clauses run for its
-/// firings, its groups, the gate, and which firings count.
-#[derive(Drop)]
-pub(crate) struct Shift<'a, L, G> {
-    pub(crate) lanes: &'a L,
-    pub(crate) trace: &'a Trace,
-    pub(crate) selections: &'a Selections,
-    pub(crate) groups: &'a Groups,
-    pub(crate) gate: &'a G,
-    pub(crate) span: Span,
-}
-
-/// Takes groups until it is at the end, and makes a piece of each.
+/// Takes groups until it is at the end, and makes a piece of each, of the firings that count.
 pub(crate) fn work_on<R: Wait, S: Source, L: Lanes, G: Gate>(
     rt: &R,
-    alloc: Global,
     source: &S,
     mut seat: S::Seat,
     shift: &Shift<L, G>,
+    span: Span,
 ) -> Result<(Vec<(u32, Piece)>, S::Seat), AllocError>
 where
     S::Seat: Drop,
@@ -101,15 +95,15 @@ where
     ensures groups { IfOk result (λ r. map (λ p. p.0) r.0.items ≡ S.list r.1) }
     ensures pieces { IfOk result (λ r. AreOfGroups (L.runs shift.entry.now.lanes.now)
         (grouping shift.entry.now.groups.now)
-        (firings_in shift.entry.now.span shift.entry.now.trace.now) r.0.items) }
+        (firings_in span shift.entry.now.trace.now) r.0.items) }
 {
-    let mut pieces = Vec::new(alloc);
+    let mut pieces = Vec::new(shift.alloc);
     for _ in rt.forever() {
         let Some(group) = source.take(rt, &mut seat) else {
             return Ok((pieces, seat));
         };
         shift.gate.begun(group);
-        let piece = shift.piece_of(alloc, group)?;
+        let piece = shift.piece_of(group, span)?;
         pieces.push((group, piece))?;
     }
     unreachable!()
@@ -117,7 +111,7 @@ where
 
 impl<'a, L: Lanes, G> Shift<'a, L, G> {
     // What the firings of a group make that count.
-    fn piece_of(&self, alloc: Global, group: u32) -> Result<Piece, AllocError>
+    fn piece_of(&self, group: u32, span: Span) -> Result<Piece, AllocError>
         requires group { group < (grouping self.now.groups.now).count }
         requires ready { IsReady
             (L.runs self.now.lanes.now) self.now.groups.now self.now.trace.now }
@@ -125,12 +119,12 @@ impl<'a, L: Lanes, G> Shift<'a, L, G> {
             (L.runs self.now.lanes.now) self.now.trace.now self.now.selections.now }
         ensures piece { IfOk result (λ p. (m : ScriptMeant) → L.runs self.now.lanes.now m
             → IsOfGroup m (grouping self.now.groups.now)
-            (firings_in self.now.span self.now.trace.now) (group, p)) }
+            (firings_in span self.now.trace.now) (group, p)) }
         ensures roomy { IfOk result IsRoomy }
     {
         let places = self.groups.places(group);
-        let lane = self.lanes.lane(alloc)?;
-        let lane = run_at(lane, self.trace, self.selections, places, self.span)?;
+        let lane = self.lanes.lane(self.alloc)?;
+        let lane = run_at(lane, self.trace, self.selections, places, span)?;
         Ok(lane.finish())
     }
 }
@@ -168,7 +162,7 @@ fn run_at<E: Engine + Drop>(
 fn run_one<E: Engine>(
     lane: &mut E,
     firing: &Firing,
-    clauses: &[usize],
+    clauses: &ClausePlaces,
     span: Span,
 ) -> Result<(), AllocError>
     requires ranges { HasRanges firing.now }

@@ -12,14 +12,22 @@ use crate::collector::collect;
 use crate::gate::Gate;
 use crate::lanes::Lanes;
 use crate::round::{Round, in_round};
-use crate::selection::Selections;
 use crate::span::Span;
 use crate::whole::Whole;
+use crate::worker::Shift;
 use firing_reader::Trace;
 use shard_queue::{Groups, MOST_GROUPS, MOST_WORKERS};
 use std::alloc::{AllocError, Global};
 use std::sync::Wait;
 use std::thread::Threads;
+
+/// What workers share out: a trace, the groups of its threads, and the gate that they pass.
+#[derive(Drop)]
+pub struct Job<'a, G> {
+    pub trace: &'a Trace,
+    pub groups: &'a Groups,
+    pub gate: &'a G,
+}
 
 /// What a run by several workers gave.
 #[derive(Drop)]
@@ -37,7 +45,12 @@ pub struct Ran {
 /// ```text
 /// let lanes = DifLanes::new(hash_key, &program);
 /// let groups = Groups::deal(alloc, &trace, 2)?;
-/// let ran = run_all(&rt, alloc, &lanes, &trace, &groups, 4, &OpenGate)?;
+/// let job = Job {
+///     trace: &trace,
+///     groups: &groups,
+///     gate: &OpenGate,
+/// };
+/// let ran = run_all(&rt, alloc, &lanes, &job, 4)?;
 /// ran.whole.ran.len(); // 3, with the group of BEGIN and END
 /// ran.by_worker.len(); // 4
 /// ```
@@ -45,25 +58,24 @@ pub fn run_all<R: Threads + Wait + Sync, L: Lanes + Sync, G: Gate + Sync>(
     rt: &R,
     alloc: Global,
     lanes: &L,
-    trace: &Trace,
-    groups: &Groups,
+    job: &Job<G>,
     workers: u32,
-    gate: &G,
 ) -> Result<Ran, AllocError>
     requires script { (m : ScriptMeant) × L.runs lanes.now m }
-    requires groups { AreOf groups.now (run_threads trace.now) }
-    requires few { (grouping groups.now).count ≤ MOST_GROUPS + 1 }
+    requires groups { AreOf job.now.groups.now (run_threads job.now.trace.now) }
+    requires few { (grouping job.now.groups.now).count ≤ MOST_GROUPS + 1 }
     requires workers { (0 < workers) × (workers ≤ MOST_WORKERS) }
     ensures whole { IfOk result (λ r. (m : ScriptMeant) → L.runs lanes.now m
-        → IsWholeOf m (firings_over m trace.now) (grouping groups.now) (whole_seen r.whole)) }
+        → IsWholeOf m (firings_over m job.now.trace.now)
+        (grouping job.now.groups.now) (whole_seen r.whole)) }
     ensures once { IfOk result (λ r. (m : ScriptMeant) → L.runs lanes.now m
-        → RunsEachOnce (firings_over m trace.now) (whole_seen r.whole)) }
+        → RunsEachOnce (firings_over m job.now.trace.now) (whole_seen r.whole)) }
     ensures workers { IfOk result (λ r. vec_len r.by_worker ≡ workers) }
-    ensures taken { IfOk result (λ r. IsAllBelow (grouping groups.now).count
+    ensures taken { IfOk result (λ r. IsAllBelow (grouping job.now.groups.now).count
         (flat_map (λ list. list.items) r.by_worker.items)) }
 {
-    let round = in_rounds(rt, alloc, lanes, trace, groups, workers, gate)?;
-    match collect(alloc, round.pieces, groups.len() as u32) {
+    let round = in_rounds(rt, alloc, lanes, job, workers)?;
+    match collect(alloc, round.pieces, job.groups.len() as u32) {
         Ok(whole) => Ok(Ran {
             whole,
             by_worker: round.lists,
@@ -80,59 +92,50 @@ fn in_rounds<R: Threads + Wait + Sync, L: Lanes + Sync, G: Gate + Sync>(
     rt: &R,
     alloc: Global,
     lanes: &L,
-    trace: &Trace,
-    groups: &Groups,
+    job: &Job<G>,
     workers: u32,
-    gate: &G,
 ) -> Result<Round, AllocError>
-    requires ready { IsReady (L.runs lanes.now) groups.now trace.now }
-    requires few { (grouping groups.now).count ≤ MOST_GROUPS + 1 }
+    requires ready { IsReady (L.runs lanes.now) job.now.groups.now job.now.trace.now }
+    requires few { (grouping job.now.groups.now).count ≤ MOST_GROUPS + 1 }
     requires workers { (0 < workers) × (workers ≤ MOST_WORKERS) }
     ensures workers { IfOk result (λ r. vec_len r.lists ≡ workers) }
-    ensures trace { IfOk result (λ _. IsTrace trace.now) }
-    ensures run { IfOk result (IsRun (L.runs lanes.now) groups.now trace.now) }
+    ensures trace { IfOk result (λ _. IsTrace job.now.trace.now) }
+    ensures run { IfOk result (IsRun (L.runs lanes.now) job.now.groups.now job.now.trace.now) }
 {
-    let selections = lanes.selections(alloc, trace)?;
-    let round = in_needed_rounds(rt, alloc, lanes, trace, &selections, groups, workers, gate)?;
+    let selections = lanes.selections(alloc, job.trace)?;
+    let shift = Shift {
+        alloc,
+        lanes,
+        trace: job.trace,
+        selections: &selections,
+        groups: job.groups,
+        gate: job.gate,
+    };
+    let round = in_needed_rounds(rt, &shift, workers)?;
     Ok(round)
 }
 
 // One round where the script has no exit, else two.
 fn in_needed_rounds<R: Threads + Wait + Sync, L: Lanes + Sync, G: Gate + Sync>(
     rt: &R,
-    alloc: Global,
-    lanes: &L,
-    trace: &Trace,
-    selections: &Selections,
-    groups: &Groups,
+    shift: &Shift<L, G>,
     workers: u32,
-    gate: &G,
 ) -> Result<Round, AllocError>
-    requires ready { IsReady (L.runs lanes.now) groups.now trace.now }
-    requires selected { AreSelected (L.runs lanes.now) trace.now selections.now }
-    requires few { (grouping groups.now).count ≤ MOST_GROUPS + 1 }
+    requires ready { IsReady (L.runs shift.now.lanes.now) shift.now.groups.now shift.now.trace.now }
+    requires selected { AreSelected
+        (L.runs shift.now.lanes.now) shift.now.trace.now shift.now.selections.now }
+    requires few { (grouping shift.now.groups.now).count ≤ MOST_GROUPS + 1 }
     requires workers { (0 < workers) × (workers ≤ MOST_WORKERS) }
     ensures workers { IfOk result (λ r. vec_len r.lists ≡ workers) }
-    ensures trace { IfOk result (λ _. IsTrace trace.now) }
-    ensures run { IfOk result (IsRun (L.runs lanes.now) groups.now trace.now) }
+    ensures trace { IfOk result (λ _. IsTrace shift.now.trace.now) }
+    ensures run { IfOk result (IsRun
+        (L.runs shift.now.lanes.now) shift.now.groups.now shift.now.trace.now) }
 {
-    let end = trace.firings().last_number() + 1;
-    if lanes.exits() {
-        until_exit(
-            rt, alloc, lanes, trace, selections, groups, workers, gate, end,
-        )
+    let end = shift.trace.firings().last_number() + 1;
+    if shift.lanes.exits() {
+        until_exit(rt, shift, workers, end)
     } else {
-        in_round(
-            rt,
-            alloc,
-            lanes,
-            trace,
-            selections,
-            groups,
-            workers,
-            gate,
-            Span::All,
-        )
+        in_round(rt, shift, workers, Span::All)
     }
 }
 
@@ -140,28 +143,23 @@ fn in_needed_rounds<R: Threads + Wait + Sync, L: Lanes + Sync, G: Gate + Sync>(
 // to the first that does, and END.
 fn until_exit<R: Threads + Wait + Sync, L: Lanes + Sync, G: Gate + Sync>(
     rt: &R,
-    alloc: Global,
-    lanes: &L,
-    trace: &Trace,
-    selections: &Selections,
-    groups: &Groups,
+    shift: &Shift<L, G>,
     workers: u32,
-    gate: &G,
     end: u64,
 ) -> Result<Round, AllocError>
-    requires ready { IsReady (L.runs lanes.now) groups.now trace.now }
-    requires selected { AreSelected (L.runs lanes.now) trace.now selections.now }
-    requires few { (grouping groups.now).count ≤ MOST_GROUPS + 1 }
+    requires ready { IsReady (L.runs shift.now.lanes.now) shift.now.groups.now shift.now.trace.now }
+    requires selected { AreSelected
+        (L.runs shift.now.lanes.now) shift.now.trace.now shift.now.selections.now }
+    requires few { (grouping shift.now.groups.now).count ≤ MOST_GROUPS + 1 }
     requires workers { (0 < workers) × (workers ≤ MOST_WORKERS) }
-    requires trace { IsTrace trace.now }
-    requires end { end ≡ (end_of trace.now).number }
+    requires trace { IsTrace shift.now.trace.now }
+    requires end { end ≡ (end_of shift.now.trace.now).number }
     ensures workers { IfOk result (λ r. vec_len r.lists ≡ workers) }
-    ensures run { IfOk result (IsRun (L.runs lanes.now) groups.now trace.now) }
+    ensures run { IfOk result (IsRun
+        (L.runs shift.now.lanes.now) shift.now.groups.now shift.now.trace.now) }
 {
     let watching = Span::UntilExit;
-    let first = in_round(
-        rt, alloc, lanes, trace, selections, groups, workers, gate, watching,
-    )?;
+    let first = in_round(rt, shift, workers, watching)?;
     if first.least == u64::MAX {
         return Ok(first);
     }
@@ -169,8 +167,6 @@ fn until_exit<R: Threads + Wait + Sync, L: Lanes + Sync, G: Gate + Sync>(
         last: first.least,
         end,
     };
-    let second = in_round(
-        rt, alloc, lanes, trace, selections, groups, workers, gate, counted,
-    )?;
+    let second = in_round(rt, shift, workers, counted)?;
     Ok(second)
 }

@@ -21,7 +21,7 @@ use Rattle.aggregations.specs.declared.function.AggFn.{AggFn}
 use Rattle.aggregations.specs.declared.held.Held.{Held}
 use Rattle.aggregations.specs.Figures.{figure_of}
 use Rattle.aggregations.specs.Figures.Figure.{Single}
-use Rattle.report.specs.Columns.{Fits, column_width, spaces}
+use Rattle.report.specs.Columns.{FitsColumn, column_width, spaces}
 use Rattle.report.specs.Layout.{Entry, number_bytes, part_bytes, value_bytes, entry_bytes}
 use Rattle.report.specs.Listing.{ComesBefore, entry_cmp, IsListing, entry_rank}
 
@@ -50,21 +50,21 @@ number_width number fits =
     let blank = blanks (16 - length (signed_decimal number)) in
     ap suc (length-append (spaces (16 - length (signed_decimal number))) (signed_decimal number) ∙ omega arith)
 
-part_width : (part : KeyPart) → Fits part → length (part_bytes part) ≡ column_width part
+part_width : (part : KeyPart) → FitsColumn part → length (part_bytes part) ≡ column_width part
 part_width (Number number) fits = number_width number fits
 part_width (Name text) fits =
     let blank = blanks (50 - length text) in
     ap (λ n. suc (suc n)) (length-append text (spaces (50 - length text)) ∙ omega arith)
 
-key_width : (key : List KeyPart) → All Fits key → length (flat_map part_bytes key) ≡ sum_by column_width key
+key_width : (key : List KeyPart) → All FitsColumn key → length (flat_map part_bytes key) ≡ sum_by column_width key
 key_width [] fit = refl
 key_width (part ∷ key) fit =
     length-append (part_bytes part) (flat_map part_bytes key)
-    ∙ ap (λ n. n + length (flat_map part_bytes key)) (part_width part (All-head Fits part key fit))
-    ∙ ap (λ n. column_width part + n) (key_width key (All-tail Fits part key fit))
+    ∙ ap (λ n. n + length (flat_map part_bytes key)) (part_width part (All-head FitsColumn part key fit))
+    ∙ ap (λ n. column_width part + n) (key_width key (All-tail FitsColumn part key fit))
     ∙ sym (sum_by-cons column_width part key)
 
-pub line_width : (key : List KeyPart) (held : Held) (number : ℤ) → All Fits key → figure_of held ≡ Single number → length (signed_decimal number) ≤ 16
+pub line_width : (key : List KeyPart) (held : Held) (number : ℤ) → All FitsColumn key → figure_of held ≡ Single number → length (signed_decimal number) ≤ 16
     → length (entry_bytes (key, held)) ≡ sum_by column_width key + 18
 line_width key held number fit is fits =
     let parts = key_width key fit in

@@ -21,9 +21,9 @@ abbrev pub at_left : ℕ → List ℕ → List ℕ
 at_left width text = text ++ spaces (width - length text)
 
 -- a number of at most 16 bytes with its sign, or a text of at most 50
-abbrev pub Fits : KeyPart → Type 0
-Fits (Number number) = length (signed_decimal number) ≤ 16
-Fits (Name text) = length text ≤ 50
+abbrev pub FitsColumn : KeyPart → Type 0
+FitsColumn (Number number) = length (signed_decimal number) ≤ 16
+FitsColumn (Name text) = length text ≤ 50
 
 -- how wide the part's column is, with the spaces before it
 abbrev pub column_width : KeyPart → ℕ

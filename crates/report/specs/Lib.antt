@@ -5,5 +5,6 @@ pub mod Histograms
 pub mod Layout
 pub mod Listing
 pub mod Output
+pub mod Report
 pub mod Stream
 pub mod Watched

@@ -8,9 +8,9 @@ pub use Rattle.std.specs.declared.cmp.Ordering.{Ordering, TheVariants.Less}
 pub use Rattle.d_values.specs.Keys.{key_cmp}
 pub use Rattle.d_values.specs.declared.key.KeyPart.{KeyPart, TheVariants.Number, TheVariants.Name}
 pub use Rattle.aggregations.specs.declared.{function.AggFn.AggFn, held.Held.Held}
-pub use Rattle.aggregations.specs.declared.function.AggFn.TheVariants.{Count, Sum, Min, Max, Avg}
-pub use Rattle.aggregations.specs.declared.function.AggFn.TheVariants.{Quantize, Lquantize}
-pub use Rattle.aggregations.specs.Buckets.{buckets, label}
+pub use Rattle.aggregations.specs.declared.scale.Scale.{Scale}
+pub use Rattle.aggregations.specs.declared.scale.Scale.TheVariants.{Powers, Steps}
+pub use Rattle.aggregations.specs.Buckets.{buckets, label, levels_of}
 pub use Rattle.aggregations.specs.Histograms.{Histogram}
 pub use Rattle.aggregations.specs.Figures.{Figure, Figure.Single, Figure.Distribution}
 pub use Rattle.aggregations.specs.Figures.{figure_of, rank_of}

@@ -6,7 +6,7 @@ ghost use Rattle.report.specs.Columns.{at_left, at_right};
 ghost use Rattle.report.specs.Histograms as spec;
 
 use crate::columns::put_spaces;
-use aggregations::{AggFn, Histogram};
+use aggregations::{Histogram, Scale};
 use itoa::Buffer;
 use std::alloc::AllocError;
 
@@ -35,18 +35,18 @@ pub fn put_histogram(out: &mut Vec<u8>, histogram: &Histogram) -> Result<(), All
 fn put_rows(out: &mut Vec<u8>, histogram: &Histogram) -> Result<(), AllocError>
     ensures { OnOk result (out.new.items
         ≡ out.old.items ++ flat_map
-        (spec.row_bytes histogram.now.function (sum histogram.now.counts))
+        (spec.row_bytes histogram.now.scale (sum histogram.now.counts))
         (spec.rows histogram.now)) }
 {
     let Some((first, last)) = histogram.span() else {
         return Ok(());
     };
-    let function = histogram.function();
+    let scale = histogram.scale();
     let all = histogram.total();
     let start = first.saturating_sub(1);
-    let end = last.saturating_add(2).min(function.buckets());
+    let end = last.saturating_add(2).min(scale.buckets());
     for bucket in start..end {
-        put_row(out, function, bucket, histogram.count_at(bucket), all)?;
+        put_row(out, scale, bucket, histogram.count_at(bucket), all)?;
     }
     Ok(())
 }
@@ -54,19 +54,19 @@ fn put_rows(out: &mut Vec<u8>, histogram: &Histogram) -> Result<(), AllocError>
 // Puts the row of a bucket, whose count is a part of all arguments.
 fn put_row(
     out: &mut Vec<u8>,
-    function: AggFn,
+    scale: Scale,
     bucket: u32,
     count: u64,
     all: u64,
 ) -> Result<(), AllocError>
-    requires bucket { bucket < buckets function }
+    requires bucket { bucket < buckets scale }
     requires some { 0 < all }
     requires few { all ≤ 2 ^ 52 }
     requires share { count ≤ all }
     ensures { OnOk result (out.new.items
-        ≡ out.old.items ++ spec.row_bytes function all (bucket, count)) }
+        ≡ out.old.items ++ spec.row_bytes scale all (bucket, count)) }
 {
-    put_label(out, function, bucket)?;
+    put_label(out, scale, bucket)?;
     out.extend_from_slice(b" |")?;
     put_signs(out, ((80 * count + all) / (2 * all)) as usize)?;
     out.push(b' ')?;
@@ -76,35 +76,32 @@ fn put_row(
 }
 
 // The mark before the number of a bucket's label, and that number.
-fn label(function: AggFn, bucket: u32) -> (&'static [u8], i64)
-    requires { bucket < buckets function }
-    ensures value { spec.label_bytes function bucket ≡ result.0.now ++ signed_decimal result.1 }
+fn label(scale: Scale, bucket: u32) -> (&'static [u8], i64)
+    requires { bucket < buckets scale }
+    ensures value { spec.label_bytes scale bucket ≡ result.0.now ++ signed_decimal result.1 }
     ensures short { length result.0.now ≤ 3 }
 {
-    match function {
-        AggFn::Lquantize(range) => {
+    match scale {
+        Scale::Powers => (b"".as_slice(), scale.label(bucket)),
+        Scale::Steps(range) => {
             if bucket == 0 {
                 (b"< ".as_slice(), i64::from(range.lower()))
-            } else if bucket + 1 == function.buckets() {
-                (b">= ".as_slice(), function.label(bucket))
+            } else if bucket + 1 == scale.buckets() {
+                (b">= ".as_slice(), scale.label(bucket))
             } else {
-                (b"".as_slice(), function.label(bucket))
+                (b"".as_slice(), scale.label(bucket))
             }
         }
-        AggFn::Count | AggFn::Sum | AggFn::Min | AggFn::Max | AggFn::Avg | AggFn::Quantize => (
-            b"".as_slice(),
-            function.label(bucket),
-        ),
     }
 }
 
 // Puts the label of a bucket at the right of its column.
-fn put_label(out: &mut Vec<u8>, function: AggFn, bucket: u32) -> Result<(), AllocError>
-    requires { bucket < buckets function }
+fn put_label(out: &mut Vec<u8>, scale: Scale, bucket: u32) -> Result<(), AllocError>
+    requires { bucket < buckets scale }
     ensures { OnOk result (out.new.items
-        ≡ out.old.items ++ at_right 16 (spec.label_bytes function bucket)) }
+        ≡ out.old.items ++ at_right 16 (spec.label_bytes scale bucket)) }
 {
-    let (mark, number) = label(function, bucket);
+    let (mark, number) = label(scale, bucket);
     let mut buffer = Buffer::new();
     let digits = buffer.format(number).as_bytes();
     put_spaces(

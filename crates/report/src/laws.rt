@@ -2,10 +2,11 @@
 
 ghost use Rattle.std.specs.Prelude.{◌≡◌, ◌+◌, ◌<◌, ◌≤◌, ◌++◌, ℕ, ℤ, List, Some, All, length};
 ghost use Rattle.std.specs.Prelude.{slice_get, sum_by};
+ghost use Rattle.replay_core.specs.Layouts.{ShowsEach};
 ghost use Rattle.report.specs.Vocabulary.{AggFn, Contribution, Held, KeyPart, Name, Single};
 ghost use Rattle.report.specs.Vocabulary.{figure_of, signed_decimal};
-ghost use Rattle.report.specs.{Output.IsOutput};
-ghost use Rattle.report.specs.Columns.{Fits, column_width, spaces};
+ghost use Rattle.report.specs.{Output.IsOutput, Report.IsReport};
+ghost use Rattle.report.specs.Columns.{FitsColumn, column_width, spaces};
 ghost use Rattle.report.specs.Layout.{Entry, number_bytes, part_bytes, entry_bytes};
 ghost use Rattle.report.specs.Listing.{IsListing, ComesBefore};
 
@@ -31,6 +32,11 @@ pub fn has_output()
         → (bytes : List ℕ) × IsOutput functions texts contributions bytes }
 {}
 
+/// Each run has one report.
+pub fn each_run_has_a_report()
+    ensures { ShowsEach IsReport }
+{}
+
 /// Of two entries of a listing the first has the lower rank, or the same rank and the lower key.
 pub fn listings_ascend()
     ensures { (function : AggFn) (agg : ℕ) (contributions : List Contribution)
@@ -42,7 +48,7 @@ pub fn listings_ascend()
 /// Parts that fit fill columns, and so does the number after them.
 pub fn entries_stand_in_columns()
     ensures { (key : List KeyPart) (held : Held) (number : ℤ)
-        → All Fits key → figure_of held ≡ Single number → length (signed_decimal number) ≤ 16
+        → All FitsColumn key → figure_of held ≡ Single number → length (signed_decimal number) ≤ 16
         → length (entry_bytes (key, held)) ≡ sum_by column_width key + 18 }
 {}
 

@@ -7,15 +7,17 @@ pub mod faulty;
 mod histograms;
 pub mod laws;
 mod layout;
-mod listing;
+pub mod listing;
 pub mod reading;
 mod rendering;
+mod report;
 pub mod stream;
 pub mod watched;
 pub mod writing;
 
 pub use reading::{ReadFault, read_to_end};
 pub use rendering::render;
+pub use report::Report;
 pub use stream::{Failed, Feed, Sink};
 pub use watched::Watched;
 pub use writing::{WriteFault, emit, send};

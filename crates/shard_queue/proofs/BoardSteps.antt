@@ -14,8 +14,9 @@ use Rattle.shard_queue.specs.declared.knowledge.Low.{Low}
 use Rattle.shard_queue.specs.declared.knowledge.BoardView.{BoardView}
 use Rattle.shard_queue.specs.Hands.{hand, one_less, empty_hand, seats_of, IsHandOut}
 use Rattle.shard_queue.specs.Drawing.{Draws}
-use Rattle.shard_queue.specs.Least.{no_number, low, nothing_lowered, IsLeast}
-use Rattle.shard_queue.specs.BoardRule.{view, hand_of, low_of, both, empty_view, Kept, Claimed}
+use Rattle.shard_queue.specs.Least.{no_number, low, nothing_lowered, IsLeastLowered}
+use Rattle.shard_queue.specs.BoardRule.{view, hand_of, low_of, view_of_both, empty_view, Kept}
+use Rattle.shard_queue.specs.BoardRule.{Claimed}
 use Rattle.shard_queue.specs.BoardRule.{Lowered, Looked}
 use Rattle.shard_queue.proofs.Totals.{alone}
 use Rattle.shard_queue.proofs.Drawing.{draws_hit, draws_miss, fresh, word_fits, draws_split}
@@ -63,8 +64,8 @@ module _ {S : Type 0} where
         two = new.0;
         draws = subst (λ x. Draws k.0 k.1 x (map hand_of (set s.views id (view h v.low)))) (sym (new.1 ∙ up))
             (subst (λ (hs : List Hand). Draws k.0 k.1 (suc (slice_index s.words 0)) hs) (sym (map-set hand_of s.views id (view h v.low))) draws);
-        least = subst (λ x. IsLeast x (map low_of (set s.views id (view h v.low)))) (sym new.2)
-            (subst (λ (ls : List Low). IsLeast (slice_index s.words 1) ls) (sym (same_low s.views id v h at)) kept.least);
+        least = subst (λ x. IsLeastLowered x (map low_of (set s.views id (view h v.low)))) (sym new.2)
+            (subst (λ (ls : List Low). IsLeastLowered (slice_index s.words 1) ls) (sym (same_low s.views id v h at)) kept.least);
         idle = idle_set s.views id (view h v.low) (λ none. absurd (omega arith)) kept.idle;
       }
 
@@ -101,15 +102,15 @@ module _ {S : Type 0} where
 
   -- the second word changes, and a seat's low
   looked : (k : ℕ × ℕ) (s : State S BoardView) (id : ℕ) (v : BoardView) (l : Low) (word : ℕ) → Kept k s → get_elem? s.views id ≡ some v → (v.hand.seats ≡ 0 → l.lowered ≡ no_number)
-      → IsLeast word (set (map low_of s.views) id l) → Kept {S = S} k record { words = set s.words 1 word; homes = s.homes; views = set s.views id (view v.hand l) }
+      → IsLeastLowered word (set (map low_of s.views) id l) → Kept {S = S} k record { words = set s.words 1 word; homes = s.homes; views = set s.views id (view v.hand l) }
   looked k s id v l word kept at idle least =
       let new = second_word s.words word kept.two in
       record {
         two = new.0;
         draws = subst (λ x. Draws k.0 k.1 x (map hand_of (set s.views id (view v.hand l)))) (sym new.1)
             (subst (λ (hs : List Hand). Draws k.0 k.1 (slice_index s.words 0) hs) (sym (same_hand s.views id v l at)) kept.draws);
-        least = subst (λ x. IsLeast x (map low_of (set s.views id (view v.hand l)))) (sym new.2)
-            (subst (λ (ls : List Low). IsLeast word ls) (sym (map-set low_of s.views id (view v.hand l))) least);
+        least = subst (λ x. IsLeastLowered x (map low_of (set s.views id (view v.hand l)))) (sym new.2)
+            (subst (λ (ls : List Low). IsLeastLowered word ls) (sym (map-set low_of s.views id (view v.hand l))) least);
         idle = idle_set s.views id (view v.hand l) idle kept.idle;
       }
 
@@ -141,7 +142,7 @@ module _ {S : Type 0} where
       record {
         two = kept.two;
         draws = subst (λ (hs : List Hand). Draws k.0 k.1 (slice_index s.words 0) hs) (sym hands) (draws_split k.0 k.1 (slice_index s.words 0) (map hand_of s.views) id e n kept.draws (at_map hand_of s.views id v at));
-        least = subst (λ (ls : List Low). IsLeast (slice_index s.words 1) ls) (sym lows) (least_enter (slice_index s.words 1) (map low_of s.views) kept.least);
+        least = subst (λ (ls : List Low). IsLeastLowered (slice_index s.words 1) ls) (sym lows) (least_enter (slice_index s.words 1) (map low_of s.views) kept.least);
         idle = idle_snoc vs right (λ none. refl) (idle_set s.views id left (λ none. refl) kept.idle);
       }
 
@@ -152,9 +153,9 @@ module _ {S : Type 0} where
       (subst (λ m. Splits {S = S} (Kept k) id (view (hand e (suc n) 0 []) nothing_lowered) (view (hand e m 0 []) nothing_lowered) (view (hand e 1 0 []) nothing_lowered)) (let down : n ≡ suc n - 1 = omega arith in down) (splits k id e n))
 
   -- a view takes in another, which counts a seat
-  pub joins : (k : ℕ × ℕ) (id : ℕ) (v : BoardView) (other : ℕ) (w : BoardView) → 0 < w.hand.seats → Joins {S = S} (Kept k) id v other w (both v w) empty_view
+  pub joins : (k : ℕ × ℕ) (id : ℕ) (v : BoardView) (other : ℕ) (w : BoardView) → 0 < w.hand.seats → Joins {S = S} (Kept k) id v other w (view_of_both v w) empty_view
   joins k id v other w some_seat s kept at apart at' =
-      let b = both v w in
+      let b = view_of_both v w in
       let vs = set s.views id b in
       let was : get_elem? s.views other ≡ some w = sym (set_else s.views id other b apart) ∙ at' in
       let hands : map hand_of (set vs other empty_view) ≡ set (set (map hand_of s.views) id b.hand) other empty_hand = map-set hand_of vs other empty_view ∙ ap (λ hs. set hs other empty_hand) (map-set hand_of s.views id b) in
@@ -164,12 +165,12 @@ module _ {S : Type 0} where
         two = kept.two;
         draws = subst (λ (hs : List Hand). Draws k.0 k.1 (slice_index s.words 0) hs) (sym hands)
             (draws_join k.0 k.1 (slice_index s.words 0) (map hand_of s.views) id v.hand other w.hand some_seat kept.draws (at_map hand_of s.views id v at) apart there);
-        least = subst (λ (ls : List Low). IsLeast (slice_index s.words 1) ls) (sym lows)
+        least = subst (λ (ls : List Low). IsLeastLowered (slice_index s.words 1) ls) (sym lows)
             (least_join (slice_index s.words 1) (map low_of s.views) id v.low other w.low kept.least (at_map low_of s.views id v at) apart (at_map low_of s.views other w was));
         idle = idle_set vs other empty_view (λ none. refl) (idle_set s.views id b (λ none. absurd (omega arith)) kept.idle);
       }
 
-  pub joins_as : (k : ℕ × ℕ) (id : ℕ) (v : BoardView) (other : ℕ) (w : BoardView) (e t : ℕ) (xs : List ℕ) → w.hand ≡ hand e 1 t xs → Joins {S = S} (Kept k) id v other w (both v w) empty_view
+  pub joins_as : (k : ℕ × ℕ) (id : ℕ) (v : BoardView) (other : ℕ) (w : BoardView) (e t : ℕ) (xs : List ℕ) → w.hand ≡ hand e 1 t xs → Joins {S = S} (Kept k) id v other w (view_of_both v w) empty_view
   joins_as k id v other w e t xs is = joins k id v other w (let one : w.hand.seats ≡ 1 = ap seats_of is in omega arith)
 
   -- a new view counts no seat
@@ -181,7 +182,7 @@ module _ {S : Type 0} where
         record {
           two = kept.two;
           draws = subst (λ (hs : List Hand). Draws k.0 k.1 (slice_index s.words 0) hs) (sym hands) (draws_enter k.0 k.1 (slice_index s.words 0) (map hand_of s.views) kept.draws);
-          least = subst (λ (ls : List Low). IsLeast (slice_index s.words 1) ls) (sym lows) (least_enter (slice_index s.words 1) (map low_of s.views) kept.least);
+          least = subst (λ (ls : List Low). IsLeastLowered (slice_index s.words 1) ls) (sym lows) (least_enter (slice_index s.words 1) (map low_of s.views) kept.least);
           idle = idle_snoc s.views empty_view (λ none. refl) kept.idle;
         },
         refl,

@@ -9,14 +9,15 @@ use Rattle.shard_queue.specs.declared.knowledge.Hand.{Hand}
 use Rattle.std.specs.Prelude.{sum_by, Contains}
 use Rattle.std.proofs.lemmas.List.Sums.{sum_by-append}
 use Rattle.shard_queue.specs.Numbers.{below}
-use Rattle.shard_queue.specs.Hands.{hand, joint_hand, empty_hand, total, seats_of, seats_at_end}
-use Rattle.shard_queue.specs.Hands.{Fits, AllFit, IsHandOut}
+use Rattle.shard_queue.specs.Hands.{hand, joint_hand, empty_hand, total_over, seats_of}
+use Rattle.shard_queue.specs.Hands.{seats_at_end}
+use Rattle.shard_queue.specs.Hands.{FitsSeats, AllFit, IsHandOut}
 use Rattle.shard_queue.specs.Drawing.{Draws}
 use Rattle.shard_queue.proofs.Totals.{total_set, total_snoc, total_le, one_le_total, total_one}
 use Rattle.shard_queue.proofs.Totals.{sum_by-ones, sum_by-below, below-ones, weight_of, below-times}
 use Rattle.shard_queue.proofs.Totals.{not_there, fits_set, fits_snoc}
 
-seats_at_end_few : (n : ℕ) (views : List Hand) → AllFit n views → total seats_at_end views ≤ total seats_of views
+seats_at_end_few : (n : ℕ) (views : List Hand) → AllFit n views → total_over seats_at_end views ≤ total_over seats_of views
 seats_at_end_few n views fit = total_le seats_at_end seats_of views (λ by v e. (fit by v e).few)
 
 pub draws_hit : (n seats word : ℕ) (views : List Hand) (id e : ℕ) (xs : List ℕ) → Draws n seats word views → get_elem? views id ≡ some (hand e 1 0 xs) → word < e
@@ -106,7 +107,7 @@ draws_split n seats word views id e left d at =
     let r = hand e 1 0 [] in
     let ends = (d.fit id v at).ends (omega arith) in
     let vs = set views id l in
-    let sum : (f : Hand → ℕ) → f v ≡ f l + f r → total f (vs ++ r ∷ []) ≡ total f views = λ f add. let a = total_set f views id v l at in let b = total_snoc f vs r in omega arith in
+    let sum : (f : Hand → ℕ) → f v ≡ f l + f r → total_over f (vs ++ r ∷ []) ≡ total_over f views = λ f add. let a = total_set f views id v l at in let b = total_snoc f vs r in omega arith in
     let at_end = sum seats_at_end refl in
     record {
       small = d.small;
@@ -126,7 +127,7 @@ draws_join n seats word views id v other w some_seat d at apart at' =
     let was : get_elem? views other ≡ some w = ⊎_elim (λ (x : (other ≡ id) × (both ≡ w)). absurd (apart x.0)) (λ (x : (other ≢ id) × (get_elem? views other ≡ some w)). x.1) (at_set views id other both w at') in
     let mine = d.fit id v at in
     let theirs = d.fit other w was in
-    let same : (f : Hand → ℕ) → f both ≡ f v + f w → f empty_hand ≡ 0 → total f (set vs other empty_hand) ≡ total f views
+    let same : (f : Hand → ℕ) → f both ≡ f v + f w → f empty_hand ≡ 0 → total_over f (set vs other empty_hand) ≡ total_over f views
     = λ f add none. let a = total_set f views id v both at in let b = total_set f vs other w empty_hand at' in omega arith in
     let at_end = same seats_at_end refl refl in
     let few = mine.few in
@@ -144,7 +145,7 @@ draws_join n seats word views id v other w some_seat d at apart at' =
 -- a new view counts no seat
 pub draws_enter : (n seats word : ℕ) (views : List Hand) → Draws n seats word views → Draws n seats word (views ++ empty_hand ∷ [])
 draws_enter n seats word views d =
-    let same : (f : Hand → ℕ) → f empty_hand ≡ 0 → total f (views ++ empty_hand ∷ []) ≡ total f views = λ f none. let a = total_snoc f views empty_hand in omega arith in
+    let same : (f : Hand → ℕ) → f empty_hand ≡ 0 → total_over f (views ++ empty_hand ∷ []) ≡ total_over f views = λ f none. let a = total_snoc f views empty_hand in omega arith in
     let at_end = same seats_at_end refl in
     record {
       small = d.small;
@@ -158,7 +159,7 @@ draws_enter n seats word views d =
 -- who counts every seat knows all that was drawn
 pub draws_whole : (n seats word : ℕ) (views : List Hand) (id : ℕ) (v : Hand) → v.seats ≡ seats → Draws n seats word views → get_elem? views id ≡ some v → IsHandOut n v.at_end v.drawn
 draws_whole n seats word views id v every d at =
-    let all : total seats_of views ≡ v.seats = d.all ∙ sym every in
+    let all : total_over seats_of views ≡ v.seats = d.all ∙ sym every in
     let at_end = total_one seats_at_end seats_of views id v (λ j u e none. let few = (d.fit j u e).few in omega arith) at all in (
       min n word,
       omega arith,
@@ -176,6 +177,6 @@ draws_first n seats small = record {
   drawn = λ h. let m : min n 0 ≡ 0 = omega arith in omega (arith, ap (λ k. sum_by h (below k)) m);
 }
   where
-    one : (by : ℕ) (v : Hand) → get_elem? (hand n seats 0 [] ∷ []) by ≡ some v → Fits n v
-    one zero v e = subst (Fits n) (some-injective _ _ e) (record { ends = λ _. refl; few = omega arith; idle = λ _. refl })
+    one : (by : ℕ) (v : Hand) → get_elem? (hand n seats 0 [] ∷ []) by ≡ some v → FitsSeats n v
+    one zero v e = subst (FitsSeats n) (some-injective _ _ e) (record { ends = λ _. refl; few = omega arith; idle = λ _. refl })
     one (suc by) v e = absurd (some-ne-none v (sym e))

@@ -1,4 +1,5 @@
 pub mod Totals
+pub mod Permutations
 pub mod Drawing
 pub mod Least
 pub mod BoardSteps

@@ -9,8 +9,9 @@ use Rattle.shard_queue.specs.declared.knowledge.Hand.{Hand}
 use Rattle.std.specs.Prelude.{sum_by, Contains}
 use Rattle.std.proofs.lemmas.List.Sums.{sum_by-append}
 use Rattle.shard_queue.specs.Numbers.{below}
-use Rattle.shard_queue.specs.Hands.{hand, joint_hand, empty_hand, total, seats_of, seats_at_end}
-use Rattle.shard_queue.specs.Hands.{Fits, IsHandOut}
+use Rattle.shard_queue.specs.Hands.{hand, joint_hand, empty_hand, total_over, seats_of}
+use Rattle.shard_queue.specs.Hands.{seats_at_end}
+use Rattle.shard_queue.specs.Hands.{FitsSeats, IsHandOut}
 use Rattle.shard_queue.specs.Marks.{count_up, Deals, Took}
 use Rattle.shard_queue.proofs.Totals.{total_set, total_snoc, total_le, one_le_total, total_one}
 use Rattle.shard_queue.proofs.Totals.{alone, sum_by-ones, sum_by-below, below-ones, weight_of}
@@ -137,8 +138,8 @@ deals_first = record {
   drawn = λ h. refl;
 }
   where
-    one : (by : ℕ) (v : Hand) → get_elem? (hand 0 1 0 [] ∷ []) by ≡ some v → Fits 0 v
-    one zero v e = subst (Fits 0) (some-injective _ _ e) (record { ends = λ _. refl; few = omega arith; idle = λ none. absurd (omega arith) })
+    one : (by : ℕ) (v : Hand) → get_elem? (hand 0 1 0 [] ∷ []) by ≡ some v → FitsSeats 0 v
+    one zero v e = subst (FitsSeats 0) (some-injective _ _ e) (record { ends = λ _. refl; few = omega arith; idle = λ none. absurd (omega arith) })
     one (suc by) v e = absurd (some-ne-none v (sym e))
 
 -- before anything is put, there is one seat more
@@ -150,9 +151,9 @@ deals_grow put seats front left items views id s d at pos same =
     let vs = set views id w in
     let ends = (d.fit id v at).ends pos in
     let adds = d.sum_is in
-    let all : (f : Hand → ℕ) (k : ℕ) → f w ≡ f v + k → f empty_hand ≡ 0 → total f (vs ++ empty_hand ∷ []) ≡ total f views + k
+    let all : (f : Hand → ℕ) (k : ℕ) → f w ≡ f v + k → f empty_hand ≡ 0 → total_over f (vs ++ empty_hand ∷ []) ≡ total_over f views + k
     = λ f k add none. let a = total_set f views id v w at in let b = total_snoc f vs empty_hand in omega arith in
-    let at_end : total seats_at_end (vs ++ empty_hand ∷ []) ≡ total seats_at_end views = let t = all seats_at_end 0 refl refl in omega arith in
+    let at_end : total_over seats_at_end (vs ++ empty_hand ∷ []) ≡ total_over seats_at_end views = let t = all seats_at_end 0 refl refl in omega arith in
     let a = all seats_of 1 refl refl in
     let b = d.all in
     let m : min (put - (seats + 1)) front ≡ min (put - seats) front = omega arith in
@@ -175,9 +176,9 @@ deals_put put seats front left items views id c s d at pos same =
     let w = hand (c + 1) s 0 [] in
     let c_is : c ≡ put = (d.fit id u at).ends pos in
     let each = λ (j : ℕ) (y : Hand) (e : get_elem? views j ≡ some y). d.fit j y e in
-    let every : total seats_of views ≡ s = d.all ∙ same in
-    let at_end : total seats_at_end views ≡ 0 = total_one seats_at_end seats_of views id u (λ j y e none. let few = (each j y e).few in omega arith) at every in
-    let ones : total (λ y. sum_by (λ _. 1) y.drawn) views ≡ 0 = total_one (λ y. sum_by (λ _. 1) y.drawn) seats_of views id u (λ j y e none. ap (sum_by (λ _. 1)) ((each j y e).idle none)) at every in
+    let every : total_over seats_of views ≡ s = d.all ∙ same in
+    let at_end : total_over seats_at_end views ≡ 0 = total_one seats_at_end seats_of views id u (λ j y e none. let few = (each j y e).few in omega arith) at every in
+    let ones : total_over (λ y. sum_by (λ _. 1) y.drawn) views ≡ 0 = total_one (λ y. sum_by (λ _. 1) y.drawn) seats_of views id u (λ j y e none. ap (sum_by (λ _. 1)) ((each j y e).idle none)) at every in
     let none_drawn = sym (below-ones (min (put - seats) front)) ∙ sym (d.drawn (λ _. 1)) ∙ ones in
     let most = d.most in
     let adds = d.sum_is in
@@ -192,7 +193,7 @@ deals_put put seats front left items views id c s d at pos same =
       are = ap (λ ys. ys ++ c ∷ []) (d.are ∙ ap (λ k. count_up k left) zero_front) ∙ ap (λ k. count_up 0 left ++ k ∷ []) (let k : c ≡ 0 + left = omega arith in k) ∙ count_up-more 0 left;
       sum_is = omega arith;
       fit = λ j y e. ⊎_elim
-          (λ (p : (j ≡ id) × (w ≡ y)). subst (λ z. Fits (put + 1) z) p.1 (record { ends = λ _. ap (λ k. k + 1) c_is; few = omega arith; idle = λ none. absurd (omega arith) }))
+          (λ (p : (j ≡ id) × (w ≡ y)). subst (λ z. FitsSeats (put + 1) z) p.1 (record { ends = λ _. ap (λ k. k + 1) c_is; few = omega arith; idle = λ none. absurd (omega arith) }))
           (λ (p : (j ≢ id) × (get_elem? views j ≡ some y)). let none = alone views id u at every j y p.0 p.1 in record { ends = λ lt. absurd (omega arith); few = (each j y p.1).few; idle = (each j y p.1).idle })
           (at_set views id j w y e);
       all = omega arith;
@@ -214,7 +215,7 @@ deals_split put seats front left items views id e n d at =
     let r = hand e 1 0 [] in
     let ends = (d.fit id u at).ends (omega arith) in
     let vs = set views id l in
-    let same : (f : Hand → ℕ) → f u ≡ f l + f r → total f (vs ++ r ∷ []) ≡ total f views = λ f add. let a = total_set f views id u l at in let b = total_snoc f vs r in omega arith in
+    let same : (f : Hand → ℕ) → f u ≡ f l + f r → total_over f (vs ++ r ∷ []) ≡ total_over f views = λ f add. let a = total_set f views id u l at in let b = total_snoc f vs r in omega arith in
     let at_end = same seats_at_end refl in
     record {
       are = d.are;
@@ -235,7 +236,7 @@ deals_join put seats front left items views id v other w some_seat d at apart at
     let was : get_elem? views other ≡ some w = ⊎_elim (λ (x : (other ≡ id) × (both ≡ w)). absurd (apart x.0)) (λ (x : (other ≢ id) × (get_elem? views other ≡ some w)). x.1) (at_set views id other both w at') in
     let mine = d.fit id v at in
     let theirs = d.fit other w was in
-    let same : (f : Hand → ℕ) → f both ≡ f v + f w → f empty_hand ≡ 0 → total f (set vs other empty_hand) ≡ total f views
+    let same : (f : Hand → ℕ) → f both ≡ f v + f w → f empty_hand ≡ 0 → total_over f (set vs other empty_hand) ≡ total_over f views
     = λ f add none. let a = total_set f views id v both at in let b = total_set f vs other w empty_hand at' in omega arith in
     let at_end = same seats_at_end refl refl in
     let few = mine.few in
@@ -255,7 +256,7 @@ deals_join put seats front left items views id v other w some_seat d at apart at
 pub deals_whole : (put seats front left : ℕ) (items : List ℕ) (views : List Hand) (id : ℕ) (v : Hand) → v.seats ≡ seats → 0 < seats → Deals put seats front left items views → get_elem? views id ≡ some v → IsHandOut (v.end - seats) v.at_end v.drawn
 deals_whole put seats front left items views id v every pos d at =
     let is : put ≡ v.end = sym ((d.fit id v at).ends (omega arith)) in
-    let all : total seats_of views ≡ v.seats = d.all ∙ sym every in
+    let all : total_over seats_of views ≡ v.seats = d.all ∙ sym every in
     let at_end = total_one seats_at_end seats_of views id v (λ j u e none. let few = (d.fit j u e).few in omega arith) at all in
     subst (λ k. IsHandOut (k - seats) v.at_end v.drawn) is (
       min (put - seats) front,

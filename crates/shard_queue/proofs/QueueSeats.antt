@@ -8,7 +8,18 @@ use Rattle.shard_queue.specs.declared.queue.GroupQueue.{GroupQueue}
 use Rattle.shard_queue.specs.declared.queue_seat.QueueSeat.{QueueSeat}
 use Rattle.shard_queue.specs.Hands.{hand, IsHandOut}
 use Rattle.shard_queue.specs.QueueRule.{among, joint}
-use Rattle.shard_queue.specs.Queues.{IsIn, queue_numbers, queue_seats_at_end, Sums, SumsIf}
+use Rattle.shard_queue.specs.Queues.{IsIn, queue_numbers, queue_seats_at_end}
+
+-- the pass is of the queue, counts these seats and knows what they know
+pub record Sums (queue : GroupQueue) (ss : List QueueSeat) (p : Pass ℕ QueueView) : Type 0 where
+  pub pass : IsPassOf queue.queue p
+  pub view : view p ≡ among queue.workers
+      (hand (queue.end + queue.workers) (length ss) (queue_seats_at_end ss) (queue_numbers ss))
+
+-- the same, where there are seats
+abbrev pub SumsIf : GroupQueue → List QueueSeat → Option (Pass ℕ QueueView) → Type 0
+SumsIf queue ss None = ss ≡ []
+SumsIf queue ss (Some p) = Sums queue ss p
 
 pub queue_numbers_more : (ss : List QueueSeat) (s : QueueSeat) → queue_numbers (ss ++ s ∷ []) ≡ queue_numbers ss ++ s.taken.items
 queue_numbers_more [] s = append-nil s.taken.items

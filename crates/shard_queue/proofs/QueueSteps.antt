@@ -12,7 +12,8 @@ use Rattle.shard_queue.specs.declared.knowledge.Hand.{Hand}
 use Rattle.shard_queue.specs.declared.knowledge.QueueView.{QueueView}
 use Rattle.shard_queue.specs.Hands.{hand, empty_hand, IsHandOut}
 use Rattle.shard_queue.specs.Marks.{Deals, Took}
-use Rattle.shard_queue.specs.QueueRule.{among, hand_in, Know, Dealt, no_seat, one_more, one_put}
+use Rattle.shard_queue.specs.QueueRule.{among, hand_in, Know, Dealt, no_seat, one_seat_more}
+use Rattle.shard_queue.specs.QueueRule.{one_put}
 use Rattle.shard_queue.specs.QueueRule.{one_off, one_seat, joint, Taken, More, Total}
 use Rattle.shard_queue.proofs.Totals.{alone}
 use Rattle.shard_queue.proofs.Marks.{front_is, deals_take, deals_more, deals_first, deals_grow}
@@ -41,8 +42,8 @@ begins = (0, 1, 0, 0, deals_first, one)
     one zero v e lt = ap (λ (u : QueueView). u.seats) (sym (some-injective _ _ e))
     one (suc by) v e lt = absurd (some-ne-none v (sym e))
 
-pub grows : (id : ℕ) (v : QueueView) (s : ℕ) → v ≡ among s (hand 0 s 0 []) → 0 < s → Forks Dealt id v (one_more v) no_seat
-grows id v s is pos = subst (λ (u : QueueView). Forks Dealt id u (one_more u) no_seat) (sym is) growing
+pub grows : (id : ℕ) (v : QueueView) (s : ℕ) → v ≡ among s (hand 0 s 0 []) → 0 < s → Forks Dealt id v (one_seat_more v) no_seat
+grows id v s is pos = subst (λ (u : QueueView). Forks Dealt id u (one_seat_more u) no_seat) (sym is) growing
   where
     growing : Forks Dealt id (among s (hand 0 s 0 [])) (among (s + 1) (hand 0 (s + 1) 0 [])) no_seat
     growing items views h at =

@@ -1,13 +1,21 @@
 -- What the views know of lists of seats.
 use Rattle.std.proofs.Common.{◌≡◌, ℕ, min, ◌≤◌, ◌+◌, List, [], ◌∷◌, ◌++◌, sym, ap, ◌∙◌, subst}
-use Rattle.std.proofs.Common.{arith, append_assoc, append-nil, if◌then◌else◌, length-append}
+use Rattle.std.proofs.Common.{arith, length, append_assoc, append-nil, if◌then◌else◌, length-append}
 use Rattle.shard_queue.specs.declared.knowledge.BoardView.{BoardView}
 use Rattle.shard_queue.specs.declared.claim_seat.ClaimSeat.{ClaimSeat}
 use Rattle.shard_queue.specs.Hands.{hand, joint_hand, IsHandOut}
 use Rattle.shard_queue.specs.Least.{no_number}
-use Rattle.shard_queue.specs.BoardRule.{both}
+use Rattle.shard_queue.specs.BoardRule.{view_of_both}
 use Rattle.shard_queue.specs.Boards.{claim_numbers, claim_seats_at_end, number_lowered, number_seen}
-use Rattle.shard_queue.specs.Boards.{least_lowered, least_seen, Counts}
+use Rattle.shard_queue.specs.Boards.{least_lowered, least_seen}
+
+-- the view counts these seats and knows what they know
+pub record Counts (ss : List ClaimSeat) (v : BoardView) : Type 0 where
+  pub seats : v.hand.seats ≡ length ss
+  pub at_end : v.hand.at_end ≡ claim_seats_at_end ss
+  pub drawn : v.hand.drawn ≡ claim_numbers ss
+  pub lowered : v.low.lowered ≡ least_lowered ss
+  pub seen : v.low.seen ≡ least_seen ss
 
 pub claim_numbers-more : (ss : List ClaimSeat) (s : ClaimSeat) → claim_numbers (ss ++ s ∷ []) ≡ claim_numbers ss ++ s.taken.items
 claim_numbers-more [] s = append-nil s.taken.items
@@ -29,7 +37,7 @@ pub lowered-small : (ss : List ClaimSeat) → least_lowered ss ≤ no_number
 lowered-small [] = omega arith
 lowered-small (x ∷ ss) = let more = lowered-small ss in omega arith
 
-pub counts_more : (ss : List ClaimSeat) (v : BoardView) (s : ClaimSeat) (u : BoardView) → Counts ss v → s.seat.me.0.hand ≡ hand s.end 1 (if s.at_end then 1 else 0) s.taken.items → u ≡ both v s.seat.me.0 → Counts (ss ++ s ∷ []) u
+pub counts_more : (ss : List ClaimSeat) (v : BoardView) (s : ClaimSeat) (u : BoardView) → Counts ss v → s.seat.me.0.hand ≡ hand s.end 1 (if s.at_end then 1 else 0) s.taken.items → u ≡ view_of_both v s.seat.me.0 → Counts (ss ++ s ∷ []) u
 counts_more ss v s u c is new =
     let its : u.hand ≡ joint_hand v.hand (hand s.end 1 (if s.at_end then 1 else 0) s.taken.items) = ap (λ (x : BoardView). x.hand) new ∙ ap (joint_hand v.hand) is in
     let len = length-append ss (s ∷ []) in

@@ -12,32 +12,32 @@ use lib.ListN.{get_elem?}
 use Rattle.atomic_table.proofs.Lists.{at_set, at_snoc, set_else}
 use Rattle.shard_queue.specs.declared.knowledge.Hand.{Hand}
 use Rattle.shard_queue.specs.Numbers.{below}
-use Rattle.shard_queue.specs.Hands.{empty_hand, total, seats_of, Fits, AllFit}
+use Rattle.shard_queue.specs.Hands.{empty_hand, total_over, seats_of, FitsSeats, AllFit}
 
-pub total_set : (f : Hand → ℕ) (views : List Hand) (by : ℕ) (v w : Hand) → get_elem? views by ≡ some v → total f (set views by w) + f v ≡ total f views + f w
+pub total_set : (f : Hand → ℕ) (views : List Hand) (by : ℕ) (v w : Hand) → get_elem? views by ≡ some v → total_over f (set views by w) + f v ≡ total_over f views + f w
 total_set f [] by v w e = absurd (some-ne-none v (sym e))
 total_set f (x ∷ xs) zero v w e = let same : f x ≡ f v = ap f (some-injective x v e) in omega arith
 total_set f (x ∷ xs) (suc by) v w e = let more = total_set f xs by v w e in omega arith
 
-pub total_snoc : (f : Hand → ℕ) (views : List Hand) (w : Hand) → total f (views ++ w ∷ []) ≡ total f views + f w
+pub total_snoc : (f : Hand → ℕ) (views : List Hand) (w : Hand) → total_over f (views ++ w ∷ []) ≡ total_over f views + f w
 total_snoc f [] w = omega arith
 total_snoc f (x ∷ xs) w = let more = total_snoc f xs w in omega arith
 
-pub total_le : (f g : Hand → ℕ) (views : List Hand) → ((by : ℕ) (v : Hand) → get_elem? views by ≡ some v → f v ≤ g v) → total f views ≤ total g views
+pub total_le : (f g : Hand → ℕ) (views : List Hand) → ((by : ℕ) (v : Hand) → get_elem? views by ≡ some v → f v ≤ g v) → total_over f views ≤ total_over g views
 total_le f g [] each = omega arith
 total_le f g (x ∷ xs) each = let here = each 0 x refl in let more = total_le f g xs (λ by v e. each (suc by) v e) in omega arith
 
-pub one_le_total : (f : Hand → ℕ) (views : List Hand) (by : ℕ) (v : Hand) → get_elem? views by ≡ some v → f v ≤ total f views
+pub one_le_total : (f : Hand → ℕ) (views : List Hand) (by : ℕ) (v : Hand) → get_elem? views by ≡ some v → f v ≤ total_over f views
 one_le_total f [] by v e = absurd (some-ne-none v (sym e))
 one_le_total f (x ∷ xs) zero v e = let same : f x ≡ f v = ap f (some-injective x v e) in omega arith
 one_le_total f (x ∷ xs) (suc by) v e = let more = one_le_total f xs by v e in omega arith
 
 -- where g is 0 of all views but one, so is f, which is 0 where g is
-total_none : (f g : Hand → ℕ) (views : List Hand) → ((by : ℕ) (v : Hand) → get_elem? views by ≡ some v → g v ≡ 0 → f v ≡ 0) → total g views ≡ 0 → total f views ≡ 0
+total_none : (f g : Hand → ℕ) (views : List Hand) → ((by : ℕ) (v : Hand) → get_elem? views by ≡ some v → g v ≡ 0 → f v ≡ 0) → total_over g views ≡ 0 → total_over f views ≡ 0
 total_none f g [] each none = refl
 total_none f g (x ∷ xs) each none = let here = each 0 x refl (omega arith) in let more = total_none f g xs (λ by v e. each (suc by) v e) (omega arith) in omega arith
 
-pub total_one : (f g : Hand → ℕ) (views : List Hand) (by : ℕ) (v : Hand) → ((j : ℕ) (u : Hand) → get_elem? views j ≡ some u → g u ≡ 0 → f u ≡ 0) → get_elem? views by ≡ some v → total g views ≡ g v → total f views ≡ f v
+pub total_one : (f g : Hand → ℕ) (views : List Hand) (by : ℕ) (v : Hand) → ((j : ℕ) (u : Hand) → get_elem? views j ≡ some u → g u ≡ 0 → f u ≡ 0) → get_elem? views by ≡ some v → total_over g views ≡ g v → total_over f views ≡ f v
 total_one f g [] by v each e all = absurd (some-ne-none v (sym e))
 total_one f g (x ∷ xs) zero v each e all =
     let same : f x ≡ f v = ap f (some-injective x v e) in
@@ -70,10 +70,10 @@ below-ones n = sum_by-ones (below n) ∙ length-range_with_len 0 n
 abbrev pub weight_of : ℕ → ℕ → ℕ
 weight_of x y = if y == x then 1 else 0
 
-weight_of-other : (x y : ℕ) → y ≢ x → weight_of x y ≡ 0
+pub weight_of-other : (x y : ℕ) → y ≢ x → weight_of x y ≡ 0
 weight_of-other x y apart = grind arith
 
-weight_of-same : (x : ℕ) → weight_of x x ≡ 1
+pub weight_of-same : (x : ℕ) → weight_of x x ≡ 1
 weight_of-same x = grind arith
 
 pub below-times : (x n : ℕ) → n ≤ x → sum_by (weight_of x) (below n) ≡ 0
@@ -105,17 +105,17 @@ counted x (y ∷ xs) (suc k) lt is = let more = counted x xs k (omega arith) is 
 pub not_there : (x : ℕ) (xs : List ℕ) → sum_by (weight_of x) xs ≡ 0 → ¬ (Contains xs x)
 not_there x xs none there = let lt = counted x xs there.0 there.1 there.2 in omega arith
 
-pub fits_set : (n : ℕ) (views : List Hand) (by : ℕ) (w : Hand) → AllFit n views → Fits n w → AllFit n (set views by w)
+pub fits_set : (n : ℕ) (views : List Hand) (by : ℕ) (w : Hand) → AllFit n views → FitsSeats n w → AllFit n (set views by w)
 fits_set n views by w all mine j u e = ⊎_elim
-    (λ (x : (j ≡ by) × (w ≡ u)). subst (λ y. Fits n y) x.1 mine)
+    (λ (x : (j ≡ by) × (w ≡ u)). subst (λ y. FitsSeats n y) x.1 mine)
     (λ (x : (j ≢ by) × (get_elem? views j ≡ some u)). all j u x.1)
     (at_set views by j w u e)
 
-pub fits_snoc : (n : ℕ) (views : List Hand) (w : Hand) → AllFit n views → Fits n w → AllFit n (views ++ w ∷ [])
-fits_snoc n views w all mine j u e = ⊎_elim (λ x. all j u x) (λ (x : w ≡ u). subst (λ y. Fits n y) x mine) (at_snoc views w u j e)
+pub fits_snoc : (n : ℕ) (views : List Hand) (w : Hand) → AllFit n views → FitsSeats n w → AllFit n (views ++ w ∷ [])
+fits_snoc n views w all mine j u e = ⊎_elim (λ x. all j u x) (λ (x : w ≡ u). subst (λ y. FitsSeats n y) x mine) (at_snoc views w u j e)
 
 -- where one view counts all seats, no other counts any
-pub alone : (views : List Hand) (id : ℕ) (v : Hand) → get_elem? views id ≡ some v → total seats_of views ≡ v.seats → (j : ℕ) (u : Hand) → j ≢ id → get_elem? views j ≡ some u → u.seats ≡ 0
+pub alone : (views : List Hand) (id : ℕ) (v : Hand) → get_elem? views id ≡ some v → total_over seats_of views ≡ v.seats → (j : ℕ) (u : Hand) → j ≢ id → get_elem? views j ≡ some u → u.seats ≡ 0
 alone views id v at all j u apart at' =
     let s = total_set seats_of views id v empty_hand at in
     let one = one_le_total seats_of (set views id empty_hand) j u (set_else views id j empty_hand apart ∙ at') in

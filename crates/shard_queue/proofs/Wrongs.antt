@@ -12,7 +12,7 @@ use Rattle.std.specs.Option.{option_or}
 use Rattle.shard_queue.specs.declared.fault.GroupFault.{GroupFault}
 use Rattle.shard_queue.specs.declared.fault.GroupFault.TheVariants.{Missing, Doubled, Stranger}
 use Rattle.shard_queue.specs.Threads.{has}
-use Rattle.shard_queue.specs.Groupings.{list_of, grouping_by_lists, with_own}
+use Rattle.shard_queue.specs.Groupings.{list_of, grouping_by_lists, with_own_group}
 use Rattle.shard_queue.specs.Faults.{all_of, first_wrong, first_missing, first_unfound}
 use Rattle.shard_queue.specs.Faults.{thread_fault}
 use Rattle.std.proofs.lemmas.List.{take_all, drop_all, get_or_default}
@@ -185,7 +185,7 @@ listed_lookup threads lists numbers t right is = lookup_numbers (list_of lists) 
     here false e = stranger (list_of lists t) refl e
 
 -- no list at all is read as one empty list
-pub listed_is : (lists : List (List ℤ)) (own : ℕ) (group : ℤ → Option ℕ) → own ≡ max (length lists) 1 → ((t : ℤ) → group t ≡ list_of lists t) → with_own own group ≡ grouping_by_lists lists
-listed_is [] own group is same = ap (λ n. with_own n group) is ∙ ap (with_own 1) (fun_ext group (list_of ([] ∷ [])) same)
+pub listed_is : (lists : List (List ℤ)) (own : ℕ) (group : ℤ → Option ℕ) → own ≡ max (length lists) 1 → ((t : ℤ) → group t ≡ list_of lists t) → with_own_group own group ≡ grouping_by_lists lists
+listed_is [] own group is same = ap (λ n. with_own_group n group) is ∙ ap (with_own_group 1) (fun_ext group (list_of ([] ∷ [])) same)
 listed_is (list ∷ lists) own group is same =
-    ap (λ n. with_own n group) (let more : own ≡ length lists + 1 = omega arith in more) ∙ ap (with_own (length lists + 1)) (fun_ext group (list_of (list ∷ lists)) same)
+    ap (λ n. with_own_group n group) (let more : own ≡ length lists + 1 = omega arith in more) ∙ ap (with_own_group (length lists + 1)) (fun_ext group (list_of (list ∷ lists)) same)

@@ -5,7 +5,7 @@ use Rattle.shard_queue.specs.Vocabulary.{BoardView, Hand, Low, get_elem?, some}
 use Rattle.atomic_table.specs.Table.{State, Me}
 use Rattle.shard_queue.specs.Hands.{empty_hand, joint_hand}
 use Rattle.shard_queue.specs.Drawing.{Draws, Drawn}
-use Rattle.shard_queue.specs.Least.{no_number, low, lesser, nothing_lowered, IsLeast}
+use Rattle.shard_queue.specs.Least.{no_number, low, lesser, nothing_lowered, IsLeastLowered}
 
 abbrev pub view : Hand → Low → BoardView
 view h l = record { hand = h; low = l }
@@ -17,8 +17,8 @@ abbrev pub low_of : BoardView → Low
 low_of v = v.low
 
 -- what two views know, and what the second one knows afterwards
-abbrev pub both : BoardView → BoardView → BoardView
-both v w = view (joint_hand v.hand w.hand) (lesser v.low w.low)
+abbrev pub view_of_both : BoardView → BoardView → BoardView
+view_of_both v w = view (joint_hand v.hand w.hand) (lesser v.low w.low)
 
 abbrev pub empty_view : BoardView
 empty_view = view empty_hand nothing_lowered
@@ -28,7 +28,7 @@ module _ {S : Type 0} where
   pub record Kept (k : ℕ × ℕ) (s : State S BoardView) : Type 0 where
     pub two : length s.words ≡ 2
     pub draws : Draws k.0 k.1 (slice_index s.words 0) (map hand_of s.views)
-    pub least : IsLeast (slice_index s.words 1) (map low_of s.views)
+    pub least : IsLeastLowered (slice_index s.words 1) (map low_of s.views)
     -- who counts no seat has lowered nothing
     pub idle : (by : ℕ) (v : BoardView) → get_elem? s.views by ≡ some v
         → v.hand.seats ≡ 0 → v.low.lowered ≡ no_number

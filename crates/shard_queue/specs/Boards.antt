@@ -1,6 +1,5 @@
 -- Which seat is at which board, and what a list of seats knows.
-use Rattle.std.specs.Prelude.{◌≡◌, ℕ, length, min, false, List, [], ◌∷◌, ◌+◌, ◌++◌, if◌then◌else◌}
-use Rattle.shard_queue.specs.Vocabulary.{BoardView}
+use Rattle.std.specs.Prelude.{◌≡◌, ℕ, min, false, List, [], ◌∷◌, ◌+◌, ◌++◌, if◌then◌else◌}
 use Rattle.shard_queue.specs.declared.board.ClaimBoard.{ClaimBoard}
 use Rattle.shard_queue.specs.declared.claim_seat.ClaimSeat.{ClaimSeat}
 use Rattle.shard_queue.specs.Least.{no_number}
@@ -42,11 +41,3 @@ least_lowered (s ∷ ss) = min (number_lowered s) (least_lowered ss)
 abbrev pub least_seen : List ClaimSeat → ℕ
 least_seen [] = no_number
 least_seen (s ∷ ss) = min (number_seen s) (least_seen ss)
-
--- the view counts these seats and knows what they know
-pub record Counts (ss : List ClaimSeat) (v : BoardView) : Type 0 where
-  pub seats : v.hand.seats ≡ length ss
-  pub at_end : v.hand.at_end ≡ claim_seats_at_end ss
-  pub drawn : v.hand.drawn ≡ claim_numbers ss
-  pub lowered : v.low.lowered ≡ least_lowered ss
-  pub seen : v.low.seen ≡ least_seen ss

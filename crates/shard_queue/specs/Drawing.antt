@@ -4,16 +4,16 @@ use Rattle.std.specs.Prelude.{◌≡◌, ℕ, ◌+◌, ◌≤◌, ◌<◌, ◌�
 use Rattle.std.specs.Prelude.{sum_by, Contains}
 use Rattle.shard_queue.specs.Vocabulary.{Hand}
 use Rattle.shard_queue.specs.Numbers.{below}
-use Rattle.shard_queue.specs.Hands.{hand, total, seats_of, seats_at_end, AllFit}
+use Rattle.shard_queue.specs.Hands.{hand, total_over, seats_of, seats_at_end, AllFit}
 
 -- n numbers are handed out among so many seats
 pub record Draws (n seats word : ℕ) (views : List Hand) : Type 0 where
   pub small : n + seats < 2 ^ 63
   pub fit : AllFit n views
-  pub all : total seats_of views ≡ seats
-  pub most : word ≤ n + total seats_at_end views
-  pub over : 0 < total seats_at_end views → n < word
-  pub drawn : (h : ℕ → ℕ) → total (λ v. sum_by h v.drawn) views ≡ sum_by h (below (min n word))
+  pub all : total_over seats_of views ≡ seats
+  pub most : word ≤ n + total_over seats_at_end views
+  pub over : 0 < total_over seats_at_end views → n < word
+  pub drawn : (h : ℕ → ℕ) → total_over (λ v. sum_by h v.drawn) views ≡ sum_by h (below (min n word))
 
 -- one claim: the number found joins what was drawn, or the seat is at the end
 abbrev pub Drawn : Hand → ℕ → Hand → Type 0

@@ -10,8 +10,8 @@ pub record Grouping : Type 0 where
   pub group : ℤ → Option ℕ
 
 -- these groups, and thread 0 in one of its own after them
-abbrev pub with_own : ℕ → (ℤ → Option ℕ) → Grouping
-with_own count group = record {
+abbrev pub with_own_group : ℕ → (ℤ → Option ℕ) → Grouping
+with_own_group count group = record {
   count = count + 1;
   group = λ t. if int_eq t thread_zero then Some count else group t;
 }
@@ -19,7 +19,7 @@ with_own count group = record {
 -- dealt into so many groups: the i-th thread goes to group i modulo their number
 abbrev pub grouping_in_turn : ℕ → List ℤ → Grouping
 grouping_in_turn count threads =
-    with_own count (λ t. option_map (λ i. i % count) (position_from (int_eq t) 0 threads))
+    with_own_group count (λ t. option_map (λ i. i % count) (position_from (int_eq t) 0 threads))
 
 -- the first of these lists that has the thread
 abbrev pub list_of : List (List ℤ) → ℤ → Option ℕ
@@ -27,8 +27,8 @@ list_of lists t = position_from (λ list. has list t) 0 lists
 
 -- a group for each list. No list at all is read as one empty list
 abbrev pub grouping_by_lists : List (List ℤ) → Grouping
-grouping_by_lists [] = with_own 1 (list_of ([] ∷ []))
-grouping_by_lists (list ∷ lists) = with_own (length lists + 1) (list_of (list ∷ lists))
+grouping_by_lists [] = with_own_group 1 (list_of ([] ∷ []))
+grouping_by_lists (list ∷ lists) = with_own_group (length lists + 1) (list_of (list ∷ lists))
 
 -- the trace's threads, ascending, dealt into so many groups
 abbrev pub IsDealt : ℕ → List Firing → Grouping → Type 0

@@ -3,12 +3,13 @@ use Rattle.std.specs.Prelude.{◌≡◌, ◌<◌, ℕ, ℤ, List, [], All, IsSom
 use Rattle.shard_queue.specs.Vocabulary.{int_eq, lookup, zip}
 use Rattle.shard_queue.specs.declared.groups.Groups.{Groups}
 pub use Rattle.shard_queue.specs.Groupings.{places_from, places_of}
-use Rattle.shard_queue.specs.Groupings.{Grouping, with_own}
+use Rattle.shard_queue.specs.Groupings.{Grouping, with_own_group}
 
 -- a thread of the trace has the number that stands at its place; thread 0 has the last
 abbrev pub grouping : Groups → Grouping
 grouping groups =
-    with_own groups.own (λ t. lookup (int_eq t) (zip groups.threads.items groups.numbers.items))
+    with_own_group groups.own
+    (λ t. lookup (int_eq t) (zip groups.threads.items groups.numbers.items))
 
 -- the places of a group's firings
 abbrev pub places : Groups → ℕ → List ℕ

@@ -18,9 +18,9 @@ abbrev pub empty_hand : Hand
 empty_hand = hand 0 0 0 []
 
 -- f of each view, added up
-abbrev pub total : (Hand → ℕ) → List Hand → ℕ
-total f [] = 0
-total f (v ∷ vs) = f v + total f vs
+abbrev pub total_over : (Hand → ℕ) → List Hand → ℕ
+total_over f [] = 0
+total_over f (v ∷ vs) = f v + total_over f vs
 
 abbrev pub seats_of : Hand → ℕ
 seats_of v = v.seats
@@ -29,13 +29,13 @@ abbrev pub seats_at_end : Hand → ℕ
 seats_at_end v = v.at_end
 
 -- a view that counts seats knows the end. One that counts none has drawn nothing
-pub record Fits (n : ℕ) (v : Hand) : Type 0 where
+pub record FitsSeats (n : ℕ) (v : Hand) : Type 0 where
   pub ends : 0 < v.seats → v.end ≡ n
   pub few : v.at_end ≤ v.seats
   pub idle : v.seats ≡ 0 → v.drawn ≡ []
 
 abbrev pub AllFit : ℕ → List Hand → Type 0
-AllFit n views = (by : ℕ) (v : Hand) → get_elem? views by ≡ some v → Fits n v
+AllFit n views = (by : ℕ) (v : Hand) → get_elem? views by ≡ some v → FitsSeats n v
 
 -- what was drawn is the numbers below some front, each once: all below n if someone is at the
 -- end

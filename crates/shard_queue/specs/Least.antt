@@ -1,10 +1,10 @@
 -- The rule of a board's second word: it is the least number that was lowered.
-use Rattle.std.specs.Prelude.{◌≡◌, ℕ, ◌≤◌, ◌⊎◌, min, List}
+use Rattle.std.specs.Prelude.{◌≡◌, ℕ, ◌-◌, ◌^◌, ◌≤◌, ◌⊎◌, min, List}
 use Rattle.shard_queue.specs.Vocabulary.{Low, get_elem?, some}
 
--- 2^64 - 1: where no number was lowered, or shown
+-- where no number was lowered, or shown
 abbrev pub no_number : ℕ
-no_number = 18446744073709551615
+no_number = 2 ^ 64 - 1
 
 abbrev pub low : ℕ → ℕ → Low
 low lowered seen = record { lowered = lowered; seen = seen }
@@ -16,7 +16,7 @@ abbrev pub lesser : Low → Low → Low
 lesser v w = low (min v.lowered w.lowered) (min v.seen w.seen)
 
 -- the word is the least number that was lowered, and nobody was shown a lesser one
-pub record IsLeast (word : ℕ) (views : List Low) : Type 0 where
+pub record IsLeastLowered (word : ℕ) (views : List Low) : Type 0 where
   pub small : word ≤ no_number
   pub lowered : (by : ℕ) (v : Low) → get_elem? views by ≡ some v → word ≤ v.lowered
   pub seen : (by : ℕ) (v : Low) → get_elem? views by ≡ some v → word ≤ v.seen

@@ -4,7 +4,7 @@ use Rattle.std.specs.Prelude.{◌≡◌, ℕ, zero, suc, ◌+◌, ◌-◌, ◌�
 use Rattle.std.specs.Prelude.{length, sum_by, Contains}
 use Rattle.shard_queue.specs.Vocabulary.{Hand}
 use Rattle.shard_queue.specs.Numbers.{below}
-use Rattle.shard_queue.specs.Hands.{hand, total, seats_of, seats_at_end, AllFit}
+use Rattle.shard_queue.specs.Hands.{hand, total_over, seats_of, seats_at_end, AllFit}
 
 abbrev pub count_up : ℕ → ℕ → List ℕ
 count_up a zero = []
@@ -15,11 +15,11 @@ pub record Deals (put seats front left : ℕ) (items : List ℕ) (views : List H
   pub are : items ≡ count_up front left
   pub sum_is : front + left ≡ put
   pub fit : AllFit put views
-  pub all : total seats_of views ≡ seats
-  pub most : front ≤ (put - seats) + total seats_at_end views
-  pub over : 0 < total seats_at_end views → put - seats < front
+  pub all : total_over seats_of views ≡ seats
+  pub most : front ≤ (put - seats) + total_over seats_at_end views
+  pub over : 0 < total_over seats_at_end views → put - seats < front
   pub drawn : (h : ℕ → ℕ)
-      → total (λ v. sum_by h v.drawn) views ≡ sum_by h (below (min (put - seats) front))
+      → total_over (λ v. sum_by h v.drawn) views ≡ sum_by h (below (min (put - seats) front))
 
 -- one take among so many seats: the number joins what was drawn, or it is a mark: the seat is at
 -- the end

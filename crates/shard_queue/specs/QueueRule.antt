@@ -23,8 +23,9 @@ abbrev pub no_seat : QueueView
 no_seat = among 0 empty_hand
 
 -- before anything is put, there is one seat more
-abbrev pub one_more : QueueView → QueueView
-one_more v = among (v.seats + 1) (hand v.hand.end (v.hand.seats + 1) v.hand.at_end v.hand.drawn)
+abbrev pub one_seat_more : QueueView → QueueView
+one_seat_more v =
+    among (v.seats + 1) (hand v.hand.end (v.hand.seats + 1) v.hand.at_end v.hand.drawn)
 
 -- one number or mark more was put
 abbrev pub one_put : QueueView → QueueView

@@ -3,7 +3,7 @@
 ghost use Rattle.std.specs.Prelude.{◌≡◌, ◌<◌, ◌≤◌, ◌+◌, ℕ, [], All, map, length, slice_index_or};
 ghost use Rattle.std.specs.Prelude.{IfOk, OnOk, vec_len};
 ghost use Rattle.shard_queue.specs.Vocabulary.{int_eq, lookup, zip};
-ghost use Rattle.shard_queue.specs.Groupings.{places_of, with_own};
+ghost use Rattle.shard_queue.specs.Groupings.{places_of, with_own_group};
 ghost use Rattle.shard_queue.specs.Groups.{AreOf, grouping, places};
 ghost use Rattle.shard_queue.specs.Threads.{AreThreads, run_threads};
 
@@ -27,7 +27,7 @@ impl Groups {
         requires numbers { (vec_len numbers ≡ vec_len threads) × All (λ g. g < own) numbers.items }
         requires few { own ≤ MOST_GROUPS }
         ensures grouping { IfOk result (λ r. grouping r
-            ≡ with_own own (λ t. lookup (int_eq t) (zip threads.items numbers.items))) }
+            ≡ with_own_group own (λ t. lookup (int_eq t) (zip threads.items numbers.items))) }
         ensures of { IfOk result (λ r. AreOf r (run_threads trace.now)) }
     {
         let places = empty_lists(alloc, own as usize + 1)?;

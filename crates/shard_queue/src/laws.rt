@@ -1,11 +1,16 @@
 //! What the definitions of groups and of numbers say in other words: each law is the contract of a
 //! function that has nothing to do.
 
-ghost use Rattle.std.specs.Prelude.{◌≡◌, ◌<◌, ◌≤◌, ◌==◌, ℕ, ℤ, Some, List, All, IsSomeAnd, map};
-ghost use Rattle.std.specs.Prelude.{length, count_by, flat_map, slice_get};
+ghost use Rattle.std.specs.Prelude.{◌≡◌, ◌<◌, ◌≤◌, ◌==◌, ◌↔◌, ℕ, ℤ, Some, List, All, IsSomeAnd};
+ghost use Rattle.std.specs.Prelude.{IsPermutation, map, length, count_by, flat_map, slice_get};
 ghost use Rattle.shard_queue.specs.Vocabulary.{Firing, thread_of};
 ghost use Rattle.shard_queue.specs.Groupings.{Grouping, of_group, places_of};
-ghost use Rattle.shard_queue.specs.Numbers.{IsAllBelow, below};
+ghost use Rattle.shard_queue.specs.Numbers.{IsAllBelow, SameItems, below};
+
+/// Lists of numbers have the same items exactly where one is the other in some order.
+pub fn same_items_are_permutations()
+    ensures { (xs ys : List ℕ) → SameItems xs ys ↔ IsPermutation xs ys }
+{}
 
 /// A list that has the numbers below `n`, each once, has no others.
 pub fn each_number_once()

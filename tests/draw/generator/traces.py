@@ -64,7 +64,15 @@ BAD = [
 
 def draw(chance):
     """The bytes of a trace. One in ten has a fault."""
-    rows, number, time = [], 0, chance.choice(TIMES[:3])
+    drawn = rows(chance)
+    if drawn and chance.random() < 0.1:
+        spoil(chance, drawn)
+    return written(chance, drawn)
+
+
+def rows(chance):
+    """The rows of a trace without a fault, each a list of fields."""
+    drawn, number, time = [], 0, chance.choice(TIMES[:3])
     for _ in range(chance.choice([0, 1, 2, 3, 5, 8, 12, 20, 60])):
         number += chance.choice([1, 1, 1, 2, 10, 1_000_000])
         time = (
@@ -72,10 +80,13 @@ def draw(chance):
             if chance.random() < 0.1
             else (time + chance.randrange(1000)) % 2**64
         )
-        rows.append(row(chance, number, time))
-    if rows and chance.random() < 0.1:
-        spoil(chance, rows)
-    lines = [HEADER, *(b",".join(fields) for fields in rows)]
+        drawn.append(row(chance, number, time))
+    return drawn
+
+
+def written(chance, drawn):
+    """The bytes of a trace that has these rows."""
+    lines = [HEADER, *(b",".join(fields) for fields in drawn)]
     return b"".join(line + line_end(chance) for line in lines)
 
 

@@ -2,14 +2,14 @@
 program.
 
 `answer` takes what the program takes, and gives what it has to give: the bytes, the line of a
-refusal, the exit status. tests/differential compares the two over scripts and traces drawn by
-chance.
+refusal, the exit status; with the rendering of `data`, those of dreplay-data. tests/differential
+compares them over scripts and traces drawn by chance.
 """
 import re
 import sys
 from dataclasses import dataclass
 
-from . import checker, grammar, lexer, meaning, output, trace
+from . import checker, data, grammar, lexer, meaning, output, trace
 from .refusals import Refused
 
 DIVIDING_LINE = re.compile(rb"^---\r?(?:\n|\Z)", re.MULTILINE)
@@ -33,17 +33,22 @@ def divide(bundle):
     return (bundle[: line.start()], bundle[line.end() :]) if line else (bundle, b"")
 
 
-def replay(script, rows):
+def typed(script):
+    """The well-typed script that bytes are, or the first refusal."""
+    return checker.check(grammar.parse(lexer.lex(script)))
+
+
+def replay(script, rows, render):
     """What a script shows over the bytes of a trace, and its exit status."""
-    typed = checker.check(grammar.parse(lexer.lex(script)))
-    shown = meaning.run(typed, trace.read(rows))
-    return output.render(typed, shown), shown.status
+    found = typed(script)
+    shown = meaning.run(found, trace.read(rows))
+    return render(found, shown), shown.status
 
 
-def answer(script, rows):
+def answer(script, rows, render=output.render):
     """The answer of a script over the bytes of a trace, or the first refusal."""
     try:
-        shown, status = replay(script, rows)
+        shown, status = replay(script, rows, render)
     except Refused as refused:
         return Answer(refused.status, b"", refused.message)
     return Answer(status, shown, b"")

@@ -24,16 +24,18 @@ BUILT_INS |= {
 
 @dataclass
 class Shown:
-    """What a run makes: its texts in order; for each aggregation the arguments by key; its status,
-    None before an exit."""
+    """What a run makes: its texts in order, each with its firing's number; for each aggregation the
+    arguments by key; the number and the status of the first firing that exited, None before an
+    exit; how many firings were run."""
 
     texts: list = field(default_factory=list)
     arguments: dict = field(default_factory=dict)
-    exit: int = None
+    exit: tuple = None
+    firings: int = 0
 
     @property
     def status(self):
-        return self.exit or 0
+        return self.exit[1] if self.exit else 0
 
 
 def run(script, firings):
@@ -48,12 +50,18 @@ def run(script, firings):
 
 def fire(script, firing, own, shown):
     """Runs each clause once for each of its descriptions that the firing's probe matches."""
+    shown.firings += 1
     evaluation = Evaluation(firing, own)
     probe = (firing.provider, firing.module, firing.function, firing.name)
     for place, clause in enumerate(script.clauses, 1):
         for description in clause.descriptions:
-            if all(map(matches, description, probe)):
+            if fits(description, probe):
                 run_clause(evaluation, place, clause, shown)
+
+
+def fits(description, probe):
+    """Whether each field of a probe matches its pattern."""
+    return all(map(matches, description, probe))
 
 
 @lru_cache(maxsize=4096)
@@ -88,7 +96,7 @@ def run_clause(evaluation, place, clause, shown):
         texts = [
             b"error: firing %d clause %d: divide-by-zero\n" % (evaluation.firing.number, place)
         ]
-    shown.texts += texts
+    shown.texts += [(evaluation.firing.number, text) for text in texts]
 
 
 def perform(evaluation, statement, texts, shown):
@@ -125,7 +133,7 @@ def perform_printf(evaluation, call, texts, _):
 def perform_exit(evaluation, call, _, shown):
     status = evaluation.value(call.arguments[0]) % 256
     if shown.exit is None:
-        shown.exit = status
+        shown.exit = evaluation.firing.number, status
 
 
 ACTIONS = {"trace": perform_trace, "printf": perform_printf, "exit": perform_exit}

@@ -112,10 +112,15 @@ def part(value):
     return b"  %-50s" % value if isinstance(value, bytes) else b" %16d" % value
 
 
-def listing(aggregation, entries):
-    """The entries of an aggregation, ascending by rank and then by key."""
+def ordered(aggregation, entries):
+    """The entries of an aggregation with their keys, ascending by rank and then by key."""
     figures = [(figure(aggregation, arguments), key) for key, arguments in entries.items()]
-    figures.sort(key=lambda pair: (pair[0].rank, pair[1]))
+    return sorted(figures, key=lambda pair: (pair[0].rank, pair[1]))
+
+
+def listing(aggregation, entries):
+    """The bytes of an aggregation."""
+    figures = ordered(aggregation, entries)
     return b"\n" + b"".join(b"".join(map(part, key)) + shown.written() for shown, key in figures)
 
 
@@ -126,4 +131,4 @@ def render(script, shown):
         for name, aggregation in script.aggregations.items()
         if name in shown.arguments
     ]
-    return b"".join(shown.texts + listings)
+    return b"".join([text for _, text in shown.texts] + listings)

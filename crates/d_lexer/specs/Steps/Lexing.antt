@@ -3,11 +3,11 @@ use Rattle.std.specs.Prelude.{◌≡◌, ℕ, ◌⊎◌, List, ◌++◌, Result,
 use Rattle.d_lexer.specs.declared.{token.Token.Token, place.Place.Place}
 use Rattle.d_lexer.specs.declared.fault.LexFault.{LexFault}
 use Rattle.d_lexer.specs.declared.fault.LexFault.TheVariants as faults
-use Rattle.d_lexer.specs.{Tokens.End, Tokens.Clean, Tokens.Bad, Lexing.settle}
+use Rattle.d_lexer.specs.{Tokens.TokensEnd, Tokens.Clean, Tokens.Bad, Lexing.settle}
 use Rattle.d_lexer.specs.Steps.Scan.{Scanned}
 
 -- the fault at which the reading ends, unless memory was refused
-abbrev pub Stops : LexFault → End → Type 0
+abbrev pub Stops : LexFault → TokensEnd → Type 0
 Stops fault end = (fault ≡ faults.Memory) ⊎ (end ≡ Bad fault)
 
 -- what was read so far, and what comes
@@ -16,10 +16,10 @@ with_tokens ts s = (ts ++ s.0, s.1)
 
 -- what one step does: the tokens before it and after it, the result, and what the bytes had and
 -- have
-abbrev pub Steps : (old new : List Token) → Result (Place × ℕ) LexFault → Scanned
+abbrev pub StepGives : (old new : List Token) → Result (Place × ℕ) LexFault → Scanned
     → (ℕ → Place → Scanned) → Type 0
-Steps old new (Ok r) s go = with_tokens new (go r.1 r.0) ≡ with_tokens old s
-Steps old new (Err e) s go = Stops e s.1
+StepGives old new (Ok r) s go = with_tokens new (go r.1 r.0) ≡ with_tokens old s
+StepGives old new (Err e) s go = Stops e s.1
 
 -- all the bytes read, or a stop
 abbrev pub Answers : {X : Type 0} → (X → List Token) → Result X LexFault → Scanned → Type 0

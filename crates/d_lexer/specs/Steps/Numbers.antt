@@ -5,8 +5,8 @@ use Rattle.d_lexer.specs.declared.token.Suffix.{Suffix, TheVariants.Absent}
 pub use Rattle.d_lexer.specs.Numbers.{digit_of, suffix_of, is_x}
 
 -- one digit more, below 2 ^ 64
-abbrev pub one_more : ℕ → ℕ → ℕ → Option ℕ
-one_more base n k = if nat_lt (n * base + k) (2 ^ 64) then Some (n * base + k) else None
+abbrev pub one_digit_more : ℕ → ℕ → ℕ → Option ℕ
+one_digit_more base n k = if nat_lt (n * base + k) (2 ^ 64) then Some (n * base + k) else None
 
 -- the number, where what comes after its digits is a suffix
 abbrev pub with_suffix : ℕ → Option Suffix → Option (ℕ × Suffix)
@@ -17,7 +17,7 @@ with_suffix n (Some s) = Some (n, s)
 abbrev pub number_by : (go : ℕ → Option (ℕ × Suffix)) → ℕ → ℕ → List ℕ → Option ℕ
     → Option (ℕ × Suffix)
 number_by go base n bytes None = with_suffix n (suffix_of bytes)
-number_by go base n bytes (Some k) = option_and_then go (one_more base n k)
+number_by go base n bytes (Some k) = option_and_then go (one_digit_more base n k)
 
 -- the number whose first digits are n
 unfoldable pub number_from : ℕ → ℕ → List ℕ → Option (ℕ × Suffix)
@@ -41,6 +41,6 @@ zero_from [] = Some (0, Absent)
 zero_from (c ∷ ds) = if is_x c then hex_from ds else number_from 8 0 (c ∷ ds)
 
 -- the number that a run of letters and digits spells
-unfoldable pub number_of : List ℕ → Option (ℕ × Suffix)
-number_of [] = None
-number_of (b ∷ ds) = if b == 48 then zero_from ds else number_from 10 (b - 48) ds
+unfoldable pub number_spelled : List ℕ → Option (ℕ × Suffix)
+number_spelled [] = None
+number_spelled (b ∷ ds) = if b == 48 then zero_from ds else number_from 10 (b - 48) ds

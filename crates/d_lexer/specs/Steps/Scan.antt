@@ -5,12 +5,12 @@ use Rattle.std.specs.Prelude.{length, take, take_while}
 use Rattle.d_lexer.specs.Vocabulary.{is_ascii_digit, Mark, Suffix, Token, TokenKind, Place, Head}
 use Rattle.d_lexer.specs.Vocabulary.{Declaration, Predicate, Body, Position, Front, Flaw, Stop, Gap}
 use Rattle.d_lexer.specs.Vocabulary.{BadByte, Unclosed, Constant, Escape, OptionLine}
-use Rattle.d_lexer.specs.Bytes.{next_is, is_blank, is_word_start, is_word_byte, is_run_byte}
+use Rattle.d_lexer.specs.Bytes.{next_is, is_blank_byte, is_word_start, is_word_byte, is_run_byte}
 use Rattle.d_lexer.specs.Bytes.{is_inside, begins_comment, escape_of, is_declaring, line_feed}
 use Rattle.d_lexer.specs.Bytes.{quote, backslash, at_sign, star, slash, underscore, hash}
-use Rattle.d_lexer.specs.Places.{after_byte, is_first, is_hash, after}
-use Rattle.d_lexer.specs.Tokens.{End, Clean, Bad}
-use Rattle.d_lexer.specs.{Steps.Numbers.number_of, Marks.mark_of, Faults.on_line}
+use Rattle.d_lexer.specs.Places.{after_byte, is_first, is_hash, place_after}
+use Rattle.d_lexer.specs.Tokens.{TokensEnd, Clean, Bad}
+use Rattle.d_lexer.specs.{Steps.Numbers.number_spelled, Marks.mark_of, Faults.on_line}
 use Rattle.d_lexer.specs.{Steps.OptionLine.is_option, Outcomes.Gives as GivesBy}
 
 -- the flaw for which a step stops, none where memory was refused
@@ -35,8 +35,8 @@ abbrev pub run_len : (ℕ → Bool) → List ℕ → ℕ
 run_len test z = length (take_while test z)
 
 -- the bytes at the front that pass
-abbrev pub run_of : (ℕ → Bool) → List ℕ → List ℕ
-run_of test z = take (run_len test z) z
+abbrev pub front_run : (ℕ → Bool) → List ℕ → List ℕ
+front_run test z = take (run_len test z) z
 
 -- all but the first
 abbrev pub tail : List ℕ → List ℕ
@@ -44,8 +44,8 @@ tail [] = []
 tail (b ∷ z) = z
 
 -- one byte more, written as it is
-abbrev pub put : ℕ → Result (List ℕ × ℕ) Flaw → Result (List ℕ × ℕ) Flaw
-put x read = read >>= λ r. Ok (x ∷ r.0, suc r.1)
+abbrev pub with_byte : ℕ → Result (List ℕ × ℕ) Flaw → Result (List ℕ × ℕ) Flaw
+with_byte x read = read >>= λ r. Ok (x ∷ r.0, suc r.1)
 
 -- one byte more, which means none: a backslash
 abbrev pub skip_one : Result (List ℕ × ℕ) Flaw → Result (List ℕ × ℕ) Flaw
@@ -54,7 +54,7 @@ skip_one read = read >>= λ r. Ok (r.0, suc r.1)
 -- one byte more, after a backslash
 abbrev pub put_escape : Option ℕ → Result (List ℕ × ℕ) Flaw → Result (List ℕ × ℕ) Flaw
 put_escape None read = Err Escape
-put_escape (Some x) read = put x read
+put_escape (Some x) read = with_byte x read
 
 -- what a text constant holds, and how many bytes it has after its first quote; the test says that a
 -- backslash came before
@@ -66,7 +66,7 @@ text_from false (b ∷ z) =
     else (if b == line_feed then Err Unclosed
     else (if b == 0 then Err BadByte
     else (if b == backslash then skip_one (text_from true z)
-    else put b (text_from false z))))
+    else with_byte b (text_from false z))))
 
 -- one byte more
 abbrev pub one_longer : Option ℕ → Option ℕ
@@ -103,9 +103,9 @@ mark_at p a (b ∷ []) = two_at p a b
 mark_at p a (b ∷ c ∷ z) = three_at p a b c
 
 -- no more bytes than there are
-abbrev pub Fits : Front → ℕ → Type 0
-Fits (Gap n) len = n ≤ len
-Fits (Front.Token k n) len = n ≤ len
+abbrev pub FitsFront : Front → ℕ → Type 0
+FitsFront (Gap n) len = n ≤ len
+FitsFront (Front.Token k n) len = n ≤ len
 
 -- ---- what is at the front: a gap or a token, with how many bytes more than one it has
 
@@ -131,17 +131,17 @@ head_kind w = if is_declaring w then TokenKind.Word w else TokenKind.Description
 -- a word
 abbrev pub word_front : ℕ → List ℕ → Result Front Flaw
 word_front b z =
-    Ok (Front.Token (TokenKind.Word (b ∷ run_of is_word_byte z)) (run_len is_word_byte z))
+    Ok (Front.Token (TokenKind.Word (b ∷ front_run is_word_byte z)) (run_len is_word_byte z))
 
 -- a run that begins with a digit
 abbrev pub run_number : ℕ → List ℕ → Result Front Flaw
 run_number b z =
-    number_front (number_of (b ∷ run_of is_word_byte z)) (run_len is_word_byte z)
+    number_front (number_spelled (b ∷ front_run is_word_byte z)) (run_len is_word_byte z)
 
 -- a run of the head
 abbrev pub run_front : ℕ → List ℕ → Result Front Flaw
 run_front b z =
-    Ok (Front.Token (head_kind (b ∷ run_of is_run_byte z)) (run_len is_run_byte z))
+    Ok (Front.Token (head_kind (b ∷ front_run is_run_byte z)) (run_len is_run_byte z))
 
 -- @ alone
 abbrev pub bare_name : Result Front Flaw
@@ -150,7 +150,7 @@ bare_name = Ok (Front.Token (TokenKind.AggregationName (underscore ∷ [])) 0)
 -- @ and a word
 abbrev pub whole_name : ℕ → List ℕ → Result Front Flaw
 whole_name b z =
-    let word = b ∷ run_of is_word_byte z in
+    let word = b ∷ front_run is_word_byte z in
     Ok (Front.Token (TokenKind.AggregationName word) (suc (run_len is_word_byte z)))
 
 -- an aggregation name, from after its @
@@ -186,13 +186,13 @@ token_at Body b z = inside_at Body b z
 -- an option line, from after its #
 abbrev pub option_front : List ℕ → Result Front Flaw
 option_front z =
-    if is_option (hash ∷ run_of is_inside z) then Ok (Gap (run_len is_inside z))
+    if is_option (hash ∷ front_run is_inside z) then Ok (Gap (run_len is_inside z))
     else Err OptionLine
 
 -- what is at the front of the bytes
 unfoldable pub front_at : Place → Position → ℕ → List ℕ → Result Front Flaw
 front_at p pos b z =
-    if is_blank b then Ok (Gap 0)
+    if is_blank_byte b then Ok (Gap 0)
     else (if begins_comment (b ∷ z) then comment_front (comment_from (tail z))
     else (if is_first pos b z then Ok (Gap (run_len is_inside z))
     else (if is_hash p pos b then option_front z
@@ -200,11 +200,11 @@ front_at p pos b z =
 
 -- the tokens, and how they end
 abbrev pub Scanned : Type 0
-Scanned = List Token × End
+Scanned = List Token × TokensEnd
 
 -- one token more
-abbrev pub with_first : Token → Scanned → Scanned
-with_first t s = (t ∷ s.0, s.1)
+abbrev pub with_first_token : Token → Scanned → Scanned
+with_first_token t s = (t ∷ s.0, s.1)
 
 -- the token of this kind, which begins here and has n bytes more than one
 abbrev pub token_from : Position → TokenKind → ℕ → Token
@@ -215,7 +215,7 @@ abbrev pub scan_by : (go : ℕ → Place → Scanned) → Place → Position →
 scan_by go p pos (Err g) = ([], Bad (on_line g pos.line))
 scan_by go p pos (Ok (Gap n)) = go n p
 scan_by go p pos (Ok (Front.Token t n)) =
-    with_first (token_from pos t n) (go n (after p t))
+    with_first_token (token_from pos t n) (go n (place_after p t))
 
 -- the tokens of the bytes, once the first n are passed
 unfoldable pub scan : ℕ → Place → Position → List ℕ → Scanned

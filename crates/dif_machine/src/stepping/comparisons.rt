@@ -5,54 +5,54 @@ ghost use Rattle.dif_machine.specs.Vocabulary.{Cmp, Tst, Scmp, Ba, Branch};
 ghost use Rattle.dif_machine.specs.Instructions.{CanExecute, Executes, ExecutesAnywhere, HasNext};
 
 use crate::comparing::{compare_numbers, compare_texts, holds};
+use crate::context::Context;
 use crate::fault::MachineFault;
 use crate::frame::Frame;
-use dif_validate::{Condition, Difo, Reg};
-use firing_reader::Firing;
+use dif_validate::{Condition, Reg};
 
 /// `cmp a, b`: compares two integers.
 pub(super) fn cmp(
-    difo: &Difo,
-    firing: &Firing,
+    context: Context<'_>,
     frame: &mut Frame,
     a: Reg,
     b: Reg,
 ) -> Result<Option<Reg>, MachineFault>
-    requires { CanExecute (Cmp a b) difo.now firing.now frame.old }
-    ensures { Executes (Cmp a b) difo.now firing.now frame.old result frame.new }
+    requires { CanExecute (Cmp a b) context.difo.now context.firing.now frame.old }
+    ensures { Executes (Cmp a b) context.entry.difo.now context.entry.firing.now frame.old
+        result frame.new }
 {
-    let known = compare_numbers(frame.number(difo, firing, a), frame.number(difo, firing, b));
+    let known = compare_numbers(frame.number(context, a), frame.number(context, b));
     frame.compare(known);
     Ok(None)
 }
 
 /// `tst a`: compares an integer with 0.
 pub(super) fn tst(
-    difo: &Difo,
-    firing: &Firing,
+    context: Context<'_>,
     frame: &mut Frame,
     a: Reg,
 ) -> Result<Option<Reg>, MachineFault>
-    requires { CanExecute (Tst a) difo.now firing.now frame.old }
-    ensures { Executes (Tst a) difo.now firing.now frame.old result frame.new }
+    requires { CanExecute (Tst a) context.difo.now context.firing.now frame.old }
+    ensures { Executes (Tst a) context.entry.difo.now context.entry.firing.now frame.old
+        result frame.new }
 {
-    let known = compare_numbers(frame.number(difo, firing, a), 0);
+    let known = compare_numbers(frame.number(context, a), 0);
     frame.compare(known);
     Ok(None)
 }
 
 /// `scmp a, b`: compares two texts.
 pub(super) fn scmp(
-    difo: &Difo,
-    firing: &Firing,
+    context: Context<'_>,
     frame: &mut Frame,
     a: Reg,
     b: Reg,
 ) -> Result<Option<Reg>, MachineFault>
-    requires { CanExecute (Scmp a b) difo.now firing.now frame.old }
-    ensures { Executes (Scmp a b) difo.now firing.now frame.old result frame.new }
+    requires { CanExecute (Scmp a b) context.difo.now context.firing.now frame.old }
+    ensures { Executes (Scmp a b) context.entry.difo.now context.entry.firing.now frame.old
+        result frame.new }
 {
-    let known = compare_texts(frame.text(difo, firing, a), frame.text(difo, firing, b));
+    let known = compare_texts(frame.text(context, a), frame.text(context, b));
     frame.compare(known);
     Ok(None)
 }

@@ -4,35 +4,42 @@ ghost use Rattle.std.specs.Prelude.{◌≢◌, None, slice_get};
 ghost use Rattle.dif_machine.specs.Vocabulary.{Alu, Not, Setx, Ldga, Firing as Recorded, object_of};
 ghost use Rattle.dif_machine.specs.Instructions.{CanExecute, Executes, HasNext};
 
+use crate::context::Context;
 use crate::fault::MachineFault;
 use crate::frame::Frame;
 use crate::held::Held;
 use crate::operating::operate;
 use crate::sources::argument;
 use d_values::{IntType, complement};
-use dif_validate::{Difo, Operator, Reg};
-use firing_reader::Firing;
+use dif_validate::{Operator, Reg};
+
+/// The registers of an operation: `a` and `b` are read, and `d` is written.
+#[derive(Clone, Copy)]
+pub(super) struct Operands {
+    pub(super) a: Reg,
+    pub(super) b: Reg,
+    pub(super) d: Reg,
+}
 
 /// `op a, b, d`: what the operator makes of two integers.
 pub(super) fn alu(
-    difo: &Difo,
-    firing: &Firing,
+    context: Context<'_>,
     frame: &mut Frame,
     op: Operator,
-    a: Reg,
-    b: Reg,
-    d: Reg,
+    operands: Operands,
 ) -> Result<Option<Reg>, MachineFault>
-    requires { CanExecute (Alu op a b d) difo.now firing.now frame.old }
-    ensures { Executes (Alu op a b d) difo.now firing.now frame.old result frame.new }
+    requires { CanExecute (Alu op operands.a operands.b operands.d) context.difo.now
+        context.firing.now frame.old }
+    ensures { Executes (Alu op operands.a operands.b operands.d) context.entry.difo.now
+        context.entry.firing.now frame.old result frame.new }
 {
     match operate(
         op,
-        frame.number(difo, firing, a),
-        frame.number(difo, firing, b),
+        frame.number(context, operands.a),
+        frame.number(context, operands.b),
     ) {
         Ok(word) => {
-            frame.put(d, Held::Int(word));
+            frame.put(operands.d, Held::Int(word));
             Ok(None)
         }
         Err(_) => Err(MachineFault::DivideByZero),
@@ -41,32 +48,33 @@ pub(super) fn alu(
 
 /// `not a, d`: an integer with all bits turned.
 pub(super) fn not(
-    difo: &Difo,
-    firing: &Firing,
+    context: Context<'_>,
     frame: &mut Frame,
     a: Reg,
     d: Reg,
 ) -> Result<Option<Reg>, MachineFault>
-    requires { CanExecute (Not a d) difo.now firing.now frame.old }
-    ensures { Executes (Not a d) difo.now firing.now frame.old result frame.new }
+    requires { CanExecute (Not a d) context.difo.now context.firing.now frame.old }
+    ensures { Executes (Not a d) context.entry.difo.now context.entry.firing.now frame.old
+        result frame.new }
 {
-    let word = complement(IntType::UINT64, frame.number(difo, firing, a));
+    let word = complement(IntType::UINT64, frame.number(context, a));
     frame.put(d, Held::Int(word));
     Ok(None)
 }
 
 /// `setx i, d`: the integer of this index in the table.
 pub(super) fn setx(
-    difo: &Difo,
+    context: Context<'_>,
     frame: &mut Frame,
     i: usize,
     d: Reg,
 ) -> Result<Option<Reg>, MachineFault>
     requires next { HasNext frame.old }
-    requires inside { slice_get (object_of difo.now).numbers i ≢ None }
-    ensures { (f : Recorded) → Executes (Setx i d) difo.now f frame.old result frame.new }
+    requires inside { slice_get (object_of context.difo.now).numbers i ≢ None }
+    ensures { (f : Recorded) → Executes (Setx i d) context.entry.difo.now f frame.old
+        result frame.new }
 {
-    match difo.numbers.get(i) {
+    match context.difo.numbers.get(i) {
         Some(word) => {
             frame.put(d, Held::Int(*word));
             Ok(None)
@@ -77,16 +85,16 @@ pub(super) fn setx(
 
 /// `ldga v, a, d`: the firing's argument of this number.
 pub(super) fn ldga(
-    difo: &Difo,
-    firing: &Firing,
+    context: Context<'_>,
     frame: &mut Frame,
     a: Reg,
     d: Reg,
 ) -> Result<Option<Reg>, MachineFault>
-    requires { CanExecute (Ldga 0 a d) difo.now firing.now frame.old }
-    ensures { Executes (Ldga 0 a d) difo.now firing.now frame.old result frame.new }
+    requires { CanExecute (Ldga 0 a d) context.difo.now context.firing.now frame.old }
+    ensures { Executes (Ldga 0 a d) context.entry.difo.now context.entry.firing.now frame.old
+        result frame.new }
 {
-    let word = argument(firing, frame.number(difo, firing, a));
+    let word = argument(context.firing, frame.number(context, a));
     frame.put(d, Held::Int(word));
     Ok(None)
 }

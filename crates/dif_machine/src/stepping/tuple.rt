@@ -4,12 +4,11 @@ ghost use Rattle.std.specs.Prelude.{◌<◌, length};
 ghost use Rattle.dif_machine.specs.Vocabulary.{Pushtr, Pushtv, Flushts, Call};
 ghost use Rattle.dif_machine.specs.Instructions.{CanExecute, Executes, ExecutesAnywhere, HasNext};
 
+use crate::context::Context;
 use crate::fault::MachineFault;
 use crate::frame::Frame;
 use crate::operating::call as call_function;
-use dif_validate::{Difo, Function, Reg};
-use firing_reader::Firing;
-use std::alloc::Global;
+use dif_validate::{Function, Reg};
 
 /// `pushtr a`: adds a text. One of the object or of the firing stays where it is.
 pub(super) fn pushtr(frame: &mut Frame, a: Reg) -> Result<Option<Reg>, MachineFault>
@@ -42,18 +41,17 @@ pub(super) fn flushts(frame: &mut Frame) -> Result<Option<Reg>, MachineFault>
 
 /// `call f, d`: what a function makes of the tuple.
 pub(super) fn call(
-    alloc: Global,
-    difo: &Difo,
-    firing: &Firing,
+    context: Context<'_>,
     frame: &mut Frame,
     function: Function,
     d: Reg,
 ) -> Result<Option<Reg>, MachineFault>
-    requires { CanExecute (Call function d) difo.now firing.now frame.old }
-    ensures { Executes (Call function d) difo.now firing.now frame.old result frame.new }
+    requires { CanExecute (Call function d) context.difo.now context.firing.now frame.old }
+    ensures { Executes (Call function d) context.entry.difo.now context.entry.firing.now
+        frame.old result frame.new }
 {
-    frame.write_key(alloc, difo, firing)?;
-    let value = call_function(alloc, function, frame.key.key())?;
+    frame.write_key(context)?;
+    let value = call_function(frame.alloc, function, frame.key.key())?;
     frame.put_value(d, value);
     Ok(None)
 }

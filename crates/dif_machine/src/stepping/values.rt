@@ -3,11 +3,11 @@
 ghost use Rattle.dif_machine.specs.Vocabulary.{Difo, FrameInMemory, Mov, Sets, Ldgs, Ret, Nop};
 ghost use Rattle.dif_machine.specs.Instructions.{CanExecute, Executes, ExecutesAnywhere, HasNext};
 
+use crate::context::Context;
 use crate::fault::MachineFault;
 use crate::frame::Frame;
 use crate::held::Held;
 use dif_validate::Reg;
-use firing_reader::Firing;
 
 /// `mov a, d`: what another register holds.
 pub(super) fn mov(frame: &mut Frame, a: Reg, d: Reg) -> Result<Option<Reg>, MachineFault>
@@ -29,16 +29,16 @@ pub(super) fn sets(frame: &mut Frame, i: usize, d: Reg) -> Result<Option<Reg>, M
 
 /// `ldgs v, d`: the built-in variable of this number. A text stays in the firing.
 pub(super) fn ldgs(
-    firing: &Firing,
+    context: Context<'_>,
     frame: &mut Frame,
     v: u8,
     d: Reg,
 ) -> Result<Option<Reg>, MachineFault>
     requires { HasNext frame.old }
-    ensures { (difo : Difo) → CanExecute (Ldgs v d) difo firing.now frame.old
-        → Executes (Ldgs v d) difo firing.now frame.old result frame.new }
+    ensures { (difo : Difo) → CanExecute (Ldgs v d) difo context.entry.firing.now frame.old
+        → Executes (Ldgs v d) difo context.entry.firing.now frame.old result frame.new }
 {
-    frame.put(d, Held::built_in(firing, v));
+    frame.put(d, Held::built_in(context.firing, v));
     Ok(None)
 }
 

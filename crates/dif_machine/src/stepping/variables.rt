@@ -4,17 +4,15 @@ ghost use Rattle.dif_machine.specs.Vocabulary.{Ldts, Stts, Ldls, Stls, Ldtaa, St
 ghost use Rattle.dif_machine.specs.Instructions.{CanExecute, ExecutesOnLocals, ExecutesOnOwn};
 ghost use Rattle.dif_machine.specs.Instructions.{HasNext, LoadsLocal, LoadsOwn};
 
+use crate::context::Context;
 use crate::fault::MachineFault;
 use crate::frame::Frame;
 use crate::sources::{load, load_local};
 use d_values::{ClauseLocals, Key, ThreadTable, Var};
-use dif_validate::{Difo, Reg};
-use firing_reader::Firing;
-use std::alloc::Global;
+use dif_validate::Reg;
 
 /// `ldts x, d`: loads a variable of the thread.
 pub(super) fn ldts(
-    alloc: Global,
     frame: &mut Frame,
     own: &ThreadTable,
     x: Var,
@@ -23,34 +21,31 @@ pub(super) fn ldts(
     requires { HasNext frame.old }
     ensures { LoadsOwn (Ldts x d) frame.old own.now result frame.new }
 {
-    let value = load(alloc, own, x, &Key::new(alloc))?;
+    let value = load(frame.alloc, own, x, &Key::new(frame.alloc))?;
     frame.put_value(d, value);
     Ok(None)
 }
 
 /// `stts x, a`: stores a value in a variable of the thread.
 pub(super) fn stts(
-    alloc: Global,
-    difo: &Difo,
-    firing: &Firing,
+    context: Context<'_>,
     frame: &mut Frame,
     own: &mut ThreadTable,
     x: Var,
     a: Reg,
 ) -> Result<Option<Reg>, MachineFault>
-    requires { CanExecute (Stts x a) difo.now firing.now frame.old }
-    ensures { ExecutesOnOwn (Stts x a) difo.now firing.now frame.old own.old
-        result frame.new own.new }
+    requires { CanExecute (Stts x a) context.difo.now context.firing.now frame.old }
+    ensures { ExecutesOnOwn (Stts x a) context.entry.difo.now context.entry.firing.now
+        frame.old own.old result frame.new own.new }
 {
-    let value = frame.value(alloc, difo, firing, a)?;
-    own.set(x, &Key::new(alloc), value)?;
+    let value = frame.value(context, a)?;
+    own.set(x, &Key::new(frame.alloc), value)?;
     frame.go_on();
     Ok(None)
 }
 
 /// `ldls x, d`: loads a variable of the clause.
 pub(super) fn ldls(
-    alloc: Global,
     frame: &mut Frame,
     locals: &ClauseLocals,
     x: Var,
@@ -59,26 +54,24 @@ pub(super) fn ldls(
     requires { HasNext frame.old }
     ensures { LoadsLocal (Ldls x d) frame.old locals.now result frame.new }
 {
-    let value = load_local(alloc, locals, x)?;
+    let value = load_local(frame.alloc, locals, x)?;
     frame.put_value(d, value);
     Ok(None)
 }
 
 /// `stls x, a`: stores a value in a variable of the clause.
 pub(super) fn stls(
-    alloc: Global,
-    difo: &Difo,
-    firing: &Firing,
+    context: Context<'_>,
     frame: &mut Frame,
     locals: &mut ClauseLocals,
     x: Var,
     a: Reg,
 ) -> Result<Option<Reg>, MachineFault>
-    requires { CanExecute (Stls x a) difo.now firing.now frame.old }
-    ensures { ExecutesOnLocals (Stls x a) difo.now firing.now frame.old locals.old
-        result frame.new locals.new }
+    requires { CanExecute (Stls x a) context.difo.now context.firing.now frame.old }
+    ensures { ExecutesOnLocals (Stls x a) context.entry.difo.now context.entry.firing.now
+        frame.old locals.old result frame.new locals.new }
 {
-    let value = frame.value(alloc, difo, firing, a)?;
+    let value = frame.value(context, a)?;
     locals.set(x, value)?;
     frame.go_on();
     Ok(None)
@@ -86,40 +79,36 @@ pub(super) fn stls(
 
 /// `ldtaa x, d`: loads the element at the tuple.
 pub(super) fn ldtaa(
-    alloc: Global,
-    difo: &Difo,
-    firing: &Firing,
+    context: Context<'_>,
     frame: &mut Frame,
     own: &ThreadTable,
     x: Var,
     d: Reg,
 ) -> Result<Option<Reg>, MachineFault>
-    requires { CanExecute (Ldtaa x d) difo.now firing.now frame.old }
-    ensures { ExecutesOnOwn (Ldtaa x d) difo.now firing.now frame.old own.now
-        result frame.new own.now }
+    requires { CanExecute (Ldtaa x d) context.difo.now context.firing.now frame.old }
+    ensures { ExecutesOnOwn (Ldtaa x d) context.entry.difo.now context.entry.firing.now
+        frame.old own.now result frame.new own.now }
 {
-    frame.write_key(alloc, difo, firing)?;
-    let value = load(alloc, own, x, frame.key.key())?;
+    frame.write_key(context)?;
+    let value = load(frame.alloc, own, x, frame.key.key())?;
     frame.put_value(d, value);
     Ok(None)
 }
 
 /// `sttaa x, a`: stores a value in the element at the tuple.
 pub(super) fn sttaa(
-    alloc: Global,
-    difo: &Difo,
-    firing: &Firing,
+    context: Context<'_>,
     frame: &mut Frame,
     own: &mut ThreadTable,
     x: Var,
     a: Reg,
 ) -> Result<Option<Reg>, MachineFault>
-    requires { CanExecute (Sttaa x a) difo.now firing.now frame.old }
-    ensures { ExecutesOnOwn (Sttaa x a) difo.now firing.now frame.old own.old
-        result frame.new own.new }
+    requires { CanExecute (Sttaa x a) context.difo.now context.firing.now frame.old }
+    ensures { ExecutesOnOwn (Sttaa x a) context.entry.difo.now context.entry.firing.now
+        frame.old own.old result frame.new own.new }
 {
-    let value = frame.value(alloc, difo, firing, a)?;
-    frame.write_key(alloc, difo, firing)?;
+    let value = frame.value(context, a)?;
+    frame.write_key(context)?;
     own.set(x, frame.key.key(), value)?;
     frame.go_on();
     Ok(None)

@@ -12,7 +12,7 @@ use crate::stored_row::Given;
 // Ten arguments that are 0, and the line feed after them.
 const ZEROS: &[u8] = b"0,0,0,0,0,0,0,0,0,0\n";
 
-// The line feed after so many arguments that are all 0.
+// What follows `count` arguments that are all 0 and a line feed.
 #[inline(always)]
 fn after_zeros(bytes: &[u8], count: usize) -> Option<&[u8]>
     requires most { count ≤ 10 }
@@ -26,8 +26,8 @@ fn after_zeros(bytes: &[u8], count: usize) -> Option<&[u8]>
     Some(rest_after(bytes, zeros.len() - 1))
 }
 
-/// Keeps the arguments that come first, but for zeros that end them. It returns where they are, and what
-/// comes from the line feed on.
+/// Keeps the arguments that come first, but for zeros that end them. It returns where they are,
+/// and what comes from the line feed on.
 #[inline(always)]
 pub(crate) fn read_arguments<'a>(all: &mut Vec<i64>, bytes: &'a [u8]) -> Option<(Given, &'a [u8])>
     ensures grows { Extends all.old.items all.new.items }

@@ -12,7 +12,7 @@ use crate::columns::{negative, positive};
 use crate::text::{TEXT_LIMIT, Text};
 use core::dec2flt::read_digits;
 
-// No number above this is read here: ten of it and a digit still have 64 bits.
+// No number above this is read here: ten times it plus a digit still fits in 64 bits.
 const LARGE: u64 = 1_844_674_407_370_955_160;
 
 // So many digits write a number of 64 bits.

@@ -34,7 +34,7 @@ pub(crate) fn after_feed(bytes: &[u8]) -> Option<&[u8]>
     }
 }
 
-// What comes after so many bytes.
+// What comes after the first `count` bytes.
 pub(crate) fn rest_after(bytes: &[u8], count: usize) -> &[u8]
     requires { count ≤ length bytes.now }
     ensures { bytes.now ≡ take count bytes.now ++ result.now }

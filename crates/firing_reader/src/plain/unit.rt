@@ -11,7 +11,7 @@ fn without_lowest(marks: u64) -> u64 {
     marks & marks.wrapping_sub(1)
 }
 
-/// How many bytes have three commas, the last of which is the last of them; 0 where there are fewer.
+/// How many bytes there are up to the third comma, it included; 0 where there are fewer commas.
 #[inline(always)]
 pub(crate) fn end_of_three(bytes: &[u8]) -> usize
     ensures { result ≤ length bytes.now }
@@ -29,7 +29,7 @@ pub(crate) fn end_of_three(bytes: &[u8]) -> usize
     end_after(bytes, 3)
 }
 
-/// The same of four.
+/// How many bytes there are up to the fourth comma, it included; 0 where there are fewer commas.
 #[inline(always)]
 pub(crate) fn end_of_four(bytes: &[u8]) -> usize
     ensures { result ≤ length bytes.now }
@@ -47,7 +47,7 @@ pub(crate) fn end_of_four(bytes: &[u8]) -> usize
     end_after(bytes, 4)
 }
 
-// The same of so many, byte by byte.
+// How many bytes there are up to this comma, it included, looked for byte by byte.
 #[cold]
 #[inline(never)]
 fn end_after(bytes: &[u8], commas: u32) -> usize

@@ -11,7 +11,7 @@ use std::alloc::{AllocError, Global};
 
 /// The word of a built-in variable: 0 for a text, and for an argument of a number over 9.
 pub(crate) fn built_in_word(built_in: BuiltIn, firing: &Firing) -> u64
-    ensures { result ≡ word_of (spec.built_in_of firing.now built_in) }
+    ensures { result ≡ word_of (spec.built_in_value firing.now built_in) }
 {
     match built_in {
         BuiltIn::Argument(n) => firing.args.get(n as usize).unwrap_or(&0).cast_unsigned(),
@@ -29,9 +29,9 @@ pub(crate) fn built_in_word(built_in: BuiltIn, firing: &Firing) -> u64
 
 /// Lends the text of a built-in variable; none of an integer.
 pub(crate) fn built_in_text<'a>(built_in: BuiltIn, firing: &'a Firing) -> Option<&'a [u8]>
-    ensures { MatchOption result (spec.built_in_of firing.now built_in
-        ≡ Value.Int (word_of (spec.built_in_of firing.now built_in)))
-        (λ b. spec.built_in_of firing.now built_in ≡ Value.Text b.now) }
+    ensures { MatchOption result (spec.built_in_value firing.now built_in
+        ≡ Value.Int (word_of (spec.built_in_value firing.now built_in)))
+        (λ b. spec.built_in_value firing.now built_in ≡ Value.Text b.now) }
 {
     match built_in {
         BuiltIn::Argument(_) | BuiltIn::Timestamp | BuiltIn::Cpu | BuiltIn::Pid | BuiltIn::Tid =>
@@ -50,7 +50,7 @@ pub(crate) fn built_in(
     built_in: BuiltIn,
     firing: &Firing,
 ) -> Result<Value, AllocError>
-    ensures { IfOk result (λ v. v ≡ spec.built_in_of firing.now built_in) }
+    ensures { IfOk result (λ v. v ≡ spec.built_in_value firing.now built_in) }
 {
     match built_in_text(built_in, firing) {
         None => Ok(Value::Int(built_in_word(built_in, firing))),

@@ -1,6 +1,6 @@
 //! What changes a variable, once its key and the right side are evaluated.
 
-ghost use Rattle.d_types.specs.Storage.{value_at, word_of};
+ghost use Rattle.d_types.specs.Storage.{value_of_variable, word_of};
 ghost use Rattle.d_types.specs.Expressions as spec;
 ghost use Rattle.replay_core.specs.Evaluation.{Meets};
 
@@ -20,7 +20,7 @@ pub(crate) fn update_variable(
     scene: &mut Scene<'_>,
 ) -> Result<u64, EvalFault>
     ensures { Meets
-        (λ f vars. spec.number
+        (λ f vars. spec.number_outcome
         (spec.with (spec.word_or_fault made vars) (spec.update_outcome x key.now)))
         result scene.old scene.new }
 {
@@ -42,8 +42,8 @@ pub(crate) fn step_variable(
     key: &Key,
     scene: &mut Scene<'_>,
 ) -> Result<u64, EvalFault>
-    ensures { Meets (λ f vars. spec.number
-        (spec.step_outcome step answer x key.now (word_of (value_at vars x key.now)) vars))
+    ensures { Meets (λ f vars. spec.number_outcome
+        (spec.step_outcome step answer x key.now (word_of (value_of_variable vars x key.now)) vars))
         result scene.old scene.new }
 {
     let old = word_at(x, key, scene.tables);

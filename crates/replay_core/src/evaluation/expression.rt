@@ -266,7 +266,8 @@ fn choose(
     second: &TypedExpr,
     scene: &mut Scene<'_>,
 ) -> Result<Value, EvalFault>
-    ensures { Meets (λ f vars. spec.with (spec.number (spec.eval f (typed_of test.now) vars))
+    ensures { Meets (λ f vars. spec.with
+        (spec.number_outcome (spec.eval f (typed_of test.now) vars))
         (λ x vars. spec.at_zero x (spec.eval f (typed_of second.now) vars)
         (spec.eval f (typed_of first.now) vars)))
         result scene.old scene.new }
@@ -286,8 +287,8 @@ fn choose_word(
     second: &TypedExpr,
     scene: &mut Scene<'_>,
 ) -> Result<u64, EvalFault>
-    ensures { Meets (λ f vars. spec.number
-        (spec.with (spec.number (spec.eval f (typed_of test.now) vars))
+    ensures { Meets (λ f vars. spec.number_outcome
+        (spec.with (spec.number_outcome (spec.eval f (typed_of test.now) vars))
         (λ x vars. spec.at_zero x (spec.eval f (typed_of second.now) vars)
         (spec.eval f (typed_of first.now) vars))))
         result scene.old scene.new }

@@ -86,7 +86,7 @@ fn var_of(x: Variable) -> Var
 
 // Lends its value at the key.
 fn lend<'a>(x: Variable, key: &Key, tables: &'a Tables) -> ValueRef<'a>
-    ensures { lent_value result ≡ spec.value_at (variables_of tables.now) x key.now }
+    ensures { lent_value result ≡ spec.value_of_variable (variables_of tables.now) x key.now }
 {
     match x.space {
         Space::Thread => tables.own.get(var_of(x), key),
@@ -101,14 +101,14 @@ pub(crate) fn value_at(
     key: &Key,
     tables: &Tables,
 ) -> Result<Value, AllocError>
-    ensures { IfOk result (λ v. v ≡ spec.value_at (variables_of tables.now) x key.now) }
+    ensures { IfOk result (λ v. v ≡ spec.value_of_variable (variables_of tables.now) x key.now) }
 {
     owned_value(alloc, lend(x, key, tables))
 }
 
 /// The word of the variable's value at the key.
 pub(crate) fn word_at(x: Variable, key: &Key, tables: &Tables) -> u64
-    ensures { result ≡ spec.word_of (spec.value_at (variables_of tables.now) x key.now) }
+    ensures { result ≡ spec.word_of (spec.value_of_variable (variables_of tables.now) x key.now) }
 {
     word_of(lend(x, key, tables))
 }

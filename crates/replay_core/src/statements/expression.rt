@@ -25,7 +25,7 @@ impl Model for Arguments {
 /// evaluation does, also at a division by 0.
 pub(crate) trait Expression: Sized {
     ghost use Rattle.replay_core.specs.{Evaluation.Meets};
-    ghost use Rattle.replay_core.specs.Vocabulary.{Evaluation, Firing as Recorded, number};
+    ghost use Rattle.replay_core.specs.Vocabulary.{Evaluation, Firing as Recorded, number_outcome};
 
     /// What evaluation means.
     ghost by: { Recorded → Evaluation Self (List Self) };
@@ -40,7 +40,7 @@ pub(crate) trait Expression: Sized {
 
     /// The word of its value: 0 for a text.
     fn evaluate_word(&self, scene: &mut Scene<'_>) -> Result<u64, EvalFault>
-        ensures { Meets (λ f vars. number ((by f).value self.now vars))
+        ensures { Meets (λ f vars. number_outcome ((by f).value self.now vars))
             result scene.old scene.new };
 
     /// The key that several make, from left to right.

@@ -2,7 +2,8 @@
 
 ghost use Rattle.std.specs.Prelude.{◌≡◌, ◌<◌, length, slice_set};
 ghost use Rattle.dif_codegen.specs.Meaning as spec;
-ghost use Rattle.replay_core.specs.Vocabulary.{Has, action_code, number, part_of, value_result};
+ghost use Rattle.replay_core.specs.Vocabulary.{Has, action_code, number_outcome, part_of};
+ghost use Rattle.replay_core.specs.Vocabulary.{value_result};
 ghost use Rattle.replay_core.specs.Vocabulary.{with};
 ghost use Rattle.replay_core.specs.Evaluation.{Leaves, Meets, Returns, variables_of};
 
@@ -21,7 +22,6 @@ use std::alloc::Global;
 // A run of an object, which lends its value.
 #[inline(always)]
 fn run<'a>(
-    alloc: Global,
     object: &'a TypedObject,
     firing: &'a Firing,
     tables: &mut Tables,
@@ -30,7 +30,7 @@ fn run<'a>(
     ensures { Returns (spec.value_of firing.now object.now.object (variables_of tables.old))
         (value_result result) (variables_of tables.new) }
 {
-    match object.run_in(alloc, firing, frame, &mut tables.locals, &mut tables.own) {
+    match object.run_in(firing, frame, &mut tables.locals, &mut tables.own) {
         Ok(value) => Ok(value),
         Err(MachineFault::DivideByZero) => Err(EvalFault::DivideByZero),
         Err(MachineFault::Memory) => Err(EvalFault::Memory),
@@ -42,7 +42,6 @@ fn run<'a>(
 macro_rules! run_in_scene {
     ($object:ident, $scene:ident) => {
         run(
-            $scene.alloc,
             $object,
             $scene.firing,
             &mut *$scene.tables,
@@ -63,7 +62,7 @@ fn run_for_value(object: &TypedObject, scene: &mut Scene<'_>) -> Result<Value, E
 // The word of what a run of an object lends.
 #[inline(never)]
 fn run_for_word(object: &TypedObject, scene: &mut Scene<'_>) -> Result<u64, EvalFault>
-    ensures { Meets (λ f vars. number (spec.value_of f object.now.object vars))
+    ensures { Meets (λ f vars. number_outcome (spec.value_of f object.now.object vars))
         result scene.old scene.new }
 {
     let value = run_in_scene!(object, scene)?;
@@ -91,7 +90,7 @@ fn run_for_part(
 
 // From left to right.
 fn run_for_key(objects: &[TypedObject], scene: &mut Scene<'_>) -> Result<Key, EvalFault>
-    ensures { Meets (λ f. spec.key_of f objects.now) result scene.old scene.new }
+    ensures { Meets (λ f. spec.key_of_objects f objects.now) result scene.old scene.new }
 {
     let mut key = scene.spare.take(objects.len())?;
     for (place, object) in objects.iter().enumerate() {
@@ -102,7 +101,7 @@ fn run_for_key(objects: &[TypedObject], scene: &mut Scene<'_>) -> Result<Key, Ev
 
 // From left to right.
 fn run_for_arguments(objects: &[TypedObject], scene: &mut Scene<'_>) -> Result<Arguments, EvalFault>
-    ensures { Meets (λ f. spec.values_of f objects.now) result scene.old scene.new }
+    ensures { Meets (λ f. spec.values_of_objects f objects.now) result scene.old scene.new }
 {
     let mut values = Vec::new(scene.alloc);
     for object in objects {

@@ -6,7 +6,7 @@ use Rattle.d_types.specs.Aggregations as spec
 use Rattle.d_types.proofs.aggregation.buckets.Goals as goal
 
 buckets_at : (lower upper : Option ℤ) (step : Option ℕ) (l u read_l read_u : ℤ) (s : ℕ) → lower ≡ Some l → upper ≡ Some u → step ≡ Some s
-    → read_l ≡ l → read_u ≡ u → option_map Lquantize (linear_range read_l read_u s) ≡ spec.buckets lower upper step
+    → read_l ≡ l → read_u ≡ u → option_map Lquantize (linear_range read_l read_u s) ≡ spec.buckets_between lower upper step
 buckets_at lower upper step l u read_l read_u s is_l is_u is_s l_read u_read = rw (is_l, is_u, is_s, l_read, u_read) refl
 
 pub returns-in-Some-Some-Some : goal.returns-in-Some-Some-Some

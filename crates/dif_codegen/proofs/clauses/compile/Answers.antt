@@ -1,5 +1,5 @@
 use Rattle.std.proofs.Common.{ap, map, sym, subst, ◌∙◌}
-use Rattle.d_types.specs.Fitting.{Fits}
+use Rattle.d_types.specs.Fitting.{FitsRegisters}
 use Rattle.d_types.specs.Held.{IsConsistent, slots_of}
 use Rattle.d_types.specs.Typed.{meant_of}
 use Rattle.d_types.specs.TypedScripts.{typed_script_of}
@@ -13,7 +13,7 @@ use Rattle.dif_codegen.proofs.clauses.compile.Goals as goal
 pub compile_clauses-requires-clause-few : goal.compile_clauses-requires-clause-few
 compile_clauses-requires-clause-few c =
     let s = c.args.script.now in
-    subst (λ l. ClausesAre Fits (map meant_of l)) (sym c.clauses.ensures) (typed_script_fits (typed_script_of s) s.typed)
+    subst (λ l. ClausesAre FitsRegisters (map meant_of l)) (sym c.clauses.ensures) (typed_script_fits (typed_script_of s) s.typed)
 
 pub compile_clauses-requires-clause-consistent : goal.compile_clauses-requires-clause-consistent
 compile_clauses-requires-clause-consistent c =

@@ -1,5 +1,5 @@
 use Rattle.std.proofs.Common.{ap, map, subst, ◌∙◌, ◌++◌}
-use Rattle.d_types.specs.Fitting.{Fits}
+use Rattle.d_types.specs.Fitting.{FitsRegisters}
 use Rattle.d_types.specs.Held.{IsConsistent}
 use Rattle.d_types.specs.Typed.{meant_of}
 use Rattle.d_types.specs.Wholes.{ClausesAre}
@@ -11,7 +11,7 @@ use Rattle.dif_codegen.proofs.clauses.compile_clauses.Goals as goal
 pub compile_clause-requires-clause-few : goal.compile_clause-requires-clause-few
 compile_clause-requires-clause-few c =
     let e = front c.args.all.now c.loop-c.c-index c.c-item.result c.loop-c-test.true c.c-item.is in
-    (subst (λ l. ClausesAre Fits (map meant_of l)) e c.loop-c.invariant.0).0
+    (subst (λ l. ClausesAre FitsRegisters (map meant_of l)) e c.loop-c.invariant.0).0
 
 pub compile_clause-requires-clause-consistent : goal.compile_clause-requires-clause-consistent
 compile_clause-requires-clause-consistent c =
@@ -26,7 +26,7 @@ pub loop-c-preserved : goal.loop-c-preserved
 loop-c-preserved c =
     let slots = c.loop-c.invariant.1.0 in
     let e = front c.args.all.now c.loop-c.c-index c.c-item.result c.loop-c-test.true c.c-item.is in
-    let few = subst (λ l. ClausesAre Fits (map meant_of l)) e c.loop-c.invariant.0 in
+    let few = subst (λ l. ClausesAre FitsRegisters (map meant_of l)) e c.loop-c.invariant.0 in
     let is = subst (λ l. ClausesAre (IsConsistent slots) (map meant_of l)) e c.loop-c.invariant.1.1 in (
       few.1,
       (slots, is.1),

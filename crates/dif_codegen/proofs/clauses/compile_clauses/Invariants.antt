@@ -1,5 +1,5 @@
 use Rattle.std.proofs.Common.{◌≡◌, ◌++◌, drop, map}
-use Rattle.d_types.specs.Fitting.{Fits}
+use Rattle.d_types.specs.Fitting.{FitsRegisters}
 use Rattle.d_types.specs.Held.{IsConsistent, Slots}
 use Rattle.d_types.specs.Typed.{meant_of}
 use Rattle.d_types.specs.Wholes.{ClausesAre}
@@ -9,5 +9,5 @@ use Rattle.dif_codegen.proofs.clauses.compile_clauses.Given as goal
 abbrev pub invariant-loop-c : goal.invariant-loop-c
 invariant-loop-c l =
     let rest = drop l.c-index l.all in
-    ClausesAre Fits (map meant_of rest) × ((slots : Slots) × ClausesAre (IsConsistent slots) (map meant_of rest))
+    ClausesAre FitsRegisters (map meant_of rest) × ((slots : Slots) × ClausesAre (IsConsistent slots) (map meant_of rest))
     × (map clause_code l.clauses.items ++ map (λ s. compiled_clause (meant_of s)) rest ≡ map (λ s. compiled_clause (meant_of s)) l.all)

@@ -1,5 +1,5 @@
 use Rattle.std.proofs.Common.{ap, map, subst, ◌∙◌, ◌++◌}
-use Rattle.d_types.specs.Fitting.{Fits}
+use Rattle.d_types.specs.Fitting.{FitsRegisters}
 use Rattle.d_types.specs.Held.{IsConsistent}
 use Rattle.d_types.specs.Typed.{action_of, actions_of}
 use Rattle.d_types.specs.Wholes.{ActionsAre}
@@ -11,7 +11,7 @@ use Rattle.dif_codegen.proofs.clauses.compile_statements.Goals as goal
 pub compile_statement-requires-clause-few : goal.compile_statement-requires-clause-few
 compile_statement-requires-clause-few c =
     let e = front c.args.all.now c.loop-s.s-index c.s-item.result c.loop-s-test.true c.s-item.is in
-    (subst (λ l. ActionsAre Fits (actions_of l)) e c.loop-s.invariant.0).0
+    (subst (λ l. ActionsAre FitsRegisters (actions_of l)) e c.loop-s.invariant.0).0
 
 pub compile_statement-requires-clause-consistent : goal.compile_statement-requires-clause-consistent
 compile_statement-requires-clause-consistent c =
@@ -26,7 +26,7 @@ pub loop-s-preserved : goal.loop-s-preserved
 loop-s-preserved c =
     let slots = c.loop-s.invariant.1.0 in
     let e = front c.args.all.now c.loop-s.s-index c.s-item.result c.loop-s-test.true c.s-item.is in
-    let few = subst (λ l. ActionsAre Fits (actions_of l)) e c.loop-s.invariant.0 in
+    let few = subst (λ l. ActionsAre FitsRegisters (actions_of l)) e c.loop-s.invariant.0 in
     let is = subst (λ l. ActionsAre (IsConsistent slots) (actions_of l)) e c.loop-s.invariant.1.1 in (
       few.1,
       (slots, is.1),

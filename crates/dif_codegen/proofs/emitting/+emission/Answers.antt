@@ -5,6 +5,7 @@ use Rattle.d_types.proofs.Nodes.{read_is, assign_is, update_is, step_is}
 use Rattle.dif_codegen.specs.Code.{differing, keys_code}
 use Rattle.dif_codegen.specs.Drafts.{Adds}
 use Rattle.d_types.specs.declared.typed.LogicOperator.TheVariants.{And, Or, Xor}
+use Rattle.d_values.specs.declared.int_type.DType.TheVariants.{Text}
 use Rattle.dif_codegen.proofs.Adding.{both_adds, choice_adds, emitted_all, key_there, logic_adds}
 use Rattle.dif_codegen.proofs.Adding.{next_key, on_ok, operands_on}
 use Rattle.dif_codegen.proofs.Sizes.{assign_calls, read_calls, step_calls, update_calls}
@@ -45,14 +46,14 @@ emit-emit_step-requires t c =
     let l = step_calls _ _ _ _ _ _ _ c.in-Step.is c.deref-in-Step.ensures.value c.requires.few in
     (omega (arith, c.decreases, l.0), l.1)
 
-pub emit-returns-in_ok-emit_operands-in-Operate : goal.emit-returns-in_ok-emit_operands-in-Operate
-emit-returns-in_ok-emit_operands-in-Operate t c =
-    rw (c.in-Operate.is, ← c.register-d.ensures, ← c.register.ensures, ← c.deref-in-Operate.ensures, ← c.deref-in-Operate-2.ensures)
-    (operands_on (typed_of c.deref-in-Operate.result.now) (typed_of c.deref-in-Operate-2.result.now) c.args.r _ c.operate.result _ _ _ c.operate.ensures c.in_ok-emit_operands-in-Operate.ensures)
+pub emit_operation-returns : goal.emit_operation-returns
+emit_operation-returns t c =
+    rw (← c.register.ensures, ← c.register-2.ensures)
+    (operands_on (typed_of c.args.a.now) (typed_of c.args.b.now) c.args.r _ c.operate.result _ _ _ c.operate.ensures c.in_ok-emit_operands.ensures)
 
 pub emit-returns-in_ok-emit_operands-in-Compare : goal.emit-returns-in_ok-emit_operands-in-Compare
 emit-returns-in_ok-emit_operands-in-Compare t c =
-    rw (c.in-Compare.is, ← c.register-d.ensures, ← c.register-in-Compare.ensures, ← c.deref-in-Compare.ensures, ← c.deref-in-Compare-2.ensures)
+    rw (c.in-Compare.is, ← c.register-d.ensures, ← c.register.ensures, ← c.deref-in-Compare.ensures, ← c.deref-in-Compare-2.ensures)
     (operands_on (typed_of c.deref-in-Compare.result.now) (typed_of c.deref-in-Compare-2.result.now) c.args.r _ c.put_comparison.result _ _ _ c.put_comparison.ensures c.in_ok-emit_operands-in-Compare.ensures)
 
 pub emit-returns-in_ok-emit_operands-in-CompareText : goal.emit-returns-in_ok-emit_operands-in-CompareText
@@ -60,8 +61,13 @@ emit-returns-in_ok-emit_operands-in-CompareText t c =
     rw (c.in-CompareText.is, ← c.register-d.ensures, ← c.register-in-CompareText.ensures, ← c.deref-in-CompareText.ensures, ← c.deref-in-CompareText-2.ensures)
     (operands_on (typed_of c.deref-in-CompareText.result.now) (typed_of c.deref-in-CompareText-2.result.now) c.args.r _ c.put_text_comparison.result _ _ _ c.put_text_comparison.ensures c.in_ok-emit_operands-in-CompareText.ensures)
 
+pub emit-returns-in-Choice : goal.emit-returns-in-Choice
+emit-returns-in-Choice t c =
+    rw (c.in-Choice.is, ← c.deref-in-Choice.ensures, ← c.deref-in-Choice-2.ensures, ← c.deref-in-Choice-3.ensures)
+    (c.emit_choice.ensures Text)
+
 pub emit_choice-returns : goal.emit_choice-returns
-emit_choice-returns t c =
+emit_choice-returns t c = λ type.
     rw (← c.register.ensures)
     (both_adds _ _ _ _ _ c.in_ok-emit.ensures
     (choice_adds _ _ _ _ _ _ _ _ _ _ _ _ _ c.in_ok-put.ensures (c.len-branch.ensures ∙ c.put.new.draft.code.ok.0) c.in_ok-put-2.ensures c.in_ok-emit-2.ensures

@@ -13,6 +13,12 @@ decreases-emit l = size (typed_of l.e.now)
 abbrev pub decreases-emit_operands : goal.decreases-emit_operands
 decreases-emit_operands l = 1 + size (typed_of l.a.now) + size (typed_of l.b.now)
 
+abbrev pub decreases-emit_operation : goal.decreases-emit_operation
+decreases-emit_operation l = 2 + size (typed_of l.a.now) + size (typed_of l.b.now)
+
+abbrev pub decreases-emit_join : goal.decreases-emit_join
+decreases-emit_join l = 2 + size (typed_of l.a.now) + size (typed_of l.b.now)
+
 abbrev pub decreases-emit_logic : goal.decreases-emit_logic
 decreases-emit_logic l = 2 + size (typed_of l.a.now) + size (typed_of l.b.now)
 
@@ -23,16 +29,16 @@ abbrev pub decreases-emit_keys : goal.decreases-emit_keys
 decreases-emit_keys l = sizes (typeds_of l.keys.now)
 
 abbrev pub decreases-emit_read : goal.decreases-emit_read
-decreases-emit_read l = 1 + sizes (typeds_of l.keys.now)
+decreases-emit_read l = 1 + sizes (typeds_of l.target.keys.now)
 
 abbrev pub decreases-emit_assign : goal.decreases-emit_assign
-decreases-emit_assign l = 1 + sizes (typeds_of l.keys.now) + size (typed_of l.a.now)
+decreases-emit_assign l = 1 + sizes (typeds_of l.target.keys.now) + size (typed_of l.a.now)
 
 abbrev pub decreases-emit_update : goal.decreases-emit_update
-decreases-emit_update l = 1 + sizes (typeds_of l.keys.now) + size (typed_of l.a.now)
+decreases-emit_update l = 1 + sizes (typeds_of l.target.keys.now) + size (typed_of l.a.now)
 
 abbrev pub decreases-emit_step : goal.decreases-emit_step
-decreases-emit_step l = 1 + sizes (typeds_of l.keys.now)
+decreases-emit_step l = 1 + sizes (typeds_of l.target.keys.now)
 
 abbrev pub invariant-emit_keys-loop-key : goal.invariant-emit_keys-loop-key
 invariant-emit_keys-loop-key l =

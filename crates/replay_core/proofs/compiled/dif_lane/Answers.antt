@@ -4,7 +4,7 @@ use Rattle.std.proofs.Common.{ap, subst, sym, ◌∙◌}
 use Rattle.std.proofs.lemmas.List.{length-map}
 use Rattle.std.proofs.lemmas.Result.{IfOk-weaker}
 use Rattle.d_types.specs.Held.{slots_of}
-use Rattle.dif_codegen.specs.Meaning.{Does}
+use Rattle.dif_codegen.specs.Meaning.{IsSameClause}
 use Rattle.dif_codegen.specs.Programs.{action_code}
 use Rattle.replay_core.specs.Bounds.{places_among}
 use Rattle.replay_core.proofs.ProgramLemmas.{program_few, program_named}
@@ -28,6 +28,6 @@ new-requires-clause-few c =
 pub returns-clause-script : goal.returns-clause-script
 returns-clause-script c =
     IfOk-weaker c.new.result _ _ (λ l made m compiled.
-    let clauses = subst (λ l. AllZip (Does (slots_of m)) l m.clauses) (sym c.clauses.ensures) compiled.program.do_the_same in
+    let clauses = subst (λ l. AllZip (IsSameClause (slots_of m)) l m.clauses) (sym c.clauses.ensures) compiled.program.do_the_same in
     let functions = c.in_ok-functions.ensures.items ∙ c.aggregations.ensures ∙ compiled.program.have_functions in
     made m (record { each = clauses; keep = script_keeps m compiled.typed }) functions) c.new.ensures.script

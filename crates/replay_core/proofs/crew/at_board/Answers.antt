@@ -27,6 +27,6 @@ plain_work runs groups trace board (Ok r) seat order pieces = record {
 pub returns-in-All : goal.returns-in-All
 returns-in-All g c =
     let a = c.args in
-    let runs = g.L.Lanes.runs a.lanes.now in
-    subst (λ s. IfOk c.work.result (IsWork (Gives s runs a.groups.now a.trace.now) a.board.now)) (sym c.in-All.is)
-    (plain_work runs a.groups.now a.trace.now a.board.now c.work.result c.work.ensures.seat c.work.ensures.groups c.work.ensures.pieces)
+    let runs = g.L.Lanes.runs a.shift.now.lanes.now in
+    subst (λ s. IfOk c.work.result (IsWork (Gives s runs a.shift.now.groups.now a.shift.now.trace.now) a.board.now)) (sym c.in-All.is)
+    (plain_work runs a.shift.now.groups.now a.shift.now.trace.now a.board.now c.work.result c.work.ensures.seat c.work.ensures.groups c.work.ensures.pieces)

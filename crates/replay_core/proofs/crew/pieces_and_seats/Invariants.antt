@@ -1,10 +1,10 @@
-use Rattle.std.proofs.Common.{◌≡◌, ◌+◌, All, vec_len, IfOk}
-use Rattle.replay_core.specs.Crews.{AreParts, Gives, IsWork}
+use Rattle.std.proofs.Common.{◌≡◌, ◌+◌, ◌++◌, List, Result, vec_len}
+use Rattle.std.specs.declared.alloc.AllocError.{AllocError}
+use Rattle.replay_core.specs.Crews.{AreFinished, Part}
 use Rattle.replay_core.proofs.crew.pieces_and_seats.Given as goal
 
 abbrev pub invariant-loop-worked : goal.invariant-loop-worked
-invariant-loop-worked g l = record {
+invariant-loop-worked l = record {
   len : vec_len l.seats + l.worked-iterator.rest.len ≡ vec_len l.fn.results;
-  rest : All (λ r. IfOk r (IsWork (Gives l.fn.span (g.L.Lanes.runs l.lanes) l.groups l.trace) l.board)) l.worked-iterator.rest.items;
-  parts : AreParts (IsWork (Gives l.fn.span (g.L.Lanes.runs l.lanes) l.groups l.trace) l.board) l.pieces.items l.seats.items;
+  finished : (before : List (Result Part AllocError)) × (l.fn.results.items ≡ before ++ l.worked-iterator.rest.items) × AreFinished before l.pieces.items l.seats.items;
 }

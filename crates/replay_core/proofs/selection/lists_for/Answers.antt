@@ -9,7 +9,6 @@ use Rattle.replay_core.proofs.selection.lists_for.Goals as goal
 pub loop-probe-preserved : goal.loop-probe-preserved
 loop-probe-preserved c =
     let inv = c.loop-probe.invariant in
-    let ds = map (λ d. d.now) c.args.descriptions.now in
     let probes = c.args.firings.now.probes in
     let i = c.loop-probe.probe in
     let same : c.in-Ok.place ≡ i = omega (arith, c.in-Ok.ensures) in
@@ -17,6 +16,6 @@ loop-probe-preserved c =
     record {
       end = inv.end;
       grows = extends_more _ _ _ inv.grows c.in_ok-list_for.ensures.grows;
-      places = subst (λ l. ArePlaces c.list_for.new.lists l (take (i + 1) (map (λ p. places_for p 0 ds) probes))) (sym c.in_ok-push.ensures.items)
-          (lists_more (λ p. places_for p 0 ds) c.loop-probe.lists c.list_for.new.lists c.loop-probe.places.items probes i c.in_ok-list_for.field-0 c.probe.result c.in_ok-list_for.ensures.grows inv.places there c.in_ok-list_for.ensures.place);
+      places = λ ds table. subst (λ l. ArePlaces c.list_for.new.lists l (take (i + 1) (map (λ p. places_for p 0 ds) probes))) (sym c.in_ok-push.ensures.items)
+          (lists_more (λ p. places_for p 0 ds) c.loop-probe.lists c.list_for.new.lists c.loop-probe.places.items probes i c.in_ok-list_for.field-0 c.probe.result c.in_ok-list_for.ensures.grows (inv.places ds table) there (c.in_ok-list_for.ensures.place ds table));
     }

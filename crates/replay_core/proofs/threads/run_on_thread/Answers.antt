@@ -30,14 +30,14 @@ unreachable-requires g c =
 
 pub returns-then-is_empty-clause-threads : goal.returns-then-is_empty-clause-threads
 returns-then-is_empty-clause-threads g c = λ slots cs mean fit good thread.
-    let f = c.args.firing.now in
+    let f = c.args.due.now.firing.now in
     let old = c.args.threads.now.entries in
-    let none = none_turn f cs c.args.places.now (at_start (threads_in old f.thread)) (sym c.is_empty.ensures ∙ c.if-is_empty.true) in
+    let none = none_turn f cs c.args.due.now.places.now (at_start (threads_in old f.thread)) (sym c.is_empty.ensures ∙ c.if-is_empty.true) in
     own_stays old f.thread thread ∙ sym (ap (λ m. if int_eq thread f.thread then m.variables.own else threads_in old thread) none)
 
 pub returns-in-Some-get_index_mut-clause-notes : goal.returns-in-Some-get_index_mut-clause-notes
 returns-in-Some-get_index_mut-clause-notes g c =
-    let f = c.args.firing.now in
+    let f = c.args.due.now.firing.now in
     let old = c.args.threads.now.entries in
     let i = c.in-Some.index in
     let fits : SFits w32 f.thread = search rules in
@@ -45,12 +45,12 @@ returns-in-Some-get_index_mut-clause-notes g c =
     let had = tables_lent old i f.thread c.in-Some-get_index_mut.tables.now at c.in-Some-get_index_mut.ensures.value in
     let start = started old f.thread c.in-Some-get_index_mut.tables.now c.reset.new.self had c.reset.ensures in
     on_ok_weaker c.run_on_tables.result (λ told slots cs mean fit good.
-    subst (λ v. Notes f.number (turns f cs c.args.places.now v) (piece_seen c.args.piece.now) (piece_seen c.run_on_tables.new.piece)) start (told slots cs mean fit (typed_start slots _ _ start good)).0)
+    subst (λ v. Notes f.number (turns f cs c.args.due.now.places.now v) (piece_seen c.args.piece.now) (piece_seen c.run_on_tables.new.piece)) start (told slots cs mean fit (typed_start slots _ _ start good)).0)
     c.run_on_tables.ensures.notes
 
 pub returns-in-Some-get_index_mut-clause-threads : goal.returns-in-Some-get_index_mut-clause-threads
 returns-in-Some-get_index_mut-clause-threads g c =
-    let f = c.args.firing.now in
+    let f = c.args.due.now.firing.now in
     let old = c.args.threads.now.entries in
     let new = c.run_on_tables.new.tables in
     let i = c.in-Some.index in
@@ -60,34 +60,34 @@ returns-in-Some-get_index_mut-clause-threads g c =
     let puts = updates-with_value_at c.args.threads.now i new int_eq_equiv c.get_index_mut.ensures.unique f.thread at.tables at.entry in
     let start = started old f.thread c.in-Some-get_index_mut.tables.now c.reset.new.self had c.reset.ensures in
     on_ok_weaker c.run_on_tables.result (λ told slots cs mean fit good.
-    thread_written old (with_value_at c.args.threads.now i new).entries f.thread new (turns f cs c.args.places.now (at_start (threads_in old f.thread)))
+    thread_written old (with_value_at c.args.threads.now i new).entries f.thread new (turns f cs c.args.due.now.places.now (at_start (threads_in old f.thread)))
     puts.0
-    ((told slots cs mean fit (typed_start slots _ _ start good)).1 ∙ ap (λ v. (turns f cs c.args.places.now v).variables) start))
+    ((told slots cs mean fit (typed_start slots _ _ start good)).1 ∙ ap (λ v. (turns f cs c.args.due.now.places.now v).variables) start))
     c.run_on_tables.ensures.notes
 
 pub returns-in_ok-insert-in-None-clause-notes : goal.returns-in_ok-insert-in-None-clause-notes
 returns-in_ok-insert-in-None-clause-notes g c = λ slots cs mean fit good.
-    let f = c.args.firing.now in
+    let f = c.args.due.now.firing.now in
     let old = c.args.threads.now.entries in
     let had : lookup (int_eq f.thread) old ≡ None = search rules in
     let start = started_new old f.thread c.new-tables.result.locals c.new-tables.result.own had c.new-tables.ensures.locals c.new-tables.ensures.own in
-    subst (λ v. Notes f.number (turns f cs c.args.places.now v) (piece_seen c.args.piece.now) (piece_seen c.run_on_tables-in-None.new.piece)) start
+    subst (λ v. Notes f.number (turns f cs c.args.due.now.places.now v) (piece_seen c.args.piece.now) (piece_seen c.run_on_tables-in-None.new.piece)) start
     (c.in_ok-exits-in-None.ensures.notes slots cs mean fit (typed_start slots _ _ start good)).0
 
 pub returns-in_ok-insert-in-None-clause-threads : goal.returns-in_ok-insert-in-None-clause-threads
 returns-in_ok-insert-in-None-clause-threads g c = λ slots cs mean fit good.
-    let f = c.args.firing.now in
+    let f = c.args.due.now.firing.now in
     let old = c.args.threads.now.entries in
     let had : lookup (int_eq f.thread) old ≡ None = search rules in
     let start = started_new old f.thread c.new-tables.result.locals c.new-tables.result.own had c.new-tables.ensures.locals c.new-tables.ensures.own in
     let updates : Writes old c.insert.new.self.entries f.thread c.run_on_tables-in-None.new.tables = λ q. search (rules, c.in_ok-insert-in-None.ensures.updates.0 q) in
-    thread_written old c.insert.new.self.entries f.thread c.run_on_tables-in-None.new.tables (turns f cs c.args.places.now (at_start (threads_in old f.thread)))
+    thread_written old c.insert.new.self.entries f.thread c.run_on_tables-in-None.new.tables (turns f cs c.args.due.now.places.now (at_start (threads_in old f.thread)))
     updates
-    ((c.in_ok-exits-in-None.ensures.notes slots cs mean fit (typed_start slots _ _ start good)).1 ∙ ap (λ v. (turns f cs c.args.places.now v).variables) start)
+    ((c.in_ok-exits-in-None.ensures.notes slots cs mean fit (typed_start slots _ _ start good)).1 ∙ ap (λ v. (turns f cs c.args.due.now.places.now v).variables) start)
 
 pub returns-in-Some-get_index_mut-clause-exits : goal.returns-in-Some-get_index_mut-clause-exits
 returns-in-Some-get_index_mut-clause-exits g c =
-    let f = c.args.firing.now in
+    let f = c.args.due.now.firing.now in
     let old = c.args.threads.now.entries in
     let i = c.in-Some.index in
     let fits : SFits w32 f.thread = search rules in
@@ -95,13 +95,13 @@ returns-in-Some-get_index_mut-clause-exits g c =
     let had = tables_lent old i f.thread c.in-Some-get_index_mut.tables.now at c.in-Some-get_index_mut.ensures.value in
     let start = started old f.thread c.in-Some-get_index_mut.tables.now c.reset.new.self had c.reset.ensures in
     IfOk-weaker c.run_on_tables.result _ _ (λ exits told slots cs mean fit good.
-    told slots cs mean fit (typed_start slots _ _ start good) ∙ ap (λ v. is_some (turns f cs c.args.places.now v).exit) start)
+    told slots cs mean fit (typed_start slots _ _ start good) ∙ ap (λ v. is_some (turns f cs c.args.due.now.places.now v).exit) start)
     c.run_on_tables.ensures.exits
 
 pub returns-in_ok-insert-in-None-clause-exits : goal.returns-in_ok-insert-in-None-clause-exits
 returns-in_ok-insert-in-None-clause-exits g c = λ slots cs mean fit good.
-    let f = c.args.firing.now in
+    let f = c.args.due.now.firing.now in
     let old = c.args.threads.now.entries in
     let had : lookup (int_eq f.thread) old ≡ None = search rules in
     let start = started_new old f.thread c.new-tables.result.locals c.new-tables.result.own had c.new-tables.ensures.locals c.new-tables.ensures.own in
-    c.in_ok-exits-in-None.ensures.exits slots cs mean fit (typed_start slots _ _ start good) ∙ ap (λ v. is_some (turns f cs c.args.places.now v).exit) start
+    c.in_ok-exits-in-None.ensures.exits slots cs mean fit (typed_start slots _ _ start good) ∙ ap (λ v. is_some (turns f cs c.args.due.now.places.now v).exit) start

@@ -3,7 +3,7 @@ use Rattle.std.proofs.Common.{ap, subst, sym, ◌∙◌}
 use Rattle.std.proofs.lemmas.List.{length-map}
 use Rattle.std.proofs.lemmas.Result.{IfOk-weaker}
 use Rattle.std.specs.List.{AllZip}
-use Rattle.d_types.specs.Sizes.{statements}
+use Rattle.d_types.specs.Sizes.{statement_count}
 use Rattle.d_types.specs.Typed.{meant_of}
 use Rattle.d_types.specs.TypedScripts.{typed_script_of}
 use Rattle.replay_core.specs.Bounds.{places_in}
@@ -22,7 +22,7 @@ new-requires-clause-named c =
 pub new-requires-clause-few : goal.new-requires-clause-few
 new-requires-clause-few c =
     let s = c.args.script.now in
-    subst (λ l. All (λ x. statements (meant_of x) ≤ 65536) l) (sym c.clauses.ensures) (all_few s.clauses.items s.aggregations.items s.slots.items s.typed)
+    subst (λ l. All (λ x. statement_count (meant_of x) ≤ 65536) l) (sym c.clauses.ensures) (all_few s.clauses.items s.aggregations.items s.slots.items s.typed)
 
 pub returns-clause-script : goal.returns-clause-script
 returns-clause-script c =

@@ -1,4 +1,5 @@
 use Rattle.std.proofs.Common.{subst, List}
+use Rattle.std.proofs.lemmas.Result.{IfOk-weaker}
 use Rattle.firing_reader.specs.Ends.{with_ends}
 use Rattle.firing_reader.specs.declared.firing.Firing.{Firing}
 use Rattle.shard_queue.specs.Groups.{grouping}
@@ -8,5 +9,8 @@ use Rattle.replay_core.proofs.worker.work.Goals as goal
 
 pub returns-clause-pieces : goal.returns-clause-pieces
 returns-clause-pieces g c =
-    let t = c.args.trace.now in
-    subst (λ (fs : List Firing). AreOfGroups (g.L.Lanes.runs c.args.lanes.now) (grouping c.args.groups.now) fs c.in_ok-made.made.0.items) (all_count (with_ends t t)) c.in_ok-made.ensures.pieces
+    let shift = c.args.shift.now in
+    let run = with_ends shift.trace.now shift.trace.now in
+    IfOk-weaker c.work_on.result _ _
+    (λ r are. subst (λ (fs : List Firing). AreOfGroups (g.L.Lanes.runs shift.lanes.now) (grouping shift.groups.now) fs r.0.items) (all_count run) are)
+    c.work_on.ensures.pieces

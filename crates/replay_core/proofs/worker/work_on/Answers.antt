@@ -15,7 +15,7 @@ loop-preserved g c =
       at = taken.seat;
       groups = groups_more _ _ _ _ _ pushed i.groups taken.some.2;
       pieces = record {
-        each = λ m runs. all_push (IsOfGroup m (grouping w.groups.now) (firings_in w.span w.trace.now)) _ _ _ (i.pieces.each m runs) (c.in_ok-piece.ensures.piece m runs) pushed;
+        each = λ m runs. all_push (IsOfGroup m (grouping w.groups.now) (firings_in c.args.span w.trace.now)) _ _ _ (i.pieces.each m runs) (c.in_ok-piece.ensures.piece m runs) pushed;
         roomy = all_push (λ p. IsRoomy p.1) _ _ _ i.pieces.roomy c.in_ok-piece.ensures.roomy pushed;
       };
     }

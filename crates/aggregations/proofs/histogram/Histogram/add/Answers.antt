@@ -14,7 +14,7 @@ use Rattle.aggregations.proofs.histogram.Histogram.add.Goals as goal
 pub overflow_add-count : goal.overflow_add-count
 overflow_add-count c =
     let k = c.args.bucket in
-    let f = c.self.inside.function in
+    let f = c.self.inside.scale in
     let used = c.self.inside.used.entries in
     let there : lookup (nat_eq k) used ≡ Some c.in-Some.count.now = search rules in
     let is : used_at used k ≡ c.in-Some.count.now = ap (λ o. unwrap_or o 0) there in
@@ -25,11 +25,11 @@ overflow_add-count c =
 pub invariant_of-self : goal.invariant_of-self
 invariant_of-self c =
     let k = c.args.bucket in
-    let f = c.self.inside.function in
+    let f = c.self.inside.scale in
     let used = c.self.inside.used.entries in
     let count = c.in-Some.count.now in
     let new = c.get_mut.follows.lender (count + c.args.more) in
-    let within : k < buckets f = subst (λ h. k < buckets h.function) (sym c.self.view_is) c.requires.bucket in
+    let within : k < buckets f = subst (λ h. k < buckets h.scale) (sym c.self.view_is) c.requires.bucket in
     let room : sum (counts_used f used) + c.args.more ≤ 2 ^ 52 = subst (λ h. sum h.counts + c.args.more ≤ 2 ^ 52) (sym c.self.view_is) c.requires.room in
     let there : lookup (nat_eq k) used ≡ Some count = search rules in
     let here : lookup (nat_eq k) new.entries ≡ Some (count + c.args.more) = search rules in
@@ -42,11 +42,11 @@ invariant_of-self c =
 pub returns-in-Some-clause-ok : goal.returns-in-Some-clause-ok
 returns-in-Some-clause-ok c =
     let k = c.args.bucket in
-    let f = c.self.inside.function in
+    let f = c.self.inside.scale in
     let used = c.self.inside.used.entries in
     let count = c.in-Some.count.now in
     let new = c.get_mut.follows.lender (count + c.args.more) in
-    let within : k < buckets f = subst (λ h. k < buckets h.function) (sym c.self.view_is) c.requires.bucket in
+    let within : k < buckets f = subst (λ h. k < buckets h.scale) (sym c.self.view_is) c.requires.bucket in
     let there : lookup (nat_eq k) used ≡ Some count = search rules in
     let here : lookup (nat_eq k) new.entries ≡ Some (count + c.args.more) = search rules in
     let others : (q : ℕ) → nat_eq k q ≡ false → lookup (nat_eq q) new.entries ≡ lookup (nat_eq q) used = search rules in
@@ -57,11 +57,11 @@ pub invariant_of-self-in_ok-insert-in-None : goal.invariant_of-self-in_ok-insert
 invariant_of-self-in_ok-insert-in-None c =
     let k = c.args.bucket in
     let more = c.args.more in
-    let f = c.self.inside.function in
+    let f = c.self.inside.scale in
     let used = c.self.inside.used.entries in
     let map = c.get_mut.follows.lender-at-none in
     let new = c.insert.new.self in
-    let within : k < buckets f = subst (λ h. k < buckets h.function) (sym c.self.view_is) c.requires.bucket in
+    let within : k < buckets f = subst (λ h. k < buckets h.scale) (sym c.self.view_is) c.requires.bucket in
     let room : sum (counts_used f used) + more ≤ 2 ^ 52 = subst (λ h. sum h.counts + more ≤ 2 ^ 52) (sym c.self.view_is) c.requires.room in
     let same : map.entries ≡ used = search rules in
     let gone : lookup (nat_eq k) used ≡ None = search rules in
@@ -75,11 +75,11 @@ pub returns-in_ok-insert-in-None-clause-ok : goal.returns-in_ok-insert-in-None-c
 returns-in_ok-insert-in-None-clause-ok c =
     let k = c.args.bucket in
     let more = c.args.more in
-    let f = c.self.inside.function in
+    let f = c.self.inside.scale in
     let used = c.self.inside.used.entries in
     let map = c.get_mut.follows.lender-at-none in
     let new = c.insert.new.self in
-    let within : k < buckets f = subst (λ h. k < buckets h.function) (sym c.self.view_is) c.requires.bucket in
+    let within : k < buckets f = subst (λ h. k < buckets h.scale) (sym c.self.view_is) c.requires.bucket in
     let same : map.entries ≡ used = search rules in
     let gone : lookup (nat_eq k) used ≡ None = search rules in
     let up = c.in_ok-insert-in-None.ensures.updates.0 in

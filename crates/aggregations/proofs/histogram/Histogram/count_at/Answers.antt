@@ -8,5 +8,5 @@ pub returns : goal.returns
 returns c =
     let used = c.self.inside.used.entries in
     let is : c.unwrap_or.result ≡ used_at used c.args.bucket = search rules in
-    is ∙ sym (count_kept c.self.inside.function used c.args.bucket c.self.invariant)
+    is ∙ sym (count_kept c.self.inside.scale used c.args.bucket c.self.invariant)
     ∙ ap (λ h. slice_index h.counts c.args.bucket) c.self.view_is

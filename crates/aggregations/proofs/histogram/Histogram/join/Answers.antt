@@ -8,34 +8,34 @@ use Rattle.aggregations.proofs.histogram.Histogram.join.Goals as goal
 
 pub loop-bucket-init : goal.loop-bucket-init
 loop-bucket-init c =
-    let f = c.args.self.now.function in
+    let f = c.args.self.now.scale in
     let first = c.args.self.now in
     let other = c.args.other.now in
-    let own : c.self.inside.function ≡ f = ap (λ h. h.function) c.self.view_is in
-    let same : buckets c.self.inside.function ≡ buckets c.other.inside.function = search rules in
-    let len : length first.counts ≡ buckets f = subst (λ h. length h.counts ≡ buckets h.function) c.self.view_is (length-table (used_at c.self.inside.used.entries) (buckets c.self.inside.function)) in
+    let own : c.self.inside.scale ≡ f = ap (λ h. h.scale) c.self.view_is in
+    let same : buckets c.self.inside.scale ≡ buckets c.other.inside.scale = search rules in
+    let len : length first.counts ≡ buckets f = subst (λ h. length h.counts ≡ buckets h.scale) c.self.view_is (length-table (used_at c.self.inside.used.entries) (buckets c.self.inside.scale)) in
     let all = c.other.inside.used.entries in
     let starts : c.into_iter-bucket-iterator.result ≡ all = search rules in
     subst (λ l. Joining f first other l first) (sym starts)
-    (joining_start f c.other.inside.function first other all refl len c.other.view_is (ap buckets (sym own) ∙ same) c.other.invariant)
+    (joining_start f c.other.inside.scale first other all refl len c.other.view_is (ap buckets (sym own) ∙ same) c.other.invariant)
 
 pub add-requires-clause-bucket : goal.add-requires-clause-bucket
 add-requires-clause-bucket c =
-    let f = c.args.self.now.function in
+    let f = c.args.self.now.scale in
     let rest = c.next.new.self in
     let j = subst (λ l. Joining f c.args.self.now c.args.other.now l c.loop-bucket.self) c.in-Some.ensures.steps c.loop-bucket.invariant in
-    subst (λ g. c.in-Some.bucket.now < buckets g) (sym j.function) (buckets_front f c.in-Some.bucket.now c.in-Some.more.now rest j.are).0
+    subst (λ g. c.in-Some.bucket.now < buckets g) (sym j.scale) (buckets_front f c.in-Some.bucket.now c.in-Some.more.now rest j.are).0
 
 pub add-requires-clause-some : goal.add-requires-clause-some
 add-requires-clause-some c =
-    let f = c.args.self.now.function in
+    let f = c.args.self.now.scale in
     let rest = c.next.new.self in
     let j = subst (λ l. Joining f c.args.self.now c.args.other.now l c.loop-bucket.self) c.in-Some.ensures.steps c.loop-bucket.invariant in
     (buckets_front f c.in-Some.bucket.now c.in-Some.more.now rest j.are).1
 
 pub add-requires-clause-room : goal.add-requires-clause-room
 add-requires-clause-room c =
-    let f = c.args.self.now.function in
+    let f = c.args.self.now.scale in
     let j = subst (λ l. Joining f c.args.self.now c.args.other.now l c.loop-bucket.self) c.in-Some.ensures.steps c.loop-bucket.invariant in
     let room = joining_room f c.args.self.now c.args.other.now c.loop-bucket.self c.next.new.self c.in-Some.bucket.now c.in-Some.more.now j in
     let few = c.requires in
@@ -43,7 +43,7 @@ add-requires-clause-room c =
 
 pub loop-bucket-preserved : goal.loop-bucket-preserved
 loop-bucket-preserved c =
-    let f = c.args.self.now.function in
+    let f = c.args.self.now.scale in
     let first = c.args.self.now in
     let other = c.args.other.now in
     let rest = c.next.new.self in
@@ -51,14 +51,14 @@ loop-bucket-preserved c =
     subst (λ h. Joining f first other rest h) (sym c.in_ok-add.ensures.ok) (joining_more f first other c.loop-bucket.self rest c.in-Some.bucket.now c.in-Some.more.now j)
 
 pub returns-in-None-clause-value : goal.returns-in-None-clause-value
-returns-in-None-clause-value c = λ function xs ys a b.
-    let f = c.args.self.now.function in
+returns-in-None-clause-value c = λ scale xs ys a b.
+    let f = c.args.self.now.scale in
     let first = c.args.self.now in
     let other = c.args.other.now in
     let now = c.loop-bucket.self in
     let end : c.loop-bucket.bucket-iterator ≡ [] = search rules in
     let j = subst (λ l. Joining f first other l now) end c.loop-bucket.invariant in
-    let is : f ≡ function = ap (λ h. h.function) a in
+    let is : f ≡ scale = ap (λ h. h.scale) a in
     subst (λ g. now ≡ histogram_of g (xs ++ ys)) is
     (joining_all f first other now xs ys j (subst (λ g. first ≡ histogram_of g xs) (sym is) a) (subst (λ g. other ≡ histogram_of g ys) (sym is) b))
 

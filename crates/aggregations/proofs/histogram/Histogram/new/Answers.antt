@@ -6,4 +6,4 @@ use Rattle.aggregations.proofs.histogram.Histogram.new.Goals as goal
 pub invariant_of-result : goal.invariant_of-result
 invariant_of-result c =
     let none : c.new.result.entries ≡ [] = search rules in
-    subst (AreUsed c.args.function) (sym none) (kept_none c.args.function c.requires)
+    subst (AreUsed c.args.scale) (sym none) (kept_none c.args.scale)

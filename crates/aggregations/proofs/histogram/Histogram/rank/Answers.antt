@@ -12,28 +12,28 @@ use Rattle.aggregations.proofs.histogram.Histogram.rank.Goals as goal
 
 pub label-requires : goal.label-requires
 label-requires c =
-    let f = c.self.inside.function in
+    let f = c.self.inside.scale in
     let r = subst (λ l. Ranking f c.self.inside.used.entries l (to_z w128 c.loop-bucket.rank-bits)) c.in-Some.ensures.steps c.loop-bucket.invariant in
     (buckets_front f c.in-Some.bucket.now c.in-Some.count.now c.next.new.self r.are).0
 
 pub loop-bucket-init : goal.loop-bucket-init
 loop-bucket-init c =
-    let f = c.self.inside.function in
+    let f = c.self.inside.scale in
     let all = c.self.inside.used.entries in
     let starts : c.into_iter-bucket-iterator.result ≡ all = search rules in
     subst (λ l. Ranking f all l (pos 0)) (sym starts) (ranking_start f all (buckets_kept f all c.self.invariant))
 
 turn : (c : goal.After-from-in-loop-bucket)
-    → Ranking c.self.inside.function c.self.inside.used.entries ((c.in-Some.bucket.now, c.in-Some.count.now) ∷ c.next.new.self) c.loop-bucket.rank
+    → Ranking c.self.inside.scale c.self.inside.used.entries ((c.in-Some.bucket.now, c.in-Some.count.now) ∷ c.next.new.self) c.loop-bucket.rank
 turn c =
-    let r = subst (λ l. Ranking c.self.inside.function c.self.inside.used.entries l (to_z w128 c.loop-bucket.rank-bits)) c.in-Some.ensures.steps c.loop-bucket.invariant in
-    subst (Ranking c.self.inside.function c.self.inside.used.entries ((c.in-Some.bucket.now, c.in-Some.count.now) ∷ c.next.new.self)) c.loop-bucket.rank-is r
+    let r = subst (λ l. Ranking c.self.inside.scale c.self.inside.used.entries l (to_z w128 c.loop-bucket.rank-bits)) c.in-Some.ensures.steps c.loop-bucket.invariant in
+    subst (Ranking c.self.inside.scale c.self.inside.used.entries ((c.in-Some.bucket.now, c.in-Some.count.now) ∷ c.next.new.self)) c.loop-bucket.rank-is r
 
 small : (c : goal.After-from-in-loop-bucket)
-    → FitsSigned w128 (label c.self.inside.function c.in-Some.bucket.now *ℤ pos c.in-Some.count.now)
-    × FitsSigned w128 (c.loop-bucket.rank +ℤ label c.self.inside.function c.in-Some.bucket.now *ℤ pos c.in-Some.count.now)
+    → FitsSigned w128 (label c.self.inside.scale c.in-Some.bucket.now *ℤ pos c.in-Some.count.now)
+    × FitsSigned w128 (c.loop-bucket.rank +ℤ label c.self.inside.scale c.in-Some.bucket.now *ℤ pos c.in-Some.count.now)
 small c =
-    let f = c.self.inside.function in
+    let f = c.self.inside.scale in
     let k = c.in-Some.bucket.now in
     let m = c.in-Some.count.now in
     let rank = c.loop-bucket.rank in
@@ -43,15 +43,15 @@ small c =
     )
 
 factors : (c : goal.After-from-in-loop-bucket)
-    → (to_z w128 (of_z w128 c.from.result) ≡ label c.self.inside.function c.in-Some.bucket.now)
+    → (to_z w128 (of_z w128 c.from.result) ≡ label c.self.inside.scale c.in-Some.bucket.now)
     × (to_z w128 (of_z w128 c.from-in-loop-bucket.result) ≡ pos c.in-Some.count.now)
 factors c = (search rules, search rules)
 
 product : (c : goal.After-from-in-loop-bucket)
     → to_z w128 (of_z w128 (to_z w128 (of_z w128 c.from.result) *ℤ to_z w128 (of_z w128 c.from-in-loop-bucket.result)))
-    ≡ label c.self.inside.function c.in-Some.bucket.now *ℤ pos c.in-Some.count.now
+    ≡ label c.self.inside.scale c.in-Some.bucket.now *ℤ pos c.in-Some.count.now
 product c =
-    let f = c.self.inside.function in
+    let f = c.self.inside.scale in
     let k = c.in-Some.bucket.now in
     let m = c.in-Some.count.now in
     ap (λ z. to_z w128 (of_z w128 (z *ℤ to_z w128 (of_z w128 c.from-in-loop-bucket.result)))) (factors c).0
@@ -61,11 +61,11 @@ product c =
 pub overflow_mul-rank : goal.overflow_mul-rank
 overflow_mul-rank c =
     subst (λ z. FitsSigned w128 (z *ℤ to_z w128 (of_z w128 c.from-in-loop-bucket.result))) (sym (factors c).0)
-    (subst (λ z. FitsSigned w128 (label c.self.inside.function c.in-Some.bucket.now *ℤ z)) (sym (factors c).1) (small c).0)
+    (subst (λ z. FitsSigned w128 (label c.self.inside.scale c.in-Some.bucket.now *ℤ z)) (sym (factors c).1) (small c).0)
 
 sum_is : (c : goal.After-from-in-loop-bucket)
     → to_z w128 c.loop-bucket.rank-bits +ℤ to_z w128 (of_z w128 (to_z w128 (of_z w128 c.from.result) *ℤ to_z w128 (of_z w128 c.from-in-loop-bucket.result)))
-    ≡ c.loop-bucket.rank +ℤ label c.self.inside.function c.in-Some.bucket.now *ℤ pos c.in-Some.count.now
+    ≡ c.loop-bucket.rank +ℤ label c.self.inside.scale c.in-Some.bucket.now *ℤ pos c.in-Some.count.now
 sum_is c =
     ap (λ z. z +ℤ to_z w128 (of_z w128 (to_z w128 (of_z w128 c.from.result) *ℤ to_z w128 (of_z w128 c.from-in-loop-bucket.result)))) c.loop-bucket.rank-is
     ∙ ap (λ z. c.loop-bucket.rank +ℤ z) (product c)
@@ -75,7 +75,7 @@ overflow_add-rank c = subst (λ z. FitsSigned w128 z) (sym (sum_is c)) (small c)
 
 pub loop-bucket-preserved : goal.loop-bucket-preserved
 loop-bucket-preserved c =
-    let f = c.self.inside.function in
+    let f = c.self.inside.scale in
     let all = c.self.inside.used.entries in
     let k = c.in-Some.bucket.now in
     let m = c.in-Some.count.now in
@@ -84,7 +84,7 @@ loop-bucket-preserved c =
 
 pub returns : goal.returns
 returns c =
-    let f = c.self.inside.function in
+    let f = c.self.inside.scale in
     let all = c.self.inside.used.entries in
     let end : c.loop-bucket.bucket-iterator ≡ [] = search rules in
     let rank = to_z w128 c.loop-bucket.rank-bits in

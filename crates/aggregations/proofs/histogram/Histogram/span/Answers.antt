@@ -15,7 +15,7 @@ returns-in_err-first c =
     let none : reduce min (keys_of used) ≡ None =
     sym (sym (option_map_id _) ∙ min_from_yields_List c.copied.result _ c.min.ensures.ran (YieldsList-from_copied (YieldsList-from_rest (keys_of used) (search rules)))) ∙ c.in_err-first.was in
     subst (λ r. MatchOption r (sum c.args.self.now.counts ≡ 0) (λ s. IsSpan c.args.self.now.counts s.0 s.1)) (sym c.from_residual.ensures)
-    (subst (λ h. sum h.counts ≡ 0) c.self.view_is (sum-no_keys c.self.inside.function used none))
+    (subst (λ h. sum h.counts ≡ 0) c.self.view_is (sum-no_keys c.self.inside.scale used none))
 
 pub returns : goal.returns
 returns c =
@@ -25,4 +25,4 @@ returns c =
     let last : reduce max (keys_of used) ≡ Some c.in_ok-last.last =
     sym (sym (option_map_id _) ∙ max_from_yields_List c.copied-2.result _ c.max.ensures.ran (YieldsList-from_copied (YieldsList-from_rest (keys_of used) (search rules)))) ∙ c.in_ok-last.was in
     subst (λ h. IsSpan h.counts c.in_ok-first.first c.in_ok-last.last) c.self.view_is
-    (is_span c.self.inside.function used c.self.invariant c.in_ok-first.first c.in_ok-last.last first last)
+    (is_span c.self.inside.scale used c.self.invariant c.in_ok-first.first c.in_ok-last.last first last)

@@ -5,7 +5,7 @@ use Rattle.aggregations.proofs.histogram.Histogram.total.Goals as goal
 
 pub sum-requires-clause-fits : goal.sum-requires-clause-fits
 sum-requires-clause-fits c =
-    let f = c.self.inside.function in
+    let f = c.self.inside.scale in
     let used = c.self.inside.used.entries in
     let is = sum-used f used (buckets_kept f used c.self.invariant) in
     let few = c.self.invariant.few in
@@ -14,14 +14,14 @@ sum-requires-clause-fits c =
 
 pub returns-clause-value : goal.returns-clause-value
 returns-clause-value c =
-    let f = c.self.inside.function in
+    let f = c.self.inside.scale in
     let used = c.self.inside.used.entries in
     let is : c.sum.result ≡ sum (values_of used) = search rules in
     is ∙ sym (sum-used f used (buckets_kept f used c.self.invariant)) ∙ ap (λ h. sum h.counts) c.self.view_is
 
 pub returns-clause-few : goal.returns-clause-few
 returns-clause-few c =
-    let f = c.self.inside.function in
+    let f = c.self.inside.scale in
     let used = c.self.inside.used.entries in
     let is : c.sum.result ≡ sum (values_of used) = search rules in
     let all = sum-used f used (buckets_kept f used c.self.invariant) in

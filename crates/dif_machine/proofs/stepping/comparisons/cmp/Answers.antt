@@ -5,6 +5,6 @@ use Rattle.dif_machine.proofs.stepping.comparisons.cmp.Goals as goal
 
 pub returns : goal.returns
 returns c =
-    let o = object_of c.args.difo.now in
-    let f = c.args.firing.now in
+    let o = object_of c.args.context.difo.now in
+    let f = c.args.context.firing.now in
     λ vars. acting.cmp o f (frame_of o f c.args.frame.now) vars _ _ _ _ _ _ c.number.ensures c.number-2.ensures c.compare_numbers-known.ensures (c.compare.ensures o f)

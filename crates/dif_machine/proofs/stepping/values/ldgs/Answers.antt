@@ -8,7 +8,7 @@ use Rattle.dif_machine.proofs.stepping.values.ldgs.Goals as goal
 
 pub returns : goal.returns
 returns c =
-    let f = c.args.firing.now in
+    let f = c.args.context.firing.now in
     λ difo can vars.
     let o = object_of difo in
     let s = frame_of o f c.args.frame.now in

@@ -9,8 +9,8 @@ use Rattle.dif_machine.proofs.stepping.variables.sttaa.Goals as goal
 
 pub returns : goal.returns
 returns c =
-    let o = object_of c.args.difo.now in
-    let f = c.args.firing.now in
+    let o = object_of c.args.context.difo.now in
+    let f = c.args.context.firing.now in
     let s = frame_of o f c.args.frame.now in
     λ rest. acting.sttaa o f s (record { locals = rest; own = own_of c.args.own.now }) c.args.x c.args.a c.in_ok-value.value _ c.requires.0 c.in_ok-value.ensures
     (c.go_on.ensures o f ∙ ap (λ t. at_place t (t.pc + 1)) (c.write_key.ensures.same o f)) _ c.requires.1.1

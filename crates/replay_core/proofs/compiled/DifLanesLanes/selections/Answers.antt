@@ -3,7 +3,7 @@ use Rattle.std.specs.List.{AllZip}
 use Rattle.std.proofs.Common.{subst, sym}
 use Rattle.std.proofs.lemmas.Result.{IfOk-weaker}
 use Rattle.d_types.specs.Held.{slots_of}
-use Rattle.dif_codegen.specs.Meaning.{Does}
+use Rattle.dif_codegen.specs.Meaning.{IsSameClause}
 use Rattle.replay_core.proofs.ProgramLemmas.{program_few_probes}
 use Rattle.replay_core.proofs.compiled.DifLanesLanes.selections.Goals as goal
 
@@ -16,5 +16,5 @@ pub returns : goal.returns
 returns c =
     IfOk-weaker c.select.result _ _ (λ chosen are. record {
       few = are.few;
-      each = λ m compiled. are.each m (subst (λ l. AllZip (Does (slots_of m)) l m.clauses) (sym c.clauses.ensures) compiled.program.do_the_same);
+      each = λ m compiled. are.each m (subst (λ l. AllZip (IsSameClause (slots_of m)) l m.clauses) (sym c.clauses.ensures) compiled.program.do_the_same);
     }) c.select.ensures

@@ -14,6 +14,7 @@ use Rattle.replay_core.proofs.selection.Selections.new.Goals as goal
 pub returns : goal.returns
 returns c =
     let ds = map (λ d. d.now) c.args.descriptions.now in
+    let table = c.in_ok-table.ensures in
     let own : Probe → List ℕ = λ p. places_for p 0 ds in
     let t = c.args.trace.now in
     let all = c.lists_for.new.lists in
@@ -22,11 +23,11 @@ returns c =
     let begin_is : c.into_probe.result ≡ probe_of (begin_of t) = c.into_probe.ensures ∙ ap probe_of c.begin.ensures in
     let end_is : c.into_probe-2.result ≡ probe_of (end_of t) = c.into_probe-2.ensures ∙ ap probe_of c.end.ensures in
     let first : slice_get all c.in_ok-begin.begin ≡ Some (own (probe_of (begin_of t))) =
-    named_more _ all _ _ c.in_ok-by_probe.ensures.grows (named_more _ _ _ _ c.in_ok-end.ensures.grows c.in_ok-begin.ensures.place) ∙ ap (λ p. Some (own p)) begin_is in
+    named_more _ all _ _ c.in_ok-by_probe.ensures.grows (named_more _ _ _ _ c.in_ok-end.ensures.grows (c.in_ok-begin.ensures.place ds table)) ∙ ap (λ p. Some (own p)) begin_is in
     let last : slice_get all c.in_ok-end.end ≡ Some (own (probe_of (end_of t))) =
-    named_more _ all _ _ c.in_ok-by_probe.ensures.grows c.in_ok-end.ensures.place ∙ ap (λ p. Some (own p)) end_is in
+    named_more _ all _ _ c.in_ok-by_probe.ensures.grows (c.in_ok-end.ensures.place ds table) ∙ ap (λ p. Some (own p)) end_is in
     let of : ArePlaces probes places (map probe_of t) = c.probe_places-firings.ensures ∙ ap (λ (fs : List Firing). map (λ (p : Probe). Some p) (map probe_of fs)) c.firings.ensures.value in
     let rows : c.in_ok-by_row.by_row.items ≡ map (λ p. get_or c.in_ok-by_probe.by_probe.items p 0) places =
     c.in_ok-by_row.ensures ∙ ap (λ (l : List ℕ). map (λ p. get_or l p 0) places) c.deref.ensures.value in
     ap (λ (l : List ℕ). selected_in all c.in_ok-begin.begin l c.in_ok-end.end) rows
-    ∙ run_listed all c.in_ok-by_probe.by_probe.items probes own c.in_ok-begin.begin c.in_ok-end.end places t c.in_ok-by_probe.ensures.places of first last
+    ∙ run_listed all c.in_ok-by_probe.by_probe.items probes own c.in_ok-begin.begin c.in_ok-end.end places t (c.in_ok-by_probe.ensures.places ds table) of first last

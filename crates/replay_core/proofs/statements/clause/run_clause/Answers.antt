@@ -1,6 +1,6 @@
 use Rattle.std.specs.Prelude.{◌≡◌, ◌∷◌, ◌++◌, [], false, length, map, take, Err}
 use Rattle.std.proofs.Common.{rules, subst, sym, ap, ◌∙◌}
-use Rattle.d_types.specs.Expressions.{number}
+use Rattle.d_types.specs.Expressions.{number_outcome}
 use Rattle.d_types.specs.Clauses.{fault_line, where_predicate, run_result, statements_by}
 use Rattle.d_types.specs.Clauses.{where_true}
 use Rattle.replay_core.specs.Effects.{NotesRun}
@@ -19,7 +19,7 @@ returns-in-Err-DivideByZero-clause-run g c =
     let after = variables_in c.evaluate_word.new.scene in
     let line = fault_line f.number c.args.place in
     let predicate = c.in-Some.predicate in
-    let faults = subst (λ r. Returns (number (by.value predicate vars)) r after)
+    let faults = subst (λ r. Returns (number_outcome (by.value predicate vars)) r after)
     (c.in-Err-DivideByZero.is ∙ ap (λ e. Err e) c.in-Err-DivideByZero.field-0-is) c.evaluate_word.ensures.1 in
     let run = ap (λ p. run_result line (where_predicate by p rest vars)) c.in-Some.is
     ∙ ap (λ o. run_result line (where_true o rest)) faults in

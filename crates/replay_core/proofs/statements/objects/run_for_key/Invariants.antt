@@ -1,6 +1,6 @@
 use Rattle.std.proofs.Common.{◌≡◌, ◌++◌, drop, take, length}
 use Rattle.d_types.specs.Expressions.{Has, with}
-use Rattle.dif_codegen.specs.Meaning.{key_of}
+use Rattle.dif_codegen.specs.Meaning.{key_of_objects}
 use Rattle.replay_core.specs.Evaluation.{Stays, variables_in}
 use Rattle.replay_core.proofs.statements.objects.run_for_key.Given as goal
 
@@ -8,6 +8,6 @@ abbrev pub invariant-loop-place : goal.invariant-loop-place
 invariant-loop-place l = record {
   length : length l.key ≡ length l.objects;
   stays : Stays l.fn.scene l.scene;
-  parts : with (key_of l.scene.firing.now (drop l.place l.objects) (variables_in l.scene)) (λ key. Has (take l.place l.key ++ key))
-      ≡ key_of l.fn.scene.firing.now l.objects (variables_in l.fn.scene);
+  parts : with (key_of_objects l.scene.firing.now (drop l.place l.objects) (variables_in l.scene)) (λ key. Has (take l.place l.key ++ key))
+      ≡ key_of_objects l.fn.scene.firing.now l.objects (variables_in l.fn.scene);
 }

@@ -1,6 +1,6 @@
 use Rattle.std.proofs.Common.{◌%◌, subst}
 use Rattle.d_types.specs.declared.effect.Effect.TheVariants as ef
-use Rattle.d_types.specs.Expressions.{number}
+use Rattle.d_types.specs.Expressions.{number_outcome}
 use Rattle.replay_core.specs.Effects.{NotesEffect}
 use Rattle.replay_core.specs.Evaluation.{variables_in}
 use Rattle.replay_core.specs.Seen.{piece_seen}
@@ -16,6 +16,6 @@ returns-clause-effect g c =
     let same = number_stays c.args.scene.now c.evaluate_word.new.scene c.in_ok-word.ensures.0 in
     let noted = subst (λ n. NotesEffect n (ef.Exits (c.in_ok-word.word % 256)) (piece_seen c.args.piece.now) (piece_seen c.note_exit.new.self)) same c.note_exit.ensures.notes in (
       c.in_ok-word.ensures.0,
-      leaves f.number (number (by.value c.args.e.now vars)) c.in_ok-word.word (piece_seen c.args.piece.now) (piece_seen c.note_exit.new.self)
+      leaves f.number (number_outcome (by.value c.args.e.now vars)) c.in_ok-word.word (piece_seen c.args.piece.now) (piece_seen c.note_exit.new.self)
           (variables_in c.evaluate_word.new.scene) c.in_ok-word.ensures.1 noted,
     )

@@ -34,8 +34,8 @@ returns-clause-piece g c = λ m runs.
     let in_group : ℤ → Bool = λ t. is_group c.args.group ((grouping s.groups.now).group t) in
     let ran = c.in_ok-lane-2.ensures.run m (c.in_ok-lane.ensures.script m runs) (c.requires.selected.each m runs) in
     let are = ap (firings_at fs) (c.places-places.ensures ∙ c.requires.ready.placed.places c.args.group ∙ ap (places_of (grouping s.groups.now) c.args.group) (sym (threads_are t))) ∙ chosen in_group fs 0 fs refl in
-    let all = ap (filter (is_in s.span)) are ∙ filter_swap (is_in s.span) (λ f. in_group f.thread) fs in
-    let group = of_group (grouping s.groups.now) c.args.group (filter (is_in s.span) fs) in
+    let all = ap (filter (is_in c.args.span)) are ∙ filter_swap (is_in c.args.span) (λ f. in_group f.thread) fs in
+    let group = of_group (grouping s.groups.now) c.args.group (filter (is_in c.args.span) fs) in
     subst (λ p. IsPieceOf m group p) (sym c.finish.ensures.piece)
     (subst (λ l. IsPieceOf m l (g.L.Lane.Engine.seen c.in_ok-lane-2.lane).piece) all ran.piece)
 

@@ -5,7 +5,7 @@ use Rattle.std.specs.List.{position_from, zip}
 use Rattle.std.specs.Map.{lookup}
 use Rattle.std.proofs.lemmas.List.FromFn.{length-map-range_with_len}
 use Rattle.shard_queue.specs.Numbers.{below}
-use Rattle.shard_queue.specs.Groupings.{with_own}
+use Rattle.shard_queue.specs.Groupings.{with_own_group}
 use Rattle.shard_queue.proofs.Lists.{fun_ext}
 use Rattle.shard_queue.proofs.Places.{dealt_lookup, dealt_below}
 use Rattle.shard_queue.proofs.groups.Groups.deal.Goals as goal
@@ -30,6 +30,6 @@ returns-clause-dealt c =
       threads.items,
       record { ascending = c.in_ok-threads.ensures.ascending; same = c.in_ok-threads.ensures.same },
       c.in_ok-dealt.ensures.grouping
-          ∙ ap (with_own n) (fun_ext (λ t. lookup (int_eq t) (zip threads.items numbers)) (λ t. option_map (λ i. i % n) (position_from (int_eq t) 0 threads.items))
+          ∙ ap (with_own_group n) (fun_ext (λ t. lookup (int_eq t) (zip threads.items numbers)) (λ t. option_map (λ i. i % n) (position_from (int_eq t) 0 threads.items))
           (λ t. ap (λ (ns : List ℕ). lookup (int_eq t) (zip threads.items ns)) is ∙ dealt_lookup n 0 threads.items t)),
     )

@@ -2,11 +2,11 @@ use Rattle.std.proofs.Common.{List, ap, arith, sym, ◌∙◌, subst, ◌≡◌,
 use Rattle.std.proofs.Common.{append-nil, append_assoc, length-append}
 use Rattle.std.proofs.lemmas.List.{map-append, nil_from_length}
 use Rattle.shard_queue.specs.Hands.{IsHandOut}
-use Rattle.shard_queue.specs.Queues.{IsIn, SumsIf, queue_seats_at_end, queue_numbers}
+use Rattle.shard_queue.specs.Queues.{IsIn, queue_seats_at_end, queue_numbers}
 use Rattle.shard_queue.specs.declared.queue_seat.QueueSeat.{QueueSeat}
 use Rattle.shard_queue.proofs.QueueSteps.{whole}
 use Rattle.shard_queue.proofs.Lists.{all_head, all_tail}
-use Rattle.shard_queue.proofs.QueueSeats.{sums_more, sums_whole}
+use Rattle.shard_queue.proofs.QueueSeats.{SumsIf, sums_more, sums_whole}
 use Rattle.shard_queue.proofs.queue.GroupQueue.close.Goals as goal
 use Rattle.shard_queue.proofs.queue.GroupQueue.close.Goals.{in-Some-all, in_default}
 

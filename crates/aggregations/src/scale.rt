@@ -1,0 +1,97 @@
+//! The scales of histograms: their buckets and what these are called by.
+
+ghost use Rattle.std.specs.Prelude.{◌≡◌, ℕ, ◌+◌, ◌<◌, ◌≤◌, ◌^◌, ◌==◌};
+ghost use Rattle.aggregations.specs.Buckets as spec;
+
+use crate::linear_range::LinearRange;
+
+/// How a histogram divides the numbers into buckets.
+#[derive(Clone, Copy, Debug, PartialEq, Eq)]
+pub enum Scale {
+    /// Powers of two, zero, and powers of two with a minus: the scale of `quantize`.
+    Powers,
+    /// The levels of a range, what is below them and what is above: the scale of `lquantize`.
+    Steps(LinearRange),
+}
+
+impl Scale {
+    /// How many buckets there are.
+    ///
+    /// ```text
+    /// Scale::Powers.buckets(); // 127
+    /// ```
+    pub fn buckets(self) -> u32
+        ensures { result ≡ spec.buckets self }
+    {
+        match self {
+            Scale::Powers => 127,
+            Scale::Steps(range) => u32::from(range.levels()) + 2,
+        }
+    }
+
+    /// The number that a bucket is called by.
+    ///
+    /// ```text
+    /// Scale::Powers.label(63); // 0
+    /// Scale::Powers.label(66); // 4: the bucket of 4 to 7
+    /// ```
+    pub fn label(self, bucket: u32) -> i64
+        requires { bucket < spec.buckets self }
+        ensures { result ≡ spec.label self bucket }
+    {
+        match self {
+            Scale::Powers => {
+                if bucket < 63 {
+                    -(1i64 << (62 - bucket))
+                } else if bucket == 63 {
+                    0
+                } else {
+                    1i64 << (bucket - 64)
+                }
+            }
+            Scale::Steps(range) => {
+                if bucket == 0 {
+                    i64::from(range.lower()) - 1
+                } else {
+                    i64::from(range.lower()) + i64::from(bucket - 1) * i64::from(range.step())
+                }
+            }
+        }
+    }
+
+    // The bucket that the number is in, and no other.
+    pub(crate) fn bucket_of(self, x: i64) -> u32
+        ensures within { result < spec.buckets self }
+        ensures only { (b : ℕ) → b < spec.buckets self → spec.is_in self b x ≡ (b == result) }
+    {
+        match self {
+            Scale::Powers => {
+                if x < 0 {
+                    62 - top_bit(x.unsigned_abs()).min(62)
+                } else if x == 0 {
+                    63
+                } else {
+                    64 + top_bit(x.unsigned_abs())
+                }
+            }
+            Scale::Steps(range) => {
+                let lower = i64::from(range.lower());
+                if x < lower {
+                    0
+                } else {
+                    let steps = x.abs_diff(lower) / u64::from(range.step());
+                    steps.min(u64::from(range.levels())) as u32 + 1
+                }
+            }
+        }
+    }
+}
+
+// The place of a number's highest bit.
+fn top_bit(n: u64) -> u32
+    requires { 0 < n }
+    ensures at_least { 2 ^ result ≤ n }
+    ensures below { n < 2 ^ (result + 1) }
+{
+    63 - n.leading_zeros()
+}

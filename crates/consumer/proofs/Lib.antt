@@ -1,0 +1,15 @@
+pub mod Agreeing
+pub mod Answers
+pub mod CommandLine
+pub mod Dividing
+pub mod Divisions
+pub mod Grouped
+pub mod HasAnswer
+pub mod Hashed
+pub mod OnePlan
+pub mod Options
+pub mod PlainRefusals
+pub mod PlainTraces
+pub mod Refusing
+pub mod Trees
+pub mod Unread

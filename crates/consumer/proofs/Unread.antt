@@ -1,0 +1,68 @@
+-- What is said of a reader's bytes where they were not all read.
+use Rattle.std.proofs.Common.{Global, ◌≡◌, ◌≢◌, ◌⊎◌, ◌∙◌, ◌≤◌, ◌+◌, ℕ, List, [], Option, Some, None}
+use Rattle.std.proofs.Common.{Result, Err, ap, inl, inr, refl, rules, sym}
+use Rattle.std.specs.Result.{IsErrAnd}
+use Rattle.std.proofs.lemmas.Result.{err_from_is_err_and}
+use Rattle.replay_core.specs.Layouts.{LayoutMeant}
+use Rattle.report.specs.Stream.{SinkSeen}
+use Rattle.report.specs.declared.reading.ReadFault.{ReadFault}
+use Rattle.report.specs.declared.reading.ReadFault.TheVariants.{Failed}
+use Rattle.report.specs.declared.reading.ReadFault.TheVariants as reading
+use Rattle.consumer.specs.declared.consuming.ConsumeFault.{ConsumeFault}
+use Rattle.consumer.specs.declared.consuming.ConsumeFault.TheVariants.{Read, Refused}
+use Rattle.consumer.specs.declared.plan.Plan.{Plan}
+use Rattle.consumer.specs.declared.plan.Replayed.{Replayed}
+use Rattle.consumer.specs.declared.refusal.Refusal.TheVariants.{Memory}
+use Rattle.consumer.specs.Consuming.{HoldsOfInput, WritesAnswer, fault_of_reading}
+use Rattle.consumer.specs.Program.{AreUnfailed, IsRunOf, StreamsSeen}
+use Rattle.consumer.specs.Vocabulary.{Asked}
+use Rattle.std.specs.Prelude.{IfNone, MatchOption}
+use Rattle.std.specs.declared.string.String.{String}
+
+-- what holds of any bytes holds of those that were to be read
+pub holds_of_any : (remaining : Option (List ℕ)) (Holds : List ℕ → Type 0) → ((bytes : List ℕ) → Holds bytes) → HoldsOfInput remaining Holds
+holds_of_any None Holds any = record { input = []; read = search rules; holds = any [] }
+holds_of_any (Some bytes) Holds any = record { input = bytes; read = refl; holds = any bytes }
+
+-- where memory ran out in reading, that is replay's answer too, and nothing goes out
+pub none_shown : {shows : LayoutMeant} (script trace : List ℕ) (plan : Plan) (seen : SinkSeen) (result : Result Replayed ConsumeFault) (fault : ReadFault) → IsErrAnd result (λ e. e ≡ fault_of_reading fault) → result ≢ Err Read → WritesAnswer shows script trace plan seen seen result
+none_shown script trace plan seen result Failed told other =
+    let p = err_from_is_err_and result told in
+    absurd (other (p.1 ∙ ap Err p.2))
+none_shown script trace plan seen result reading.Memory told other =
+    let p = err_from_is_err_and result told in
+    record { answer = Err Memory; is = tt; out = (refl, p.1 ∙ ap Err p.2) }
+
+-- of what a file of that name doesn't tell, where one is named
+no_file : {A : Type 0} (file : Option A) (name : A) (P : Type 0) → file ≡ Some name → IfNone file P
+no_file file name P named = rw named tt
+
+-- and of what it tells
+any_file : {A : Type 0} (file : Option A) (name : A) (P : Type 0) (Q : A → Type 0) → file ≡ Some name → Q name → MatchOption file P Q
+any_file file name P Q named holds = rw named holds
+
+-- where the script of a file is not read, the run ends by that fault, and no stream is touched
+pub script_unread : {shows : LayoutMeant} (asked : Asked) (holds : List ℕ → Option (List ℕ)) (seen : StreamsSeen) (result : Result Replayed ConsumeFault)
+    (fault : ConsumeFault) (name : String Global) → asked.file ≡ Some name → AreUnfailed seen → IsErrAnd result (λ e. e ≡ fault)
+    → (fault ≡ Read) ⊎ (fault ≡ Refused Memory) → IsRunOf shows asked holds seen seen result
+script_unread asked holds seen result fault name named unfailed told (inl read) =
+    let p = err_from_is_err_and result told in
+    let failed : result ≡ Err Read = p.1 ∙ ap Err (p.2 ∙ read) in
+    record {
+      shown = λ other. absurd (other failed);
+      read = λ other. absurd (other failed);
+      blamed = λ _. no_file asked.file name _ named;
+      unread = λ _. refl;
+      few = search rules;
+    }
+script_unread asked holds seen result fault name named unfailed told (inr memory) =
+    let p = err_from_is_err_and result told in
+    let spent : result ≡ Err (Refused Memory) = p.1 ∙ ap Err (p.2 ∙ memory) in
+    record {
+      shown = λ other. any_file asked.file name _ _ named (holds_of_any _ _ (λ script. holds_of_any _ _
+          (λ trace. record { answer = Err Memory; is = tt; out = (refl, spent) })));
+      read = λ other. (unfailed.input, inl spent);
+      blamed = λ _. no_file asked.file name _ named;
+      unread = λ _. refl;
+      few = search rules;
+    }

@@ -1,0 +1,49 @@
+-- The answer of a script over a trace.
+use Rattle.std.specs.Prelude.{◌≡◌, ℕ, List, Result, Ok, Err}
+use Rattle.replay_core.specs.{Exit.exit_status, Exit.history_over, Layouts.LayoutMeant}
+use Rattle.consumer.specs.Vocabulary.{Firing, trace_of, IsRefused, Syntax, ScriptMeant}
+use Rattle.consumer.specs.Vocabulary.{Refusal, Lex, Parse, Typing, Trace, Group, Memory}
+use Rattle.consumer.specs.Scripts.{IsAccepted, IsMistyped, IsParseFault}
+
+-- the script means this, and the trace has these firings
+pub record Means (script trace : List ℕ) (m : ScriptMeant) (firings : List Firing) : Type 0 where
+  pub accepted : IsAccepted script m
+  pub reads : trace_of trace ≡ Ok firings
+
+-- what a run shows, and how it ends
+pub record Shown : Type 0 where
+  pub bytes : List ℕ
+  pub status : ℕ
+
+-- it is, in this layout, that of the run over BEGIN, these firings and END, up to the one that
+-- exits
+pub record IsShown (shows : LayoutMeant) (m : ScriptMeant) (firings : List Firing)
+    (shown : Shown) : Type 0 where
+  pub bytes : shows m (history_over m firings) shown.bytes
+  pub status : shown.status ≡ exit_status (history_over m firings)
+
+-- What is shown, or the first refusal: why the script has no tokens, no tree or no types, and then
+-- the trace's fault.
+-- The line of a script that has no tree may be any.
+abbrev pub IsAnswer : LayoutMeant → (script trace : List ℕ) → Result Shown Refusal → Type 0
+IsAnswer shows script trace (Ok shown) =
+    (m : ScriptMeant) × (firings : List Firing)
+    × Means script trace m firings × IsShown shows m firings shown
+IsAnswer shows script trace (Err (Lex fault)) = IsRefused script fault
+IsAnswer shows script trace (Err (Parse fault)) = IsParseFault script fault
+IsAnswer shows script trace (Err (Typing fault)) = IsMistyped script fault
+IsAnswer shows script trace (Err (Trace fault)) =
+    ((m : ScriptMeant) × IsAccepted script m) × (trace_of trace ≡ Err fault)
+IsAnswer shows script trace (Err (Group fault)) = ⊥
+IsAnswer shows script trace (Err Memory) = ⊥
+
+-- the refusal without the line of Syntax, which is no part of the answer
+abbrev pub without_line : Refusal → Refusal
+without_line (Parse (Syntax line)) = Parse (Syntax 0)
+without_line e = e
+
+-- the same bytes and status, or the same refusal
+abbrev pub IsSameAnswer : (a b : Result Shown Refusal) → Type 0
+IsSameAnswer (Ok x) (Ok y) = (x.bytes ≡ y.bytes) × (x.status ≡ y.status)
+IsSameAnswer (Err e) (Err f) = without_line e ≡ without_line f
+IsSameAnswer a b = ⊥

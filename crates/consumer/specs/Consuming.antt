@@ -1,0 +1,49 @@
+-- From a reader's bytes to a writer's.
+use Rattle.std.specs.Prelude.{◌≡◌, ◌≢◌, ◌≤◌, ◌⊎◌, ◌+◌, ℕ, List, Option, Result, Ok, Err, IfSome}
+use Rattle.std.specs.Prelude.{IsTrue, IsFalse}
+use Rattle.replay_core.specs.Layouts.{LayoutMeant}
+use Rattle.report.specs.Stream.{FeedSeen, IsSent, SinkSeen}
+use Rattle.consumer.specs.Vocabulary.{MOST_CALLS, ReadFault, Failed, ConsumeFault, Read, Refused}
+use Rattle.consumer.specs.Vocabulary.{Write, Refusal, Memory, Plan, Replayed}
+use Rattle.consumer.specs.Replaying.{IsReplay}
+
+-- the reader failed, or had not ended after the most calls
+abbrev pub IsCutShort : (old new : FeedSeen) → Type 0
+IsCutShort old new =
+    IsTrue new.has_failed ⊎ (IsFalse new.has_ended × (new.calls ≡ old.calls + MOST_CALLS))
+
+-- The reader was read to its end, or the fault says why not. It, and only it, is blamed where it
+-- failed or had not ended.
+pub record IsReadToEnd (old new : FeedSeen) (result : Result Replayed ConsumeFault) : Type 0 where
+  pub blamed : result ≡ Err Read → IsCutShort old new
+  pub whole : result ≢ Err Read
+      → IsFalse new.has_failed × ((result ≡ Err (Refused Memory)) ⊎ IsTrue new.has_ended)
+  pub few : new.calls ≤ old.calls + MOST_CALLS
+
+-- this holds of the bytes that were to be read; where these are not known, of some
+pub record HoldsOfInput (remaining : Option (List ℕ)) (Holds : List ℕ → Type 0) : Type 0 where
+  pub input : List ℕ
+  pub read : IfSome remaining (λ bytes. input ≡ bytes)
+  pub holds : Holds input
+
+-- The answer goes out and is flushed; where there is none, nothing is written. The writer, and only
+-- it, is blamed where it failed.
+abbrev pub WritesOut : Result Replayed Refusal → (old new : SinkSeen)
+    → Result Replayed ConsumeFault → Type 0
+WritesOut (Err e) old new result = (new ≡ old) × (result ≡ Err (Refused e))
+WritesOut (Ok r) old new (Ok given) =
+    (given ≡ r) × IsFalse new.has_failed × IsSent r.bytes.items old new
+WritesOut (Ok r) old new (Err Write) = IsTrue new.has_failed × IsSent r.bytes.items old new
+WritesOut (Ok r) old new (Err e) = ⊥
+
+-- what replay returns for the script over the trace is what goes out
+pub record WritesAnswer (shows : LayoutMeant) (script trace : List ℕ) (plan : Plan)
+    (old new : SinkSeen) (result : Result Replayed ConsumeFault) : Type 0 where
+  pub answer : Result Replayed Refusal
+  pub is : IsReplay shows script trace plan answer
+  pub out : WritesOut answer old new result
+
+-- how a fault of reading is reported
+abbrev pub fault_of_reading : ReadFault → ConsumeFault
+fault_of_reading Failed = Read
+fault_of_reading ReadFault.Memory = Refused Memory

@@ -1,0 +1,31 @@
+-- Plans, and which thread is in which group of a plan.
+use Rattle.std.specs.Prelude.{◌≡◌, ◌≤◌, List, ⊤}
+use Rattle.shard_queue.specs.{Groupings.IsDealt, Threads.items_of}
+use Rattle.shard_queue.specs.Faults.{IsListed, IsListFault}
+use Rattle.consumer.specs.Vocabulary.{Firing, Grouping, GroupFault, GroupPlan, Dealt, Lists, Plan}
+use Rattle.consumer.specs.Vocabulary.{Dif, MOST_GROUPS, MOST_WORKERS}
+
+abbrev pub AreInBounds : GroupPlan → Type 0
+AreInBounds (Dealt n) = (1 ≤ n) × (n ≤ MOST_GROUPS)
+AreInBounds (Lists lists) = ⊤
+
+-- the numbers of its workers and of its dealt groups are in bounds
+pub record IsInBounds (plan : Plan) : Type 0 where
+  pub workers : (1 ≤ plan.workers) × (plan.workers ≤ MOST_WORKERS)
+  pub groups : AreInBounds plan.groups
+
+-- four workers, sixteen groups and compiled code
+pub record IsDefault (plan : Plan) : Type 0 where
+  pub workers : plan.workers ≡ 4
+  pub groups : plan.groups ≡ Dealt 16
+  pub engine : plan.engine ≡ Dif
+
+-- these are the plan's groups of a trace
+abbrev pub IsGroupedBy : GroupPlan → List Firing → Grouping → Type 0
+IsGroupedBy (Dealt n) trace grouping = IsDealt n trace grouping
+IsGroupedBy (Lists lists) trace grouping = IsListed (items_of lists.items) trace grouping
+
+-- its lists are no groups of the trace, first for this reason
+abbrev pub IsMisgrouped : GroupPlan → List Firing → GroupFault → Type 0
+IsMisgrouped (Dealt n) trace fault = ⊥
+IsMisgrouped (Lists lists) trace fault = IsListFault (items_of lists.items) trace fault

@@ -1,0 +1,112 @@
+-- How the program ends, and what went to its streams by then.
+use Rattle.std.specs.Prelude.{◌≡◌, ◌≢◌, ◌≤◌, ◌⊎◌, ◌+◌, ℕ, List, Option, Result, Ok, Err, IfNone}
+use Rattle.std.specs.Prelude.{IfSome, IsFalse, IsOkAnd, IsTrue, MatchBool, MatchOption, MatchResult}
+use Rattle.std.specs.Prelude.{drop, map, string_bytes}
+use Rattle.std.specs.declared.vec.IntoIter.{IntoIter}
+use Rattle.std.specs.declared.string.String.{String}
+use Rattle.replay_core.specs.Layouts.{LayoutMeant}
+use Rattle.report.specs.Stream.{FeedSeen, IsSent, SinkSeen}
+use Rattle.consumer.specs.Bundle.{Divides}
+use Rattle.consumer.specs.Consuming.{HoldsOfInput, IsCutShort, WritesAnswer}
+use Rattle.consumer.specs.Refusals.{IsReported, status_at_end}
+use Rattle.consumer.specs.Vocabulary.{into_iter_items, ErrorKind, MOST_CALLS, Asked, ConsumeFault}
+use Rattle.consumer.specs.Vocabulary.{Read, Refused, Write, Refusal, Memory, Replayed, UsageFault}
+use Rattle.consumer.specs.Words.{Asks, IsFaultOf, IsMistake}
+use Rattle.consumer.specs.declared.program.Streams.{Streams}
+use Rattle.consumer.specs.declared.words.UsageFault.TheVariants.{Help, Usage}
+use Rattle.consumer.specs.declared.words.UsageFault.TheVariants as usage
+use Rattle.clap.specs.declared.error.kind.ErrorKind.TheVariants.{ValueValidation}
+
+-- ---- its streams
+
+pub record StreamsSeen : Type 0 where
+  pub input : FeedSeen
+  pub output : SinkSeen
+  pub errors : SinkSeen
+
+abbrev pub streams_seen : {F S E : Type 0} → (F → FeedSeen) → (S → SinkSeen) → (E → SinkSeen)
+    → Streams F S E → StreamsSeen
+streams_seen feed sink errors s =
+    record { input = feed s.input; output = sink s.output; errors = errors s.errors }
+
+-- no call of them has failed
+pub record AreUnfailed (s : StreamsSeen) : Type 0 where
+  pub input : IsFalse s.input.has_failed
+  pub output : IsFalse s.output.has_failed
+  pub errors : IsFalse s.errors.has_failed
+
+-- ---- its words
+
+-- the words after the program's name
+abbrev pub words_of : {A Z : Type 0} → IntoIter (String A) Z → List (List ℕ)
+words_of all = map string_bytes (drop 1 (into_iter_items all))
+
+-- they ask for this
+abbrev pub IsAsked : {A Z E : Type 0} → Result (IntoIter (String A) Z) E → Asked → Type 0
+IsAsked given asked = IsOkAnd given (λ all. Asks (words_of all) asked)
+
+-- they ask for no run, for this reason; or one is not UTF-8, or memory ran out
+abbrev pub IsUnasked : {A Z E : Type 0} → Result (IntoIter (String A) Z) E → UsageFault → Type 0
+IsUnasked given fault = (fault ≡ usage.Memory) ⊎ MatchResult given
+    (λ all. IsFaultOf (words_of all) fault) (λ e. IsMistake ValueValidation fault)
+
+-- ---- a run
+
+-- What was asked for is run: without a file over the input's bundle, and with one, which has the
+-- script, over the input's trace. The result is of the input's bytes, and of the file's.
+pub record IsRunOf (shows : LayoutMeant) (asked : Asked) (holds : List ℕ → Option (List ℕ))
+    (old new : StreamsSeen) (result : Result Replayed ConsumeFault) : Type 0 where
+  pub shown : result ≢ Err Read → MatchOption asked.file
+      (HoldsOfInput old.input.remaining (λ bundle. (script trace : List ℕ)
+      × Divides bundle script trace
+      × WritesAnswer shows script trace asked.plan old.output new.output result))
+      (λ file. HoldsOfInput (holds (string_bytes file)) (λ script.
+      HoldsOfInput old.input.remaining (λ trace.
+      WritesAnswer shows script trace asked.plan old.output new.output result)))
+  pub read : result ≢ Err Read → IsFalse new.input.has_failed
+      × ((result ≡ Err (Refused Memory)) ⊎ IsTrue new.input.has_ended)
+  -- the input is blamed where it failed or had not ended, or else the file
+  pub blamed : result ≡ Err Read → IfNone asked.file (IsCutShort old.input new.input)
+  -- and then nothing is written
+  pub unread : result ≡ Err Read → new.output ≡ old.output
+  pub few : new.input.calls ≤ old.input.calls + MOST_CALLS
+
+-- ---- without a run
+
+-- memory ran out: the program says so
+pub record IsSpent (old new : StreamsSeen) (status : ℕ) : Type 0 where
+  pub ends : status ≡ 1
+  pub output : new.output ≡ old.output
+  pub line : IsReported (Err (Refused Memory)) old.errors new.errors
+
+-- help goes to the output; where that fails, the program says so
+pub record IsHelped (old new : StreamsSeen) (status : ℕ) : Type 0 where
+  pub text : List ℕ
+  pub sent : IsSent text old.output new.output
+  pub ends : MatchBool new.output.has_failed
+      ((status ≡ 1) × IsReported (Err Write) old.errors new.errors)
+      ((status ≡ 0) × (new.errors ≡ old.errors))
+
+-- what is wrong with the words goes to standard error
+pub record IsCorrected (old new : StreamsSeen) (status : ℕ) : Type 0 where
+  pub ends : status ≡ 2
+  pub text : List ℕ
+  pub sent : IsSent text old.errors new.errors
+  pub output : new.output ≡ old.output
+
+abbrev pub EndsUnasked : UsageFault → (old new : StreamsSeen) → ℕ → Type 0
+EndsUnasked (Help e) old new status = IsHelped old new status ⊎ IsSpent old new status
+EndsUnasked (Usage e) old new status = IsCorrected old new status ⊎ IsSpent old new status
+EndsUnasked usage.Memory old new status = IsSpent old new status
+
+-- ---- the program
+
+-- The words ask for a run, and the program ends as that does, with its status and, where there is
+-- no answer, its line; or they ask for none, and the input is not read.
+pub data Ends {A Z E : Type 0} (shows : LayoutMeant) (given : Result (IntoIter (String A) Z) E)
+    (holds : List ℕ → Option (List ℕ)) (old new : StreamsSeen) (status : ℕ) : Type 0 where
+  ran : (asked : Asked) (result : Result Replayed ConsumeFault) → IsAsked given asked
+      → IsRunOf shows asked holds old new result → status ≡ status_at_end result
+      → IsReported result old.errors new.errors → Ends shows given holds old new status
+  unasked : (fault : UsageFault) → IsUnasked given fault → new.input ≡ old.input
+      → EndsUnasked fault old new status → Ends shows given holds old new status

@@ -1,0 +1,54 @@
+-- From the bytes of a script to its tree and its types, or why it has none.
+use Rattle.std.specs.Prelude.{◌≡◌, ◌≤◌, ◌<◌, ℕ, List, Err}
+use Rattle.d_parser.specs.{Limits.IsDeep, Limits.clauses, Script.IsScript, Tree.ItemTree}
+use Rattle.d_types.specs.Scripts as typing
+use Rattle.d_types.specs.{Faults.Fault, Faults.type_fault_of, Fitting.ScriptFits, WellTyped.IsWell}
+use Rattle.consumer.specs.Vocabulary.{Token, IsLexed, IsRefused, ParseFault, MOST_CLAUSES}
+use Rattle.consumer.specs.Vocabulary.{TypeFault, ScriptMeant, Refusal, Lex, Parse}
+
+-- these are the script's tokens, and no limit is passed
+pub record HasTokens (script : List ℕ) (tokens : List Token) : Type 0 where
+  pub lexed : IsLexed script tokens
+  pub shallow : ¬ IsDeep tokens
+  pub few : clauses tokens ≤ MOST_CLAUSES
+
+-- this is the script's tree
+pub record HasTree (script : List ℕ) (items : List ItemTree) : Type 0 where
+  pub tokens : List Token
+  pub has : HasTokens script tokens
+  pub spelled : IsScript items tokens
+
+-- the first of these that holds
+abbrev pub IsParseFault : List ℕ → ParseFault → Type 0
+IsParseFault script ParseFault.TooDeep =
+    (tokens : List Token) × IsLexed script tokens × IsDeep tokens
+IsParseFault script ParseFault.TooManyClauses =
+    (tokens : List Token) × IsLexed script tokens
+    × (¬ IsDeep tokens) × (MOST_CLAUSES < clauses tokens)
+IsParseFault script (ParseFault.Syntax line) =
+    (tokens : List Token) × HasTokens script tokens
+    × ((items : List ItemTree) → ¬ IsScript items tokens)
+IsParseFault script ParseFault.Memory = ⊥
+
+-- why the script has no tree
+abbrev pub IsUnread : List ℕ → Refusal → Type 0
+IsUnread script (Lex f) = IsRefused script f
+IsUnread script (Parse f) = IsParseFault script f
+IsUnread script e = ⊥
+
+-- ---- its types
+
+-- the script has a tree, and this is the first fault of its types
+pub record IsMistyped (script : List ℕ) (fault : TypeFault) : Type 0 where
+  pub items : List ItemTree
+  pub tree : HasTree script items
+  pub first : Fault
+  pub refused : typing.script items ≡ Err first
+  pub is : fault ≡ type_fault_of first
+
+-- the script is well typed with six registers, and this is what it means
+pub record IsAccepted (script : List ℕ) (m : ScriptMeant) : Type 0 where
+  pub items : List ItemTree
+  pub tree : HasTree script items
+  pub well : IsWell items m
+  pub fits : ScriptFits m

@@ -1,0 +1,73 @@
+//! How the program ends: what it says on standard error, and its status.
+
+ghost use Rattle.std.specs.Prelude.{◌≡◌, ◌∷◌, ◌++◌, ◌≤◌, [], IsFalse, length};
+ghost use Rattle.report.specs.Stream.{IsSent};
+ghost use Rattle.consumer.specs.{Lines.reason_bytes};
+ghost use Rattle.consumer.specs.Refusals.{IsReported, consume_fault_line, status_at_end};
+
+use crate::consuming::ConsumeFault;
+use crate::line::{MOST_TEXT, Place, Reason, reason_line};
+use crate::plan::Replayed;
+use crate::refusal::{refusal_reason, refusal_status};
+use report::{Sink, send};
+
+/// Says on the errors' stream why there is no answer, where there is none, and returns the status
+/// that the program ends with. It takes no memory.
+///
+/// ```text
+/// end(&mut errors, &Err(ConsumeFault::Write)); // 1, and the line `dreplay: write failed`
+/// ```
+pub fn end<E: Sink>(errors: &mut E, answer: &Result<Replayed, ConsumeFault>) -> u8
+    requires { IsFalse (E.seen errors.old).has_failed }
+    ensures status { result ≡ status_at_end answer.now }
+    ensures line { IsReported answer.now (E.seen errors.old) (E.seen errors.new) }
+{
+    if let Err(fault) = answer {
+        tell(errors, fault);
+    }
+    status_at_end(answer)
+}
+
+// Writes the line of a fault in one piece. Where that fails the status still tells what the fault
+// was.
+fn tell<E: Sink>(errors: &mut E, fault: &ConsumeFault)
+    requires { IsFalse (E.seen errors.old).has_failed }
+    ensures { IsSent (consume_fault_line fault.now ++ 10 ∷ [])
+        (E.seen errors.old) (E.seen errors.new) }
+{
+    let mut line = reason_line(fault_reason(fault));
+    line.push('\n');
+    let _ = send(errors, line.as_str().as_bytes());
+}
+
+// What the line of a fault says, and of which place.
+fn fault_reason(fault: &ConsumeFault) -> Reason
+    ensures bytes { reason_bytes result ≡ consume_fault_line fault.now }
+    ensures short { length result.text.now ≤ MOST_TEXT }
+{
+    let text = match fault {
+        ConsumeFault::Read => "dreplay: read failed",
+        ConsumeFault::Refused(refusal) => return refusal_reason(refusal),
+        ConsumeFault::Write => "dreplay: write failed",
+    };
+    Reason {
+        text,
+        place: Place::Nowhere,
+    }
+}
+
+/// The status that the program ends with: the script's own where it exits, 0 where it doesn't, and
+/// otherwise the fault's.
+///
+/// ```text
+/// status_at_end(&Err(ConsumeFault::Write)); // 1
+/// ```
+pub fn status_at_end(answer: &Result<Replayed, ConsumeFault>) -> u8
+    ensures { result ≡ status_at_end answer.now }
+{
+    match answer {
+        Ok(replayed) => replayed.status,
+        Err(ConsumeFault::Refused(refusal)) => refusal_status(refusal),
+        Err(ConsumeFault::Read | ConsumeFault::Write) => 1,
+    }
+}

@@ -1,0 +1,61 @@
+//! Files that scripts are read from.
+
+ghost use Rattle.std.specs.Prelude.{◌≡◌, ◌⊎◌, ℕ, List, Option, Some, None, IfErr, IfOk, IfSome};
+ghost use Rattle.std.specs.Prelude.{IsFalse};
+ghost use Rattle.consumer.specs.Vocabulary.{Memory, Read, Refused};
+
+use crate::consuming::ConsumeFault;
+use report::{Failed, Feed, Watched, read_to_end};
+use std::alloc::Global;
+use std::fs::File;
+use std::rt::Files;
+
+/// Files by their names.
+pub trait ScriptFiles {
+    type File: Feed + Drop;
+
+    // The bytes of the file of this name, where they are known.
+    ghost bytes: { Self → List ℕ → Option (List ℕ) };
+
+    /// Opens a file, to be read from its first byte.
+    fn open(&self, name: &str) -> Result<Self::File, Failed>
+        ensures unread { IfOk result (λ file. IsFalse (Self.File.seen file).has_failed) }
+        ensures bytes { IfOk result (λ file. IfSome (bytes self.now name.now) (λ all.
+            (Self.File.seen file).remaining ≡ Some all)) };
+}
+
+/// The files of the system. std says of none what it holds.
+#[derive(Drop)]
+pub struct SystemFiles<'a, R> {
+    pub rt: &'a R,
+}
+
+impl<'a, R: Files> ScriptFiles for SystemFiles<'a, R> {
+    type File = Watched<R::File>;
+
+    ghost bytes = { λ _ _. None };
+
+    fn open(&self, name: &str) -> Result<Watched<R::File>, Failed> {
+        match File::open(self.rt, name) {
+            Ok(file) => Ok(Watched::new(file)),
+            Err(_) => Err(Failed),
+        }
+    }
+}
+
+/// Reads the script of a file. The file is closed then: where the process was started without a
+/// standard input, an open file would be it.
+pub fn script_in<C: ScriptFiles>(
+    alloc: Global,
+    files: &C,
+    name: &str,
+) -> Result<Vec<u8>, ConsumeFault>
+    ensures bytes { IfOk result (λ script. IfSome (C.bytes files.now name.now) (λ all.
+        script.items ≡ all)) }
+    ensures fault { IfErr result (λ e. (e ≡ Read) ⊎ (e ≡ Refused Memory)) }
+{
+    match files.open(name) {
+        Ok(mut file) => Ok(read_to_end(alloc, &mut file)?),
+        Err(_) => Err(ConsumeFault::Read),
+    }
+}

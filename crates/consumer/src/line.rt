@@ -1,0 +1,86 @@
+//! The program's line on standard error, made in place: it takes no memory.
+
+ghost use Rattle.std.specs.Prelude.{◌≡◌, ◌+◌, ◌++◌, ◌<◌, ◌≤◌, length};
+ghost use Rattle.arrayvec.specs.ArrayString.{array_string_len};
+ghost use Rattle.consumer.specs.Lines.{place_bytes, reason_bytes};
+
+use arrayvec::ArrayString;
+use itoa::{Buffer, Integer};
+
+/// Where a fault is.
+#[derive(Clone, Copy, Debug, PartialEq, Eq)]
+pub enum Place {
+    /// No place is reported.
+    Nowhere,
+    /// On this line of the script.
+    Line(usize),
+    /// In this row of the trace.
+    Row(u32),
+    /// In a field of the trace.
+    Field { row: u32, column: u32 },
+    /// At a thread of the plan's lists.
+    Thread(i32),
+}
+
+/// Why there is no answer, and where.
+#[derive(Clone, Copy, Debug, PartialEq, Eq)]
+pub struct Reason {
+    pub text: &'static str,
+    pub place: Place,
+}
+
+/// The most bytes of a reason's text.
+pub const MOST_TEXT: usize = 40;
+
+/// Room for a text and two numbers with what they are numbers of.
+pub const ROOM: usize = 160;
+
+/// A line of the program, without its line feed.
+pub type Line = ArrayString<ROOM>;
+
+/// The line that says why there is no answer.
+///
+/// ```text
+/// let text = "dreplay: trace refused: Trace 4";
+/// let place = Place::Row(9);
+/// reason_line(Reason { text, place }).as_str(); // `dreplay: trace refused: Trace 4 row 9`
+/// ```
+pub fn reason_line(reason: Reason) -> Line
+    requires { length reason.text.now ≤ MOST_TEXT }
+    ensures bytes { result.bytes ≡ reason_bytes reason }
+    ensures room { array_string_len result < ROOM }
+{
+    let mut line = Line::new();
+    line.push_str(reason.text);
+    push_place(&mut line, reason.place);
+    line
+}
+
+// Appends where a fault is.
+fn push_place(line: &mut Line, place: Place)
+    requires { array_string_len line.old ≤ MOST_TEXT }
+    ensures bytes { line.new.bytes ≡ line.old.bytes ++ place_bytes place }
+    ensures room { array_string_len line.new < ROOM }
+{
+    match place {
+        Place::Nowhere => {}
+        Place::Line(number) => push_number(line, " line ", number),
+        Place::Row(row) => push_number(line, " row ", row),
+        Place::Field { row, column } => {
+            push_number(line, " row ", row);
+            push_number(line, " column ", column);
+        }
+        Place::Thread(thread) => push_number(line, " thread ", thread),
+    }
+}
+
+// Appends a number after what it is the number of.
+fn push_number<I: Integer>(line: &mut Line, label: &str, number: I)
+    requires { array_string_len line.old + length label.now + 40 ≤ ROOM }
+    ensures bytes { line.new.bytes ≡ line.old.bytes ++ label.now ++ I.text number }
+    ensures few { array_string_len line.new ≤ array_string_len line.old + length label.now + 40 }
+{
+    let mut digits = Buffer::new();
+    line.push_str(label);
+    line.push_str(digits.format(number));
+}

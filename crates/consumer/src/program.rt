@@ -1,0 +1,138 @@
+//! What the program does with its words, its files and its streams.
+
+ghost use Rattle.std.specs.Prelude.{◌≡◌, IfOk, IsFalse, MatchResult};
+ghost use Rattle.consumer.specs.{Plans.IsInBounds};
+ghost use Rattle.consumer.specs.Program.{AreUnfailed, Ends, EndsUnasked, IsAsked, IsRunOf};
+ghost use Rattle.consumer.specs.Program.{IsUnasked, streams_seen};
+
+use crate::consumer::Consumer;
+use crate::consuming::ConsumeFault;
+use crate::ending::end;
+use crate::files::{ScriptFiles, script_in};
+use crate::plan::Replayed;
+use crate::refusal::Refusal;
+use crate::words::{Asked, Help, UsageFault, program_words, read_words, texts_of};
+use keyed_hash::HashKey;
+use replay_core::Layout;
+use report::{Feed, Sink, send};
+use std::alloc::Global;
+use std::env::Args;
+use std::io;
+use std::sync::Wait;
+use std::thread::Threads;
+
+/// The program's streams.
+#[derive(Drop)]
+pub struct Streams<F, S, E> {
+    pub input: F,
+    pub output: S,
+    pub errors: E,
+}
+
+impl<'a, R: Threads + Wait + Sync, L: Layout> Consumer<'a, R, L> {
+    /// Does all that a program does whose answers have this layout, and returns the status that it
+    /// ends with. The run's maps hash by the key, on which nothing else depends.
+    ///
+    /// ```text
+    /// consumer.program(HELP, hash_key, &files, words, &mut streams); // 0, with the answer written
+    /// ```
+    pub fn program<C: ScriptFiles, F: Feed, S: Sink, E: Sink>(
+        &self,
+        help: Help,
+        hash_key: HashKey,
+        files: &C,
+        given: io::Result<Args>,
+        streams: &mut Streams<F, S, E>,
+    ) -> u8
+        requires { AreUnfailed (streams_seen F.seen S.seen E.seen streams.old) }
+        ensures { Ends L.shows given (C.bytes files.now)
+            (streams_seen F.seen S.seen E.seen streams.old)
+            (streams_seen F.seen S.seen E.seen streams.new) result }
+    {
+        match request(self.alloc, help, hash_key, given) {
+            Ok(asked) => {
+                let answer = self.run_asked(files, &asked, streams);
+                end(&mut streams.errors, &answer)
+            }
+            Err(fault) => explain(self.alloc, &fault, streams),
+        }
+    }
+
+    // Runs what was asked for, over the input and into the output.
+    fn run_asked<C: ScriptFiles, F: Feed, S: Sink, E: Sink>(
+        &self,
+        files: &C,
+        asked: &Asked,
+        streams: &mut Streams<F, S, E>,
+    ) -> Result<Replayed, ConsumeFault>
+        requires plan { IsInBounds asked.now.plan }
+        requires unfailed { AreUnfailed (streams_seen F.seen S.seen E.seen streams.old) }
+        ensures run { IsRunOf L.shows asked.now (C.bytes files.now)
+            (streams_seen F.seen S.seen E.seen streams.old)
+            (streams_seen F.seen S.seen E.seen streams.new) result }
+        ensures errors { streams.new.errors ≡ streams.old.errors }
+    {
+        let (input, output) = (&mut streams.input, &mut streams.output);
+        let Some(file) = &asked.file else {
+            return self.consume(input, output, &asked.plan);
+        };
+        let script = script_in(self.alloc, files, file.as_str())?;
+        self.consume_trace(&script, input, output, &asked.plan)
+    }
+}
+
+// What the program's words ask for, with this key for the run's maps.
+fn request(
+    alloc: Global,
+    help: Help,
+    hash_key: HashKey,
+    given: io::Result<Args>,
+) -> Result<Asked, UsageFault>
+    ensures exact { MatchResult result (IsAsked given) (IsUnasked given) }
+    ensures plan { IfOk result (λ asked. IsInBounds asked.plan) }
+{
+    let asked = asked_by(alloc, help, given)?;
+    Ok(asked.hashed_by(hash_key))
+}
+
+// What the program's words ask for.
+fn asked_by(alloc: Global, help: Help, given: io::Result<Args>) -> Result<Asked, UsageFault>
+    ensures exact { MatchResult result (IsAsked given) (IsUnasked given) }
+    ensures plan { IfOk result (λ asked. IsInBounds asked.plan) }
+{
+    let words = program_words(alloc, help, given)?;
+    let words = texts_of(alloc, &words)?;
+    read_words(alloc, help, &words)
+}
+
+// Shows the help that was asked for, or says what is wrong with the words, and returns the status.
+fn explain<F: Feed, S: Sink, E: Sink>(
+    alloc: Global,
+    fault: &UsageFault,
+    streams: &mut Streams<F, S, E>,
+) -> u8
+    requires { AreUnfailed (streams_seen F.seen S.seen E.seen streams.old) }
+    ensures ends { EndsUnasked fault.now (streams_seen F.seen S.seen E.seen streams.old)
+        (streams_seen F.seen S.seen E.seen streams.new) result }
+    ensures input { streams.new.input ≡ streams.old.input }
+{
+    match fault {
+        UsageFault::Help(help) => match format!(in alloc; "{help}") {
+            Ok(text) => match send(&mut streams.output, text.as_str().as_bytes()) {
+                Ok(()) => 0,
+                Err(_) => end(&mut streams.errors, &Err(ConsumeFault::Write)),
+            },
+            Err(_) => end(&mut streams.errors, &Err(OUT_OF_MEMORY)),
+        },
+        UsageFault::Usage(mistake) => match format!(in alloc; "{mistake}") {
+            Ok(text) => {
+                let _ = send(&mut streams.errors, text.as_str().as_bytes());
+                2
+            }
+            Err(_) => end(&mut streams.errors, &Err(OUT_OF_MEMORY)),
+        },
+        UsageFault::Memory => end(&mut streams.errors, &Err(OUT_OF_MEMORY)),
+    }
+}
+
+const OUT_OF_MEMORY: ConsumeFault = ConsumeFault::Refused(Refusal::Memory);

@@ -1,0 +1,127 @@
+//! The answer of a script over a trace.
+
+ghost use Rattle.std.specs.Prelude.{◌≡◌, ◌≤◌, ◌+◌, IfOk, List, unwrap_or, option_map};
+ghost use Rattle.shard_queue.specs.{Groups.AreOf, Groups.grouping, Threads.run_threads};
+ghost use Rattle.replay_core.specs.Exit.{firings_over};
+ghost use Rattle.consumer.specs.{Answer.IsShown};
+ghost use Rattle.consumer.specs.Vocabulary.{Firing, Grouping, Plan, functions_in, functions_of};
+ghost use Rattle.consumer.specs.Vocabulary.{MOST_GROUPS, typed_script_of};
+ghost use Rattle.consumer.specs.Plans.{IsGroupedBy, IsInBounds};
+ghost use Rattle.consumer.specs.Replaying.{IsCarriedOut, IsRunBy, IsReplay, output_of};
+
+use crate::consumer::Consumer;
+use crate::grouping::groups_of;
+use crate::plan::{EngineKind, Plan, Replayed};
+use crate::refusal::Refusal;
+use crate::scripts::read_script;
+use d_types::{TypedScript, check};
+use dif_codegen::compile;
+use firing_reader::read_trace_by;
+use replay_core::{DifLanes, Gate, Job, Layout, OpenGate, Ran, TreeLanes, run_all};
+use std::alloc::AllocError;
+use std::sync::Wait;
+use std::thread::Threads;
+
+impl<'a, R: Threads + Wait + Sync, L: Layout> Consumer<'a, R, L> {
+    /// Runs a script over a trace, between BEGIN and END. The script is refused before the trace,
+    /// and the trace before the groups; `Refusal::Memory` may come at any point.
+    ///
+    /// ```text
+    /// let consumer = Consumer { rt: &rt, alloc, layout: Report };
+    /// let (groups, engine) = (GroupPlan::Dealt(16), EngineKind::Dif);
+    /// let plan = Plan::new(4, groups, engine);
+    /// let replayed = consumer.replay(b"BEGIN { trace(1); exit(3); }", &trace, &plan)?;
+    /// replayed.bytes; // `1` and a line feed
+    /// replayed.status; // 3
+    /// consumer.replay(b"BEGIN {\n 08 }", &trace, &plan); // Err(Refusal::Lex(..)), of line 2
+    /// ```
+    pub fn replay(&self, script: &[u8], trace: &[u8], plan: &Plan) -> Result<Replayed, Refusal>
+        requires { IsInBounds plan.now }
+        ensures { IsReplay L.shows script.now trace.now plan.now result }
+    {
+        self.replay_with(script, trace, plan, &OpenGate)
+    }
+
+    /// Does the same, where each worker passes a gate before the first firing of each group that it
+    /// took.
+    ///
+    /// ```text
+    /// consumer.replay_with(script, trace, &plan, &OpenGate); // as `replay` does
+    /// ```
+    pub fn replay_with<G: Gate + Sync>(
+        &self,
+        script: &[u8],
+        trace: &[u8],
+        plan: &Plan,
+        gate: &G,
+    ) -> Result<Replayed, Refusal>
+        requires { IsInBounds plan.now }
+        ensures { IsReplay L.shows script.now trace.now plan.now result }
+    {
+        let alloc = self.alloc;
+        let tree = read_script(alloc, script)?;
+        let script = check(alloc, tree)?;
+        let trace = read_trace_by(self.rt, alloc, plan.hash_key, trace, plan.workers)?;
+        let groups = groups_of(alloc, &plan.groups, &trace)?;
+        let job = Job {
+            trace: &trace,
+            groups: &groups,
+            gate,
+        };
+        let ran = self.run(&script, &job, plan)?;
+        let replayed = self.run_output(&script, ran)?;
+        Ok(replayed)
+    }
+
+    // Runs a script over a job's trace, by the engine and the workers of a plan.
+    fn run<G: Gate + Sync>(
+        &self,
+        script: &TypedScript,
+        job: &Job<G>,
+        plan: &Plan,
+    ) -> Result<Ran, AllocError>
+        requires plan { IsInBounds plan.now }
+        requires groups { AreOf job.now.groups.now (run_threads job.now.trace.now) }
+        requires few { (grouping job.now.groups.now).count ≤ MOST_GROUPS + 1 }
+        ensures { IfOk result (IsRunBy (typed_script_of script.now) job.now.trace.now
+            (grouping job.now.groups.now) plan.now.workers) }
+    {
+        let (rt, alloc, workers) = (self.rt, self.alloc, plan.workers);
+        match plan.engine {
+            EngineKind::Tree => {
+                let lanes = TreeLanes::new(plan.hash_key, script);
+                run_all(rt, alloc, &lanes, job, workers)
+            }
+            EngineKind::Dif => {
+                let program = compile(alloc, script)?;
+                let lanes = DifLanes::new(plan.hash_key, &program);
+                run_all(rt, alloc, &lanes, job, workers)
+            }
+        }
+    }
+
+    // What a run shows.
+    fn run_output(&self, script: &TypedScript, ran: Ran) -> Result<Replayed, AllocError>
+        requires { functions_of ran.whole.table ≡ functions_in (typed_script_of script.now) }
+        ensures { let m = typed_script_of script.now in
+            (plan : Plan) (trace : List Firing) (grouping : Grouping)
+            → IsGroupedBy plan.groups trace grouping → IsRunBy m trace grouping plan.workers ran
+            → IfOk result (λ r. IsShown L.shows m trace (output_of r)
+            × IsCarriedOut plan trace (firings_over m trace) r) }
+    {
+        let bytes = self.layout.render(self.rt, self.alloc, script, &ran.whole)?;
+        Ok(Replayed {
+            bytes,
+            by_worker: ran.by_worker,
+            status: status(ran.whole.exit),
+            ran: ran.whole.ran,
+        })
+    }
+}
+
+// The status of an exit, or 0.
+fn status(exit: Option<(u64, u8)>) -> u8
+    ensures { result ≡ unwrap_or (option_map (λ exit. exit.1) exit) 0 }
+{
+    exit.map_or(0, |(_, status)| status)
+}

@@ -1,0 +1,28 @@
+//! From the bytes of a script to its tree.
+
+ghost use Rattle.std.specs.Prelude.{◌≡◌, ◌⊎◌, IfOk, MatchResult};
+ghost use Rattle.d_parser.specs.{Numbers.AreSmall, Sizes.IsWithin, Tree.script_of};
+ghost use Rattle.consumer.specs.Scripts.{HasTree, IsUnread};
+
+use crate::refusal::Refusal;
+use d_lexer::{MOST_BYTES, lex};
+use d_parser::{Script, parse};
+use std::alloc::Global;
+
+/// The tree of a script, or why it has none: the lexer's fault before the parser's.
+///
+/// ```text
+/// let script = read_script(alloc, b"hit { trace(1); }")?; // one clause, with one statement
+/// // Err(Refusal::Parse(ParseFault::Syntax { line: 2 }))
+/// read_script(alloc, b"hit {\n 1 + }");
+/// ```
+pub fn read_script(alloc: Global, script: &[u8]) -> Result<Script, Refusal>
+    ensures read { MatchResult result (λ s. HasTree script.now (script_of s))
+        (λ e. (e ≡ Refusal.Memory) ⊎ IsUnread script.now e) }
+    ensures few { IfOk result (λ s. IsWithin MOST_BYTES (script_of s)) }
+    ensures small { IfOk result (λ s. AreSmall (script_of s)) }
+{
+    let tokens = lex(alloc, script)?;
+    let tree = parse(alloc, &tokens)?;
+    Ok(tree)
+}

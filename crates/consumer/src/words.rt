@@ -1,0 +1,303 @@
+//! The words after the program's name.
+
+ghost use Rattle.std.specs.Prelude.{◌≡◌, ◌⊎◌, ◌∷◌, [], ℕ, IfErr, IfOk, IfSome, IsErr, IsOkAnd};
+ghost use Rattle.std.specs.Prelude.{MatchResult, None, Some, codes, drop, false, map, option_map};
+ghost use Rattle.std.specs.Prelude.{pos, string_bytes, true};
+ghost use Rattle.clap.specs.Words.{app_of, found_of, kind_of, rows_of, rule_of, takes};
+ghost use Rattle.consumer.specs.{Vocabulary.into_iter_items, Vocabulary.Signed};
+ghost use Rattle.consumer.specs.{declared.words.UsageFault.TheVariants.Memory};
+ghost use Rattle.consumer.specs.Words.{Asks, HasPlan, IsAskedIn, IsFaultOf, IsMistake, IsNumberIn};
+ghost use Rattle.consumer.specs.Words.{IsPlanFault, IsPlanIn, IsToldAs, engine_called, engine_in};
+ghost use Rattle.consumer.specs.Words.{file_in, option, program};
+
+use crate::plan::{EngineKind, GroupPlan, Plan};
+use clap::builder::ValueParser;
+use clap::error::ErrorKind;
+use clap::{Arg, ArgMatches, Command, value_parser};
+use keyed_hash::HashKey;
+use shard_queue::{MOST_GROUPS, MOST_WORKERS};
+use std::alloc::{AllocError, Global};
+use std::env::Args;
+use std::io;
+use thiserror::Error;
+
+/// What the words ask for.
+#[derive(Debug, Drop)]
+pub struct Asked {
+    /// The file that holds the script. Standard input is then the trace alone; without it, a
+    /// bundle.
+    pub file: Option<String>,
+    /// How the run is carried out.
+    pub plan: Plan,
+}
+
+impl Asked {
+    /// The same, where the run's maps hash by this key.
+    pub fn hashed_by(self, hash_key: HashKey) -> Asked
+        ensures { result ≡ record self { plan = record self.plan { hash_key = hash_key } } }
+    {
+        let Asked { file, plan } = self;
+        let plan = plan.hashed_by(hash_key);
+        Asked { file, plan }
+    }
+}
+
+/// Why the words ask for no run.
+#[derive(Debug, Drop, Error)]
+pub enum UsageFault {
+    /// They ask for help, which this is.
+    #[error("{0}")]
+    Help(clap::Error),
+    /// They are not understood. This says why, in clap's words.
+    #[error("{0}")]
+    Usage(clap::Error),
+    /// Memory ran out.
+    #[error("out of memory")]
+    Memory,
+}
+
+impl From<AllocError> for UsageFault {
+    ghost from_gives = { λ _ e. e ≡ Memory };
+
+    fn from(_e: AllocError) -> UsageFault {
+        UsageFault::Memory
+    }
+}
+
+/// What help says of a program, beside its options.
+#[derive(Clone, Copy, Debug)]
+pub struct Help {
+    /// The program's name, and the form of its words.
+    pub usage: &'static str,
+    /// What it does, in a sentence.
+    pub about: &'static str,
+    /// What comes after the options.
+    pub more: &'static str,
+}
+
+const SCRIPT: &str = "Take the script from FILE, and the trace alone from standard input";
+
+const WORKERS: &str = "Run groups of threads on N workers, from 1 to 16";
+
+const GROUPS: &str = "Deal the threads of the trace out into N groups, from 1 to 4096";
+
+const ENGINE: &str = "Run compiled code (dif), or walk the typed tree (tree)";
+
+/// The words after the program's name, of those that the process was given, if these are UTF-8.
+pub fn program_words(
+    alloc: Global,
+    help: Help,
+    given: io::Result<Args>,
+) -> Result<Vec<String>, UsageFault>
+    ensures words { IfOk result (λ words. IsOkAnd given (λ all.
+        words.items ≡ drop 1 (into_iter_items all))) }
+    ensures fault { IfErr result (λ e. (e ≡ Memory)
+        ⊎ (IsErr given × IsMistake ErrorKind.ValueValidation e)) }
+{
+    match given {
+        Ok(words) => Ok(after_the_first(alloc, words)?),
+        Err(fault) if fault.kind() == io::ErrorKind::OutOfMemory => Err(UsageFault::Memory),
+        Err(_) => Err(UsageFault::Usage(not_text(alloc, help)?)),
+    }
+}
+
+// All words but the program's name.
+fn after_the_first(alloc: Global, words: Args) -> Result<Vec<String>, AllocError>
+    ensures { IfOk result (λ rest. rest.items ≡ drop 1 (into_iter_items words)) }
+{
+    words.skip(1).collect(alloc)
+}
+
+/// The texts of words, borrowed from them.
+pub fn texts_of(alloc: Global, words: &[String]) -> Result<Vec<&str>, AllocError>
+    ensures { IfOk result (λ texts. map (λ t. t.now) texts.items ≡ map string_bytes words.now) }
+{
+    words.iter().map(|word| word.as_str()).collect(alloc)
+}
+
+/// Reads the words after the program's name.
+///
+/// Without any they ask for a bundle, by 4 workers, 16 groups and compiled code. A request for help
+/// is an error too.
+///
+/// ```text
+/// // the script's file `s.d`, and two workers
+/// read_words(alloc, help, &["-s", "s.d", "-w", "2"])?;
+/// read_words(alloc, help, &["-w", "17"]); // Err(UsageFault::Usage(..))
+/// ```
+pub fn read_words<'a>(alloc: Global, help: Help, words: &'a [&'a str]) -> Result<Asked, UsageFault>
+    ensures exact { let given = map (λ w. w.now) words.now in
+        MatchResult result (Asks given) (IsFaultOf given) }
+    ensures taken { let given = map (λ w. w.now) words.now in
+        takes program given ≡ true → HasPlan given → IfErr result (λ e. e ≡ Memory) }
+{
+    match command(alloc, help)?.try_get_matches_from(words) {
+        Ok(matches) => request_in(alloc, help, &matches),
+        Err(error) => Err(usage_fault(error)),
+    }
+}
+
+// The file and the plan of clap's matches.
+fn request_in(alloc: Global, help: Help, matches: &ArgMatches<'_>) -> Result<Asked, UsageFault>
+    ensures { MatchResult result (IsAskedIn (rows_of (found_of matches.now)))
+        (IsPlanFault (rows_of (found_of matches.now))) }
+{
+    let file = file_named(alloc, matches)?;
+    let plan = plan_in(alloc, help, matches)?;
+    Ok(Asked { file, plan })
+}
+
+// A program's options, with all that help says of them.
+fn command<'a>(alloc: Global, help: Help) -> Result<Command<'a>, AllocError>
+    ensures { IfOk result (λ c. app_of c ≡ program) }
+{
+    let script = option(alloc, "script", 's', "FILE", SCRIPT);
+    let workers = with_default(option(alloc, "workers", 'w', "N", WORKERS), "4");
+    let groups = with_default(option(alloc, "groups", 'g', "N", GROUPS), "16");
+    let engine = with_default(option(alloc, "engine", 'e', "ENGINE", ENGINE), "dif");
+    Command::new(alloc, "dreplay")
+        .no_binary_name(true)
+        .override_usage(help.usage)
+        .about(help.about)
+        .after_help(help.more)
+        .arg(script)?
+        .arg(with_numbers(workers, MOST_WORKERS))?
+        .arg(with_numbers(groups, MOST_GROUPS))?
+        .arg(engine)
+}
+
+// An option with a name of one letter.
+fn option<'a>(alloc: Global, id: &'a str, letter: char, value: &'a str, help: &'a str) -> Arg<'a>
+    ensures rule { rule_of result ≡ option id.entry.now letter }
+    ensures local { result.global ≡ false }
+{
+    Arg::new(alloc, id)
+        .short(letter)
+        .value_name(value)
+        .help(help)
+}
+
+// The same, which has the value `default` where it isn't given.
+fn with_default<'a>(option: Arg<'a>, default: &'a str) -> Arg<'a>
+    ensures rule { rule_of result
+        ≡ record (rule_of option.entry) { defaults = default.entry.now ∷ [] } }
+    ensures local { result.global ≡ option.entry.global }
+{
+    option.default_value(default)
+}
+
+// The same, whose value is a number from 1 to `most`.
+fn with_numbers<'a>(option: Arg<'a>, most: u32) -> Arg<'a>
+    ensures rule { rule_of result
+        ≡ record (rule_of option.entry) { parser = Some (Signed (pos 1) (pos most)) } }
+    ensures local { result.global ≡ option.entry.global }
+{
+    option.value_parser(numbers_to(most))
+}
+
+// What takes the numbers from 1 to `most`.
+fn numbers_to<'a>(most: u32) -> ValueParser<'a>
+    ensures { result ≡ Signed (pos 1) (pos most) }
+{
+    value_parser!(u32).range(1..=i64::from(most))
+}
+
+// The file of the option -s, where it was given.
+fn file_named(alloc: Global, matches: &ArgMatches<'_>) -> Result<Option<String>, AllocError>
+    ensures { IfOk result (λ file. option_map string_bytes file
+        ≡ file_in (rows_of (found_of matches.now))) }
+{
+    match matches.get_str("script") {
+        Some(name) => Ok(Some(String::from_str(alloc, name)?)),
+        None => Ok(None),
+    }
+}
+
+// How the run is to be carried out, by the options -w, -g and -e.
+fn plan_in(alloc: Global, help: Help, matches: &ArgMatches<'_>) -> Result<Plan, UsageFault>
+    ensures { MatchResult result (IsPlanIn (rows_of (found_of matches.now)))
+        (IsPlanFault (rows_of (found_of matches.now))) }
+{
+    let Some(workers) = number_named(matches, "workers", 1, MOST_WORKERS) else {
+        return Err(out_of_range(alloc, help)?);
+    };
+    let Some(groups) = number_named(matches, "groups", 1, MOST_GROUPS) else {
+        return Err(out_of_range(alloc, help)?);
+    };
+    let Some(engine) = engine_named(matches) else {
+        return Err(no_engine(alloc, help)?);
+    };
+    Ok(Plan::new(workers, GroupPlan::Dealt(groups), engine))
+}
+
+// The mistake of a number that clap lets pass and that is none in its range. There is no such
+// number.
+fn out_of_range(alloc: Global, help: Help) -> Result<UsageFault, AllocError>
+    ensures { IfOk result (IsMistake ErrorKind.ValueValidation) }
+{
+    let error = command(alloc, help)?.error(
+        ErrorKind::ValueValidation,
+        "a number is out of range",
+    )?;
+    Ok(UsageFault::Usage(error))
+}
+
+// The mistake of a name that no engine has.
+fn no_engine(alloc: Global, help: Help) -> Result<UsageFault, AllocError>
+    ensures { IfOk result (IsMistake ErrorKind.InvalidValue) }
+{
+    let error = command(alloc, help)?.error(ErrorKind::InvalidValue, "the engine is dif or tree")?;
+    Ok(UsageFault::Usage(error))
+}
+
+// The number of an option, where it has one in these bounds.
+fn number_named(matches: &ArgMatches<'_>, id: &str, low: u32, high: u32) -> Option<u32>
+    ensures some { IfSome result (IsNumberIn low high (rows_of (found_of matches.now)) id.now) }
+    ensures none { result ≡ None
+        → (n : ℕ) → ¬ IsNumberIn low high (rows_of (found_of matches.now)) id.now n }
+{
+    let number = matches.get_one::<u32>(id)?;
+    if low <= number && number <= high {
+        Some(number)
+    } else {
+        None
+    }
+}
+
+// The engine of the option -e, where there is one of that name.
+fn engine_named(matches: &ArgMatches<'_>) -> Option<EngineKind>
+    ensures { result ≡ engine_in (rows_of (found_of matches.now)) }
+{
+    let name = matches.get_str("engine")?;
+    engine_called(name)
+}
+
+fn engine_called(name: &str) -> Option<EngineKind>
+    ensures { result ≡ engine_called name.now }
+{
+    if name == "dif" {
+        Some(EngineKind::Dif)
+    } else if name == "tree" {
+        Some(EngineKind::Tree)
+    } else {
+        None
+    }
+}
+
+// What clap's error is: a request for help, a mistake, or want of memory.
+fn usage_fault(error: clap::Error) -> UsageFault
+    ensures { IsToldAs error result }
+{
+    match error.kind() {
+        ErrorKind::DisplayHelp => UsageFault::Help(error),
+        ErrorKind::OutOfMemory => UsageFault::Memory,
+        _ => UsageFault::Usage(error),
+    }
+}
+
+// The mistake of words that are not UTF-8, which `read_words` can't be given, in clap's form.
+fn not_text(alloc: Global, help: Help) -> Result<clap::Error, AllocError>
+    ensures { IfOk result (λ e. kind_of e ≡ ErrorKind.ValueValidation) }
+{
+    command(alloc, help)?.error(ErrorKind::ValueValidation, "a word is not UTF-8")
+}

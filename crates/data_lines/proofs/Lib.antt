@@ -1,0 +1,9 @@
+pub mod Buckets
+pub mod Feeds
+pub mod Holding
+pub mod Labels
+pub mod Layouts
+pub mod Listed
+pub mod Pieces
+pub mod Reading
+pub mod Unique

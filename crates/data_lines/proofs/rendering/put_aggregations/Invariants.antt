@@ -1,0 +1,10 @@
+use Rattle.std.proofs.Common.{List, take}
+use Rattle.std.specs.List.{enumerate_from}
+use Rattle.aggregations.specs.Table.{Contribution, StandsFor}
+use Rattle.d_types.specs.Typed.{aggs_of}
+use Rattle.data_lines.specs.Runs.{AppendsListed}
+use Rattle.data_lines.proofs.rendering.put_aggregations.Given as goal
+
+abbrev pub invariant-loop-place : goal.invariant-loop-place
+invariant-loop-place l = (contributions : List Contribution) → StandsFor l.table contributions
+    → AppendsListed (take l.place (enumerate_from 0 (aggs_of l.aggregations))) contributions l.fn.out.items l.out.items

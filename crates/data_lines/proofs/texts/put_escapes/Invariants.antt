@@ -1,0 +1,7 @@
+use Rattle.std.proofs.Common.{◌≡◌, ◌++◌, drop}
+use Rattle.std.specs.List.{flat_map}
+use Rattle.data_lines.specs.Texts.{json_escape}
+use Rattle.data_lines.proofs.texts.put_escapes.Given as goal
+
+abbrev pub invariant-loop-byte : goal.invariant-loop-byte
+invariant-loop-byte l = l.out.items ++ flat_map json_escape (drop l.byte-index l.text) ≡ l.initial.out.items ++ flat_map json_escape l.text

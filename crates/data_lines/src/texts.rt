@@ -1,0 +1,112 @@
+//! Texts as JSON values.
+
+ghost use Rattle.std.specs.Prelude.{◌≡◌, ◌<◌, ◌≤◌, ◌++◌, ◌∷◌, [], false, OnOk, length, take};
+ghost use Rattle.data_lines.specs.Texts as spec;
+ghost use Rattle.data_lines.specs.Vocabulary.{digit_glyph, flat_map};
+
+use std::alloc::AllocError;
+use std::str::from_utf8;
+
+// The hexadecimal digit of a number.
+fn hex_digit(number: u8) -> u8
+    requires { number < 16 }
+    ensures { result ≡ digit_glyph false number }
+{
+    if number < 10 {
+        b'0' + number
+    } else {
+        b'a' + (number - 10)
+    }
+}
+
+// Puts a byte in two hexadecimal digits.
+fn put_hex(out: &mut Vec<u8>, byte: u8) -> Result<(), AllocError>
+    ensures { OnOk result (out.new.items ≡ out.old.items ++ spec.hex_digits byte) }
+{
+    out.push(hex_digit(byte / 16))?;
+    out.push(hex_digit(byte % 16))?;
+    Ok(())
+}
+
+// Puts a byte of a text, escaped where JSON wants it.
+fn put_escape(out: &mut Vec<u8>, byte: u8) -> Result<(), AllocError>
+    ensures { OnOk result (out.new.items ≡ out.old.items ++ spec.json_escape byte) }
+{
+    match byte {
+        b'"' => out.extend_from_slice(b"\\\""),
+        b'\\' => out.extend_from_slice(b"\\\\"),
+        b'\n' => out.extend_from_slice(b"\\n"),
+        b'\t' => out.extend_from_slice(b"\\t"),
+        0..=31 | 127 => {
+            out.extend_from_slice(b"\\u00")?;
+            put_hex(out, byte)
+        }
+        _ => {
+            out.push(byte)?;
+            Ok(())
+        }
+    }
+}
+
+// Whether a byte of a text is escaped.
+fn is_escaped(byte: u8) -> bool
+    ensures { result ≡ false → spec.json_escape byte ≡ byte ∷ [] }
+{
+    matches!(byte, b'"' | b'\\' | 0..=31 | 127)
+}
+
+// How many bytes of a text there are before the first that is escaped.
+fn plain_len(text: &[u8]) -> usize
+    ensures within { result ≤ length text.now }
+    ensures plain { flat_map spec.json_escape (take result text.now) ≡ take result text.now }
+{
+    let mut count = 0;
+    while count < text.len() && !is_escaped(text[count]) {
+        count += 1;
+    }
+    count
+}
+
+// Puts the bytes of a text, escaped one by one.
+fn put_escapes(out: &mut Vec<u8>, text: &[u8]) -> Result<(), AllocError>
+    ensures { OnOk result (out.new.items ≡ out.old.items ++ flat_map spec.json_escape text.now) }
+{
+    for byte in text {
+        put_escape(out, *byte)?;
+    }
+    Ok(())
+}
+
+// Puts a text between quotation marks. Most texts have few bytes to escape, at their end.
+fn put_string(out: &mut Vec<u8>, text: &[u8]) -> Result<(), AllocError>
+    ensures { OnOk result (out.new.items ≡ out.old.items ++ spec.json_string text.now) }
+{
+    out.push(b'"')?;
+    let (plain, rest) = text.split_at(plain_len(text));
+    out.extend_from_slice(plain)?;
+    put_escapes(out, rest)?;
+    out.push(b'"')?;
+    Ok(())
+}
+
+// Puts an object that has a text in hexadecimal digits.
+fn put_in_hex(out: &mut Vec<u8>, text: &[u8]) -> Result<(), AllocError>
+    ensures { OnOk result (out.new.items ≡ out.old.items ++ spec.in_hex text.now) }
+{
+    out.extend_from_slice(b"{\"hex\":\"")?;
+    for byte in text {
+        put_hex(out, *byte)?;
+    }
+    out.extend_from_slice(b"\"}")?;
+    Ok(())
+}
+
+/// Puts a text: a string where it is UTF-8, and else an object.
+pub fn put_text(out: &mut Vec<u8>, text: &[u8]) -> Result<(), AllocError>
+    ensures { OnOk result (out.new.items ≡ out.old.items ++ spec.text_value text.now) }
+{
+    match from_utf8(text) {
+        Ok(_) => put_string(out, text),
+        Err(_) => put_in_hex(out, text),
+    }
+}

@@ -1,0 +1,13 @@
+//! What a run reads and never changes.
+
+use dif_validate::Difo;
+use firing_reader::Firing;
+
+/// What a run is of: an object, and a firing.
+#[derive(Clone, Copy)]
+pub(crate) struct Context<'a> {
+    /// The object that is run.
+    pub(crate) difo: &'a Difo,
+    /// The firing that it is run for.
+    pub(crate) firing: &'a Firing<'a>,
+}

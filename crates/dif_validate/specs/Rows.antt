@@ -1,0 +1,95 @@
+-- Instruction by instruction: what it reads, what it names, which tuple it takes, what it changes
+-- and where it leads. All other definitions speak of a row of this table.
+use Rattle.std.specs.Prelude.{ℕ, nat_lt, if◌then◌else◌}
+use Rattle.dif_validate.specs.Vocabulary.{Asks, Nothing, Any, One, Two, Flow, Next, Jump, Either}
+use Rattle.dif_validate.specs.Vocabulary.{End, Function, Strlen, Strjoin, Instr, Alu, Not, Mov, Cmp}
+use Rattle.dif_validate.specs.Vocabulary.{Tst, Scmp, Ba, Branch, Setx, Sets, Ldgs, Ldga, Ldts, Stts}
+use Rattle.dif_validate.specs.Vocabulary.{Ldls, Stls, Pushtr, Pushtv, Flushts, Ldtaa, Sttaa, Call}
+use Rattle.dif_validate.specs.Vocabulary.{Ret, Nop, Kind, Number, Text, Reg}
+
+-- what it names by a number
+pub data Named : Type 0 where
+  NoName : Named
+  NumberAt : (i : ℕ) → Named
+  TextAt : (i : ℕ) → Named
+  VariableAt : (v : ℕ) → Named
+  ArrayAt : (v : ℕ) → Named
+
+-- which tuple it takes: any, one with room for a part more, one that isn't empty, or a function's
+pub data TupleNeed : Type 0 where
+  AnyTuple : TupleNeed
+  WithRoom : TupleNeed
+  Filled : TupleNeed
+  TupleOf : (f : Function) → TupleNeed
+
+-- the one thing that it changes: a register, which it gives a value of a kind or another's; the
+-- comparison; the tuple, by a part more or to the empty one; a variable; or nothing
+pub data Change : Type 0 where
+  Puts : (kind : Kind) (d : Reg) → Change
+  Copies : (a d : Reg) → Change
+  ComparesTwo : Change
+  Pushes : (kind : Kind) → Change
+  Empties : Change
+  StoresVariable : Change
+  NoChange : Change
+
+pub record Row : Type 0 where
+  pub asks : Asks
+  pub named : Named
+  pub tuple : TupleNeed
+  pub change : Change
+  pub flow : Flow
+
+-- ---- rows
+
+-- it names nothing, takes any tuple and goes on to the next instruction
+abbrev pub plain_row : Asks → Change → Row
+plain_row asks change =
+    record { asks = asks; named = NoName; tuple = AnyTuple; change = change; flow = Next }
+
+abbrev pub naming_row : Named → Asks → Change → Row
+naming_row named asks change =
+    record { asks = asks; named = named; tuple = AnyTuple; change = change; flow = Next }
+
+abbrev pub tuple_row : TupleNeed → Asks → Change → Row
+tuple_row tuple asks change =
+    record { asks = asks; named = NoName; tuple = tuple; change = change; flow = Next }
+
+-- it changes nothing
+abbrev pub leading_row : Asks → Flow → Row
+leading_row asks flow =
+    record { asks = asks; named = NoName; tuple = AnyTuple; change = NoChange; flow = flow }
+
+-- timestamp, cpu, pid and tid are numbers, and all others texts
+abbrev pub kind_of_built_in : ℕ → Kind
+kind_of_built_in v = if nat_lt v 4 then Number else Text
+
+abbrev pub kind_of_function : Function → Kind
+kind_of_function Strlen = Number
+kind_of_function Strjoin = Text
+
+abbrev pub row_of : Instr → Row
+row_of (Alu op a b d) = plain_row (Two Number a b) (Puts Number d)
+row_of (Not a d) = plain_row (One Number a) (Puts Number d)
+row_of (Mov a d) = plain_row (Any a) (Copies a d)
+row_of (Cmp a b) = plain_row (Two Number a b) ComparesTwo
+row_of (Tst a) = plain_row (One Number a) ComparesTwo
+row_of (Scmp a b) = plain_row (Two Text a b) ComparesTwo
+row_of (Ba to) = leading_row Nothing (Jump to)
+row_of (Branch condition to) = leading_row Nothing (Either to)
+row_of (Setx i d) = naming_row (NumberAt i) Nothing (Puts Number d)
+row_of (Sets i d) = naming_row (TextAt i) Nothing (Puts Text d)
+row_of (Ldgs v d) = naming_row (VariableAt v) Nothing (Puts (kind_of_built_in v) d)
+row_of (Ldga v a d) = naming_row (ArrayAt v) (One Number a) (Puts Number d)
+row_of (Ldts x d) = plain_row Nothing (Puts x.kind d)
+row_of (Stts x a) = plain_row (One x.kind a) StoresVariable
+row_of (Ldls x d) = plain_row Nothing (Puts x.kind d)
+row_of (Stls x a) = plain_row (One x.kind a) StoresVariable
+row_of (Pushtr a) = tuple_row WithRoom (One Text a) (Pushes Text)
+row_of (Pushtv a) = tuple_row WithRoom (One Number a) (Pushes Number)
+row_of Flushts = plain_row Nothing Empties
+row_of (Ldtaa x d) = tuple_row Filled Nothing (Puts x.kind d)
+row_of (Sttaa x a) = tuple_row Filled (One x.kind a) StoresVariable
+row_of (Call f d) = tuple_row (TupleOf f) Nothing (Puts (kind_of_function f) d)
+row_of (Ret a) = leading_row (Any a) (End a)
+row_of Nop = plain_row Nothing NoChange

@@ -1,5 +1,0 @@
-use Rattle.dreplay.proofs.CommandLine.{help_asked}
-use Rattle.dreplay.proofs.laws.help_is_found.Goals as goal
-
-pub returns : goal.returns
-returns c = help_asked

@@ -1,5 +1,0 @@
-use Rattle.dreplay.proofs.Grouped.{are_grouped}
-use Rattle.dreplay.proofs.laws.plans_have_groups.Goals as goal
-
-pub returns : goal.returns
-returns c = are_grouped

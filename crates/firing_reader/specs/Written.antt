@@ -1,0 +1,19 @@
+-- Which bytes write a trace.
+use Rattle.std.specs.Prelude.{◌≡◌, ◌∷◌, ℕ, List, length, true}
+use Rattle.firing_reader.specs.Vocabulary.{AllZip, Firing, default_config, records, strip_bom}
+use Rattle.firing_reader.specs.Faults.{IsRowOf}
+use Rattle.firing_reader.specs.Trace.{IsTrace, is_header}
+
+-- a row of twenty columns, of which each writes its value of the firing
+pub record WritesFiring (fields : List (List ℕ)) (f : Firing) : Type 0 where
+  pub columns : length fields ≡ 20
+  pub values : IsRowOf fields f
+
+-- a header, and after it a row for each firing of a trace, in order
+pub record WritesTrace (bytes : List ℕ) (fs : List Firing) : Type 0 where
+  pub header : List (List ℕ)
+  pub rows : List (List (List ℕ))
+  pub has : records default_config (strip_bom bytes) ≡ header ∷ rows
+  pub named : is_header header ≡ true
+  pub each : AllZip WritesFiring rows fs
+  pub trace : IsTrace fs

@@ -1,0 +1,466 @@
+//! Calls that no run of the program shows: what ran in which group and by whom, groups as lists,
+//! gates, failing readers and writers, what is said of each refusal, and what words ask for.
+
+ghost use Rattle.std.specs.Prelude.{IfOk};
+ghost use Rattle.consumer.specs.Plans.{IsInBounds};
+
+use crate::workers::{LATENCY, TWO_THREADS};
+use consumer::{
+    ConsumeFault, Consumer, EngineKind, GroupPlan, Help, Plan, Refusal, Replayed, UsageFault,
+    read_words, refusal_status, refusal_text,
+};
+use d_lexer::LexFault;
+use d_parser::ParseFault;
+use d_types::TypeFault;
+use firing_reader::TraceFault;
+use keyed_hash::HashKey;
+use replay_core::Gate;
+use report::faulty::Faulty;
+use report::{Report, Watched, read_to_end};
+use shard_queue::GroupFault;
+use std::alloc::{AllocError, AllocGlobal, Global};
+use std::process::Abort;
+use std::sync::Wait;
+use std::sync::atomic::{AtomicU64, Ordering};
+use std::test::Fail;
+use std::thread;
+use std::thread::Threads;
+
+pub(crate) const SCRIPT: &[u8] = b"syscall::read:entry { @[execname] = count(); }";
+
+pub(crate) const TRACE: &[u8] =
+    b"number,cpu,thread,pid,execname,time,provider,module,function,name,\
+arg0,arg1,arg2,arg3,arg4,arg5,arg6,arg7,arg8,arg9\n\
+1,0,7,700,cat,1000,syscall,,read,entry,3,0,0,0,0,0,0,0,0,0\n\
+4,0,8,700,cat,1000,syscall,,write,entry,3,0,0,0,0,0,0,0,0,0";
+
+const NO_ROWS: &[u8] = b"number,cpu,thread,pid,execname,time,provider,module,function,name,\
+arg0,arg1,arg2,arg3,arg4,arg5,arg6,arg7,arg8,arg9";
+
+pub(crate) const BUNDLE: &[u8] = b"syscall::read:entry { @[execname] = count(); }\n---\n\
+number,cpu,thread,pid,execname,time,provider,module,function,name,\
+arg0,arg1,arg2,arg3,arg4,arg5,arg6,arg7,arg8,arg9\n\
+1,0,7,700,cat,1000,syscall,,read,entry,3,0,0,0,0,0,0,0,0,0";
+
+pub(crate) const SHOWN: &[u8] =
+    b"\n  cat                                                               1\n";
+
+const EXITING: &[u8] = b":::hit / arg0 / { exit(arg0); } :::hit { @ = count(); } \
+dtrace:::END { printf(\"end\\n\"); }";
+
+const FOUR_HITS: &[u8] = b"number,cpu,thread,pid,execname,time,provider,module,function,name,\
+arg0,arg1,arg2,arg3,arg4,arg5,arg6,arg7,arg8,arg9\n\
+10,0,1,1,a,0,p,,f,hit,0,0,0,0,0,0,0,0,0,0\n\
+12,0,2,1,a,0,p,,f,hit,5,0,0,0,0,0,0,0,0,0\n\
+20,0,1,1,a,0,p,,f,hit,0,0,0,0,0,0,0,0,0,0\n\
+40,0,1,1,a,0,p,,f,hit,3,0,0,0,0,0,0,0,0,0";
+
+const SAID: [(Refusal, u8, &str); 17] = [
+    (Refusal::Memory, 1, "dreplay: out of memory"),
+    (Refusal::Lex(LexFault::Memory), 1, "dreplay: out of memory"),
+    (
+        Refusal::Parse(ParseFault::Memory),
+        1,
+        "dreplay: out of memory",
+    ),
+    (
+        Refusal::Typing(TypeFault::Memory),
+        1,
+        "dreplay: out of memory",
+    ),
+    (
+        Refusal::Trace(TraceFault::Memory),
+        1,
+        "dreplay: out of memory",
+    ),
+    (
+        Refusal::Trace(TraceFault::Header),
+        4,
+        "dreplay: trace refused: Trace 1",
+    ),
+    (
+        Refusal::Trace(TraceFault::Columns { row: 2 }),
+        4,
+        "dreplay: trace refused: Trace 2 row 2",
+    ),
+    (
+        Refusal::Trace(TraceFault::Number { row: 2, column: 4 }),
+        4,
+        "dreplay: trace refused: Trace 3 row 2 column 4",
+    ),
+    (
+        Refusal::Trace(TraceFault::Order { row: 9 }),
+        4,
+        "dreplay: trace refused: Trace 4 row 9",
+    ),
+    (
+        Refusal::Trace(TraceFault::Text { row: 1, column: 10 }),
+        4,
+        "dreplay: trace refused: Trace 5 row 1 column 10",
+    ),
+    (
+        Refusal::Trace(TraceFault::Reserved { row: 7 }),
+        4,
+        "dreplay: trace refused: Trace 6 row 7",
+    ),
+    (
+        Refusal::Trace(TraceFault::TooMany),
+        4,
+        "dreplay: trace refused: Trace 7",
+    ),
+    (
+        Refusal::Group(GroupFault::Memory),
+        1,
+        "dreplay: out of memory",
+    ),
+    (
+        Refusal::Group(GroupFault::Missing { thread: 7 }),
+        4,
+        "dreplay: groups refused: Group 1 thread 7",
+    ),
+    (
+        Refusal::Group(GroupFault::Doubled { thread: 1 }),
+        4,
+        "dreplay: groups refused: Group 2 thread 1",
+    ),
+    (
+        Refusal::Group(GroupFault::Stranger { thread: -3 }),
+        4,
+        "dreplay: groups refused: Group 3 thread -3",
+    ),
+    (
+        Refusal::Group(GroupFault::TooMany),
+        4,
+        "dreplay: groups refused: Group 4",
+    ),
+];
+
+pub(crate) const HELP: Help = Help {
+    usage: "dreplay [OPTIONS]",
+    about: "Replays a D script over a recorded trace",
+    more: "No more.",
+};
+
+// Gives answers in the layout for people.
+pub(crate) fn reporting<R: AllocGlobal>(rt: &R) -> Consumer<'_, R, Report> {
+    Consumer {
+        rt,
+        alloc: rt.alloc(),
+        layout: Report,
+    }
+}
+
+fn serial() -> Plan
+    ensures { IsInBounds result }
+{
+    Plan {
+        workers: 1,
+        groups: GroupPlan::Dealt(1),
+        engine: EngineKind::Tree,
+        hash_key: HashKey::of_seed(&[]),
+    }
+}
+
+// Consumes the bundle one byte a call, where these many calls of the reader and of the writer go
+// well. The writer's last call is a flush.
+fn consume_by_bytes<R: AllocGlobal + Threads + Wait + Sync>(
+    rt: &R,
+    reads: u64,
+    writes: u64,
+) -> (Result<Replayed, ConsumeFault>, Vec<u8>) {
+    let mut feed = Watched::new(Faulty::new(BUNDLE, reads));
+    let mut sink = Watched::new(Faulty::new(Vec::new(rt.alloc()), writes));
+    let answer = reporting(rt).consume(&mut feed, &mut sink, &serial());
+    (answer, sink.into_inner().into_inner())
+}
+
+// Consumes the trace, with its script apart, in the same way.
+fn consume_trace_by_bytes<R: AllocGlobal + Threads + Wait + Sync>(
+    rt: &R,
+    script_reads: u64,
+    reads: u64,
+    writes: u64,
+) -> (Result<Replayed, ConsumeFault>, Vec<u8>) {
+    let mut source = Watched::new(Faulty::new(SCRIPT, script_reads));
+    let mut feed = Watched::new(Faulty::new(TRACE, reads));
+    let mut sink = Watched::new(Faulty::new(Vec::new(rt.alloc()), writes));
+    let plan = serial();
+    let answer = match read_to_end(rt.alloc(), &mut source) {
+        Ok(script) => reporting(rt).consume_trace(&script, &mut feed, &mut sink, &plan),
+        Err(fault) => Err(ConsumeFault::from(fault)),
+    };
+    (answer, sink.into_inner().into_inner())
+}
+
+// A plan of one worker and two groups.
+fn of_two_groups() -> Plan
+    ensures { IsInBounds result }
+{
+    Plan {
+        workers: 1,
+        groups: GroupPlan::Dealt(2),
+        engine: EngineKind::Dif,
+        hash_key: HashKey::of_seed(&[]),
+    }
+}
+
+// The one worker takes all groups, in order, and the last is that of BEGIN and END.
+fn expect_ran(rt: &impl Abort, replayed: &Replayed, groups: &[u32], ran: &[&[u64]]) {
+    assert_eq!(rt; replayed.by_worker.len(), 1);
+    assert_eq!(rt; replayed.by_worker[0].as_slice(), groups);
+    assert_eq!(rt; replayed.ran.len(), ran.len());
+    for (numbers, wanted) in replayed.ran.iter().zip(ran.iter()) {
+        assert_eq!(rt; numbers.as_slice(), *wanted);
+    }
+}
+
+#[test]
+fn each_firing_is_run_once(rt: HostRuntime) -> Result<(), Fail> {
+    let replayed = reporting(&rt).replay(SCRIPT, TRACE, &serial())?;
+    assert_eq!(rt; replayed.bytes.as_slice(), SHOWN);
+    expect_ran(&rt, &replayed, &[0, 1], &[&[1, 4], &[0, 5]]);
+    assert_eq!(rt; replayed.status, 0);
+    Ok(())
+}
+
+#[test]
+fn begin_and_end_run_without_rows(rt: HostRuntime) -> Result<(), Fail> {
+    let replayed = reporting(&rt).replay(SCRIPT, NO_ROWS, &of_two_groups())?;
+    assert!(rt; replayed.bytes.is_empty());
+    expect_ran(&rt, &replayed, &[0, 1, 2], &[&[], &[], &[0, 1]]);
+    assert_eq!(rt; replayed.status, 0);
+    Ok(())
+}
+
+const SHOWN_AT_EXIT: &[u8] = b"end\n\n                2\n";
+
+#[test]
+fn firings_after_an_exit_do_not_run(rt: HostRuntime) -> Result<(), Fail> {
+    let replayed = reporting(&rt).replay(EXITING, FOUR_HITS, &serial())?;
+    assert_eq!(rt; replayed.bytes.as_slice(), SHOWN_AT_EXIT);
+    expect_ran(&rt, &replayed, &[0, 1], &[&[10, 12], &[0, 41]]);
+    assert_eq!(rt; replayed.status, 5);
+    let replayed = reporting(&rt).replay(EXITING, FOUR_HITS, &of_two_groups())?;
+    assert_eq!(rt; replayed.bytes.as_slice(), SHOWN_AT_EXIT);
+    expect_ran(&rt, &replayed, &[0, 1, 2], &[&[10], &[12], &[0, 41]]);
+    assert_eq!(rt; replayed.status, 5);
+    Ok(())
+}
+
+#[test]
+fn nothing_is_written_after_a_failed_read(rt: HostRuntime) {
+    for reads in 0..=BUNDLE.len() as u64 {
+        let (answer, out) = consume_by_bytes(&rt, reads, 100);
+        assert!(rt; matches!(answer, Err(ConsumeFault::Read)), "at {reads}");
+        assert!(rt; out.is_empty());
+    }
+    let (answer, out) = consume_by_bytes(&rt, BUNDLE.len() as u64 + 1, 100);
+    assert!(rt; answer.is_ok());
+    assert_eq!(rt; out.as_slice(), SHOWN);
+}
+
+#[test]
+fn nothing_is_written_after_a_failed_read_of_a_trace(rt: HostRuntime) {
+    for reads in 0..=TRACE.len() as u64 {
+        let (answer, out) = consume_trace_by_bytes(&rt, 1000, reads, 100);
+        assert!(rt; matches!(answer, Err(ConsumeFault::Read)), "at {reads}");
+        assert!(rt; out.is_empty());
+    }
+    let (answer, out) = consume_trace_by_bytes(&rt, 1000, TRACE.len() as u64 + 1, 100);
+    assert!(rt; answer.is_ok());
+    assert_eq!(rt; out.as_slice(), SHOWN);
+}
+
+#[test]
+fn nothing_is_written_after_a_failed_read_of_a_script(rt: HostRuntime) {
+    for reads in 0..=SCRIPT.len() as u64 {
+        let (answer, out) = consume_trace_by_bytes(&rt, reads, 1000, 100);
+        assert!(rt; matches!(answer, Err(ConsumeFault::Read)), "at {reads}");
+        assert!(rt; out.is_empty());
+    }
+    let (answer, out) = consume_trace_by_bytes(&rt, SCRIPT.len() as u64 + 1, 1000, 100);
+    assert!(rt; answer.is_ok());
+    assert_eq!(rt; out.as_slice(), SHOWN);
+}
+
+#[test]
+fn a_beginning_is_written_before_a_failed_write(rt: HostRuntime) {
+    for writes in 0..=SHOWN.len() {
+        let (answer, out) = consume_by_bytes(&rt, 1000, writes as u64);
+        assert!(rt; matches!(answer, Err(ConsumeFault::Write)), "at {writes}");
+        assert_eq!(rt; out.as_slice(), &SHOWN[..writes]);
+        let (answer, out) = consume_trace_by_bytes(&rt, 1000, 1000, writes as u64);
+        assert!(rt; matches!(answer, Err(ConsumeFault::Write)), "at {writes}");
+        assert_eq!(rt; out.as_slice(), &SHOWN[..writes]);
+    }
+}
+
+#[test]
+fn each_refusal_has_its_line_and_status(rt: HostRuntime) -> Result<(), Fail> {
+    for (refusal, status, line) in SAID {
+        let said = refusal_text(rt.alloc(), &refusal)?;
+        assert_eq!(rt; said.as_str(), line);
+        assert_eq!(rt; refusal_status(&refusal), status);
+    }
+    Ok(())
+}
+
+// A plan whose groups are these lists, for two workers.
+fn plan_of_lists(alloc: Global, lists: &[&[i32]]) -> Result<Plan, AllocError>
+    ensures { IfOk result IsInBounds }
+{
+    let mut groups = Vec::new(alloc);
+    for list in lists {
+        groups.push(Vec::from_slice(alloc, list)?)?;
+    }
+    Ok(Plan {
+        workers: 2,
+        groups: GroupPlan::Lists(groups),
+        engine: EngineKind::Dif,
+        hash_key: HashKey::of_seed(&[]),
+    })
+}
+
+// What becomes of the lists, of threads 7 and 8.
+const LISTS: [(&[&[i32]], Option<GroupFault>); 6] = [
+    (&[&[7, 8]], None),
+    (&[&[], &[8], &[], &[7]], None),
+    (&[&[7], &[8, 7]], Some(GroupFault::Doubled { thread: 7 })),
+    (&[&[7]], Some(GroupFault::Missing { thread: 8 })),
+    (
+        &[&[7], &[3], &[8]],
+        Some(GroupFault::Stranger { thread: 3 }),
+    ),
+    (&[], Some(GroupFault::Missing { thread: 7 })),
+];
+
+#[test]
+fn threads_are_grouped_by_lists(rt: HostRuntime) -> Result<(), Fail> {
+    for (lists, fault) in LISTS {
+        let plan = plan_of_lists(rt.alloc(), lists)?;
+        match (reporting(&rt).replay(SCRIPT, TRACE, &plan), fault) {
+            (Ok(replayed), None) => assert_eq!(rt; replayed.bytes.as_slice(), SHOWN),
+            (Err(Refusal::Group(found)), Some(fault)) => assert_eq!(rt; found, fault),
+            _ => assert!(rt; false),
+        }
+    }
+    Ok(())
+}
+
+// Holds one group until another has begun, or until it has looked for that too often.
+#[derive(Drop)]
+struct Holding {
+    held: u32,
+    until: u32,
+    begun: [AtomicU64; 3],
+    gave_up: AtomicU64,
+}
+
+const MOST_LOOKS: u32 = 100_000_000;
+
+impl Holding {
+    fn new(held: u32, until: u32) -> Holding {
+        Holding {
+            held,
+            until,
+            begun: [AtomicU64::new(0), AtomicU64::new(0), AtomicU64::new(0)],
+            gave_up: AtomicU64::new(0),
+        }
+    }
+
+    fn times_begun(&self, group: u32) -> u64 {
+        self.begun[group as usize % 3].load(Ordering::SeqCst)
+    }
+}
+
+impl Gate for Holding {
+    fn begun(&self, group: u32) {
+        let _ = self.begun[group as usize % 3].fetch_add(1, Ordering::SeqCst);
+        if group != self.held {
+            return;
+        }
+        for _ in 0..MOST_LOOKS {
+            if self.times_begun(self.until) > 0 {
+                return;
+            }
+            thread::yield_now();
+        }
+        self.gave_up.store(1, Ordering::SeqCst);
+    }
+}
+
+// Two groups run at the same time: the one goes on only after the other has begun.
+fn expect_held(rt: &(impl Abort + AllocGlobal + Threads + Wait + Sync), gate: &Holding) {
+    let plan = Plan {
+        workers: 2,
+        groups: GroupPlan::Dealt(2),
+        engine: EngineKind::Dif,
+        hash_key: HashKey::of_seed(&[]),
+    };
+    let answer = reporting(rt).replay_with(LATENCY, TWO_THREADS, &plan, gate);
+    assert!(rt; answer.is_ok());
+    assert_eq!(rt; gate.gave_up.load(Ordering::SeqCst), 0);
+    for group in 0..3 {
+        assert_eq!(rt; gate.times_begun(group), 1);
+    }
+}
+
+#[test]
+fn gate_holds_group_0(rt: HostRuntime) {
+    expect_held(&rt, &Holding::new(0, 1));
+}
+
+#[test]
+fn gate_holds_group_1(rt: HostRuntime) {
+    expect_held(&rt, &Holding::new(1, 0));
+}
+
+const ASKED: [(&[&str], u32, u32, EngineKind); 4] = [
+    (&[], 4, 16, EngineKind::Dif),
+    (
+        &["-w", "16", "-g", "4096", "-e", "tree"],
+        16,
+        4096,
+        EngineKind::Tree,
+    ),
+    (&["-w1", "-g1", "-edif"], 1, 1, EngineKind::Dif),
+    (&["-g", "+7"], 4, 7, EngineKind::Dif),
+];
+
+#[test]
+fn words_name_a_plan(rt: HostRuntime) -> Result<(), Fail> {
+    for (words, workers, groups, engine) in ASKED {
+        match read_words(rt.alloc(), HELP, words) {
+            Ok(asked) => {
+                let plan = Plan {
+                    workers,
+                    groups: GroupPlan::Dealt(groups),
+                    engine,
+                    hash_key: HashKey::of_seed(&[]),
+                };
+                assert!(rt; asked.plan == plan);
+                assert!(rt; asked.file.is_none());
+            }
+            Err(_) => assert!(rt; false),
+        }
+    }
+    Ok(())
+}
+
+const MISTAKES: [&[&str]; 7] = [
+    &["-w", "0"],
+    &["-w", "17"],
+    &["-g", "0"],
+    &["-g", "4097"],
+    &["-e", "jit"],
+    &["-e", ""],
+    &["-w"],
+];
+
+#[test]
+fn words_out_of_range_are_a_mistake(rt: HostRuntime) {
+    for words in MISTAKES {
+        let asked = read_words(rt.alloc(), HELP, words);
+        assert!(rt; matches!(asked, Err(UsageFault::Usage(_))));
+    }
+}

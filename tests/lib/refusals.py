@@ -1,0 +1,34 @@
+"""The edits that earlier runs of tests/edits on this machine found refused."""
+import hashlib
+import os
+
+
+class Refusals:
+    """Where rt keeps what it proved, it also keeps which edits were refused, each by the sum of all
+    that this stands on: the edit, its crate and those below it, the kit, and the scripts that try
+    it. What was tried over the libraries of rt ci is kept apart from what was tried over others.
+    """
+
+    def __init__(self, rt, crates, is_beside, is_anew):
+        self.rt = rt
+        self.kept = rt.Kept(list({it.name: it for it in crates}.values()), is_anew)
+        self.scripts = hashlib.sha256(repr(is_beside).encode())
+        here = os.path.dirname(__file__)
+        for path in [f"{here}/../edits", f"{here}/bodies.py"]:
+            with open(path, "rb") as script:
+                self.scripts.update(script.read())
+
+    def names(self, crate, edits):
+        """Returns the names under which it is kept that these edits of a crate were refused."""
+        stands_on = self.scripts.hexdigest(), self.rt.stamp_of(crate, {})
+        return {it: self.kept.of_edit(it, stands_on) for it in edits}
+
+    def holds(self, name):
+        found = self.kept.tried(name)
+        return bool(found) and found[0] == self.rt.REFUSED
+
+    def keep(self, crate, names):
+        """Keeps that these were refused, unless a file that this stands on changed meanwhile."""
+        if all(self.kept.is_untouched(it) for it in [*crate.below(), crate]):
+            for name in names:
+                self.kept.keep_tried(name, self.rt.REFUSED, "refused, as it must be")
