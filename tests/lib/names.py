@@ -10,6 +10,8 @@ STD_CALLS = {
     "Some", "Ok", "Err", "vec", "write", "println", "alloc", "as_slice", "as_str", "get",
     "is_empty", "len",
 }  # fmt: skip
+# Types of that library for which the sources have a trait.
+STD_TYPES = {"Vec"}
 HEAD = re.compile(r"\bfn (\w+)")
 OWNER = re.compile(
     r"^(?:pub(?:\([^)]*\))? )?(?:impl|trait)\b(?:<[^>]*>)?(?:.* for)? (\w+)", re.MULTILINE
@@ -111,7 +113,7 @@ class Calls:
         """What is wrong with a call of so many arguments, or nothing: there is such a function."""
         if owner and (owner, name) in self.of:
             known = self.of[owner, name]
-        elif owner and any(of == owner for of, _ in self.of):
+        elif owner and owner not in STD_TYPES and any(of == owner for of, _ in self.of):
             return f"{owner} has no {name}"
         else:
             known = self.of.get((None, name), set())

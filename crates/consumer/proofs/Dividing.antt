@@ -1,29 +1,50 @@
 -- A bundle of which some whole lines are passed.
-use Rattle.std.proofs.Common.{◌≡◌, suc, ◌+◌, ◌≤◌, ℕ, List, [], ◌∷◌, ◌++◌, length, take, sym, ap}
-use Rattle.std.proofs.Common.{◌∙◌, subst, append_assoc, append-nil, length-append, arith}
-use Rattle.std.proofs.lemmas.List.{take_at, length-take-le}
+use Rattle.std.proofs.Common.{◌≡◌, suc, ◌+◌, ◌≤◌, ℕ, List, [], ◌∷◌, ◌++◌, length, take, drop, sym, ap}
+use Rattle.std.proofs.Common.{◌∙◌, subst, append_assoc, append-nil, length-append, arith, drop_at}
+use Rattle.std.proofs.lemmas.List.{take_at, length-take-le, take-append-drop}
+use Rattle.consumer.specs.Beginnings.{ArePassed, IsDividedAt, IsUndivided}
 use Rattle.consumer.specs.Bundle.{Divides, IsDivider, IsLine}
 
--- what divides the rest divides the bundle, with what is passed in front of the script
+-- what is passed comes before the rest
 pub record Passed (bundle : List ℕ) (passed : ℕ) (rest : List ℕ) : Type 0 where
   pub parts : bundle ≡ take passed bundle ++ rest
   pub size : passed + length rest ≡ length bundle
-  pub onward : (script trace : List ℕ) → Divides rest script trace → Divides bundle (take passed bundle ++ script) trace
+  pub onward : ArePassed (take passed bundle)
 
-pub passed_here : (bundle : List ℕ) (passed : ℕ) (rest trace : List ℕ) → Passed bundle passed rest → Divides rest [] trace → Divides bundle (take passed bundle) trace
-passed_here bundle passed rest trace p here = subst (λ s. Divides bundle s trace) (append-nil (take passed bundle)) (p.onward [] trace here)
+few : (bundle : List ℕ) (passed : ℕ) (rest : List ℕ) → Passed bundle passed rest → passed ≤ length bundle
+few bundle passed rest p = let whole = p.size in omega arith
 
-pub passed_all : (bundle : List ℕ) (passed : ℕ) (rest : List ℕ) → Passed bundle passed rest → Divides rest rest [] → Divides bundle bundle []
-passed_all bundle passed rest p here = subst (λ s. Divides bundle s []) (sym p.parts) (p.onward rest [] here)
+-- the rest begins with the line that divides
+pub divided_here : (bundle : List ℕ) (passed : ℕ) (rest line after : List ℕ) → rest ≡ line ++ 10 ∷ after → IsDivider line → Passed bundle passed rest → IsDividedAt bundle passed after
+divided_here bundle passed rest line after e is p = record {
+  few = few bundle passed rest p;
+  divides = λ tail.
+      subst (λ b. Divides b front (after ++ tail)) (sym (whole tail))
+      (subst (λ s. Divides (front ++ (line ++ 10 ∷ (after ++ tail))) s (after ++ tail)) (append-nil front)
+      (p.onward (line ++ 10 ∷ (after ++ tail)) [] (after ++ tail) (Divides.divider line (after ++ tail) is)));
+}
+  where
+    front : List ℕ
+    front = take passed bundle
+
+    whole : (tail : List ℕ) → bundle ++ tail ≡ front ++ (line ++ 10 ∷ (after ++ tail))
+    whole tail =
+        ap (λ b. b ++ tail) p.parts ∙ append_assoc front rest tail ∙ ap (λ r. front ++ (r ++ tail)) e ∙ ap (λ r. front ++ r) (append_assoc line (10 ∷ after) tail)
+
+-- the rest is within a line
+pub undivided : (bundle : List ℕ) (passed : ℕ) (rest : List ℕ) → IsLine rest → Passed bundle passed rest → IsUndivided bundle passed
+undivided bundle passed rest own p = record {
+  few = few bundle passed rest p;
+  passed = p.onward;
+  line = subst IsLine (sym (ap (drop passed) p.parts ∙ drop_at (take passed bundle) rest passed (length-take-le passed bundle (few bundle passed rest p)))) own;
+}
 
 -- one more line is passed
 pub passed_line : (bundle : List ℕ) (passed : ℕ) (rest line after : List ℕ) → rest ≡ line ++ 10 ∷ after → IsLine line → ¬ IsDivider line → Passed bundle passed rest → Passed bundle (passed + (length line + 1)) after
 passed_line bundle passed rest line after e own other p = record {
   parts = parts ∙ ap (λ f. f ++ after) (sym front_is);
   size = size;
-  onward = λ script trace more.
-      subst (λ f. Divides bundle f trace) (joined script)
-      (p.onward (line ++ 10 ∷ script) trace (subst (λ r. Divides r (line ++ 10 ∷ script) trace) (sym e) (Divides.before line after script trace own other more)));
+  onward = subst ArePassed (sym front_is) onward;
 }
   where
     front : List ℕ
@@ -43,11 +64,35 @@ passed_line bundle passed rest line after e own other p = record {
 
     front_len : length front ≡ passed + (length line + 1)
     front_len =
-        let le : passed ≤ length bundle = let whole = p.size in omega arith in
-        length-append (take passed bundle) (line ++ 10 ∷ []) ∙ ap (λ n. n + length (line ++ 10 ∷ [])) (length-take-le passed bundle le) ∙ ap (λ n. passed + n) (length-append line (10 ∷ []))
+        length-append (take passed bundle) (line ++ 10 ∷ []) ∙ ap (λ n. n + length (line ++ 10 ∷ [])) (length-take-le passed bundle (few bundle passed rest p)) ∙ ap (λ n. passed + n) (length-append line (10 ∷ []))
 
     front_is : take (passed + (length line + 1)) bundle ≡ front
     front_is = ap (take (passed + (length line + 1))) parts ∙ take_at front after (passed + (length line + 1)) front_len
 
-    joined : (script : List ℕ) → take passed bundle ++ (line ++ 10 ∷ script) ≡ take (passed + (length line + 1)) bundle ++ script
-    joined script = sym (joins script) ∙ ap (λ f. f ++ script) (sym front_is)
+    onward : ArePassed front
+    onward = λ xs script trace more.
+        subst (λ b. Divides b (front ++ script) trace) (sym (joins xs))
+        (subst (λ s. Divides (take passed bundle ++ (line ++ 10 ∷ xs)) s trace) (sym (joins script))
+        (p.onward (line ++ 10 ∷ xs) (line ++ 10 ∷ script) trace (Divides.before line xs script trace own other more)))
+
+-- ---- the whole bundle
+
+-- nothing comes after it
+pub divided_whole : (bundle : List ℕ) (count : ℕ) (trace : List ℕ) → IsDividedAt bundle count trace → Divides bundle (take count bundle) trace
+divided_whole bundle count trace d =
+    subst (λ b. Divides b (take count bundle) trace) (append-nil bundle)
+    (subst (λ t. Divides (bundle ++ []) (take count bundle) t) (append-nil trace) (d.divides []))
+
+-- its last line divides, without a line feed
+pub last_divides : (bundle : List ℕ) (count : ℕ) (script last : List ℕ) → script ≡ take count bundle → last ≡ drop count bundle → IsUndivided bundle count → IsDivider last
+    → Divides bundle script []
+last_divides bundle count script last front rest u is =
+    let whole : script ++ last ≡ bundle = ap (λ s. s ++ last) front ∙ ap (λ l. take count bundle ++ l) rest ∙ take-append-drop count bundle in
+    let passed : Divides (script ++ last) (script ++ []) [] = rw front (u.passed last [] [] (Divides.last_divider last is)) in
+    subst (λ b. Divides b script []) whole (subst (λ s. Divides (script ++ last) s []) (append-nil script) passed)
+
+-- no line divides
+pub none_divides : (bundle : List ℕ) (count : ℕ) (last : List ℕ) → last ≡ drop count bundle → IsUndivided bundle count → ¬ IsDivider last → Divides bundle bundle []
+none_divides bundle count last rest u other =
+    let whole : take count bundle ++ last ≡ bundle = ap (λ l. take count bundle ++ l) rest ∙ take-append-drop count bundle in
+    subst (λ b. Divides b b []) whole (u.passed last last [] (Divides.last_line last (subst IsLine (sym rest) u.line) other))

@@ -10,7 +10,7 @@ use Rattle.std.proofs.lemmas.List.Elements.{All-from_recursion, All-nil, All-pus
 use Rattle.std.proofs.lemmas.Slice.Eq.{bytes_eq-Decides}
 use Rattle.consumer.specs.Bundle.{Divides, IsDivider, IsLine}
 
-line_behind : (b : ℕ) (bytes : List ℕ) → IsLine (b ∷ bytes) → IsLine bytes
+pub line_behind : (b : ℕ) (bytes : List ℕ) → IsLine (b ∷ bytes) → IsLine bytes
 line_behind b bytes own = λ k d lt. own (suc k) d (omega arith)
 
 -- a line has no line feed in it

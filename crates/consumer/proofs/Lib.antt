@@ -6,10 +6,12 @@ pub mod Divisions
 pub mod Grouped
 pub mod HasAnswer
 pub mod Hashed
+pub mod LongScripts
 pub mod OnePlan
 pub mod Options
 pub mod PlainRefusals
 pub mod PlainTraces
 pub mod Refusing
+pub mod Taken
 pub mod Trees
 pub mod Unread

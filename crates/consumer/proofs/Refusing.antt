@@ -1,4 +1,4 @@
--- Why a script with a tree is refused, and why the trace of an accepted script is.
+-- Why a script is refused, and why the trace of an accepted script is.
 use Rattle.std.proofs.Common.{◌≡◌, ◌⊎◌, inl, inr, List, ℕ, Err, refl}
 use Rattle.firing_reader.specs.declared.fault.TraceFault.{TraceFault}
 use Rattle.firing_reader.specs.declared.fault.TraceFault.TheVariants as trace
@@ -16,33 +16,54 @@ use Rattle.firing_reader.specs.declared.firing.Firing.{Firing}
 use Rattle.replay_core.specs.Layouts.{LayoutMeant}
 use Rattle.shard_queue.specs.declared.fault.GroupFault.{GroupFault}
 use Rattle.shard_queue.specs.declared.fault.GroupFault.TheVariants as group
-use Rattle.consumer.specs.declared.refusal.Refusal.TheVariants.{Group, Trace, Typing}
+use Rattle.consumer.specs.declared.refusal.Refusal.{Refusal}
+use Rattle.consumer.specs.declared.refusal.Refusal.TheVariants.{Group, Lex, Memory, Parse, Trace}
+use Rattle.consumer.specs.declared.refusal.Refusal.TheVariants.{Typing}
 use Rattle.consumer.specs.Answer.{Means}
 use Rattle.consumer.specs.Plans.{IsMisgrouped}
 use Rattle.consumer.specs.Refusals.{plain_refusal}
 use Rattle.consumer.specs.Replaying.{IsReplay}
-use Rattle.consumer.specs.Scripts.{HasTree, IsAccepted}
+use Rattle.consumer.specs.Judging.{IsScriptRefused}
+use Rattle.consumer.specs.Scripts.{HasTree, IsAccepted, IsUnread}
 
-pub types_refused : (shows : LayoutMeant) (script bytes : List ℕ) (plan : Plan) (items : List ItemTree) → HasTree script items → (e : TypeFault) → Fails e (typing.script items) → IsReplay shows script bytes plan (Err (plain_refusal (Typing e)))
-types_refused shows script bytes plan items tree types.Memory h = tt
-types_refused shows script bytes plan items tree (types.GlobalAssignment name line) h =
+pub types_refused : (script : List ℕ) (items : List ItemTree) → HasTree script items → (e : TypeFault) → Fails e (typing.script items) → IsScriptRefused script (plain_refusal (Typing e))
+types_refused script items tree types.Memory h = tt
+types_refused script items tree (types.GlobalAssignment name line) h =
     record { items = items; tree = tree; first = record { cause = GlobalAssignment name; line = line }; refused = h; is = refl }
-types_refused shows script bytes plan items tree (types.Undeclared line) h =
+types_refused script items tree (types.Undeclared line) h =
     record { items = items; tree = tree; first = record { cause = Undeclared; line = line }; refused = h; is = refl }
-types_refused shows script bytes plan items tree (types.Mismatch line) h =
+types_refused script items tree (types.Mismatch line) h =
     record { items = items; tree = tree; first = record { cause = Mismatch; line = line }; refused = h; is = refl }
-types_refused shows script bytes plan items tree (types.Keys line) h =
+types_refused script items tree (types.Keys line) h =
     record { items = items; tree = tree; first = record { cause = Keys; line = line }; refused = h; is = refl }
-types_refused shows script bytes plan items tree (types.AggregationRedefined line) h =
+types_refused script items tree (types.AggregationRedefined line) h =
     record { items = items; tree = tree; first = record { cause = AggregationRedefined; line = line }; refused = h; is = refl }
-types_refused shows script bytes plan items tree (types.LquantizeBounds line) h =
+types_refused script items tree (types.LquantizeBounds line) h =
     record { items = items; tree = tree; first = record { cause = LquantizeBounds; line = line }; refused = h; is = refl }
-types_refused shows script bytes plan items tree (types.PrintfArguments line) h =
+types_refused script items tree (types.PrintfArguments line) h =
     record { items = items; tree = tree; first = record { cause = PrintfArguments; line = line }; refused = h; is = refl }
-types_refused shows script bytes plan items tree (types.ReadOnly line) h =
+types_refused script items tree (types.ReadOnly line) h =
     record { items = items; tree = tree; first = record { cause = ReadOnly; line = line }; refused = h; is = refl }
-types_refused shows script bytes plan items tree (types.NoRegister line) h =
+types_refused script items tree (types.NoRegister line) h =
     record { items = items; tree = tree; first = record { cause = NoRegister; line = line }; refused = h; is = refl }
+
+pub unread_refused : (script : List ℕ) (e : Refusal) → (e ≡ Memory) ⊎ IsUnread script e → IsScriptRefused script e
+unread_refused script e (inl h) = rw h tt
+unread_refused script (Lex f) (inr h) = h
+unread_refused script (Parse f) (inr h) = h
+unread_refused script (Typing f) (inr h) = absurd h
+unread_refused script (Trace f) (inr h) = absurd h
+unread_refused script (Group f) (inr h) = absurd h
+unread_refused script Memory (inr h) = absurd h
+
+-- whatever the trace is
+pub script_refused : (shows : LayoutMeant) (script bytes : List ℕ) (plan : Plan) (e : Refusal) → IsScriptRefused script e → IsReplay shows script bytes plan (Err e)
+script_refused shows script bytes plan (Lex f) h = h
+script_refused shows script bytes plan (Parse f) h = h
+script_refused shows script bytes plan (Typing f) h = h
+script_refused shows script bytes plan (Trace f) h = absurd h
+script_refused shows script bytes plan (Group f) h = absurd h
+script_refused shows script bytes plan Memory h = tt
 
 pub trace_refused : (shows : LayoutMeant) (script bytes : List ℕ) (plan : Plan) (m : ScriptMeant) → IsAccepted script m → (e : TraceFault) → (e ≡ trace.Memory) ⊎ (trace_of bytes ≡ Err e) → IsReplay shows script bytes plan (Err (plain_refusal (Trace e)))
 trace_refused shows script bytes plan m accepted trace.Memory h = tt

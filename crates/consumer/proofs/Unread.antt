@@ -33,6 +33,12 @@ none_shown script trace plan seen result reading.Memory told other =
     let p = err_from_is_err_and result told in
     record { answer = Err Memory; is = tt; out = (refl, p.1 ∙ ap Err p.2) }
 
+-- the same where memory ran out later
+pub memory_shown : {shows : LayoutMeant} (script trace : List ℕ) (plan : Plan) (seen : SinkSeen) (result : Result Replayed ConsumeFault) → IsErrAnd result (λ e. e ≡ Refused Memory) → WritesAnswer shows script trace plan seen seen result
+memory_shown script trace plan seen result told =
+    let p = err_from_is_err_and result told in
+    record { answer = Err Memory; is = tt; out = (refl, p.1 ∙ ap Err p.2) }
+
 -- of what a file of that name doesn't tell, where one is named
 no_file : {A : Type 0} (file : Option A) (name : A) (P : Type 0) → file ≡ Some name → IfNone file P
 no_file file name P named = rw named tt

@@ -1,7 +1,10 @@
 pub mod Vocabulary
 pub mod Answer
+pub mod Beginnings
+pub mod Blocks
 pub mod Bundle
 pub mod Consuming
+pub mod Judging
 pub mod Lines
 pub mod Plans
 pub mod Program

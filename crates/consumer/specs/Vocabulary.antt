@@ -19,6 +19,8 @@ pub use Rattle.d_parser.specs.declared.fault.TheConstants.{MOST_CLAUSES}
 pub use Rattle.d_types.specs.Typed.{ScriptMeant, functions_in}
 pub use Rattle.d_types.specs.TypedScripts.{typed_script_of}
 pub use Rattle.d_types.specs.declared.fault.TypeFault.{TypeFault}
+pub use Rattle.d_types.specs.declared.typed_script.TypedScript.{TypedScript}
+pub use Rattle.firing_reader.specs.Blocks.{reads}
 pub use Rattle.firing_reader.specs.Firings.{number_of}
 pub use Rattle.firing_reader.specs.Trace.{trace_of}
 pub use Rattle.firing_reader.specs.declared.fault.TraceFault.{TraceFault}

@@ -1,7 +1,8 @@
 //! A bundle: a script, a line `---`, and a trace.
 
-ghost use Rattle.std.specs.Prelude.{◌↔◌, IsTrue};
+ghost use Rattle.std.specs.Prelude.{◌↔◌, IsTrue, MatchOption};
 ghost use Rattle.consumer.specs.Bundle.{Divides, IsDivider};
+ghost use Rattle.consumer.specs.Beginnings.{IsDividedAt, IsUndivided};
 
 use d_values::split_at_first;
 
@@ -25,28 +26,48 @@ pub struct Division<'a> {
 pub fn divide(bundle: &[u8]) -> Division<'_>
     ensures { Divides bundle.now result.script.now result.trace.now }
 {
+    let (passed, trace) = first_lines(bundle);
+    match trace {
+        Some(trace) => Division {
+            script: &bundle[..passed],
+            trace,
+        },
+        None => divide_last(bundle, passed),
+    }
+}
+
+// The division of a bundle whose whole lines, of so many bytes, don't divide it.
+fn divide_last(bundle: &[u8], passed: usize) -> Division<'_>
+    requires { IsUndivided bundle.now passed }
+    ensures { Divides bundle.now result.script.now result.trace.now }
+{
+    let (script, last) = bundle.split_at(passed);
+    if is_divider(last) {
+        Division { script, trace: &[] }
+    } else {
+        Division {
+            script: bundle,
+            trace: &[],
+        }
+    }
+}
+
+/// How many bytes the whole lines before the first dividing one have, and what comes after that
+/// one; or how many all whole lines have, where none divides.
+pub(crate) fn first_lines(bundle: &[u8]) -> (usize, Option<&[u8]>)
+    ensures { MatchOption result.1 (IsUndivided bundle.now result.0)
+        (λ trace. IsDividedAt bundle.now result.0 trace.now) }
+{
     let mut passed = 0;
     let mut rest = bundle;
     while let Some((line, after)) = split_at_first(rest, b'\n') {
         if is_divider(line) {
-            return Division {
-                script: &bundle[..passed],
-                trace: after,
-            };
+            return (passed, Some(after));
         }
         passed += line.len() + 1;
         rest = after;
     }
-    if is_divider(rest) {
-        return Division {
-            script: &bundle[..passed],
-            trace: &[],
-        };
-    }
-    Division {
-        script: bundle,
-        trace: &[],
-    }
+    (passed, None)
 }
 
 fn is_divider(line: &[u8]) -> bool

@@ -1,16 +1,19 @@
 //! From the bytes in to the bytes out.
 
-ghost use Rattle.std.specs.Prelude.{◌≡◌, ◌≢◌, List, ℕ, Err, IfErr, IsFalse};
-ghost use Rattle.consumer.specs.{Bundle.Divides, Plans.IsInBounds};
+ghost use Rattle.std.specs.Prelude.{◌≡◌, ◌≢◌, [], List, ℕ, Err, IfErr, IsFalse, OnOk};
+ghost use Rattle.consumer.specs.{Blocks.reads_as, Bundle.Divides, Plans.IsInBounds};
 ghost use Rattle.consumer.specs.Consuming.{HoldsOfInput, IsReadToEnd, WritesAnswer};
 ghost use Rattle.consumer.specs.Consuming.{fault_of_reading};
+ghost use Rattle.consumer.specs.{Judging.IsJudged, Replaying.IsReplay};
+ghost use Rattle.consumer.specs.Vocabulary.{Memory, Refused, trace_of};
 
-use crate::bundle::{Division, divide};
 use crate::consumer::Consumer;
+use crate::intake::{BundleIntake, TraceIntake};
 use crate::plan::{Plan, Replayed};
 use crate::refusal::Refusal;
-use replay_core::Layout;
-use report::{Feed, ReadFault, Sink, read_to_end, send};
+use replay_core::{Layout, OpenGate};
+use report::{Feed, ReadFault, Sink, read_into, send};
+use std::alloc::AllocError;
 use std::sync::Wait;
 use std::thread::Threads;
 use thiserror::Error;
@@ -38,6 +41,14 @@ impl From<ReadFault> for ConsumeFault {
             ReadFault::Failed => ConsumeFault::Read,
             ReadFault::Memory => ConsumeFault::Refused(Refusal::Memory),
         }
+    }
+}
+
+impl From<AllocError> for ConsumeFault {
+    ghost from_gives = { λ _ e. e ≡ Refused Memory };
+
+    fn from(_e: AllocError) -> ConsumeFault {
+        ConsumeFault::Refused(Refusal::Memory)
     }
 }
 
@@ -70,8 +81,10 @@ impl<'a, R: Threads + Wait + Sync, L: Layout> Consumer<'a, R, L> {
         ensures untouched { result ≢ Err ConsumeFault.Write
             → IfErr result (λ e. sink.new ≡ sink.old) }
     {
-        let bundle = read_to_end(self.alloc, feed)?;
-        self.show(divide(&bundle), sink, plan)
+        let mut bundle = BundleIntake::new(self.alloc, plan);
+        read_into(self.alloc, feed, &mut bundle)?;
+        let taken = bundle.finish()?;
+        self.show(taken, sink, plan)
     }
 
     /// Reads a trace to its end, runs the script over it, writes what the script shows and flushes
@@ -101,35 +114,51 @@ impl<'a, R: Threads + Wait + Sync, L: Layout> Consumer<'a, R, L> {
         ensures untouched { result ≢ Err ConsumeFault.Write
             → IfErr result (λ e. sink.new ≡ sink.old) }
     {
-        let trace = read_to_end(self.alloc, feed)?;
-        let parts = Division {
-            script,
-            trace: &trace,
-        };
-        self.show(parts, sink, plan)
+        let mut taken = TraceIntake::new(self.alloc, plan, script)?;
+        read_into(self.alloc, feed, &mut taken)?;
+        self.show(taken, sink, plan)
     }
 
-    // Runs a script over a trace, and writes what the script shows.
+    // Runs a script over the trace that was taken for it, and writes what the script shows.
     fn show<S: Sink>(
         &self,
-        parts: Division<'_>,
+        taken: TraceIntake,
         sink: &mut S,
         plan: &Plan,
     ) -> Result<Replayed, ConsumeFault>
         requires plan { IsInBounds plan.now }
         requires sink { IsFalse (S.seen sink.old).has_failed }
         ensures read { result ≢ Err ConsumeFault.Read }
-        ensures shown { WritesAnswer L.shows parts.entry.script.now parts.entry.trace.now
-            plan.now (S.seen sink.old) (S.seen sink.new) result }
+        ensures shown { (script trace : List ℕ) → IsJudged script taken.script
+            → OnOk taken.script (reads_as taken.trace [] ≡ trace_of trace)
+            → WritesAnswer L.shows script trace plan.now (S.seen sink.old) (S.seen sink.new)
+            result }
         ensures untouched { result ≢ Err ConsumeFault.Write
             → IfErr result (λ e. sink.new ≡ sink.old) }
     {
-        match self.replay(parts.script, parts.trace, plan) {
+        match self.answer(taken, plan) {
             Ok(replayed) => match send(sink, &replayed.bytes) {
                 Ok(()) => Ok(replayed),
                 Err(_) => Err(ConsumeFault::Write),
             },
             Err(refusal) => Err(ConsumeFault::Refused(refusal)),
+        }
+    }
+
+    // The answer of a script over the trace that was taken for it.
+    fn answer(&self, taken: TraceIntake, plan: &Plan) -> Result<Replayed, Refusal>
+        requires { IsInBounds plan.now }
+        ensures { (script trace : List ℕ) → IsJudged script taken.script
+            → OnOk taken.script (reads_as taken.trace [] ≡ trace_of trace)
+            → IsReplay L.shows script trace plan.now result }
+    {
+        let TraceIntake { script, trace } = taken;
+        match script {
+            Ok(script) => {
+                let read = trace.finish(self.rt, self.alloc, plan);
+                self.replay_read(&script, read, plan, &OpenGate)
+            }
+            Err(refusal) => Err(refusal),
         }
     }
 }

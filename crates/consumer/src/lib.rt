@@ -8,6 +8,7 @@ mod consuming;
 mod ending;
 mod files;
 mod grouping;
+mod intake;
 pub mod laws;
 mod line;
 mod plan;
@@ -15,6 +16,7 @@ mod program;
 mod refusal;
 mod replaying;
 mod scripts;
+mod trace_bytes;
 mod words;
 
 pub use bundle::{Division, divide};

@@ -1,11 +1,12 @@
 //! The answer of a script over a trace.
 
-ghost use Rattle.std.specs.Prelude.{◌≡◌, ◌≤◌, ◌+◌, IfOk, List, unwrap_or, option_map};
+ghost use Rattle.std.specs.Prelude.{◌≡◌, ◌≤◌, ◌+◌, ℕ, IfOk, List, unwrap_or, option_map};
+ghost use Rattle.firing_reader.specs.{Gives.Gives};
 ghost use Rattle.shard_queue.specs.{Groups.AreOf, Groups.grouping, Threads.run_threads};
 ghost use Rattle.replay_core.specs.Exit.{firings_over};
-ghost use Rattle.consumer.specs.{Answer.IsShown};
+ghost use Rattle.consumer.specs.{Answer.IsShown, Scripts.IsAccepted};
 ghost use Rattle.consumer.specs.Vocabulary.{Firing, Grouping, Plan, functions_in, functions_of};
-ghost use Rattle.consumer.specs.Vocabulary.{MOST_GROUPS, typed_script_of};
+ghost use Rattle.consumer.specs.Vocabulary.{MOST_GROUPS, trace_of, typed_script_of};
 ghost use Rattle.consumer.specs.Plans.{IsGroupedBy, IsInBounds};
 ghost use Rattle.consumer.specs.Replaying.{IsCarriedOut, IsRunBy, IsReplay, output_of};
 
@@ -13,10 +14,10 @@ use crate::consumer::Consumer;
 use crate::grouping::groups_of;
 use crate::plan::{EngineKind, Plan, Replayed};
 use crate::refusal::Refusal;
-use crate::scripts::read_script;
-use d_types::{TypedScript, check};
+use crate::scripts::judge;
+use d_types::TypedScript;
 use dif_codegen::compile;
-use firing_reader::read_trace_by;
+use firing_reader::{Trace, TraceFault, read_trace_by};
 use replay_core::{DifLanes, Gate, Job, Layout, OpenGate, Ran, TreeLanes, run_all};
 use std::alloc::AllocError;
 use std::sync::Wait;
@@ -59,17 +60,33 @@ impl<'a, R: Threads + Wait + Sync, L: Layout> Consumer<'a, R, L> {
         ensures { IsReplay L.shows script.now trace.now plan.now result }
     {
         let alloc = self.alloc;
-        let tree = read_script(alloc, script)?;
-        let script = check(alloc, tree)?;
-        let trace = read_trace_by(self.rt, alloc, plan.hash_key, trace, plan.workers)?;
+        let script = judge(alloc, script)?;
+        let read = read_trace_by(self.rt, alloc, plan.hash_key, trace, plan.workers);
+        self.replay_read(&script, read, plan, gate)
+    }
+
+    /// Does the same with a script that was accepted, and what was read of its trace.
+    pub(crate) fn replay_read<G: Gate + Sync>(
+        &self,
+        script: &TypedScript,
+        read: Result<Trace, TraceFault>,
+        plan: &Plan,
+        gate: &G,
+    ) -> Result<Replayed, Refusal>
+        requires { IsInBounds plan.now }
+        ensures { (source trace : List ℕ) → IsAccepted source (typed_script_of script.now)
+            → Gives read (trace_of trace) → IsReplay L.shows source trace plan.now result }
+    {
+        let alloc = self.alloc;
+        let trace = read?;
         let groups = groups_of(alloc, &plan.groups, &trace)?;
         let job = Job {
             trace: &trace,
             groups: &groups,
             gate,
         };
-        let ran = self.run(&script, &job, plan)?;
-        let replayed = self.run_output(&script, ran)?;
+        let ran = self.run(script, &job, plan)?;
+        let replayed = self.run_output(script, ran)?;
         Ok(replayed)
     }
 

@@ -1,12 +1,13 @@
-//! From the bytes of a script to its tree.
+//! From the bytes of a script to its tree, and to its types.
 
 ghost use Rattle.std.specs.Prelude.{◌≡◌, ◌⊎◌, IfOk, MatchResult};
 ghost use Rattle.d_parser.specs.{Numbers.AreSmall, Sizes.IsWithin, Tree.script_of};
-ghost use Rattle.consumer.specs.Scripts.{HasTree, IsUnread};
+ghost use Rattle.consumer.specs.{Judging.IsJudged, Scripts.HasTree, Scripts.IsUnread};
 
 use crate::refusal::Refusal;
 use d_lexer::{MOST_BYTES, lex};
 use d_parser::{Script, parse};
+use d_types::{TypedScript, check};
 use std::alloc::Global;
 
 /// The tree of a script, or why it has none: the lexer's fault before the parser's.
@@ -25,4 +26,13 @@ pub fn read_script(alloc: Global, script: &[u8]) -> Result<Script, Refusal>
     let tokens = lex(alloc, script)?;
     let tree = parse(alloc, &tokens)?;
     Ok(tree)
+}
+
+/// The typed script, or why a script is refused.
+pub(crate) fn judge(alloc: Global, script: &[u8]) -> Result<TypedScript, Refusal>
+    ensures { IsJudged script.now result }
+{
+    let tree = read_script(alloc, script)?;
+    let typed = check(alloc, tree)?;
+    Ok(typed)
 }

@@ -1,4 +1,5 @@
 pub mod Blocks
+pub mod Intakes
 pub mod Lines
 pub mod Listings
 pub mod Outputs

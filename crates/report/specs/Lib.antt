@@ -2,6 +2,7 @@ pub mod Vocabulary
 pub mod Columns
 pub mod Faulty
 pub mod Histograms
+pub mod Intake
 pub mod Layout
 pub mod Listing
 pub mod Output

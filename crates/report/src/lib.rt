@@ -15,7 +15,7 @@ pub mod stream;
 pub mod watched;
 pub mod writing;
 
-pub use reading::{ReadFault, read_to_end};
+pub use reading::{Intake, ReadFault, read_into, read_to_end};
 pub use rendering::render;
 pub use report::Report;
 pub use stream::{Failed, Feed, Sink};

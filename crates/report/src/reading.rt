@@ -1,10 +1,12 @@
 //! Reading a feed to its end.
-ghost use Rattle.std.specs.Prelude.{◌≡◌, ◌⊎◌, ◌+◌, ◌≤◌, IfOk, IfSome, OnOk, IsTrue, IsFalse};
+ghost use Rattle.std.specs.Prelude.{◌≡◌, ◌⊎◌, ◌+◌, ◌++◌, ◌≤◌, ℕ, List, IfOk, IfSome, OnOk};
+ghost use Rattle.std.specs.Prelude.{IsTrue, IsFalse};
 ghost use Rattle.std.specs.Io.KnownBytes.{IsAtEnd};
 ghost use Rattle.report.specs.Stream.{LosesBeginning};
+ghost use Rattle.report.specs.Intake.{TakesInput};
 
 use crate::stream::Feed;
-use std::alloc::Global;
+use std::alloc::{AllocError, Global};
 use thiserror::Error;
 
 /// Why a feed was not read to its end.
@@ -23,6 +25,65 @@ pub const MOST_CALLS: u64 = 1 << 32;
 
 // The bytes that one call may give.
 const ROOM: usize = 1 << 16;
+
+/// What takes the bytes that a feed gives, one block after the other.
+pub trait Intake {
+    // What a block makes of it.
+    ghost takes: { Self → List ℕ → Self → Type 0 };
+
+    /// Takes the next block.
+    fn take(&mut self, block: &[u8]) -> Result<(), AllocError>
+        ensures { OnOk result (takes self.old block.now self.new) };
+}
+
+impl Intake for Vec<u8> {
+    ghost takes = { λ old block new. new.items ≡ old.items ++ block };
+
+    fn take(&mut self, block: &[u8]) -> Result<(), AllocError> {
+        self.extend_from_slice(block)
+    }
+}
+
+/// Reads all bytes that the feed has left into an intake, block by block. At a fault a beginning of
+/// them was read.
+///
+/// ```text
+/// let mut feed = Watched::new(b"number,cpu\n".as_slice());
+/// let mut bytes = Vec::new(alloc);
+/// read_into(alloc, &mut feed, &mut bytes)?; // `number,cpu` and a line feed
+/// ```
+pub fn read_into<F: Feed, T: Intake>(
+    alloc: Global,
+    feed: &mut F,
+    intake: &mut T,
+) -> Result<(), ReadFault>
+    requires { IsFalse (F.seen feed.old).has_failed }
+    ensures bytes { OnOk result
+        (TakesInput T.takes (F.seen feed.old).remaining intake.old intake.new) }
+    ensures nothing_left { OnOk result (IsAtEnd (F.seen feed.new).remaining) }
+    ensures ended { OnOk result
+        (IsTrue (F.seen feed.new).has_ended × IsFalse (F.seen feed.new).has_failed) }
+    ensures failed { result ≡ Err ReadFault.Failed →
+        IsTrue (F.seen feed.new).has_failed ⊎ (IsFalse (F.seen feed.new).has_ended
+        × ((F.seen feed.new).calls ≡ (F.seen feed.old).calls + MOST_CALLS)) }
+    ensures memory { result ≡ Err ReadFault.Memory → IsFalse (F.seen feed.new).has_failed }
+    ensures rest { LosesBeginning (F.seen feed.old).remaining (F.seen feed.new).remaining }
+    ensures calls { (F.seen feed.new).calls ≤ (F.seen feed.old).calls + MOST_CALLS }
+{
+    let mut buffer = vec![in alloc; 0u8; ROOM].map_err(|_| ReadFault::Memory)?;
+    for _ in 0..MOST_CALLS {
+        let Ok(given) = feed.get(&mut buffer) else {
+            return Err(ReadFault::Failed);
+        };
+        if given == 0 {
+            return Ok(());
+        }
+        intake
+            .take(&buffer[..given])
+            .map_err(|_| ReadFault::Memory)?;
+    }
+    Err(ReadFault::Failed)
+}
 
 /// Reads all bytes that the feed has left. At a fault a beginning of them was read and is lost.
 ///
@@ -43,18 +104,7 @@ pub fn read_to_end<F: Feed>(alloc: Global, feed: &mut F) -> Result<Vec<u8>, Read
     ensures rest { LosesBeginning (F.seen feed.old).remaining (F.seen feed.new).remaining }
     ensures calls { (F.seen feed.new).calls ≤ (F.seen feed.old).calls + MOST_CALLS }
 {
-    let mut buffer = vec![in alloc; 0u8; ROOM].map_err(|_| ReadFault::Memory)?;
     let mut bytes = Vec::new(alloc);
-    for _ in 0..MOST_CALLS {
-        let Ok(given) = feed.get(&mut buffer) else {
-            return Err(ReadFault::Failed);
-        };
-        if given == 0 {
-            return Ok(bytes);
-        }
-        bytes
-            .extend_from_slice(&buffer[..given])
-            .map_err(|_| ReadFault::Memory)?;
-    }
-    Err(ReadFault::Failed)
+    read_into(alloc, feed, &mut bytes)?;
+    Ok(bytes)
 }

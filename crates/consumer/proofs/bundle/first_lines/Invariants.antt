@@ -1,6 +1,6 @@
 use Rattle.std.proofs.Common.{length}
 use Rattle.consumer.proofs.Dividing.{Passed}
-use Rattle.consumer.proofs.bundle.divide.Given as goal
+use Rattle.consumer.proofs.bundle.first_lines.Given as goal
 
 abbrev pub invariant-loop-line : goal.invariant-loop-line
 invariant-loop-line l = Passed l.fn.bundle l.passed l.rest
