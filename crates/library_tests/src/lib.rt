@@ -8,6 +8,8 @@ mod blocks;
 #[cfg(test)]
 mod code_generator;
 #[cfg(test)]
+mod cut_bundles;
+#[cfg(test)]
 mod drawn_traces;
 #[cfg(test)]
 mod hashes;

@@ -1,0 +1,134 @@
+//! Bundles that come in two blocks, cut at each byte: what is shown doesn't depend on the cut.
+
+ghost use Rattle.consumer.specs.Plans.{IsInBounds};
+
+use crate::replays::reporting;
+use consumer::{ConsumeFault, EngineKind, GroupPlan, Plan, refusal_text};
+use keyed_hash::HashKey;
+use report::Watched;
+use std::alloc::{AllocGlobal, Global};
+use std::io::Read;
+use std::process::Abort;
+use std::sync::Wait;
+use std::test::Fail;
+use std::thread::Threads;
+
+// Lines that begin as the dividing one, a carriage return before the end of that, a byte order
+// mark, and a row with quotes.
+const MIXED: &[u8] = b"/*\n---x\n--- */ syscall::: { @[execname] = count(); }\n---\r\n\xEF\xBB\xBF\
+number,cpu,thread,pid,execname,time,provider,module,function,name,\
+arg0,arg1,arg2,arg3,arg4,arg5,arg6,arg7,arg8,arg9\n\
+1,0,7,700,cat,1000,syscall,,read,entry,3,0,0,0,0,0,0,0,0,0\n\
+4,0,8,700,\"c\"\"t\",1000,syscall,,write,entry,3,0,0,0,0,0,0,0,0,0\r\n";
+
+const MIXED_SHOWN: &str = "
+  c\"t                                                               1
+  cat                                                               1
+";
+
+const SECOND_ROW_REFUSED: &[u8] = b"BEGIN { trace(1); }\n---\n\
+number,cpu,thread,pid,execname,time,provider,module,function,name,\
+arg0,arg1,arg2,arg3,arg4,arg5,arg6,arg7,arg8,arg9\n\
+1,0,7,700,cat,1000,syscall,,read,entry,3,0,0,0,0,0,0,0,0,0\n\
+1,0,8,700,cat,1000,syscall,,write,entry,3,0,0,0,0,0,0,0,0,0\n\
+x\n";
+
+// What each bundle shows, or what is said of it.
+const BUNDLES: [(&[u8], &str); 6] = [
+    (MIXED, MIXED_SHOWN),
+    (SECOND_ROW_REFUSED, "dreplay: trace refused: Trace 4 row 2"),
+    (
+        b"BEGIN { trace(1); }\n---\n",
+        "dreplay: trace refused: Trace 1",
+    ),
+    (
+        b"BEGIN { trace(1); }\n---\r",
+        "dreplay: trace refused: Trace 1",
+    ),
+    (
+        b"BEGIN { trace(1); }\n----\n",
+        "dreplay: script refused: Parse 1 line 2",
+    ),
+    (
+        b"BEGIN {\n08; }\n---\nno header\n",
+        "dreplay: script refused: Lex 4 line 2",
+    ),
+];
+
+// A plan of so many workers, at most two.
+fn plan_of(workers: u32) -> Plan
+    ensures { IsInBounds result }
+{
+    Plan {
+        workers: workers.clamp(1, 2),
+        groups: GroupPlan::Dealt(1),
+        engine: EngineKind::Tree,
+        hash_key: HashKey::of_seed(&[]),
+    }
+}
+
+// A bundle that comes in two blocks shows this, or this is said of it.
+fn expect_in_two<R: AllocGlobal + Threads + Wait + Sync + Abort>(
+    rt: &R,
+    bundle: &[u8],
+    at: usize,
+    workers: u32,
+    wanted: &str,
+) -> Result<(), Fail> {
+    let (first, rest) = bundle.split_at(at.min(bundle.len()));
+    let mut feed = Watched::new(first.chain(rest));
+    let mut sink = Watched::new(Vec::new(rt.alloc()));
+    let answer = reporting(rt).consume(&mut feed, &mut sink, &plan_of(workers));
+    let out = sink.into_inner();
+    match answer {
+        Ok(_) => assert_eq!(rt; out.as_slice(), wanted.as_bytes(), "at {at}"),
+        Err(ConsumeFault::Refused(refusal)) => {
+            let said = refusal_text(rt.alloc(), &refusal)?;
+            assert_eq!(rt; said.as_str(), wanted, "at {at}");
+            assert!(rt; out.is_empty());
+        }
+        Err(_) => assert!(rt; false, "at {at}"),
+    }
+    Ok(())
+}
+
+#[test]
+fn a_bundle_may_be_cut_anywhere(rt: HostRuntime) -> Result<(), Fail> {
+    for (bundle, wanted) in BUNDLES {
+        for at in 0..=bundle.len() {
+            expect_in_two(&rt, bundle, at, 1, wanted)?;
+        }
+        for at in [0, 20, 22, 24, bundle.len()] {
+            expect_in_two(&rt, bundle, at, 2, wanted)?;
+        }
+    }
+    Ok(())
+}
+
+// A bundle whose script has so many bytes, most of which are blanks, or line feeds.
+fn long_bundle(alloc: Global, bytes: usize, filler: u8) -> Result<Vec<u8>, Fail> {
+    let mut bundle = Vec::new(alloc);
+    bundle.extend_from_slice(b"BEGIN { trace(1); }")?;
+    while bundle.len() + 1 < bytes {
+        bundle.push(filler)?;
+    }
+    bundle.extend_from_slice(b"\n---\r\nno header\n")?;
+    Ok(bundle)
+}
+
+#[test]
+fn a_script_at_its_limit_is_told_from_one_past_it(rt: HostRuntime) -> Result<(), Fail> {
+    for (bytes, wanted) in [
+        (65_536, "dreplay: trace refused: Trace 1"),
+        (65_537, "dreplay: script refused: Lex 1"),
+        (65_541, "dreplay: script refused: Lex 1"),
+    ] {
+        for filler in *b" \n" {
+            let bundle = long_bundle(rt.alloc(), bytes, filler)?;
+            for at in [1, bytes, bytes + 4] {
+                expect_in_two(&rt, &bundle, at, 1, wanted)?;
+            }
+        }
+    }
+    Ok(())
+}
