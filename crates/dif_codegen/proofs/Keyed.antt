@@ -29,7 +29,7 @@ use Rattle.dif_machine.specs.Frames.{Frame}
 use Rattle.dif_machine.specs.Frames.{at_place, with_value, with_tuple}
 use Rattle.dif_machine.specs.Runs.{End, Divides, Reaches, goes}
 use Rattle.dif_machine.specs.Sources as machine
-use Rattle.dif_machine.specs.Steps as st
+use Rattle.dif_machine.specs.Semantics as st
 use Rattle.dif_codegen.specs.Code.{register, push_of, pushing, element_code, fetching, saving}
 use Rattle.dif_codegen.specs.Code.{lowering}
 use Rattle.dif_codegen.specs.Pieces.{Place, Maker, one_instr, both, behind}

@@ -28,7 +28,7 @@ use Rattle.dif_machine.specs.Frames.{at_place, with_value, with_comparison}
 use Rattle.dif_machine.specs.Operators.{result_of, holds}
 use Rattle.dif_machine.specs.Runs.{End, Divides, Reaches, faults, goes}
 use Rattle.d_types.specs.Storage as storage
-use Rattle.dif_machine.specs.Steps as st
+use Rattle.dif_machine.specs.Semantics as st
 use Rattle.dif_codegen.specs.Code.{register}
 use Rattle.dif_codegen.specs.Pieces as pieces
 use Rattle.dif_codegen.specs.Pieces.{Piece, Place, Maker, sequence, behind, both, fork, choice_code}

@@ -60,7 +60,7 @@ use Rattle.dif_machine.specs.Frames.{Frame}
 use Rattle.dif_machine.specs.Frames as frames
 use Rattle.dif_machine.specs.Operators.{result_of, comparison_of, text_comparison_of}
 use Rattle.dif_machine.specs.Runs.{goes}
-use Rattle.dif_machine.specs.Steps as st
+use Rattle.dif_machine.specs.Semantics as st
 use Rattle.dif_codegen.specs.Code.{register, operator_of, condition_of, shift_operator, masking}
 use Rattle.dif_codegen.specs.Code.{operate_on, differing, narrowing, unary_code, built_in_code}
 use Rattle.dif_codegen.specs.Code.{fetching}

@@ -3,7 +3,7 @@ use Rattle.std.specs.Prelude.{◌≡◌, ◌≤◌, ℕ, suc, length, Some, Resu
 use Rattle.dif_machine.specs.Vocabulary.{Firing, MachineFault, DivideByZero, Memory, Object, Reg}
 use Rattle.dif_machine.specs.Vocabulary.{at, Value, ValueRef, lent_value, Variables}
 use Rattle.dif_machine.specs.Frames.{Frame, start}
-use Rattle.dif_machine.specs.Steps.{Next, Goes, Ends, Faults, step_of}
+use Rattle.dif_machine.specs.Semantics.{Next, Goes, Ends, Faults, step_of}
 
 -- how a run ends: with a value or at a division by 0, and with the variables
 pub data End : Type 0 where
