@@ -9,3 +9,4 @@ pub mod Refusals
 pub mod Replaying
 pub mod Scripts
 pub mod Words
+pub mod Steps

@@ -1,7 +1,7 @@
 //! Declarations.
 
 ghost use Rattle.d_parser.specs.{Tree.declaration_of, Reading.Gives};
-ghost use Rattle.d_parser.specs.ReadingScripts as spec;
+ghost use Rattle.d_parser.specs.Steps.ReadingScripts as spec;
 
 use crate::fault::ParseFault;
 use crate::marks::{is_at, tail};

@@ -4,8 +4,10 @@
 
 ghost use Rattle.std.specs.Prelude.{◌≡◌};
 ghost use Rattle.d_parser.specs.{Reading.Gives, Words.word_kind};
-ghost use Rattle.d_parser.specs.Tree.{tree_of, trees_of, target_of};
+ghost use Rattle.d_parser.specs.Tree.{tree_of, trees_of};
+ghost use Rattle.d_parser.specs.Steps.Tree.{target_of};
 ghost use Rattle.d_parser.specs.Reading as spec;
+ghost use Rattle.d_parser.specs.Steps.Reading as steps;
 
 use crate::build;
 use crate::fault::{AT_END, ParseFault};
@@ -29,7 +31,7 @@ fn closed_list<'a>(
     tokens: &'a [Token],
 ) -> Result<(Vec<Expr>, &'a [Token]), ParseFault>
     ensures { Gives (λ x. (trees_of x.0.items, x.1.now)) result
-        (spec.closed_list (spec.readers fuel) close tokens.now) }
+        (spec.closed_list (steps.readers fuel) close tokens.now) }
 {
     let (first, rest) = phrase(alloc, fuel, ASSIGNMENT, tokens)?;
     let mut all = Vec::new(alloc);
@@ -46,7 +48,7 @@ pub(crate) fn keys<'a>(
     tokens: &'a [Token],
 ) -> Result<(Vec<Expr>, &'a [Token]), ParseFault>
     ensures { Gives (λ x. (trees_of x.0.items, x.1.now)) result
-        (spec.keys (spec.readers fuel) tokens.now) }
+        (spec.keys (steps.readers fuel) tokens.now) }
 {
     match follow_at(tokens) {
         Follow::Bracket => closed_list(alloc, fuel, Mark::CloseBracket, tail(tokens)),
@@ -63,7 +65,7 @@ pub(crate) fn arguments<'a>(
     tokens: &'a [Token],
 ) -> Result<(Vec<Expr>, &'a [Token]), ParseFault>
     ensures { Gives (λ x. (trees_of x.0.items, x.1.now)) result
-        (spec.arguments (spec.readers fuel) tokens.now) }
+        (spec.arguments (steps.readers fuel) tokens.now) }
 {
     if is_at(Mark::CloseParenthesis, tokens) {
         return Ok((Vec::new(alloc), tail(tokens)));
@@ -80,7 +82,7 @@ fn with_keys<'a>(
     tokens: &'a [Token],
 ) -> Result<(Target, &'a [Token]), ParseFault>
     ensures { Gives (λ x. (target_of x.0, x.1.now)) result
-        (spec.with_keys (spec.readers fuel) variable tokens.now) }
+        (spec.with_keys (steps.readers fuel) variable tokens.now) }
 {
     if variable.is_clause_local() {
         return Ok((build::target(variable, Vec::new(alloc)), tokens));
@@ -99,7 +101,7 @@ fn target<'a>(
     tokens: &'a [Token],
 ) -> Result<(Target, &'a [Token]), ParseFault>
     ensures { Gives (λ x. (target_of x.0, x.1.now)) result
-        (spec.target (spec.readers fuel)
+        (spec.target (steps.readers fuel)
         (word_kind word.entry.name.now) word.entry.name.now word.entry.line
         tokens.now) }
 {
@@ -119,7 +121,7 @@ fn follows<'a>(
     tokens: &'a [Token],
 ) -> Result<(Expr, &'a [Token]), ParseFault>
     ensures { Gives (λ x. (tree_of x.0, x.1.now)) result
-        (spec.follows (spec.readers fuel) level (target_of target) tokens.now) }
+        (spec.follows (steps.readers fuel) level (target_of target) tokens.now) }
 {
     match follow_at(tokens) {
         Follow::Step(step) => Ok((build::after(target, step), tail(tokens))),
@@ -147,7 +149,7 @@ fn part_at_name<'a>(
 ) -> Result<(Expr, &'a [Token]), ParseFault>
     ensures { Gives (λ x. (tree_of x.0, x.1.now)) result
         (spec.part_at_name
-        (spec.readers fuel) level word.entry.name.now word.entry.line tokens.now) }
+        (steps.readers fuel) level word.entry.name.now word.entry.line tokens.now) }
 {
     if begins_call(word.name, tokens) {
         let (all, rest) = arguments(alloc, fuel, tail(tokens))?;
@@ -165,7 +167,7 @@ fn part_at_name<'a>(
 }
 
 fn begins_call(name: &ByteString, tokens: &[Token]) -> bool
-    ensures { result ≡ spec.begins_call name.now tokens.now }
+    ensures { result ≡ steps.begins_call name.now tokens.now }
 {
     match (word_kind(name.as_slice()), follow_at(tokens)) {
         (WordKind::Plain, Follow::Parenthesis) => true,
@@ -183,7 +185,7 @@ fn cast<'a>(
     tokens: &'a [Token],
 ) -> Result<(Expr, &'a [Token]), ParseFault>
     ensures { Gives (λ x. (tree_of x.0, x.1.now)) result
-        (spec.part_at_cast (spec.readers fuel) line tokens.now) }
+        (spec.part_at_cast (steps.readers fuel) line tokens.now) }
 {
     let (to, rest) = cast_type(tokens)?;
     let (operand, rest) = phrase(alloc, fuel, UNARY, rest)?;
@@ -201,7 +203,7 @@ fn part_in_parentheses<'a>(
     tokens: &'a [Token],
 ) -> Result<(Expr, &'a [Token]), ParseFault>
     ensures { Gives (λ x. (tree_of x.0, x.1.now)) result
-        (spec.part_in_parentheses (spec.readers fuel) line tokens.now) }
+        (spec.part_in_parentheses (steps.readers fuel) line tokens.now) }
 {
     if is_typed(tokens) {
         return cast(alloc, fuel, line, tokens);
@@ -221,7 +223,7 @@ fn part_at_step<'a>(
     tokens: &'a [Token],
 ) -> Result<(Expr, &'a [Token]), ParseFault>
     ensures { Gives (λ x. (tree_of x.0, x.1.now)) result
-        (spec.part_at_step (spec.readers fuel) line step tokens.now) }
+        (spec.part_at_step (steps.readers fuel) line step tokens.now) }
 {
     let [token, rest @ ..] = tokens else {
         return Err(ParseFault::Syntax { line: AT_END });
@@ -251,7 +253,7 @@ fn part_at_mark<'a>(
     tokens: &'a [Token],
 ) -> Result<(Expr, &'a [Token]), ParseFault>
     ensures { Gives (λ x. (tree_of x.0, x.1.now)) result
-        (spec.part_at_mark (spec.readers fuel) mark line tokens.now) }
+        (spec.part_at_mark (steps.readers fuel) mark line tokens.now) }
 {
     if mark == Mark::OpenParenthesis {
         return part_in_parentheses(alloc, fuel, line, tokens);
@@ -276,7 +278,7 @@ fn part<'a>(
     tokens: &'a [Token],
 ) -> Result<(Expr, &'a [Token]), ParseFault>
     ensures { Gives (λ x. (tree_of x.0, x.1.now)) result
-        (spec.part (spec.readers fuel) level tokens.now) }
+        (spec.part (steps.readers fuel) level tokens.now) }
 {
     let [token, rest @ ..] = tokens else {
         return Err(ParseFault::Syntax { line: AT_END });
@@ -315,7 +317,7 @@ fn climb<'a>(
     tokens: &'a [Token],
 ) -> Result<(Expr, &'a [Token]), ParseFault>
     ensures { Gives (λ x. (tree_of x.0, x.1.now)) result
-        ((spec.readers fuel).climb level (tree_of left) tokens.now) }
+        ((steps.readers fuel).climb level (tree_of left) tokens.now) }
 {
     if fuel == 0 {
         return Err(ParseFault::Syntax {
@@ -336,7 +338,7 @@ fn climb_on<'a>(
     tokens: &'a [Token],
 ) -> Result<(Expr, &'a [Token]), ParseFault>
     ensures { Gives (λ x. (tree_of x.0, x.1.now)) result
-        (spec.climb_on (spec.readers fuel) level (tree_of left) tokens.now) }
+        (spec.climb_on (steps.readers fuel) level (tree_of left) tokens.now) }
 {
     match follow_at(tokens) {
         Follow::Infix(operator) => {
@@ -362,7 +364,7 @@ fn choice<'a>(
     tokens: &'a [Token],
 ) -> Result<(Expr, &'a [Token]), ParseFault>
     ensures { Gives (λ x. (tree_of x.0, x.1.now)) result
-        (spec.choice (spec.readers fuel) level (tree_of test) tokens.now) }
+        (spec.choice (steps.readers fuel) level (tree_of test) tokens.now) }
 {
     if level > CONDITION {
         return Ok((test, tokens));
@@ -384,7 +386,7 @@ fn alternatives<'a>(
     tokens: &'a [Token],
 ) -> Result<(Expr, &'a [Token]), ParseFault>
     ensures { Gives (λ x. (tree_of x.0, x.1.now)) result
-        (spec.alternatives (spec.readers fuel) (tree_of test) tokens.now) }
+        (spec.alternatives (steps.readers fuel) (tree_of test) tokens.now) }
 {
     let (first, rest) = phrase(alloc, fuel, ASSIGNMENT, tokens)?;
     let rest = after_mark(Mark::Colon, rest)?;
@@ -402,7 +404,7 @@ pub(crate) fn phrase<'a>(
     tokens: &'a [Token],
 ) -> Result<(Expr, &'a [Token]), ParseFault>
     ensures { Gives (λ x. (tree_of x.0, x.1.now)) result
-        ((spec.readers fuel).phrase level tokens.now) }
+        ((steps.readers fuel).phrase level tokens.now) }
 {
     if fuel == 0 {
         return Err(ParseFault::Syntax {
@@ -421,7 +423,7 @@ fn whole<'a>(
     tokens: &'a [Token],
 ) -> Result<(Expr, &'a [Token]), ParseFault>
     ensures { Gives (λ x. (tree_of x.0, x.1.now)) result
-        (spec.whole (spec.readers fuel) level tokens.now) }
+        (spec.whole (steps.readers fuel) level tokens.now) }
 {
     let (first, rest) = part(alloc, fuel, level, tokens)?;
     let (joined, rest) = climb(alloc, fuel, level.max(OR), first, rest)?;
@@ -438,7 +440,7 @@ fn further<'a>(
     tokens: &'a [Token],
 ) -> Result<(Vec<Expr>, &'a [Token]), ParseFault>
     ensures { Gives (λ x. (trees_of x.0.items, x.1.now)) result
-        ((spec.readers fuel).further (trees_of all.items) tokens.now) }
+        ((steps.readers fuel).further (trees_of all.items) tokens.now) }
 {
     if fuel == 0 {
         return Err(ParseFault::Syntax {
@@ -457,7 +459,7 @@ fn further_on<'a>(
     tokens: &'a [Token],
 ) -> Result<(Vec<Expr>, &'a [Token]), ParseFault>
     ensures { Gives (λ x. (trees_of x.0.items, x.1.now)) result
-        (spec.further_on (spec.readers fuel) (trees_of all.items) tokens.now) }
+        (spec.further_on (steps.readers fuel) (trees_of all.items) tokens.now) }
 {
     if !is_at(Mark::Comma, tokens) {
         return Ok((all, tokens));

@@ -1,7 +1,7 @@
 //! The limits that are checked before anything is read.
 
 ghost use Rattle.std.specs.Prelude.{◌≡◌, ◌≤◌, ◌+◌};
-ghost use Rattle.d_parser.specs.Depth as depth;
+ghost use Rattle.d_parser.specs.Steps.Depth as depth;
 ghost use Rattle.d_parser.specs.Limits as limits;
 
 use crate::fault::{MOST_IN_A_ROW, MOST_OPEN};

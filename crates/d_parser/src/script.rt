@@ -3,7 +3,7 @@
 ghost use Rattle.std.specs.Prelude.{◌≤◌, length, map, []};
 ghost use Rattle.d_parser.specs.{Reading.Gives, Words.word_kind};
 ghost use Rattle.d_parser.specs.Tree.{item_of, declaration_of, script_of};
-ghost use Rattle.d_parser.specs.ReadingScripts as spec;
+ghost use Rattle.d_parser.specs.Steps.ReadingScripts as spec;
 
 use crate::clause::clause;
 use crate::declaration::{of_clause, of_thread};

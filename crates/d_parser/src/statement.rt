@@ -1,7 +1,7 @@
 //! Statements.
 
 ghost use Rattle.d_parser.specs.{Tree.stmt_of, Tree.stmts_of, Reading.Gives};
-ghost use Rattle.d_parser.specs.ReadingScripts as spec;
+ghost use Rattle.d_parser.specs.Steps.ReadingScripts as spec;
 
 use crate::expression::{arguments, keys, phrase};
 use crate::fault::{AT_END, ParseFault};

@@ -36,6 +36,7 @@ type_fault_of first = type_fault_at first.cause first.line
 
 -- what comes first is refused first
 infixl 10 ◌>>=◌
+
 abbrev pub ◌>>=◌ : {A B : Type 0} → Result A Fault → (A → Result B Fault) → Result B Fault
 (Err e) >>= go = Err e
 (Ok x) >>= go = go x
@@ -65,8 +66,3 @@ Fails TypeFault.Memory r = Unit {0}
 abbrev pub Gives : {X Y : Type 0} → (X → Y) → Result X TypeFault → Result Y Fault → Type 0
 Gives view (Ok x) r = r ≡ Ok (view x)
 Gives view (Err e) r = Fails e r
-
--- only memory is a reason to fail
-abbrev pub OnlyMemory : {X : Type 0} → Result X TypeFault → Type 0
-OnlyMemory (Ok x) = Unit {0}
-OnlyMemory (Err e) = e ≡ TypeFault.Memory

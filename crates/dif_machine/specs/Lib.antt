@@ -7,6 +7,6 @@ pub mod Held
 pub mod Frames
 pub mod Known
 pub mod Semantics
-pub mod Instructions
 pub mod Runs
 pub mod Changes
+pub mod Steps

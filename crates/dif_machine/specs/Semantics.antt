@@ -1,12 +1,12 @@
 -- The machine: what each instruction does.
-use Rattle.std.specs.Prelude.{◌≡◌, ℕ, zero, suc, ◌+◌, ◌++◌, List, [], ◌∷◌, length, nat_lt}
-use Rattle.std.specs.Prelude.{if◌then◌else◌, Option, Some, None, Result, Ok, Err, slice_get}
+use Rattle.std.specs.Prelude.{ℕ, zero, suc, ◌+◌, ◌++◌, List, [], ◌∷◌, length, nat_lt, if◌then◌else◌}
+use Rattle.std.specs.Prelude.{Option, Some, None, Result, Ok, Err, slice_get}
 use Rattle.dif_machine.specs.Vocabulary.{cast_signed, w64, Firing, Instr, Alu, Not, Mov, Cmp, Tst}
 use Rattle.dif_machine.specs.Vocabulary.{Scmp, Ba, Branch, Setx, Sets, Ldgs, Ldga, Ldts, Stts, Ldls}
 use Rattle.dif_machine.specs.Vocabulary.{Stls, Pushtr, Pushtv, Flushts, Ldtaa, Sttaa, Call, Ret}
 use Rattle.dif_machine.specs.Vocabulary.{Nop, KeyPart, Number, Name, Kind, NumberKind, TextKind}
-use Rattle.dif_machine.specs.Vocabulary.{MachineFault, DivideByZero, Memory, Object, OutOfZero, Reg}
-use Rattle.dif_machine.specs.Vocabulary.{at, Value, Int, Text, Var, Variables, set_local, set_own}
+use Rattle.dif_machine.specs.Vocabulary.{Object, OutOfZero, Reg, at, Value, Int, Text, Var}
+use Rattle.dif_machine.specs.Vocabulary.{Variables, set_local, set_own}
 use Rattle.dif_machine.specs.Frames.{Frame, at_place, with_value, with_comparison, with_tuple}
 use Rattle.dif_machine.specs.Operators.{result_of, complement, comparison_of, text_comparison_of}
 use Rattle.dif_machine.specs.Operators.{holds, call_of}
@@ -112,13 +112,3 @@ act Nop o f s vars = Goes (at_place s (s.pc + 1)) vars
 -- one step
 abbrev pub step_of : Object → Firing → Frame → Variables → Next
 step_of o f s vars = on (slice_get o.code s.pc) (λ i. act i o f s vars)
-
--- what a call that makes a step from these variables returns and leaves; where the step ends the
--- run, the value is in a register; where memory ran out, no variable has changed
-abbrev pub Stepped : Variables → Next → Result (Option Reg) MachineFault → Frame → Variables
-    → Type 0
-Stepped vars next (Ok None) s after = next ≡ Goes s after
-Stepped vars next (Ok (Some a)) s after =
-    (value : Value) × (at s.registers a ≡ Some value) × (next ≡ Ends value after)
-Stepped vars next (Err DivideByZero) s after = next ≡ Faults after
-Stepped vars next (Err Memory) s after = after ≡ vars
