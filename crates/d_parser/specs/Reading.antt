@@ -2,8 +2,6 @@
 use Rattle.std.specs.Prelude.{◌≡◌, Option, Some, None, Result, Ok, Err}
 use Rattle.d_parser.specs.Vocabulary.{ParseFault}
 
-infixl 10 ◌>>=◌
-
 -- What a function returned, seen by view, is what reading gives, unless memory ran out.
 abbrev pub Fails : {Y : Type 0} → ParseFault → Option Y → Type 0
 Fails ParseFault.Memory read = Unit {0}

@@ -36,7 +36,6 @@ type_fault_of first = type_fault_at first.cause first.line
 
 -- what comes first is refused first
 infixl 10 ◌>>=◌
-
 abbrev pub ◌>>=◌ : {A B : Type 0} → Result A Fault → (A → Result B Fault) → Result B Fault
 (Err e) >>= go = Err e
 (Ok x) >>= go = go x

@@ -12,6 +12,7 @@ use Rattle.d_parser.specs.Steps.Words.{begins_type, run, after_run}
 use Rattle.d_parser.specs.Marks.{prefix_of, level_of}
 use Rattle.d_parser.specs.Steps.Marks.{follow_at, is_at, same_mark, tail}
 
+infixl 10 ◌>>=◌
 abbrev pub ◌>>=◌ : {A B : Type 0} → Option A → (A → Option B) → Option B
 None >>= f = None
 (Some x) >>= f = f x
