@@ -41,12 +41,13 @@ use Rattle.d_parser.specs.Grammar.{token, Begins, Sign, Within, IsPhrase, rank, 
 use Rattle.d_parser.specs.Grammar.{IsEnclosed, Spells, SpellsKeys, SpellsList, SpellsMore}
 use Rattle.d_parser.specs.Steps.Reading.{after_mark, plain_word, member, variable, typed_by}
 use Rattle.d_parser.specs.Steps.Reading.{is_typed}
-use Rattle.d_parser.specs.Reading.{closed_list, keys_by}
-use Rattle.d_parser.specs.Steps.Reading.{cast_type, calls, begins_call, readers}
-use Rattle.d_parser.specs.Reading.{keys, arguments, with_keys, target, follows_by, follows}
-use Rattle.d_parser.specs.Reading.{part_at_name, part_at_cast, part_in_parentheses, part_at_step}
-use Rattle.d_parser.specs.Reading.{part_at_mark, part_by, part, climb_by, climb_on, choice_by}
-use Rattle.d_parser.specs.Reading.{alternatives, choice, operand, whole, further_on}
+use Rattle.d_parser.specs.Steps.Reading.{cast_type, calls, begins_call, readers, closed_list}
+use Rattle.d_parser.specs.Steps.Reading.{keys_by}
+use Rattle.d_parser.specs.Steps.Reading.{keys, arguments, with_keys, target, follows_by, follows}
+use Rattle.d_parser.specs.Steps.Reading.{part_at_name, part_at_cast, part_in_parentheses}
+use Rattle.d_parser.specs.Steps.Reading.{part_at_step}
+use Rattle.d_parser.specs.Steps.Reading.{part_at_mark, part_by, part, climb_by, climb_on, choice_by}
+use Rattle.d_parser.specs.Steps.Reading.{alternatives, choice, operand, whole, further_on}
 use Rattle.d_parser.proofs.Takes.{sign_one, takes, phrase_takes, keys_take, target_takes}
 use Rattle.d_parser.proofs.Runs.{run_is, behind_is}
 

@@ -25,8 +25,8 @@ use Rattle.d_parser.specs.Script.{IsAggregation, IsStmt, IsSlot, AreFurther, pre
 use Rattle.d_parser.specs.Script.{IsDescription, FurtherDescriptions, AreDescriptions, IsPredicate}
 use Rattle.d_parser.specs.Script.{IsClause, IsType, FurtherTypes, AreKeyTypes, IsDeclared, IsItem}
 use Rattle.d_parser.specs.Script.{IsScript}
-use Rattle.d_parser.specs.Reading.{arguments, part, part_at_mark, operand, whole}
-use Rattle.d_parser.specs.Steps.Reading.{◌>>=◌, readers}
+use Rattle.d_parser.specs.Steps.Reading.{◌>>=◌, readers, arguments, part, part_at_mark, operand}
+use Rattle.d_parser.specs.Steps.Reading.{whole}
 use Rattle.d_parser.specs.Steps.ReadingScripts.{any_word, aggregation, stmt_by, stmt, ends_stmt}
 use Rattle.d_parser.specs.Steps.ReadingScripts.{slot}
 use Rattle.d_parser.specs.Steps.ReadingScripts.{further_stmts, stmts, description, descriptions_on}

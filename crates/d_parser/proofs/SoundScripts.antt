@@ -20,8 +20,7 @@ use Rattle.d_parser.specs.Script.{IsStmt, IsSlot, AreFurther, present, AreStmts,
 use Rattle.d_parser.specs.Script.{IsDescription, FurtherDescriptions, AreDescriptions, IsPredicate}
 use Rattle.d_parser.specs.Script.{IsClause, IsType, FurtherTypes, AreKeyTypes, IsDeclaration}
 use Rattle.d_parser.specs.Script.{IsItem, IsScript}
-use Rattle.d_parser.specs.Reading.{keys, arguments}
-use Rattle.d_parser.specs.Steps.Reading.{◌>>=◌, after_mark, readers}
+use Rattle.d_parser.specs.Steps.Reading.{◌>>=◌, after_mark, readers, keys, arguments}
 use Rattle.d_parser.specs.Steps.ReadingScripts.{word_by, any_word, aggregation, stmt_by, stmt}
 use Rattle.d_parser.specs.Steps.ReadingScripts.{ends_stmt}
 use Rattle.d_parser.specs.Steps.ReadingScripts.{slot, further_stmts, stmts, with_rest}

@@ -8,8 +8,7 @@ use Rattle.d_parser.specs.declared.tree.DeclaredType.{DeclaredType}
 use Rattle.d_parser.specs.declared.tree.Description.{Description}
 use Rattle.d_parser.specs.Tree.{StmtTree}
 use Rattle.d_parser.specs.Steps.Marks.{is_at, tail}
-use Rattle.d_parser.specs.Reading.{whole, climb_on, further_on}
-use Rattle.d_parser.specs.Steps.Reading.{after_mark, readers}
+use Rattle.d_parser.specs.Steps.Reading.{after_mark, readers, whole, climb_on, further_on}
 use Rattle.d_parser.specs.Words.{type_of_words}
 use Rattle.d_parser.specs.Steps.Words.{run, after_run}
 use Rattle.d_parser.specs.Tree.{ItemTree}

@@ -6,7 +6,6 @@ ghost use Rattle.std.specs.Prelude.{◌≡◌};
 ghost use Rattle.d_parser.specs.{Reading.Gives, Words.word_kind};
 ghost use Rattle.d_parser.specs.Tree.{tree_of, trees_of};
 ghost use Rattle.d_parser.specs.Steps.Tree.{target_of};
-ghost use Rattle.d_parser.specs.Reading as spec;
 ghost use Rattle.d_parser.specs.Steps.Reading as steps;
 
 use crate::build;
@@ -31,7 +30,7 @@ fn closed_list<'a>(
     tokens: &'a [Token],
 ) -> Result<(Vec<Expr>, &'a [Token]), ParseFault>
     ensures { Gives (λ x. (trees_of x.0.items, x.1.now)) result
-        (spec.closed_list (steps.readers fuel) close tokens.now) }
+        (steps.closed_list (steps.readers fuel) close tokens.now) }
 {
     let (first, rest) = phrase(alloc, fuel, ASSIGNMENT, tokens)?;
     let mut all = Vec::new(alloc);
@@ -48,7 +47,7 @@ pub(crate) fn keys<'a>(
     tokens: &'a [Token],
 ) -> Result<(Vec<Expr>, &'a [Token]), ParseFault>
     ensures { Gives (λ x. (trees_of x.0.items, x.1.now)) result
-        (spec.keys (steps.readers fuel) tokens.now) }
+        (steps.keys (steps.readers fuel) tokens.now) }
 {
     match follow_at(tokens) {
         Follow::Bracket => closed_list(alloc, fuel, Mark::CloseBracket, tail(tokens)),
@@ -65,7 +64,7 @@ pub(crate) fn arguments<'a>(
     tokens: &'a [Token],
 ) -> Result<(Vec<Expr>, &'a [Token]), ParseFault>
     ensures { Gives (λ x. (trees_of x.0.items, x.1.now)) result
-        (spec.arguments (steps.readers fuel) tokens.now) }
+        (steps.arguments (steps.readers fuel) tokens.now) }
 {
     if is_at(Mark::CloseParenthesis, tokens) {
         return Ok((Vec::new(alloc), tail(tokens)));
@@ -82,7 +81,7 @@ fn with_keys<'a>(
     tokens: &'a [Token],
 ) -> Result<(Target, &'a [Token]), ParseFault>
     ensures { Gives (λ x. (target_of x.0, x.1.now)) result
-        (spec.with_keys (steps.readers fuel) variable tokens.now) }
+        (steps.with_keys (steps.readers fuel) variable tokens.now) }
 {
     if variable.is_clause_local() {
         return Ok((build::target(variable, Vec::new(alloc)), tokens));
@@ -101,7 +100,7 @@ fn target<'a>(
     tokens: &'a [Token],
 ) -> Result<(Target, &'a [Token]), ParseFault>
     ensures { Gives (λ x. (target_of x.0, x.1.now)) result
-        (spec.target (steps.readers fuel)
+        (steps.target (steps.readers fuel)
         (word_kind word.entry.name.now) word.entry.name.now word.entry.line
         tokens.now) }
 {
@@ -121,7 +120,7 @@ fn follows<'a>(
     tokens: &'a [Token],
 ) -> Result<(Expr, &'a [Token]), ParseFault>
     ensures { Gives (λ x. (tree_of x.0, x.1.now)) result
-        (spec.follows (steps.readers fuel) level (target_of target) tokens.now) }
+        (steps.follows (steps.readers fuel) level (target_of target) tokens.now) }
 {
     match follow_at(tokens) {
         Follow::Step(step) => Ok((build::after(target, step), tail(tokens))),
@@ -148,7 +147,7 @@ fn part_at_name<'a>(
     tokens: &'a [Token],
 ) -> Result<(Expr, &'a [Token]), ParseFault>
     ensures { Gives (λ x. (tree_of x.0, x.1.now)) result
-        (spec.part_at_name
+        (steps.part_at_name
         (steps.readers fuel) level word.entry.name.now word.entry.line tokens.now) }
 {
     if begins_call(word.name, tokens) {
@@ -185,7 +184,7 @@ fn cast<'a>(
     tokens: &'a [Token],
 ) -> Result<(Expr, &'a [Token]), ParseFault>
     ensures { Gives (λ x. (tree_of x.0, x.1.now)) result
-        (spec.part_at_cast (steps.readers fuel) line tokens.now) }
+        (steps.part_at_cast (steps.readers fuel) line tokens.now) }
 {
     let (to, rest) = cast_type(tokens)?;
     let (operand, rest) = phrase(alloc, fuel, UNARY, rest)?;
@@ -203,7 +202,7 @@ fn part_in_parentheses<'a>(
     tokens: &'a [Token],
 ) -> Result<(Expr, &'a [Token]), ParseFault>
     ensures { Gives (λ x. (tree_of x.0, x.1.now)) result
-        (spec.part_in_parentheses (steps.readers fuel) line tokens.now) }
+        (steps.part_in_parentheses (steps.readers fuel) line tokens.now) }
 {
     if is_typed(tokens) {
         return cast(alloc, fuel, line, tokens);
@@ -223,7 +222,7 @@ fn part_at_step<'a>(
     tokens: &'a [Token],
 ) -> Result<(Expr, &'a [Token]), ParseFault>
     ensures { Gives (λ x. (tree_of x.0, x.1.now)) result
-        (spec.part_at_step (steps.readers fuel) line step tokens.now) }
+        (steps.part_at_step (steps.readers fuel) line step tokens.now) }
 {
     let [token, rest @ ..] = tokens else {
         return Err(ParseFault::Syntax { line: AT_END });
@@ -253,7 +252,7 @@ fn part_at_mark<'a>(
     tokens: &'a [Token],
 ) -> Result<(Expr, &'a [Token]), ParseFault>
     ensures { Gives (λ x. (tree_of x.0, x.1.now)) result
-        (spec.part_at_mark (steps.readers fuel) mark line tokens.now) }
+        (steps.part_at_mark (steps.readers fuel) mark line tokens.now) }
 {
     if mark == Mark::OpenParenthesis {
         return part_in_parentheses(alloc, fuel, line, tokens);
@@ -278,7 +277,7 @@ fn part<'a>(
     tokens: &'a [Token],
 ) -> Result<(Expr, &'a [Token]), ParseFault>
     ensures { Gives (λ x. (tree_of x.0, x.1.now)) result
-        (spec.part (steps.readers fuel) level tokens.now) }
+        (steps.part (steps.readers fuel) level tokens.now) }
 {
     let [token, rest @ ..] = tokens else {
         return Err(ParseFault::Syntax { line: AT_END });
@@ -338,7 +337,7 @@ fn climb_on<'a>(
     tokens: &'a [Token],
 ) -> Result<(Expr, &'a [Token]), ParseFault>
     ensures { Gives (λ x. (tree_of x.0, x.1.now)) result
-        (spec.climb_on (steps.readers fuel) level (tree_of left) tokens.now) }
+        (steps.climb_on (steps.readers fuel) level (tree_of left) tokens.now) }
 {
     match follow_at(tokens) {
         Follow::Infix(operator) => {
@@ -364,7 +363,7 @@ fn choice<'a>(
     tokens: &'a [Token],
 ) -> Result<(Expr, &'a [Token]), ParseFault>
     ensures { Gives (λ x. (tree_of x.0, x.1.now)) result
-        (spec.choice (steps.readers fuel) level (tree_of test) tokens.now) }
+        (steps.choice (steps.readers fuel) level (tree_of test) tokens.now) }
 {
     if level > CONDITION {
         return Ok((test, tokens));
@@ -386,7 +385,7 @@ fn alternatives<'a>(
     tokens: &'a [Token],
 ) -> Result<(Expr, &'a [Token]), ParseFault>
     ensures { Gives (λ x. (tree_of x.0, x.1.now)) result
-        (spec.alternatives (steps.readers fuel) (tree_of test) tokens.now) }
+        (steps.alternatives (steps.readers fuel) (tree_of test) tokens.now) }
 {
     let (first, rest) = phrase(alloc, fuel, ASSIGNMENT, tokens)?;
     let rest = after_mark(Mark::Colon, rest)?;
@@ -423,7 +422,7 @@ fn whole<'a>(
     tokens: &'a [Token],
 ) -> Result<(Expr, &'a [Token]), ParseFault>
     ensures { Gives (λ x. (tree_of x.0, x.1.now)) result
-        (spec.whole (steps.readers fuel) level tokens.now) }
+        (steps.whole (steps.readers fuel) level tokens.now) }
 {
     let (first, rest) = part(alloc, fuel, level, tokens)?;
     let (joined, rest) = climb(alloc, fuel, level.max(OR), first, rest)?;
@@ -459,7 +458,7 @@ fn further_on<'a>(
     tokens: &'a [Token],
 ) -> Result<(Vec<Expr>, &'a [Token]), ParseFault>
     ensures { Gives (λ x. (trees_of x.0.items, x.1.now)) result
-        (spec.further_on (steps.readers fuel) (trees_of all.items) tokens.now) }
+        (steps.further_on (steps.readers fuel) (trees_of all.items) tokens.now) }
 {
     if !is_at(Mark::Comma, tokens) {
         return Ok((all, tokens));
