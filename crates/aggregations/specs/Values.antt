@@ -1,6 +1,6 @@
 -- The value of an aggregation, from the arguments in their order.
-use Rattle.std.specs.Prelude.{◌≡◌, ℕ, ◌<◌, ◌≤◌, ◌^◌, ℤ, pos, List, [], ◌∷◌, All, Contains, length}
-use Rattle.std.specs.Prelude.{sum, IsSomeAnd}
+use Rattle.std.specs.Prelude.{◌≡◌, ℕ, ◌<◌, ◌≤◌, ◌^◌, ℤ, pos, ◌+ℤ◌, ◌≤ℤ◌, List, [], ◌∷◌, All}
+use Rattle.std.specs.Prelude.{Contains, length, sum, IsSomeAnd}
 use Rattle.std.specs.Int.{int_wrap, w64}
 use Rattle.aggregations.specs.Vocabulary.{AggFn, Count, Sum, Min, Max, Avg}
 use Rattle.aggregations.specs.declared.held.Held.{

@@ -1,5 +1,5 @@
 -- The entries of an aggregation in the order in which they are shown.
-use Rattle.std.specs.Prelude.{◌≡◌, ◌⊎◌, ℕ, List, [], ◌∷◌, ℤ}
+use Rattle.std.specs.Prelude.{◌≡◌, ◌⊎◌, ◌<ℤ◌, ℕ, List, [], ◌∷◌, ℤ}
 use Rattle.report.specs.Vocabulary.{AggFn, Contribution, AreEntries, figure_of, rank_of}
 use Rattle.report.specs.Vocabulary.{IsStrictlySortedBy, Less, Ordering, int_cmp, ordering_then}
 use Rattle.report.specs.Vocabulary.{flat_map, key_cmp}
