@@ -1,8 +1,9 @@
 -- Trees, without where they lie in memory.
 use Rattle.std.specs.Prelude.{ℕ, List, [], ◌∷◌, map, Option, Some, None}
 use Rattle.d_parser.specs.Vocabulary.{UnaryOperator, BinaryOperator, AssignOperator, Step}
-use Rattle.d_parser.specs.Vocabulary.{IntegerType, Variable, Constant, Expr, DeclaredType}
-use Rattle.d_parser.specs.Vocabulary.{Description, Declaration, Stmt, Clause, Item, Script}
+use Rattle.d_parser.specs.Vocabulary.{IntegerType, Variable, Constant, Expr, Row_of-Expr}
+use Rattle.d_parser.specs.Vocabulary.{end_of-Expr, more_of-Expr, DeclaredType, Description}
+use Rattle.d_parser.specs.Vocabulary.{Declaration, Stmt, Clause, Item, Script}
 
 -- an expression; numbers are lines
 mutual

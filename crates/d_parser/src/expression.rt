@@ -22,7 +22,7 @@ use std::alloc::Global;
 
 /// Expressions with commas between, and the mark that closes them.
 #[cycle(expression)]
-#[tactic(auto, unfolding(crate::specs::Reading::closed_list))]
+#[tactic(auto, unfolding(crate::specs::Steps::Reading::closed_list))]
 fn closed_list<'a>(
     alloc: Global,
     fuel: usize,
@@ -40,7 +40,7 @@ fn closed_list<'a>(
 }
 
 #[cycle(expression)]
-#[tactic(auto, unfolding(crate::specs::Reading::keys))]
+#[tactic(auto, unfolding(crate::specs::Steps::Reading::keys))]
 pub(crate) fn keys<'a>(
     alloc: Global,
     fuel: usize,
@@ -57,7 +57,7 @@ pub(crate) fn keys<'a>(
 
 /// The arguments of a call, after its opening parenthesis.
 #[cycle(expression)]
-#[tactic(auto, unfolding(crate::specs::Reading::arguments))]
+#[tactic(auto, unfolding(crate::specs::Steps::Reading::arguments))]
 pub(crate) fn arguments<'a>(
     alloc: Global,
     fuel: usize,
@@ -73,7 +73,7 @@ pub(crate) fn arguments<'a>(
 }
 
 #[cycle(expression)]
-#[tactic(auto, unfolding(crate::specs::Reading::with_keys))]
+#[tactic(auto, unfolding(crate::specs::Steps::Reading::with_keys))]
 fn with_keys<'a>(
     alloc: Global,
     fuel: usize,
@@ -92,7 +92,7 @@ fn with_keys<'a>(
 
 /// A target, by its first word.
 #[cycle(expression)]
-#[tactic(auto, unfolding(crate::specs::Reading::target))]
+#[tactic(auto, unfolding(crate::specs::Steps::Reading::target))]
 fn target<'a>(
     alloc: Global,
     fuel: usize,
@@ -111,7 +111,7 @@ fn target<'a>(
 /// What a target goes on as.
 #[cycle(expression)]
 #[inline(never)]
-#[tactic(auto, unfolding(crate::specs::Reading::follows))]
+#[tactic(auto, unfolding(crate::specs::Steps::Reading::follows))]
 fn follows<'a>(
     alloc: Global,
     fuel: usize,
@@ -138,7 +138,7 @@ fn follows<'a>(
 /// A call, or what a target begins.
 #[cycle(expression)]
 #[inline(never)]
-#[tactic(auto, unfolding(crate::specs::Reading::part_at_name))]
+#[tactic(auto, unfolding(crate::specs::Steps::Reading::part_at_name))]
 fn part_at_name<'a>(
     alloc: Global,
     fuel: usize,
@@ -176,7 +176,7 @@ fn begins_call(name: &ByteString, tokens: &[Token]) -> bool
 
 #[cycle(expression)]
 #[inline(never)]
-#[tactic(auto, unfolding(crate::specs::Reading::part_at_cast))]
+#[tactic(auto, unfolding(crate::specs::Steps::Reading::part_at_cast))]
 fn cast<'a>(
     alloc: Global,
     fuel: usize,
@@ -194,7 +194,7 @@ fn cast<'a>(
 /// A cast or an expression, after the opening parenthesis.
 #[cycle(expression)]
 #[inline(never)]
-#[tactic(auto, unfolding(crate::specs::Reading::part_in_parentheses))]
+#[tactic(auto, unfolding(crate::specs::Steps::Reading::part_in_parentheses))]
 fn part_in_parentheses<'a>(
     alloc: Global,
     fuel: usize,
@@ -213,7 +213,7 @@ fn part_in_parentheses<'a>(
 
 /// The target after `++` or `--`.
 #[cycle(expression)]
-#[tactic(auto, unfolding(crate::specs::Reading::part_at_step))]
+#[tactic(auto, unfolding(crate::specs::Steps::Reading::part_at_step))]
 fn part_at_step<'a>(
     alloc: Global,
     fuel: usize,
@@ -243,7 +243,7 @@ fn part_at_step<'a>(
 /// After a mark that begins a part.
 #[cycle(expression)]
 #[inline(never)]
-#[tactic(auto, unfolding(crate::specs::Reading::part_at_mark))]
+#[tactic(auto, unfolding(crate::specs::Steps::Reading::part_at_mark))]
 fn part_at_mark<'a>(
     alloc: Global,
     fuel: usize,
@@ -269,7 +269,7 @@ fn part_at_mark<'a>(
 
 /// A unary part, or where the level allows it an assignment.
 #[cycle(expression)]
-#[tactic(auto, unfolding(crate::specs::Reading::part))]
+#[tactic(auto, unfolding(crate::specs::Steps::Reading::part))]
 fn part<'a>(
     alloc: Global,
     fuel: usize,
@@ -328,7 +328,7 @@ fn climb<'a>(
 
 #[cycle(expression)]
 #[inline(never)]
-#[tactic(auto, unfolding(crate::specs::Reading::climb_on))]
+#[tactic(auto, unfolding(crate::specs::Steps::Reading::climb_on))]
 fn climb_on<'a>(
     alloc: Global,
     fuel: usize,
@@ -354,7 +354,7 @@ fn climb_on<'a>(
 
 /// A condition goes on with a question mark.
 #[cycle(expression)]
-#[tactic(auto, unfolding(crate::specs::Reading::choice))]
+#[tactic(auto, unfolding(crate::specs::Steps::Reading::choice))]
 fn choice<'a>(
     alloc: Global,
     fuel: usize,
@@ -377,7 +377,7 @@ fn choice<'a>(
 /// What comes after the question mark.
 #[cycle(expression)]
 #[inline(never)]
-#[tactic(auto, unfolding(crate::specs::Reading::alternatives))]
+#[tactic(auto, unfolding(crate::specs::Steps::Reading::alternatives))]
 fn alternatives<'a>(
     alloc: Global,
     fuel: usize,
@@ -414,7 +414,7 @@ pub(crate) fn phrase<'a>(
 }
 
 #[cycle(expression)]
-#[tactic(auto, unfolding(crate::specs::Reading::whole, crate::specs::Reading::operand))]
+#[tactic(auto, unfolding(crate::specs::Steps::Reading::whole, crate::specs::Steps::Reading::operand))]
 fn whole<'a>(
     alloc: Global,
     fuel: usize,
@@ -450,7 +450,7 @@ fn further<'a>(
 }
 
 #[cycle(expression)]
-#[tactic(auto, unfolding(crate::specs::Reading::further_on), using(crate::proofs::Rows::trees_push))]
+#[tactic(auto, unfolding(crate::specs::Steps::Reading::further_on), using(crate::proofs::Rows::trees_push))]
 fn further_on<'a>(
     alloc: Global,
     fuel: usize,

@@ -46,7 +46,7 @@ pub(crate) fn after_mark(mark: Mark, tokens: &[Token]) -> Result<&[Token], Parse
 }
 
 /// A word that isn't reserved.
-#[tactic(auto, unfolding(crate::specs::Reading::plain_word))]
+#[tactic(auto, unfolding(crate::specs::Steps::Reading::plain_word))]
 fn plain_word(alloc: Global, tokens: &[Token]) -> Result<(ByteString, &[Token]), ParseFault>
     ensures { Gives (λ x. (x.0, x.1.now)) result (steps.plain_word tokens.now) }
 {
@@ -63,7 +63,7 @@ fn plain_word(alloc: Global, tokens: &[Token]) -> Result<(ByteString, &[Token]),
 }
 
 /// The word after an arrow.
-#[tactic(auto, unfolding(crate::specs::Reading::member))]
+#[tactic(auto, unfolding(crate::specs::Steps::Reading::member))]
 fn member(alloc: Global, tokens: &[Token]) -> Result<(ByteString, &[Token]), ParseFault>
     ensures { Gives (λ x. (x.0, x.1.now)) result (steps.member tokens.now) }
 {
@@ -78,7 +78,7 @@ pub(crate) struct Word<'a> {
 }
 
 /// The variable that a word begins.
-#[tactic(auto, unfolding(crate::specs::Reading::variable))]
+#[tactic(auto, unfolding(crate::specs::Steps::Reading::variable))]
 pub(crate) fn variable<'a>(
     alloc: Global,
     word: Word<'_>,
@@ -128,7 +128,7 @@ fn line_without_cast(words: &[Token], tokens: &[Token]) -> usize {
 }
 
 /// The type in a cast, after its opening parenthesis.
-#[tactic(auto, unfolding(crate::specs::Reading::cast_type))]
+#[tactic(auto, unfolding(crate::specs::Steps::Reading::cast_type))]
 pub(crate) fn cast_type(tokens: &[Token]) -> Result<(IntegerType, &[Token]), ParseFault>
     ensures { Gives (λ x. (x.0, x.1.now)) result (steps.cast_type tokens.now) }
 {

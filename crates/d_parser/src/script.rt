@@ -32,7 +32,7 @@ fn declaration<'a>(
     }
 }
 
-#[tactic(auto, unfolding(crate::specs::ReadingScripts::item_reader))]
+#[tactic(auto, unfolding(crate::specs::Steps::ReadingScripts::item_reader))]
 fn item<'a>(
     alloc: Global,
     fuel: usize,
@@ -75,7 +75,7 @@ fn items(alloc: Global, fuel: usize, tokens: &[Token]) -> Result<Vec<Item>, Pars
 }
 
 /// The script that all tokens spell.
-#[tactic(auto, unfolding(crate::specs::ReadingScripts::script_reader))]
+#[tactic(auto, unfolding(crate::specs::Steps::ReadingScripts::script_reader))]
 pub(crate) fn script(alloc: Global, tokens: &[Token]) -> Result<Script, ParseFault>
     requires { length tokens.now ≤ MOST_BYTES }
     ensures { Gives script_of result (spec.script_reader tokens.now) }

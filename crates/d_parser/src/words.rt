@@ -104,7 +104,7 @@ fn is_word(token: &Token) -> bool
 }
 
 /// The tokens after the words at the front.
-#[tactic(auto, unfolding(crate::specs::Words::after_run))]
+#[tactic(auto, unfolding(crate::specs::Steps::Words::after_run))]
 fn after_run(tokens: &[Token]) -> &[Token]
     ensures is { result.now ≡ steps.after_run tokens.now }
     ensures shorter { length result.now ≤ length tokens.now }

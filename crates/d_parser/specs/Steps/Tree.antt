@@ -1,6 +1,6 @@
 -- Targets as trees, and one tree more at the end of a list.
 use Rattle.d_parser.specs.Vocabulary.{Variable, Target}
-use Rattle.d_parser.specs.Tree.{Tree, Trees, end, more, trees_of}
+use Rattle.d_parser.specs.Tree.{Tree, Trees, more, end, trees_of}
 
 abbrev pub target_of : Target → Variable × Trees
 target_of t = (t.variable, trees_of t.keys.items)
