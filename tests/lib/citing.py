@@ -1,9 +1,10 @@
 """Which definitions the clauses of sources rest on: those of public functions, of types, of traits
-and of laws; and those that no more than the clauses of private functions do.
+and of laws, and what other crates cite; and those that only private functions of their crate cite.
 
 It goes by the text: a function is private where it is no `pub fn` and no method of a trait.
 """
 import re
+from collections import defaultdict
 
 from lib.definitions import WORD, taken
 from lib.names import TOP, read, sources
@@ -48,17 +49,21 @@ def cited(definitions, source, text):
 
 
 class Citing:
-    """What the clauses that callers see rest on, what those of private functions alone do, and what
-    no clause does, so that only proofs can use it."""
+    """What the clauses that callers see rest on, and what other crates cite; what the clauses of
+    private functions alone do; and what no clause does, so that only proofs can use it."""
 
     def __init__(self, definitions):
-        roots = [], []
+        public, private = [], defaultdict(list)
         for path in sources():
             source = read(f"{TOP}/{path}")
-            for found, text in zip(roots, halves(source)):
-                found += cited(definitions, source, text)
-        public, private = [{id(it) for it in definitions.reach(found)} for found in roots]
+            outside, inside = [cited(definitions, source, half) for half in halves(source)]
+            public += outside
+            private[path.split("/")[1]] += inside
+        inside = {id(it) for found in private.values() for it in definitions.reach(found)}
+        for crate, found in private.items():
+            public += [it for it in definitions.reach(found) if it.crate != crate]
+        outside = {id(it) for it in definitions.reach(public)}
         every = list({id(it): it for it in definitions.of.values()}.values())
-        self.public = [it for it in every if id(it) in public]
-        self.private = [it for it in every if id(it) in private - public]
-        self.unused = [it for it in every if id(it) not in private | public]
+        self.public = [it for it in every if id(it) in outside]
+        self.private = [it for it in every if id(it) in inside - outside]
+        self.unused = [it for it in every if id(it) not in inside | outside]

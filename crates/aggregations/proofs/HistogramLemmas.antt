@@ -18,7 +18,8 @@ use Rattle.std.proofs.lemmas.List.Sums.{sum_by_push, sum_by-append, sum_by-cons,
 use Rattle.std.proofs.lemmas.List.Sums.{get_or-le-sum_by}
 use Rattle.aggregations.specs.declared.scale.Scale.{Scale}
 use Rattle.aggregations.specs.Buckets.{buckets, is_in, counts_of}
-use Rattle.aggregations.specs.Histograms.{Histogram, histogram_of, with_more, used_at, counts_used}
+use Rattle.aggregations.specs.Histograms.{Histogram, histogram_of, used_at, counts_used}
+use Rattle.aggregations.specs.Steps.Histograms.{with_more}
 use Rattle.aggregations.specs.Histograms.{AreUsed}
 
 -- ---- a list of what g is at each number below n

@@ -22,7 +22,7 @@ use Rattle.aggregations.specs.Table.{Aggregation, Contribution, functions_of, co
 use Rattle.aggregations.specs.Table.{arguments_of, entry_at, IsEntry, HasEntry, StandsFor}
 use Rattle.aggregations.proofs.TableLemmas.{arguments_of-append, slice_get-set_same}
 use Rattle.aggregations.proofs.TableLemmas.{slice_get-set_other}
-use Rattle.aggregations.specs.Entries.{Joins, Puts, TakesAll}
+use Rattle.aggregations.specs.Steps.Entries.{Joins, Puts, TakesAll}
 
 some_is : {T : Type 0} {x y : T} → Some x ≡ Some y → x ≡ y
 some_is e = cc

@@ -19,9 +19,11 @@ use Rattle.aggregations.specs.declared.held.Held.TheVariants.{Counted, Summed, L
 use Rattle.aggregations.specs.declared.held.Held.TheVariants.{Mean, Counts}
 use Rattle.aggregations.specs.Histograms.{Histogram, histogram_of}
 use Rattle.aggregations.specs.Buckets.{buckets, counts_of, is_in}
-use Rattle.aggregations.specs.Values.{total, IsSum, IsLeast, IsGreatest, IsValue, TakesOne}
-use Rattle.aggregations.specs.Values.{TakesBoth, count_in}
-use Rattle.aggregations.specs.Held.{after, count_of, number_of}
+use Rattle.aggregations.specs.Values.{total, IsSum, IsLeast, IsGreatest, IsValue}
+use Rattle.aggregations.specs.Steps.Values.{TakesOne}
+use Rattle.aggregations.specs.Values.{count_in}
+use Rattle.aggregations.specs.Steps.Values.{TakesBoth}
+use Rattle.aggregations.specs.Steps.Held.{after, count_of, number_of}
 use Rattle.aggregations.specs.Figures.{figure_of, histogram_in}
 use Rattle.std.proofs.lemmas.Option.{same_Some}
 

@@ -1,6 +1,5 @@
 -- Histograms: how many arguments each bucket of a scale has.
-use Rattle.std.specs.Prelude.{◌≡◌, ℕ, ◌+◌, ◌<◌, ◌≤◌, ◌^◌, nat_eq, ℤ, Some}
-use Rattle.std.specs.Prelude.{List, map, sum, slice_index, slice_set}
+use Rattle.std.specs.Prelude.{◌≡◌, ℕ, ◌<◌, ◌≤◌, ◌^◌, nat_eq, ℤ, Some, List, map, sum, slice_index}
 use Rattle.std.specs.List.{range_with_len, IsDistinct}
 use Rattle.std.specs.{Map.lookup, Map.keys_of, Option.unwrap_or}
 use Rattle.aggregations.specs.Vocabulary.{Scale}
@@ -14,13 +13,6 @@ pub record Histogram : Type 0 where
 -- the histogram of the arguments
 abbrev pub histogram_of : Scale → List ℤ → Histogram
 histogram_of scale args = record { scale = scale; counts = counts_of scale args }
-
--- with more in one bucket
-abbrev pub with_more : Histogram → ℕ → ℕ → Histogram
-with_more h bucket more = record {
-  scale = h.scale;
-  counts = slice_set h.counts bucket (slice_index h.counts bucket + more);
-}
 
 -- what is kept for the bucket: nothing where it was never used
 abbrev pub used_at : List (ℕ × ℕ) → ℕ → ℕ

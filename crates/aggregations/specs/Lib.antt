@@ -4,7 +4,6 @@ pub mod LinearRanges
 pub mod Buckets
 pub mod Histograms
 pub mod Values
-pub mod Held
 pub mod Figures
 pub mod Table
-pub mod Entries
+pub mod Steps

@@ -1,6 +1,6 @@
 -- The value of an aggregation, from the arguments in their order.
-use Rattle.std.specs.Prelude.{◌≡◌, ℕ, ◌<◌, ◌≤◌, ◌^◌, ℤ, pos, ◌+ℤ◌, ◌≤ℤ◌}
-use Rattle.std.specs.Prelude.{List, [], ◌∷◌, ◌++◌, All, Contains, length, sum, IsSomeAnd}
+use Rattle.std.specs.Prelude.{◌≡◌, ℕ, ◌<◌, ◌≤◌, ◌^◌, ℤ, pos, ◌+ℤ◌, ◌≤ℤ◌, List, [], ◌∷◌, All}
+use Rattle.std.specs.Prelude.{Contains, length, sum, IsSomeAnd}
 use Rattle.std.specs.Int.{int_wrap, w64}
 use Rattle.aggregations.specs.Vocabulary.{AggFn, Count, Sum, Min, Max, Avg}
 use Rattle.aggregations.specs.declared.held.Held.{
@@ -41,16 +41,6 @@ IsValue Avg (Mean m) args = IsSum m.sum args × (m.count ≡ length args)
 IsValue function (Counts h) args =
     IsSomeAnd (scale_of function) (λ scale. h ≡ histogram_of scale args)
 IsValue function held args = ⊥
-
--- whatever old is made of, new is made of that and one more
-abbrev pub TakesOne : (old : Held) → ℤ → (new : Held) → Type 0
-TakesOne old arg new = (function : AggFn) (args : List ℤ)
-    → IsValue function old args → IsValue function new (args ++ arg ∷ [])
-
--- whatever old and other are made of, new is made of both
-abbrev pub TakesBoth : (old other new : Held) → Type 0
-TakesBoth old other new = (function : AggFn) (xs ys : List ℤ)
-    → IsValue function old xs → IsValue function other ys → IsValue function new (xs ++ ys)
 
 -- how many arguments are held, as far as that is kept
 abbrev pub count_in : Held → ℕ

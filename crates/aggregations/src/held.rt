@@ -2,7 +2,7 @@
 
 ghost use Rattle.std.specs.Prelude.{◌≡◌, ◌+◌, ◌≤◌, ◌^◌, option_copied};
 ghost use Rattle.aggregations.specs.Figures.{figure_of, histogram_in};
-ghost use Rattle.aggregations.specs.Held as spec;
+ghost use Rattle.aggregations.specs.Steps.Held as spec;
 
 use crate::histogram::Histogram;
 

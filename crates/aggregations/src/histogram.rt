@@ -31,7 +31,8 @@ impl Model for Histogram {
 impl Histogram {
     ghost use Rattle.aggregations.specs.Buckets.{buckets};
     ghost use Rattle.aggregations.specs.Figures.{Figure, rank_of};
-    ghost use Rattle.aggregations.specs.Histograms.{IsSpan, histogram_of, with_more};
+    ghost use Rattle.aggregations.specs.Histograms.{IsSpan, histogram_of};
+    ghost use Rattle.aggregations.specs.Steps.Histograms.{with_more};
 
     // Without arguments.
     pub(crate) fn new(alloc: Global, scale: Scale) -> Histogram

@@ -30,7 +30,8 @@ impl Partial {
     ghost use Rattle.aggregations.specs.Figures.{count_at, figure_of, histogram_in, mean_in};
     ghost use Rattle.aggregations.specs.Figures.{rank_of, single_in};
     ghost use Rattle.aggregations.specs.Histograms.{histogram_of};
-    ghost use Rattle.aggregations.specs.Values.{IsValue, TakesBoth, TakesOne, count_in};
+    ghost use Rattle.aggregations.specs.Values.{IsValue, count_in};
+    ghost use Rattle.aggregations.specs.Steps.Values.{TakesBoth, TakesOne};
     ghost use Rattle.aggregations.specs.declared.held.Held.TheVariants.{Counts};
 
     // The value of one argument.

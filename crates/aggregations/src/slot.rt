@@ -38,7 +38,7 @@ impl Model for Slot {
 impl Slot {
     ghost use Rattle.aggregations.specs.{Table.count_of};
     ghost use Rattle.aggregations.specs.Vocabulary.{IsDistinct, deref_pair, keys_of, same_key};
-    ghost use Rattle.aggregations.specs.Entries.{TakesAll, TakesArgument};
+    ghost use Rattle.aggregations.specs.Steps.Entries.{TakesAll, TakesArgument};
 
     /// Without entries.
     pub(crate) fn new(function: AggFn) -> Slot

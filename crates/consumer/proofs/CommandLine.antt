@@ -9,7 +9,8 @@ use Rattle.clap.specs.declared.error.kind.ErrorKind.TheVariants.{OutOfMemory, Un
 use Rattle.clap.specs.declared.error.kind.ErrorKind.{ErrorKind}
 use Rattle.clap.proofs.OnLiterals.{clap_on_literals}
 use Rattle.consumer.specs.Words.{Asks, AsksHelp, HasPlan, IsAskedIn, IsFaultOf, IsNumberIn, IsOption}
-use Rattle.consumer.specs.Words.{IsPlanBy, IsPlanFault, IsPlanIn, IsToldAs, IsValue, Mistakes}
+use Rattle.consumer.specs.Words.{IsPlanBy, IsPlanIn, IsValue, Mistakes}
+use Rattle.consumer.specs.Steps.Words.{IsPlanFault, IsToldAs}
 use Rattle.consumer.specs.Words.{AskForRun}
 use Rattle.consumer.specs.Words.{SetPlan, engine_called}
 use Rattle.consumer.specs.Words.{file_in, program}

@@ -2,7 +2,7 @@
 use Rattle.std.proofs.Common.{◌≡◌, suc, ◌+◌, ◌≤◌, ℕ, List, [], ◌∷◌, ◌++◌, length, take, drop, sym, ap}
 use Rattle.std.proofs.Common.{◌∙◌, subst, append_assoc, append-nil, length-append, arith, drop_at}
 use Rattle.std.proofs.lemmas.List.{take_at, length-take-le, take-append-drop}
-use Rattle.consumer.specs.Beginnings.{ArePassed, IsDividedAt, IsUndivided}
+use Rattle.consumer.specs.Steps.Beginnings.{ArePassed, IsDividedAt, IsUndivided}
 use Rattle.consumer.specs.Bundle.{Divides, IsDivider, IsLine}
 
 -- what is passed comes before the rest

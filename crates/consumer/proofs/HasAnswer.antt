@@ -12,9 +12,9 @@ use Rattle.d_lexer.specs.declared.token.Token.{Token}
 use Rattle.d_lexer.specs.Lexing.{AreTokens, IsFirstFault, IsLexed}
 use Rattle.d_lexer.proofs.Public as lexer
 use Rattle.d_parser.specs.declared.fault.ParseFault.TheVariants as parse
-use Rattle.d_parser.specs.Depth.{is_deep}
+use Rattle.d_parser.specs.Steps.Depth.{is_deep}
 use Rattle.d_parser.specs.Limits.{clauses}
-use Rattle.d_parser.specs.ReadingScripts as reading
+use Rattle.d_parser.specs.Steps.ReadingScripts as reading
 use Rattle.d_parser.specs.Script.{IsScript}
 use Rattle.d_parser.specs.Tree.{ItemTree}
 use Rattle.d_parser.proofs.CompleteScripts as complete

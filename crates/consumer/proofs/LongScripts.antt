@@ -4,7 +4,7 @@ use Rattle.std.proofs.Common.{sym, ap, ◌∙◌, subst, append_assoc, length-ap
 use Rattle.std.proofs.Common.{⊎_elim}
 use Rattle.std.specs.Prelude.{codes}
 use Rattle.std.proofs.lemmas.List.{length-take-le, take-append-drop}
-use Rattle.consumer.specs.Beginnings.{IsUndivided}
+use Rattle.consumer.specs.Steps.Beginnings.{IsUndivided}
 use Rattle.consumer.specs.Bundle.{Divides, IsDivider, IsLine}
 use Rattle.consumer.proofs.Divisions.{division, line_behind}
 

@@ -4,7 +4,7 @@ use Rattle.std.proofs.Common.{append-nil, inl, length, refl, take}
 use Rattle.std.specs.Prelude.{IfOk, IfSome, Option, Some, None, OnOk, Result, Ok, Err}
 use Rattle.d_lexer.specs.declared.fault.LexFault.TheVariants as lex
 use Rattle.report.specs.Intake.{TakesBlocks}
-use Rattle.consumer.specs.Beginnings.{IsDividedAt, IsUndivided}
+use Rattle.consumer.specs.Steps.Beginnings.{IsDividedAt, IsUndivided}
 use Rattle.consumer.specs.Blocks.{HasTaken, IsTakenApart, TakesTrace, reads_as}
 use Rattle.consumer.specs.Bundle.{Divides}
 use Rattle.consumer.specs.Judging.{IsJudged}

@@ -1,6 +1,5 @@
 pub mod Vocabulary
 pub mod Answer
-pub mod Beginnings
 pub mod Blocks
 pub mod Bundle
 pub mod Consuming
@@ -12,3 +11,4 @@ pub mod Refusals
 pub mod Replaying
 pub mod Scripts
 pub mod Words
+pub mod Steps

@@ -1,9 +1,7 @@
 -- What replay returns, under any plan.
 use Rattle.std.specs.Prelude.{◌≡◌, ℕ, List, Result, Ok, Err, map, vec_len}
-use Rattle.replay_core.specs.{Exit.firings_over, Layouts.LayoutMeant, Seen.whole_seen}
-use Rattle.replay_core.specs.{declared.workers.Ran.Ran}
+use Rattle.replay_core.specs.{Exit.firings_over, Layouts.LayoutMeant}
 use Rattle.replay_core.specs.Groups.{IsAllBelow, SameItems, numbers_by_group}
-use Rattle.replay_core.specs.Pieces.{IsWholeOf, RunsEachOnce}
 use Rattle.consumer.specs.Vocabulary.{flat_map, number_of, Firing, ScriptMeant, Grouping, Plan}
 use Rattle.consumer.specs.Vocabulary.{Replayed, Refusal, Group, Memory}
 use Rattle.consumer.specs.Answer.{IsAnswer, IsShown, Means, Shown}
@@ -44,11 +42,3 @@ abbrev pub IsOfPlan : Refusal → Type 0
 IsOfPlan (Group fault) = Unit {0}
 IsOfPlan Memory = Unit {0}
 IsOfPlan e = ⊥
-
--- a run of the script over these firings by workers, each group by one of them
-pub record IsRunBy (m : ScriptMeant) (firings : List Firing) (grouping : Grouping) (workers : ℕ)
-    (ran : Ran) : Type 0 where
-  pub whole : IsWholeOf m (firings_over m firings) grouping (whole_seen ran.whole)
-  pub once : RunsEachOnce (firings_over m firings) (whole_seen ran.whole)
-  pub lists : vec_len ran.by_worker ≡ workers
-  pub took : IsAllBelow grouping.count (flat_map (λ list. list.items) ran.by_worker.items)

@@ -1,14 +1,13 @@
 -- What the words after the program's name ask for.
 use Rattle.std.specs.Prelude.{◌≡◌, ◌≢◌, ◌⊎◌, ◌∷◌, ◌++◌, ◌≤◌, ℕ, List, [], Option, Some, None}
-use Rattle.std.specs.Prelude.{IsSomeAnd}
-use Rattle.std.specs.Prelude.{codes, fold, if◌then◌else◌, option_and_then, option_map, pos}
-use Rattle.std.specs.Prelude.{string_bytes, true}
+use Rattle.std.specs.Prelude.{IsSomeAnd, codes, fold, if◌then◌else◌, option_and_then, option_map}
+use Rattle.std.specs.Prelude.{pos, string_bytes, true}
 use Rattle.clap.specs.Words.{App, IsAmong, Row, Rule, fault_of, first_of, kind_of, matches_of}
 use Rattle.clap.specs.Words.{new_app, new_rule, one_of, with_rule}
 use Rattle.consumer.specs.Vocabulary.{bytes_eq, IsNumeral, digits_value, without_leading_plus}
-use Rattle.consumer.specs.Vocabulary.{Signed, Error, ErrorKind, DisplayHelp, OutOfMemory}
-use Rattle.consumer.specs.Vocabulary.{InvalidValue, UnknownArgument, Asked, UsageFault, EngineKind}
-use Rattle.consumer.specs.Vocabulary.{Dif, Tree, Dealt, Plan, MOST_GROUPS, MOST_WORKERS}
+use Rattle.consumer.specs.Vocabulary.{Signed, ErrorKind, DisplayHelp, OutOfMemory, InvalidValue}
+use Rattle.consumer.specs.Vocabulary.{UnknownArgument, Asked, UsageFault, EngineKind, Dif, Tree}
+use Rattle.consumer.specs.Vocabulary.{Dealt, Plan, MOST_GROUPS, MOST_WORKERS}
 use Rattle.consumer.specs.declared.words.UsageFault.TheVariants.{Help, Usage, Memory}
 
 -- ---- the options
@@ -92,13 +91,6 @@ IsMistake kind (Help e) = ⊥
 IsMistake kind (Usage e) = kind_of e ≡ kind
 IsMistake kind Memory = ⊥
 
--- one of the options has no such value
-abbrev pub IsPlanFault : List Row → UsageFault → Type 0
-IsPlanFault rows (Help e) = ⊥
-IsPlanFault rows (Usage e) = (kind_of e ≢ DisplayHelp) × (kind_of e ≢ OutOfMemory)
-    × ((plan : Plan) → ¬ IsPlanIn rows plan)
-IsPlanFault rows Memory = Unit {0}
-
 -- the fault is one that clap finds in the words: help that they ask for, or a mistake; or clap
 -- finds none, and they name no plan
 abbrev pub IsFaultOf : List (List ℕ) → UsageFault → Type 0
@@ -108,13 +100,6 @@ IsFaultOf words (Usage e) = (kind_of e ≢ DisplayHelp) × (kind_of e ≢ OutOfM
     × (IsAmong (kind_of e) (fault_of program words)
     ⊎ ((fault_of program words ≡ []) × ¬ HasPlan words))
 IsFaultOf words Memory = Unit {0}
-
--- clap's error is reported as what it is
-abbrev pub IsToldAs : Error → UsageFault → Type 0
-IsToldAs error (Help e) = (e ≡ error) × (kind_of error ≡ DisplayHelp)
-IsToldAs error (Usage e) =
-    (e ≡ error) × (kind_of error ≢ DisplayHelp) × (kind_of error ≢ OutOfMemory)
-IsToldAs error Memory = kind_of error ≡ OutOfMemory
 
 -- a hyphen and more
 abbrev pub IsOption : List ℕ → Type 0

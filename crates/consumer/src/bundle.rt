@@ -2,7 +2,7 @@
 
 ghost use Rattle.std.specs.Prelude.{◌↔◌, IsTrue, MatchOption};
 ghost use Rattle.consumer.specs.Bundle.{Divides, IsDivider};
-ghost use Rattle.consumer.specs.Beginnings.{IsDividedAt, IsUndivided};
+ghost use Rattle.consumer.specs.Steps.Beginnings.{IsDividedAt, IsUndivided};
 
 use d_values::split_at_first;
 

@@ -8,7 +8,8 @@ ghost use Rattle.consumer.specs.{Answer.IsShown, Scripts.IsAccepted};
 ghost use Rattle.consumer.specs.Vocabulary.{Firing, Grouping, Plan, functions_in, functions_of};
 ghost use Rattle.consumer.specs.Vocabulary.{MOST_GROUPS, trace_of, typed_script_of};
 ghost use Rattle.consumer.specs.Plans.{IsGroupedBy, IsInBounds};
-ghost use Rattle.consumer.specs.Replaying.{IsCarriedOut, IsRunBy, IsReplay, output_of};
+ghost use Rattle.consumer.specs.Replaying.{IsCarriedOut, IsReplay, output_of};
+ghost use Rattle.consumer.specs.Steps.Replaying.{IsRunBy};
 
 use crate::consumer::Consumer;
 use crate::grouping::groups_of;

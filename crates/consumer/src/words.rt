@@ -7,7 +7,8 @@ ghost use Rattle.clap.specs.Words.{app_of, found_of, kind_of, rows_of, rule_of, 
 ghost use Rattle.consumer.specs.{Vocabulary.into_iter_items, Vocabulary.Signed};
 ghost use Rattle.consumer.specs.{declared.words.UsageFault.TheVariants.Memory};
 ghost use Rattle.consumer.specs.Words.{Asks, HasPlan, IsAskedIn, IsFaultOf, IsMistake, IsNumberIn};
-ghost use Rattle.consumer.specs.Words.{IsPlanFault, IsPlanIn, IsToldAs, engine_called, engine_in};
+ghost use Rattle.consumer.specs.Words.{IsPlanIn, engine_called, engine_in};
+ghost use Rattle.consumer.specs.Steps.Words.{IsPlanFault, IsToldAs};
 ghost use Rattle.consumer.specs.Words.{file_in, option, program};
 
 use crate::plan::{EngineKind, GroupPlan, Plan};

@@ -16,11 +16,6 @@ abbrev pub opens_body : List Token → Bool
 opens_body [] = false
 opens_body (t ∷ ts) = is_brace t.kind
 
--- the token is a slash that was read as the closing one
-abbrev pub is_closing : TokenKind → Bool
-is_closing (TokenKind.Mark Mark.ClosingSlash) = true
-is_closing t = false
-
 -- such a slash made a division
 abbrev pub open_kind : TokenKind → TokenKind
 open_kind (TokenKind.Mark Mark.ClosingSlash) = TokenKind.Mark Mark.Slash

@@ -1,5 +1,4 @@
 pub mod Vocabulary
-pub mod Outcomes
 pub mod Bytes
 pub mod Numbers
 pub mod Marks

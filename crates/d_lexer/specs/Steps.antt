@@ -4,3 +4,4 @@ pub mod Numbers
 pub mod OptionLine
 pub mod Scan
 pub mod Lexing
+pub mod Outcomes

@@ -2,6 +2,7 @@
 
 ghost use Rattle.std.specs.Prelude.{◌≡◌};
 ghost use Rattle.d_lexer.specs.Lexing as spec;
+ghost use Rattle.d_lexer.specs.Steps.Lexing as steps;
 
 use crate::token::{Mark, Token, TokenKind};
 
@@ -12,7 +13,7 @@ fn is_brace(token: &Token) -> bool
 }
 
 fn is_closing(token: &Token) -> bool
-    ensures { result ≡ spec.is_closing token.now.kind }
+    ensures { result ≡ steps.is_closing token.now.kind }
 {
     matches!(token.kind, TokenKind::Mark(Mark::ClosingSlash))
 }

@@ -10,7 +10,7 @@ use Rattle.d_parser.specs.declared.tree.Script.{Script}
 use Rattle.d_parser.specs.Tree.{ItemTree, script_of}
 use Rattle.d_parser.specs.Script.{IsScript}
 use Rattle.d_parser.specs.Reading.{Gives}
-use Rattle.d_parser.specs.ReadingScripts.{script_reader}
+use Rattle.d_parser.specs.Steps.ReadingScripts.{script_reader}
 use Rattle.d_parser.proofs.Sound.{IfSome}
 use Rattle.d_parser.proofs.SoundScripts.{script_sound}
 use Rattle.d_parser.proofs.CompleteScripts.{script_complete}

@@ -28,19 +28,26 @@ use Rattle.d_parser.specs.declared.marks.Prefix.TheVariants as p
 use Rattle.d_parser.specs.declared.marks.Follow.{Follow}
 use Rattle.d_parser.specs.declared.marks.Follow.TheVariants as f
 use Rattle.d_parser.specs.Tree.{Tree, Known, Read, Call, Unary, Cast, Before, After, Binary, Choice}
-use Rattle.d_parser.specs.Tree.{Assign, Trees, end, more, add}
-use Rattle.d_parser.specs.Words.{word_kind, word_kind_of, begins_type, only_integer, type_from}
-use Rattle.d_parser.specs.Words.{integer_type, is_word, AreWords, run, after_run}
-use Rattle.d_parser.specs.Marks.{prefix_of, follow_of, level_of, follow_at, kind_is, is_at}
-use Rattle.d_parser.specs.Marks.{same_mark, tail}
+use Rattle.d_parser.specs.Tree.{Assign, Trees, end, more}
+use Rattle.d_parser.specs.Steps.Tree.{add}
+use Rattle.d_parser.specs.Words.{word_kind, word_kind_of, only_integer, type_from}
+use Rattle.d_parser.specs.Steps.Words.{begins_type}
+use Rattle.d_parser.specs.Words.{integer_type, is_word, AreWords}
+use Rattle.d_parser.specs.Steps.Words.{run, after_run}
+use Rattle.d_parser.specs.Marks.{prefix_of, follow_of, level_of}
+use Rattle.d_parser.specs.Steps.Marks.{follow_at, kind_is, is_at}
+use Rattle.d_parser.specs.Steps.Marks.{same_mark, tail}
 use Rattle.d_parser.specs.Grammar.{token, Begins, Sign, Within, IsPhrase, rank, IsPlain, IsTarget}
 use Rattle.d_parser.specs.Grammar.{IsEnclosed, Spells, SpellsKeys, SpellsList, SpellsMore}
-use Rattle.d_parser.specs.Reading.{after_mark, plain_word, member, variable, typed_by, is_typed}
-use Rattle.d_parser.specs.Reading.{cast_type, calls, begins_call, readers, closed_list, keys_by}
-use Rattle.d_parser.specs.Reading.{keys, arguments, with_keys, target, follows_by, follows}
-use Rattle.d_parser.specs.Reading.{part_at_name, part_at_cast, part_in_parentheses, part_at_step}
-use Rattle.d_parser.specs.Reading.{part_at_mark, part_by, part, climb_by, climb_on, choice_by}
-use Rattle.d_parser.specs.Reading.{alternatives, choice, operand, whole, further_on}
+use Rattle.d_parser.specs.Steps.Reading.{after_mark, plain_word, member, variable, typed_by}
+use Rattle.d_parser.specs.Steps.Reading.{is_typed}
+use Rattle.d_parser.specs.Steps.Reading.{cast_type, calls, begins_call, readers, closed_list}
+use Rattle.d_parser.specs.Steps.Reading.{keys_by}
+use Rattle.d_parser.specs.Steps.Reading.{keys, arguments, with_keys, target, follows_by, follows}
+use Rattle.d_parser.specs.Steps.Reading.{part_at_name, part_at_cast, part_in_parentheses}
+use Rattle.d_parser.specs.Steps.Reading.{part_at_step}
+use Rattle.d_parser.specs.Steps.Reading.{part_at_mark, part_by, part, climb_by, climb_on, choice_by}
+use Rattle.d_parser.specs.Steps.Reading.{alternatives, choice, operand, whole, further_on}
 use Rattle.d_parser.proofs.Takes.{sign_one, takes, phrase_takes, keys_take, target_takes}
 use Rattle.d_parser.proofs.Runs.{run_is, behind_is}
 

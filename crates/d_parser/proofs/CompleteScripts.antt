@@ -16,21 +16,26 @@ use Rattle.d_parser.specs.declared.words.WordKind.{WordKind}
 use Rattle.d_parser.specs.declared.words.WordKind.TheVariants as w
 use Rattle.d_parser.specs.Tree.{Tree, Trees, StmtTree, Expression, Aggregation, DeclarationTree}
 use Rattle.d_parser.specs.Tree.{OfThread, OfClause, ClauseTree, ItemTree, Declared, Probing}
-use Rattle.d_parser.specs.Words.{word_kind, run, after_run}
-use Rattle.d_parser.specs.Marks.{prefix_of, is_at, same_mark, tail}
+use Rattle.d_parser.specs.Words.{word_kind}
+use Rattle.d_parser.specs.Steps.Words.{run, after_run}
+use Rattle.d_parser.specs.Marks.{prefix_of}
+use Rattle.d_parser.specs.Steps.Marks.{is_at, same_mark, tail}
 use Rattle.d_parser.specs.Grammar.{token, Begins, Sign}
 use Rattle.d_parser.specs.Script.{IsAggregation, IsStmt, IsSlot, AreFurther, present, AreStmts}
 use Rattle.d_parser.specs.Script.{IsDescription, FurtherDescriptions, AreDescriptions, IsPredicate}
 use Rattle.d_parser.specs.Script.{IsClause, IsType, FurtherTypes, AreKeyTypes, IsDeclared, IsItem}
 use Rattle.d_parser.specs.Script.{IsScript}
-use Rattle.d_parser.specs.Reading.{◌>>=◌, readers, arguments, part, part_at_mark, operand, whole}
-use Rattle.d_parser.specs.ReadingScripts.{any_word, aggregation, stmt_by, stmt, ends_stmt, slot}
-use Rattle.d_parser.specs.ReadingScripts.{further_stmts, stmts, description, descriptions_on}
-use Rattle.d_parser.specs.ReadingScripts.{further_descriptions, descriptions_reader}
-use Rattle.d_parser.specs.ReadingScripts.{predicate_reader, clause_reader}
-use Rattle.d_parser.specs.ReadingScripts.{whole_type, types_on, further_types, key_types}
-use Rattle.d_parser.specs.ReadingScripts.{last_apart, typed_name, of_thread, of_clause}
-use Rattle.d_parser.specs.ReadingScripts.{declaration_by, item_reader, items_reader, script_reader}
+use Rattle.d_parser.specs.Steps.Reading.{◌>>=◌, readers, arguments, part, part_at_mark, operand}
+use Rattle.d_parser.specs.Steps.Reading.{whole}
+use Rattle.d_parser.specs.Steps.ReadingScripts.{any_word, aggregation, stmt_by, stmt, ends_stmt}
+use Rattle.d_parser.specs.Steps.ReadingScripts.{slot}
+use Rattle.d_parser.specs.Steps.ReadingScripts.{further_stmts, stmts, description, descriptions_on}
+use Rattle.d_parser.specs.Steps.ReadingScripts.{further_descriptions, descriptions_reader}
+use Rattle.d_parser.specs.Steps.ReadingScripts.{predicate_reader, clause_reader}
+use Rattle.d_parser.specs.Steps.ReadingScripts.{whole_type, types_on, further_types, key_types}
+use Rattle.d_parser.specs.Steps.ReadingScripts.{last_apart, typed_name, of_thread, of_clause}
+use Rattle.d_parser.specs.Steps.ReadingScripts.{declaration_by, item_reader, items_reader}
+use Rattle.d_parser.specs.Steps.ReadingScripts.{script_reader}
 use Rattle.d_parser.proofs.Takes.{sign_one, takes, phrase_takes, keys_take, list_takes}
 use Rattle.d_parser.proofs.Complete.{reach, opens_of, sign_there, sign_follow, sign_tail, sign_at}
 use Rattle.d_parser.proofs.Complete.{sign_reach, after_sign, reads, reads_all, phrase_of, keys_read}

@@ -7,7 +7,7 @@ use Rattle.d_lexer.specs.declared.token.Token.{Token}
 use Rattle.d_parser.specs.Limits.{BracketTurn, Opens, Closes, Ends, Goes, bracket_turn, opens}
 use Rattle.d_parser.specs.Limits.{closes, ends}
 use Rattle.d_parser.specs.Limits.{openings, closings, endings, IsDeep}
-use Rattle.d_parser.specs.Depth.{open_by, row_by, open_after, row_with, is_deep}
+use Rattle.d_parser.specs.Steps.Depth.{open_by, row_by, open_after, row_with, is_deep}
 
 -- a stretch that is too deep, after so many open brackets and so many tokens in a row
 abbrev Full : ℕ → ℕ → List Token → Type 0

@@ -4,7 +4,8 @@ use Rattle.d_parser.specs.declared.tree.Expr.{Expr, Row_of-Expr, end_of-Expr, mo
 use Rattle.d_parser.specs.declared.tree.Expr.{items-the_row-Expr}
 use Rattle.d_parser.specs.declared.tree.Stmt.{Stmt}
 use Rattle.d_parser.specs.declared.tree.Item.{Item}
-use Rattle.d_parser.specs.Tree.{more, add, tree_of, trees_in, trees_of, stmt_of, stmts_of, item_of}
+use Rattle.d_parser.specs.Tree.{more, tree_of, trees_in, trees_of, stmt_of, stmts_of, item_of}
+use Rattle.d_parser.specs.Steps.Tree.{add}
 
 pub trees_push : (xs : List Expr) (x : Expr) → trees_of (xs ++ x ∷ []) ≡ add (trees_of xs) (tree_of x)
 trees_push [] x = refl

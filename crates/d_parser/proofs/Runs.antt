@@ -2,7 +2,8 @@
 use Rattle.std.proofs.Common.{◌≡◌, suc, ◌-◌, ◌≤◌, Bool, true, false, cond, List, [], ◌∷◌, ◌++◌}
 use Rattle.std.proofs.Common.{length, take, drop, refl, ap, arith}
 use Rattle.d_lexer.specs.declared.token.Token.{Token}
-use Rattle.d_parser.specs.Words.{is_word, AreWords, run, after_run}
+use Rattle.d_parser.specs.Words.{is_word, AreWords}
+use Rattle.d_parser.specs.Steps.Words.{run, after_run}
 
 short_by : (b : Bool) (t : Token) (ts behind : List Token) → length behind ≤ length ts → length (cond b behind (t ∷ ts)) ≤ length (t ∷ ts)
 short_by true t ts behind h = omega arith

@@ -24,20 +24,24 @@ use Rattle.d_parser.specs.declared.marks.Prefix.TheVariants as p
 use Rattle.d_parser.specs.declared.marks.Follow.{Follow}
 use Rattle.d_parser.specs.declared.marks.Follow.TheVariants as f
 use Rattle.d_parser.specs.Tree.{Tree, Known, Read, Call, Unary, Cast, Before, After, Binary, Choice}
-use Rattle.d_parser.specs.Tree.{Assign, Trees, end, more, add}
-use Rattle.d_parser.specs.Words.{word_kind, integer_type, run, after_run}
-use Rattle.d_parser.specs.Marks.{prefix_of, follow_of, level_of, follow_kind, follow_at, is_at}
-use Rattle.d_parser.specs.Marks.{same_mark, tail}
+use Rattle.d_parser.specs.Tree.{Assign, Trees, end, more}
+use Rattle.d_parser.specs.Steps.Tree.{add}
+use Rattle.d_parser.specs.Words.{word_kind, integer_type}
+use Rattle.d_parser.specs.Steps.Words.{run, after_run}
+use Rattle.d_parser.specs.Marks.{prefix_of, follow_of, level_of}
+use Rattle.d_parser.specs.Steps.Marks.{follow_kind, follow_at, is_at}
+use Rattle.d_parser.specs.Steps.Marks.{same_mark, tail}
 use Rattle.d_parser.specs.Grammar.{token, Begins, Sign, IsPhrase, rank, IsPlain, IsVariable}
 use Rattle.d_parser.specs.Grammar.{MayHave, IsTarget, IsEnclosed, IsCast, Spells, SpellsKeys}
 use Rattle.d_parser.specs.Grammar.{SpellsList, SpellsMore}
-use Rattle.d_parser.specs.Reading.{◌>>=◌, after_mark, if_plain, plain_word, plain_by, member}
-use Rattle.d_parser.specs.Reading.{variable, is_typed, cast_type, calls, begins_call, Readers}
-use Rattle.d_parser.specs.Reading.{readers, closed_list, keys_by, keys, arguments, with_keys}
-use Rattle.d_parser.specs.Reading.{target, follows_by, follows, part_at_name, part_at_cast}
-use Rattle.d_parser.specs.Reading.{part_in_parentheses, part_at_step_by, part_at_step, prefixed_by}
-use Rattle.d_parser.specs.Reading.{part_at_mark, part_by, part, climb_by, climb_on, choice_by}
-use Rattle.d_parser.specs.Reading.{alternatives, choice, operand, whole, further_on}
+use Rattle.d_parser.specs.Steps.Reading.{◌>>=◌, after_mark, if_plain, plain_word, plain_by, member}
+use Rattle.d_parser.specs.Steps.Reading.{variable, is_typed, cast_type, calls, begins_call, Readers}
+use Rattle.d_parser.specs.Steps.Reading.{readers, closed_list, keys_by, keys, arguments, with_keys}
+use Rattle.d_parser.specs.Steps.Reading.{target, follows_by, follows, part_at_name, part_at_cast}
+use Rattle.d_parser.specs.Steps.Reading.{part_in_parentheses, part_at_step_by, part_at_step}
+use Rattle.d_parser.specs.Steps.Reading.{prefixed_by}
+use Rattle.d_parser.specs.Steps.Reading.{part_at_mark, part_by, part, climb_by, climb_on, choice_by}
+use Rattle.d_parser.specs.Steps.Reading.{alternatives, choice, operand, whole, further_on}
 use Rattle.d_parser.proofs.Complete.{level_high, level_below, sign_there, join, join_more}
 use Rattle.d_parser.proofs.Runs.{are_words, run_joined}
 

@@ -12,23 +12,28 @@ use Rattle.d_parser.specs.declared.words.WordKind.{WordKind}
 use Rattle.d_parser.specs.declared.words.WordKind.TheVariants as w
 use Rattle.d_parser.specs.Tree.{Tree, StmtTree, Expression, Aggregation, DeclarationTree, OfThread}
 use Rattle.d_parser.specs.Tree.{OfClause, ClauseTree, ItemTree, Declared, Probing}
-use Rattle.d_parser.specs.Words.{word_kind, is_word, type_of_words, AreWords, run, after_run}
-use Rattle.d_parser.specs.Marks.{is_at, tail}
+use Rattle.d_parser.specs.Words.{word_kind, is_word, type_of_words, AreWords}
+use Rattle.d_parser.specs.Steps.Words.{run, after_run}
+use Rattle.d_parser.specs.Steps.Marks.{is_at, tail}
 use Rattle.d_parser.specs.Grammar.{token, Begins, Sign}
 use Rattle.d_parser.specs.Script.{IsStmt, IsSlot, AreFurther, present, AreStmts, description_of}
 use Rattle.d_parser.specs.Script.{IsDescription, FurtherDescriptions, AreDescriptions, IsPredicate}
 use Rattle.d_parser.specs.Script.{IsClause, IsType, FurtherTypes, AreKeyTypes, IsDeclaration}
 use Rattle.d_parser.specs.Script.{IsItem, IsScript}
-use Rattle.d_parser.specs.Reading.{◌>>=◌, after_mark, readers, keys, arguments}
-use Rattle.d_parser.specs.ReadingScripts.{word_by, any_word, aggregation, stmt_by, stmt, ends_stmt}
-use Rattle.d_parser.specs.ReadingScripts.{slot, further_stmts, stmts, with_rest, description_by}
-use Rattle.d_parser.specs.ReadingScripts.{description, descriptions_on, further_descriptions}
-use Rattle.d_parser.specs.ReadingScripts.{descriptions_reader, predicate_reader, clause_reader}
-use Rattle.d_parser.specs.ReadingScripts.{whole_type, types_on}
-use Rattle.d_parser.specs.ReadingScripts.{further_types, key_types, last_by, last_apart}
-use Rattle.d_parser.specs.ReadingScripts.{spelled_word}
-use Rattle.d_parser.specs.ReadingScripts.{typed_name, of_thread, of_clause, declaration_by, item_by}
-use Rattle.d_parser.specs.ReadingScripts.{item_reader, items_reader, script_reader}
+use Rattle.d_parser.specs.Steps.Reading.{◌>>=◌, after_mark, readers, keys, arguments}
+use Rattle.d_parser.specs.Steps.ReadingScripts.{word_by, any_word, aggregation, stmt_by, stmt}
+use Rattle.d_parser.specs.Steps.ReadingScripts.{ends_stmt}
+use Rattle.d_parser.specs.Steps.ReadingScripts.{slot, further_stmts, stmts, with_rest}
+use Rattle.d_parser.specs.Steps.ReadingScripts.{description_by}
+use Rattle.d_parser.specs.Steps.ReadingScripts.{description, descriptions_on, further_descriptions}
+use Rattle.d_parser.specs.Steps.ReadingScripts.{descriptions_reader, predicate_reader}
+use Rattle.d_parser.specs.Steps.ReadingScripts.{clause_reader}
+use Rattle.d_parser.specs.Steps.ReadingScripts.{whole_type, types_on}
+use Rattle.d_parser.specs.Steps.ReadingScripts.{further_types, key_types, last_by, last_apart}
+use Rattle.d_parser.specs.Steps.ReadingScripts.{spelled_word}
+use Rattle.d_parser.specs.Steps.ReadingScripts.{typed_name, of_thread, of_clause, declaration_by}
+use Rattle.d_parser.specs.Steps.ReadingScripts.{item_by}
+use Rattle.d_parser.specs.Steps.ReadingScripts.{item_reader, items_reader, script_reader}
 use Rattle.d_parser.proofs.Complete.{sign_there}
 use Rattle.d_parser.proofs.Sound.{IfSome, then_sound, test_sound, weaken, after_sound, Whole}
 use Rattle.d_parser.proofs.Sound.{KeysOf, ArgumentsOf, SignOf, keys_sound, arguments_sound}

@@ -7,14 +7,15 @@ use Rattle.d_lexer.specs.declared.token.Mark.TheVariants as m
 use Rattle.d_parser.specs.declared.tree.DeclaredType.{DeclaredType}
 use Rattle.d_parser.specs.declared.tree.Description.{Description}
 use Rattle.d_parser.specs.Tree.{StmtTree}
-use Rattle.d_parser.specs.Marks.{is_at, tail}
-use Rattle.d_parser.specs.Reading.{after_mark, readers, whole, climb_on, further_on}
-use Rattle.d_parser.specs.Words.{run, after_run, type_of_words}
+use Rattle.d_parser.specs.Steps.Marks.{is_at, tail}
+use Rattle.d_parser.specs.Steps.Reading.{after_mark, readers, whole, climb_on, further_on}
+use Rattle.d_parser.specs.Words.{type_of_words}
+use Rattle.d_parser.specs.Steps.Words.{run, after_run}
 use Rattle.d_parser.specs.Tree.{ItemTree}
-use Rattle.d_parser.specs.ReadingScripts.{last_apart, spelled_word, typed_name, item_reader}
-use Rattle.d_parser.specs.ReadingScripts.{items_reader, slot}
-use Rattle.d_parser.specs.ReadingScripts.{further_stmts, further_types, types_on}
-use Rattle.d_parser.specs.ReadingScripts.{further_descriptions, descriptions_on}
+use Rattle.d_parser.specs.Steps.ReadingScripts.{last_apart, spelled_word, typed_name, item_reader}
+use Rattle.d_parser.specs.Steps.ReadingScripts.{items_reader, slot}
+use Rattle.d_parser.specs.Steps.ReadingScripts.{further_stmts, further_types, types_on}
+use Rattle.d_parser.specs.Steps.ReadingScripts.{further_descriptions, descriptions_on}
 
 pub phrase_step : (n k : ℕ) (ts : List Token) → 0 < n → (readers n).phrase k ts ≡ whole (readers (n - 1)) k ts
 phrase_step zero k ts h = absurd (omega arith)

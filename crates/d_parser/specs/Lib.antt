@@ -5,10 +5,8 @@ pub mod Marks
 pub mod Grammar
 pub mod Reading
 pub mod Script
-pub mod ReadingScripts
 pub mod Limits
-pub mod Depth
 pub mod Symbols
-pub mod Lines
 pub mod Sizes
 pub mod Numbers
+pub mod Steps

@@ -1,11 +1,8 @@
 -- What marks do before and after an operand.
-use Rattle.std.specs.Prelude.{ℕ, Bool, false, List, [], ◌∷◌}
-use denote.Enum.Bare.{sameb}
-use Rattle.d_lexer.specs.contracts.token.Mark.{the_type}
-use Rattle.d_parser.specs.Vocabulary.{Mark, Token, TokenKind, UnaryOperator, Step, BinaryOperator}
-use Rattle.d_parser.specs.Vocabulary.{AssignOperator, Prefix, Follow}
-use Rattle.d_parser.specs.Vocabulary.{OR, XOR, AND, BIT_OR, BIT_XOR, BIT_AND, EQUALITY, RELATIONAL}
-use Rattle.d_parser.specs.Vocabulary.{SHIFT, ADDITIVE, MULTIPLICATIVE}
+use Rattle.std.specs.Prelude.{ℕ}
+use Rattle.d_parser.specs.Vocabulary.{Mark, UnaryOperator, Step, BinaryOperator, AssignOperator}
+use Rattle.d_parser.specs.Vocabulary.{Prefix, Follow, OR, XOR, AND, BIT_OR, BIT_XOR, BIT_AND}
+use Rattle.d_parser.specs.Vocabulary.{EQUALITY, RELATIONAL, SHIFT, ADDITIVE, MULTIPLICATIVE}
 
 -- what a mark before an operand does
 abbrev pub prefix_of : Mark → Prefix
@@ -77,29 +74,3 @@ level_of BinaryOperator.Subtract = ADDITIVE
 level_of BinaryOperator.Multiply = MULTIPLICATIVE
 level_of BinaryOperator.Divide = MULTIPLICATIVE
 level_of BinaryOperator.Remainder = MULTIPLICATIVE
-
--- what the first token does to an operand before it
-abbrev pub follow_kind : TokenKind → Follow
-follow_kind (TokenKind.Mark mark) = follow_of mark
-follow_kind t = Follow.Other
-
-abbrev pub follow_at : List Token → Follow
-follow_at [] = Follow.Other
-follow_at (t ∷ ts) = follow_kind t.kind
-
--- `==` on marks
-abbrev pub same_mark : Mark → Mark → Bool
-same_mark = sameb the_type
-
--- the first token is the mark
-abbrev pub kind_is : Mark → TokenKind → Bool
-kind_is mark (TokenKind.Mark found) = same_mark found mark
-kind_is mark t = false
-
-abbrev pub is_at : Mark → List Token → Bool
-is_at mark [] = false
-is_at mark (t ∷ ts) = kind_is mark t.kind
-
-abbrev pub tail : List Token → List Token
-tail [] = []
-tail (t ∷ ts) = ts

@@ -85,9 +85,6 @@ fields n None = Some []
 fields zero (Some bytes) = None
 fields (suc n) (Some bytes) = with_first (before_colon bytes) (fields n (after_colon bytes))
 
-abbrev pub description_with : (a b c d : List ℕ) → Description
-description_with a b c d = record { provider = a; «module» = b; function = c; name = d }
-
 -- the fields read from the right
 abbrev pub description_from : Option (List (List ℕ)) → Option Description
 description_from (Some (a ∷ [])) =

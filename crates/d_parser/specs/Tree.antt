@@ -1,7 +1,7 @@
 -- Trees, without where they lie in memory.
 use Rattle.std.specs.Prelude.{ℕ, List, [], ◌∷◌, map, Option, Some, None}
 use Rattle.d_parser.specs.Vocabulary.{UnaryOperator, BinaryOperator, AssignOperator, Step}
-use Rattle.d_parser.specs.Vocabulary.{IntegerType, Variable, Target, Constant, Expr, Row_of-Expr}
+use Rattle.d_parser.specs.Vocabulary.{IntegerType, Variable, Constant, Expr, Row_of-Expr}
 use Rattle.d_parser.specs.Vocabulary.{end_of-Expr, more_of-Expr, DeclaredType, Description}
 use Rattle.d_parser.specs.Vocabulary.{Declaration, Stmt, Clause, Item, Script}
 
@@ -44,14 +44,6 @@ abbrev mutual
 abbrev pub trees_of : List Expr → Trees
 trees_of [] = end
 trees_of (a ∷ rest) = more (tree_of a) (trees_of rest)
-
-abbrev pub target_of : Target → Variable × Trees
-target_of t = (t.variable, trees_of t.keys.items)
-
--- with one more at the end
-abbrev pub add : Trees → Tree → Trees
-add end a = more a end
-add (more b rest) a = more b (add rest a)
 
 -- ---- statements, clauses and declarations
 

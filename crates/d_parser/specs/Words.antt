@@ -37,13 +37,6 @@ reserved_words =
 abbrev pub word_kind : List ℕ → WordKind
 word_kind word = kind_among reserved_words word
 
--- the words that begin a type
-abbrev pub begins_type : WordKind → Bool
-begins_type WordKind.Plain = false
-begins_type WordKind.Thread = false
-begins_type WordKind.Clause = false
-begins_type k = true
-
 -- ---- types
 
 -- the signed and the unsigned type of a width, by its words
@@ -109,12 +102,3 @@ is_word t = false
 abbrev pub AreWords : List Token → Type 0
 AreWords [] = Unit {0}
 AreWords (t ∷ ts) = (is_word t.kind ≡ true) × AreWords ts
-
--- the words at the front, and what comes after them
-unfoldable pub run : List Token → List Token
-run [] = []
-run (t ∷ ts) = if is_word t.kind then t ∷ run ts else []
-
-unfoldable pub after_run : List Token → List Token
-after_run [] = []
-after_run (t ∷ ts) = if is_word t.kind then after_run ts else t ∷ ts

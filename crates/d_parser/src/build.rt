@@ -1,8 +1,10 @@
 //! Small trees put together.
 
 ghost use Rattle.std.specs.Prelude.{◌≡◌, IfOk};
-ghost use Rattle.d_parser.specs.{Reading.OnlyMemory, Vocabulary.Constant};
+ghost use Rattle.d_parser.specs.{Vocabulary.Constant};
+ghost use Rattle.d_parser.specs.Steps.Reading.{OnlyMemory};
 ghost use Rattle.d_parser.specs.Tree as spec;
+ghost use Rattle.d_parser.specs.Steps.Tree as steps;
 
 use crate::fault::ParseFault;
 use crate::operators::{AssignOperator, BinaryOperator, Step, UnaryOperator};
@@ -21,20 +23,20 @@ pub(crate) fn call(line: usize, function: ByteString, arguments: Vec<Expr>) -> E
 }
 
 pub(crate) fn target(variable: Variable, keys: Vec<Expr>) -> Target
-    ensures { spec.target_of result ≡ (variable, spec.trees_of keys.items) }
+    ensures { steps.target_of result ≡ (variable, spec.trees_of keys.items) }
 {
     Target { variable, keys }
 }
 
 pub(crate) fn read(target: Target) -> Expr
-    ensures { spec.tree_of result ≡ spec.Read (spec.target_of target).0 (spec.target_of target).1 }
+    ensures { spec.tree_of result ≡ spec.Read (steps.target_of target).0 (steps.target_of target).1 }
 {
     Expr::Read(target)
 }
 
 fn assignment(operator: AssignOperator, target: Target, value: Box<Expr>) -> Expr
-    ensures { spec.tree_of result ≡ spec.Assign operator (spec.target_of target).0
-        (spec.target_of target).1 (spec.tree_of value.value) }
+    ensures { spec.tree_of result ≡ spec.Assign operator (steps.target_of target).0
+        (steps.target_of target).1 (spec.tree_of value.value) }
 {
     Expr::Assign {
         operator,
@@ -49,8 +51,8 @@ pub(crate) fn assign(
     target: Target,
     value: Expr,
 ) -> Result<Expr, ParseFault>
-    ensures ok { IfOk result (λ e. spec.tree_of e ≡ spec.Assign operator (spec.target_of target).0
-        (spec.target_of target).1 (spec.tree_of value)) }
+    ensures ok { IfOk result (λ e. spec.tree_of e ≡ spec.Assign operator (steps.target_of target).0
+        (steps.target_of target).1 (spec.tree_of value)) }
     ensures err { OnlyMemory result }
 {
     let value = Box::new(alloc, value)?;
@@ -59,14 +61,14 @@ pub(crate) fn assign(
 
 pub(crate) fn before(line: usize, step: Step, target: Target) -> Expr
     ensures { spec.tree_of result
-        ≡ spec.Before line step (spec.target_of target).0 (spec.target_of target).1 }
+        ≡ spec.Before line step (steps.target_of target).0 (steps.target_of target).1 }
 {
     Expr::Before { line, step, target }
 }
 
 pub(crate) fn after(target: Target, step: Step) -> Expr
     ensures { spec.tree_of result
-        ≡ spec.After (spec.target_of target).0 (spec.target_of target).1 step }
+        ≡ spec.After (steps.target_of target).0 (steps.target_of target).1 step }
 {
     Expr::After { target, step }
 }

@@ -2,7 +2,7 @@
 
 ghost use Rattle.std.specs.Prelude.{Some};
 ghost use Rattle.d_parser.specs.{Tree.clause_of, Tree.predicate_of, Reading.Gives};
-ghost use Rattle.d_parser.specs.ReadingScripts as spec;
+ghost use Rattle.d_parser.specs.Steps.ReadingScripts as spec;
 
 use crate::description::description_of;
 use crate::expression::phrase;
@@ -14,7 +14,7 @@ use crate::tree::{Clause, Description, Expr};
 use d_lexer::{Mark, Token, TokenKind};
 use std::alloc::Global;
 
-#[tactic(auto, unfolding(crate::specs::ReadingScripts::description))]
+#[tactic(auto, unfolding(crate::specs::Steps::ReadingScripts::description))]
 fn description(alloc: Global, tokens: &[Token]) -> Result<(Description, &[Token]), ParseFault>
     ensures { Gives (λ x. (x.0, x.1.now)) result (spec.description tokens.now) }
 {
@@ -51,7 +51,7 @@ fn further_descriptions<'a>(
 }
 
 #[cycle(descriptions)]
-#[tactic(auto, unfolding(crate::specs::ReadingScripts::descriptions_on))]
+#[tactic(auto, unfolding(crate::specs::Steps::ReadingScripts::descriptions_on))]
 fn descriptions_on<'a>(
     alloc: Global,
     turns: usize,
@@ -70,7 +70,7 @@ fn descriptions_on<'a>(
     further_descriptions(alloc, turns, all, rest)
 }
 
-#[tactic(auto, unfolding(crate::specs::ReadingScripts::descriptions_reader))]
+#[tactic(auto, unfolding(crate::specs::Steps::ReadingScripts::descriptions_reader))]
 fn descriptions(
     alloc: Global,
     fuel: usize,
@@ -84,7 +84,7 @@ fn descriptions(
     further_descriptions(alloc, fuel, all, rest)
 }
 
-#[tactic(auto, unfolding(crate::specs::ReadingScripts::predicate_reader))]
+#[tactic(auto, unfolding(crate::specs::Steps::ReadingScripts::predicate_reader))]
 fn predicate(
     alloc: Global,
     fuel: usize,
@@ -101,7 +101,7 @@ fn predicate(
 }
 
 /// A clause at the front.
-#[tactic(auto, unfolding(crate::specs::ReadingScripts::clause_reader))]
+#[tactic(auto, unfolding(crate::specs::Steps::ReadingScripts::clause_reader))]
 pub(crate) fn clause(
     alloc: Global,
     fuel: usize,

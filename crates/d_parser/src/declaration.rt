@@ -1,7 +1,7 @@
 //! Declarations.
 
 ghost use Rattle.d_parser.specs.{Tree.declaration_of, Reading.Gives};
-ghost use Rattle.d_parser.specs.ReadingScripts as spec;
+ghost use Rattle.d_parser.specs.Steps.ReadingScripts as spec;
 
 use crate::fault::ParseFault;
 use crate::marks::{is_at, tail};
@@ -12,7 +12,7 @@ use d_lexer::{ByteString, Mark, Token, TokenKind};
 use std::alloc::Global;
 
 /// The type that the words at the front spell.
-#[tactic(auto, unfolding(crate::specs::ReadingScripts::whole_type))]
+#[tactic(auto, unfolding(crate::specs::Steps::ReadingScripts::whole_type))]
 fn whole_type(tokens: &[Token]) -> Result<(DeclaredType, &[Token]), ParseFault>
     ensures { Gives (λ x. (x.0, x.1.now)) result (spec.whole_type tokens.now) }
 {
@@ -45,7 +45,7 @@ fn further_types(
 }
 
 #[cycle(types)]
-#[tactic(auto, unfolding(crate::specs::ReadingScripts::types_on))]
+#[tactic(auto, unfolding(crate::specs::Steps::ReadingScripts::types_on))]
 fn types_on(
     turns: usize,
     all: Vec<DeclaredType>,
@@ -64,7 +64,7 @@ fn types_on(
 }
 
 /// Types in brackets, or nothing.
-#[tactic(auto, unfolding(crate::specs::ReadingScripts::key_types))]
+#[tactic(auto, unfolding(crate::specs::Steps::ReadingScripts::key_types))]
 fn key_types(
     alloc: Global,
     fuel: usize,
@@ -101,7 +101,7 @@ fn line_without_name(words: &[Token], tokens: &[Token]) -> usize {
 }
 
 /// A type and a word.
-#[tactic(auto, unfolding(crate::specs::ReadingScripts::typed_name))]
+#[tactic(auto, unfolding(crate::specs::Steps::ReadingScripts::typed_name))]
 fn typed_name(
     alloc: Global,
     tokens: &[Token],
@@ -123,7 +123,7 @@ fn typed_name(
 }
 
 /// What `self` declares.
-#[tactic(auto, unfolding(crate::specs::ReadingScripts::of_thread))]
+#[tactic(auto, unfolding(crate::specs::Steps::ReadingScripts::of_thread))]
 pub(crate) fn of_thread<'a>(
     alloc: Global,
     fuel: usize,
@@ -146,7 +146,7 @@ pub(crate) fn of_thread<'a>(
 }
 
 /// What `this` declares.
-#[tactic(auto, unfolding(crate::specs::ReadingScripts::of_clause))]
+#[tactic(auto, unfolding(crate::specs::Steps::ReadingScripts::of_clause))]
 pub(crate) fn of_clause(
     alloc: Global,
     line: usize,

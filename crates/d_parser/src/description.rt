@@ -3,6 +3,7 @@
 ghost use Rattle.std.specs.Prelude.{◌≡◌, ◌<◌, MatchOption, Some, None};
 ghost use Rattle.d_parser.specs.Reading.{Gives};
 ghost use Rattle.d_parser.specs.Script as spec;
+ghost use Rattle.d_parser.specs.Steps.Script as steps;
 
 use crate::fault::{AT_END, ParseFault};
 use crate::tree::Description;
@@ -45,7 +46,7 @@ fn new_description(
     name: &[u8],
 ) -> Result<Description, ParseFault>
     ensures { Gives (λ d. d) result
-        (Some (spec.description_with provider.now middle.now function.now name.now)) }
+        (Some (steps.description_with provider.now middle.now function.now name.now)) }
 {
     let provider = ByteString::from_slice(alloc, provider)?;
     let module = ByteString::from_slice(alloc, middle)?;

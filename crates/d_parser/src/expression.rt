@@ -4,8 +4,9 @@
 
 ghost use Rattle.std.specs.Prelude.{◌≡◌};
 ghost use Rattle.d_parser.specs.{Reading.Gives, Words.word_kind};
-ghost use Rattle.d_parser.specs.Tree.{tree_of, trees_of, target_of};
-ghost use Rattle.d_parser.specs.Reading as spec;
+ghost use Rattle.d_parser.specs.Tree.{tree_of, trees_of};
+ghost use Rattle.d_parser.specs.Steps.Tree.{target_of};
+ghost use Rattle.d_parser.specs.Steps.Reading as steps;
 
 use crate::build;
 use crate::fault::{AT_END, ParseFault};
@@ -21,7 +22,7 @@ use std::alloc::Global;
 
 /// Expressions with commas between, and the mark that closes them.
 #[cycle(expression)]
-#[tactic(auto, unfolding(crate::specs::Reading::closed_list))]
+#[tactic(auto, unfolding(crate::specs::Steps::Reading::closed_list))]
 fn closed_list<'a>(
     alloc: Global,
     fuel: usize,
@@ -29,7 +30,7 @@ fn closed_list<'a>(
     tokens: &'a [Token],
 ) -> Result<(Vec<Expr>, &'a [Token]), ParseFault>
     ensures { Gives (λ x. (trees_of x.0.items, x.1.now)) result
-        (spec.closed_list (spec.readers fuel) close tokens.now) }
+        (steps.closed_list (steps.readers fuel) close tokens.now) }
 {
     let (first, rest) = phrase(alloc, fuel, ASSIGNMENT, tokens)?;
     let mut all = Vec::new(alloc);
@@ -39,14 +40,14 @@ fn closed_list<'a>(
 }
 
 #[cycle(expression)]
-#[tactic(auto, unfolding(crate::specs::Reading::keys))]
+#[tactic(auto, unfolding(crate::specs::Steps::Reading::keys))]
 pub(crate) fn keys<'a>(
     alloc: Global,
     fuel: usize,
     tokens: &'a [Token],
 ) -> Result<(Vec<Expr>, &'a [Token]), ParseFault>
     ensures { Gives (λ x. (trees_of x.0.items, x.1.now)) result
-        (spec.keys (spec.readers fuel) tokens.now) }
+        (steps.keys (steps.readers fuel) tokens.now) }
 {
     match follow_at(tokens) {
         Follow::Bracket => closed_list(alloc, fuel, Mark::CloseBracket, tail(tokens)),
@@ -56,14 +57,14 @@ pub(crate) fn keys<'a>(
 
 /// The arguments of a call, after its opening parenthesis.
 #[cycle(expression)]
-#[tactic(auto, unfolding(crate::specs::Reading::arguments))]
+#[tactic(auto, unfolding(crate::specs::Steps::Reading::arguments))]
 pub(crate) fn arguments<'a>(
     alloc: Global,
     fuel: usize,
     tokens: &'a [Token],
 ) -> Result<(Vec<Expr>, &'a [Token]), ParseFault>
     ensures { Gives (λ x. (trees_of x.0.items, x.1.now)) result
-        (spec.arguments (spec.readers fuel) tokens.now) }
+        (steps.arguments (steps.readers fuel) tokens.now) }
 {
     if is_at(Mark::CloseParenthesis, tokens) {
         return Ok((Vec::new(alloc), tail(tokens)));
@@ -72,7 +73,7 @@ pub(crate) fn arguments<'a>(
 }
 
 #[cycle(expression)]
-#[tactic(auto, unfolding(crate::specs::Reading::with_keys))]
+#[tactic(auto, unfolding(crate::specs::Steps::Reading::with_keys))]
 fn with_keys<'a>(
     alloc: Global,
     fuel: usize,
@@ -80,7 +81,7 @@ fn with_keys<'a>(
     tokens: &'a [Token],
 ) -> Result<(Target, &'a [Token]), ParseFault>
     ensures { Gives (λ x. (target_of x.0, x.1.now)) result
-        (spec.with_keys (spec.readers fuel) variable tokens.now) }
+        (steps.with_keys (steps.readers fuel) variable tokens.now) }
 {
     if variable.is_clause_local() {
         return Ok((build::target(variable, Vec::new(alloc)), tokens));
@@ -91,7 +92,7 @@ fn with_keys<'a>(
 
 /// A target, by its first word.
 #[cycle(expression)]
-#[tactic(auto, unfolding(crate::specs::Reading::target))]
+#[tactic(auto, unfolding(crate::specs::Steps::Reading::target))]
 fn target<'a>(
     alloc: Global,
     fuel: usize,
@@ -99,7 +100,7 @@ fn target<'a>(
     tokens: &'a [Token],
 ) -> Result<(Target, &'a [Token]), ParseFault>
     ensures { Gives (λ x. (target_of x.0, x.1.now)) result
-        (spec.target (spec.readers fuel)
+        (steps.target (steps.readers fuel)
         (word_kind word.entry.name.now) word.entry.name.now word.entry.line
         tokens.now) }
 {
@@ -110,7 +111,7 @@ fn target<'a>(
 /// What a target goes on as.
 #[cycle(expression)]
 #[inline(never)]
-#[tactic(auto, unfolding(crate::specs::Reading::follows))]
+#[tactic(auto, unfolding(crate::specs::Steps::Reading::follows))]
 fn follows<'a>(
     alloc: Global,
     fuel: usize,
@@ -119,7 +120,7 @@ fn follows<'a>(
     tokens: &'a [Token],
 ) -> Result<(Expr, &'a [Token]), ParseFault>
     ensures { Gives (λ x. (tree_of x.0, x.1.now)) result
-        (spec.follows (spec.readers fuel) level (target_of target) tokens.now) }
+        (steps.follows (steps.readers fuel) level (target_of target) tokens.now) }
 {
     match follow_at(tokens) {
         Follow::Step(step) => Ok((build::after(target, step), tail(tokens))),
@@ -137,7 +138,7 @@ fn follows<'a>(
 /// A call, or what a target begins.
 #[cycle(expression)]
 #[inline(never)]
-#[tactic(auto, unfolding(crate::specs::Reading::part_at_name))]
+#[tactic(auto, unfolding(crate::specs::Steps::Reading::part_at_name))]
 fn part_at_name<'a>(
     alloc: Global,
     fuel: usize,
@@ -146,8 +147,8 @@ fn part_at_name<'a>(
     tokens: &'a [Token],
 ) -> Result<(Expr, &'a [Token]), ParseFault>
     ensures { Gives (λ x. (tree_of x.0, x.1.now)) result
-        (spec.part_at_name
-        (spec.readers fuel) level word.entry.name.now word.entry.line tokens.now) }
+        (steps.part_at_name
+        (steps.readers fuel) level word.entry.name.now word.entry.line tokens.now) }
 {
     if begins_call(word.name, tokens) {
         let (all, rest) = arguments(alloc, fuel, tail(tokens))?;
@@ -165,7 +166,7 @@ fn part_at_name<'a>(
 }
 
 fn begins_call(name: &ByteString, tokens: &[Token]) -> bool
-    ensures { result ≡ spec.begins_call name.now tokens.now }
+    ensures { result ≡ steps.begins_call name.now tokens.now }
 {
     match (word_kind(name.as_slice()), follow_at(tokens)) {
         (WordKind::Plain, Follow::Parenthesis) => true,
@@ -175,7 +176,7 @@ fn begins_call(name: &ByteString, tokens: &[Token]) -> bool
 
 #[cycle(expression)]
 #[inline(never)]
-#[tactic(auto, unfolding(crate::specs::Reading::part_at_cast))]
+#[tactic(auto, unfolding(crate::specs::Steps::Reading::part_at_cast))]
 fn cast<'a>(
     alloc: Global,
     fuel: usize,
@@ -183,7 +184,7 @@ fn cast<'a>(
     tokens: &'a [Token],
 ) -> Result<(Expr, &'a [Token]), ParseFault>
     ensures { Gives (λ x. (tree_of x.0, x.1.now)) result
-        (spec.part_at_cast (spec.readers fuel) line tokens.now) }
+        (steps.part_at_cast (steps.readers fuel) line tokens.now) }
 {
     let (to, rest) = cast_type(tokens)?;
     let (operand, rest) = phrase(alloc, fuel, UNARY, rest)?;
@@ -193,7 +194,7 @@ fn cast<'a>(
 /// A cast or an expression, after the opening parenthesis.
 #[cycle(expression)]
 #[inline(never)]
-#[tactic(auto, unfolding(crate::specs::Reading::part_in_parentheses))]
+#[tactic(auto, unfolding(crate::specs::Steps::Reading::part_in_parentheses))]
 fn part_in_parentheses<'a>(
     alloc: Global,
     fuel: usize,
@@ -201,7 +202,7 @@ fn part_in_parentheses<'a>(
     tokens: &'a [Token],
 ) -> Result<(Expr, &'a [Token]), ParseFault>
     ensures { Gives (λ x. (tree_of x.0, x.1.now)) result
-        (spec.part_in_parentheses (spec.readers fuel) line tokens.now) }
+        (steps.part_in_parentheses (steps.readers fuel) line tokens.now) }
 {
     if is_typed(tokens) {
         return cast(alloc, fuel, line, tokens);
@@ -212,7 +213,7 @@ fn part_in_parentheses<'a>(
 
 /// The target after `++` or `--`.
 #[cycle(expression)]
-#[tactic(auto, unfolding(crate::specs::Reading::part_at_step))]
+#[tactic(auto, unfolding(crate::specs::Steps::Reading::part_at_step))]
 fn part_at_step<'a>(
     alloc: Global,
     fuel: usize,
@@ -221,7 +222,7 @@ fn part_at_step<'a>(
     tokens: &'a [Token],
 ) -> Result<(Expr, &'a [Token]), ParseFault>
     ensures { Gives (λ x. (tree_of x.0, x.1.now)) result
-        (spec.part_at_step (spec.readers fuel) line step tokens.now) }
+        (steps.part_at_step (steps.readers fuel) line step tokens.now) }
 {
     let [token, rest @ ..] = tokens else {
         return Err(ParseFault::Syntax { line: AT_END });
@@ -242,7 +243,7 @@ fn part_at_step<'a>(
 /// After a mark that begins a part.
 #[cycle(expression)]
 #[inline(never)]
-#[tactic(auto, unfolding(crate::specs::Reading::part_at_mark))]
+#[tactic(auto, unfolding(crate::specs::Steps::Reading::part_at_mark))]
 fn part_at_mark<'a>(
     alloc: Global,
     fuel: usize,
@@ -251,7 +252,7 @@ fn part_at_mark<'a>(
     tokens: &'a [Token],
 ) -> Result<(Expr, &'a [Token]), ParseFault>
     ensures { Gives (λ x. (tree_of x.0, x.1.now)) result
-        (spec.part_at_mark (spec.readers fuel) mark line tokens.now) }
+        (steps.part_at_mark (steps.readers fuel) mark line tokens.now) }
 {
     if mark == Mark::OpenParenthesis {
         return part_in_parentheses(alloc, fuel, line, tokens);
@@ -268,7 +269,7 @@ fn part_at_mark<'a>(
 
 /// A unary part, or where the level allows it an assignment.
 #[cycle(expression)]
-#[tactic(auto, unfolding(crate::specs::Reading::part))]
+#[tactic(auto, unfolding(crate::specs::Steps::Reading::part))]
 fn part<'a>(
     alloc: Global,
     fuel: usize,
@@ -276,7 +277,7 @@ fn part<'a>(
     tokens: &'a [Token],
 ) -> Result<(Expr, &'a [Token]), ParseFault>
     ensures { Gives (λ x. (tree_of x.0, x.1.now)) result
-        (spec.part (spec.readers fuel) level tokens.now) }
+        (steps.part (steps.readers fuel) level tokens.now) }
 {
     let [token, rest @ ..] = tokens else {
         return Err(ParseFault::Syntax { line: AT_END });
@@ -315,7 +316,7 @@ fn climb<'a>(
     tokens: &'a [Token],
 ) -> Result<(Expr, &'a [Token]), ParseFault>
     ensures { Gives (λ x. (tree_of x.0, x.1.now)) result
-        ((spec.readers fuel).climb level (tree_of left) tokens.now) }
+        ((steps.readers fuel).climb level (tree_of left) tokens.now) }
 {
     if fuel == 0 {
         return Err(ParseFault::Syntax {
@@ -327,7 +328,7 @@ fn climb<'a>(
 
 #[cycle(expression)]
 #[inline(never)]
-#[tactic(auto, unfolding(crate::specs::Reading::climb_on))]
+#[tactic(auto, unfolding(crate::specs::Steps::Reading::climb_on))]
 fn climb_on<'a>(
     alloc: Global,
     fuel: usize,
@@ -336,7 +337,7 @@ fn climb_on<'a>(
     tokens: &'a [Token],
 ) -> Result<(Expr, &'a [Token]), ParseFault>
     ensures { Gives (λ x. (tree_of x.0, x.1.now)) result
-        (spec.climb_on (spec.readers fuel) level (tree_of left) tokens.now) }
+        (steps.climb_on (steps.readers fuel) level (tree_of left) tokens.now) }
 {
     match follow_at(tokens) {
         Follow::Infix(operator) => {
@@ -353,7 +354,7 @@ fn climb_on<'a>(
 
 /// A condition goes on with a question mark.
 #[cycle(expression)]
-#[tactic(auto, unfolding(crate::specs::Reading::choice))]
+#[tactic(auto, unfolding(crate::specs::Steps::Reading::choice))]
 fn choice<'a>(
     alloc: Global,
     fuel: usize,
@@ -362,7 +363,7 @@ fn choice<'a>(
     tokens: &'a [Token],
 ) -> Result<(Expr, &'a [Token]), ParseFault>
     ensures { Gives (λ x. (tree_of x.0, x.1.now)) result
-        (spec.choice (spec.readers fuel) level (tree_of test) tokens.now) }
+        (steps.choice (steps.readers fuel) level (tree_of test) tokens.now) }
 {
     if level > CONDITION {
         return Ok((test, tokens));
@@ -376,7 +377,7 @@ fn choice<'a>(
 /// What comes after the question mark.
 #[cycle(expression)]
 #[inline(never)]
-#[tactic(auto, unfolding(crate::specs::Reading::alternatives))]
+#[tactic(auto, unfolding(crate::specs::Steps::Reading::alternatives))]
 fn alternatives<'a>(
     alloc: Global,
     fuel: usize,
@@ -384,7 +385,7 @@ fn alternatives<'a>(
     tokens: &'a [Token],
 ) -> Result<(Expr, &'a [Token]), ParseFault>
     ensures { Gives (λ x. (tree_of x.0, x.1.now)) result
-        (spec.alternatives (spec.readers fuel) (tree_of test) tokens.now) }
+        (steps.alternatives (steps.readers fuel) (tree_of test) tokens.now) }
 {
     let (first, rest) = phrase(alloc, fuel, ASSIGNMENT, tokens)?;
     let rest = after_mark(Mark::Colon, rest)?;
@@ -402,7 +403,7 @@ pub(crate) fn phrase<'a>(
     tokens: &'a [Token],
 ) -> Result<(Expr, &'a [Token]), ParseFault>
     ensures { Gives (λ x. (tree_of x.0, x.1.now)) result
-        ((spec.readers fuel).phrase level tokens.now) }
+        ((steps.readers fuel).phrase level tokens.now) }
 {
     if fuel == 0 {
         return Err(ParseFault::Syntax {
@@ -413,7 +414,7 @@ pub(crate) fn phrase<'a>(
 }
 
 #[cycle(expression)]
-#[tactic(auto, unfolding(crate::specs::Reading::whole, crate::specs::Reading::operand))]
+#[tactic(auto, unfolding(crate::specs::Steps::Reading::whole, crate::specs::Steps::Reading::operand))]
 fn whole<'a>(
     alloc: Global,
     fuel: usize,
@@ -421,7 +422,7 @@ fn whole<'a>(
     tokens: &'a [Token],
 ) -> Result<(Expr, &'a [Token]), ParseFault>
     ensures { Gives (λ x. (tree_of x.0, x.1.now)) result
-        (spec.whole (spec.readers fuel) level tokens.now) }
+        (steps.whole (steps.readers fuel) level tokens.now) }
 {
     let (first, rest) = part(alloc, fuel, level, tokens)?;
     let (joined, rest) = climb(alloc, fuel, level.max(OR), first, rest)?;
@@ -438,7 +439,7 @@ fn further<'a>(
     tokens: &'a [Token],
 ) -> Result<(Vec<Expr>, &'a [Token]), ParseFault>
     ensures { Gives (λ x. (trees_of x.0.items, x.1.now)) result
-        ((spec.readers fuel).further (trees_of all.items) tokens.now) }
+        ((steps.readers fuel).further (trees_of all.items) tokens.now) }
 {
     if fuel == 0 {
         return Err(ParseFault::Syntax {
@@ -449,7 +450,7 @@ fn further<'a>(
 }
 
 #[cycle(expression)]
-#[tactic(auto, unfolding(crate::specs::Reading::further_on), using(crate::proofs::Rows::trees_push))]
+#[tactic(auto, unfolding(crate::specs::Steps::Reading::further_on), using(crate::proofs::Rows::trees_push))]
 fn further_on<'a>(
     alloc: Global,
     fuel: usize,
@@ -457,7 +458,7 @@ fn further_on<'a>(
     tokens: &'a [Token],
 ) -> Result<(Vec<Expr>, &'a [Token]), ParseFault>
     ensures { Gives (λ x. (trees_of x.0.items, x.1.now)) result
-        (spec.further_on (spec.readers fuel) (trees_of all.items) tokens.now) }
+        (steps.further_on (steps.readers fuel) (trees_of all.items) tokens.now) }
 {
     if !is_at(Mark::Comma, tokens) {
         return Ok((all, tokens));

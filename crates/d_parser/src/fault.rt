@@ -2,7 +2,7 @@
 
 ghost use Rattle.std.specs.Prelude.{◌≡◌};
 ghost use Rattle.d_parser.specs.declared.fault.ParseFault.TheVariants.{Memory};
-ghost use Rattle.d_parser.specs.Lines.{ending_on};
+ghost use Rattle.d_parser.specs.Steps.Lines.{ending_on};
 
 use std::alloc::{AllocError, AllocFailed};
 use thiserror::Error;

@@ -1,7 +1,7 @@
 //! The limits that are checked before anything is read.
 
 ghost use Rattle.std.specs.Prelude.{◌≡◌, ◌≤◌, ◌+◌};
-ghost use Rattle.d_parser.specs.Depth as depth;
+ghost use Rattle.d_parser.specs.Steps.Depth as depth;
 ghost use Rattle.d_parser.specs.Limits as limits;
 
 use crate::fault::{MOST_IN_A_ROW, MOST_OPEN};
@@ -31,7 +31,7 @@ fn row_with(kind: &TokenKind, row: usize) -> usize
 }
 
 /// Whether too many brackets are open at some token, or too many tokens are in a row.
-#[tactic(auto, unfolding(crate::specs::Depth::is_deep))]
+#[tactic(auto, unfolding(crate::specs::Steps::Depth::is_deep))]
 pub(crate) fn is_deep(tokens: &[Token]) -> bool
     ensures { result ≡ depth.is_deep 0 0 tokens.now }
 {

@@ -2,6 +2,7 @@
 
 ghost use Rattle.std.specs.Prelude.{◌≡◌, ◌<◌};
 ghost use Rattle.d_parser.specs.Marks as spec;
+ghost use Rattle.d_parser.specs.Steps.Marks as steps;
 
 use crate::operators::{AssignOperator, BinaryOperator, Step, UnaryOperator};
 use d_lexer::{Mark, Token, TokenKind};
@@ -129,7 +130,7 @@ fn follow_of(mark: Mark) -> Follow
 
 /// What the first token does to an operand before it.
 pub(crate) fn follow_at(tokens: &[Token]) -> Follow
-    ensures { result ≡ spec.follow_at tokens.now }
+    ensures { result ≡ steps.follow_at tokens.now }
 {
     match tokens {
         [token, ..] => match &token.kind {
@@ -169,7 +170,7 @@ impl BinaryOperator {
 
 /// Whether the first token is the mark.
 pub(crate) fn is_at(mark: Mark, tokens: &[Token]) -> bool
-    ensures { result ≡ spec.is_at mark tokens.now }
+    ensures { result ≡ steps.is_at mark tokens.now }
 {
     match tokens {
         [token, ..] => match &token.kind {
@@ -182,7 +183,7 @@ pub(crate) fn is_at(mark: Mark, tokens: &[Token]) -> bool
 
 /// After the first token.
 pub(crate) fn tail(tokens: &[Token]) -> &[Token]
-    ensures { result.now ≡ spec.tail tokens.now }
+    ensures { result.now ≡ steps.tail tokens.now }
 {
     match tokens {
         [_, rest @ ..] => rest,

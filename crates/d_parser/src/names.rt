@@ -2,7 +2,7 @@
 
 ghost use Rattle.std.specs.Prelude.{◌≡◌};
 ghost use Rattle.d_parser.specs.{Reading.Gives, Words.word_kind};
-ghost use Rattle.d_parser.specs.Reading as spec;
+ghost use Rattle.d_parser.specs.Steps.Reading as steps;
 
 use crate::fault::{AT_END, ParseFault};
 use crate::marks::{is_at, tail};
@@ -34,7 +34,7 @@ pub(crate) fn last_line(tokens: &[Token]) -> usize {
 
 /// The tokens after a mark that has to be at the front.
 pub(crate) fn after_mark(mark: Mark, tokens: &[Token]) -> Result<&[Token], ParseFault>
-    ensures { Gives (λ rest. rest.now) result (spec.after_mark mark tokens.now) }
+    ensures { Gives (λ rest. rest.now) result (steps.after_mark mark tokens.now) }
 {
     if is_at(mark, tokens) {
         Ok(tail(tokens))
@@ -46,9 +46,9 @@ pub(crate) fn after_mark(mark: Mark, tokens: &[Token]) -> Result<&[Token], Parse
 }
 
 /// A word that isn't reserved.
-#[tactic(auto, unfolding(crate::specs::Reading::plain_word))]
+#[tactic(auto, unfolding(crate::specs::Steps::Reading::plain_word))]
 fn plain_word(alloc: Global, tokens: &[Token]) -> Result<(ByteString, &[Token]), ParseFault>
-    ensures { Gives (λ x. (x.0, x.1.now)) result (spec.plain_word tokens.now) }
+    ensures { Gives (λ x. (x.0, x.1.now)) result (steps.plain_word tokens.now) }
 {
     let [token, rest @ ..] = tokens else {
         return Err(ParseFault::Syntax { line: AT_END });
@@ -63,9 +63,9 @@ fn plain_word(alloc: Global, tokens: &[Token]) -> Result<(ByteString, &[Token]),
 }
 
 /// The word after an arrow.
-#[tactic(auto, unfolding(crate::specs::Reading::member))]
+#[tactic(auto, unfolding(crate::specs::Steps::Reading::member))]
 fn member(alloc: Global, tokens: &[Token]) -> Result<(ByteString, &[Token]), ParseFault>
-    ensures { Gives (λ x. (x.0, x.1.now)) result (spec.member tokens.now) }
+    ensures { Gives (λ x. (x.0, x.1.now)) result (steps.member tokens.now) }
 {
     plain_word(alloc, after_mark(Mark::Arrow, tokens)?)
 }
@@ -78,14 +78,14 @@ pub(crate) struct Word<'a> {
 }
 
 /// The variable that a word begins.
-#[tactic(auto, unfolding(crate::specs::Reading::variable))]
+#[tactic(auto, unfolding(crate::specs::Steps::Reading::variable))]
 pub(crate) fn variable<'a>(
     alloc: Global,
     word: Word<'_>,
     tokens: &'a [Token],
 ) -> Result<(Variable, &'a [Token]), ParseFault>
     ensures { Gives (λ x. (x.0, x.1.now)) result
-        (spec.variable
+        (steps.variable
         (word_kind word.entry.name.now) word.entry.name.now word.entry.line tokens.now) }
 {
     let line = word.line;
@@ -108,7 +108,7 @@ pub(crate) fn variable<'a>(
 
 /// Whether a word of a type is at the front.
 pub(crate) fn is_typed(tokens: &[Token]) -> bool
-    ensures { result ≡ spec.is_typed tokens.now }
+    ensures { result ≡ steps.is_typed tokens.now }
 {
     match tokens {
         [token, ..] => match &token.kind {
@@ -128,9 +128,9 @@ fn line_without_cast(words: &[Token], tokens: &[Token]) -> usize {
 }
 
 /// The type in a cast, after its opening parenthesis.
-#[tactic(auto, unfolding(crate::specs::Reading::cast_type))]
+#[tactic(auto, unfolding(crate::specs::Steps::Reading::cast_type))]
 pub(crate) fn cast_type(tokens: &[Token]) -> Result<(IntegerType, &[Token]), ParseFault>
-    ensures { Gives (λ x. (x.0, x.1.now)) result (spec.cast_type tokens.now) }
+    ensures { Gives (λ x. (x.0, x.1.now)) result (steps.cast_type tokens.now) }
 {
     let (words, rest) = split_run(tokens);
     let Some(to) = integer_type(words) else {
@@ -143,7 +143,7 @@ pub(crate) fn cast_type(tokens: &[Token]) -> Result<(IntegerType, &[Token]), Par
 
 impl Variable {
     pub(crate) fn is_clause_local(&self) -> bool
-        ensures { result ≡ spec.is_clause_local self.now }
+        ensures { result ≡ steps.is_clause_local self.now }
     {
         matches!(self, Variable::Clause { .. })
     }

@@ -3,7 +3,7 @@
 ghost use Rattle.std.specs.Prelude.{◌≤◌, length, map, []};
 ghost use Rattle.d_parser.specs.{Reading.Gives, Words.word_kind};
 ghost use Rattle.d_parser.specs.Tree.{item_of, declaration_of, script_of};
-ghost use Rattle.d_parser.specs.ReadingScripts as spec;
+ghost use Rattle.d_parser.specs.Steps.ReadingScripts as spec;
 
 use crate::clause::clause;
 use crate::declaration::{of_clause, of_thread};
@@ -32,7 +32,7 @@ fn declaration<'a>(
     }
 }
 
-#[tactic(auto, unfolding(crate::specs::ReadingScripts::item_reader))]
+#[tactic(auto, unfolding(crate::specs::Steps::ReadingScripts::item_reader))]
 fn item<'a>(
     alloc: Global,
     fuel: usize,
@@ -75,7 +75,7 @@ fn items(alloc: Global, fuel: usize, tokens: &[Token]) -> Result<Vec<Item>, Pars
 }
 
 /// The script that all tokens spell.
-#[tactic(auto, unfolding(crate::specs::ReadingScripts::script_reader))]
+#[tactic(auto, unfolding(crate::specs::Steps::ReadingScripts::script_reader))]
 pub(crate) fn script(alloc: Global, tokens: &[Token]) -> Result<Script, ParseFault>
     requires { length tokens.now ≤ MOST_BYTES }
     ensures { Gives script_of result (spec.script_reader tokens.now) }

@@ -1,7 +1,7 @@
 //! Statements.
 
 ghost use Rattle.d_parser.specs.{Tree.stmt_of, Tree.stmts_of, Reading.Gives};
-ghost use Rattle.d_parser.specs.ReadingScripts as spec;
+ghost use Rattle.d_parser.specs.Steps.ReadingScripts as spec;
 
 use crate::expression::{arguments, keys, phrase};
 use crate::fault::{AT_END, ParseFault};
@@ -12,7 +12,7 @@ use d_lexer::{ByteString, Mark, Token, TokenKind};
 use std::alloc::Global;
 
 /// A word, reserved or not.
-#[tactic(auto, unfolding(crate::specs::ReadingScripts::any_word))]
+#[tactic(auto, unfolding(crate::specs::Steps::ReadingScripts::any_word))]
 fn any_word(alloc: Global, tokens: &[Token]) -> Result<(ByteString, &[Token]), ParseFault>
     ensures { Gives (λ x. (x.0, x.1.now)) result (spec.any_word tokens.now) }
 {
@@ -26,7 +26,7 @@ fn any_word(alloc: Global, tokens: &[Token]) -> Result<(ByteString, &[Token]), P
 }
 
 /// An aggregation statement, after its name.
-#[tactic(auto, unfolding(crate::specs::ReadingScripts::aggregation))]
+#[tactic(auto, unfolding(crate::specs::Steps::ReadingScripts::aggregation))]
 fn aggregation<'a>(
     alloc: Global,
     fuel: usize,
@@ -62,7 +62,7 @@ fn expression<'a>(
     Ok((Stmt::Expression(expression), rest))
 }
 
-#[tactic(auto, unfolding(crate::specs::ReadingScripts::stmt))]
+#[tactic(auto, unfolding(crate::specs::Steps::ReadingScripts::stmt))]
 fn statement<'a>(
     alloc: Global,
     fuel: usize,
@@ -80,7 +80,7 @@ fn statement<'a>(
 }
 
 /// With the statement at the front, if there is one.
-#[tactic(auto, unfolding(crate::specs::ReadingScripts::slot), using(crate::proofs::Rows::stmts_push))]
+#[tactic(auto, unfolding(crate::specs::Steps::ReadingScripts::slot), using(crate::proofs::Rows::stmts_push))]
 fn slot<'a>(
     alloc: Global,
     fuel: usize,
@@ -127,7 +127,7 @@ fn further<'a>(
 }
 
 /// The statements of a clause, after its opening brace.
-#[tactic(auto, unfolding(crate::specs::ReadingScripts::stmts))]
+#[tactic(auto, unfolding(crate::specs::Steps::ReadingScripts::stmts))]
 pub(crate) fn statements<'a>(
     alloc: Global,
     fuel: usize,

@@ -2,6 +2,7 @@
 
 ghost use Rattle.std.specs.Prelude.{◌≡◌, ◌≤◌, length};
 ghost use Rattle.d_parser.specs.Words as spec;
+ghost use Rattle.d_parser.specs.Steps.Words as steps;
 
 use crate::tree::{DeclaredType, IntegerType};
 use d_lexer::{Token, TokenKind};
@@ -90,7 +91,7 @@ pub(crate) fn kind_of(token: &Token) -> WordKind
 
 impl WordKind {
     pub(crate) fn begins_type(self) -> bool
-        ensures { result ≡ spec.begins_type self }
+        ensures { result ≡ steps.begins_type self }
     {
         !matches!(self, WordKind::Plain | WordKind::Thread | WordKind::Clause)
     }
@@ -103,9 +104,9 @@ fn is_word(token: &Token) -> bool
 }
 
 /// The tokens after the words at the front.
-#[tactic(auto, unfolding(crate::specs::Words::after_run))]
+#[tactic(auto, unfolding(crate::specs::Steps::Words::after_run))]
 fn after_run(tokens: &[Token]) -> &[Token]
-    ensures is { result.now ≡ spec.after_run tokens.now }
+    ensures is { result.now ≡ steps.after_run tokens.now }
     ensures shorter { length result.now ≤ length tokens.now }
 {
     let mut rest = tokens;
@@ -121,8 +122,8 @@ fn after_run(tokens: &[Token]) -> &[Token]
 /// The words at the front, and what comes after them.
 #[tactic(auto, using(crate::proofs::Runs::run_taken, crate::proofs::Runs::run_dropped))]
 pub(crate) fn split_run(tokens: &[Token]) -> (&[Token], &[Token])
-    ensures words { result.0.now ≡ spec.run tokens.now }
-    ensures behind { result.1.now ≡ spec.after_run tokens.now }
+    ensures words { result.0.now ≡ steps.run tokens.now }
+    ensures behind { result.1.now ≡ steps.after_run tokens.now }
 {
     let rest = after_run(tokens);
     tokens.split_at(tokens.len() - rest.len())

@@ -9,13 +9,14 @@ use Rattle.d_types.specs.Typed.{Typed, Typeds, end, more, type_of, Action, Evalu
 use Rattle.d_types.specs.Typed.{Exit, Aggregate, ClauseMeant}
 use Rattle.d_types.specs.Storage.{Variables}
 use Rattle.d_types.specs.Expressions.{Outcome, Has, Faults, with, number_outcome, eval, keys_of}
-use Rattle.d_types.specs.Clauses.{values_of, argument_value, effect_of, Ran, effect_then}
-use Rattle.d_types.specs.Clauses.{statements_of, where_true, by_trees, where_predicate, run_of}
+use Rattle.d_types.specs.Clauses.{values_of, Ran, effect_then}
+use Rattle.d_types.specs.Clauses.{where_true, by_trees, where_predicate, run_of}
 use Rattle.d_types.specs.Printing.{trace_line, printf_text}
 use Rattle.d_types.specs.Held.{IsOf, HasTypedBuiltIns, Slots, AreTyped, EndsTyped, IsConsistent}
 use Rattle.d_types.specs.Held.{AreConsistent}
 use Rattle.d_types.specs.Wholes.{EachIs, AnyIs, ActionIs, ActionsAre, ClauseIs}
 use Rattle.d_types.proofs.Holding.{one, eval_is, keys_are}
+use Rattle.d_types.proofs.TreeRuns.{argument_value, effect_of, statements_of}
 
 module _ (slots : Slots) (f : Firing) (fit : HasTypedBuiltIns f) where
   abbrev Kept : {A : Type 0} → Outcome A → Type 0

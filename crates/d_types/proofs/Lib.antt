@@ -21,6 +21,7 @@ pub mod OneMeaning
 pub mod Nodes
 pub mod ValueTypes
 pub mod Holding
+pub mod TreeRuns
 pub mod HoldingRuns
 pub mod FiringValues
 pub mod Growing

@@ -6,7 +6,8 @@ use Rattle.std.proofs.Math.Seq.{drop-cons}
 use Rattle.d_values.specs.declared.int_type.DType.{DType}
 use Rattle.d_types.specs.declared.variables.Entry.{Entry}
 use Rattle.d_types.specs.Typed.{Typeds}
-use Rattle.d_types.specs.Variables.{Rows, row_of_entry, rows_of_entries, type_at, keys_fit, fit}
+use Rattle.d_types.specs.Variables.{Rows, type_at, keys_fit, fit}
+use Rattle.d_types.specs.Steps.Variables.{row_of_entry, rows_of_entries}
 use Rattle.d_types.specs.Variables.{set_type}
 
 pub front : {A : Type 0} (xs : List A) (n : ℕ) (x : A) → n < length xs → x ≡ get_or xs n x → drop n xs ≡ x ∷ drop (n + 1) xs

@@ -4,7 +4,8 @@ use Rattle.d_parser.specs.Tree.{ItemTree}
 use Rattle.d_values.specs.declared.int_type.DType.{DType}
 use Rattle.d_types.specs.declared.variables.Entry.{Entry}
 use Rattle.d_types.specs.Typed.{Aggs, ClauseMeant}
-use Rattle.d_types.specs.Variables.{rows_of_entries, types_in}
+use Rattle.d_types.specs.Variables.{types_in}
+use Rattle.d_types.specs.Steps.Variables.{rows_of_entries}
 use Rattle.d_types.specs.Scripts.{items, script}
 
 types_are : (table : List Entry) → map (λ e. e.holds) table ≡ types_in (rows_of_entries table)

@@ -150,15 +150,6 @@ run_by by line predicate statements vars =
 
 -- ---- typed trees
 
-abbrev pub argument_value : Firing → Option Typed → Variables → Outcome ℤ
-argument_value f = argument_by (by_trees f)
-
-abbrev pub effect_of : Firing → Action → Variables → Outcome Effect
-effect_of f = effect_by (by_trees f)
-
-abbrev pub statements_of : Firing → List Action → Variables → Ran
-statements_of f = statements_by (by_trees f)
-
 -- a run of the clause at this place among the script's, from 1
 abbrev pub run_of : Firing → ℕ → ClauseMeant → Variables → Made
 run_of f place clause vars =

@@ -65,8 +65,3 @@ Fails TypeFault.Memory r = Unit {0}
 abbrev pub Gives : {X Y : Type 0} → (X → Y) → Result X TypeFault → Result Y Fault → Type 0
 Gives view (Ok x) r = r ≡ Ok (view x)
 Gives view (Err e) r = Fails e r
-
--- only memory is a reason to fail
-abbrev pub OnlyMemory : {X : Type 0} → Result X TypeFault → Type 0
-OnlyMemory (Ok x) = Unit {0}
-OnlyMemory (Err e) = e ≡ TypeFault.Memory

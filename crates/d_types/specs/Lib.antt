@@ -26,3 +26,4 @@ pub mod Wholes
 pub mod Proper
 pub mod Sizes
 pub mod Spelling
+pub mod Steps

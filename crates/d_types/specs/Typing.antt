@@ -2,8 +2,8 @@
 -- right, then the construct itself.
 use Rattle.std.specs.Prelude.{ℕ, nat_le, take, if◌then◌else◌, Option, Some, None, Result, Ok}
 use Rattle.d_parser.specs.declared.tree.Variable.{Variable}
-use Rattle.d_types.specs.Vocabulary.{Int, Text, Step, AssignOperator, Constant, Tree, Trees, DType}
-use Rattle.d_types.specs.Vocabulary.{longest, INT64, Answer, REGISTERS, Callee}
+use Rattle.d_types.specs.Vocabulary.{Int, Text, Step, Constant, Tree, Trees, DType, longest, INT64}
+use Rattle.d_types.specs.Vocabulary.{Answer, REGISTERS, Callee}
 use Rattle.d_types.specs.Faults.{Fault, ◌>>=◌, refuse, unless, Undeclared, Mismatch, NoRegister}
 use Rattle.d_types.specs.Targets.{line_of_variable, space_of, read_variable, target, type_at_once}
 use Rattle.d_types.specs.Targets.{assignment, step}
@@ -114,12 +114,6 @@ abbrev mutual
   exprs done rows (Trees.more a rest) = expr rows a >>= λ x. exprs (with_typed done x.0) x.1 rest
 
 -- an assignment, once its target's keys are typed
-abbrev pub assign_rest : Rows → AssignOperator → Variable → Typeds → Tree
-    → Result (Typed × Rows) Fault
-assign_rest rows op v keys a =
-    target rows v (type_at_once (assign_sort op)) keys >>= λ s. expr s.1 a >>= λ x.
-    fitting (line_of_variable v)
-    (assignment (assign_sort op) (space_of v) (type_at x.1 s.0) (type_of x.0) s.0 keys x.0 x.1)
 
 -- an expression that isn't part of another, and that fits the registers
 abbrev pub whole : Rows → Tree → Result (Typed × Rows) Fault

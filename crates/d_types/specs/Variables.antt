@@ -2,7 +2,7 @@
 use Rattle.std.specs.Prelude.{ℕ, zero, suc, ◌+◌, Bool, true, false, ◌&&◌, if◌then◌else◌, List, []}
 use Rattle.std.specs.Prelude.{◌∷◌, map, Option, Some, None}
 use denote.Enum.Bare.{sameb}
-use Rattle.d_types.specs.Vocabulary.{bytes_eq, Kind, DType, Space, Entry}
+use Rattle.d_types.specs.Vocabulary.{bytes_eq, Kind, DType, Space}
 use Rattle.d_types.specs.contracts.typed.Space as space
 use Rattle.d_values.specs.contracts.value.Kind as kind
 use Rattle.d_types.specs.Typed.{Typeds, end, more, type_of}
@@ -17,12 +17,6 @@ pub record Row : Type 0 where
 -- the variables so far: a variable's slot is its place
 abbrev pub Rows : Type 0
 Rows = List Row
-
-abbrev pub row_of_entry : Entry → Row
-row_of_entry e = record { space = e.space; word = e.name; keys = e.keys.items; holds = e.holds }
-
-abbrev pub rows_of_entries : List Entry → Rows
-rows_of_entries es = map row_of_entry es
 
 abbrev pub kind_of_type : DType → Kind
 kind_of_type (DType.Int t) = Kind.Number

@@ -1,7 +1,8 @@
 //! Expressions as statements, and actions.
 
 ghost use Rattle.std.specs.Prelude.{◌≡◌, option_map};
-ghost use Rattle.d_types.specs.{Faults.Gives, Variables.rows_of_entries, Words.callee_named};
+ghost use Rattle.d_types.specs.{Faults.Gives, Words.callee_named};
+ghost use Rattle.d_types.specs.Steps.Variables.{rows_of_entries};
 ghost use Rattle.d_types.specs.Vocabulary.{tree_of, trees_of, Tree};
 ghost use Rattle.d_types.specs.Typed.{typeds_of, action_of, Typeds};
 ghost use Rattle.d_types.specs.Statements as spec;

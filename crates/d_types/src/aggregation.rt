@@ -2,9 +2,11 @@
 
 ghost use Rattle.std.specs.Prelude.{◌≡◌, ◌++◌, ◌∷◌, [], IfOk, OnOk, Some, None, length, option_map};
 ghost use Rattle.d_types.specs.Vocabulary.{tree_of, trees_of};
-ghost use Rattle.d_types.specs.Faults.{Gives, OnlyMemory};
+ghost use Rattle.d_types.specs.Faults.{Gives};
+ghost use Rattle.d_types.specs.Steps.Faults.{OnlyMemory};
 ghost use Rattle.d_types.specs.Typed.{typed_of, typeds_of, action_of, aggs_of, Aggs, agg_of};
-ghost use Rattle.d_types.specs.Variables.{rows_of_entries, kinds_of_typed};
+ghost use Rattle.d_types.specs.Variables.{kinds_of_typed};
+ghost use Rattle.d_types.specs.Steps.Variables.{rows_of_entries};
 ghost use Rattle.d_types.specs.Aggregations as spec;
 
 use crate::action::wholes;

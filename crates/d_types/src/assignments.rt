@@ -1,9 +1,10 @@
 //! Assignments to a slot. None where the types don't fit.
 
 ghost use Rattle.std.specs.Prelude.{◌≡◌, IfOk, option_map};
-ghost use Rattle.d_types.specs.{Faults.OnlyMemory};
+ghost use Rattle.d_types.specs.Steps.Faults.{OnlyMemory};
 ghost use Rattle.d_types.specs.Typed.{typed_of, typeds_of, Typed, type_of};
-ghost use Rattle.d_types.specs.Variables.{rows_of_entries, type_at};
+ghost use Rattle.d_types.specs.Variables.{type_at};
+ghost use Rattle.d_types.specs.Steps.Variables.{rows_of_entries};
 ghost use Rattle.d_types.specs.Targets as spec;
 
 use crate::constants::integer;

@@ -1,7 +1,8 @@
 //! Calls in expressions. None where the arguments don't fit.
 
 ghost use Rattle.std.specs.Prelude.{◌≡◌, IfOk, option_map};
-ghost use Rattle.d_types.specs.{Faults.OnlyMemory, Typed.typed_of, Typed.typeds_of, Typed.type_of};
+ghost use Rattle.d_types.specs.{Typed.typed_of, Typed.typeds_of, Typed.type_of};
+ghost use Rattle.d_types.specs.Steps.Faults.{OnlyMemory};
 ghost use Rattle.d_types.specs.Typing as spec;
 
 use crate::fault::TypeFault;

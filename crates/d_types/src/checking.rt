@@ -2,7 +2,8 @@
 
 ghost use Rattle.std.specs.Prelude.{[], map, IfOk};
 ghost use Rattle.d_types.specs.{Faults.Gives, Fitting.ScriptFits, TypedScripts.typed_script_of};
-ghost use Rattle.d_types.specs.{Variables.rows_of_entries, WellTyped.IsWell};
+ghost use Rattle.d_types.specs.{WellTyped.IsWell};
+ghost use Rattle.d_types.specs.Steps.Variables.{rows_of_entries};
 ghost use Rattle.d_types.specs.Vocabulary.{AreSmall, IsWithin, item_of, script_of};
 ghost use Rattle.d_types.specs.Typed.{ScriptMeant, meant_of, aggs_of};
 ghost use Rattle.d_types.specs.Scripts as spec;

@@ -2,8 +2,10 @@
 
 ghost use Rattle.std.specs.Prelude.{◌≡◌, ◌++◌, ◌∷◌, [], IfOk, OnOk, Some};
 ghost use Rattle.d_types.specs.{Vocabulary.declaration_of, Constants.declared_type};
-ghost use Rattle.d_types.specs.Faults.{Gives, OnlyMemory};
-ghost use Rattle.d_types.specs.Variables.{rows_of_entries, find};
+ghost use Rattle.d_types.specs.Faults.{Gives};
+ghost use Rattle.d_types.specs.Steps.Faults.{OnlyMemory};
+ghost use Rattle.d_types.specs.Variables.{find};
+ghost use Rattle.d_types.specs.Steps.Variables.{rows_of_entries};
 ghost use Rattle.d_types.specs.Scripts as spec;
 
 use crate::constants::declared_type;

@@ -1,11 +1,13 @@
 //! From trees of expressions to typed ones.
 
 ghost use Rattle.std.specs.Prelude.{◌≡◌, IfOk};
-ghost use Rattle.d_types.specs.{Variables.rows_of_entries};
+ghost use Rattle.d_types.specs.Steps.Variables.{rows_of_entries};
 ghost use Rattle.d_types.specs.Vocabulary.{tree_of, trees_of, Tree};
-ghost use Rattle.d_types.specs.Faults.{Gives, OnlyMemory};
+ghost use Rattle.d_types.specs.Faults.{Gives};
+ghost use Rattle.d_types.specs.Steps.Faults.{OnlyMemory};
 ghost use Rattle.d_types.specs.Typed.{typed_of, typeds_of, Typeds};
 ghost use Rattle.d_types.specs.Typing as spec;
+ghost use Rattle.d_types.specs.Steps.Typing as steps;
 
 use crate::assignments::{Assignee, assignment, step, type_at_once};
 use crate::calls::call;
@@ -319,7 +321,7 @@ fn assign_rest(
     value: &Expr,
 ) -> Result<TypedExpr, TypeFault>
     ensures { Gives (λ x. (typed_of x, rows_of_entries table.new.items)) result
-        (spec.assign_rest (rows_of_entries table.old.items) operator to.entry.variable.now
+        (steps.assign_rest (rows_of_entries table.old.items) operator to.entry.variable.now
         (typeds_of to.entry.keys.items) (tree_of value.now)) }
 {
     let TypedTarget { variable, keys } = to;

@@ -1,7 +1,8 @@
 //! The formats of printf.
 
 ghost use Rattle.std.specs.Prelude.{◌≡◌, IfOk, OnOk, option_map, []};
-ghost use Rattle.d_types.specs.{Faults.OnlyMemory, Typed.typeds_of};
+ghost use Rattle.d_types.specs.{Typed.typeds_of};
+ghost use Rattle.d_types.specs.Steps.Faults.{OnlyMemory};
 ghost use Rattle.d_types.specs.Formats as spec;
 
 use crate::fault::TypeFault;

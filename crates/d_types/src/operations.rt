@@ -1,7 +1,8 @@
 //! What operators make of typed operands. None where they don't take such operands.
 
 ghost use Rattle.std.specs.Prelude.{◌≡◌, IfOk, option_map, Some};
-ghost use Rattle.d_types.specs.{Faults.OnlyMemory, Typed.typed_of, Typed.Typed, Typed.type_of};
+ghost use Rattle.d_types.specs.{Typed.typed_of, Typed.Typed, Typed.type_of};
+ghost use Rattle.d_types.specs.Steps.Faults.{OnlyMemory};
 ghost use Rattle.d_types.specs.Operators as spec;
 
 use crate::fault::TypeFault;

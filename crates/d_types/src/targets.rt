@@ -1,9 +1,11 @@
 //! Variables that are read and assigned.
 
 ghost use Rattle.std.specs.Prelude.{◌≡◌, ◌++◌, ◌∷◌, [], IfOk, OnOk, length};
-ghost use Rattle.d_types.specs.Faults.{Gives, OnlyMemory};
+ghost use Rattle.d_types.specs.Faults.{Gives};
+ghost use Rattle.d_types.specs.Steps.Faults.{OnlyMemory};
 ghost use Rattle.d_types.specs.Typed.{typed_of, typeds_of, Typed};
-ghost use Rattle.d_types.specs.Variables.{rows_of_entries, Rows, find, type_at};
+ghost use Rattle.d_types.specs.Variables.{Rows, find, type_at};
+ghost use Rattle.d_types.specs.Steps.Variables.{rows_of_entries};
 ghost use Rattle.d_types.specs.Targets as spec;
 
 use crate::fault::TypeFault;

@@ -1,8 +1,10 @@
 //! The table of variables.
 
 ghost use Rattle.std.specs.Prelude.{◌≡◌, ◌<◌, [], Some, None, IfOk, map};
-ghost use Rattle.d_types.specs.{Variables.rows_of_entries, Typed.typeds_of};
+ghost use Rattle.d_types.specs.{Typed.typeds_of};
+ghost use Rattle.d_types.specs.Steps.Variables.{rows_of_entries};
 ghost use Rattle.d_types.specs.Variables as spec;
+ghost use Rattle.d_types.specs.Steps.Variables as steps;
 
 use crate::typed::{Space, TypedExpr};
 use d_lexer::ByteString;
@@ -36,7 +38,7 @@ pub fn kind_of(t: DType) -> Kind
 }
 
 fn is_named(entry: &Entry, space: Space, name: &[u8]) -> bool
-    ensures { result ≡ spec.names_row space name.now (spec.row_of_entry entry.now) }
+    ensures { result ≡ spec.names_row space name.now (steps.row_of_entry entry.now) }
 {
     entry.space == space && entry.name.as_slice() == name
 }

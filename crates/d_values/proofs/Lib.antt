@@ -4,3 +4,4 @@ pub mod Wrapping
 pub mod Calls
 pub mod Storing
 pub mod Lawful
+pub mod Comparing

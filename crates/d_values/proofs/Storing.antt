@@ -18,7 +18,8 @@ use Rattle.d_values.specs.Variables.{same_var, same_var_decides}
 use Rattle.d_values.specs.Stores.{Locals, Own, kind_of, blank, is_blank, value_to_keep, local_entry}
 use Rattle.d_values.specs.Stores.{local_of, AreLocals, with_local, element, own_entry, own_of}
 use Rattle.d_values.specs.Stores.{AreOwn, with_own}
-use Rattle.d_values.specs.Tables.{elements_of, pairs_of, value_in, value_at, Sets}
+use Rattle.d_values.specs.Tables.{elements_of, pairs_of}
+use Rattle.d_values.specs.Steps.Tables.{value_in, value_at, Sets}
 
 kind_of-blank : (kind : Kind) → kind_of (blank kind) ≡ kind
 kind_of-blank k.Number = refl

@@ -1,16 +1,15 @@
 -- The laws of the comparisons of parts and keys: each test decides `≡`, and each order is total and
 -- ties nothing else.
-use Rattle.std.specs.Prelude.{◌≡◌, ◌≢◌, ◌↔◌, ℕ, Bool, IsTrue, List, [], ◌∷◌, ◌++◌, ℤ, pos}
+use Rattle.std.specs.Prelude.{◌≡◌, ℕ, List, [], ℤ, pos}
 use Rattle.std.specs.Cmp.{signed_Decides, nat_cmp_total, int_cmp_total, on_total, then_total}
-use Rattle.std.specs.Cmp.{tied_itself}
 use Rattle.std.specs.Cmp.Lexicographic.{pointwise_decides, lists_total, lists_ties}
-use Rattle.std.specs.Ordering.{on, then_cmp, ordering_then, is_eq}
-use Rattle.std.proofs.Common.{refl, sym, ap, ◌∙◌, subst, append-nil}
+use Rattle.std.specs.Ordering.{on, then_cmp, ordering_then}
+use Rattle.std.proofs.Common.{refl, ap, subst}
 use Rattle.d_values.specs.Vocabulary.{Decides, IsEquivalence, IsTotalOrder, decided, nat_cmp}
 use Rattle.d_values.specs.Vocabulary.{int_cmp, eq_by_cmp, Ordering, Less, Equal, Greater, KeyPart}
 use Rattle.d_values.specs.declared.key.KeyPart.TheVariants.{Number, Name}
 use Rattle.d_values.specs.Texts.{text_cmp, same_text_decides, text_cmp_total, text_cmp_ties}
-use Rattle.d_values.specs.Keys.{part_cmp, key_cmp, same_part, same_key, DecidesByFirstDifference}
+use Rattle.d_values.specs.Keys.{part_cmp, key_cmp, same_part, same_key}
 
 -- ---- the tests decide `≡`
 
@@ -24,10 +23,6 @@ same_part_decides (Name x) (Name y) =
 
 pub same_key_decides : (x y : List KeyPart) → Decides (same_key x y) (x ≡ y)
 same_key_decides = pointwise_decides same_part_decides
-
-pub same_key_true : (x y : List KeyPart) (same : Bool) → same ≡ same_key x y → IsTrue same ↔ (x ≡ y)
-same_key_true x y same is =
-    (λ e. (same_key_decides x y).0 (sym is ∙ e), λ e. is ∙ (same_key_decides x y).1 e)
 
 pub same_part_equiv : IsEquivalence same_part
 same_part_equiv = decided same_part same_part_decides
@@ -87,43 +82,3 @@ part_cmp_ties (Name x) (Name y) = text_cmp_ties x y
 
 pub key_cmp_ties : (x y : List KeyPart) → same_key x y ≡ eq_by_cmp key_cmp x y
 key_cmp_ties = lists_ties part_cmp part_cmp_ties
-
--- ---- the order in words
-
-past_front : (front xs ys : List KeyPart) → key_cmp (front ++ xs) (front ++ ys) ≡ key_cmp xs ys
-past_front [] xs ys = refl
-past_front (p ∷ front) xs ys =
-    ap (λ o. ordering_then o (key_cmp (front ++ xs) (front ++ ys))) (tied_itself part_cmp_total p)
-    ∙ past_front front xs ys
-
--- where two parts differ, they decide
-decides : (p q : KeyPart) (rest : Ordering) → p ≢ q
-    → ordering_then (part_cmp p q) rest ≡ part_cmp p q
-decides p q rest differ =
-    elim (part_cmp p q) as (λ o. part_cmp p q ≡ o → ordering_then o rest ≡ o) [
-      | Less ↦ λ e. refl
-      | Equal ↦ λ e. absurd (differ ((same_part_decides p q).0 (part_cmp_ties p q ∙ ap is_eq e)))
-      | Greater ↦ λ e. refl
-    ] refl
-
-pub key_cmp_decides : (a b : List KeyPart) (order : Ordering) → order ≡ key_cmp a b
-    → DecidesByFirstDifference a b order
-key_cmp_decides a b order is = record {
-  beginning =
-      λ p more e. is ∙ ap (key_cmp a) e ∙ ap (λ l. key_cmp l (a ++ p ∷ more)) (sym (append-nil a))
-      ∙ past_front a [] (p ∷ more);
-  longer =
-      λ p more e. is ∙ ap (λ l. key_cmp l b) e
-      ∙ ap (λ l. key_cmp (b ++ p ∷ more) l) (sym (append-nil b)) ∙ past_front b (p ∷ more) [];
-  differs =
-      λ front p q xs ys e f differ. is ∙ ap (λ l. key_cmp l b) e
-      ∙ ap (λ l. key_cmp (front ++ p ∷ xs) l) f
-      ∙ past_front front (p ∷ xs) (q ∷ ys) ∙ decides p q (key_cmp xs ys) differ;
-}
-
-pub key_cmp_equal : (a b : List KeyPart) (order : Ordering) → order ≡ key_cmp a b
-    → (order ≡ Equal) ↔ (a ≡ b)
-key_cmp_equal a b order is = (
-  λ e. (same_key_decides a b).0 (key_cmp_ties a b ∙ ap is_eq (sym is ∙ e)),
-  λ e. is ∙ ap (key_cmp a) (sym e) ∙ tied_itself key_cmp_total a,
-)

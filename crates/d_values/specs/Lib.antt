@@ -11,5 +11,5 @@ pub mod Variables
 pub mod Stores
 pub mod Storage
 pub mod Outcomes
-pub mod Places
 pub mod Tables
+pub mod Steps

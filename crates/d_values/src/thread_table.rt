@@ -4,7 +4,8 @@ ghost use Rattle.std.specs.Prelude.{◌≡◌, [], None, unwrap_or, OnOk, OnErr}
 ghost use Rattle.d_values.specs.{Vocabulary.get, Variables.same_var};
 ghost use Rattle.d_values.specs.Stores.{blank, kind_of, value_to_keep, lent_value, own_entry};
 ghost use Rattle.d_values.specs.Stores.{own_of, with_own, AreOwn};
-ghost use Rattle.d_values.specs.Tables.{pairs_of, value_at, Sets};
+ghost use Rattle.d_values.specs.Tables.{pairs_of};
+ghost use Rattle.d_values.specs.Steps.Tables.{value_at, Sets};
 
 use crate::held::Held;
 use crate::key::Key;

@@ -10,7 +10,9 @@ use Rattle.aggregations.specs.Table.{Contribution}
 use Rattle.d_types.specs.declared.typed.TypedAggregation.{TypedAggregation}
 use Rattle.d_types.specs.Typed.{Agg, Aggs, agg_of, aggs_of}
 use Rattle.data_lines.specs.Lines.{first_line, last_line, text_line}
-use Rattle.data_lines.specs.Runs.{AppendsListed, IsData, HasItsEntries, WholeRun, listed_lines, place_and_aggregation}
+use Rattle.data_lines.specs.Runs.{IsData, HasItsEntries, WholeRun, listed_lines}
+use Rattle.data_lines.specs.Runs.{place_and_aggregation}
+use Rattle.data_lines.specs.Steps.Runs.{AppendsListed}
 
 module _ (contributions : List Contribution) where
   pub listed_none : (before : List ℕ) → AppendsListed [] contributions before before

@@ -5,3 +5,4 @@ pub mod Values
 pub mod Lines
 pub mod Runs
 pub mod Layout
+pub mod Steps

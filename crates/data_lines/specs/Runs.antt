@@ -1,8 +1,8 @@
 -- All lines of a run.
 use Rattle.std.specs.Prelude.{◌≡◌, ℕ, List, ◌++◌, All, Option, length, map, sum_by}
 use Rattle.replay_core.specs.declared.whole.Whole.{Whole}
-use Rattle.data_lines.specs.Vocabulary.{Agg, Aggs, Contribution, Entry, IsListing}
-use Rattle.data_lines.specs.Vocabulary.{enumerate_from, flat_map}
+use Rattle.data_lines.specs.Vocabulary.{Agg, Aggs, Contribution, Entry, IsListing, enumerate_from}
+use Rattle.data_lines.specs.Vocabulary.{flat_map}
 use Rattle.data_lines.specs.Lines.{entry_head, entry_line, first_line, last_line, text_line}
 
 -- what a run made, without where it lies in memory
@@ -48,13 +48,6 @@ pub record AreListed (aggregations : List (ℕ × Agg)) (contributions : List Co
     (listed : List Listed) : Type 0 where
   pub each : map place_and_aggregation listed ≡ aggregations
   pub entries : All (HasItsEntries contributions) listed
-
--- the bytes after are those before, and then the entries of these aggregations
-pub record AppendsListed (aggregations : List (ℕ × Agg)) (contributions : List Contribution)
-    (before after : List ℕ) : Type 0 where
-  pub listed : List Listed
-  pub are : AreListed aggregations contributions listed
-  pub joined : after ≡ before ++ flat_map listed_lines listed
 
 -- the first line, the texts, the entries of each aggregation of the script, and the last line
 pub record IsData (aggregations : Aggs) (run : WholeRun) (bytes : List ℕ) : Type 0 where

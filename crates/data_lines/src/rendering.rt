@@ -7,7 +7,8 @@ ghost use Rattle.d_types.specs.TypedScripts.{typed_script_of};
 ghost use Rattle.data_lines.specs.Vocabulary.{Contribution, StandsFor, deref_pair, enumerate_from};
 ghost use Rattle.data_lines.specs.Vocabulary.{flat_map, functions_of};
 ghost use Rattle.data_lines.specs.Lines.{entry_line, text_line};
-ghost use Rattle.data_lines.specs.Runs.{AppendsListed, IsData, run_of};
+ghost use Rattle.data_lines.specs.Runs.{IsData, run_of};
+ghost use Rattle.data_lines.specs.Steps.Runs.{AppendsListed};
 
 use crate::lines::{FIRST_LINE, entry_head, put_entry_line, put_last_line, put_text_line};
 use aggregations::{AggTable, Partial};

@@ -14,16 +14,17 @@ use Rattle.d_types.specs.Typed.{Typed, Typeds, Logic, end, more, typed_of, typed
 use Rattle.d_types.specs.declared.typed.LogicOperator.{LogicOperator}
 use Rattle.dif_validate.specs.declared.register.Reg.{Reg}
 use Rattle.dif_validate.specs.declared.register.Reg.TheVariants.{R1}
-use Rattle.dif_codegen.specs.Code.{code_of, keys_code, pushing, element_code, fetching, saving}
-use Rattle.dif_codegen.specs.Code.{lowering, object_code}
+use Rattle.dif_codegen.specs.Steps.Code.{code_of, keys_code, pushing, element_code, fetching}
+use Rattle.dif_codegen.specs.Steps.Code.{saving}
+use Rattle.dif_codegen.specs.Steps.Code.{lowering, object_code}
 use Rattle.dif_validate.specs.declared.instruction.Condition.{Condition}
 use Rattle.dif_validate.specs.declared.instruction.Instr.{Instr}
 use Rattle.dif_validate.specs.declared.instruction.Instr.TheVariants.{Ba, Branch, Ret, Mov, Ldtaa}
 use Rattle.dif_validate.specs.declared.instruction.Instr.TheVariants.{Sttaa}
 use Rattle.dif_validate.specs.declared.object.Difo.{Difo}
-use Rattle.dif_codegen.specs.Drafts.{end_of_draft, Adds, ClosesBranch}
-use Rattle.dif_codegen.specs.Pieces.{Place, Maker, nothing, one_instr, behind, both, fork}
-use Rattle.dif_codegen.specs.Pieces.{choice_code, next}
+use Rattle.dif_codegen.specs.Steps.Drafts.{end_of_draft, Adds, ClosesBranch}
+use Rattle.dif_codegen.specs.Steps.Pieces.{Place, Maker, nothing, one_instr, behind, both, fork}
+use Rattle.dif_codegen.specs.Steps.Pieces.{choice_code, next}
 
 -- a list after another
 ends : {A : Type 0} (x y z p q : List A) → y ≡ x ++ p → z ≡ y ++ q → z ≡ x ++ (p ++ q)

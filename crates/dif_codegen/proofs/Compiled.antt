@@ -20,10 +20,10 @@ use Rattle.dif_validate.proofs.Flowing.{Within}
 use Rattle.dif_machine.specs.Frames.{Frame}
 use Rattle.dif_machine.specs.Frames as frames
 use Rattle.dif_machine.specs.Runs.{Reaches, Returns, ends}
-use Rattle.dif_machine.specs.Steps as st
-use Rattle.dif_codegen.specs.Code.{code_of, object_code}
+use Rattle.dif_machine.specs.Semantics as st
+use Rattle.dif_codegen.specs.Steps.Code.{code_of, object_code}
 use Rattle.dif_codegen.specs.Correct.{end_of_outcome, Computes}
-use Rattle.dif_codegen.specs.Pieces.{Place, one_instr, behind}
+use Rattle.dif_codegen.specs.Steps.Pieces.{Place, one_instr, behind}
 use Rattle.dif_codegen.proofs.Leading.{Leads, step}
 use Rattle.dif_codegen.proofs.Levels.{level}
 use Rattle.dif_codegen.proofs.Simulation.{expr_leads}

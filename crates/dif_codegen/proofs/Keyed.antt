@@ -29,10 +29,10 @@ use Rattle.dif_machine.specs.Frames.{Frame}
 use Rattle.dif_machine.specs.Frames.{at_place, with_value, with_tuple}
 use Rattle.dif_machine.specs.Runs.{End, Divides, Reaches, goes}
 use Rattle.dif_machine.specs.Sources as machine
-use Rattle.dif_machine.specs.Steps as st
-use Rattle.dif_codegen.specs.Code.{register, push_of, pushing, element_code, fetching, saving}
-use Rattle.dif_codegen.specs.Code.{lowering}
-use Rattle.dif_codegen.specs.Pieces.{Place, Maker, one_instr, both, behind}
+use Rattle.dif_machine.specs.Semantics as st
+use Rattle.dif_codegen.specs.Steps.Code.{register, push_of, pushing, element_code, fetching, saving}
+use Rattle.dif_codegen.specs.Steps.Code.{lowering}
+use Rattle.dif_codegen.specs.Steps.Pieces.{Place, Maker, one_instr, both, behind}
 use Rattle.dif_codegen.proofs.Leading.{Ready, Done, Usable, done_value, step, Leads, put_leads}
 use Rattle.dif_codegen.proofs.Leading.{keep_leads, none_leads}
 use Rattle.dif_codegen.proofs.Meaning.{kept_kind, stored_kind, on_kind_is, loads, stores}

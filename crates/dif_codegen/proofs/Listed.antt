@@ -27,11 +27,12 @@ use Rattle.dif_validate.specs.Objects as objects
 use Rattle.dif_validate.specs.Objects.{Object}
 use Rattle.dif_codegen.specs.declared.program.CompiledClause.{CompiledClause}
 use Rattle.dif_codegen.specs.declared.program.TypedObject.{TypedObject}
-use Rattle.dif_codegen.specs.Code.{object_code}
+use Rattle.dif_codegen.specs.Steps.Code.{object_code}
 use Rattle.dif_codegen.specs.Correct.{AreObjectsOf, IsActionOf, IsObjectOf, IsOptionalObjectOf}
 use Rattle.dif_codegen.specs.Meaning.{IsSameClause, IsProgramOf, run_code}
-use Rattle.dif_codegen.specs.Programs.{ClauseCode, compiled_objects, clause_code, compiled_object}
-use Rattle.dif_codegen.specs.Programs.{compiled_action, compiled_clause, optional_object}
+use Rattle.dif_codegen.specs.Programs.{ClauseCode, clause_code}
+use Rattle.dif_codegen.specs.Steps.Programs.{compiled_objects, compiled_object}
+use Rattle.dif_codegen.specs.Steps.Programs.{compiled_action, compiled_clause, optional_object}
 use Rattle.dif_codegen.proofs.Adding.{IsObject}
 use Rattle.dif_codegen.proofs.Compiled.{computes, is_returning}
 use Rattle.dif_codegen.proofs.SameMeaning.{run_same}

@@ -47,9 +47,9 @@ use Rattle.dif_machine.specs.Frames.{Frame}
 use Rattle.dif_machine.specs.Frames.{at_place}
 use Rattle.dif_machine.specs.Operators.{result_of, comparison_of, text_comparison_of, holds}
 use Rattle.dif_machine.specs.Sources as machine
-use Rattle.dif_machine.specs.Steps as st
-use Rattle.dif_codegen.specs.Code.{operator_of, condition_of, shift_operator, shift_right}
-use Rattle.dif_codegen.specs.Code.{step_operator, opposite, load_from, store_to}
+use Rattle.dif_machine.specs.Semantics as st
+use Rattle.dif_codegen.specs.Steps.Code.{operator_of, condition_of, shift_operator, shift_right}
+use Rattle.dif_codegen.specs.Steps.Code.{step_operator, opposite, load_from, store_to}
 use Rattle.dif_codegen.proofs.Words.{signed_again, unsigned_again, signed_small, unsigned_small}
 use Rattle.dif_codegen.proofs.Words.{widths, bits}
 

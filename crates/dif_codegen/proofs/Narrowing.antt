@@ -22,9 +22,9 @@ use Rattle.dif_machine.specs.Frames.{Frame}
 use Rattle.dif_machine.specs.Frames.{with_value}
 use Rattle.dif_machine.specs.Operators.{result_of}
 use Rattle.dif_machine.specs.Runs.{goes}
-use Rattle.dif_machine.specs.Steps as st
-use Rattle.dif_codegen.specs.Code.{register, shift_right, shifts, narrowing}
-use Rattle.dif_codegen.specs.Pieces.{Place, Maker, nothing}
+use Rattle.dif_machine.specs.Semantics as st
+use Rattle.dif_codegen.specs.Steps.Code.{register, shift_right, shifts, narrowing}
+use Rattle.dif_codegen.specs.Steps.Pieces.{Place, Maker, nothing}
 use Rattle.dif_codegen.proofs.Leading.{Usable, Leads, step, done_value, none_leads}
 use Rattle.dif_codegen.proofs.Standing.{Stands, at_is, put_is}
 use Rattle.dif_codegen.proofs.Words.{back, back_is, small_64}

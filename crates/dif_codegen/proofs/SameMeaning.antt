@@ -8,9 +8,9 @@ use Rattle.firing_reader.specs.declared.firing.Firing.{Firing}
 use Rattle.d_types.specs.declared.effect.Effect.{Effect}
 use Rattle.d_types.specs.declared.effect.Effect.TheVariants as ef
 use Rattle.d_types.specs.Clauses as trees
-use Rattle.d_types.specs.Clauses.{by_trees, effect_by, effect_of, fault_line, effect_then}
-use Rattle.d_types.specs.Clauses.{argument_by, argument_value, where_predicate, run_result}
-use Rattle.d_types.specs.Clauses.{run_with, Ran, run_by, run_of, statements_by, statements_of}
+use Rattle.d_types.specs.Clauses.{by_trees, effect_by, fault_line, effect_then}
+use Rattle.d_types.specs.Clauses.{argument_by, where_predicate, run_result}
+use Rattle.d_types.specs.Clauses.{run_with, Ran, run_by, run_of, statements_by}
 use Rattle.d_types.specs.Clauses.{where_true}
 use Rattle.d_types.specs.Expressions.{Outcome, Has, Faults, with, number_outcome, eval, keys_of}
 use Rattle.d_types.specs.Expressions.{part_of}
@@ -27,10 +27,11 @@ use Rattle.d_types.proofs.Holding.{eval_is, keys_are}
 use Rattle.d_types.proofs.HoldingRuns.{run_kept}
 use Rattle.dif_codegen.specs.Meaning.{by_objects, key_of_objects, run_code, value_of}
 use Rattle.dif_codegen.specs.Meaning.{values_of_objects}
-use Rattle.dif_codegen.specs.Programs.{compiled_objects, optional_object, compiled_object}
-use Rattle.dif_codegen.specs.Programs.{compiled_action, compiled_clause}
+use Rattle.dif_codegen.specs.Steps.Programs.{compiled_objects, optional_object, compiled_object}
+use Rattle.dif_codegen.specs.Steps.Programs.{compiled_action, compiled_clause}
 use Rattle.dif_codegen.proofs.Compiled.{computes, is_returning}
 use Rattle.dif_codegen.proofs.Ended.{value_is}
+use Rattle.d_types.proofs.TreeRuns.{argument_value, effect_of, statements_of}
 
 module _ (slots : Slots) (f : Firing) (fit : HasTypedBuiltIns f) where
   -- a run of an expression's object comes to what the expression means

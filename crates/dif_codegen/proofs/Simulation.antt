@@ -60,15 +60,19 @@ use Rattle.dif_machine.specs.Frames.{Frame}
 use Rattle.dif_machine.specs.Frames as frames
 use Rattle.dif_machine.specs.Operators.{result_of, comparison_of, text_comparison_of}
 use Rattle.dif_machine.specs.Runs.{goes}
-use Rattle.dif_machine.specs.Steps as st
-use Rattle.dif_codegen.specs.Code.{register, operator_of, condition_of, shift_operator, masking}
-use Rattle.dif_codegen.specs.Code.{operate_on, differing, narrowing, unary_code, built_in_code}
-use Rattle.dif_codegen.specs.Code.{fetching}
-use Rattle.dif_codegen.specs.Code.{saving, lowering, holding, step_operator, opposite, stepping}
-use Rattle.dif_codegen.specs.Code.{answering, measuring, joining, code_of, keys_code}
-use Rattle.dif_codegen.specs.Pieces as pieces
-use Rattle.dif_codegen.specs.Pieces.{Piece, Place, Maker, one_instr, both, choice_code, bit_by}
-use Rattle.dif_codegen.specs.Pieces.{behind}
+use Rattle.dif_machine.specs.Semantics as st
+use Rattle.dif_codegen.specs.Steps.Code.{register, operator_of, condition_of, shift_operator}
+use Rattle.dif_codegen.specs.Steps.Code.{masking}
+use Rattle.dif_codegen.specs.Steps.Code.{operate_on, differing, narrowing, unary_code}
+use Rattle.dif_codegen.specs.Steps.Code.{built_in_code}
+use Rattle.dif_codegen.specs.Steps.Code.{fetching}
+use Rattle.dif_codegen.specs.Steps.Code.{saving, lowering, holding, step_operator, opposite}
+use Rattle.dif_codegen.specs.Steps.Code.{stepping}
+use Rattle.dif_codegen.specs.Steps.Code.{answering, measuring, joining, code_of, keys_code}
+use Rattle.dif_codegen.specs.Steps.Pieces as pieces
+use Rattle.dif_codegen.specs.Steps.Pieces.{Piece, Place, Maker, one_instr, both, choice_code}
+use Rattle.dif_codegen.specs.Steps.Pieces.{bit_by}
+use Rattle.dif_codegen.specs.Steps.Pieces.{behind}
 use Rattle.dif_codegen.proofs.Leading.{Ready, Done, Usable, done_value, step, ready_on, same_ready}
 use Rattle.dif_codegen.proofs.Leading.{Leads, put_leads, none_leads, number_leads, text_leads}
 use Rattle.dif_codegen.proofs.Leading.{alu_leads, both_leads, both_number, both_text, choice_leads}

@@ -51,15 +51,19 @@ use Rattle.dif_validate.specs.Validity.{is_return}
 use Rattle.dif_validate.proofs.Faultless.{IsFine}
 use Rattle.dif_validate.proofs.Flowing.{Within, within_self}
 use Rattle.dif_validate.proofs.Writes.{put_long}
-use Rattle.dif_codegen.specs.Code.{register, operator_of, condition_of, shift_right, shift_operator}
-use Rattle.dif_codegen.specs.Code.{shifts, masking, operate_on, differing, narrowing, unary_code}
-use Rattle.dif_codegen.specs.Code.{built_in_code, load_from, store_to, push_of, pushing, fetching}
-use Rattle.dif_codegen.specs.Code.{saving, lowering, holding, step_operator, opposite, stepping}
-use Rattle.dif_codegen.specs.Code.{answering, measuring, joining, code_of, keys_code}
-use Rattle.dif_codegen.specs.Pieces as pieces
-use Rattle.dif_codegen.specs.Pieces.{Piece, Place, Maker, nothing, one_instr, both, fork}
-use Rattle.dif_codegen.specs.Pieces.{choice_code, bit_by}
-use Rattle.dif_codegen.specs.Pieces.{behind, next}
+use Rattle.dif_codegen.specs.Steps.Code.{register, operator_of, condition_of, shift_right}
+use Rattle.dif_codegen.specs.Steps.Code.{shift_operator}
+use Rattle.dif_codegen.specs.Steps.Code.{shifts, masking, operate_on, differing, narrowing}
+use Rattle.dif_codegen.specs.Steps.Code.{unary_code}
+use Rattle.dif_codegen.specs.Steps.Code.{built_in_code, load_from, store_to, push_of, pushing}
+use Rattle.dif_codegen.specs.Steps.Code.{fetching}
+use Rattle.dif_codegen.specs.Steps.Code.{saving, lowering, holding, step_operator, opposite}
+use Rattle.dif_codegen.specs.Steps.Code.{stepping}
+use Rattle.dif_codegen.specs.Steps.Code.{answering, measuring, joining, code_of, keys_code}
+use Rattle.dif_codegen.specs.Steps.Pieces as pieces
+use Rattle.dif_codegen.specs.Steps.Pieces.{Piece, Place, Maker, nothing, one_instr, both, fork}
+use Rattle.dif_codegen.specs.Steps.Pieces.{choice_code, bit_by}
+use Rattle.dif_codegen.specs.Steps.Pieces.{behind, next}
 use Rattle.dif_codegen.proofs.Levels.{level, level_at, first_of, level_front, level_more, nonzero}
 use Rattle.dif_codegen.proofs.Levels.{write_again, fine_none, fine_one, fine_two, fine_any}
 use Rattle.dif_codegen.proofs.Simulation.{need_pos, count_fits, count_type}

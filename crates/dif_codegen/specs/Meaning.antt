@@ -2,8 +2,8 @@
 use Rattle.std.specs.List.{list_any}
 use Rattle.std.specs.Prelude.{◌≡◌, ℕ, zero, suc, Bool, List, [], ◌∷◌, length, map}
 use Rattle.d_types.specs.Typed.{is_exit}
-use Rattle.dif_machine.specs.Steps as steps
-use Rattle.dif_machine.specs.{Frames.Frame, Frames.start, Steps.Next, Steps.step_of}
+use Rattle.dif_machine.specs.Semantics as steps
+use Rattle.dif_machine.specs.{Frames.Frame, Frames.start, Semantics.Next, Semantics.step_of}
 use Rattle.dif_codegen.specs.Vocabulary.{AllZip, AggFn, DType, KeyPart, Value, Firing, Evaluation}
 use Rattle.dif_codegen.specs.Vocabulary.{Made, fault_line, run_by, run_of, Outcome, Has, Faults}
 use Rattle.dif_codegen.specs.Vocabulary.{with, part_of, HasTypedBuiltIns, Slots, AreTyped, slots_of}

@@ -1,11 +1,7 @@
 -- Compiled clauses, without where they lie in memory, and what clauses are compiled to.
-use Rattle.std.specs.Prelude.{List, [], ◌∷◌, map, Option, Some, None}
-use Rattle.d_types.specs.Typed as typed
-use Rattle.d_types.specs.Typed.{Typeds, end, more, type_of, ActionOf, Evaluate, Trace, Print, Exit}
-use Rattle.d_types.specs.Typed.{Aggregate}
-use Rattle.dif_codegen.specs.Vocabulary.{Description, Typed, ClauseMeant, Action, CompiledClause}
-use Rattle.dif_codegen.specs.Vocabulary.{TypedObject}
-use Rattle.dif_codegen.specs.Code.{object_code}
+use Rattle.std.specs.Prelude.{List, map, Option}
+use Rattle.d_types.specs.Typed.{ActionOf, Evaluate, Trace, Print, Exit, Aggregate}
+use Rattle.dif_codegen.specs.Vocabulary.{Description, Action, CompiledClause, TypedObject}
 
 -- a statement with an object in place of each expression
 abbrev pub ActionCode : Type 0
@@ -30,39 +26,4 @@ clause_code c = record {
   descriptions = c.descriptions.items;
   predicate = c.predicate;
   actions = map action_code c.actions.items;
-}
-
--- ---- what clauses are compiled to
-
-abbrev pub compiled_object : Typed → TypedObject
-compiled_object e = record {
-  object = record {
-    code = (object_code e).code;
-    texts = (object_code e).texts;
-    numbers = (object_code e).numbers;
-  };
-  returns = type_of e;
-}
-
-abbrev pub compiled_objects : Typeds → List TypedObject
-compiled_objects end = []
-compiled_objects (more e rest) = compiled_object e ∷ compiled_objects rest
-
-abbrev pub optional_object : Option Typed → Option TypedObject
-optional_object None = None
-optional_object (Some e) = Some (compiled_object e)
-
-abbrev pub compiled_action : typed.Action → ActionCode
-compiled_action (Evaluate e) = Evaluate (compiled_object e)
-compiled_action (Trace e) = Trace (compiled_object e)
-compiled_action (Print format arguments) = Print format (compiled_objects arguments)
-compiled_action (Exit e) = Exit (compiled_object e)
-compiled_action (Aggregate place keys argument) =
-    Aggregate place (compiled_objects keys) (optional_object argument)
-
-abbrev pub compiled_clause : ClauseMeant → ClauseCode
-compiled_clause c = record {
-  descriptions = c.descriptions;
-  predicate = optional_object c.predicate;
-  actions = map compiled_action c.statements;
 }

@@ -1,10 +1,10 @@
 //! Branches: their targets are written once both sides are made.
 
 ghost use Rattle.std.specs.Prelude.{◌<◌, false, length, OnOk};
-ghost use Rattle.dif_codegen.specs.Code as spec;
-ghost use Rattle.dif_codegen.specs.{Pieces.bit_by};
+ghost use Rattle.dif_codegen.specs.Steps.Code as spec;
+ghost use Rattle.dif_codegen.specs.Steps.Pieces.{bit_by};
 ghost use Rattle.dif_codegen.specs.Vocabulary.{Cmp, Scmp};
-ghost use Rattle.dif_codegen.specs.Drafts.{Adds, ClosesBranch};
+ghost use Rattle.dif_codegen.specs.Steps.Drafts.{Adds, ClosesBranch};
 
 use crate::draft::{narrow, put, put_number};
 use crate::operators::condition_of;

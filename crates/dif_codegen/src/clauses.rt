@@ -6,8 +6,9 @@ ghost use Rattle.d_types.specs.Held.{IsConsistent, Slots};
 ghost use Rattle.d_types.specs.Typed.{action_of, actions_of, meant_of};
 ghost use Rattle.d_types.specs.Wholes.{ActionIs, ActionsAre, ClauseIs, ClausesAre};
 ghost use Rattle.dif_codegen.specs.{Meaning.IsProgramOf};
-ghost use Rattle.dif_codegen.specs.Programs.{action_code, clause_code, compiled_action};
-ghost use Rattle.dif_codegen.specs.Programs.{compiled_clause};
+ghost use Rattle.dif_codegen.specs.Programs.{action_code, clause_code};
+ghost use Rattle.dif_codegen.specs.Steps.Programs.{compiled_action};
+ghost use Rattle.dif_codegen.specs.Steps.Programs.{compiled_clause};
 
 use crate::compiling::{compile_expression, compile_expressions, compile_optional};
 use crate::program::{Action, CompiledClause, Program};

@@ -5,7 +5,8 @@ ghost use Rattle.d_types.specs.{Fitting.FitsRegisters};
 ghost use Rattle.d_types.specs.Held.{IsConsistent, Slots};
 ghost use Rattle.d_types.specs.Typed.{typed_argument, typed_of, typeds_of};
 ghost use Rattle.d_types.specs.Wholes.{AnyIs, EachIs};
-ghost use Rattle.dif_codegen.specs.Programs.{compiled_objects, optional_object, compiled_object};
+ghost use Rattle.dif_codegen.specs.Steps.Programs.{compiled_objects, optional_object};
+ghost use Rattle.dif_codegen.specs.Steps.Programs.{compiled_object};
 
 use crate::draft::put;
 use crate::emitting::emit;

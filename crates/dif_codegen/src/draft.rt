@@ -1,11 +1,11 @@
 //! An object in the making: instructions after one another.
 
 ghost use Rattle.std.specs.Prelude.{OnOk};
-ghost use Rattle.dif_codegen.specs.Pieces as pieces;
-ghost use Rattle.dif_codegen.specs.{Drafts.Adds};
-ghost use Rattle.dif_codegen.specs.Code.{answering, built_in_code, holding, joining, masking};
-ghost use Rattle.dif_codegen.specs.Code.{measuring};
-ghost use Rattle.dif_codegen.specs.Code.{narrowing, operate_on, stepping};
+ghost use Rattle.dif_codegen.specs.Steps.Pieces as pieces;
+ghost use Rattle.dif_codegen.specs.Steps.Drafts.{Adds};
+ghost use Rattle.dif_codegen.specs.Steps.Code.{answering, built_in_code, holding, joining, masking};
+ghost use Rattle.dif_codegen.specs.Steps.Code.{measuring};
+ghost use Rattle.dif_codegen.specs.Steps.Code.{narrowing, operate_on, stepping};
 
 use crate::operators::{operator_of, opposite, shift_operator, step_operator};
 use d_parser::Step;

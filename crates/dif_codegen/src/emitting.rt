@@ -5,7 +5,9 @@ ghost use Rattle.d_types.specs.{Expressions.works_in};
 ghost use Rattle.d_types.specs.Needs.{need, need_of_keys, need_of_two};
 ghost use Rattle.d_types.specs.Typed.{typed_of, typeds_of, Typed, Read, Operate, Assign, Update};
 ghost use Rattle.d_types.specs.Typed.{Count, Strjoin};
-ghost use Rattle.dif_codegen.specs.{Code.code_of, Code.keys_code, Drafts.Adds, Pieces.both};
+ghost use Rattle.dif_codegen.specs.Steps.Code.{code_of, keys_code};
+ghost use Rattle.dif_codegen.specs.Steps.Drafts.{Adds};
+ghost use Rattle.dif_codegen.specs.Steps.Pieces.{both};
 ghost use Rattle.dif_codegen.specs.Vocabulary.{DType};
 
 use crate::choices::{

@@ -2,8 +2,8 @@
 
 ghost use Rattle.std.specs.Prelude.{◌≡◌, ◌≤◌, ◌+◌, OnOk};
 ghost use Rattle.d_types.specs.{Needs.count, Storage.var_of, Typed.typeds_of};
-ghost use Rattle.dif_codegen.specs.{Drafts.Adds};
-ghost use Rattle.dif_codegen.specs.Code.{fetching, element_code, lowering, pushing, saving};
+ghost use Rattle.dif_codegen.specs.Steps.Drafts.{Adds};
+ghost use Rattle.dif_codegen.specs.Steps.Code.{fetching, element_code, lowering, pushing, saving};
 
 use crate::draft::put;
 use crate::operators::{push_of, register, var_of};

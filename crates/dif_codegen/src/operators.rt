@@ -2,7 +2,7 @@
 
 ghost use Rattle.std.specs.Prelude.{◌≡◌, ◌<◌};
 ghost use Rattle.d_types.specs.Storage.{var_of};
-ghost use Rattle.dif_codegen.specs.Code as spec;
+ghost use Rattle.dif_codegen.specs.Steps.Code as spec;
 
 use d_parser::Step;
 use d_types::Variable;

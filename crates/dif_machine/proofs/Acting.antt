@@ -18,9 +18,9 @@ use Rattle.dif_machine.specs.Held.{part_of_cell}
 use Rattle.dif_machine.specs.Operators.{result_of, complement, comparison_of, text_comparison_of}
 use Rattle.dif_machine.specs.Operators.{holds, call_of}
 use Rattle.dif_machine.specs.Sources.{built_in_of, argument_of, local_in, own_value}
-use Rattle.dif_machine.specs.Steps.{Next, Goes, Ends, Faults, Stuck, on, on_number, on_text}
-use Rattle.dif_machine.specs.Steps.{on_kind, on_key, store_own, store_local, puts, puts_result}
-use Rattle.dif_machine.specs.Steps.{pushes, act}
+use Rattle.dif_machine.specs.Semantics.{Next, Goes, Ends, Faults, Stuck, on, on_number, on_text}
+use Rattle.dif_machine.specs.Semantics.{on_kind, on_key, store_own, store_local, puts, puts_result}
+use Rattle.dif_machine.specs.Semantics.{pushes, act}
 
 kind_is : (k : Kind) (value : Value) (other go : Value → Next) → on_kind k (Some value) other ≢ Stuck → on_kind k (Some value) go ≡ go value
 kind_is NumberKind (Int n) other go h = refl

@@ -20,8 +20,8 @@ use Rattle.dif_machine.specs.Frames.{Frame, at_place, with_value, with_compariso
 use Rattle.dif_machine.specs.Operators.{result_of, comparison_of, text_comparison_of, holds}
 use Rattle.dif_machine.specs.Operators.{call_of}
 use Rattle.dif_machine.specs.Sources.{built_in_of}
-use Rattle.dif_machine.specs.Steps.{Next, Goes, Ends, Stuck, on, on_number, on_text, on_kind}
-use Rattle.dif_machine.specs.Steps.{on_key, puts_result, act, step_of}
+use Rattle.dif_machine.specs.Semantics.{Next, Goes, Ends, Stuck, on, on_number, on_text, on_kind}
+use Rattle.dif_machine.specs.Semantics.{on_key, puts_result, act, step_of}
 
 abbrev register_of : ℕ → Reg
 register_of zero = R0

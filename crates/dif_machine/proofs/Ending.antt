@@ -12,7 +12,7 @@ use Rattle.dif_machine.specs.Frames as frames
 use Rattle.dif_machine.specs.Runs.{End, Returns, Divides, Reaches, ends, faults, goes, steps}
 use Rattle.dif_machine.specs.Runs.{IsOver, Runs}
 use Rattle.d_values.specs.Storage.{Variables}
-use Rattle.dif_machine.specs.Steps.{Next, Goes, Ends, Faults, Stuck, step_of}
+use Rattle.dif_machine.specs.Semantics.{Next, Goes, Ends, Faults, Stuck, step_of}
 use Rattle.dif_machine.proofs.Progress.{Reached, Onward, progress, start_reached}
 
 module _ (o : Object) (valid : IsValid o) (f : Firing) where

@@ -3,7 +3,7 @@ use Rattle.std.specs.Prelude.{◌≡◌, Option, Result}
 use Rattle.std.proofs.Common.{sym, subst}
 use Rattle.dif_machine.specs.Vocabulary.{Difo, Firing, FrameInMemory, Instr, MachineFault, Reg}
 use Rattle.dif_machine.specs.Vocabulary.{Variables}
-use Rattle.dif_machine.specs.Instructions.{CanExecute, CanExecuteOver, ExecutesOver}
+use Rattle.dif_machine.specs.Steps.Instructions.{CanExecute, CanExecuteOver, ExecutesOver}
 
 module _ (difo : Difo) (f : Firing) (frame : FrameInMemory) where
   pub can : (read i : Instr) (vars : Variables) → read ≡ i → CanExecuteOver read difo f frame vars → CanExecute i difo f frame

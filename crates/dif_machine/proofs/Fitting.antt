@@ -24,7 +24,7 @@ use Rattle.dif_machine.specs.Frames.{Frame}
 use Rattle.dif_machine.specs.Frames as frames
 use Rattle.dif_machine.specs.Kinds.{kinds_of}
 use Rattle.dif_machine.specs.Known.{Holds, FitsShape}
-use Rattle.dif_machine.specs.Steps.{Next, on, on_number, on_text, on_kind}
+use Rattle.dif_machine.specs.Semantics.{Next, on, on_number, on_text, on_kind}
 
 pub fits_within : (u t : Shape) (f : Frame) → Within u t → FitsShape t f → FitsShape u f
 fits_within u t f w h = record {

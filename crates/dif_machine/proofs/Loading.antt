@@ -5,7 +5,7 @@ use Rattle.dif_machine.specs.Vocabulary.{Firing, Instr, Ret, Object, Value, Valu
 use Rattle.dif_machine.specs.Vocabulary.{Variables}
 use Rattle.dif_machine.specs.Frames.{start, with_value}
 use Rattle.dif_machine.specs.Runs.{Returns, ends, goes, Runs}
-use Rattle.dif_machine.specs.Steps.{Goes, on, act}
+use Rattle.dif_machine.specs.Semantics.{Goes, on, act}
 use Rattle.dif_validate.specs.declared.register.Reg.TheVariants.{R1}
 
 loads : (o : Object) (f : Firing) (i : Instr) (value : Value) (vars : Variables) → slice_get o.code 0 ≡ Some i → slice_get o.code 1 ≡ Some (Ret R1) → act i o f start vars ≡ Goes (with_value start R1 value) vars → Runs o f vars (Returns value vars)

@@ -54,8 +54,9 @@ use Rattle.dif_machine.specs.Runs.{End, Reaches, ends, faults, goes, Comes, stay
 use Rattle.dif_machine.specs.Runs.{RunEnds}
 use Rattle.d_values.specs.Storage.{Variables, as_kind}
 use Rattle.dif_machine.specs.Sources.{built_in_of, built_ins, local_in, own_value}
-use Rattle.dif_machine.specs.Steps.{Next, Goes, Ends, Faults, Stuck, on, on_key, puts_result}
-use Rattle.dif_machine.specs.Steps.{pushes, act, step_of, Stepped}
+use Rattle.dif_machine.specs.Semantics.{Next, Goes, Ends, Faults, Stuck, on, on_key, puts_result}
+use Rattle.dif_machine.specs.Semantics.{pushes, act, step_of}
+use Rattle.dif_machine.specs.Steps.Semantics.{Stepped}
 use Rattle.dif_machine.proofs.Fitting.{fits_within, fits_value, fits_place, fits_comparison}
 use Rattle.dif_machine.proofs.Fitting.{fits_tuple, one, two, any, on_there, number_there}
 use Rattle.dif_machine.proofs.Fitting.{text_there, kind_there}

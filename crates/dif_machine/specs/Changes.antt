@@ -5,7 +5,7 @@ use Rattle.dif_validate.specs.Rows.{Change, Puts, Copies, ComparesTwo, Pushes, E
 use Rattle.dif_validate.specs.Rows.{StoresVariable, NoChange, row_of}
 use Rattle.dif_machine.specs.Vocabulary.{Instr, Reg, at, Variables}
 use Rattle.dif_machine.specs.Frames.{Frame}
-use Rattle.dif_machine.specs.Steps.{Next, Goes, Ends, Faults, Stuck}
+use Rattle.dif_machine.specs.Semantics.{Next, Goes, Ends, Faults, Stuck}
 
 -- the register that an instruction writes
 abbrev pub register_in : Change → Option Reg

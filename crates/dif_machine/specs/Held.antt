@@ -1,10 +1,9 @@
 -- What the registers and the tuple of a frame hold: constants and texts of the firing by their
 -- places.
 use Rattle.std.specs.Prelude.{ℕ, List, Option, Some, None, map, option_map, slice_get}
-use Rattle.dif_machine.specs.declared.context.Context.{Context}
 use Rattle.dif_machine.specs.declared.held.{Cell.Cell, Held.Held}
 use Rattle.dif_machine.specs.Vocabulary.{cast_signed, w64, Firing, FrameInMemory, KeyPart, Number}
-use Rattle.dif_machine.specs.Vocabulary.{Name, Object, Reg, Value, Int, Text, at, object_of}
+use Rattle.dif_machine.specs.Vocabulary.{Name, Object, Value, Int, Text}
 use Rattle.dif_machine.specs.Frames.{Frame}
 use Rattle.dif_machine.specs.Sources.{built_in_of}
 
@@ -21,11 +20,6 @@ content o f cell = held_value o f cell.text cell.held
 
 abbrev pub contents : Object → Firing → List Cell → List (Option Value)
 contents o f cells = map (content o f) cells
-
--- what a register of the frame holds
-abbrev pub register_content : Context → FrameInMemory → Reg → Option Value
-register_content context frame a =
-    at (contents (object_of context.difo.now) context.firing.now frame.registers) a
 
 -- what a cell holds as a part of a key: an integer as a signed one
 abbrev pub part_of_cell : Option Value → KeyPart

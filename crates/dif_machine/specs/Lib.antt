@@ -6,7 +6,7 @@ pub mod Kinds
 pub mod Held
 pub mod Frames
 pub mod Known
-pub mod Steps
-pub mod Instructions
+pub mod Semantics
 pub mod Runs
 pub mod Changes
+pub mod Steps

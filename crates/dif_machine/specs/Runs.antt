@@ -1,9 +1,9 @@
 -- Whole runs.
-use Rattle.std.specs.Prelude.{◌≡◌, ◌≤◌, ℕ, suc, length, Some, Result, Ok, Err}
-use Rattle.dif_machine.specs.Vocabulary.{Firing, MachineFault, DivideByZero, Memory, Object, Reg}
-use Rattle.dif_machine.specs.Vocabulary.{at, Value, ValueRef, lent_value, Variables}
+use Rattle.std.specs.Prelude.{◌≡◌, ◌≤◌, ℕ, suc, length, Result, Ok, Err}
+use Rattle.dif_machine.specs.Vocabulary.{Firing, MachineFault, DivideByZero, Memory, Object, Value}
+use Rattle.dif_machine.specs.Vocabulary.{ValueRef, lent_value, Variables}
 use Rattle.dif_machine.specs.Frames.{Frame, start}
-use Rattle.dif_machine.specs.Steps.{Next, Goes, Ends, Faults, step_of}
+use Rattle.dif_machine.specs.Semantics.{Next, Goes, Ends, Faults, step_of}
 
 -- how a run ends: with a value or at a division by 0, and with the variables
 pub data End : Type 0 where
@@ -49,13 +49,6 @@ RunEnds o f vars (Err Memory) after = (s : Frame) × Comes o f start vars s afte
 abbrev pub value_result : {E : Type 0} → Result ValueRef E → Result Value E
 value_result (Ok lent) = Ok (lent_value lent)
 value_result (Err e) = Err e
-
--- what it leaves where its value stays in a register of the last frame
-abbrev pub RunLeaves : Object → Firing → Variables → Result Reg MachineFault → Frame → Variables
-    → Type 0
-RunLeaves o f vars (Ok a) s after =
-    (value : Value) × (at s.registers a ≡ Some value) × RunEnds o f vars (Ok value) after
-RunLeaves o f vars (Err fault) s after = RunEnds o f vars (Err fault) after
 
 -- how many steps a run makes
 abbrev pub steps : {o : Object} {f : Firing} {s : Frame} {vars : Variables} {end : End}

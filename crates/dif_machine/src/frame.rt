@@ -7,7 +7,7 @@ ghost use Rattle.dif_machine.specs.Vocabulary.{object_of};
 ghost use Rattle.dif_machine.specs.Frames.{at_place, start, with_comparison, with_content};
 ghost use Rattle.dif_machine.specs.Frames.{with_tuple};
 ghost use Rattle.dif_machine.specs.Held.{contents, frame_of, held_value, part_of_cell, parts_of};
-ghost use Rattle.dif_machine.specs.Held.{register_content};
+ghost use Rattle.dif_machine.specs.Steps.Held.{register_content};
 
 use crate::comparing::Comparison;
 use crate::context::Context;

@@ -7,7 +7,7 @@ ghost use Rattle.dif_machine.specs.Vocabulary.{Variables, kind_of, return_kind};
 ghost use Rattle.dif_machine.specs.{Changes.Changes, Known.FitsShape, Operators.result_of};
 ghost use Rattle.dif_machine.specs.{Plain.plain_of};
 ghost use Rattle.dif_machine.specs.Frames.{Frame, start};
-ghost use Rattle.dif_machine.specs.Steps.{Stuck, step_of};
+ghost use Rattle.dif_machine.specs.Semantics.{Stuck, step_of};
 ghost use Rattle.dif_machine.specs.Runs.{Comes, End, EndsBy, IsOver, Returns, Runs};
 
 /// An instruction goes to the next place or to its target. It changes the register that it writes,

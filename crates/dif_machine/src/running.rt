@@ -6,8 +6,9 @@ ghost use Rattle.dif_machine.specs.{Held.frame_of};
 ghost use Rattle.dif_machine.specs.Vocabulary.{IsValid, NumberKind, kind_of, lent_value};
 ghost use Rattle.dif_machine.specs.Vocabulary.{object_of, variables};
 ghost use Rattle.dif_machine.specs.Frames.{start, with_value};
-ghost use Rattle.dif_machine.specs.Runs.{Returns, RunEnds, RunLeaves, Runs, value_result};
-ghost use Rattle.dif_machine.specs.Steps.{Goes, act};
+ghost use Rattle.dif_machine.specs.Runs.{Returns, RunEnds, Runs, value_result};
+ghost use Rattle.dif_machine.specs.Steps.Runs.{RunLeaves};
+ghost use Rattle.dif_machine.specs.Semantics.{Goes, act};
 
 use crate::context::Context;
 use crate::fault::MachineFault;

@@ -9,8 +9,9 @@ mod variables;
 ghost use Rattle.std.specs.Prelude.{◌≢◌};
 ghost use Rattle.dif_machine.specs.{Held.frame_of};
 ghost use Rattle.dif_machine.specs.Vocabulary.{object_of, variables};
-ghost use Rattle.dif_machine.specs.Instructions.{CanExecuteOver, ExecutesOver};
-ghost use Rattle.dif_machine.specs.Steps.{step_of, Stepped, Stuck};
+ghost use Rattle.dif_machine.specs.Steps.Instructions.{CanExecuteOver, ExecutesOver};
+ghost use Rattle.dif_machine.specs.Semantics.{step_of, Stuck};
+ghost use Rattle.dif_machine.specs.Steps.Semantics.{Stepped};
 
 use crate::context::Context;
 use crate::fault::MachineFault;

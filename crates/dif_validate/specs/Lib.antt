@@ -10,5 +10,5 @@ pub mod Ways
 pub mod Returns
 pub mod Faults
 pub mod Validity
-pub mod Pass
 pub mod Texts
+pub mod Steps

@@ -55,11 +55,6 @@ abbrev pub Judges : Object → Result Object DifFault → Type 0
 Judges o (Ok valid) = (valid ≡ o) × IsValid o
 Judges o (Err fault) = IsInvalid o fault
 
--- what a pass over the code finds
-abbrev pub Finds : Object → Result Kind DifFault → Type 0
-Finds o (Ok kind) = IsValid o × (return_kind o ≡ Some kind)
-Finds o (Err fault) = IsInvalid o fault
-
 -- a valid object, and the kind that it returns
 pub record IsReturning (o : Object) (kind : Kind) : Type 0 where
   pub valid : IsValid o

@@ -4,8 +4,9 @@ ghost use Rattle.std.specs.Prelude.{◌≡◌, ◌<◌, ◌+◌, ℕ, Some, None
 ghost use Rattle.std.specs.Prelude.{slice_index_or, if◌then◌else◌};
 ghost use Rattle.dif_validate.specs.Flow.{shape_at_start, falls, further, join, jump_target};
 ghost use Rattle.dif_validate.specs.{Objects.object_of, Returns.kind_at_return};
-ghost use Rattle.dif_validate.specs.Pass.{Advances, Knows};
-ghost use Rattle.dif_validate.specs.Validity.{Finds, is_closed};
+ghost use Rattle.dif_validate.specs.Steps.Pass.{Advances, Knows};
+ghost use Rattle.dif_validate.specs.Validity.{is_closed};
+ghost use Rattle.dif_validate.specs.Steps.Validity.{Finds};
 
 use crate::fault::DifFault;
 use crate::flow::Flow;

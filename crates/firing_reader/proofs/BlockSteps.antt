@@ -16,10 +16,12 @@ use Rattle.std.specs.Prelude.{◌⊎◌}
 use Rattle.firing_reader.specs.declared.fault.TraceFault.{TraceFault}
 use Rattle.firing_reader.specs.declared.fault.TraceFault.TheVariants.{Memory}
 use Rattle.firing_reader.specs.declared.firing.Firing.{Firing}
-use Rattle.firing_reader.specs.Blocks.{AreRead, Begins, BeginsAtFeed, IsFaultOf, IsKeptAt, reads_at}
+use Rattle.firing_reader.specs.Blocks.{AreRead, BeginsAtFeed, IsKeptAt, reads_at}
+use Rattle.firing_reader.specs.Steps.Blocks.{Begins, IsFaultOf}
 use Rattle.firing_reader.specs.Left.{left_in}
-use Rattle.firing_reader.specs.Plain.{GoesOn, Leaves, header_line, rows_after, rows_in}
-use Rattle.firing_reader.specs.RowEnds.{RowsEnd}
+use Rattle.firing_reader.specs.Plain.{rows_after, rows_in}
+use Rattle.firing_reader.specs.Steps.Plain.{GoesOn, Leaves, header_line}
+use Rattle.firing_reader.specs.Steps.RowEnds.{RowsEnd}
 use Rattle.firing_reader.specs.Trace.{rows_of, trace_in, trace_of}
 use Rattle.firing_reader.proofs.PlainHeader.{after_header}
 use Rattle.firing_reader.proofs.PlainRows.{ends_feed, fault_chunk, goes_both, goes_chunk, goes_feed}

@@ -10,8 +10,10 @@ use Rattle.firing_reader.specs.declared.stored_row.Given.{Given}
 use Rattle.firing_reader.specs.declared.stored_row.Row.{Row}
 use Rattle.firing_reader.specs.declared.unit.Owner.{Owner}
 use Rattle.firing_reader.specs.declared.unit.Probe.{Probe}
-use Rattle.firing_reader.specs.Stored.{ArePlaces, Extends, IsMovable, IsRowIn, count_of, firing_in}
-use Rattle.firing_reader.specs.Stored.{first_of, moved_given, moved_row, no_owner, no_probe}
+use Rattle.firing_reader.specs.Stored.{ArePlaces, Extends, IsRowIn, count_of, firing_in}
+use Rattle.firing_reader.specs.Steps.Stored.{IsMovable}
+use Rattle.firing_reader.specs.Stored.{first_of, no_owner, no_probe}
+use Rattle.firing_reader.specs.Steps.Stored.{moved_given, moved_row}
 use Rattle.firing_reader.proofs.Stored.{named_at, named_in, named_more, rows_more, seen_all}
 
 -- ---- places

@@ -11,7 +11,8 @@ use Rattle.csv.specs.declared.parser.State.TheVariants as st
 use Rattle.firing_reader.specs.declared.firing.Firing.{Firing}
 use Rattle.firing_reader.specs.Left.{left_in}
 use Rattle.firing_reader.specs.Firings.{number_of}
-use Rattle.firing_reader.specs.Plain.{IsPiece, ReadsMore, ReadsRow, ReadsRows, Rises, rows_in}
+use Rattle.firing_reader.specs.Plain.{ReadsRow, ReadsRows, rows_in}
+use Rattle.firing_reader.specs.Steps.Plain.{IsPiece, ReadsMore, Rises}
 use Rattle.firing_reader.specs.Trace.{last_number, rows_of}
 use Rattle.firing_reader.proofs.Left.{left_more, left_none}
 use Rattle.firing_reader.proofs.PlainRows.{skip_feed}

@@ -7,7 +7,8 @@ use Rattle.std.proofs.lemmas.List.{append_cancel_left, length-replicate, map-app
 use Rattle.std.proofs.lemmas.List.{take-append-drop, append-nil}
 use Rattle.firing_reader.specs.declared.stored_row.Given.{Given}
 use Rattle.firing_reader.specs.Column.{signed_of}
-use Rattle.firing_reader.specs.Plain.{Closes, JoinsField, Passes, ReadsArguments}
+use Rattle.firing_reader.specs.Plain.{Passes}
+use Rattle.firing_reader.specs.Steps.Plain.{Closes, JoinsField, ReadsArguments}
 use Rattle.firing_reader.specs.Stored.{count_of, first_of, given_in, ten}
 use Rattle.firing_reader.proofs.PlainFields.{one_joins, one_signed}
 use Rattle.firing_reader.proofs.PlainRows.{closes_more, closes_one, passes_more, passes_one}

@@ -12,7 +12,8 @@ use Rattle.std.proofs.lemmas.List.Elements.{All-cons, All-nil, All-head, All-tai
 use Rattle.firing_reader.proofs.Numerals.{all_read, digits}
 use Rattle.firing_reader.proofs.PlainRows.{is_not}
 use Rattle.firing_reader.specs.Column.{is_decimal, signed_of}
-use Rattle.firing_reader.specs.Plain.{BeginsWith, IsWordByte, JoinsField, whole_of}
+use Rattle.firing_reader.specs.Plain.{whole_of}
+use Rattle.firing_reader.specs.Steps.Plain.{BeginsWith, IsWordByte, JoinsField}
 
 pub digit_joins : (b : ℕ) → IsInRange 48 57 b → JoinsField b
 digit_joins b h = (λ e. absurd (omega (arith, h.0, h.1, e)), λ e. absurd (omega (arith, h.0, h.1, e)), λ e. absurd (omega (arith, h.0, h.1, e)), λ e. absurd (omega (arith, h.0, h.1, e)))

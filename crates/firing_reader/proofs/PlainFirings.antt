@@ -10,7 +10,8 @@ use Rattle.firing_reader.specs.declared.unit.Owner.{Owner}
 use Rattle.firing_reader.specs.declared.unit.Probe.{Probe}
 use Rattle.firing_reader.proofs.PlainFields.{none_read}
 use Rattle.firing_reader.specs.Column.{signed_of}
-use Rattle.firing_reader.specs.Plain.{ReadsArguments, ReadsOwner, ReadsProbe, int_of, whole_of}
+use Rattle.firing_reader.specs.Plain.{ReadsOwner, ReadsProbe, int_of, whole_of}
+use Rattle.firing_reader.specs.Steps.Plain.{ReadsArguments}
 use Rattle.firing_reader.specs.Row.{◌>>=◌, or_fault, args_at, columns_at, int_at, row_of, signed_at}
 use Rattle.firing_reader.specs.Row.{text_at, whole_at}
 use Rattle.firing_reader.specs.Trace.{next_of}

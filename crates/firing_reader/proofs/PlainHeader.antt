@@ -7,7 +7,8 @@ use Rattle.csv.specs.declared.parser.State.TheVariants as st
 use Rattle.csv.specs.Records.{field_at}
 use Rattle.firing_reader.specs.declared.firing.Firing.{Firing}
 use Rattle.firing_reader.specs.Left.{left_in}
-use Rattle.firing_reader.specs.Plain.{header_line, rows_in}
+use Rattle.firing_reader.specs.Plain.{rows_in}
+use Rattle.firing_reader.specs.Steps.Plain.{header_line}
 use Rattle.firing_reader.specs.Trace.{rows_of, trace_in, trace_of}
 use Rattle.firing_reader.proofs.Left.{left_more}
 use Rattle.firing_reader.proofs.PlainRows.{skip_feed}

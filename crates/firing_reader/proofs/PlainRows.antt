@@ -14,9 +14,11 @@ use Rattle.firing_reader.specs.declared.firing.Firing.{Firing}
 use Rattle.firing_reader.specs.declared.fault.TraceFault.{TraceFault}
 use Rattle.firing_reader.specs.Left.{left_in}
 use Rattle.firing_reader.specs.Blocks.{AreRead}
-use Rattle.firing_reader.specs.Plain.{rows_after, rows_in, Closes, BeginsWith, GoesOn, JoinsField}
-use Rattle.firing_reader.specs.Plain.{Leaves, Passes, ReadsRow}
-use Rattle.firing_reader.specs.RowEnds.{RowsEnd}
+use Rattle.firing_reader.specs.Plain.{rows_after, rows_in}
+use Rattle.firing_reader.specs.Steps.Plain.{Closes, BeginsWith, GoesOn, JoinsField}
+use Rattle.firing_reader.specs.Plain.{Passes, ReadsRow}
+use Rattle.firing_reader.specs.Steps.Plain.{Leaves}
+use Rattle.firing_reader.specs.Steps.RowEnds.{RowsEnd}
 use Rattle.firing_reader.specs.Trace.{last_number}
 use Rattle.firing_reader.proofs.Left.{ends_bytes, enough, left_more, shorter}
 use Rattle.firing_reader.proofs.Rows.{after_err, after_none, after_ok, one_row, rows_first}

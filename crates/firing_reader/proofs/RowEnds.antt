@@ -9,7 +9,7 @@ use Rattle.csv.specs.Reading.{default_config, records_next}
 use Rattle.csv.specs.declared.parser.State.{State}
 use Rattle.csv.specs.declared.parser.State.TheVariants as st
 use Rattle.firing_reader.specs.Left.{left_in}
-use Rattle.firing_reader.specs.RowEnds.{RowsEnd, place_after, plain_after}
+use Rattle.firing_reader.specs.Steps.RowEnds.{RowsEnd, place_after, plain_after}
 use Rattle.firing_reader.specs.declared.row_ends.Place.{Place}
 use Rattle.firing_reader.specs.declared.row_ends.Place.TheVariants.{Between, Start, Field, Quoted}
 use Rattle.firing_reader.specs.declared.row_ends.Place.TheVariants.{Quote}

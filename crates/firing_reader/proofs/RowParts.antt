@@ -6,7 +6,8 @@ use Rattle.firing_reader.specs.declared.firing.Firing.{Firing}
 use Rattle.firing_reader.specs.declared.stored_row.Row.{Row}
 use Rattle.firing_reader.specs.declared.unit.Owner.{Owner}
 use Rattle.firing_reader.specs.declared.unit.Probe.{Probe}
-use Rattle.firing_reader.specs.Plain.{JoinsField, Passes, ReadsArguments, ReadsOwner, ReadsProbe}
+use Rattle.firing_reader.specs.Plain.{Passes, ReadsOwner, ReadsProbe}
+use Rattle.firing_reader.specs.Steps.Plain.{JoinsField, ReadsArguments}
 use Rattle.firing_reader.specs.Plain.{ReadsRow, int_of, whole_of}
 use Rattle.firing_reader.specs.Stored.{Extends, IsGivenIn, IsRowIn, firing_in, given_in, no_owner}
 use Rattle.firing_reader.specs.Stored.{no_probe, ten}

@@ -1,9 +1,9 @@
 -- A trace that comes in blocks: what a reader keeps of those that it took, and what the trace reads
 -- as if it goes on after them.
-use Rattle.std.specs.Prelude.{◌≡◌, ◌⊎◌, ℕ, List, [], ◌∷◌, ◌++◌, Result, Ok, Err}
+use Rattle.std.specs.Prelude.{◌≡◌, ℕ, List, [], ◌∷◌, ◌++◌, Result, Ok, Err}
 use Rattle.firing_reader.specs.declared.blocks.Stage.{Stage}
 use Rattle.firing_reader.specs.declared.blocks.Stage.TheVariants.{Header, Rows, Refused}
-use Rattle.firing_reader.specs.Vocabulary.{TraceFault, Firing, Memory}
+use Rattle.firing_reader.specs.Vocabulary.{TraceFault, Firing}
 use Rattle.firing_reader.specs.Plain.{rows_in}
 use Rattle.firing_reader.specs.Trace.{rows_of, trace_of}
 
@@ -35,13 +35,3 @@ abbrev pub IsKeptAt : Stage → List Firing → List ℕ → Type 0
 IsKeptAt Header firings left = firings ≡ []
 IsKeptAt Rows firings left = BeginsAtFeed left × AreRead firings
 IsKeptAt (Refused e) firings left = Unit {0}
-
--- the bytes hold the header and rows that read as these firings; the rest goes on after them
-pub record Begins (bytes : List ℕ) (firings : List Firing) (rest : List ℕ) : Type 0 where
-  pub feed : BeginsAtFeed rest
-  pub are_read : AreRead firings
-  pub goes_on : (tail : List ℕ) → trace_of (bytes ++ tail) ≡ rows_in firings (rest ++ tail)
-
--- memory was refused, or this is the fault of the bytes, whatever comes after them
-abbrev pub IsFaultOf : TraceFault → (List ℕ → Result (List Firing) TraceFault) → Type 0
-IsFaultOf e read = (e ≡ Memory) ⊎ ((tail : List ℕ) → read tail ≡ Err e)

@@ -3,7 +3,6 @@ pub mod Gives
 pub mod Column
 pub mod Row
 pub mod Left
-pub mod RowEnds
 pub mod Firings
 pub mod Trace
 pub mod Ends
@@ -14,3 +13,4 @@ pub mod Probing
 pub mod Units
 pub mod Blocks
 pub mod Written
+pub mod Steps

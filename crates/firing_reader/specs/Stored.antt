@@ -1,7 +1,7 @@
 -- Firings as a trace stores them: rows of small fixed size, and apart from them what rows share and
 -- their arguments.
-use Rattle.std.specs.Prelude.{◌≡◌, ◌<◌, ◌≤◌, ◌+◌, ◌*◌, ◌/◌, ◌%◌, ◌^◌, ℕ, ℤ, pos, List, [], ◌∷◌}
-use Rattle.std.specs.Prelude.{◌++◌, Some, length, get_or, slice_get, map, take, drop}
+use Rattle.std.specs.Prelude.{◌≡◌, ◌<◌, ◌≤◌, ◌+◌, ◌/◌, ◌%◌, ℕ, ℤ, pos, List, [], ◌∷◌, ◌++◌, Some}
+use Rattle.std.specs.Prelude.{length, get_or, slice_get, map, take, drop}
 use Rattle.firing_reader.specs.declared.firing.Firing.{Firing}
 use Rattle.firing_reader.specs.declared.stored_row.Given.{Given}
 use Rattle.firing_reader.specs.declared.stored_row.Row.{Row}
@@ -66,22 +66,3 @@ pub record IsRowIn (owners : List Owner) (probes : List Probe) (args : List ℤ)
 -- the places where these others are, one for each
 abbrev pub ArePlaces : {X : Type 0} → List X → List ℕ → List X → Type 0
 ArePlaces all places others = map (slice_get all) places ≡ map (λ x. Some x) others
-
--- as many arguments that begin so much later
-abbrev pub moved_given : ℕ → Given → Given
-moved_given shift g = record { packed = g.packed + 16 * shift }
-
--- a row with the places of its owner and its probe among others, and with arguments that begin so
--- much later
-abbrev pub moved_row : List ℕ → List ℕ → ℕ → Row → Row
-moved_row owners probes shift r = record r {
-  owner = get_or owners r.owner 0;
-  probe = get_or probes r.probe 0;
-  given = moved_given shift r.given;
-}
-
--- there is a place for the row's owner, for its probe, and for its first argument
-pub record IsMovable (owners probes : List ℕ) (shift : ℕ) (r : Row) : Type 0 where
-  pub owner : r.owner < length owners
-  pub probe : r.probe < length probes
-  pub given : first_of r.given + shift < 2 ^ 28

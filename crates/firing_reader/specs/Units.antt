@@ -1,7 +1,7 @@
 -- What rows share, as a trace stores it: owners and probes with the places of their texts, and the
 -- bytes of rows that were met before.
-use Rattle.std.specs.Prelude.{◌≡◌, ◌<◌, ◌≤◌, ◌+◌, ℕ, List, [], ◌++◌, Some, length, get_or}
-use Rattle.std.specs.Prelude.{slice_get, map, take, drop, All}
+use Rattle.std.specs.Prelude.{◌≡◌, ◌<◌, ◌≤◌, ◌+◌, ℕ, List, [], Some, length, get_or, slice_get, map}
+use Rattle.std.specs.Prelude.{take, drop, All}
 use Rattle.firing_reader.specs.declared.keys.Known.{Known}
 use Rattle.firing_reader.specs.declared.owners.StoredOwner.{StoredOwner}
 use Rattle.firing_reader.specs.declared.probes.StoredProbe.{StoredProbe}
@@ -30,10 +30,6 @@ pub record IsProbeIn (texts : List (List ℕ)) (p : StoredProbe) : Type 0 where
   pub probemod : p.probemod < length texts
   pub probefunc : p.probefunc < length texts
   pub name : p.name < length texts
-
--- a list that goes on with nothing but this
-abbrev pub GainsOnly : {X : Type 0} → X → List X → List X → Type 0
-GainsOnly {X} x old new = (more : List X) × (new ≡ old ++ more) × All (λ y. y ≡ x) more
 
 -- bytes that were met, and the place of what they mean
 abbrev pub known_in : List ℕ → Known → List ℕ × ℕ

@@ -3,9 +3,11 @@
 ghost use Rattle.std.specs.Prelude.{◌≡◌, ◌≢◌, ◌<◌, ◌≤◌, ◌+◌, ◌++◌, ◌∷◌, [], ℕ, List, OnOk, OnErr};
 ghost use Rattle.std.specs.Prelude.{IfOk, IfErr, MatchBool, MatchResult, drop, length};
 ghost use Rattle.firing_reader.specs.{Vocabulary.Memory, Gives.Gives, Trace.trace_of};
-ghost use Rattle.firing_reader.specs.Blocks.{AreRead, Begins, BeginsAtFeed, IsFaultOf, IsKeptAt};
+ghost use Rattle.firing_reader.specs.Blocks.{AreRead, BeginsAtFeed, IsKeptAt};
+ghost use Rattle.firing_reader.specs.Steps.Blocks.{Begins, IsFaultOf};
 ghost use Rattle.firing_reader.specs.Blocks.{reads, reads_at};
-ghost use Rattle.firing_reader.specs.Plain.{GoesOn, rows_in};
+ghost use Rattle.firing_reader.specs.Plain.{rows_in};
+ghost use Rattle.firing_reader.specs.Steps.Plain.{GoesOn};
 ghost use Rattle.firing_reader.specs.declared.blocks.Stage.TheVariants.{Refused};
 
 use crate::fault::TraceFault;

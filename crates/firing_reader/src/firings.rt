@@ -5,7 +5,8 @@ ghost use Rattle.std.specs.Prelude.{◌≡◌, ◌<◌, ◌++◌, ◌∷◌, [],
 ghost use Rattle.std.specs.Prelude.{MatchOption, slice_get, length, map};
 ghost use Rattle.firing_reader.specs.{Vocabulary.Firing, Plain.ReadsRow, Probing.probe_of};
 ghost use Rattle.firing_reader.specs.{Trace.last_number as last_number_of};
-ghost use Rattle.firing_reader.specs.Stored.{ArePlaces, IsMovable, moved_row as moved_row_of};
+ghost use Rattle.firing_reader.specs.Stored.{ArePlaces};
+ghost use Rattle.firing_reader.specs.Steps.Stored.{IsMovable, moved_row as moved_row_of};
 
 use crate::arguments::{add_arguments, all_ten, keep_arguments};
 use crate::firing::Firing;

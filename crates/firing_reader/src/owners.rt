@@ -2,7 +2,8 @@
 
 ghost use Rattle.std.specs.Prelude.{◌≡◌, ◌<◌, ◌++◌, ◌∷◌, [], true, Some, IfOk, IfSome, MatchOption};
 ghost use Rattle.std.specs.Prelude.{slice_get, length, vec_len};
-ghost use Rattle.firing_reader.specs.{declared.unit.Owner.Owner, Plain.ReadsOwner, Units.GainsOnly};
+ghost use Rattle.firing_reader.specs.{declared.unit.Owner.Owner, Plain.ReadsOwner};
+ghost use Rattle.firing_reader.specs.Steps.Units.{GainsOnly};
 ghost use Rattle.firing_reader.specs.Stored.{ArePlaces, Extends};
 
 use crate::keys::{Keys, u32_of};

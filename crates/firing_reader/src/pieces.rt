@@ -3,7 +3,7 @@
 
 ghost use Rattle.std.specs.Prelude.{◌≡◌, ◌∷◌, ◌++◌, true, ℕ, List, IfSome, Ok};
 ghost use Rattle.std.specs.Thread.{IsSync};
-ghost use Rattle.firing_reader.specs.Plain.{IsPiece, Rises};
+ghost use Rattle.firing_reader.specs.Steps.Plain.{IsPiece, Rises};
 ghost use Rattle.firing_reader.specs.Trace.{last_number, trace_of};
 
 use crate::firings::Firings;

@@ -2,7 +2,7 @@
 //! others.
 
 ghost use Rattle.std.specs.Prelude.{◌≡◌, ◌≤◌, ◌∷◌, ℕ, List, length};
-ghost use Rattle.firing_reader.specs.Plain.{GoesOn, Leaves, ReadsMore};
+ghost use Rattle.firing_reader.specs.Steps.Plain.{GoesOn, Leaves, ReadsMore};
 
 use crate::firings::Firings;
 use crate::reading::MOST_ROWS;

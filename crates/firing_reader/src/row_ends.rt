@@ -1,7 +1,7 @@
 //! Where the rows of bytes end, as csv reads them.
 
 ghost use Rattle.std.specs.Prelude.{◌≡◌, ◌≤◌, length, take};
-ghost use Rattle.firing_reader.specs.RowEnds.{RowsEnd, place_after, plain_after};
+ghost use Rattle.firing_reader.specs.Steps.RowEnds.{RowsEnd, place_after, plain_after};
 
 // Where csv is after a byte.
 #[derive(Clone, Copy)]

@@ -1,7 +1,8 @@
 //! A firing as it is stored.
 
 ghost use Rattle.std.specs.Prelude.{◌≡◌, ◌<◌, ◌≤◌, ◌+◌, ◌^◌, IfSome};
-ghost use Rattle.firing_reader.specs.Stored.{count_of, first_of, moved_given};
+ghost use Rattle.firing_reader.specs.Stored.{count_of, first_of};
+ghost use Rattle.firing_reader.specs.Steps.Stored.{moved_given};
 
 /// Where a row's own arguments begin among those of all, and how many they are: at most ten.
 #[derive(Clone, Copy)]

@@ -16,7 +16,7 @@ use Rattle.replay_core.specs.Beginnings.{ExitsLast, IsBeginning, IsBegun, IsLeft
 use Rattle.replay_core.specs.Beginnings.{least_exit, lesser_of}
 use Rattle.replay_core.specs.Meaning.{Threads, exit_of, history, firing_result, blank_threads}
 use Rattle.replay_core.specs.Running.{threads_over}
-use Rattle.replay_core.specs.Working.{firings_at}
+use Rattle.replay_core.specs.Steps.Working.{firings_at}
 use Rattle.replay_core.proofs.RunLemmas.{exit_append, history_append}
 use Rattle.replay_core.proofs.WorkSteps.{one_at}
 

@@ -13,8 +13,8 @@ use Rattle.replay_core.specs.declared.piece.Piece.{Piece}
 use Rattle.replay_core.specs.declared.collect_fault.CollectFault.{CollectFault}
 use Rattle.replay_core.specs.declared.collect_fault.CollectFault.TheVariants.{Twice, Stranger}
 use Rattle.replay_core.specs.declared.collect_fault.CollectFault.TheVariants.{Missing, Memory}
-use Rattle.replay_core.specs.PiecePlaces.{first_bad, first_bad_after, first_missing}
-use Rattle.replay_core.specs.PiecePlaces.{pieces_with_places, pieces_with_groups, IsFault}
+use Rattle.replay_core.specs.Steps.PiecePlaces.{first_bad, first_bad_after, first_missing}
+use Rattle.replay_core.specs.Steps.PiecePlaces.{pieces_with_places, pieces_with_groups, IsFault}
 use Rattle.replay_core.specs.Tables.{Table, AllHave, CanMerge}
 use Rattle.replay_core.specs.Collecting.{tables_of, IsCollectFault}
 

@@ -16,12 +16,16 @@ use Rattle.firing_reader.specs.declared.unit.Probe.{Probe}
 use Rattle.firing_reader.specs.Stored.{Extends}
 use Rattle.firing_reader.proofs.Stored.{named_more}
 use Rattle.replay_core.specs.declared.description_table.Described.{Described}
-use Rattle.replay_core.specs.Described.{GiveSame, HasKind, IsOfKind, IsSameKind}
-use Rattle.replay_core.specs.Described.{given_from, given_of, hash_of_description, hash_of_names}
-use Rattle.replay_core.specs.Described.{hash_of_probe, hash_sought, is_exact, is_found, is_given}
-use Rattle.replay_core.specs.Described.{where_given}
-use Rattle.replay_core.specs.Patterns.{field_matches, is_plain, selects}
-use Rattle.replay_core.specs.Places.{merge, places_for}
+use Rattle.replay_core.specs.Steps.Described.{GiveSame, HasKind, IsOfKind, IsSameKind}
+use Rattle.replay_core.specs.Steps.Described.{given_from, given_of, hash_of_description}
+use Rattle.replay_core.specs.Steps.Described.{hash_of_names}
+use Rattle.replay_core.specs.Steps.Described.{hash_of_probe, hash_sought, is_exact, is_found}
+use Rattle.replay_core.specs.Steps.Described.{is_given}
+use Rattle.replay_core.specs.Steps.Described.{where_given}
+use Rattle.replay_core.specs.Patterns.{field_matches, selects}
+use Rattle.replay_core.specs.Steps.Patterns.{is_plain}
+use Rattle.replay_core.specs.Places.{places_for}
+use Rattle.replay_core.specs.Steps.Places.{merge}
 use Rattle.replay_core.specs.Uniting.{AllFrom, InOrder, with_number}
 use Rattle.replay_core.proofs.PatternTests.{and_parts, literal, matches_there}
 use Rattle.replay_core.proofs.PlacesMerged.{AreFrom, Rise, merges}

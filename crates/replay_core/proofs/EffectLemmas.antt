@@ -12,7 +12,8 @@ use Rattle.d_types.specs.Clauses.{Made, Ran, run_result, run_with, effect_then, 
 use Rattle.d_types.specs.Clauses.{contributions_in, exit_in, and_then}
 use Rattle.d_types.specs.Storage.{Variables}
 use Rattle.replay_core.specs.declared.evaluation.fault.EvalFault.TheVariants as fault
-use Rattle.replay_core.specs.Effects.{effects_result, NotesEffect, Performs, NotesRun}
+use Rattle.replay_core.specs.Effects.{effects_result, NotesEffect, NotesRun}
+use Rattle.replay_core.specs.Steps.Effects.{Performs}
 use Rattle.replay_core.specs.Lanes.{Notes}
 use Rattle.replay_core.specs.Pieces.{PieceSeen}
 use Rattle.replay_core.proofs.Noting.{append_nil, notes_nothing, notes_then}

@@ -22,7 +22,7 @@ use Rattle.replay_core.specs.Meaning.{firing_result}
 use Rattle.replay_core.specs.Patterns.{probe_of, selects}
 use Rattle.replay_core.specs.Pieces.{PieceSeen}
 use Rattle.replay_core.specs.Places.{places_for}
-use Rattle.replay_core.specs.Turns.{run_at, turns}
+use Rattle.replay_core.specs.Steps.Turns.{run_at, turns}
 use Rattle.replay_core.proofs.Noting.{append_nil, or_none}
 
 -- ---- turns

@@ -6,7 +6,7 @@ use Rattle.std.specs.Prelude.{ℤ}
 use Rattle.firing_reader.specs.declared.firing.Firing.{Firing}
 use Rattle.firing_reader.specs.Firings.{thread_of}
 use Rattle.shard_queue.specs.Groupings.{places_from}
-use Rattle.replay_core.specs.Working.{firings_at}
+use Rattle.replay_core.specs.Steps.Working.{firings_at}
 
 drop_more : {A : Type 0} (xs : List A) (i : ℕ) (y : A) (ys : List A) → drop i xs ≡ y ∷ ys → drop (suc i) xs ≡ ys
 drop_more [] zero y ys e = absurd cc

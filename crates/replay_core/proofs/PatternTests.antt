@@ -8,7 +8,8 @@ use Rattle.std.proofs.lemmas.Bool.Decides.{Decides-eqb}
 use Rattle.d_parser.specs.declared.tree.Description.{Description}
 use Rattle.firing_reader.specs.declared.unit.Probe.{Probe}
 use Rattle.replay_core.specs.Patterns.{Selects, selects, Takes, Matches, MatchesField, star}
-use Rattle.replay_core.specs.Patterns.{question, is_plain, is_same_or_question, passes_after}
+use Rattle.replay_core.specs.Patterns.{question, is_same_or_question, passes_after}
+use Rattle.replay_core.specs.Steps.Patterns.{is_plain}
 use Rattle.replay_core.specs.Patterns.{passes_after_one, matches, field_matches}
 
 -- ---- tests

@@ -7,7 +7,7 @@ use Rattle.std.proofs.lemmas.Grind.{get_or-set_at}
 use Rattle.std.proofs.lemmas.List.{get_or-set_other}
 use Rattle.replay_core.specs.declared.piece.Piece.{Piece}
 use Rattle.replay_core.specs.declared.collect_fault.CollectFault.TheVariants.{Twice, Stranger}
-use Rattle.replay_core.specs.PiecePlaces.{first_bad, first_bad_after, is_filled}
+use Rattle.replay_core.specs.Steps.PiecePlaces.{first_bad, first_bad_after, is_filled}
 
 bad_congr : (n : ℕ) (had other : ℕ → Bool) → ((g : ℕ) → had g ≡ other g) → (ps : List (ℕ × Piece)) → first_bad_after had n ps ≡ first_bad_after other n ps
 bad_congr n had other same [] = refl

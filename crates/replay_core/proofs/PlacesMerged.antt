@@ -5,7 +5,7 @@ use Rattle.std.proofs.Common.{refl, sym, ap, ap₂, ◌∙◌, subst, ⊎_elim, 
 use Rattle.std.specs.Prelude.{nat_lt, if◌then◌else◌}
 use Rattle.std.proofs.lemmas.Bool.{cases_order}
 use Rattle.std.proofs.lemmas.Bool.Decides.{nat_tests}
-use Rattle.replay_core.specs.Places.{front_below, merge, rest_from}
+use Rattle.replay_core.specs.Steps.Places.{front_below, merge, rest_from}
 
 pub merged_none : (ps : List ℕ) → merge ps [] ≡ ps
 merged_none [] = refl

@@ -20,13 +20,13 @@ use Rattle.d_types.specs.Typed.{ClauseMeant, ScriptMeant}
 use Rattle.d_types.proofs.FiringValues.{locals_unassigned}
 use Rattle.firing_reader.specs.declared.firing.Firing.{Firing}
 use Rattle.replay_core.specs.declared.tables.Tables.{Tables}
-use Rattle.replay_core.specs.Caching.{IsTablesAt}
+use Rattle.replay_core.specs.Steps.Caching.{IsTablesAt}
 use Rattle.replay_core.specs.Meaning.{Threads, at_start, clauses_for, in_turn, firing_result}
 use Rattle.replay_core.specs.Meaning.{threads_after}
 use Rattle.replay_core.specs.Patterns.{probe_of, selects}
 use Rattle.replay_core.specs.Scripts.{AreTypedThreads, Keeps}
 use Rattle.replay_core.specs.Threads.{own_in, threads_in}
-use Rattle.replay_core.specs.Turns.{turns}
+use Rattle.replay_core.specs.Steps.Turns.{turns}
 
 -- ---- how a firing begins
 

@@ -14,7 +14,7 @@ use Rattle.replay_core.specs.Effects.{NotesRun}
 use Rattle.replay_core.specs.Lanes.{Notes}
 use Rattle.replay_core.specs.Pieces.{PieceSeen}
 use Rattle.replay_core.specs.Scripts.{AllMean, Keeps}
-use Rattle.replay_core.specs.Turns.{run_at, turns}
+use Rattle.replay_core.specs.Steps.Turns.{run_at, turns}
 use Rattle.replay_core.proofs.Noting.{notes_nothing, notes_then}
 
 -- with the turns that are left a piece goes on as with all of them from the start

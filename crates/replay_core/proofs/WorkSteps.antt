@@ -13,7 +13,8 @@ use Rattle.replay_core.specs.declared.piece.Piece.{Piece}
 use Rattle.replay_core.specs.declared.span.Span.{Span}
 use Rattle.replay_core.specs.Lanes.{LaneSeen}
 use Rattle.replay_core.specs.Running.{IsLaneOf}
-use Rattle.replay_core.specs.Working.{firings_at, is_in}
+use Rattle.replay_core.specs.Working.{is_in}
+use Rattle.replay_core.specs.Steps.Working.{firings_at}
 use Rattle.replay_core.proofs.TraceRuns.{few_kept}
 
 -- ---- places

@@ -4,8 +4,8 @@ use Rattle.std.specs.Prelude.{is_some, true}
 use Rattle.replay_core.specs.Vocabulary.{Firing, ScriptMeant, no_number}
 use Rattle.replay_core.specs.declared.piece.Piece.{Piece}
 use Rattle.replay_core.specs.{Groups.Grouping, Groups.of_group, Meaning.exit_of, Meaning.history}
-use Rattle.replay_core.specs.{Meaning.blank_threads, Lanes.LaneSeen, Pieces.IsPieceOf}
-use Rattle.replay_core.specs.{Running.IsLaneOf, Seen.IsRoomy, Seen.piece_seen}
+use Rattle.replay_core.specs.{Meaning.blank_threads, Pieces.IsPieceOf, Seen.IsRoomy}
+use Rattle.replay_core.specs.{Seen.piece_seen}
 
 -- the exit of a run over these firings
 abbrev pub exit_over : ScriptMeant → List Firing → Option (ℕ × ℕ)
@@ -55,8 +55,3 @@ lesser_of number (Some exit) = min number exit.0
 abbrev pub least_exit : List (ℕ × Piece) → ℕ
 least_exit [] = no_number
 least_exit (p ∷ ps) = lesser_of (least_exit ps) p.1.exit
-
--- the lane was given a beginning of these firings
-abbrev pub RunsBeginning : ScriptMeant → ℕ → List Firing → LaneSeen → Type 0
-RunsBeginning m seen all lane =
-    (fired : List Firing) × IsBeginning m seen fired all × IsLaneOf m fired lane

@@ -5,7 +5,8 @@ use Rattle.replay_core.specs.Vocabulary.{IsPermutation, flat_map}
 use Rattle.replay_core.specs.declared.{piece.Piece.Piece, whole.Whole.Whole}
 use Rattle.replay_core.specs.declared.collect_fault.CollectFault.{CollectFault}
 use Rattle.replay_core.specs.declared.collect_fault.CollectFault.TheVariants.{Missing, Memory}
-use Rattle.replay_core.specs.{PiecePlaces.first_bad, PiecePlaces.pieces_with_groups, Tables.Table}
+use Rattle.replay_core.specs.{Tables.Table}
+use Rattle.replay_core.specs.Steps.PiecePlaces.{first_bad, pieces_with_groups}
 use Rattle.replay_core.specs.{Tables.Serve, Uniting.IsSorted, Uniting.first_exit}
 
 -- the whole has the texts of these pieces, sorted by number, one table in place of theirs, the

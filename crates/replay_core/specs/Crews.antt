@@ -1,13 +1,13 @@
 -- What the workers of a board give back.
-use Rattle.std.specs.Prelude.{◌≡◌, ◌≤◌, ℕ, true, List, map, All, Vec, Result, Ok}
+use Rattle.std.specs.Prelude.{◌≡◌, ◌≤◌, ℕ, true, List, map, All, Vec}
 use Rattle.replay_core.specs.Vocabulary.{ClaimBoard, ClaimSeat, Firing, Global, Groups, IsAt}
 use Rattle.replay_core.specs.Vocabulary.{ScriptMeant, flat_map, grouping, least_lowered, least_seen}
 use Rattle.replay_core.specs.Vocabulary.{number_lowered, number_seen, with_ends}
 use Rattle.replay_core.specs.declared.{piece.Piece.Piece, round.Round.Round, span.Span.Span}
 use Rattle.replay_core.specs.declared.span.Span.TheVariants as span
-use Rattle.replay_core.specs.{Exit.firings_over, Groups.IsAllBelow, Seen.IsRoomy}
+use Rattle.replay_core.specs.{Groups.IsAllBelow}
 use Rattle.replay_core.specs.Beginnings.{AreBegun, least_exit}
-use Rattle.replay_core.specs.Working.{AreOfGroups, IsOfGroup, firings_in}
+use Rattle.replay_core.specs.Working.{AreOfGroups, firings_in}
 
 -- a worker's pieces, each with its group, and its seat
 abbrev pub Part : Type 0
@@ -44,14 +44,6 @@ pub record AreParts (P : Part → Type 0) (pieces : List (ℕ × Piece)) (seats 
   pub all : pieces ≡ flat_map (λ p. p.0.items) parts
   pub seated : seats ≡ map (λ p. p.1) parts
 
--- every worker came to its end, and the pieces and the seats are theirs, in order
-pub record AreFinished {E : Type 0} (results : List (Result Part E)) (pieces : List (ℕ × Piece))
-    (seats : List ClaimSeat) : Type 0 where
-  pub parts : List Part
-  pub each : results ≡ map Ok parts
-  pub all : pieces ≡ flat_map (λ p. p.0.items) parts
-  pub seated : seats ≡ map (λ p. p.1) parts
-
 -- each of n groups has one piece, and stands in one worker's list, and this holds of what each
 -- worker gave. The least number is the least that one of their seats lowered, and no more than one
 -- was shown
@@ -62,13 +54,3 @@ pub record IsRound (P : Part → Type 0) (n : ℕ) (r : Round) : Type 0 where
   pub parts : AreParts P r.pieces.items seats
   pub lowered : r.least ≡ least_lowered seats
   pub seen : r.least ≤ least_seen seats
-
--- each of the groups has one piece, and stands in one worker's list, and each piece is what its
--- group's firings make that count
-pub record IsRun (runs : ScriptMeant → Type 0) (groups : Groups) (trace : List Firing) (r : Round)
-    : Type 0 where
-  pub once : IsAllBelow (grouping groups).count (map (λ p. p.0) r.pieces.items)
-  pub taken : IsAllBelow (grouping groups).count (flat_map (λ list. list.items) r.lists.items)
-  pub each : (m : ScriptMeant) → runs m
-      → All (IsOfGroup m (grouping groups) (firings_over m trace)) r.pieces.items
-  pub roomy : All (λ p. IsRoomy p.1) r.pieces.items

@@ -12,8 +12,6 @@ pub mod Selecting
 pub mod Seen
 pub mod Sizes
 pub mod Threads
-pub mod Caching
-pub mod Turns
 pub mod Effects
 pub mod Forms
 pub mod Scripts
@@ -21,10 +19,9 @@ pub mod Compiled
 pub mod Running
 pub mod Evaluation
 pub mod Uniting
-pub mod Described
 pub mod Tables
-pub mod PiecePlaces
 pub mod Collecting
 pub mod Working
 pub mod Beginnings
 pub mod Crews
+pub mod Steps

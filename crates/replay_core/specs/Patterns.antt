@@ -1,6 +1,6 @@
 -- Which probes a description matches.
-use Rattle.std.specs.Prelude.{◌≡◌, ◌⊎◌, ◌==◌, ◌&&◌, ◌||◌, ℕ, Bool, true, false, not, if◌then◌else◌}
-use Rattle.std.specs.Prelude.{List, [], ◌∷◌, ◌++◌}
+use Rattle.std.specs.Prelude.{◌≡◌, ◌⊎◌, ◌==◌, ◌&&◌, ◌||◌, ℕ, Bool, true, false, if◌then◌else◌, List}
+use Rattle.std.specs.Prelude.{[], ◌∷◌, ◌++◌}
 pub use Rattle.firing_reader.specs.Probing.{probe_of}
 use Rattle.firing_reader.specs.declared.unit.Probe.{Probe}
 use Rattle.d_parser.specs.declared.tree.Description.{Description}
@@ -34,12 +34,6 @@ pub record Selects (d : Description) (p : Probe) : Type 0 where
   pub probemod : MatchesField d.«module» p.probemod
   pub probefunc : MatchesField d.function p.probefunc
   pub name : MatchesField d.name p.name
-
--- ---- the same as tests
-
--- neither a star nor a question mark
-abbrev pub is_plain : ℕ → Bool
-is_plain p = not (p == star) && not (p == question)
 
 -- the test passes after some of the bytes
 abbrev pub passes_after : (List ℕ → Bool) → List ℕ → Bool

@@ -1,6 +1,5 @@
 -- Which clauses run for a probe, by their places.
-use Rattle.std.specs.Prelude.{ℕ, ◌+◌, nat_lt, if◌then◌else◌, List, [], ◌∷◌, ◌++◌, filter, map}
-use Rattle.std.specs.Prelude.{flat_map, replicate}
+use Rattle.std.specs.Prelude.{ℕ, ◌+◌, List, [], ◌∷◌, ◌++◌, filter, map, flat_map, replicate}
 use Rattle.d_parser.specs.declared.tree.Description.{Description}
 use Rattle.firing_reader.specs.declared.unit.Probe.{Probe}
 use Rattle.replay_core.specs.declared.clause_places.Repeat.{Repeat}
@@ -17,19 +16,3 @@ places_for p place (ds ∷ rest) =
 -- each clause's place as often in a row as it runs
 abbrev pub places_in_turn : List Repeat → List ℕ
 places_in_turn repeats = flat_map (λ r. replicate r.times r.place) repeats
-
--- ---- two lists of places as one
-
--- those at the front that are below a place, and what comes after them
-abbrev pub front_below : ℕ → List ℕ → List ℕ
-front_below place [] = []
-front_below place (p ∷ ps) = if nat_lt p place then p ∷ front_below place ps else []
-
-abbrev pub rest_from : ℕ → List ℕ → List ℕ
-rest_from place [] = []
-rest_from place (p ∷ ps) = if nat_lt p place then rest_from place ps else p ∷ ps
-
--- two lists that rise as one that rises
-abbrev pub merge : List ℕ → List ℕ → List ℕ
-merge [] more = more
-merge (p ∷ ps) more = front_below p more ++ p ∷ merge ps (rest_from p more)

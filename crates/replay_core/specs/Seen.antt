@@ -1,6 +1,6 @@
 -- Pieces, wholes and lanes as contracts see them.
-use Rattle.std.specs.Prelude.{◌≡◌, ◌≤◌, ◌*◌, ◌^◌, ℤ, List, [], None, length, map}
-use Rattle.aggregations.specs.Table.{StandsFor, count_held}
+use Rattle.std.specs.Prelude.{◌≤◌, ◌*◌, ◌^◌, ℤ, List, length, map}
+use Rattle.aggregations.specs.Table.{count_held}
 use Rattle.replay_core.specs.declared.piece.Piece.{Piece}
 use Rattle.replay_core.specs.declared.tables.Tables.{Tables}
 use Rattle.replay_core.specs.declared.whole.Whole.{Whole}
@@ -26,14 +26,6 @@ whole_seen w = record {
 -- a lane with these tables of threads and this piece
 abbrev pub lane_seen : List (ℤ × Tables) → Piece → LaneSeen
 lane_seen tables p = record { threads = threads_in tables; piece = piece_seen p }
-
--- a piece of no firing
-pub record IsEmptyPiece (p : Piece) : Type 0 where
-  pub texts : p.texts.items ≡ []
-  pub table : StandsFor p.table []
-  pub held : count_held p.table ≡ 0
-  pub taken : p.taken.items ≡ []
-  pub exit : p.exit ≡ None
 
 -- a firing makes at most 2^32 contributions
 abbrev pub IsRoomy : Piece → Type 0

@@ -1,16 +1,11 @@
 -- What a worker makes of the groups that it takes.
-use Rattle.std.specs.Prelude.{◌==◌, ◌||◌, ℕ, nat_le, Bool, true, List, All, filter, take, drop}
-use Rattle.replay_core.specs.Vocabulary.{AreOf, Firing, Groups, ScriptMeant, flat_map, run_threads}
-use Rattle.replay_core.specs.Vocabulary.{with_ends}
+use Rattle.std.specs.Prelude.{◌==◌, ◌||◌, ℕ, nat_le, Bool, true, List, All, filter}
+use Rattle.replay_core.specs.Vocabulary.{Firing, ScriptMeant, with_ends}
 use Rattle.replay_core.specs.declared.{piece.Piece.Piece, span.Span.Span}
 use Rattle.replay_core.specs.declared.span.Span.TheVariants as span
 use Rattle.replay_core.specs.{Pieces.IsPieceOf}
 use Rattle.replay_core.specs.Groups.{Grouping, of_group}
 use Rattle.replay_core.specs.Seen.{IsRoomy, piece_seen}
-
--- the firings at these places
-abbrev pub firings_at : List Firing → List ℕ → List Firing
-firings_at fs places = flat_map (λ place. take 1 (drop place fs)) places
 
 -- all, or those up to the last number, and END
 abbrev pub is_in : Span → Firing → Bool
@@ -31,9 +26,3 @@ pub record AreOfGroups (runs : ScriptMeant → Type 0) (grouping : Grouping) (fs
     (pieces : List (ℕ × Piece)) : Type 0 where
   pub each : (m : ScriptMeant) → runs m → All (IsOfGroup m grouping fs) pieces
   pub roomy : All (λ p. IsRoomy p.1) pieces
-
--- the script means something, and the groups are those of this trace
-pub record IsReady (runs : ScriptMeant → Type 0) (groups : Groups) (trace : List Firing)
-    : Type 0 where
-  pub script : (m : ScriptMeant) × runs m
-  pub placed : AreOf groups (run_threads trace)

@@ -2,8 +2,10 @@
 
 ghost use Rattle.std.specs.Prelude.{◌≡◌, All, vec_len, IfOk};
 ghost use Rattle.replay_core.specs.Vocabulary.{IsAt, IsNew, grouping};
-ghost use Rattle.replay_core.specs.{Selecting.AreSelected, Working.IsReady};
-ghost use Rattle.replay_core.specs.Crews.{AreFinished, Gives, IsWork};
+ghost use Rattle.replay_core.specs.{Selecting.AreSelected};
+ghost use Rattle.replay_core.specs.Steps.Working.{IsReady};
+ghost use Rattle.replay_core.specs.Crews.{Gives, IsWork};
+ghost use Rattle.replay_core.specs.Steps.Crews.{AreFinished};
 
 use crate::gate::Gate;
 use crate::lanes::Lanes;

@@ -5,10 +5,10 @@ ghost use Rattle.std.specs.Prelude.{filter, map, slice_get};
 ghost use Rattle.std.specs.Borrow.{Bor};
 ghost use Rattle.d_parser.specs.declared.tree.Description.{Description};
 ghost use Rattle.firing_reader.specs.Stored.{Extends};
-ghost use Rattle.replay_core.specs.Described.{HaveKinds, IsSameKind, IsTable, IsTableOf};
-ghost use Rattle.replay_core.specs.Described.{given_of, hash_of_description};
-ghost use Rattle.replay_core.specs.Described.{GiveSame, hash_of_probe, hash_sought, is_exact};
-ghost use Rattle.replay_core.specs.Described.{is_found, is_given, where_given};
+ghost use Rattle.replay_core.specs.Steps.Described.{HaveKinds, IsSameKind, IsTable, IsTableOf};
+ghost use Rattle.replay_core.specs.Steps.Described.{given_of, hash_of_description};
+ghost use Rattle.replay_core.specs.Steps.Described.{GiveSame, hash_of_probe, hash_sought, is_exact};
+ghost use Rattle.replay_core.specs.Steps.Described.{is_found, is_given, where_given};
 ghost use Rattle.replay_core.specs.Places.{places_for};
 ghost use Rattle.replay_core.specs.Uniting.{InOrder, with_number};
 

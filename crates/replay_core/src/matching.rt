@@ -3,7 +3,8 @@
 ghost use Rattle.std.specs.Prelude.{◌≡◌, ◌≢◌, ◌≤◌, ◌-◌, ◌↔◌, ◌∷◌, ◌++◌, ◌&&◌, ◌==◌, ℕ, List, All};
 ghost use Rattle.std.specs.Prelude.{IsTrue, MatchOption, length, take, drop};
 ghost use Rattle.std.specs.List.{list_all, zip};
-ghost use Rattle.replay_core.specs.Patterns.{Matches, field_matches, is_plain, is_same_or_question};
+ghost use Rattle.replay_core.specs.Patterns.{Matches, field_matches, is_same_or_question};
+ghost use Rattle.replay_core.specs.Steps.Patterns.{is_plain};
 ghost use Rattle.replay_core.specs.Patterns.{selects};
 
 use d_parser::Description;

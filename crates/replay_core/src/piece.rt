@@ -24,7 +24,8 @@ pub struct Piece {
 }
 
 impl Piece {
-    ghost use Rattle.replay_core.specs.{Effects.NotesEffect, Seen.IsEmptyPiece, Seen.piece_seen};
+    ghost use Rattle.replay_core.specs.{Effects.NotesEffect, Seen.piece_seen};
+    ghost use Rattle.replay_core.specs.Steps.Seen.{IsEmptyPiece};
 
     /// Without any firing, with aggregations of these functions.
     pub(crate) fn new(

@@ -1,7 +1,7 @@
 //! Places of clauses in lists that rise.
 
 ghost use Rattle.std.specs.Prelude.{◌≡◌, ◌≤◌, IfOk, length, take, drop};
-ghost use Rattle.replay_core.specs.Places.{front_below, merge, rest_from};
+ghost use Rattle.replay_core.specs.Steps.Places.{front_below, merge, rest_from};
 
 use std::alloc::{AllocError, Global};
 

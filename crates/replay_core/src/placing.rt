@@ -2,8 +2,8 @@
 
 ghost use Rattle.std.specs.Prelude.{◌≡◌, ◌<◌, ◌^◌, map, vec_len, Some, None, IfOk, IfErr};
 ghost use Rattle.std.specs.List.Sorted.{IsPermutation};
-ghost use Rattle.replay_core.specs.PiecePlaces.{first_bad, first_missing, pieces_with_places};
-ghost use Rattle.replay_core.specs.PiecePlaces.{IsFault};
+ghost use Rattle.replay_core.specs.Steps.PiecePlaces.{first_bad, first_missing, pieces_with_places};
+ghost use Rattle.replay_core.specs.Steps.PiecePlaces.{IsFault};
 
 use crate::collect_fault::CollectFault;
 use crate::piece::Piece;

@@ -2,7 +2,8 @@
 
 ghost use Rattle.std.specs.Prelude.{◌≡◌, ◌+◌, ◌<◌, ◌≤◌, IfOk, vec_len};
 ghost use Rattle.replay_core.specs.Vocabulary.{grouping};
-ghost use Rattle.replay_core.specs.{Selecting.AreSelected, Working.IsReady};
+ghost use Rattle.replay_core.specs.{Selecting.AreSelected};
+ghost use Rattle.replay_core.specs.Steps.Working.{IsReady};
 ghost use Rattle.replay_core.specs.Crews.{Gives, IsRound};
 
 use crate::crew::{in_threads, pieces_and_seats};

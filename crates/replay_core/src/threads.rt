@@ -6,9 +6,11 @@ ghost use Rattle.indexmap.specs.IndexMap.{get};
 ghost use Rattle.replay_core.specs.Vocabulary.{AreTyped, AreTypedOwn, ClauseMeant};
 ghost use Rattle.replay_core.specs.Vocabulary.{HasTypedBuiltIns, Slots, count_held, functions_of};
 ghost use Rattle.replay_core.specs.Vocabulary.{int_eq};
-ghost use Rattle.replay_core.specs.{Caching.IsTablesAt, Evaluation.variables_of, Lanes.Notes};
+ghost use Rattle.replay_core.specs.{Evaluation.variables_of, Lanes.Notes};
+ghost use Rattle.replay_core.specs.Steps.Caching.{IsTablesAt};
 ghost use Rattle.replay_core.specs.{Meaning.at_start, Scripts.AllMean, Seen.piece_seen};
-ghost use Rattle.replay_core.specs.{Threads.threads_in, Turns.turns};
+ghost use Rattle.replay_core.specs.{Threads.threads_in};
+ghost use Rattle.replay_core.specs.Steps.Turns.{turns};
 
 use crate::clause::Clause;
 use crate::clause_places::ClausePlaces;

@@ -4,7 +4,8 @@ ghost use Rattle.std.specs.Prelude.{◌≡◌, ◌+◌, ◌*◌, ◌<◌, ◌≤
 ghost use Rattle.std.specs.Prelude.{length};
 ghost use Rattle.replay_core.specs.Vocabulary.{AreTyped, ClauseMeant, HasTypedBuiltIns, Slots};
 ghost use Rattle.replay_core.specs.Vocabulary.{count_held, functions_of};
-ghost use Rattle.replay_core.specs.{Lanes.Notes, Scripts.AllMean, Seen.piece_seen, Turns.turns};
+ghost use Rattle.replay_core.specs.{Lanes.Notes, Scripts.AllMean, Seen.piece_seen};
+ghost use Rattle.replay_core.specs.Steps.Turns.{turns};
 ghost use Rattle.replay_core.specs.Evaluation.{Stays, variables_in};
 
 use crate::clause::Clause;

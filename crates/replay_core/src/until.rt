@@ -3,8 +3,10 @@
 ghost use Rattle.std.specs.Prelude.{◌≡◌, ◌<◌, ◌≤◌, true, [], map, length, All, IfOk, OnOk, IsFalse};
 ghost use Rattle.replay_core.specs.Vocabulary.{AreOf, MOST_BYTES, ScriptMeant, grouping, no_number};
 ghost use Rattle.replay_core.specs.Vocabulary.{run_threads, with_ends};
-ghost use Rattle.replay_core.specs.{Running.IsLaneOf, Seen.IsRoomy, Working.firings_at};
-ghost use Rattle.replay_core.specs.Beginnings.{AreBegun, IsBegunOf, RunsBeginning, least_exit};
+ghost use Rattle.replay_core.specs.{Running.IsLaneOf, Seen.IsRoomy};
+ghost use Rattle.replay_core.specs.Steps.Working.{firings_at};
+ghost use Rattle.replay_core.specs.Beginnings.{AreBegun, IsBegunOf, least_exit};
+ghost use Rattle.replay_core.specs.Steps.Beginnings.{RunsBeginning};
 ghost use Rattle.replay_core.specs.Beginnings.{lesser_of};
 ghost use Rattle.replay_core.specs.Selecting.{AreFor, AreSelected};
 

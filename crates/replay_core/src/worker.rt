@@ -6,7 +6,8 @@ ghost use Rattle.replay_core.specs.Vocabulary.{AreOf, Firing, HasRanges, MOST_BY
 ghost use Rattle.replay_core.specs.Vocabulary.{grouping, run_threads, with_ends};
 ghost use Rattle.replay_core.specs.{Running.IsLaneOf, Seen.IsRoomy, Sizes.most_firings};
 ghost use Rattle.replay_core.specs.Selecting.{AreFor, AreSelected, selected_for};
-ghost use Rattle.replay_core.specs.Working.{AreOfGroups, IsOfGroup, IsReady, firings_at};
+ghost use Rattle.replay_core.specs.Working.{AreOfGroups, IsOfGroup};
+ghost use Rattle.replay_core.specs.Steps.Working.{IsReady, firings_at};
 ghost use Rattle.replay_core.specs.Working.{firings_in, is_in};
 
 use crate::clause_places::ClausePlaces;

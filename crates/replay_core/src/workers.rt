@@ -3,8 +3,10 @@
 ghost use Rattle.std.specs.Prelude.{◌≡◌, ◌+◌, ◌<◌, ◌≤◌, IfOk, vec_len};
 ghost use Rattle.replay_core.specs.Vocabulary.{AreOf, IsTrace, ScriptMeant, end_of, flat_map};
 ghost use Rattle.replay_core.specs.Vocabulary.{grouping, run_threads};
-ghost use Rattle.replay_core.specs.{Crews.IsRun, Exit.firings_over, Groups.IsAllBelow};
-ghost use Rattle.replay_core.specs.{Seen.whole_seen, Selecting.AreSelected, Working.IsReady};
+ghost use Rattle.replay_core.specs.{Exit.firings_over, Groups.IsAllBelow};
+ghost use Rattle.replay_core.specs.Steps.Crews.{IsRun};
+ghost use Rattle.replay_core.specs.{Seen.whole_seen, Selecting.AreSelected};
+ghost use Rattle.replay_core.specs.Steps.Working.{IsReady};
 ghost use Rattle.replay_core.specs.Pieces.{IsWholeOf, RunsEachOnce};
 
 use crate::collect_fault::CollectFault;

@@ -20,7 +20,8 @@ use Rattle.std.proofs.lemmas.List.Folds.{flat_map-map}
 use Rattle.std.proofs.lemmas.Map.Keys.{sorted_from_all_adjacent, apart_from_distinct}
 use Rattle.d_values.specs.declared.key.KeyPart.{KeyPart}
 use Rattle.d_values.specs.Keys.{key_cmp, same_key}
-use Rattle.d_values.specs.KeyLaws.{key_cmp_total, key_cmp_equal, same_key_decides}
+use Rattle.d_values.specs.KeyLaws.{key_cmp_total, same_key_decides}
+use Rattle.d_values.proofs.Comparing.{key_cmp_equal}
 use Rattle.aggregations.specs.declared.function.AggFn.{AggFn}
 use Rattle.aggregations.specs.declared.held.Held.{Held}
 use Rattle.aggregations.specs.Table.{Contribution, AreEntries}

@@ -8,9 +8,11 @@ use Rattle.std.proofs.lemmas.Option.{same_Some, slice_get-get_or, slice_get_with
 use Rattle.aggregations.specs.declared.function.AggFn.{AggFn}
 use Rattle.aggregations.specs.Table.{Contribution}
 use Rattle.report.specs.Layout.{Entry}
-use Rattle.report.specs.Listing.{AppendsListing, IsListing, listing_bytes}
+use Rattle.report.specs.Listing.{IsListing, listing_bytes}
+use Rattle.report.specs.Steps.Listing.{AppendsListing}
 use Rattle.report.proofs.Listings.{listing_exists}
-use Rattle.report.specs.Output.{AppendsTables, IsOutput, Shows}
+use Rattle.report.specs.Output.{IsOutput, Shows}
+use Rattle.report.specs.Steps.Output.{AppendsTables}
 
 -- an element of a list with one more is one of the list's or the new one
 push_cases : {X : Type 0} (xs : List X) (new x : X) (i : ℕ) → slice_get (xs ++ new ∷ []) i ≡ Some x → (slice_get xs i ≡ Some x) ⊎ ((i ≡ length xs) × (new ≡ x))

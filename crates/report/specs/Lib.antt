@@ -9,3 +9,4 @@ pub mod Output
 pub mod Report
 pub mod Stream
 pub mod Watched
+pub mod Steps

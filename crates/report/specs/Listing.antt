@@ -1,5 +1,5 @@
 -- The entries of an aggregation in the order in which they are shown.
-use Rattle.std.specs.Prelude.{◌≡◌, ◌⊎◌, ◌<ℤ◌, ℕ, List, [], ◌∷◌, ◌++◌, ℤ}
+use Rattle.std.specs.Prelude.{◌≡◌, ◌⊎◌, ◌<ℤ◌, ℕ, List, [], ◌∷◌, ℤ}
 use Rattle.report.specs.Vocabulary.{AggFn, Contribution, AreEntries, figure_of, rank_of}
 use Rattle.report.specs.Vocabulary.{IsStrictlySortedBy, Less, Ordering, int_cmp, ordering_then}
 use Rattle.report.specs.Vocabulary.{flat_map, key_cmp}
@@ -29,10 +29,3 @@ pub record IsListing (function : AggFn) (agg : ℕ) (contributions : List Contri
 abbrev pub listing_bytes : List Entry → List ℕ
 listing_bytes [] = []
 listing_bytes (e ∷ es) = line_feed ∷ flat_map entry_bytes (e ∷ es)
-
--- the bytes after are those before, and then a listing of the aggregation
-pub record AppendsListing (function : AggFn) (agg : ℕ) (contributions : List Contribution)
-    (before after : List ℕ) : Type 0 where
-  pub entries : List Entry
-  pub listing : IsListing function agg contributions entries
-  pub bytes : after ≡ before ++ listing_bytes entries

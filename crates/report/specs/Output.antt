@@ -16,13 +16,6 @@ pub record Shows (functions : List AggFn) (contributions : List Contribution)
   -- one after the other
   pub joined : bytes ≡ flat_map listing_bytes listings
 
--- the bytes after are those before, and then the aggregations
-pub record AppendsTables (functions : List AggFn) (contributions : List Contribution)
-    (before after : List ℕ) : Type 0 where
-  pub tables : List ℕ
-  pub shown : Shows functions contributions tables
-  pub joined : after ≡ before ++ tables
-
 -- the bytes of the texts, each with its firing's number, in order, and then the aggregations
 pub record IsOutput (functions : List AggFn) (texts : List (ℕ × List ℕ))
     (contributions : List Contribution) (bytes : List ℕ) : Type 0 where

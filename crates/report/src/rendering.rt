@@ -4,8 +4,10 @@ ghost use Rattle.std.specs.Prelude.{◌≡◌, ◌<◌, ◌++◌, List, Some, On
 ghost use Rattle.report.specs.{Layout.entry_bytes};
 ghost use Rattle.report.specs.Vocabulary.{AggFn, Contribution, StandsFor, deref_pair, flat_map};
 ghost use Rattle.report.specs.Vocabulary.{functions_of};
-ghost use Rattle.report.specs.Listing.{AppendsListing, listing_bytes};
-ghost use Rattle.report.specs.Output.{AppendsTables, IsOutput};
+ghost use Rattle.report.specs.Listing.{listing_bytes};
+ghost use Rattle.report.specs.Steps.Listing.{AppendsListing};
+ghost use Rattle.report.specs.Output.{IsOutput};
+ghost use Rattle.report.specs.Steps.Output.{AppendsTables};
 ghost use Rattle.d_types.specs.TypedScripts.{typed_script_of};
 
 use crate::layout::put_entry;

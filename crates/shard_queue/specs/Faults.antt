@@ -1,5 +1,5 @@
 -- Why lists group no threads.
-use Rattle.std.specs.Prelude.{◌≡◌, ◌<◌, ◌≤◌, ◌⊎◌, ℕ, ℤ, not, List, [], ◌∷◌, ◌++◌, length, flat_map}
+use Rattle.std.specs.Prelude.{◌≡◌, ◌<◌, ◌≤◌, ◌⊎◌, ℤ, not, List, [], ◌∷◌, ◌++◌, length, flat_map}
 use Rattle.std.specs.Prelude.{find, if◌then◌else◌, option_map, Option, Some, None}
 use Rattle.shard_queue.specs.Vocabulary.{Doubled, Firing, GroupFault, MOST_GROUPS, Missing}
 use Rattle.shard_queue.specs.Vocabulary.{Stranger, TooMany, option_or}
@@ -41,10 +41,3 @@ IsListFault lists trace fault =
     ((MOST_GROUPS < length lists) × (fault ≡ TooMany))
     ⊎ ((length lists ≤ MOST_GROUPS) × ((threads : List ℤ) × AreThreads trace threads
     × (thread_fault threads lists ≡ Some fault)))
-
--- the first thread without a number
-abbrev pub first_unfound : List ℤ → List (Option ℕ) → Option GroupFault
-first_unfound [] numbers = None
-first_unfound (t ∷ ts) [] = None
-first_unfound (t ∷ ts) (None ∷ numbers) = Some (Missing t)
-first_unfound (t ∷ ts) (Some number ∷ numbers) = first_unfound ts numbers

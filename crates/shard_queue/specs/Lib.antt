@@ -12,3 +12,4 @@ pub mod Threads
 pub mod Groupings
 pub mod Faults
 pub mod Groups
+pub mod Steps

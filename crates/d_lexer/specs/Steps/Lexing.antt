@@ -1,10 +1,16 @@
 -- What the functions of the scanner return, by the tokens from left to right.
-use Rattle.std.specs.Prelude.{◌≡◌, ℕ, ◌⊎◌, List, ◌++◌, Result, Ok, Err}
+use Rattle.std.specs.Prelude.{◌≡◌, ℕ, ◌⊎◌, List, ◌++◌, Result, Ok, Err, Bool, true, false}
 use Rattle.d_lexer.specs.declared.{token.Token.Token, place.Place.Place}
 use Rattle.d_lexer.specs.declared.fault.LexFault.{LexFault}
 use Rattle.d_lexer.specs.declared.fault.LexFault.TheVariants as faults
 use Rattle.d_lexer.specs.{Tokens.TokensEnd, Tokens.Clean, Tokens.Bad, Lexing.settle}
 use Rattle.d_lexer.specs.Steps.Scan.{Scanned}
+use Rattle.d_lexer.specs.Vocabulary.{TokenKind, Mark}
+
+-- the token is a slash that was read as the closing one
+abbrev pub is_closing : TokenKind → Bool
+is_closing (TokenKind.Mark Mark.ClosingSlash) = true
+is_closing t = false
 
 -- the fault at which the reading ends, unless memory was refused
 abbrev pub Stops : LexFault → TokensEnd → Type 0

@@ -11,7 +11,8 @@ use Rattle.d_lexer.specs.Bytes.{quote, backslash, at_sign, star, slash, undersco
 use Rattle.d_lexer.specs.Places.{after_byte, is_first, is_hash, place_after}
 use Rattle.d_lexer.specs.Tokens.{TokensEnd, Clean, Bad}
 use Rattle.d_lexer.specs.{Steps.Numbers.number_spelled, Marks.mark_of, Faults.on_line}
-use Rattle.d_lexer.specs.{Steps.OptionLine.is_option, Outcomes.Gives as GivesBy}
+use Rattle.d_lexer.specs.{Steps.OptionLine.is_option}
+use Rattle.d_lexer.specs.Steps.Outcomes.{Gives as GivesBy}
 
 -- the flaw for which a step stops, none where memory was refused
 abbrev pub flaw_of : Stop → Option Flaw

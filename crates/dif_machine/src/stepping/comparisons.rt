@@ -2,7 +2,8 @@
 
 ghost use Rattle.std.specs.Prelude.{◌≢◌, None};
 ghost use Rattle.dif_machine.specs.Vocabulary.{Cmp, Tst, Scmp, Ba, Branch};
-ghost use Rattle.dif_machine.specs.Instructions.{CanExecute, Executes, ExecutesAnywhere, HasNext};
+ghost use Rattle.dif_machine.specs.Steps.Instructions.{CanExecute, Executes, ExecutesAnywhere};
+ghost use Rattle.dif_machine.specs.Steps.Instructions.{HasNext};
 
 use crate::comparing::{compare_numbers, compare_texts, holds};
 use crate::context::Context;

@@ -2,7 +2,7 @@
 
 ghost use Rattle.std.specs.Prelude.{◌≢◌, None, slice_get};
 ghost use Rattle.dif_machine.specs.Vocabulary.{Alu, Not, Setx, Ldga, Firing as Recorded, object_of};
-ghost use Rattle.dif_machine.specs.Instructions.{CanExecute, Executes, HasNext};
+ghost use Rattle.dif_machine.specs.Steps.Instructions.{CanExecute, Executes, HasNext};
 
 use crate::context::Context;
 use crate::fault::MachineFault;

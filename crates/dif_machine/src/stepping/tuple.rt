@@ -2,7 +2,8 @@
 
 ghost use Rattle.std.specs.Prelude.{◌<◌, length};
 ghost use Rattle.dif_machine.specs.Vocabulary.{Pushtr, Pushtv, Flushts, Call};
-ghost use Rattle.dif_machine.specs.Instructions.{CanExecute, Executes, ExecutesAnywhere, HasNext};
+ghost use Rattle.dif_machine.specs.Steps.Instructions.{CanExecute, Executes, ExecutesAnywhere};
+ghost use Rattle.dif_machine.specs.Steps.Instructions.{HasNext};
 
 use crate::context::Context;
 use crate::fault::MachineFault;

@@ -1,7 +1,8 @@
 //! Instructions that move a value of either kind, or none.
 
 ghost use Rattle.dif_machine.specs.Vocabulary.{Difo, FrameInMemory, Mov, Sets, Ldgs, Ret, Nop};
-ghost use Rattle.dif_machine.specs.Instructions.{CanExecute, Executes, ExecutesAnywhere, HasNext};
+ghost use Rattle.dif_machine.specs.Steps.Instructions.{CanExecute, Executes, ExecutesAnywhere};
+ghost use Rattle.dif_machine.specs.Steps.Instructions.{HasNext};
 
 use crate::context::Context;
 use crate::fault::MachineFault;

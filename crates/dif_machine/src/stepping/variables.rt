@@ -1,8 +1,8 @@
 //! Instructions that load and store variables.
 
 ghost use Rattle.dif_machine.specs.Vocabulary.{Ldts, Stts, Ldls, Stls, Ldtaa, Sttaa};
-ghost use Rattle.dif_machine.specs.Instructions.{CanExecute, ExecutesOnLocals, ExecutesOnOwn};
-ghost use Rattle.dif_machine.specs.Instructions.{HasNext, LoadsLocal, LoadsOwn};
+ghost use Rattle.dif_machine.specs.Steps.Instructions.{CanExecute, ExecutesOnLocals, ExecutesOnOwn};
+ghost use Rattle.dif_machine.specs.Steps.Instructions.{HasNext, LoadsLocal, LoadsOwn};
 
 use crate::context::Context;
 use crate::fault::MachineFault;

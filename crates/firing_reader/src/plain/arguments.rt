@@ -1,7 +1,7 @@
 //! The arguments of a plain row.
 
 ghost use Rattle.std.specs.Prelude.{◌≤◌, ◌∷◌, [], IfSome, replicate};
-ghost use Rattle.firing_reader.specs.Plain.{Closes, ReadsArguments};
+ghost use Rattle.firing_reader.specs.Steps.Plain.{Closes, ReadsArguments};
 ghost use Rattle.firing_reader.specs.Stored.{Extends, IsGivenIn, given_in, ten};
 
 use super::field::{last_argument, next_argument};

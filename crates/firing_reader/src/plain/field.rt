@@ -5,7 +5,8 @@ ghost use Rattle.std.specs.Prelude.{◌≡◌, ◌<◌, ◌≤◌, ◌+◌, ◌*
 ghost use Rattle.std.specs.Prelude.{take, length};
 ghost use Rattle.std.specs.Str.Parse.{AllDigits, digits_value};
 ghost use Rattle.firing_reader.specs.Column.{signed_of, text_of};
-ghost use Rattle.firing_reader.specs.Plain.{BeginsWith, Closes, Passes, int_of, whole_of};
+ghost use Rattle.firing_reader.specs.Plain.{Passes, int_of, whole_of};
+ghost use Rattle.firing_reader.specs.Steps.Plain.{BeginsWith, Closes};
 
 use super::front::{after_comma, after_feed, after_minus, front, rest_after, word_front};
 use crate::columns::{negative, positive};

@@ -2,7 +2,7 @@
 
 ghost use Rattle.std.specs.Prelude.{◌≡◌, ◌≤◌, ◌∷◌, ◌++◌, true, false, ℕ, List, All, IfSome, length};
 ghost use Rattle.std.specs.Prelude.{take};
-ghost use Rattle.firing_reader.specs.Plain.{IsWordByte, JoinsField};
+ghost use Rattle.firing_reader.specs.Steps.Plain.{IsWordByte, JoinsField};
 
 // What comes after a comma.
 pub(crate) fn after_comma(bytes: &[u8]) -> Option<&[u8]>

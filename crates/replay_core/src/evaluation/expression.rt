@@ -3,7 +3,8 @@
 ghost use Rattle.std.specs.Prelude.{◌≡◌, ◌<◌, length, slice_set};
 ghost use Rattle.d_types.specs.Expressions as spec;
 ghost use Rattle.replay_core.specs.Vocabulary.{Typed, typed_of, typeds_of};
-ghost use Rattle.replay_core.specs.Evaluation.{HasKey, HasText, HasValue, HasWord, Leaves, Meets};
+ghost use Rattle.replay_core.specs.Evaluation.{Meets};
+ghost use Rattle.replay_core.specs.Steps.Evaluation.{HasKey, HasText, HasValue, HasWord, Leaves};
 
 use crate::evaluation::built_in::{built_in, built_in_word};
 use crate::evaluation::changes::{step_variable, update_variable};

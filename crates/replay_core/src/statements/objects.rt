@@ -5,7 +5,8 @@ ghost use Rattle.dif_codegen.specs.Meaning as spec;
 ghost use Rattle.replay_core.specs.Vocabulary.{Has, action_code, number_outcome, part_of};
 ghost use Rattle.replay_core.specs.Vocabulary.{value_result};
 ghost use Rattle.replay_core.specs.Vocabulary.{with};
-ghost use Rattle.replay_core.specs.Evaluation.{Leaves, Meets, Returns, variables_of};
+ghost use Rattle.replay_core.specs.Evaluation.{Meets, Returns, variables_of};
+ghost use Rattle.replay_core.specs.Steps.Evaluation.{Leaves};
 
 use crate::evaluation::{EvalFault, owned_value, set_part, word_of};
 use crate::piece::Piece;

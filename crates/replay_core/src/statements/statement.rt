@@ -2,7 +2,8 @@
 
 ghost use Rattle.std.specs.Prelude.{◌≡◌, ◌+◌, ◌<◌, ◌≤◌, ◌^◌, List, length};
 ghost use Rattle.d_types.specs.Typed as typed;
-ghost use Rattle.replay_core.specs.{Bounds.place_in, Effects.IsPerformed, Evaluation.Meets};
+ghost use Rattle.replay_core.specs.{Bounds.place_in, Evaluation.Meets};
+ghost use Rattle.replay_core.specs.Steps.Effects.{IsPerformed};
 ghost use Rattle.replay_core.specs.Vocabulary.{ActionOf, count_held, effect_by, functions_of};
 ghost use Rattle.replay_core.specs.Vocabulary.{argument_by};
 

@@ -1,5 +1,5 @@
 use Rattle.std.proofs.Common.{◌<◌, length, arith}
-use Rattle.consumer.specs.Beginnings.{IsDividedAt, IsUndivided}
+use Rattle.consumer.specs.Steps.Beginnings.{IsDividedAt, IsUndivided}
 use Rattle.consumer.proofs.Taken.{told_divided, told_long}
 use Rattle.consumer.proofs.intake.trace_after.Goals as goal
 

@@ -1,6 +1,6 @@
 use Rattle.std.proofs.Common.{◌≡◌, sym, ◌∙◌}
 use Rattle.std.proofs.Common.{refl}
-use Rattle.d_parser.specs.ReadingScripts.{spelled_word}
+use Rattle.d_parser.specs.Steps.ReadingScripts.{spelled_word}
 use Rattle.d_parser.proofs.Steps.{typed_some, typed_none}
 use Rattle.d_parser.proofs.declaration.typed_name.Goals as goal
 

@@ -1,5 +1,5 @@
 use Rattle.std.proofs.Common.{◌≡◌, ◌≤◌, length}
-use Rattle.d_parser.specs.Depth as spec
+use Rattle.d_parser.specs.Steps.Depth as spec
 use Rattle.d_parser.proofs.limits.is_deep.Given as goal
 
 abbrev pub invariant-loop-rest : goal.invariant-loop-rest

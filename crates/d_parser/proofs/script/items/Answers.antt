@@ -2,7 +2,7 @@ use Rattle.std.proofs.Common.{◌≡◌, ◌≤◌, ◌+◌, ◌-◌, ◌++◌, 
 use Rattle.std.proofs.Common.{arith}
 use Rattle.std.proofs.lemmas.Grind.{common_steps}
 use Rattle.d_parser.specs.Tree.{item_of, ItemTree}
-use Rattle.d_parser.specs.ReadingScripts.{items_reader}
+use Rattle.d_parser.specs.Steps.ReadingScripts.{items_reader}
 use Rattle.d_parser.proofs.Rows.{items_push}
 use Rattle.d_parser.proofs.Steps.{items_stop, items_goes}
 use Rattle.d_parser.proofs.script.items.Goals as goal

@@ -1,6 +1,6 @@
 use Rattle.std.proofs.Common.{◌≡◌, ◌-◌, map, []}
 use Rattle.d_parser.specs.Tree.{item_of}
-use Rattle.d_parser.specs.ReadingScripts.{items_reader}
+use Rattle.d_parser.specs.Steps.ReadingScripts.{items_reader}
 use Rattle.d_parser.proofs.script.items.Given as goal
 
 -- what is left to read

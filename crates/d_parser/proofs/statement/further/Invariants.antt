@@ -1,6 +1,6 @@
 use Rattle.std.proofs.Common.{◌≡◌, ◌-◌}
 use Rattle.d_parser.specs.Tree.{stmts_of}
-use Rattle.d_parser.specs.ReadingScripts.{further_stmts}
+use Rattle.d_parser.specs.Steps.ReadingScripts.{further_stmts}
 use Rattle.d_parser.proofs.statement.further.Given as goal
 
 -- what is left to read

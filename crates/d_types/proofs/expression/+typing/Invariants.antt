@@ -3,7 +3,7 @@ use Rattle.std.specs.Prelude.{max}
 use Rattle.d_parser.specs.declared.tree.Expr.{size-Expr}
 use Rattle.d_parser.specs.Tree.{trees_of}
 use Rattle.d_types.specs.Typed.{typeds_of, end}
-use Rattle.d_types.specs.Variables.{rows_of_entries}
+use Rattle.d_types.specs.Steps.Variables.{rows_of_entries}
 use Rattle.d_types.specs.Typing as spec
 use Rattle.d_types.proofs.expression.+typing.Given as goal
 

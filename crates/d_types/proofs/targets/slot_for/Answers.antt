@@ -1,5 +1,6 @@
 use Rattle.std.proofs.Common.{◌≡◌, ◌<◌, ◌≤◌, length, None}
-use Rattle.d_types.specs.Variables.{find, rows_of_entries}
+use Rattle.d_types.specs.Variables.{find}
+use Rattle.d_types.specs.Steps.Variables.{rows_of_entries}
 use Rattle.d_types.specs.Targets.{most_keys}
 use Rattle.d_types.proofs.NewVariables.{slot_refused, slot_new}
 use Rattle.d_types.proofs.targets.slot_for.Goals as goal

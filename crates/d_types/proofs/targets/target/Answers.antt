@@ -1,6 +1,6 @@
 use Rattle.std.proofs.Common.{◌≡◌, ap, ◌∙◌}
 use Rattle.d_types.specs.Words.{built_in}
-use Rattle.d_types.specs.Variables.{rows_of_entries}
+use Rattle.d_types.specs.Steps.Variables.{rows_of_entries}
 use Rattle.d_types.proofs.targets.target.Goals as goal
 
 pub returns-in-Plain : goal.returns-in-Plain

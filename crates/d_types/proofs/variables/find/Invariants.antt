@@ -1,5 +1,6 @@
 use Rattle.std.proofs.Common.{◌≡◌, drop}
-use Rattle.d_types.specs.Variables.{find_from, rows_of_entries}
+use Rattle.d_types.specs.Variables.{find_from}
+use Rattle.d_types.specs.Steps.Variables.{rows_of_entries}
 use Rattle.d_types.proofs.variables.find.Given as goal
 
 abbrev pub invariant-loop-slot : goal.invariant-loop-slot

@@ -3,7 +3,7 @@ use Rattle.std.specs.List.{enumerate_from, slice_get}
 use Rattle.std.proofs.lemmas.List.{length-map, take_all}
 use Rattle.std.proofs.lemmas.List.FromFn.{length-enumerate_from}
 use Rattle.d_types.specs.Typed.{agg_of, aggs_of}
-use Rattle.data_lines.specs.Runs.{AppendsListed}
+use Rattle.data_lines.specs.Steps.Runs.{AppendsListed}
 use Rattle.data_lines.proofs.Listed.{function_at, listed_more, listed_none, take_numbered}
 use Rattle.data_lines.proofs.rendering.put_aggregations.Goals as goal
 

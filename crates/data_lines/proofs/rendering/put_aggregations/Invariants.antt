@@ -2,7 +2,7 @@ use Rattle.std.proofs.Common.{List, take}
 use Rattle.std.specs.List.{enumerate_from}
 use Rattle.aggregations.specs.Table.{Contribution, StandsFor}
 use Rattle.d_types.specs.Typed.{aggs_of}
-use Rattle.data_lines.specs.Runs.{AppendsListed}
+use Rattle.data_lines.specs.Steps.Runs.{AppendsListed}
 use Rattle.data_lines.proofs.rendering.put_aggregations.Given as goal
 
 abbrev pub invariant-loop-place : goal.invariant-loop-place

@@ -2,7 +2,8 @@ use Rattle.std.proofs.Common.{◌≡◌, ◌++◌, length, map, sym, subst, ap, 
 use Rattle.std.specs.List.{enumerate_from, flat_map, sum_by}
 use Rattle.d_types.specs.Typed.{aggs_of}
 use Rattle.data_lines.specs.Lines.{first_line, last_line, text_line}
-use Rattle.data_lines.specs.Runs.{AppendsListed, run_of}
+use Rattle.data_lines.specs.Runs.{run_of}
+use Rattle.data_lines.specs.Steps.Runs.{AppendsListed}
 use Rattle.data_lines.proofs.Listed.{data_of}
 use Rattle.data_lines.proofs.rendering.render.Goals as goal
 

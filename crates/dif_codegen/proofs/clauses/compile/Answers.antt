@@ -6,7 +6,7 @@ use Rattle.d_types.specs.TypedScripts.{typed_script_of}
 use Rattle.d_types.specs.Wholes.{ClausesAre}
 use Rattle.d_types.proofs.ConsistentScripts.{script_is_consistent}
 use Rattle.d_types.proofs.Fitting.{typed_script_fits}
-use Rattle.dif_codegen.specs.Programs.{compiled_clause}
+use Rattle.dif_codegen.specs.Steps.Programs.{compiled_clause}
 use Rattle.dif_codegen.proofs.Listed.{clauses_are, is_program}
 use Rattle.dif_codegen.proofs.clauses.compile.Goals as goal
 

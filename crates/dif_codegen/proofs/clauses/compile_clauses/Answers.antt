@@ -4,7 +4,8 @@ use Rattle.d_types.specs.Held.{IsConsistent}
 use Rattle.d_types.specs.Typed.{meant_of}
 use Rattle.d_types.specs.Wholes.{ClausesAre}
 use Rattle.d_types.proofs.Tables.{front}
-use Rattle.dif_codegen.specs.Programs.{clause_code, compiled_clause}
+use Rattle.dif_codegen.specs.Programs.{clause_code}
+use Rattle.dif_codegen.specs.Steps.Programs.{compiled_clause}
 use Rattle.dif_codegen.proofs.Listed.{map-map, mapped_end, mapped_on}
 use Rattle.dif_codegen.proofs.clauses.compile_clauses.Goals as goal
 

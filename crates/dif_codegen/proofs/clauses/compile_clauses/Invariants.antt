@@ -3,7 +3,8 @@ use Rattle.d_types.specs.Fitting.{FitsRegisters}
 use Rattle.d_types.specs.Held.{IsConsistent, Slots}
 use Rattle.d_types.specs.Typed.{meant_of}
 use Rattle.d_types.specs.Wholes.{ClausesAre}
-use Rattle.dif_codegen.specs.Programs.{clause_code, compiled_clause}
+use Rattle.dif_codegen.specs.Programs.{clause_code}
+use Rattle.dif_codegen.specs.Steps.Programs.{compiled_clause}
 use Rattle.dif_codegen.proofs.clauses.compile_clauses.Given as goal
 
 abbrev pub invariant-loop-c : goal.invariant-loop-c

@@ -4,7 +4,8 @@ use Rattle.d_types.specs.Held.{IsConsistent}
 use Rattle.d_types.specs.Typed.{action_of, actions_of}
 use Rattle.d_types.specs.Wholes.{ActionsAre}
 use Rattle.d_types.proofs.Tables.{front}
-use Rattle.dif_codegen.specs.Programs.{action_code, compiled_action}
+use Rattle.dif_codegen.specs.Programs.{action_code}
+use Rattle.dif_codegen.specs.Steps.Programs.{compiled_action}
 use Rattle.dif_codegen.proofs.Listed.{map-map, mapped_end, mapped_on}
 use Rattle.dif_codegen.proofs.clauses.compile_statements.Goals as goal
 

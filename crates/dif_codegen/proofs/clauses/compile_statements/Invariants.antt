@@ -3,7 +3,8 @@ use Rattle.d_types.specs.Fitting.{FitsRegisters}
 use Rattle.d_types.specs.Held.{IsConsistent, Slots}
 use Rattle.d_types.specs.Typed.{action_of, actions_of}
 use Rattle.d_types.specs.Wholes.{ActionsAre}
-use Rattle.dif_codegen.specs.Programs.{action_code, compiled_action}
+use Rattle.dif_codegen.specs.Programs.{action_code}
+use Rattle.dif_codegen.specs.Steps.Programs.{compiled_action}
 use Rattle.dif_codegen.proofs.clauses.compile_statements.Given as goal
 
 abbrev pub invariant-loop-s : goal.invariant-loop-s

@@ -3,7 +3,7 @@ use Rattle.d_types.specs.Fitting.{FitsRegisters}
 use Rattle.d_types.specs.Held.{IsConsistent, Slots}
 use Rattle.d_types.specs.Typed.{typeds_of}
 use Rattle.d_types.specs.Wholes.{EachIs}
-use Rattle.dif_codegen.specs.Programs.{compiled_objects}
+use Rattle.dif_codegen.specs.Steps.Programs.{compiled_objects}
 use Rattle.dif_codegen.proofs.compiling.compile_expressions.Given as goal
 
 abbrev pub invariant-loop-e : goal.invariant-loop-e

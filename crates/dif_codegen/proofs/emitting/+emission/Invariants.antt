@@ -2,8 +2,8 @@ use Rattle.std.specs.Prelude.{◌≡◌, ◌≤◌, ◌+◌, drop}
 use Rattle.d_types.specs.Needs.{need_of_keys}
 use Rattle.d_types.specs.Typed.{typed_of, typeds_of}
 use Rattle.dif_validate.specs.declared.object.Difo.{Difo}
-use Rattle.dif_codegen.specs.Code.{keys_code}
-use Rattle.dif_codegen.specs.Drafts.{Adds}
+use Rattle.dif_codegen.specs.Steps.Code.{keys_code}
+use Rattle.dif_codegen.specs.Steps.Drafts.{Adds}
 use Rattle.dif_codegen.proofs.Sizes.{size, sizes}
 use Rattle.dif_codegen.proofs.emitting.+emission.Given as goal
 

@@ -1,8 +1,8 @@
 use Rattle.std.proofs.Common.{sym, subst, arith, ◌≤◌, ◌+◌, drop}
 use Rattle.d_types.specs.Needs.{count}
 use Rattle.d_types.specs.Typed.{typeds_of}
-use Rattle.dif_codegen.specs.Code.{pushing}
-use Rattle.dif_codegen.specs.Drafts.{Adds}
+use Rattle.dif_codegen.specs.Steps.Code.{pushing}
+use Rattle.dif_codegen.specs.Steps.Drafts.{Adds}
 use Rattle.dif_codegen.proofs.Adding.{pushed_all, both_adds, next_key, key_there}
 use Rattle.dif_codegen.proofs.keys.put_key.Goals as goal
 

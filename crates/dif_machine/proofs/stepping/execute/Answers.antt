@@ -5,7 +5,7 @@ use Rattle.d_values.specs.Storage.{variables}
 use Rattle.d_values.specs.Stores.{local_of, own_of}
 use Rattle.dif_machine.specs.Vocabulary.{Difo, Firing, FrameInMemory, Instr, Ldga, Reg, Variables}
 use Rattle.dif_machine.specs.Vocabulary.{object_of}
-use Rattle.dif_machine.specs.Instructions.{CanExecuteOver}
+use Rattle.dif_machine.specs.Steps.Instructions.{CanExecuteOver}
 use Rattle.dif_machine.specs.Held.{frame_of}
 use Rattle.dif_machine.proofs.Acting.{only_array, text_fits, number_fits}
 use Rattle.dif_machine.proofs.Executing.{can, does}

@@ -3,7 +3,7 @@ use Rattle.std.proofs.Common.{arith}
 use Rattle.std.proofs.Common.{sym, ap, inl, inr}
 use Rattle.std.proofs.lemmas.Result.{err_from_is_err_and}
 use Rattle.csv.specs.Reading.{strip_bom}
-use Rattle.firing_reader.specs.RowEnds.{RowsEnd}
+use Rattle.firing_reader.specs.Steps.RowEnds.{RowsEnd}
 use Rattle.firing_reader.specs.Trace.{trace_of}
 use Rattle.firing_reader.proofs.BlockSteps.{begins_csv, begins_plain, fault_of_header}
 use Rattle.firing_reader.proofs.blocks.read_header.Goals as goal

@@ -1,7 +1,7 @@
 use Rattle.std.proofs.Common.{◌≡◌, ℕ, List, ◌+◌, ◌-◌, ◌∙◌, ◌∷◌, length, take, drop, arith, sym, ap}
 use Rattle.std.proofs.Common.{inl, inr}
 use Rattle.std.proofs.lemmas.Result.{err_from_is_err_and}
-use Rattle.firing_reader.specs.Plain.{GoesOn, Leaves}
+use Rattle.firing_reader.specs.Steps.Plain.{GoesOn, Leaves}
 use Rattle.firing_reader.proofs.BlockSteps.{after_is, chunk_is, fault_of_rows, left_from, rows_none}
 use Rattle.firing_reader.proofs.BlockSteps.{rows_read}
 use Rattle.firing_reader.proofs.Kept.{rows_few}

@@ -1,5 +1,5 @@
 use Rattle.std.proofs.Common.{◌≡◌, ◌++◌, map, take}
-use Rattle.firing_reader.specs.Stored.{moved_row}
+use Rattle.firing_reader.specs.Steps.Stored.{moved_row}
 use Rattle.firing_reader.proofs.firings.add_rows.Given as goal
 
 abbrev pub invariant-loop-row : goal.invariant-loop-row

@@ -1,5 +1,5 @@
 use Rattle.std.proofs.Common.{◌≤◌, take}
-use Rattle.firing_reader.specs.RowEnds.{RowsEnd}
+use Rattle.firing_reader.specs.Steps.RowEnds.{RowsEnd}
 use Rattle.firing_reader.proofs.RowEnds.{StandsAt}
 use Rattle.firing_reader.proofs.row_ends.end_of_rows.Given as goal
 

@@ -1,6 +1,7 @@
 use Rattle.std.proofs.Common.{◌≡◌, ◌+◌, ◌++◌, List, Result, vec_len}
 use Rattle.std.specs.declared.alloc.AllocError.{AllocError}
-use Rattle.replay_core.specs.Crews.{AreFinished, Part}
+use Rattle.replay_core.specs.Crews.{Part}
+use Rattle.replay_core.specs.Steps.Crews.{AreFinished}
 use Rattle.replay_core.proofs.crew.pieces_and_seats.Given as goal
 
 abbrev pub invariant-loop-worked : goal.invariant-loop-worked

@@ -2,7 +2,7 @@ use Rattle.std.proofs.Common.{rules, arith, ◌≡◌, ◌∙◌, ◌++◌, sym,
 use Rattle.std.proofs.lemmas.Bool.Decides.{nat_tests}
 use Rattle.std.proofs.lemmas.List.{nil_from_length}
 use Rattle.replay_core.proofs.PlacesMerged.{merged_more, merged_none}
-use Rattle.replay_core.specs.Places.{merge}
+use Rattle.replay_core.specs.Steps.Places.{merge}
 use Rattle.replay_core.proofs.places.merge.Goals as goal
 
 pub returns-then-is_empty : goal.returns-then-is_empty

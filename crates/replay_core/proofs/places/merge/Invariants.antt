@@ -1,5 +1,5 @@
 use Rattle.std.proofs.Common.{◌≡◌, ◌++◌}
-use Rattle.replay_core.specs.Places.{merge}
+use Rattle.replay_core.specs.Steps.Places.{merge}
 use Rattle.replay_core.proofs.places.merge.Given as goal
 
 abbrev pub invariant-loop-place : goal.invariant-loop-place

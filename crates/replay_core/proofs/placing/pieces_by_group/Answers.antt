@@ -2,7 +2,7 @@ use Rattle.std.proofs.Common.{◌≡◌, ◌<◌, ◌++◌, ◌∷◌, [], true,
 use Rattle.std.proofs.Common.{length, refl, sym, ap, ◌∙◌, subst, arith, rules, append-nil}
 use Rattle.std.proofs.lemmas.List.{get_or_default}
 use Rattle.std.specs.Vec.Iter.{into_iter_items}
-use Rattle.replay_core.specs.PiecePlaces.{first_bad_after, is_filled, pieces_with_places}
+use Rattle.replay_core.specs.Steps.PiecePlaces.{first_bad_after, is_filled, pieces_with_places}
 use Rattle.std.specs.List.Sorted.{IsPermutation}
 use Rattle.replay_core.proofs.SamePieces.{same_start, same_next}
 use Rattle.replay_core.proofs.PlaceSteps.{bad_next, bad_stranger, bad_twice, bad_start, none_pushed}

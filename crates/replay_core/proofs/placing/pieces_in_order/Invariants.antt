@@ -1,6 +1,6 @@
 use Rattle.std.proofs.Common.{◌≡◌, ◌≤◌, ◌+◌, ◌++◌, map, Some, length, vec_len, vec_capacity}
 use Rattle.std.specs.Vec.Iter.{into_iter_items}
-use Rattle.replay_core.specs.PiecePlaces.{first_missing}
+use Rattle.replay_core.specs.Steps.PiecePlaces.{first_missing}
 use Rattle.replay_core.proofs.placing.pieces_in_order.Given as goal
 
 abbrev pub invariant-loop-place : goal.invariant-loop-place

@@ -1,7 +1,7 @@
 use Rattle.std.proofs.Common.{◌≡◌, List, length, map, take}
 use Rattle.d_parser.specs.declared.tree.Description.{Description}
 use Rattle.firing_reader.specs.Stored.{ArePlaces, Extends}
-use Rattle.replay_core.specs.Described.{IsTableOf}
+use Rattle.replay_core.specs.Steps.Described.{IsTableOf}
 use Rattle.replay_core.specs.Places.{places_for}
 use Rattle.replay_core.proofs.selection.lists_for.Given as goal
 

@@ -10,12 +10,12 @@ use Rattle.indexmap.proofs.CallerLemmas.{updates-with_value_at}
 use mir.Val.{SFits}
 use mir.Syntax.{w32}
 use Rattle.replay_core.specs.declared.tables.Tables.{Tables}
-use Rattle.replay_core.specs.Caching.{IsTablesAt}
+use Rattle.replay_core.specs.Steps.Caching.{IsTablesAt}
 use Rattle.replay_core.specs.Lanes.{Notes}
 use Rattle.replay_core.specs.Meaning.{at_start}
 use Rattle.replay_core.specs.Seen.{piece_seen}
 use Rattle.replay_core.specs.Threads.{threads_in}
-use Rattle.replay_core.specs.Turns.{turns}
+use Rattle.replay_core.specs.Steps.Turns.{turns}
 use Rattle.replay_core.proofs.ThreadLemmas.{Writes, none_turn, own_stays, tables_found, tables_lent}
 use Rattle.replay_core.proofs.ThreadLemmas.{typed_start, started, started_new, thread_written}
 use Rattle.replay_core.proofs.threads.run_on_thread.Goals as goal

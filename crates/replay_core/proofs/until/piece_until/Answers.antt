@@ -3,10 +3,11 @@ use Rattle.firing_reader.specs.declared.firing.Firing.{Firing}
 use Rattle.firing_reader.specs.Ends.{with_ends}
 use Rattle.shard_queue.specs.Groups.{grouping}
 use Rattle.shard_queue.specs.Groupings.{places_of}
-use Rattle.replay_core.specs.Beginnings.{RunsBeginning, lesser_of}
+use Rattle.replay_core.specs.Beginnings.{lesser_of}
+use Rattle.replay_core.specs.Steps.Beginnings.{RunsBeginning}
 use Rattle.replay_core.specs.Groups.{is_group}
 use Rattle.replay_core.specs.Pieces.{IsPieceOf}
-use Rattle.replay_core.specs.Working.{firings_at}
+use Rattle.replay_core.specs.Steps.Working.{firings_at}
 use Rattle.replay_core.proofs.GroupFirings.{all_below, chosen, few_places}
 use Rattle.replay_core.proofs.TraceRuns.{threads_are}
 use Rattle.replay_core.proofs.until.piece_until.Goals as goal

@@ -7,7 +7,7 @@ use Rattle.firing_reader.specs.Ends.{with_ends}
 use Rattle.firing_reader.specs.Firings.{number_of}
 use Rattle.replay_core.specs.Beginnings.{exit_over, lesser_of}
 use Rattle.replay_core.specs.Running.{IsLaneOf}
-use Rattle.replay_core.specs.Working.{firings_at}
+use Rattle.replay_core.specs.Steps.Working.{firings_at}
 use Rattle.replay_core.proofs.BeginLemmas.{at_all, at_next, at_parts, ended_by_exit, ended_by_last}
 use Rattle.replay_core.proofs.BeginLemmas.{ended_by_number, now_lowered, still_none}
 use Rattle.replay_core.proofs.RunLemmas.{fires_more}

@@ -5,7 +5,7 @@ use Rattle.firing_reader.specs.Ends.{with_ends}
 use Rattle.replay_core.specs.Beginnings.{exit_over}
 use Rattle.replay_core.specs.Running.{IsLaneOf}
 use Rattle.replay_core.specs.Selecting.{AreFor}
-use Rattle.replay_core.specs.Working.{firings_at}
+use Rattle.replay_core.specs.Steps.Working.{firings_at}
 use Rattle.replay_core.proofs.until.run_until.Given as goal
 
 abbrev pub invariant-loop-place : goal.invariant-loop-place

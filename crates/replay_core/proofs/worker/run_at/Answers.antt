@@ -4,7 +4,8 @@ use Rattle.std.proofs.lemmas.List.{get_or_default, length-map}
 use Rattle.firing_reader.specs.Ends.{with_ends}
 use Rattle.firing_reader.specs.Firings.{number_of}
 use Rattle.replay_core.specs.Running.{IsLaneOf}
-use Rattle.replay_core.specs.Working.{firings_at, is_in}
+use Rattle.replay_core.specs.Working.{is_in}
+use Rattle.replay_core.specs.Steps.Working.{firings_at}
 use Rattle.replay_core.proofs.SelectionLemmas.{selected_is, selected_short, selected_within}
 use Rattle.replay_core.proofs.WorkSteps.{few_run, kept_more}
 use Rattle.replay_core.proofs.worker.run_at.Goals as goal

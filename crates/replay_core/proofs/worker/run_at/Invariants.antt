@@ -4,7 +4,8 @@ use Rattle.d_types.specs.Typed.{ScriptMeant}
 use Rattle.firing_reader.specs.Ends.{with_ends}
 use Rattle.replay_core.specs.Running.{IsLaneOf}
 use Rattle.replay_core.specs.Selecting.{AreFor}
-use Rattle.replay_core.specs.Working.{firings_at, is_in}
+use Rattle.replay_core.specs.Working.{is_in}
+use Rattle.replay_core.specs.Steps.Working.{firings_at}
 use Rattle.replay_core.proofs.worker.run_at.Given as goal
 
 abbrev pub invariant-loop-place : goal.invariant-loop-place

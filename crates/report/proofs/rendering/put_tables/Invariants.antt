@@ -1,6 +1,6 @@
 use Rattle.std.proofs.Common.{List, take}
 use Rattle.aggregations.specs.Table.{Contribution, StandsFor, functions_of}
-use Rattle.report.specs.Output.{AppendsTables}
+use Rattle.report.specs.Steps.Output.{AppendsTables}
 use Rattle.report.proofs.rendering.put_tables.Given as goal
 
 abbrev pub invariant-loop-agg : goal.invariant-loop-agg

@@ -1,7 +1,7 @@
 use Rattle.std.proofs.Common.{◌≡◌, rules, subst}
 use Rattle.std.specs.List.{flat_map}
 use Rattle.aggregations.specs.Table.{functions_of}
-use Rattle.report.specs.Output.{AppendsTables}
+use Rattle.report.specs.Steps.Output.{AppendsTables}
 use Rattle.report.proofs.Outputs.{output_after}
 use Rattle.report.proofs.rendering.render.Goals as goal
 

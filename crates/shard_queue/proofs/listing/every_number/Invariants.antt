@@ -1,6 +1,6 @@
 use Rattle.std.proofs.Common.{◌≡◌, ◌≤◌, Some, map, take, drop, length, vec_len}
 use Rattle.std.specs.Prelude.{vec_capacity}
-use Rattle.shard_queue.specs.Faults.{first_unfound}
+use Rattle.shard_queue.specs.Steps.Faults.{first_unfound}
 use Rattle.shard_queue.proofs.listing.every_number.Given as goal
 
 abbrev pub invariant-loop-place : goal.invariant-loop-place

@@ -3,7 +3,8 @@ use Rattle.std.proofs.Common.{take, drop, get_or, ⊎_elim, inl, inr}
 use Rattle.std.proofs.lemmas.List.{length-map, take_at, take_all, get_or_default}
 use Rattle.std.proofs.lemmas.Result.{err_from_is_err_and}
 use Rattle.shard_queue.specs.Groupings.{list_of}
-use Rattle.shard_queue.specs.Faults.{all_of, first_unfound}
+use Rattle.shard_queue.specs.Faults.{all_of}
+use Rattle.shard_queue.specs.Steps.Faults.{first_unfound}
 use Rattle.shard_queue.proofs.Wrongs.{right_list, wrong_list, right_all, unfound_is, all_numbered}
 use Rattle.shard_queue.proofs.Wrongs.{thread_fault-wrong, thread_fault-right}
 use Rattle.shard_queue.proofs.listing.list_numbers.Goals as goal

@@ -7,7 +7,7 @@ use Rattle.std.proofs.Common.{IfOk, false, List}
 use Rattle.std.specs.Prelude.{IsTrue}
 use Rattle.d_values.specs.declared.key.KeyPart.{KeyPart}
 use Rattle.aggregations.specs.Table.{entry_at}
-use Rattle.aggregations.specs.Entries.{Joins, Puts}
+use Rattle.aggregations.specs.Steps.Entries.{Joins, Puts}
 use Rattle.aggregations.proofs.TableLemmas.{joins_there}
 use Rattle.aggregations.proofs.entries.Entries.join.Goals as goal
 use Rattle.aggregations.proofs.entries.Entries.join.Goals.{in-Some+in_ok-join-in-Some, in-None}

@@ -6,7 +6,7 @@ use Rattle.d_values.specs.Keys.{same_key}
 use Rattle.d_values.specs.KeyLaws.{same_key_equiv}
 use Rattle.aggregations.specs.Values.{count_in}
 use Rattle.aggregations.specs.Table.{Aggregation, entry_at}
-use Rattle.aggregations.specs.Entries.{Joins, Puts}
+use Rattle.aggregations.specs.Steps.Entries.{Joins, Puts}
 use Rattle.aggregations.proofs.TableLemmas.{sum_pushed}
 use Rattle.aggregations.proofs.MergeLemmas.{Merging, joins_first, merging_more}
 use Rattle.aggregations.proofs.entries.Entries.merge.Goals as goal

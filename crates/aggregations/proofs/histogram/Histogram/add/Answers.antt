@@ -6,7 +6,8 @@ use Rattle.std.specs.Map.{lookup, keys_of, set_value}
 use Rattle.std.proofs.lemmas.Map.{keys-set_value}
 use Rattle.std.specs.Option.{unwrap_or}
 use Rattle.aggregations.specs.Buckets.{buckets}
-use Rattle.aggregations.specs.Histograms.{with_more, used_at, counts_used}
+use Rattle.aggregations.specs.Histograms.{used_at, counts_used}
+use Rattle.aggregations.specs.Steps.Histograms.{with_more}
 use Rattle.aggregations.proofs.HistogramLemmas.{count-le_sum, inserted_used, written_used}
 use Rattle.aggregations.proofs.HistogramLemmas.{kept_inserted, found_written, found_inserted}
 use Rattle.aggregations.proofs.histogram.Histogram.add.Goals as goal

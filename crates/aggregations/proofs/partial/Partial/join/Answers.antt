@@ -5,8 +5,9 @@ use Rattle.std.proofs.lemmas.Int.{to_z-of_z}
 use Rattle.std.proofs.lemmas.Result.{on_ok_weaker}
 use Rattle.aggregations.specs.declared.held.Held.TheVariants.{Counts}
 use Rattle.aggregations.specs.Figures.{figure_of, histogram_in}
-use Rattle.aggregations.specs.Held.{after, count_of, number_of}
-use Rattle.aggregations.specs.Values.{IsValue, TakesBoth}
+use Rattle.aggregations.specs.Steps.Held.{after, count_of, number_of}
+use Rattle.aggregations.specs.Values.{IsValue}
+use Rattle.aggregations.specs.Steps.Values.{TakesBoth}
 use Rattle.aggregations.proofs.ValueLemmas.{both_after, both_as, counts_joined, only_counts}
 use Rattle.aggregations.proofs.ValueLemmas.{held_histogram, no_histogram}
 use Rattle.aggregations.proofs.partial.Partial.join.Goals as goal

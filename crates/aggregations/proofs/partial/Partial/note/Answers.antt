@@ -2,7 +2,7 @@ use Rattle.std.proofs.Common.{sym, refl, ◌∙◌}
 use Rattle.std.proofs.lemmas.Int.{to_z-of_z}
 use Rattle.std.proofs.lemmas.Result.{on_ok_weaker}
 use Rattle.aggregations.specs.declared.held.Held.TheVariants.{Counts}
-use Rattle.aggregations.specs.Held.{after}
+use Rattle.aggregations.specs.Steps.Held.{after}
 use Rattle.aggregations.proofs.ValueLemmas.{count_after, counts_noted, noted_as, one_after}
 use Rattle.aggregations.proofs.partial.Partial.note.Goals as goal
 

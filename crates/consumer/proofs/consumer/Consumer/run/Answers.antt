@@ -13,7 +13,7 @@ use Rattle.replay_core.specs.{Exit.firings_over, Seen.whole_seen, declared.worke
 use Rattle.replay_core.specs.{Compiled.IsCompiled, Groups.IsAllBelow}
 use Rattle.replay_core.specs.Pieces.{IsWholeOf, RunsEachOnce}
 use Rattle.consumer.specs.Vocabulary.{Firing, Grouping, ScriptMeant, typed_script_of}
-use Rattle.consumer.specs.Replaying.{IsRunBy}
+use Rattle.consumer.specs.Steps.Replaying.{IsRunBy}
 use Rattle.consumer.proofs.consumer.Consumer.run.Goals as goal
 
 hash_key_sync : IsSync hash_key.the_row

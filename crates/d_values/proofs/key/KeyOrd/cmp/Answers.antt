@@ -1,6 +1,6 @@
 use Rattle.std.proofs.Common.{◌≡◌, rules}
 use Rattle.d_values.specs.Keys.{key_cmp}
-use Rattle.d_values.specs.KeyLaws.{key_cmp_equal, key_cmp_decides}
+use Rattle.d_values.proofs.Comparing.{key_cmp_equal, key_cmp_decides}
 use Rattle.d_values.proofs.key.KeyOrd.cmp.Goals as goal
 
 pub returns-clause-equal : goal.returns-clause-equal

@@ -1,6 +1,6 @@
 use Rattle.std.proofs.Common.{◌≡◌, rules}
 use Rattle.d_values.specs.Keys.{same_key}
-use Rattle.d_values.specs.KeyLaws.{same_key_true}
+use Rattle.d_values.proofs.Comparing.{same_key_true}
 use Rattle.d_values.proofs.key.KeyPartialEq.eq.Goals as goal
 
 pub returns-clause-meant : goal.returns-clause-meant

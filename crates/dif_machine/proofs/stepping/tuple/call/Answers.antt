@@ -4,7 +4,7 @@ use Rattle.dif_machine.specs.Vocabulary.{object_of}
 use Rattle.dif_machine.specs.Frames.{with_content}
 use Rattle.dif_machine.specs.Held.{frame_of}
 use Rattle.dif_machine.specs.Operators.{call_of}
-use Rattle.dif_machine.specs.Steps.{on, puts}
+use Rattle.dif_machine.specs.Semantics.{on, puts}
 use Rattle.dif_machine.proofs.Acting as acting
 use Rattle.dif_machine.proofs.stepping.tuple.call.Goals as goal
 

@@ -1,6 +1,6 @@
 use Rattle.std.proofs.Common.{refl, []}
 use Rattle.std.proofs.lemmas.List.Elements.{All-nil}
-use Rattle.firing_reader.specs.Plain.{JoinsField}
+use Rattle.firing_reader.specs.Steps.Plain.{JoinsField}
 use Rattle.firing_reader.proofs.PlainRows.{passes_one}
 use Rattle.firing_reader.proofs.plain.field.other_argument.Goals as goal
 

@@ -1,5 +1,5 @@
 use Rattle.std.proofs.Common.{rules}
-use Rattle.replay_core.specs.Described.{IsOfKind}
+use Rattle.replay_core.specs.Steps.Described.{IsOfKind}
 use Rattle.replay_core.proofs.DescribedLemmas.{kinds_more, of_exact, of_patterns}
 use Rattle.replay_core.proofs.description_table.DescriptionTable.add.Goals as goal
 use Rattle.replay_core.proofs.description_table.DescriptionTable.add.Goals.{then-is_exact, else-is_exact}

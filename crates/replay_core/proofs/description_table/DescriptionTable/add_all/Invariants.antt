@@ -1,5 +1,5 @@
 use Rattle.std.proofs.Common.{◌≡◌, ◌++◌, map, take}
-use Rattle.replay_core.specs.Described.{HaveKinds, given_of}
+use Rattle.replay_core.specs.Steps.Described.{HaveKinds, given_of}
 use Rattle.replay_core.proofs.description_table.DescriptionTable.add_all.Given as goal
 
 abbrev pub invariant-loop-description : goal.invariant-loop-description

@@ -1,8 +1,8 @@
 use Rattle.std.proofs.Common.{rules, ◌≡◌, ◌≤◌, ◌∙◌, Some, ap, ap₂, filter, length, map, subst, sym}
 use Rattle.std.specs.Prelude.{slice_get}
 use Rattle.std.proofs.lemmas.Option.{slice_get-get_or}
-use Rattle.replay_core.specs.Described.{hash_sought, is_found}
-use Rattle.replay_core.specs.Places.{merge}
+use Rattle.replay_core.specs.Steps.Described.{hash_sought, is_found}
+use Rattle.replay_core.specs.Steps.Places.{merge}
 use Rattle.replay_core.specs.Uniting.{InOrder, with_number}
 use Rattle.replay_core.proofs.DescribedLemmas.{all_kinds, clauses_selected, found_all}
 use Rattle.replay_core.proofs.DescribedLemmas.{given_in_order, kind_more, none_yet, places_given}

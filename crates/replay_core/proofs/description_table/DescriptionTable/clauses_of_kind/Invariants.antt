@@ -1,5 +1,5 @@
 use Rattle.std.proofs.Common.{◌≡◌, filter, map, take}
-use Rattle.replay_core.specs.Described.{is_found}
+use Rattle.replay_core.specs.Steps.Described.{is_found}
 use Rattle.replay_core.proofs.description_table.DescriptionTable.clauses_of_kind.Given as goal
 
 abbrev pub invariant-loop-described : goal.invariant-loop-described

@@ -1,5 +1,5 @@
 use Rattle.std.proofs.Common.{rules}
-use Rattle.replay_core.specs.Described.{given_of}
+use Rattle.replay_core.specs.Steps.Described.{given_of}
 use Rattle.replay_core.proofs.DescribedLemmas.{given_more}
 use Rattle.replay_core.proofs.description_table.DescriptionTable.new.Goals as goal
 

@@ -1,5 +1,5 @@
 use Rattle.std.proofs.Common.{◌≡◌, ◌++◌, map, drop}
-use Rattle.replay_core.specs.Described.{HaveKinds, given_from, given_of}
+use Rattle.replay_core.specs.Steps.Described.{HaveKinds, given_from, given_of}
 use Rattle.replay_core.proofs.description_table.DescriptionTable.new.Given as goal
 
 abbrev pub invariant-loop-clause : goal.invariant-loop-clause

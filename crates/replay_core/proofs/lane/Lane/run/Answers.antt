@@ -9,7 +9,7 @@ use Rattle.replay_core.specs.Meaning.{at_start, firing_result, threads_after}
 use Rattle.replay_core.specs.Patterns.{probe_of}
 use Rattle.replay_core.specs.Seen.{piece_seen}
 use Rattle.replay_core.specs.Threads.{threads_in}
-use Rattle.replay_core.specs.Turns.{turns}
+use Rattle.replay_core.specs.Steps.Turns.{turns}
 use Rattle.replay_core.proofs.FiringLemmas.{both, goes_on, places_within, some_same}
 use Rattle.replay_core.proofs.FiringLemmas.{turns_are}
 use Rattle.replay_core.proofs.SelectionLemmas.{zip_length}

@@ -5,7 +5,7 @@ use Rattle.std.proofs.lemmas.List.{drop_all}
 use Rattle.aggregations.specs.Table.{functions_of}
 use Rattle.d_types.specs.Clauses.{effect_by, fault_line, effect_then, statements_by}
 use Rattle.replay_core.specs.Bounds.{place_in}
-use Rattle.replay_core.specs.Effects.{Performs}
+use Rattle.replay_core.specs.Steps.Effects.{Performs}
 use Rattle.replay_core.specs.Evaluation.{variables_in}
 use Rattle.replay_core.specs.Seen.{piece_seen}
 use Rattle.replay_core.proofs.EffectLemmas.{SoFar, none_yet, goes_on, faults, ends}

@@ -6,7 +6,8 @@ use Rattle.shard_queue.specs.Groups.{grouping}
 use Rattle.shard_queue.specs.Groupings.{places_of}
 use Rattle.replay_core.specs.Groups.{is_group, of_group}
 use Rattle.replay_core.specs.Pieces.{IsPieceOf}
-use Rattle.replay_core.specs.Working.{firings_at, is_in}
+use Rattle.replay_core.specs.Working.{is_in}
+use Rattle.replay_core.specs.Steps.Working.{firings_at}
 use Rattle.replay_core.proofs.GroupFirings.{all_below, chosen, few_places, filter_swap}
 use Rattle.replay_core.proofs.TraceRuns.{threads_are}
 use Rattle.replay_core.proofs.worker.Shift.piece_of.Goals as goal

@@ -1,7 +1,6 @@
 -- Clauses that run one after the other, by their places.
 use Rattle.std.specs.Prelude.{ℕ, ◌+◌, List, [], ◌∷◌, slice_get, Option, None, Some}
-use Rattle.d_types.specs.Clauses.{Made, run_of}
-use Rattle.d_types.specs.Clauses.{nothing_made, and_then}
+use Rattle.d_types.specs.Clauses.{Made, run_of, nothing_made, and_then}
 use Rattle.d_types.specs.Storage.{Variables}
 use Rattle.d_types.specs.Typed.{ClauseMeant}
 use Rattle.firing_reader.specs.declared.firing.Firing.{Firing}

@@ -5,9 +5,11 @@ use Rattle.d_parser.specs.Vocabulary.{Mark, Token, TokenKind, ASSIGNMENT, Declar
 use Rattle.d_parser.specs.Vocabulary.{WordKind}
 use Rattle.d_parser.specs.Tree.{Tree, StmtTree, Expression, Aggregation, DeclarationTree, OfThread}
 use Rattle.d_parser.specs.Tree.{OfClause, ClauseTree, ItemTree, Declared, Probing}
-use Rattle.d_parser.specs.Words.{word_kind, type_of_words, run, after_run}
-use Rattle.d_parser.specs.Reading.{◌>>=◌, Reader, after_mark, readers, keys, arguments}
-use Rattle.d_parser.specs.{Marks.is_at, Marks.tail, Script.description_of}
+use Rattle.d_parser.specs.Words.{word_kind, type_of_words}
+use Rattle.d_parser.specs.Steps.Words.{run, after_run}
+use Rattle.d_parser.specs.Steps.Reading.{◌>>=◌, Reader, after_mark, readers, keys, arguments}
+use Rattle.d_parser.specs.{Script.description_of}
+use Rattle.d_parser.specs.Steps.Marks.{is_at, tail}
 
 -- ---- statements
 

@@ -13,8 +13,8 @@ use Rattle.dif_codegen.specs.Vocabulary.{Stts, Ldls, Stls, Pushtr, Pushtv, Flush
 use Rattle.dif_codegen.specs.Vocabulary.{Call, Ret, Operator, Or, Xor, And, Sll, Srl, Sra, Sub, Add}
 use Rattle.dif_codegen.specs.Vocabulary.{Mul, Sdiv, Udiv, Srem, Urem, Reg, R0, R1, R2, R3, R4, R5}
 use Rattle.dif_codegen.specs.Vocabulary.{R6, R7}
-use Rattle.dif_codegen.specs.Pieces.{Piece, Maker, nothing, one_instr, number, text, both}
-use Rattle.dif_codegen.specs.Pieces.{choice_code, bit_by}
+use Rattle.dif_codegen.specs.Steps.Pieces.{Piece, Maker, nothing, one_instr, number, text, both}
+use Rattle.dif_codegen.specs.Steps.Pieces.{choice_code, bit_by}
 
 -- the register of a number below 8
 abbrev pub register : ℕ → Reg

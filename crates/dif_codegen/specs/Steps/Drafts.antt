@@ -1,7 +1,7 @@
 -- Objects that are being made.
 use Rattle.std.specs.Prelude.{◌≡◌, ℕ, ◌+◌, ◌++◌, length, slice_set}
 use Rattle.dif_codegen.specs.Vocabulary.{Condition, Ba, Branch, Difo}
-use Rattle.dif_codegen.specs.Pieces.{Place, Maker}
+use Rattle.dif_codegen.specs.Steps.Pieces.{Place, Maker}
 
 -- the place after all that was made so far
 abbrev pub end_of_draft : Difo → Place

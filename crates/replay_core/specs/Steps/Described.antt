@@ -1,6 +1,6 @@
 -- How descriptions are found by the names that they give.
-use Rattle.std.specs.Prelude.{◌≡◌, ◌==◌, ◌&&◌, ◌+◌, ℕ, Bool, true, false, List, []}
-use Rattle.std.specs.Prelude.{◌∷◌, ◌++◌, All, Option, None, Some, map, slice_get}
+use Rattle.std.specs.Prelude.{◌≡◌, ◌==◌, ◌&&◌, ◌+◌, ℕ, Bool, true, false, List, [], ◌∷◌, ◌++◌, All}
+use Rattle.std.specs.Prelude.{Option, None, Some, map, slice_get}
 use Rattle.std.specs.Borrow.{Bor}
 use Rattle.std.specs.List.{list_all}
 use Rattle.keyed_hash.specs.Hashing.{after_bytes, hash_of}
@@ -9,7 +9,8 @@ use Rattle.d_parser.specs.declared.tree.Description.{Description}
 use Rattle.firing_reader.specs.declared.unit.Probe.{Probe}
 use Rattle.replay_core.specs.declared.description_table.Described.{Described}
 use Rattle.replay_core.specs.declared.description_table.DescriptionTable.{DescriptionTable}
-use Rattle.replay_core.specs.Patterns.{is_plain, selects}
+use Rattle.replay_core.specs.Patterns.{selects}
+use Rattle.replay_core.specs.Steps.Patterns.{is_plain}
 use Rattle.replay_core.specs.Uniting.{IsSorted}
 
 -- ---- names

@@ -6,7 +6,8 @@ use Rattle.dif_validate.specs.Objects.{object_of}
 use Rattle.dif_machine.specs.Vocabulary.{Difo, Firing, FrameInMemory, Instr, KeyPart, MachineFault}
 use Rattle.dif_machine.specs.Vocabulary.{Reg, Value, Var, Variables}
 use Rattle.dif_machine.specs.Held.{frame_of}
-use Rattle.dif_machine.specs.Steps.{Stepped, Stuck, act}
+use Rattle.dif_machine.specs.Semantics.{Stuck, act}
+use Rattle.dif_machine.specs.Steps.Semantics.{Stepped}
 
 -- there is a next place
 abbrev pub HasNext : FrameInMemory → Type 0

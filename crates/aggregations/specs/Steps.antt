@@ -1,0 +1,6 @@
+-- What private functions alone say of their steps. No contract for callers rests on these
+-- definitions.
+pub mod Histograms
+pub mod Values
+pub mod Entries
+pub mod Held

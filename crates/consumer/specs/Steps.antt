@@ -1,0 +1,5 @@
+-- What private functions alone say of their steps. No contract for callers rests on these
+-- definitions.
+pub mod Replaying
+pub mod Words
+pub mod Beginnings

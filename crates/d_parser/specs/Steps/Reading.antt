@@ -1,0 +1,240 @@
+-- Expressions as they are read: what is taken off the front of the tokens, level by level.
+use Rattle.std.specs.Prelude.{◌≡◌, ℕ, zero, suc, max, nat_le, Bool, true, false, if◌then◌else◌}
+use Rattle.std.specs.Prelude.{List, [], ◌∷◌, Option, Some, None, Result, Ok, Err}
+use Rattle.d_parser.specs.Vocabulary.{Mark, Token, TokenKind, Step, IntegerType, Constant, Variable}
+use Rattle.d_parser.specs.Vocabulary.{WordKind, ASSIGNMENT, CONDITION, OR, UNARY, Prefix, Follow}
+use Rattle.d_parser.specs.Vocabulary.{ParseFault}
+use Rattle.d_parser.specs.Tree.{Tree, Known, Read, Call, Unary, Cast, Before, After, Binary, Choice}
+use Rattle.d_parser.specs.Tree.{Assign, Trees, end, more}
+use Rattle.d_parser.specs.Steps.Tree.{add}
+use Rattle.d_parser.specs.Words.{word_kind, integer_type}
+use Rattle.d_parser.specs.Steps.Words.{begins_type, run, after_run}
+use Rattle.d_parser.specs.Marks.{prefix_of, level_of}
+use Rattle.d_parser.specs.Steps.Marks.{follow_at, is_at, same_mark, tail}
+
+infixl 10 ◌>>=◌
+abbrev pub ◌>>=◌ : {A B : Type 0} → Option A → (A → Option B) → Option B
+None >>= f = None
+(Some x) >>= f = f x
+
+-- only memory is a reason to fail
+abbrev pub OnlyMemory : {X : Type 0} → Result X ParseFault → Type 0
+OnlyMemory (Ok x) = Unit {0}
+OnlyMemory (Err e) = e ≡ ParseFault.Memory
+
+abbrev pub Reader : Type 0 → Type 0
+Reader A = List Token → Option (A × List Token)
+
+-- the tokens after the mark
+abbrev pub after_mark : Mark → List Token → Option (List Token)
+after_mark mark ts = if is_at mark ts then Some (tail ts) else None
+
+-- ---- words
+
+abbrev pub if_plain : WordKind → List ℕ → Reader (List ℕ)
+if_plain WordKind.Plain name ts = Some (name, ts)
+if_plain k name ts = None
+
+abbrev pub plain_by : TokenKind → Reader (List ℕ)
+plain_by (TokenKind.Word name) ts = if_plain (word_kind name) name ts
+plain_by k ts = None
+
+-- a word that isn't reserved
+unfoldable pub plain_word : Reader (List ℕ)
+plain_word [] = None
+plain_word (t ∷ ts) = plain_by t.kind ts
+
+-- the word after an arrow
+unfoldable pub member : Reader (List ℕ)
+member ts = after_mark Mark.Arrow ts >>= λ rest. plain_word rest
+
+-- the variable that a word begins
+unfoldable pub variable : WordKind → List ℕ → ℕ → Reader Variable
+variable WordKind.Plain name line ts = Some (Variable.Plain line name, ts)
+variable WordKind.Thread name line ts = member ts >>= λ x. Some (Variable.Thread line x.0, x.1)
+variable WordKind.Clause name line ts = member ts >>= λ x. Some (Variable.Clause line x.0, x.1)
+variable k name line ts = None
+
+abbrev pub typed_by : TokenKind → Bool
+typed_by (TokenKind.Word word) = begins_type (word_kind word)
+typed_by k = false
+
+-- a word of a type is at the front
+abbrev pub is_typed : List Token → Bool
+is_typed [] = false
+is_typed (t ∷ ts) = typed_by t.kind
+
+-- the type in a cast, after its opening parenthesis
+unfoldable pub cast_type : Reader IntegerType
+cast_type ts =
+    integer_type (run ts) >>= λ to. after_mark Mark.CloseParenthesis (after_run ts) >>= λ rest.
+    Some (to, rest)
+
+abbrev pub calls : WordKind → Follow → Bool
+calls WordKind.Plain Follow.Parenthesis = true
+calls k follow = false
+
+-- a word and a parenthesis begin a call
+abbrev pub begins_call : List ℕ → List Token → Bool
+begins_call name ts = calls (word_kind name) (follow_at ts)
+
+abbrev pub is_clause_local : Variable → Bool
+is_clause_local (Variable.Clause line name) = true
+is_clause_local x = false
+
+-- ---- expressions
+
+-- What reads phrases of a level, what operators of a level or more join to a left part, and the
+-- rest of a list.
+pub record Readers : Type 0 where
+  pub phrase : ℕ → Reader Tree
+  pub climb : ℕ → Tree → Reader Tree
+  pub further : Trees → Reader Trees
+
+-- Below, `down` reads what lies one level deeper.
+module _ (down : Readers) where
+  -- expressions with commas between, and the mark that closes them
+  unfoldable pub closed_list : Mark → Reader Trees
+  closed_list close ts =
+      down.phrase ASSIGNMENT ts >>= λ first. down.further (more first.0 end) first.1 >>= λ all.
+      after_mark close all.1 >>= λ rest. Some (all.0, rest)
+
+  abbrev pub keys_by : Follow → Reader Trees
+  keys_by Follow.Bracket ts = closed_list Mark.CloseBracket (tail ts)
+  keys_by follow ts = Some (end, ts)
+
+  unfoldable pub keys : Reader Trees
+  keys ts = keys_by (follow_at ts) ts
+
+  -- after the opening parenthesis of a call
+  unfoldable pub arguments : Reader Trees
+  arguments ts =
+      if is_at Mark.CloseParenthesis ts then Some (end, tail ts)
+      else closed_list Mark.CloseParenthesis ts
+
+  -- a variable with the keys that it may have
+  unfoldable pub with_keys : Variable → Reader (Variable × Trees)
+  with_keys x ts =
+      if is_clause_local x then Some ((x, end), ts) else (keys ts >>= λ k. Some ((x, k.0), k.1))
+
+  -- a target, by its first word
+  unfoldable pub target : WordKind → List ℕ → ℕ → Reader (Variable × Trees)
+  target k name line ts = variable k name line ts >>= λ x. with_keys x.0 x.1
+
+  abbrev pub follows_by : Follow → ℕ → Variable × Trees → Reader Tree
+  follows_by (Follow.Step step) k x ts = Some (After x.0 x.1 step, tail ts)
+  follows_by (Follow.Assign op) k x ts =
+      if nat_le k ASSIGNMENT
+      then (down.phrase ASSIGNMENT (tail ts) >>= λ value. Some (Assign op x.0 x.1 value.0, value.1))
+      else Some (Read x.0 x.1, ts)
+  follows_by follow k x ts = Some (Read x.0 x.1, ts)
+
+  -- what a target goes on as
+  unfoldable pub follows : ℕ → Variable × Trees → Reader Tree
+  follows k x ts = follows_by (follow_at ts) k x ts
+
+  -- a call, or what a target begins
+  unfoldable pub part_at_name : ℕ → List ℕ → ℕ → Reader Tree
+  part_at_name k name line ts =
+      if begins_call name ts
+      then (arguments (tail ts) >>= λ all. Some (Call line name all.0, all.1))
+      else (target (word_kind name) name line ts >>= λ x. follows k x.0 x.1)
+
+  -- after the opening parenthesis of a cast
+  unfoldable pub part_at_cast : ℕ → Reader Tree
+  part_at_cast line ts =
+      cast_type ts >>= λ to. down.phrase UNARY to.1 >>= λ a. Some (Cast line to.0 a.0, a.1)
+
+  -- after an opening parenthesis
+  unfoldable pub part_in_parentheses : ℕ → Reader Tree
+  part_in_parentheses line ts =
+      if is_typed ts
+      then part_at_cast line ts
+      else (down.phrase ASSIGNMENT ts >>= λ inner.
+      after_mark Mark.CloseParenthesis inner.1 >>= λ rest. Some (inner.0, rest))
+
+  abbrev pub part_at_step_by : ℕ → Step → TokenKind → ℕ → Reader Tree
+  part_at_step_by line step (TokenKind.Word name) word_line ts =
+      target (word_kind name) name word_line ts >>= λ x. Some (Before line step x.0.0 x.0.1, x.1)
+  part_at_step_by line step k word_line ts = None
+
+  -- the target after `++` or `--`
+  unfoldable pub part_at_step : ℕ → Step → Reader Tree
+  part_at_step line step [] = None
+  part_at_step line step (t ∷ ts) = part_at_step_by line step t.kind t.line ts
+
+  abbrev pub prefixed_by : Prefix → ℕ → Reader Tree
+  prefixed_by (Prefix.Unary op) line ts =
+      down.phrase UNARY ts >>= λ a. Some (Unary line op a.0, a.1)
+  prefixed_by (Prefix.Step step) line ts = part_at_step line step ts
+  prefixed_by Prefix.Other line ts = None
+
+  -- after a mark that begins a part
+  unfoldable pub part_at_mark : Mark → ℕ → Reader Tree
+  part_at_mark mark line ts =
+      if same_mark mark Mark.OpenParenthesis then part_in_parentheses line ts
+      else prefixed_by (prefix_of mark) line ts
+
+  abbrev pub part_by : ℕ → TokenKind → ℕ → Reader Tree
+  part_by k (TokenKind.Number value suffix) line ts =
+      Some (Known line (Constant.Number value suffix), ts)
+  part_by k (TokenKind.TextConstant bytes) line ts = Some (Known line (Constant.Text bytes), ts)
+  part_by k (TokenKind.Word name) line ts = part_at_name k name line ts
+  part_by k (TokenKind.Mark mark) line ts = part_at_mark mark line ts
+  part_by k other line ts = None
+
+  -- a unary part, or where the level allows it an assignment
+  unfoldable pub part : ℕ → Reader Tree
+  part k [] = None
+  part k (t ∷ ts) = part_by k t.kind t.line ts
+
+  abbrev pub climb_by : Follow → ℕ → Tree → Reader Tree
+  climb_by (Follow.Infix op) k left ts =
+      if nat_le k (level_of op)
+      then (down.phrase (suc (level_of op)) (tail ts) >>= λ right.
+      down.climb k (Binary op left right.0) right.1)
+      else Some (left, ts)
+  climb_by follow k left ts = Some (left, ts)
+
+  -- the operators of level k or more, and what they join to the left part
+  unfoldable pub climb_on : ℕ → Tree → Reader Tree
+  climb_on k left ts = climb_by (follow_at ts) k left ts
+
+  -- after the question mark
+  unfoldable pub alternatives : Tree → Reader Tree
+  alternatives test ts =
+      down.phrase ASSIGNMENT ts >>= λ first. after_mark Mark.Colon first.1 >>= λ rest.
+      down.phrase CONDITION rest >>= λ second. Some (Choice test first.0 second.0, second.1)
+
+  abbrev pub choice_by : Follow → Tree → Reader Tree
+  choice_by Follow.Question test ts = alternatives test (tail ts)
+  choice_by follow test ts = Some (test, ts)
+
+  -- a condition goes on with a question mark
+  unfoldable pub choice : ℕ → Tree → Reader Tree
+  choice k test ts =
+      if nat_le k CONDITION then choice_by (follow_at ts) test ts else Some (test, ts)
+
+  -- a first part, and what operators join to it
+  unfoldable pub operand : ℕ → Reader Tree
+  operand k ts = part k ts >>= λ first. down.climb (max k OR) first.0 first.1
+
+  -- a phrase of level k
+  unfoldable pub whole : ℕ → Reader Tree
+  whole k ts = operand k ts >>= λ joined. choice k joined.0 joined.1
+
+  -- the expressions after a comma
+  unfoldable pub further_on : Trees → Reader Trees
+  further_on all ts =
+      if is_at Mark.Comma ts
+      then (down.phrase ASSIGNMENT (tail ts) >>= λ next. down.further (add all next.0) next.1)
+      else Some (all, ts)
+
+-- with at most n levels below
+abbrev pub readers : ℕ → Readers
+readers zero = record { phrase = λ k ts. None; climb = λ k left ts. None; further = λ all ts. None }
+readers (suc n) = record {
+  phrase = whole (readers n);
+  climb = climb_on (readers n);
+  further = further_on (readers n);
+}

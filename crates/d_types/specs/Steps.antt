@@ -1,0 +1,5 @@
+-- What private functions alone say of their steps. No contract for callers rests on these
+-- definitions.
+pub mod Faults
+pub mod Typing
+pub mod Variables

@@ -1,0 +1,8 @@
+-- What fails for want of memory alone.
+use Rattle.std.specs.Prelude.{◌≡◌, Result, Ok, Err}
+use Rattle.d_types.specs.Vocabulary.{TypeFault}
+
+-- only memory is a reason to fail
+abbrev pub OnlyMemory : {X : Type 0} → Result X TypeFault → Type 0
+OnlyMemory (Ok x) = Unit {0}
+OnlyMemory (Err e) = e ≡ TypeFault.Memory

@@ -1,0 +1,7 @@
+-- What private functions alone say of their steps. No contract for callers rests on these
+-- definitions.
+pub mod Blocks
+pub mod Plain
+pub mod Stored
+pub mod Units
+pub mod RowEnds

@@ -1,0 +1,87 @@
+-- Plain fields and rows as they are taken off the front of the bytes.
+use Rattle.std.specs.Prelude.{◌≡◌, ◌≢◌, ◌<◌, ◌≤◌, ℕ, List, [], ◌∷◌, ◌++◌, All, Some, codes, map, Ok}
+use Rattle.std.specs.Prelude.{ℤ}
+use Rattle.csv.specs.declared.parser.State.{State}
+use Rattle.firing_reader.specs.Vocabulary.{next_record, default_config, Firing}
+use Rattle.firing_reader.specs.{Left.left_in}
+use Rattle.firing_reader.specs.Column.{signed_of}
+use Rattle.firing_reader.specs.Trace.{last_number}
+use Rattle.firing_reader.specs.Plain.{ReadsRows, rows_after}
+
+-- a byte that only joins a field: no comma, quote, carriage return or line feed
+abbrev pub JoinsField : ℕ → Type 0
+JoinsField b = (b ≢ 44) × (b ≢ 34) × (b ≢ 13) × (b ≢ 10)
+
+-- the bytes begin with this field
+pub record BeginsWith (bytes field rest : List ℕ) : Type 0 where
+  pub split : bytes ≡ field ++ rest
+  pub plain : All JoinsField field
+
+-- a byte from the minus on, in ASCII: digits, letters and most of what names have
+abbrev pub IsWordByte : ℕ → Type 0
+IsWordByte b = (45 ≤ b) × (b < 128)
+
+-- csv takes these fields off the bytes, whatever comes after them, and they end a record: the rest
+-- begins at its line feed
+abbrev pub Closes : List ℕ → List (List ℕ) → List ℕ → Type 0
+Closes bytes fields rest = (after : List ℕ) × (rest ≡ 10 ∷ after)
+    × ((before : List (List ℕ)) (tail : List ℕ) →
+    next_record default_config State.StartField before [] (bytes ++ tail)
+    ≡ Some (before ++ fields, State.StartRecord, after ++ tail))
+
+-- the last ten columns: arguments, and the fields that write them
+pub record ReadsArguments (bytes rest : List ℕ) (args : List ℤ) : Type 0 where
+  pub x0 : List ℕ
+  pub x1 : List ℕ
+  pub x2 : List ℕ
+  pub x3 : List ℕ
+  pub x4 : List ℕ
+  pub x5 : List ℕ
+  pub x6 : List ℕ
+  pub x7 : List ℕ
+  pub x8 : List ℕ
+  pub x9 : List ℕ
+  pub closes : Closes bytes (x0 ∷ x1 ∷ x2 ∷ x3 ∷ x4 ∷ x5 ∷ x6 ∷ x7 ∷ x8 ∷ x9 ∷ []) rest
+  pub values : map signed_of (x0 ∷ x1 ∷ x2 ∷ x3 ∷ x4 ∷ x5 ∷ x6 ∷ x7 ∷ x8 ∷ x9 ∷ [])
+      ≡ map (λ a. Some a) args
+
+-- from a number the numbers of these firings rise to another
+unfoldable pub Rises : ℕ → List Firing → ℕ → Type 0
+Rises last [] end = last ≡ end
+Rises last (f ∷ fs) end = (last < f.number) × Rises f.number fs end
+
+-- the bytes are nothing but the rows of these firings, from a line feed to a line feed, and their
+-- numbers rise
+pub record IsPiece (bytes : List ℕ) (fs : List Firing) : Type 0 where
+  pub rows : ReadsRows bytes fs (10 ∷ [])
+  pub rises : Rises 0 fs (last_number fs)
+
+-- the bytes hold the rows of these firings and of no others, whose numbers go on rising
+pub record ReadsMore (bytes : List ℕ) (old new : List Firing) (rest : List ℕ) : Type 0 where
+  pub more : List Firing
+  pub is_new : new ≡ old ++ more
+  pub rows : ReadsRows bytes more rest
+  pub rises : Rises (last_number old) more (last_number new)
+
+-- csv takes rows off the bytes, whatever comes after them, and goes on with the rest; after the old
+-- firings these rows read as the new ones
+pub record GoesOn (old : List Firing) (bytes : List ℕ) (new : List Firing) (rest : List ℕ)
+    : Type 0 where
+  pub rows : List (List (List ℕ))
+  pub read : rows_after old rows ≡ Ok new
+  pub taken : (tail : List ℕ) → left_in State.StartRecord (Some (bytes ++ tail))
+      ≡ rows ++ left_in State.StartRecord (Some (rest ++ tail))
+
+-- the rest is a line feed, and then the last of the bytes, after at least one of them
+pub record Leaves (bytes rest : List ℕ) : Type 0 where
+  pub first : ℕ
+  pub front : List ℕ
+  pub after : List ℕ
+  pub is_bytes : bytes ≡ first ∷ (front ++ after)
+  pub is_rest : rest ≡ 10 ∷ after
+
+-- the header, as it is mostly written
+abbrev pub header_line : List ℕ
+header_line =
+    codes "number,cpu,thread,pid,execname,time,provider,module,function,name,"
+    ++ codes "arg0,arg1,arg2,arg3,arg4,arg5,arg6,arg7,arg8,arg9"

@@ -1,0 +1,24 @@
+-- Rows of one piece, moved after those of another.
+use Rattle.std.specs.Prelude.{◌<◌, ◌+◌, ◌*◌, ◌^◌, ℕ, List, length, get_or}
+use Rattle.firing_reader.specs.declared.stored_row.Given.{Given}
+use Rattle.firing_reader.specs.declared.stored_row.Row.{Row}
+use Rattle.firing_reader.specs.Stored.{first_of}
+
+-- as many arguments that begin so much later
+abbrev pub moved_given : ℕ → Given → Given
+moved_given shift g = record { packed = g.packed + 16 * shift }
+
+-- a row with the places of its owner and its probe among others, and with arguments that begin so
+-- much later
+abbrev pub moved_row : List ℕ → List ℕ → ℕ → Row → Row
+moved_row owners probes shift r = record r {
+  owner = get_or owners r.owner 0;
+  probe = get_or probes r.probe 0;
+  given = moved_given shift r.given;
+}
+
+-- there is a place for the row's owner, for its probe, and for its first argument
+pub record IsMovable (owners probes : List ℕ) (shift : ℕ) (r : Row) : Type 0 where
+  pub owner : r.owner < length owners
+  pub probe : r.probe < length probes
+  pub given : first_of r.given + shift < 2 ^ 28

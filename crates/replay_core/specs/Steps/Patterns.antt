@@ -1,0 +1,10 @@
+-- The bytes of a pattern that stand for themselves.
+use Rattle.std.specs.Prelude.{◌==◌, ◌&&◌, ℕ, Bool, not}
+pub use Rattle.firing_reader.specs.Probing.{probe_of}
+use Rattle.replay_core.specs.Patterns.{star, question}
+
+-- ---- the same as tests
+
+-- neither a star nor a question mark
+abbrev pub is_plain : ℕ → Bool
+is_plain p = not (p == star) && not (p == question)

@@ -1,0 +1,13 @@
+-- What a worker is given, and the firings that it takes.
+use Rattle.std.specs.Prelude.{ℕ, List, take, drop}
+use Rattle.replay_core.specs.Vocabulary.{AreOf, Firing, Groups, ScriptMeant, flat_map, run_threads}
+
+-- the firings at these places
+abbrev pub firings_at : List Firing → List ℕ → List Firing
+firings_at fs places = flat_map (λ place. take 1 (drop place fs)) places
+
+-- the script means something, and the groups are those of this trace
+pub record IsReady (runs : ScriptMeant → Type 0) (groups : Groups) (trace : List Firing)
+    : Type 0 where
+  pub script : (m : ScriptMeant) × runs m
+  pub placed : AreOf groups (run_threads trace)
