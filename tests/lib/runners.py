@@ -28,9 +28,10 @@ def make_crates(room, runner, names, c_code):
     lines = lines_of(names)
     for name in lines:
         shutil.copytree(f"{harness.TOP}/crates/{name}/src", f"{room}/crates/{name}/src")
-    crate = f"{room}/crates/{runner}"
+    crate, folder = f"{room}/crates/{runner}", f"{harness.TOP}/tests/runners/{runner}"
     os.makedirs(f"{crate}/src")
-    shutil.copy(f"{harness.TOP}/tests/runners/{runner}.rattle", f"{crate}/src/main.rt")
+    for file in os.listdir(folder):
+        shutil.copy(f"{folder}/{file}", f"{crate}/src/{file.replace('.rattle', '.rt')}")
     for file in c_code:
         os.makedirs(f"{crate}/c", exist_ok=True)
         shutil.copy(f"{harness.TOP}/tests/shims/{file}", f"{crate}/c/{file}")
@@ -44,10 +45,11 @@ def run(runner, names, inputs, words=(), c_code=()):
     it ended, and why it can't be run, or nothing."""
     with tempfile.TemporaryDirectory(prefix="runner-") as room:
         make_crates(room, runner, names, c_code)
-        source = f"{room}/crates/{runner}/src/main.rt"
-        layout = subprocess.run(["rattle", "fmt", "--check", source], capture_output=True)
+        source = f"{room}/crates/{runner}/src"
+        files = [f"{source}/{file}" for file in os.listdir(source)]
+        layout = subprocess.run(["rattle", "fmt", "--check", *files], capture_output=True)
         if layout.returncode:
-            return {}, f"tests/runners/{runner}.rattle is not laid out as rattle fmt lays it out"
+            return {}, f"tests/runners/{runner} is not laid out as rattle fmt lays it out"
         os.mkdir(f"{room}/cases")
         for name, text in inputs.items():
             with open(f"{room}/cases/{name}", "w", encoding="ascii") as file:
