@@ -4,8 +4,8 @@ use Rattle.d_types.specs.Typed.{functions_in}
 use Rattle.d_types.specs.TypedScripts.{typed_script_of}
 use Rattle.replay_core.specs.Collecting.{tables_of}
 use Rattle.replay_core.specs.Tables.{AllHave}
-use Rattle.library_tests.proofs.EmptyPieces.{have_more, held_more}
-use Rattle.library_tests.proofs.workers.pieces_of.Goals as goal
+use Rattle.run_tests.proofs.EmptyPieces.{have_more, held_more}
+use Rattle.run_tests.proofs.workers.pieces_of.Goals as goal
 
 pub loop-group-preserved : goal.loop-group-preserved
 loop-group-preserved c =

@@ -1,5 +1,5 @@
 use Rattle.shard_queue.specs.Boards.{IsAt}
-use Rattle.library_tests.proofs.shards.claims_all.Given as goal
+use Rattle.trace_tests.proofs.shards.claims_all.Given as goal
 
 abbrev pub invariant-loop : goal.invariant-loop
 invariant-loop l = IsAt l.board l.seat

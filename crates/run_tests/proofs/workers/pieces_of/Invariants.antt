@@ -4,7 +4,7 @@ use Rattle.d_types.specs.Typed.{functions_in}
 use Rattle.d_types.specs.TypedScripts.{typed_script_of}
 use Rattle.replay_core.specs.Collecting.{tables_of}
 use Rattle.replay_core.specs.Tables.{AllHave}
-use Rattle.library_tests.proofs.workers.pieces_of.Given as goal
+use Rattle.run_tests.proofs.workers.pieces_of.Given as goal
 
 abbrev pub invariant-loop-group : goal.invariant-loop-group
 invariant-loop-group l = record {

@@ -4,9 +4,9 @@ use Rattle.std.proofs.Crossing.{crosses}
 use Rattle.d_types.proofs.Crossing.{clause_sync, script_sync}
 use Rattle.keyed_hash.specs.contracts.hash_key.HashKey as hash_key
 use Rattle.replay_core.proofs.lane.Lane.TheSendSync as lane
-use Rattle.library_tests.proofs.workers.MeetingLane.TheSendSync as meeting_lane
-use Rattle.library_tests.proofs.workers.MeetingLanes.TheSendSync as meeting_lanes
-use Rattle.library_tests.proofs.workers.ran_by_two.Goals as goal
+use Rattle.run_tests.proofs.workers.MeetingLane.TheSendSync as meeting_lane
+use Rattle.run_tests.proofs.workers.MeetingLanes.TheSendSync as meeting_lanes
+use Rattle.run_tests.proofs.workers.ran_by_two.Goals as goal
 
 hash_key_sync : IsSync hash_key.the_row
 hash_key_sync = search (sendable, crosses) depth 20
