@@ -230,7 +230,6 @@ class Reader:
         self.answer = None  # that whose last line is still to come
         self.texts, self.places = [], {}  # places by the names of aggregations
         self.head, self.members = None, {}  # of the last entry's line
-        self.readers = {"text": self.text, "entry": self.entry}
 
     def line(self, line):
         """Takes a line. Returns the answer that it ends, if it ends one."""
@@ -241,9 +240,12 @@ class Reader:
         kind = found.get("kind")
         if kind == "end":
             return self.end(found)
-        if not isinstance(kind, str) or kind not in self.readers:
+        if kind == "entry":
+            self.entry(found)
+        elif kind == "text":
+            self.text(found)
+        else:
             raise Wrong("it is none of the lines text, entry and end")
-        self.readers[kind](found)
         return None
 
     def parsed(self, line):
