@@ -5,6 +5,7 @@ docs/DATA.md has the format. A line that isn't of it ends the tool, and is named
 """
 import functools
 import json
+import operator
 import re
 from dataclasses import dataclass, field
 
@@ -24,6 +25,10 @@ MOST_ROWS = 5_000_000  # of the histograms of an aggregation
 SHARED = ("count", "sum")  # functions whose values have a total
 TITLE = re.compile(r"@(?:[A-Za-z_]\w*)?", re.ASCII)
 HEX = re.compile(r"(?:[0-9a-f]{2})*", re.ASCII)
+# What the line of an entry begins with, up to its key; entries of one aggregation have it alike.
+HEAD = re.compile(
+    rb'(\{"kind":"entry","aggregation":[0-9]{1,9},"name":"@\w*","function":"[a-z]*"),"key":'
+)
 
 
 class Wrong(Exception):
@@ -57,7 +62,7 @@ class Table:
             (rank(value, self.buckets), by_bytes(key), key, value)
             for key, value in self.held.items()
         ]
-        ranked.sort(key=lambda entry: entry[:2])
+        ranked.sort(key=operator.itemgetter(0, 1))
         return [(list(key), value) for _, _, key, value in ranked]
 
     def shown(self, entries):
@@ -120,10 +125,11 @@ DECODER = json.JSONDecoder(parse_int=whole)
 def parsed(line):
     """The object that a line is."""
     try:
-        found = DECODER.decode(line.decode("utf-8"))
-    except (ValueError, RecursionError):
+        shown = line.decode("utf-8").strip(" \t\n\r")
+        found, end = DECODER.scan_once(shown, 0)
+    except (ValueError, RecursionError, StopIteration):
         found = None
-    if not isinstance(found, dict):
+    if not isinstance(found, dict) or end != len(shown):
         raise Wrong("it is no object of JSON")
     return found
 
@@ -223,21 +229,32 @@ class Reader:
         self.script = script
         self.answer = None  # that whose last line is still to come
         self.texts, self.places = [], {}  # places by the names of aggregations
-        self.readers = {"text": self.text, "entry": self.entry}
+        self.head, self.members = None, {}  # of the last entry's line
 
     def line(self, line):
         """Takes a line. Returns the answer that it ends, if it ends one."""
         if self.answer is None:
             self.begin(line)
             return None
-        found = parsed(line)
+        found = self.parsed(line)
         kind = found.get("kind")
         if kind == "end":
             return self.end(found)
-        if not isinstance(kind, str) or kind not in self.readers:
+        if kind == "entry":
+            self.entry(found)
+        elif kind == "text":
+            self.text(found)
+        else:
             raise Wrong("it is none of the lines text, entry and end")
-        self.readers[kind](found)
         return None
+
+    def parsed(self, line):
+        """The object that a line is. Of an entry that begins as the last one only the rest is read."""
+        if self.head is not None and line.startswith(self.head):
+            return self.members | parsed(b'{"key":' + line[len(self.head) :])
+        if head := HEAD.match(line):
+            self.head, self.members = head[0], parsed(head[1] + b"}")
+        return parsed(line)
 
     def begin(self, line):
         try:

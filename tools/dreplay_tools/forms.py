@@ -136,7 +136,14 @@ def as_json(texts, all_shown):
             }
         )
     whole = json.dumps({"texts": texts, "aggregations": told}, indent=2, ensure_ascii=False)
-    return "".join(c if c.isprintable() or c == "\n" else json.dumps(c)[1:-1] for c in whole)
+    return "\n".join(map(in_json, whole.split("\n")))
+
+
+def in_json(line):
+    """A line of JSON with all escaped that a terminal might take for a command."""
+    if line.isprintable():
+        return line
+    return "".join(c if c.isprintable() else json.dumps(c)[1:-1] for c in line)
 
 
 def as_folded(shown):

@@ -119,9 +119,11 @@ def added(function, one, other):
 
 def rank(held, buckets):
     """What entries are ordered by: the number that is shown, or the sum of label times count."""
-    if isinstance(held, dict):
-        return sum(buckets.label(place) * count for place, count in held.items())
-    return held.quotient if isinstance(held, Average) else held
+    if type(held) is int:
+        return held
+    if isinstance(held, Average):
+        return held.quotient
+    return sum(buckets.label(place) * count for place, count in held.items())
 
 
 def rows_of(counts, buckets):

@@ -7,3 +7,4 @@ pub mod Listed
 pub mod Pieces
 pub mod Reading
 pub mod Unique
+pub mod Utf8

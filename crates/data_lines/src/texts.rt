@@ -1,6 +1,7 @@
 //! Texts as JSON values.
 
-ghost use Rattle.std.specs.Prelude.{◌≡◌, ◌<◌, ◌≤◌, ◌++◌, ◌∷◌, [], false, OnOk, length, take};
+ghost use Rattle.std.specs.Prelude.{◌≡◌, ◌<◌, ◌≤◌, ◌++◌, ◌∷◌, [], false, true, OnOk, length};
+ghost use Rattle.std.specs.Prelude.{take, IsAscii};
 ghost use Rattle.data_lines.specs.Texts as spec;
 ghost use Rattle.data_lines.specs.Vocabulary.{digit_glyph, flat_map};
 
@@ -48,20 +49,23 @@ fn put_escape(out: &mut Vec<u8>, byte: u8) -> Result<(), AllocError>
     }
 }
 
-// Whether a byte of a text is escaped.
-fn is_escaped(byte: u8) -> bool
-    ensures { result ≡ false → spec.json_escape byte ≡ byte ∷ [] }
+// Whether a byte is ASCII and stays as it is. One test for all: texts differ, so several branches
+// would often be guessed wrong.
+fn is_plain(byte: u8) -> bool
+    ensures plain { result ≡ true → spec.json_escape byte ≡ byte ∷ [] }
+    ensures ascii { result ≡ true → byte < 128 }
 {
-    matches!(byte, b'"' | b'\\' | 0..=31 | 127)
+    (byte >= b' ') & (byte < 127) & (byte != b'"') & (byte != b'\\')
 }
 
-// How many bytes of a text there are before the first that is escaped.
+// How many plain bytes a text begins with.
 fn plain_len(text: &[u8]) -> usize
     ensures within { result ≤ length text.now }
     ensures plain { flat_map spec.json_escape (take result text.now) ≡ take result text.now }
+    ensures ascii { IsAscii (take result text.now) }
 {
     let mut count = 0;
-    while count < text.len() && !is_escaped(text[count]) {
+    while count < text.len() && is_plain(text[count]) {
         count += 1;
     }
     count
@@ -77,12 +81,24 @@ fn put_escapes(out: &mut Vec<u8>, text: &[u8]) -> Result<(), AllocError>
     Ok(())
 }
 
-// Puts a text between quotation marks. Most texts have few bytes to escape, at their end.
-fn put_string(out: &mut Vec<u8>, text: &[u8]) -> Result<(), AllocError>
-    ensures { OnOk result (out.new.items ≡ out.old.items ++ spec.json_string text.now) }
+// Puts plain bytes and a line feed between quotation marks.
+fn put_line(out: &mut Vec<u8>, plain: &[u8]) -> Result<(), AllocError>
+    requires { flat_map spec.json_escape plain.now ≡ plain.now }
+    ensures { OnOk result
+        (out.new.items ≡ out.old.items ++ spec.json_string (plain.now ++ 10 ∷ [])) }
 {
     out.push(b'"')?;
-    let (plain, rest) = text.split_at(plain_len(text));
+    out.extend_from_slice(plain)?;
+    out.extend_from_slice(b"\\n\"")
+}
+
+// Puts plain bytes and others between quotation marks.
+fn put_string(out: &mut Vec<u8>, plain: &[u8], rest: &[u8]) -> Result<(), AllocError>
+    requires { flat_map spec.json_escape plain.now ≡ plain.now }
+    ensures { OnOk result
+        (out.new.items ≡ out.old.items ++ spec.json_string (plain.now ++ rest.now)) }
+{
+    out.push(b'"')?;
     out.extend_from_slice(plain)?;
     put_escapes(out, rest)?;
     out.push(b'"')?;
@@ -101,12 +117,17 @@ fn put_in_hex(out: &mut Vec<u8>, text: &[u8]) -> Result<(), AllocError>
     Ok(())
 }
 
-/// Puts a text: a string where it is UTF-8, and else an object.
+/// Puts a text: a string where it is UTF-8, and else an object. Most texts are plain bytes and a
+/// line feed.
 pub fn put_text(out: &mut Vec<u8>, text: &[u8]) -> Result<(), AllocError>
     ensures { OnOk result (out.new.items ≡ out.old.items ++ spec.text_value text.now) }
 {
-    match from_utf8(text) {
-        Ok(_) => put_string(out, text),
+    let (plain, rest) = text.split_at(plain_len(text));
+    if rest == b"\n".as_slice() {
+        return put_line(out, plain);
+    }
+    match from_utf8(rest) {
+        Ok(_) => put_string(out, plain, rest),
         Err(_) => put_in_hex(out, text),
     }
 }
