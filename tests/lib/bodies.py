@@ -1,83 +1,110 @@
-"""What a text tells of an edit: which functions' bodies it changes, and which functions a body may
-call.
+"""What a text tells of an edit: which functions it changes.
 
-A function is named Type::name, after the type of its impl or trait, and elsewhere by its name
-alone. By the layout of rt fmt a body is between a line that ends in '{' and a line '}', both as
-deep as the first line of the function's head.
+By the layout of rt fmt a body is `{}`, or stands between a line that ends in '{' and a line '}',
+both as deep as the first line of the function's head.
 """
 import re
-from collections import defaultdict
+from dataclasses import dataclass
 
-BODY = re.compile(
-    r"^(( *)(?:pub(?:\(\w+\))? )?(?:const |unsafe )*fn (\w+)"
-    r"(?:.*|.*\n(?:(?:\2(?: |\)|where).*)?\n)*\2(?:\).*)?)\{\n)((?:.*\n)*?)(?=\2\}$)",
+FUNCTION = re.compile(
+    r"^(?P<head>(?P<deep> *)(?:pub(?:\(\w+\))? )?(?:const |unsafe )*fn (?P<name>\w+)"
+    r"(?:.*|.*\n(?:(?:(?P=deep)(?: |\)|where).*)?\n)*(?P=deep)(?:\).*)?))"
+    r"\{(?:\}|\n(?P<body>(?:.*\n)*?)(?P=deep)\})$",
     re.MULTILINE,
 )
-OWNER = re.compile(r"^(?:pub )?(?:impl|trait)\b(?:<[^>]*>)?(?:.* for)? (\w+)", re.MULTILINE)
-CALL = re.compile(r"(?:(\w*)(::|\.))?(\w+)(?:::<[^()]*>)?\(")
+OWNER = re.compile(
+    r"^(?:pub(?:\(\w+\))? )?(?:unsafe )?(?:impl|trait)\b(?:<.*?>(?= ))?"
+    r"(?: (?:\w+::)*(?P<trait>\w+)(?P<by><.*>)? for)? (?:\w+::)*(?P<type>\w+)",
+    re.MULTILINE,
+)
+CYCLE = re.compile(r"#\[cycle\((\w+)\)\]\n(?: *(?:#|//).*\n)*\Z")
+CLOSURE = re.compile(r"::fn::(.+)::[^:]+(?:::call\w*)?$")
 
 
-def own_name(path):
-    """Returns a function's name without the path before it."""
-    return path.split("::")[-1]
+@dataclass(frozen=True)
+class Function:
+    """A function: the module that it is written in, its type and trait if it is a method, and the
+    cycle of calls that it is in, if any."""
+
+    module: str
+    type: str
+    trait: str
+    has_arguments: bool
+    name: str
+    cycle: str
+
+    def is_at(self, path):
+        """Returns whether the prover's path, below the crate, is of the function or of a closure of
+        it. A method stands in its type's module, and the arguments of a trait follow its name."""
+        owner, _, name = CLOSURE.sub(r"::\1", f"::{path}").rpartition("::")
+        if name != self.name or not self.type:
+            return name == self.name and owner.strip(":") == self.module
+        last = owner.rpartition("::")[2]
+        return last.startswith(self.type + self.trait) if self.trait else last == self.type
+
+    def asked(self):
+        """Returns what the prover is asked for to find it: its module, where its path isn't known
+        to the end."""
+        owner = self.type + self.trait if self.type else self.module
+        return self.module if self.has_arguments else "::".join(filter(None, [owner, self.name]))
+
+    def is_like(self, other):
+        """Returns whether what is said of one may be said of the other: they are the same, or
+        methods of one name, which have one proof where their types contain each other."""
+        are_methods = self.type and other.type and self.name == other.name
+        return self == other or bool(are_methods)
 
 
-def split(text):
-    """Returns the bodies of a file's functions, by their names, and the text around them."""
-    bodies = defaultdict(str)
-    for head in BODY.finditer(text):
-        owners = OWNER.findall(text, 0, head.start()) if head[2] else []
-        bodies["::".join([*owners[-1:], head[3]])] += head[4]
-    return bodies, BODY.sub(r"\1", text)
+@dataclass
+class Change:
+    """What an edit changes: the lengths of the functions, and whether only their bodies."""
+
+    functions: dict
+    is_of_bodies: bool
 
 
-def changed(old, new):
-    """Returns, by the function's name, the length of each body that differs in two texts of a file;
-    none where anything else differs too."""
-    (bodies, around), (new_bodies, new_around) = split(old), split(new)
-    if around != new_around:
-        return {}
-    return {name: len(body) for name, body in bodies.items() if body != new_bodies[name]}
+def module_of(path):
+    """Returns the path of a source file's module below the crate."""
+    parts = path.removeprefix("src/").removesuffix(".rt").split("/")
+    return "::".join(parts[:-1] if parts[-1] in ("lib", "main", "mod") else parts)
+
+
+def split(text, path):
+    """Returns the head and the body of each function of a file, and the text around them."""
+    module, found = module_of(path), {}
+    for it in FUNCTION.finditer(text):
+        owners = [*OWNER.finditer(text, 0, it.start())] if it["deep"] else []
+        owner = owners[-1].groupdict("") if owners else {"type": "", "trait": "", "by": ""}
+        cycle = CYCLE.search(text, 0, it.start())
+        in_cycle = cycle[1] if cycle else ""
+        whose = owner["type"], owner["trait"], bool(owner["by"])
+        function = Function(module, *whose, it["name"], in_cycle)
+        head, body = found.get(function, ("", ""))
+        found[function] = (head + it["head"], body + (it["body"] or ""))
+    return found, FUNCTION.sub(r"\g<name>", text)
+
+
+def changed(old, new, path):
+    """Returns what differs in two texts of a file, or None where more than functions does."""
+    (functions, around), (new_functions, new_around) = split(old, path), split(new, path)
+    if around != new_around or functions.keys() != new_functions.keys():
+        return None
+    found = [it for it in functions if functions[it] != new_functions[it]]
+    heads = [it for it in found if functions[it][0] != new_functions[it][0]]
+    return Change({it: len("".join(functions[it])) for it in found}, not heads)
 
 
 def changed_in(folder, texts):
-    """Returns, by name, the lengths of the functions' bodies that these new texts of a folder's
-    files change; none where they change anything else."""
-    found = {}
+    """Returns what these new texts of a folder's files change, or None where that is more than
+    functions."""
+    found = Change({}, True)
     for path, text in texts.items():
+        if not path.startswith("src/"):
+            return None
         with open(f"{folder}/{path}", encoding="utf-8") as file:
-            bodies = changed(file.read(), text)
-        if not bodies:
-            return {}
-        found.update(bodies)
-    return found
-
-
-def callees(caller, body, functions):
-    """Returns which of these functions a body may call, by its text. A call of a value's method may
-    be one of any type's, unless the value is `self`."""
-    own, found = caller.rpartition("::")[0], set()
-    for of, sign, name in CALL.findall(body):
-        exact = f"{own if of in ('self', 'Self') else of}::{name}"
-        if exact in functions:
-            found.add(exact)
-        elif sign == "." or len(of) == 1:
-            found |= {it for it in functions if it.endswith(f"::{name}")}
-        else:
-            found |= {name} & functions.keys()
-    return found
-
-
-def reach(texts):
-    """Returns by name which functions of these files a function may call, itself or through others,
-    and itself."""
-    bodies = defaultdict(str)
-    for text in texts:
-        for name, body in split(text)[0].items():
-            bodies[name] += body
-    found = {name: {name} | callees(name, body, bodies) for name, body in bodies.items()}
-    for middle in found:
-        for reached in found.values():
-            if middle in reached:
-                reached |= found[middle]
-    return found
+            change = changed(file.read(), text, path)
+        if not change:
+            return None
+        found.functions.update(change.functions)
+        found.is_of_bodies &= change.is_of_bodies
+    return found if found.functions else None
