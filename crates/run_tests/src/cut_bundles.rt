@@ -3,11 +3,11 @@
 ghost use Rattle.consumer.specs.Plans.{IsInBounds};
 
 use crate::replays::reporting;
-use consumer::{ConsumeFault, EngineKind, GroupPlan, Plan, refusal_text};
+use consumer::{ConsumeFault, EngineKind, GroupPlan, Plan, Replayed, refusal_text};
 use keyed_hash::HashKey;
 use report::Watched;
 use std::alloc::{AllocGlobal, Global};
-use std::io::Read;
+use std::io::{Chain, Read};
 use std::process::Abort;
 use std::sync::Wait;
 use std::test::Fail;
@@ -67,6 +67,25 @@ fn plan_of(workers: u32) -> Plan
     }
 }
 
+// A bundle that comes in two blocks.
+fn cut(bundle: &[u8], at: usize) -> Chain<&[u8], &[u8]> {
+    let (first, rest) = bundle.split_at(at.min(bundle.len()));
+    first.chain(rest)
+}
+
+// Consumes a bundle that comes in two blocks.
+fn consume_in_two<R: AllocGlobal + Threads + Wait + Sync>(
+    rt: &R,
+    bundle: &[u8],
+    at: usize,
+    workers: u32,
+) -> (Result<Replayed, ConsumeFault>, Vec<u8>) {
+    let mut feed = Watched::new(cut(bundle, at));
+    let mut sink = Watched::new(Vec::new(rt.alloc()));
+    let answer = reporting(rt).consume(&mut feed, &mut sink, &plan_of(workers));
+    (answer, sink.into_inner())
+}
+
 // A bundle that comes in two blocks shows this, or this is said of it.
 fn expect_in_two<R: AllocGlobal + Threads + Wait + Sync + Abort>(
     rt: &R,
@@ -75,15 +94,11 @@ fn expect_in_two<R: AllocGlobal + Threads + Wait + Sync + Abort>(
     workers: u32,
     wanted: &str,
 ) -> Result<(), Fail> {
-    let (first, rest) = bundle.split_at(at.min(bundle.len()));
-    let mut feed = Watched::new(first.chain(rest));
-    let mut sink = Watched::new(Vec::new(rt.alloc()));
-    let answer = reporting(rt).consume(&mut feed, &mut sink, &plan_of(workers));
-    let out = sink.into_inner();
-    match answer {
+    let (answer, out) = consume_in_two(rt, bundle, at, workers);
+    match &answer {
         Ok(_) => assert_eq!(rt; out.as_slice(), wanted.as_bytes(), "at {at}"),
         Err(ConsumeFault::Refused(refusal)) => {
-            let said = refusal_text(rt.alloc(), &refusal)?;
+            let said = refusal_text(rt.alloc(), refusal)?;
             assert_eq!(rt; said.as_str(), wanted, "at {at}");
             assert!(rt; out.is_empty());
         }
@@ -109,7 +124,7 @@ fn a_bundle_may_be_cut_anywhere(rt: HostRuntime) -> Result<(), Fail> {
 fn long_bundle(alloc: Global, bytes: usize, filler: u8) -> Result<Vec<u8>, Fail> {
     let mut bundle = Vec::new(alloc);
     bundle.extend_from_slice(b"BEGIN { trace(1); }")?;
-    while bundle.len() + 1 < bytes {
+    for _ in bundle.len() + 1..bytes {
         bundle.push(filler)?;
     }
     bundle.extend_from_slice(b"\n---\r\nno header\n")?;
