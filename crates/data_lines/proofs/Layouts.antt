@@ -1,11 +1,10 @@
 -- The data of a whole is that of its run.
-use Rattle.std.proofs.Common.{◌≡◌, ◌∙◌, ◌+◌, ◌++◌, ◌∷◌, [], ℕ, suc, List, Option, Vec, Global, map, length, ap, arith}
+use Rattle.std.proofs.Common.{◌≡◌, ◌∙◌, ◌∷◌, [], ℕ, suc, List, Option, Vec, Global, map, length, ap, arith}
 use Rattle.std.proofs.Common.{refl, subst, sum_by}
 use Rattle.std.specs.Prelude.{IfOk, Result, Ok, Err}
 use Rattle.std.specs.List.{flat_map}
 use Rattle.std.proofs.lemmas.List.Sums.{sum_by-append, sum_by-cons}
 use Rattle.std.proofs.lemmas.List.{length-map}
-use Rattle.aggregations.specs.Table.{Contribution}
 use Rattle.replay_core.specs.declared.whole.Whole.{Whole}
 use Rattle.replay_core.specs.Groups.{Grouping, SameItems}
 use Rattle.replay_core.specs.Meaning.{Threads, blank_threads, contributions_of, exit_of, history, texts_of, threads_after}
