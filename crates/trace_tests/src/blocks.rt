@@ -5,22 +5,43 @@ use crate::drawn_traces::{Chance, drawn_trace};
 use crate::traces::{HEADER, MIXED, OTHER_HEADER, QUOTED_HEADER, SECOND, is_same, whole_trace};
 use firing_reader::{Reader, Trace, TraceFault, read_trace};
 use keyed_hash::HashKey;
-use std::alloc::Global;
+use std::alloc::{AllocError, Global};
 use std::test::Fail;
 
-// Reads a trace in blocks of this size.
+// Reads a trace that comes in these blocks.
 fn in_blocks(
     alloc: Global,
     hash_key: HashKey,
-    bytes: &[u8],
-    size: usize,
+    blocks: &[&[u8]],
     least: usize,
 ) -> Result<Trace, TraceFault> {
     let mut reader = Reader::new(alloc, hash_key, least)?;
-    for block in bytes.chunks(size.max(1)) {
+    for block in blocks {
         reader.take(block)?;
     }
     reader.finish()
+}
+
+// Cuts a trace into blocks of this size.
+fn blocks_of(alloc: Global, bytes: &[u8], size: usize) -> Result<Vec<&[u8]>, AllocError> {
+    bytes.chunks(size.max(1)).collect(alloc)
+}
+
+// Cuts a trace into blocks of drawn sizes. Some are empty.
+fn drawn_blocks<'a>(
+    alloc: Global,
+    chance: &mut Chance,
+    bytes: &'a [u8],
+) -> Result<Vec<&'a [u8]>, AllocError> {
+    let mut blocks = Vec::new(alloc);
+    let mut left = bytes;
+    for _ in 0..bytes.len() {
+        let (block, rest) = left.split_at(chance.below(200).min(left.len()));
+        blocks.push(block)?;
+        left = rest;
+    }
+    blocks.push(left)?;
+    Ok(blocks)
 }
 
 #[test]
@@ -29,29 +50,24 @@ fn drawn_traces_read_the_same_in_blocks(rt: HostRuntime) -> Result<(), Fail> {
         let bytes = drawn_trace(rt.alloc(), seed)?;
         let whole = read_trace(rt.alloc(), HashKey::random(&rt), &bytes);
         for (size, least) in [(1, 1), (2, 1), (3, 1), (7, 1), (7, 300), (64, 1), (1000, 1)] {
-            let found = in_blocks(rt.alloc(), HashKey::random(&rt), &bytes, size, least);
+            let blocks = blocks_of(rt.alloc(), &bytes, size)?;
+            let found = in_blocks(rt.alloc(), HashKey::random(&rt), &blocks, least);
             assert!(rt; is_same(&whole, &found), "trace {seed} by {size} bytes");
         }
     }
     Ok(())
 }
 
-// The sizes of blocks are drawn. Some blocks are empty.
 #[test]
 fn drawn_traces_read_the_same_in_drawn_blocks(rt: HostRuntime) -> Result<(), Fail> {
     for seed in 0..300 {
         let bytes = drawn_trace(rt.alloc(), seed)?;
         let whole = read_trace(rt.alloc(), HashKey::random(&rt), &bytes);
         let mut chance = Chance { state: seed };
-        let mut reader = Reader::new(rt.alloc(), HashKey::random(&rt), chance.below(100))?;
-        let mut left: &[u8] = &bytes;
-        for _ in 0..bytes.len() {
-            let (block, rest) = left.split_at(chance.below(200).min(left.len()));
-            reader.take(block)?;
-            left = rest;
-        }
-        reader.take(left)?;
-        assert!(rt; is_same(&whole, &reader.finish()), "trace {seed}");
+        let least = chance.below(100);
+        let blocks = drawn_blocks(rt.alloc(), &mut chance, &bytes)?;
+        let found = in_blocks(rt.alloc(), HashKey::random(&rt), &blocks, least);
+        assert!(rt; is_same(&whole, &found), "trace {seed}");
     }
     Ok(())
 }
@@ -76,13 +92,9 @@ fn headers_and_rows_are_cut_anywhere(rt: HostRuntime) -> Result<(), Fail> {
         let bytes = whole_trace(rt.alloc(), head, first, rest)?;
         let whole = read_trace(rt.alloc(), HashKey::random(&rt), &bytes);
         for cut in 0..bytes.len() {
-            let mut reader = Reader::new(rt.alloc(), HashKey::random(&rt), 1)?;
-            reader.take(&bytes[..cut])?;
-            reader.take(&bytes[cut..])?;
-            assert!(rt;
-                is_same(&whole, &reader.finish()),
-                "{head:?} {first:?} at {cut}"
-            );
+            let blocks = [&bytes[..cut], &bytes[cut..]];
+            let found = in_blocks(rt.alloc(), HashKey::random(&rt), &blocks, 1);
+            assert!(rt; is_same(&whole, &found), "{head:?} {first:?} at {cut}");
         }
     }
     Ok(())
@@ -112,7 +124,8 @@ fn a_row_is_longer_than_blocks(rt: HostRuntime) -> Result<(), Fail> {
         let whole = read_trace(rt.alloc(), HashKey::random(&rt), &bytes);
         assert!(rt; whole.is_ok(), "{byte}");
         for size in [1, 7, 64] {
-            let found = in_blocks(rt.alloc(), HashKey::random(&rt), &bytes, size, 1);
+            let blocks = blocks_of(rt.alloc(), &bytes, size)?;
+            let found = in_blocks(rt.alloc(), HashKey::random(&rt), &blocks, 1);
             assert!(rt; is_same(&whole, &found), "{byte} by {size} bytes");
         }
     }
