@@ -14,7 +14,7 @@ class Refusals:
         self.kept = rt.Kept(list({it.name: it for it in crates}.values()), is_anew)
         self.scripts = hashlib.sha256(repr(is_beside).encode())
         here = os.path.dirname(__file__)
-        for path in [f"{here}/../edits", f"{here}/bodies.py"]:
+        for path in [f"{here}/../edits", f"{here}/bodies.py", f"{here}/without_advice"]:
             with open(path, "rb") as script:
                 self.scripts.update(script.read())
 

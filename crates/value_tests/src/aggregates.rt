@@ -1,12 +1,23 @@
 ghost use Rattle.std.specs.Prelude.{◌≡◌, ◌+◌, ◌<◌, ◌≤◌, ◌^◌, ◌∷◌, [], IfOk, length};
 ghost use Rattle.aggregations.specs.Table.{functions_of, count_held};
 
-use aggregations::{AggFn, AggTable, LinearRange};
+use aggregations::{AggFn, AggTable, LinearRange, Partial};
 use d_values::{Key, KeyPart, Text};
 use keyed_hash::HashKey;
 use std::alloc::Global;
 use std::process::Abort;
 use std::test::Fail;
+
+// How many of the entries are of the key, and the count of the last of these.
+fn count_of(entries: &[(&Key, &Partial)], key: &Key) -> (usize, Option<i64>) {
+    let mut found = (0usize, None);
+    for (held, partial) in entries {
+        if **held == *key {
+            found = (found.0.wrapping_add(1), partial.single());
+        }
+    }
+    found
+}
 
 // Asserts that the aggregation has just these counts, each of the key with this one text.
 fn has_counts(
@@ -20,19 +31,17 @@ fn has_counts(
     let entries = table.entries(alloc, agg)?;
     assert_eq!(rt; entries.len(), counts.len());
     for (name, count) in counts {
-        let mut key = Key::new(alloc);
-        key.push(KeyPart::Name(Text::from_slice(alloc, name.as_bytes())?))?;
-        let mut seen = false;
-        for (found, partial) in &entries {
-            if **found == key {
-                assert!(rt; !seen, "{name} twice");
-                seen = true;
-                assert_eq!(rt; partial.single(), Some(*count), "{name}");
-            }
-        }
-        assert!(rt; seen, "{name}");
+        let key = key_of(alloc, name)?;
+        assert_eq!(rt; count_of(&entries, &key), (1, Some(*count)), "{name}");
     }
     Ok(())
+}
+
+// The key with this one text.
+fn key_of(alloc: Global, name: &str) -> Result<Key, Fail> {
+    let mut key = Key::new(alloc);
+    key.push(KeyPart::Name(Text::from_slice(alloc, name.as_bytes())?))?;
+    Ok(key)
 }
 
 // One more argument for the key with this one text.

@@ -21,8 +21,12 @@ const OTHER: Var = Var {
     kind: Kind::Number,
 };
 
-fn text(alloc: Global, bytes: &[u8]) -> Result<Value, AllocError> {
-    Ok(Value::Text(Text::from_slice(alloc, bytes)?))
+// The same value, owned.
+fn value_of(alloc: Global, value: ValueRef<'_>) -> Result<Value, AllocError> {
+    match value {
+        ValueRef::Int(n) => Ok(Value::Int(n)),
+        ValueRef::Text(bytes) => Ok(Value::Text(Text::from_slice(alloc, bytes)?)),
+    }
 }
 
 // The number that a value is, or a text's length and 1,000.
@@ -68,22 +72,23 @@ fn long_key(alloc: Global, last: i64) -> Result<Key, AllocError> {
 fn locals_keep_values(rt: HostRuntime) -> Result<(), Fail> {
     let alloc = rt.alloc();
     let mut locals = ClauseLocals::new(alloc);
-    let rows: [(Var, Value, [u64; 3]); 7] = [
-        (COUNT, Value::Int(5), [5, 1000, 0]),
-        (NAME, text(alloc, b"abc")?, [5, 1003, 0]),
-        (OTHER, Value::Int(u64::MAX), [5, 1003, u64::MAX]),
-        (COUNT, Value::Int(0), [0, 1003, u64::MAX]),
-        (NAME, text(alloc, b"a")?, [0, 1001, u64::MAX]),
-        (NAME, text(alloc, b"")?, [0, 1000, u64::MAX]),
-        (COUNT, Value::Int(6), [6, 1000, u64::MAX]),
+    let rows: [(Var, ValueRef<'_>, [u64; 3]); 7] = [
+        (COUNT, ValueRef::Int(5), [5, 1000, 0]),
+        (NAME, ValueRef::Text(b"abc"), [5, 1003, 0]),
+        (OTHER, ValueRef::Int(u64::MAX), [5, 1003, u64::MAX]),
+        (COUNT, ValueRef::Int(0), [0, 1003, u64::MAX]),
+        (NAME, ValueRef::Text(b"a"), [0, 1001, u64::MAX]),
+        (NAME, ValueRef::Text(b""), [0, 1000, u64::MAX]),
+        (COUNT, ValueRef::Int(6), [6, 1000, u64::MAX]),
     ];
     assert_eq!(rt; read_locals(&locals), [0, 1000, 0]);
     for (var, value, after) in rows {
         let before = read_locals(&locals);
+        let value = value_of(alloc, value)?;
         if value.kind() != var.kind {
             continue;
         }
-        if let Err(refused) = locals.set(var, value.clone()?) {
+        if let Err(refused) = locals.set(var, value) {
             assert_eq!(rt; read_locals(&locals), before);
             return Err(refused.into());
         }
@@ -99,24 +104,25 @@ fn threads_keep_values(rt: HostRuntime) -> Result<(), Fail> {
     let alloc = rt.alloc();
     let keys = [Key::new(alloc), long_key(alloc, 2)?];
     let mut table = ThreadTable::new(alloc, HashKey::of_seed(&[]));
-    let rows: [(Var, usize, Value, [u64; 6]); 9] = [
-        (COUNT, 0, Value::Int(5), [5, 0, 1000, 1000, 0, 0]),
-        (COUNT, 1, Value::Int(6), [5, 6, 1000, 1000, 0, 0]),
-        (NAME, 1, text(alloc, b"abc")?, [5, 6, 1000, 1003, 0, 0]),
-        (OTHER, 1, Value::Int(0), [5, 6, 1000, 1003, 0, 0]),
-        (OTHER, 1, Value::Int(9), [5, 6, 1000, 1003, 0, 9]),
-        (COUNT, 1, Value::Int(7), [5, 7, 1000, 1003, 0, 9]),
-        (COUNT, 0, Value::Int(0), [0, 7, 1000, 1003, 0, 9]),
-        (NAME, 1, text(alloc, b"")?, [0, 7, 1000, 1000, 0, 9]),
-        (NAME, 0, text(alloc, b"z")?, [0, 7, 1001, 1000, 0, 9]),
+    let rows: [(Var, usize, ValueRef<'_>, [u64; 6]); 9] = [
+        (COUNT, 0, ValueRef::Int(5), [5, 0, 1000, 1000, 0, 0]),
+        (COUNT, 1, ValueRef::Int(6), [5, 6, 1000, 1000, 0, 0]),
+        (NAME, 1, ValueRef::Text(b"abc"), [5, 6, 1000, 1003, 0, 0]),
+        (OTHER, 1, ValueRef::Int(0), [5, 6, 1000, 1003, 0, 0]),
+        (OTHER, 1, ValueRef::Int(9), [5, 6, 1000, 1003, 0, 9]),
+        (COUNT, 1, ValueRef::Int(7), [5, 7, 1000, 1003, 0, 9]),
+        (COUNT, 0, ValueRef::Int(0), [0, 7, 1000, 1003, 0, 9]),
+        (NAME, 1, ValueRef::Text(b""), [0, 7, 1000, 1000, 0, 9]),
+        (NAME, 0, ValueRef::Text(b"z"), [0, 7, 1001, 1000, 0, 9]),
     ];
     assert_eq!(rt; read_own(&table, &keys), [0, 0, 1000, 1000, 0, 0]);
     for (var, key, value, after) in rows {
         let before = read_own(&table, &keys);
+        let value = value_of(alloc, value)?;
         if value.kind() != var.kind {
             continue;
         }
-        if let Err(refused) = table.set(var, &keys[key % 2], value.clone()?) {
+        if let Err(refused) = table.set(var, &keys[key % 2], value) {
             assert_eq!(rt; read_own(&table, &keys), before);
             return Err(refused.into());
         }
