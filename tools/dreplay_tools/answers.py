@@ -249,7 +249,7 @@ class Reader:
         return None
 
     def parsed(self, line):
-        """The object that a line is. Of an entry that begins as the last one only the rest is read."""
+        """The object that a line is. Of an entry that begins as the last one, the rest is read."""
         if self.head is not None and line.startswith(self.head):
             return self.members | parsed(b'{"key":' + line[len(self.head) :])
         if head := HEAD.match(line):

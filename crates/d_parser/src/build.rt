@@ -29,7 +29,8 @@ pub(crate) fn target(variable: Variable, keys: Vec<Expr>) -> Target
 }
 
 pub(crate) fn read(target: Target) -> Expr
-    ensures { spec.tree_of result ≡ spec.Read (steps.target_of target).0 (steps.target_of target).1 }
+    ensures { spec.tree_of result
+        ≡ spec.Read (steps.target_of target).0 (steps.target_of target).1 }
 {
     Expr::Read(target)
 }

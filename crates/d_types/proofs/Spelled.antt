@@ -15,7 +15,8 @@ use Rattle.d_types.specs.declared.typed.Piece.TheVariants as piece
 use Rattle.d_types.specs.declared.format.Flags.{Flags}
 use Rattle.d_types.specs.declared.format.Place.{Place}
 use Rattle.d_types.specs.declared.format.Place.TheVariants as at
-use Rattle.d_types.specs.Formats.{is_digit, no_flags, pieces_from, pieces}
+use Rattle.d_parser.specs.Script.{is_digit}
+use Rattle.d_types.specs.Formats.{no_flags, pieces_from, pieces}
 use Rattle.d_types.specs.Spelling.{IsOneOf, has_byte, AreFlags, width_text, lengths, letters}
 use Rattle.d_types.specs.Spelling.{IsConversion, SpellsPiece, SpellsFormat}
 

@@ -1,6 +1,7 @@
 -- The formats of printf: bytes, and conversions that begin with a percent sign.
 use Rattle.std.specs.Prelude.{ℕ, ◌+◌, ◌*◌, ◌-◌, ◌==◌, ◌&&◌, ◌||◌, nat_le, Bool, true, false}
 use Rattle.std.specs.Prelude.{if◌then◌else◌, List, [], ◌∷◌, ◌++◌, Option, Some, None}
+use Rattle.d_parser.specs.Script.{is_digit}
 use Rattle.d_types.specs.Vocabulary.{Int, Text, DType, Letter, Piece, MOST_WIDTH, Flags, Place}
 use Rattle.d_types.specs.Typed.{Typeds, end, more, type_of}
 
@@ -38,9 +39,6 @@ abbrev pub at_length : Flags → ℕ → Turn
 at_length f b =
     if b == 104 then goes (Place.Half f) else if b == 108 then goes (Place.Long f)
     else at_letter f b
-
-abbrev pub is_digit : ℕ → Bool
-is_digit b = nat_le 48 b && nat_le b 57
 
 -- before it perhaps a width
 abbrev pub at_width : Flags → ℕ → Turn

@@ -1,6 +1,7 @@
 //! The formats of printf.
 
 ghost use Rattle.std.specs.Prelude.{◌≡◌, IfOk, OnOk, option_map, []};
+ghost use Rattle.d_parser.specs.Script.{is_digit};
 ghost use Rattle.d_types.specs.{Typed.typeds_of};
 ghost use Rattle.d_types.specs.Steps.Faults.{OnlyMemory};
 ghost use Rattle.d_types.specs.Formats as spec;
@@ -85,7 +86,7 @@ fn at_length(flags: Flags, byte: u8) -> Turn
 }
 
 fn is_digit(byte: u8) -> bool
-    ensures { result ≡ spec.is_digit byte }
+    ensures { result ≡ is_digit byte }
 {
     48 <= byte && byte <= 57
 }

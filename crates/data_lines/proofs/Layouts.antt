@@ -12,7 +12,7 @@ use Rattle.replay_core.specs.Pieces.{IsWholeOf, RunsEachOnce}
 use Rattle.replay_core.specs.Seen.{whole_seen}
 use Rattle.replay_core.specs.Vocabulary.{Firing, ScriptMeant, number_of}
 use Rattle.data_lines.specs.Layout.{IsDataOf, whole_run}
-use Rattle.data_lines.specs.Runs.{IsData, WholeRun, run_of}
+use Rattle.data_lines.specs.Runs.{IsData, WholeRun, run_from}
 
 -- ---- how many firings were run
 
@@ -49,7 +49,7 @@ firings_run m fs groups same =
 
 run_is : (m : ScriptMeant) (fs : List Firing) (grouping : Grouping) (whole : Whole) → IsWholeOf m fs grouping (whole_seen whole)
     → RunsEachOnce fs (whole_seen whole)
-    → run_of whole (contributions_of (history m fs blank_threads)) ≡ whole_run (history m fs blank_threads)
+    → run_from whole (contributions_of (history m fs blank_threads)) ≡ whole_run (history m fs blank_threads)
 run_is m fs grouping whole is once =
     let h = history m fs blank_threads in
     let firings = firings_run m fs whole.ran.items once in
@@ -61,7 +61,7 @@ run_is m fs grouping whole is once =
 
 pub data_of_run : {E : Type 0} (m : ScriptMeant) (fs : List Firing) (grouping : Grouping) (whole : Whole) (r : Result (Vec ℕ Global) E)
     → IsWholeOf m fs grouping (whole_seen whole) → RunsEachOnce fs (whole_seen whole)
-    → IfOk r (λ bytes. IsData m.aggregations (run_of whole (contributions_of (history m fs blank_threads))) bytes.items)
+    → IfOk r (λ bytes. IsData m.aggregations (run_from whole (contributions_of (history m fs blank_threads))) bytes.items)
     → IfOk r (λ bytes. IsDataOf m (history m fs blank_threads) bytes.items)
 data_of_run m fs grouping whole (Ok bytes) is once written =
     subst (λ run. IsData m.aggregations run bytes.items) (run_is m fs grouping whole is once) written

@@ -16,8 +16,8 @@ pub record WholeRun : Type 0 where
   pub firings : ℕ
 
 -- a whole whose table stands for these contributions
-abbrev pub run_of : Whole → List Contribution → WholeRun
-run_of whole contributions = record {
+abbrev pub run_from : Whole → List Contribution → WholeRun
+run_from whole contributions = record {
   texts = whole.texts.items;
   contributions = contributions;
   exit = whole.exit;

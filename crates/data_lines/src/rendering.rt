@@ -7,7 +7,7 @@ ghost use Rattle.d_types.specs.TypedScripts.{typed_script_of};
 ghost use Rattle.data_lines.specs.Vocabulary.{Contribution, StandsFor, deref_pair, enumerate_from};
 ghost use Rattle.data_lines.specs.Vocabulary.{flat_map, functions_of};
 ghost use Rattle.data_lines.specs.Lines.{entry_line, text_line};
-ghost use Rattle.data_lines.specs.Runs.{IsData, run_of};
+ghost use Rattle.data_lines.specs.Runs.{IsData, run_from};
 ghost use Rattle.data_lines.specs.Steps.Runs.{AppendsListed};
 
 use crate::lines::{FIRST_LINE, entry_head, put_entry_line, put_last_line, put_text_line};
@@ -31,7 +31,7 @@ pub fn render(alloc: Global, script: &TypedScript, whole: &Whole) -> Result<Vec<
         ≡ map (λ a. a.function) (typed_script_of script.now).aggregations }
     ensures { (contributions : List Contribution) → StandsFor whole.now.table contributions
         → IfOk result (λ bytes. IsData (typed_script_of script.now).aggregations
-        (run_of whole.now contributions) bytes.items) }
+        (run_from whole.now contributions) bytes.items) }
 {
     let mut out = Vec::from_slice(alloc, FIRST_LINE)?;
     put_texts(&mut out, &whole.texts)?;

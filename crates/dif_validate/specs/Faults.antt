@@ -31,15 +31,15 @@ abbrev pub goes_out : Instr → ℕ → Bool
 goes_out i size = is_at_least (jump_target i) size
 
 -- what it names isn't in the object's table
-abbrev pub is_outside : Named → Object → Bool
-is_outside NoName o = false
-is_outside (NumberAt i) o = nat_le (length o.numbers) i
-is_outside (TextAt i) o = nat_le (length o.texts) i
-is_outside (VariableAt v) o = false
-is_outside (ArrayAt v) o = false
+abbrev pub is_past_table : Named → Object → Bool
+is_past_table NoName o = false
+is_past_table (NumberAt i) o = nat_le (length o.numbers) i
+is_past_table (TextAt i) o = nat_le (length o.texts) i
+is_past_table (VariableAt v) o = false
+is_past_table (ArrayAt v) o = false
 
 abbrev pub misses_table : Instr → Object → Bool
-misses_table i o = is_outside (row_of i).named o
+misses_table i o = is_past_table (row_of i).named o
 
 -- what it names is no built-in variable; there is one array
 abbrev pub is_no_variable : Named → Bool

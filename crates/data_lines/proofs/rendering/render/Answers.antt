@@ -2,7 +2,7 @@ use Rattle.std.proofs.Common.{◌≡◌, ◌++◌, length, map, sym, subst, ap, 
 use Rattle.std.specs.List.{enumerate_from, flat_map, sum_by}
 use Rattle.d_types.specs.Typed.{aggs_of}
 use Rattle.data_lines.specs.Lines.{first_line, last_line, text_line}
-use Rattle.data_lines.specs.Runs.{run_of}
+use Rattle.data_lines.specs.Runs.{run_from}
 use Rattle.data_lines.specs.Steps.Runs.{AppendsListed}
 use Rattle.data_lines.proofs.Listed.{data_of}
 use Rattle.data_lines.proofs.rendering.render.Goals as goal
@@ -12,7 +12,7 @@ put_aggregations-requires c = c.requires ∙ ap (λ all. map (λ a. a.function) 
 
 pub returns : goal.returns
 returns c contributions stands =
-    let run = run_of c.args.whole.now contributions in
+    let run = run_from c.args.whole.now contributions in
     let before = c.put_texts.new.out.items in
     let between = c.put_aggregations.new.out.items in
     let after = c.put_last_line.new.out.items in
