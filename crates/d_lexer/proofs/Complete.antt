@@ -43,7 +43,7 @@ use Rattle.d_lexer.specs.Steps.Scan.{inside_at, head_at, token_at, front_at, Sca
 use Rattle.d_lexer.specs.Steps.Scan.{with_first_token}
 use Rattle.d_lexer.specs.Steps.Scan.{scan}
 use Rattle.d_lexer.proofs.Base.{run_fills, run_is, scan_skip}
-use Rattle.d_lexer.proofs.Steps.{behind_text, behind_none}
+use Rattle.d_lexer.proofs.Steps.{later_text, later_none}
 use Rattle.d_lexer.proofs.Numbers.{number_reads, none_reads}
 use Rattle.d_lexer.proofs.OptionLines.{option_reads, no_option_reads}
 use Rattle.d_lexer.proofs.Marks.{MarkIs, mark_sound, mark_complete, mark_free, is_free}
@@ -165,23 +165,23 @@ text_escape : (e x : ℕ) (z : List ℕ) → escape_of e ≡ Some x → text_fro
 unfolding text_from
 text_escape e x z h = rw h refl
 
-put_behind : (x n m : ℕ) (w : List ℕ) (r : Result (List ℕ × ℕ) Flaw) → m ≡ suc n → with_byte x (behind_text w n r) ≡ behind_text (x ∷ w) m r
-put_behind x n m w (Err g) e = refl
-put_behind x n m w (Ok t) e = let k : suc (n + t.1) ≡ m + t.1 = omega arith in rw k refl
+put_later : (x n m : ℕ) (w : List ℕ) (r : Result (List ℕ × ℕ) Flaw) → m ≡ suc n → with_byte x (later_text w n r) ≡ later_text (x ∷ w) m r
+put_later x n m w (Err g) e = refl
+put_later x n m w (Ok t) e = let k : suc (n + t.1) ≡ m + t.1 = omega arith in rw k refl
 
-put_behind2 : (x n m : ℕ) (w : List ℕ) (r : Result (List ℕ × ℕ) Flaw) → m ≡ suc (suc n) → skip_one (with_byte x (behind_text w n r)) ≡ behind_text (x ∷ w) m r
-put_behind2 x n m w (Err g) e = refl
-put_behind2 x n m w (Ok t) e = let k : suc (suc (n + t.1)) ≡ m + t.1 = omega arith in rw k refl
+put_later2 : (x n m : ℕ) (w : List ℕ) (r : Result (List ℕ × ℕ) Flaw) → m ≡ suc (suc n) → skip_one (with_byte x (later_text w n r)) ≡ later_text (x ∷ w) m r
+put_later2 x n m w (Err g) e = refl
+put_later2 x n m w (Ok t) e = let k : suc (suc (n + t.1)) ≡ m + t.1 = omega arith in rw k refl
 
-text_goes : (w body rest : List ℕ) → SpellsText body w → text_from false (body ++ rest) ≡ behind_text w (length body) (text_from false rest)
-text_goes [] body rest h = rw h (sym (behind_none (text_from false rest)))
+text_goes : (w body rest : List ℕ) → SpellsText body w → text_from false (body ++ rest) ≡ later_text w (length body) (text_from false rest)
+text_goes [] body rest h = rw h (sym (later_none (text_from false rest)))
 text_goes (x ∷ w) body rest h =
     let further = text_goes w h.1 rest h.4 in
     elim h.3 [
       | inl p ↦ (let is : body ≡ x ∷ h.1 = h.2 ∙ ap (λ (xs : List ℕ). xs ++ h.1) p.1 in
-          rw is (text_plain x (h.1 ++ rest) p.0 ∙ ap (with_byte x) further ∙ put_behind x (length h.1) (suc (length h.1)) w (text_from false rest) refl))
+          rw is (text_plain x (h.1 ++ rest) p.0 ∙ ap (with_byte x) further ∙ put_later x (length h.1) (suc (length h.1)) w (text_from false rest) refl))
       | inr p ↦ (let is : body ≡ 92 ∷ (p.0 ∷ h.1) = h.2 ∙ ap (λ (xs : List ℕ). xs ++ h.1) p.2 in
-          rw is (text_escape p.0 x (h.1 ++ rest) p.1 ∙ ap (λ r. skip_one (with_byte x r)) further ∙ put_behind2 x (length h.1) (suc (suc (length h.1))) w (text_from false rest) refl))
+          rw is (text_escape p.0 x (h.1 ++ rest) p.1 ∙ ap (λ r. skip_one (with_byte x r)) further ∙ put_later2 x (length h.1) (suc (suc (length h.1))) w (text_from false rest) refl))
     ]
 
 text_ends : (rest : List ℕ) → text_from false (34 ∷ rest) ≡ Ok ([], 1)
@@ -297,7 +297,7 @@ module _ (p : Place) (pos : Position) (i : is_head p ≡ false) where
   text_reads own rest w body is h =
       let e : length body + 1 ≡ length (body ++ 34 ∷ []) = omega (arith, length-append body (34 ∷ [])) in
       let read : text_from false ((body ++ 34 ∷ []) ++ rest) ≡ Ok (w, length (body ++ 34 ∷ [])) =
-      ap (text_from false) (append_assoc body (34 ∷ []) rest) ∙ text_goes w body (34 ∷ rest) h ∙ ap (behind_text w (length body)) (text_ends rest)
+      ap (text_from false) (append_assoc body (34 ∷ []) rest) ∙ text_goes w body (34 ∷ rest) h ∙ ap (later_text w (length body)) (text_ends rest)
       ∙ rw (append-nil w) (ap (λ (n : ℕ). Ok (w, n)) e) in
       reads p pos 34 (body ++ 34 ∷ []) rest own (kind.TextConstant w) is (front_inside p pos 34 ((body ++ 34 ∷ []) ++ rest) i refl refl refl ∙ inside_text p ((body ++ 34 ∷ []) ++ rest) ∙ ap text_front read)
 
@@ -345,7 +345,7 @@ fault_fails p pos bytes g (stray b z is h) =
     }
 fault_fails p pos bytes g (open_comment z is h) = record { first = 47; others = 42 ∷ z; is = is; read = comment_fails p pos z h }
 fault_fails p pos bytes g (text z i is h) =
-    let read : text_from false z ≡ Err g = ap (text_from false) h.3 ∙ text_goes h.1 h.0 h.2 h.4 ∙ ap (behind_text h.1 (length h.0)) (text_stops g h.2 h.5) in
+    let read : text_from false z ≡ Err g = ap (text_from false) h.3 ∙ text_goes h.1 h.0 h.2 h.4 ∙ ap (later_text h.1 (length h.0)) (text_stops g h.2 h.5) in
     record { first = 34; others = z; is = is; read = front_inside p pos 34 z i refl refl refl ∙ inside_text p z ∙ ap text_front read }
 fault_fails p pos bytes g (number own rest i is h e) = number_fails p pos bytes own rest is (number_run p pos i own rest None (none_run p pos i own rest h e) h)
 fault_fails p pos bytes g (other_option w rest is e1 e2 e3 h) = record { first = 35; others = w ++ rest; is = is; read = front_option p pos w rest false e1 e2 (no_option_reads (35 ∷ w) e3) h }

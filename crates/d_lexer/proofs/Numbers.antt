@@ -29,13 +29,13 @@ horner a base k p m =
 -- the digits after a first part acc, and the suffix
 record ReadAs (base acc : ℕ) (z : List ℕ) (n : ℕ) (s : Suffix) : Type 0 where
   digits : List ℕ
-  behind : List ℕ
+  later : List ℕ
   own : ℕ
-  is : z ≡ digits ++ behind
+  is : z ≡ digits ++ later
   value : DigitsStandFor base digits own
   whole : n ≡ acc * base ^ length digits + own
   fits : n < 2 ^ 64
-  suffix : suffix_of behind ≡ Some s
+  suffix : suffix_of later ≡ Some s
 
 one_power : (base acc : ℕ) → acc ≡ acc * base ^ 0 + 0
 one_power base acc = rw (pow-zero base) (omega arith)
@@ -56,7 +56,7 @@ read_none base acc z n s low e = by (suffix_of z) refl e where
   by (Some t) o_is e =
       let same = same_parts acc n t s e in
       let n_is : acc ≡ n = same.0 in
-      record { digits = []; behind = z; own = 0; is = refl; value = refl; whole = sym n_is ∙ one_power base acc; fits = rw (← n_is) low; suffix = o_is ∙ ap (λ (x : Suffix). Some x) same.1 }
+      record { digits = []; later = z; own = 0; is = refl; value = refl; whole = sym n_is ∙ one_power base acc; fits = rw (← n_is) low; suffix = o_is ∙ ap (λ (x : Suffix). Some x) same.1 }
 
 read_more : (base acc d k : ℕ) (ds : List ℕ) (n : ℕ) (s : Suffix) → digit_of base d ≡ Some k → ReadAs base (acc * base + k) ds n s → ReadAs base acc (d ∷ ds) n s
 read_more base acc d k ds n s dk r =
@@ -64,7 +64,7 @@ read_more base acc d k ds n s dk r =
     let e : base ^ suc (length r.digits) ≡ p * base = pow-suc base (length r.digits) in
     record {
       digits = d ∷ r.digits;
-      behind = r.behind;
+      later = r.later;
       own = k * p + r.own;
       is = ap (λ (xs : List ℕ). d ∷ xs) r.is;
       value = (k, r.own, dk, r.value, refl);
@@ -121,7 +121,7 @@ some_none o k e f = cc
 
 hex_is : (x d k : ℕ) (z : List ℕ) (n : ℕ) (s : Suffix) → is_x x ≡ true → digit_of 16 d ≡ Some k → ReadAs 16 0 (d ∷ z) n s → IsIntegerConstant (48 ∷ (x ∷ (d ∷ z))) n s
 hex_is x d k z n s is dk r = by r.digits r.is r.value r.whole where
-  by : (digits : List ℕ) → (d ∷ z) ≡ digits ++ r.behind → DigitsStandFor 16 digits r.own → n ≡ 0 * 16 ^ length digits + r.own → IsIntegerConstant (48 ∷ (x ∷ (d ∷ z))) n s
+  by : (digits : List ℕ) → (d ∷ z) ≡ digits ++ r.later → DigitsStandFor 16 digits r.own → n ≡ 0 * 16 ^ length digits + r.own → IsIntegerConstant (48 ∷ (x ∷ (d ∷ z))) n s
   by [] cut value whole = absurd (some_none (digit_of 16 d) k dk (no_digit 16 d (suffix_letter d z s (ap suffix_of cut ∙ r.suffix))))
   by (e ∷ digits) cut value whole =
       let n_is : n ≡ r.own = whole ∙ no_first (16 ^ length (e ∷ digits)) r.own in
@@ -129,7 +129,7 @@ hex_is x d k z n s is dk r = by r.digits r.is r.value r.whole where
         base = 16;
         before = 48 ∷ (x ∷ []);
         digits = e ∷ digits;
-        behind = r.behind;
+        later = r.later;
         is = ap (λ (xs : List ℕ). 48 ∷ (x ∷ xs)) cut;
         stated = hexadecimal x e digits refl refl is refl;
         value = subst (DigitsStandFor 16 (e ∷ digits)) (sym n_is) value;
@@ -143,7 +143,7 @@ octal_is z n s r =
       base = 8;
       before = [];
       digits = 48 ∷ r.digits;
-      behind = r.behind;
+      later = r.later;
       is = ap (λ (xs : List ℕ). 48 ∷ xs) r.is;
       stated = octal r.digits refl refl refl;
       value = (0, r.own, refl, r.value, r.whole);
@@ -157,7 +157,7 @@ decimal_is d z n s other dk r =
       base = 10;
       before = [];
       digits = d ∷ r.digits;
-      behind = r.behind;
+      later = r.later;
       is = ap (λ (xs : List ℕ). d ∷ xs) r.is;
       stated = decimal d r.digits refl refl refl other;
       value = (d - 48, r.own, dk, r.value, r.whole);
@@ -210,8 +210,8 @@ first_part base acc k p m n positive n_is low =
     let le : acc * base + k ≤ (acc * base + k) * p = le-mul_of_pos_right (acc * base + k) positive in
     omega (arith, le, whole)
 
-stands_read : (base acc : ℕ) (digits behind : List ℕ) (m n : ℕ) (s : Suffix) → 0 < base → DigitsStandFor base digits m → suffix_of behind ≡ Some s → n ≡ acc * base ^ length digits + m → n < 2 ^ 64 →
-    number_from base acc (digits ++ behind) ≡ Some (n, s)
+stands_read : (base acc : ℕ) (digits later : List ℕ) (m n : ℕ) (s : Suffix) → 0 < base → DigitsStandFor base digits m → suffix_of later ≡ Some s → n ≡ acc * base ^ length digits + m → n < 2 ^ 64 →
+    number_from base acc (digits ++ later) ≡ Some (n, s)
 unfolding number_from suffix_of
 stands_read base acc [] [] m n s positive value tail n_is low =
     let e : acc ≡ n = one_power base acc ∙ ap (λ (x : ℕ). acc * base ^ 0 + x) (sym value) ∙ sym n_is in
@@ -221,14 +221,14 @@ stands_read base acc [] (b ∷ z) m n s positive value tail n_is low =
     let e : acc ≡ n = one_power base acc ∙ ap (λ (x : ℕ). acc * base ^ 0 + x) (sym value) ∙ sym n_is in
     let none : digit_of base b ≡ None = no_digit base b (suffix_letter b z s tail) in
     rw none (rw (tail, e) refl)
-stands_read base acc (d ∷ digits) behind m n s positive value tail n_is low =
+stands_read base acc (d ∷ digits) later m n s positive value tail n_is low =
     let k : ℕ = value.0 in
     let p = base ^ length digits in
     let whole : n ≡ acc * (p * base) + (k * p + value.1) = n_is ∙ ap (λ (x : ℕ). acc * x + m) (pow-suc base (length digits)) ∙ ap (λ (x : ℕ). acc * (p * base) + x) value.4 in
     let part : acc * base + k < 2 ^ 64 = first_part base acc k p value.1 n (one-le-pow (length digits) base positive) whole low in
     let below : nat_lt (acc * base + k) (2 ^ 64) ≡ true = grind (arith, nat_tests) in
     let dk = value.2 in
-    let more : number_from base (acc * base + k) (digits ++ behind) ≡ Some (n, s) = stands_read base (acc * base + k) digits behind value.1 n s positive value.3 tail (whole ∙ sym (horner acc base k p value.1)) low in
+    let more : number_from base (acc * base + k) (digits ++ later) ≡ Some (n, s) = stands_read base (acc * base + k) digits later value.1 n s positive value.3 tail (whole ∙ sym (horner acc base k p value.1)) low in
     rw (dk, below) more
 
 -- a digit of a base up to ten is an ASCII digit less 48
@@ -250,11 +250,11 @@ plain_digit base d k small e = by (nat_le 48 d && nat_le d 57) (nat_le 97 d && n
 octal_first : (c : ℕ) (z : List ℕ) → is_x c ≡ false → zero_from (c ∷ z) ≡ number_from 8 0 (c ∷ z)
 octal_first c z e = rw e refl
 
-zero_octal : (ds behind : List ℕ) (m : ℕ) (s : Suffix) → DigitsStandFor 8 ds m → suffix_of behind ≡ Some s → zero_from (ds ++ behind) ≡ number_from 8 0 (ds ++ behind)
+zero_octal : (ds later : List ℕ) (m : ℕ) (s : Suffix) → DigitsStandFor 8 ds m → suffix_of later ≡ Some s → zero_from (ds ++ later) ≡ number_from 8 0 (ds ++ later)
 unfolding number_from
 zero_octal [] [] m s value tail = refl
 zero_octal [] (b ∷ z) m s value tail = let letter = suffix_letter b z s tail in octal_first b z (grind (arith, nat_tests))
-zero_octal (d ∷ ds) behind m s value tail = let digit = (plain_digit 8 d value.0 (lit≤ tt) value.2).0 in octal_first d (ds ++ behind) (grind (arith, nat_tests))
+zero_octal (d ∷ ds) later m s value tail = let digit = (plain_digit 8 d value.0 (lit≤ tt) value.2).0 in octal_first d (ds ++ later) (grind (arith, nat_tests))
 
 hex_first : (x d k : ℕ) (z : List ℕ) → is_x x ≡ true → digit_of 16 d ≡ Some k → number_spelled (48 ∷ (x ∷ (d ∷ z))) ≡ number_from 16 0 (d ∷ z)
 unfolding number_spelled
@@ -268,32 +268,32 @@ decimal_first : (d : ℕ) (z : List ℕ) → eqb d 48 ≡ false → number_spell
 unfolding number_spelled
 decimal_first d z e = rw e refl
 
-behind_zero : (x n : ℕ) → n ≡ 0 * x + n
-behind_zero x n = sym (no_first x n)
+later_zero : (x n : ℕ) → n ≡ 0 * x + n
+later_zero x n = sym (no_first x n)
 
 -- a number is what is read
 pub number_reads : (own : List ℕ) (n : ℕ) (s : Suffix) → IsIntegerConstant own n s → number_spelled own ≡ Some (n, s)
 number_reads own n s h = by h.base h.before h.digits h.stated h.is h.value where
-  by : (base : ℕ) (before digits : List ℕ) → IsBase base before digits → own ≡ before ++ (digits ++ h.behind) → DigitsStandFor base digits n → number_spelled own ≡ Some (n, s)
+  by : (base : ℕ) (before digits : List ℕ) → IsBase base before digits → own ≡ before ++ (digits ++ h.later) → DigitsStandFor base digits n → number_spelled own ≡ Some (n, s)
   by base before digits (hexadecimal x d ds b_is before_is x_is digits_is) is value =
       let v : DigitsStandFor 16 (d ∷ ds) n = subst (λ (xs : List ℕ). DigitsStandFor 16 xs n) digits_is (subst (λ (b : ℕ). DigitsStandFor b digits n) b_is value) in
-      let own_is : own ≡ 48 ∷ (x ∷ (d ∷ (ds ++ h.behind))) = rw (digits_is, before_is) at is in
+      let own_is : own ≡ 48 ∷ (x ∷ (d ∷ (ds ++ h.later))) = rw (digits_is, before_is) at is in
       let dk = v.2 in
-      ap number_spelled own_is ∙ hex_first x d v.0 (ds ++ h.behind) x_is dk
-      ∙ stands_read 16 0 (d ∷ ds) h.behind n n s (lit< tt) v h.suffix (behind_zero (16 ^ length (d ∷ ds)) n) h.fits
+      ap number_spelled own_is ∙ hex_first x d v.0 (ds ++ h.later) x_is dk
+      ∙ stands_read 16 0 (d ∷ ds) h.later n n s (lit< tt) v h.suffix (later_zero (16 ^ length (d ∷ ds)) n) h.fits
   by base before digits (octal ds b_is before_is digits_is) is value =
       let v : DigitsStandFor 8 (48 ∷ ds) n = subst (λ (xs : List ℕ). DigitsStandFor 8 xs n) digits_is (subst (λ (b : ℕ). DigitsStandFor b digits n) b_is value) in
-      let own_is : own ≡ 48 ∷ (ds ++ h.behind) = rw (digits_is, before_is) at is in
+      let own_is : own ≡ 48 ∷ (ds ++ h.later) = rw (digits_is, before_is) at is in
       let no_more : v.0 ≡ 0 = let e = v.2 in cc in
-      ap number_spelled own_is ∙ zero_first (ds ++ h.behind) ∙ zero_octal ds h.behind v.1 s v.3 h.suffix
-      ∙ stands_read 8 0 ds h.behind v.1 n s (lit< tt) v.3 h.suffix (v.4 ∙ ap (λ (k : ℕ). k * 8 ^ length ds + v.1) no_more) h.fits
+      ap number_spelled own_is ∙ zero_first (ds ++ h.later) ∙ zero_octal ds h.later v.1 s v.3 h.suffix
+      ∙ stands_read 8 0 ds h.later v.1 n s (lit< tt) v.3 h.suffix (v.4 ∙ ap (λ (k : ℕ). k * 8 ^ length ds + v.1) no_more) h.fits
   by base before digits (decimal d ds b_is before_is digits_is other) is value =
       let v : DigitsStandFor 10 (d ∷ ds) n = subst (λ (xs : List ℕ). DigitsStandFor 10 xs n) digits_is (subst (λ (b : ℕ). DigitsStandFor b digits n) b_is value) in
-      let own_is : own ≡ d ∷ (ds ++ h.behind) = rw (digits_is, before_is) at is in
+      let own_is : own ≡ d ∷ (ds ++ h.later) = rw (digits_is, before_is) at is in
       let digit = plain_digit 10 d v.0 (lit≤ tt) v.2 in
       let not_zero : eqb d 48 ≡ false = grind (arith, nat_tests) in
-      ap number_spelled own_is ∙ decimal_first d (ds ++ h.behind) not_zero
-      ∙ stands_read 10 (d - 48) ds h.behind v.1 n s (lit< tt) v.3 h.suffix (v.4 ∙ ap (λ (k : ℕ). k * 10 ^ length ds + v.1) digit.1) h.fits
+      ap number_spelled own_is ∙ decimal_first d (ds ++ h.later) not_zero
+      ∙ stands_read 10 (d - 48) ds h.later v.1 n s (lit< tt) v.3 h.suffix (v.4 ∙ ap (λ (k : ℕ). k * 10 ^ length ds + v.1) digit.1) h.fits
 
 -- a run that is no number is read as none
 pub none_is : (b : ℕ) (z : List ℕ) → is_ascii_digit b ≡ true → number_spelled (b ∷ z) ≡ None → IsNoNumber (b ∷ z)

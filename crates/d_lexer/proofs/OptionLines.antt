@@ -14,13 +14,13 @@ use Rattle.d_lexer.proofs.Base.{both_true, cond_is}
 
 -- ---- what is read is an option line
 
-behind_is : (w z r : List ℕ) → after_option_word w z ≡ Some r → z ≡ w ++ r
+later_is : (w z r : List ℕ) → after_option_word w z ≡ Some r → z ≡ w ++ r
 unfolding after_option_word
-behind_is [] z r e = cc
-behind_is (c ∷ w) [] r e = absurd cc
-behind_is (c ∷ w) (b ∷ z) r e =
+later_is [] z r e = cc
+later_is (c ∷ w) [] r e = absurd cc
+later_is (c ∷ w) (b ∷ z) r e =
     cond_is (λ (o : Option (List ℕ)). o ≡ Some r → (b ∷ z) ≡ c ∷ (w ++ r)) (eqb b c) (after_option_word w z) None
-    (λ same f. let b_is : b ≡ c = eqb-true b c same in rw b_is (ap (λ (xs : List ℕ). c ∷ xs) (behind_is w z r f)))
+    (λ same f. let b_is : b ≡ c = eqb-true b c same in rw b_is (ap (λ (xs : List ℕ). c ∷ xs) (later_is w z r f)))
     (λ _ f. absurd cc)
     e
 
@@ -68,20 +68,20 @@ words_are (w ∷ ws) z e =
     let s = found (next_word w z) (after_option_words ws) e in
     let t = both_found (after_spaces z) (after_option_word w) s.0 s.1 in
     let own = spaces_is z t.0 t.1 in
-    (own.0, s.0, own.1, own.2 ∙ ap (λ (xs : List ℕ). own.0 ++ xs) (behind_is w t.0 s.0 t.2), words_are ws s.0 s.2)
+    (own.0, s.0, own.1, own.2 ∙ ap (λ (xs : List ℕ). own.0 ++ xs) (later_is w t.0 s.0 t.2), words_are ws s.0 s.2)
 
 pub option_is : (own : List ℕ) → is_option own ≡ true → IsOptionLine own
 unfolding is_option
 option_is own e =
     let s = found (after_option_word (codes "#pragma") own) (after_option_words option_words) e in
-    (s.0, behind_is (codes "#pragma") own s.0 s.1, words_are option_words s.0 s.2)
+    (s.0, later_is (codes "#pragma") own s.0 s.1, words_are option_words s.0 s.2)
 
 -- ---- an option line is read
 
-behind_own : (w r : List ℕ) → after_option_word w (w ++ r) ≡ Some r
+later_own : (w r : List ℕ) → after_option_word w (w ++ r) ≡ Some r
 unfolding after_option_word
-behind_own [] r = refl
-behind_own (c ∷ w) r = rw (eq-eqb c c refl) (behind_own w r)
+later_own [] r = refl
+later_own (c ∷ w) r = rw (eq-eqb c c refl) (later_own w r)
 
 -- no space is at the front
 abbrev BeginsWord : List ℕ → Type 0
@@ -110,12 +110,12 @@ words_read : (ws : List (List ℕ)) (z : List ℕ) → AllBegin ws → AreSpaced
 words_read [] z begin h = trail_own z h
 words_read (w ∷ ws) z begin h =
     let e : after_spaces z ≡ Some (w ++ h.1) = ap after_spaces h.3 ∙ spaces_own h.0 w h.1 h.2 begin.0 in
-    rw (e, behind_own w h.1) (words_read ws h.1 begin.1 h.4)
+    rw (e, later_own w h.1) (words_read ws h.1 begin.1 h.4)
 
 pub option_reads : (own : List ℕ) → IsOptionLine own → is_option own ≡ true
 unfolding is_option
 option_reads own h =
-    let e : after_option_word (codes "#pragma") own ≡ Some h.0 = ap (after_option_word (codes "#pragma")) h.1 ∙ behind_own (codes "#pragma") h.0 in
+    let e : after_option_word (codes "#pragma") own ≡ Some h.0 = ap (after_option_word (codes "#pragma")) h.1 ∙ later_own (codes "#pragma") h.0 in
     rw e (words_read option_words h.0 (refl, (refl, (refl, tt))) h.2)
 
 pub no_option_is : (own : List ℕ) → is_option own ≡ false → IsOptionLine own → ⊥
@@ -128,9 +128,9 @@ no_option_reads own none = by (is_option own) refl where
   by false e = refl
 
 -- what is left after a prefix
-pub behind_found : (w z : List ℕ) (r : Option (Bor (List ℕ))) → MatchOption r ((rest : List ℕ) → z ≢ w ++ rest) (λ x. z ≡ w ++ x.now) → FindsBytes (λ x. x.now) r (after_option_word w z)
-behind_found w z (Some x) h = ap (after_option_word w) h ∙ behind_own w x.now
-behind_found w z None h = by (after_option_word w z) refl where
+pub later_found : (w z : List ℕ) (r : Option (Bor (List ℕ))) → MatchOption r ((rest : List ℕ) → z ≢ w ++ rest) (λ x. z ≡ w ++ x.now) → FindsBytes (λ x. x.now) r (after_option_word w z)
+later_found w z (Some x) h = ap (after_option_word w) h ∙ later_own w x.now
+later_found w z None h = by (after_option_word w z) refl where
   by : (o : Option (List ℕ)) → after_option_word w z ≡ o → o ≡ None
   by None e = refl
-  by (Some rest) e = absurd (h rest (behind_is w z rest e))
+  by (Some rest) e = absurd (h rest (later_is w z rest e))

@@ -28,15 +28,15 @@ spelled_small p own rest (kind.AggregationName w) h = tt
 spelled_small p own rest (kind.TextConstant w) h = tt
 spelled_small p own rest (kind.Mark k) h = tt
 
-behind : (p : Place) (Then : Position → List ℕ → Type 0) (P : Type 0) → ((q : Position) (z : List ℕ) → Then q z → P) →
+later : (p : Place) (Then : Position → List ℕ → Type 0) (P : Type 0) → ((q : Position) (z : List ℕ) → Then q z → P) →
     {pos : Position} {bytes : List ℕ} → Past p Then pos bytes → P
-behind p Then P k (here h) = k _ _ h
-behind p Then P k (past own rest cut piece more) = behind p Then P k more
+later p Then P k (here h) = k _ _ h
+later p Then P k (past own rest cut piece more) = later p Then P k more
 
 lexed_small : (ts : List Token) (end : TokensEnd) (p : Place) (pos : Position) (bytes : List ℕ) → Lexes p pos bytes ts end → HaveSmallNumbers ts
 lexed_small [] end p pos bytes h = tt
 lexed_small (t ∷ ts) end p pos bytes h =
-    behind p _ (HaveSmallNumbers (t ∷ ts)) (λ q z e. (spelled_small p e.0 e.1 t.kind e.3, lexed_small ts end (place_after p t.kind) _ e.1 e.7)) h
+    later p _ (HaveSmallNumbers (t ∷ ts)) (λ q z e. (spelled_small p e.0 e.1 t.kind e.3, lexed_small ts end (place_after p t.kind) _ e.1 e.7)) h
 
 opened_small : (k : TokenKind) → HasSmallNumber k → HasSmallNumber (open_kind k)
 opened_small (kind.Mark m.ClosingSlash) h = tt

@@ -19,7 +19,7 @@ use Rattle.d_lexer.specs.Spans.{line_after, IsInPlace, AreInOrder, HasItsLine}
 use Rattle.d_lexer.proofs.Complete.{token_reads, fault_fails}
 
 -- the position is the one after these bytes
-record IsBehind (before : List ℕ) (pos : Position) : Type 0 where
+record IsAfter (before : List ℕ) (pos : Position) : Type 0 where
   at : pos.at ≡ length before
   line : pos.line ≡ line_after before
 
@@ -41,8 +41,8 @@ moved_line (b ∷ own) pos =
     let e : count_by (λ c. eqb c 10) (b ∷ own) ≡ count_by (λ c. eqb c 10) (b ∷ []) + count_by (λ c. eqb c 10) own = sum_by-append (λ c. cond (eqb c 10) 1 0) (b ∷ []) own in
     more ∙ ap (λ (n : ℕ). n + count_by (λ c. eqb c 10) own) one ∙ add_assoc pos.line (count_by (λ c. eqb c 10) (b ∷ [])) (count_by (λ c. eqb c 10) own) ∙ ap (λ (n : ℕ). pos.line + n) (sym e)
 
-behind_more : (before own : List ℕ) (pos : Position) → IsBehind before pos → IsBehind (before ++ own) (position_after pos own)
-behind_more before own pos h =
+later_more : (before own : List ℕ) (pos : Position) → IsAfter before pos → IsAfter (before ++ own) (position_after pos own)
+later_more before own pos h =
     let e : count_by (λ c. eqb c 10) (before ++ own) ≡ count_by (λ c. eqb c 10) before + count_by (λ c. eqb c 10) own = sum_by-append (λ c. cond (eqb c 10) 1 0) before own in
     record {
       at = moved_at own pos ∙ ap (λ (n : ℕ). n + length own) h.at ∙ sym (length-append before own);
@@ -53,14 +53,14 @@ cut_more : (all before z own rest : List ℕ) → all ≡ before ++ z → z ≡ 
 cut_more all before z own rest e f = e ∙ ap (λ (xs : List ℕ). before ++ xs) f ∙ sym (append_assoc before own rest)
 
 -- what stands after the pieces stands after more of the bytes
-past_behind : (p : Place) (Then : Position → List ℕ → Type 0) (P : Type 0) (all : List ℕ) (from : ℕ) →
-    ((before : List ℕ) (q : Position) (z : List ℕ) → all ≡ before ++ z → IsBehind before q → from ≤ q.at → Then q z → P) →
-    (before : List ℕ) {pos : Position} {bytes : List ℕ} → all ≡ before ++ bytes → IsBehind before pos → from ≤ pos.at → Past p Then pos bytes → P
-past_behind p Then P all from k before is at low (here h) = k before _ _ is at low h
-past_behind p Then P all from k before {pos = pos} {bytes = bytes} is at low (past own rest cut piece more) =
-    past_behind p Then P all from k (before ++ own)
+past_later : (p : Place) (Then : Position → List ℕ → Type 0) (P : Type 0) (all : List ℕ) (from : ℕ) →
+    ((before : List ℕ) (q : Position) (z : List ℕ) → all ≡ before ++ z → IsAfter before q → from ≤ q.at → Then q z → P) →
+    (before : List ℕ) {pos : Position} {bytes : List ℕ} → all ≡ before ++ bytes → IsAfter before pos → from ≤ pos.at → Past p Then pos bytes → P
+past_later p Then P all from k before is at low (here h) = k before _ _ is at low h
+past_later p Then P all from k before {pos = pos} {bytes = bytes} is at low (past own rest cut piece more) =
+    past_later p Then P all from k (before ++ own)
     (cut_more all before bytes own rest is cut)
-    (behind_more before own pos at) (omega (arith, moved_at own pos)) more
+    (later_more before own pos at) (omega (arith, moved_at own pos)) more
 
 -- all of them stand in the bytes, in order from this offset on
 record AllStand (all : List ℕ) (from : ℕ) (ts : List Token) : Type 0 where
@@ -70,32 +70,32 @@ record AllStand (all : List ℕ) (from : ℕ) (ts : List Token) : Type 0 where
 stand_more : (all : List ℕ) (from : ℕ) (t : Token) (ts : List Token) → IsInPlace all t → from ≤ t.start → t.start < t.stop → AllStand all t.stop ts → AllStand all from (t ∷ ts)
 stand_more all from t ts s low nonempty more = record { each = (s, more.each); order = (low, nonempty, more.order) }
 
-stand : (ts : List Token) (end : TokensEnd) (p : Place) (all before : List ℕ) (pos : Position) (bytes : List ℕ) (from : ℕ) → all ≡ before ++ bytes → IsBehind before pos → from ≤ pos.at →
+stand : (ts : List Token) (end : TokensEnd) (p : Place) (all before : List ℕ) (pos : Position) (bytes : List ℕ) (from : ℕ) → all ≡ before ++ bytes → IsAfter before pos → from ≤ pos.at →
     Lexes p pos bytes ts end → AllStand all from ts
 stand [] end p all before pos bytes from is at low h = record { each = tt; order = tt }
 stand (t ∷ ts) end p all before pos bytes from is at low h =
-    past_behind p _ (AllStand all from (t ∷ ts)) all from
+    past_later p _ (AllStand all from (t ∷ ts)) all from
     (λ b q z cut here_at below e.
     one b q z e.0 e.1 cut here_at below e.2 e.3 e.4 e.5 e.6
-    (stand ts end (place_after p t.kind) all (b ++ e.0) (position_after q e.0) e.1 t.stop (cut_more all b z e.0 e.1 cut e.2) (behind_more b e.0 q here_at) (omega (arith, e.5, moved_at e.0 q)) e.7))
+    (stand ts end (place_after p t.kind) all (b ++ e.0) (position_after q e.0) e.1 t.stop (cut_more all b z e.0 e.1 cut e.2) (later_more b e.0 q here_at) (omega (arith, e.5, moved_at e.0 q)) e.7))
     before is at low h where
-      one : (b : List ℕ) (q : Position) (z own rest : List ℕ) → all ≡ b ++ z → IsBehind b q → from ≤ q.at → z ≡ own ++ rest → SpellsToken p own rest t.kind → t.start ≡ q.at → t.stop ≡ q.at + length own → t.line ≡ q.line →
+      one : (b : List ℕ) (q : Position) (z own rest : List ℕ) → all ≡ b ++ z → IsAfter b q → from ≤ q.at → z ≡ own ++ rest → SpellsToken p own rest t.kind → t.start ≡ q.at → t.stop ≡ q.at + length own → t.line ≡ q.line →
           AllStand all t.stop ts → AllStand all from (t ∷ ts)
       one b q z own rest cut here_at below z_is spells e1 e2 e3 more =
           let r = token_reads p q own rest t.kind spells in
           let long : length own ≡ suc (length r.others) = ap (λ (xs : List ℕ). length xs) r.is in
           stand_more all from t ts
-          (record { before = b; own = own; behind = rest; is = cut ∙ ap (λ (xs : List ℕ). b ++ xs) z_is; start = e1 ∙ here_at.at; stop = e2 ∙ ap (λ (n : ℕ). n + length own) here_at.at ∙ sym (length-append b own); line = e3 ∙ here_at.line })
+          (record { before = b; own = own; later = rest; is = cut ∙ ap (λ (xs : List ℕ). b ++ xs) z_is; start = e1 ∙ here_at.at; stop = e2 ∙ ap (λ (n : ℕ). n + length own) here_at.at ∙ sym (length-append b own); line = e3 ∙ here_at.line })
           (omega (arith, e1)) (omega (arith, e1, e2, long))
           more
 
-at_start : IsBehind [] first_position
+at_start : IsAfter [] first_position
 at_start = record { at = refl; line = refl }
 
 -- settling leaves spans and lines
 settled_stands : (all : List ℕ) (t : Token) (b : Bool) → IsInPlace all t → IsInPlace all (settle_token t b)
 settled_stands all t true s = s
-settled_stands all t false s = record { before = s.before; own = s.own; behind = s.behind; is = s.is; start = s.start; stop = s.stop; line = s.line }
+settled_stands all t false s = record { before = s.before; own = s.own; later = s.later; is = s.is; start = s.start; stop = s.stop; line = s.line }
 
 settle_stands : (all : List ℕ) (ts : List Token) → AllByRecursion (IsInPlace all) ts → AllByRecursion (IsInPlace all) (settle ts)
 settle_stands all [] h = tt
@@ -120,17 +120,17 @@ tokens_in_order bytes ts a = rw a.2 (settle_order 0 a.0 (all_stand bytes a.0 Cle
 
 -- ---- faults
 
-stated : (ts : List Token) (fault : LexFault) (p : Place) (all before : List ℕ) (pos : Position) (bytes : List ℕ) → all ≡ before ++ bytes → IsBehind before pos → Lexes p pos bytes ts (Bad fault) → HasItsLine all fault
+stated : (ts : List Token) (fault : LexFault) (p : Place) (all before : List ℕ) (pos : Position) (bytes : List ℕ) → all ≡ before ++ bytes → IsAfter before pos → Lexes p pos bytes ts (Bad fault) → HasItsLine all fault
 stated [] fault p all before pos bytes is at h =
-    past_behind p (EndsAs p (Bad fault)) (HasItsLine all fault) all 0
+    past_later p (EndsAs p (Bad fault)) (HasItsLine all fault) all 0
     (λ b q z cut here_at _ e.
     let r = fault_fails p q z e.0 e.1 in
-    record { before = b; first = r.first; behind = r.others; flaw = e.0; is = cut ∙ ap (λ (xs : List ℕ). b ++ xs) r.is; stated = e.2 ∙ ap (on_line e.0) here_at.line })
+    record { before = b; first = r.first; later = r.others; flaw = e.0; is = cut ∙ ap (λ (xs : List ℕ). b ++ xs) r.is; stated = e.2 ∙ ap (on_line e.0) here_at.line })
     before is at (omega arith) h
 stated (t ∷ ts) fault p all before pos bytes is at h =
-    past_behind p _ (HasItsLine all fault) all 0
+    past_later p _ (HasItsLine all fault) all 0
     (λ b q z cut here_at _ e.
-    stated ts fault (place_after p t.kind) all (b ++ e.0) (position_after q e.0) e.1 (cut_more all b z e.0 e.1 cut e.2) (behind_more b e.0 q here_at) e.7)
+    stated ts fault (place_after p t.kind) all (b ++ e.0) (position_after q e.0) e.1 (cut_more all b z e.0 e.1 cut e.2) (later_more b e.0 q here_at) e.7)
     before is at (omega arith) h
 
 pub fault_has_its_line : (bytes : List ℕ) (fault : LexFault) → IsFirstFault bytes fault → HasItsLine bytes fault

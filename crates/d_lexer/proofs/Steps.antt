@@ -14,18 +14,18 @@ longer_one n None = refl
 longer_one n (Some m) = let e : (n + 1) + m ≡ n + suc m = omega arith in rw e refl
 
 -- the same after good bytes of a text constant
-abbrev pub behind_text : List ℕ → ℕ → Result (List ℕ × ℕ) Flaw → Result (List ℕ × ℕ) Flaw
-behind_text w n (Err g) = Err g
-behind_text w n (Ok t) = Ok (w ++ t.0, n + t.1)
+abbrev pub later_text : List ℕ → ℕ → Result (List ℕ × ℕ) Flaw → Result (List ℕ × ℕ) Flaw
+later_text w n (Err g) = Err g
+later_text w n (Ok t) = Ok (w ++ t.0, n + t.1)
 
-pub behind_none : (r : Result (List ℕ × ℕ) Flaw) → behind_text [] 0 r ≡ r
-behind_none (Err g) = refl
-behind_none (Ok t) = let k : 0 + t.1 ≡ t.1 = omega arith in rw k refl
+pub later_none : (r : Result (List ℕ × ℕ) Flaw) → later_text [] 0 r ≡ r
+later_none (Err g) = refl
+later_none (Ok t) = let k : 0 + t.1 ≡ t.1 = omega arith in rw k refl
 
-pub behind_plain : (w : List ℕ) (n x : ℕ) (r : Result (List ℕ × ℕ) Flaw) → behind_text (w ++ x ∷ []) (n + 1) r ≡ behind_text w n (with_byte x r)
-behind_plain w n x (Err g) = refl
-behind_plain w n x (Ok t) = let k : (n + 1) + t.1 ≡ n + suc t.1 = omega arith in rw (append_assoc w (x ∷ []) t.0, k) refl
+pub later_plain : (w : List ℕ) (n x : ℕ) (r : Result (List ℕ × ℕ) Flaw) → later_text (w ++ x ∷ []) (n + 1) r ≡ later_text w n (with_byte x r)
+later_plain w n x (Err g) = refl
+later_plain w n x (Ok t) = let k : (n + 1) + t.1 ≡ n + suc t.1 = omega arith in rw (append_assoc w (x ∷ []) t.0, k) refl
 
-pub behind_escape : (w : List ℕ) (n x : ℕ) (r : Result (List ℕ × ℕ) Flaw) → behind_text (w ++ x ∷ []) (n + 2) r ≡ behind_text w n (skip_one (with_byte x r))
-behind_escape w n x (Err g) = refl
-behind_escape w n x (Ok t) = let k : (n + 2) + t.1 ≡ n + suc (suc t.1) = omega arith in rw (append_assoc w (x ∷ []) t.0, k) refl
+pub later_escape : (w : List ℕ) (n x : ℕ) (r : Result (List ℕ × ℕ) Flaw) → later_text (w ++ x ∷ []) (n + 2) r ≡ later_text w n (skip_one (with_byte x r))
+later_escape w n x (Err g) = refl
+later_escape w n x (Ok t) = let k : (n + 2) + t.1 ≡ n + suc (suc t.1) = omega arith in rw (append_assoc w (x ∷ []) t.0, k) refl

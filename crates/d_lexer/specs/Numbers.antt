@@ -64,12 +64,12 @@ pub record IsIntegerConstant (own : List ℕ) (n : ℕ) (s : Suffix) : Type 0 wh
   pub base : ℕ
   pub before : List ℕ
   pub digits : List ℕ
-  pub behind : List ℕ
-  pub is : own ≡ before ++ (digits ++ behind)
+  pub later : List ℕ
+  pub is : own ≡ before ++ (digits ++ later)
   pub stated : IsBase base before digits
   pub value : DigitsStandFor base digits n
   pub fits : n < 2 ^ 64
-  pub suffix : suffix_of behind ≡ Some s
+  pub suffix : suffix_of later ≡ Some s
 
 -- the bytes stand for no number
 abbrev pub IsNoNumber : List ℕ → Type 0

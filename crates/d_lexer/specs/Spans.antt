@@ -14,8 +14,8 @@ line_after bytes = 1 + count_by (λ b. b == 10) bytes
 pub record IsInPlace (bytes : List ℕ) (t : Token) : Type 0 where
   pub before : List ℕ
   pub own : List ℕ
-  pub behind : List ℕ
-  pub is : bytes ≡ before ++ (own ++ behind)
+  pub later : List ℕ
+  pub is : bytes ≡ before ++ (own ++ later)
   pub start : t.start ≡ length before
   pub stop : t.stop ≡ length (before ++ own)
   pub line : t.line ≡ line_after before
@@ -30,7 +30,7 @@ AreInOrder from (t ∷ ts) = (from ≤ t.start) × (t.start < t.stop) × AreInOr
 pub record HasItsLine (bytes : List ℕ) (fault : LexFault) : Type 0 where
   pub before : List ℕ
   pub first : ℕ
-  pub behind : List ℕ
+  pub later : List ℕ
   pub flaw : Flaw
-  pub is : bytes ≡ before ++ first ∷ behind
+  pub is : bytes ≡ before ++ first ∷ later
   pub stated : fault ≡ on_line flaw (line_after before)

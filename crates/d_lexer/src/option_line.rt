@@ -7,7 +7,7 @@ ghost use Rattle.d_lexer.specs.Steps.OptionLine.{FindsBytes};
 use crate::byte_kinds::is_space;
 
 // What is left after a word.
-fn behind<'a>(word: &[u8], bytes: &'a [u8]) -> Option<&'a [u8]>
+fn after_word<'a>(word: &[u8], bytes: &'a [u8]) -> Option<&'a [u8]>
     ensures { FindsBytes (λ r. r.now) result (spec.after_option_word word.now bytes.now) }
 {
     bytes.strip_prefix(word)
@@ -55,7 +55,7 @@ fn is_trail(bytes: &[u8]) -> bool
 fn next_word<'a>(word: &[u8], bytes: &'a [u8]) -> Option<&'a [u8]>
     ensures { FindsBytes (λ r. r.now) result (spec.next_word word.now bytes.now) }
 {
-    behind(word, spaces(bytes)?)
+    after_word(word, spaces(bytes)?)
 }
 
 #[tactic(auto, unfolding(crate::specs::Steps::OptionLine::after_option_word))]
@@ -64,7 +64,7 @@ fn after_words(bytes: &[u8]) -> Option<&[u8]>
         (spec.found_then (spec.after_option_word (codes "#pragma") (codes "#" ++ bytes.now))
         (spec.after_option_words spec.option_words)) }
 {
-    let rest = behind(b"pragma", bytes)?;
+    let rest = after_word(b"pragma", bytes)?;
     let rest = next_word(b"D", rest)?;
     let rest = next_word(b"option", rest)?;
     next_word(b"quiet", rest)

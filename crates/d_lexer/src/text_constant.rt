@@ -9,7 +9,7 @@ use crate::fault::{Flaw, Stop};
 use std::alloc::Global;
 
 /// What a text constant holds, and how many bytes it has after its first quote.
-#[tactic(auto, unfolding(crate::specs::Steps::Scan::text_from), using(crate::proofs::Steps::behind_none, crate::proofs::Steps::behind_plain, crate::proofs::Steps::behind_escape))]
+#[tactic(auto, unfolding(crate::specs::Steps::Scan::text_from), using(crate::proofs::Steps::later_none, crate::proofs::Steps::later_plain, crate::proofs::Steps::later_escape))]
 pub(crate) fn text(alloc: Global, bytes: &[u8]) -> Result<(ByteString, usize), Stop>
     ensures { scan.Gives result (scan.text_from false bytes.now) }
 {

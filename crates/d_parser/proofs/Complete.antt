@@ -49,7 +49,7 @@ use Rattle.d_parser.specs.Steps.Reading.{part_at_step}
 use Rattle.d_parser.specs.Steps.Reading.{part_at_mark, part_by, part, climb_by, climb_on, choice_by}
 use Rattle.d_parser.specs.Steps.Reading.{alternatives, choice, operand, whole, further_on}
 use Rattle.d_parser.proofs.Takes.{sign_one, takes, phrase_takes, keys_take, target_takes}
-use Rattle.d_parser.proofs.Runs.{run_is, behind_is}
+use Rattle.d_parser.proofs.Runs.{run_is, later_is}
 
 -- ---- what follows
 
@@ -358,8 +358,8 @@ cast_read : (n line : ℕ) (to : IntegerType) (words close rest : List Token) �
 unfolding cast_type run after_run
 cast_read n line to words close rest h t s =
     let run_close : run close ≡ [] = rw s.begins.is refl in
-    let behind_close : after_run close ≡ close = rw s.begins.is refl in
-    rw (run_is words close h ∙ (ap (λ (xs : List Token). words ++ xs) run_close ∙ append-nil words), behind_is words close h ∙ behind_close, t, after_sign m.CloseParenthesis close rest refl s) refl
+    let later_close : after_run close ≡ close = rw s.begins.is refl in
+    rw (run_is words close h ∙ (ap (λ (xs : List Token). words ++ xs) run_close ∙ append-nil words), later_is words close h ∙ later_close, t, after_sign m.CloseParenthesis close rest refl s) refl
 
 typed_from : (word : WordKind) (ts : List Token) (to : IntegerType) → only_integer (type_from word ts) ≡ Some to → begins_type word ≡ true
 typed_from w.Plain [] to h = absurd cc
@@ -443,9 +443,9 @@ unfolding further_on
 further_end zero acc ts pos h = absurd (omega arith)
 further_end (suc n) acc ts pos h = rw h refl
 
-further_goes : (n : ℕ) (acc : Trees) (a : Tree) (ts first behind : List Token) → Sign m.Comma ts first → (readers n).phrase 1 first ≡ Some (a, behind) → (readers (suc n)).further acc ts ≡ (readers n).further (add acc a) behind
+further_goes : (n : ℕ) (acc : Trees) (a : Tree) (ts first later : List Token) → Sign m.Comma ts first → (readers n).phrase 1 first ≡ Some (a, later) → (readers (suc n)).further acc ts ≡ (readers n).further (add acc a) later
 unfolding further_on
-further_goes n acc a ts first behind s e = rw (sign_at m.Comma m.Comma ts first s, sign_tail m.Comma ts first s) (rw e refl)
+further_goes n acc a ts first later s e = rw (sign_at m.Comma m.Comma ts first s, sign_tail m.Comma ts first s) (rw e refl)
 
 furthers_end : Furthers end
 furthers_end n acc ts rest s len h e = rw s (further_end n acc rest (omega arith) h)
@@ -458,14 +458,14 @@ furthers_more a l r g (suc n) acc ts rest s len h e =
     let quiet = more_reach l s.1 rest s.4 e in
     further_goes n acc a ts s.0 s.1 s.2 (phrase_of a r n 1 s.0 s.1 s.3 (omega arith) (omega arith)) ∙ g n (add acc a) s.1 rest s.4 (omega arith) h e
 
-listed_read : (n : ℕ) (close : Mark) (a : Tree) (l : Trees) (ts behind closing rest : List Token) → Reads a → Furthers l → IsPhrase (Spells a) (rank a) 1 ts behind → SpellsMore l behind closing → Sign close closing rest → same_mark close close ≡ true → same_mark close m.Comma ≡ false → follow_of close ≡ f.Other → length ts < n → closed_list (readers n) close ts ≡ Some (more a l, rest)
+listed_read : (n : ℕ) (close : Mark) (a : Tree) (l : Trees) (ts later closing rest : List Token) → Reads a → Furthers l → IsPhrase (Spells a) (rank a) 1 ts later → SpellsMore l later closing → Sign close closing rest → same_mark close close ≡ true → same_mark close m.Comma ≡ false → follow_of close ≡ f.Other → length ts < n → closed_list (readers n) close ts ≡ Some (more a l, rest)
 unfolding closed_list
-listed_read n close a l ts behind closing rest r g h hs s self comma other len =
-    let less = phrase_takes a 1 (takes a) ts behind h in
+listed_read n close a l ts later closing rest r g h hs s self comma other len =
+    let less = phrase_takes a 1 (takes a) ts later h in
     let ends = sign_reach close closing rest f.Other s other in
-    let quiet = more_reach l behind closing hs ends in
-    let first = phrase_of a r n 1 ts behind h len (omega arith) in
-    let all = g n (more a end) behind closing hs (omega arith) (sign_at close m.Comma closing rest s ∙ comma) ends in
+    let quiet = more_reach l later closing hs ends in
+    let first = phrase_of a r n 1 ts later h len (omega arith) in
+    let all = g n (more a end) later closing hs (omega arith) (sign_at close m.Comma closing rest s ∙ comma) ends in
     rw first (rw all (rw (after_sign close closing rest self s, join_more a l) refl))
 
 keys_none : (n : ℕ) (follow : Follow) (ts : List Token) → opens_of follow ≡ false → keys_by (readers n) follow ts ≡ Some (end, ts)
@@ -513,16 +513,16 @@ first_not_close n ts x e = not_close_by (is_at m.CloseParenthesis ts) n ts x ref
 pub arguments_read : (n : ℕ) (all : Trees) → ReadsAll all → (list rest : List Token) → IsEnclosed m.OpenParenthesis m.CloseParenthesis (SpellsList all) list rest → length list ≤ n → arguments (readers n) (tail list) ≡ Some (all, rest)
 unfolding arguments
 arguments_read n end r list rest s len =
-    let start : tail list ≡ s.behind = sign_tail m.OpenParenthesis list s.inner s.opens ∙ s.inside in
-    rw (start, sign_at m.CloseParenthesis m.CloseParenthesis s.behind rest s.closes, sign_tail m.CloseParenthesis s.behind rest s.closes) refl
+    let start : tail list ≡ s.later = sign_tail m.OpenParenthesis list s.inner s.opens ∙ s.inside in
+    rw (start, sign_at m.CloseParenthesis m.CloseParenthesis s.later rest s.closes, sign_tail m.CloseParenthesis s.later rest s.closes) refl
 arguments_read n (more a l) r list rest s len =
     let one = sign_one m.OpenParenthesis list s.inner s.opens in
     let less = phrase_takes a 1 (takes a) s.inner s.inside.0 s.inside.1 in
-    let ends = close_reach s.behind rest s.closes in
-    let quiet = more_reach l s.inside.0 s.behind s.inside.2 ends in
+    let ends = close_reach s.later rest s.closes in
+    let quiet = more_reach l s.inside.0 s.later s.inside.2 ends in
     let first = phrase_of a r.parts.0 n 1 s.inner s.inside.0 s.inside.1 (omega arith) (omega arith) in
     rw (sign_tail m.OpenParenthesis list s.inner s.opens, first_not_close n s.inner (a, s.inside.0) first)
-    (listed_read n m.CloseParenthesis a l s.inner s.inside.0 s.behind rest r.parts.0 r.parts.1 s.inside.1 s.inside.2 s.closes refl refl refl (omega arith))
+    (listed_read n m.CloseParenthesis a l s.inner s.inside.0 s.later rest r.parts.0 r.parts.1 s.inside.1 s.inside.2 s.closes refl refl refl (omega arith))
 
 -- ---- targets
 
@@ -530,10 +530,10 @@ arguments_read n (more a l) r list rest s len =
 pub record TargetAt (n : ℕ) (x : Variable) (all : Trees) (ts rest : List Token) : Type 0 where
   pub name : List ℕ
   pub line : ℕ
-  pub behind : List Token
-  pub begins : Begins (kind.Word name) line ts behind
-  pub no_call : begins_call name behind ≡ false
-  pub read : target (readers n) (word_kind name) name line behind ≡ Some ((x, all), rest)
+  pub later : List Token
+  pub begins : Begins (kind.Word name) line ts later
+  pub no_call : begins_call name later ≡ false
+  pub read : target (readers n) (word_kind name) name line later ≡ Some ((x, all), rest)
 
 plain_read : (name : List ℕ) (line : ℕ) (ts rest : List Token) → IsPlain name line ts rest → plain_word ts ≡ Some (name, rest)
 unfolding plain_word
@@ -559,37 +559,37 @@ keys_follow (more a l) ts rest s h = rw (sign_follow m.OpenBracket ts s.0 s.3) r
 target_at : (n : ℕ) (x : Variable) (all : Trees) → ReadsAll all → (ts rest : List Token) → IsTarget x all (SpellsKeys all) ts rest → length ts ≤ suc n → opens_of (follow_at rest) ≡ false → TargetAt n x all ts rest
 unfolding target with_keys variable
 target_at n (v.Plain line name) all r ts rest s len h =
-    let one : length ts ≡ suc (length s.behind) = ap length s.variable.begins.is in
+    let one : length ts ≡ suc (length s.later) = ap length s.variable.begins.is in
     record {
       name = name;
       line = line;
-      behind = s.behind;
+      later = s.later;
       begins = s.variable.begins;
-      no_call = rw s.variable.plain (keys_follow all s.behind rest s.keys h);
-      read = rw s.variable.plain (rw (keys_read n all r s.behind rest s.keys (omega arith) h) refl);
+      no_call = rw s.variable.plain (keys_follow all s.later rest s.keys h);
+      read = rw s.variable.plain (rw (keys_read n all r s.later rest s.keys (omega arith) h) refl);
     }
 target_at n (v.Thread line name) all r ts rest s len h =
     let one : length ts ≡ suc (length s.variable.at_arrow) = ap length s.variable.begins.is in
     let two = sign_one m.Arrow s.variable.at_arrow s.variable.at_name s.variable.arrow in
-    let three : length s.variable.at_name ≡ suc (length s.behind) = ap length s.variable.name.begins.is in
+    let three : length s.variable.at_name ≡ suc (length s.later) = ap length s.variable.name.begins.is in
     record {
       name = s.variable.first;
       line = line;
-      behind = s.variable.at_arrow;
+      later = s.variable.at_arrow;
       begins = s.variable.begins;
       no_call = rw s.variable.reserved refl;
-      read = rw s.variable.reserved (rw (member_read name s.behind s.variable.at_arrow s.variable.at_name s.variable.name_line s.variable.arrow s.variable.name)
-          (rw (keys_read n all r s.behind rest s.keys (omega arith) h) refl));
+      read = rw s.variable.reserved (rw (member_read name s.later s.variable.at_arrow s.variable.at_name s.variable.name_line s.variable.arrow s.variable.name)
+          (rw (keys_read n all r s.later rest s.keys (omega arith) h) refl));
     }
 target_at n (v.Clause line name) all r ts rest s len h =
     record {
       name = s.variable.first;
       line = line;
-      behind = s.variable.at_arrow;
+      later = s.variable.at_arrow;
       begins = s.variable.begins;
       no_call = rw s.variable.reserved refl;
-      read = rw s.variable.reserved (rw (member_read name s.behind s.variable.at_arrow s.variable.at_name s.variable.name_line s.variable.arrow s.variable.name)
-          (rw s.may (let same : s.behind ≡ rest = subst (λ (l : Trees). SpellsKeys l s.behind rest) s.may s.keys in rw same refl)));
+      read = rw s.variable.reserved (rw (member_read name s.later s.variable.at_arrow s.variable.at_name s.variable.name_line s.variable.arrow s.variable.name)
+          (rw s.may (let same : s.later ≡ rest = subst (λ (l : Trees). SpellsKeys l s.later rest) s.may s.keys in rw same refl)));
     }
 
 -- a part that begins with a target

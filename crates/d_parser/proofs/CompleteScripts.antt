@@ -40,7 +40,7 @@ use Rattle.d_parser.proofs.Takes.{sign_one, takes, phrase_takes, keys_take, list
 use Rattle.d_parser.proofs.Complete.{reach, opens_of, sign_there, sign_follow, sign_tail, sign_at}
 use Rattle.d_parser.proofs.Complete.{sign_reach, after_sign, reads, reads_all, phrase_of, keys_read}
 use Rattle.d_parser.proofs.Complete.{arguments_read}
-use Rattle.d_parser.proofs.Runs.{run_is, behind_is}
+use Rattle.d_parser.proofs.Runs.{run_is, later_is}
 
 -- ---- statements
 
@@ -109,10 +109,10 @@ stmt_read n (Expression t) ts rest h len e =
 stmt_read n (Aggregation line name all function list) ts rest h len e =
     (aggregation_read n line name all function list ts rest h (omega arith), rw (aggregation_starts line name m.Semicolon ts h.at_keys h.begins, aggregation_starts line name m.CloseBrace ts h.at_keys h.begins) refl)
 
-slot_read : (n : ℕ) (all : List StmtTree) (o : Option StmtTree) (ts behind : List Token) → IsSlot o ts behind → Stops behind → length ts < n → slot n all ts ≡ Some (all ++ present (o ∷ []), behind)
+slot_read : (n : ℕ) (all : List StmtTree) (o : Option StmtTree) (ts later : List Token) → IsSlot o ts later → Stops later → length ts < n → slot n all ts ≡ Some (all ++ present (o ∷ []), later)
 unfolding slot
-slot_read n all None ts behind h s len = rw (h, s.ends, append-nil all) refl
-slot_read n all (Some t) ts behind h s len = let r = stmt_read n t ts behind h len s.quiet in rw r.1 (rw r.0 refl)
+slot_read n all None ts later h s len = rw (h, s.ends, append-nil all) refl
+slot_read n all (Some t) ts later h s len = let r = stmt_read n t ts later h len s.quiet in rw r.1 (rw r.0 refl)
 
 stmt_takes : (s : StmtTree) (ts rest : List Token) → IsStmt s ts rest → length rest < length ts
 stmt_takes (Expression t) ts rest h = phrase_takes t 1 (takes t) ts rest h
@@ -122,8 +122,8 @@ stmt_takes (Aggregation line name all function list) ts rest h =
     let three = sign_one m.Assign h.at_assign h.at_word h.assigns in
     let four : length h.at_word ≡ suc (length h.at_open) = ap length h.word.is in
     let five = sign_one m.OpenParenthesis h.at_open h.spells_arguments.inner h.spells_arguments.opens in
-    let six = list_takes list h.spells_arguments.inner h.spells_arguments.behind h.spells_arguments.inside in
-    let seven = sign_one m.CloseParenthesis h.spells_arguments.behind rest h.spells_arguments.closes in
+    let six = list_takes list h.spells_arguments.inner h.spells_arguments.later h.spells_arguments.inside in
+    let seven = sign_one m.CloseParenthesis h.spells_arguments.later rest h.spells_arguments.closes in
     omega arith
 
 slot_takes : (o : Option StmtTree) (ts rest : List Token) → IsSlot o ts rest → length rest ≤ length ts
@@ -148,9 +148,9 @@ further_read (o ∷ slots) n (suc turns) all ts rest h len t =
 stmts_read : (n : ℕ) (all : List StmtTree) (ts rest : List Token) → AreStmts all ts rest → length ts < n → stmts n ts ≡ Some (all, rest)
 unfolding stmts
 stmts_read n all ts rest h len =
-    let two = slot_takes h.slot ts h.behind h.first in
-    rw (slot_read n [] h.slot ts h.behind h.first (further_stops h.slots h.behind rest h.further) len)
-    (further_read h.slots n n (present (h.slot ∷ [])) h.behind rest h.further (omega arith) (omega arith) ∙ ap (λ (xs : List StmtTree). Some (xs, rest)) (present_more h.slot h.slots ∙ sym h.are))
+    let two = slot_takes h.slot ts h.later h.first in
+    rw (slot_read n [] h.slot ts h.later h.first (further_stops h.slots h.later rest h.further) len)
+    (further_read h.slots n n (present (h.slot ∷ [])) h.later rest h.further (omega arith) (omega arith) ∙ ap (λ (xs : List StmtTree). Some (xs, rest)) (present_more h.slot h.slots ∙ sym h.are))
 
 -- ---- clauses
 
@@ -233,8 +233,8 @@ clause_takes c ts rest h =
     let one = descriptions_take c.descriptions ts h.at_predicate h.descriptions in
     let two = predicate_takes c.predicate h.at_predicate h.at_brace h.predicate in
     let three = sign_one m.OpenBrace h.at_brace h.at_stmts h.opens in
-    let four = slot_takes h.stmts.slot h.at_stmts h.stmts.behind h.stmts.first in
-    let five = further_takes h.stmts.slots h.stmts.behind rest h.stmts.further in
+    let four = slot_takes h.stmts.slot h.at_stmts h.stmts.later h.stmts.first in
+    let five = further_takes h.stmts.slots h.stmts.later rest h.stmts.further in
     omega arith
 
 -- ---- declarations
@@ -252,8 +252,8 @@ type_read : (t : DeclaredType) (ts rest : List Token) → IsType t ts rest → N
 unfolding whole_type
 type_read t ts rest h quiet =
     let own : run ts ≡ h.words = ap run h.is ∙ (run_is h.words rest h.are_words ∙ (ap (λ (xs : List Token). h.words ++ xs) quiet.none ∙ append-nil h.words)) in
-    let behind : after_run ts ≡ rest = ap after_run h.is ∙ (behind_is h.words rest h.are_words ∙ quiet.same) in
-    rw (own, behind, h.spells) refl
+    let later : after_run ts ≡ rest = ap after_run h.is ∙ (later_is h.words rest h.are_words ∙ quiet.same) in
+    rw (own, later, h.spells) refl
 
 type_takes : (t : DeclaredType) (ts rest : List Token) → IsType t ts rest → length rest ≤ length ts
 type_takes t ts rest h = let one : length ts ≡ length (h.words ++ rest) = ap length h.is in let two = length-append h.words rest in omega arith
@@ -298,8 +298,8 @@ unfolding typed_name
 typed_name_read t name line ts at_name rest h b quiet =
     let last = word_run name line at_name rest b quiet in
     let own : run ts ≡ h.words ++ token (kind.Word name) b.start b.stop line ∷ [] = ap run h.is ∙ (run_is h.words at_name h.are_words ∙ ap (λ (xs : List Token). h.words ++ xs) last.0) in
-    let behind : after_run ts ≡ rest = ap after_run h.is ∙ (behind_is h.words at_name h.are_words ∙ last.1) in
-    rw (own, behind) (rw (last_read h.words (token (kind.Word name) b.start b.stop line)) (rw h.spells refl))
+    let later : after_run ts ≡ rest = ap after_run h.is ∙ (later_is h.words at_name h.are_words ∙ last.1) in
+    rw (own, later) (rw (last_read h.words (token (kind.Word name) b.start b.stop line)) (rw h.spells refl))
 
 declared_length : (which : WordKind) (line : ℕ) (t : DeclaredType) (name : List ℕ) (all : List DeclaredType) (ts rest : List Token) (h : IsDeclared which line t name all ts rest) → length h.at_keys < length ts
 declared_length which line t name all ts rest h =
@@ -346,13 +346,13 @@ clause_local_read line t name ts rest h =
 
 -- ---- scripts
 
-declared_item : (n line : ℕ) (first : List ℕ) (which : WordKind) (d : DeclarationTree) (ts behind rest : List Token) → Begins (kind.Word first) line ts behind → word_kind first ≡ which → declaration_by which n line behind ≡ Some (d, rest) → item_reader n ts ≡ Some (Declared d, rest)
+declared_item : (n line : ℕ) (first : List ℕ) (which : WordKind) (d : DeclarationTree) (ts later rest : List Token) → Begins (kind.Word first) line ts later → word_kind first ≡ which → declaration_by which n line later ≡ Some (d, rest) → item_reader n ts ≡ Some (Declared d, rest)
 unfolding item_reader
-declared_item n line first which d ts behind rest h w e = rw h.is (rw w (rw e refl))
+declared_item n line first which d ts later rest h w e = rw h.is (rw w (rw e refl))
 
-probing_item : (n line : ℕ) (run : List ℕ) (ts behind : List Token) → Begins (kind.DescriptionRun run) line ts behind → item_reader n ts ≡ (clause_reader n ts >>= λ c. Some (Probing c.0, c.1))
+probing_item : (n line : ℕ) (run : List ℕ) (ts later : List Token) → Begins (kind.DescriptionRun run) line ts later → item_reader n ts ≡ (clause_reader n ts >>= λ c. Some (Probing c.0, c.1))
 unfolding item_reader
-probing_item n line run ts behind h = rw h.is refl
+probing_item n line run ts later h = rw h.is refl
 
 first_run : (n : ℕ) (ds : List Description) (ts rest : List Token) → AreDescriptions ds ts rest → item_reader n ts ≡ (clause_reader n ts >>= λ c. Some (Probing c.0, c.1))
 first_run n [] ts rest h = absurd h

@@ -41,8 +41,8 @@ phrase_uses t k f ts rest h = within_uses (places t) h.pairs (Spells t) f ts res
 
 target_uses : (x : Variable) (all : Trees) → Uses (places_in all) (SpellsKeys all) → Uses (suc (places_in all)) (IsTarget x all (SpellsKeys all))
 target_uses x all f ts rest h =
-    let one = variable_takes x ts h.behind h.variable in
-    let two = f h.behind rest h.keys in
+    let one = variable_takes x ts h.later h.variable in
+    let two = f h.later rest h.keys in
     omega arith
 
 mutual
@@ -52,8 +52,8 @@ mutual
   uses (Call line name arguments) ts rest h =
       let one : length ts ≡ suc (length h.0) = ap length h.1.begins.is in
       let two = sign_one m.OpenParenthesis h.0 h.2.inner h.2.opens in
-      let three = list_uses arguments h.2.inner h.2.behind h.2.inside in
-      let four = sign_one m.CloseParenthesis h.2.behind rest h.2.closes in
+      let three = list_uses arguments h.2.inner h.2.later h.2.inside in
+      let four = sign_one m.CloseParenthesis h.2.later rest h.2.closes in
       omega arith
   uses (Unary line op a) ts rest h =
       let one : length ts ≡ suc (length h.1) = ap length h.3.is in
@@ -125,8 +125,8 @@ stmt_uses (Aggregation line name keys function arguments) ts rest h =
     let three = sign_one m.Assign h.at_assign h.at_word h.assigns in
     let four : length h.at_word ≡ suc (length h.at_open) = ap length h.word.is in
     let five = sign_one m.OpenParenthesis h.at_open h.spells_arguments.inner h.spells_arguments.opens in
-    let six = list_uses arguments h.spells_arguments.inner h.spells_arguments.behind h.spells_arguments.inside in
-    let seven = sign_one m.CloseParenthesis h.spells_arguments.behind rest h.spells_arguments.closes in
+    let six = list_uses arguments h.spells_arguments.inner h.spells_arguments.later h.spells_arguments.inside in
+    let seven = sign_one m.CloseParenthesis h.spells_arguments.later rest h.spells_arguments.closes in
     omega arith
 
 stmt_one : (s : StmtTree) → Uses 1 (IsStmt s)
@@ -137,8 +137,8 @@ stmt_one (Aggregation line name keys function arguments) ts rest h =
     let three = sign_one m.Assign h.at_assign h.at_word h.assigns in
     let four : length h.at_word ≡ suc (length h.at_open) = ap length h.word.is in
     let five = sign_one m.OpenParenthesis h.at_open h.spells_arguments.inner h.spells_arguments.opens in
-    let six = list_takes arguments h.spells_arguments.inner h.spells_arguments.behind h.spells_arguments.inside in
-    let seven = sign_one m.CloseParenthesis h.spells_arguments.behind rest h.spells_arguments.closes in
+    let six = list_takes arguments h.spells_arguments.inner h.spells_arguments.later h.spells_arguments.inside in
+    let seven = sign_one m.CloseParenthesis h.spells_arguments.later rest h.spells_arguments.closes in
     omega arith
 
 -- a count of which each statement takes no more than tokens
@@ -158,12 +158,12 @@ further_use f c (Some s ∷ slots) ts rest h =
     let three = further_use f c slots h.1 rest h.4 in
     omega arith
 
-slots_use : (f : StmtTree → ℕ) → Counts f → (slot : Option StmtTree) (slots : List (Option StmtTree)) (ts behind rest : List Token) → IsSlot slot ts behind → AreFurther slots behind rest → in_all f (present (slot ∷ slots)) + length rest ≤ length ts
-slots_use f c None slots ts behind rest h k = let one = same ts behind h in let two = further_use f c slots behind rest k in omega arith
-slots_use f c (Some s) slots ts behind rest h k = let one = c s ts behind h in let two = further_use f c slots behind rest k in omega arith
+slots_use : (f : StmtTree → ℕ) → Counts f → (slot : Option StmtTree) (slots : List (Option StmtTree)) (ts later rest : List Token) → IsSlot slot ts later → AreFurther slots later rest → in_all f (present (slot ∷ slots)) + length rest ≤ length ts
+slots_use f c None slots ts later rest h k = let one = same ts later h in let two = further_use f c slots later rest k in omega arith
+slots_use f c (Some s) slots ts later rest h k = let one = c s ts later h in let two = further_use f c slots later rest k in omega arith
 
 stmts_use : (f : StmtTree → ℕ) → Counts f → (all : List StmtTree) → Uses (in_all f all) (AreStmts all)
-stmts_use f c all ts rest h = rw h.are (slots_use f c h.slot h.slots ts h.behind rest h.first h.further)
+stmts_use f c all ts rest h = rw h.are (slots_use f c h.slot h.slots ts h.later rest h.first h.further)
 
 -- each counted once
 one_each : {A : Type 0} (xs : List A) → in_all (λ x. 1) xs ≡ length xs

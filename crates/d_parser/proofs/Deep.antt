@@ -55,10 +55,10 @@ one_of false true z h = inr (inl refl)
 one_of false false z h = inr (inr h)
 
 within : (t : Token) (ts : List Token) → IsDeep ts → IsDeep (t ∷ ts)
-within t ts d = record { before = t ∷ d.before; stretch = d.stretch; behind = d.behind; is = ap (λ (l : List Token). t ∷ l) d.is; deep = d.deep }
+within t ts d = record { before = t ∷ d.before; stretch = d.stretch; later = d.later; is = ap (λ (l : List Token). t ∷ l) d.is; deep = d.deep }
 
 here : (t : Token) (p q ts : List Token) → ts ≡ p ++ q → (64 + closings p < openings p) ⊎ ((1024 < length p) × (endings p ≡ 0)) → IsDeep (t ∷ ts)
-here t p q ts e d = record { before = t ∷ []; stretch = p; behind = q; is = ap (λ (l : List Token). t ∷ l) e; deep = d }
+here t p q ts e d = record { before = t ∷ []; stretch = p; later = q; is = ap (λ (l : List Token). t ∷ l) e; deep = d }
 
 front : (t : Token) (p q ts : List Token) (b r : ℕ) → ts ≡ p ++ q → Full b r (t ∷ p) → Front b r (t ∷ ts)
 front t p q ts b r e f = record { p = t ∷ p; q = q; is = ap (λ (l : List Token). t ∷ l) e; full = f }
@@ -122,13 +122,13 @@ front_deep (t ∷ p) q b r le short f =
       | inr l ↦ inr (shorter (bracket_turn t.kind) r (length p) (endings p) l.0 l.1)
     ]))
 
-part_deep : (before stretch behind : List Token) (b r : ℕ) → b ≤ 64 → r ≤ 1024 → (64 + closings stretch < openings stretch) ⊎ ((1024 < length stretch) × (endings stretch ≡ 0)) → is_deep b r (before ++ stretch ++ behind) ≡ true
-part_deep [] stretch behind b r le short d = front_deep stretch behind b r le short (elim d [
+part_deep : (before stretch later : List Token) (b r : ℕ) → b ≤ 64 → r ≤ 1024 → (64 + closings stretch < openings stretch) ⊎ ((1024 < length stretch) × (endings stretch ≡ 0)) → is_deep b r (before ++ stretch ++ later) ≡ true
+part_deep [] stretch later b r le short d = front_deep stretch later b r le short (elim d [
   | inl x ↦ inl (omega arith)
   | inr x ↦ inr ((let l = x.0 in omega arith), x.1)
 ])
-part_deep (t ∷ before) stretch behind b r le short d =
-    go_on t (before ++ stretch ++ behind) b r (λ le2 short2. part_deep before stretch behind (open_after t.kind b) (row_with t.kind r) le2 short2 d)
+part_deep (t ∷ before) stretch later b r le short d =
+    go_on t (before ++ stretch ++ later) b r (λ le2 short2. part_deep before stretch later (open_after t.kind b) (row_with t.kind r) le2 short2 d)
 
 -- ---- both
 
@@ -136,7 +136,7 @@ from_front : (ts : List Token) → Front 0 0 ts → IsDeep ts
 from_front ts f = record {
   before = [];
   stretch = f.p;
-  behind = f.q;
+  later = f.q;
   is = f.is;
   deep = elim f.full [
     | inl d ↦ inl (omega arith)
@@ -151,7 +151,7 @@ deep_is ts h = elim (deep_sound ts 0 0 h) [
 ]
 
 pub is_deep_of : (ts : List Token) → IsDeep ts → is_deep 0 0 ts ≡ true
-is_deep_of ts d = rw d.is (part_deep d.before d.stretch d.behind 0 0 (omega arith) (omega arith) d.deep)
+is_deep_of ts d = rw d.is (part_deep d.before d.stretch d.later 0 0 (omega arith) (omega arith) d.deep)
 
 pub not_deep : (ts : List Token) → is_deep 0 0 ts ≡ false → ¬ IsDeep ts
 not_deep ts shallow d = let deep = is_deep_of ts d in cc

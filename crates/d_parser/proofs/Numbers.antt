@@ -49,9 +49,9 @@ sign_small mark ts rest s h = (begins_small _ h.line ts rest s h.begins).1
 same_small : (ts rest : List Token) → Small ts → ts ≡ rest → Small rest
 same_small ts rest s e = subst Small e s
 
-behind_small : (ts rest : List Token) → Small (ts ++ rest) → Small rest
-behind_small [] rest s = s
-behind_small (t ∷ ts) rest s = behind_small ts rest s.1
+later_small : (ts rest : List Token) → Small (ts ++ rest) → Small rest
+later_small [] rest s = s
+later_small (t ∷ ts) rest s = later_small ts rest s.1
 
 within_small : (Q : Type 0) (n : ℕ) (P : Part) → Keeps Q P → Keeps Q (Within n P)
 within_small Q zero P f ts rest s h = f ts rest s h
@@ -73,7 +73,7 @@ variable_small (v.Thread line name) ts rest s h = member_small _ name line ts re
 variable_small (v.Clause line name) ts rest s h = member_small _ name line ts rest s h
 
 target_small : (x : Variable) (all : Trees) → Keeps (HaveSmall all) (SpellsKeys all) → Keeps (HaveSmall all) (IsTarget x all (SpellsKeys all))
-target_small x all f ts rest s h = f h.behind rest (variable_small x ts h.behind s h.variable) h.keys
+target_small x all f ts rest s h = f h.later rest (variable_small x ts h.later s h.variable) h.keys
 
 constant_small : (k : Constant) → token.HasSmallNumber (constant_kind k) → IsSmall k
 constant_small (c.Number value suffix) h = h
@@ -86,12 +86,12 @@ mutual
   spells_small (Call line name arguments) ts rest s h =
       let part_at_name = (begins_small _ line ts h.0 s h.1.begins).1 in
       let openings = sign_small _ h.0 h.2.inner part_at_name h.2.opens in
-      let inside = list_small arguments h.2.inner h.2.behind openings h.2.inside in
-      (inside.0, sign_small _ h.2.behind rest inside.1 h.2.closes)
+      let inside = list_small arguments h.2.inner h.2.later openings h.2.inside in
+      (inside.0, sign_small _ h.2.later rest inside.1 h.2.closes)
   spells_small (Unary line op a) ts rest s h = phrase_small a 14 (spells_small a) h.1 rest (begins_small _ line ts h.1 s h.3).1 h.4
   spells_small (Cast line to a) ts rest s h =
       let openings = (begins_small _ line ts (h.1.words ++ h.1.close) s h.1.opens).1 in
-      phrase_small a 14 (spells_small a) h.0 rest (sign_small _ h.1.close h.0 (behind_small h.1.words h.1.close openings) h.1.closes) h.2
+      phrase_small a 14 (spells_small a) h.0 rest (sign_small _ h.1.close h.0 (later_small h.1.words h.1.close openings) h.1.closes) h.2
   spells_small (Before line step x keys) ts rest s h = target_small x keys (keys_small keys) h.1 rest (begins_small _ line ts h.1 s h.3).1 h.4
   spells_small (After x keys step) ts rest s h =
       let all = target_small x keys (keys_small keys) ts h.1 s h.3 in
@@ -140,8 +140,8 @@ stmt_small (Aggregation line name keys function arguments) ts rest s h =
     let one = keys_small keys h.at_keys h.at_assign at_keys h.spells_keys in
     let at_open = (begins_small _ h.word_line h.at_word h.at_open (sign_small _ h.at_assign h.at_word one.1 h.assigns) h.word).1 in
     let p = h.spells_arguments in
-    let two = list_small arguments p.inner p.behind (sign_small _ h.at_open p.inner at_open p.opens) p.inside in
-    ((one.0, two.0), sign_small _ p.behind rest two.1 p.closes)
+    let two = list_small arguments p.inner p.later (sign_small _ h.at_open p.inner at_open p.opens) p.inside in
+    ((one.0, two.0), sign_small _ p.later rest two.1 p.closes)
 
 further_small : (slots : List (Option StmtTree)) → Keeps (InStatements (present slots)) (AreFurther slots)
 further_small [] ts rest s h = (tt, sign_small _ ts rest s h)
@@ -152,17 +152,17 @@ further_small (Some t ∷ slots) ts rest s h =
     let two = further_small slots h.1 rest one.1 h.4 in
     ((one.0, two.0), two.1)
 
-slots_small : (slot : Option StmtTree) (slots : List (Option StmtTree)) (ts behind rest : List Token) → Small ts → IsSlot slot ts behind → AreFurther slots behind rest →
+slots_small : (slot : Option StmtTree) (slots : List (Option StmtTree)) (ts later rest : List Token) → Small ts → IsSlot slot ts later → AreFurther slots later rest →
     InStatements (present (slot ∷ slots)) × Small rest
-slots_small None slots ts behind rest s h k = further_small slots behind rest (same_small ts behind s h) k
-slots_small (Some t) slots ts behind rest s h k =
-    let one = stmt_small t ts behind s h in
-    let two = further_small slots behind rest one.1 k in
+slots_small None slots ts later rest s h k = further_small slots later rest (same_small ts later s h) k
+slots_small (Some t) slots ts later rest s h k =
+    let one = stmt_small t ts later s h in
+    let two = further_small slots later rest one.1 k in
     ((one.0, two.0), two.1)
 
 stmts_small : (all : List StmtTree) → Keeps (InStatements all) (AreStmts all)
 stmts_small all ts rest s h =
-    let found = slots_small h.slot h.slots ts h.behind rest s h.first h.further in
+    let found = slots_small h.slot h.slots ts h.later rest s h.first h.further in
     (subst InStatements (sym h.are) found.0, found.1)
 
 -- ---- clauses and declarations
@@ -186,18 +186,18 @@ further_types_small : (all : List DeclaredType) → Leaves (FurtherTypes all)
 further_types_small [] ts rest s h = sign_small _ ts rest s h
 further_types_small (t ∷ all) ts rest s h =
     let after = subst Small h.3.is (sign_small _ ts h.0 s h.2) in
-    further_types_small all h.1 rest (behind_small h.3.words h.1 after) h.4
+    further_types_small all h.1 rest (later_small h.3.words h.1 after) h.4
 
 key_types_small : (all : List DeclaredType) → Leaves (AreKeyTypes all)
 key_types_small [] ts rest s h = same_small ts rest s h
 key_types_small (t ∷ all) ts rest s h =
     let after = subst Small h.3.is (sign_small _ ts h.0 s h.2) in
-    further_types_small all h.1 rest (behind_small h.3.words h.1 after) h.4
+    further_types_small all h.1 rest (later_small h.3.words h.1 after) h.4
 
 declared_small : (which : WordKind) (line : ℕ) (t : DeclaredType) (name : List ℕ) (keys : List DeclaredType) → Leaves (IsDeclared which line t name keys)
 declared_small which line t name keys ts rest s h =
     let at_type = (begins_small _ line ts h.at_type s h.begins).1 in
-    let at_name = behind_small h.spells.words h.at_name (subst Small h.spells.is at_type) in
+    let at_name = later_small h.spells.words h.at_name (subst Small h.spells.is at_type) in
     let at_keys = (begins_small _ h.name_line h.at_name h.at_keys at_name h.word).1 in
     sign_small _ h.at_end rest (key_types_small keys h.at_keys h.at_end at_keys h.key_types) h.ends
 

@@ -5,46 +5,46 @@ use Rattle.d_lexer.specs.declared.token.Token.{Token}
 use Rattle.d_parser.specs.Words.{is_word, AreWords}
 use Rattle.d_parser.specs.Steps.Words.{run, after_run}
 
-short_by : (b : Bool) (t : Token) (ts behind : List Token) → length behind ≤ length ts → length (cond b behind (t ∷ ts)) ≤ length (t ∷ ts)
-short_by true t ts behind h = omega arith
-short_by false t ts behind h = omega arith
+short_by : (b : Bool) (t : Token) (ts later : List Token) → length later ≤ length ts → length (cond b later (t ∷ ts)) ≤ length (t ∷ ts)
+short_by true t ts later h = omega arith
+short_by false t ts later h = omega arith
 
-pub behind_short : (ts : List Token) → length (after_run ts) ≤ length ts
+pub later_short : (ts : List Token) → length (after_run ts) ≤ length ts
 unfolding after_run
-behind_short [] = omega arith
-behind_short (t ∷ ts) = short_by (is_word t.kind) t ts (after_run ts) (behind_short ts)
+later_short [] = omega arith
+later_short (t ∷ ts) = short_by (is_word t.kind) t ts (after_run ts) (later_short ts)
 
-taken_by : (b : Bool) (t : Token) (ts own behind : List Token) → length behind ≤ length ts → take (length ts - length behind) ts ≡ own → take (length (t ∷ ts) - length (cond b behind (t ∷ ts))) (t ∷ ts) ≡ cond b (t ∷ own) []
-taken_by true t ts own behind short e =
-    let n : length (t ∷ ts) - length behind ≡ suc (length ts - length behind) = omega arith in
+taken_by : (b : Bool) (t : Token) (ts own later : List Token) → length later ≤ length ts → take (length ts - length later) ts ≡ own → take (length (t ∷ ts) - length (cond b later (t ∷ ts))) (t ∷ ts) ≡ cond b (t ∷ own) []
+taken_by true t ts own later short e =
+    let n : length (t ∷ ts) - length later ≡ suc (length ts - length later) = omega arith in
     rw n (ap (λ (xs : List Token). t ∷ xs) e)
-taken_by false t ts own behind short e = let n : length (t ∷ ts) - length (t ∷ ts) ≡ 0 = omega arith in rw n refl
+taken_by false t ts own later short e = let n : length (t ∷ ts) - length (t ∷ ts) ≡ 0 = omega arith in rw n refl
 
 pub run_taken : (ts : List Token) → take (length ts - length (after_run ts)) ts ≡ run ts
 unfolding run after_run
 run_taken [] = refl
-run_taken (t ∷ ts) = taken_by (is_word t.kind) t ts (run ts) (after_run ts) (behind_short ts) (run_taken ts)
+run_taken (t ∷ ts) = taken_by (is_word t.kind) t ts (run ts) (after_run ts) (later_short ts) (run_taken ts)
 
-dropped_by : (b : Bool) (t : Token) (ts behind : List Token) → length behind ≤ length ts → drop (length ts - length behind) ts ≡ behind → drop (length (t ∷ ts) - length (cond b behind (t ∷ ts))) (t ∷ ts) ≡ cond b behind (t ∷ ts)
-dropped_by true t ts behind short e =
-    let n : length (t ∷ ts) - length behind ≡ suc (length ts - length behind) = omega arith in
+dropped_by : (b : Bool) (t : Token) (ts later : List Token) → length later ≤ length ts → drop (length ts - length later) ts ≡ later → drop (length (t ∷ ts) - length (cond b later (t ∷ ts))) (t ∷ ts) ≡ cond b later (t ∷ ts)
+dropped_by true t ts later short e =
+    let n : length (t ∷ ts) - length later ≡ suc (length ts - length later) = omega arith in
     rw n e
-dropped_by false t ts behind short e = let n : length (t ∷ ts) - length (t ∷ ts) ≡ 0 = omega arith in rw n refl
+dropped_by false t ts later short e = let n : length (t ∷ ts) - length (t ∷ ts) ≡ 0 = omega arith in rw n refl
 
 pub run_dropped : (ts : List Token) → drop (length ts - length (after_run ts)) ts ≡ after_run ts
 unfolding run after_run
 run_dropped [] = refl
-run_dropped (t ∷ ts) = dropped_by (is_word t.kind) t ts (after_run ts) (behind_short ts) (run_dropped ts)
+run_dropped (t ∷ ts) = dropped_by (is_word t.kind) t ts (after_run ts) (later_short ts) (run_dropped ts)
 
 pub run_is : (words rest : List Token) → AreWords words → run (words ++ rest) ≡ words ++ run rest
 unfolding run
 run_is [] rest h = refl
 run_is (t ∷ words) rest h = rw h.0 (ap (λ (xs : List Token). t ∷ xs) (run_is words rest h.1))
 
-pub behind_is : (words rest : List Token) → AreWords words → after_run (words ++ rest) ≡ after_run rest
+pub later_is : (words rest : List Token) → AreWords words → after_run (words ++ rest) ≡ after_run rest
 unfolding after_run
-behind_is [] rest h = refl
-behind_is (t ∷ words) rest h = rw h.0 (behind_is words rest h.1)
+later_is [] rest h = refl
+later_is (t ∷ words) rest h = rw h.0 (later_is words rest h.1)
 
 are_by : (b : Bool) (t : Token) (own : List Token) → is_word t.kind ≡ b → AreWords own → AreWords (cond b (t ∷ own) [])
 are_by true t own e h = (e, h)
@@ -55,9 +55,9 @@ unfolding run
 are_words [] = tt
 are_words (t ∷ ts) = are_by (is_word t.kind) t (run ts) refl (are_words ts)
 
-joined_by : (b : Bool) (t : Token) (ts own behind : List Token) → ts ≡ own ++ behind → t ∷ ts ≡ cond b (t ∷ own) [] ++ cond b behind (t ∷ ts)
-joined_by true t ts own behind e = ap (λ (xs : List Token). t ∷ xs) e
-joined_by false t ts own behind e = refl
+joined_by : (b : Bool) (t : Token) (ts own later : List Token) → ts ≡ own ++ later → t ∷ ts ≡ cond b (t ∷ own) [] ++ cond b later (t ∷ ts)
+joined_by true t ts own later e = ap (λ (xs : List Token). t ∷ xs) e
+joined_by false t ts own later e = refl
 
 pub run_joined : (ts : List Token) → ts ≡ run ts ++ after_run ts
 unfolding run after_run

@@ -254,11 +254,11 @@ calls_sound word follow e = absurd cc
 pub record Listed (close : Mark) (ts : List Token) (x : Trees × List Token) : Type 0 where
   pub first : Tree
   pub others : Trees
-  pub behind : List Token
+  pub later : List Token
   pub closing : List Token
   pub is : x.0 ≡ more first others
-  pub phrase : IsPhrase (Spells first) (rank first) 1 ts behind
-  pub spells : SpellsMore others behind closing
+  pub phrase : IsPhrase (Spells first) (rank first) 1 ts later
+  pub spells : SpellsMore others later closing
   pub closes : Sign close closing x.1
 
 abbrev pub KeysOf : List Token → Trees × List Token → Type 0
@@ -286,12 +286,12 @@ module _ (down : Readers) (sound : Sound down) where
       then_sound (Whole 1 ts) (Listed close ts) (down.phrase 1 ts) (λ first. down.further (more first.0 end) first.1 >>= λ all. after_mark close all.1 >>= λ rest. Some (all.0, rest)) (sound.phrase 1 ts (lit≤ tt) (lit≤ tt))
       (λ first h. then_sound (Further (more first.0 end) first.1) (Listed close ts) (down.further (more first.0 end) first.1) (λ all. after_mark close all.1 >>= λ rest. Some (all.0, rest)) (sound.further (more first.0 end) first.1)
       (λ all g. then_sound (SignOf close all.1) (Listed close ts) (after_mark close all.1) (λ rest. Some (all.0, rest)) (after_sound close all.1)
-      (λ rest s. record { first = first.0; others = g.list; behind = first.1; closing = all.1; is = g.is ∙ join_more first.0 g.list; phrase = h.phrase; spells = g.spells; closes = s })))
+      (λ rest s. record { first = first.0; others = g.list; later = first.1; closing = all.1; is = g.is ∙ join_more first.0 g.list; phrase = h.phrase; spells = g.spells; closes = s })))
 
   keys_by_sound : (follow : Follow) (ts : List Token) → follow_at ts ≡ follow → IfSome (KeysOf ts) (keys_by down follow ts)
   keys_by_sound f.Bracket ts e =
       weaken (Listed m.CloseBracket (tail ts)) (KeysOf ts) (closed_list down m.CloseBracket (tail ts))
-      (λ x h. subst (λ (l : Trees). SpellsKeys l ts x.1) (sym h.is) (tail ts, h.behind, h.closing, mark_sign m.OpenBracket f.Bracket ts bracket_is e (λ h. absurd cc), h.phrase, h.spells, h.closes))
+      (λ x h. subst (λ (l : Trees). SpellsKeys l ts x.1) (sym h.is) (tail ts, h.later, h.closing, mark_sign m.OpenBracket f.Bracket ts bracket_is e (λ h. absurd cc), h.phrase, h.spells, h.closes))
       (listed_sound m.CloseBracket (tail ts))
   keys_by_sound (f.Infix op) ts e = refl
   keys_by_sound (f.Assign op) ts e = refl
@@ -308,20 +308,20 @@ module _ (down : Readers) (sound : Sound down) where
   unfolding arguments
   arguments_sound list s =
       test_sound (ArgumentsOf list) (is_at m.CloseParenthesis (tail list)) (Some (end, tail (tail list))) (closed_list down m.CloseParenthesis (tail list))
-      (λ h. record { inner = tail list; behind = tail list; opens = s; inside = refl; closes = sign_there m.CloseParenthesis (tail list) h })
+      (λ h. record { inner = tail list; later = tail list; opens = s; inside = refl; closes = sign_there m.CloseParenthesis (tail list) h })
       (λ h. weaken (Listed m.CloseParenthesis (tail list)) (ArgumentsOf list) (closed_list down m.CloseParenthesis (tail list))
-      (λ x g. record { inner = tail list; behind = g.closing; opens = s; inside = subst (λ (l : Trees). SpellsList l (tail list) g.closing) (sym g.is) (g.behind, g.phrase, g.spells); closes = g.closes })
+      (λ x g. record { inner = tail list; later = g.closing; opens = s; inside = subst (λ (l : Trees). SpellsList l (tail list) g.closing) (sym g.is) (g.later, g.phrase, g.spells); closes = g.closes })
       (listed_sound m.CloseParenthesis (tail list)))
 
   keyed_sound : (x : Variable) (start ts : List Token) → IsVariable x start ts → ((all : Trees) → MayHave x all) → IfSome (TargetOf start) (keys down ts >>= λ k. Some ((x, k.0), k.1))
   keyed_sound x start ts h may =
-      then_sound (KeysOf ts) (TargetOf start) (keys down ts) (λ k. Some ((x, k.0), k.1)) (keys_sound ts) (λ k g. record { behind = ts; variable = h; keys = g; may = may k.0 })
+      then_sound (KeysOf ts) (TargetOf start) (keys down ts) (λ k. Some ((x, k.0), k.1)) (keys_sound ts) (λ k g. record { later = ts; variable = h; keys = g; may = may k.0 })
 
   with_keys_sound : (x : Variable) (start ts : List Token) → IsVariable x start ts → IfSome (TargetOf start) (with_keys down x ts)
   unfolding with_keys
   with_keys_sound (v.Plain line name) start ts h = keyed_sound (v.Plain line name) start ts h (λ all. tt)
   with_keys_sound (v.Thread line name) start ts h = keyed_sound (v.Thread line name) start ts h (λ all. tt)
-  with_keys_sound (v.Clause line name) start ts h = record { behind = ts; variable = h; keys = refl; may = refl }
+  with_keys_sound (v.Clause line name) start ts h = record { later = ts; variable = h; keys = refl; may = refl }
 
   target_sound : (name : List ℕ) (line : ℕ) (start ts : List Token) → Begins (kind.Word name) line start ts → IfSome (TargetOf start) (target down (word_kind name) name line ts)
   unfolding target

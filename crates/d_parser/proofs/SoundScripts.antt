@@ -138,7 +138,7 @@ unfolding stmts
 stmts_sound n ts =
     then_sound (Slotted [] ts) (StmtsOf ts) (slot n [] ts) (λ x. further_stmts n n x.0 x.1) (slot_sound n [] ts)
     (λ x h. weaken (Slots x.0 x.1) (StmtsOf ts) (further_stmts n n x.0 x.1)
-    (λ y g. record { slot = h.slot; slots = g.slots; behind = x.1; first = h.spells; further = g.spells; are = g.is ∙ (ap (λ (xs : List StmtTree). xs ++ present g.slots) h.is ∙ sym (present_more h.slot g.slots)) })
+    (λ y g. record { slot = h.slot; slots = g.slots; later = x.1; first = h.spells; further = g.spells; are = g.is ∙ (ap (λ (xs : List StmtTree). xs ++ present g.slots) h.is ∙ sym (present_more h.slot g.slots)) })
     (further_sound n n x.0 x.1))
 
 -- ---- clauses

@@ -85,7 +85,7 @@ last_taken (t ∷ (u ∷ ts)) x h e =
 
 pub typed_some : (ts words rest : List Token) (x : Token) (t : DeclaredType) → words ≡ run ts → rest ≡ after_run ts → 1 ≤ length words → x ≡ get_or words (length words - 1) x → type_of_words (take (length words - 1) words) ≡ Some t → typed_name ts ≡ Some ((t, spelled_word x.kind), rest)
 unfolding typed_name
-typed_some ts words rest x t own behind len last e = rw (← own, ← behind) (rw (last_taken words x len last) (rw e refl))
+typed_some ts words rest x t own later len last e = rw (← own, ← later) (rw (last_taken words x len last) (rw e refl))
 
 pub typed_none : (ts words : List Token) (x : Token) → words ≡ run ts → 1 ≤ length words → x ≡ get_or words (length words - 1) x → type_of_words (take (length words - 1) words) ≡ None → typed_name ts ≡ None
 unfolding typed_name

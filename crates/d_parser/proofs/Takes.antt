@@ -52,8 +52,8 @@ TakesAny P = (ts rest : List Token) → P ts rest → length rest ≤ length ts
 
 pub target_takes : (x : Variable) (all : Trees) (Keys : Part) → TakesAny Keys → Takes (IsTarget x all Keys)
 target_takes x all Keys f ts rest h =
-    let one = variable_takes x ts h.behind h.variable in
-    let two = f h.behind rest h.keys in
+    let one = variable_takes x ts h.later h.variable in
+    let two = f h.later rest h.keys in
     omega arith
 
 same_length : (ts rest : List Token) → ts ≡ rest → length rest ≤ length ts
@@ -66,8 +66,8 @@ mutual
   takes (Call line name arguments) ts rest h =
       let one : length ts ≡ suc (length h.0) = ap length h.1.begins.is in
       let two = sign_one m.OpenParenthesis h.0 h.2.inner h.2.opens in
-      let three = list_takes arguments h.2.inner h.2.behind h.2.inside in
-      let four = sign_one m.CloseParenthesis h.2.behind rest h.2.closes in
+      let three = list_takes arguments h.2.inner h.2.later h.2.inside in
+      let four = sign_one m.CloseParenthesis h.2.later rest h.2.closes in
       omega arith
   takes (Unary line op a) ts rest h =
       let one : length ts ≡ suc (length h.1) = ap length h.3.is in

@@ -83,18 +83,18 @@ MayHave x keys = Unit {0}
 
 -- a variable and its keys
 pub record IsTarget (x : Variable) (all : Trees) (Keys : Part) (ts rest : List Token) : Type 0 where
-  pub behind : List Token
-  pub variable : IsVariable x ts behind
-  pub keys : Keys behind rest
+  pub later : List Token
+  pub variable : IsVariable x ts later
+  pub keys : Keys later rest
   pub may : MayHave x all
 
 -- the tokens in brackets or parentheses
 pub record IsEnclosed (opening closing : Mark) (Inner : Part) (ts rest : List Token) : Type 0 where
   pub inner : List Token
-  pub behind : List Token
+  pub later : List Token
   pub opens : Sign opening ts inner
-  pub inside : Inner inner behind
-  pub closes : Sign closing behind rest
+  pub inside : Inner inner later
+  pub closes : Sign closing later rest
 
 -- `(`, an integer type and `)`
 pub record IsCast (line : ℕ) (to : IntegerType) (ts rest : List Token) : Type 0 where
@@ -131,8 +131,8 @@ abbrev mutual
       × Begins (TokenKind.Mark mark) line ts target × IsTarget x keys (SpellsKeys keys) target rest
   -- post = target ( "++" | "--" )
   Spells (After x keys step) ts rest =
-      (mark : Mark) × (behind : List Token) × (follow_of mark ≡ Follow.Step step)
-      × IsTarget x keys (SpellsKeys keys) ts behind × Sign mark behind rest
+      (mark : Mark) × (later : List Token) × (follow_of mark ≡ Follow.Step step)
+      × IsTarget x keys (SpellsKeys keys) ts later × Sign mark later rest
   -- binary, at the operator's level; all operators are left-associative
   Spells (Binary op a b) ts rest =
       (mark : Mark) × (middle : List Token) × (right : List Token)
@@ -147,33 +147,33 @@ abbrev mutual
       × Sign Mark.Colon colon second × IsPhrase (Spells b) (rank b) CONDITION second rest
   -- expr = target assign-op expr
   Spells (Assign op x keys a) ts rest =
-      (mark : Mark) × (behind : List Token) × (value : List Token)
+      (mark : Mark) × (later : List Token) × (value : List Token)
       × (follow_of mark ≡ Follow.Assign op)
-      × IsTarget x keys (SpellsKeys keys) ts behind × Sign mark behind value
+      × IsTarget x keys (SpellsKeys keys) ts later × Sign mark later value
       × IsPhrase (Spells a) (rank a) ASSIGNMENT value rest
 
   -- keys in brackets, or nothing
   pub SpellsKeys : Trees → Part
   SpellsKeys end ts rest = ts ≡ rest
   SpellsKeys (more a keys) ts rest =
-      (first : List Token) × (behind : List Token) × (close : List Token)
+      (first : List Token) × (later : List Token) × (close : List Token)
       × Sign Mark.OpenBracket ts first
-      × IsPhrase (Spells a) (rank a) ASSIGNMENT first behind × SpellsMore keys behind close
+      × IsPhrase (Spells a) (rank a) ASSIGNMENT first later × SpellsMore keys later close
       × Sign Mark.CloseBracket close rest
 
   -- expressions with commas between, or nothing
   pub SpellsList : Trees → Part
   SpellsList end ts rest = ts ≡ rest
   SpellsList (more a list) ts rest =
-      (behind : List Token) × IsPhrase (Spells a) (rank a) ASSIGNMENT ts behind
-      × SpellsMore list behind rest
+      (later : List Token) × IsPhrase (Spells a) (rank a) ASSIGNMENT ts later
+      × SpellsMore list later rest
 
   -- expressions with a comma before each
   pub SpellsMore : Trees → Part
   SpellsMore end ts rest = ts ≡ rest
   SpellsMore (more a list) ts rest =
-      (first : List Token) × (behind : List Token) × Sign Mark.Comma ts first
-      × IsPhrase (Spells a) (rank a) ASSIGNMENT first behind × SpellsMore list behind rest
+      (first : List Token) × (later : List Token) × Sign Mark.Comma ts first
+      × IsPhrase (Spells a) (rank a) ASSIGNMENT first later × SpellsMore list later rest
 
 abbrev pub IsExpression : Tree → Part
 IsExpression t ts rest = IsPhrase (Spells t) (rank t) ASSIGNMENT ts rest

@@ -52,8 +52,8 @@ endings (t ∷ ts) = ends (bracket_turn t.kind) + endings ts
 pub record IsDeep (ts : List Token) : Type 0 where
   pub before : List Token
   pub stretch : List Token
-  pub behind : List Token
-  pub is : ts ≡ before ++ stretch ++ behind
+  pub later : List Token
+  pub is : ts ≡ before ++ stretch ++ later
   pub deep :
       (MOST_OPEN + closings stretch < openings stretch)
       ⊎ ((MOST_IN_A_ROW < length stretch) × (endings stretch ≡ 0))

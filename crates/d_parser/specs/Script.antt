@@ -41,8 +41,8 @@ IsSlot (Some s) ts rest = IsStmt s ts rest
 abbrev pub AreFurther : List (Option StmtTree) → Part
 AreFurther [] ts rest = Sign Mark.CloseBrace ts rest
 AreFurther (slot ∷ slots) ts rest =
-    (first : List Token) × (behind : List Token) × Sign Mark.Semicolon ts first
-    × IsSlot slot first behind × AreFurther slots behind rest
+    (first : List Token) × (later : List Token) × Sign Mark.Semicolon ts first
+    × IsSlot slot first later × AreFurther slots later rest
 
 -- those that are there
 abbrev pub present : List (Option StmtTree) → List StmtTree
@@ -54,9 +54,9 @@ present (Some s ∷ slots) = s ∷ present slots
 pub record AreStmts (stmts : List StmtTree) (ts rest : List Token) : Type 0 where
   pub slot : Option StmtTree
   pub slots : List (Option StmtTree)
-  pub behind : List Token
-  pub first : IsSlot slot ts behind
-  pub further : AreFurther slots behind rest
+  pub later : List Token
+  pub first : IsSlot slot ts later
+  pub further : AreFurther slots later rest
   pub are : stmts ≡ present (slot ∷ slots)
 
 -- ---- clauses
@@ -114,14 +114,14 @@ pub record IsDescription (d : Description) (ts rest : List Token) : Type 0 where
 abbrev pub FurtherDescriptions : List Description → Part
 FurtherDescriptions [] ts rest = ts ≡ rest
 FurtherDescriptions (d ∷ ds) ts rest =
-    (first : List Token) × (behind : List Token) × Sign Mark.Comma ts first
-    × IsDescription d first behind × FurtherDescriptions ds behind rest
+    (first : List Token) × (later : List Token) × Sign Mark.Comma ts first
+    × IsDescription d first later × FurtherDescriptions ds later rest
 
 -- one at least, with commas between
 abbrev pub AreDescriptions : List Description → Part
 AreDescriptions [] ts rest = ⊥
 AreDescriptions (d ∷ ds) ts rest =
-    (behind : List Token) × IsDescription d ts behind × FurtherDescriptions ds behind rest
+    (later : List Token) × IsDescription d ts later × FurtherDescriptions ds later rest
 
 -- an expression between slashes, or nothing
 abbrev pub IsPredicate : Option Tree → Part
@@ -152,15 +152,15 @@ pub record IsType (t : DeclaredType) (ts rest : List Token) : Type 0 where
 abbrev pub FurtherTypes : List DeclaredType → Part
 FurtherTypes [] ts rest = Sign Mark.CloseBracket ts rest
 FurtherTypes (t ∷ all) ts rest =
-    (first : List Token) × (behind : List Token) × Sign Mark.Comma ts first × IsType t first behind
-    × FurtherTypes all behind rest
+    (first : List Token) × (later : List Token) × Sign Mark.Comma ts first × IsType t first later
+    × FurtherTypes all later rest
 
 -- types in brackets, or nothing
 abbrev pub AreKeyTypes : List DeclaredType → Part
 AreKeyTypes [] ts rest = ts ≡ rest
 AreKeyTypes (t ∷ all) ts rest =
-    (first : List Token) × (behind : List Token) × Sign Mark.OpenBracket ts first
-    × IsType t first behind × FurtherTypes all behind rest
+    (first : List Token) × (later : List Token) × Sign Mark.OpenBracket ts first
+    × IsType t first later × FurtherTypes all later rest
 
 -- `self` or `this` on this line, a type, a word that may be reserved, perhaps key types, and a
 -- semicolon

@@ -29,7 +29,7 @@ fn after_colon(bytes: &[u8]) -> Option<&[u8]>
 #[tactic(auto, using(crate::proofs::Cuts::whole_field, crate::proofs::Cuts::first_field, crate::proofs::Cuts::shorter))]
 fn cut(bytes: &[u8]) -> (&[u8], Option<&[u8]>)
     ensures field { result.0.now ≡ spec.before_colon bytes.now }
-    ensures behind { MatchOption result.1 (spec.after_colon bytes.now ≡ None)
+    ensures later { MatchOption result.1 (spec.after_colon bytes.now ≡ None)
         (λ r. spec.after_colon bytes.now ≡ Some r.now) }
 {
     match after_colon(bytes) {

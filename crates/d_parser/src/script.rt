@@ -65,9 +65,9 @@ fn items(alloc: Global, fuel: usize, tokens: &[Token]) -> Result<Vec<Item>, Pars
         if rest.is_empty() {
             return Ok(all);
         }
-        let (next, behind) = item(alloc, fuel, rest)?;
+        let (next, later) = item(alloc, fuel, rest)?;
         all.push(next)?;
-        rest = behind;
+        rest = later;
     }
     Err(ParseFault::Syntax {
         line: line_at(rest),

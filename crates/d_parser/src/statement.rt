@@ -117,9 +117,9 @@ fn further<'a>(
             return Ok((all, tail(rest)));
         }
         let first = after_mark(Mark::Semicolon, rest)?;
-        let (longer, behind) = slot(alloc, fuel, all, first)?;
+        let (longer, later) = slot(alloc, fuel, all, first)?;
         all = longer;
-        rest = behind;
+        rest = later;
     }
     Err(ParseFault::Syntax {
         line: line_at(rest),

@@ -123,7 +123,7 @@ fn after_run(tokens: &[Token]) -> &[Token]
 #[tactic(auto, using(crate::proofs::Runs::run_taken, crate::proofs::Runs::run_dropped))]
 pub(crate) fn split_run(tokens: &[Token]) -> (&[Token], &[Token])
     ensures words { result.0.now ≡ steps.run tokens.now }
-    ensures behind { result.1.now ≡ steps.after_run tokens.now }
+    ensures later { result.1.now ≡ steps.after_run tokens.now }
 {
     let rest = after_run(tokens);
     tokens.split_at(tokens.len() - rest.len())

@@ -76,8 +76,8 @@ found_from n space name (r ∷ rows) slot h = here (names_row space name r) (fou
   where
     here : (b : Bool) → (find_from (n + 1) space name rows ≡ Some slot → slot < n + 1 + length rows) →
         (if b then Some n else find_from (n + 1) space name rows) ≡ Some slot → slot < n + suc (length rows)
-    here true behind e = let same : n ≡ slot = cc in omega arith
-    here false behind e = omega (arith, behind e)
+    here true later e = let same : n ≡ slot = cc in omega arith
+    here false later e = omega (arith, later e)
 
 pub found_below : (space : Space) (name : List ℕ) (rows : Rows) (slot : ℕ) → find space name rows ≡ Some slot → slot < length rows
 found_below space name rows slot h = omega (arith, found_from 0 space name rows slot h)

@@ -27,9 +27,9 @@ module _ (slots : Slots) (f : Firing) (fit : HasTypedBuiltIns f) where
   all_are (more a rest) h = (h.0, all_are rest h.1)
 
   -- an expression, and then what keeps the variables
-  behind : {A : Type 0} (a : Typed) (go : Value → Variables → Outcome A) (vars : Variables) → IsConsistent slots a → AreTyped slots vars →
+  later : {A : Type 0} (a : Typed) (go : Value → Variables → Outcome A) (vars : Variables) → IsConsistent slots a → AreTyped slots vars →
       ((x : Value) (late : Variables) → AreTyped slots late → Kept (go x late)) → Kept (with (eval f a vars) go)
-  behind a go vars is good rest =
+  later a go vars is good rest =
       one slots (IsOf (type_of a)) (λ x. Unit {0}) (eval f a vars) go (eval_is slots f fit a vars is good) (λ x late fits well. rest x late well)
 
   word_kept : (o : Outcome Value) → Kept o → Kept (number_outcome o)
@@ -37,12 +37,12 @@ module _ (slots : Slots) (f : Firing) (fit : HasTypedBuiltIns f) where
   word_kept (Faults vars) good = good
 
   number_kept : (a : Typed) (vars : Variables) → IsConsistent slots a → AreTyped slots vars → Kept (number_outcome (eval f a vars))
-  number_kept a vars is good = behind a _ vars is good (λ x late well. (tt, well))
+  number_kept a vars is good = later a _ vars is good (λ x late well. (tt, well))
 
   values_kept : (all : Typeds) (vars : Variables) → EachIs (IsConsistent slots) all → AreTyped slots vars → Kept (values_of f all vars)
   values_kept end vars is good = (tt, good)
   values_kept (more a rest) vars is good =
-      behind a (λ x vars. with (values_of f rest vars) (λ xs. Has ((type_of a, x) ∷ xs))) vars is.0 good
+      later a (λ x vars. with (values_of f rest vars) (λ xs. Has ((type_of a, x) ∷ xs))) vars is.0 good
       (λ x late well. one slots (λ y. Unit {0}) (λ y. Unit {0}) (values_of f rest late) (λ xs. Has ((type_of a, x) ∷ xs)) (values_kept rest late is.1 well)
       (λ xs last any fine. (tt, fine)))
 
@@ -52,8 +52,8 @@ module _ (slots : Slots) (f : Firing) (fit : HasTypedBuiltIns f) where
       one slots (λ y. Unit {0}) (λ y. Unit {0}) (number_outcome (eval f a vars)) (λ word. Has (cast_signed w64 word)) (number_kept a vars is good) (λ w late any well. (tt, well))
 
   effect_kept : (a : Action) (vars : Variables) → ActionIs (IsConsistent slots) a → AreTyped slots vars → Kept (effect_of f a vars)
-  effect_kept (Evaluate a) vars is good = behind a (λ x. Has ef.Nothing) vars is good (λ x late well. (tt, well))
-  effect_kept (Trace a) vars is good = behind a (λ x. Has (ef.Says (trace_line (type_of a) x))) vars is good (λ x late well. (tt, well))
+  effect_kept (Evaluate a) vars is good = later a (λ x. Has ef.Nothing) vars is good (λ x late well. (tt, well))
+  effect_kept (Trace a) vars is good = later a (λ x. Has (ef.Says (trace_line (type_of a) x))) vars is good (λ x late well. (tt, well))
   effect_kept (Print format all) vars is good =
       one slots (λ y. Unit {0}) (λ y. Unit {0}) (values_of f all vars) (λ values. Has (ef.Says (printf_text format values))) (values_kept all vars is good)
       (λ xs late any well. (tt, well))

@@ -271,18 +271,18 @@ step (at.Sized f) b q o fine h = sized_step f b q o h
 abbrev From : Place → List Piece → List ℕ → Type 0
 From place ps rest =
     ((place ≡ at.Outside) × (ps ≡ []) × (rest ≡ []))
-    ⊎ ((p : Piece) × (others : List Piece) × (text : List ℕ) × (behind : List ℕ)
-    × (ps ≡ p ∷ others) × (rest ≡ text ++ behind) × Ends place p text × SpellsFormat others behind)
+    ⊎ ((p : Piece) × (others : List Piece) × (text : List ℕ) × (later : List ℕ)
+    × (ps ≡ p ∷ others) × (rest ≡ text ++ later) × Ends place p text × SpellsFormat others later)
 
 from_outside : (ps : List Piece) (rest : List ℕ) → From at.Outside ps rest → SpellsFormat ps rest
 from_outside ps rest (inl h) = rw h.1 h.2
 from_outside ps rest (inr h) = rw h.4 (h.2, h.3, h.6, h.7, h.5)
 
 -- the pieces after those that are done
-abbrev Behind : List Piece → Place → List Piece → List ℕ → Type 0
-Behind done place ps rest = (others : List Piece) × (ps ≡ done ++ others) × From place others rest
+abbrev Later : List Piece → Place → List Piece → List ℕ → Type 0
+Later done place ps rest = (others : List Piece) × (ps ≡ done ++ others) × From place others rest
 
-at_end : (done : List Piece) (place : Place) (ps : List Piece) → pieces_at_end place done ≡ Some ps → Behind done place ps []
+at_end : (done : List Piece) (place : Place) (ps : List Piece) → pieces_at_end place done ≡ Some ps → Later done place ps []
 at_end done at.Outside ps h = let same : done ≡ ps = cc in ([], sym same ∙ sym (append-nil done), inl (refl, refl, refl))
 at_end done at.Opened ps h = cc
 at_end done (at.Flagged f) ps h = cc
@@ -297,7 +297,7 @@ is_provided (Some x) go y h = (x, refl, h)
 
 -- a byte before what is spelled from the next place
 further : (done : List Piece) (place : Place) (b : ℕ) (bs : List ℕ) (ps : List Piece) (q : Place) (o : Option Piece) → Steps (Ends place) b q o →
-    Behind (with_piece done o) q ps bs → Behind done place ps (b ∷ bs)
+    Later (with_piece done o) q ps bs → Later done place ps (b ∷ bs)
 further done place b bs ps q o (inl s) (others, are, inl r) = absurd (true≢false (ap is_outside (sym r.0) ∙ s.1))
 further done place b bs ps q o (inl s) (others, are, inr r) = (
   others,
@@ -314,12 +314,12 @@ fine_after : (place : Place) (b : ℕ) (q : Place) (o : Option Piece) → Steps 
 fine_after place b q o (inl s) = s.2
 fine_after place b q o (inr s) = subst Fine (sym s.2) tt
 
-behind : (done : List Piece) (place : Place) (rest : List ℕ) (ps : List Piece) → Fine place → pieces_from done place rest ≡ Some ps → Behind done place ps rest
-behind done place [] ps fine h = at_end done place ps h
-behind done place (b ∷ bs) ps fine h =
+later : (done : List Piece) (place : Place) (rest : List ℕ) (ps : List Piece) → Fine place → pieces_from done place rest ≡ Some ps → Later done place ps rest
+later done place [] ps fine h = at_end done place ps h
+later done place (b ∷ bs) ps fine h =
     let t = is_provided (turn place b) _ ps h in
     let s = step place b t.0.0 t.0.1 fine t.1 in
-    further done place b bs ps t.0.0 t.0.1 s (behind (with_piece done t.0.1) t.0.0 bs ps (fine_after place b t.0.0 t.0.1 s) t.2)
+    further done place b bs ps t.0.0 t.0.1 s (later (with_piece done t.0.1) t.0.0 bs ps (fine_after place b t.0.0 t.0.1 s) t.2)
 
 pub read_is_spelled : (format : List ℕ) (ps : List Piece) → pieces format ≡ Some ps → SpellsFormat ps format
-read_is_spelled format ps h = let r = behind [] at.Outside format ps tt h in rw r.1 (from_outside r.0 format r.2)
+read_is_spelled format ps h = let r = later [] at.Outside format ps tt h in rw r.1 (from_outside r.0 format r.2)

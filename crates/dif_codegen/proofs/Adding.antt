@@ -23,7 +23,7 @@ use Rattle.dif_validate.specs.declared.instruction.Instr.TheVariants.{Ba, Branch
 use Rattle.dif_validate.specs.declared.instruction.Instr.TheVariants.{Sttaa}
 use Rattle.dif_validate.specs.declared.object.Difo.{Difo}
 use Rattle.dif_codegen.specs.Steps.Drafts.{end_of_draft, Adds, ClosesBranch}
-use Rattle.dif_codegen.specs.Steps.Pieces.{Place, Maker, nothing, one_instr, behind, both, fork}
+use Rattle.dif_codegen.specs.Steps.Pieces.{Place, Maker, nothing, one_instr, past, both, fork}
 use Rattle.dif_codegen.specs.Steps.Pieces.{choice_code, next}
 
 -- a list after another
@@ -36,10 +36,10 @@ place_is pl pl' a b c = ap (λ n. record { at = n; texts = pl.texts; numbers = p
 grown : {A : Type 0} (x y p : List A) → y ≡ x ++ p → length y ≡ length x + length p
 grown x y p e = ap length e ∙ length-append x p
 
-moved : (g : Maker) (a b : Difo) → Adds g a b → end_of_draft b ≡ behind (end_of_draft a) (g (end_of_draft a))
+moved : (g : Maker) (a b : Difo) → Adds g a b → end_of_draft b ≡ past (end_of_draft a) (g (end_of_draft a))
 moved g a b h =
     let p = g (end_of_draft a) in
-    place_is (end_of_draft b) (behind (end_of_draft a) p) (grown a.code.items b.code.items p.code h.code) (grown a.texts.items b.texts.items p.texts h.texts) (grown a.numbers.items b.numbers.items p.numbers h.numbers)
+    place_is (end_of_draft b) (past (end_of_draft a) p) (grown a.code.items b.code.items p.code h.code) (grown a.texts.items b.texts.items p.texts h.texts) (grown a.numbers.items b.numbers.items p.numbers h.numbers)
 
 pub both_adds : (g h : Maker) (a b c : Difo) → Adds g a b → Adds h b c → Adds (both g h) a c
 both_adds g h a b c u v =
@@ -56,12 +56,12 @@ pub operands_adds : (g h k : Maker) (a b c : Difo) → Adds (both g h) a b → A
 operands_adds g h k a b c u v =
     let pl = end_of_draft a in
     let p = g pl in
-    let pl1 = behind pl p in
+    let pl1 = past pl p in
     let q = h pl1 in
-    let pl2 = behind pl1 q in
+    let pl2 = past pl1 q in
     let e : end_of_draft b ≡ pl2 =
     moved (both g h) a b u
-    ∙ place_is (behind pl ((both g h) pl)) pl2 (omega (arith, length-append p.code q.code)) (omega (arith, length-append p.texts q.texts)) (omega (arith, length-append p.numbers q.numbers)) in
+    ∙ place_is (past pl ((both g h) pl)) pl2 (omega (arith, length-append p.code q.code)) (omega (arith, length-append p.texts q.texts)) (omega (arith, length-append p.numbers q.numbers)) in
     record {
       code = ends _ _ _ _ _ u.code (v.code ∙ ap (λ pl. b.code.items ++ (k pl).code) e) ∙ ap (λ l. a.code.items ++ l) (append_assoc p.code q.code (k pl2).code);
       texts = ends _ _ _ _ _ u.texts (v.texts ∙ ap (λ pl. b.texts.items ++ (k pl).texts) e) ∙ ap (λ l. a.texts.items ++ l) (append_assoc p.texts q.texts (k pl2).texts);
@@ -87,8 +87,8 @@ fork_adds condition g h a b c d e z branch jump s0 u v s1 w x closed =
     let vc : c.code.items ≡ b.code.items ++ p.code = v.code ∙ ap (λ q. b.code.items ++ (g q).code) eb in
     let vt : c.texts.items ≡ b.texts.items ++ p.texts = v.texts ∙ ap (λ q. b.texts.items ++ (g q).texts) eb in
     let vn : c.numbers.items ≡ b.numbers.items ++ p.numbers = v.numbers ∙ ap (λ q. b.numbers.items ++ (g q).numbers) eb in
-    let ec : end_of_draft c ≡ behind pl1 p = moved g b c v ∙ ap (λ q. behind q (g q)) eb in
-    let pl3 = next (behind pl1 p) in
+    let ec : end_of_draft c ≡ past pl1 p = moved g b c v ∙ ap (λ q. past q (g q)) eb in
+    let pl3 = next (past pl1 p) in
     let ed : end_of_draft d ≡ pl3 = moved (one_instr (Ba 0)) c d w ∙ place_is _ (next (end_of_draft c)) refl (omega arith) (omega arith) ∙ ap next ec in
     let q = h pl3 in
     let xc : e.code.items ≡ d.code.items ++ q.code = x.code ∙ ap (λ r. d.code.items ++ (h r).code) ed in

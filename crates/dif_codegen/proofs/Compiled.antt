@@ -23,7 +23,7 @@ use Rattle.dif_machine.specs.Runs.{Reaches, Returns, ends}
 use Rattle.dif_machine.specs.Semantics as st
 use Rattle.dif_codegen.specs.Steps.Code.{code_of, object_code}
 use Rattle.dif_codegen.specs.Correct.{end_of_outcome, Computes}
-use Rattle.dif_codegen.specs.Steps.Pieces.{Place, one_instr, behind}
+use Rattle.dif_codegen.specs.Steps.Pieces.{Place, one_instr, past}
 use Rattle.dif_codegen.proofs.Leading.{Leads, step}
 use Rattle.dif_codegen.proofs.Levels.{level}
 use Rattle.dif_codegen.proofs.Simulation.{expr_leads}
@@ -61,10 +61,10 @@ module _ (slots : Slots) (e : Typed) (consistent : IsConsistent slots e) (few : 
   }
 
   front : Stands o pl (code_of e 1 pl)
-  front = stands_front o pl (code_of e 1 pl) (one_instr (Ret R1) (behind pl (code_of e 1 pl))) stands
+  front = stands_front o pl (code_of e 1 pl) (one_instr (Ret R1) (past pl (code_of e 1 pl))) stands
 
   back : slice_get o.code (0 + length (code_of e 1 pl).code) ≡ Some (Ret R1)
-  back = (stands_back o pl (code_of e 1 pl) (one_instr (Ret R1) (behind pl (code_of e 1 pl))) stands).code.0
+  back = (stands_back o pl (code_of e 1 pl) (one_instr (Ret R1) (past pl (code_of e 1 pl))) stands).code.0
 
   pub is_returning : IsReturning o (kind_of_type (type_of e))
   is_returning =

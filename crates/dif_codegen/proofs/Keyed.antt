@@ -32,7 +32,7 @@ use Rattle.dif_machine.specs.Sources as machine
 use Rattle.dif_machine.specs.Semantics as st
 use Rattle.dif_codegen.specs.Steps.Code.{register, push_of, pushing, element_code, fetching, saving}
 use Rattle.dif_codegen.specs.Steps.Code.{lowering}
-use Rattle.dif_codegen.specs.Steps.Pieces.{Place, Maker, one_instr, both, behind}
+use Rattle.dif_codegen.specs.Steps.Pieces.{Place, Maker, one_instr, both, past}
 use Rattle.dif_codegen.proofs.Leading.{Ready, Done, Usable, done_value, step, Leads, put_leads}
 use Rattle.dif_codegen.proofs.Leading.{keep_leads, none_leads}
 use Rattle.dif_codegen.proofs.Meaning.{kept_kind, stored_kind, on_kind_is, loads, stores}
@@ -103,13 +103,13 @@ module _ (o : Object) (f : Firing) where
       → (Stands o pl (g pl) → KeysLead keys r (pl.at + length (g pl).code) s vars z)
       → ((pl1 : Place) → Stands o pl1 (h pl1) → (key : List KeyPart) (vars1 : Variables) (t : Frame) → AreTyped slots vars1 → Keyed keys r pl1.at s t key → Leads o f r (pl1.at + length (h pl1).code) t vars1 (k key vars1))
       → Leads o f r (pl.at + length (both g h pl).code) s vars (with z k)
-  keys_both slots keys r pl g h s vars z k typed stands a b = by z typed (a (stands_front o pl (g pl) (h (behind pl (g pl))) stands))
+  keys_both slots keys r pl g h s vars z k typed stands a b = by z typed (a (stands_front o pl (g pl) (h (past pl (g pl))) stands))
     where
       by : (y : Outcome (List KeyPart)) → EndsTyped slots (λ key. Unit {0}) y → KeysLead keys r (pl.at + length (g pl).code) s vars y → Leads o f r (pl.at + length (both g h pl).code) s vars (with y k)
       by (Faults w) is l = l
       by (Has key w) is l =
           let p = g pl in
-          let pl1 = behind pl p in
+          let pl1 = past pl p in
           let q = h pl1 in
           let e : pl1.at + length q.code ≡ pl.at + length (p.code ++ q.code) = omega (arith, length-append p.code q.code) in
           keys_chain keys r pl1.at (pl.at + length (p.code ++ q.code)) s vars w key (k key w) l
@@ -135,7 +135,7 @@ module _ (o : Object) (f : Firing) where
       let v = there.0 in
       let p = part_of v in
       let s1 = with_tuple s (s.tuple ++ p ∷ []) in
-      let pl1 = behind pl (one_instr (push_of (type_of a) (register r)) pl) in
+      let pl1 = past pl (one_instr (push_of (type_of a) (register r)) pl) in
       let n : s.pc + 1 ≡ pl1.at = omega arith in
       let size : length s.tuple < 8 = let l = ap length tup in omega arith in
       let grown : length (done ++ p ∷ []) + count rest ≤ 8 = omega (arith, length-append done (p ∷ [])) in
@@ -159,7 +159,7 @@ module _ (o : Object) (f : Firing) where
       let v = vars.own x key in
       let p = pushing (more k ks) r pl in
       let i = Ldtaa x (register q) in
-      let pl1 = behind pl p in
+      let pl1 = past pl p in
       let after = stands_back o pl p (both (one_instr i) (one_instr Flushts) pl1) stands in
       let size : pl1.at + 2 ≡ pl.at + length (element_code (more k ks) r i pl).code = omega (arith, length-append p.code (i ∷ Flushts ∷ [])) in
       λ last c. pushes_on (more k ks) r pl s vars key [] few (omega arith) there ready.empty e (stands_front o pl p (both (one_instr i) (one_instr Flushts) pl1) stands) last
@@ -193,7 +193,7 @@ module _ (o : Object) (f : Firing) where
       let x : Var = record { slot = slot; kind = kind_of_type t } in
       let p = pushing (more k ks) r pl in
       let i = Sttaa x (register q) in
-      let pl1 = behind pl p in
+      let pl1 = past pl p in
       let new = set_in sp.Thread vars x key (storage.as_kind (kind_of_type t) v) in
       let after = stands_back o pl p (both (one_instr i) (one_instr Flushts) pl1) stands in
       let size : pl1.at + 2 ≡ pl.at + length (element_code (more k ks) r i pl).code = omega (arith, length-append p.code (i ∷ Flushts ∷ [])) in

@@ -31,7 +31,7 @@ use Rattle.d_types.specs.Storage as storage
 use Rattle.dif_machine.specs.Semantics as st
 use Rattle.dif_codegen.specs.Steps.Code.{register}
 use Rattle.dif_codegen.specs.Steps.Pieces as pieces
-use Rattle.dif_codegen.specs.Steps.Pieces.{Piece, Place, Maker, sequence, behind, both, fork}
+use Rattle.dif_codegen.specs.Steps.Pieces.{Piece, Place, Maker, sequence, past, both, fork}
 use Rattle.dif_codegen.specs.Steps.Pieces.{choice_code}
 use Rattle.dif_codegen.specs.Steps.Pieces.{bit_by, next}
 use Rattle.dif_codegen.proofs.Standing.{has_front, has_back, Stands, stands_front, stands_back}
@@ -134,7 +134,7 @@ module _ (o : Object) (f : Firing) where
       → Leads r (pl.at + length (both g h pl).code) s vars (with z k)
   both_leads r r1 pl g h s vars z k le stands a b =
       let p = g pl in
-      let pl1 = behind pl p in
+      let pl1 = past pl p in
       let q = h pl1 in
       let e : pl1.at + length q.code ≡ pl.at + length (p.code ++ q.code) = omega (arith, length-append p.code q.code) in
       by z refl (a (stands_front o pl p q stands))
@@ -143,7 +143,7 @@ module _ (o : Object) (f : Firing) where
       by (Faults w) is l = l
       by (Has x w) is l =
           let p = g pl in
-          let pl1 = behind pl p in
+          let pl1 = past pl p in
           let q = h pl1 in
           let e : pl1.at + length q.code ≡ pl.at + length (p.code ++ q.code) = omega (arith, length-append p.code q.code) in
           chain r r1 pl1.at (pl.at + length (p.code ++ q.code)) s vars w x (k x w) le l
@@ -207,7 +207,7 @@ module _ (o : Object) (f : Firing) where
   fork_leads r pl condition g h s vars known a b true e c is stands la lb =
       let pl1 = next pl in
       let p = g pl1 in
-      let pl2 = next (behind pl1 p) in
+      let pl2 = next (past pl1 p) in
       let q = h pl2 in
       let to = pl.at + 2 + length p.code in
       let end = to + length q.code in
@@ -223,7 +223,7 @@ module _ (o : Object) (f : Firing) where
   fork_leads r pl condition g h s vars known a b false e c is stands la lb =
       let pl1 = next pl in
       let p = g pl1 in
-      let pl2 = next (behind pl1 p) in
+      let pl2 = next (past pl1 p) in
       let q = h pl2 in
       let to = pl.at + 2 + length p.code in
       let end = to + length q.code in
@@ -246,7 +246,7 @@ module _ (o : Object) (f : Firing) where
   choice_leads r pl test condition g h s vars known a b way e stands op is la lb =
       let t = with_comparison s known in
       let p : Piece = pieces.one_instr test pl in
-      let pl1 = behind pl p in
+      let pl1 = past pl p in
       let there : s.pc + 1 ≡ pl1.at = omega arith in
       let last : pl1.at + length (fork condition g h pl1).code ≡ pl.at + length (choice_code test condition g h pl).code = omega arith in
       ends_at r _ _ s vars (cond way b a) last

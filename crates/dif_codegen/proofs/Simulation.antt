@@ -72,7 +72,7 @@ use Rattle.dif_codegen.specs.Steps.Code.{answering, measuring, joining, code_of,
 use Rattle.dif_codegen.specs.Steps.Pieces as pieces
 use Rattle.dif_codegen.specs.Steps.Pieces.{Piece, Place, Maker, one_instr, both, choice_code}
 use Rattle.dif_codegen.specs.Steps.Pieces.{bit_by}
-use Rattle.dif_codegen.specs.Steps.Pieces.{behind}
+use Rattle.dif_codegen.specs.Steps.Pieces.{past}
 use Rattle.dif_codegen.proofs.Leading.{Ready, Done, Usable, done_value, step, ready_on, same_ready}
 use Rattle.dif_codegen.proofs.Leading.{Leads, put_leads, none_leads, number_leads, text_leads}
 use Rattle.dif_codegen.proofs.Leading.{alu_leads, both_leads, both_number, both_text, choice_leads}
@@ -610,7 +610,7 @@ module _ (o : Object) (f : Firing) where
           λ last k. k s (record { at = e ∙ omega arith; there = refl; kept = λ k less. refl; long = ready.long; tuple = refl })
       keys_lead (more a rest) c base n r pl s vars same good low high ready e stands =
           let p = code_of a r pl in
-          let pl1 = behind pl p in
+          let pl1 = past pl p in
           let q = keys_code rest (r + 1) pl1 in
           let size : pl1.at + length q.code ≡ pl.at + length (p.code ++ q.code) = omega (arith, length-append p.code q.code) in
           keys_end o f (more a rest) r (pl1.at + length q.code) (pl.at + length (p.code ++ q.code)) s vars (keys_of f (more a rest) vars) size

@@ -63,7 +63,7 @@ use Rattle.dif_codegen.specs.Steps.Code.{answering, measuring, joining, code_of,
 use Rattle.dif_codegen.specs.Steps.Pieces as pieces
 use Rattle.dif_codegen.specs.Steps.Pieces.{Piece, Place, Maker, nothing, one_instr, both, fork}
 use Rattle.dif_codegen.specs.Steps.Pieces.{choice_code, bit_by}
-use Rattle.dif_codegen.specs.Steps.Pieces.{behind, next}
+use Rattle.dif_codegen.specs.Steps.Pieces.{past, next}
 use Rattle.dif_codegen.proofs.Levels.{level, level_at, first_of, level_front, level_more, nonzero}
 use Rattle.dif_codegen.proofs.Levels.{write_again, fine_none, fine_one, fine_two, fine_any}
 use Rattle.dif_codegen.proofs.Simulation.{need_pos, count_fits, count_type}
@@ -79,8 +79,8 @@ module _ (o : Object) where
   both_make : (pl : Place) (s t u : Shape) (g h : Maker) → Stands o pl (both g h pl) → (Stands o pl (g pl) → Makes pl s g t) → ((pl1 : Place) → Stands o pl1 (h pl1) → Makes pl1 t h u) → Makes pl s (both g h) u
   both_make pl s t u g h stands a b =
       let p = g pl in
-      let q = h (behind pl p) in
-      both_types o pl.at s p.code t q.code u (a (stands_front o pl p q stands)) (b (behind pl p) (stands_back o pl p q stands))
+      let q = h (past pl p) in
+      both_types o pl.at s p.code t q.code u (a (stands_front o pl p q stands)) (b (past pl p) (stands_back o pl p q stands))
 
   -- a number's and a text's place in their tables
   number_inside : (pl : Place) (word : ℕ) (d : Reg) → Stands o pl (pieces.number word d pl) → misses_table (Setx pl.numbers d) o ≡ false
@@ -123,7 +123,7 @@ module _ (o : Object) where
         let within : Within (level (ks ++ js)) s = record { registers = λ r x e. e; compared = λ e. refl; tuple = λ t e. e } in
         let pl2 = next pl1 in
         let p = g pl2 in
-        let pl3 = next (behind pl2 p) in
+        let pl3 = next (past pl2 p) in
         let q = h pl3 in
         let there : pl3.at ≡ pl1.at + 2 + length p.code = omega arith in
         let stp : Stands o pl2 p = record { code = has_front o.code (pl1.at + 1) p.code _ st1.code.1; texts = has_front o.texts pl1.texts p.texts q.texts st1.texts; numbers = has_front o.numbers pl1.numbers p.numbers q.numbers st1.numbers } in
@@ -319,8 +319,8 @@ module _ (o : Object) where
               (subst (λ m. HasKinds rest m (level ((ks ++ k ∷ []) ++ (kinds_of_typed rest ++ js)))) (above ks k) (keys_there rest (ks ++ k ∷ []) js (omega (arith, above ks k)))),
         )
 
-    keys_behind : (keys : Typeds) (ks js : List Kind) → length ks + count keys ≤ 7 → HasKinds keys (suc (length ks)) (level ((ks ++ kinds_of_typed keys) ++ js))
-    keys_behind keys ks js few = subst (λ l. HasKinds keys (suc (length ks)) (level l)) (sym (append_assoc ks (kinds_of_typed keys) js)) (keys_there keys ks js few)
+    keys_past : (keys : Typeds) (ks js : List Kind) → length ks + count keys ≤ 7 → HasKinds keys (suc (length ks)) (level ((ks ++ kinds_of_typed keys) ++ js))
+    keys_past keys ks js few = subst (λ l. HasKinds keys (suc (length ks)) (level l)) (sym (append_assoc ks (kinds_of_typed keys) js)) (keys_there keys ks js few)
 
     push_makes : (pc : ℕ) (t : DType) (a : Reg) (s : Shape) (done : List Kind) → at s.registers a ≡ Some (kind_of_type t) → length done < 8 → Types o pc (shape_with_tuple s (Some done)) (push_of t a ∷ []) (shape_with_tuple s (Some (done ++ kind_of_type t ∷ [])))
     push_makes pc (ty.Int t) a s done h less =
@@ -335,7 +335,7 @@ module _ (o : Object) where
     pushing_makes (more a rest) r s done pl few h =
         let k = kind_of_type (type_of a) in
         let i = push_of (type_of a) (register r) in
-        let pl1 = behind pl (one_instr i pl) in
+        let pl1 = past pl (one_instr i pl) in
         both_types o pl.at (shape_with_tuple s (Some done)) (i ∷ []) (shape_with_tuple s (Some (done ++ k ∷ []))) (pushing rest (r + 1) pl1).code (shape_with_tuple s (Some (done ++ k ∷ kinds_of_typed rest)))
         (push_makes pl.at (type_of a) (register r) s done h.0 (omega arith))
         (subst (λ l. Types o pl1.at (shape_with_tuple s (Some (done ++ k ∷ []))) (pushing rest (r + 1) pl1).code (shape_with_tuple s (Some l))) (append_assoc done (k ∷ []) (kinds_of_typed rest))
@@ -376,12 +376,12 @@ module _ (o : Object) where
     kinds_count (more a rest) = let e = kinds_count rest in omega arith
 
     -- the register after the keys
-    behind_is : (keys : Typeds) (ks : List Kind) → suc (length (ks ++ kinds_of_typed keys)) ≡ suc (length ks) + count keys
-    behind_is keys ks = omega (arith, length-append ks (kinds_of_typed keys), kinds_count keys)
+    past_is : (keys : Typeds) (ks : List Kind) → suc (length (ks ++ kinds_of_typed keys)) ≡ suc (length ks) + count keys
+    past_is keys ks = omega (arith, length-append ks (kinds_of_typed keys), kinds_count keys)
 
     at_place : (keys : Typeds) (ks : List Kind) (g : ℕ → Maker) (pl : Place) (s t : Shape) → (Stands o pl (g (suc (length (ks ++ kinds_of_typed keys))) pl) → Makes pl s (g (suc (length (ks ++ kinds_of_typed keys)))) t)
         → Stands o pl (g (suc (length ks) + count keys) pl) → Makes pl s (g (suc (length ks) + count keys)) t
-    at_place keys ks g pl s t h = subst (λ q. Stands o pl (g q pl) → Makes pl s (g q) t) (behind_is keys ks) h
+    at_place keys ks g pl s t h = subst (λ q. Stands o pl (g q pl) → Makes pl s (g q) t) (past_is keys ks) h
 
     lowering_makes : (keys : Typeds) (ks : List Kind) (k : Kind) (pl : Place) → suc (length ks) + count keys ≤ 7 → Stands o pl (lowering keys (register (suc (length (ks ++ kinds_of_typed keys)))) (register (suc (length ks))) pl)
         → Makes pl (level ((ks ++ kinds_of_typed keys) ++ k ∷ [])) (lowering keys (register (suc (length (ks ++ kinds_of_typed keys)))) (register (suc (length ks)))) (level (ks ++ k ∷ []))
@@ -390,7 +390,7 @@ module _ (o : Object) where
         let keys = more a rest in
         let js = ks ++ kinds_of_typed keys in
         let q = register (suc (length js)) in
-        let there = has js (omega (arith, behind_is keys ks)) k [] in
+        let there = has js (omega (arith, past_is keys ks)) k [] in
         let same = append_assoc ks (kinds_of_typed keys) (k ∷ []) in
         let i = Mov q (register (suc (length ks))) in
         let found : at (level (ks ++ (kinds_of_typed keys ++ k ∷ []))).registers q ≡ Some k = subst (λ l. at (level l).registers q ≡ Some k) same there in
@@ -404,7 +404,7 @@ module _ (o : Object) where
     fetch_makes keys ks w slot k pl few stands =
         let js = ks ++ kinds_of_typed keys in
         subst (λ l. Makes pl (level l) (fetching w keys (record { slot = slot; kind = k }) (suc (length ks)) (register (suc (length js)))) (level (js ++ k ∷ []))) (append-nil js)
-        (fetching_makes js (omega (arith, behind_is keys ks)) [] w keys slot k (suc (length ks)) pl (omega arith) (keys_behind keys ks [] (omega arith)) stands)
+        (fetching_makes js (omega (arith, past_is keys ks)) [] w keys slot k (suc (length ks)) pl (omega arith) (keys_past keys ks [] (omega arith)) stands)
 
     save_makes : (keys : Typeds) (ks : List Kind) (w : Space) (slot : ℕ) (k : Kind) (pl : Place) → suc (length ks) + count keys ≤ 7
         → Stands o pl (both (saving w keys (record { slot = slot; kind = k }) (suc (length ks)) (register (suc (length (ks ++ kinds_of_typed keys))))) (lowering keys (register (suc (length (ks ++ kinds_of_typed keys)))) (register (suc (length ks)))) pl)
@@ -412,7 +412,7 @@ module _ (o : Object) where
     save_makes keys ks w slot k pl few stands =
         let js = ks ++ kinds_of_typed keys in
         both_make pl (level (js ++ k ∷ [])) (level (js ++ k ∷ [])) (level (ks ++ k ∷ [])) (saving w keys (record { slot = slot; kind = k }) (suc (length ks)) (register (suc (length js)))) (lowering keys (register (suc (length js))) (register (suc (length ks)))) stands
-        (λ st1. saving_makes js (omega (arith, behind_is keys ks)) w keys slot k (suc (length ks)) pl (omega arith) (keys_behind keys ks (k ∷ []) (omega arith)) st1)
+        (λ st1. saving_makes js (omega (arith, past_is keys ks)) w keys slot k (suc (length ks)) pl (omega arith) (keys_past keys ks (k ∷ []) (omega arith)) st1)
         (λ pl1 st1. lowering_makes keys ks k pl1 few st1)
 
     -- ---- changes
@@ -601,12 +601,12 @@ module _ (o : Object) where
           (λ pl1 st1.
           at_place keys ks (λ q. both (code_of a q) (save q)) pl1 (level js) (level (ks ++ k ∷ []))
           (λ st2. both_make pl1 (level js) (level (js ++ k ∷ [])) (level (ks ++ k ∷ [])) (code_of a (suc (length js))) (save (suc (length js))) st2
-          (λ st3. as_kind (type_of a) x.holds c.2 js pl1.at (level js) _ (expr_makes a c.3 js pl1 (omega (arith, behind_is keys ks)) st3))
+          (λ st3. as_kind (type_of a) x.holds c.2 js pl1.at (level js) _ (expr_makes a c.3 js pl1 (omega (arith, past_is keys ks)) st3))
           (λ pl3 st3. save_makes keys ks x.space x.slot k pl3 (omega arith) st3)) st1)
       expr_makes (Update o' x keys a) c ks pl few stands =
           let n = count_fits keys 0 (need_of_keys 0 keys) (omega arith) (omega arith) in
           let m = need_pos a in
-          let b = behind_is keys ks in
+          let b = past_is keys ks in
           let r = suc (length ks) in
           let js = ks ++ kinds_of_typed keys in
           let k = kind_of_type x.holds in
@@ -640,7 +640,7 @@ module _ (o : Object) where
           (λ pl7 st7. subst (λ j. Makes pl7 (level (js ++ j ∷ [])) (save q) (level (ks ++ k ∷ []))) number (save_makes keys ks x.space x.slot k pl7 (omega arith) st7))))))) st1)
       expr_makes (Count step answer x keys) c ks pl few stands =
           let n = count_fits keys 0 (need_of_keys 0 keys) (omega arith) (omega arith) in
-          let b = behind_is keys ks in
+          let b = past_is keys ks in
           let r = suc (length ks) in
           let js = ks ++ kinds_of_typed keys in
           let k = kind_of_type x.holds in
@@ -662,7 +662,7 @@ module _ (o : Object) where
           (λ pl4 st4.
           both_make pl4 (level one) (level one) (level (ks ++ k ∷ [])) (saving x.space keys (var_of x) r (register q)) (both (answering answer step x.holds (register q)) (lowering keys (register q) (register r))) st4
           (λ st5. subst (λ j. Makes pl4 (level (js ++ j ∷ [])) (saving x.space keys (var_of x) r (register q)) (level (js ++ j ∷ []))) number
-          (saving_makes js (omega arith) x.space keys x.slot k r pl4 (omega arith) (keys_behind keys ks (k ∷ []) (omega arith)) st5))
+          (saving_makes js (omega arith) x.space keys x.slot k r pl4 (omega arith) (keys_past keys ks (k ∷ []) (omega arith)) st5))
           (λ pl5 st5.
           both_make pl5 (level one) (level one) (level (ks ++ k ∷ [])) (answering answer step x.holds (register q)) (lowering keys (register q) (register r)) st5
           (λ st6. answering_makes js (omega arith) pl5 answer step x.holds st6)

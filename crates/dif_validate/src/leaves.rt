@@ -45,7 +45,7 @@ impl Shape {
     }
 
     /// What is known after an instruction.
-    pub(crate) fn behind(self, i: Instr) -> Shape
+    pub(crate) fn after(self, i: Instr) -> Shape
         ensures { result ≡ spec.leaves i self }
     {
         match i {

@@ -55,12 +55,12 @@ fn send(ways: &mut Vec<Option<Shape>>, i: Instr, pc: usize, shape: Shape)
     ensures sent { (k : ℕ) → slice_index_or ways.new.items k None
         ≡ further (slice_index_or ways.old.items k None) (Some i) pc (Some shape) k }
 {
-    let behind = shape.behind(i);
+    let after = shape.after(i);
     if i.falls() {
-        meet_at(ways, pc + 1, behind.copy());
+        meet_at(ways, pc + 1, after.copy());
     }
     if let Some(to) = i.target() {
-        meet_at(ways, to, behind);
+        meet_at(ways, to, after);
     }
 }
 

@@ -33,8 +33,8 @@ abbrev pub expression : ℕ → Reader StmtTree
 expression n ts = (readers n).phrase ASSIGNMENT ts >>= λ x. Some (Expression x.0, x.1)
 
 abbrev pub stmt_by : ℕ → TokenKind → ℕ → List Token → Reader StmtTree
-stmt_by n (TokenKind.AggregationName name) line behind ts = aggregation n line name behind
-stmt_by n t line behind ts = expression n ts
+stmt_by n (TokenKind.AggregationName name) line later ts = aggregation n line name later
+stmt_by n t line later ts = expression n ts
 
 unfoldable pub stmt : ℕ → Reader StmtTree
 stmt n [] = None
@@ -171,9 +171,9 @@ declaration_by k n line ts = None
 -- ---- scripts
 
 abbrev pub item_by : ℕ → TokenKind → ℕ → List Token → Reader ItemTree
-item_by n (TokenKind.Word word) line behind ts =
-    declaration_by (word_kind word) n line behind >>= λ d. Some (Declared d.0, d.1)
-item_by n t line behind ts = clause_reader n ts >>= λ c. Some (Probing c.0, c.1)
+item_by n (TokenKind.Word word) line later ts =
+    declaration_by (word_kind word) n line later >>= λ d. Some (Declared d.0, d.1)
+item_by n t line later ts = clause_reader n ts >>= λ c. Some (Probing c.0, c.1)
 
 unfoldable pub item_reader : ℕ → Reader ItemTree
 item_reader n [] = None

@@ -40,15 +40,15 @@ sequence p q = record {
   numbers = p.numbers ++ q.numbers;
 }
 
-abbrev pub behind : Place → Piece → Place
-behind pl p = record {
+abbrev pub past : Place → Piece → Place
+past pl p = record {
   at = pl.at + length p.code;
   texts = pl.texts + length p.texts;
   numbers = pl.numbers + length p.numbers;
 }
 
 abbrev pub after_piece : Piece → Maker → Maker
-after_piece p h pl = sequence p (h (behind pl p))
+after_piece p h pl = sequence p (h (past pl p))
 
 abbrev pub both : Maker → Maker → Maker
 both g h pl = after_piece (g pl) h pl
@@ -69,7 +69,7 @@ fork_piece condition pl p q = record {
 }
 
 abbrev pub fork_after : Condition → Piece → Maker → Maker
-fork_after condition p h pl = fork_piece condition pl p (h (next (behind (next pl) p)))
+fork_after condition p h pl = fork_piece condition pl p (h (next (past (next pl) p)))
 
 abbrev pub fork : Condition → Maker → Maker → Maker
 fork condition g h pl = fork_after condition (g (next pl)) h pl

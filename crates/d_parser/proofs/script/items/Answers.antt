@@ -16,5 +16,5 @@ pub loop-preserved : goal.loop-preserved
 loop-preserved c =
     let some : 1 ≤ length c.loop.rest.now = grind (arith, common_steps, c.is_empty.ensures, c.if-is_empty.false) in
     let pushed : map item_of c.push.new.self.items ≡ map item_of c.loop.all.items ++ item_of c.in_ok-next.next ∷ [] = ap (map item_of) c.in_ok-push.ensures.items ∙ items_push c.loop.all.items c.in_ok-next.next in
-    ap (λ (all : List ItemTree). items_reader c.args.fuel (c.args.fuel - (c.loop.counter + 1)) all c.in_ok-next.behind.now) pushed
-    ∙ (sym (items_goes c.args.fuel c.args.fuel c.loop.counter (map item_of c.loop.all.items) c.loop.rest.now (item_of c.in_ok-next.next, c.in_ok-next.behind.now) c.loop-test.true some c.in_ok-next.ensures) ∙ c.loop.invariant)
+    ap (λ (all : List ItemTree). items_reader c.args.fuel (c.args.fuel - (c.loop.counter + 1)) all c.in_ok-next.later.now) pushed
+    ∙ (sym (items_goes c.args.fuel c.args.fuel c.loop.counter (map item_of c.loop.all.items) c.loop.rest.now (item_of c.in_ok-next.next, c.in_ok-next.later.now) c.loop-test.true some c.in_ok-next.ensures) ∙ c.loop.invariant)

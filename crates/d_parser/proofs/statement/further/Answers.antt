@@ -5,5 +5,5 @@ use Rattle.d_parser.proofs.statement.further.Goals as goal
 
 pub loop-preserved : goal.loop-preserved
 loop-preserved c =
-    sym (stmts_goes c.args.fuel c.args.fuel c.loop.counter (stmts_of c.loop.all.items) c.loop.rest.now c.in_ok-first.first.now (stmts_of c.in_ok-longer.longer.items, c.in_ok-longer.behind.now) c.loop-test.true (sym c.is_at.ensures ∙ c.if-is_at.false) c.in_ok-first.ensures c.in_ok-longer.ensures)
+    sym (stmts_goes c.args.fuel c.args.fuel c.loop.counter (stmts_of c.loop.all.items) c.loop.rest.now c.in_ok-first.first.now (stmts_of c.in_ok-longer.longer.items, c.in_ok-longer.later.now) c.loop-test.true (sym c.is_at.ensures ∙ c.if-is_at.false) c.in_ok-first.ensures c.in_ok-longer.ensures)
     ∙ c.loop.invariant
