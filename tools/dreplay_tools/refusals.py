@@ -1,7 +1,7 @@
 """Every line that dreplay writes to standard error: its cause, what to do, and examples.
 
 The one source of what dreplay-explain prints, of docs/ERRORS.md and of DIAGNOSTICS in
-man/dreplay.1; `tools/make-pages` writes the two pages. Code stands in backticks.
+man/dreplay.1; `tools/make-pages` writes the two pages. Code is in backticks.
 """
 import re
 from collections import namedtuple
@@ -35,7 +35,7 @@ LEX = [
         2,
         "BadByte",
         LINE,
-        "A byte that begins no token where it stands.",
+        "A byte that begins no token at its place.",
         (
             "There are no macro arguments such as `$1`, no character constants, no brackets in"
             " probe descriptions, no `=` outside of a body, and `#` only begins an option line. A"
@@ -135,8 +135,8 @@ PARSE = [
         "TooDeep",
         "",
         (
-            "More than 64 brackets `(` and `[` are open at once, or more than 1,024 tokens stand in"
-            " a row without `;`, `{` or `}`."
+            "More than 64 brackets `(` and `[` are open at once, or there are more than 1,024"
+            " tokens in a row without `;`, `{` or `}`."
         ),
         (
             "Split the expression. If the script is short, it is the trace that is so long: the"
@@ -175,7 +175,7 @@ TYPE = [
         LINE,
         (
             "An unknown word or function, a variable that is read before it is assigned or"
-            " declared, or a function that can't stand there."
+            " declared, or a function that isn't allowed there."
         ),
         (
             "Look for a misspelt built-in variable. Declare a variable at the top, as in `self"
@@ -345,9 +345,9 @@ TRACE = [
         "",
         "The trace has no header, or another one.",
         (
-            "Put the header first: its twenty names in their order. In a bundle a line `---` stands"
-            " before it, with `-s` none does. The trace has to be plain CSV in UTF-8, with commas:"
-            " not compressed, not UTF-16, no `;`."
+            "Put the header first: its twenty names in their order. In a bundle a line `---` comes"
+            " before it; with `-s` there is none. The trace has to be plain CSV in UTF-8, with"
+            " commas: not compressed, not UTF-16, no `;`."
         ),
         ("a file of no bytes", "the header alone, for a trace without firings"),
         ("`Number,CPU,..`", "the names in small letters"),
