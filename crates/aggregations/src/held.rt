@@ -53,7 +53,7 @@ impl Held {
         }
     }
 
-    // Takes so many arguments more, of which this is the number. A histogram stays as it is.
+    // Takes this many more arguments, all equal to this number. A histogram stays as it is.
     pub(crate) fn take(&mut self, number: i64, count: u64)
         requires { spec.count_of self.old + count ≤ 2 ^ 52 }
         ensures { self.new ≡ spec.after self.old number count }

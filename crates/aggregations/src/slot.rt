@@ -57,7 +57,7 @@ impl Slot {
     }
 
     /// Takes one argument for the key, which is cloned only where it has no entry yet. A map that
-    /// this makes hashes by the hash key.
+    /// is made here hashes by this key.
     pub(crate) fn add(
         &mut self,
         alloc: Global,

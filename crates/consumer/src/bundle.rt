@@ -36,7 +36,7 @@ pub fn divide(bundle: &[u8]) -> Division<'_>
     }
 }
 
-// The division of a bundle whose whole lines, of so many bytes, don't divide it.
+// Divides a bundle whose whole lines, the first `passed` bytes, have no dividing line.
 fn divide_last(bundle: &[u8], passed: usize) -> Division<'_>
     requires { IsUndivided bundle.now passed }
     ensures { Divides bundle.now result.script.now result.trace.now }

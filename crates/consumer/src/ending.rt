@@ -28,8 +28,7 @@ pub fn end<E: Sink>(errors: &mut E, answer: &Result<Replayed, ConsumeFault>) -> 
     status_at_end(answer)
 }
 
-// Writes the line of a fault in one piece. Where that fails the status still tells what the fault
-// was.
+// Writes the line of a fault in one piece. If that fails, the status still shows the fault.
 fn tell<E: Sink>(errors: &mut E, fault: &ConsumeFault)
     requires { IsFalse (E.seen errors.old).has_failed }
     ensures { IsSent (consume_fault_line fault.now ++ 10 ∷ [])

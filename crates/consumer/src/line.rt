@@ -74,7 +74,7 @@ fn push_place(line: &mut Line, place: Place)
     }
 }
 
-// Appends a number after what it is the number of.
+// Appends a label and its number.
 fn push_number<I: Integer>(line: &mut Line, label: &str, number: I)
     requires { array_string_len line.old + length label.now + 40 ≤ ROOM }
     ensures bytes { line.new.bytes ≡ line.old.bytes ++ label.now ++ I.text number }

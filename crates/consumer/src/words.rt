@@ -25,8 +25,8 @@ use thiserror::Error;
 /// What the words ask for.
 #[derive(Debug, Drop)]
 pub struct Asked {
-    /// The file that holds the script. Standard input is then the trace alone; without it, a
-    /// bundle.
+    /// The file that holds the script. Standard input is then the trace alone. Without a file it
+    /// is a bundle.
     pub file: Option<String>,
     /// How the run is carried out.
     pub plan: Plan,
@@ -231,8 +231,7 @@ fn plan_in(alloc: Global, help: Help, matches: &ArgMatches<'_>) -> Result<Plan, 
     Ok(Plan::new(workers, GroupPlan::Dealt(groups), engine))
 }
 
-// The mistake of a number that clap lets pass and that is none in its range. There is no such
-// number.
+// The mistake of a number that clap accepts although it is out of range. There is no such number.
 fn out_of_range(alloc: Global, help: Help) -> Result<UsageFault, AllocError>
     ensures { IfOk result (IsMistake ErrorKind.ValueValidation) }
 {

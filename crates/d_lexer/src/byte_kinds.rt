@@ -34,7 +34,7 @@ pub(crate) fn is_run_byte(b: u8) -> bool
     is_word_byte(b) || b == b'.' || b == b'-' || b == b'+' || b == b':' || b == b'*' || b == b'?'
 }
 
-/// How many bytes at the front go on a word.
+/// How many bytes at the front continue a word.
 pub(crate) fn word_len(bytes: &[u8]) -> usize
     ensures is { result ≡ scan.run_len spec.is_word_byte bytes.now }
     ensures within { result ≤ length bytes.now }

@@ -34,7 +34,7 @@ pub const MOST_IN_A_ROW: usize = 1024;
 /// The most clauses that a script may have.
 pub const MOST_CLAUSES: usize = 256;
 
-/// Stands for a line that isn't known yet, until `ending_on` fills it in.
+/// A line that isn't known yet; `ending_on` fills it in.
 pub(crate) const AT_END: usize = 0;
 
 impl ParseFault {

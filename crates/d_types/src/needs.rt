@@ -9,7 +9,7 @@ use crate::typed::{LogicOperator, TypedExpr};
 /// The most registers that an expression may need.
 pub const REGISTERS: usize = 6;
 
-/// Whether the keys fit, each value waiting for the keys after it.
+/// Whether the keys fit while each value is kept for the keys after it.
 #[cycle(needs)]
 fn keys_fit(keys: &[TypedExpr], registers: usize) -> bool
     ensures { result ≡ nat_le (spec.need_of_keys 0 (typeds_of keys.now)) registers }

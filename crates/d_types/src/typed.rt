@@ -60,7 +60,7 @@ pub enum Operation {
     Shift(ShiftOperator, IntType),
 }
 
-/// An operator on two truths, which gives 0 or 1.
+/// An operator on two truth values. It gives 0 or 1.
 #[derive(Clone, Copy, Debug, PartialEq, Eq)]
 pub enum LogicOperator {
     /// `&&`

@@ -9,7 +9,7 @@ ghost use Rattle.d_values.specs.Stores.{with_local, with_own};
 ghost use Rattle.d_values.specs.Words.{binary_of, complement_of, narrow, opposite_of, order_of};
 ghost use Rattle.d_values.specs.Words.{shift_of};
 
-/// What is wrapped into a type is a number of it, and the same modulo two to the width.
+/// A number wrapped into a type is of that type, and equals the number modulo two to the width.
 pub fn wrap_lies_in_type()
     ensures { (t : IntType) (z : ℤ) → IsWrapped t z (wrap t z) }
 {}
@@ -19,7 +19,7 @@ pub fn one_number()
     ensures { (t : IntType) (z n : ℤ) → IsWrapped t z n → n ≡ wrap t z }
 {}
 
-/// An operator on words is that on the whole numbers which they stand for, wrapped into the type;
+/// An operator on words is that on the whole numbers that they stand for, wrapped into the type;
 /// their order is that of the numbers, and conversion keeps a word's number, wrapped.
 pub fn operators_are_of_whole_numbers()
     ensures binary { (op : ArithmeticOperator) (t : IntType) (a b word : ℕ)

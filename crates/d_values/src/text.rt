@@ -70,7 +70,7 @@ impl Text {
         bytes
     }
 
-    /// Takes these bytes in place of its own, and the room of its own where they fit.
+    /// Takes these bytes in place of its own, reusing its room where they fit.
     ///
     /// ```text
     /// let mut text = Text::from_slice(alloc, b"cat")?;

@@ -49,8 +49,8 @@ fn put_escape(out: &mut Vec<u8>, byte: u8) -> Result<(), AllocError>
     }
 }
 
-// Whether a byte is ASCII and stays as it is. One test for all: texts differ, so several branches
-// would often be guessed wrong.
+// Whether a byte is ASCII and stays as it is. One test for all, since several branches would often
+// be mispredicted.
 fn is_plain(byte: u8) -> bool
     ensures plain { result ≡ true → spec.json_escape byte ≡ byte ∷ [] }
     ensures ascii { result ≡ true → byte < 128 }

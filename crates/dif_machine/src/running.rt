@@ -56,7 +56,7 @@ fn integer_of(value: ValueRef<'_>) -> Option<ValueRef<'static>>
     }
 }
 
-// What an instruction loads into the first free register where no copy of it is needed.
+// The value that an instruction loads into the first free register, if no copy of it is needed.
 #[inline(always)]
 fn source<'a>(
     alloc: Global,

@@ -39,7 +39,7 @@ pub trait Clause {
 
     /// Runs it for a firing: notes in the piece what its statements do, and returns whether it
     /// exits. At a division by 0 the run ends, and a line that names the firing and the clause's
-    /// place, from 1, stands in place of its texts.
+    /// place, from 1, takes the place of its texts.
     fn run(&self, place: u64, scene: &mut Scene<'_>, piece: &mut Piece) -> Result<bool, AllocError>
         requires places { places self.now ≤ length (functions_of piece.old.table) }
         requires room { count_held piece.old.table + most self.now ≤ 2 ^ 52 }

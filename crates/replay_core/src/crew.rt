@@ -57,7 +57,7 @@ pub(crate) fn in_threads<R: Threads + Wait + Sync, L: Lanes + Sync, G: Gate + Sy
         (Gives span (L.runs shift.now.lanes.now) shift.now.groups.now shift.now.trace.now)
         board.now)) v.items) }
 {
-    // Callers are told nothing of a closure that captures what has a lifetime in its type.
+    // Callers know nothing of a closure that captures a value whose type has a lifetime.
     let (alloc, lanes, trace) = (shift.alloc, shift.lanes, shift.trace);
     let (selections, groups, gate) = (shift.selections, shift.groups, shift.gate);
     thread::scope(

@@ -1,4 +1,4 @@
-//! The plain evaluator of typed expressions. `docs/MEANING.md` tells what it computes.
+//! The plain evaluator of typed expressions. `docs/MEANING.md` says what it computes.
 
 mod built_in;
 mod changes;

@@ -45,7 +45,7 @@ pub(crate) fn is_literal(pattern: &[u8]) -> bool
     pattern.iter().all(|p| *p != b'*' && *p != b'?')
 }
 
-// What stands before the first star has one place. After it a run between two stars takes the
+// What comes before the first star has one place. After it a run between two stars takes the
 // first place where it fits: wherever the rest of the pattern matches after a later place, it also
 // matches after the first.
 fn is_wild_match(pattern: &[u8], text: &[u8]) -> bool
@@ -57,7 +57,7 @@ fn is_wild_match(pattern: &[u8], text: &[u8]) -> bool
     }
 }
 
-// Whether the pattern matches what stands after some of the bytes.
+// Whether the pattern matches what comes after some of the bytes.
 fn is_match_anywhere(pattern: &[u8], text: &[u8]) -> bool
     ensures { IsTrue result ↔ Matches (42 ∷ pattern.now) text.now }
 {
@@ -73,7 +73,7 @@ fn is_match_anywhere(pattern: &[u8], text: &[u8]) -> bool
     ends(pattern, text)
 }
 
-// What stands after the first place where the run fits.
+// What comes after the first place where the run fits.
 fn behind_first<'a>(run: &[u8], text: &'a [u8]) -> Option<&'a [u8]>
     requires { All (λ p. p ≢ 42) run.now }
     ensures { MatchOption result ((after : List ℕ) → ¬ Matches (42 ∷ (run.now ++ after)) text.now)

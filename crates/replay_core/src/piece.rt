@@ -88,7 +88,7 @@ impl Piece {
     }
 
     /// Notes a fault of the clause at this place, from 1, at the firing of this number: its line
-    /// stands in place of the texts after the first so many. Contributions and an exit stay.
+    /// takes the place of the texts after the first `before`. Contributions and an exit stay.
     pub fn note_fault(&mut self, number: u64, place: u64, before: usize) -> Result<(), AllocError>
         ensures table { self.new.table ≡ self.old.table }
         ensures taken { self.new.taken.items ≡ self.old.taken.items }

@@ -26,7 +26,7 @@ pub(crate) struct Round {
     pub(crate) least: u64,
 }
 
-/// Runs so many workers over all groups.
+/// Runs this many workers over all groups.
 pub(crate) fn in_round<R: Threads + Wait + Sync, L: Lanes + Sync, G: Gate + Sync>(
     rt: &R,
     shift: &Shift<L, G>,

@@ -9,7 +9,7 @@ use firing_reader::Firing;
 pub(crate) enum Span {
     /// All of them.
     All,
-    /// Those up to a number, and END, which has the other number.
+    /// The firings up to `last`, and END, whose number is `end`.
     UpTo { last: u64, end: u64 },
     /// Of each group those up to its first that exits, or to the first exit that another worker
     /// found.

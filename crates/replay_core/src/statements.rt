@@ -1,4 +1,4 @@
-//! Runs of a clause: its predicate and its statements. `docs/MEANING.md` tells what they make.
+//! Runs of a clause: its predicate and its statements. `docs/MEANING.md` says what they make.
 
 mod clause;
 mod expression;

@@ -1,4 +1,4 @@
-//! The clauses of a firing on the variables of its thread.
+//! Runs the clauses of a firing over its thread's variables.
 
 ghost use Rattle.std.specs.Prelude.{◌≡◌, ◌+◌, ◌*◌, ◌<◌, ◌≤◌, ◌^◌, ℤ, List, All, IfOk, MatchOption};
 ghost use Rattle.std.specs.Prelude.{OnOk, is_some, length, if◌then◌else◌, true};

@@ -10,7 +10,7 @@ pub const WIDEST: usize = 50;
 
 const BLANKS: [u8; WIDEST] = [b' '; WIDEST];
 
-/// Puts so many spaces.
+/// Puts this many spaces.
 pub fn put_spaces(out: &mut Vec<u8>, count: usize) -> Result<(), AllocError>
     requires { count ≤ 50 }
     ensures { OnOk result (out.new.items ≡ out.old.items ++ spaces count) }

@@ -115,7 +115,7 @@ fn put_label(out: &mut Vec<u8>, scale: Scale, bucket: u32) -> Result<(), AllocEr
     Ok(())
 }
 
-// Puts a bar of so many signs.
+// Puts a bar of this many signs.
 fn put_signs(out: &mut Vec<u8>, signs: usize) -> Result<(), AllocError>
     requires { signs ≤ 40 }
     ensures { OnOk result (out.new.items ≡ out.old.items ++ at_left 40 (replicate signs 64)) }

@@ -26,7 +26,7 @@ const BLOCK: usize = 512;
 // With fewer entries threads cost more than they save.
 const LEAST_FOR_THREADS: usize = 4 * BLOCK;
 
-// How many entries are shared at once, so that their bytes stand twice in memory for so many alone.
+// How many entries are shared at once: only their bytes are in memory twice.
 const ROUND: usize = 64 * BLOCK;
 
 /// The bytes that show what a run of the script made: its texts, and after them each aggregation

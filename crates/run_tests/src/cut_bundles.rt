@@ -55,7 +55,7 @@ const BUNDLES: [(&[u8], &str); 6] = [
     ),
 ];
 
-// A plan of so many workers, at most two.
+// A plan with this many workers, at most two.
 fn plan_of(workers: u32) -> Plan
     ensures { IsInBounds result }
 {
@@ -120,7 +120,7 @@ fn a_bundle_may_be_cut_anywhere(rt: HostRuntime) -> Result<(), Fail> {
     Ok(())
 }
 
-// A bundle whose script has so many bytes, most of which are blanks, or line feeds.
+// A bundle whose script has this many bytes, most of which are blanks, or line feeds.
 fn long_bundle(alloc: Global, bytes: usize, filler: u8) -> Result<Vec<u8>, Fail> {
     let mut bundle = Vec::new(alloc);
     bundle.extend_from_slice(b"BEGIN { trace(1); }")?;

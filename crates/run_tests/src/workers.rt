@@ -84,7 +84,7 @@ impl Meeting {
         }
     }
 
-    // Comes, and waits until two have, for so many looks at most.
+    // Comes, and waits until two have, for at most this many looks.
     fn meet(&self) {
         let _ = self.came.fetch_add(1, Ordering::SeqCst);
         for _ in 0..MOST_LOOKS {

@@ -5,8 +5,8 @@ use std::alloc::{AllocError, Global};
 use std::test::Fail;
 use std::thread;
 
-// A number of times; what is opened that often, is inside once and is closed that often, in trace(
-// and ); and how that prints: at a limit.
+// How often something repeats; what opens, what is inside and what closes; and how that prints at a
+// limit.
 const DEEPEST: [(usize, [&str; 3], [&str; 3]); 6] = [
     // 1,024 tokens in a row, with trace, its parentheses and what is inside
     (1020, ["~", "5", ""], ["(~", "5", ")"]),

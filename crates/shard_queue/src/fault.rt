@@ -14,7 +14,7 @@ pub enum GroupFault {
     /// A thread that fired and is in no list.
     #[error("thread {thread} is in no list")]
     Missing { thread: i32 },
-    /// A thread that stands in the lists a second time.
+    /// A thread that is in the lists a second time.
     #[error("thread {thread} is listed twice")]
     Doubled { thread: i32 },
     /// A thread in a list that didn't fire.

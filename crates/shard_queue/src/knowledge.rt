@@ -1,4 +1,4 @@
-//! What seats know. No value of these types is ever made: they stand in proofs alone.
+//! What seats know. No value of these types is ever made: they are in proofs alone.
 
 use std::collections::LinkedList;
 

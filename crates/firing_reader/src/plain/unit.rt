@@ -11,7 +11,7 @@ fn without_lowest(marks: u64) -> u64 {
     marks & marks.wrapping_sub(1)
 }
 
-/// How many bytes there are up to the third comma, it included; 0 where there are fewer commas.
+/// How many bytes there are up to and including the third comma; 0 where there are fewer commas.
 #[inline(always)]
 pub(crate) fn end_of_three(bytes: &[u8]) -> usize
     ensures { result ≤ length bytes.now }
@@ -47,7 +47,7 @@ pub(crate) fn end_of_four(bytes: &[u8]) -> usize
     end_after(bytes, 4)
 }
 
-// How many bytes there are up to this comma, it included, looked for byte by byte.
+// How many bytes there are up to and including this comma, looked for byte by byte.
 #[cold]
 #[inline(never)]
 fn end_after(bytes: &[u8], commas: u32) -> usize

@@ -28,7 +28,7 @@ impl Spare {
         &mut self.frame
     }
 
-    /// A key of so many parts, whatever they are: one that was kept, or else a new one.
+    /// A key of this many parts, whatever they are: one that was kept, or else a new one.
     pub fn take(&mut self, parts: usize) -> Result<Key, AllocError>
         ensures { IfOk result (λ k. length k ≡ parts) }
     {

@@ -12,7 +12,7 @@ use crate::statements::expression::Expression;
 use crate::statements::statement::Statement;
 use std::alloc::AllocError;
 
-// The statements, in order, up to the first that faults: its line then stands in place of the texts
+// The statements, in order, up to the first that faults: its line then takes the place of the texts
 // of all.
 fn run_statements<X: Expression, S: Statement<X>>(
     statements: &[S],

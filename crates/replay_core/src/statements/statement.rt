@@ -124,8 +124,8 @@ pub(crate) trait Statement<X: Expression> {
     /// The statement with its expressions.
     ghost form: { Self → ActionOf X (List X) };
 
-    /// Runs it: notes what it does beside its assignments, and returns whether it exits. Refused at
-    /// a division by 0: it then does nothing but the assignments that it had made.
+    /// Runs it: notes what it does beside its assignments, and returns whether it exits. At a
+    /// division by 0 it fails, and only the assignments made so far have effect.
     fn perform(&self, scene: &mut Scene<'_>, piece: &mut Piece) -> Result<bool, EvalFault>
         requires place { place_in (form self.now) ≤ length (functions_of piece.old.table) }
         requires room { count_held piece.old.table < 2 ^ 52 }
