@@ -41,8 +41,8 @@ pub struct Ran {
 }
 
 /// Runs a script over a trace by this many workers, 1 to 16, each group by one of them, and makes
-/// one whole of what they made. Where a firing exits, the run ends with the first that does, and END.
-/// Err where memory or a thread was refused.
+/// one whole of what they made. Where a firing exits, the run ends with the first that does, and
+/// END. Err where memory or a thread was refused.
 ///
 /// ```text
 /// let lanes = DifLanes::new(hash_key, &program);

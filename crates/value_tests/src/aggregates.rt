@@ -4,7 +4,7 @@ ghost use Rattle.aggregations.specs.Table.{functions_of, count_held};
 use aggregations::{AggFn, AggTable, LinearRange, Partial};
 use d_values::{Key, KeyPart, Text};
 use keyed_hash::HashKey;
-use std::alloc::Global;
+use std::alloc::{AllocError, Global};
 use std::process::Abort;
 use std::test::Fail;
 
@@ -38,7 +38,7 @@ fn has_counts(
 }
 
 // The key with this one text.
-fn key_of(alloc: Global, name: &str) -> Result<Key, Fail> {
+fn key_of(alloc: Global, name: &str) -> Result<Key, AllocError> {
     let mut key = Key::new(alloc);
     key.push(KeyPart::Name(Text::from_slice(alloc, name.as_bytes())?))?;
     Ok(key)
