@@ -2,16 +2,16 @@
 use Rattle.std.proofs.Common.{◌≡◌, ◌+◌, ◌<◌, ℕ, List, [], ◌++◌, sym, ap, ◌∙◌, subst, append_assoc}
 use Rattle.std.proofs.Common.{append-nil, inl, length, refl, take}
 use Rattle.std.specs.Prelude.{IfOk, IfSome, Option, Some, None, OnOk, Result, Ok, Err}
+use Rattle.firing_reader.specs.Blocks.{Taken}
 use Rattle.d_lexer.specs.declared.fault.LexFault.TheVariants as lex
 use Rattle.report.specs.Intake.{TakesBlocks}
 use Rattle.consumer.specs.Steps.Beginnings.{IsDividedAt, IsUndivided}
-use Rattle.consumer.specs.Blocks.{HasTaken, IsTakenApart, TakesTrace, reads_as}
+use Rattle.consumer.specs.Blocks.{HasTaken, IsTakenApart, TakesTrace}
 use Rattle.consumer.specs.Bundle.{Divides}
 use Rattle.consumer.specs.Judging.{IsJudged}
-use Rattle.consumer.specs.Vocabulary.{Lex, Refusal, TypedScript, trace_of}
+use Rattle.consumer.specs.Vocabulary.{Lex, Refusal, TypedScript, reads, trace_of}
 use Rattle.consumer.specs.declared.intake.BundleIntake.{BundleIntake}
 use Rattle.consumer.specs.declared.intake.TraceIntake.{TraceIntake}
-use Rattle.consumer.specs.declared.trace_bytes.TraceBytes.{TraceBytes}
 use Rattle.consumer.proofs.LongScripts.{long_script}
 
 -- what follows of a value follows of that of a result
@@ -30,20 +30,20 @@ on_ok_both (Err e) P Q R f h k = tt
 -- ---- a trace
 
 -- what a trace reads as after more bytes
-abbrev GoesOn : TraceBytes → List ℕ → TraceBytes → Type 0
-GoesOn old block new = (rest : List ℕ) → reads_as new rest ≡ reads_as old (block ++ rest)
+abbrev GoesOn : Taken → List ℕ → Taken → Type 0
+GoesOn old block new = (rest : List ℕ) → reads new rest ≡ reads old (block ++ rest)
 
 -- a script that was accepted has its trace go on
-pub trace_goes : {E : Type 0} (r : Result (Unit {0}) E) (script : Result TypedScript Refusal) (old new : TraceBytes) (block : List ℕ)
+pub trace_goes : {E : Type 0} (r : Result (Unit {0}) E) (script : Result TypedScript Refusal) (old new : Taken) (block : List ℕ)
     → OnOk r (GoesOn old block new) → OnOk r (TakesTrace script script old new block)
 trace_goes r script old new block h = on_ok r _ _ (λ (k : GoesOn old block new). record { same = refl; taken = on_ok_any script _ k }) h
 
 -- a script that was refused has none
-pub no_trace : (script : Result TypedScript Refusal) (fault : Refusal) (trace : TraceBytes) (block : List ℕ) → script ≡ Err fault → TakesTrace script script trace trace block
+pub no_trace : (script : Result TypedScript Refusal) (fault : Refusal) (trace : Taken) (block : List ℕ) → script ≡ Err fault → TakesTrace script script trace trace block
 no_trace script fault trace block is = record { same = refl; taken = rw is tt }
 
 -- blocks that come one after the other are one
-pub trace_takes : (old : TraceIntake) (bytes : List ℕ) (new : TraceIntake)
+pub trace_takes : {R : Type 0} (old : TraceIntake R) (bytes : List ℕ) (new : TraceIntake R)
     → TakesBlocks (λ a block b. TakesTrace a.script b.script a.trace b.trace block) old bytes new
     → TakesTrace old.script new.script old.trace new.trace bytes
 trace_takes old b n TakesBlocks.none = record { same = refl; taken = on_ok_any old.script _ (λ rest. refl) }
@@ -53,26 +53,26 @@ trace_takes old b n (TakesBlocks.more front block mid new front_taken step) =
     record {
       same = step.same ∙ before.same;
       taken = on_ok_both old.script (GoesOn old.trace front mid.trace) (GoesOn mid.trace block new.trace) (GoesOn old.trace (front ++ block) new.trace)
-          (λ h k rest. k rest ∙ h (block ++ rest) ∙ ap (reads_as old.trace) (sym (append_assoc front block rest)))
+          (λ h k rest. k rest ∙ h (block ++ rest) ∙ ap (reads old.trace) (sym (append_assoc front block rest)))
           before.taken after;
     }
 
 -- from the start of a trace
-pub trace_begun : (old new : TraceIntake) (first : List ℕ) → ((rest : List ℕ) → reads_as old.trace rest ≡ trace_of rest)
-    → TakesTrace old.script new.script old.trace new.trace first → OnOk new.script ((rest : List ℕ) → reads_as new.trace rest ≡ trace_of (first ++ rest))
+pub trace_begun : {R : Type 0} (old new : TraceIntake R) (first : List ℕ) → ((rest : List ℕ) → reads old.trace rest ≡ trace_of rest)
+    → TakesTrace old.script new.script old.trace new.trace first → OnOk new.script ((rest : List ℕ) → reads new.trace rest ≡ trace_of (first ++ rest))
 trace_begun old new first start h =
     rw h.same (on_ok old.script (GoesOn old.trace first new.trace) _ (λ k rest. k rest ∙ start (first ++ rest)) h.taken)
 
 -- to its end
-pub trace_ended : (old new : TraceIntake) (bytes : List ℕ) → ((rest : List ℕ) → reads_as old.trace rest ≡ trace_of rest)
-    → TakesTrace old.script new.script old.trace new.trace bytes → OnOk new.script (reads_as new.trace [] ≡ trace_of bytes)
+pub trace_ended : {R : Type 0} (old new : TraceIntake R) (bytes : List ℕ) → ((rest : List ℕ) → reads old.trace rest ≡ trace_of rest)
+    → TakesTrace old.script new.script old.trace new.trace bytes → OnOk new.script (reads new.trace [] ≡ trace_of bytes)
 trace_ended old new bytes start h =
-    on_ok new.script ((rest : List ℕ) → reads_as new.trace rest ≡ trace_of (bytes ++ rest)) _ (λ k. k [] ∙ ap trace_of (append-nil bytes)) (trace_begun old new bytes start h)
+    on_ok new.script ((rest : List ℕ) → reads new.trace rest ≡ trace_of (bytes ++ rest)) _ (λ k. k [] ∙ ap trace_of (append-nil bytes)) (trace_begun old new bytes start h)
 
 -- ---- a bundle
 
 -- its script is told, and its trace goes on
-pub apart_goes : (bytes block rest : List ℕ) (script script' : Result TypedScript Refusal) (trace trace' : TraceBytes) → TakesTrace script script' trace trace' block
+pub apart_goes : (bytes block rest : List ℕ) (script script' : Result TypedScript Refusal) (trace trace' : Taken) → TakesTrace script script' trace trace' block
     → IsTakenApart (bytes ++ (block ++ rest)) script trace (block ++ rest) → IsTakenApart ((bytes ++ block) ++ rest) script' trace' rest
 apart_goes bytes block rest script script' trace trace' h p = record {
   script = p.script;
@@ -83,7 +83,7 @@ apart_goes bytes block rest script script' trace trace' h p = record {
 }
 
 -- where the trace is taken the bundle is
-pub bundle_goes : {E : Type 0} (r : Result (Unit {0}) E) (first : List ℕ) (old new : TraceIntake) (o : Option TraceIntake) (block : List ℕ) → o ≡ Some old
+pub bundle_goes : {R : Type 0} {E : Type 0} (r : Result (Unit {0}) E) (first : List ℕ) (old new : TraceIntake R) (o : Option (TraceIntake R)) (block : List ℕ) → o ≡ Some old
     → OnOk r (TakesTrace old.script new.script old.trace new.trace block)
     → OnOk r ((bytes : List ℕ) → HasTaken first o bytes → HasTaken first (Some new) (bytes ++ block))
 bundle_goes r first old new o block is h =
@@ -91,7 +91,7 @@ bundle_goes r first old new o block is h =
     apart_goes bytes block rest old.script new.script old.trace new.trace k (had (block ++ rest))) h)
 
 -- the first bytes, of which some may tell the script
-pub bundle_told : (first first' seen block : List ℕ) (o told : Option TraceIntake) → o ≡ None → first' ≡ first ++ block → seen ≡ first'
+pub bundle_told : {R : Type 0} (first first' seen block : List ℕ) (o told : Option (TraceIntake R)) → o ≡ None → first' ≡ first ++ block → seen ≡ first'
     → IfSome told (λ t. (rest : List ℕ) → IsTakenApart (seen ++ rest) t.script t.trace rest)
     → (bytes : List ℕ) → HasTaken first o bytes → HasTaken first' told (bytes ++ block)
 bundle_told first first' seen block o None none is all h bytes had =
@@ -103,7 +103,7 @@ bundle_told first first' seen block o (Some t) none is same h bytes had =
     λ rest. subst (λ b. IsTakenApart (b ++ rest) t.script t.trace rest) all (h rest)
 
 -- blocks that come one after the other are one
-pub bundle_takes : (old : BundleIntake) (input : List ℕ) (new : BundleIntake)
+pub bundle_takes : {R : Type 0} (old : BundleIntake R) (input : List ℕ) (new : BundleIntake R)
     → TakesBlocks (λ a block b. (bytes : List ℕ) → HasTaken a.first.items a.trace bytes → HasTaken b.first.items b.trace (bytes ++ block)) old input new
     → (bytes : List ℕ) → HasTaken old.first.items old.trace bytes → HasTaken new.first.items new.trace (bytes ++ input)
 bundle_takes old b n TakesBlocks.none bytes had = subst (HasTaken old.first.items old.trace) (sym (append-nil bytes)) had
@@ -113,26 +113,26 @@ bundle_takes old b n (TakesBlocks.more front block mid new front_taken step) byt
 -- ---- what tells its script
 
 -- a dividing line
-pub told_divided : (first : List ℕ) (count : ℕ) (trace : List ℕ) (t : TraceIntake) → IsDividedAt first count trace → IsJudged (take count first) t.script
-    → OnOk t.script ((rest : List ℕ) → reads_as t.trace rest ≡ trace_of (trace ++ rest)) → (rest : List ℕ) → IsTakenApart (first ++ rest) t.script t.trace rest
+pub told_divided : {R : Type 0} (first : List ℕ) (count : ℕ) (trace : List ℕ) (t : TraceIntake R) → IsDividedAt first count trace → IsJudged (take count first) t.script
+    → OnOk t.script ((rest : List ℕ) → reads t.trace rest ≡ trace_of (trace ++ rest)) → (rest : List ℕ) → IsTakenApart (first ++ rest) t.script t.trace rest
 told_divided first count trace t d judged read rest = record {
   script = take count first;
   trace = trace ++ rest;
   divides = d.divides rest;
   is_judged = judged;
-  read = on_ok t.script ((rest : List ℕ) → reads_as t.trace rest ≡ trace_of (trace ++ rest)) _ (λ k. k rest) read;
+  read = on_ok t.script ((rest : List ℕ) → reads t.trace rest ≡ trace_of (trace ++ rest)) _ (λ k. k rest) read;
 }
 
 -- its length
-pub told_long : (first : List ℕ) (count : ℕ) (t : TraceIntake) → IsUndivided first count → 65540 < length first → t.script ≡ Err (Lex lex.TooLong)
+pub told_long : {R : Type 0} (first : List ℕ) (count : ℕ) (t : TraceIntake R) → IsUndivided first count → 65540 < length first → t.script ≡ Err (Lex lex.TooLong)
     → (rest : List ℕ) → IsTakenApart (first ++ rest) t.script t.trace rest
 told_long first count t u long is rest =
     let (script, trace, divides, more) = long_script first count 65536 u long rest in
     record { script = script; trace = trace; divides = divides; is_judged = rw is (inl (refl, more)); read = rw is tt }
 
 -- its end
-pub told_whole : {E : Type 0} (r : Result TraceIntake E) (first script trace : List ℕ) (o : Option TraceIntake) → o ≡ None → Divides first script trace
-    → IfOk r (λ t. IsJudged script t.script) → IfOk r (λ t. OnOk t.script ((rest : List ℕ) → reads_as t.trace rest ≡ trace_of (trace ++ rest)))
+pub told_whole : {R : Type 0} {E : Type 0} (r : Result (TraceIntake R) E) (first script trace : List ℕ) (o : Option (TraceIntake R)) → o ≡ None → Divides first script trace
+    → IfOk r (λ t. IsJudged script t.script) → IfOk r (λ t. OnOk t.script ((rest : List ℕ) → reads t.trace rest ≡ trace_of (trace ++ rest)))
     → IfOk r (λ t. (bytes : List ℕ) → HasTaken first o bytes → IsTakenApart bytes t.script t.trace [])
 told_whole (Err e) first script trace o none divides judged read = tt
 told_whole (Ok t) first script trace o none divides judged read = λ bytes had.
@@ -143,11 +143,11 @@ told_whole (Ok t) first script trace o none divides judged read = λ bytes had.
       trace = trace;
       divides = divides;
       is_judged = judged;
-      read = on_ok t.script ((rest : List ℕ) → reads_as t.trace rest ≡ trace_of (trace ++ rest)) _ (λ k. k [] ∙ ap trace_of (append-nil trace)) read;
+      read = on_ok t.script ((rest : List ℕ) → reads t.trace rest ≡ trace_of (trace ++ rest)) _ (λ k. k [] ∙ ap trace_of (append-nil trace)) read;
     })
 
 -- it was told before
-pub told_before : (first : List ℕ) (o : Option TraceIntake) (t : TraceIntake) → o ≡ Some t → (bytes : List ℕ) → HasTaken first o bytes → IsTakenApart bytes t.script t.trace []
+pub told_before : {R : Type 0} (first : List ℕ) (o : Option (TraceIntake R)) (t : TraceIntake R) → o ≡ Some t → (bytes : List ℕ) → HasTaken first o bytes → IsTakenApart bytes t.script t.trace []
 told_before first o t is bytes had =
     let had' : (rest : List ℕ) → IsTakenApart (bytes ++ rest) t.script t.trace rest = rw is at had in
     subst (λ b. IsTakenApart b t.script t.trace []) (append-nil bytes) (had' [])

@@ -1,11 +1,11 @@
 //! From the bytes in to the bytes out.
 
 ghost use Rattle.std.specs.Prelude.{◌≡◌, ◌≢◌, [], List, ℕ, Err, IfErr, IsFalse, OnOk};
-ghost use Rattle.consumer.specs.{Blocks.reads_as, Bundle.Divides, Plans.IsInBounds};
+ghost use Rattle.consumer.specs.{Bundle.Divides, Plans.IsInBounds};
 ghost use Rattle.consumer.specs.Consuming.{HoldsOfInput, IsReadToEnd, WritesAnswer};
 ghost use Rattle.consumer.specs.Consuming.{fault_of_reading};
 ghost use Rattle.consumer.specs.{Judging.IsJudged, Replaying.IsReplay};
-ghost use Rattle.consumer.specs.Vocabulary.{Memory, Refused, trace_of};
+ghost use Rattle.consumer.specs.Vocabulary.{Memory, Refused, reads, trace_of};
 
 use crate::consumer::Consumer;
 use crate::intake::{BundleIntake, TraceIntake};
@@ -81,7 +81,7 @@ impl<'a, R: Threads + Wait + Sync, L: Layout> Consumer<'a, R, L> {
         ensures untouched { result ≢ Err ConsumeFault.Write
             → IfErr result (λ e. sink.new ≡ sink.old) }
     {
-        let mut bundle = BundleIntake::new(self.alloc, plan);
+        let mut bundle = BundleIntake::new(self.rt, self.alloc, plan);
         read_into(self.alloc, feed, &mut bundle)?;
         let taken = bundle.finish()?;
         self.show(taken, sink, plan)
@@ -114,7 +114,7 @@ impl<'a, R: Threads + Wait + Sync, L: Layout> Consumer<'a, R, L> {
         ensures untouched { result ≢ Err ConsumeFault.Write
             → IfErr result (λ e. sink.new ≡ sink.old) }
     {
-        let mut taken = TraceIntake::new(self.alloc, plan, script)?;
+        let mut taken = TraceIntake::new(self.rt, self.alloc, plan, script)?;
         read_into(self.alloc, feed, &mut taken)?;
         self.show(taken, sink, plan)
     }
@@ -122,15 +122,15 @@ impl<'a, R: Threads + Wait + Sync, L: Layout> Consumer<'a, R, L> {
     // Runs a script over the trace that was taken for it, and writes what the script shows.
     fn show<S: Sink>(
         &self,
-        taken: TraceIntake,
+        taken: TraceIntake<'_, R>,
         sink: &mut S,
         plan: &Plan,
     ) -> Result<Replayed, ConsumeFault>
         requires plan { IsInBounds plan.now }
         requires sink { IsFalse (S.seen sink.old).has_failed }
         ensures read { result ≢ Err ConsumeFault.Read }
-        ensures shown { (script trace : List ℕ) → IsJudged script taken.script
-            → OnOk taken.script (reads_as taken.trace [] ≡ trace_of trace)
+        ensures shown { (script trace : List ℕ) → IsJudged script taken.entry.script
+            → OnOk taken.entry.script (reads taken.entry.trace [] ≡ trace_of trace)
             → WritesAnswer L.shows script trace plan.now (S.seen sink.old) (S.seen sink.new)
             result }
         ensures untouched { result ≢ Err ConsumeFault.Write
@@ -146,16 +146,16 @@ impl<'a, R: Threads + Wait + Sync, L: Layout> Consumer<'a, R, L> {
     }
 
     // The answer of a script over the trace that was taken for it.
-    fn answer(&self, taken: TraceIntake, plan: &Plan) -> Result<Replayed, Refusal>
+    fn answer(&self, taken: TraceIntake<'_, R>, plan: &Plan) -> Result<Replayed, Refusal>
         requires { IsInBounds plan.now }
-        ensures { (script trace : List ℕ) → IsJudged script taken.script
-            → OnOk taken.script (reads_as taken.trace [] ≡ trace_of trace)
+        ensures { (script trace : List ℕ) → IsJudged script taken.entry.script
+            → OnOk taken.entry.script (reads taken.entry.trace [] ≡ trace_of trace)
             → IsReplay L.shows script trace plan.now result }
     {
-        let TraceIntake { script, trace } = taken;
+        let TraceIntake { script, trace, .. } = taken;
         match script {
             Ok(script) => {
-                let read = trace.finish(self.rt, self.alloc, plan);
+                let read = trace.finish(self.rt);
                 self.replay_read(&script, read, plan, &OpenGate)
             }
             Err(refusal) => Err(refusal),

@@ -1,79 +1,99 @@
 //! What takes the input of a run, one block after the other: a bundle, or the trace of a script.
 
 ghost use Rattle.std.specs.Prelude.{◌≡◌, ◌++◌, [], ℕ, List, IfOk, IfSome, Err, OnOk};
-ghost use Rattle.consumer.specs.Blocks.{IsTakenApart, HasTaken, TakesTrace, reads_as};
+ghost use Rattle.consumer.specs.Blocks.{IsTakenApart, HasTaken, TakesTrace};
 ghost use Rattle.consumer.specs.Judging.{IsJudged};
-ghost use Rattle.consumer.specs.Vocabulary.{Lex, trace_of};
+ghost use Rattle.consumer.specs.Vocabulary.{Lex, reads, trace_of};
 ghost use Rattle.d_lexer.specs.declared.fault.LexFault.TheVariants.{TooLong};
 
 use crate::bundle::{divide, first_lines};
 use crate::plan::Plan;
 use crate::refusal::Refusal;
 use crate::scripts::judge;
-use crate::trace_bytes::TraceBytes;
 use d_lexer::{LexFault, MOST_BYTES};
 use d_types::TypedScript;
+use firing_reader::Reader;
 use report::Intake;
 use std::alloc::{AllocError, Global};
+use std::thread::Threads;
 
 // How many bytes a bundle has at most that begins with a script within the limit, and with nothing
 // of a trace: a dividing line has up to four.
 const MOST_UNDIVIDED: usize = MOST_BYTES + 4;
 
-/// What takes the trace of a script. Where the script is refused nothing of the trace is kept.
-#[derive(Drop)]
-pub(crate) struct TraceIntake {
-    /// The script, or why it is refused.
-    pub(crate) script: Result<TypedScript, Refusal>,
-    /// What is there of the trace.
-    pub(crate) trace: TraceBytes,
+// How many bytes of a trace several workers read at a time: to start them takes little beside it.
+const SHARED_BLOCK: usize = 1 << 22;
+
+// A reader that has taken nothing, for the workers of a plan. One alone reads each block as it
+// comes.
+fn reader_for(alloc: Global, plan: &Plan) -> Result<Reader, AllocError>
+    ensures { IfOk result (λ r. (rest : List ℕ) → reads r rest ≡ trace_of rest) }
+{
+    let least = if plan.workers < 2 { 1 } else { SHARED_BLOCK };
+    Reader::new(alloc, plan.hash_key, plan.workers, least)
 }
 
-impl TraceIntake {
+/// What takes the trace of a script. Where the script is refused nothing of the trace is kept.
+#[derive(Drop)]
+pub(crate) struct TraceIntake<'a, R> {
+    rt: &'a R,
+    /// The script, or why it is refused.
+    pub(crate) script: Result<TypedScript, Refusal>,
+    /// What was read of the trace.
+    pub(crate) trace: Reader,
+}
+
+impl<'a, R: Threads> TraceIntake<'a, R> {
     /// Takes a trace from its start on.
-    pub(crate) fn new(alloc: Global, plan: &Plan, script: &[u8]) -> Result<TraceIntake, AllocError>
+    pub(crate) fn new(
+        rt: &'a R,
+        alloc: Global,
+        plan: &Plan,
+        script: &[u8],
+    ) -> Result<TraceIntake<'a, R>, AllocError>
         ensures judged { IfOk result (λ t. IsJudged script.now t.script) }
         ensures trace { IfOk result
-            (λ t. (rest : List ℕ) → reads_as t.trace rest ≡ trace_of rest) }
+            (λ t. (rest : List ℕ) → reads t.trace rest ≡ trace_of rest) }
     {
-        let trace = TraceBytes::new(alloc, plan)?;
+        let trace = reader_for(alloc, plan)?;
         let script = judge(alloc, script);
-        Ok(TraceIntake { script, trace })
+        Ok(TraceIntake { rt, script, trace })
     }
 
     // Takes the trace of a script, of which the first bytes have come.
     fn begun(
+        rt: &'a R,
         alloc: Global,
         plan: &Plan,
         script: &[u8],
         first: &[u8],
-    ) -> Result<TraceIntake, AllocError>
+    ) -> Result<TraceIntake<'a, R>, AllocError>
         ensures judged { IfOk result (λ t. IsJudged script.now t.script) }
         ensures trace { IfOk result (λ t. OnOk t.script
-            ((rest : List ℕ) → reads_as t.trace rest ≡ trace_of (first.now ++ rest))) }
+            ((rest : List ℕ) → reads t.trace rest ≡ trace_of (first.now ++ rest))) }
     {
-        let mut intake = TraceIntake::new(alloc, plan, script)?;
+        let mut intake = TraceIntake::new(rt, alloc, plan, script)?;
         intake.take(first)?;
         Ok(intake)
     }
 
     // Takes the trace of a script that is too long.
-    fn unread(alloc: Global, plan: &Plan) -> Result<TraceIntake, AllocError>
+    fn unread(rt: &'a R, alloc: Global, plan: &Plan) -> Result<TraceIntake<'a, R>, AllocError>
         ensures { IfOk result (λ t. t.script ≡ Err (Lex TooLong)) }
     {
-        let trace = TraceBytes::new(alloc, plan)?;
+        let trace = reader_for(alloc, plan)?;
         let script = Err(Refusal::Lex(LexFault::TooLong));
-        Ok(TraceIntake { script, trace })
+        Ok(TraceIntake { rt, script, trace })
     }
 }
 
-impl Intake for TraceIntake {
+impl<'a, R: Threads> Intake for TraceIntake<'a, R> {
     ghost takes = { λ old block new.
         TakesTrace old.script new.script old.trace new.trace block };
 
     fn take(&mut self, block: &[u8]) -> Result<(), AllocError> {
         match self.script {
-            Ok(_) => self.trace.take(block),
+            Ok(_) => self.trace.take(self.rt, block),
             Err(_) => Ok(()),
         }
     }
@@ -81,21 +101,23 @@ impl Intake for TraceIntake {
 
 /// What takes a bundle: the bytes of its script, and from the dividing line on its trace.
 #[derive(Drop)]
-pub(crate) struct BundleIntake<'a> {
+pub(crate) struct BundleIntake<'a, R> {
+    rt: &'a R,
     alloc: Global,
     plan: &'a Plan,
     // The bundle's first bytes.
     first: Vec<u8>,
     // What takes the trace, as soon as these tell the script.
-    trace: Option<TraceIntake>,
+    trace: Option<TraceIntake<'a, R>>,
 }
 
-impl<'a> BundleIntake<'a> {
+impl<'a, R: Threads> BundleIntake<'a, R> {
     /// Takes a bundle from its start on.
-    pub(crate) fn new(alloc: Global, plan: &'a Plan) -> BundleIntake<'a>
+    pub(crate) fn new(rt: &'a R, alloc: Global, plan: &'a Plan) -> BundleIntake<'a, R>
         ensures { HasTaken result.first.items result.trace [] }
     {
         BundleIntake {
+            rt,
             alloc,
             plan,
             first: Vec::new(alloc),
@@ -104,12 +126,13 @@ impl<'a> BundleIntake<'a> {
     }
 
     /// What has taken the bundle's trace, which has ended.
-    pub(crate) fn finish(self) -> Result<TraceIntake, AllocError>
+    pub(crate) fn finish(self) -> Result<TraceIntake<'a, R>, AllocError>
         ensures { IfOk result (λ t. (bytes : List ℕ)
             → HasTaken self.entry.first.items self.entry.trace bytes
             → IsTakenApart bytes t.script t.trace []) }
     {
         let BundleIntake {
+            rt,
             alloc,
             plan,
             first,
@@ -119,13 +142,13 @@ impl<'a> BundleIntake<'a> {
             Some(trace) => Ok(trace),
             None => {
                 let parts = divide(&first);
-                TraceIntake::begun(alloc, plan, parts.script, parts.trace)
+                TraceIntake::begun(rt, alloc, plan, parts.script, parts.trace)
             }
         }
     }
 }
 
-impl<'a> Intake for BundleIntake<'a> {
+impl<'a, R: Threads> Intake for BundleIntake<'a, R> {
     ghost takes = { λ old block new. (bytes : List ℕ) → HasTaken old.first.items old.trace bytes
         → HasTaken new.first.items new.trace (bytes ++ block) };
 
@@ -134,7 +157,7 @@ impl<'a> Intake for BundleIntake<'a> {
             Some(trace) => trace.take(block),
             None => {
                 self.first.extend_from_slice(block)?;
-                self.trace = trace_after(self.alloc, self.plan, &self.first)?;
+                self.trace = trace_after(self.rt, self.alloc, self.plan, &self.first)?;
                 Ok(())
             }
         }
@@ -143,14 +166,19 @@ impl<'a> Intake for BundleIntake<'a> {
 
 // What takes the trace of a bundle with these first bytes, where they tell its script: after a
 // dividing line, or where the script is too long whatever comes.
-fn trace_after(alloc: Global, plan: &Plan, first: &[u8]) -> Result<Option<TraceIntake>, AllocError>
+fn trace_after<'a, R: Threads>(
+    rt: &'a R,
+    alloc: Global,
+    plan: &Plan,
+    first: &[u8],
+) -> Result<Option<TraceIntake<'a, R>>, AllocError>
     ensures { IfOk result (λ trace. IfSome trace (λ t. (rest : List ℕ)
         → IsTakenApart (first.now ++ rest) t.script t.trace rest)) }
 {
     let (passed, trace) = first_lines(first);
     match trace {
-        Some(trace) => Ok(Some(TraceIntake::begun(alloc, plan, &first[..passed], trace)?)),
-        None if first.len() > MOST_UNDIVIDED => Ok(Some(TraceIntake::unread(alloc, plan)?)),
+        Some(trace) => Ok(Some(TraceIntake::begun(rt, alloc, plan, &first[..passed], trace)?)),
+        None if first.len() > MOST_UNDIVIDED => Ok(Some(TraceIntake::unread(rt, alloc, plan)?)),
         None => Ok(None),
     }
 }

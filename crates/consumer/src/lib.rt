@@ -16,7 +16,6 @@ mod program;
 mod refusal;
 mod replaying;
 mod scripts;
-mod trace_bytes;
 mod words;
 
 pub use bundle::{Division, divide};

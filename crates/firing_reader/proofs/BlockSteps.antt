@@ -12,11 +12,11 @@ use Rattle.csv.specs.Reading.{default_config, is_bom, records, strip_bom}
 use Rattle.csv.specs.declared.parser.State.TheVariants as st
 use Rattle.firing_reader.specs.declared.blocks.Stage.{Stage}
 use Rattle.firing_reader.specs.declared.blocks.Stage.TheVariants as stage
-use Rattle.std.specs.Prelude.{◌⊎◌}
+use Rattle.std.specs.Prelude.{◌⊎◌, IfErr, OnOk, Result}
 use Rattle.firing_reader.specs.declared.fault.TraceFault.{TraceFault}
 use Rattle.firing_reader.specs.declared.fault.TraceFault.TheVariants.{Memory}
 use Rattle.firing_reader.specs.declared.firing.Firing.{Firing}
-use Rattle.firing_reader.specs.Blocks.{AreRead, BeginsAtFeed, IsKeptAt, reads_at}
+use Rattle.firing_reader.specs.Blocks.{AreRead, IsKeptAt}
 use Rattle.firing_reader.specs.Steps.Blocks.{Begins, IsFaultOf}
 use Rattle.firing_reader.specs.Left.{left_in}
 use Rattle.firing_reader.specs.Plain.{rows_after, rows_in}
@@ -82,6 +82,17 @@ pub fault_of_rows : (a : List Firing) (x : List ℕ) (b : List Firing) (rest r :
     → IsFaultOf f (λ tail. rows_in a (x ++ tail))
 fault_of_rows a x b rest r f e g is ends (inl memory) = inl memory
 fault_of_rows a x b rest r f e g is ends (inr read) = inr (rows_fault a x b rest r f e g is ends read)
+
+-- what is read after rows that were read
+pub rows_after_more : (r : Result (Unit {0}) TraceFault) (a : List Firing) (x : List ℕ) (b : List Firing) (y : List ℕ) (c : List Firing) (z : List ℕ) → GoesOn a x b y → OnOk r (GoesOn b y c z) → OnOk r (GoesOn a x c z)
+rows_after_more (Ok u) a x b y c z g h = goes_both a x b y c z g h
+rows_after_more (Err e) a x b y c z g h = tt
+
+pub fault_after : (r : Result (Unit {0}) TraceFault) (a : List Firing) (x : List ℕ) (b : List Firing) (y : List ℕ) → GoesOn a x b y → IfErr r (λ e. IsFaultOf e (λ tail. rows_in b (y ++ tail)))
+    → IfErr r (λ e. IsFaultOf e (λ tail. rows_in a (x ++ tail)))
+fault_after (Ok u) a x b y g h = tt
+fault_after (Err e) a x b y g (inl memory) = inl memory
+fault_after (Err e) a x b y g (inr fault) = inr (λ tail. goes_reads a x b y g tail ∙ fault tail)
 
 -- ---- the header, as it is mostly written
 

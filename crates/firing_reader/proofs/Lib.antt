@@ -21,5 +21,6 @@ pub mod Shared
 pub mod PlainArguments
 pub mod RowParts
 pub mod BlockSteps
+pub mod SharedRows
 pub mod Probing
 pub mod Written

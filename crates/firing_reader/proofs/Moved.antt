@@ -2,7 +2,7 @@
 use Rattle.std.proofs.Common.{◌≡◌, ◌<◌, ◌+◌, ◌^◌, ℕ, ℤ, zero, suc, List, [], ◌∷◌, ◌++◌, length}
 use Rattle.std.proofs.Common.{get_or, drop, map, All, Some, refl, sym, ap, ◌∙◌, arith}
 use Rattle.std.proofs.Common.{length-append}
-use Rattle.std.specs.Prelude.{slice_get}
+use Rattle.std.specs.Prelude.{IfSome, MatchOption, None, Option, slice_get}
 use Rattle.std.proofs.Math.Seq.{drop-append-add}
 use Rattle.std.proofs.lemmas.List.{length-map, map-append}
 use Rattle.std.proofs.lemmas.List.Elements.{All-head, All-tail, All-cons, All-nil, All-append}
@@ -117,3 +117,20 @@ pub followed_same : (x q os : List Owner) (qs : List ℕ) (y u ps : List Probe) 
     → map (firing_in q u (a ++ o)) (rs ++ map (moved_row qs us (length a)) more) ≡ map (firing_in x y a) rs ++ map (firing_in os ps o) more
 followed_same x q os qs y u ps us a o rs more ex ey to tp own others =
     rw (map-append (firing_in q u (a ++ o)) rs (map (moved_row qs us (length a)) more), seen_all x q y u a (a ++ o) rs ex ey (o, refl) own, all_moved_same q os qs u ps us a o more to tp others) refl
+
+-- where memory was there for the rows of others, they stand after those of its own
+pub appended_in : (r : Option (Unit {0})) (x q os : List Owner) (qs : List ℕ) (y u ps : List Probe) (us : List ℕ) (a o b : List ℤ) (rs more new : List Row) → Extends x q → Extends y u
+    → ArePlaces q qs os → ArePlaces u us ps → b ≡ a ++ o → All (IsRowIn x y a) rs → All (IsRowIn os ps o) more
+    → MatchOption r (new ≡ rs) (λ _. new ≡ rs ++ map (moved_row qs us (length a)) more) → All (IsRowIn q u b) new
+appended_in None x q os qs y u ps us a o b rs more new ex ey to tp all own others is =
+    rw (is, all) (rows_more x q y u a (a ++ o) rs ex ey (o, refl) own)
+appended_in (Some t) x q os qs y u ps us a o b rs more new ex ey to tp all own others is =
+    rw (is, all) (followed_in x q os qs y u ps us a o rs more ex ey to tp own others)
+
+pub appended_same : (r : Option (Unit {0})) (x q os : List Owner) (qs : List ℕ) (y u ps : List Probe) (us : List ℕ) (a o b : List ℤ) (rs more new : List Row) → Extends x q → Extends y u
+    → ArePlaces q qs os → ArePlaces u us ps → b ≡ a ++ o → All (IsRowIn x y a) rs → All (IsRowIn os ps o) more
+    → MatchOption r (new ≡ rs) (λ _. new ≡ rs ++ map (moved_row qs us (length a)) more)
+    → IfSome r (λ _. map (firing_in q u b) new ≡ map (firing_in x y a) rs ++ map (firing_in os ps o) more)
+appended_same None x q os qs y u ps us a o b rs more new ex ey to tp all own others is = tt
+appended_same (Some t) x q os qs y u ps us a o b rs more new ex ey to tp all own others is =
+    rw (is, all) (followed_same x q os qs y u ps us a o rs more ex ey to tp own others)

@@ -1,8 +1,8 @@
 -- Rows that are read piece by piece.
-use Rattle.std.proofs.Common.{◌≡◌, ◌<◌, ◌≤◌, ◌+◌, ◌-◌, ℕ, zero, suc, List, [], ◌∷◌, ◌++◌, length}
-use Rattle.std.proofs.Common.{length-append, Option, Some, None, Ok, refl, sym, ap, ◌∙◌}
+use Rattle.std.proofs.Common.{◌≡◌, ◌<◌, ◌+◌, ◌-◌, ℕ, zero, suc, List, [], ◌∷◌, ◌++◌, length}
+use Rattle.std.proofs.Common.{length-append, Option, Some, None, refl, sym, ap, ◌∙◌}
 use Rattle.std.proofs.Common.{append_assoc, arith}
-use Rattle.std.specs.Prelude.{IfSome, slice_get}
+use Rattle.std.specs.Prelude.{slice_get}
 use Rattle.std.specs.Option.{option_map_or}
 use Rattle.std.proofs.lemmas.List.{append-nil}
 use Rattle.csv.specs.Machine.{next_record}
@@ -11,12 +11,12 @@ use Rattle.csv.specs.declared.parser.State.TheVariants as st
 use Rattle.firing_reader.specs.declared.firing.Firing.{Firing}
 use Rattle.firing_reader.specs.Left.{left_in}
 use Rattle.firing_reader.specs.Firings.{number_of}
-use Rattle.firing_reader.specs.Plain.{ReadsRow, ReadsRows, rows_in}
-use Rattle.firing_reader.specs.Steps.Plain.{IsPiece, ReadsMore, Rises}
-use Rattle.firing_reader.specs.Trace.{last_number, rows_of}
+use Rattle.firing_reader.specs.Plain.{ReadsRow, ReadsRows}
+use Rattle.firing_reader.specs.Steps.Plain.{ReadsMore, Rises}
+use Rattle.firing_reader.specs.Trace.{last_number}
 use Rattle.firing_reader.proofs.Left.{left_more, left_none}
 use Rattle.firing_reader.proofs.PlainRows.{skip_feed}
-use Rattle.firing_reader.proofs.Rows.{last_push, rows_first}
+use Rattle.firing_reader.proofs.Rows.{last_push}
 
 row_tail : (a b t : List ℕ) (f : Firing) → ReadsRow a b f → ReadsRow (a ++ t) (b ++ t) f
 row_tail a b t f h = record {
@@ -60,57 +60,17 @@ more_row bytes old fs mid f rest h row rises = record {
   rises = rw (last_push fs f) (rises_join (last_number old) h.more (last_number fs) (f ∷ []) f.number h.rises (rises, refl));
 }
 
--- bytes that are nothing but rows
-pub more_piece : (bytes : List ℕ) (old new : List Firing) (rest : List ℕ) → old ≡ [] → rest ≡ 10 ∷ [] → ReadsMore bytes old new rest → IsPiece bytes new
-more_piece bytes old new rest none one h =
-    let all : new ≡ h.more = rw none at h.is_new in
-    record { rows = rw (all, ← one) h.rows; rises = rw (← all) at (rw none at h.rises) }
-
 -- two pieces of bytes that share the line feed between them, read apart
 pub pieces : (a : List ℕ) (fs : List Firing) (b : List ℕ) (gs : List Firing) (c : List ℕ) → ReadsRows a fs (10 ∷ []) → ReadsRows (10 ∷ b) gs c → ReadsRows (a ++ b) (fs ++ gs) c
 pieces a fs b gs c h k = rows_join (a ++ b) fs (10 ∷ b) gs c (rows_tail a fs (10 ∷ []) b h) k
 
-only_feed : next_record default_config st.StartRecord [] [] (10 ∷ []) ≡ None
+pub only_feed : next_record default_config st.StartRecord [] [] (10 ∷ []) ≡ None
 unfolding next_record
 only_feed = refl
 
 rises_from : (last : ℕ) (f : Firing) (fs : List Firing) (end : ℕ) → last < f.number → Rises 0 (f ∷ fs) end → Rises last (f ∷ fs) end
 unfolding Rises
 rises_from last f fs end first (any, more) = (first, more)
-
--- bytes that are nothing but rows whose numbers rise read as their firings
-pub rows_all : (bytes : List ℕ) (fs : List Firing) (row last end : ℕ) → ReadsRows bytes fs (10 ∷ []) → Rises last fs end → row + length fs ≤ 1_000_001
-    → rows_of row last (left_in st.StartRecord (Some bytes)) ≡ Ok fs
-unfolding ReadsRows Rises rows_of
-rows_all bytes [] row last end is rises few = rw (is, left_none st.StartRecord (10 ∷ []) only_feed) refl
-rows_all bytes (f ∷ fs) row last end (mid, h, more) (first, rises) few =
-    let read : next_record default_config st.StartRecord [] [] bytes ≡ Some (h.fields, st.StartRecord, h.after) = rw (append-nil bytes, append-nil h.after) at (h.read []) in
-    let left = (left_more st.StartRecord bytes (h.fields, st.StartRecord, h.after) refl read).0 in
-    let after : left_in st.StartRecord (Some h.after) ≡ left_in st.StartRecord (Some mid) = sym (skip_feed h.after) ∙ ap (λ (l : List ℕ). left_in st.StartRecord (Some l)) (sym h.is_rest) in
-    rw (left, h.firing row last (omega arith) first, after, rows_all mid fs (row + 1) f.number end more rises (omega arith)) refl
-
--- what is one byte and begins at a line feed is the line feed
-pub one_feed : (rest after : List ℕ) → rest ≡ 10 ∷ after → length rest ≡ 1 → rest ≡ 10 ∷ []
-one_feed rest [] is one = is
-one_feed rest (b ∷ more) is one = absurd (omega (arith, ap length is, one))
-
--- a piece that is the whole
-pub whole_piece : (after : List ℕ) (fs : List Firing) → IsPiece (10 ∷ after) fs → length fs ≤ 1_000_000 → rows_in [] (10 ∷ after) ≡ Ok fs
-whole_piece after fs is few = rows_first (left_in st.StartRecord (Some (10 ∷ after))) ∙ rows_all (10 ∷ after) fs 1 0 (last_number fs) is.rows is.rises (omega arith)
-
--- two pieces that share a line feed are one
-pub piece_join : (bytes left right after : List ℕ) (fs gs : List Firing) → right ≡ 10 ∷ after → bytes ≡ left ++ after → IsPiece left fs → IsPiece right gs
-    → Rises (last_number fs) gs (last_number (fs ++ gs)) → IsPiece bytes (fs ++ gs)
-piece_join bytes left right after fs gs is split h k goes = record {
-  rows = rw split (pieces left fs after gs (10 ∷ []) h.rows (rw is at k.rows));
-  rises = rises_join 0 fs (last_number fs) gs (last_number (fs ++ gs)) h.rises goes;
-}
-
--- the same of firings that may not have been put together
-pub joined_piece : (bytes left right after : List ℕ) (fs gs : List Firing) (o : Option (List Firing)) → right ≡ 10 ∷ after → bytes ≡ left ++ after → IsPiece left fs → IsPiece right gs
-    → Rises (last_number fs) gs (last_number (fs ++ gs)) → IfSome o (λ all. all ≡ fs ++ gs) → IfSome o (λ all. IsPiece bytes all)
-joined_piece bytes left right after fs gs None is split h k goes joined = joined
-joined_piece bytes left right after fs gs (Some all) is split h k goes joined = rw joined (piece_join bytes left right after fs gs is split h k goes)
 
 -- ---- numbers from one piece to the next
 

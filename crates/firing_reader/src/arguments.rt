@@ -20,6 +20,7 @@ pub(crate) fn keep_arguments(all: &mut Vec<i64>, args: &[i64; 10]) -> Option<Giv
 
 /// Adds the arguments of other firings to all: the place of the first of them.
 pub(crate) fn add_arguments(all: &mut Vec<i64>, others: &[i64]) -> Option<u32>
+    ensures grows { Extends all.old.items all.new.items }
     ensures place { IfSome result (λ place. place ≡ length all.old.items) }
     ensures args { IfSome result (λ _. all.new.items ≡ all.old.items ++ others.now) }
     ensures few { IfSome result (λ _. length all.new.items < 2 ^ 28) }

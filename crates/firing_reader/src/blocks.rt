@@ -1,7 +1,7 @@
 //! Reading a trace that comes in blocks.
 
 ghost use Rattle.std.specs.Prelude.{◌≡◌, ◌≢◌, ◌<◌, ◌≤◌, ◌+◌, ◌++◌, ◌∷◌, [], ℕ, List, OnOk, OnErr};
-ghost use Rattle.std.specs.Prelude.{IfOk, IfErr, MatchBool, MatchResult, drop, length};
+ghost use Rattle.std.specs.Prelude.{IfOk, IfErr, IfSome, MatchBool, MatchResult, drop, length};
 ghost use Rattle.firing_reader.specs.{Vocabulary.Memory, Gives.Gives, Trace.trace_of};
 ghost use Rattle.firing_reader.specs.Blocks.{AreRead, BeginsAtFeed, IsKeptAt};
 ghost use Rattle.firing_reader.specs.Steps.Blocks.{Begins, IsFaultOf};
@@ -13,6 +13,7 @@ ghost use Rattle.firing_reader.specs.declared.blocks.Stage.TheVariants.{Refused}
 use crate::fault::TraceFault;
 use crate::firings::Firings;
 use crate::header::{HEADER, MARK, after_header, after_mark};
+use crate::pieces::{Workers, read_shared};
 use crate::plain::front::rest_after;
 use crate::plain::read_plain;
 use crate::reading::{read_by_csv, read_records, read_rest, read_whole};
@@ -21,6 +22,7 @@ use crate::trace::Trace;
 use keyed_hash::HashKey;
 use std::alloc::{AllocError, Global};
 use std::marker::Model;
+use std::thread::Threads;
 
 // What a reader reads next.
 #[derive(Clone, Copy)]
@@ -38,6 +40,8 @@ enum Stage {
 #[derive(Drop)]
 pub struct Reader {
     alloc: Global,
+    hash_key: HashKey,
+    workers: u32,
     stage: Stage,
     firings: Firings,
     // What is not read yet. Rows begin at the line feed before the first of them.
@@ -61,13 +65,21 @@ impl Model for Reader {
 }
 
 impl Reader {
-    /// A reader that has taken nothing. It reads whole rows as soon as it has `least` bytes.
-    pub fn new(alloc: Global, hash_key: HashKey, least: usize) -> Result<Reader, AllocError>
+    /// A reader that has taken nothing. It reads whole rows as soon as it has `least` bytes; plain
+    /// ones are read by all workers.
+    pub fn new(
+        alloc: Global,
+        hash_key: HashKey,
+        workers: u32,
+        least: usize,
+    ) -> Result<Reader, AllocError>
         ensures { IfOk result (λ r. (rest : List ℕ) → reads r rest ≡ trace_of rest) }
     {
         let firings = Firings::new(alloc, hash_key)?;
         Ok(Reader {
             alloc,
+            hash_key,
+            workers,
             stage: Stage::Header,
             firings,
             left: Vec::new(alloc),
@@ -79,12 +91,12 @@ impl Reader {
     /// Takes the next block. Where memory is refused, the reader can only return that.
     ///
     /// ```text
-    /// let mut reader = Reader::new(alloc, hash_key, 1)?;
-    /// reader.take(b"number,cp")?;
-    /// reader.take(b"u,")?; // and so on
-    /// let trace = reader.finish()?; // as `read_trace` returns for all bytes at once
+    /// let mut reader = Reader::new(alloc, hash_key, 4, 1 << 22)?;
+    /// reader.take(&rt, b"number,cp")?;
+    /// reader.take(&rt, b"u,")?; // and so on
+    /// let trace = reader.finish(&rt)?; // as `read_trace` returns for all bytes at once
     /// ```
-    pub fn take(&mut self, block: &[u8]) -> Result<(), AllocError>
+    pub fn take<R: Threads>(&mut self, rt: &R, block: &[u8]) -> Result<(), AllocError>
         ensures taken { OnOk result
             ((rest : List ℕ) → reads self.new rest ≡ reads self.old (block.now ++ rest)) }
         ensures refused { OnErr result (self.new.stage ≡ Refused Memory) }
@@ -103,21 +115,29 @@ impl Reader {
         if self.left.len() < self.enough {
             return Ok(());
         }
-        self.read()
+        self.read(rt)
     }
 
     /// The trace of all blocks, or its first fault, exactly as `read_trace` returns it.
-    pub fn finish(self) -> Result<Trace, TraceFault>
+    pub fn finish<R: Threads>(self, rt: &R) -> Result<Trace, TraceFault>
         ensures { Gives result (reads self []) }
     {
         let Reader {
             alloc,
+            hash_key,
+            workers: count,
             stage,
             mut firings,
-            left,
+            mut left,
             ..
         } = self;
-        match stage {
+        let workers = Workers {
+            rt,
+            alloc,
+            hash_key,
+            count,
+        };
+        match advance(&workers, stage, &mut firings, &mut left)? {
             Stage::Header => read_whole(alloc, &mut firings, &left)?,
             Stage::Rows => read_rest(alloc, &mut firings, &left)?,
             Stage::Refused(fault) => return Err(fault),
@@ -126,11 +146,17 @@ impl Reader {
     }
 
     // Reads what is whole.
-    fn read(&mut self) -> Result<(), AllocError>
+    fn read<R: Threads>(&mut self, rt: &R) -> Result<(), AllocError>
         ensures taken { OnOk result ((rest : List ℕ) → reads self.new rest ≡ reads self.old rest) }
         ensures refused { OnErr result (self.new.stage ≡ Refused Memory) }
     {
-        match advance(self.alloc, self.stage, &mut self.firings, &mut self.left) {
+        let workers = Workers {
+            rt,
+            alloc: self.alloc,
+            hash_key: self.hash_key,
+            count: self.workers,
+        };
+        match advance(&workers, self.stage, &mut self.firings, &mut self.left) {
             Ok(stage) => {
                 self.stage = stage;
                 self.enough = self.least.max(self.left.len().saturating_mul(2));
@@ -208,9 +234,48 @@ fn read_rows(alloc: Global, firings: &mut Firings, left: &mut Vec<u8>) -> Result
     Ok(())
 }
 
+// Reads plain rows by several workers. It returns None where memory is refused.
+fn read_front<R: Threads>(
+    workers: &Workers<R>,
+    firings: &mut Firings,
+    left: &mut Vec<u8>,
+) -> Option<()>
+    requires feed { BeginsAtFeed left.old.items }
+    requires are_read { AreRead firings.old }
+    ensures read { IfSome result
+        (λ _. GoesOn firings.old left.old.items firings.new left.new.items) }
+    ensures feed { IfSome result (λ _. BeginsAtFeed left.new.items) }
+{
+    if workers.count < 2 {
+        return Some(());
+    }
+    let passed = read_shared(workers, workers.count, firings, left)?;
+    keep_from(left, passed);
+    Some(())
+}
+
+// Reads the rows that are whole, and plain ones by all workers.
+fn read_rows_by<R: Threads>(
+    workers: &Workers<R>,
+    firings: &mut Firings,
+    left: &mut Vec<u8>,
+) -> Result<(), TraceFault>
+    requires feed { BeginsAtFeed left.old.items }
+    requires are_read { AreRead firings.old }
+    ensures read { OnOk result (GoesOn firings.old left.old.items firings.new left.new.items) }
+    ensures feed { OnOk result (BeginsAtFeed left.new.items) }
+    ensures fault { IfErr result (λ e.
+        IsFaultOf e (λ tail. rows_in firings.old (left.old.items ++ tail))) }
+{
+    let Some(()) = read_front(workers, firings, left) else {
+        return Err(TraceFault::Memory);
+    };
+    read_rows(workers.alloc, firings, left)
+}
+
 // Reads what is whole, and returns what is to be read next.
-fn advance(
-    alloc: Global,
+fn advance<R: Threads>(
+    workers: &Workers<R>,
     stage: Stage,
     firings: &mut Firings,
     left: &mut Vec<u8>,
@@ -225,14 +290,14 @@ fn advance(
 {
     match stage {
         Stage::Header => {
-            if !read_header(alloc, firings, left)? {
+            if !read_header(workers.alloc, firings, left)? {
                 return Ok(stage);
             }
-            read_rows(alloc, firings, left)?;
+            read_rows_by(workers, firings, left)?;
             Ok(Stage::Rows)
         }
         Stage::Rows => {
-            read_rows(alloc, firings, left)?;
+            read_rows_by(workers, firings, left)?;
             Ok(stage)
         }
         Stage::Refused(_) => Ok(stage),

@@ -193,29 +193,21 @@ impl Firings {
         }
     }
 
-    /// These firings, and after them others: each owner and each probe of theirs is looked up once,
-    /// and no firing is made. It returns None where memory is refused.
-    pub(crate) fn followed_by(self, others: &Firings) -> Option<Firings>
-        ensures { IfSome result (λ all. all ≡ self ++ others.now) }
+    /// Stores others after these: each owner and each probe of theirs is looked up once, and no
+    /// firing is made. It returns None where memory is refused.
+    pub(crate) fn append(&mut self, others: &Firings) -> Option<()>
+        ensures { IfSome result (λ _. self.new ≡ self.old ++ others.now) }
     {
-        let Firings {
-            alloc,
-            mut owners,
-            mut probes,
-            mut args,
-            mut rows,
-        } = self;
-        let owner_places = owners.places_of(alloc, &others.owners)?;
-        let probe_places = probes.places_of(alloc, &others.probes)?;
-        let shift = add_arguments(&mut args, &others.args)?;
-        add_rows(&mut rows, &others.rows, &owner_places, &probe_places, shift)?;
-        Some(Firings {
-            alloc,
-            owners,
-            probes,
-            args,
-            rows,
-        })
+        let owner_places = self.owners.places_of(self.alloc, &others.owners)?;
+        let probe_places = self.probes.places_of(self.alloc, &others.probes)?;
+        let shift = add_arguments(&mut self.args, &others.args)?;
+        add_rows(
+            &mut self.rows,
+            &others.rows,
+            &owner_places,
+            &probe_places,
+            shift,
+        )
     }
 }
 
@@ -237,12 +229,12 @@ fn add_rows(
     shift: u32,
 ) -> Option<()>
     requires { All (IsMovable owners.now probes.now shift) others.now }
-    ensures { IfSome result (λ _. rows.new.items
+    ensures { MatchOption result (rows.new.items ≡ rows.old.items) (λ _. rows.new.items
         ≡ rows.old.items ++ map (moved_row_of owners.now probes.now shift) others.now) }
 {
-    rows.reserve_exact(others.len()).ok()?;
+    rows.reserve(others.len()).ok()?;
     for row in others {
-        rows.push(moved_row(row, owners, probes, shift)).ok()?;
+        rows.push_reserved(moved_row(row, owners, probes, shift));
     }
     Some(())
 }

@@ -7,19 +7,31 @@ use firing_reader::{Reader, Trace, TraceFault, read_trace};
 use keyed_hash::HashKey;
 use std::alloc::{AllocError, Global};
 use std::test::Fail;
+use std::thread::Threads;
 
-// Reads a trace that comes in these blocks.
-fn in_blocks(
+// Reads a trace that comes in these blocks by so many workers.
+fn in_blocks_by<R: Threads>(
+    rt: &R,
     alloc: Global,
-    hash_key: HashKey,
+    workers: u32,
     blocks: &[&[u8]],
     least: usize,
 ) -> Result<Trace, TraceFault> {
-    let mut reader = Reader::new(alloc, hash_key, least)?;
+    let mut reader = Reader::new(alloc, HashKey::of_seed(&[]), workers, least)?;
     for block in blocks {
-        reader.take(block)?;
+        reader.take(rt, block)?;
     }
-    reader.finish()
+    reader.finish(rt)
+}
+
+// The same by one.
+fn in_blocks<R: Threads>(
+    rt: &R,
+    alloc: Global,
+    blocks: &[&[u8]],
+    least: usize,
+) -> Result<Trace, TraceFault> {
+    in_blocks_by(rt, alloc, 1, blocks, least)
 }
 
 // Cuts a trace into blocks of this size.
@@ -51,7 +63,7 @@ fn drawn_traces_read_the_same_in_blocks(rt: HostRuntime) -> Result<(), Fail> {
         let whole = read_trace(rt.alloc(), HashKey::random(&rt), &bytes);
         for (size, least) in [(1, 1), (2, 1), (3, 1), (7, 1), (7, 300), (64, 1), (1000, 1)] {
             let blocks = blocks_of(rt.alloc(), &bytes, size)?;
-            let found = in_blocks(rt.alloc(), HashKey::random(&rt), &blocks, least);
+            let found = in_blocks(&rt, rt.alloc(), &blocks, least);
             assert!(rt; is_same(&whole, &found), "trace {seed} by {size} bytes");
         }
     }
@@ -66,8 +78,26 @@ fn drawn_traces_read_the_same_in_drawn_blocks(rt: HostRuntime) -> Result<(), Fai
         let mut chance = Chance { state: seed };
         let least = chance.below(100);
         let blocks = drawn_blocks(rt.alloc(), &mut chance, &bytes)?;
-        let found = in_blocks(rt.alloc(), HashKey::random(&rt), &blocks, least);
+        let found = in_blocks(&rt, rt.alloc(), &blocks, least);
         assert!(rt; is_same(&whole, &found), "trace {seed}");
+    }
+    Ok(())
+}
+
+// Several workers read blocks of few rows, and of many.
+#[test]
+fn drawn_traces_read_the_same_in_blocks_by_several(rt: HostRuntime) -> Result<(), Fail> {
+    for seed in 0..100 {
+        let bytes = drawn_trace(rt.alloc(), seed)?;
+        let whole = read_trace(rt.alloc(), HashKey::random(&rt), &bytes);
+        for (workers, size, least) in [(2, 64, 300), (3, 1000, 1), (4, 1000, 2000)] {
+            let blocks = blocks_of(rt.alloc(), &bytes, size)?;
+            let found = in_blocks_by(&rt, rt.alloc(), workers, &blocks, least);
+            assert!(rt;
+                is_same(&whole, &found),
+                "trace {seed} by {workers} workers"
+            );
+        }
     }
     Ok(())
 }
@@ -93,7 +123,7 @@ fn headers_and_rows_are_cut_anywhere(rt: HostRuntime) -> Result<(), Fail> {
         let whole = read_trace(rt.alloc(), HashKey::random(&rt), &bytes);
         for cut in 0..bytes.len() {
             let blocks = [&bytes[..cut], &bytes[cut..]];
-            let found = in_blocks(rt.alloc(), HashKey::random(&rt), &blocks, 1);
+            let found = in_blocks(&rt, rt.alloc(), &blocks, 1);
             assert!(rt; is_same(&whole, &found), "{head:?} {first:?} at {cut}");
         }
     }
@@ -125,7 +155,7 @@ fn a_row_is_longer_than_blocks(rt: HostRuntime) -> Result<(), Fail> {
         assert!(rt; whole.is_ok(), "{byte}");
         for size in [1, 7, 64] {
             let blocks = blocks_of(rt.alloc(), &bytes, size)?;
-            let found = in_blocks(rt.alloc(), HashKey::random(&rt), &blocks, 1);
+            let found = in_blocks(&rt, rt.alloc(), &blocks, 1);
             assert!(rt; is_same(&whole, &found), "{byte} by {size} bytes");
         }
     }

@@ -1,9 +1,9 @@
 -- Plain fields and rows as they are taken off the front of the bytes.
 use Rattle.std.specs.Prelude.{◌≡◌, ◌≢◌, ◌<◌, ◌≤◌, ℕ, List, [], ◌∷◌, ◌++◌, All, Some, codes, map, Ok}
-use Rattle.std.specs.Prelude.{ℤ}
+use Rattle.std.specs.Prelude.{ℤ, ◌+◌, drop, length}
 use Rattle.csv.specs.declared.parser.State.{State}
-use Rattle.firing_reader.specs.Vocabulary.{next_record, default_config, Firing}
-use Rattle.firing_reader.specs.{Left.left_in}
+use Rattle.firing_reader.specs.Vocabulary.{next_record, default_config, Firing, MOST_ROWS}
+use Rattle.firing_reader.specs.{Blocks.BeginsAtFeed, Left.left_in}
 use Rattle.firing_reader.specs.Column.{signed_of}
 use Rattle.firing_reader.specs.Trace.{last_number}
 use Rattle.firing_reader.specs.Plain.{ReadsRows, rows_after}
@@ -50,11 +50,28 @@ unfoldable pub Rises : ℕ → List Firing → ℕ → Type 0
 Rises last [] end = last ≡ end
 Rises last (f ∷ fs) end = (last < f.number) × Rises f.number fs end
 
--- the bytes are nothing but the rows of these firings, from a line feed to a line feed, and their
--- numbers rise
-pub record IsPiece (bytes : List ℕ) (fs : List Firing) : Type 0 where
-  pub rows : ReadsRows bytes fs (10 ∷ [])
+-- what is left after so many bytes: the next one is where a row ended
+abbrev pub left_after : ℕ → List ℕ → List ℕ
+left_after count bytes = 10 ∷ drop (count + 1) bytes
+
+-- the bytes begin with the rows of these firings, and their numbers rise; so many bytes come before
+-- what is left
+pub record IsPiece (bytes : List ℕ) (fs : List Firing) (count : ℕ) : Type 0 where
+  pub rows : ReadsRows bytes fs (left_after count bytes)
   pub rises : Rises 0 fs (last_number fs)
+  pub inside : count < length bytes
+
+-- two pieces that share a line feed
+pub record AreCut (bytes front last : List ℕ) : Type 0 where
+  pub feed : BeginsAtFeed front
+  pub after : List ℕ
+  pub is_last : last ≡ 10 ∷ after
+  pub is_bytes : bytes ≡ front ++ after
+
+-- a trace may have these firings after those
+pub record GoesAfter (first second : List Firing) : Type 0 where
+  pub rises : Rises (last_number first) second (last_number (first ++ second))
+  pub few : length first + length second ≤ MOST_ROWS
 
 -- the bytes hold the rows of these firings and of no others, whose numbers go on rising
 pub record ReadsMore (bytes : List ℕ) (old new : List Firing) (rest : List ℕ) : Type 0 where
@@ -71,6 +88,13 @@ pub record GoesOn (old : List Firing) (bytes : List ℕ) (new : List Firing) (re
   pub read : rows_after old rows ≡ Ok new
   pub taken : (tail : List ℕ) → left_in State.StartRecord (Some (bytes ++ tail))
       ≡ rows ++ left_in State.StartRecord (Some (rest ++ tail))
+
+-- the rows of the first bytes, so many, come after the old firings, and give the new ones
+pub record PassesRows (old : List Firing) (bytes : List ℕ) (new : List Firing) (count : ℕ)
+    : Type 0 where
+  pub read : GoesOn old bytes new (left_after count bytes)
+  pub few : length new ≤ MOST_ROWS
+  pub inside : count < length bytes
 
 -- the rest is a line feed, and then the last of the bytes, after at least one of them
 pub record Leaves (bytes rest : List ℕ) : Type 0 where

@@ -1,12 +1,11 @@
-use Rattle.std.proofs.Common.{◌≤◌, ◌∙◌, length, arith}
-use Rattle.firing_reader.proofs.PieceRows.{whole_piece}
+use Rattle.std.proofs.Common.{◌≡◌, ◌∙◌, [], rules}
 use Rattle.firing_reader.proofs.PlainHeader.{after_header}
+use Rattle.firing_reader.proofs.SharedRows.{rows_whole}
 use Rattle.firing_reader.proofs.pieces.read_plain_trace.Goals as goal
 
 pub returns : goal.returns
 returns g c =
     let (after, rest, all) = c.in_ok-rows.ensures in
-    let fs = c.in_ok-firings.firings in
-    let size = c.len.ensures in
-    let few : length fs ≤ 1_000_000 = omega (arith, size) in
-    after_header c.args.bytes.now after all ∙ whole_piece after fs (rw rest at c.in_ok-firings.ensures) few
+    let none : c.in_ok-firings.firings ≡ [] = search rules in
+    let passes = rw none at c.in_ok-passed.ensures in
+    after_header c.args.bytes.now after all ∙ rw rest at (rows_whole c.in_ok-rows.rows.now c.read_shared.new.firings c.in_ok-passed.passed passes (search rules))
