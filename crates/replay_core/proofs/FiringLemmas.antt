@@ -1,4 +1,4 @@
--- What turns make is what a firing means.
+-- What all_made make is what a firing means.
 use Rattle.std.specs.Prelude.{◌≡◌, ℕ, zero, suc, ◌+◌, ◌<◌, ◌≤◌, List, [], ◌∷◌, ◌++◌, All, filter}
 use Rattle.std.specs.Prelude.{map, length, slice_get, sum_by, Option, None, Some, option_map}
 use Rattle.std.specs.Prelude.{is_some, OnOk, Result, Ok, Err, Bool, true, false, if◌then◌else◌}
@@ -22,35 +22,35 @@ use Rattle.replay_core.specs.Meaning.{firing_result}
 use Rattle.replay_core.specs.Patterns.{probe_of, selects}
 use Rattle.replay_core.specs.Pieces.{PieceSeen}
 use Rattle.replay_core.specs.Places.{places_for}
-use Rattle.replay_core.specs.Steps.Turns.{run_at, turns}
+use Rattle.replay_core.specs.Steps.AllMade.{run_at, all_made}
 use Rattle.replay_core.proofs.Noting.{append_nil, or_none}
 
--- ---- turns
+-- ---- all_made
 
 module _ (f : Firing) (all : List ClauseMeant) where
   -- one clause, once for each of these descriptions
   repeated : (n : ℕ) (c : ClauseMeant) (ds : List Description) (places : List ℕ) (rest : List (ℕ × ClauseMeant)) → slice_get all n ≡ Some c
-      → ((vars : Variables) → turns f all places vars ≡ in_turn f rest vars)
-      → (vars : Variables) → turns f all (map (λ d. n) ds ++ places) vars ≡ in_turn f (map (λ d. (n + 1, c)) ds ++ rest) vars
+      → ((vars : Variables) → all_made f all places vars ≡ in_turn f rest vars)
+      → (vars : Variables) → all_made f all (map (λ d. n) ds ++ places) vars ≡ in_turn f (map (λ d. (n + 1, c)) ds ++ rest) vars
   repeated n c [] places rest here same vars = same vars
   repeated n c (d ∷ ds) places rest here same vars =
       let first : run_at f n (slice_get all n) vars ≡ run_of f (n + 1) c vars = ap (λ o. run_at f n o vars) here in
-      ap (λ m. and_then m (turns f all (map (λ (d : Description). n) ds ++ places) m.variables)) first
+      ap (λ m. and_then m (all_made f all (map (λ (d : Description). n) ds ++ places) m.variables)) first
       ∙ ap (λ m. and_then (run_of f (n + 1) c vars) m) (repeated n c ds places rest here same (run_of f (n + 1) c vars).variables)
 
-  turns_from : (n : ℕ) (cs : List ClauseMeant) → ((i : ℕ) → slice_get all (n + i) ≡ slice_get cs i)
-      → (vars : Variables) → turns f all (places_for (probe_of f) n (map (λ c. c.descriptions) cs)) vars ≡ in_turn f (clauses_for f (n + 1) cs) vars
-  turns_from n [] same vars = refl
-  turns_from n (c ∷ cs) same vars =
+  all_made_from : (n : ℕ) (cs : List ClauseMeant) → ((i : ℕ) → slice_get all (n + i) ≡ slice_get cs i)
+      → (vars : Variables) → all_made f all (places_for (probe_of f) n (map (λ c. c.descriptions) cs)) vars ≡ in_turn f (clauses_for f (n + 1) cs) vars
+  all_made_from n [] same vars = refl
+  all_made_from n (c ∷ cs) same vars =
       let here : slice_get all n ≡ Some c = ap (slice_get all) (sym (add-zero n)) ∙ same 0 in
       let more : (i : ℕ) → slice_get all (n + 1 + i) ≡ slice_get cs i = λ i. let e : n + 1 + i ≡ n + suc i = omega arith in ap (slice_get all) e ∙ same (suc i) in
-      let after : (vars : Variables) → turns f all (places_for (probe_of f) (n + 1) (map (λ c. c.descriptions) cs)) vars ≡ in_turn f (clauses_for f (suc (n + 1)) cs) vars =
-      λ v. turns_from (n + 1) cs more v ∙ ap (λ k. in_turn f (clauses_for f k cs) v) (add-one (n + 1)) in
+      let after : (vars : Variables) → all_made f all (places_for (probe_of f) (n + 1) (map (λ c. c.descriptions) cs)) vars ≡ in_turn f (clauses_for f (suc (n + 1)) cs) vars =
+      λ v. all_made_from (n + 1) cs more v ∙ ap (λ k. in_turn f (clauses_for f k cs) v) (add-one (n + 1)) in
       repeated n c (filter (λ d. selects d (probe_of f)) c.descriptions) (places_for (probe_of f) (n + 1) (map (λ c. c.descriptions) cs)) (clauses_for f (suc (n + 1)) cs) here after vars
 
-pub turns_are : (m : ScriptMeant) (f : Firing) (vars : Variables)
-    → turns f m.clauses (places_for (probe_of f) 0 (map (λ c. c.descriptions) m.clauses)) vars ≡ in_turn f (clauses_for f 1 m.clauses) vars
-turns_are m f vars = turns_from f m.clauses 0 m.clauses (λ i. ap (slice_get m.clauses) (let e : 0 + i ≡ i = omega arith in e)) vars
+pub all_made_are : (m : ScriptMeant) (f : Firing) (vars : Variables)
+    → all_made f m.clauses (places_for (probe_of f) 0 (map (λ c. c.descriptions) m.clauses)) vars ≡ in_turn f (clauses_for f 1 m.clauses) vars
+all_made_are m f vars = all_made_from f m.clauses 0 m.clauses (λ i. ap (slice_get m.clauses) (let e : 0 + i ≡ i = omega arith in e)) vars
 
 -- ---- how many, and where
 

@@ -5,7 +5,7 @@ pub mod Stars
 pub mod Noting
 pub mod Turning
 pub mod EffectLemmas
-pub mod SceneLemmas
+pub mod StateLemmas
 pub mod SelectionLemmas
 pub mod ThreadLemmas
 pub mod FiringLemmas

@@ -22,9 +22,9 @@ use Rattle.replay_core.specs.declared.piece.Piece.{Piece}
 use Rattle.replay_core.specs.Groups.{IsAllBelow}
 use Rattle.replay_core.specs.declared.round.Round.{Round}
 use Rattle.replay_core.specs.declared.span.Span.{Span}
-use Rattle.replay_core.specs.Crews.{AreParts, GivesBegun, GivesPieces, IsRound}
-use Rattle.replay_core.specs.Steps.Crews.{AreFinished}
-use Rattle.replay_core.specs.Crews.{IsWork, Part}
+use Rattle.replay_core.specs.AtBoard.{AreParts, GivesBegun, GivesPieces, IsRound}
+use Rattle.replay_core.specs.Steps.AtBoard.{AreFinished}
+use Rattle.replay_core.specs.AtBoard.{IsWork, Part}
 use Rattle.replay_core.specs.Beginnings.{AreBegun, IsBegunOf, least_exit, lesser_of}
 use Rattle.replay_core.specs.Seen.{IsRoomy}
 use Rattle.replay_core.specs.Working.{AreOfGroups, IsOfGroup, firings_in}

@@ -46,7 +46,7 @@ none_at_all (r ∷ rest) taken =
     let some_in_turn : length (places_in_turn (r ∷ rest)) ≡ 0 → ⊥ = λ e. omega (arith, all, front, here) in
     ne_eqb (length (r ∷ rest)) 0 some ∙ sym (ne_eqb (length (places_in_turn (r ∷ rest))) 0 some_in_turn)
 
--- ---- turns that are left
+-- ---- all_made that are left
 
 -- those that are left where so many were taken of the clause at a place among all
 abbrev pub places_left : List Repeat → (at times : ℕ) → List ℕ
@@ -75,7 +75,7 @@ clause_done all at r lt is =
 pub all_taken : (all : List Repeat) (at times : ℕ) → length all ≤ at → places_left all at times ≡ []
 all_taken all at times past = ap (λ (l : List Repeat). drop times (places_in_turn l)) (drop_all at all past) ∙ drop_all times [] (omega arith)
 
--- ---- what is true of the places of all turns
+-- ---- what is true of the places of all all_made
 
 module _ (P : ℕ → Type 0) where
   first_of : (n p : ℕ) (rest : List ℕ) → 0 < n → All P (replicate n p ++ rest) → P p

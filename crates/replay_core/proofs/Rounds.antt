@@ -16,8 +16,8 @@ use Rattle.replay_core.specs.declared.round.Round.{Round}
 use Rattle.replay_core.specs.declared.span.Span.{Span}
 use Rattle.replay_core.specs.declared.span.Span.TheVariants as span
 use Rattle.replay_core.specs.Beginnings.{IsBegunOf, exit_over}
-use Rattle.replay_core.specs.Crews.{GivesBegun, GivesPieces, IsRound}
-use Rattle.replay_core.specs.Steps.Crews.{IsRun}
+use Rattle.replay_core.specs.AtBoard.{GivesBegun, GivesPieces, IsRound}
+use Rattle.replay_core.specs.Steps.AtBoard.{IsRun}
 use Rattle.replay_core.specs.Exit.{first_exit_number, firings_over, up_to}
 use Rattle.replay_core.specs.Groups.{AreGrouped}
 use Rattle.replay_core.specs.Meaning.{exit_of, history, blank_threads}

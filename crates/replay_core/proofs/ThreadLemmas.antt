@@ -26,7 +26,7 @@ use Rattle.replay_core.specs.Meaning.{threads_after}
 use Rattle.replay_core.specs.Patterns.{probe_of, selects}
 use Rattle.replay_core.specs.Scripts.{AreTypedThreads, Keeps}
 use Rattle.replay_core.specs.Threads.{own_in, threads_in}
-use Rattle.replay_core.specs.Steps.Turns.{turns}
+use Rattle.replay_core.specs.Steps.AllMade.{all_made}
 
 -- ---- how a firing begins
 
@@ -97,7 +97,7 @@ own_stays entries thread t = elim (int_eq t thread) as (λ b. int_eq t thread �
 ] refl
 
 -- no clause runs at no places
-pub none_turn : (f : Firing) (cs : List ClauseMeant) (places : List ℕ) (start : Variables) → (length places == 0) ≡ true → turns f cs places start ≡ nothing_made start
+pub none_turn : (f : Firing) (cs : List ClauseMeant) (places : List ℕ) (start : Variables) → (length places == 0) ≡ true → all_made f cs places start ≡ nothing_made start
 none_turn f cs [] start none = refl
 none_turn f cs (place ∷ places) start none =
     let zeroth : length (place ∷ places) ≡ 0 = (Decides-eqb (length (place ∷ places)) 0).0 none in absurd (omega arith)

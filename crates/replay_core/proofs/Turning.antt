@@ -1,4 +1,4 @@
--- The turns that are left, and those that were taken.
+-- The all_made that are left, and those that were taken.
 use Rattle.std.specs.Prelude.{◌≡◌, ℕ, zero, suc, ◌<◌, List, [], ◌∷◌, All, slice_get, Bool, true}
 use Rattle.std.specs.Prelude.{false, ◌+◌, ◌||◌, Option, None, Some, is_some, length}
 use Rattle.std.specs.Option.{option_or}
@@ -14,14 +14,14 @@ use Rattle.replay_core.specs.Effects.{NotesRun}
 use Rattle.replay_core.specs.Lanes.{Notes}
 use Rattle.replay_core.specs.Pieces.{PieceSeen}
 use Rattle.replay_core.specs.Scripts.{AllMean, Keeps}
-use Rattle.replay_core.specs.Steps.Turns.{run_at, turns}
+use Rattle.replay_core.specs.Steps.AllMade.{run_at, all_made}
 use Rattle.replay_core.proofs.Noting.{notes_nothing, notes_then}
 
--- with the turns that are left a piece goes on as with all of them from the start
+-- with the all_made that are left a piece goes on as with all of them from the start
 pub record Continues (f : Firing) (cs : List ClauseMeant) (all left : List ℕ) (before now : Variables) (old new : PieceSeen) (exits : Bool) : Type 0 where
-  pub notes : (end : PieceSeen) → Notes f.number (turns f cs left now) new end → Notes f.number (turns f cs all before) old end
-  pub variables : (turns f cs left now).variables ≡ (turns f cs all before).variables
-  pub told : (exits || is_some (turns f cs left now).exit) ≡ is_some (turns f cs all before).exit
+  pub notes : (end : PieceSeen) → Notes f.number (all_made f cs left now) new end → Notes f.number (all_made f cs all before) old end
+  pub variables : (all_made f cs left now).variables ≡ (all_made f cs all before).variables
+  pub told : (exits || is_some (all_made f cs left now).exit) ≡ is_some (all_made f cs all before).exit
 
 -- what stands beside an element
 pub zip_at : {A B : Type 0} (R : A → B → Type 0) (xs : List A) (ys : List B) (i : ℕ) (d : A) → AllZip R xs ys → i < length xs
@@ -56,14 +56,14 @@ module _ (f : Firing) (cs : List ClauseMeant) where
   continues_more all left place before now after old new next exits more made so_far is vars noted more_is =
       let first = run_at f place (slice_get cs place) now in
       let same : first.variables ≡ after = ap (λ m. m.variables) is ∙ vars in
-      let rest_is : turns f cs left first.variables ≡ turns f cs left after = ap (turns f cs left) same in
-      let turn : turns f cs (place ∷ left) now ≡ and_then made (turns f cs left after) =
-      ap (λ m. and_then m (turns f cs left m.variables)) is ∙ ap (λ v. and_then made (turns f cs left v)) vars in
+      let rest_is : all_made f cs left first.variables ≡ all_made f cs left after = ap (all_made f cs left) same in
+      let turn : all_made f cs (place ∷ left) now ≡ and_then made (all_made f cs left after) =
+      ap (λ m. and_then m (all_made f cs left m.variables)) is ∙ ap (λ v. and_then made (all_made f cs left v)) vars in
       record {
         notes = λ end h. so_far.notes end
-            (subst (λ m. Notes f.number m new end) (sym turn) (notes_then f.number made (turns f cs left after) new next end noted h));
+            (subst (λ m. Notes f.number m new end) (sym turn) (notes_then f.number made (all_made f cs left after) new next end noted h));
         variables = ap (λ m. m.variables) (sym turn) ∙ so_far.variables;
-        told = ap (λ b. b || is_some (turns f cs left after).exit) more_is ∙ some_or exits made.exit (turns f cs left after).exit
+        told = ap (λ b. b || is_some (all_made f cs left after).exit) more_is ∙ some_or exits made.exit (all_made f cs left after).exit
             ∙ ap (λ m. exits || is_some m.exit) (sym turn) ∙ so_far.told;
       }
 
@@ -85,7 +85,7 @@ module _ (f : Firing) (cs : List ClauseMeant) where
 
   -- none is left
   pub continues_all : (all : List ℕ) (before now : Variables) (old new : PieceSeen) (exits : Bool) → Continues f cs all [] before now old new exits
-      → Notes f.number (turns f cs all before) old new × (now ≡ (turns f cs all before).variables)
+      → Notes f.number (all_made f cs all before) old new × (now ≡ (all_made f cs all before).variables)
   continues_all all before now old new exits c = (c.notes new (notes_nothing f.number now new), c.variables)
 
   or_false : (b : Bool) → b ≡ (b || false)
@@ -93,5 +93,5 @@ module _ (f : Firing) (cs : List ClauseMeant) where
   or_false false = refl
 
   pub exits_all : (all : List ℕ) (before now : Variables) (old new : PieceSeen) (exits : Bool) → Continues f cs all [] before now old new exits
-      → exits ≡ is_some (turns f cs all before).exit
+      → exits ≡ is_some (all_made f cs all before).exit
   exits_all all before now old new exits c = or_false exits ∙ c.told

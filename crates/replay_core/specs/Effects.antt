@@ -2,7 +2,7 @@
 use Rattle.std.specs.Prelude.{◌≡◌, ℕ, Bool, List, [], ◌∷◌, is_some}
 use Rattle.replay_core.specs.Vocabulary.{Effect, Firing, Made, Variables, contributions_in, exit_in}
 use Rattle.replay_core.specs.Vocabulary.{texts_in}
-use Rattle.replay_core.specs.declared.{piece.Piece.Piece, scene.Scene.Scene}
+use Rattle.replay_core.specs.declared.{piece.Piece.Piece, state.State.State}
 use Rattle.replay_core.specs.{Evaluation.variables_in, Lanes.Notes, Pieces.PieceSeen}
 use Rattle.replay_core.specs.{Seen.piece_seen}
 
@@ -27,8 +27,8 @@ pub record NotesRun (number : ℕ) (made : Made) (old new : PieceSeen) (vars : V
   pub variables : vars ≡ made.variables
   pub exited : exits ≡ is_some made.exit
 
--- the same of a run in a scene
-abbrev pub IsNotedRun : (Firing → Variables → Made) → (old new : Scene) → (before after : Piece)
+-- the same of a run in a state
+abbrev pub IsNotedRun : (Firing → Variables → Made) → (old new : State) → (before after : Piece)
     → Bool → Type 0
 IsNotedRun meaning old new before after exits =
     NotesRun old.firing.now.number (meaning old.firing.now (variables_in old)) (piece_seen before)

@@ -23,5 +23,5 @@ pub mod Tables
 pub mod Collecting
 pub mod Working
 pub mod Beginnings
-pub mod Crews
+pub mod AtBoard
 pub mod Steps

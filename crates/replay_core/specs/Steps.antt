@@ -1,7 +1,7 @@
 -- What private functions alone say of their steps. No contract for callers rests on these
 -- definitions.
 pub mod Beginnings
-pub mod Crews
+pub mod AtBoard
 pub mod Effects
 pub mod Evaluation
 pub mod Patterns
@@ -11,4 +11,4 @@ pub mod Working
 pub mod Caching
 pub mod Described
 pub mod PiecePlaces
-pub mod Turns
+pub mod AllMade

@@ -10,7 +10,7 @@ ghost use Rattle.replay_core.specs.Bounds.{places_among, places_in};
 ghost use Rattle.replay_core.specs.Evaluation.{Stays, variables_in};
 
 use crate::piece::Piece;
-use crate::scene::Scene;
+use crate::state::State;
 use crate::statements::run_clause;
 use d_parser::Description;
 use d_types::TypedClause;
@@ -40,17 +40,17 @@ pub trait Clause {
     /// Runs it for a firing: notes in the piece what its statements do, and returns whether it
     /// exits. At a division by 0 the run ends, and a line that names the firing and the clause's
     /// place, from 1, takes the place of its texts.
-    fn run(&self, place: u64, scene: &mut Scene<'_>, piece: &mut Piece) -> Result<bool, AllocError>
+    fn run(&self, place: u64, state: &mut State<'_>, piece: &mut Piece) -> Result<bool, AllocError>
         requires places { places self.now ≤ length (functions_of piece.old.table) }
         requires room { count_held piece.old.table + most self.now ≤ 2 ^ 52 }
         ensures functions { functions_of piece.new.table ≡ functions_of piece.old.table }
         ensures taken { piece.new.taken.items ≡ piece.old.taken.items }
         ensures held { count_held piece.new.table ≤ count_held piece.old.table + most self.now }
-        ensures scene { Stays scene.old scene.new }
+        ensures state { Stays state.old state.new }
         ensures run { IfOk result (λ exits.
             (slots : Slots) (c : ClauseMeant) → means self.now slots c
-            → HasTypedBuiltIns scene.old.firing.now → AreTyped slots (variables_in scene.old)
-            → IsNotedRun (λ f. run_of f place c) scene.old scene.new piece.old piece.new exits) };
+            → HasTypedBuiltIns state.old.firing.now → AreTyped slots (variables_in state.old)
+            → IsNotedRun (λ f. run_of f place c) state.old state.new piece.old piece.new exits) };
 }
 
 // The tree of a clause, walked.
@@ -70,10 +70,10 @@ impl Clause for TypedClause {
     fn run(
         &self,
         place: u64,
-        scene: &mut Scene<'_>,
+        state: &mut State<'_>,
         piece: &mut Piece,
     ) -> Result<bool, AllocError> {
-        run_clause(&self.predicate, &self.statements, place, scene, piece)
+        run_clause(&self.predicate, &self.statements, place, state, piece)
     }
 }
 
@@ -94,9 +94,9 @@ impl Clause for CompiledClause {
     fn run(
         &self,
         place: u64,
-        scene: &mut Scene<'_>,
+        state: &mut State<'_>,
         piece: &mut Piece,
     ) -> Result<bool, AllocError> {
-        run_clause(&self.predicate, &self.actions, place, scene, piece)
+        run_clause(&self.predicate, &self.actions, place, state, piece)
     }
 }

@@ -8,7 +8,7 @@ ghost use Rattle.replay_core.specs.Vocabulary.{run_threads, with_ends};
 ghost use Rattle.firing_reader.specs.declared.unit.Probe.{Probe};
 ghost use Rattle.replay_core.specs.declared.round.Round.{Round};
 ghost use Rattle.replay_core.specs.declared.span.Span.TheVariants as span;
-ghost use Rattle.replay_core.specs.Crews.{Gives, IsRound};
+ghost use Rattle.replay_core.specs.AtBoard.{Gives, IsRound};
 ghost use Rattle.replay_core.specs.Exit.{IsLeastExit, exit_status, exits_of, first_exit_number};
 ghost use Rattle.replay_core.specs.Exit.{firings_over, history_over};
 ghost use Rattle.replay_core.specs.Groups.{AreGrouped, Grouping};

@@ -2,13 +2,14 @@
 //! variables, and what a run over a trace collects.
 #![tactic(auto)]
 
+mod at_board;
 mod clause;
 mod clause_lists;
 mod clause_places;
+mod clause_runs;
 mod collect_fault;
 mod collector;
 mod compiled;
-mod crew;
 mod description_table;
 mod engine;
 mod evaluation;
@@ -24,16 +25,15 @@ mod places;
 mod placing;
 mod round;
 mod run_firings;
-mod scene;
 mod selection;
 mod sorting;
 mod source;
 mod span;
+mod state;
 mod statements;
 mod tables;
 mod threads;
 mod tree;
-mod turns;
 mod until;
 mod whole;
 mod worker;
@@ -51,12 +51,12 @@ pub use lane::Lane;
 pub use lanes::Lanes;
 pub use layout::Layout;
 pub use piece::Piece;
-pub use scene::Scene;
 pub use selection::Selections;
 pub use source::{Exits, Source};
+pub use state::State;
 pub use statements::{printf_text, trace_line};
 pub use tree::{TreeLane, TreeLanes, tree_lane};
 pub use until::work_until;
 pub use whole::Whole;
-pub use worker::{Shift, work};
+pub use worker::{Input, work};
 pub use workers::{Job, Ran, run_all};

@@ -4,14 +4,14 @@ ghost use Rattle.std.specs.Prelude.{◌≡◌, ◌+◌, ◌<◌, ◌≤◌, IfOk
 ghost use Rattle.replay_core.specs.Vocabulary.{grouping};
 ghost use Rattle.replay_core.specs.{Selecting.AreSelected};
 ghost use Rattle.replay_core.specs.Steps.Working.{IsReady};
-ghost use Rattle.replay_core.specs.Crews.{Gives, IsRound};
+ghost use Rattle.replay_core.specs.AtBoard.{Gives, IsRound};
 
-use crate::crew::{in_threads, pieces_and_seats};
+use crate::at_board::{in_threads, pieces_and_seats};
 use crate::gate::Gate;
 use crate::lanes::Lanes;
 use crate::piece::Piece;
 use crate::span::Span;
-use crate::worker::Shift;
+use crate::worker::Input;
 use shard_queue::{ClaimBoard, MOST_GROUPS, MOST_WORKERS};
 use std::alloc::AllocError;
 use std::sync::Wait;
@@ -29,25 +29,25 @@ pub(crate) struct Round {
 /// Runs this many workers over all groups.
 pub(crate) fn in_round<R: Threads + Wait + Sync, L: Lanes + Sync, G: Gate + Sync>(
     rt: &R,
-    shift: &Shift<L, G>,
+    input: &Input<L, G>,
     workers: u32,
     span: Span,
 ) -> Result<Round, AllocError>
-    requires ready { IsReady (L.runs shift.now.lanes.now) shift.now.groups.now shift.now.trace.now }
+    requires ready { IsReady (L.runs input.now.lanes.now) input.now.groups.now input.now.trace.now }
     requires selected { AreSelected
-        (L.runs shift.now.lanes.now) shift.now.trace.now shift.now.selections.now }
-    requires few { (grouping shift.now.groups.now).count ≤ MOST_GROUPS + 1 }
+        (L.runs input.now.lanes.now) input.now.trace.now input.now.selections.now }
+    requires few { (grouping input.now.groups.now).count ≤ MOST_GROUPS + 1 }
     requires workers { (0 < workers) × (workers ≤ MOST_WORKERS) }
     ensures lists { IfOk result (λ r. vec_len r.lists ≡ workers) }
     ensures round { IfOk result (IsRound
-        (Gives span (L.runs shift.now.lanes.now) shift.now.groups.now shift.now.trace.now)
-        (grouping shift.now.groups.now).count) }
+        (Gives span (L.runs input.now.lanes.now) input.now.groups.now input.now.trace.now)
+        (grouping input.now.groups.now).count) }
 {
-    let end = shift.groups.len() as u32;
-    let (board, seats) = ClaimBoard::open(shift.alloc, end, workers as usize)?;
-    let results = in_threads(rt, &board, seats, shift, span)?;
-    let (pieces, seats) = pieces_and_seats(shift.alloc, results)?;
-    let closed = board.close(shift.alloc, seats)?;
+    let end = input.groups.len() as u32;
+    let (board, seats) = ClaimBoard::open(input.alloc, end, workers as usize)?;
+    let results = in_threads(rt, &board, seats, input, span)?;
+    let (pieces, seats) = pieces_and_seats(input.alloc, results)?;
+    let closed = board.close(input.alloc, seats)?;
     Ok(Round {
         pieces,
         lists: closed.lists,

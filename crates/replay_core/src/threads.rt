@@ -10,15 +10,15 @@ ghost use Rattle.replay_core.specs.{Evaluation.variables_of, Lanes.Notes};
 ghost use Rattle.replay_core.specs.Steps.Caching.{IsTablesAt};
 ghost use Rattle.replay_core.specs.{Meaning.at_start, Scripts.AllMean, Seen.piece_seen};
 ghost use Rattle.replay_core.specs.{Threads.threads_in};
-ghost use Rattle.replay_core.specs.Steps.Turns.{turns};
+ghost use Rattle.replay_core.specs.Steps.AllMade.{all_made};
 
 use crate::clause::Clause;
 use crate::clause_places::ClausePlaces;
+use crate::clause_runs::run_clauses;
 use crate::evaluation::Spare;
 use crate::piece::Piece;
-use crate::scene::Scene;
+use crate::state::State;
 use crate::tables::Tables;
-use crate::turns::run_in_turn;
 use d_lexer::MOST_BYTES;
 use firing_reader::Firing;
 use indexmap::IndexMap;
@@ -59,13 +59,13 @@ pub(crate) fn run_on_thread<C: Clause>(
         → AllMean C.means slots due.now.clauses.now cs → HasTypedBuiltIns due.now.firing.now
         → AreTypedOwn slots (threads_in threads.old.entries due.now.firing.now.thread) →
         let start = at_start (threads_in threads.old.entries due.now.firing.now.thread) in
-        let made = turns due.now.firing.now cs due.now.places.now start in
+        let made = all_made due.now.firing.now cs due.now.places.now start in
         Notes due.now.firing.now.number made (piece_seen piece.old) (piece_seen piece.new)) }
     ensures threads { OnOk result ((slots : Slots) (cs : List ClauseMeant)
         → AllMean C.means slots due.now.clauses.now cs → HasTypedBuiltIns due.now.firing.now
         → AreTypedOwn slots (threads_in threads.old.entries due.now.firing.now.thread) →
         let start = at_start (threads_in threads.old.entries due.now.firing.now.thread) in
-        let made = turns due.now.firing.now cs due.now.places.now start in
+        let made = all_made due.now.firing.now cs due.now.places.now start in
         (thread : ℤ) → threads_in threads.new.entries thread
         ≡ (if int_eq thread due.now.firing.now.thread then made.variables.own
         else threads_in threads.old.entries thread)) }
@@ -73,7 +73,7 @@ pub(crate) fn run_on_thread<C: Clause>(
         → AllMean C.means slots due.now.clauses.now cs → HasTypedBuiltIns due.now.firing.now
         → AreTypedOwn slots (threads_in threads.old.entries due.now.firing.now.thread) →
         let start = at_start (threads_in threads.old.entries due.now.firing.now.thread) in
-        let made = turns due.now.firing.now cs due.now.places.now start in
+        let made = all_made due.now.firing.now cs due.now.places.now start in
         exits ≡ is_some made.exit) }
     ensures held { OnOk result (count_held piece.new.table
         ≤ count_held piece.old.table + MOST_BYTES * length due.now.places.now) }
@@ -115,25 +115,25 @@ fn run_on_tables<C: Clause>(
     ensures notes { OnOk result ((slots : Slots) (cs : List ClauseMeant)
         → AllMean C.means slots due.now.clauses.now cs → HasTypedBuiltIns due.now.firing.now
         → AreTyped slots (variables_of tables.old) →
-        let made = turns due.now.firing.now cs due.now.places.now (variables_of tables.old) in
+        let made = all_made due.now.firing.now cs due.now.places.now (variables_of tables.old) in
         Notes due.now.firing.now.number made (piece_seen piece.old) (piece_seen piece.new)
         × (variables_of tables.new ≡ made.variables)) }
     ensures exits { IfOk result (λ exits. (slots : Slots) (cs : List ClauseMeant)
         → AllMean C.means slots due.now.clauses.now cs → HasTypedBuiltIns due.now.firing.now
         → AreTyped slots (variables_of tables.old) →
-        let made = turns due.now.firing.now cs due.now.places.now (variables_of tables.old) in
+        let made = all_made due.now.firing.now cs due.now.places.now (variables_of tables.old) in
         exits ≡ is_some made.exit) }
     ensures held { OnOk result (count_held piece.new.table
         ≤ count_held piece.old.table + MOST_BYTES * length due.now.places.now) }
 {
     let alloc = *piece.taken.allocator();
-    let mut scene = Scene {
+    let mut state = State {
         alloc,
         firing: due.firing,
         tables,
         spare,
     };
-    run_in_turn(due.clauses, due.places, &mut scene, piece)
+    run_clauses(due.clauses, due.places, &mut state, piece)
 }
 
 // The index of the thread's tables.

@@ -16,7 +16,7 @@ use crate::lanes::Lanes;
 use crate::piece::Piece;
 use crate::run_firings::firing_at;
 use crate::source::Exits;
-use crate::worker::Shift;
+use crate::worker::Input;
 use std::alloc::AllocError;
 use std::sync::Wait;
 
@@ -25,37 +25,37 @@ use std::sync::Wait;
 /// found to exit. Err where memory was refused.
 ///
 /// ```text
-/// let (pieces, seat) = work_until(&rt, &board, seat, &shift)?;
+/// let (pieces, seat) = work_until(&rt, &board, seat, &input)?;
 /// ```
 pub fn work_until<R: Wait, S: Exits, L: Lanes, G: Gate>(
     rt: &R,
     source: &S,
     mut seat: S::Seat,
-    shift: &Shift<L, G>,
+    input: &Input<L, G>,
 ) -> Result<(Vec<(u32, Piece)>, S::Seat), AllocError>
 where
     S::Seat: Drop,
     requires seat { S.is_at source.now seat × (S.list seat ≡ []) }
     requires new { S.lowered seat ≡ no_number }
-    requires end { S.end source.now ≡ (grouping shift.now.groups.now).count }
-    requires script { (m : ScriptMeant) × L.runs shift.now.lanes.now m }
+    requires end { S.end source.now ≡ (grouping input.now.groups.now).count }
+    requires script { (m : ScriptMeant) × L.runs input.now.lanes.now m }
     requires selected { AreSelected
-        (L.runs shift.now.lanes.now) shift.now.trace.now shift.now.selections.now }
-    requires groups { AreOf shift.now.groups.now (run_threads shift.now.trace.now) }
+        (L.runs input.now.lanes.now) input.now.trace.now input.now.selections.now }
+    requires groups { AreOf input.now.groups.now (run_threads input.now.trace.now) }
     ensures seat { IfOk result (λ r. S.is_at source.entry.now r.1 × (S.at_end r.1 ≡ true)) }
     ensures groups { IfOk result (λ r. map (λ p. p.0) r.0.items ≡ S.list r.1) }
-    ensures pieces { IfOk result (λ r. AreBegun (L.runs shift.entry.now.lanes.now) (S.seen r.1)
-        (grouping shift.entry.now.groups.now)
-        (with_ends shift.entry.now.trace.now shift.entry.now.trace.now) r.0.items) }
+    ensures pieces { IfOk result (λ r. AreBegun (L.runs input.entry.now.lanes.now) (S.seen r.1)
+        (grouping input.entry.now.groups.now)
+        (with_ends input.entry.now.trace.now input.entry.now.trace.now) r.0.items) }
     ensures least { IfOk result (λ r. S.lowered r.1 ≡ least_exit r.0.items) }
 {
-    let mut pieces = Vec::new(shift.alloc);
+    let mut pieces = Vec::new(input.alloc);
     for _ in rt.forever() {
         let Some(group) = source.take(rt, &mut seat) else {
             return Ok((pieces, seat));
         };
-        shift.gate.begun(group);
-        let piece = piece_until(source, &mut seat, shift, group)?;
+        input.gate.begun(group);
+        let piece = piece_until(source, &mut seat, input, group)?;
         pieces.push((group, piece))?;
     }
     unreachable!()
@@ -65,25 +65,25 @@ where
 fn piece_until<S: Exits, L: Lanes, G>(
     source: &S,
     seat: &mut S::Seat,
-    shift: &Shift<L, G>,
+    input: &Input<L, G>,
     group: u32,
 ) -> Result<Piece, AllocError>
     requires seat { S.is_at source.now seat.old }
-    requires group { group < (grouping shift.now.groups.now).count }
-    requires script { (m : ScriptMeant) × L.runs shift.now.lanes.now m }
+    requires group { group < (grouping input.now.groups.now).count }
+    requires script { (m : ScriptMeant) × L.runs input.now.lanes.now m }
     requires selected { AreSelected
-        (L.runs shift.now.lanes.now) shift.now.trace.now shift.now.selections.now }
-    requires groups { AreOf shift.now.groups.now (run_threads shift.now.trace.now) }
+        (L.runs input.now.lanes.now) input.now.trace.now input.now.selections.now }
+    requires groups { AreOf input.now.groups.now (run_threads input.now.trace.now) }
     ensures seat { OnOk result (S.is_at source.now seat.new × (S.list seat.new ≡ S.list seat.old)) }
     ensures seen { OnOk result (S.seen seat.new ≤ S.seen seat.old) }
-    ensures piece { IfOk result (λ p. (m : ScriptMeant) → L.runs shift.now.lanes.now m
-        → IsBegunOf m (S.seen seat.new) (grouping shift.now.groups.now)
-        (with_ends shift.now.trace.now shift.now.trace.now) (group, p)) }
+    ensures piece { IfOk result (λ p. (m : ScriptMeant) → L.runs input.now.lanes.now m
+        → IsBegunOf m (S.seen seat.new) (grouping input.now.groups.now)
+        (with_ends input.now.trace.now input.now.trace.now) (group, p)) }
     ensures roomy { IfOk result IsRoomy }
     ensures least { IfOk result (λ p. S.lowered seat.new ≡ lesser_of (S.lowered seat.old) p.exit) }
 {
-    let mut lane = shift.lanes.lane(shift.alloc)?;
-    run_until(source, seat, &mut lane, shift, shift.groups.places(group))?;
+    let mut lane = input.lanes.lane(input.alloc)?;
+    run_until(source, seat, &mut lane, input, input.groups.places(group))?;
     Ok(lane.finish())
 }
 
@@ -92,36 +92,36 @@ fn run_until<S: Exits, E: Engine, L, G>(
     source: &S,
     seat: &mut S::Seat,
     lane: &mut E,
-    shift: &Shift<L, G>,
+    input: &Input<L, G>,
     places: &[u32],
 ) -> Result<(), AllocError>
     requires seat { S.is_at source.now seat.old }
     requires script { (m : ScriptMeant) × E.runs lane.old m
-        × AreFor shift.now.trace.now shift.now.selections.now m }
+        × AreFor input.now.trace.now input.now.selections.now m }
     requires fresh { (m : ScriptMeant) → E.runs lane.old m → IsLaneOf m [] (E.seen lane.old) }
     requires unspent { IsFalse (E.is_spent lane.old) }
-    requires short { All (λ clauses. length clauses ≤ MOST_BYTES) shift.now.selections.now }
+    requires short { All (λ clauses. length clauses ≤ MOST_BYTES) input.now.selections.now }
     requires places { All (λ place. place
-        < length (with_ends shift.now.trace.now shift.now.trace.now)) places.now }
+        < length (with_ends input.now.trace.now input.now.trace.now)) places.now }
     requires few { length places.now
-        ≤ length (with_ends shift.now.trace.now shift.now.trace.now) }
+        ≤ length (with_ends input.now.trace.now input.now.trace.now) }
     ensures seat { OnOk result (S.is_at source.now seat.new × (S.list seat.new ≡ S.list seat.old)) }
     ensures seen { OnOk result (S.seen seat.new ≤ S.seen seat.old) }
     ensures unspent { OnOk result (IsFalse (E.is_spent lane.new)) }
     ensures run { OnOk result ((m : ScriptMeant) → E.runs lane.old m
-        → AreFor shift.now.trace.now shift.now.selections.now m
+        → AreFor input.now.trace.now input.now.selections.now m
         → RunsBeginning m (S.seen seat.new) (firings_at
-        (with_ends shift.now.trace.now shift.now.trace.now) places.now) (E.seen lane.new)) }
+        (with_ends input.now.trace.now input.now.trace.now) places.now) (E.seen lane.new)) }
     ensures least { OnOk result ((m : ScriptMeant) → E.runs lane.old m
-        → AreFor shift.now.trace.now shift.now.selections.now m
+        → AreFor input.now.trace.now input.now.selections.now m
         → S.lowered seat.new ≡ lesser_of (S.lowered seat.old) (E.seen lane.new).piece.exit) }
 {
     for place in places {
-        let firing = firing_at(shift.trace, *place);
+        let firing = firing_at(input.trace, *place);
         if source.least(seat) < firing.number {
             return Ok(());
         }
-        if lane.fire(&firing, shift.selections.at(*place))? {
+        if lane.fire(&firing, input.selections.at(*place))? {
             source.lower(seat, firing.number);
             return Ok(());
         }

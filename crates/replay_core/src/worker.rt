@@ -27,7 +27,7 @@ use std::sync::Wait;
 /// What each worker of a run is given: where its memory comes from, the script's lanes, the trace,
 /// which clauses run for its firings, its groups and the gate.
 #[derive(Drop)]
-pub struct Shift<'a, L, G> {
+pub struct Input<'a, L, G> {
     pub alloc: Global,
     pub lanes: &'a L,
     pub trace: &'a Trace,
@@ -41,7 +41,7 @@ pub struct Shift<'a, L, G> {
 ///
 /// ```text
 /// let selections = lanes.selections(alloc, &trace)?;
-/// let shift = Shift {
+/// let input = Input {
 ///     alloc,
 ///     lanes: &lanes,
 ///     trace: &trace,
@@ -51,30 +51,30 @@ pub struct Shift<'a, L, G> {
 /// };
 /// let (board, seats) = ClaimBoard::open(alloc, groups.len() as u32, 1)?;
 /// for seat in seats {
-///     let (pieces, seat) = work(&rt, &board, seat, &shift)?; // a piece of each group
+///     let (pieces, seat) = work(&rt, &board, seat, &input)?; // a piece of each group
 /// }
 /// ```
 pub fn work<R: Wait, S: Source, L: Lanes, G: Gate>(
     rt: &R,
     source: &S,
     seat: S::Seat,
-    shift: &Shift<L, G>,
+    input: &Input<L, G>,
 ) -> Result<(Vec<(u32, Piece)>, S::Seat), AllocError>
 where
     S::Seat: Drop,
     requires seat { S.is_at source.now seat × (S.list seat ≡ []) }
-    requires end { S.end source.now ≡ (grouping shift.now.groups.now).count }
-    requires script { (m : ScriptMeant) × L.runs shift.now.lanes.now m }
+    requires end { S.end source.now ≡ (grouping input.now.groups.now).count }
+    requires script { (m : ScriptMeant) × L.runs input.now.lanes.now m }
     requires selected { AreSelected
-        (L.runs shift.now.lanes.now) shift.now.trace.now shift.now.selections.now }
-    requires groups { AreOf shift.now.groups.now (run_threads shift.now.trace.now) }
+        (L.runs input.now.lanes.now) input.now.trace.now input.now.selections.now }
+    requires groups { AreOf input.now.groups.now (run_threads input.now.trace.now) }
     ensures seat { IfOk result (λ r. S.is_at source.entry.now r.1 × (S.at_end r.1 ≡ true)) }
     ensures groups { IfOk result (λ r. map (λ p. p.0) r.0.items ≡ S.list r.1) }
-    ensures pieces { IfOk result (λ r. AreOfGroups (L.runs shift.entry.now.lanes.now)
-        (grouping shift.entry.now.groups.now)
-        (with_ends shift.entry.now.trace.now shift.entry.now.trace.now) r.0.items) }
+    ensures pieces { IfOk result (λ r. AreOfGroups (L.runs input.entry.now.lanes.now)
+        (grouping input.entry.now.groups.now)
+        (with_ends input.entry.now.trace.now input.entry.now.trace.now) r.0.items) }
 {
-    work_on(rt, source, seat, shift, Span::All)
+    work_on(rt, source, seat, input, Span::All)
 }
 
 /// Takes groups until it is at the end, and makes a piece of each, of the firings that count.
@@ -82,35 +82,35 @@ pub(crate) fn work_on<R: Wait, S: Source, L: Lanes, G: Gate>(
     rt: &R,
     source: &S,
     mut seat: S::Seat,
-    shift: &Shift<L, G>,
+    input: &Input<L, G>,
     span: Span,
 ) -> Result<(Vec<(u32, Piece)>, S::Seat), AllocError>
 where
     S::Seat: Drop,
     requires seat { S.is_at source.now seat × (S.list seat ≡ []) }
-    requires end { S.end source.now ≡ (grouping shift.now.groups.now).count }
-    requires ready { IsReady (L.runs shift.now.lanes.now) shift.now.groups.now shift.now.trace.now }
+    requires end { S.end source.now ≡ (grouping input.now.groups.now).count }
+    requires ready { IsReady (L.runs input.now.lanes.now) input.now.groups.now input.now.trace.now }
     requires selected { AreSelected
-        (L.runs shift.now.lanes.now) shift.now.trace.now shift.now.selections.now }
+        (L.runs input.now.lanes.now) input.now.trace.now input.now.selections.now }
     ensures seat { IfOk result (λ r. S.is_at source.entry.now r.1 × (S.at_end r.1 ≡ true)) }
     ensures groups { IfOk result (λ r. map (λ p. p.0) r.0.items ≡ S.list r.1) }
-    ensures pieces { IfOk result (λ r. AreOfGroups (L.runs shift.entry.now.lanes.now)
-        (grouping shift.entry.now.groups.now)
-        (firings_in span shift.entry.now.trace.now) r.0.items) }
+    ensures pieces { IfOk result (λ r. AreOfGroups (L.runs input.entry.now.lanes.now)
+        (grouping input.entry.now.groups.now)
+        (firings_in span input.entry.now.trace.now) r.0.items) }
 {
-    let mut pieces = Vec::new(shift.alloc);
+    let mut pieces = Vec::new(input.alloc);
     for _ in rt.forever() {
         let Some(group) = source.take(rt, &mut seat) else {
             return Ok((pieces, seat));
         };
-        shift.gate.begun(group);
-        let piece = shift.piece_of(group, span)?;
+        input.gate.begun(group);
+        let piece = input.piece_of(group, span)?;
         pieces.push((group, piece))?;
     }
     unreachable!()
 }
 
-impl<'a, L: Lanes, G> Shift<'a, L, G> {
+impl<'a, L: Lanes, G> Input<'a, L, G> {
     // What the firings of a group make that count.
     fn piece_of(&self, group: u32, span: Span) -> Result<Piece, AllocError>
         requires group { group < (grouping self.now.groups.now).count }

@@ -4,7 +4,7 @@ ghost use Rattle.std.specs.Prelude.{◌≡◌, ◌+◌, ◌<◌, ◌≤◌, IfOk
 ghost use Rattle.replay_core.specs.Vocabulary.{AreOf, IsTrace, ScriptMeant, end_of, flat_map};
 ghost use Rattle.replay_core.specs.Vocabulary.{grouping, run_threads};
 ghost use Rattle.replay_core.specs.{Exit.firings_over, Groups.IsAllBelow};
-ghost use Rattle.replay_core.specs.Steps.Crews.{IsRun};
+ghost use Rattle.replay_core.specs.Steps.AtBoard.{IsRun};
 ghost use Rattle.replay_core.specs.{Seen.whole_seen, Selecting.AreSelected};
 ghost use Rattle.replay_core.specs.Steps.Working.{IsReady};
 ghost use Rattle.replay_core.specs.Pieces.{IsWholeOf, RunsEachOnce};
@@ -16,7 +16,7 @@ use crate::lanes::Lanes;
 use crate::round::{Round, in_round};
 use crate::span::Span;
 use crate::whole::Whole;
-use crate::worker::Shift;
+use crate::worker::Input;
 use firing_reader::Trace;
 use shard_queue::{Groups, MOST_GROUPS, MOST_WORKERS};
 use std::alloc::{AllocError, Global};
@@ -105,7 +105,7 @@ fn in_rounds<R: Threads + Wait + Sync, L: Lanes + Sync, G: Gate + Sync>(
     ensures run { IfOk result (IsRun (L.runs lanes.now) job.now.groups.now job.now.trace.now) }
 {
     let selections = lanes.selections(alloc, job.trace)?;
-    let shift = Shift {
+    let input = Input {
         alloc,
         lanes,
         trace: job.trace,
@@ -113,31 +113,31 @@ fn in_rounds<R: Threads + Wait + Sync, L: Lanes + Sync, G: Gate + Sync>(
         groups: job.groups,
         gate: job.gate,
     };
-    let round = in_needed_rounds(rt, &shift, workers)?;
+    let round = in_needed_rounds(rt, &input, workers)?;
     Ok(round)
 }
 
 // One round where the script has no exit, else two.
 fn in_needed_rounds<R: Threads + Wait + Sync, L: Lanes + Sync, G: Gate + Sync>(
     rt: &R,
-    shift: &Shift<L, G>,
+    input: &Input<L, G>,
     workers: u32,
 ) -> Result<Round, AllocError>
-    requires ready { IsReady (L.runs shift.now.lanes.now) shift.now.groups.now shift.now.trace.now }
+    requires ready { IsReady (L.runs input.now.lanes.now) input.now.groups.now input.now.trace.now }
     requires selected { AreSelected
-        (L.runs shift.now.lanes.now) shift.now.trace.now shift.now.selections.now }
-    requires few { (grouping shift.now.groups.now).count ≤ MOST_GROUPS + 1 }
+        (L.runs input.now.lanes.now) input.now.trace.now input.now.selections.now }
+    requires few { (grouping input.now.groups.now).count ≤ MOST_GROUPS + 1 }
     requires workers { (0 < workers) × (workers ≤ MOST_WORKERS) }
     ensures workers { IfOk result (λ r. vec_len r.lists ≡ workers) }
-    ensures trace { IfOk result (λ _. IsTrace shift.now.trace.now) }
+    ensures trace { IfOk result (λ _. IsTrace input.now.trace.now) }
     ensures run { IfOk result (IsRun
-        (L.runs shift.now.lanes.now) shift.now.groups.now shift.now.trace.now) }
+        (L.runs input.now.lanes.now) input.now.groups.now input.now.trace.now) }
 {
-    let end = shift.trace.firings().last_number() + 1;
-    if shift.lanes.exits() {
-        until_exit(rt, shift, workers, end)
+    let end = input.trace.firings().last_number() + 1;
+    if input.lanes.exits() {
+        until_exit(rt, input, workers, end)
     } else {
-        in_round(rt, shift, workers, Span::All)
+        in_round(rt, input, workers, Span::All)
     }
 }
 
@@ -145,23 +145,23 @@ fn in_needed_rounds<R: Threads + Wait + Sync, L: Lanes + Sync, G: Gate + Sync>(
 // to the first that does, and END.
 fn until_exit<R: Threads + Wait + Sync, L: Lanes + Sync, G: Gate + Sync>(
     rt: &R,
-    shift: &Shift<L, G>,
+    input: &Input<L, G>,
     workers: u32,
     end: u64,
 ) -> Result<Round, AllocError>
-    requires ready { IsReady (L.runs shift.now.lanes.now) shift.now.groups.now shift.now.trace.now }
+    requires ready { IsReady (L.runs input.now.lanes.now) input.now.groups.now input.now.trace.now }
     requires selected { AreSelected
-        (L.runs shift.now.lanes.now) shift.now.trace.now shift.now.selections.now }
-    requires few { (grouping shift.now.groups.now).count ≤ MOST_GROUPS + 1 }
+        (L.runs input.now.lanes.now) input.now.trace.now input.now.selections.now }
+    requires few { (grouping input.now.groups.now).count ≤ MOST_GROUPS + 1 }
     requires workers { (0 < workers) × (workers ≤ MOST_WORKERS) }
-    requires trace { IsTrace shift.now.trace.now }
-    requires end { end ≡ (end_of shift.now.trace.now).number }
+    requires trace { IsTrace input.now.trace.now }
+    requires end { end ≡ (end_of input.now.trace.now).number }
     ensures workers { IfOk result (λ r. vec_len r.lists ≡ workers) }
     ensures run { IfOk result (IsRun
-        (L.runs shift.now.lanes.now) shift.now.groups.now shift.now.trace.now) }
+        (L.runs input.now.lanes.now) input.now.groups.now input.now.trace.now) }
 {
     let watching = Span::UntilExit;
-    let first = in_round(rt, shift, workers, watching)?;
+    let first = in_round(rt, input, workers, watching)?;
     if first.least == u64::MAX {
         return Ok(first);
     }
@@ -169,6 +169,6 @@ fn until_exit<R: Threads + Wait + Sync, L: Lanes + Sync, G: Gate + Sync>(
         last: first.least,
         end,
     };
-    let second = in_round(rt, shift, workers, counted)?;
+    let second = in_round(rt, input, workers, counted)?;
     Ok(second)
 }

@@ -2,7 +2,7 @@
 use Rattle.std.specs.Prelude.{◌≡◌, ℕ, Bool, [], ◌∷◌, Result, Ok, Err, is_some}
 use Rattle.replay_core.specs.Vocabulary.{Effect, Faults, Firing, Has, Outcome, Variables, exit_in}
 use Rattle.replay_core.specs.declared.{evaluation.fault.EvalFault.EvalFault, piece.Piece.Piece}
-use Rattle.replay_core.specs.declared.{scene.Scene.Scene}
+use Rattle.replay_core.specs.declared.{state.State.State}
 use Rattle.replay_core.specs.{Evaluation.Stays, Evaluation.variables_in, Pieces.PieceSeen}
 use Rattle.replay_core.specs.{Seen.piece_seen}
 use Rattle.replay_core.specs.Effects.{NotesEffect}
@@ -18,9 +18,9 @@ Performs number (Faults after) old (Ok exits) new vars = ⊥
 Performs number (Faults after) old (Err EvalFault.DivideByZero) new vars =
     (vars ≡ after) × (new ≡ old)
 
--- the same of a statement in a scene
+-- the same of a statement in a state
 abbrev pub IsPerformed : (Firing → Variables → Outcome Effect) → Result Bool EvalFault
-    → (old new : Scene) → (before after : Piece) → Type 0
+    → (old new : State) → (before after : Piece) → Type 0
 IsPerformed meaning r old new before after =
     Stays old new × Performs old.firing.now.number (meaning old.firing.now (variables_in old))
     (piece_seen before) r (piece_seen after) (variables_in new)

@@ -3,20 +3,20 @@ use Rattle.std.specs.Prelude.{◌≡◌, ℕ, List, Result, Ok, Err}
 use Rattle.replay_core.specs.Vocabulary.{Faults, Firing, Has, KeyPart, Outcome, Typed, Typeds}
 use Rattle.replay_core.specs.Vocabulary.{Value, Variables, eval, keys_of, number_outcome}
 use Rattle.replay_core.specs.Vocabulary.{text_outcome}
-use Rattle.replay_core.specs.declared.{evaluation.fault.EvalFault.EvalFault, scene.Scene.Scene}
+use Rattle.replay_core.specs.declared.{evaluation.fault.EvalFault.EvalFault, state.State.State}
 use Rattle.replay_core.specs.Evaluation.{variables_in, Stays, Meets}
 
 -- the value, the word, the text and the key of what is evaluated
-abbrev pub HasValue : Typed → Result Value EvalFault → (old new : Scene) → Type 0
+abbrev pub HasValue : Typed → Result Value EvalFault → (old new : State) → Type 0
 HasValue e = Meets (λ f. eval f e)
 
-abbrev pub HasWord : Typed → Result ℕ EvalFault → (old new : Scene) → Type 0
+abbrev pub HasWord : Typed → Result ℕ EvalFault → (old new : State) → Type 0
 HasWord e = Meets (λ f vars. number_outcome (eval f e vars))
 
-abbrev pub HasText : Typed → Result (List ℕ) EvalFault → (old new : Scene) → Type 0
+abbrev pub HasText : Typed → Result (List ℕ) EvalFault → (old new : State) → Type 0
 HasText e = Meets (λ f vars. text_outcome (eval f e vars))
 
-abbrev pub HasKey : Typeds → Result (List KeyPart) EvalFault → (old new : Scene) → Type 0
+abbrev pub HasKey : Typeds → Result (List KeyPart) EvalFault → (old new : State) → Type 0
 HasKey keys = Meets (λ f. keys_of f keys)
 
 -- ---- what a call leaves in a place, unless memory ran out
@@ -26,8 +26,8 @@ IsLeft o (Ok x) made vars = o ≡ Has made vars
 IsLeft o (Err EvalFault.DivideByZero) made vars = o ≡ Faults vars
 IsLeft o (Err EvalFault.Memory) made vars = Unit {0}
 
--- what a call that makes it in a place leaves there and in its scene
+-- what a call that makes it in a place leaves there and in its state
 abbrev pub Leaves : {A B : Type 0} → (Firing → Variables → Outcome A) → Result B EvalFault → A
-    → (old new : Scene) → Type 0
+    → (old new : State) → Type 0
 Leaves meaning r made old new =
     Stays old new × IsLeft (meaning old.firing.now (variables_in old)) r made (variables_in new)

@@ -7,7 +7,7 @@ ghost use Rattle.replay_core.specs.Evaluation.{Meets};
 use crate::evaluation::fault::EvalFault;
 use crate::evaluation::operators::{step_result, step_value, word_as_type};
 use crate::evaluation::variables::{set, word_at};
-use crate::scene::Scene;
+use crate::state::State;
 use d_parser::Step;
 use d_types::{Answer, Variable};
 use d_values::{Key, OutOfZero, Value};
@@ -17,17 +17,17 @@ pub(crate) fn update_variable(
     x: Variable,
     key: &Key,
     made: Result<u64, OutOfZero>,
-    scene: &mut Scene<'_>,
+    state: &mut State<'_>,
 ) -> Result<u64, EvalFault>
     ensures { Meets
         (λ f vars. spec.number_outcome
         (spec.with (spec.word_or_fault made vars) (spec.update_outcome x key.now)))
-        result scene.old scene.new }
+        result state.old state.new }
 {
     match made {
         Ok(word) => {
             let word = word_as_type(x.holds, word);
-            set(scene.alloc, x, key, Value::Int(word), scene.tables)?;
+            set(state.alloc, x, key, Value::Int(word), state.tables)?;
             Ok(word)
         }
         Err(_) => Err(EvalFault::DivideByZero),
@@ -40,14 +40,14 @@ pub(crate) fn step_variable(
     answer: Answer,
     x: Variable,
     key: &Key,
-    scene: &mut Scene<'_>,
+    state: &mut State<'_>,
 ) -> Result<u64, EvalFault>
     ensures { Meets (λ f vars. spec.number_outcome
         (spec.step_outcome step answer x key.now (word_of (value_of_variable vars x key.now)) vars))
-        result scene.old scene.new }
+        result state.old state.new }
 {
-    let old = word_at(x, key, scene.tables);
+    let old = word_at(x, key, state.tables);
     let new = word_as_type(x.holds, step_result(step, old));
-    set(scene.alloc, x, key, Value::Int(new), scene.tables)?;
+    set(state.alloc, x, key, Value::Int(new), state.tables)?;
     Ok(step_value(answer, old, new))
 }

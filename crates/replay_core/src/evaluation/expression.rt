@@ -12,7 +12,7 @@ use crate::evaluation::fault::EvalFault;
 use crate::evaluation::lending::{lent_text, set_part};
 use crate::evaluation::operators::{operation_word, unary, word_for_operation};
 use crate::evaluation::variables::{bytes, set, value_at, word_at, word_in};
-use crate::scene::Scene;
+use crate::state::State;
 use d_parser::Step;
 use d_types::{Answer, LogicOperator, Operation, TypedExpr, Variable};
 use d_values::{
@@ -29,8 +29,8 @@ fn truth(holds: bool) -> u64
 /// The value of an expression, with the variables as it leaves them (Dynamic Tracing Guide, "Types,
 /// Operators, and Expressions"). Refused at a division by 0, whose variables stay as they then are.
 #[cycle(evaluation)]
-pub(crate) fn evaluate(e: &TypedExpr, scene: &mut Scene<'_>) -> Result<Value, EvalFault>
-    ensures { HasValue (typed_of e.now) result scene.old scene.new }
+pub(crate) fn evaluate(e: &TypedExpr, state: &mut State<'_>) -> Result<Value, EvalFault>
+    ensures { HasValue (typed_of e.now) result state.old state.new }
 {
     match e {
         TypedExpr::Text(text) => {
@@ -38,13 +38,13 @@ pub(crate) fn evaluate(e: &TypedExpr, scene: &mut Scene<'_>) -> Result<Value, Ev
             Ok(Value::Text(text))
         }
         TypedExpr::BuiltIn(b) => {
-            let value = built_in(scene.alloc, *b, scene.firing)?;
+            let value = built_in(state.alloc, *b, state.firing)?;
             Ok(value)
         }
-        TypedExpr::Read(x, keys) => read(*x, keys, scene),
-        TypedExpr::Choice(_, test, a, b) => choose(test, a, b, scene),
-        TypedExpr::Assign(x, keys, a) => assign(*x, keys, a, scene),
-        TypedExpr::Strjoin(a, b) => join(a, b, scene),
+        TypedExpr::Read(x, keys) => read(*x, keys, state),
+        TypedExpr::Choice(_, test, a, b) => choose(test, a, b, state),
+        TypedExpr::Assign(x, keys, a) => assign(*x, keys, a, state),
+        TypedExpr::Strjoin(a, b) => join(a, b, state),
         TypedExpr::Constant(_, _)
         | TypedExpr::Unary(_, _, _)
         | TypedExpr::Operate(_, _, _)
@@ -55,7 +55,7 @@ pub(crate) fn evaluate(e: &TypedExpr, scene: &mut Scene<'_>) -> Result<Value, Ev
         | TypedExpr::Update(_, _, _, _)
         | TypedExpr::Step(_, _, _, _)
         | TypedExpr::Strlen(_) => {
-            let word = evaluate_word(e, scene)?;
+            let word = evaluate_word(e, state)?;
             Ok(Value::Int(word))
         }
     }
@@ -63,38 +63,38 @@ pub(crate) fn evaluate(e: &TypedExpr, scene: &mut Scene<'_>) -> Result<Value, Ev
 
 /// The word of an expression's value: 0 for a text.
 #[cycle(evaluation)]
-pub(crate) fn evaluate_word(e: &TypedExpr, scene: &mut Scene<'_>) -> Result<u64, EvalFault>
-    ensures { HasWord (typed_of e.now) result scene.old scene.new }
+pub(crate) fn evaluate_word(e: &TypedExpr, state: &mut State<'_>) -> Result<u64, EvalFault>
+    ensures { HasWord (typed_of e.now) result state.old state.new }
 {
     match e {
         TypedExpr::Constant(_, word) => Ok(*word),
         TypedExpr::Text(_) => Ok(0),
-        TypedExpr::BuiltIn(b) => Ok(built_in_word(*b, scene.firing)),
-        TypedExpr::Read(x, keys) => read_word(*x, keys, scene),
+        TypedExpr::BuiltIn(b) => Ok(built_in_word(*b, state.firing)),
+        TypedExpr::Read(x, keys) => read_word(*x, keys, state),
         TypedExpr::Unary(op, t, a) => {
-            let x = evaluate_word(a, scene)?;
+            let x = evaluate_word(a, state)?;
             Ok(unary(*op, *t, x))
         }
-        TypedExpr::Operate(op, a, b) => operate(*op, a, b, scene),
-        TypedExpr::Compare(op, t, a, b) => compare_words(*op, *t, a, b, scene),
-        TypedExpr::CompareText(op, a, b) => compare_texts(*op, a, b, scene),
-        TypedExpr::Logic(LogicOperator::And, a, b) => and(a, b, scene),
-        TypedExpr::Logic(LogicOperator::Or, a, b) => or(a, b, scene),
-        TypedExpr::Logic(LogicOperator::Xor, a, b) => xor(a, b, scene),
-        TypedExpr::Choice(_, test, a, b) => choose_word(test, a, b, scene),
+        TypedExpr::Operate(op, a, b) => operate(*op, a, b, state),
+        TypedExpr::Compare(op, t, a, b) => compare_words(*op, *t, a, b, state),
+        TypedExpr::CompareText(op, a, b) => compare_texts(*op, a, b, state),
+        TypedExpr::Logic(LogicOperator::And, a, b) => and(a, b, state),
+        TypedExpr::Logic(LogicOperator::Or, a, b) => or(a, b, state),
+        TypedExpr::Logic(LogicOperator::Xor, a, b) => xor(a, b, state),
+        TypedExpr::Choice(_, test, a, b) => choose_word(test, a, b, state),
         TypedExpr::Convert(from, to, a) => {
-            let x = evaluate_word(a, scene)?;
+            let x = evaluate_word(a, state)?;
             Ok(convert(x, *from, *to))
         }
-        TypedExpr::Assign(x, keys, a) => assign_word(*x, keys, a, scene),
-        TypedExpr::Update(op, x, keys, a) => update(*op, *x, keys, a, scene),
-        TypedExpr::Step(by, answer, x, keys) => step(*by, *answer, *x, keys, scene),
+        TypedExpr::Assign(x, keys, a) => assign_word(*x, keys, a, state),
+        TypedExpr::Update(op, x, keys, a) => update(*op, *x, keys, a, state),
+        TypedExpr::Step(by, answer, x, keys) => step(*by, *answer, *x, keys, state),
         TypedExpr::Strlen(a) => {
-            let x = evaluate_text(a, scene)?;
+            let x = evaluate_text(a, state)?;
             Ok(x.as_bytes().len() as u64)
         }
         TypedExpr::Strjoin(a, b) => {
-            let value = join(a, b, scene)?;
+            let value = join(a, b, state)?;
             Ok(word_in(&value))
         }
     }
@@ -102,21 +102,21 @@ pub(crate) fn evaluate_word(e: &TypedExpr, scene: &mut Scene<'_>) -> Result<u64,
 
 /// The text of an expression's value: empty for an integer.
 #[cycle(evaluation)]
-pub(crate) fn evaluate_text(e: &TypedExpr, scene: &mut Scene<'_>) -> Result<Text, EvalFault>
-    ensures { HasText (typed_of e.now) result scene.old scene.new }
+pub(crate) fn evaluate_text(e: &TypedExpr, state: &mut State<'_>) -> Result<Text, EvalFault>
+    ensures { HasText (typed_of e.now) result state.old state.new }
 {
-    let value = evaluate(e, scene)?;
-    Ok(bytes(scene.alloc, value))
+    let value = evaluate(e, state)?;
+    Ok(bytes(state.alloc, value))
 }
 
 /// The key that expressions make, from left to right.
 #[cycle(evaluation)]
-pub(crate) fn evaluate_key(keys: &[TypedExpr], scene: &mut Scene<'_>) -> Result<Key, EvalFault>
-    ensures { HasKey (typeds_of keys.now) result scene.old scene.new }
+pub(crate) fn evaluate_key(keys: &[TypedExpr], state: &mut State<'_>) -> Result<Key, EvalFault>
+    ensures { HasKey (typeds_of keys.now) result state.old state.new }
 {
-    let mut key = scene.spare.take(keys.len())?;
+    let mut key = state.spare.take(keys.len())?;
     for (place, part) in keys.iter().enumerate() {
-        evaluate_part(part, &mut key, place, scene)?;
+        evaluate_part(part, &mut key, place, state)?;
     }
     Ok(key)
 }
@@ -127,21 +127,21 @@ fn evaluate_part(
     e: &TypedExpr,
     key: &mut Key,
     place: usize,
-    scene: &mut Scene<'_>,
+    state: &mut State<'_>,
 ) -> Result<(), EvalFault>
     requires { place < length key.old }
     ensures length { length key.new ≡ length key.old }
     ensures part { Leaves (λ f vars. spec.with (spec.eval f (typed_of e.now) vars)
         (λ x. spec.Has (slice_set key.old place (spec.part_of x))))
-        result key.new scene.old scene.new }
+        result key.new state.old state.new }
 {
-    match lent_text(e, scene.firing) {
+    match lent_text(e, state.firing) {
         Some(bytes) => {
             key.set_name(place, bytes)?;
             Ok(())
         }
         None => {
-            let value = evaluate(e, scene)?;
+            let value = evaluate(e, state)?;
             set_part(key, place, value.as_ref())?;
             Ok(())
         }
@@ -150,23 +150,23 @@ fn evaluate_part(
 
 // The value of a variable.
 #[cycle(evaluation)]
-fn read(x: Variable, keys: &[TypedExpr], scene: &mut Scene<'_>) -> Result<Value, EvalFault>
-    ensures { HasValue (Typed.Read x (typeds_of keys.now)) result scene.old scene.new }
+fn read(x: Variable, keys: &[TypedExpr], state: &mut State<'_>) -> Result<Value, EvalFault>
+    ensures { HasValue (Typed.Read x (typeds_of keys.now)) result state.old state.new }
 {
-    let key = evaluate_key(keys, scene)?;
-    let value = value_at(scene.alloc, x, &key, scene.tables)?;
-    scene.spare.keep(key)?;
+    let key = evaluate_key(keys, state)?;
+    let value = value_at(state.alloc, x, &key, state.tables)?;
+    state.spare.keep(key)?;
     Ok(value)
 }
 
 // The word of a variable's value.
 #[cycle(evaluation)]
-fn read_word(x: Variable, keys: &[TypedExpr], scene: &mut Scene<'_>) -> Result<u64, EvalFault>
-    ensures { HasWord (Typed.Read x (typeds_of keys.now)) result scene.old scene.new }
+fn read_word(x: Variable, keys: &[TypedExpr], state: &mut State<'_>) -> Result<u64, EvalFault>
+    ensures { HasWord (Typed.Read x (typeds_of keys.now)) result state.old state.new }
 {
-    let key = evaluate_key(keys, scene)?;
-    let word = word_at(x, &key, scene.tables);
-    scene.spare.keep(key)?;
+    let key = evaluate_key(keys, state)?;
+    let word = word_at(x, &key, state.tables);
+    state.spare.keep(key)?;
     Ok(word)
 }
 
@@ -176,13 +176,13 @@ fn operate(
     op: Operation,
     a: &TypedExpr,
     b: &TypedExpr,
-    scene: &mut Scene<'_>,
+    state: &mut State<'_>,
 ) -> Result<u64, EvalFault>
     ensures { HasWord (Typed.Operate op (typed_of a.now) (typed_of b.now))
-        result scene.old scene.new }
+        result state.old state.new }
 {
-    let left = evaluate_word(a, scene)?;
-    let right = evaluate_word(b, scene)?;
+    let left = evaluate_word(a, state)?;
+    let right = evaluate_word(b, state)?;
     match operation_word(op, left, right) {
         Ok(word) => Ok(word),
         Err(_) => Err(EvalFault::DivideByZero),
@@ -196,13 +196,13 @@ fn compare_words(
     t: IntType,
     a: &TypedExpr,
     b: &TypedExpr,
-    scene: &mut Scene<'_>,
+    state: &mut State<'_>,
 ) -> Result<u64, EvalFault>
     ensures { HasWord (Typed.Compare op t (typed_of a.now) (typed_of b.now))
-        result scene.old scene.new }
+        result state.old state.new }
 {
-    let x = evaluate_word(a, scene)?;
-    let y = evaluate_word(b, scene)?;
+    let x = evaluate_word(a, state)?;
+    let y = evaluate_word(b, state)?;
     Ok(truth(op.holds(compare(t, x, y))))
 }
 
@@ -212,50 +212,50 @@ fn compare_texts(
     op: ComparisonOperator,
     a: &TypedExpr,
     b: &TypedExpr,
-    scene: &mut Scene<'_>,
+    state: &mut State<'_>,
 ) -> Result<u64, EvalFault>
     ensures { HasWord (Typed.CompareText op (typed_of a.now) (typed_of b.now))
-        result scene.old scene.new }
+        result state.old state.new }
 {
-    let x = evaluate_text(a, scene)?;
-    let y = evaluate_text(b, scene)?;
+    let x = evaluate_text(a, state)?;
+    let y = evaluate_text(b, state)?;
     Ok(truth(op.holds(compare_text(x.as_bytes(), y.as_bytes()))))
 }
 
 // `&&`: the second only where the first isn't 0.
 #[cycle(evaluation)]
-fn and(a: &TypedExpr, b: &TypedExpr, scene: &mut Scene<'_>) -> Result<u64, EvalFault>
+fn and(a: &TypedExpr, b: &TypedExpr, state: &mut State<'_>) -> Result<u64, EvalFault>
     ensures { HasWord (Typed.Logic LogicOperator.And (typed_of a.now) (typed_of b.now))
-        result scene.old scene.new }
+        result state.old state.new }
 {
-    if evaluate_word(a, scene)? == 0 {
+    if evaluate_word(a, state)? == 0 {
         return Ok(0);
     }
-    let y = evaluate_word(b, scene)?;
+    let y = evaluate_word(b, state)?;
     Ok(truth(y != 0))
 }
 
 // `||`: the second only where the first is 0.
 #[cycle(evaluation)]
-fn or(a: &TypedExpr, b: &TypedExpr, scene: &mut Scene<'_>) -> Result<u64, EvalFault>
+fn or(a: &TypedExpr, b: &TypedExpr, state: &mut State<'_>) -> Result<u64, EvalFault>
     ensures { HasWord (Typed.Logic LogicOperator.Or (typed_of a.now) (typed_of b.now))
-        result scene.old scene.new }
+        result state.old state.new }
 {
-    if evaluate_word(a, scene)? != 0 {
+    if evaluate_word(a, state)? != 0 {
         return Ok(1);
     }
-    let y = evaluate_word(b, scene)?;
+    let y = evaluate_word(b, state)?;
     Ok(truth(y != 0))
 }
 
 // `^^`: whether just one isn't 0.
 #[cycle(evaluation)]
-fn xor(a: &TypedExpr, b: &TypedExpr, scene: &mut Scene<'_>) -> Result<u64, EvalFault>
+fn xor(a: &TypedExpr, b: &TypedExpr, state: &mut State<'_>) -> Result<u64, EvalFault>
     ensures { HasWord (Typed.Logic LogicOperator.Xor (typed_of a.now) (typed_of b.now))
-        result scene.old scene.new }
+        result state.old state.new }
 {
-    let x = evaluate_word(a, scene)?;
-    let y = evaluate_word(b, scene)?;
+    let x = evaluate_word(a, state)?;
+    let y = evaluate_word(b, state)?;
     Ok(truth((x == 0) != (y == 0)))
 }
 
@@ -265,18 +265,18 @@ fn choose(
     test: &TypedExpr,
     first: &TypedExpr,
     second: &TypedExpr,
-    scene: &mut Scene<'_>,
+    state: &mut State<'_>,
 ) -> Result<Value, EvalFault>
     ensures { Meets (λ f vars. spec.with
         (spec.number_outcome (spec.eval f (typed_of test.now) vars))
         (λ x vars. spec.at_zero x (spec.eval f (typed_of second.now) vars)
         (spec.eval f (typed_of first.now) vars)))
-        result scene.old scene.new }
+        result state.old state.new }
 {
-    if evaluate_word(test, scene)? == 0 {
-        evaluate(second, scene)
+    if evaluate_word(test, state)? == 0 {
+        evaluate(second, state)
     } else {
-        evaluate(first, scene)
+        evaluate(first, state)
     }
 }
 
@@ -286,18 +286,18 @@ fn choose_word(
     test: &TypedExpr,
     first: &TypedExpr,
     second: &TypedExpr,
-    scene: &mut Scene<'_>,
+    state: &mut State<'_>,
 ) -> Result<u64, EvalFault>
     ensures { Meets (λ f vars. spec.number_outcome
         (spec.with (spec.number_outcome (spec.eval f (typed_of test.now) vars))
         (λ x vars. spec.at_zero x (spec.eval f (typed_of second.now) vars)
         (spec.eval f (typed_of first.now) vars))))
-        result scene.old scene.new }
+        result state.old state.new }
 {
-    if evaluate_word(test, scene)? == 0 {
-        evaluate_word(second, scene)
+    if evaluate_word(test, state)? == 0 {
+        evaluate_word(second, state)
     } else {
-        evaluate_word(first, scene)
+        evaluate_word(first, state)
     }
 }
 
@@ -307,16 +307,16 @@ fn assign(
     x: Variable,
     keys: &[TypedExpr],
     right: &TypedExpr,
-    scene: &mut Scene<'_>,
+    state: &mut State<'_>,
 ) -> Result<Value, EvalFault>
     ensures { HasValue (Typed.Assign x (typeds_of keys.now) (typed_of right.now))
-        result scene.old scene.new }
+        result state.old state.new }
 {
-    let at = evaluate_key(keys, scene)?;
-    let value = evaluate(right, scene)?;
+    let at = evaluate_key(keys, state)?;
+    let value = evaluate(right, state)?;
     let copy = value.clone()?;
-    set(scene.alloc, x, &at, value, scene.tables)?;
-    scene.spare.keep(at)?;
+    set(state.alloc, x, &at, value, state.tables)?;
+    state.spare.keep(at)?;
     Ok(copy)
 }
 
@@ -326,16 +326,16 @@ fn assign_word(
     x: Variable,
     keys: &[TypedExpr],
     a: &TypedExpr,
-    scene: &mut Scene<'_>,
+    state: &mut State<'_>,
 ) -> Result<u64, EvalFault>
     ensures { HasWord (Typed.Assign x (typeds_of keys.now) (typed_of a.now))
-        result scene.old scene.new }
+        result state.old state.new }
 {
-    let key = evaluate_key(keys, scene)?;
-    let value = evaluate(a, scene)?;
+    let key = evaluate_key(keys, state)?;
+    let value = evaluate(a, state)?;
     let word = word_in(&value);
-    set(scene.alloc, x, &key, value, scene.tables)?;
-    scene.spare.keep(key)?;
+    set(state.alloc, x, &key, value, state.tables)?;
+    state.spare.keep(key)?;
     Ok(word)
 }
 
@@ -346,17 +346,17 @@ fn update(
     x: Variable,
     keys: &[TypedExpr],
     a: &TypedExpr,
-    scene: &mut Scene<'_>,
+    state: &mut State<'_>,
 ) -> Result<u64, EvalFault>
     ensures { HasWord (Typed.Update op x (typeds_of keys.now) (typed_of a.now))
-        result scene.old scene.new }
+        result state.old state.new }
 {
-    let key = evaluate_key(keys, scene)?;
-    let old = word_at(x, &key, scene.tables);
-    let y = evaluate_word(a, scene)?;
+    let key = evaluate_key(keys, state)?;
+    let old = word_at(x, &key, state.tables);
+    let y = evaluate_word(a, state)?;
     let made = operation_word(op, word_for_operation(op, old), y);
-    let word = update_variable(x, &key, made, scene)?;
-    scene.spare.keep(key)?;
+    let word = update_variable(x, &key, made, state)?;
+    state.spare.keep(key)?;
     Ok(word)
 }
 
@@ -367,24 +367,24 @@ fn step(
     answer: Answer,
     x: Variable,
     keys: &[TypedExpr],
-    scene: &mut Scene<'_>,
+    state: &mut State<'_>,
 ) -> Result<u64, EvalFault>
-    ensures { HasWord (Typed.Count by answer x (typeds_of keys.now)) result scene.old scene.new }
+    ensures { HasWord (Typed.Count by answer x (typeds_of keys.now)) result state.old state.new }
 {
-    let key = evaluate_key(keys, scene)?;
-    let word = step_variable(by, answer, x, &key, scene)?;
-    scene.spare.keep(key)?;
+    let key = evaluate_key(keys, state)?;
+    let word = step_variable(by, answer, x, &key, state)?;
+    state.spare.keep(key)?;
     Ok(word)
 }
 
 // Two texts as one, cut to 255 bytes.
 #[cycle(evaluation)]
-fn join(a: &TypedExpr, b: &TypedExpr, scene: &mut Scene<'_>) -> Result<Value, EvalFault>
+fn join(a: &TypedExpr, b: &TypedExpr, state: &mut State<'_>) -> Result<Value, EvalFault>
     ensures { HasValue (Typed.Strjoin (typed_of a.now) (typed_of b.now))
-        result scene.old scene.new }
+        result state.old state.new }
 {
-    let x = evaluate_text(a, scene)?;
-    let y = evaluate_text(b, scene)?;
-    let text = join_text(scene.alloc, x.as_bytes(), y.as_bytes())?;
+    let x = evaluate_text(a, state)?;
+    let y = evaluate_text(b, state)?;
+    let text = join_text(state.alloc, x.as_bytes(), y.as_bytes())?;
     Ok(Value::Text(text))
 }

@@ -7,7 +7,7 @@ ghost use Rattle.replay_core.specs.Vocabulary.{count_held, functions_of};
 
 use crate::evaluation::EvalFault;
 use crate::piece::Piece;
-use crate::scene::Scene;
+use crate::state::State;
 use crate::statements::expression::Expression;
 use crate::statements::statement::Statement;
 use std::alloc::AllocError;
@@ -17,7 +17,7 @@ use std::alloc::AllocError;
 fn run_statements<X: Expression, S: Statement<X>>(
     statements: &[S],
     place: u64,
-    scene: &mut Scene<'_>,
+    state: &mut State<'_>,
     piece: &mut Piece,
 ) -> Result<bool, AllocError>
     requires places { places_among (map S.form statements.now)
@@ -26,19 +26,19 @@ fn run_statements<X: Expression, S: Statement<X>>(
     ensures functions { functions_of piece.new.table ≡ functions_of piece.old.table }
     ensures taken { piece.new.taken.items ≡ piece.old.taken.items }
     ensures held { count_held piece.new.table ≤ count_held piece.old.table + length statements.now }
-    ensures scene { Stays scene.old scene.new }
+    ensures state { Stays state.old state.new }
     ensures run { IfOk result (IsNotedRun
         (λ f vars. spec.run_result (spec.fault_line f.number place)
         (spec.statements_by (X.by f) (map S.form statements.now) vars))
-        scene.old scene.new piece.old piece.new) }
+        state.old state.new piece.old piece.new) }
 {
     let before = piece.texts.len();
     let mut exits = false;
     for statement in statements {
-        match statement.perform(scene, piece) {
+        match statement.perform(state, piece) {
             Ok(exited) => exits |= exited,
             Err(EvalFault::DivideByZero) => {
-                piece.note_fault(scene.firing.number, place, before)?;
+                piece.note_fault(state.firing.number, place, before)?;
                 return Ok(exits);
             }
             Err(EvalFault::Memory) => return Err(AllocError),
@@ -54,7 +54,7 @@ pub(crate) fn run_clause<X: Expression, S: Statement<X>>(
     predicate: &Option<X>,
     statements: &[S],
     place: u64,
-    scene: &mut Scene<'_>,
+    state: &mut State<'_>,
     piece: &mut Piece,
 ) -> Result<bool, AllocError>
     requires places { places_among (map S.form statements.now)
@@ -63,22 +63,22 @@ pub(crate) fn run_clause<X: Expression, S: Statement<X>>(
     ensures functions { functions_of piece.new.table ≡ functions_of piece.old.table }
     ensures taken { piece.new.taken.items ≡ piece.old.taken.items }
     ensures held { count_held piece.new.table ≤ count_held piece.old.table + length statements.now }
-    ensures scene { Stays scene.old scene.new }
+    ensures state { Stays state.old state.new }
     ensures run { IfOk result (IsNotedRun
         (λ f. spec.run_by (X.by f) (spec.fault_line f.number place) predicate.now
-        (map S.form statements.now)) scene.old scene.new piece.old piece.new) }
+        (map S.form statements.now)) state.old state.new piece.old piece.new) }
 {
     if let Some(predicate) = predicate {
-        match predicate.evaluate_word(scene) {
+        match predicate.evaluate_word(state) {
             Ok(0) => return Ok(false),
             Ok(_) => {}
             Err(EvalFault::DivideByZero) => {
                 let texts = piece.texts.len();
-                piece.note_fault(scene.firing.number, place, texts)?;
+                piece.note_fault(state.firing.number, place, texts)?;
                 return Ok(false);
             }
             Err(EvalFault::Memory) => return Err(AllocError),
         }
     }
-    run_statements(statements, place, scene, piece)
+    run_statements(statements, place, state, piece)
 }

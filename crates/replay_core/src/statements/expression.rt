@@ -3,7 +3,7 @@
 ghost use Rattle.std.specs.Prelude.{◌≡◌, List};
 
 use crate::evaluation::EvalFault;
-use crate::scene::Scene;
+use crate::state::State;
 use d_values::{DType, Key, Value};
 use std::marker::Model;
 
@@ -35,19 +35,19 @@ pub(crate) trait Expression: Sized {
         ensures { (f : Recorded) → result ≡ (by f).type self.now };
 
     /// Its value.
-    fn evaluate(&self, scene: &mut Scene<'_>) -> Result<Value, EvalFault>
-        ensures { Meets (λ f. (by f).value self.now) result scene.old scene.new };
+    fn evaluate(&self, state: &mut State<'_>) -> Result<Value, EvalFault>
+        ensures { Meets (λ f. (by f).value self.now) result state.old state.new };
 
     /// The word of its value: 0 for a text.
-    fn evaluate_word(&self, scene: &mut Scene<'_>) -> Result<u64, EvalFault>
+    fn evaluate_word(&self, state: &mut State<'_>) -> Result<u64, EvalFault>
         ensures { Meets (λ f vars. number_outcome ((by f).value self.now vars))
-            result scene.old scene.new };
+            result state.old state.new };
 
     /// The key that several make, from left to right.
-    fn evaluate_key(keys: &[Self], scene: &mut Scene<'_>) -> Result<Key, EvalFault>
-        ensures { Meets (λ f. (by f).key keys.now) result scene.old scene.new };
+    fn evaluate_key(keys: &[Self], state: &mut State<'_>) -> Result<Key, EvalFault>
+        ensures { Meets (λ f. (by f).key keys.now) result state.old state.new };
 
     /// The values of several, from left to right.
-    fn evaluate_arguments(arguments: &[Self], scene: &mut Scene<'_>) -> Result<Arguments, EvalFault>
-        ensures { Meets (λ f. (by f).values arguments.now) result scene.old scene.new };
+    fn evaluate_arguments(arguments: &[Self], state: &mut State<'_>) -> Result<Arguments, EvalFault>
+        ensures { Meets (λ f. (by f).values arguments.now) result state.old state.new };
 }

@@ -10,7 +10,7 @@ ghost use Rattle.replay_core.specs.Steps.Evaluation.{Leaves};
 
 use crate::evaluation::{EvalFault, owned_value, set_part, word_of};
 use crate::piece::Piece;
-use crate::scene::Scene;
+use crate::state::State;
 use crate::statements::expression::{Arguments, Expression};
 use crate::statements::statement::{Statement, aggregate, exit, plain, print, trace};
 use crate::tables::Tables;
@@ -38,35 +38,35 @@ fn run<'a>(
     }
 }
 
-// The same in a scene. As a function it would borrow the whole scene for as long as the value is
+// The same in a state. As a function it would borrow the whole state for as long as the value is
 // used.
-macro_rules! run_in_scene {
-    ($object:ident, $scene:ident) => {
+macro_rules! run_on_state {
+    ($object:ident, $state:ident) => {
         run(
             $object,
-            $scene.firing,
-            &mut *$scene.tables,
-            $scene.spare.frame(),
+            $state.firing,
+            &mut *$state.tables,
+            $state.spare.frame(),
         )
     };
 }
 
 // A copy of what a run of an object lends.
-fn run_for_value(object: &TypedObject, scene: &mut Scene<'_>) -> Result<Value, EvalFault>
-    ensures { Meets (λ f. spec.value_of f object.now.object) result scene.old scene.new }
+fn run_for_value(object: &TypedObject, state: &mut State<'_>) -> Result<Value, EvalFault>
+    ensures { Meets (λ f. spec.value_of f object.now.object) result state.old state.new }
 {
-    let lent = run_in_scene!(object, scene)?;
-    let value = owned_value(scene.alloc, lent)?;
+    let lent = run_on_state!(object, state)?;
+    let value = owned_value(state.alloc, lent)?;
     Ok(value)
 }
 
 // The word of what a run of an object lends.
 #[inline(never)]
-fn run_for_word(object: &TypedObject, scene: &mut Scene<'_>) -> Result<u64, EvalFault>
+fn run_for_word(object: &TypedObject, state: &mut State<'_>) -> Result<u64, EvalFault>
     ensures { Meets (λ f vars. number_outcome (spec.value_of f object.now.object vars))
-        result scene.old scene.new }
+        result state.old state.new }
 {
-    let value = run_in_scene!(object, scene)?;
+    let value = run_on_state!(object, state)?;
     Ok(word_of(value))
 }
 
@@ -77,36 +77,36 @@ fn run_for_part(
     object: &TypedObject,
     key: &mut Key,
     place: usize,
-    scene: &mut Scene<'_>,
+    state: &mut State<'_>,
 ) -> Result<(), EvalFault>
     requires { place < length key.old }
     ensures length { length key.new ≡ length key.old }
     ensures part { Leaves (λ f vars. with (spec.value_of f object.now.object vars)
-        (λ x. Has (slice_set key.old place (part_of x)))) result key.new scene.old scene.new }
+        (λ x. Has (slice_set key.old place (part_of x)))) result key.new state.old state.new }
 {
-    let value = run_in_scene!(object, scene)?;
+    let value = run_on_state!(object, state)?;
     set_part(key, place, value)?;
     Ok(())
 }
 
 // From left to right.
-fn run_for_key(objects: &[TypedObject], scene: &mut Scene<'_>) -> Result<Key, EvalFault>
-    ensures { Meets (λ f. spec.key_of_objects f objects.now) result scene.old scene.new }
+fn run_for_key(objects: &[TypedObject], state: &mut State<'_>) -> Result<Key, EvalFault>
+    ensures { Meets (λ f. spec.key_of_objects f objects.now) result state.old state.new }
 {
-    let mut key = scene.spare.take(objects.len())?;
+    let mut key = state.spare.take(objects.len())?;
     for (place, object) in objects.iter().enumerate() {
-        run_for_part(object, &mut key, place, scene)?;
+        run_for_part(object, &mut key, place, state)?;
     }
     Ok(key)
 }
 
 // From left to right.
-fn run_for_arguments(objects: &[TypedObject], scene: &mut Scene<'_>) -> Result<Arguments, EvalFault>
-    ensures { Meets (λ f. spec.values_of_objects f objects.now) result scene.old scene.new }
+fn run_for_arguments(objects: &[TypedObject], state: &mut State<'_>) -> Result<Arguments, EvalFault>
+    ensures { Meets (λ f. spec.values_of_objects f objects.now) result state.old state.new }
 {
-    let mut values = Vec::new(scene.alloc);
+    let mut values = Vec::new(state.alloc);
     for object in objects {
-        let value = run_for_value(object, scene)?;
+        let value = run_for_value(object, state)?;
         values.push((object.returns, value))?;
     }
     Ok(Arguments { values })
@@ -119,37 +119,37 @@ impl Expression for TypedObject {
         self.returns
     }
 
-    fn evaluate(&self, scene: &mut Scene<'_>) -> Result<Value, EvalFault> {
-        run_for_value(self, scene)
+    fn evaluate(&self, state: &mut State<'_>) -> Result<Value, EvalFault> {
+        run_for_value(self, state)
     }
 
-    fn evaluate_word(&self, scene: &mut Scene<'_>) -> Result<u64, EvalFault> {
-        run_for_word(self, scene)
+    fn evaluate_word(&self, state: &mut State<'_>) -> Result<u64, EvalFault> {
+        run_for_word(self, state)
     }
 
-    fn evaluate_key(keys: &[TypedObject], scene: &mut Scene<'_>) -> Result<Key, EvalFault> {
-        run_for_key(keys, scene)
+    fn evaluate_key(keys: &[TypedObject], state: &mut State<'_>) -> Result<Key, EvalFault> {
+        run_for_key(keys, state)
     }
 
     fn evaluate_arguments(
         arguments: &[TypedObject],
-        scene: &mut Scene<'_>,
+        state: &mut State<'_>,
     ) -> Result<Arguments, EvalFault> {
-        run_for_arguments(arguments, scene)
+        run_for_arguments(arguments, state)
     }
 }
 
 impl Statement<TypedObject> for Action {
     ghost form = { action_code };
 
-    fn perform(&self, scene: &mut Scene<'_>, piece: &mut Piece) -> Result<bool, EvalFault> {
+    fn perform(&self, state: &mut State<'_>, piece: &mut Piece) -> Result<bool, EvalFault> {
         match self {
-            Action::Plain(e) => plain(e, scene, piece),
-            Action::Trace(e) => trace(e, scene, piece),
-            Action::Printf(format, arguments) => { print(format, arguments, scene, piece) }
-            Action::Exit(e) => exit(e, scene, piece),
+            Action::Plain(e) => plain(e, state, piece),
+            Action::Trace(e) => trace(e, state, piece),
+            Action::Printf(format, arguments) => { print(format, arguments, state, piece) }
+            Action::Exit(e) => exit(e, state, piece),
             Action::Aggregate(place, keys, argument) => aggregate(
-                *place, keys, argument, scene, piece,
+                *place, keys, argument, state, piece,
             ),
         }
     }

@@ -9,7 +9,7 @@ ghost use Rattle.replay_core.specs.Vocabulary.{argument_by};
 
 use crate::evaluation::EvalFault;
 use crate::piece::Piece;
-use crate::scene::Scene;
+use crate::state::State;
 use crate::statements::expression::Expression;
 use crate::statements::printing::{printf_text, trace_line};
 use d_types::Piece as Part;
@@ -17,14 +17,14 @@ use d_types::Piece as Part;
 // What an aggregating function is given; 0 where it takes nothing.
 fn evaluate_argument<X: Expression>(
     argument: &Option<X>,
-    scene: &mut Scene<'_>,
+    state: &mut State<'_>,
 ) -> Result<i64, EvalFault>
-    ensures { Meets (λ f. argument_by (X.by f) argument.now) result scene.old scene.new }
+    ensures { Meets (λ f. argument_by (X.by f) argument.now) result state.old state.new }
 {
     match argument {
         None => Ok(0),
         Some(e) => {
-            let word = e.evaluate_word(scene)?;
+            let word = e.evaluate_word(state)?;
             Ok(word.cast_signed())
         }
     }
@@ -33,30 +33,30 @@ fn evaluate_argument<X: Expression>(
 /// An expression, for its assignments.
 pub(crate) fn plain<X: Expression>(
     e: &X,
-    scene: &mut Scene<'_>,
+    state: &mut State<'_>,
     piece: &Piece,
 ) -> Result<bool, EvalFault>
     ensures { IsPerformed (λ f. effect_by (X.by f) (typed.Evaluate e.now)) result
-        scene.old scene.new piece.now piece.now }
+        state.old state.new piece.now piece.now }
 {
-    let _word = e.evaluate_word(scene)?;
+    let _word = e.evaluate_word(state)?;
     Ok(false)
 }
 
 /// `trace(value)`
 pub(crate) fn trace<X: Expression>(
     e: &X,
-    scene: &mut Scene<'_>,
+    state: &mut State<'_>,
     piece: &mut Piece,
 ) -> Result<bool, EvalFault>
     ensures table { piece.new.table ≡ piece.old.table }
     ensures taken { piece.new.taken.items ≡ piece.old.taken.items }
     ensures effect { IsPerformed (λ f. effect_by (X.by f) (typed.Trace e.now)) result
-        scene.old scene.new piece.old piece.new }
+        state.old state.new piece.old piece.new }
 {
-    let value = e.evaluate(scene)?;
-    let text = trace_line(scene.alloc, e.returns(), &value)?;
-    piece.note_text(scene.firing.number, text)?;
+    let value = e.evaluate(state)?;
+    let text = trace_line(state.alloc, e.returns(), &value)?;
+    piece.note_text(state.firing.number, text)?;
     Ok(false)
 }
 
@@ -64,34 +64,34 @@ pub(crate) fn trace<X: Expression>(
 pub(crate) fn print<X: Expression>(
     format: &[Part],
     arguments: &[X],
-    scene: &mut Scene<'_>,
+    state: &mut State<'_>,
     piece: &mut Piece,
 ) -> Result<bool, EvalFault>
     ensures table { piece.new.table ≡ piece.old.table }
     ensures taken { piece.new.taken.items ≡ piece.old.taken.items }
     ensures effect { IsPerformed
         (λ f. effect_by (X.by f) (typed.Print format.now arguments.now))
-        result scene.old scene.new piece.old piece.new }
+        result state.old state.new piece.old piece.new }
 {
-    let arguments = X::evaluate_arguments(arguments, scene)?;
-    let text = printf_text(scene.alloc, format, &arguments.values)?;
-    piece.note_text(scene.firing.number, text)?;
+    let arguments = X::evaluate_arguments(arguments, state)?;
+    let text = printf_text(state.alloc, format, &arguments.values)?;
+    piece.note_text(state.firing.number, text)?;
     Ok(false)
 }
 
 /// `exit(status)`
 pub(crate) fn exit<X: Expression>(
     e: &X,
-    scene: &mut Scene<'_>,
+    state: &mut State<'_>,
     piece: &mut Piece,
 ) -> Result<bool, EvalFault>
     ensures table { piece.new.table ≡ piece.old.table }
     ensures taken { piece.new.taken.items ≡ piece.old.taken.items }
     ensures effect { IsPerformed (λ f. effect_by (X.by f) (typed.Exit e.now)) result
-        scene.old scene.new piece.old piece.new }
+        state.old state.new piece.old piece.new }
 {
-    let word = e.evaluate_word(scene)?;
-    piece.note_exit(scene.firing.number, (word % 256) as u8);
+    let word = e.evaluate_word(state)?;
+    piece.note_exit(state.firing.number, (word % 256) as u8);
     Ok(true)
 }
 
@@ -100,7 +100,7 @@ pub(crate) fn aggregate<X: Expression>(
     place: usize,
     keys: &[X],
     argument: &Option<X>,
-    scene: &mut Scene<'_>,
+    state: &mut State<'_>,
     piece: &mut Piece,
 ) -> Result<bool, EvalFault>
     requires place { place < length (functions_of piece.old.table) }
@@ -110,12 +110,12 @@ pub(crate) fn aggregate<X: Expression>(
     ensures taken { piece.new.taken.items ≡ piece.old.taken.items }
     ensures effect { IsPerformed
         (λ f. effect_by (X.by f) (typed.Aggregate place keys.now argument.now))
-        result scene.old scene.new piece.old piece.new }
+        result state.old state.new piece.old piece.new }
 {
-    let key = X::evaluate_key(keys, scene)?;
-    let number = evaluate_argument(argument, scene)?;
+    let key = X::evaluate_key(keys, state)?;
+    let number = evaluate_argument(argument, state)?;
     piece.note_contribution(place, &key, number)?;
-    scene.spare.keep(key)?;
+    state.spare.keep(key)?;
     Ok(false)
 }
 
@@ -126,12 +126,12 @@ pub(crate) trait Statement<X: Expression> {
 
     /// Runs it: notes what it does beside its assignments, and returns whether it exits. At a
     /// division by 0 it fails, and only the assignments made so far have effect.
-    fn perform(&self, scene: &mut Scene<'_>, piece: &mut Piece) -> Result<bool, EvalFault>
+    fn perform(&self, state: &mut State<'_>, piece: &mut Piece) -> Result<bool, EvalFault>
         requires place { place_in (form self.now) ≤ length (functions_of piece.old.table) }
         requires room { count_held piece.old.table < 2 ^ 52 }
         ensures held { count_held piece.new.table ≤ count_held piece.old.table + 1 }
         ensures functions { functions_of piece.new.table ≡ functions_of piece.old.table }
         ensures taken { piece.new.taken.items ≡ piece.old.taken.items }
         ensures effect { IsPerformed (λ f. effect_by (X.by f) (form self.now)) result
-            scene.old scene.new piece.old piece.new };
+            state.old state.new piece.old piece.new };
 }

@@ -6,7 +6,7 @@ ghost use Rattle.replay_core.specs.Forms.{by_expressions, statement_form};
 
 use crate::evaluation::{EvalFault, evaluate, evaluate_key, evaluate_word};
 use crate::piece::Piece;
-use crate::scene::Scene;
+use crate::state::State;
 use crate::statements::expression::{Arguments, Expression};
 use crate::statements::statement::{Statement, aggregate, exit, plain, print, trace};
 use d_types::{TypedExpr, TypedStmt};
@@ -15,13 +15,13 @@ use d_values::{DType, Key, Value};
 // From left to right.
 fn evaluate_arguments(
     arguments: &[TypedExpr],
-    scene: &mut Scene<'_>,
+    state: &mut State<'_>,
 ) -> Result<Arguments, EvalFault>
-    ensures { Meets (λ f. spec.values_of f (typeds_of arguments.now)) result scene.old scene.new }
+    ensures { Meets (λ f. spec.values_of f (typeds_of arguments.now)) result state.old state.new }
 {
-    let mut values = Vec::new(scene.alloc);
+    let mut values = Vec::new(state.alloc);
     for argument in arguments {
-        let value = evaluate(argument, scene)?;
+        let value = evaluate(argument, state)?;
         values.push((argument.type_of(), value))?;
     }
     Ok(Arguments { values })
@@ -34,37 +34,37 @@ impl Expression for TypedExpr {
         self.type_of()
     }
 
-    fn evaluate(&self, scene: &mut Scene<'_>) -> Result<Value, EvalFault> {
-        evaluate(self, scene)
+    fn evaluate(&self, state: &mut State<'_>) -> Result<Value, EvalFault> {
+        evaluate(self, state)
     }
 
-    fn evaluate_word(&self, scene: &mut Scene<'_>) -> Result<u64, EvalFault> {
-        evaluate_word(self, scene)
+    fn evaluate_word(&self, state: &mut State<'_>) -> Result<u64, EvalFault> {
+        evaluate_word(self, state)
     }
 
-    fn evaluate_key(keys: &[TypedExpr], scene: &mut Scene<'_>) -> Result<Key, EvalFault> {
-        evaluate_key(keys, scene)
+    fn evaluate_key(keys: &[TypedExpr], state: &mut State<'_>) -> Result<Key, EvalFault> {
+        evaluate_key(keys, state)
     }
 
     fn evaluate_arguments(
         arguments: &[TypedExpr],
-        scene: &mut Scene<'_>,
+        state: &mut State<'_>,
     ) -> Result<Arguments, EvalFault> {
-        evaluate_arguments(arguments, scene)
+        evaluate_arguments(arguments, state)
     }
 }
 
 impl Statement<TypedExpr> for TypedStmt {
     ghost form = { statement_form };
 
-    fn perform(&self, scene: &mut Scene<'_>, piece: &mut Piece) -> Result<bool, EvalFault> {
+    fn perform(&self, state: &mut State<'_>, piece: &mut Piece) -> Result<bool, EvalFault> {
         match self {
-            TypedStmt::Evaluate(e) => plain(e, scene, piece),
-            TypedStmt::Trace(e) => trace(e, scene, piece),
-            TypedStmt::Print(format, arguments) => { print(format, arguments, scene, piece) }
-            TypedStmt::Exit(e) => exit(e, scene, piece),
+            TypedStmt::Evaluate(e) => plain(e, state, piece),
+            TypedStmt::Trace(e) => trace(e, state, piece),
+            TypedStmt::Print(format, arguments) => { print(format, arguments, state, piece) }
+            TypedStmt::Exit(e) => exit(e, state, piece),
             TypedStmt::Aggregate(place, keys, argument) => aggregate(
-                *place, keys, argument, scene, piece,
+                *place, keys, argument, state, piece,
             ),
         }
     }

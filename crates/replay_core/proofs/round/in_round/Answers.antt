@@ -2,25 +2,25 @@ use Rattle.std.proofs.Common.{rules, arith, ◌≡◌, ◌<◌, ap, ◌∙◌, l
 use Rattle.std.proofs.lemmas.List.{length-map}
 use Rattle.std.specs.List.{flat_map}
 use Rattle.shard_queue.specs.Groups.{grouping}
-use Rattle.replay_core.specs.Crews.{Gives, IsWork}
+use Rattle.replay_core.specs.AtBoard.{Gives, IsWork}
 use Rattle.replay_core.proofs.Parts.{all_at, drawn_lists, finished_parts, whole_round}
 use Rattle.replay_core.proofs.round.in_round.Goals as goal
 
 pub close-requires-clause-at : goal.close-requires-clause-at
 close-requires-clause-at g c =
-    let shift = c.args.shift.now in
-    let P = Gives c.args.span (g.L.Lanes.runs shift.lanes.now) shift.groups.now shift.trace.now in
+    let input = c.args.input.now in
+    let P = Gives c.args.span (g.L.Lanes.runs input.lanes.now) input.groups.now input.trace.now in
     let board = c.in_ok-board.board in
     all_at P board _ _ (finished_parts (IsWork P board) _ _ _ c.in_ok-pieces.ensures.parts c.in_ok-results.ensures.works)
 
 pub returns-clause-round : goal.returns-clause-round
 returns-clause-round g c =
-    let shift = c.args.shift.now in
-    let P = Gives c.args.span (g.L.Lanes.runs shift.lanes.now) shift.groups.now shift.trace.now in
+    let input = c.args.input.now in
+    let P = Gives c.args.span (g.L.Lanes.runs input.lanes.now) input.groups.now input.trace.now in
     let board = c.in_ok-board.board in
     let seats = c.in_ok-pieces.seats.items in
     let parts = finished_parts (IsWork P board) _ _ _ c.in_ok-pieces.ensures.parts c.in_ok-results.ensures.works in
-    let end : board.end ≡ (grouping shift.groups.now).count = search rules in
+    let end : board.end ≡ (grouping input.groups.now).count = search rules in
     let some : 0 < length seats = search rules in
     let closed = c.in_ok-closed.ensures in
     whole_round P board _ _ seats parts some end closed.whole

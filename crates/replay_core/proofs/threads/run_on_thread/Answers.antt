@@ -15,7 +15,7 @@ use Rattle.replay_core.specs.Lanes.{Notes}
 use Rattle.replay_core.specs.Meaning.{at_start}
 use Rattle.replay_core.specs.Seen.{piece_seen}
 use Rattle.replay_core.specs.Threads.{threads_in}
-use Rattle.replay_core.specs.Steps.Turns.{turns}
+use Rattle.replay_core.specs.Steps.AllMade.{all_made}
 use Rattle.replay_core.proofs.ThreadLemmas.{Writes, none_turn, own_stays, tables_found, tables_lent}
 use Rattle.replay_core.proofs.ThreadLemmas.{typed_start, started, started_new, thread_written}
 use Rattle.replay_core.proofs.threads.run_on_thread.Goals as goal
@@ -45,7 +45,7 @@ returns-in-Some-get_index_mut-clause-notes g c =
     let had = tables_lent old i f.thread c.in-Some-get_index_mut.tables.now at c.in-Some-get_index_mut.ensures.value in
     let start = started old f.thread c.in-Some-get_index_mut.tables.now c.reset.new.self had c.reset.ensures in
     on_ok_weaker c.run_on_tables.result (λ told slots cs mean fit good.
-    subst (λ v. Notes f.number (turns f cs c.args.due.now.places.now v) (piece_seen c.args.piece.now) (piece_seen c.run_on_tables.new.piece)) start (told slots cs mean fit (typed_start slots _ _ start good)).0)
+    subst (λ v. Notes f.number (all_made f cs c.args.due.now.places.now v) (piece_seen c.args.piece.now) (piece_seen c.run_on_tables.new.piece)) start (told slots cs mean fit (typed_start slots _ _ start good)).0)
     c.run_on_tables.ensures.notes
 
 pub returns-in-Some-get_index_mut-clause-threads : goal.returns-in-Some-get_index_mut-clause-threads
@@ -60,9 +60,9 @@ returns-in-Some-get_index_mut-clause-threads g c =
     let puts = updates-with_value_at c.args.threads.now i new int_eq_equiv c.get_index_mut.ensures.unique f.thread at.tables at.entry in
     let start = started old f.thread c.in-Some-get_index_mut.tables.now c.reset.new.self had c.reset.ensures in
     on_ok_weaker c.run_on_tables.result (λ told slots cs mean fit good.
-    thread_written old (with_value_at c.args.threads.now i new).entries f.thread new (turns f cs c.args.due.now.places.now (at_start (threads_in old f.thread)))
+    thread_written old (with_value_at c.args.threads.now i new).entries f.thread new (all_made f cs c.args.due.now.places.now (at_start (threads_in old f.thread)))
     puts.0
-    ((told slots cs mean fit (typed_start slots _ _ start good)).1 ∙ ap (λ v. (turns f cs c.args.due.now.places.now v).variables) start))
+    ((told slots cs mean fit (typed_start slots _ _ start good)).1 ∙ ap (λ v. (all_made f cs c.args.due.now.places.now v).variables) start))
     c.run_on_tables.ensures.notes
 
 pub returns-in_ok-insert-in-None-clause-notes : goal.returns-in_ok-insert-in-None-clause-notes
@@ -71,7 +71,7 @@ returns-in_ok-insert-in-None-clause-notes g c = λ slots cs mean fit good.
     let old = c.args.threads.now.entries in
     let had : lookup (int_eq f.thread) old ≡ None = search rules in
     let start = started_new old f.thread c.new-tables.result.locals c.new-tables.result.own had c.new-tables.ensures.locals c.new-tables.ensures.own in
-    subst (λ v. Notes f.number (turns f cs c.args.due.now.places.now v) (piece_seen c.args.piece.now) (piece_seen c.run_on_tables-in-None.new.piece)) start
+    subst (λ v. Notes f.number (all_made f cs c.args.due.now.places.now v) (piece_seen c.args.piece.now) (piece_seen c.run_on_tables-in-None.new.piece)) start
     (c.in_ok-exits-in-None.ensures.notes slots cs mean fit (typed_start slots _ _ start good)).0
 
 pub returns-in_ok-insert-in-None-clause-threads : goal.returns-in_ok-insert-in-None-clause-threads
@@ -81,9 +81,9 @@ returns-in_ok-insert-in-None-clause-threads g c = λ slots cs mean fit good.
     let had : lookup (int_eq f.thread) old ≡ None = search rules in
     let start = started_new old f.thread c.new-tables.result.locals c.new-tables.result.own had c.new-tables.ensures.locals c.new-tables.ensures.own in
     let updates : Writes old c.insert.new.self.entries f.thread c.run_on_tables-in-None.new.tables = λ q. search (rules, c.in_ok-insert-in-None.ensures.updates.0 q) in
-    thread_written old c.insert.new.self.entries f.thread c.run_on_tables-in-None.new.tables (turns f cs c.args.due.now.places.now (at_start (threads_in old f.thread)))
+    thread_written old c.insert.new.self.entries f.thread c.run_on_tables-in-None.new.tables (all_made f cs c.args.due.now.places.now (at_start (threads_in old f.thread)))
     updates
-    ((c.in_ok-exits-in-None.ensures.notes slots cs mean fit (typed_start slots _ _ start good)).1 ∙ ap (λ v. (turns f cs c.args.due.now.places.now v).variables) start)
+    ((c.in_ok-exits-in-None.ensures.notes slots cs mean fit (typed_start slots _ _ start good)).1 ∙ ap (λ v. (all_made f cs c.args.due.now.places.now v).variables) start)
 
 pub returns-in-Some-get_index_mut-clause-exits : goal.returns-in-Some-get_index_mut-clause-exits
 returns-in-Some-get_index_mut-clause-exits g c =
@@ -95,7 +95,7 @@ returns-in-Some-get_index_mut-clause-exits g c =
     let had = tables_lent old i f.thread c.in-Some-get_index_mut.tables.now at c.in-Some-get_index_mut.ensures.value in
     let start = started old f.thread c.in-Some-get_index_mut.tables.now c.reset.new.self had c.reset.ensures in
     IfOk-weaker c.run_on_tables.result _ _ (λ exits told slots cs mean fit good.
-    told slots cs mean fit (typed_start slots _ _ start good) ∙ ap (λ v. is_some (turns f cs c.args.due.now.places.now v).exit) start)
+    told slots cs mean fit (typed_start slots _ _ start good) ∙ ap (λ v. is_some (all_made f cs c.args.due.now.places.now v).exit) start)
     c.run_on_tables.ensures.exits
 
 pub returns-in_ok-insert-in-None-clause-exits : goal.returns-in_ok-insert-in-None-clause-exits
@@ -104,4 +104,4 @@ returns-in_ok-insert-in-None-clause-exits g c = λ slots cs mean fit good.
     let old = c.args.threads.now.entries in
     let had : lookup (int_eq f.thread) old ≡ None = search rules in
     let start = started_new old f.thread c.new-tables.result.locals c.new-tables.result.own had c.new-tables.ensures.locals c.new-tables.ensures.own in
-    c.in_ok-exits-in-None.ensures.exits slots cs mean fit (typed_start slots _ _ start good) ∙ ap (λ v. is_some (turns f cs c.args.due.now.places.now v).exit) start
+    c.in_ok-exits-in-None.ensures.exits slots cs mean fit (typed_start slots _ _ start good) ∙ ap (λ v. is_some (all_made f cs c.args.due.now.places.now v).exit) start

@@ -14,24 +14,24 @@ use Rattle.replay_core.proofs.until.piece_until.Goals as goal
 
 pub run_until-requires-clause-places : goal.run_until-requires-clause-places
 run_until-requires-clause-places g c =
-    let t = c.args.shift.now.trace.now in
-    let groups = grouping c.args.shift.now.groups.now in
+    let t = c.args.input.now.trace.now in
+    let groups = grouping c.args.input.now.groups.now in
     let are = c.places.ensures ∙ c.requires.groups.places c.args.group ∙ ap (places_of groups c.args.group) (sym (threads_are t)) in
     subst (λ (ps : List ℕ). All (λ p. p < length (with_ends t t)) ps) (sym are) (all_below (λ t. is_group c.args.group (groups.group t)) (with_ends t t))
 
 pub run_until-requires-clause-few : goal.run_until-requires-clause-few
 run_until-requires-clause-few g c =
-    let t = c.args.shift.now.trace.now in
-    let groups = grouping c.args.shift.now.groups.now in
+    let t = c.args.input.now.trace.now in
+    let groups = grouping c.args.input.now.groups.now in
     let are = ap length (c.places.ensures ∙ c.requires.groups.places c.args.group ∙ ap (places_of groups c.args.group) (sym (threads_are t))) in
     let few = few_places (λ t. is_group c.args.group (groups.group t)) 0 (with_ends t t) in
     omega (arith, are, few)
 
 pub returns-clause-piece : goal.returns-clause-piece
 returns-clause-piece g c = λ m runs.
-    let t = c.args.shift.now.trace.now in
+    let t = c.args.input.now.trace.now in
     let fs = with_ends t t in
-    let groups = grouping c.args.shift.now.groups.now in
+    let groups = grouping c.args.input.now.groups.now in
     let lane = g.L.Lane.Engine.seen c.run_until.new.lane in
     let seen = g.S.Source.seen c.run_until.new.seat in
     let all = ap (firings_at fs) (c.places.ensures ∙ c.requires.groups.places c.args.group ∙ ap (places_of groups c.args.group) (sym (threads_are t))) ∙ chosen (λ t. is_group c.args.group (groups.group t)) fs 0 fs refl in

@@ -19,23 +19,23 @@ pub at-requires : goal.at-requires
 at-requires g c =
     let some = c.requires.script in
     let place = slice_index c.args.places.now c.loop-place.place-index in
-    selected_within some.0 c.args.shift.now.trace.now c.args.shift.now.selections.now some.2 place c.firing_at-firing.result c.firing_at-firing.ensures.firing
+    selected_within some.0 c.args.input.now.trace.now c.args.input.now.selections.now some.2 place c.firing_at-firing.result c.firing_at-firing.ensures.firing
 
 pub fire-requires-clause-selected : goal.fire-requires-clause-selected
 fire-requires-clause-selected g c =
     let some = c.requires.script in
     let place = slice_index c.args.places.now c.loop-place.place-index in
-    (some.0, c.loop-place.invariant.script some.0 some.1 some.2, selected_is some.0 c.args.shift.now.trace.now c.args.shift.now.selections.now some.2 place c.firing_at-firing.result c.at.result.now c.firing_at-firing.ensures.firing c.at.ensures)
+    (some.0, c.loop-place.invariant.script some.0 some.1 some.2, selected_is some.0 c.args.input.now.trace.now c.args.input.now.selections.now some.2 place c.firing_at-firing.result c.at.result.now c.firing_at-firing.ensures.firing c.at.ensures)
 
 pub fire-requires-clause-places : goal.fire-requires-clause-places
 fire-requires-clause-places g c =
-    selected_short c.args.shift.now.selections.now c.requires.short (slice_index c.args.places.now c.loop-place.place-index) c.at.result.now c.at.ensures
+    selected_short c.args.input.now.selections.now c.requires.short (slice_index c.args.places.now c.loop-place.place-index) c.at.result.now c.at.ensures
 
 pub fire-requires-clause-few : goal.fire-requires-clause-few
 fire-requires-clause-few g c =
     let some = c.requires.script in
     let i = c.loop-place.place-index in
-    let run = with_ends c.args.shift.now.trace.now c.args.shift.now.trace.now in
+    let run = with_ends c.args.input.now.trace.now c.args.input.now.trace.now in
     let before = firings_at run (take i c.args.places.now) in
     let taken = ap length (c.loop-place.invariant.run some.0 some.1 some.2).piece.taken in
     let same = length-map before number_of in
@@ -50,7 +50,7 @@ returns-then-least-firing-clause-run g c = λ m runs are.
     let inv = c.loop-place.invariant in
     let i = c.loop-place.place-index in
     let places = c.args.places.now in
-    let run = with_ends c.args.shift.now.trace.now c.args.shift.now.trace.now in
+    let run = with_ends c.args.input.now.trace.now c.args.input.now.trace.now in
     let place = slice_index places i in
     let f = c.firing_at-firing.result in
     let item : get_or places i place ≡ place = get_or_default places i place 0 (omega arith) in
@@ -65,7 +65,7 @@ returns-then-branch-clause-run g c = λ m runs are.
     let inv = c.loop-place.invariant in
     let i = c.loop-place.place-index in
     let places = c.args.places.now in
-    let run = with_ends c.args.shift.now.trace.now c.args.shift.now.trace.now in
+    let run = with_ends c.args.input.now.trace.now c.args.input.now.trace.now in
     let place = slice_index places i in
     let f = c.firing_at-firing.result in
     let old = g.E.Engine.seen c.loop-place.lane in
@@ -74,10 +74,10 @@ returns-then-branch-clause-run g c = λ m runs are.
     let rest = firings_at run (drop (i + 1) places) in
     let all = at_parts run places i ∙ ap (λ l. before ++ l) (at_next run places i place f (omega arith) item c.firing_at-firing.ensures.firing) ∙ sym (append_assoc before (f ∷ []) rest) in
     let here = inv.script m runs are in
-    let exits = sym c.if-branch.true ∙ c.in_ok-fire.ensures.exits m here (selected_is m c.args.shift.now.trace.now c.args.shift.now.selections.now are (slice_index c.args.places.now c.loop-place.place-index) c.firing_at-firing.result c.at.result.now c.firing_at-firing.ensures.firing c.at.ensures) in (
+    let exits = sym c.if-branch.true ∙ c.in_ok-fire.ensures.exits m here (selected_is m c.args.input.now.trace.now c.args.input.now.selections.now are (slice_index c.args.places.now c.loop-place.place-index) c.firing_at-firing.result c.at.result.now c.firing_at-firing.ensures.firing c.at.ensures) in (
       before ++ f ∷ [],
       ended_by_exit m (g.S.Source.seen c.lower.new.seat) before f rest (firings_at run places) old.threads (inv.run m runs are).threads (inv.none m runs are) exits all,
-      fires_more m before f old (g.E.Engine.seen c.fire.new.self) (inv.run m runs are) (c.in_ok-fire.ensures.step m here (selected_is m c.args.shift.now.trace.now c.args.shift.now.selections.now are (slice_index c.args.places.now c.loop-place.place-index) c.firing_at-firing.result c.at.result.now c.firing_at-firing.ensures.firing c.at.ensures)),
+      fires_more m before f old (g.E.Engine.seen c.fire.new.self) (inv.run m runs are) (c.in_ok-fire.ensures.step m here (selected_is m c.args.input.now.trace.now c.args.input.now.selections.now are (slice_index c.args.places.now c.loop-place.place-index) c.firing_at-firing.result c.at.result.now c.firing_at-firing.ensures.firing c.at.ensures)),
     )
 
 pub returns-then-branch-clause-least : goal.returns-then-branch-clause-least
@@ -85,14 +85,14 @@ returns-then-branch-clause-least g c = λ m runs are.
     let inv = c.loop-place.invariant in
     let i = c.loop-place.place-index in
     let places = c.args.places.now in
-    let run = with_ends c.args.shift.now.trace.now c.args.shift.now.trace.now in
+    let run = with_ends c.args.input.now.trace.now c.args.input.now.trace.now in
     let f = c.firing_at-firing.result in
     let old = g.E.Engine.seen c.loop-place.lane in
     let number = g.S.Source.lowered c.args.seat.now in
     let before = firings_at run (take i places) in
     let here = inv.script m runs are in
-    let exits = sym c.if-branch.true ∙ c.in_ok-fire.ensures.exits m here (selected_is m c.args.shift.now.trace.now c.args.shift.now.selections.now are (slice_index c.args.places.now c.loop-place.place-index) c.firing_at-firing.result c.at.result.now c.firing_at-firing.ensures.firing c.at.ensures) in
-    let lane = fires_more m before f old (g.E.Engine.seen c.fire.new.self) (inv.run m runs are) (c.in_ok-fire.ensures.step m here (selected_is m c.args.shift.now.trace.now c.args.shift.now.selections.now are (slice_index c.args.places.now c.loop-place.place-index) c.firing_at-firing.result c.at.result.now c.firing_at-firing.ensures.firing c.at.ensures)) in
+    let exits = sym c.if-branch.true ∙ c.in_ok-fire.ensures.exits m here (selected_is m c.args.input.now.trace.now c.args.input.now.selections.now are (slice_index c.args.places.now c.loop-place.place-index) c.firing_at-firing.result c.at.result.now c.firing_at-firing.ensures.firing c.at.ensures) in
+    let lane = fires_more m before f old (g.E.Engine.seen c.fire.new.self) (inv.run m runs are) (c.in_ok-fire.ensures.step m here (selected_is m c.args.input.now.trace.now c.args.input.now.selections.now are (slice_index c.args.places.now c.loop-place.place-index) c.firing_at-firing.result c.at.result.now c.firing_at-firing.ensures.firing c.at.ensures)) in
     c.lower.ensures.lowered ∙ ap (λ n. min n f.number) (c.least.ensures.lowered ∙ inv.lowered)
     ∙ now_lowered m before f old.threads number (inv.run m runs are).threads (inv.none m runs are) exits
     ∙ ap (lesser_of number) (sym lane.piece.exit)
@@ -102,7 +102,7 @@ loop-place-preserved g c =
     let inv = c.loop-place.invariant in
     let i = c.loop-place.place-index in
     let places = c.args.places.now in
-    let run = with_ends c.args.shift.now.trace.now c.args.shift.now.trace.now in
+    let run = with_ends c.args.input.now.trace.now c.args.input.now.trace.now in
     let place = slice_index places i in
     let f = c.firing_at-firing.result in
     let old = g.E.Engine.seen c.loop-place.lane in
@@ -115,11 +115,11 @@ loop-place-preserved g c =
       list = looked.others.0 ∙ inv.list;
       seen = let a = looked.seen in let b = looked.own.1 in let d = inv.seen in omega arith;
       lowered = looked.lowered ∙ inv.lowered;
-      script = λ m runs are. c.fire.ensures.script m (inv.script m runs are) (selected_is m c.args.shift.now.trace.now c.args.shift.now.selections.now are (slice_index c.args.places.now c.loop-place.place-index) c.firing_at-firing.result c.at.result.now c.firing_at-firing.ensures.firing c.at.ensures);
+      script = λ m runs are. c.fire.ensures.script m (inv.script m runs are) (selected_is m c.args.input.now.trace.now c.args.input.now.selections.now are (slice_index c.args.places.now c.loop-place.place-index) c.firing_at-firing.result c.at.result.now c.firing_at-firing.ensures.firing c.at.ensures);
       unspent = search rules;
-      none = λ m runs are. ap (exit_over m) more ∙ still_none m before f old.threads (inv.run m runs are).threads (inv.none m runs are) (sym c.if-branch.false ∙ c.in_ok-fire.ensures.exits m (inv.script m runs are) (selected_is m c.args.shift.now.trace.now c.args.shift.now.selections.now are (slice_index c.args.places.now c.loop-place.place-index) c.firing_at-firing.result c.at.result.now c.firing_at-firing.ensures.firing c.at.ensures));
+      none = λ m runs are. ap (exit_over m) more ∙ still_none m before f old.threads (inv.run m runs are).threads (inv.none m runs are) (sym c.if-branch.false ∙ c.in_ok-fire.ensures.exits m (inv.script m runs are) (selected_is m c.args.input.now.trace.now c.args.input.now.selections.now are (slice_index c.args.places.now c.loop-place.place-index) c.firing_at-firing.result c.at.result.now c.firing_at-firing.ensures.firing c.at.ensures));
       run = λ m runs are. subst (λ (l : List Firing). IsLaneOf m l (g.E.Engine.seen c.fire.new.self)) (sym more)
-          (fires_more m before f old (g.E.Engine.seen c.fire.new.self) (inv.run m runs are) (c.in_ok-fire.ensures.step m (inv.script m runs are) (selected_is m c.args.shift.now.trace.now c.args.shift.now.selections.now are (slice_index c.args.places.now c.loop-place.place-index) c.firing_at-firing.result c.at.result.now c.firing_at-firing.ensures.firing c.at.ensures)));
+          (fires_more m before f old (g.E.Engine.seen c.fire.new.self) (inv.run m runs are) (c.in_ok-fire.ensures.step m (inv.script m runs are) (selected_is m c.args.input.now.trace.now c.args.input.now.selections.now are (slice_index c.args.places.now c.loop-place.place-index) c.firing_at-firing.result c.at.result.now c.firing_at-firing.ensures.firing c.at.ensures)));
     }
 
 pub returns-clause-run : goal.returns-clause-run
@@ -127,6 +127,6 @@ returns-clause-run g c = λ m runs are.
     let inv = c.loop-place.invariant in
     let i = c.loop-place.place-index in
     let places = c.args.places.now in
-    let run = with_ends c.args.shift.now.trace.now c.args.shift.now.trace.now in
+    let run = with_ends c.args.input.now.trace.now c.args.input.now.trace.now in
     let before = firings_at run (take i places) in
     (before, ended_by_last m (g.S.Source.seen c.loop-place.seat) before (firings_at run places) (inv.none m runs are) (at_all run places i (omega arith)), inv.run m runs are)

@@ -11,8 +11,8 @@ use Rattle.replay_core.proofs.until.work_until.Goals as goal
 pub loop-preserved : goal.loop-preserved
 loop-preserved g c =
     let i = c.loop.invariant in
-    let t = c.args.shift.now.trace.now in
-    let groups = grouping c.args.shift.now.groups.now in
+    let t = c.args.input.now.trace.now in
+    let groups = grouping c.args.input.now.groups.now in
     let pushed = c.in_ok-push.ensures.items in
     let taken = c.in-Some-take.ensures in
     let made = c.in_ok-piece.ensures in

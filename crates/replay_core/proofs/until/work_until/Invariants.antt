@@ -8,6 +8,6 @@ abbrev pub invariant-loop : goal.invariant-loop
 invariant-loop g l = record {
   at : g.S.Source.is_at l.source l.seat;
   groups : map (λ p. p.0) l.pieces.items ≡ g.S.Source.list l.seat;
-  pieces : AreBegun (g.L.Lanes.runs l.shift.lanes.now) (g.S.Source.seen l.seat) (grouping l.shift.groups.now) (with_ends l.shift.trace.now l.shift.trace.now) l.pieces.items;
+  pieces : AreBegun (g.L.Lanes.runs l.input.lanes.now) (g.S.Source.seen l.seat) (grouping l.input.groups.now) (with_ends l.input.trace.now l.input.trace.now) l.pieces.items;
   least : g.S.Source.lowered l.seat ≡ least_exit l.pieces.items;
 }

@@ -9,8 +9,8 @@ use Rattle.replay_core.proofs.worker.work.Goals as goal
 
 pub returns-clause-pieces : goal.returns-clause-pieces
 returns-clause-pieces g c =
-    let shift = c.args.shift.now in
-    let run = with_ends shift.trace.now shift.trace.now in
+    let input = c.args.input.now in
+    let run = with_ends input.trace.now input.trace.now in
     IfOk-weaker c.work_on.result _ _
-    (λ r are. subst (λ (fs : List Firing). AreOfGroups (g.L.Lanes.runs shift.lanes.now) (grouping shift.groups.now) fs r.0.items) (all_count run) are)
+    (λ r are. subst (λ (fs : List Firing). AreOfGroups (g.L.Lanes.runs input.lanes.now) (grouping input.groups.now) fs r.0.items) (all_count run) are)
     c.work_on.ensures.pieces

@@ -8,7 +8,7 @@ use Rattle.replay_core.proofs.worker.work_on.Goals as goal
 pub loop-preserved : goal.loop-preserved
 loop-preserved g c =
     let i = c.loop.invariant in
-    let w = c.args.shift.now in
+    let w = c.args.input.now in
     let pushed = c.in_ok-push.ensures.items in
     let taken = c.in-Some-take.ensures in
     record {

@@ -7,5 +7,5 @@ abbrev pub invariant-loop : goal.invariant-loop
 invariant-loop g l = record {
   at : g.S.Source.is_at l.source l.seat;
   groups : map (λ p. p.0) l.pieces.items ≡ g.S.Source.list l.seat;
-  pieces : AreOfGroups (g.L.Lanes.runs l.shift.lanes.now) (grouping l.shift.groups.now) (firings_in l.span l.shift.trace.now) l.pieces.items;
+  pieces : AreOfGroups (g.L.Lanes.runs l.input.lanes.now) (grouping l.input.groups.now) (firings_in l.span l.input.trace.now) l.pieces.items;
 }

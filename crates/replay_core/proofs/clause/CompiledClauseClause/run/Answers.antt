@@ -29,10 +29,10 @@ returns-clause-held c =
 
 pub returns-clause-run : goal.returns-clause-run
 returns-clause-run c =
-    let f = c.args.scene.now.firing.now in
+    let f = c.args.state.now.firing.now in
     let line = fault_line f.number c.args.place in
-    let vars = variables_in c.args.scene.now in
-    let left = variables_in c.run_clause.new.scene in
+    let vars = variables_in c.args.state.now in
+    let left = variables_in c.run_clause.new.state in
     let same = ap (λ l. run_by (by_objects f) line c.args.self.now.predicate (map action_code l) vars) c.deref.ensures.value in
     IfOk-weaker c.run_clause.result
     (λ exits. NotesRun f.number (run_by (by_objects f) line c.args.self.now.predicate (map action_code c.deref.result.now) vars) (piece_seen c.args.piece.now) (piece_seen c.run_clause.new.piece) left exits)

@@ -35,13 +35,13 @@ returns-clause-held c =
 
 pub returns-clause-run : goal.returns-clause-run
 returns-clause-run c =
-    let f = c.args.scene.now.firing.now in
+    let f = c.args.state.now.firing.now in
     let clause = c.args.self.now in
     let line = fault_line f.number c.args.place in
-    let vars = variables_in c.args.scene.now in
+    let vars = variables_in c.args.state.now in
     let same = ap (λ l. run_by (by_expressions f) line clause.predicate (map statement_form l) vars) c.deref.ensures.value
     ∙ run_same f line clause.predicate clause.statements.items vars in
-    let left = variables_in c.run_clause.new.scene in
+    let left = variables_in c.run_clause.new.state in
     IfOk-weaker c.run_clause.result
     (λ exits. NotesRun f.number (run_by (by_expressions f) line clause.predicate (map statement_form c.deref.result.now) vars) (piece_seen c.args.piece.now) (piece_seen c.run_clause.new.piece) left exits)
     _ (λ exits noted slots meant is fit good.

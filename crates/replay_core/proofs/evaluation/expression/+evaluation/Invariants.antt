@@ -8,9 +8,9 @@ use Rattle.replay_core.proofs.evaluation.expression.+evaluation.Given as goal
 abbrev pub invariant-evaluate_key-loop-place : goal.invariant-evaluate_key-loop-place
 invariant-evaluate_key-loop-place l = record {
   length : length l.key ≡ length l.keys;
-  stays : Stays l.fn.scene l.scene;
-  parts : with (keys_of l.scene.firing.now (typeds_of (drop l.place l.keys)) (variables_in l.scene)) (λ key. Has (take l.place l.key ++ key))
-      ≡ keys_of l.fn.scene.firing.now (typeds_of l.keys) (variables_in l.fn.scene);
+  stays : Stays l.fn.state l.state;
+  parts : with (keys_of l.state.firing.now (typeds_of (drop l.place l.keys)) (variables_in l.state)) (λ key. Has (take l.place l.key ++ key))
+      ≡ keys_of l.fn.state.firing.now (typeds_of l.keys) (variables_in l.fn.state);
 }
 
 abbrev pub decreases-and : goal.decreases-and

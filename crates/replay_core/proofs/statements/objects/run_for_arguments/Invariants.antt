@@ -6,5 +6,5 @@ use Rattle.replay_core.proofs.statements.objects.run_for_arguments.Given as goal
 
 abbrev pub invariant-loop-object : goal.invariant-loop-object
 invariant-loop-object l =
-    Stays l.fn.scene l.scene × (with (values_of_objects l.scene.firing.now (drop l.object-index l.objects) (variables_in l.scene)) (λ values. Has (l.values.items ++ values))
-    ≡ values_of_objects l.fn.scene.firing.now l.objects (variables_in l.fn.scene))
+    Stays l.fn.state l.state × (with (values_of_objects l.state.firing.now (drop l.object-index l.objects) (variables_in l.state)) (λ values. Has (l.values.items ++ values))
+    ≡ values_of_objects l.fn.state.firing.now l.objects (variables_in l.fn.state))

@@ -7,7 +7,7 @@ use Rattle.replay_core.proofs.statements.objects.run_for_key.Given as goal
 abbrev pub invariant-loop-place : goal.invariant-loop-place
 invariant-loop-place l = record {
   length : length l.key ≡ length l.objects;
-  stays : Stays l.fn.scene l.scene;
-  parts : with (key_of_objects l.scene.firing.now (drop l.place l.objects) (variables_in l.scene)) (λ key. Has (take l.place l.key ++ key))
-      ≡ key_of_objects l.fn.scene.firing.now l.objects (variables_in l.fn.scene);
+  stays : Stays l.fn.state l.state;
+  parts : with (key_of_objects l.state.firing.now (drop l.place l.objects) (variables_in l.state)) (λ key. Has (take l.place l.key ++ key))
+      ≡ key_of_objects l.fn.state.firing.now l.objects (variables_in l.fn.state);
 }

@@ -5,18 +5,18 @@ use Rattle.replay_core.specs.Effects.{NotesEffect}
 use Rattle.replay_core.specs.Evaluation.{variables_in}
 use Rattle.replay_core.specs.Seen.{piece_seen}
 use Rattle.replay_core.proofs.EffectLemmas.{says}
-use Rattle.replay_core.proofs.SceneLemmas.{number_stays}
+use Rattle.replay_core.proofs.StateLemmas.{number_stays}
 use Rattle.replay_core.proofs.statements.statement.trace.Goals as goal
 
 pub returns-clause-effect : goal.returns-clause-effect
 returns-clause-effect g c =
-    let f = c.args.scene.now.firing.now in
+    let f = c.args.state.now.firing.now in
     let by = g.X.Expression.by f in
-    let vars = variables_in c.args.scene.now in
-    let same = number_stays c.args.scene.now c.evaluate.new.scene c.in_ok-value.ensures.0 in
+    let vars = variables_in c.args.state.now in
+    let same = number_stays c.args.state.now c.evaluate.new.state c.in_ok-value.ensures.0 in
     let noted = subst (λ n. NotesEffect n (ef.Says c.in_ok-text.text) (piece_seen c.args.piece.now) (piece_seen c.note_text.new.self)) same c.in_ok-note_text.ensures.notes in (
       c.in_ok-value.ensures.0,
       says f.number (by.value c.args.e.now vars) (trace_line (by.type c.args.e.now)) c.in_ok-value.value c.in_ok-text.text
-          (piece_seen c.args.piece.now) (piece_seen c.note_text.new.self) (variables_in c.evaluate.new.scene)
+          (piece_seen c.args.piece.now) (piece_seen c.note_text.new.self) (variables_in c.evaluate.new.state)
           c.in_ok-value.ensures.1 (search rules) noted,
     )

@@ -7,5 +7,5 @@ use Rattle.replay_core.proofs.statements.trees.evaluate_arguments.Given as goal
 
 abbrev pub invariant-loop-argument : goal.invariant-loop-argument
 invariant-loop-argument l =
-    Stays l.fn.scene l.scene × (with (values_of l.scene.firing.now (typeds_of (drop l.argument-index l.arguments)) (variables_in l.scene)) (λ values. Has (l.values.items ++ values))
-    ≡ values_of l.fn.scene.firing.now (typeds_of l.arguments) (variables_in l.fn.scene))
+    Stays l.fn.state l.state × (with (values_of l.state.firing.now (typeds_of (drop l.argument-index l.arguments)) (variables_in l.state)) (λ values. Has (l.values.items ++ values))
+    ≡ values_of l.fn.state.firing.now (typeds_of l.arguments) (variables_in l.fn.state))

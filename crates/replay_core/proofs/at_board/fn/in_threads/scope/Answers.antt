@@ -1,7 +1,7 @@
 use Rattle.std.proofs.Common.{arith, ◌≡◌, ap}
 use Rattle.shard_queue.specs.Boards.{IsAt, IsNew}
 use Rattle.shard_queue.proofs.Lists.{all_tail, all_push}
-use Rattle.replay_core.proofs.crew.fn.in_threads.scope.Goals as goal
+use Rattle.replay_core.proofs.at_board.fn.in_threads.scope.Goals as goal
 
 pub loop-seat-preserved : goal.loop-seat-preserved
 loop-seat-preserved g c =

@@ -1,6 +1,6 @@
 use Rattle.std.proofs.Common.{◌≡◌, ◌≤◌, ◌+◌, All, vec_len, vec_capacity}
 use Rattle.shard_queue.specs.Boards.{IsAt, IsNew}
-use Rattle.replay_core.proofs.crew.fn.in_threads.scope.Given as goal
+use Rattle.replay_core.proofs.at_board.fn.in_threads.scope.Given as goal
 
 abbrev pub invariant-loop-seat : goal.invariant-loop-seat
 invariant-loop-seat g l = record {

@@ -10,14 +10,14 @@ use Rattle.replay_core.specs.Effects.{NotesRun}
 use Rattle.replay_core.specs.Evaluation.{variables_in}
 use Rattle.replay_core.specs.Seen.{piece_seen}
 use Rattle.replay_core.proofs.RepeatLemmas.{all_taken, clause_done, placed, places_left, turn_taken}
-use Rattle.replay_core.proofs.SceneLemmas.{stays_then}
+use Rattle.replay_core.proofs.StateLemmas.{stays_then}
 use Rattle.replay_core.proofs.Turning.{Continues, continues_all, continues_start, exits_all, turn_more}
-use Rattle.replay_core.proofs.turns.run_in_turn.Goals as goal
+use Rattle.replay_core.proofs.clause_runs.run_clauses.Goals as goal
 
 pub loop-at-init : goal.loop-at-init
 loop-at-init g c =
-    let f = c.args.scene.now.firing.now in
-    let start = variables_in c.args.scene.now in
+    let f = c.args.state.now.firing.now in
+    let start = variables_in c.args.state.now in
     let piece = piece_seen c.args.piece.now in
     let long = ap length c.places.view_is in
     record {
@@ -27,7 +27,7 @@ loop-at-init g c =
       taken = refl;
       held = omega (arith, long);
       stays = (refl, refl);
-      turns = λ slots cs mean fit good.
+      all_made = λ slots cs mean fit good.
           (good, subst (λ (l : List ℕ). Continues f cs c.args.places.now l start start piece piece false) (sym c.places.view_is) (continues_start f cs c.args.places.now start piece));
     }
 
@@ -88,7 +88,7 @@ run-requires-clause-room g c =
 
 pub loop-at-preserved-then-turn-repeat : goal.loop-at-preserved-then-turn-repeat
 loop-at-preserved-then-turn-repeat g c =
-    let f = c.args.scene.now.firing.now in
+    let f = c.args.state.now.firing.now in
     let clauses = c.args.clauses.now in
     let all = c.places.inside.repeats.items in
     let at = c.loop-at.at in
@@ -96,9 +96,9 @@ loop-at-preserved-then-turn-repeat g c =
     let r = c.index-repeat.result.now in
     let clause = c.index-clauses-place.result in
     let i = c.loop-at.invariant in
-    let before = variables_in c.args.scene.now in
-    let now = variables_in c.loop-at.scene in
-    let after = variables_in c.run.new.scene in
+    let before = variables_in c.args.state.now in
+    let now = variables_in c.loop-at.state in
+    let after = variables_in c.run.new.state in
     let old = piece_seen c.args.piece.now in
     let piece = piece_seen c.loop-at.piece in
     let next = piece_seen c.run.new.piece in
@@ -112,7 +112,7 @@ loop-at-preserved-then-turn-repeat g c =
     let cut : places_left all at (turn - 1) ≡ r.place ∷ places_left all at (turn + 1 - 1) =
     turn_taken all at (turn - 1) r within c.index-repeat.ensures (omega arith) ∙ ap (λ n. r.place ∷ places_left all at n) next_turn in
     let long = ap length cut in
-    let here : c.loop-at.scene.firing.now ≡ f = ap (λ s. s.now) i.stays.0 in
+    let here : c.loop-at.state.firing.now ≡ f = ap (λ s. s.now) i.stays.0 in
     let held = c.run.ensures.held in
     let before_held = i.held in
     let others = c.if-turn-repeat.true in
@@ -125,9 +125,9 @@ loop-at-preserved-then-turn-repeat g c =
       functions = c.run.ensures.functions ∙ i.functions;
       taken = c.run.ensures.taken ∙ i.taken;
       held = omega (arith, most, held, before_held, long);
-      stays = stays_then c.args.scene.now c.loop-at.scene c.run.new.scene i.stays c.run.ensures.scene;
-      turns = λ slots cs mean fit good.
-          let so_far = i.turns slots cs mean fit good in
+      stays = stays_then c.args.state.now c.loop-at.state c.run.new.state i.stays c.run.ensures.state;
+      all_made = λ slots cs mean fit good.
+          let so_far = i.all_made slots cs mean fit good in
           turn_more f cs g.C.Clause.means slots clauses clause c.args.places.now (places_left all at (turn + 1 - 1)) r.place before now after old piece next
           c.loop-at.exits c.in_ok-exited.exited mean inside c.index-clauses-place.is fit
           (λ m meant. subst (λ (f : Firing). NotesRun f.number (run_of f (r.place + 1) m now) piece next after c.in_ok-exited.exited) here
@@ -137,7 +137,7 @@ loop-at-preserved-then-turn-repeat g c =
 
 pub loop-at-preserved : goal.loop-at-preserved
 loop-at-preserved g c =
-    let f = c.args.scene.now.firing.now in
+    let f = c.args.state.now.firing.now in
     let clauses = c.args.clauses.now in
     let all = c.places.inside.repeats.items in
     let at = c.loop-at.at in
@@ -145,9 +145,9 @@ loop-at-preserved g c =
     let r = c.index-repeat.result.now in
     let clause = c.index-clauses-place.result in
     let i = c.loop-at.invariant in
-    let before = variables_in c.args.scene.now in
-    let now = variables_in c.loop-at.scene in
-    let after = variables_in c.run.new.scene in
+    let before = variables_in c.args.state.now in
+    let now = variables_in c.loop-at.state in
+    let after = variables_in c.run.new.state in
     let old = piece_seen c.args.piece.now in
     let piece = piece_seen c.loop-at.piece in
     let next = piece_seen c.run.new.piece in
@@ -162,7 +162,7 @@ loop-at-preserved g c =
     let last : turn - 1 + 1 ≡ r.times = omega (arith, others) in
     let done : places_left all at (turn - 1 + 1) ≡ places_left all (at + 1) 0 = ap (places_left all at) last ∙ clause_done all at r within c.index-repeat.ensures in
     let long = ap length (cut ∙ ap (λ (l : List ℕ). r.place ∷ l) done) in
-    let here : c.loop-at.scene.firing.now ≡ f = ap (λ s. s.now) i.stays.0 in
+    let here : c.loop-at.state.firing.now ≡ f = ap (λ s. s.now) i.stays.0 in
     let held = c.run.ensures.held in
     let before_held = i.held in
     record {
@@ -171,9 +171,9 @@ loop-at-preserved g c =
       functions = c.run.ensures.functions ∙ i.functions;
       taken = c.run.ensures.taken ∙ i.taken;
       held = omega (arith, most, held, before_held, long);
-      stays = stays_then c.args.scene.now c.loop-at.scene c.run.new.scene i.stays c.run.ensures.scene;
-      turns = λ slots cs mean fit good.
-          let so_far = i.turns slots cs mean fit good in
+      stays = stays_then c.args.state.now c.loop-at.state c.run.new.state i.stays c.run.ensures.state;
+      all_made = λ slots cs mean fit good.
+          let so_far = i.all_made slots cs mean fit good in
           turn_more f cs g.C.Clause.means slots clauses clause c.args.places.now (places_left all (at + 1) 0) r.place before now after old piece next
           c.loop-at.exits c.in_ok-exited.exited mean inside c.index-clauses-place.is fit
           (λ m meant. subst (λ (f : Firing). NotesRun f.number (run_of f (r.place + 1) m now) piece next after c.in_ok-exited.exited) here
@@ -185,14 +185,14 @@ pub returns-clause-notes : goal.returns-clause-notes
 returns-clause-notes g c = λ slots cs mean fit good.
     let past : length c.places.inside.repeats.items ≤ c.loop-at.at = search rules in
     let none = all_taken c.places.inside.repeats.items c.loop-at.at (c.loop-at.turn - 1) past in
-    continues_all c.args.scene.now.firing.now cs _ _ _ _ _ c.loop-at.exits
-    (subst (λ (l : List ℕ). Continues c.args.scene.now.firing.now cs c.args.places.now l (variables_in c.args.scene.now) (variables_in c.loop-at.scene) (piece_seen c.args.piece.now) (piece_seen c.loop-at.piece) c.loop-at.exits)
-    none (c.loop-at.invariant.turns slots cs mean fit good).1)
+    continues_all c.args.state.now.firing.now cs _ _ _ _ _ c.loop-at.exits
+    (subst (λ (l : List ℕ). Continues c.args.state.now.firing.now cs c.args.places.now l (variables_in c.args.state.now) (variables_in c.loop-at.state) (piece_seen c.args.piece.now) (piece_seen c.loop-at.piece) c.loop-at.exits)
+    none (c.loop-at.invariant.all_made slots cs mean fit good).1)
 
 pub returns-clause-exits : goal.returns-clause-exits
 returns-clause-exits g c = λ slots cs mean fit good.
     let past : length c.places.inside.repeats.items ≤ c.loop-at.at = search rules in
     let none = all_taken c.places.inside.repeats.items c.loop-at.at (c.loop-at.turn - 1) past in
-    exits_all c.args.scene.now.firing.now cs _ _ _ _ _ c.loop-at.exits
-    (subst (λ (l : List ℕ). Continues c.args.scene.now.firing.now cs c.args.places.now l (variables_in c.args.scene.now) (variables_in c.loop-at.scene) (piece_seen c.args.piece.now) (piece_seen c.loop-at.piece) c.loop-at.exits)
-    none (c.loop-at.invariant.turns slots cs mean fit good).1)
+    exits_all c.args.state.now.firing.now cs _ _ _ _ _ c.loop-at.exits
+    (subst (λ (l : List ℕ). Continues c.args.state.now.firing.now cs c.args.places.now l (variables_in c.args.state.now) (variables_in c.loop-at.state) (piece_seen c.args.piece.now) (piece_seen c.loop-at.piece) c.loop-at.exits)
+    none (c.loop-at.invariant.all_made slots cs mean fit good).1)

@@ -11,8 +11,8 @@ run_at f place None vars = nothing_made vars
 run_at f place (Some c) vars = run_of f (place + 1) c vars
 
 -- the clauses at these places, one after the other
-abbrev pub turns : Firing → List ClauseMeant → List ℕ → Variables → Made
-turns f cs [] vars = nothing_made vars
-turns f cs (place ∷ rest) vars =
+abbrev pub all_made : Firing → List ClauseMeant → List ℕ → Variables → Made
+all_made f cs [] vars = nothing_made vars
+all_made f cs (place ∷ rest) vars =
     let first = run_at f place (slice_get cs place) vars in
-    and_then first (turns f cs rest first.variables)
+    and_then first (all_made f cs rest first.variables)

@@ -4,15 +4,15 @@ ghost use Rattle.std.specs.Prelude.{◌≡◌, All, vec_len, IfOk};
 ghost use Rattle.replay_core.specs.Vocabulary.{IsAt, IsNew, grouping};
 ghost use Rattle.replay_core.specs.{Selecting.AreSelected};
 ghost use Rattle.replay_core.specs.Steps.Working.{IsReady};
-ghost use Rattle.replay_core.specs.Crews.{Gives, IsWork};
-ghost use Rattle.replay_core.specs.Steps.Crews.{AreFinished};
+ghost use Rattle.replay_core.specs.AtBoard.{Gives, IsWork};
+ghost use Rattle.replay_core.specs.Steps.AtBoard.{AreFinished};
 
 use crate::gate::Gate;
 use crate::lanes::Lanes;
 use crate::piece::Piece;
 use crate::span::Span;
 use crate::until::work_until;
-use crate::worker::{Shift, work, work_on};
+use crate::worker::{Input, work, work_on};
 use firing_reader::Trace;
 use shard_queue::{ClaimBoard, ClaimSeat, Groups};
 use std::alloc::{AllocError, Global};
@@ -44,22 +44,22 @@ pub(crate) fn in_threads<R: Threads + Wait + Sync, L: Lanes + Sync, G: Gate + Sy
     rt: &R,
     board: &ClaimBoard,
     seats: Vec<ClaimSeat>,
-    shift: &Shift<L, G>,
+    input: &Input<L, G>,
     span: Span,
 ) -> Result<Vec<Worked>, AllocError>
     requires seats { All (λ s. IsAt board.now s × IsNew s) seats.items }
-    requires end { board.now.end ≡ (grouping shift.now.groups.now).count }
-    requires ready { IsReady (L.runs shift.now.lanes.now) shift.now.groups.now shift.now.trace.now }
+    requires end { board.now.end ≡ (grouping input.now.groups.now).count }
+    requires ready { IsReady (L.runs input.now.lanes.now) input.now.groups.now input.now.trace.now }
     requires selected { AreSelected
-        (L.runs shift.now.lanes.now) shift.now.trace.now shift.now.selections.now }
+        (L.runs input.now.lanes.now) input.now.trace.now input.now.selections.now }
     ensures len { IfOk result (λ v. vec_len v ≡ vec_len seats) }
     ensures works { IfOk result (λ v. All (λ r. IfOk r (IsWork
-        (Gives span (L.runs shift.now.lanes.now) shift.now.groups.now shift.now.trace.now)
+        (Gives span (L.runs input.now.lanes.now) input.now.groups.now input.now.trace.now)
         board.now)) v.items) }
 {
     // Callers know nothing of a closure that captures a value whose type has a lifetime.
-    let (alloc, lanes, trace) = (shift.alloc, shift.lanes, shift.trace);
-    let (selections, groups, gate) = (shift.selections, shift.groups, shift.gate);
+    let (alloc, lanes, trace) = (input.alloc, input.lanes, input.trace);
+    let (selections, groups, gate) = (input.selections, input.groups, input.gate);
     thread::scope(
         thread::scope_env(),
         rt,
@@ -94,7 +94,7 @@ pub(crate) fn in_threads<R: Threads + Wait + Sync, L: Lanes + Sync, G: Gate + Sy
                             (IsWork (Gives span (L.runs lanes.entry.now) groups.entry.now
                             trace.entry.now) board.entry.now) }
                     {
-                        let shift = Shift {
+                        let input = Input {
                             alloc,
                             lanes,
                             trace,
@@ -102,7 +102,7 @@ pub(crate) fn in_threads<R: Threads + Wait + Sync, L: Lanes + Sync, G: Gate + Sy
                             groups,
                             gate,
                         };
-                        at_board(rt, board, seat, &shift, span)
+                        at_board(rt, board, seat, &input, span)
                     },
                 )?;
                 handles.push_reserved(child);
@@ -120,22 +120,22 @@ fn at_board<R: Wait, L: Lanes, G: Gate>(
     rt: &R,
     board: &ClaimBoard,
     seat: ClaimSeat,
-    shift: &Shift<L, G>,
+    input: &Input<L, G>,
     span: Span,
 ) -> Worked
     requires seat { IsAt board.now seat × IsNew seat }
-    requires end { board.now.end ≡ (grouping shift.now.groups.now).count }
-    requires ready { IsReady (L.runs shift.now.lanes.now) shift.now.groups.now shift.now.trace.now }
+    requires end { board.now.end ≡ (grouping input.now.groups.now).count }
+    requires ready { IsReady (L.runs input.now.lanes.now) input.now.groups.now input.now.trace.now }
     requires selected { AreSelected
-        (L.runs shift.now.lanes.now) shift.now.trace.now shift.now.selections.now }
+        (L.runs input.now.lanes.now) input.now.trace.now input.now.selections.now }
     ensures { IfOk result (IsWork (Gives span
-        (L.runs shift.entry.now.lanes.now) shift.entry.now.groups.now shift.entry.now.trace.now)
+        (L.runs input.entry.now.lanes.now) input.entry.now.groups.now input.entry.now.trace.now)
         board.entry.now) }
 {
     match span {
-        Span::All => work(rt, board, seat, shift),
-        Span::UntilExit => work_until(rt, board, seat, shift),
-        Span::UpTo { .. } => work_on(rt, board, seat, shift, span),
+        Span::All => work(rt, board, seat, input),
+        Span::UntilExit => work_until(rt, board, seat, input),
+        Span::UpTo { .. } => work_on(rt, board, seat, input, span),
     }
 }
 

@@ -1,8 +1,8 @@
 use Rattle.std.proofs.Common.{◌≡◌, ◌+◌, ◌++◌, List, Result, vec_len}
 use Rattle.std.specs.declared.alloc.AllocError.{AllocError}
-use Rattle.replay_core.specs.Crews.{Part}
-use Rattle.replay_core.specs.Steps.Crews.{AreFinished}
-use Rattle.replay_core.proofs.crew.pieces_and_seats.Given as goal
+use Rattle.replay_core.specs.AtBoard.{Part}
+use Rattle.replay_core.specs.Steps.AtBoard.{AreFinished}
+use Rattle.replay_core.proofs.at_board.pieces_and_seats.Given as goal
 
 abbrev pub invariant-loop-worked : goal.invariant-loop-worked
 invariant-loop-worked l = record {

@@ -4,7 +4,7 @@ use Rattle.replay_core.specs.Vocabulary.{ClaimSeat, Firing, Groups, ScriptMeant,
 use Rattle.replay_core.specs.declared.{piece.Piece.Piece, round.Round.Round}
 use Rattle.replay_core.specs.{Exit.firings_over, Groups.IsAllBelow, Seen.IsRoomy}
 use Rattle.replay_core.specs.Working.{IsOfGroup}
-use Rattle.replay_core.specs.Crews.{Part}
+use Rattle.replay_core.specs.AtBoard.{Part}
 
 -- every worker came to its end, and the pieces and the seats are theirs, in order
 pub record AreFinished {E : Type 0} (results : List (Result Part E)) (pieces : List (ℕ × Piece))

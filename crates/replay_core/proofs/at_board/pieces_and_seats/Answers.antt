@@ -1,6 +1,6 @@
 use Rattle.std.proofs.Common.{rules, arith, ap, sym, ◌++◌, ◌∷◌, [], ◌∙◌, append_assoc}
 use Rattle.replay_core.proofs.Parts.{none_finished, one_finished}
-use Rattle.replay_core.proofs.crew.pieces_and_seats.Goals as goal
+use Rattle.replay_core.proofs.at_board.pieces_and_seats.Goals as goal
 
 pub loop-worked-init : goal.loop-worked-init
 loop-worked-init c = record { len = search rules; finished = ([], search rules, none_finished _ _ (search rules) (search rules)) }

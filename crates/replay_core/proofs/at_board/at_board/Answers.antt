@@ -7,10 +7,10 @@ use Rattle.shard_queue.specs.Groups.{grouping}
 use Rattle.shard_queue.specs.declared.board.ClaimBoard.{ClaimBoard}
 use Rattle.shard_queue.specs.declared.groups.Groups.{Groups}
 use Rattle.replay_core.specs.declared.span.Span.TheVariants as span
-use Rattle.replay_core.specs.Crews.{Gives, IsWork, Part}
+use Rattle.replay_core.specs.AtBoard.{Gives, IsWork, Part}
 use Rattle.replay_core.specs.Working.{AreOfGroups}
 use Rattle.replay_core.proofs.TraceRuns.{all_count}
-use Rattle.replay_core.proofs.crew.at_board.Goals as goal
+use Rattle.replay_core.proofs.at_board.at_board.Goals as goal
 
 -- what a worker makes over all firings is what it gives where all count
 plain_work : {E : Type 0} (runs : ScriptMeant → Type 0) (groups : Groups) (trace : List Firing) (board : ClaimBoard) (result : Result Part E)
@@ -27,6 +27,6 @@ plain_work runs groups trace board (Ok r) seat order pieces = record {
 pub returns-in-All : goal.returns-in-All
 returns-in-All g c =
     let a = c.args in
-    let runs = g.L.Lanes.runs a.shift.now.lanes.now in
-    subst (λ s. IfOk c.work.result (IsWork (Gives s runs a.shift.now.groups.now a.shift.now.trace.now) a.board.now)) (sym c.in-All.is)
-    (plain_work runs a.shift.now.groups.now a.shift.now.trace.now a.board.now c.work.result c.work.ensures.seat c.work.ensures.groups c.work.ensures.pieces)
+    let runs = g.L.Lanes.runs a.input.now.lanes.now in
+    subst (λ s. IfOk c.work.result (IsWork (Gives s runs a.input.now.groups.now a.input.now.trace.now) a.board.now)) (sym c.in-All.is)
+    (plain_work runs a.input.now.groups.now a.input.now.trace.now a.board.now c.work.result c.work.ensures.seat c.work.ensures.groups c.work.ensures.pieces)

@@ -9,7 +9,7 @@ use Rattle.replay_core.specs.Scripts.{AllMean}
 use Rattle.replay_core.specs.Seen.{piece_seen}
 use Rattle.replay_core.proofs.RepeatLemmas.{places_left}
 use Rattle.replay_core.proofs.Turning.{Continues}
-use Rattle.replay_core.proofs.turns.run_in_turn.Given as goal
+use Rattle.replay_core.proofs.clause_runs.run_clauses.Given as goal
 
 abbrev pub invariant-loop-at : goal.invariant-loop-at
 invariant-loop-at g l = record {
@@ -18,10 +18,10 @@ invariant-loop-at g l = record {
   functions : functions_of l.piece.table ≡ functions_of l.fn.piece.table;
   taken : l.piece.taken.items ≡ l.fn.piece.taken.items;
   held : count_held l.piece.table + 65536 * length (places_left l.places-inside.repeats.items l.at (l.turn - 1)) ≤ count_held l.fn.piece.table + 65536 * length l.fn.places;
-  stays : Stays l.fn.scene l.scene;
-  turns : (slots : Slots) (cs : List ClauseMeant) → AllMean g.C.Clause.means slots l.clauses cs → HasTypedBuiltIns l.fn.scene.firing.now
-      → AreTyped slots (variables_in l.fn.scene)
-      → AreTyped slots (variables_in l.scene) × Continues l.fn.scene.firing.now cs l.fn.places (places_left l.places-inside.repeats.items l.at (l.turn - 1)) (variables_in l.fn.scene) (variables_in l.scene) (piece_seen l.fn.piece) (piece_seen l.piece) l.exits;
+  stays : Stays l.fn.state l.state;
+  all_made : (slots : Slots) (cs : List ClauseMeant) → AllMean g.C.Clause.means slots l.clauses cs → HasTypedBuiltIns l.fn.state.firing.now
+      → AreTyped slots (variables_in l.fn.state)
+      → AreTyped slots (variables_in l.state) × Continues l.fn.state.firing.now cs l.fn.places (places_left l.places-inside.repeats.items l.at (l.turn - 1)) (variables_in l.fn.state) (variables_in l.state) (piece_seen l.fn.piece) (piece_seen l.piece) l.exits;
 }
 
 abbrev pub decreases-loop-at : goal.decreases-loop-at

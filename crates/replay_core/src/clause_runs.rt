@@ -5,21 +5,21 @@ ghost use Rattle.std.specs.Prelude.{length};
 ghost use Rattle.replay_core.specs.Vocabulary.{AreTyped, ClauseMeant, HasTypedBuiltIns, Slots};
 ghost use Rattle.replay_core.specs.Vocabulary.{count_held, functions_of};
 ghost use Rattle.replay_core.specs.{Lanes.Notes, Scripts.AllMean, Seen.piece_seen};
-ghost use Rattle.replay_core.specs.Steps.Turns.{turns};
+ghost use Rattle.replay_core.specs.Steps.AllMade.{all_made};
 ghost use Rattle.replay_core.specs.Evaluation.{Stays, variables_in};
 
 use crate::clause::Clause;
 use crate::clause_places::ClausePlaces;
 use crate::piece::Piece;
-use crate::scene::Scene;
+use crate::state::State;
 use d_lexer::MOST_BYTES;
 use std::alloc::AllocError;
 
 /// Runs the clauses at these places for a firing, and returns whether one exited.
-pub(crate) fn run_in_turn<C: Clause>(
+pub(crate) fn run_clauses<C: Clause>(
     clauses: &[C],
     places: &ClausePlaces,
-    scene: &mut Scene<'_>,
+    state: &mut State<'_>,
     piece: &mut Piece,
 ) -> Result<bool, AllocError>
     requires there { All (λ place. place < length clauses.now) places.now }
@@ -28,17 +28,17 @@ pub(crate) fn run_in_turn<C: Clause>(
     requires room { count_held piece.old.table + MOST_BYTES * length places.now ≤ 2 ^ 52 }
     ensures functions { functions_of piece.new.table ≡ functions_of piece.old.table }
     ensures taken { piece.new.taken.items ≡ piece.old.taken.items }
-    ensures scene { Stays scene.old scene.new }
+    ensures state { Stays state.old state.new }
     ensures notes { OnOk result ((slots : Slots) (cs : List ClauseMeant)
-        → AllMean C.means slots clauses.now cs → HasTypedBuiltIns scene.old.firing.now
-        → AreTyped slots (variables_in scene.old) →
-        let made = turns scene.old.firing.now cs places.now (variables_in scene.old) in
-        Notes scene.old.firing.now.number made (piece_seen piece.old) (piece_seen piece.new)
-        × (variables_in scene.new ≡ made.variables)) }
+        → AllMean C.means slots clauses.now cs → HasTypedBuiltIns state.old.firing.now
+        → AreTyped slots (variables_in state.old) →
+        let made = all_made state.old.firing.now cs places.now (variables_in state.old) in
+        Notes state.old.firing.now.number made (piece_seen piece.old) (piece_seen piece.new)
+        × (variables_in state.new ≡ made.variables)) }
     ensures exits { IfOk result (λ exits. (slots : Slots) (cs : List ClauseMeant)
-        → AllMean C.means slots clauses.now cs → HasTypedBuiltIns scene.old.firing.now
-        → AreTyped slots (variables_in scene.old) →
-        let made = turns scene.old.firing.now cs places.now (variables_in scene.old) in
+        → AllMean C.means slots clauses.now cs → HasTypedBuiltIns state.old.firing.now
+        → AreTyped slots (variables_in state.old) →
+        let made = all_made state.old.firing.now cs places.now (variables_in state.old) in
         exits ≡ is_some made.exit) }
     ensures held { OnOk result (count_held piece.new.table
         ≤ count_held piece.old.table + MOST_BYTES * length places.now) }
@@ -49,7 +49,7 @@ pub(crate) fn run_in_turn<C: Clause>(
     while at < places.repeats.len() {
         let repeat = &places.repeats[at];
         let place = repeat.place as usize;
-        let exited = clauses[place].run(place as u64 + 1, scene, piece)?;
+        let exited = clauses[place].run(place as u64 + 1, state, piece)?;
         exits |= exited;
         if turn < repeat.times {
             turn += 1;
