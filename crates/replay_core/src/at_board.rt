@@ -12,7 +12,7 @@ use crate::lanes::Lanes;
 use crate::piece::Piece;
 use crate::span::Span;
 use crate::until::work_until;
-use crate::worker::{Input, work, work_on};
+use crate::worker::{WorkerInput, work, work_on};
 use firing_reader::Trace;
 use shard_queue::{ClaimBoard, ClaimSeat, Groups};
 use std::alloc::{AllocError, Global};
@@ -44,7 +44,7 @@ pub(crate) fn in_threads<R: Threads + Wait + Sync, L: Lanes + Sync, G: Gate + Sy
     rt: &R,
     board: &ClaimBoard,
     seats: Vec<ClaimSeat>,
-    input: &Input<L, G>,
+    input: &WorkerInput<L, G>,
     span: Span,
 ) -> Result<Vec<Worked>, AllocError>
     requires seats { All (λ s. IsAt board.now s × IsNew s) seats.items }
@@ -94,7 +94,7 @@ pub(crate) fn in_threads<R: Threads + Wait + Sync, L: Lanes + Sync, G: Gate + Sy
                             (IsWork (Gives span (L.runs lanes.entry.now) groups.entry.now
                             trace.entry.now) board.entry.now) }
                     {
-                        let input = Input {
+                        let input = WorkerInput {
                             alloc,
                             lanes,
                             trace,
@@ -120,7 +120,7 @@ fn at_board<R: Wait, L: Lanes, G: Gate>(
     rt: &R,
     board: &ClaimBoard,
     seat: ClaimSeat,
-    input: &Input<L, G>,
+    input: &WorkerInput<L, G>,
     span: Span,
 ) -> Worked
     requires seat { IsAt board.now seat × IsNew seat }

@@ -11,7 +11,7 @@ use crate::gate::Gate;
 use crate::lanes::Lanes;
 use crate::piece::Piece;
 use crate::span::Span;
-use crate::worker::Input;
+use crate::worker::WorkerInput;
 use shard_queue::{ClaimBoard, MOST_GROUPS, MOST_WORKERS};
 use std::alloc::AllocError;
 use std::sync::Wait;
@@ -29,7 +29,7 @@ pub(crate) struct Round {
 /// Runs this many workers over all groups.
 pub(crate) fn in_round<R: Threads + Wait + Sync, L: Lanes + Sync, G: Gate + Sync>(
     rt: &R,
-    input: &Input<L, G>,
+    input: &WorkerInput<L, G>,
     workers: u32,
     span: Span,
 ) -> Result<Round, AllocError>

@@ -16,7 +16,7 @@ use crate::lanes::Lanes;
 use crate::piece::Piece;
 use crate::run_firings::firing_at;
 use crate::source::Exits;
-use crate::worker::Input;
+use crate::worker::WorkerInput;
 use std::alloc::AllocError;
 use std::sync::Wait;
 
@@ -31,7 +31,7 @@ pub fn work_until<R: Wait, S: Exits, L: Lanes, G: Gate>(
     rt: &R,
     source: &S,
     mut seat: S::Seat,
-    input: &Input<L, G>,
+    input: &WorkerInput<L, G>,
 ) -> Result<(Vec<(u32, Piece)>, S::Seat), AllocError>
 where
     S::Seat: Drop,
@@ -65,7 +65,7 @@ where
 fn piece_until<S: Exits, L: Lanes, G>(
     source: &S,
     seat: &mut S::Seat,
-    input: &Input<L, G>,
+    input: &WorkerInput<L, G>,
     group: u32,
 ) -> Result<Piece, AllocError>
     requires seat { S.is_at source.now seat.old }
@@ -92,7 +92,7 @@ fn run_until<S: Exits, E: Engine, L, G>(
     source: &S,
     seat: &mut S::Seat,
     lane: &mut E,
-    input: &Input<L, G>,
+    input: &WorkerInput<L, G>,
     places: &[u32],
 ) -> Result<(), AllocError>
     requires seat { S.is_at source.now seat.old }

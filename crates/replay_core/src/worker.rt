@@ -27,7 +27,7 @@ use std::sync::Wait;
 /// What each worker of a run is given: where its memory comes from, the script's lanes, the trace,
 /// which clauses run for its firings, its groups and the gate.
 #[derive(Drop)]
-pub struct Input<'a, L, G> {
+pub struct WorkerInput<'a, L, G> {
     pub alloc: Global,
     pub lanes: &'a L,
     pub trace: &'a Trace,
@@ -41,7 +41,7 @@ pub struct Input<'a, L, G> {
 ///
 /// ```text
 /// let selections = lanes.selections(alloc, &trace)?;
-/// let input = Input {
+/// let input = WorkerInput {
 ///     alloc,
 ///     lanes: &lanes,
 ///     trace: &trace,
@@ -58,7 +58,7 @@ pub fn work<R: Wait, S: Source, L: Lanes, G: Gate>(
     rt: &R,
     source: &S,
     seat: S::Seat,
-    input: &Input<L, G>,
+    input: &WorkerInput<L, G>,
 ) -> Result<(Vec<(u32, Piece)>, S::Seat), AllocError>
 where
     S::Seat: Drop,
@@ -82,7 +82,7 @@ pub(crate) fn work_on<R: Wait, S: Source, L: Lanes, G: Gate>(
     rt: &R,
     source: &S,
     mut seat: S::Seat,
-    input: &Input<L, G>,
+    input: &WorkerInput<L, G>,
     span: Span,
 ) -> Result<(Vec<(u32, Piece)>, S::Seat), AllocError>
 where
@@ -110,7 +110,7 @@ where
     unreachable!()
 }
 
-impl<'a, L: Lanes, G> Input<'a, L, G> {
+impl<'a, L: Lanes, G> WorkerInput<'a, L, G> {
     // What the firings of a group make that count.
     fn piece_of(&self, group: u32, span: Span) -> Result<Piece, AllocError>
         requires group { group < (grouping self.now.groups.now).count }

@@ -16,7 +16,7 @@ use crate::lanes::Lanes;
 use crate::round::{Round, in_round};
 use crate::span::Span;
 use crate::whole::Whole;
-use crate::worker::Input;
+use crate::worker::WorkerInput;
 use firing_reader::Trace;
 use shard_queue::{Groups, MOST_GROUPS, MOST_WORKERS};
 use std::alloc::{AllocError, Global};
@@ -105,7 +105,7 @@ fn in_rounds<R: Threads + Wait + Sync, L: Lanes + Sync, G: Gate + Sync>(
     ensures run { IfOk result (IsRun (L.runs lanes.now) job.now.groups.now job.now.trace.now) }
 {
     let selections = lanes.selections(alloc, job.trace)?;
-    let input = Input {
+    let input = WorkerInput {
         alloc,
         lanes,
         trace: job.trace,
@@ -120,7 +120,7 @@ fn in_rounds<R: Threads + Wait + Sync, L: Lanes + Sync, G: Gate + Sync>(
 // One round where the script has no exit, else two.
 fn in_needed_rounds<R: Threads + Wait + Sync, L: Lanes + Sync, G: Gate + Sync>(
     rt: &R,
-    input: &Input<L, G>,
+    input: &WorkerInput<L, G>,
     workers: u32,
 ) -> Result<Round, AllocError>
     requires ready { IsReady (L.runs input.now.lanes.now) input.now.groups.now input.now.trace.now }
@@ -145,7 +145,7 @@ fn in_needed_rounds<R: Threads + Wait + Sync, L: Lanes + Sync, G: Gate + Sync>(
 // to the first that does, and END.
 fn until_exit<R: Threads + Wait + Sync, L: Lanes + Sync, G: Gate + Sync>(
     rt: &R,
-    input: &Input<L, G>,
+    input: &WorkerInput<L, G>,
     workers: u32,
     end: u64,
 ) -> Result<Round, AllocError>

@@ -10,7 +10,7 @@ use Rattle.replay_core.specs.Working.{is_in}
 use Rattle.replay_core.specs.Steps.Working.{firings_at}
 use Rattle.replay_core.proofs.GroupFirings.{all_below, chosen, few_places, filter_swap}
 use Rattle.replay_core.proofs.TraceRuns.{threads_are}
-use Rattle.replay_core.proofs.worker.Input.piece_of.Goals as goal
+use Rattle.replay_core.proofs.worker.WorkerInput.piece_of.Goals as goal
 
 pub run_at-requires-clause-places : goal.run_at-requires-clause-places
 run_at-requires-clause-places g c =
