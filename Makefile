@@ -1,16 +1,22 @@
-# dreplay: what a user needs. Building and proving take the Rattle toolchain's command `rt`, which has to be on PATH.
+# dreplay: what a user needs. Building and proving take the Rattle toolchain's command `rt`, which
+# has to be on PATH.
 #
-#   make            builds dreplay, runs the example of examples/counts, and then builds dreplay-data
-#   make build      builds it: crates/dreplay/out/dreplay, and dreplay-data as crates/dreplay_data/out/dreplay_data
-#   make test       the gate: every proof from nothing, the edits that must fail, then every case over both built programs
+#   make            builds dreplay, runs the example of examples/counts, then builds dreplay-data
+#   make build      builds it: crates/dreplay/out/dreplay, and dreplay-data as
+#                   crates/dreplay_data/out/dreplay_data
+#   make test       the gate: every proof from nothing, the edits that must fail, then every case
+#                   over both built programs
 #   make cases      the cases alone, over the program that `make build` leaves
-#   make examples   the examples alone, likewise: each answer is compared with the one beside its script
-#   make install    puts them and the tools into PREFIX/bin (/usr/local/bin, if PREFIX is not given), with man pages,
-#                   completions, pages and examples in PREFIX/share; it builds nothing if the programs are there
+#   make examples   the examples alone, likewise: each answer is compared with the one beside its
+#                   script
+#   make install    puts them and the tools into PREFIX/bin (/usr/local/bin, if PREFIX is not given),
+#                   with man pages, completions, pages and examples in PREFIX/share; it builds
+#                   nothing if the programs are there
 #   make uninstall  removes all of that
 #   make dist       packs it into an archive and a Debian package in dist/, which need no toolchain
-#   make bench      measures it with 1, 2 and 4 workers beside mawk, its instructions where valgrind is installed, and the
-#                   lexer, the parser, the reader and a thread's variables alone
+#   make bench      measures it with 1, 2 and 4 workers beside mawk, its instructions where valgrind
+#                   is installed, and the lexer, the parser, the reader and a thread's variables
+#                   alone
 #   make clean      removes what was built and proved
 #   make help       prints this
 
@@ -37,7 +43,8 @@ example:
 	@echo '$(EXAMPLE)/README.md says how to read it.'
 	@tools/build
 
-# The compiler builds nothing that it has not proved: the first time takes minutes, after that only what changed.
+# The compiler builds nothing that it has not proved: the first time takes minutes, after that only
+# what changed.
 build:
 	@tools/build
 
@@ -75,7 +82,8 @@ install: $(PROGRAM) $(DATA_PROGRAM)
 	    install -m "$$mode" $$files '$(DESTDIR)$(PREFIX)'/"$$folder" || exit 1; done
 	@for tool in dreplay-data $(notdir $(TOOLS)); do \
 	    ln -sf dreplay.bash '$(DESTDIR)$(PREFIX)/share/bash-completion/completions/'"$$tool" && \
-	    ln -sf dreplay.fish '$(DESTDIR)$(PREFIX)/share/fish/vendor_completions.d/'"$$tool.fish" || exit 1; done
+	    ln -sf dreplay.fish \
+	        '$(DESTDIR)$(PREFIX)/share/fish/vendor_completions.d/'"$$tool.fish" || exit 1; done
 	@ln -sf dreplay.bash '$(DESTDIR)$(PREFIX)/share/bash-completion/completions/dreplay'
 	@tools/install-docs '$(DESTDIR)$(PREFIX)/share/doc/dreplay'
 

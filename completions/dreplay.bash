@@ -1,9 +1,10 @@
 # Completion of bash for dreplay and its tools.
 _dreplay_words() { mapfile -t COMPREPLY < <(compgen -W "$1" -- "$2"); }
 
-# Completes the command after dreplay-record and its options. Returns whether the word is the command's.
+# Completes the command after dreplay-record and its options. Returns whether the word is the
+# command's.
 _dreplay_command() {
-    local place=1
+    local place=1 word=${COMP_WORDS[COMP_CWORD]}
     while ((place < COMP_CWORD)); do
         case ${COMP_WORDS[place]} in
         -o | -p | -e | --keep | --rows | --split) ((place += 2)) ;;
@@ -12,38 +13,50 @@ _dreplay_command() {
         *) break ;;
         esac
     done
-    if ((place > COMP_CWORD)) || [[ ${COMP_WORDS[COMP_CWORD]} == -* && $place == "$COMP_CWORD" ]]; then return 1; fi
+    ((place <= COMP_CWORD)) || return 1
+    if [[ $word == -* && $place == "$COMP_CWORD" ]]; then return 1; fi
     if declare -F _command_offset > /dev/null; then
         _command_offset "$place"
     elif ((place == COMP_CWORD)); then
-        mapfile -t COMPREPLY < <(compgen -c -- "${COMP_WORDS[COMP_CWORD]}")
+        mapfile -t COMPREPLY < <(compgen -c -- "$word")
     else
-        mapfile -t COMPREPLY < <(compgen -f -- "${COMP_WORDS[COMP_CWORD]}")
+        mapfile -t COMPREPLY < <(compgen -f -- "$word")
     fi
 }
 
-# The names of the aggregations of the script that stands after -s.
+# The names of the aggregations of the script after -s.
 _dreplay_aggregations() {
     local place
     for ((place = 1; place < ${#COMP_WORDS[@]} - 1; place++)); do
-        [[ ${COMP_WORDS[place]} == -s ]] && grep -o '@[A-Za-z_][A-Za-z0-9_]*' -- "${COMP_WORDS[place + 1]}" 2> /dev/null | tr -d @ | sort -u
+        [[ ${COMP_WORDS[place]} == -s ]] || continue
+        grep -o '@[A-Za-z_][A-Za-z0-9_]*' -- "${COMP_WORDS[place + 1]}" 2> /dev/null |
+            tr -d @ | sort -u
     done
 }
 
 _dreplay() {
-    local word=${COMP_WORDS[COMP_CWORD]} before=${COMP_WORDS[COMP_CWORD - 1]} tool=${COMP_WORDS[0]##*/} options
+    local word=${COMP_WORDS[COMP_CWORD]} before=${COMP_WORDS[COMP_CWORD - 1]}
+    local tool=${COMP_WORDS[0]##*/} options
     case $tool in
-    dreplay | dreplay-data) options='-s -w -g -e -h --help' ;;
-    dreplay-from-strace) options='-n --name --only --since --rows --paths --ppid --threads -o --split --from-zero -h --help --version' ;;
-    dreplay-from-perf | dreplay-from-ftrace) options='--machine -o --split --from-zero -h --help --version' ;;
-    dreplay-record) options='-o -p -e --raw --symbolic --paths --ppid --from-zero --keep --rows --split -h --help --version' ;;
-    dreplay-explain) options='-s -t -b --version -h --help' ;;
-    dreplay-many) options='-s -o -j --jobs --list --part --top --program --version -h --help' ;;
-    dreplay-show) options='-s -t -f --top --sort --only --columns --unit --value-unit --title --width --guard -o --version -h --help' ;;
+    dreplay | dreplay-data) options='-s -w -g -e' ;;
+    dreplay-from-strace)
+        options='-n --name --only --since --rows --paths --ppid --threads -o --split --from-zero' ;;
+    dreplay-from-perf | dreplay-from-ftrace) options='--machine -o --split --from-zero' ;;
+    dreplay-record)
+        options='-o -p -e --raw --symbolic --paths --ppid --from-zero --keep --rows --split' ;;
+    dreplay-explain) options='-s -t -b' ;;
+    dreplay-many) options='-s -o -j --jobs --list --part --top --program' ;;
+    dreplay-show)
+        options='-s -t -f --top --sort --only --columns --unit --value-unit --title --width --guard'
+        options+=' -o' ;;
     esac
+    [[ $tool == dreplay || $tool == dreplay-data ]] || options+=' --version'
+    options+=' -h --help'
     if [[ $tool == dreplay-record ]] && _dreplay_command; then return; fi
     case $tool:$before in
-    dreplay-show:-f) _dreplay_words 'table csv json markdown bars svg heat html folded timeline' "$word"; return ;;
+    dreplay-show:-f)
+        _dreplay_words 'table csv json markdown bars svg heat html folded timeline' "$word"
+        return ;;
     dreplay-show:--unit) _dreplay_words 'ns us ms s bytes' "$word"; return ;;
     dreplay-show:--value-unit) _dreplay_words 'ns us ms s bytes %' "$word"; return ;;
     dreplay-show:--sort) _dreplay_words 'key value' "$word"; return ;;
@@ -59,4 +72,5 @@ _dreplay() {
     fi
 }
 
-complete -o filenames -F _dreplay dreplay dreplay-data dreplay-from-strace dreplay-from-perf dreplay-from-ftrace dreplay-record dreplay-explain dreplay-show dreplay-many
+complete -o filenames -F _dreplay dreplay dreplay-data dreplay-from-strace dreplay-from-perf \
+    dreplay-from-ftrace dreplay-record dreplay-explain dreplay-show dreplay-many

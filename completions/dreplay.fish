@@ -1,5 +1,6 @@
 # Completion of fish for dreplay and its tools.
-for tool in dreplay dreplay-data dreplay-from-strace dreplay-from-perf dreplay-from-ftrace dreplay-record dreplay-explain dreplay-show dreplay-many
+for tool in dreplay dreplay-data dreplay-from-strace dreplay-from-perf dreplay-from-ftrace \
+        dreplay-record dreplay-explain dreplay-show dreplay-many
     complete -c $tool -s h -l help -d 'Write a short help'
 end
 for tool in dreplay dreplay-data
@@ -21,7 +22,8 @@ for tool in dreplay-from-strace dreplay-from-perf dreplay-from-ftrace
     complete -c $tool -l from-zero -d 'Times since the first line'
 end
 for tool in dreplay-from-perf dreplay-from-ftrace
-    complete -c $tool -l machine -x -a 'x86_64 aarch64 riscv64 loongarch64' -d 'Whose numbers of calls'
+    complete -c $tool -l machine -x -a 'x86_64 aarch64 riscv64 loongarch64' \
+        -d 'Whose numbers of calls'
 end
 for tool in dreplay-record dreplay-from-strace dreplay-from-perf dreplay-from-ftrace
     complete -c $tool -l version -d 'Write the version'
@@ -42,7 +44,8 @@ complete -c dreplay-explain -s s -r -d 'The script'
 complete -c dreplay-explain -s t -r -d 'The trace'
 complete -c dreplay-explain -s b -r -d 'The bundle'
 complete -c dreplay-show -s s -r -d 'The script'
-complete -c dreplay-show -s f -x -a 'table csv json markdown bars svg heat html folded timeline' -d 'The form'
+complete -c dreplay-show -s f -x -a 'table csv json markdown bars svg heat html folded timeline' \
+    -d 'The form'
 complete -c dreplay-show -l top -x -d 'The largest entries'
 complete -c dreplay-show -l only -x -d 'One aggregation'
 complete -c dreplay-show -l columns -x -d 'Names of the keys'

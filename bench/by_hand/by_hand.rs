@@ -72,16 +72,30 @@ fn firing(row: &[u8]) -> Option<Firing<'_>> {
         *it = argument(next()?)?;
     }
     let is_whole = next().is_none() && provider != "dtrace" && thread > 0;
-    is_whole.then_some(Firing { number: place, thread, program, timestamp, provider, function, name, arguments })
+    is_whole.then_some(Firing {
+        number: place,
+        thread,
+        program,
+        timestamp,
+        provider,
+        function,
+        name,
+        arguments,
+    })
 }
 
 /// Reads all rows, and tells of the first with a fault.
 fn firings(trace: &[u8]) -> Result<Vec<Firing<'_>>, String> {
     let mut found = Vec::new();
     let mut last = 0;
-    let rows = trace.split(|byte| *byte == b'\n').skip(1).filter(|row| !row.is_empty());
+    let rows = trace
+        .split(|byte| *byte == b'\n')
+        .skip(1)
+        .filter(|row| !row.is_empty());
     for (at, row) in rows.enumerate() {
-        let it = firing(row).filter(|it| it.number > last).ok_or(format!("row {} has a fault", at + 1))?;
+        let it = firing(row)
+            .filter(|it| it.number > last)
+            .ok_or(format!("row {} has a fault", at + 1))?;
         last = it.number;
         found.push(it);
     }
@@ -93,7 +107,9 @@ fn counts(firings: &[Firing], out: &mut impl Write) -> io::Result<()> {
     for it in firings {
         *counts.entry(it.program).or_insert(0u64) += 1;
     }
-    counts.iter().try_for_each(|(program, count)| writeln!(out, "{program} {count}"))
+    counts
+        .iter()
+        .try_for_each(|(program, count)| writeln!(out, "{program} {count}"))
 }
 
 fn latency(firings: &[Firing], out: &mut impl Write) -> io::Result<()> {
@@ -109,13 +125,17 @@ fn latency(firings: &[Firing], out: &mut impl Write) -> io::Result<()> {
                 if let Some(start) = entered.remove(&it.thread) {
                     let took = it.timestamp - start;
                     *total.entry(it.function).or_insert(0) += took;
-                    *spread.entry((it.function, took.checked_ilog2())).or_insert(0u64) += 1;
+                    *spread
+                        .entry((it.function, took.checked_ilog2()))
+                        .or_insert(0u64) += 1;
                 }
             }
             _ => {}
         }
     }
-    total.iter().try_for_each(|(function, took)| writeln!(out, "{function} {took}"))?;
+    total
+        .iter()
+        .try_for_each(|(function, took)| writeln!(out, "{function} {took}"))?;
     spread.iter().try_for_each(|((function, log), count)| {
         writeln!(out, "{function} {} {count}", log.map_or(0, |it| 1u64 << it))
     })
@@ -131,30 +151,47 @@ fn heavy(firings: &[Firing], out: &mut impl Write) -> io::Result<()> {
     for it in firings.iter().filter(|it| it.provider == "syscall") {
         if it.name == "entry" {
             started.insert((it.thread, it.function), it.timestamp);
-            *bytes.entry((it.thread, it.program, it.function)).or_insert(0) += it.arguments[2];
+            *bytes
+                .entry((it.thread, it.program, it.function))
+                .or_insert(0) += it.arguments[2];
         }
         if it.name != "return" {
             continue;
         }
-        let Some(start) = started.remove(&(it.thread, it.function)) else { continue };
+        let Some(start) = started.remove(&(it.thread, it.function)) else {
+            continue;
+        };
         let took = it.timestamp - start;
-        let sum = bytes.get(&(it.thread, it.program, it.function)).copied().unwrap_or(0);
+        let sum = bytes
+            .get(&(it.thread, it.program, it.function))
+            .copied()
+            .unwrap_or(0);
         *calls.entry((it.program, it.function)).or_insert(0u64) += 1;
         *total.entry(it.function).or_insert(0) += took;
         let largest = most.entry((it.program, it.function)).or_insert(sum);
         *largest = sum.max(*largest);
-        *spread.entry((it.program, took.min(1_000_000) / 50_000)).or_insert(0u64) += 1;
+        *spread
+            .entry((it.program, took.min(1_000_000) / 50_000))
+            .or_insert(0u64) += 1;
         if took > 1_000_000 {
             writeln!(out, "{} {} took {took}", it.program, it.function)?;
         }
     }
-    calls.iter().try_for_each(|((program, function), count)| writeln!(out, "{program} {function} {count}"))?;
-    total.iter().try_for_each(|(function, took)| writeln!(out, "{function} {took}"))?;
-    most.iter().try_for_each(|((program, function), sum)| writeln!(out, "{program} {function} bytes {sum}"))?;
-    spread.iter().try_for_each(|((program, step), count)| match step {
-        20 => writeln!(out, "{program} >= 1000000 {count}"),
-        _ => writeln!(out, "{program} {} {count}", step * 50_000),
-    })
+    calls.iter().try_for_each(|((program, function), count)| {
+        writeln!(out, "{program} {function} {count}")
+    })?;
+    total
+        .iter()
+        .try_for_each(|(function, took)| writeln!(out, "{function} {took}"))?;
+    most.iter().try_for_each(|((program, function), sum)| {
+        writeln!(out, "{program} {function} bytes {sum}")
+    })?;
+    spread
+        .iter()
+        .try_for_each(|((program, step), count)| match step {
+            20 => writeln!(out, "{program} >= 1000000 {count}"),
+            _ => writeln!(out, "{program} {} {count}", step * 50_000),
+        })
 }
 
 /// What `dense` asks of the system calls of a trace.
@@ -175,20 +212,37 @@ impl<'a> Dense<'a> {
         let mean = self.mean.entry(it.function).or_default();
         *mean = (mean.0 + took, mean.1 + 1);
         *self.spread.entry((it.program, took.ilog2())).or_default() += 1;
-        *self.steps.entry((it.function, took.min(1_000_000) / 50_000)).or_default() += 1;
+        *self
+            .steps
+            .entry((it.function, took.min(1_000_000) / 50_000))
+            .or_default() += 1;
     }
 
     fn print(&self, out: &mut impl Write) -> io::Result<()> {
-        self.calls.iter().try_for_each(|((program, function), n)| writeln!(out, "{program} {function} {n}"))?;
-        self.uses.iter().try_for_each(|(descriptor, n)| writeln!(out, "{descriptor} {n}"))?;
-        self.bytes.iter().try_for_each(|(program, sum)| writeln!(out, "{program} {sum}"))?;
-        self.largest.iter().try_for_each(|((program, it), sum)| writeln!(out, "{program} {it} {sum}"))?;
-        self.mean.iter().try_for_each(|(function, (sum, n))| writeln!(out, "{function} {}", sum / n))?;
-        self.spread.iter().try_for_each(|((program, log), n)| writeln!(out, "{program} {} {n}", 1u64 << log))?;
-        self.steps.iter().try_for_each(|((function, step), n)| match step {
-            20 => writeln!(out, "{function} >= 1000000 {n}"),
-            _ => writeln!(out, "{function} {} {n}", step * 50_000),
-        })
+        self.calls
+            .iter()
+            .try_for_each(|((program, function), n)| writeln!(out, "{program} {function} {n}"))?;
+        self.uses
+            .iter()
+            .try_for_each(|(descriptor, n)| writeln!(out, "{descriptor} {n}"))?;
+        self.bytes
+            .iter()
+            .try_for_each(|(program, sum)| writeln!(out, "{program} {sum}"))?;
+        self.largest
+            .iter()
+            .try_for_each(|((program, it), sum)| writeln!(out, "{program} {it} {sum}"))?;
+        self.mean
+            .iter()
+            .try_for_each(|(function, (sum, n))| writeln!(out, "{function} {}", sum / n))?;
+        self.spread
+            .iter()
+            .try_for_each(|((program, log), n)| writeln!(out, "{program} {} {n}", 1u64 << log))?;
+        self.steps
+            .iter()
+            .try_for_each(|((function, step), n)| match step {
+                20 => writeln!(out, "{function} >= 1000000 {n}"),
+                _ => writeln!(out, "{function} {} {n}", step * 50_000),
+            })
     }
 }
 
@@ -209,7 +263,10 @@ fn dense(firings: &[Firing], out: &mut impl Write) -> io::Result<()> {
                     let sum = bytes.entry((it.thread, it.function)).or_insert(0);
                     *sum += size;
                     *found.bytes.entry(it.program).or_default() += size;
-                    let largest = found.largest.entry((it.program, descriptor)).or_insert(*sum);
+                    let largest = found
+                        .largest
+                        .entry((it.program, descriptor))
+                        .or_insert(*sum);
                     *largest = *sum.max(largest);
                 }
             }

@@ -1,6 +1,6 @@
 #!/usr/sbin/dtrace -s
-/* For DTrace itself: prints the system calls of a command, and of all that it starts, as rows of a trace for dreplay.
- * Copy it and change it.
+/* For DTrace itself: prints the system calls of a command, and of all that it starts, as rows of a
+ * trace for dreplay. Copy it and change it.
  *
  *     dtrace -x bufsize=8m -s trace.d -c 'COMMAND' -o rows.csv
  *
@@ -20,13 +20,16 @@ dtrace:::BEGIN
 syscall:::entry
 / progenyof($target) /
 {
-    printf("0,%d,%d,%d,\"%s\",%d,%s,%s,%s,%s,", cpu, tid, pid, execname, timestamp, probeprov, probemod, probefunc, probename);
-    printf("%d,%d,%d,%d,%d,%d,,,,\n", (int64_t)arg0, (int64_t)arg1, (int64_t)arg2, (int64_t)arg3, (int64_t)arg4, (int64_t)arg5);
+    printf("0,%d,%d,%d,\"%s\",%d,", cpu, tid, pid, execname, timestamp);
+    printf("%s,%s,%s,%s,", probeprov, probemod, probefunc, probename);
+    printf("%d,%d,%d,", (int64_t)arg0, (int64_t)arg1, (int64_t)arg2);
+    printf("%d,%d,%d,,,,\n", (int64_t)arg3, (int64_t)arg4, (int64_t)arg5);
 }
 
 syscall:::return
 / progenyof($target) /
 {
-    printf("0,%d,%d,%d,\"%s\",%d,%s,%s,%s,%s,", cpu, tid, pid, execname, timestamp, probeprov, probemod, probefunc, probename);
+    printf("0,%d,%d,%d,\"%s\",%d,", cpu, tid, pid, execname, timestamp);
+    printf("%s,%s,%s,%s,", probeprov, probemod, probefunc, probename);
     printf("%d,%d,,,,,,,,\n", (int64_t)arg0, (int64_t)arg1);
 }
