@@ -10,15 +10,15 @@ use Rattle.std.proofs.lemmas.List.Elements.{All-from_recursion, All-nil, All-pus
 use Rattle.std.proofs.lemmas.Slice.Eq.{bytes_eq-Decides}
 use Rattle.consumer.specs.Bundle.{Divides, IsDivider, IsLine}
 
-pub line_behind : (b : ℕ) (bytes : List ℕ) → IsLine (b ∷ bytes) → IsLine bytes
-line_behind b bytes own = λ k d lt. own (suc k) d (omega arith)
+pub line_rest : (b : ℕ) (bytes : List ℕ) → IsLine (b ∷ bytes) → IsLine bytes
+line_rest b bytes own = λ k d lt. own (suc k) d (omega arith)
 
 -- a line has no line feed in it
 no_feed : (line front rest : List ℕ) → IsLine line → line ≡ front ++ 10 ∷ rest → ⊥
 no_feed [] [] rest own e = cc
 no_feed [] (f ∷ front) rest own e = cc
 no_feed (b ∷ line) [] rest own e = own 0 b (omega arith) (cc)
-no_feed (b ∷ line) (f ∷ front) rest own e = no_feed line front rest (line_behind b line own) (cc)
+no_feed (b ∷ line) (f ∷ front) rest own e = no_feed line front rest (line_rest b line own) (cc)
 
 -- the first line feed is in one place
 one_cut : (x y a b : List ℕ) → IsLine x → IsLine y → x ++ 10 ∷ a ≡ y ++ 10 ∷ b → (x ≡ y) × (a ≡ b)
@@ -26,7 +26,7 @@ one_cut [] [] a b own own' e = (refl, cc)
 one_cut [] (c ∷ y) a b own own' e = absurd (own' 0 c (omega arith) (cc))
 one_cut (c ∷ x) [] a b own own' e = absurd (own 0 c (omega arith) (cc))
 one_cut (c ∷ x) (f ∷ y) a b own own' e =
-    let rest = one_cut x y a b (line_behind c x own) (line_behind f y own') (cc) in
+    let rest = one_cut x y a b (line_rest c x own) (line_rest f y own') (cc) in
     let line = rest.0 in
     (cc, rest.1)
 
@@ -42,7 +42,7 @@ same_division b s t b' s' t' (Divides.before line rest script trace own other mo
     let cut = one_cut line line' rest rest' own own' e in
     let again = same_division rest script trace rest' script' trace' more more' cut.1 in
     let first = cut.0 in
-    let behind = again.0 in
+    let scripts = again.0 in
     (cc, again.1)
 same_division b s t b' s' t' (Divides.before line rest script trace own other more) (Divides.divider line' trace' is') e =
     absurd (other (subst IsDivider (sym (one_cut line line' rest trace' own (divider_is_line line' is') e).0) is'))

@@ -6,7 +6,7 @@ use Rattle.std.specs.Prelude.{codes}
 use Rattle.std.proofs.lemmas.List.{length-take-le, take-append-drop}
 use Rattle.consumer.specs.Steps.Beginnings.{IsUndivided}
 use Rattle.consumer.specs.Bundle.{Divides, IsDivider, IsLine}
-use Rattle.consumer.proofs.Divisions.{division, line_behind}
+use Rattle.consumer.proofs.Divisions.{division, line_rest}
 
 divider_short : (line : List ℕ) → IsDivider line → length line ≤ 4
 divider_short line is = ⊎_elim
@@ -19,7 +19,7 @@ line_within : (line rest front after : List ℕ) → IsLine line → front ++ 10
 line_within [] rest front after own e = omega arith
 line_within (b ∷ line) rest [] after own e = absurd (own 0 b (omega arith) (cc))
 line_within (b ∷ line) rest (f ∷ front) after own e =
-    let more = line_within line rest front after (line_behind b line own) (cc) in omega arith
+    let more = line_within line rest front after (line_rest b line own) (cc) in omega arith
 
 -- the script has the line that the bundle begins with, unless that divides
 line_in : (all script trace : List ℕ) → Divides all script trace → (line rest : List ℕ) → all ≡ line ++ rest → IsLine line → length line ≤ length script + 4

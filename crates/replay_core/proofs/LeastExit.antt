@@ -28,8 +28,8 @@ among : {A : Type 0} (x : A) (xs : List A) (y : A) → Contains (x ∷ xs) y →
 among x xs y (zero, less, is) = inl is
 among x xs y (suc k, less, is) = inr (k, omega arith, is)
 
-behind : {A : Type 0} (x : A) (xs : List A) (y : A) → Contains xs y → Contains (x ∷ xs) y
-behind x xs y there = (suc there.0, (let less = there.1 in omega arith), there.2)
+contains_more : {A : Type 0} (x : A) (xs : List A) (y : A) → Contains xs y → Contains (x ∷ xs) y
+contains_more x xs y there = (suc there.0, (let less = there.1 in omega arith), there.2)
 
 same_some : (a b : ℕ × ℕ) → ◌≡◌ {A = Option (ℕ × ℕ)} (Some a) (Some b) → a ≡ b
 same_some a b e = cc
@@ -41,12 +41,12 @@ first_is_least (None ∷ exits) up exit =
       λ e.
           let h = rest.0 e in
           record {
-            one = behind None exits (Some exit) h.one;
+            one = contains_more None exits (Some exit) h.one;
             least = λ other there. ⊎_elim (λ c. absurd (let d : ◌≡◌ {A = Option (ℕ × ℕ)} None (Some other) = c in cc)) (h.least other) (among None exits (Some other) there);
           },
       λ h. rest.1 record {
         one = ⊎_elim (λ c. absurd (let d : ◌≡◌ {A = Option (ℕ × ℕ)} None (Some exit) = c in cc)) (λ there. there) (among None exits (Some exit) h.one);
-        least = λ other there. h.least other (behind None exits (Some other) there);
+        least = λ other there. h.least other (contains_more None exits (Some other) there);
       },
     )
 first_is_least (Some x ∷ exits) up exit = (

@@ -115,23 +115,23 @@ literal pattern text plain = (λ e. subst (Matches pattern) e (match_itself patt
 
 -- ---- any pattern
 
-behind_there : (test : List ℕ → Bool) (text : List ℕ) → passes_after test text ≡ true → (a : List ℕ) × (b : List ℕ) × (text ≡ a ++ b) × (test b ≡ true)
-behind_there test [] e = ([], [], refl, e)
-behind_there test (b ∷ text) e = ⊎_elim
+after_there : (test : List ℕ → Bool) (text : List ℕ) → passes_after test text ≡ true → (a : List ℕ) × (b : List ℕ) × (text ≡ a ++ b) × (test b ≡ true)
+after_there test [] e = ([], [], refl, e)
+after_there test (b ∷ text) e = ⊎_elim
     (λ (x : test (b ∷ text) ≡ true). ([], b ∷ text, refl, x))
-    (λ (x : passes_after test text ≡ true). let r = behind_there test text x in (b ∷ r.0, r.1, ap (λ l. b ∷ l) r.2, r.3))
+    (λ (x : passes_after test text ≡ true). let r = after_there test text x in (b ∷ r.0, r.1, ap (λ l. b ∷ l) r.2, r.3))
     (or_cases (test (b ∷ text)) (passes_after test text) e)
 
 here : (test : List ℕ → Bool) (text : List ℕ) → test text ≡ true → passes_after test text ≡ true
 here test [] e = e
 here test (b ∷ text) e = or_left (test (b ∷ text)) (passes_after test text) e
 
-behind_back : (test : List ℕ → Bool) (text a b : List ℕ) → text ≡ a ++ b → test b ≡ true → passes_after test text ≡ true
-behind_back test text [] b e t = here test text (ap test e ∙ t)
-behind_back test [] (x ∷ a) b e t = cc
-behind_back test (y ∷ text) (x ∷ a) b e t =
+after_back : (test : List ℕ → Bool) (text a b : List ℕ) → text ≡ a ++ b → test b ≡ true → passes_after test text ≡ true
+after_back test text [] b e t = here test text (ap test e ∙ t)
+after_back test [] (x ∷ a) b e t = cc
+after_back test (y ∷ text) (x ∷ a) b e t =
     let rest : text ≡ a ++ b = cc in
-    or_right (test (y ∷ text)) (passes_after test text) (behind_back test text a b rest t)
+    or_right (test (y ∷ text)) (passes_after test text) (after_back test text a b rest t)
 
 one_there : (p : ℕ) (pattern text : List ℕ) → ((rest : List ℕ) → matches pattern rest ≡ true → Matches pattern rest) → passes_after_one p (matches pattern) text ≡ true → Matches (p ∷ pattern) text
 one_there p pattern [] more e = cc
@@ -140,7 +140,7 @@ one_there p pattern (b ∷ text) more e =
     (b ∷ [], text, refl, same_takes p b both.0, more text both.1)
 
 star_there : (p : ℕ) (pattern text : List ℕ) → ((rest : List ℕ) → matches pattern rest ≡ true → Matches pattern rest) → p ≡ star → passes_after (matches pattern) text ≡ true → Matches (p ∷ pattern) text
-star_there p pattern text more is e = let r = behind_there (matches pattern) text e in (r.0, r.1, r.2, Takes.any is, more r.1 r.3)
+star_there p pattern text more is e = let r = after_there (matches pattern) text e in (r.0, r.1, r.2, Takes.any is, more r.1 r.3)
 
 step_there : (p : ℕ) (pattern text : List ℕ) (c : Bool) → (p == star) ≡ c → ((rest : List ℕ) → matches pattern rest ≡ true → Matches pattern rest)
     → cond c (passes_after (matches pattern) text) (passes_after_one p (matches pattern) text) ≡ true → Matches (p ∷ pattern) text
@@ -154,7 +154,7 @@ matches_there (p ∷ pattern) text e = step_there p pattern text (p == star) ref
 
 step_back : (p : ℕ) (pattern text : List ℕ) (c : Bool) → (p == star) ≡ c → ((rest : List ℕ) → Matches pattern rest → matches pattern rest ≡ true)
     → Matches (p ∷ pattern) text → cond c (passes_after (matches pattern) text) (passes_after_one p (matches pattern) text) ≡ true
-step_back p pattern text true is more m = behind_back (matches pattern) text m.0 m.1 m.2 (more m.1 m.4)
+step_back p pattern text true is more m = after_back (matches pattern) text m.0 m.1 m.2 (more m.1 m.4)
 step_back p pattern text false is more m =
     let plain : p ≢ 42 = λ e. let x = (Decides-eqb p star).1 e in cc in
     passes_one p (matches pattern) m.0 m.1 text plain m.3 m.2 (more m.1 m.4)

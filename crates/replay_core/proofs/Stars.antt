@@ -6,8 +6,8 @@ use Rattle.std.proofs.lemmas.List.{take_all, take_at, drop_at, drop-append-le, t
 use Rattle.std.specs.Prelude.{IsTrue}
 use Rattle.replay_core.specs.Patterns.{Takes, Matches}
 
-plain_behind : (p : ℕ) (run : List ℕ) → All (λ p. p ≢ 42) (p ∷ run) → All (λ p. p ≢ 42) run
-plain_behind p run plain = λ k d lt. plain (suc k) d (omega arith)
+plain_rest : (p : ℕ) (run : List ℕ) → All (λ p. p ≢ 42) (p ∷ run) → All (λ p. p ≢ 42) run
+plain_rest p run plain = λ k d lt. plain (suc k) d (omega arith)
 
 -- ---- patterns in parts
 
@@ -54,7 +54,7 @@ pub run_long : (run own : List ℕ) → All (λ p. p ≢ 42) run → Matches run
 run_long [] own plain m = ap length m
 run_long (p ∷ run) own plain m =
     let first = one_long p m.0 (plain 0 p (omega arith)) m.3 in
-    let others = run_long run m.1 (plain_behind p run plain) m.4 in
+    let others = run_long run m.1 (plain_rest p run plain) m.4 in
     let whole : length own ≡ length m.0 + length m.1 = ap length m.2 ∙ length-append m.0 m.1 in
     let sizes : length (p ∷ run) ≡ suc (length run) = refl in
     omega arith
@@ -79,8 +79,8 @@ star_passes run after b text plain other m = by m.0 m.1 m.2 m.4
         let parts = match_parts run after rest more in
         absurd (other (fits_front run parts.a parts.b (b ∷ text) plain parts.first (e ∙ parts.is)))
     by (c ∷ own) rest e more =
-        let behind : text ≡ own ++ rest = cc in
-        (own, rest, behind, Takes.any refl, more)
+        let parts : text ≡ own ++ rest = cc in
+        (own, rest, parts, Takes.any refl, more)
 
 pub star_passed : (p : List ℕ) (b : ℕ) (text : List ℕ) → Matches (42 ∷ p) text → Matches (42 ∷ p) (b ∷ text)
 star_passed p b text m = star_takes_more p (b ∷ []) text m
@@ -134,21 +134,21 @@ last_fits run text plain = (there, back)
 -- ---- the pattern up to its first star
 
 -- a run before a star has one place
-pub front_fits : (run behind text : List ℕ) → All (λ p. p ≢ 42) run → Matches (run ++ 42 ∷ behind) text ↔ (Fits run text × Matches (42 ∷ behind) (drop (length run) text))
-front_fits run behind text plain = (there, back)
+pub front_fits : (run after text : List ℕ) → All (λ p. p ≢ 42) run → Matches (run ++ 42 ∷ after) text ↔ (Fits run text × Matches (42 ∷ after) (drop (length run) text))
+front_fits run after text plain = (there, back)
   where
-    there : Matches (run ++ 42 ∷ behind) text → Fits run text × Matches (42 ∷ behind) (drop (length run) text)
+    there : Matches (run ++ 42 ∷ after) text → Fits run text × Matches (42 ∷ after) (drop (length run) text)
     there m =
-        let parts = match_parts run (42 ∷ behind) text m in
+        let parts = match_parts run (42 ∷ after) text m in
         let long = run_long run parts.a plain parts.first in (
           fits_front run parts.a parts.b text plain parts.first parts.is,
-          subst (λ l. Matches (42 ∷ behind) l) (sym (ap (drop (length run)) parts.is ∙ drop_at parts.a parts.b (length run) long)) parts.second,
+          subst (λ l. Matches (42 ∷ after) l) (sym (ap (drop (length run)) parts.is ∙ drop_at parts.a parts.b (length run) long)) parts.second,
         )
 
-    back : Fits run text × Matches (42 ∷ behind) (drop (length run) text) → Matches (run ++ 42 ∷ behind) text
+    back : Fits run text × Matches (42 ∷ after) (drop (length run) text) → Matches (run ++ 42 ∷ after) text
     back f =
-        subst (λ l. Matches (run ++ 42 ∷ behind) l) (take-append-drop (length run) text)
-        (match_join run (42 ∷ behind) (take (length run) text) (drop (length run) text) f.0.1 f.1)
+        subst (λ l. Matches (run ++ 42 ∷ after) l) (take-append-drop (length run) text)
+        (match_join run (42 ∷ after) (take (length run) text) (drop (length run) text) f.0.1 f.1)
 
 -- ---- steps of the code
 
@@ -178,14 +178,14 @@ found run text rest n e plain fits own after =
     (λ m. serves.0 ((own (42 ∷ after)).0 m), λ m. (own (42 ∷ after)).1 (serves.1 m))
 
 -- the pattern up to the first star, and after it
-pub wild_front : (pattern text run behind : List ℕ) (n : ℕ) (r : Bool) → n ≡ length text - length run → pattern ≡ run ++ 42 ∷ behind → All (λ p. p ≢ 42) run
-    → Fits run text → (IsTrue r ↔ Matches (42 ∷ behind) (take n (drop (length run) text))) → IsTrue r ↔ Matches pattern text
-wild_front pattern text run behind n r e is plain fits behind_is =
-    let front = front_fits run behind text plain in
+pub wild_front : (pattern text run after : List ℕ) (n : ℕ) (r : Bool) → n ≡ length text - length run → pattern ≡ run ++ 42 ∷ after → All (λ p. p ≢ 42) run
+    → Fits run text → (IsTrue r ↔ Matches (42 ∷ after) (take n (drop (length run) text))) → IsTrue r ↔ Matches pattern text
+wild_front pattern text run after n r e is plain fits after_is =
+    let front = front_fits run after text plain in
     let same = rest_is n (length run) text e in (
-      λ t. subst (λ p. Matches p text) (sym is) (front.1 (fits, subst (Matches (42 ∷ behind)) same (behind_is.0 t))),
-      λ m. behind_is.1 (subst (Matches (42 ∷ behind)) (sym same) (front.0 (subst (λ p. Matches p text) is m)).1),
+      λ t. subst (λ p. Matches p text) (sym is) (front.1 (fits, subst (Matches (42 ∷ after)) same (after_is.0 t))),
+      λ m. after_is.1 (subst (Matches (42 ∷ after)) (sym same) (front.0 (subst (λ p. Matches p text) is m)).1),
     )
 
-pub no_front : (pattern text run behind : List ℕ) → pattern ≡ run ++ 42 ∷ behind → All (λ p. p ≢ 42) run → ¬ Fits run text → ¬ Matches pattern text
-no_front pattern text run behind is plain other m = other ((front_fits run behind text plain).0 (subst (λ p. Matches p text) is m)).0
+pub no_front : (pattern text run after : List ℕ) → pattern ≡ run ++ 42 ∷ after → All (λ p. p ≢ 42) run → ¬ Fits run text → ¬ Matches pattern text
+no_front pattern text run after is plain other m = other ((front_fits run after text plain).0 (subst (λ p. Matches p text) is m)).0

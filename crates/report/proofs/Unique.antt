@@ -44,9 +44,9 @@ module _ {X : Type 0} {R : X → X → Ordering} (order : IsTotalOrder R) where
   same_first x y xs ys xs_rise ys_rise x_there y_there =
       ⊎_elim (λ e. e) (λ (above : R y x ≡ Less). ⊎_elim (λ e. sym e) (λ below. absurd (not_both x y below above)) (first_or_above y x xs xs_rise y_there)) (first_or_above x y ys ys_rise x_there)
 
-  -- what stands after the first
-  behind : (x : X) (xs ys : List X) → IsStrictlySortedBy R (x ∷ xs) → ((z : X) → Contains (x ∷ xs) z → Contains (x ∷ ys) z) → (z : X) → Contains xs z → Contains ys z
-  behind x xs ys rises same z (k, within, is) =
+  -- what comes after the first
+  after_first : (x : X) (xs ys : List X) → IsStrictlySortedBy R (x ∷ xs) → ((z : X) → Contains (x ∷ xs) z → Contains (x ∷ ys) z) → (z : X) → Contains xs z → Contains ys z
+  after_first x xs ys rises same z (k, within, is) =
       let above : R x z ≡ Less = All-contains (λ z. R x z ≡ Less) xs z (All-from_recursion (λ z. R x z ≡ Less) xs (sorted_head R x xs rises)) (k, within, is) in
       Contains-tail x ys z (λ e. not_itself x (ap (R x) e ∙ above)) (same z (suc k, omega arith, is))
 
@@ -57,10 +57,10 @@ module _ {X : Type 0} {R : X → X → Ordering} (order : IsTotalOrder R) where
   same_list (x ∷ xs) [] xs_rise ys_rise to back = let (k, within, is) = to x (zero, omega arith, refl) in absurd (omega arith)
   same_list (x ∷ xs) (y ∷ ys) xs_rise ys_rise to back =
       let first : x ≡ y = same_first x y xs ys xs_rise ys_rise (to x (zero, omega arith, refl)) (back y (zero, omega arith, refl)) in
-      let ys_behind : IsStrictlySortedBy R (x ∷ ys) = subst (λ z. IsStrictlySortedBy R (z ∷ ys)) (sym first) ys_rise in
+      let ys_after : IsStrictlySortedBy R (x ∷ ys) = subst (λ z. IsStrictlySortedBy R (z ∷ ys)) (sym first) ys_rise in
       let rest : xs ≡ ys = same_list xs ys (sorted_tail R x xs xs_rise) (sorted_tail R y ys ys_rise)
-      (behind x xs ys xs_rise (λ z there. subst (λ w. Contains (w ∷ ys) z) (sym first) (to z there)))
-      (behind x ys xs ys_behind (λ z there. back z (subst (λ w. Contains (w ∷ ys) z) first there))) in
+      (after_first x xs ys xs_rise (λ z there. subst (λ w. Contains (w ∷ ys) z) (sym first) (to z there)))
+      (after_first x ys xs ys_after (λ z there. back z (subst (λ w. Contains (w ∷ ys) z) first there))) in
       ap (λ l. x ∷ l) rest ∙ ap (λ z. z ∷ ys) first
 
 -- ---- one listing

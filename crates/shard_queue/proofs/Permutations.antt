@@ -40,7 +40,7 @@ permuted (x ∷ xs) ys same =
     let others : SameItems xs (at.front ++ at.back) = λ weight.
     let first = sum_by-cons weight x xs in
     let whole = same weight ∙ ap (sum_by weight) at.parts ∙ sum_by-append weight at.front (x ∷ at.back) in
-    let behind = sum_by-cons weight x at.back in
+    let after = sum_by-cons weight x at.back in
     let joined = sum_by-append weight at.front at.back in
     omega arith in
     IsPermutation-trans (x ∷ xs) (x ∷ (at.front ++ at.back)) ys

@@ -19,7 +19,8 @@ pub struct Groups {
     // the group of thread 0
     pub(crate) own: u32,
     pub(crate) places: Vec<Vec<u32>>,
-    ghost ascending: { IsStrictlySortedBy int_cmp threads.items } by { IsStrictlySortedBy-prop int_cmp threads.items },
+    ghost ascending: { IsStrictlySortedBy int_cmp threads.items } by { IsStrictlySortedBy-prop
+        int_cmp threads.items },
     ghost numbered: { vec_len numbers ≡ vec_len threads },
     ghost small: { All (λ g. g < own) numbers.items },
     ghost sized: { vec_len places ≡ own + 1 },
