@@ -21,7 +21,7 @@ def stop_without(tools, program):
 
 
 def write_trace(path, rows, *words):
-    """Writes a trace of so many rows."""
+    """Writes a trace with this number of rows."""
     with open(path, "wb") as file:
         subprocess.run([f"{HERE}/generate", *words, str(rows)], stdout=file, check=True)
 

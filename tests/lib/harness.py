@@ -21,7 +21,7 @@ DATA_PROGRAMS = [
 
 
 def plans(workers, groups, engines):
-    """The words of each plan of so many workers, so many groups and such an engine."""
+    """The words of each plan with one of these workers, groups and engines."""
     return [
         ["-w", f"{w}", "-g", f"{g}", "-e", e]
         for w, g, e in itertools.product(workers, groups, engines)

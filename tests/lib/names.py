@@ -110,7 +110,7 @@ class Calls:
                     self.of[made[1], variant[1]].add(count)
 
     def fault(self, owner, name, count):
-        """What is wrong with a call of so many arguments, or nothing: there is such a function."""
+        """What is wrong with a call of `count` arguments, or nothing: there is such a function."""
         if owner and (owner, name) in self.of:
             known = self.of[owner, name]
         elif owner and owner not in STD_TYPES and any(of == owner for of, _ in self.of):

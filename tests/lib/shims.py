@@ -32,7 +32,7 @@ def built(source):
 
 
 def run(case, program, plan, shim, told):
-    """Runs a case under a plan with a library that is told what to refuse. Returns what it left,
+    """Runs a case under a plan with a library that refuses what `told` says. Returns what it left,
     and whether anything was refused."""
     reads, writes = os.pipe()
     environment = {**os.environ, "LD_PRELOAD": shim, "REFUSED": str(writes), **told}

@@ -116,7 +116,7 @@ def totals(entries, place):
 
 
 def kept(keys, weight, most):
-    """At most so many keys in their order: those that weigh most."""
+    """At most `most` keys in their order: those that weigh most."""
     keys = list(keys)
     if len(keys) <= most:
         return keys

@@ -71,7 +71,7 @@ class Job:
         return self
 
     def without_name(self, line):
-        """A line without the trace's name in front, with which it is told later."""
+        """A line without the trace's name in front; the report of all traces has it again."""
         name = f"{self.trace}: "
         return line[len(name) :] if line.startswith(name) else line
 

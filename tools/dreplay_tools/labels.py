@@ -70,7 +70,7 @@ def padded(text, columns, right=False):
 
 
 def cut(text, most):
-    """A text of at most so many columns."""
+    """A text of at most `most` columns."""
     if width(text) <= most:
         return text
     kept, used = [], 1

@@ -92,7 +92,7 @@ def bars_of(shown, words):
 
 
 def largest(entries, most):
-    """At most so many entries, those of the largest numbers, in their order; and how many are left
+    """At most `most` entries, those of the largest numbers, in their order; and how many are left
     out.
     """
     if len(entries) <= most:
@@ -109,7 +109,7 @@ def and_more(count, what):
 
 
 def in_terminal(chart, columns):
-    """A chart as lines of text of so many columns, or of as many as its numbers need."""
+    """A chart as lines of `columns` columns, or of as many as its numbers need."""
     numbers = max(map(width, chart.shown))
     most_label = max(12, columns - numbers - 15)
     labels = in_columns(chart.labels, chart.right)

@@ -70,7 +70,7 @@ class Rows:
             self.next_chunk()
 
     def open(self):
-        """Adds a row that is told later, by `close` of its place."""
+        """Adds a row that is filled in later, by `close` of its place."""
         self.number += 1
         place = self.chunk, len(self.chunk.rows)
         self.chunk.open += 1

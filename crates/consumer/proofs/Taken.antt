@@ -71,7 +71,7 @@ trace_ended old new bytes start h =
 
 -- ---- a bundle
 
--- its script is told, and its trace goes on
+-- its script is known, and its trace goes on
 pub apart_goes : (bytes block rest : List ℕ) (script script' : Result TypedScript Refusal) (trace trace' : Taken) → TakesTrace script script' trace trace' block
     → IsTakenApart (bytes ++ (block ++ rest)) script trace (block ++ rest) → IsTakenApart ((bytes ++ block) ++ rest) script' trace' rest
 apart_goes bytes block rest script script' trace trace' h p = record {

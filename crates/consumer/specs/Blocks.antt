@@ -21,7 +21,7 @@ pub record IsTakenApart (bundle : List ℕ) (judged : Result TypedScript Refusal
   pub is_judged : IsJudged script judged
   pub read : OnOk judged (reads taken rest ≡ trace_of trace)
 
--- the bytes of a bundle that have come: all are kept, or its script is told whatever comes next
+-- the bytes of a bundle that have come: all are kept, or its script is known whatever comes next
 abbrev pub HasTaken : {R : Type 0} → List ℕ → Option (TraceIntake R) → List ℕ → Type 0
 HasTaken first None bytes = first ≡ bytes
 HasTaken first (Some t) bytes =

@@ -1,4 +1,4 @@
--- What the answers say of the relations.
+-- What the results say of the relations.
 use Rattle.std.proofs.Common.{◌≡◌, ◌⊎◌, ℕ, List, [], ◌∷◌, Result, Ok, Err, refl, sym, ap, subst}
 use Rattle.std.proofs.Common.{◌∙◌, rules, inl, inr, zero, suc, ◌≤◌, arith, length}
 use Rattle.std.specs.Prelude.{IfOk, IfErr, IsErrOf, IsErrAnd, MatchResult}

@@ -307,7 +307,7 @@ by_front p pos b z go (Ok (Gap n)) s =
 by_front p pos b z go (Ok (front.Token t n)) s =
     here (b ∷ s.own, s.rest, ap (λ (xs : List ℕ). b ∷ xs) s.is, s.holds, refl, ap (λ (k : ℕ). pos.at + suc k) s.size, refl, go n (place_after p t) s.own s.rest s.is s.size)
 
--- what scan answers when n bytes are to be passed is right for what is after these
+-- what scan gives when n bytes are to be passed is right for what comes after these
 pub scan_sound : (bytes own rest : List ℕ) (n : ℕ) (p : Place) (pos : Position) → bytes ≡ own ++ rest → n ≡ length own → IsRight p (position_after pos own) rest (scan n p pos bytes)
 unfolding scan
 scan_sound [] [] rest n p pos is size = here (sym is)

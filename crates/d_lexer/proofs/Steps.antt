@@ -4,7 +4,7 @@ use Rattle.std.proofs.Common.{Err, refl, arith, append_assoc}
 use Rattle.d_lexer.specs.Steps.Scan.{one_longer, with_byte, skip_one}
 use Rattle.d_lexer.specs.declared.fault.Flaw.{Flaw}
 
--- so many more
+-- n more, where there is a length
 abbrev pub longer : ℕ → Option ℕ → Option ℕ
 longer n None = None
 longer n (Some m) = Some (n + m)

@@ -1,4 +1,4 @@
--- What is told token by token of depth, and what is true of the whole list.
+-- Depth, token by token and of the whole list.
 use Rattle.std.proofs.Common.{◌≡◌, ℕ, zero, suc, ◌+◌, ◌<◌, ◌≤◌, Bool, true, false, List, [], ◌∷◌}
 use Rattle.std.proofs.Common.{◌++◌, length, refl, ap, arith, inl, inr}
 use Rattle.std.specs.Prelude.{◌||◌, ◌⊎◌, nat_lt}
@@ -9,7 +9,7 @@ use Rattle.d_parser.specs.Limits.{closes, ends}
 use Rattle.d_parser.specs.Limits.{openings, closings, endings, IsDeep}
 use Rattle.d_parser.specs.Steps.Depth.{open_by, row_by, open_after, row_with, is_deep}
 
--- a stretch that is too deep, after so many open brackets and so many tokens in a row
+-- a stretch that is too deep after b open brackets and r tokens in a row
 abbrev Full : ℕ → ℕ → List Token → Type 0
 Full b r p = (64 + closings p < b + openings p) ⊎ ((1024 < r + length p) × (endings p ≡ 0))
 

@@ -1,4 +1,4 @@
--- The recursion answers each tree that the rules give.
+-- The recursion gives each tree that the rules give.
 use Rattle.std.proofs.Common.{◌≡◌, ℕ, inl, inr, List, Option, Some, Result, Ok, refl, sym, ap, ◌∙◌}
 use Rattle.d_parser.specs.declared.operators.Step.{Step}
 use Rattle.d_parser.specs.declared.tree.Variable.{Variable}

@@ -1,4 +1,4 @@
--- The recursion answers each script that the rules give.
+-- The recursion gives each script that the rules give.
 use Rattle.std.proofs.Common.{◌≡◌, ℕ, ◌≤◌, nat_le, inl, inr, List, [], ◌∷◌, ◌++◌, true, Option}
 use Rattle.std.proofs.Common.{Some, None, Ok, refl, subst, append_assoc, append-nil, arith}
 use Rattle.std.proofs.lemmas.Bool.Decides.{nat_tests}

@@ -175,7 +175,7 @@ few_probed rows aggs d m last known h =
     let done = all_few h.2 aggs d.statements h.1 last known h.4 in
     rw (h.5) (refl, all_done h.2 aggs d.statements h.1 last known h.4, omega (arith, tested, done))
 
--- so many, where there are as many in the source or more
+-- the counts of the meaning are those of the source
 abbrev Sizes : List ClauseMeant → List ItemTree → Type 0
 Sizes all items =
     (in_all description_count all ≡ in_all source.descriptions items) × (in_all statement_count all ≡ in_all source.statements items)

@@ -1,4 +1,4 @@
--- What the recursion answers is well typed.
+-- What the recursion gives is well typed.
 use Rattle.std.proofs.Common.{◌≡◌, ℕ, inl, inr, List, Bool, true, false, Option, Some, None, Result}
 use Rattle.std.proofs.Common.{Ok, Err, refl, sym, ap, ◌∙◌, subst, if◌then◌else◌}
 use Rattle.d_parser.specs.declared.operators.Step.{Step}

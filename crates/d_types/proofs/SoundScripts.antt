@@ -1,4 +1,4 @@
--- What the recursion answers of a script is well typed.
+-- What the recursion gives for a script is well typed.
 use Rattle.std.proofs.Common.{◌≡◌, ℕ, nat_le, inl, inr, List, [], ◌∷◌, ◌++◌, length, Bool, true}
 use Rattle.std.proofs.Common.{false, if◌then◌else◌, Option, Some, None, Result, Ok, Err, refl, sym}
 use Rattle.std.proofs.Common.{ap, ◌∙◌, subst, append_assoc, append-nil}

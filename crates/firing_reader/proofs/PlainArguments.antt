@@ -41,7 +41,7 @@ zeros_found n found bytes rest is front split =
     let rest_is : rest ≡ 10 ∷ d = append_cancel_left (zeros n) rest (10 ∷ d) (ap (λ (l : List ℕ). l ++ rest) (sym begin) ∙ sym split ∙ whole) in
     zeros_close n bytes rest d (split ∙ ap (λ (l : List ℕ). l ++ rest) begin) rest_is
 
--- the line of ten zeros from so many before its end on
+-- the last zeros of the line of ten, with the line feed
 zeros_at : (n : ℕ) → n < 10 → take (20 - (20 - 2 * suc n)) (drop (20 - 2 * suc n) (zeros 9 ++ 10 ∷ [])) ≡ zeros n ++ 10 ∷ []
 zeros_at zero lt = refl
 zeros_at (suc zero) lt = refl

@@ -26,7 +26,7 @@ state_at Quote = st.AfterQuote
 abbrev left : State → List ℕ → List (List (List ℕ))
 left s xs = left_in s (Some xs)
 
--- the records of bytes that begin in the midst of one: its fields so far, and the field at hand
+-- the records of bytes that begin within one: its fields so far, and the field that is open
 abbrev pub within : State → List (List ℕ) → List ℕ → List ℕ → List (List (List ℕ))
 within s fields field xs = records_next left (next_record default_config s fields field xs)
 

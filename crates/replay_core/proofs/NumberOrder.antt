@@ -86,7 +86,7 @@ module _ {T : Type 0} where
   non_decreasing (x ∷ xs) h (suc i) zero d le lt = absurd (omega arith)
   non_decreasing (x ∷ xs) h (suc i) (suc j) d le lt = non_decreasing xs h.1 i j d (omega arith) (omega arith)
 
-  -- the first so many of those that have no lesser number
+  -- the first i are those with the least number
   front_of : (n : ℕ) (xs : List (ℕ × T)) (i : ℕ) → ((k : ℕ) (d : ℕ × T) → k < i → (get_or xs k d).0 ≡ n) → ((k : ℕ) (d : ℕ × T) → i ≤ k → k < length xs → n < (get_or xs k d).0)
       → i ≤ length xs → take i xs ≡ with_number n xs
   front_of n [] zero same more le = refl

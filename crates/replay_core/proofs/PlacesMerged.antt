@@ -31,7 +31,7 @@ at_higher place p ps le =
     let is : nat_lt p place ≡ false = grind (arith, nat_tests) in
     (ap (λ b. if b then p ∷ front_below place ps else []) is, ap (λ b. if b then rest_from place ps else p ∷ ps) is)
 
--- so many are below the place, and the next one isn't
+-- the first i are below the place, and the next one isn't
 pub cut_at : (place : ℕ) (ps : List ℕ) (i : ℕ) → ((k : ℕ) → k < i → get_or ps k 0 < place) → (i < length ps → place ≤ get_or ps i 0)
     → i ≤ length ps → (take i ps ≡ front_below place ps) × (drop i ps ≡ rest_from place ps)
 cut_at place [] zero low high le = (refl, refl)

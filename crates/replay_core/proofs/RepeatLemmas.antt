@@ -48,7 +48,7 @@ none_at_all (r ∷ rest) taken =
 
 -- ---- all_made that are left
 
--- those that are left where so many were taken of the clause at a place among all
+-- those that are left after some were taken of the clause at a place among all
 abbrev pub places_left : List Repeat → (at times : ℕ) → List ℕ
 places_left all at times = drop times (places_in_turn (drop at all))
 

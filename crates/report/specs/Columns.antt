@@ -8,7 +8,7 @@ space = 32
 abbrev pub line_feed : ℕ
 line_feed = 10
 
--- so many spaces
+-- this many spaces
 abbrev pub spaces : ℕ → List ℕ
 spaces count = replicate count space
 

@@ -24,7 +24,7 @@ abbrev pub empty_view : BoardView
 empty_view = view empty_hand nothing_lowered
 
 module _ {S : Type 0} where
-  -- so many numbers among so many seats
+  -- k.0 numbers among k.1 seats
   pub record Kept (k : ℕ × ℕ) (s : State S BoardView) : Type 0 where
     pub two : length s.words ≡ 2
     pub draws : Draws k.0 k.1 (slice_index s.words 0) (map hand_of s.views)

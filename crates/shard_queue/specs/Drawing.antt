@@ -6,7 +6,7 @@ use Rattle.shard_queue.specs.Vocabulary.{Hand}
 use Rattle.shard_queue.specs.Numbers.{below}
 use Rattle.shard_queue.specs.Hands.{hand, total_over, seats_of, seats_at_end, AllFit}
 
--- n numbers are handed out among so many seats
+-- n numbers are handed out among the seats
 pub record Draws (n seats word : ℕ) (views : List Hand) : Type 0 where
   pub small : n + seats < 2 ^ 63
   pub fit : AllFit n views

@@ -16,7 +16,7 @@ with_own_group count group = record {
   group = λ t. if int_eq t thread_zero then Some count else group t;
 }
 
--- dealt into so many groups: the i-th thread goes to group i modulo their number
+-- dealt into `count` groups: the i-th thread goes to group i modulo count
 abbrev pub grouping_in_turn : ℕ → List ℤ → Grouping
 grouping_in_turn count threads =
     with_own_group count (λ t. option_map (λ i. i % count) (position_from (int_eq t) 0 threads))
@@ -30,7 +30,7 @@ abbrev pub grouping_by_lists : List (List ℤ) → Grouping
 grouping_by_lists [] = with_own_group 1 (list_of ([] ∷ []))
 grouping_by_lists (list ∷ lists) = with_own_group (length lists + 1) (list_of (list ∷ lists))
 
--- the trace's threads, ascending, dealt into so many groups
+-- the trace's threads, ascending, dealt into `count` groups
 abbrev pub IsDealt : ℕ → List Firing → Grouping → Type 0
 IsDealt count trace grouping =
     (threads : List ℤ) × AreThreads trace threads × (grouping ≡ grouping_in_turn count threads)

@@ -10,7 +10,8 @@ abbrev pub count_up : ℕ → ℕ → List ℕ
 count_up a zero = []
 count_up a (suc n) = a ∷ count_up (suc a) n
 
--- so many were put, the last of them a mark for each seat, and those below the front were taken
+-- the queue after `put` numbers, the last of which are a mark for each seat; those below the front
+-- were taken
 pub record Deals (put seats front left : ℕ) (items : List ℕ) (views : List Hand) : Type 0 where
   pub are : items ≡ count_up front left
   pub sum_is : front + left ≡ put
@@ -21,8 +22,7 @@ pub record Deals (put seats front left : ℕ) (items : List ℕ) (views : List H
   pub drawn : (h : ℕ → ℕ)
       → total_over (λ v. sum_by h v.drawn) views ≡ sum_by h (below (min (put - seats) front))
 
--- one take among so many seats: the number joins what was drawn, or it is a mark: the seat is at
--- the end
+-- one take: the number joins what was drawn, or it is a mark, and the seat is at the end
 abbrev pub Took : ℕ → Hand → ℕ → Hand → Type 0
 Took seats v x w =
     ((x + seats < v.end) × (w ≡ hand v.end v.seats v.at_end (v.drawn ++ x ∷ []))

@@ -272,7 +272,7 @@ class Drawer:
         return self.integer(depth) if kind == INTEGER else self.text(depth)
 
     def integer(self, depth):
-        """An expression of integers, at most so many operations deep."""
+        """An expression of integers, at most `depth` operations deep."""
         if depth == 0 or self.likely(0.2):
             return self.leaf(INTEGER, INTEGERS, NUMBERS)
         ways = [

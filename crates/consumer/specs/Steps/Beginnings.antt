@@ -8,14 +8,14 @@ abbrev pub ArePassed : List ℕ → Type 0
 ArePassed front = (rest script trace : List ℕ) → Divides rest script trace
     → Divides (front ++ rest) (front ++ script) trace
 
--- so many bytes are whole lines, none of which divides, and the others are within a line
+-- the first `count` bytes are whole lines, none of which divides, and the others are within a line
 pub record IsUndivided (bytes : List ℕ) (count : ℕ) : Type 0 where
   pub few : count ≤ length bytes
   pub passed : ArePassed (take count bytes)
   pub line : IsLine (drop count bytes)
 
--- the first dividing line comes after so many bytes, which are the script; the trace begins with
--- these and goes on with what comes after the bytes
+-- the first dividing line comes after `count` bytes, which are the script; the trace begins with
+-- these bytes, and goes on with those that come later
 pub record IsDividedAt (bytes : List ℕ) (count : ℕ) (trace : List ℕ) : Type 0 where
   pub few : count ≤ length bytes
   pub divides : (tail : List ℕ) → Divides (bytes ++ tail) (take count bytes) (trace ++ tail)
