@@ -15,16 +15,14 @@ pub record Shown : Type 0 where
   pub bytes : List ℕ
   pub status : ℕ
 
--- it is, in this layout, that of the run over BEGIN, these firings and END, up to the one that
--- exits
+-- in this layout it shows the run over BEGIN, these firings and END, up to the one that exits
 pub record IsShown (shows : LayoutMeant) (m : ScriptMeant) (firings : List Firing)
     (shown : Shown) : Type 0 where
   pub bytes : shows m (history_over m firings) shown.bytes
   pub status : shown.status ≡ exit_status (history_over m firings)
 
 -- What is shown, or the first refusal: why the script has no tokens, no tree or no types, and then
--- the trace's fault.
--- The line of a script that has no tree may be any.
+-- the trace's fault. The line of a syntax fault may be any.
 abbrev pub IsAnswer : LayoutMeant → (script trace : List ℕ) → Result Shown Refusal → Type 0
 IsAnswer shows script trace (Ok shown) =
     (m : ScriptMeant) × (firings : List Firing)

@@ -11,8 +11,8 @@ pub record TakesTrace (script script' : Result TypedScript Refusal) (trace trace
   pub same : script' ≡ script
   pub taken : OnOk script ((rest : List ℕ) → reads trace' rest ≡ reads trace (block ++ rest))
 
--- a bundle has a script that was judged so, and where that was accepted a trace that reads as this
--- does, if these bytes come after those that have come
+-- the bundle's script was judged so; if it was accepted, its trace reads as what was taken does
+-- with the rest
 pub record IsTakenApart (bundle : List ℕ) (judged : Result TypedScript Refusal) (taken : Taken)
     (rest : List ℕ) : Type 0 where
   pub script : List ℕ

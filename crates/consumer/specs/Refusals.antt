@@ -6,7 +6,7 @@ use Rattle.consumer.specs.Vocabulary.{LexFault, ParseFault, TypeFault, TraceFaul
 use Rattle.consumer.specs.Vocabulary.{ConsumeFault, Read, Refused, Write, Replayed, Refusal, Lex}
 use Rattle.consumer.specs.Vocabulary.{Parse, Typing, Trace, Group, Memory}
 
--- want of memory is one thing, whichever part it was in
+-- out of memory is one refusal, whichever part it was in
 abbrev pub plain_refusal : Refusal → Refusal
 plain_refusal (Lex LexFault.Memory) = Memory
 plain_refusal (Parse ParseFault.Memory) = Memory
@@ -86,7 +86,7 @@ IsReported (Err e) old new = IsSent (consume_fault_line e ++ 10 ∷ []) old new
 
 -- ---- the status
 
--- of a plain refusal
+-- the status of a plain refusal
 abbrev pub reason_status : Refusal → ℕ
 reason_status Memory = 1
 reason_status (Lex f) = 3

@@ -25,7 +25,8 @@ pub record IsCarriedOut (plan : Plan) (trace firings : List Firing) (r : Replaye
   pub ran : ran_in r ≡ numbers_by_group grouping firings
   pub once : SameItems (flat_map (λ group. group) (ran_in r)) (map number_of firings)
 
--- the answer, and how it was come by; the first reason for which there is none; or memory ran out
+-- the answer, and how the run was carried out; the first reason for which there is none; or memory
+-- ran out
 abbrev pub IsReplay : LayoutMeant → (script trace : List ℕ) → Plan → Result Replayed Refusal
     → Type 0
 IsReplay shows script trace plan (Ok r) =

@@ -11,8 +11,8 @@ use crate::plan::Replayed;
 use crate::refusal::{refusal_reason, refusal_status};
 use report::{Sink, send};
 
-/// Says on the errors' stream why there is no answer, where there is none, and returns the status
-/// that the program ends with. It takes no memory.
+/// Writes why there is no answer to the errors' stream, if there is none, and returns the exit
+/// status. It allocates nothing.
 ///
 /// ```text
 /// end(&mut errors, &Err(ConsumeFault::Write)); // 1, and the line `dreplay: write failed`
@@ -39,7 +39,7 @@ fn tell<E: Sink>(errors: &mut E, fault: &ConsumeFault)
     let _ = send(errors, line.as_str().as_bytes());
 }
 
-// What the line of a fault says, and of which place.
+// The text and the place in the line of a fault.
 fn fault_reason(fault: &ConsumeFault) -> Reason
     ensures bytes { reason_bytes result ≡ consume_fault_line fault.now }
     ensures short { length result.text.now ≤ MOST_TEXT }

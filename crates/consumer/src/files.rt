@@ -24,7 +24,7 @@ pub trait ScriptFiles {
             (Self.File.seen file).remaining ≡ Some all)) };
 }
 
-/// The files of the system. std says of none what it holds.
+/// The system's files. Contracts don't know what they hold.
 #[derive(Drop)]
 pub struct SystemFiles<'a, R> {
     pub rt: &'a R,
@@ -43,8 +43,8 @@ impl<'a, R: Files> ScriptFiles for SystemFiles<'a, R> {
     }
 }
 
-/// Reads the script of a file. The file is closed then: where the process was started without a
-/// standard input, an open file would be it.
+/// Reads the script in a file, and closes the file: in a process that was started without a
+/// standard input, an open file would take its place.
 pub fn script_in<C: ScriptFiles>(
     alloc: Global,
     files: &C,

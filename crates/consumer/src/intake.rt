@@ -1,4 +1,4 @@
-//! What takes the input of a run, one block after the other: a bundle, or the trace of a script.
+//! Takes the input of a run block by block: a bundle, or the trace of a script.
 
 ghost use Rattle.std.specs.Prelude.{◌≡◌, ◌++◌, [], ℕ, List, IfOk, IfSome, Err, OnOk};
 ghost use Rattle.consumer.specs.Blocks.{IsTakenApart, HasTaken, TakesTrace};
@@ -17,15 +17,16 @@ use report::Intake;
 use std::alloc::{AllocError, Global};
 use std::thread::Threads;
 
-// How many bytes a bundle has at most that begins with a script within the limit, and with nothing
-// of a trace: a dividing line has up to four.
+// The most bytes of a bundle up to its dividing line and with it, where the script is within the
+// limit. A dividing line has up to four.
 const MOST_UNDIVIDED: usize = MOST_BYTES + 4;
 
-// How many bytes of a trace several workers read at a time: to start them takes little beside it.
+// How many bytes of a trace several workers read at a time. Starting them takes little time beside
+// that.
 const SHARED_BLOCK: usize = 1 << 22;
 
-// A reader that has taken nothing, for the workers of a plan. One alone reads each block as it
-// comes.
+// A reader that has taken nothing, for the workers of a plan. A single worker reads each block as
+// it comes.
 fn reader_for(alloc: Global, plan: &Plan) -> Result<Reader, AllocError>
     ensures { IfOk result (λ r. (rest : List ℕ) → reads r rest ≡ trace_of rest) }
 {
@@ -33,7 +34,7 @@ fn reader_for(alloc: Global, plan: &Plan) -> Result<Reader, AllocError>
     Reader::new(alloc, plan.hash_key, plan.workers, least)
 }
 
-/// What takes the trace of a script. Where the script is refused nothing of the trace is kept.
+/// Takes the trace of a script. If the script is refused, none of the trace is kept.
 #[derive(Drop)]
 pub(crate) struct TraceIntake<'a, R> {
     rt: &'a R,
@@ -99,7 +100,7 @@ impl<'a, R: Threads> Intake for TraceIntake<'a, R> {
     }
 }
 
-/// What takes a bundle: the bytes of its script, and from the dividing line on its trace.
+/// Takes a bundle: the bytes of its script, and from the dividing line on its trace.
 #[derive(Drop)]
 pub(crate) struct BundleIntake<'a, R> {
     rt: &'a R,
@@ -107,7 +108,7 @@ pub(crate) struct BundleIntake<'a, R> {
     plan: &'a Plan,
     // The bundle's first bytes.
     first: Vec<u8>,
-    // What takes the trace, as soon as these tell the script.
+    // Takes the trace, once the script is known.
     trace: Option<TraceIntake<'a, R>>,
 }
 
@@ -125,7 +126,7 @@ impl<'a, R: Threads> BundleIntake<'a, R> {
         }
     }
 
-    /// What has taken the bundle's trace, which has ended.
+    /// The intake of the bundle's trace, at the end of the input.
     pub(crate) fn finish(self) -> Result<TraceIntake<'a, R>, AllocError>
         ensures { IfOk result (λ t. (bytes : List ℕ)
             → HasTaken self.entry.first.items self.entry.trace bytes
@@ -164,8 +165,8 @@ impl<'a, R: Threads> Intake for BundleIntake<'a, R> {
     }
 }
 
-// What takes the trace of a bundle with these first bytes, where they tell its script: after a
-// dividing line, or where the script is too long whatever comes.
+// The intake of the trace of a bundle with these first bytes, if they settle its script: they have
+// a dividing line, or the script is too long whatever comes next.
 fn trace_after<'a, R: Threads>(
     rt: &'a R,
     alloc: Global,

@@ -35,7 +35,7 @@ pub fn one_answer<L: Layout>()
         → IsAnswer L.shows script trace a → IsAnswer L.shows script trace b → IsSameAnswer a b }
 {}
 
-/// Each script and trace have an answer there.
+/// Where a layout shows each run, each script and trace have an answer.
 pub fn has_answer<L: Layout>()
     ensures { ShowsEach L.shows
         → (script trace : List ℕ)

@@ -32,7 +32,7 @@ pub struct Reason {
 /// The most bytes of a reason's text.
 pub const MOST_TEXT: usize = 40;
 
-/// Room for a text and two numbers with what they are numbers of.
+/// Room for a text and two numbers with their labels.
 pub const ROOM: usize = 160;
 
 /// A line of the program, without its line feed.

@@ -14,14 +14,14 @@ pub struct Plan {
     pub groups: GroupPlan,
     /// What evaluates the script.
     pub engine: EngineKind,
-    /// What the hashes of the run's maps depend on beside their keys.
+    /// The hash key of the run's maps.
     #[derive_where(skip)]
     pub hash_key: HashKey,
 }
 
 impl Plan {
-    /// A plan whose maps hash by a fixed key: whoever writes the trace could choose what falls
-    /// together in them, and so make the run slow.
+    /// A plan whose maps hash by a fixed key: whoever writes the trace could choose keys that
+    /// collide, and so make the run slow.
     ///
     /// ```text
     /// let plan = Plan::new(4, GroupPlan::Dealt(16), EngineKind::Dif);

@@ -30,8 +30,8 @@ pub struct Streams<F, S, E> {
 }
 
 impl<'a, R: Threads + Wait + Sync, L: Layout> Consumer<'a, R, L> {
-    /// Does all that a program does whose answers have this layout, and returns the status that it
-    /// ends with. The run's maps hash by the key, on which nothing else depends.
+    /// Does all that a program with this layout does, and returns its exit status. The key is that
+    /// of the run's hash maps; nothing else depends on it.
     ///
     /// ```text
     /// consumer.program(HELP, hash_key, &files, words, &mut streams); // 0, with the answer written

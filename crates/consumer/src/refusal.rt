@@ -146,7 +146,7 @@ pub fn refusal_text(alloc: Global, refusal: &Refusal) -> Result<String, AllocErr
     String::from_str(alloc, reason_line(refusal_reason(refusal)).as_str())
 }
 
-/// What that line says, and of which place.
+/// The text and the place in that line.
 pub fn refusal_reason(refusal: &Refusal) -> Reason
     ensures bytes { reason_bytes result ≡ refusal_line refusal.now }
     ensures short { length result.text.now ≤ MOST_TEXT }

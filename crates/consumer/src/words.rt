@@ -46,7 +46,7 @@ impl Asked {
 /// Why the words ask for no run.
 #[derive(Debug, Drop, Error)]
 pub enum UsageFault {
-    /// They ask for help, which this is.
+    /// They ask for help; this is its text.
     #[error("{0}")]
     Help(clap::Error),
     /// They are not understood. This says why, in clap's words.
@@ -178,7 +178,7 @@ fn option<'a>(alloc: Global, id: &'a str, letter: char, value: &'a str, help: &'
         .help(help)
 }
 
-// The same, which has the value `default` where it isn't given.
+// The same, with the value `default` if it isn't given.
 fn with_default<'a>(option: Arg<'a>, default: &'a str) -> Arg<'a>
     ensures rule { rule_of result
         ≡ record (rule_of option.entry) { defaults = default.entry.now ∷ [] } }
@@ -196,7 +196,7 @@ fn with_numbers<'a>(option: Arg<'a>, most: u32) -> Arg<'a>
     option.value_parser(numbers_to(most))
 }
 
-// What takes the numbers from 1 to `most`.
+// A parser of the numbers from 1 to `most`.
 fn numbers_to<'a>(most: u32) -> ValueParser<'a>
     ensures { result ≡ Signed (pos 1) (pos most) }
 {
@@ -231,7 +231,8 @@ fn plan_in(alloc: Global, help: Help, matches: &ArgMatches<'_>) -> Result<Plan, 
     Ok(Plan::new(workers, GroupPlan::Dealt(groups), engine))
 }
 
-// The mistake of a number that clap accepts although it is out of range. There is no such number.
+// The mistake of a number out of range that clap accepted. It accepts none, so this is never
+// returned.
 fn out_of_range(alloc: Global, help: Help) -> Result<UsageFault, AllocError>
     ensures { IfOk result (IsMistake ErrorKind.ValueValidation) }
 {
@@ -284,7 +285,7 @@ fn engine_called(name: &str) -> Option<EngineKind>
     }
 }
 
-// What clap's error is: a request for help, a mistake, or want of memory.
+// What clap's error is: a request for help, a mistake, or out of memory.
 fn usage_fault(error: clap::Error) -> UsageFault
     ensures { IsToldAs error result }
 {
@@ -295,7 +296,7 @@ fn usage_fault(error: clap::Error) -> UsageFault
     }
 }
 
-// The mistake of words that are not UTF-8, which `read_words` can't be given, in clap's form.
+// The mistake of words that aren't UTF-8, in clap's form. `read_words` can't be given such words.
 fn not_text(alloc: Global, help: Help) -> Result<clap::Error, AllocError>
     ensures { IfOk result (λ e. kind_of e ≡ ErrorKind.ValueValidation) }
 {

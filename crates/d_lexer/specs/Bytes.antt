@@ -80,7 +80,7 @@ escapes =
     (97, 7) ∷ (98, 8) ∷ (102, 12) ∷ (110, 10) ∷ (114, 13) ∷ (116, 9) ∷ (118, 11)
     ∷ (92, 92) ∷ (34, 34) ∷ (39, 39) ∷ (63, 63) ∷ []
 
--- the byte that an escape stands for
+-- the byte that an escape means
 abbrev pub escape_of : ℕ → Option ℕ
 escape_of e = entry_of escapes e
 

@@ -11,12 +11,12 @@ abbrev pub is_brace : TokenKind → Bool
 is_brace (TokenKind.Mark Mark.OpenBrace) = true
 is_brace t = false
 
--- the first of the tokens is
+-- the first of the tokens is an opening brace
 abbrev pub opens_body : List Token → Bool
 opens_body [] = false
 opens_body (t ∷ ts) = is_brace t.kind
 
--- such a slash made a division
+-- a closing slash is made a division
 abbrev pub open_kind : TokenKind → TokenKind
 open_kind (TokenKind.Mark Mark.ClosingSlash) = TokenKind.Mark Mark.Slash
 open_kind t = t

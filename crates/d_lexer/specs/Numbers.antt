@@ -17,7 +17,7 @@ abbrev pub digit_below : ℕ → Option ℕ → Option ℕ
 digit_below base None = None
 digit_below base (Some k) = if nat_lt k base then Some k else None
 
--- the same, where it is a digit of the base
+-- the value of a digit of the base
 abbrev pub digit_of : ℕ → ℕ → Option ℕ
 digit_of base d = digit_below base (digit_value d)
 

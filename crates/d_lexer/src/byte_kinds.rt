@@ -42,7 +42,7 @@ pub(crate) fn word_len(bytes: &[u8]) -> usize
     bytes.iter().take_while(|b| is_word_byte(**b)).count()
 }
 
-/// How many bytes at the front go on a description run.
+/// How many bytes at the front continue a description run.
 pub(crate) fn run_len(bytes: &[u8]) -> usize
     ensures is { result ≡ scan.run_len spec.is_run_byte bytes.now }
     ensures within { result ≤ length bytes.now }

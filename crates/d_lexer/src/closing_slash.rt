@@ -18,7 +18,7 @@ fn is_closing(token: &Token) -> bool
     matches!(token.kind, TokenKind::Mark(Mark::ClosingSlash))
 }
 
-// The test says whether an opening brace comes next.
+// Makes a closing slash a division, unless an opening brace comes next.
 fn settle_one(token: &mut Token, brace: bool)
     ensures { token.new ≡ spec.settle_token token.old brace }
 {
@@ -27,7 +27,7 @@ fn settle_one(token: &mut Token, brace: bool)
     }
 }
 
-/// A slash of a predicate, read as the closing one, stays that only before an opening brace.
+/// Makes each closing slash a division that isn't before an opening brace.
 pub(crate) fn settle(tokens: &mut [Token])
     ensures { tokens.new ≡ spec.settle tokens.old }
 {

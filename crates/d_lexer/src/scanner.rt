@@ -66,7 +66,7 @@ fn step(
     }
 }
 
-// Passes the byte and n more.
+// Passes this byte and n more.
 #[tactic(auto, using(crate::proofs::Lexing::scan_from))]
 fn jump(pos: Position, b: u8, rest: &[u8], n: usize) -> (Position, &[u8])
     requires at { pos.at + length rest.now < MOST_BYTES }
@@ -121,11 +121,11 @@ pub fn lex(alloc: Global, bytes: &[u8]) -> Result<Vec<Token>, LexFault>
     // Length is checked first: over 65,536 bytes are too long, whatever they hold.
     ensures too_long { IsErrOf result LexFault.TooLong ↔ (MOST_BYTES < length bytes.now) }
 
-    // What is returned is so: these are the script's tokens, or this is its first fault.
+    // Whatever is returned is right: the script's tokens, or its first fault.
     ensures ok { IfOk result (λ ts. spec.IsLexed bytes.now ts.items) }
     ensures err { IfErr result (λ e. (e ≡ LexFault.Memory) ⊎ spec.IsRefused bytes.now e) }
 
-    // And what is so is returned, unless memory is refused.
+    // And it is returned, unless memory is refused.
     ensures lexed { (ts : List Token) → spec.IsLexed bytes.now ts
         → MatchResult result (λ v. v.items ≡ ts) (λ e. e ≡ LexFault.Memory) }
     ensures refused { (fault : LexFault) → spec.IsRefused bytes.now fault

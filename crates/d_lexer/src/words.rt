@@ -11,7 +11,7 @@ use crate::front::Front;
 use crate::token::TokenKind;
 use std::alloc::Global;
 
-// The bytes of a run, given by the first and the others.
+// The bytes of a run, from its first byte and the others.
 fn copy_run(alloc: Global, b: u8, run: &[u8]) -> Result<ByteString, Stop>
     ensures ok { IfOk result (λ s. s ≡ b ∷ run.now) }
     ensures err { IfErr result (λ e. e ≡ Stop.Memory) }
@@ -64,7 +64,7 @@ pub(crate) fn aggregation_front(alloc: Global, rest: &[u8]) -> Result<Front, Sto
     }
 }
 
-// Whether the word begins a declaration.
+// Whether the word is `self` or `this`, which begin a declaration.
 fn is_declaring(run: &[u8]) -> bool
     ensures { result ≡ spec.is_declaring run.now }
 {

@@ -4,7 +4,7 @@ use Rattle.std.specs.Prelude.{count_by, Result, Ok, Err}
 use Rattle.d_parser.specs.Vocabulary.{Mark, Token, TokenKind, ParseFault, MOST_OPEN, MOST_IN_A_ROW}
 use Rattle.d_parser.specs.Vocabulary.{MOST_CLAUSES}
 
--- what a token does to the brackets that are open, and to the row that it is in
+-- what a token does to the number of open brackets, and to the row of tokens that it is in
 pub data BracketTurn : Type 0 where
   Opens : BracketTurn
   Closes : BracketTurn

@@ -1,4 +1,4 @@
--- Trees, without where they lie in memory.
+-- Trees, as values.
 use Rattle.std.specs.Prelude.{ℕ, List, [], ◌∷◌, map, Option, Some, None}
 use Rattle.d_parser.specs.Vocabulary.{UnaryOperator, BinaryOperator, AssignOperator, Step}
 use Rattle.d_parser.specs.Vocabulary.{IntegerType, Variable, Constant, Expr, Row_of-Expr}

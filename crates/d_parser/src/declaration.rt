@@ -90,7 +90,7 @@ fn word_of(alloc: Global, token: &Token) -> Result<ByteString, ParseFault>
     }
 }
 
-/// The line of the first token that can't go on, where these words aren't a type and a name.
+/// The line of the first token that can't follow, if these words aren't a type and a name.
 fn line_without_name(words: &[Token], tokens: &[Token]) -> usize {
     let count = type_length(words);
     if count == 0 || count == words.len() {

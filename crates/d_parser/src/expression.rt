@@ -108,7 +108,7 @@ fn target<'a>(
     with_keys(alloc, fuel, variable, rest)
 }
 
-/// What a target goes on as.
+/// What follows a target: `++`, `--`, an assignment, or nothing.
 #[cycle(expression)]
 #[inline(never)]
 #[tactic(auto, unfolding(crate::specs::Steps::Reading::follows))]
@@ -305,7 +305,7 @@ fn part<'a>(
     }
 }
 
-/// The operators of the level or more, and what they join to the left part.
+/// The left part, joined by the operators of this level or above to what follows it.
 #[cycle(expression)]
 #[tactic(auto, using(crate::proofs::Steps::climb_step, crate::proofs::Steps::climb_none))]
 fn climb<'a>(

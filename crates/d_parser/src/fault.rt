@@ -10,8 +10,8 @@ use thiserror::Error;
 /// Why a script has no tree. The limits are looked at first, and take no memory.
 #[derive(Clone, Copy, Debug, PartialEq, Eq, Error)]
 pub enum ParseFault {
-    /// The first token that can't go on is on this line; where the tokens end too soon it is the
-    /// last token's.
+    /// This line has the first token that can't follow those before it; if the tokens end too soon,
+    /// it is the last token's line.
     #[error("line {line}: not a D script")]
     Syntax { line: usize },
     /// More than 64 brackets open at once, or more than 1,024 tokens without `;`, `{` or `}`.

@@ -1,4 +1,4 @@
-//! Laws.
+//! Laws of what tokens spell.
 
 ghost use Rattle.std.specs.Prelude.{◌≡◌, List};
 ghost use Rattle.d_parser.specs.{Vocabulary.Token, Numbers.AreSmall, Tree.ItemTree};

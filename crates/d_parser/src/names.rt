@@ -119,7 +119,7 @@ pub(crate) fn is_typed(tokens: &[Token]) -> bool
     }
 }
 
-/// The line of the first token that can't go on, where these words are no integer type.
+/// The line of the first token that can't follow, if these words aren't an integer type.
 fn line_without_cast(words: &[Token], tokens: &[Token]) -> usize {
     match words {
         [first, ..] if matches!(kind_of(first), WordKind::Text) => line_at(tokens),

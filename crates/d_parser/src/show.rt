@@ -20,7 +20,7 @@ impl fmt::Display for Shown<'_> {
     }
 }
 
-/// Several with commas between.
+/// Shows several with commas between.
 fn show_list<T: fmt::Display, W: fmt::Write>(
     all: &Vec<T>,
     f: &mut fmt::Formatter<W>,
@@ -33,7 +33,7 @@ fn show_list<T: fmt::Display, W: fmt::Write>(
     Ok(())
 }
 
-/// Several in brackets, or nothing where there are none.
+/// Shows several in brackets, or nothing if there are none.
 fn show_keys<T: fmt::Display, W: fmt::Write>(
     keys: &Vec<T>,
     f: &mut fmt::Formatter<W>,

@@ -79,7 +79,7 @@ fn statement<'a>(
     }
 }
 
-/// With the statement at the front, if there is one.
+/// These statements, and the one at the front if there is one.
 #[tactic(auto, unfolding(crate::specs::Steps::ReadingScripts::slot), using(crate::proofs::Rows::stmts_push))]
 fn slot<'a>(
     alloc: Global,

@@ -183,7 +183,7 @@ pub(crate) fn type_of(words: &[Token]) -> Option<DeclaredType>
     }
 }
 
-/// How many words at the front spell a type together, up to the first that can't go on.
+/// How many words at the front spell a type together, up to the first that can't follow.
 pub(crate) fn type_length(words: &[Token]) -> usize
     ensures { result ≤ length words.now }
 {

@@ -1,4 +1,4 @@
--- The first fault, and what a function may answer.
+-- The first fault, and what a function may return.
 use Rattle.std.specs.Prelude.{◌≡◌, ℕ, List, Option, Some, None, Result, Ok, Err}
 use Rattle.d_types.specs.Vocabulary.{TypeFault}
 
@@ -34,7 +34,7 @@ type_fault_at NoRegister line = TypeFault.NoRegister line
 abbrev pub type_fault_of : Fault → TypeFault
 type_fault_of first = type_fault_at first.cause first.line
 
--- what comes first is refused first
+-- goes on with a value, and stops at the first fault
 infixl 10 ◌>>=◌
 abbrev pub ◌>>=◌ : {A B : Type 0} → Result A Fault → (A → Result B Fault) → Result B Fault
 (Err e) >>= go = Err e
@@ -48,7 +48,7 @@ abbrev pub unless : {A : Type 0} → Cause → ℕ → Option A → Result A Fau
 unless cause line None = refuse cause line
 unless cause line (Some x) = Ok x
 
--- What a function refused is what is asked for, unless memory ran out.
+-- The function's fault is the definition's, unless memory ran out.
 abbrev pub Fails : {Y : Type 0} → TypeFault → Result Y Fault → Type 0
 Fails (TypeFault.GlobalAssignment name line) r = r ≡ refuse (GlobalAssignment name) line
 Fails (TypeFault.Undeclared line) r = r ≡ refuse Undeclared line
@@ -61,7 +61,7 @@ Fails (TypeFault.ReadOnly line) r = r ≡ refuse ReadOnly line
 Fails (TypeFault.NoRegister line) r = r ≡ refuse NoRegister line
 Fails TypeFault.Memory r = Unit {0}
 
--- What a function returned, seen by view, is what is asked for, unless memory ran out.
+-- What a function returned, seen by view, is what the definition gives, unless memory ran out.
 abbrev pub Gives : {X Y : Type 0} → (X → Y) → Result X TypeFault → Result Y Fault → Type 0
 Gives view (Ok x) r = r ≡ Ok (view x)
 Gives view (Err e) r = Fails e r

@@ -54,7 +54,7 @@ as_type (Int t) (Int u) x = Some (conversion_node t u x)
 as_type Text Text x = Some x
 as_type _ _ x = None
 
--- `~ - +` work in the promoted type, and so does `!`, whose answer is an int
+-- `~ - +` work in the promoted type, and so does `!`, whose value is an int
 abbrev pub unary : UnaryOperator → DType → Typed → Option Typed
 unary op (Int t) x = Some (Typed.Unary op (promoted_of t) (conversion_node t (promoted_of t) x))
 unary op Text x = None

@@ -90,8 +90,8 @@ script all =
     let (rows, aggs) = after in
     Ok (record { clauses = clauses; aggregations = aggs; slots = types_in rows })
 
--- some script means this, with at most 65,536 descriptions, statements, and declarations with
--- places of variables, and with numbers below 2 ^ 64
+-- some script means this; it has at most 65,536 descriptions, as many statements, and as many
+-- declarations and places of variables together, and its numbers are below 2 ^ 64
 abbrev pub IsMeant : ScriptMeant → Type 0
 IsMeant m =
     (source : List ItemTree) × IsWithin MOST_BYTES source × AreSmall source × (script source ≡ Ok m)

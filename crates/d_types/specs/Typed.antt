@@ -1,4 +1,4 @@
--- Typed trees, without where they lie in memory.
+-- Typed trees, as values.
 use Rattle.std.specs.List.{list_any}
 use Rattle.std.specs.Prelude.{ℕ, Bool, true, false, List, [], ◌∷◌, map, Option, Some, None}
 use Rattle.d_types.specs.Vocabulary.{UnaryOperator, Step, Description, IntType, DType}

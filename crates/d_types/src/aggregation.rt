@@ -129,7 +129,7 @@ fn lquantize(args: &[Expr]) -> Option<AggFn>
     }
 }
 
-/// A function with its bounds. None where they aren't in range.
+/// An aggregating function with its bounds. None where they aren't in range.
 fn function_of(aggregating: Aggregating, args: &[Expr]) -> Option<AggFn>
     ensures { result ≡ spec.function aggregating (trees_of args.now) }
 {

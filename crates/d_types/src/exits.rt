@@ -9,7 +9,7 @@ use crate::typed::{TypedClause, TypedStmt};
 use crate::typed_script::TypedScript;
 
 impl TypedStmt {
-    // Whether it is an `exit`.
+    // Whether a statement is an `exit`.
     fn is_exit(&self) -> bool
         ensures { result ≡ is_exit (action_of self.now) }
     {

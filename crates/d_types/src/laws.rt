@@ -1,4 +1,4 @@
-//! Laws.
+//! Laws of typing: what the rules, the first faults and typed scripts have in common.
 
 ghost use Rattle.std.specs.Prelude.{◌≡◌, ◌≤◌, ◌^◌, ◌↔◌, ℕ, List, Ok, Some, length};
 ghost use Rattle.d_types.specs.Vocabulary.{MOST_BYTES, in_all, Firing, Piece, ItemTree, Tree};

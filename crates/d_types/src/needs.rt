@@ -9,7 +9,7 @@ use crate::typed::{LogicOperator, TypedExpr};
 /// The most registers that an expression may need.
 pub const REGISTERS: usize = 6;
 
-/// Whether the keys fit while each value is kept for the keys after it.
+/// Whether there are registers enough for keys, each of whose values is kept until all are there.
 #[cycle(needs)]
 fn keys_fit(keys: &[TypedExpr], registers: usize) -> bool
     ensures { result ≡ nat_le (spec.need_of_keys 0 (typeds_of keys.now)) registers }
@@ -38,7 +38,7 @@ fn step_fits(keys: &[TypedExpr], registers: usize) -> bool
     keys_fit(keys, registers) && keys.len() < registers
 }
 
-/// Whether the keys fit, and what comes after them, as `value` says.
+/// Whether there are registers enough for the keys, and as `value` says for what comes after them.
 #[cycle(needs)]
 fn both_fit(keys: &[TypedExpr], value: bool, registers: usize) -> bool
     ensures { result ≡ nat_le (spec.need_of_keys 0 (typeds_of keys.now)) registers && value }
@@ -46,7 +46,7 @@ fn both_fit(keys: &[TypedExpr], value: bool, registers: usize) -> bool
     keys_fit(keys, registers) && value
 }
 
-/// Whether a value fits while others wait.
+/// Whether there are registers enough for a value while others are kept.
 #[cycle(needs)]
 fn value_fits(value: &TypedExpr, waiting: usize, registers: usize) -> bool
     ensures { result ≡ nat_le (waiting + spec.need (typed_of value.now)) registers }

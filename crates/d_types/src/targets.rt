@@ -37,8 +37,8 @@ pub(crate) fn space_of(variable: &d_parser::Variable) -> Space
     }
 }
 
-// A script has at most 65,536 declarations and places of variables, so a slot always fits: that is
-// read from the table's rows and not proved.
+// A script has at most 65,536 declarations and places of variables, so a slot always fits; this
+// isn't proved, and such a slot would be reported as out of memory.
 pub(crate) fn variable_at(space: Space, slot: usize, holds: DType) -> Result<Variable, TypeFault>
     ensures ok { IfOk result (λ v. v ≡ record { space = space; slot = slot; holds = holds }) }
     ensures err { OnlyMemory result }
@@ -89,7 +89,7 @@ fn load_at(
     }
 }
 
-/// A variable or built-in that is read.
+/// The typed tree of a variable or built-in that is read.
 pub(crate) fn read(
     table: &[Entry],
     variable: &d_parser::Variable,

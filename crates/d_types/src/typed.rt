@@ -71,7 +71,7 @@ pub enum LogicOperator {
     Or,
 }
 
-/// What `++` and `--` answer: before a variable its new value, after it the old one.
+/// Which value `++` and `--` give: before a variable its new one, after it the old one.
 #[derive(Clone, Copy, Debug, PartialEq, Eq)]
 pub enum Answer {
     /// `++x`, `--x`

@@ -5,7 +5,7 @@ use Rattle.data_lines.specs.Vocabulary.{Agg, Aggs, Contribution, Entry, IsListin
 use Rattle.data_lines.specs.Vocabulary.{flat_map}
 use Rattle.data_lines.specs.Lines.{entry_head, entry_line, first_line, last_line, text_line}
 
--- what a run made, without where it lies in memory
+-- what a run made, as values
 pub record WholeRun : Type 0 where
   -- in the order of the firings, each with its firing's number
   pub texts : List (ℕ × List ℕ)

@@ -44,7 +44,7 @@ bucket_value h b = pair_value (label h.scale b) (slice_index h.counts b)
 abbrev pub number_member : List ℕ → List ℕ → List ℕ
 number_member name digits = codes "\"" ++ name ++ codes "\":" ++ digits ++ codes ","
 
--- where the levels of a range lie
+-- the members that give the levels of a range
 abbrev pub range_members : Scale → List ℕ
 range_members Powers = []
 range_members (Steps r) =

@@ -10,7 +10,7 @@ ghost use Rattle.data_lines.specs.Lines.{EndsOnce, entry_head, entry_line, first
 ghost use Rattle.data_lines.specs.Lines.{text_line};
 ghost use Rattle.data_lines.specs.Runs.{IsData, WholeRun};
 
-/// What a run made has one data at most.
+/// What a run made has its data in one form at most.
 pub fn one_data()
     ensures { (aggregations : Aggs) (run : WholeRun) (xs ys : List ℕ)
         → IsData aggregations run xs → IsData aggregations run ys → xs ≡ ys }

@@ -58,7 +58,7 @@ fn put_member<I: Integer>(out: &mut Vec<u8>, name: &[u8], number: I) -> Result<(
     out.extend_from_slice(b",")
 }
 
-// Puts what says where the levels of a range lie.
+// Puts the members that give the levels of a range.
 fn put_range(out: &mut Vec<u8>, scale: Scale) -> Result<(), AllocError>
     ensures { OnOk result (out.new.items ≡ out.old.items ++ spec.range_members scale) }
 {

@@ -26,13 +26,13 @@ pub record IsObjectOf (slots : Slots) (x : TypedObject) (e : Typed) : Type 0 whe
   pub returns : x.returns ≡ type_of e
   pub computes : Computes slots x.object e
 
--- each of each
+-- each object is of the expression at its place
 abbrev pub AreObjectsOf : Slots → List TypedObject → Typeds → Type 0
 AreObjectsOf slots [] end = Unit {0}
 AreObjectsOf slots (x ∷ xs) (more e es) = IsObjectOf slots x e × AreObjectsOf slots xs es
 AreObjectsOf slots xs es = ⊥
 
--- of an expression where there is one
+-- an object of the expression, if there is one
 abbrev pub IsOptionalObjectOf : Slots → Option TypedObject → Option Typed → Type 0
 IsOptionalObjectOf slots None None = Unit {0}
 IsOptionalObjectOf slots (Some x) (Some e) = IsObjectOf slots x e

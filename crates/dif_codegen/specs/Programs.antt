@@ -1,4 +1,4 @@
--- Compiled clauses, without where they lie in memory, and what clauses are compiled to.
+-- Compiled clauses, as values, and what clauses are compiled to.
 use Rattle.std.specs.Prelude.{List, map, Option}
 use Rattle.d_types.specs.Typed.{ActionOf, Evaluate, Trace, Print, Exit, Aggregate}
 use Rattle.dif_codegen.specs.Vocabulary.{Description, Action, CompiledClause, TypedObject}

@@ -23,7 +23,7 @@ pub(crate) fn close(draft: &mut Difo, branch: usize, condition: Condition, jump:
     draft.code[jump] = Instr::Ba(draft.code.len());
 }
 
-/// Makes 1 where a branch after the test is taken, and else 0.
+/// Adds code for 1 where a branch after the test is taken, and else 0.
 pub(crate) fn put_bit(
     draft: &mut Difo,
     test: Instr,
@@ -43,7 +43,7 @@ pub(crate) fn put_bit(
     Ok(())
 }
 
-/// Compares two integers of a type, with 1 or 0 in the first register.
+/// Adds a comparison of two integers of a type, which leaves 1 or 0 in the first register.
 pub(crate) fn put_comparison(
     draft: &mut Difo,
     op: ComparisonOperator,
@@ -57,7 +57,7 @@ pub(crate) fn put_comparison(
     put_bit(draft, Instr::Cmp(a, b), condition_of(op, t.signed), a)
 }
 
-/// Compares two texts, with 1 or 0 in the first register.
+/// Adds a comparison of two texts, which leaves 1 or 0 in the first register.
 pub(crate) fn put_text_comparison(
     draft: &mut Difo,
     op: ComparisonOperator,
@@ -70,7 +70,7 @@ pub(crate) fn put_text_comparison(
     put_bit(draft, Instr::Scmp(a, b), condition_of(op, false), a)
 }
 
-/// Makes 1 where one of two registers is 0 and the other isn't, in the first.
+/// Adds code that leaves 1 in the first of two registers if just one of them is 0, and else 0.
 pub(crate) fn put_differing(draft: &mut Difo, a: Reg, b: Reg) -> Result<(), AllocError>
     ensures { OnOk result (Adds (spec.differing a b) draft.old draft.new) }
 {

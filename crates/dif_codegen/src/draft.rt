@@ -1,4 +1,4 @@
-//! An object in the making: instructions after one another.
+//! An object that is being made, instruction by instruction.
 
 ghost use Rattle.std.specs.Prelude.{OnOk};
 ghost use Rattle.dif_codegen.specs.Steps.Pieces as pieces;

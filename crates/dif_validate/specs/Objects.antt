@@ -1,4 +1,4 @@
--- Objects, without where they lie in memory.
+-- Objects, as values.
 use Rattle.std.specs.Prelude.{ℕ, List}
 use Rattle.dif_validate.specs.declared.instruction.Instr.{Instr}
 use Rattle.dif_validate.specs.declared.object.Difo.{Difo}

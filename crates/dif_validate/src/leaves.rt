@@ -10,7 +10,7 @@ use crate::shape::{Shape, Tuple};
 use d_values::Kind;
 
 impl Shape {
-    // With a register of this kind.
+    // What is known, with a register of this kind.
     fn with(mut self, r: Reg, kind: Option<Kind>) -> Shape
         ensures { result ≡ spec.with_register self r kind }
     {
@@ -20,7 +20,7 @@ impl Shape {
         self
     }
 
-    // With two values compared.
+    // What is known, with two values compared.
     fn with_comparison(mut self) -> Shape
         ensures { result ≡ spec.shape_compared self }
     {
@@ -28,7 +28,7 @@ impl Shape {
         self
     }
 
-    // With the tuple.
+    // What is known, with this tuple.
     fn with_tuple(mut self, tuple: Option<Tuple>) -> Shape
         ensures { result ≡ spec.shape_with_tuple self tuple }
     {
@@ -36,7 +36,7 @@ impl Shape {
         self
     }
 
-    // With one more at the end of the tuple.
+    // What is known, with one more kind at the end of the tuple.
     fn with_one_more(mut self, kind: Kind) -> Shape
         ensures { result ≡ spec.shape_with_tuple self (spec.tuple_with self.tuple kind) }
     {
@@ -99,7 +99,7 @@ fn kind_of_built_in(v: u8) -> Kind
     if v < 4 { Kind::Number } else { Kind::Text }
 }
 
-// A tuple with one more at its end.
+// A tuple with one more kind at its end.
 fn tuple_with(tuple: Option<Tuple>, kind: Kind) -> Option<Tuple>
     ensures { result ≡ spec.tuple_with tuple kind }
 {

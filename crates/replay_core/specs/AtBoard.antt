@@ -20,7 +20,7 @@ pub record IsWork (Gives : Part → Type 0) (board : ClaimBoard) (part : Part) :
   pub order : map (λ p. p.0) part.0.items ≡ part.1.taken.items
   pub gives : Gives part
 
--- the pieces are what the firings of their groups make that count
+-- the pieces are what those firings of their groups make that count
 abbrev pub GivesPieces : Span → (ScriptMeant → Type 0) → Groups → List Firing → Part → Type 0
 GivesPieces span runs groups trace part =
     AreOfGroups runs (grouping groups) (firings_in span trace) part.0.items
@@ -44,9 +44,8 @@ pub record AreParts (P : Part → Type 0) (pieces : List (ℕ × Piece)) (seats 
   pub all : pieces ≡ flat_map (λ p. p.0.items) parts
   pub seated : seats ≡ map (λ p. p.1) parts
 
--- each of n groups has one piece, and stands in one worker's list, and this holds of what each
--- worker gave. The least number is the least that one of their seats lowered, and no more than one
--- was shown
+-- each of n groups has one piece and is in one worker's list, and P holds of what each worker gave.
+-- The least number is the least that one of their seats lowered, and no more than any was shown
 pub record IsRound (P : Part → Type 0) (n : ℕ) (r : Round) : Type 0 where
   pub once : IsAllBelow n (map (λ p. p.0) r.pieces.items)
   pub taken : IsAllBelow n (flat_map (λ list. list.items) r.lists.items)

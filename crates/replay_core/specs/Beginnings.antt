@@ -24,8 +24,8 @@ abbrev pub IsLeft : ℕ → List Firing → Type 0
 IsLeft seen [] = Unit {0}
 IsLeft seen (f ∷ fs) = seen < f.number
 
--- these are a beginning of all: it ends with the first that exits; where none does, before one
--- whose number is over what was seen, or with the last
+-- these are a beginning of all: it ends with the first that exits; if none does, before one whose
+-- number is above what was seen, or with the last
 pub record IsBeginning (m : ScriptMeant) (seen : ℕ) (fs all : List Firing) : Type 0 where
   pub rest : List Firing
   pub parts : all ≡ fs ++ rest

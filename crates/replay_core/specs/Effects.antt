@@ -1,4 +1,4 @@
--- What statements do, as a lane notes it.
+-- What statements do, as a lane records it.
 use Rattle.std.specs.Prelude.{◌≡◌, ℕ, Bool, List, [], ◌∷◌, is_some}
 use Rattle.replay_core.specs.Vocabulary.{Effect, Firing, Made, Variables, contributions_in, exit_in}
 use Rattle.replay_core.specs.Vocabulary.{texts_in}
@@ -27,7 +27,7 @@ pub record NotesRun (number : ℕ) (made : Made) (old new : PieceSeen) (vars : V
   pub variables : vars ≡ made.variables
   pub exited : exits ≡ is_some made.exit
 
--- the same of a run in a state
+-- the same, of a run in a state
 abbrev pub IsNotedRun : (Firing → Variables → Made) → (old new : State) → (before after : Piece)
     → Bool → Type 0
 IsNotedRun meaning old new before after exits =

@@ -12,7 +12,7 @@ variables_of tables = variables tables.locals tables.own
 abbrev pub variables_in : State → Variables
 variables_in state = variables_of state.tables.now
 
--- a state is still of the firing, and on the tables, that it was of
+-- a state is still of the same firing, over the same tables
 abbrev pub Stays : (old new : State) → Type 0
 Stays old new = (new.firing ≡ old.firing) × (new.tables.ghost_name ≡ old.tables.ghost_name)
 

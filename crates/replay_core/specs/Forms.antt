@@ -1,4 +1,4 @@
--- Expressions and statements in the form in which an engine runs them: trees as they are kept.
+-- Expressions and statements in the form in which an engine runs them: here trees.
 use Rattle.std.specs.Prelude.{List}
 use Rattle.d_types.specs.Typed.{ActionOf, Evaluate, Trace, Print, Exit, Aggregate, type_of}
 use Rattle.d_types.specs.Typed.{typed_of, typeds_of}

@@ -40,7 +40,7 @@ firing_result m f own = in_turn f (clauses_for f 1 m.clauses) (at_start own)
 
 -- ---- a run
 
--- the firing's thread has new variables, and each other thread those that it had
+-- the firing's thread has the new variables, and each other thread those that it had
 abbrev pub threads_after : ScriptMeant → Firing → Threads → Threads
 threads_after m f threads thread =
     if int_eq thread f.thread

@@ -4,15 +4,15 @@ use Rattle.replay_core.specs.Patterns.{probe_of}
 use Rattle.replay_core.specs.Places.{places_for}
 use Rattle.replay_core.specs.Vocabulary.{Firing, MOST_BYTES, ScriptMeant, with_ends}
 
--- those for a firing, by their places in the script
+-- the clauses that run for a firing, by their places in the script
 abbrev pub selected_for : ScriptMeant → Firing → List ℕ
 selected_for m f = places_for (probe_of f) 0 (map (λ c. c.descriptions) m.clauses)
 
--- these are the script's for each firing of a run over the trace
+-- these are the places of the script's clauses for each firing of a run over the trace
 abbrev pub AreFor : List Firing → List (List ℕ) → ScriptMeant → Type 0
 AreFor trace selected m = selected ≡ map (selected_for m) (with_ends trace trace)
 
--- for each firing of a run over the trace, those that the script selects
+-- the places of the clauses that the script selects for each firing of a run over the trace
 pub record AreSelected (runs : ScriptMeant → Type 0) (trace : List Firing)
     (selected : List (List ℕ)) : Type 0 where
   pub few : All (λ places. length places ≤ MOST_BYTES) selected
@@ -24,7 +24,7 @@ pub record AreSelected (runs : ScriptMeant → Type 0) (trace : List Firing)
 abbrev pub list_at : List (List ℕ) → ℕ → List ℕ
 list_at lists place = get_or lists place []
 
--- those of BEGIN, of each row and of END, by the places of their lists
+-- the lists of BEGIN, of each row and of END, by their places
 abbrev pub selected_in : (lists : List (List ℕ)) (begin : ℕ) (rows : List ℕ) (end : ℕ)
     → List (List ℕ)
 selected_in lists begin rows end =

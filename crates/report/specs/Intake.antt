@@ -1,4 +1,4 @@
--- What takes the bytes of a feed, block by block.
+-- Intakes, which take the bytes of a feed block by block.
 use Rattle.std.specs.Prelude.{◌≡◌, ℕ, ◌++◌, Option, List, [], IfSome}
 
 -- it takes blocks, one after the other, which together are these bytes

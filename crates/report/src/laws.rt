@@ -10,14 +10,14 @@ ghost use Rattle.report.specs.Columns.{FitsColumn, column_width, spaces};
 ghost use Rattle.report.specs.Layout.{Entry, number_bytes, part_bytes, entry_bytes};
 ghost use Rattle.report.specs.Listing.{IsListing, ComesBefore};
 
-/// Contributions make one listing of an aggregation at most.
+/// An aggregation has at most one listing of the same contributions.
 pub fn one_listing()
     ensures { (function : AggFn) (agg : ℕ) (contributions : List Contribution) (xs ys : List Entry)
         → IsListing function agg contributions xs → IsListing function agg contributions ys
         → xs ≡ ys }
 {}
 
-/// Texts and contributions make one output at most.
+/// The same texts and contributions have at most one output.
 pub fn one_output()
     ensures { (functions : List AggFn) (texts : List (ℕ × List ℕ))
         (contributions : List Contribution) (xs ys : List ℕ)
@@ -25,7 +25,7 @@ pub fn one_output()
         → xs ≡ ys }
 {}
 
-/// Texts and contributions make an output.
+/// Any texts and contributions have an output.
 pub fn has_output()
     ensures { (functions : List AggFn) (texts : List (ℕ × List ℕ))
         (contributions : List Contribution)

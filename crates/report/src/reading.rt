@@ -26,7 +26,7 @@ pub const MOST_CALLS: u64 = 1 << 32;
 // The bytes that one call may give.
 const ROOM: usize = 1 << 16;
 
-/// What takes the bytes that a feed gives, one block after the other.
+/// Takes the bytes that a feed gives, block by block.
 pub trait Intake {
     // What a block makes of it.
     ghost takes: { Self → List ℕ → Self → Type 0 };

@@ -20,7 +20,8 @@ use replay_core::Whole;
 use std::alloc::{AllocError, Global};
 use std::thread::Threads;
 
-// How many entries are a piece of work. A thread that rayon starts is given two pieces at least.
+// How many entries a thread takes at a time. Each thread that rayon starts is given two such blocks
+// at least.
 const BLOCK: usize = 512;
 
 // With fewer entries threads cost more than they save.

@@ -43,7 +43,7 @@ pub trait Feed {
     ghost seen: { Self → FeedSeen };
 
     /// Puts the next bytes at the buffer's front and returns how many; what the buffer holds after
-    /// them is not said. Zero, where the buffer isn't empty, is the end. A failed call takes no
+    /// them is unspecified. Zero, if the buffer isn't empty, means the end. A failed call takes no
     /// byte.
     fn get(&mut self, buffer: &mut [u8]) -> Result<usize, Failed>
         requires { IsFalse (seen self.old).has_failed }

@@ -1,4 +1,4 @@
--- Why lists group no threads.
+-- Why lists aren't groups of a trace's threads.
 use Rattle.std.specs.Prelude.{◌≡◌, ◌<◌, ◌≤◌, ◌⊎◌, ℤ, not, List, [], ◌∷◌, ◌++◌, length, flat_map}
 use Rattle.std.specs.Prelude.{find, if◌then◌else◌, option_map, Option, Some, None}
 use Rattle.shard_queue.specs.Vocabulary.{Doubled, Firing, GroupFault, MOST_GROUPS, Missing}
@@ -10,7 +10,7 @@ use Rattle.shard_queue.specs.Groupings.{Grouping, grouping_by_lists}
 abbrev pub all_of : List (List ℤ) → List ℤ
 all_of lists = flat_map (λ list. list) lists
 
--- the first of some threads that did not fire, or that stood before
+-- the first of some threads that did not fire, or that came before
 abbrev pub first_wrong : (threads before : List ℤ) → List ℤ → Option GroupFault
 first_wrong threads before [] = None
 first_wrong threads before (t ∷ ts) =

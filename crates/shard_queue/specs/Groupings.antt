@@ -50,6 +50,6 @@ places_from test i [] = []
 places_from test i (t ∷ ts) =
     if test t then i ∷ places_from test (suc i) ts else places_from test (suc i) ts
 
--- the places of a group's firings, where a run has those of these threads
+-- the places of a group's firings in a run whose firings have these threads
 abbrev pub places_of : Grouping → ℕ → List ℤ → List ℕ
 places_of grouping g threads = places_from (λ t. is_group g (grouping.group t)) 0 threads

@@ -5,7 +5,7 @@ use Rattle.shard_queue.specs.declared.groups.Groups.{Groups}
 pub use Rattle.shard_queue.specs.Groupings.{places_from, places_of}
 use Rattle.shard_queue.specs.Groupings.{Grouping, with_own_group}
 
--- a thread of the trace has the number that stands at its place; thread 0 has the last
+-- a thread of the trace has the number at its place; thread 0 has the last
 abbrev pub grouping : Groups → Grouping
 grouping groups =
     with_own_group groups.own

@@ -10,7 +10,7 @@ hand end seats at_end drawn = record { end = end; seats = seats; at_end = at_end
 abbrev pub joint_hand : Hand → Hand → Hand
 joint_hand v w = hand w.end (v.seats + w.seats) (v.at_end + w.at_end) (v.drawn ++ w.drawn)
 
--- a seat is cut off
+-- a seat is split off
 abbrev pub one_less : Hand → Hand
 one_less v = hand v.end (v.seats - 1) v.at_end v.drawn
 

@@ -31,7 +31,7 @@ one_seat_more v =
 abbrev pub one_put : QueueView → QueueView
 one_put v = among v.seats (hand (v.hand.end + 1) v.hand.seats v.hand.at_end v.hand.drawn)
 
--- a seat is cut off
+-- a seat is split off
 abbrev pub one_off : QueueView → QueueView
 one_off v = among v.seats (one_less v.hand)
 

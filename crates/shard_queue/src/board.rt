@@ -1,5 +1,5 @@
-//! A board of two words. From the first each seat claims numbers; the second is the least number
-//! that a seat lowered.
+//! A board of two atomic words: how many claims were made, and the least number that a seat
+//! lowered.
 
 ghost use Rattle.std.specs.Prelude.{◌≡◌, ◌<◌, ◌≤◌, ◌-◌, [], map, All, vec_len, vec_capacity, IfOk};
 ghost use Rattle.shard_queue.specs.{BoardRule.view, Least.nothing_lowered};
@@ -97,7 +97,7 @@ impl ClaimBoard {
         Ok(seats)
     }
 
-    // Cuts a seat off the view that counts those that are left.
+    // Splits a seat off the view that counts the seats that are left.
     fn seat(&self, rest: &mut Seat<(), BoardView>, taken: Vec<u32>) -> ClaimSeat
         requires at { rest.old.table_id ≡ self.now.table.shared.table_id }
         requires view { let left = rest.old.me.0.hand.seats in

@@ -10,8 +10,8 @@ use firing_reader::Trace;
 use std::alloc::{AllocError, Global};
 
 impl Groups {
-    /// So many groups of the trace's threads, and after them one of thread 0: the i-th thread,
-    /// ascending, goes to group `i` modulo their number. Err where memory was refused.
+    /// Deals the trace's threads into this many groups, with one of thread 0 after them: the i-th
+    /// thread, ascending, goes to group `i` modulo their number. Err where memory was refused.
     ///
     /// ```text
     /// let groups = Groups::deal(alloc, &trace, 2)?; // of a trace whose threads are 9, 3, 9, 5

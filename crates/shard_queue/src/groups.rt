@@ -73,7 +73,7 @@ impl Groups {
         self.places[group as usize].as_slice()
     }
 
-    // The same, where the places of threads that were sought lately are cached.
+    // The same, with a cache of the places of threads that were sought lately.
     fn cached_group_of(&self, cache: &mut ThreadCache, thread: i32) -> Option<u32>
         ensures group { result ≡ (grouping self.now).group thread }
         ensures below { IfSome result (λ g. g < (grouping self.now).count) }

@@ -20,7 +20,7 @@ pub(crate) fn place_of(threads: &[i32], thread: i32) -> Option<usize>
     threads.binary_search(&thread).ok()
 }
 
-// The same, where the places of threads that were sought lately are cached.
+// The same, with a cache of the places of threads that were sought lately.
 pub(crate) fn cached_place_of(
     threads: &[i32],
     cache: &mut ThreadCache,

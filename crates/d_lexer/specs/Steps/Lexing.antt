@@ -12,7 +12,7 @@ abbrev pub is_closing : TokenKind → Bool
 is_closing (TokenKind.Mark Mark.ClosingSlash) = true
 is_closing t = false
 
--- the fault at which the reading ends, unless memory was refused
+-- the fault at which reading ends, unless memory was refused
 abbrev pub Stops : LexFault → TokensEnd → Type 0
 Stops fault end = (fault ≡ faults.Memory) ⊎ (end ≡ Bad fault)
 

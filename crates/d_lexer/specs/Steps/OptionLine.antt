@@ -39,7 +39,7 @@ ends_line (Some z) = is_trail z
 abbrev pub next_word : List ℕ → List ℕ → Option (List ℕ)
 next_word w z = found_then (after_spaces z) (after_option_word w)
 
--- what is left after several
+-- what is left after several words
 abbrev pub after_option_words : List (List ℕ) → List ℕ → Option (List ℕ)
 after_option_words [] z = Some z
 after_option_words (w ∷ ws) z = found_then (next_word w z) (after_option_words ws)
@@ -50,7 +50,7 @@ is_option own =
     ends_line (found_then (after_option_word (codes "#pragma") own)
     (after_option_words option_words))
 
--- what a search finds, seen without where it lies
+-- the bytes that a search finds
 abbrev pub FindsBytes : {X : Type 0} → (X → List ℕ) → Option X → Option (List ℕ) → Type 0
 FindsBytes view None o = o ≡ None
 FindsBytes view (Some x) o = o ≡ Some (view x)

@@ -129,7 +129,7 @@ module _ (down : Readers) where
       else Some (Read x.0 x.1, ts)
   follows_by follow k x ts = Some (Read x.0 x.1, ts)
 
-  -- what a target goes on as
+  -- what follows a target
   unfoldable pub follows : ℕ → Variable × Trees → Reader Tree
   follows k x ts = follows_by (follow_at ts) k x ts
 
@@ -196,7 +196,7 @@ module _ (down : Readers) where
       else Some (left, ts)
   climb_by follow k left ts = Some (left, ts)
 
-  -- the operators of level k or more, and what they join to the left part
+  -- the left part, joined by the operators of level k or above to what follows it
   unfoldable pub climb_on : ℕ → Tree → Reader Tree
   climb_on k left ts = climb_by (follow_at ts) k left ts
 

@@ -1,4 +1,4 @@
--- What fails for want of memory alone.
+-- Functions that fail only if memory runs out.
 use Rattle.std.specs.Prelude.{◌≡◌, Result, Ok, Err}
 use Rattle.d_types.specs.Vocabulary.{TypeFault}
 

@@ -57,7 +57,7 @@ abbrev pub shift_right : Bool → Operator
 shift_right true = Sra
 shift_right false = Srl
 
--- to the left until the type's highest bit is the word's, and back with copies of the sign or with
+-- shifted left until the type's highest bit is the word's, and back with copies of the sign or with
 -- zeros
 abbrev pub shifts : ℕ → Bool → Reg → Maker
 shifts count signed d =
@@ -144,7 +144,7 @@ saving Space.Clause keys x r a = one_instr (store_to Space.Clause x a)
 saving Space.Thread end x r a = one_instr (store_to Space.Thread x a)
 saving Space.Thread (more k ks) x r a = element_code (more k ks) r (Sttaa x a)
 
--- from after the keys to where they began
+-- moves a value from after the keys to where they began
 abbrev pub lowering : Typeds → Reg → Reg → Maker
 lowering end a d = nothing
 lowering (more k ks) a d = one_instr (Mov a d)

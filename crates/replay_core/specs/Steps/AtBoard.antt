@@ -14,8 +14,8 @@ pub record AreFinished {E : Type 0} (results : List (Result Part E)) (pieces : L
   pub all : pieces ≡ flat_map (λ p. p.0.items) parts
   pub seated : seats ≡ map (λ p. p.1) parts
 
--- each of the groups has one piece, and stands in one worker's list, and each piece is what its
--- group's firings make that count
+-- each of the groups has one piece and is in one worker's list, and each piece is what the group's
+-- firings that count make
 pub record IsRun (runs : ScriptMeant → Type 0) (groups : Groups) (trace : List Firing) (r : Round)
     : Type 0 where
   pub once : IsAllBelow (grouping groups).count (map (λ p. p.0) r.pieces.items)

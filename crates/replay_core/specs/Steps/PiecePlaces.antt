@@ -1,4 +1,4 @@
--- Which fault a list of pieces has, and where the pieces of a list without one stand.
+-- Which fault a list of pieces has, and the places of the pieces of a list without one.
 use Rattle.std.specs.Prelude.{◌≡◌, ℕ, ◌==◌, ◌+◌, Bool, true, false, List, [], ◌∷◌, Option, None}
 use Rattle.std.specs.Prelude.{Some, if◌then◌else◌, nat_lt, is_some, slice_index_or}
 use Rattle.replay_core.specs.declared.collect_fault.CollectFault.{CollectFault}
