@@ -1,6 +1,6 @@
 """Draws objects of DIF by chance: over half of them valid, the others with a fault or several.
 
-Most instructions are drawn until one has no fault where it stands. Then some are changed.
+Most instructions are drawn until one has no fault at its place. Then some are changed.
 """
 import random
 from functools import reduce
@@ -89,7 +89,7 @@ class Place(NamedTuple):
     returned: str
 
     def tries(self, chance):
-        """Instructions that may stand here, each name with several operands."""
+        """Instructions that may come here, each name with several operands."""
         for _ in range(NAMES_TRIED):
             name = "ret" if self.pc == self.length - 1 else any_name(chance)
             for _ in range(OPERANDS_TRIED):

@@ -8,8 +8,7 @@ MARK = re.compile(rb"^(==|--) .* \1\n", re.MULTILINE)
 # A byte of a part by its two digits, and the first byte of a line that looks like a mark.
 ESCAPE = re.compile(rb"\\x([0-9a-f]{2})")
 MARK_BEGINS = re.compile(rb"^([=-])(?=\1 .* \1\1$)", re.MULTILINE)
-# The parts of a case in the order in which a block has them, each with those in whose place it may
-# stand.
+# The parts of a case in the order in which a block has them, each with those that it may replace.
 PARTS = {
     "words": (),
     "script.d": (),
@@ -22,7 +21,7 @@ PARTS = {
     "stdout": (),
     "stderr": (),
 }
-# The parts that a script of sh may print: 'rows.sh' stands in the place of 'rows'.
+# The parts that a script of sh may print: 'rows.sh' takes the place of 'rows'.
 PRINTED = ("bundle", "script", "trace", "rows", "stdout")
 NAMES = {*PARTS, "status"} | {f"{name}.sh" for name in PRINTED}
 
@@ -37,7 +36,7 @@ def stem(name):
 
 
 def parts_of(text):
-    """The parts of a block by their names. What stands before the first is a remark."""
+    """The parts of a block by their names. What comes before the first is a remark."""
     _, *fields = PART.split(text)
     parts = {}
     for name, status, cut, part in zip(*[iter(fields)] * 4):

@@ -126,7 +126,7 @@ def indented(text):
 
 
 def example_of(name):
-    """Reads the example FOLDER/SCRIPT. What it has to answer over its folder's trace stands in
+    """Reads the example FOLDER/SCRIPT. What it has to answer over its folder's trace is in
     SCRIPT.expected. Its page, SCRIPT.md or the folder's README.md, has to show the script and the
     answer."""
     folder, path = os.path.dirname(f"{EXAMPLES}/{name}"), f"{EXAMPLES}/{name}"

@@ -104,7 +104,7 @@ def run_name(program, plan=()):
 
 
 def difference(part, has, wants):
-    """Says in one line where two texts differ: both whole if they are short, else what stands
+    """Says in one line where two texts differ: both whole if they are short, else what is
     around the first other byte."""
     if len(has) + len(wants) <= 240:
         return f"{part} is {has!r}, wanted {wants!r}"

@@ -10,7 +10,7 @@ from lib import harness
 
 
 def lines_of(names):
-    """The lines of crates.txt for the crates of these names and those that they stand on."""
+    """The lines of crates.txt for the crates of these names and those that they depend on."""
     with open(f"{harness.TOP}/crates.txt", encoding="utf-8") as file:
         lines = {re.match(r"\w*", line)[0]: line for line in file}
     found, left = {}, names.split()
@@ -23,7 +23,7 @@ def lines_of(names):
 
 
 def make_crates(room, runner, names, c_code):
-    """Puts the runner's crate, with its C code, and the sources of those that it stands on into a
+    """Puts the runner's crate, with its C code, and the sources of those that it depends on into a
     folder."""
     lines = lines_of(names)
     for name in lines:
@@ -40,7 +40,7 @@ def make_crates(room, runner, names, c_code):
 
 
 def run(runner, names, inputs, words=(), c_code=()):
-    """Runs a runner, which stands on the crates of these names, once for each input of the
+    """Runs a runner, which depends on the crates of these names, once for each input of the
     dictionary `inputs`, with more words for `rt try`. Returns for each input what it wrote and how
     it ended, and why it can't be run, or nothing."""
     with tempfile.TemporaryDirectory(prefix="runner-") as room:

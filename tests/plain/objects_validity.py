@@ -127,7 +127,7 @@ def faults_on_ways(it, known, returned):
 
 
 def takes(it, parts):
-    """Whether an instruction may stand where the tuple has these kinds."""
+    """Whether an instruction may come where the tuple has these kinds."""
     if it.name.startswith("pusht"):
         return len(parts) < MOST_PARTS
     if it.name in ("ldtaa", "sttaa"):

@@ -99,7 +99,7 @@ def near(script_lines, number):
 
 
 def with_mark(script_lines, at, number, token):
-    """A line of a script, and below it a mark where the refused token stands."""
+    """A line of a script, and below it a mark at the refused token."""
     text = script_lines[at - 1]
     yield f"{'>' if at == number else ' '} {at:4} | {shortened(text)}"
     if token and at == token.line and token.column <= MOST_SHOWN:

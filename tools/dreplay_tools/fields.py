@@ -45,7 +45,7 @@ def assigned(shown):
 
 
 def value_of(shown):
-    """A value without what stands between it and the next field."""
+    """A value without what comes between it and the next field."""
     shown = shown.strip()
     if shown.endswith("==>"):
         shown = shown[:-3].rstrip()

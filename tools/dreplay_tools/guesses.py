@@ -110,7 +110,7 @@ def of_trace_in_script(data, bundle):
     if bundle and data.lstrip().lower().startswith(b"number,"):
         return "this is a trace without a script: `dreplay -s SCRIPT < TRACE`"
     if bundle:
-        return "the trace stands in the script: a line `---` has to separate them"
+        return "the trace is in the script: a line `---` has to separate them"
     return "the file of -s has a trace in it: were script and trace exchanged?"
 
 
@@ -168,7 +168,7 @@ def of_header(data):
     if not first:
         return ["it is empty"]
     if first == "---":
-        return ["it begins with `---`: with -s the trace stands alone"]
+        return ["it begins with `---`: with -s the trace has no such line"]
     if first.lower().startswith("sep="):
         return ["the first line, `sep=`, is a spreadsheet's: leave it out"]
     for mark, name in ((";", "semicolons"), ("\t", "tabs"), ("|", "bars")):
@@ -205,7 +205,7 @@ def of_columns(names):
             + ", ".join(f"`{name}`" for name in others[:5])
             + ", which is no column of a trace"
         )
-    return said or ["a column stands twice in the header"]
+    return said or ["a column is in the header twice"]
 
 
 def of_recording(line):
@@ -244,7 +244,7 @@ def of_number(name, shown):
     if shown.lower().startswith("0x"):
         return "it is hexadecimal"
     if shown.startswith("+"):
-        return "no plus may stand in front"
+        return "no plus may be in front"
     if re.fullmatch(r"\d{1,3}([,.' _]\d{3})+", shown):
         return "it has separators of thousands"
     if re.fullmatch(r"-?\d+", shown):
@@ -259,7 +259,7 @@ def of_columns_of_row(fields, is_last):
     if is_last and len(fields) < len(COLUMNS):
         return ["it is the last row, and was cut"]
     if len(fields) > len(COLUMNS):
-        return ["a comma stands in a name: a field with one has to be in quotes"]
+        return ["a name has a comma: a field with one has to be in quotes"]
     return []
 
 
@@ -288,7 +288,7 @@ def records(data):
     """The rows of a trace without its header: for each the line of the file that it begins on, and
     its fields.
 
-    The fields are bytes that stand as letters.
+    The fields are bytes, each read as one letter.
     """
     csv.field_size_limit(2**31 - 1)
     rows = csv.reader(io.StringIO(data.decode("latin-1"), newline=""))

@@ -122,7 +122,7 @@ class Near:
         return self.tokens[at].kind if 0 <= at < len(self.tokens) else ""
 
     def is_near(self, offset):
-        """Whether no blank stands between the token and the next one."""
+        """Whether there is no blank between the token and the next one."""
         at = self.at + offset
         return at < len(self.tokens) and self.tokens[at].start == self.tokens[at - 1].end
 
@@ -166,16 +166,16 @@ def quote(near):
         (at for at in range(near.at + 1, len(near.tokens)) if near.tokens[at].text == "'"), None
     )
     if closing is None or near.token.line != near.tokens[closing].line:
-        return "texts stand in double quotes, and there are no character constants"
+        return "texts are in double quotes, and there are no character constants"
     inside = joined(near.tokens[near.at + 1 : closing])
-    return f'texts stand in double quotes: `"{inside}"`; of one character write the byte\'s number'
+    return f'texts are in double quotes: `"{inside}"`; of one character write the byte\'s number'
 
 
 def hash_mark(near):
     if near.text(1) in ("include", "define", "ifdef", "if", "endif", "undef"):
         return "there is no preprocessor: write the value itself"
     if near.text(1) == "pragma":
-        return "`#pragma D option quiet` stands before a clause, on a line of its own"
+        return "`#pragma D option quiet` is before a clause, on a line of its own"
     return "`#` begins no comment: write `/* .. */`"
 
 
@@ -189,7 +189,7 @@ def in_head(near):
     if near.text(0) in ("[", "]"):
         return "there are no brackets in descriptions: write `syscall::r*:entry, syscall::w*:entry`"
     if near.text(0) == near.text(-1) == "=" or near.text(0) in ("<", ">", "!", "&", "|"):
-        return "a predicate stands between slashes: `/ pid == 700 /`"
+        return "a predicate is between slashes: `/ pid == 700 /`"
     return None
 
 
@@ -248,7 +248,7 @@ def unquoted(near):
         and near.text(1) not in ("(", "->")
     ):
         if near.text(0) not in BUILTINS | {"self", "this"}:
-            yield f'a text stands in double quotes: `"{near.text(0)}"`'
+            yield f'a text is in double quotes: `"{near.text(0)}"`'
 
 
 def declarations(near):
@@ -315,7 +315,7 @@ def comments(near):
 
 def semicolons(near):
     if near.text(0) == ";" and near.text(-1) == "}" and near.token.place == HEAD:
-        yield "no semicolon stands after a clause"
+        yield "no semicolon follows a clause"
 
 
 def descriptions(near):
@@ -329,7 +329,7 @@ def descriptions(near):
     elif re.match(r"(?:tick|profile)-", shown):
         yield WORDS["interval"]
     elif re.match(r"(?:self|this)\W", shown) and near.text(1) != "{":
-        yield "statements stand between braces: `probe { statement; }`"
+        yield "statements are between braces: `probe { statement; }`"
 
 
 def formats(near):

@@ -36,7 +36,7 @@ class Chart:
     title: str
     what: str
     labels: list
-    right: list  # for each column of labels whether it stands right
+    right: list  # for each column of labels whether it is aligned right
     values: list
     shown: list
     unit: str

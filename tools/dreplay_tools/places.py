@@ -41,7 +41,7 @@ def is_faulty(token):
 
 
 def asked_again(refused, tokens):
-    """The place of the token that dreplay refuses when each stands on its own line."""
+    """The place of the token that dreplay refuses when each is on its own line."""
     found_program = program()
     if found_program is None or not tokens:
         return None

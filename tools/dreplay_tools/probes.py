@@ -29,7 +29,7 @@ NEVER = {
 
 
 def probes_of(file):
-    """How many rows of a trace each probe has; the file is read as bytes that stand as letters."""
+    """How many rows of a trace each probe has; each byte of the file is read as one letter."""
     text = io.TextIOWrapper(file, encoding="latin-1", newline="")
     text.readline()
     found, block = Counter(), text.readlines(1 << 24)

@@ -126,7 +126,7 @@ def group_end(some, place):
 
 
 def parts(some):
-    """What stands between the commas of a list of tokens, outside of brackets."""
+    """What is between the commas of a list of tokens, outside of brackets."""
     found, depth, begins = [], 0, 0
     for at, token in enumerate(some):
         depth += (token.text in OPENS) - (token.text in CLOSES)
@@ -228,7 +228,7 @@ def before_keys(some):
 
 
 def assignments(some):
-    """The plain assignments in an expression: the names, and what stands on their right."""
+    """The plain assignments in an expression: the names, and their right sides."""
     for at in range(len(some) - 2):
         after = target_end(some, at)
         if after > at and after < len(some) and some[after].text == "=":

@@ -33,8 +33,8 @@ ASSIGNING = {"=", "+=", "-=", "*=", "/=", "%=", "&=", "|=", "^=", "<<=", ">>="}
 
 @dataclass(frozen=True)
 class Token:
-    """A token: its kind, its bytes as they stand, where they stand, and the place of the grammar
-    that it is in.
+    """A token: its kind, its bytes as written, where they are, and the place of the grammar that
+    it is in.
     """
 
     kind: str  # run, word, aggregation, number, text, mark, bad or unclosed
@@ -184,7 +184,7 @@ def value(shown):
 
 
 def joined(some):
-    """The text of tokens that follow one another, with one space where blanks or comments stand."""
+    """The text of tokens that follow one another, with one space for blanks and comments."""
     parts, before = [], None
     for token in some:
         if before is not None and before.end != token.start:

@@ -101,7 +101,7 @@ class Rows:
 
 
 class Chunk:
-    """Some rows that stand together, and how many of them are open."""
+    """Some rows in succession, and how many of them are open."""
 
     __slots__ = ("rows", "open", "spilled")
 

@@ -19,7 +19,7 @@ use d_parser::{Constant, Expr};
 use d_values::DType;
 use std::alloc::Global;
 
-/// Expressions that are no parts of others.
+/// The typed trees of whole expressions, which are no parts of others.
 #[tactic(auto, using(crate::proofs::Rows::typeds_push))]
 pub(crate) fn wholes(
     alloc: Global,

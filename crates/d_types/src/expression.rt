@@ -58,7 +58,7 @@ fn constant_expr(alloc: Global, constant: &Constant) -> Result<TypedExpr, TypeFa
     }
 }
 
-/// The typed tree of a part.
+/// The typed tree of an expression, whole or part of another.
 #[cycle(typing)]
 pub(crate) fn expr(alloc: Global, table: &mut Vec<Entry>, e: &Expr) -> Result<TypedExpr, TypeFault>
     ensures { Gives (λ x. (typed_of x, rows_of_entries table.new.items)) result
@@ -355,7 +355,7 @@ pub(crate) fn exprs(
     Ok(done)
 }
 
-/// The typed tree of an expression that is no part of another.
+/// The typed tree of a whole expression, which is no part of another.
 pub(crate) fn whole(alloc: Global, table: &mut Vec<Entry>, e: &Expr) -> Result<TypedExpr, TypeFault>
     ensures { Gives (λ x. (typed_of x, rows_of_entries table.new.items)) result
         (spec.whole (rows_of_entries table.old.items) (tree_of e.now)) }

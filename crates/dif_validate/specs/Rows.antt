@@ -15,15 +15,16 @@ pub data Named : Type 0 where
   VariableAt : (v : ℕ) → Named
   ArrayAt : (v : ℕ) → Named
 
--- which tuple it takes: any, one with room for a part more, one that isn't empty, or a function's
+-- which tuple it takes: any, one with room for another part, one that isn't empty, or that of a
+-- function
 pub data TupleNeed : Type 0 where
   AnyTuple : TupleNeed
   WithRoom : TupleNeed
   Filled : TupleNeed
   TupleOf : (f : Function) → TupleNeed
 
--- the one thing that it changes: a register, which it gives a value of a kind or another's; the
--- comparison; the tuple, by a part more or to the empty one; a variable; or nothing
+-- the one thing that it changes: a register, which gets a value of this kind or another register's
+-- value; the comparison; the tuple, which gets one part more or is emptied; a variable; or nothing
 pub data Change : Type 0 where
   Puts : (kind : Kind) (d : Reg) → Change
   Copies : (a d : Reg) → Change
