@@ -24,7 +24,7 @@ pub enum ConsumeFault {
     /// The reader failed, or had not ended after 2^32 calls. Nothing was written.
     #[error("read failed")]
     Read,
-    /// There is no answer. Nothing was written.
+    /// There is no answer, and nothing was written.
     #[error("{0}")]
     Refused(Refusal),
     /// The writer failed. A beginning of the answer was written, or all of it where it failed as it

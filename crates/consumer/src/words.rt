@@ -187,7 +187,7 @@ fn with_default<'a>(option: Arg<'a>, default: &'a str) -> Arg<'a>
     option.default_value(default)
 }
 
-// The same, whose value is a number from 1 to `most`.
+// The same, with a value from 1 to `most`.
 fn with_numbers<'a>(option: Arg<'a>, most: u32) -> Arg<'a>
     ensures rule { rule_of result
         ≡ record (rule_of option.entry) { parser = Some (Signed (pos 1) (pos most)) } }
@@ -203,7 +203,7 @@ fn numbers_to<'a>(most: u32) -> ValueParser<'a>
     value_parser!(u32).range(1..=i64::from(most))
 }
 
-// The file of the option -s, where it was given.
+// The file of the option -s, if it was given.
 fn file_named(alloc: Global, matches: &ArgMatches<'_>) -> Result<Option<String>, AllocError>
     ensures { IfOk result (λ file. option_map string_bytes file
         ≡ file_in (rows_of (found_of matches.now))) }
@@ -251,7 +251,7 @@ fn no_engine(alloc: Global, help: Help) -> Result<UsageFault, AllocError>
     Ok(UsageFault::Usage(error))
 }
 
-// The number of an option, where it has one in these bounds.
+// The number that an option has, if it is in these bounds.
 fn number_named(matches: &ArgMatches<'_>, id: &str, low: u32, high: u32) -> Option<u32>
     ensures some { IfSome result (IsNumberIn low high (rows_of (found_of matches.now)) id.now) }
     ensures none { result ≡ None
@@ -265,7 +265,7 @@ fn number_named(matches: &ArgMatches<'_>, id: &str, low: u32, high: u32) -> Opti
     }
 }
 
-// The engine of the option -e, where there is one of that name.
+// The engine that the option -e names, if there is one.
 fn engine_named(matches: &ArgMatches<'_>) -> Option<EngineKind>
     ensures { result ≡ engine_in (rows_of (found_of matches.now)) }
 {

@@ -84,7 +84,7 @@ pub(crate) fn fit(kinds: &[Kind], keys: &[TypedExpr]) -> bool
     }
 }
 
-/// Whether a slot has such keys.
+/// Whether a slot has keys of these kinds.
 #[tactic(auto, using(crate::proofs::Tables::keys_fit_within, crate::proofs::Tables::keys_fit_past))]
 pub(crate) fn keys_fit(table: &[Entry], slot: usize, keys: &[TypedExpr]) -> bool
     ensures { result ≡ spec.keys_fit (rows_of_entries table.now) slot (typeds_of keys.now) }

@@ -41,7 +41,7 @@ impl<T> Faulty<T> {
         self.inner
     }
 
-    // Counts a call, which is interrupted where no good one is left.
+    // Counts a call, and interrupts it if no good one is left.
     fn begin(&mut self) -> io::Result<()>
         ensures counted { 0 < faulty_good_calls self.old → IsOk result
             × (faulty_good_calls self.new + 1 ≡ faulty_good_calls self.old) }
