@@ -9,7 +9,7 @@ abbrev pub up_to : Option (ℕ × ℕ) → List Firing → List Firing
 up_to None fs = fs
 up_to (Some exit) fs = filter (λ f. nat_le f.number exit.0) fs
 
--- BEGIN, the trace's firings up to the first of all that exits, END
+-- BEGIN, the trace's firings up to the first that exits, END
 abbrev pub firings_over : ScriptMeant → List Firing → List Firing
 firings_over m trace =
     with_ends trace (up_to (exit_of (history m (with_ends trace trace) blank_threads)) trace)
