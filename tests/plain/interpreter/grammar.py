@@ -62,7 +62,7 @@ class Parser:
         self.tokens, self.at = tokens, 0
 
     def refuse(self):
-        """Refuses the token here, which can't follow; at the end the line is that of the last one."""
+        """Refuses the token here; at the end of the tokens the line is that of the last one."""
         line = self.tokens[min(self.at, len(self.tokens) - 1)].line if self.tokens else 1
         raise Refused("Parse", SYNTAX, line=line)
 
