@@ -274,7 +274,7 @@ def of_usage(line):
             "a script on the command line is `dreplay -s <(echo 'SCRIPT') < TRACE`, in bash and zsh"
         ]
     if word in ("-V", "--version"):
-        return ["`dreplay-show --version` tells the version"]
+        return ["`dreplay-show --version` writes the version"]
     if word in ("-q", "-x", "-o", "-p", "-c", "-l", "-Z"):
         return [f"`{word}` is dtrace's: dreplay has `-s`, `-w`, `-g` and `-e`"]
     if word.startswith("--script"):

@@ -68,6 +68,6 @@ def add_machine(parser):
     parser.add_argument(
         "--machine",
         metavar="NAME",
-        help="the machine whose numbers of system calls raw_syscalls has, as 'uname -m' tells it "
+        help="the machine whose numbers of system calls raw_syscalls has, as 'uname -m' shows it "
         "(this one)",
     )
