@@ -30,7 +30,7 @@ static uint64_t after_bytes(uint64_t state, const char *bytes, size_t length) {
     return state;
 }
 
-// Whether a table of so many keys begins to look at one place, for one tag.
+// Whether a table of that many keys begins to look at one place, for one tag.
 static int is_chosen(uint64_t hash) {
     uint32_t folded = (uint32_t)(hash ^ hash >> 32);
     return !alike || (folded & mask) == (UINT32_C(0x2a000000) & mask);

@@ -7,8 +7,8 @@
 
 static volatile uint64_t *kept; // what a child told its parent
 
-// Whether this is the child, which may take so many seconds, or any time for 0. The parent goes on
-// when the child has ended, and ends where the child failed.
+// Whether this is the child, which may take this many seconds, or any time for 0. The parent goes
+// on when the child has ended, and ends where the child failed.
 int32_t is_child(uint32_t seconds)
 {
     if (!kept)

@@ -2,7 +2,7 @@
 // and standard error fail or are short, as the environment says. READ, WRITE and ERROR are for the
 // descriptors 0, 1 and 2. Each is three numbers: the most bytes that a call takes (0: all), which
 // call fails (0: none), and its errno (0: the call takes nothing). RANDOM is the same for calls of
-// getentropy. A call that failed is told by one byte on the descriptor REFUSED.
+// getentropy. For a call that failed it writes one byte on the descriptor REFUSED.
 #define _GNU_SOURCE
 #include <dlfcn.h>
 #include <errno.h>
