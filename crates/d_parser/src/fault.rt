@@ -15,7 +15,7 @@ pub enum ParseFault {
     #[error("line {line}: not a D script")]
     Syntax { line: usize },
     /// More than 64 brackets open at once, or more than 1,024 tokens without `;`, `{` or `}`.
-    #[error("more than {brackets} open brackets, or {tokens} tokens in a row", brackets = MOST_OPEN, tokens = MOST_IN_A_ROW)]
+    #[error("more than {MOST_OPEN} open brackets, or {MOST_IN_A_ROW} tokens in a row")]
     TooDeep,
     /// More than 256 `{`.
     #[error("more than {most} clauses", most = MOST_CLAUSES)]
