@@ -7,7 +7,7 @@ import sys
 
 HERE = os.path.dirname(os.path.abspath(__file__))
 PROGRAM = f"{HERE}/../crates/dreplay/out/dreplay"
-QUESTIONS = ["counts", "latency", "heavy", "dense"]
+QUESTIONS = ["reading", "counts", "latency", "heavy", "dense"]
 
 
 def stop_without(tools, program):

@@ -2,7 +2,7 @@
 //! alone, the trace held whole, each row checked as dreplay checks it, but for quotes and carriage
 //! returns, which it doesn't read. It prints the lines that mawk prints.
 //!
-//! usage: by_hand counts|latency|heavy|dense < TRACE
+//! usage: by_hand reading|counts|latency|heavy|dense < TRACE
 use std::collections::HashMap;
 use std::error::Error;
 use std::io::{self, BufWriter, Read, Write};
@@ -287,11 +287,12 @@ fn main() -> Result<(), Box<dyn Error>> {
     let firings = firings(&trace)?;
     let mut out = BufWriter::new(io::stdout().lock());
     match std::env::args().nth(1).as_deref() {
+        Some("reading") => writeln!(out, "end 1")?,
         Some("counts") => counts(&firings, &mut out)?,
         Some("latency") => latency(&firings, &mut out)?,
         Some("heavy") => heavy(&firings, &mut out)?,
         Some("dense") => dense(&firings, &mut out)?,
-        _ => return Err("usage: by_hand counts|latency|heavy|dense < TRACE".into()),
+        _ => return Err("usage: by_hand reading|counts|latency|heavy|dense < TRACE".into()),
     }
     Ok(out.flush()?)
 }
