@@ -22,5 +22,6 @@ pub mod PlainArguments
 pub mod RowParts
 pub mod BlockSteps
 pub mod SharedRows
+pub mod SameUnits
 pub mod Probing
 pub mod Written

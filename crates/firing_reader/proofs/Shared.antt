@@ -228,7 +228,7 @@ probe_read key rest bytes p h is = record {
   unreserved = h.unreserved;
 }
 
-probe_met : (ps : List Probe) (ks : List (List ℕ × ℕ)) (key : List ℕ) (i : ℕ) → All (IsProbeKey ps) ks → Contains ks (key, i) → (p : Probe) × (slice_get ps i ≡ Some p) × ReadsProbe key [] p
+pub probe_met : (ps : List Probe) (ks : List (List ℕ × ℕ)) (key : List ℕ) (i : ℕ) → All (IsProbeKey ps) ks → Contains ks (key, i) → (p : Probe) × (slice_get ps i ≡ Some p) × ReadsProbe key [] p
 probe_met ps ks key i all met =
     let k = All-contains (IsProbeKey ps) ks (key, i) all met in
     (k.probe, k.there, k.reads)

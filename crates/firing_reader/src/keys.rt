@@ -118,6 +118,19 @@ impl Keys {
         None
     }
 
+    /// Bytes that have this place. They are looked for at this place among the known ones, and found
+    /// as long as each place came with bytes of its own.
+    pub(crate) fn bytes_at(&self, place: u32) -> Option<&[u8]>
+        ensures { IfSome result (λ key. Contains self.now (key.now, place)) }
+    {
+        let known = self.known.get(place as usize)?;
+        if known.place != place {
+            return None;
+        }
+        let begin = known.begin as usize;
+        Some(&self.bytes[begin..begin + known.count as usize])
+    }
+
     /// Keeps bytes with a place. Where memory is refused nothing is kept.
     pub(crate) fn keep(&mut self, key: &[u8], place: u32) -> Option<()>
         ensures { MatchOption result (self.new ≡ self.old)

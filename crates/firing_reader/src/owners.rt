@@ -149,6 +149,28 @@ impl Owners {
         Some((place, rest))
     }
 
+    // Bytes that were met of the owner at a place.
+    fn bytes_at(&self, place: u32) -> Option<&[u8]>
+        ensures { IfSome result (λ key. (owner : Owner)
+            × (slice_get self.now place ≡ Some owner) × ReadsOwner key.now [] owner) }
+    {
+        self.keys.bytes_at(place)
+    }
+
+    // The place of an owner of others, who is kept where they weren't. The bytes that were met of
+    // them, if any, are looked up as a whole.
+    fn place_of_other(&mut self, others: &Owners, at: u32) -> Option<u32>
+        requires { at < length others.now }
+        ensures grows { Extends self.old self.new }
+        ensures place { IfSome result (λ p. slice_get self.new p ≡ slice_get others.now at) }
+    {
+        if let Some(key) = others.bytes_at(at) {
+            return self.unit(key);
+        }
+        let owner = others.at(at);
+        self.keep(owner.thread, owner.pid, &owner.execname)
+    }
+
     /// The places of others' owners, which are kept where they weren't.
     pub(crate) fn places_of(&mut self, alloc: Global, others: &Owners) -> Option<Vec<u32>>
         ensures grows { Extends self.old self.new }
@@ -157,10 +179,7 @@ impl Owners {
         let mut places = Vec::new(alloc);
         for place in 0..others.len() {
             let at = u32_of(place)?;
-            let owner = others.at(at);
-            places
-                .push(self.keep(owner.thread, owner.pid, &owner.execname)?)
-                .ok()?;
+            places.push(self.place_of_other(others, at)?).ok()?;
         }
         Some(places)
     }

@@ -15,7 +15,7 @@ use keyed_hash::HashKey;
 use std::alloc::Global;
 use std::thread::{Threads, join_mut};
 
-/// Those who read pieces.
+/// The workers that read pieces.
 #[derive(Drop)]
 pub(crate) struct Workers<'a, R> {
     pub(crate) rt: &'a R,
@@ -35,7 +35,7 @@ fn read_piece(alloc: Global, hash_key: HashKey, bytes: &[u8]) -> Option<(Firings
     Some((firings, bytes.len() - rest.len()))
 }
 
-// The same where the firings before it are at hand.
+// Reads a piece after the firings before it. It returns how many bytes come before what is left.
 fn read_alone(firings: &mut Firings, bytes: &[u8]) -> usize
     requires feed { BeginsAtFeed bytes.now }
     requires few { length firings.old ≤ MOST_ROWS }
@@ -71,8 +71,8 @@ fn goes_after(first: &Firings, second: &Firings) -> bool
     second.len() == 0 || first.last_number() < second.get(0).number
 }
 
-/// Reads the rows after a line feed by so many workers, as long as they are plain: how many bytes
-/// come before what is left. It returns None where memory is refused.
+/// Reads the rows after a line feed by `count` workers, as long as they are plain. It returns how
+/// many bytes come before what is left, or None where memory is refused.
 #[cycle(shared)]
 pub(crate) fn read_shared<R: Threads>(
     workers: &Workers<R>,
@@ -103,7 +103,7 @@ pub(crate) fn read_shared<R: Threads>(
     Some(passed + more)
 }
 
-// The last piece, which one worker reads, while the others read those before it.
+// Reads the last piece by one worker, while the others read those before it.
 #[cycle(shared)]
 fn read_both<R: Threads>(
     workers: &Workers<R>,

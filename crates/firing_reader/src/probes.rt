@@ -157,6 +157,33 @@ impl Probes {
         Some((place, rest))
     }
 
+    // Bytes that were met of the probe at a place.
+    fn bytes_at(&self, place: u32) -> Option<&[u8]>
+        ensures { IfSome result (λ key. (probe : Probe)
+            × (slice_get self.now place ≡ Some probe) × ReadsProbe key.now [] probe) }
+    {
+        self.keys.bytes_at(place)
+    }
+
+    // The place of a probe of others, which is kept where it wasn't. The bytes that were met of it,
+    // if any, are looked up as a whole.
+    fn place_of_other(&mut self, others: &Probes, at: u32) -> Option<u32>
+        requires { at < length others.now }
+        ensures grows { Extends self.old self.new }
+        ensures place { IfSome result (λ p. slice_get self.new p ≡ slice_get others.now at) }
+    {
+        if let Some(key) = others.bytes_at(at) {
+            return self.unit(key);
+        }
+        let probe = others.at(at);
+        self.keep(
+            &probe.provider,
+            &probe.probemod,
+            &probe.probefunc,
+            &probe.name,
+        )
+    }
+
     /// The places of others' probes, which are kept where they weren't.
     pub(crate) fn places_of(&mut self, alloc: Global, others: &Probes) -> Option<Vec<u32>>
         ensures grows { Extends self.old self.new }
@@ -165,15 +192,7 @@ impl Probes {
         let mut places = Vec::new(alloc);
         for place in 0..others.len() {
             let at = u32_of(place)?;
-            let probe = others.at(at);
-            places
-                .push(self.keep(
-                    &probe.provider,
-                    &probe.probemod,
-                    &probe.probefunc,
-                    &probe.name,
-                )?)
-                .ok()?;
+            places.push(self.place_of_other(others, at)?).ok()?;
         }
         Some(places)
     }

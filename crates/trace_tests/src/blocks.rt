@@ -9,7 +9,7 @@ use std::alloc::{AllocError, Global};
 use std::test::Fail;
 use std::thread::Threads;
 
-// Reads a trace that comes in these blocks by so many workers.
+// Reads a trace that comes in these blocks by this number of workers.
 fn in_blocks_by<R: Threads>(
     rt: &R,
     alloc: Global,
@@ -24,7 +24,7 @@ fn in_blocks_by<R: Threads>(
     reader.finish(rt)
 }
 
-// The same by one.
+// Reads it by one worker.
 fn in_blocks<R: Threads>(
     rt: &R,
     alloc: Global,
