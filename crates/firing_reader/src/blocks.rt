@@ -13,7 +13,7 @@ ghost use Rattle.firing_reader.specs.declared.blocks.Stage.TheVariants.{Refused}
 use crate::fault::TraceFault;
 use crate::firings::Firings;
 use crate::header::{HEADER, MARK, after_header, after_mark};
-use crate::pieces::{Workers, read_shared};
+use crate::pieces::{Context, pieces_for, read_shared};
 use crate::plain::front::rest_after;
 use crate::plain::read_plain;
 use crate::reading::{read_by_csv, read_records, read_rest, read_whole};
@@ -41,9 +41,10 @@ enum Stage {
 pub struct Reader {
     alloc: Global,
     hash_key: HashKey,
-    workers: u32,
     stage: Stage,
     firings: Firings,
+    // For the pieces of the rows that several workers read.
+    pieces: Vec<Firings>,
     // What is not read yet. Rows begin at the line feed before the first of them.
     left: Vec<u8>,
     // How many bytes there are at least before some are read.
@@ -76,12 +77,13 @@ impl Reader {
         ensures { IfOk result (λ r. (rest : List ℕ) → reads r rest ≡ trace_of rest) }
     {
         let firings = Firings::new(alloc, hash_key)?;
+        let pieces = pieces_for(alloc, hash_key, workers)?;
         Ok(Reader {
             alloc,
             hash_key,
-            workers,
             stage: Stage::Header,
             firings,
+            pieces,
             left: Vec::new(alloc),
             least,
             enough: least,
@@ -125,19 +127,18 @@ impl Reader {
         let Reader {
             alloc,
             hash_key,
-            workers: count,
             stage,
             mut firings,
+            mut pieces,
             mut left,
             ..
         } = self;
-        let workers = Workers {
+        let context = Context {
             rt,
             alloc,
             hash_key,
-            count,
         };
-        match advance(&workers, stage, &mut firings, &mut left)? {
+        match advance(&context, &mut pieces, stage, &mut firings, &mut left)? {
             Stage::Header => read_whole(alloc, &mut firings, &left)?,
             Stage::Rows => read_rest(alloc, &mut firings, &left)?,
             Stage::Refused(fault) => return Err(fault),
@@ -150,13 +151,18 @@ impl Reader {
         ensures taken { OnOk result ((rest : List ℕ) → reads self.new rest ≡ reads self.old rest) }
         ensures refused { OnErr result (self.new.stage ≡ Refused Memory) }
     {
-        let workers = Workers {
+        let context = Context {
             rt,
             alloc: self.alloc,
             hash_key: self.hash_key,
-            count: self.workers,
         };
-        match advance(&workers, self.stage, &mut self.firings, &mut self.left) {
+        match advance(
+            &context,
+            &mut self.pieces,
+            self.stage,
+            &mut self.firings,
+            &mut self.left,
+        ) {
             Ok(stage) => {
                 self.stage = stage;
                 self.enough = self.least.max(self.left.len().saturating_mul(2));
@@ -236,7 +242,8 @@ fn read_rows(alloc: Global, firings: &mut Firings, left: &mut Vec<u8>) -> Result
 
 // Reads plain rows by several workers. It returns None where memory is refused.
 fn read_front<R: Threads>(
-    workers: &Workers<R>,
+    context: &Context<R>,
+    pieces: &mut [Firings],
     firings: &mut Firings,
     left: &mut Vec<u8>,
 ) -> Option<()>
@@ -246,17 +253,18 @@ fn read_front<R: Threads>(
         (λ _. GoesOn firings.old left.old.items firings.new left.new.items) }
     ensures feed { IfSome result (λ _. BeginsAtFeed left.new.items) }
 {
-    if workers.count < 2 {
+    if pieces.is_empty() {
         return Some(());
     }
-    let passed = read_shared(workers, workers.count, firings, left)?;
+    let passed = read_shared(context, pieces, firings, left)?;
     keep_from(left, passed);
     Some(())
 }
 
 // Reads the rows that are whole, and plain ones by all workers.
 fn read_rows_by<R: Threads>(
-    workers: &Workers<R>,
+    context: &Context<R>,
+    pieces: &mut [Firings],
     firings: &mut Firings,
     left: &mut Vec<u8>,
 ) -> Result<(), TraceFault>
@@ -267,15 +275,16 @@ fn read_rows_by<R: Threads>(
     ensures fault { IfErr result (λ e.
         IsFaultOf e (λ tail. rows_in firings.old (left.old.items ++ tail))) }
 {
-    let Some(()) = read_front(workers, firings, left) else {
+    let Some(()) = read_front(context, pieces, firings, left) else {
         return Err(TraceFault::Memory);
     };
-    read_rows(workers.alloc, firings, left)
+    read_rows(context.alloc, firings, left)
 }
 
 // Reads what is whole, and returns what is to be read next.
 fn advance<R: Threads>(
-    workers: &Workers<R>,
+    context: &Context<R>,
+    pieces: &mut [Firings],
     stage: Stage,
     firings: &mut Firings,
     left: &mut Vec<u8>,
@@ -290,14 +299,14 @@ fn advance<R: Threads>(
 {
     match stage {
         Stage::Header => {
-            if !read_header(workers.alloc, firings, left)? {
+            if !read_header(context.alloc, firings, left)? {
                 return Ok(stage);
             }
-            read_rows_by(workers, firings, left)?;
+            read_rows_by(context, pieces, firings, left)?;
             Ok(Stage::Rows)
         }
         Stage::Rows => {
-            read_rows_by(workers, firings, left)?;
+            read_rows_by(context, pieces, firings, left)?;
             Ok(stage)
         }
         Stage::Refused(_) => Ok(stage),

@@ -57,6 +57,19 @@ impl Firings {
         })
     }
 
+    /// Forgets all firings. Owners and probes stay, as others are likely to have the same.
+    pub(crate) fn clear(&mut self)
+        ensures { self.new ≡ [] }
+    {
+        self.rows.clear();
+        self.args.clear();
+    }
+
+    /// How many owners and probes are kept.
+    pub(crate) fn unit_count(&self) -> usize {
+        self.owners.len().saturating_add(self.probes.len())
+    }
+
     /// How many there are.
     ///
     /// ```text

@@ -1,7 +1,7 @@
 //! Reading plain rows by several workers: each reads a piece of the bytes, and two pieces share the
 //! line feed between them.
 
-ghost use Rattle.std.specs.Prelude.{◌≡◌, ◌≤◌, true, IfSome, Ok, length};
+ghost use Rattle.std.specs.Prelude.{◌≡◌, ◌≤◌, [], true, IfSome, OnOk, Ok, length};
 ghost use Rattle.firing_reader.specs.Blocks.{BeginsAtFeed};
 ghost use Rattle.firing_reader.specs.Steps.Plain.{AreCut, GoesAfter, IsPiece, PassesRows, Rises};
 ghost use Rattle.firing_reader.specs.Trace.{last_number, trace_of};
@@ -12,27 +12,53 @@ use crate::plain::front::after_feed;
 use crate::plain::read_plain;
 use crate::reading::MOST_ROWS;
 use keyed_hash::HashKey;
-use std::alloc::Global;
+use std::alloc::{AllocError, Global};
 use std::thread::{Threads, join_mut};
 
-/// The workers that read pieces.
+// A piece that has more owners and probes than this isn't used again.
+const MOST_KEPT: usize = 1024;
+
+/// Where the threads and the memory of a reading come from.
 #[derive(Drop)]
-pub(crate) struct Workers<'a, R> {
+pub(crate) struct Context<'a, R> {
     pub(crate) rt: &'a R,
     pub(crate) alloc: Global,
     pub(crate) hash_key: HashKey,
-    /// How many there are.
-    pub(crate) count: u32,
 }
 
-// The firings of a piece, apart from those before it, and how many bytes come before what is left.
-fn read_piece(alloc: Global, hash_key: HashKey, bytes: &[u8]) -> Option<(Firings, usize)>
-    requires { BeginsAtFeed bytes.now }
-    ensures { IfSome result (λ p. IsPiece bytes.now p.0 p.1) }
+/// Pieces without firings for this many workers. The first of them needs none.
+pub(crate) fn pieces_for(
+    alloc: Global,
+    hash_key: HashKey,
+    workers: u32,
+) -> Result<Vec<Firings>, AllocError> {
+    let mut pieces = Vec::new(alloc);
+    for _ in 1..workers {
+        pieces.push(Firings::new(alloc, hash_key)?)?;
+    }
+    Ok(pieces)
+}
+
+// Empties a piece, so that its room is used again.
+fn empty(alloc: Global, hash_key: HashKey, piece: &mut Firings) -> Result<(), AllocError>
+    ensures { OnOk result (piece.new ≡ []) }
 {
-    let mut firings = Firings::new(alloc, hash_key).ok()?;
-    let rest = read_plain(&mut firings, bytes);
-    Some((firings, bytes.len() - rest.len()))
+    if piece.unit_count() > MOST_KEPT {
+        *piece = Firings::new(alloc, hash_key)?;
+    }
+    piece.clear();
+    Ok(())
+}
+
+// Reads a piece apart from the firings before it. It returns how many bytes come before what is
+// left.
+fn read_piece(alloc: Global, hash_key: HashKey, piece: &mut Firings, bytes: &[u8]) -> Option<usize>
+    requires { BeginsAtFeed bytes.now }
+    ensures { IfSome result (IsPiece bytes.now piece.new) }
+{
+    empty(alloc, hash_key, piece).ok()?;
+    let rest = read_plain(piece, bytes);
+    Some(bytes.len() - rest.len())
 }
 
 // Reads a piece after the firings before it. It returns how many bytes come before what is left.
@@ -45,15 +71,25 @@ fn read_alone(firings: &mut Firings, bytes: &[u8]) -> usize
     bytes.len() - rest.len()
 }
 
-// Two pieces that share the first line feed from a place on.
-fn cut_at_feed(bytes: &[u8], from: usize) -> Option<(&[u8], &[u8])>
-    ensures { IfSome result (λ p. AreCut bytes.now p.0.now p.1.now) }
+// Bytes cut in two, which share a line feed.
+#[derive(Clone, Copy)]
+struct Cut<'a> {
+    front: &'a [u8],
+    last: &'a [u8],
+}
+
+// Cuts bytes at the first line feed from a place on.
+fn cut_at_feed(bytes: &[u8], from: usize) -> Option<Cut<'_>>
+    ensures { IfSome result (λ cut. AreCut bytes.now cut.front.now cut.last.now) }
 {
     for at in from..bytes.len() {
         if bytes[at] == b'\n' {
             let front = &bytes[..at + 1];
             after_feed(front)?;
-            return Some((front, &bytes[at..]));
+            return Some(Cut {
+                front,
+                last: &bytes[at..],
+            });
         }
     }
     None
@@ -71,12 +107,12 @@ fn goes_after(first: &Firings, second: &Firings) -> bool
     second.len() == 0 || first.last_number() < second.get(0).number
 }
 
-/// Reads the rows after a line feed by `count` workers, as long as they are plain. It returns how
-/// many bytes come before what is left, or None where memory is refused.
+/// Reads the rows after a line feed, as long as they are plain, by one worker more than there are
+/// pieces. It returns how many bytes come before what is left, or None where memory is refused.
 #[cycle(shared)]
 pub(crate) fn read_shared<R: Threads>(
-    workers: &Workers<R>,
-    count: u32,
+    context: &Context<R>,
+    pieces: &mut [Firings],
     firings: &mut Firings,
     bytes: &[u8],
 ) -> Option<usize>
@@ -84,62 +120,68 @@ pub(crate) fn read_shared<R: Threads>(
     requires few { length firings.old ≤ MOST_ROWS }
     ensures { IfSome result (PassesRows firings.old bytes.now firings.new) }
 {
-    if count < 2 {
-        return Some(read_alone(firings, bytes));
-    }
-    let share = bytes.len() / count as usize;
-    let Some((front, last)) = cut_at_feed(bytes, bytes.len() - share) else {
+    let share = bytes.len() / (pieces.len() + 1);
+    let Some((piece, others)) = pieces.split_last_mut() else {
         return Some(read_alone(firings, bytes));
     };
-    let (piece, passed) = read_both(workers, count - 1, firings, front, last);
+    let Some(cut) = cut_at_feed(bytes, bytes.len() - share) else {
+        return Some(read_alone(firings, bytes));
+    };
+    let (more, passed) = read_both(context, others, piece, firings, cut);
     let passed = passed?;
-    let Some((piece, more)) = piece else {
+    let Some(more) = more else {
         return Some(passed);
     };
-    if passed + 1 != front.len() || !goes_after(firings, &piece) {
+    if passed + 1 != cut.front.len() || !goes_after(firings, piece) {
         return Some(passed);
     }
-    firings.append(&piece)?;
+    firings.append(piece)?;
     Some(passed + more)
 }
 
 // Reads the last piece by one worker, while the others read those before it.
 #[cycle(shared)]
 fn read_both<R: Threads>(
-    workers: &Workers<R>,
-    others: u32,
+    context: &Context<R>,
+    others: &mut [Firings],
+    piece: &mut Firings,
     firings: &mut Firings,
-    front: &[u8],
-    last: &[u8],
-) -> (Option<(Firings, usize)>, Option<usize>)
-    requires front { BeginsAtFeed front.now }
-    requires last { BeginsAtFeed last.now }
+    cut: Cut<'_>,
+) -> (Option<usize>, Option<usize>)
+    requires front { BeginsAtFeed cut.front.now }
+    requires last { BeginsAtFeed cut.last.now }
     requires few { length firings.old ≤ MOST_ROWS }
-    ensures piece { IfSome result.0 (λ p. IsPiece last.now p.0 p.1) }
-    ensures front { IfSome result.1 (PassesRows firings.old front.now firings.new) }
+    ensures piece { IfSome result.0 (IsPiece cut.entry.last.now piece.new) }
+    ensures front { IfSome result.1 (PassesRows firings.old cut.entry.front.now firings.new) }
 {
-    let (alloc, hash_key) = (workers.alloc, workers.hash_key);
+    let (alloc, hash_key) = (context.alloc, context.hash_key);
+    let Cut { front, last } = cut;
     join_mut(
-        workers.rt,
-        &mut || -> Option<(Firings, usize)>
+        context.rt,
+        &mut || -> Option<usize>
             requires { BeginsAtFeed last.now }
-            ensures { IfSome result (λ p. IsPiece last.entry.now p.0 p.1) }
-        { read_piece(alloc, hash_key, last) },
+            ensures { IfSome result (IsPiece last.entry.now piece.exit.now) }
+        { read_piece(alloc, hash_key, piece, last) },
         &mut || -> Option<usize>
             requires { BeginsAtFeed front.now × (length firings.now ≤ MOST_ROWS) }
             ensures { IfSome result
                 (PassesRows firings.entry.now front.entry.now firings.exit.now) }
-        { read_shared(workers, others, firings, front) },
+        { read_shared(context, others, firings, front) },
     )
 }
 
-// The firings of a trace that is nothing but a header and plain rows, read by several workers.
-pub(crate) fn read_plain_trace<R: Threads>(workers: &Workers<R>, bytes: &[u8]) -> Option<Firings>
+// The firings of a trace that is nothing but a header and plain rows, read by this many workers.
+pub(crate) fn read_plain_trace<R: Threads>(
+    context: &Context<R>,
+    count: u32,
+    bytes: &[u8],
+) -> Option<Firings>
     ensures { IfSome result (λ fs. trace_of bytes.now ≡ Ok fs) }
 {
     let rows = after_header(bytes)?;
-    let mut firings = Firings::new(workers.alloc, workers.hash_key).ok()?;
-    let passed = read_shared(workers, workers.count, &mut firings, rows)?;
+    let mut pieces = pieces_for(context.alloc, context.hash_key, count).ok()?;
+    let mut firings = Firings::new(context.alloc, context.hash_key).ok()?;
+    let passed = read_shared(context, &mut pieces, &mut firings, rows)?;
     if passed + 1 != rows.len() {
         return None;
     }

@@ -7,5 +7,5 @@ returns c =
     let (after, is) = c.read_plain-rest.ensures.feed in
     let bytes = c.args.bytes.now in
     let rest = c.read_plain-rest.result.now in
-    let none : c.in_ok-firings.firings ≡ [] = search rules in
-    piece_alone c.in_ok-firings.firings bytes c.read_plain-rest.new.firings rest after (length bytes - length rest) none c.read_plain-rest.ensures.left is refl c.read_plain-rest.ensures.rows
+    let none : c.empty.new.piece ≡ [] = search rules in
+    piece_alone c.empty.new.piece bytes c.read_plain-rest.new.firings rest after (length bytes - length rest) none c.read_plain-rest.ensures.left is refl c.read_plain-rest.ensures.rows
