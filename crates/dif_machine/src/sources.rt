@@ -41,10 +41,7 @@ pub(crate) fn built_in<'a>(firing: &'a Firing, v: u8) -> Option<ValueRef<'a>>
 pub(crate) fn argument(firing: &Firing, n: u64) -> u64
     ensures { result ≡ spec.argument_of firing.now n }
 {
-    match firing.args.get(n as usize) {
-        Some(argument) => argument.cast_unsigned(),
-        None => 0,
-    }
+    firing.args.nth(n as usize).cast_unsigned()
 }
 
 /// A copy of what is borrowed.

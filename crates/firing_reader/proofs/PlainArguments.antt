@@ -9,7 +9,8 @@ use Rattle.firing_reader.specs.declared.stored_row.Given.{Given}
 use Rattle.firing_reader.specs.Column.{signed_of}
 use Rattle.firing_reader.specs.Plain.{Passes}
 use Rattle.firing_reader.specs.Steps.Plain.{Closes, JoinsField, ReadsArguments}
-use Rattle.firing_reader.specs.Stored.{count_of, first_of, given_in, ten}
+use Rattle.firing_reader.specs.Arguments.{ten}
+use Rattle.firing_reader.specs.Stored.{count_of, first_of, given_in}
 use Rattle.firing_reader.proofs.PlainFields.{one_joins, one_signed}
 use Rattle.firing_reader.proofs.PlainRows.{closes_more, closes_one, passes_more, passes_one}
 use Rattle.firing_reader.proofs.Stored.{part_kept, ten_same}

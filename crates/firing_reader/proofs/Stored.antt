@@ -13,7 +13,8 @@ use Rattle.firing_reader.specs.declared.stored_row.Row.{Row}
 use Rattle.firing_reader.specs.declared.unit.Owner.{Owner}
 use Rattle.firing_reader.specs.declared.unit.Probe.{Probe}
 use Rattle.firing_reader.specs.Stored.{Extends, IsRowIn, count_of, firing_in, first_of, no_owner}
-use Rattle.firing_reader.specs.Stored.{no_probe, ten}
+use Rattle.firing_reader.specs.Stored.{no_probe}
+use Rattle.firing_reader.specs.Arguments.{ten}
 
 pub extends_same : {X : Type 0} (xs : List X) → Extends xs xs
 extends_same xs = ([], sym (append-nil xs))

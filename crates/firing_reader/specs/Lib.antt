@@ -1,6 +1,7 @@
 pub mod Vocabulary
 pub mod Gives
 pub mod Column
+pub mod Arguments
 pub mod Row
 pub mod Left
 pub mod Firings

@@ -1,7 +1,8 @@
 -- Firings as a trace stores them: rows of small fixed size, and apart from them what rows share and
 -- their arguments.
-use Rattle.std.specs.Prelude.{◌≡◌, ◌<◌, ◌≤◌, ◌+◌, ◌/◌, ◌%◌, ℕ, ℤ, pos, List, [], ◌∷◌, ◌++◌, Some}
+use Rattle.std.specs.Prelude.{◌≡◌, ◌<◌, ◌≤◌, ◌+◌, ◌/◌, ◌%◌, ℕ, ℤ, pos, List, [], ◌++◌, Some}
 use Rattle.std.specs.Prelude.{length, get_or, slice_get, map, take, drop}
+use Rattle.firing_reader.specs.Arguments.{ten}
 use Rattle.firing_reader.specs.declared.firing.Firing.{Firing}
 use Rattle.firing_reader.specs.declared.stored_row.Given.{Given}
 use Rattle.firing_reader.specs.declared.stored_row.Row.{Row}
@@ -11,12 +12,6 @@ use Rattle.firing_reader.specs.declared.unit.Probe.{Probe}
 -- a list that goes on where another ends
 abbrev pub Extends : {X : Type 0} → List X → List X → Type 0
 Extends {X} old new = (more : List X) × (new ≡ old ++ more)
-
--- ten numbers: the first of these, and zeros after them
-abbrev pub ten : List ℤ → List ℤ
-ten xs = get_or xs 0 (pos 0) ∷ get_or xs 1 (pos 0) ∷ get_or xs 2 (pos 0) ∷ get_or xs 3 (pos 0)
-    ∷ get_or xs 4 (pos 0) ∷ get_or xs 5 (pos 0) ∷ get_or xs 6 (pos 0) ∷ get_or xs 7 (pos 0)
-    ∷ get_or xs 8 (pos 0) ∷ get_or xs 9 (pos 0) ∷ []
 
 -- where a row's own arguments begin among those of all, and how many they are
 abbrev pub first_of : Given → ℕ

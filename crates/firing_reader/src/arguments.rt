@@ -2,15 +2,17 @@
 
 ghost use Rattle.std.specs.Prelude.{◌≡◌, ◌<◌, ◌≤◌, ◌+◌, ◌^◌, ◌++◌, ℕ, pos, IfSome, get_or, length};
 ghost use Rattle.std.specs.Prelude.{take, drop};
-ghost use Rattle.firing_reader.specs.Stored.{Extends, IsGivenIn, given_in, ten};
+ghost use Rattle.firing_reader.specs.{Arguments.ten};
+ghost use Rattle.firing_reader.specs.Stored.{Extends, IsGivenIn, given_in};
 
 use crate::stored_row::Given;
 
 /// Keeps the arguments up to the last that isn't 0.
-pub(crate) fn keep_arguments(all: &mut Vec<i64>, args: &[i64; 10]) -> Option<Given>
+pub(crate) fn keep_arguments(all: &mut Vec<i64>, args: &[i64]) -> Option<Given>
+    requires { length args.now ≤ 10 }
     ensures grows { Extends all.old.items all.new.items }
     ensures inside { IfSome result (IsGivenIn all.new.items) }
-    ensures args { IfSome result (λ g. ten (given_in all.new.items g) ≡ args.now) }
+    ensures args { IfSome result (λ g. ten (given_in all.new.items g) ≡ ten args.now) }
 {
     let first = all.len();
     let count = leading_count(args);
@@ -34,46 +36,13 @@ pub(crate) fn add_arguments(all: &mut Vec<i64>, others: &[i64]) -> Option<u32>
 }
 
 // How many arguments come before the zeros at the end.
-fn leading_count(args: &[i64; 10]) -> usize
-    ensures few { result ≤ 10 }
-    ensures args { ten (take result args.now) ≡ args.now }
-{
-    leading_count_of(args.as_slice())
-}
-
-// How many numbers come before the zeros at the end.
-fn leading_count_of(args: &[i64]) -> usize
+fn leading_count(args: &[i64]) -> usize
     ensures few { result ≤ length args.now }
     ensures zeros { (i : ℕ) → get_or (take result args.now) i (pos 0) ≡ get_or args.now i (pos 0) }
 {
     match args {
         [] => 0,
-        [before @ .., 0] => leading_count_of(before),
+        [before @ .., 0] => leading_count(before),
         _ => args.len(),
     }
-}
-
-// One of them, or 0.
-fn one_of(given: &[i64], n: usize) -> i64
-    ensures { result ≡ get_or given.now n (pos 0) }
-{
-    *given.get(n).unwrap_or(&0)
-}
-
-/// Ten arguments: the given ones, and zeros after them.
-pub(crate) fn all_ten(given: &[i64]) -> [i64; 10]
-    ensures { result ≡ ten given.now }
-{
-    [
-        one_of(given, 0),
-        one_of(given, 1),
-        one_of(given, 2),
-        one_of(given, 3),
-        one_of(given, 4),
-        one_of(given, 5),
-        one_of(given, 6),
-        one_of(given, 7),
-        one_of(given, 8),
-        one_of(given, 9),
-    ]
 }

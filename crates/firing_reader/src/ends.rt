@@ -4,7 +4,7 @@ ghost use Rattle.std.specs.Prelude.{◌≡◌, Some};
 ghost use Rattle.firing_reader.specs.Column.{text_of};
 ghost use Rattle.firing_reader.specs.Ends.{own_firing, begin_of, end_of, first_time, last_time};
 
-use crate::firing::Firing;
+use crate::firing::{Args, Firing};
 use crate::firings::Firings;
 use crate::text::Text;
 use crate::trace::Trace;
@@ -70,6 +70,6 @@ fn own(number: u64, time: u64, name: &[u8]) -> Firing
         probemod: Text::of(b""),
         probefunc: Text::of(b""),
         name: Text::of(name),
-        args: [0; 10],
+        args: Args::of(&[]),
     }
 }

@@ -8,8 +8,8 @@ ghost use Rattle.firing_reader.specs.{Trace.last_number as last_number_of};
 ghost use Rattle.firing_reader.specs.Stored.{ArePlaces};
 ghost use Rattle.firing_reader.specs.Steps.Stored.{IsMovable, moved_row as moved_row_of};
 
-use crate::arguments::{add_arguments, all_ten, keep_arguments};
-use crate::firing::Firing;
+use crate::arguments::{add_arguments, keep_arguments};
+use crate::firing::{Args, Firing};
 use crate::owners::Owners;
 use crate::plain::row::row;
 use crate::probe_places::ProbePlaces;
@@ -116,7 +116,7 @@ impl Firings {
             probemod,
             probefunc,
             name,
-            args: all_ten(given),
+            args: Args::of(given),
         }
     }
 
@@ -165,7 +165,7 @@ impl Firings {
         else {
             return None;
         };
-        let Some(given) = keep_arguments(&mut self.args, &firing.args) else {
+        let Some(given) = keep_arguments(&mut self.args, firing.args.stored()) else {
             return None;
         };
         let row = Row {

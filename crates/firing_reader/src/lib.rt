@@ -44,7 +44,7 @@ mod unit;
 
 pub use blocks::Reader;
 pub use fault::TraceFault;
-pub use firing::Firing;
+pub use firing::{Args, Firing};
 pub use firings::Firings;
 pub use owned_text::OwnedText;
 pub use probe_places::ProbePlaces;

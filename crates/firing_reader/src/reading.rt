@@ -25,11 +25,16 @@ pub const MOST_ROWS: u32 = 1_000_000;
 
 // The firing of a row that follows another.
 #[tactic(auto, unfolding(crate::specs::Trace::next_of))]
-fn read_next(fields: &ByteRecord, row: u32, last: u64) -> Result<Firing, TraceFault>
+fn read_next<'a>(
+    fields: &'a ByteRecord,
+    args: &'a mut [i64; 10],
+    row: u32,
+    last: u64,
+) -> Result<Firing<'a>, TraceFault>
     requires { row ≤ MOST_ROWS }
     ensures { Gives result (next_of row last (fields_of fields.now)) }
 {
-    let firing = read_row(fields, row)?;
+    let firing = read_row(fields, args, row)?;
     if firing.number <= last {
         return Err(TraceFault::Order { row });
     }
@@ -46,12 +51,13 @@ fn read_rows(
     ensures read { GivesBy (λ _. firings.new) result (rows_after firings.old records.old) }
     ensures few { OnOk result (length firings.new ≤ MOST_ROWS) }
 {
+    let mut args = [0; 10];
     let first = firings.len() as u32 + 1;
     for row in first..MOST_ROWS + 1 {
         if !records.read(fields)? {
             return Ok(());
         }
-        let firing = read_next(fields, row, firings.last_number())?;
+        let firing = read_next(fields, &mut args, row, firings.last_number())?;
         let Some(()) = firings.push(&firing) else {
             return Err(TraceFault::Memory);
         };

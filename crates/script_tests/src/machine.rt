@@ -2,7 +2,7 @@
 use d_values::{ClauseLocals, Key, Kind, Text, ThreadTable, Value, ValueRef, Var};
 use dif_machine::{Frame, MachineFault, run, run_in};
 use dif_validate::{Condition, Difo, Function, Instr, Operator, Reg, validate};
-use firing_reader::{Firing, Text as Recorded};
+use firing_reader::{Args, Firing, Text as Recorded};
 use keyed_hash::HashKey;
 use std::alloc::{AllocError, Global};
 use std::process::Abort;
@@ -51,7 +51,7 @@ fn firing() -> Option<Firing<'static>> {
         probemod: Recorded::from_bytes(b"linux")?,
         probefunc: Recorded::from_bytes(b"read")?,
         name: Recorded::from_bytes(b"entry")?,
-        args: [-1, 20, 30, 0, 0, 0, 0, 0, 0, 90],
+        args: Args::of(&[-1, 20, 30, 0, 0, 0, 0, 0, 0, 90]),
     })
 }
 

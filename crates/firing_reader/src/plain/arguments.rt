@@ -2,7 +2,8 @@
 
 ghost use Rattle.std.specs.Prelude.{◌≤◌, ◌∷◌, [], IfSome, replicate};
 ghost use Rattle.firing_reader.specs.Steps.Plain.{Closes, ReadsArguments};
-ghost use Rattle.firing_reader.specs.Stored.{Extends, IsGivenIn, given_in, ten};
+ghost use Rattle.firing_reader.specs.{Arguments.ten};
+ghost use Rattle.firing_reader.specs.Stored.{Extends, IsGivenIn, given_in};
 
 use super::field::{last_argument, next_argument};
 use super::front::rest_after;

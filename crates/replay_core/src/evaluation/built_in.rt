@@ -14,7 +14,7 @@ pub(crate) fn built_in_word(built_in: BuiltIn, firing: &Firing) -> u64
     ensures { result ≡ word_of (spec.built_in_value firing.now built_in) }
 {
     match built_in {
-        BuiltIn::Argument(n) => firing.args.get(n as usize).unwrap_or(&0).cast_unsigned(),
+        BuiltIn::Argument(n) => firing.args.nth(n as usize).cast_unsigned(),
         BuiltIn::Timestamp => firing.time,
         BuiltIn::Cpu => i64::from(firing.cpu).cast_unsigned(),
         BuiltIn::Pid => i64::from(firing.pid).cast_unsigned(),

@@ -24,4 +24,4 @@ returns c =
     let probe : get_or probes row.probe no_probe ≡ p = named_at probes row.probe p no_probe c.at-provider.ensures in
     let span : (first_of row.given + count_of row.given) - first_of row.given ≡ count_of row.given = omega arith in
     let seen = rw (owner, probe) at is in
-    rw (to_z-of_z w32 row.cpu (search rules), to_z-of_z w32 o.thread (search rules), to_z-of_z w32 o.pid (search rules), c.all_ten.ensures, c.first-first.ensures, c.count.ensures, span, c.deref.ensures.value) seen
+    rw (to_z-of_z w32 row.cpu (search rules), to_z-of_z w32 o.thread (search rules), to_z-of_z w32 o.pid (search rules), c.of.ensures, c.first-first.ensures, c.count.ensures, span, c.deref.ensures.value) seen

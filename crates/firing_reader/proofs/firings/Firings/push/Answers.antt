@@ -55,7 +55,7 @@ returns c =
     let f = c.args.firing.now in
     let r : Row = record { number = f.number; time = f.time; cpu = f.cpu; owner = c.in-Some.owner; probe = c.in-Some-keep.probe; given = c.in-Some-keep_arguments.given } in
     let at_o = rw (to_z-of_z w32 f.thread (search rules), to_z-of_z w32 f.pid (search rules)) at c.in-Some.ensures.place in
-    let more = row_stored q u b i.rows.items c.args.self.now r f same at_o c.in-Some-keep.ensures.place c.in-Some-keep_arguments.ensures.args refl refl refl in
+    let more = row_stored q u b i.rows.items c.args.self.now r f same at_o c.in-Some-keep.ensures.place (c.in-Some-keep_arguments.ensures.args ∙ c.stored.ensures.ten) refl refl refl in
     elim c.if-push_row.branch [
       | then-push_row w ↦ rw w.result-is (rw (c.push_row.ensures.pushed w.if-push_row.true) (rw (to_z-of_z w32 f.cpu (search rules)) more))
       | else-push_row w ↦ rw w.result-is (rw (c.push_row.ensures.refused w.if-push_row.false) same)
