@@ -5,8 +5,9 @@ ghost use Rattle.std.specs.Prelude.{OnErr};
 
 use crate::entries::Entries;
 use crate::function::AggFn;
+use crate::lent_key::key_in_room;
 use crate::partial::Partial;
-use d_values::Key;
+use d_values::{Key, ValueRef};
 use indexmap::IndexMap;
 use keyed_hash::HashKey;
 use std::alloc::{AllocError, Global};
@@ -36,7 +37,7 @@ impl Model for Slot {
 }
 
 impl Slot {
-    ghost use Rattle.aggregations.specs.{Table.count_of};
+    ghost use Rattle.aggregations.specs.{Table.count_of, Lent.key_of};
     ghost use Rattle.aggregations.specs.Vocabulary.{IsDistinct, deref_pair, keys_of, same_key};
     ghost use Rattle.aggregations.specs.Steps.Entries.{TakesAll, TakesArgument};
 
@@ -80,6 +81,28 @@ impl Slot {
                 Ok(())
             }
         }
+    }
+
+    /// Takes one argument for the key that these values make. A map that is made here hashes by this
+    /// key.
+    pub(crate) fn add_lent(
+        &mut self,
+        alloc: Global,
+        hash_key: HashKey,
+        values: &[ValueRef<'_>],
+        arg: i64,
+    ) -> Result<(), AllocError>
+        requires { count_of self.old < 2 ^ 52 }
+        ensures function { self.new.function ≡ self.old.function }
+        ensures ok { OnOk result (TakesArgument self.old self.new (key_of values.now) arg) }
+        ensures count { count_of self.new ≤ count_of self.old + 1 }
+        ensures err { OnErr result (self.new ≡ self.old) }
+    {
+        if let Some(entries) = &mut self.entries {
+            return entries.add_lent(values, arg);
+        }
+        let key = key_in_room(alloc, Key::new(alloc), values)?;
+        self.add(alloc, hash_key, &key, arg)
     }
 
     /// Takes the arguments of the other's entries too.

@@ -1,0 +1,103 @@
+use Rattle.std.specs.Prelude.{Result, Ok, Err, IsTrue}
+use Rattle.std.proofs.Common.{◌≡◌, Bool, Some, OnErr, rules, arith, sym, subst, ap, ◌∙◌}
+use Rattle.std.proofs.Common.{sum_by, if◌then◌else◌}
+use Rattle.std.specs.Map.{lookup, values_of}
+use Rattle.std.specs.declared.alloc.AllocError.{AllocError}
+use Rattle.std.proofs.lemmas.Int.{to_z-of_z}
+use Rattle.indexmap.specs.Layout.{set_value_at}
+use Rattle.indexmap.proofs.CallerLemmas.{updates-with_value_at}
+use Rattle.d_values.specs.Keys.{same_key}
+use Rattle.d_values.specs.KeyLaws.{same_key_equiv}
+use Rattle.aggregations.specs.Lent.{key_of}
+use Rattle.aggregations.specs.Steps.Entries.{Notes}
+use Rattle.aggregations.specs.Table.{entry_at}
+use Rattle.aggregations.specs.Values.{count_in}
+use Rattle.aggregations.proofs.PlaceLemmas.{held_counted, notes_there, set_same, sum_set}
+use Rattle.aggregations.proofs.entries.Entries.note_at.Goals as goal
+
+pub returns-then-not-is_key_of-clause-absent : goal.returns-then-not-is_key_of-clause-absent
+returns-then-not-is_key_of-clause-absent c = λ _.
+    let entries = c.self.inside.map.entries in
+    let found = c.pair_mut-partial.result in
+    ap (λ es. record { function = c.self.inside.function; entries = es })
+    (set_same entries c.args.index found.0.now found.1.now c.pair_mut-partial.ensures.value)
+    ∙ c.self.view_is
+
+pub returns-then-not-is_key_of-clause-count : goal.returns-then-not-is_key_of-clause-count
+returns-then-not-is_key_of-clause-count c =
+    let entries = c.self.inside.map.entries in
+    let found = c.pair_mut-partial.result in
+    let sums = sum_set entries c.args.index found.0.now found.1.now found.1.now c.pair_mut-partial.ensures.value in
+    let was : sum_by count_in (values_of entries) ≡ sum_by count_in (values_of c.args.self.now.entries) = ap (λ a. sum_by count_in (values_of a.entries)) c.self.view_is in
+    omega arith
+
+pub note-requires : goal.note-requires
+note-requires c =
+    let entries = c.self.inside.map.entries in
+    let found = c.pair_mut-partial.result in
+    let few = c.requires in
+    let was : sum_by count_in (values_of entries) ≡ sum_by count_in (values_of c.args.self.now.entries) = ap (λ a. sum_by count_in (values_of a.entries)) c.self.view_is in
+    let one = held_counted entries c.args.index found.0.now found.1.now c.pair_mut-partial.ensures.value in
+    omega arith
+
+pub returns-in_err-note-clause-count : goal.returns-in_err-note-clause-count
+returns-in_err-note-clause-count c =
+    let entries = c.self.inside.map.entries in
+    let found = c.pair_mut-partial.result in
+    let sums = sum_set entries c.args.index found.0.now found.1.now c.note.new.self c.pair_mut-partial.ensures.value in
+    let was : sum_by count_in (values_of entries) ≡ sum_by count_in (values_of c.args.self.now.entries) = ap (λ a. sum_by count_in (values_of a.entries)) c.self.view_is in
+    let more = c.note.ensures.count in
+    omega arith
+
+pub returns-in_err-note-clause-err : goal.returns-in_err-note-clause-err
+returns-in_err-note-clause-err c =
+    let entries = c.self.inside.map.entries in
+    let found = c.pair_mut-partial.result in
+    let same : c.note.new.self ≡ found.1.now = search rules in
+    on_err c.from_residual.result
+    (ap (λ held. record { function = c.self.inside.function; entries = set_value_at entries c.args.index held }) same
+    ∙ ap (λ es. record { function = c.self.inside.function; entries = es })
+    (set_same entries c.args.index found.0.now found.1.now c.pair_mut-partial.ensures.value)
+    ∙ c.self.view_is)
+  where
+    on_err : {P : Type 0} (r : Result Bool AllocError) → P → OnErr r P
+    on_err (Ok x) p = _
+    on_err (Err e) p = p
+
+pub returns-clause-noted : goal.returns-clause-noted
+returns-clause-noted c = λ _.
+    let m = c.self.inside.map in
+    let i = c.args.index in
+    let key = key_of c.args.values.now in
+    let found = c.pair_mut-partial.result in
+    let held = found.1.now in
+    let now = c.note.new.self in
+    let first = c.args.self.now in
+    let yes : IsTrue c.is_key_of.result = search rules in
+    let there = c.pair_mut-partial.ensures.value ∙ ap (λ k. Some (k, held)) (c.is_key_of.ensures yes) in
+    let unique = c.pair_mut-partial.ensures.unique in
+    let puts = updates-with_value_at m i now same_key_equiv unique key held there in
+    let stays = updates-with_value_at m i held same_key_equiv unique key held there in
+    let at_key = same_key_equiv.refl key in
+    let new_is : lookup (same_key key) (set_value_at m.entries i now) ≡ Some now =
+    puts.0 key ∙ ap (λ b. if b then Some now else lookup (same_key key) m.entries) at_key in
+    let found_is : lookup (same_key key) m.entries ≡ Some held =
+    ap (lookup (same_key key)) (sym (set_same m.entries i key held there))
+    ∙ stays.0 key ∙ ap (λ b. if b then Some held else lookup (same_key key) m.entries) at_key in
+    let old_is : entry_at key first ≡ Some held = ap (entry_at key) (sym c.self.view_is) ∙ found_is in
+    let arg = c.ranges.arg in
+    let takes = simp to_z-of_z at c.in_ok-note.ensures.value in
+    record {
+      here = subst (λ o. Notes first.function o c.args.arg (lookup (same_key key) (set_value_at m.entries i now))) (sym old_is)
+          (subst (λ o. Notes first.function (Some held) c.args.arg o) (sym new_is) (notes_there first.function held c.args.arg now takes));
+      others = λ q e. puts.0 q ∙ ap (λ b. if b then Some now else lookup (same_key q) m.entries) e ∙ ap (entry_at q) c.self.view_is;
+    }
+
+pub returns-clause-count : goal.returns-clause-count
+returns-clause-count c =
+    let entries = c.self.inside.map.entries in
+    let found = c.pair_mut-partial.result in
+    let sums = sum_set entries c.args.index found.0.now found.1.now c.note.new.self c.pair_mut-partial.ensures.value in
+    let was : sum_by count_in (values_of entries) ≡ sum_by count_in (values_of c.args.self.now.entries) = ap (λ a. sum_by count_in (values_of a.entries)) c.self.view_is in
+    let more = c.note.ensures.count in
+    omega arith
