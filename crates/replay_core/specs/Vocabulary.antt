@@ -20,6 +20,7 @@ pub use Rattle.firing_reader.specs.Firings.{HasRanges, number_of}
 pub use Rattle.firing_reader.specs.Stored.{ArePlaces, Extends}
 pub use Rattle.firing_reader.specs.Trace.{IsTrace}
 pub use Rattle.firing_reader.specs.declared.firing.Firing.{Firing}
+pub use Rattle.aggregations.specs.Lent.{key_of, part_of_lent}
 pub use Rattle.aggregations.specs.Table.{Aggregation, Contribution, StandsFor, count_held}
 pub use Rattle.aggregations.specs.Table.{functions_of}
 pub use Rattle.aggregations.specs.declared.function.AggFn.{AggFn}

@@ -11,6 +11,6 @@ mod variables;
 
 pub(crate) use expression::{evaluate, evaluate_key, evaluate_word};
 pub(crate) use fault::EvalFault;
-pub(crate) use lending::set_part;
+pub(crate) use lending::{lent_leaf, set_part};
 pub use spare::Spare;
 pub(crate) use variables::{bytes_in, owned_value, word_in, word_of};

@@ -3,9 +3,10 @@
 ghost use Rattle.std.specs.Prelude.{◌≡◌, ◌+◌, ◌<◌, ◌≤◌, ◌^◌, ◌++◌, ◌∷◌, [], ℕ, IfOk, OnOk, length};
 ghost use Rattle.std.specs.Prelude.{take};
 ghost use Rattle.replay_core.specs.Vocabulary.{Effect, count_held, fault_line, functions_of};
+ghost use Rattle.replay_core.specs.Vocabulary.{key_of};
 
 use aggregations::{AggFn, AggTable};
-use d_values::{Key, Text};
+use d_values::{Key, Text, ValueRef};
 use itoa::Buffer;
 use keyed_hash::HashKey;
 use std::alloc::{AllocError, Global};
@@ -73,6 +74,25 @@ impl Piece {
             (piece_seen self.new)) }
     {
         self.table.add(place, key, argument)
+    }
+
+    /// The same under the key that these values make.
+    pub(crate) fn note_lent_contribution(
+        &mut self,
+        place: usize,
+        values: &[ValueRef<'_>],
+        argument: i64,
+    ) -> Result<(), AllocError>
+        requires place { place < length (functions_of self.old.table) }
+        requires room { count_held self.old.table < 2 ^ 52 }
+        ensures functions { functions_of self.new.table ≡ functions_of self.old.table }
+        ensures taken { self.new.taken.items ≡ self.old.taken.items }
+        ensures held { count_held self.new.table ≤ count_held self.old.table + 1 }
+        ensures notes { OnOk result ((number : ℕ)
+            → NotesEffect number (Effect.Adds place (key_of values.now) argument)
+            (piece_seen self.old) (piece_seen self.new)) }
+    {
+        self.table.add_lent(place, values, argument)
     }
 
     /// Notes an exit at the firing of this number: the first counts.

@@ -2,6 +2,8 @@
 
 mod clause;
 mod expression;
+mod lent_key;
+mod loads;
 mod objects;
 mod printing;
 mod statement;

@@ -1,10 +1,12 @@
 //! Expressions as engines evaluate them.
 
-ghost use Rattle.std.specs.Prelude.{◌≡◌, List};
+ghost use Rattle.std.specs.Prelude.{◌≡◌, IfSome, List};
 
 use crate::evaluation::EvalFault;
 use crate::state::State;
+use crate::statements::lent_key::LentKey;
 use d_values::{DType, Key, Value};
+use firing_reader::Firing;
 use std::marker::Model;
 
 /// Arguments of `printf`, each with its type.
@@ -25,7 +27,8 @@ impl Model for Arguments {
 /// evaluation does, also at a division by 0.
 pub(crate) trait Expression: Sized {
     ghost use Rattle.replay_core.specs.{Evaluation.Meets};
-    ghost use Rattle.replay_core.specs.Vocabulary.{Evaluation, Firing as Recorded, number_outcome};
+    ghost use Rattle.replay_core.specs.Vocabulary.{Evaluation, Firing as Recorded, Has, Variables};
+    ghost use Rattle.replay_core.specs.Vocabulary.{number_outcome};
 
     /// What evaluation means.
     ghost by: { Recorded → Evaluation Self (List Self) };
@@ -46,6 +49,12 @@ pub(crate) trait Expression: Sized {
     /// The key that several make, from left to right.
     fn evaluate_key(keys: &[Self], state: &mut State<'_>) -> Result<Key, EvalFault>
         ensures { Meets (λ f. (by f).key keys.now) result state.old state.new };
+
+    /// The same key, lent, where each part is a constant or a built-in variable that can be lent,
+    /// and there are few. Then evaluation changes no variable.
+    fn lend_key<'a>(keys: &'a [Self], firing: &'a Firing<'a>) -> Option<LentKey<'a>>
+        ensures { IfSome result (λ key. (vars : Variables)
+            → (by firing.now).key keys.now vars ≡ Has key vars) };
 
     /// The values of several, from left to right.
     fn evaluate_arguments(arguments: &[Self], state: &mut State<'_>) -> Result<Arguments, EvalFault>

@@ -1,10 +1,9 @@
 //! Objects, run by the machine.
 
-ghost use Rattle.std.specs.Prelude.{◌≡◌, ◌<◌, length, slice_set};
+ghost use Rattle.std.specs.Prelude.{◌≡◌, ◌<◌, IfSome, length, slice_set};
 ghost use Rattle.dif_codegen.specs.Meaning as spec;
-ghost use Rattle.replay_core.specs.Vocabulary.{Has, action_code, number_outcome, part_of};
-ghost use Rattle.replay_core.specs.Vocabulary.{value_result};
-ghost use Rattle.replay_core.specs.Vocabulary.{with};
+ghost use Rattle.replay_core.specs.Vocabulary.{Has, Variables, action_code, number_outcome};
+ghost use Rattle.replay_core.specs.Vocabulary.{part_of, value_result, with};
 ghost use Rattle.replay_core.specs.Evaluation.{Meets, Returns, variables_of};
 ghost use Rattle.replay_core.specs.Steps.Evaluation.{Leaves};
 
@@ -12,6 +11,8 @@ use crate::evaluation::{EvalFault, owned_value, set_part, word_of};
 use crate::piece::Piece;
 use crate::state::State;
 use crate::statements::expression::{Arguments, Expression};
+use crate::statements::lent_key::LentKey;
+use crate::statements::loads::lent_load;
 use crate::statements::statement::{Statement, aggregate, exit, plain, print, trace};
 use crate::tables::Tables;
 use d_values::{DType, Key, Value, ValueRef};
@@ -112,6 +113,21 @@ fn run_for_arguments(objects: &[TypedObject], state: &mut State<'_>) -> Result<A
     Ok(Arguments { values })
 }
 
+// From left to right.
+fn lend_key<'a>(objects: &'a [TypedObject], firing: &'a Firing<'a>) -> Option<LentKey<'a>>
+    ensures { IfSome result (λ key. (vars : Variables)
+        → spec.key_of_objects firing.now objects.now vars ≡ Has key vars) }
+{
+    let mut key = LentKey::new();
+    for object in objects {
+        let value = lent_load(object, firing)?;
+        if !key.push(value) {
+            return None;
+        }
+    }
+    Some(key)
+}
+
 impl Expression for TypedObject {
     ghost by = { spec.by_objects };
 
@@ -129,6 +145,10 @@ impl Expression for TypedObject {
 
     fn evaluate_key(keys: &[TypedObject], state: &mut State<'_>) -> Result<Key, EvalFault> {
         run_for_key(keys, state)
+    }
+
+    fn lend_key<'a>(keys: &'a [TypedObject], firing: &'a Firing<'a>) -> Option<LentKey<'a>> {
+        lend_key(keys, firing)
     }
 
     fn evaluate_arguments(

@@ -112,6 +112,11 @@ pub(crate) fn aggregate<X: Expression>(
         (λ f. effect_by (X.by f) (typed.Aggregate place keys.now argument.now))
         result state.old state.new piece.old piece.new }
 {
+    if let Some(key) = X::lend_key(keys, state.firing) {
+        let given = evaluate_argument(argument, state)?;
+        piece.note_lent_contribution(place, key.values(), given)?;
+        return Ok(false);
+    }
     let key = X::evaluate_key(keys, state)?;
     let number = evaluate_argument(argument, state)?;
     piece.note_contribution(place, &key, number)?;

@@ -1,16 +1,20 @@
 //! Trees, walked.
 
+ghost use Rattle.std.specs.Prelude.{◌≡◌, IfSome};
 ghost use Rattle.d_types.specs.Clauses as spec;
-ghost use Rattle.replay_core.specs.{Vocabulary.typeds_of, Evaluation.Meets};
+ghost use Rattle.replay_core.specs.Evaluation.{Meets};
+ghost use Rattle.replay_core.specs.Vocabulary.{Has, Variables, keys_of, typeds_of};
 ghost use Rattle.replay_core.specs.Forms.{by_expressions, statement_form};
 
-use crate::evaluation::{EvalFault, evaluate, evaluate_key, evaluate_word};
+use crate::evaluation::{EvalFault, evaluate, evaluate_key, evaluate_word, lent_leaf};
 use crate::piece::Piece;
 use crate::state::State;
 use crate::statements::expression::{Arguments, Expression};
+use crate::statements::lent_key::LentKey;
 use crate::statements::statement::{Statement, aggregate, exit, plain, print, trace};
 use d_types::{TypedExpr, TypedStmt};
 use d_values::{DType, Key, Value};
+use firing_reader::Firing;
 
 // From left to right.
 fn evaluate_arguments(
@@ -25,6 +29,21 @@ fn evaluate_arguments(
         values.push((argument.type_of(), value))?;
     }
     Ok(Arguments { values })
+}
+
+// From left to right.
+fn lend_key<'a>(keys: &'a [TypedExpr], firing: &'a Firing<'a>) -> Option<LentKey<'a>>
+    ensures { IfSome result (λ key. (vars : Variables)
+        → keys_of firing.now (typeds_of keys.now) vars ≡ Has key vars) }
+{
+    let mut key = LentKey::new();
+    for part in keys {
+        let value = lent_leaf(part, firing)?;
+        if !key.push(value) {
+            return None;
+        }
+    }
+    Some(key)
 }
 
 impl Expression for TypedExpr {
@@ -44,6 +63,10 @@ impl Expression for TypedExpr {
 
     fn evaluate_key(keys: &[TypedExpr], state: &mut State<'_>) -> Result<Key, EvalFault> {
         evaluate_key(keys, state)
+    }
+
+    fn lend_key<'a>(keys: &'a [TypedExpr], firing: &'a Firing<'a>) -> Option<LentKey<'a>> {
+        lend_key(keys, firing)
     }
 
     fn evaluate_arguments(
