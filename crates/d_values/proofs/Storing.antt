@@ -14,6 +14,7 @@ use Rattle.std.proofs.lemmas.Bool.Decides.{Decides-eqb}
 use Rattle.d_values.specs.declared.held.Held.{Held}
 use Rattle.d_values.specs.declared.variable.Var.{Var}
 use Rattle.d_values.specs.Keys.{same_key}
+use Rattle.d_values.specs.KeyLaws.{same_key_decides}
 use Rattle.d_values.specs.Variables.{same_var, same_var_decides}
 use Rattle.d_values.specs.Stores.{Locals, Own, kind_of, blank, is_blank, value_to_keep, local_entry}
 use Rattle.d_values.specs.Stores.{local_of, AreLocals, with_local, element, own_entry, own_of}
@@ -165,10 +166,10 @@ sets_none old var key none v k = chosen (same_var var v && same_key key k) (both
 -- ---- entries by their index
 
 -- a key that is found passes the test
-key_passes : {X : Type 0} (test : Var → Bool) (entries : List (Var × X)) (k : Var) → lookup_key test entries ≡ Some k → test k ≡ true
-key_passes test [] k e = absurd (none e)
+key_passes : {K X : Type 0} (test : K → Bool) (entries : List (K × X)) (k : K) → lookup_key test entries ≡ Some k → test k ≡ true
+key_passes {K} test [] k e = absurd (none e)
   where
-    none : ◌≡◌ {A = Option Var} None (Some k) → ⊥
+    none : ◌≡◌ {A = Option K} None (Some k) → ⊥
     none f = cc
 key_passes test (p ∷ entries) k e = elim (test p.0) as (λ b. test p.0 ≡ b → (if b then Some p.0 else lookup_key test entries) ≡ Some k → test k ≡ true) [
   | true ↦ λ passes f. ap test (sym (same f)) ∙ passes
@@ -180,6 +181,9 @@ key_passes test (p ∷ entries) k e = elim (test p.0) as (λ b. test p.0 ≡ b �
 
 pub key_found : {X : Type 0} (var k : Var) (entries : List (Var × X)) → lookup_key (same_var var) entries ≡ Some k → var ≡ k
 key_found var k entries e = (same_var_decides var k).0 (key_passes (same_var var) entries k e)
+
+pub same_key_found : {X : Type 0} (key k : List KeyPart) (entries : List (List KeyPart × X)) → lookup_key (same_key key) entries ≡ Some k → key ≡ k
+same_key_found key k entries e = (same_key_decides key k).0 (key_passes (same_key key) entries k e)
 
 pub value_found : (entries : List (Var × Held)) (i : ℕ) (var : Var) (value : Held) → slice_get entries i ≡ Some (var, value)
     → slice_get (values_of entries) i ≡ Some value

@@ -1,8 +1,9 @@
 //! The elements of an array.
 
-ghost use Rattle.std.specs.Prelude.{◌≡◌, unwrap_or, IfOk, OnOk, OnErr};
+ghost use Rattle.std.specs.Prelude.{◌≡◌, MatchOption, None, true, unwrap_or, IfOk, OnOk};
+ghost use Rattle.std.specs.Prelude.{OnErr};
 ghost use Rattle.indexmap.specs.IndexMap.{get, Updates};
-ghost use Rattle.d_values.specs.{Keys.same_key};
+ghost use Rattle.d_values.specs.{Keys.same_key, Steps.Places.IsKeyAt};
 ghost use Rattle.d_values.specs.Stores.{blank, value_to_keep, lent_value};
 
 use crate::key::{Key, copy_in_room};
@@ -17,41 +18,85 @@ const ROOMS: usize = 4;
 /// What a variable holds under its keys. Zero and the empty text are not kept.
 pub(crate) type Elements = IndexMap<Key, Value, HashKey>;
 
-/// What there is at the key, or zero or the empty text.
-pub(crate) fn lend<'a>(elements: &'a Elements, key: &Key, kind: Kind) -> ValueRef<'a>
+/// What there is at the key, or zero or the empty text. The key is first compared with that at this
+/// index.
+pub(crate) fn lend<'a>(elements: &'a Elements, first: usize, key: &Key, kind: Kind) -> ValueRef<'a>
     ensures { lent_value result ≡ unwrap_or (get same_key elements.now key.now) (blank kind) }
 {
-    match elements.get(key) {
-        Some(value) => value.as_ref(),
+    let Some(index) = index_of(elements, first, key) else {
+        return ValueRef::blank(kind);
+    };
+    match elements.get_index(index) {
+        Some((_, value)) => value.as_ref(),
         None => ValueRef::blank(kind),
     }
 }
 
-/// Sets a key's value. Keys that are removed leave their rooms, which new ones take.
+// Where the key is. It is first compared with that at this index.
+fn index_of(elements: &Elements, first: usize, key: &Key) -> Option<usize>
+    ensures { MatchOption result (get same_key elements.now key.now ≡ None)
+        (λ i. IsKeyAt elements.now.entries i key.now) }
+{
+    if elements.is_empty() {
+        return None;
+    }
+    if is_at(elements, first, key) {
+        return Some(first);
+    }
+    let (index, _, _) = elements.get_full(key)?;
+    Some(index)
+}
+
+// Whether the key is at the index.
+fn is_at(elements: &Elements, index: usize, key: &Key) -> bool
+    ensures { result ≡ true → IsKeyAt elements.now.entries index key.now }
+{
+    match elements.get_index(index) {
+        Some((there, _)) => there == key,
+        None => false,
+    }
+}
+
+/// Sets a key's value, and returns the index at which that is, unless it is blank. The key is first
+/// compared with that at the index that is given. Keys that are removed leave their rooms, which
+/// new ones take.
 pub(crate) fn replace(
     elements: &mut Elements,
+    first: usize,
     rooms: &mut Vec<Key>,
     key: &Key,
     value: Value,
-) -> Result<(), AllocError>
+) -> Result<usize, AllocError>
     ensures ok { OnOk result
         (Updates same_key elements.old elements.new key.now (value_to_keep value)) }
     ensures err { OnErr result (elements.new.entries ≡ elements.old.entries) }
 {
     if value.is_blank() {
-        if let Some((removed, _)) = elements.swap_remove_entry(key) {
+        if let Some((removed, _)) = remove(elements, first, key) {
             keep_room(rooms, removed);
         }
-        return Ok(());
+        return Ok(first);
     }
-    match elements.get_mut(key) {
-        Some(place) => *place = value,
-        None => {
-            let key = copy_of(rooms, key)?;
-            elements.insert(key, value)?;
+    if let Some(index) = index_of(elements, first, key) {
+        if let Some(place) = elements.get_index_mut(index) {
+            *place = value;
+            return Ok(index);
         }
     }
-    Ok(())
+    let last = elements.len();
+    let key = copy_of(rooms, key)?;
+    elements.insert(key, value)?;
+    Ok(last)
+}
+
+// Removes a key, which is first compared with that at this index, and its value.
+fn remove(elements: &mut Elements, first: usize, key: &Key) -> Option<(Key, Value)>
+    ensures { Updates same_key elements.old elements.new key.now None }
+{
+    if is_at(elements, first, key) {
+        return elements.swap_remove_index(first);
+    }
+    elements.swap_remove_entry(key)
 }
 
 // A copy of a key, in a room that was kept.

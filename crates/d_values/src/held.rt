@@ -15,6 +15,8 @@ use std::alloc::{AllocError, Global};
 pub struct Held {
     scalar: Option<Value>,
     elements: Elements,
+    // Where the element is that was set last.
+    last: usize,
     ghost keyed: { is_some (lookup (same_key []) elements.entries) ≡ false },
 }
 
@@ -51,6 +53,7 @@ impl Held {
         Held {
             scalar: None,
             elements: IndexMap::with_hasher(alloc, hash_key),
+            last: 0,
         }
     }
 
@@ -60,7 +63,7 @@ impl Held {
             ≡ unwrap_or (lookup (same_key key.now) (elements_of self.now)) (blank kind) }
     {
         if !key.parts().is_empty() {
-            return lend(&self.elements, key, kind);
+            return lend(&self.elements, self.last, key, kind);
         }
         match &self.scalar {
             Some(value) => value.as_ref(),
@@ -85,7 +88,8 @@ impl Held {
             self.scalar = value.kept();
             return Ok(());
         }
-        replace(&mut self.elements, rooms, key, value)
+        self.last = replace(&mut self.elements, self.last, rooms, key, value)?;
+        Ok(())
     }
 
     /// Takes no more room than it needs.

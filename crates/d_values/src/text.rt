@@ -81,6 +81,10 @@ impl Text {
         ensures ok { OnOk result (self.new ≡ bytes.now) }
         ensures err { OnErr result (self.new ≡ self.old) }
     {
+        if bytes.len() == self.bytes.len() {
+            self.bytes.copy_from_slice(bytes);
+            return Ok(());
+        }
         let more = bytes.len().saturating_sub(self.bytes.len());
         self.bytes.reserve(more)?;
         self.bytes.clear();
