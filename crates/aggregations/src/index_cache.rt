@@ -5,8 +5,11 @@ use std::alloc::Global;
 // How many slots the first cache has.
 const FEWEST: usize = 32;
 
-// How many slots there are for each entry, at least, unless memory is refused.
+// How many slots there are for each entry, at least, unless there are as many as there may be.
 const SPREAD: usize = 8;
+
+// How many slots there are at most: more would not stay in the processor's own memory.
+const MOST: usize = 1 << 15;
 
 /// A direct-mapped cache of the indices of entries, which grows with them. The caller checks that
 /// the entry is the one that it seeks, so a cached index is never wrong.
@@ -38,7 +41,7 @@ impl IndexCache {
 
     /// Puts an index where this hash leads.
     pub(crate) fn put(&mut self, hash: u64, index: usize) {
-        if self.indices.len() / SPREAD <= index {
+        if self.indices.len() / SPREAD <= index && self.indices.len() < MOST {
             self.grow();
         }
         let slot = self.slot(hash);
@@ -47,10 +50,10 @@ impl IndexCache {
         }
     }
 
-    // Forgets all indices, and has four times as many slots, unless memory is refused.
+    // Forgets all indices, and has twice as many slots, unless memory is refused.
     fn grow(&mut self) {
         let alloc = *self.indices.allocator();
-        let slots = self.indices.len().saturating_mul(4).max(FEWEST);
+        let slots = self.indices.len().saturating_mul(2).max(FEWEST);
         if let Ok(indices) = vec![in alloc; 0; slots] {
             self.indices = indices;
         }
