@@ -1,5 +1,5 @@
 -- What comparisons of keys return, by the laws of the tests and orders.
-use Rattle.std.specs.Prelude.{◌≡◌, ◌≢◌, ◌↔◌, Bool, IsTrue, List, [], ◌∷◌, ◌++◌}
+use Rattle.std.specs.Prelude.{◌≡◌, ◌≢◌, ◌↔◌, Bool, true, false, IsTrue, List, [], ◌∷◌, ◌++◌}
 use Rattle.std.specs.Cmp.{tied_itself}
 use Rattle.std.specs.Ordering.{ordering_then, is_eq}
 use Rattle.std.proofs.Common.{refl, sym, ap, ◌∙◌, append-nil}
@@ -11,6 +11,13 @@ use Rattle.d_values.specs.KeyLaws.{key_cmp_total, part_cmp_ties, key_cmp_ties}
 pub same_key_true : (x y : List KeyPart) (same : Bool) → same ≡ same_key x y → IsTrue same ↔ (x ≡ y)
 same_key_true x y same is =
     (λ e. (same_key_decides x y).0 (sym is ∙ e), λ e. is ∙ (same_key_decides x y).1 e)
+
+pub not_same : (x y : List KeyPart) → x ≢ y → false ≡ same_key x y
+not_same x y differ =
+    elim (same_key x y) as (λ same. same_key x y ≡ same → false ≡ same) [
+      | true ↦ λ e. absurd (differ ((same_key_decides x y).0 e))
+      | false ↦ λ e. refl
+    ] refl
 
 past_front : (front xs ys : List KeyPart) → key_cmp (front ++ xs) (front ++ ys) ≡ key_cmp xs ys
 past_front [] xs ys = refl

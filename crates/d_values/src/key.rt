@@ -288,8 +288,23 @@ impl PartialEq for Key {
         ensures value { result ≡ same_key self.now other.now }
         ensures meant { IsTrue result ↔ (self.now ≡ other.now) }
     {
-        self.parts() == other.parts()
+        are_same(self.parts(), other.parts())
     }
+}
+
+// Whether the parts are the same. A comparison of slices would make a call for each part.
+fn are_same(a: &[KeyPart], b: &[KeyPart]) -> bool
+    ensures { result ≡ same_key a.now b.now }
+{
+    if a.len() != b.len() {
+        return false;
+    }
+    for place in 0..a.len() {
+        if a[place] != b[place] {
+            return false;
+        }
+    }
+    true
 }
 
 impl Eq for Key {

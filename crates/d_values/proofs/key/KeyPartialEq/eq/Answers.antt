@@ -5,5 +5,5 @@ use Rattle.d_values.proofs.key.KeyPartialEq.eq.Goals as goal
 
 pub returns-clause-meant : goal.returns-clause-meant
 returns-clause-meant c =
-    let is : c.eq.result ≡ same_key c.args.self.now c.args.other.now = search rules in
-    same_key_true c.args.self.now c.args.other.now c.eq.result is
+    let is : c.are_same.result ≡ same_key c.args.self.now c.args.other.now = search rules in
+    same_key_true c.args.self.now c.args.other.now c.are_same.result is
