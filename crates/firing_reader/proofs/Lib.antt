@@ -3,6 +3,7 @@ pub mod FieldTexts
 pub mod Left
 pub mod RowEnds
 pub mod Rows
+mod RowsRead
 pub mod Fields
 pub mod RowFaults
 pub mod Kept

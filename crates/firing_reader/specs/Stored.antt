@@ -1,7 +1,7 @@
 -- Firings as a trace stores them: rows of small fixed size, and apart from them what rows share and
 -- their arguments.
-use Rattle.std.specs.Prelude.{◌≡◌, ◌<◌, ◌≤◌, ◌+◌, ◌/◌, ◌%◌, ℕ, ℤ, pos, List, [], ◌++◌, Some}
-use Rattle.std.specs.Prelude.{length, get_or, slice_get, map, take, drop}
+use Rattle.std.specs.Prelude.{◌≡◌, ◌<◌, ◌≤◌, ◌+◌, ◌/◌, ◌%◌, ℕ, zero, suc, ℤ, pos, List, [], ◌++◌}
+use Rattle.std.specs.Prelude.{Option, None, Some, length, get_or, slice_get, map, take, drop}
 use Rattle.firing_reader.specs.Arguments.{ten}
 use Rattle.firing_reader.specs.declared.firing.Firing.{Firing}
 use Rattle.firing_reader.specs.declared.stored_row.Given.{Given}
@@ -61,3 +61,8 @@ pub record IsRowIn (owners : List Owner) (probes : List Probe) (args : List ℤ)
 -- the places where these others are, one for each
 abbrev pub ArePlaces : {X : Type 0} → List X → List ℕ → List X → Type 0
 ArePlaces all places others = map (slice_get all) places ≡ map (λ x. Some x) others
+
+-- the element one before a place: none before the first, and none past the last
+abbrev pub row_before : {X : Type 0} → List X → ℕ → Option X
+row_before xs zero = None
+row_before xs (suc i) = slice_get xs i

@@ -1,15 +1,17 @@
 //! The firings of a trace, as they are stored: rows of small fixed size, each owner and each probe
 //! once, and of the arguments no zeros at the end.
 
-ghost use Rattle.std.specs.Prelude.{◌≡◌, ◌<◌, ◌++◌, ◌∷◌, [], true, false, All, Some, IfOk, IfSome};
-ghost use Rattle.std.specs.Prelude.{MatchOption, slice_get, length, map};
+ghost use Rattle.std.specs.Prelude.{◌≡◌, ◌<◌, ◌≤◌, ◌++◌, ◌∷◌, [], true, false, All, Some, IfOk};
+ghost use Rattle.std.specs.Prelude.{IfSome, MatchOption, slice_get, length, map};
 ghost use Rattle.firing_reader.specs.{Vocabulary.Firing, Plain.ReadsRow, Probing.probe_of};
 ghost use Rattle.firing_reader.specs.{Trace.last_number as last_number_of};
-ghost use Rattle.firing_reader.specs.Stored.{ArePlaces};
+ghost use Rattle.firing_reader.specs.Stored.{ArePlaces, IsRowIn, firing_in, row_before};
+ghost use Rattle.firing_reader.specs.declared.firing_rows.TheConstants.{MOST_TOGETHER};
 ghost use Rattle.firing_reader.specs.Steps.Stored.{IsMovable, moved_row as moved_row_of};
 
 use crate::arguments::{add_arguments, keep_arguments};
 use crate::firing::{Args, Firing};
+use crate::firing_rows::{FiringRows, rows_before};
 use crate::owners::Owners;
 use crate::plain::row::row;
 use crate::probe_places::ProbePlaces;
@@ -91,32 +93,27 @@ impl Firings {
         requires { at < length self.now }
         ensures { slice_get self.now at ≡ Some result }
     {
-        let row = self.rows[at];
-        let first = row.given.first();
-        let given = &self.args[first..first + row.given.count()];
-        let Owner {
-            thread,
-            pid,
-            execname,
-        } = self.owners.at(row.owner);
-        let Probe {
-            provider,
-            probemod,
-            probefunc,
-            name,
-        } = self.probes.at(row.probe);
-        Firing {
-            number: row.number,
-            cpu: row.cpu,
-            thread,
-            pid,
-            execname,
-            time: row.time,
-            provider,
-            probemod,
-            probefunc,
-            name,
-            args: Args::of(given),
+        firing_of(&self.owners, &self.probes, &self.args, self.rows[at])
+    }
+
+    /// The rows of the firings at these places of a run, in which BEGIN comes before the first:
+    /// row 0 has place 1. They are copied one right after the other, so that the processor waits
+    /// for all of them at once.
+    ///
+    /// ```text
+    /// let rows = trace.firings().rows(&[1, 40]);
+    /// rows.get(1); // the firing of row 39, or None where there are fewer rows
+    /// ```
+    pub fn rows(&self, places: &[u32]) -> FiringRows
+        requires { length places.now ≤ MOST_TOGETHER }
+        ensures { result ≡ map (row_before self.now) places.now }
+    {
+        FiringRows {
+            owners: &self.owners,
+            probes: &self.probes,
+            args: &self.args,
+            rows: rows_before(&self.rows, places),
+            count: places.len(),
         }
     }
 
@@ -221,6 +218,45 @@ impl Firings {
             &probe_places,
             shift,
         )
+    }
+}
+
+/// The firing of a row.
+#[inline(always)]
+pub(crate) fn firing_of<'a>(
+    owners: &'a Owners,
+    probes: &'a Probes,
+    args: &'a [i64],
+    row: Row,
+) -> Firing<'a>
+    requires { IsRowIn owners.now probes.now args.now row }
+    ensures { result ≡ firing_in owners.now probes.now args.now row }
+{
+    let first = row.given.first();
+    let given = &args[first..first + row.given.count()];
+    let Owner {
+        thread,
+        pid,
+        execname,
+    } = owners.at(row.owner);
+    let Probe {
+        provider,
+        probemod,
+        probefunc,
+        name,
+    } = probes.at(row.probe);
+    Firing {
+        number: row.number,
+        cpu: row.cpu,
+        thread,
+        pid,
+        execname,
+        time: row.time,
+        provider,
+        probemod,
+        probefunc,
+        name,
+        args: Args::of(given),
     }
 }
 

@@ -33,6 +33,7 @@ pub mod CollectSteps
 pub mod GroupFirings
 pub mod TraceRuns
 pub mod WorkSteps
+mod FetchLemmas
 pub mod Parts
 pub mod Collectable
 pub mod WholeOf

@@ -2,8 +2,9 @@
 
 ghost use Rattle.std.specs.Prelude.{◌≡◌, ◌<◌, ◌≤◌, Some, length, slice_get};
 ghost use Rattle.replay_core.specs.{Sizes.most_firings, Vocabulary.HasRanges, Vocabulary.with_ends};
+ghost use Rattle.replay_core.specs.Vocabulary.{IsTrace, row_before};
 
-use firing_reader::{Firing, Trace};
+use firing_reader::{Firing, FiringRows, Trace};
 
 /// The firing of a run over a trace at a place: BEGIN has place 0, the rows follow, and END is the
 /// last.
@@ -22,4 +23,23 @@ pub(crate) fn firing_at(trace: &Trace, place: u32) -> Firing<'_>
         return rows.get(row);
     }
     trace.end()
+}
+
+/// The firing of a run at a place, whose row was read with others, if it has one.
+pub(crate) fn read_at<'a>(
+    trace: &'a Trace,
+    place: u32,
+    rows: &FiringRows<'a>,
+    at: usize,
+) -> Firing<'a>
+    requires trace { IsTrace trace.now }
+    requires row { slice_get rows.now at ≡ Some (row_before trace.now place) }
+    requires within { place < length (with_ends trace.now trace.now) }
+    ensures firing { slice_get (with_ends trace.now trace.now) place ≡ Some result }
+    ensures ranges { HasRanges result }
+{
+    match rows.get(at) {
+        Some(firing) => firing,
+        None => firing_at(trace, place),
+    }
 }

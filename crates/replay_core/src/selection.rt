@@ -1,9 +1,9 @@
 //! Which clauses run for each firing of a run: decided once for each probe, before any fires.
 
-ghost use Rattle.std.specs.Prelude.{◌≡◌, ◌<◌, ◌≤◌, IfOk, List, OnOk, Some, get_or};
-ghost use Rattle.std.specs.Prelude.{length, map, slice_get, sum_by};
+ghost use Rattle.std.specs.Prelude.{◌≡◌, ◌<◌, ◌≤◌, All, IfOk, List, OnOk, Some, get_or};
+ghost use Rattle.std.specs.Prelude.{length, map, slice_get, sum_by, take};
 ghost use Rattle.replay_core.specs.Vocabulary.{AllZip, ArePlaces, ClauseMeant, Description};
-ghost use Rattle.replay_core.specs.Vocabulary.{Extends, MOST_BYTES};
+ghost use Rattle.replay_core.specs.Vocabulary.{Extends, MOST_BYTES, MOST_TOGETHER};
 ghost use Rattle.replay_core.specs.Vocabulary.{ScriptMeant, Slots, slots_of, with_ends};
 ghost use Rattle.replay_core.specs.{Places.places_for};
 ghost use Rattle.replay_core.specs.Steps.Described.{IsTableOf};
@@ -14,7 +14,7 @@ use crate::clause_lists::ClauseLists;
 use crate::clause_places::ClausePlaces;
 use crate::description_table::DescriptionTable;
 use d_parser::Description;
-use firing_reader::{Probe, ProbePlaces, Trace};
+use firing_reader::{MOST_TOGETHER, Probe, ProbePlaces, Trace};
 use keyed_hash::HashKey;
 use std::alloc::{AllocError, Global};
 use std::marker::Model;
@@ -80,6 +80,21 @@ impl Selections {
             return self.lists.at(self.end as usize);
         }
         self.lists.at(self.by_row[row] as usize)
+    }
+
+    /// Those of the firings at these places, in their order.
+    pub(crate) fn lists(&self, places: &[u32]) -> [&ClausePlaces; MOST_TOGETHER]
+        requires some { 0 < length self.now }
+        requires few { length places.now ≤ MOST_TOGETHER }
+        requires within { All (λ place. place < length self.now) places.now }
+        ensures { map (λ list. Some list.now) (take (length places.now) result)
+            ≡ map (slice_get self.now) places.now }
+    {
+        let mut lists = [self.at(0); MOST_TOGETHER];
+        for (at, place) in places.iter().enumerate() {
+            lists[at] = self.at(*place);
+        }
+        lists
     }
 }
 

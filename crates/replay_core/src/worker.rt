@@ -1,9 +1,9 @@
 //! One worker.
 
-ghost use Rattle.std.specs.Prelude.{◌≡◌, ◌<◌, ◌≤◌, ◌∷◌, ◌++◌, true, [], List, map, filter, length};
-ghost use Rattle.std.specs.Prelude.{All, IfOk, OnOk, IsFalse};
+ghost use Rattle.std.specs.Prelude.{◌≡◌, ◌+◌, ◌<◌, ◌≤◌, ◌∷◌, ◌++◌, true, [], List, map, filter};
+ghost use Rattle.std.specs.Prelude.{All, IfOk, OnOk, IsFalse, length};
 ghost use Rattle.replay_core.specs.Vocabulary.{AreOf, Firing, HasRanges, MOST_BYTES, ScriptMeant};
-ghost use Rattle.replay_core.specs.Vocabulary.{grouping, run_threads, with_ends};
+ghost use Rattle.replay_core.specs.Vocabulary.{MOST_TOGETHER, grouping, run_threads, with_ends};
 ghost use Rattle.replay_core.specs.{Running.IsLaneOf, Seen.IsRoomy, Sizes.most_firings};
 ghost use Rattle.replay_core.specs.Selecting.{AreFor, AreSelected, selected_for};
 ghost use Rattle.replay_core.specs.Working.{AreOfGroups, IsOfGroup};
@@ -15,11 +15,11 @@ use crate::engine::Engine;
 use crate::gate::Gate;
 use crate::lanes::Lanes;
 use crate::piece::Piece;
-use crate::run_firings::firing_at;
+use crate::run_firings::read_at;
 use crate::selection::Selections;
 use crate::source::Source;
 use crate::span::Span;
-use firing_reader::{Firing, Trace};
+use firing_reader::{Firing, MOST_TOGETHER, Trace};
 use shard_queue::Groups;
 use std::alloc::{AllocError, Global};
 use std::sync::Wait;
@@ -125,38 +125,74 @@ impl<'a, L: Lanes, G> WorkerInput<'a, L, G> {
     {
         let places = self.groups.places(group);
         let lane = self.lanes.lane(self.alloc)?;
-        let lane = run_at(lane, self.trace, self.selections, places, span)?;
+        let lane = self.run_at(lane, places, span)?;
         Ok(lane.finish())
     }
-}
 
-// Runs those of the firings at these places that count.
-fn run_at<E: Engine + Drop>(
-    mut lane: E,
-    trace: &Trace,
-    selections: &Selections,
-    places: &[u32],
-    span: Span,
-) -> Result<E, AllocError>
-    requires script { (m : ScriptMeant) × E.runs lane m
-        × AreFor trace.now selections.now m }
-    requires fresh { (m : ScriptMeant) → E.runs lane m → IsLaneOf m [] (E.seen lane) }
-    requires unspent { IsFalse (E.is_spent lane) }
-    requires short { All (λ clauses. length clauses ≤ MOST_BYTES) selections.now }
-    requires places { All (λ place. place < length (with_ends trace.now trace.now)) places.now }
-    requires few { length places.now ≤ length (with_ends trace.now trace.now) }
-    ensures script { IfOk result (λ l. (m : ScriptMeant) → E.runs lane m
-        → AreFor trace.now selections.now m → E.runs l m) }
-    ensures unspent { IfOk result (λ l. IsFalse (E.is_spent l)) }
-    ensures run { IfOk result (λ l. (m : ScriptMeant) → E.runs lane m
-        → AreFor trace.now selections.now m → IsLaneOf m (filter (is_in span)
-        (firings_at (with_ends trace.now trace.now) places.now)) (E.seen l)) }
-{
-    for place in places {
-        let firing = firing_at(trace, *place);
-        run_one(&mut lane, &firing, selections.at(*place), span)?;
+    // Runs those of the firings at these places that count.
+    fn run_at<E: Engine + Drop>(
+        &self,
+        mut lane: E,
+        places: &[u32],
+        span: Span,
+    ) -> Result<E, AllocError>
+        requires script { (m : ScriptMeant) × E.runs lane m
+            × AreFor self.now.trace.now self.now.selections.now m }
+        requires fresh { (m : ScriptMeant) → E.runs lane m → IsLaneOf m [] (E.seen lane) }
+        requires unspent { IsFalse (E.is_spent lane) }
+        requires short { All (λ clauses. length clauses ≤ MOST_BYTES) self.now.selections.now }
+        requires places { All (λ place. place
+            < length (with_ends self.now.trace.now self.now.trace.now)) places.now }
+        requires few { length places.now
+            ≤ length (with_ends self.now.trace.now self.now.trace.now) }
+        ensures script { IfOk result (λ l. (m : ScriptMeant) → E.runs lane m
+            → AreFor self.now.trace.now self.now.selections.now m → E.runs l m) }
+        ensures unspent { IfOk result (λ l. IsFalse (E.is_spent l)) }
+        ensures run { IfOk result (λ l. (m : ScriptMeant) → E.runs lane m
+            → AreFor self.now.trace.now self.now.selections.now m
+            → IsLaneOf m (filter (is_in span) (firings_at
+            (with_ends self.now.trace.now self.now.trace.now) places.now)) (E.seen l)) }
+    {
+        for block in places.chunks(MOST_TOGETHER) {
+            self.run_block(&mut lane, block, span)?;
+        }
+        Ok(lane)
     }
-    Ok(lane)
+
+    // Runs those of the firings at these few places that count. The rows and the lists of clauses
+    // are read first: no read needs another, so that the processor waits for all of them at once.
+    fn run_block<E: Engine>(
+        &self,
+        lane: &mut E,
+        places: &[u32],
+        span: Span,
+    ) -> Result<(), AllocError>
+        requires script { (m : ScriptMeant) × E.runs lane.old m
+            × AreFor self.now.trace.now self.now.selections.now m }
+        requires unspent { IsFalse (E.is_spent lane.old) }
+        requires short { All (λ clauses. length clauses ≤ MOST_BYTES) self.now.selections.now }
+        requires places { All (λ place. place
+            < length (with_ends self.now.trace.now self.now.trace.now)) places.now }
+        requires together { length places.now ≤ MOST_TOGETHER }
+        requires few { length (E.seen lane.old).piece.taken + length places.now
+            ≤ length (with_ends self.now.trace.now self.now.trace.now) }
+        ensures script { OnOk result ((m : ScriptMeant) → E.runs lane.old m
+            → AreFor self.now.trace.now self.now.selections.now m → E.runs lane.new m) }
+        ensures unspent { OnOk result (IsFalse (E.is_spent lane.new)) }
+        ensures run { OnOk result ((m : ScriptMeant) (before : List Firing) → E.runs lane.old m
+            → AreFor self.now.trace.now self.now.selections.now m
+            → IsLaneOf m before (E.seen lane.old)
+            → IsLaneOf m (before ++ filter (is_in span) (firings_at
+            (with_ends self.now.trace.now self.now.trace.now) places.now)) (E.seen lane.new)) }
+    {
+        let rows = self.trace.firings().rows(places);
+        let lists = self.selections.lists(places);
+        for (at, place) in places.iter().enumerate() {
+            let firing = read_at(self.trace, *place, &rows, at);
+            run_one(lane, &firing, lists[at], span)?;
+        }
+        Ok(())
+    }
 }
 
 // Runs the clauses at these places for a firing, if it counts.
@@ -175,6 +211,8 @@ fn run_one<E: Engine>(
     ensures script { (m : ScriptMeant) → E.runs lane.old m
         → clauses.now ≡ selected_for m firing.now → E.runs lane.new m }
     ensures unspent { OnOk result (IsFalse (E.is_spent lane.new)) }
+    ensures few { OnOk result (length (E.seen lane.new).piece.taken
+        ≤ length (E.seen lane.old).piece.taken + 1) }
     ensures run { OnOk result ((m : ScriptMeant) (before : List Firing) → E.runs lane.old m
         → clauses.now ≡ selected_for m firing.now → IsLaneOf m before (E.seen lane.old)
         → IsLaneOf m (before ++ filter (is_in span) (firing.now ∷ [])) (E.seen lane.new)) }

@@ -13,14 +13,14 @@ use Rattle.replay_core.proofs.TraceRuns.{threads_are}
 use Rattle.replay_core.proofs.worker.WorkerInput.piece_of.Goals as goal
 
 pub run_at-requires-clause-places : goal.run_at-requires-clause-places
-run_at-requires-clause-places g c =
+run_at-requires-clause-places g c κs within =
     let s = c.args.self.now in
     let t = s.trace.now in
     let are = c.places-places.ensures ∙ c.requires.ready.placed.places c.args.group ∙ ap (places_of (grouping s.groups.now) c.args.group) (sym (threads_are t)) in
     subst (λ (ps : List ℕ). All (λ p. p < length (with_ends t t)) ps) (sym are) (all_below (λ t. is_group c.args.group ((grouping s.groups.now).group t)) (with_ends t t))
 
 pub run_at-requires-clause-few : goal.run_at-requires-clause-few
-run_at-requires-clause-few g c =
+run_at-requires-clause-few g c κs within =
     let s = c.args.self.now in
     let t = s.trace.now in
     let are = ap length (c.places-places.ensures ∙ c.requires.ready.placed.places c.args.group ∙ ap (places_of (grouping s.groups.now) c.args.group) (sym (threads_are t))) in
@@ -41,9 +41,9 @@ returns-clause-piece g c = λ m runs.
     (subst (λ l. IsPieceOf m l (g.L.Lane.Engine.seen c.in_ok-lane-2.lane).piece) all ran.piece)
 
 pub run_at-requires-clause-script : goal.run_at-requires-clause-script
-run_at-requires-clause-script g c =
+run_at-requires-clause-script g c κs within =
     let (m, runs) = c.requires.ready.script in
     (m, c.in_ok-lane.ensures.script m runs, c.requires.selected.each m runs)
 
 pub run_at-requires-clause-short : goal.run_at-requires-clause-short
-run_at-requires-clause-short g c = c.requires.selected.few
+run_at-requires-clause-short g c κs within = c.requires.selected.few

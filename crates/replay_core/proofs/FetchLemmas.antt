@@ -1,0 +1,53 @@
+-- Firings whose rows and lists of clauses are read before the first of them runs.
+use Rattle.std.specs.Prelude.{◌≡◌, ◌≤◌, ◌<◌, ℕ, zero, suc, List, [], ◌∷◌, ◌++◌, Some}
+use Rattle.std.specs.Prelude.{filter, length, map, slice_get, take, drop}
+use Rattle.std.proofs.Common.{arith, get_or, ap, ◌∙◌}
+use Rattle.std.specs.Borrow.{Bor}
+use Rattle.std.proofs.lemmas.List.Concat.{flat_map-append}
+use Rattle.std.proofs.lemmas.List.Elements.{filter-append}
+use Rattle.firing_reader.specs.declared.firing.Firing.{Firing}
+use Rattle.firing_reader.specs.Firings.{HasRanges, IsFiring}
+use Rattle.firing_reader.specs.Stored.{row_before}
+use Rattle.firing_reader.specs.Trace.{IsTrace}
+use Rattle.replay_core.specs.declared.span.Span.{Span}
+use Rattle.replay_core.specs.Working.{is_in}
+use Rattle.replay_core.specs.Steps.Working.{firings_at}
+use Rattle.replay_core.proofs.TraceRuns.{few_kept}
+use Rattle.replay_core.proofs.WorkSteps.{at_of}
+
+-- ---- rows
+
+pub row_ranges : (trace : List Firing) (place : ℕ) (f : Firing) → IsTrace trace → row_before trace place ≡ Some f → HasRanges f
+row_ranges trace zero f are is = absurd cc
+row_ranges trace (suc i) f are is = (at_of IsFiring trace i f are.firings is).ranges
+
+-- ---- lists
+
+pub listed_at : (lists : List (Bor (List ℕ))) (selected : List (List ℕ)) (places : List ℕ) (i : ℕ) (d : Bor (List ℕ)) → i < length places
+    → map (λ (l : Bor (List ℕ)). Some l.now) (take (length places) lists) ≡ map (slice_get selected) places → slice_get selected (get_or places i 0) ≡ Some (get_or lists i d).now
+listed_at lists selected [] i d lt are = absurd (omega arith)
+listed_at [] selected (p ∷ places) i d lt are = absurd cc
+listed_at (l ∷ lists) selected (p ∷ places) zero d lt are = cc
+listed_at (l ∷ lists) selected (p ∷ places) (suc i) d lt are = listed_at lists selected places i d (omega arith) cc
+
+-- ---- blocks
+
+few_places : (fs : List Firing) (places : List ℕ) → length (firings_at fs places) ≤ length places
+few_places fs [] = omega arith
+few_places fs (p ∷ places) = first (drop p fs) (few_places fs places)
+  where
+    first : (l : List Firing) → length (firings_at fs places) ≤ length places → length (take 1 l ++ firings_at fs places) ≤ suc (length places)
+    first [] le = omega arith
+    first (x ∷ l) le = omega arith
+
+pub few_counted : (span : Span) (fs : List Firing) (places : List ℕ) → length (filter (is_in span) (firings_at fs places)) ≤ length places
+few_counted span fs places =
+    let a = few_kept (is_in span) (firings_at fs places) in
+    let b = few_places fs places in
+    omega arith
+
+pub block_more : (span : Span) (fs : List Firing) (done block : List ℕ)
+    → filter (is_in span) (firings_at fs (done ++ block)) ≡ filter (is_in span) (firings_at fs done) ++ filter (is_in span) (firings_at fs block)
+block_more span fs done block =
+    ap (filter (is_in span)) (flat_map-append (λ (p : ℕ). take 1 (drop p fs)) done block)
+    ∙ filter-append (is_in span) (firings_at fs done) (firings_at fs block)

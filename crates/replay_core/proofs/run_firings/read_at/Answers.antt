@@ -1,0 +1,10 @@
+use Rattle.std.proofs.Common.{◌≡◌, Some, sym, ◌∙◌}
+use Rattle.firing_reader.specs.Stored.{row_before}
+use Rattle.replay_core.proofs.FetchLemmas.{row_ranges}
+use Rattle.replay_core.proofs.run_firings.read_at.Goals as goal
+
+pub returns-in-Some-clause-ranges : goal.returns-in-Some-clause-ranges
+returns-in-Some-clause-ranges c =
+    let found : Some (row_before c.args.trace.now c.args.place) ≡ Some (Some c.in-Some.firing) = sym c.requires.row ∙ c.in-Some.ensures in
+    let is : row_before c.args.trace.now c.args.place ≡ Some c.in-Some.firing = cc in
+    row_ranges c.args.trace.now c.args.place c.in-Some.firing c.requires.trace is

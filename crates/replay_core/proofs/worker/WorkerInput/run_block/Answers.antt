@@ -1,0 +1,54 @@
+use Rattle.std.proofs.Common.{◌≡◌, ◌++◌, ◌∷◌, [], List, arith, filter, take, get_or, sym, ap, subst, ◌∙◌, append_assoc}
+use Rattle.std.specs.Prelude.{slice_index}
+use Rattle.std.proofs.lemmas.List.{get_or_default}
+use Rattle.firing_reader.specs.declared.firing.Firing.{Firing}
+use Rattle.firing_reader.specs.Ends.{with_ends}
+use Rattle.replay_core.specs.Running.{IsLaneOf}
+use Rattle.replay_core.specs.Working.{is_in}
+use Rattle.replay_core.specs.Steps.Working.{firings_at}
+use Rattle.replay_core.proofs.FetchLemmas.{listed_at}
+use Rattle.replay_core.proofs.SelectionLemmas.{selected_is, selected_short}
+use Rattle.replay_core.proofs.WorkSteps.{kept_more}
+use Rattle.replay_core.proofs.worker.WorkerInput.run_block.Goals as goal
+
+pub run_one-requires-clause-selected : goal.run_one-requires-clause-selected
+run_one-requires-clause-selected g c =
+    let some = c.requires.script in
+    let s = c.args.self.now in
+    let i = c.loop-at.at in
+    let places = c.args.places.now in
+    let list = get_or c.lists-lists.result i c.index-lists-at.result in
+    let listed = listed_at c.lists-lists.result s.selections.now places i c.index-lists-at.result (omega arith) c.lists-lists.ensures in
+    (some.0, c.loop-at.invariant.script some.0 some.1 some.2, selected_is some.0 s.trace.now s.selections.now some.2 (slice_index places i) c.read_at-firing.result list.now c.read_at-firing.ensures.firing listed)
+
+pub run_one-requires-clause-clauses : goal.run_one-requires-clause-clauses
+run_one-requires-clause-clauses g c =
+    let s = c.args.self.now in
+    let i = c.loop-at.at in
+    let places = c.args.places.now in
+    let list = get_or c.lists-lists.result i c.index-lists-at.result in
+    selected_short s.selections.now c.requires.short (slice_index places i) list.now (listed_at c.lists-lists.result s.selections.now places i c.index-lists-at.result (omega arith) c.lists-lists.ensures)
+
+pub loop-at-preserved : goal.loop-at-preserved
+loop-at-preserved g c =
+    let s = c.args.self.now in
+    let i = c.loop-at.at in
+    let places = c.args.places.now in
+    let run = with_ends s.trace.now s.trace.now in
+    let place = slice_index places i in
+    let f = c.read_at-firing.result in
+    let inv = c.loop-at.invariant in
+    let ran = c.in_ok-run_one.ensures in
+    let list = get_or c.lists-lists.result i c.index-lists-at.result in
+    let listed = listed_at c.lists-lists.result s.selections.now places i c.index-lists-at.result (omega arith) c.lists-lists.ensures in
+    let counted = filter (is_in c.args.span) (firings_at run (take i places)) in
+    let item : get_or places i place ≡ place = get_or_default places i place 0 (omega arith) in
+    let more = kept_more c.args.span run places i place f (omega arith) item c.read_at-firing.ensures.firing in
+    record {
+      script = λ m runs are. c.run_one.ensures.script m (inv.script m runs are) (selected_is m s.trace.now s.selections.now are place f list.now c.read_at-firing.ensures.firing listed);
+      unspent = ran.unspent;
+      few = let now = ran.few in let before = inv.few in omega (arith, now, before);
+      run = λ m before runs are is. subst (λ (l : List Firing). IsLaneOf m l (g.E.Engine.seen c.run_one.new.lane))
+          (append_assoc before counted (filter (is_in c.args.span) (f ∷ [])) ∙ ap (λ l. before ++ l) (sym more))
+          (ran.run m (before ++ counted) (inv.script m runs are) (selected_is m s.trace.now s.selections.now are place f list.now c.read_at-firing.ensures.firing listed) (inv.run m before runs are is));
+    }
