@@ -31,7 +31,7 @@ pub(crate) enum Held {
 }
 
 impl Held {
-    // How many there were, where that is held.
+    // How many there were, if that is held.
     pub(crate) fn count(&self) -> u64
         ensures { result ≡ spec.count_of self.now }
     {
@@ -71,7 +71,7 @@ impl Held {
         }
     }
 
-    // How many were in each bucket, where that is held.
+    // How many were in each bucket, if that is held.
     pub(crate) fn histogram(&self) -> Option<&Histogram>
         ensures { option_copied result ≡ histogram_in (figure_of self.now) }
     {

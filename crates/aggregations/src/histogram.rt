@@ -34,7 +34,7 @@ impl Histogram {
     ghost use Rattle.aggregations.specs.Histograms.{IsSpan, histogram_of};
     ghost use Rattle.aggregations.specs.Steps.Histograms.{with_more};
 
-    // Without arguments.
+    // A histogram without arguments.
     pub(crate) fn new(alloc: Global, scale: Scale) -> Histogram
         ensures { result ≡ histogram_of scale [] }
     {

@@ -41,7 +41,7 @@ impl Slot {
     ghost use Rattle.aggregations.specs.Vocabulary.{IsDistinct, deref_pair, keys_of, same_key};
     ghost use Rattle.aggregations.specs.Steps.Entries.{TakesAll, TakesArgument};
 
-    /// Without entries.
+    /// An aggregation without entries.
     pub(crate) fn new(function: AggFn) -> Slot
         ensures { result ≡ record { function = function; entries = [] } }
     {
@@ -136,7 +136,7 @@ impl Slot {
         }
     }
 
-    /// The map of the entries, where it is made.
+    /// The map of the entries, if it was made.
     pub(crate) fn map(&self) -> Option<&IndexMap<Key, Partial, HashKey>>
         ensures some { IfSome result (λ m. m.now.entries ≡ self.now.entries) }
         ensures none { IsNone result → self.now.entries ≡ [] }

@@ -31,7 +31,7 @@ impl Model for ClauseLocals {
 }
 
 impl ClauseLocals {
-    /// No variable is set.
+    /// Variables of which none is set.
     ///
     /// ```text
     /// let locals = ClauseLocals::new(alloc);

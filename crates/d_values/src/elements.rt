@@ -12,14 +12,14 @@ use indexmap::IndexMap;
 use keyed_hash::HashKey;
 use std::alloc::AllocError;
 
-// How many keys' rooms are kept.
+// How many removed keys are kept for their room.
 const ROOMS: usize = 4;
 
 /// What a variable holds under its keys. Zero and the empty text are not kept.
 pub(crate) type Elements = IndexMap<Key, Value, HashKey>;
 
-/// What there is at the key, or zero or the empty text. The key is first compared with that at this
-/// index.
+/// The value at the key, or else zero or the empty text. The key is first compared with that at
+/// this index.
 pub(crate) fn lend<'a>(elements: &'a Elements, first: usize, key: &Key, kind: Kind) -> ValueRef<'a>
     ensures { lent_value result ≡ unwrap_or (get same_key elements.now key.now) (blank kind) }
 {

@@ -46,7 +46,7 @@ impl Held {
         &self.elements
     }
 
-    /// Nothing.
+    /// A variable that holds nothing.
     pub(crate) fn new(alloc: Global, hash_key: HashKey) -> Held
         ensures { elements_of result ≡ [] }
     {
@@ -57,7 +57,7 @@ impl Held {
         }
     }
 
-    /// What it has at the key, or zero or the empty text.
+    /// Its value at the key, or else zero or the empty text.
     pub(crate) fn get(&self, key: &Key, kind: Kind) -> ValueRef<'_>
         ensures { lent_value result
             ≡ unwrap_or (lookup (same_key key.now) (elements_of self.now)) (blank kind) }

@@ -26,7 +26,7 @@ pub enum KeyPart {
 }
 
 impl KeyPart {
-    // Becomes this text, in the room of the text that it was.
+    // Becomes this text, reusing the room of its old text.
     fn set_name(&mut self, alloc: Global, bytes: &[u8]) -> Result<(), AllocError>
         ensures ok { OnOk result (self.new ≡ KeyPart.Name bytes.now) }
         ensures err { OnErr result (self.new ≡ self.old) }
@@ -41,7 +41,7 @@ impl KeyPart {
         }
     }
 
-    // Becomes another part, in the room that it has.
+    // Becomes another part, reusing its own room.
     fn assign(&mut self, alloc: Global, part: &KeyPart) -> Result<(), AllocError>
         ensures { OnOk result (self.new ≡ part.now) }
     {
@@ -220,7 +220,7 @@ impl Key {
         self.parts[place] = KeyPart::Number(number);
     }
 
-    /// Puts a text in the place of a part, in the room of the text that stood there.
+    /// Puts a text in the place of a part, in the room of the text that was there.
     ///
     /// ```text
     /// // of a key with one part
@@ -237,7 +237,7 @@ impl Key {
     }
 }
 
-// A copy of a key, in the room of another where both have as many parts.
+// A copy of a key, in the room of another if both have the same number of parts.
 pub(crate) fn copy_in_room(room: Key, key: &Key) -> Result<Key, AllocError>
     ensures { IfOk result (λ k. k ≡ key.now) }
 {

@@ -14,7 +14,7 @@ pub fn wrap_lies_in_type()
     ensures { (t : IntType) (z : ℤ) → IsWrapped t z (wrap t z) }
 {}
 
-/// There is no other such number.
+/// There is no other number like it.
 pub fn one_number()
     ensures { (t : IntType) (z n : ℤ) → IsWrapped t z n → n ≡ wrap t z }
 {}
@@ -48,7 +48,7 @@ pub fn division()
     ensures toward_zero { (x y : ℤ) → unsigned_abs (int_div x y) ≡ unsigned_abs x / unsigned_abs y }
 {}
 
-/// A variable reads what it was set to, and each other variable what it did.
+/// A variable reads what it was set to, and each other variable reads as before.
 pub fn one_local_set()
     ensures here { (values : Var → Value) (var : Var) (value : Value)
         → with_local values var value var ≡ value }

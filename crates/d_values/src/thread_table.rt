@@ -40,7 +40,7 @@ impl Model for ThreadTable {
 }
 
 impl ThreadTable {
-    /// Nothing is set, in maps whose hashes have this key.
+    /// Variables of which none is set. Their maps hash by this key.
     ///
     /// ```text
     /// let table = ThreadTable::new(alloc, hash_key);

@@ -3,7 +3,7 @@
 use dif_validate::Difo;
 use firing_reader::Firing;
 
-/// What a run is of: an object, and a firing.
+/// What a run reads: an object, and a firing.
 #[derive(Clone, Copy)]
 pub(crate) struct Context<'a> {
     /// The object that is run.

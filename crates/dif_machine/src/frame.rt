@@ -19,7 +19,8 @@ use d_values::{Text, Value, ValueRef};
 use dif_validate::Reg;
 use std::alloc::{AllocError, Global};
 
-/// The place in the code, the registers, the comparison and the tuple, and what makes their texts.
+/// The place in the code, the registers, the comparison and the tuple, and the allocator of their
+/// texts.
 #[derive(Drop)]
 pub struct Frame {
     /// Where the memory of its texts and keys comes from.
@@ -28,7 +29,7 @@ pub struct Frame {
     pub pc: usize,
     /// The registers.
     pub registers: [Cell; 8],
-    /// How the two values compare that were compared last.
+    /// How the two values that were compared last compare.
     pub comparison: Option<Comparison>,
     /// The tuple.
     pub tuple: Tuple,

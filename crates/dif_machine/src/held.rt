@@ -31,7 +31,7 @@ pub enum Held {
 pub struct Cell {
     /// What it holds.
     pub held: Held,
-    /// Its own text. Where it holds something else, only the room of an earlier one.
+    /// Its own text. If it holds something else, only the room of an earlier text.
     pub text: Text,
 }
 
@@ -58,7 +58,7 @@ impl Cell {
         }
     }
 
-    /// Lends what it holds, and 0 where that is nothing.
+    /// Lends what it holds, or 0 if it holds nothing.
     pub(crate) fn lend<'a>(&'a self, context: Context<'a>) -> ValueRef<'a>
         ensures value { content (object_of context.entry.difo.now) context.entry.firing.now self.now
             ≢ None → content (object_of context.entry.difo.now) context.entry.firing.now self.now

@@ -48,7 +48,7 @@ impl LastKey {
         }
     }
 
-    /// Lends it.
+    /// Lends the key that was written last.
     pub(crate) fn key(&self) -> &Key
         ensures { result.now ≡ self.now }
     {

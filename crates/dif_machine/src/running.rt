@@ -20,8 +20,8 @@ use dif_validate::{Instr, Reg, ValidDifo};
 use firing_reader::Firing;
 use std::alloc::Global;
 
-// Runs a valid object to its end. The register that is returned holds what the object returns. It
-// isn't inlined: an object that only loads is run without what the loop sets up.
+// Runs a valid object to its end. The register that is returned holds what the object returns. Not
+// inlined, so that an object that only loads runs without the loop's set-up.
 #[inline(never)]
 fn run_to_end(
     context: Context<'_>,
@@ -90,7 +90,7 @@ fn source<'a>(
     None
 }
 
-// What an object lends that only loads it. This needs no frame.
+// The value of an object that only loads it. This needs no frame.
 #[inline(always)]
 fn single_load<'a>(
     alloc: Global,

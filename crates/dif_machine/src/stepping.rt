@@ -43,7 +43,7 @@ pub(crate) fn step(
     }
 }
 
-// What the instruction at the place does. It is read where it lies: no instruction uses all fields.
+// Executes the instruction at the place. It is read in place, as no instruction uses all fields.
 fn execute(
     context: Context<'_>,
     instr: &Instr,

@@ -37,6 +37,13 @@ enum Stage {
 
 /// Reads a trace that comes in blocks, which may be cut anywhere. It keeps the firings of the rows
 /// that are whole, and the bytes of the row that isn't. Contracts see these.
+///
+/// ```text
+/// let mut reader = Reader::new(alloc, hash_key, 2, 1 << 22)?;
+/// reader.take(rt, b"number,cpu,..,arg9\n1,0,7,")?;
+/// reader.take(rt, b"700,cat,..\n")?;
+/// reader.finish(rt)?.firings().len(); // 1
+/// ```
 #[derive(Drop)]
 pub struct Reader {
     alloc: Global,
@@ -49,8 +56,8 @@ pub struct Reader {
     left: Vec<u8>,
     // How many bytes there are at least before some are read.
     least: usize,
-    // The same after the last time. A row that is not whole waits for as many bytes again, so that
-    // a long one is not looked through at each block.
+    // The same, after some were read. A row that isn't whole waits for as many bytes again, so that
+    // a long one isn't scanned at each block.
     enough: usize,
 }
 
@@ -173,7 +180,7 @@ impl Reader {
     }
 }
 
-// Keeps nothing but a fault. That of memory is returned at once.
+// Keeps nothing but a fault, and returns it if memory was refused.
 fn refuse(
     alloc: Global,
     stage: &mut Stage,
@@ -192,8 +199,8 @@ fn refuse(
     }
 }
 
-// Reads the header, and the rows in the bytes at hand where csv has to read it. It returns false
-// where the header is not whole yet.
+// Reads the header, and if csv has to read it the whole rows after it too. Returns false if the
+// header isn't whole yet.
 fn read_header(alloc: Global, firings: &mut Firings, left: &mut Vec<u8>) -> Result<bool, TraceFault>
     requires { firings.old ≡ [] }
     ensures found { IfOk result (λ found. MatchBool found
@@ -240,7 +247,7 @@ fn read_rows(alloc: Global, firings: &mut Firings, left: &mut Vec<u8>) -> Result
     Ok(())
 }
 
-// Reads plain rows by several workers. It returns None where memory is refused.
+// Reads plain rows with several workers. Returns None if memory is refused.
 fn read_front<R: Threads>(
     context: &Context<R>,
     pieces: &mut [Firings],
@@ -313,7 +320,7 @@ fn advance<R: Threads>(
     }
 }
 
-// Drops the bytes before a place, and puts a line feed there, as where a row ended.
+// Drops the bytes before a place, and puts a line feed there, as at the end of a row.
 fn keep_from(left: &mut Vec<u8>, at: usize)
     requires { at < length left.old.items }
     ensures { left.new.items ≡ 10 ∷ drop (at + 1) left.old.items }

@@ -142,7 +142,7 @@ impl Firings {
         }
     }
 
-    /// Stores one more. Where memory is refused it returns None, and the firings stay as they were.
+    /// Stores one more. If memory is refused, returns None and leaves the firings as they were.
     pub(crate) fn push(&mut self, firing: &Firing) -> Option<()>
         ensures { MatchOption result (self.new ≡ self.old)
             (λ _. self.new ≡ self.old ++ firing.now ∷ []) }
@@ -180,8 +180,8 @@ impl Firings {
         }
     }
 
-    /// Reads the plain row after a line feed, whose number has to be above the last: what comes
-    /// from its own line feed on. Where it returns None, the firings stay as they were.
+    /// Reads the plain row after a line feed, whose number has to be above the last, and returns
+    /// the bytes from its own line feed on. If it returns None, the firings stay as they were.
     #[inline(always)]
     pub(crate) fn read_row<'a>(&mut self, bytes: &'a [u8]) -> Option<&'a [u8]>
         ensures { MatchOption result (self.new ≡ self.old) (λ rest. (f : Firing)
@@ -260,7 +260,7 @@ pub(crate) fn firing_of<'a>(
     }
 }
 
-// Whether memory was there for one row more.
+// Adds a row, and returns whether there was memory for it.
 fn push_row(rows: &mut Vec<Row>, row: Row) -> bool
     ensures pushed { result ≡ true → rows.new.items ≡ rows.old.items ++ row ∷ [] }
     ensures refused { result ≡ false → rows.new.items ≡ rows.old.items }
@@ -268,8 +268,8 @@ fn push_row(rows: &mut Vec<Row>, row: Row) -> bool
     rows.push(row).is_ok()
 }
 
-// Adds rows, with the places of their owners and probes among others, and with arguments that begin
-// so much later.
+// Adds rows, with the places of their owners and probes and the starts of their arguments changed
+// to those among all.
 fn add_rows(
     rows: &mut Vec<Row>,
     others: &[Row],

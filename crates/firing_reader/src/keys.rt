@@ -1,4 +1,4 @@
-//! Bytes of rows that were met before, each with the place of what they mean.
+//! Bytes of rows that were read before, each with the place of what they mean.
 
 ghost use Rattle.std.specs.Prelude.{◌≡◌, ◌++◌, ◌∷◌, [], IfOk, IfSome, MatchOption, Contains, ◌<◌};
 ghost use Rattle.std.specs.Prelude.{vec_len};
@@ -25,7 +25,7 @@ pub(crate) fn u32_of(number: usize) -> Option<u32>
     u32::try_from(number).ok()
 }
 
-// Adds bytes, where memory is there for them.
+// Adds bytes, if there is memory for them.
 fn add_bytes(all: &mut Vec<u8>, bytes: &[u8]) -> Option<()>
     ensures { MatchOption result (all.new.items ≡ all.old.items)
         (λ _. all.new.items ≡ all.old.items ++ bytes.now) }
@@ -33,7 +33,7 @@ fn add_bytes(all: &mut Vec<u8>, bytes: &[u8]) -> Option<()>
     all.extend_from_slice(bytes).ok()
 }
 
-// Makes room for one more, where memory is there for it.
+// Makes room for one more, if there is memory for it.
 fn make_room(all: &mut Vec<Known>) -> Option<()>
     ensures same { all.new.items ≡ all.old.items }
     ensures room { IfSome result (λ _. vec_len all.new < vec_capacity all.new) }
@@ -41,7 +41,7 @@ fn make_room(all: &mut Vec<Known>) -> Option<()>
     all.reserve(1).ok()
 }
 
-/// Bytes that were met, each with a place. Contracts see the list of them.
+/// Bytes that were read before, each with a place. Contracts see the list of them.
 #[derive(Drop)]
 pub(crate) struct Keys {
     bytes: Vec<u8>,

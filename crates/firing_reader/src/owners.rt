@@ -78,7 +78,7 @@ impl Owners {
         }
     }
 
-    /// The place of an owner, who is kept where they weren't.
+    /// The place of an owner, which is added if it isn't there.
     pub(crate) fn keep(&mut self, thread: i32, pid: i32, execname: &Text) -> Option<u32>
         ensures grows { Extends self.old self.new }
         ensures place { IfSome result (λ p. slice_get self.new p
@@ -115,7 +115,7 @@ impl Owners {
         Some(place)
     }
 
-    // The place of the owner whose fields these bytes are, where they were met.
+    // The place of the owner whose fields these bytes are, if they were read before.
     #[inline(always)]
     fn known(&self, key: &[u8]) -> Option<u32>
         ensures { IfSome result (λ p. (owner : Owner)
@@ -124,7 +124,7 @@ impl Owners {
         self.keys.find(key)
     }
 
-    // The same, whether they were met or not.
+    // The same, whether they were read before or not.
     #[inline(always)]
     fn unit(&mut self, key: &[u8]) -> Option<u32>
         ensures grows { Extends self.old self.new }
@@ -171,7 +171,7 @@ impl Owners {
         self.keep(owner.thread, owner.pid, &owner.execname)
     }
 
-    /// The places of others' owners, which are kept where they weren't.
+    /// The places of others' owners, which are added if they aren't there.
     pub(crate) fn places_of(&mut self, alloc: Global, others: &Owners) -> Option<Vec<u32>>
         ensures grows { Extends self.old self.new }
         ensures places { IfSome result (λ places. ArePlaces self.new places.items others.now) }

@@ -83,7 +83,7 @@ impl Probes {
         }
     }
 
-    /// The place of a probe, which is kept where it wasn't.
+    /// The place of a probe, which is added if it isn't there.
     pub(crate) fn keep(
         &mut self,
         provider: &Text,
@@ -123,7 +123,7 @@ impl Probes {
         Some(place)
     }
 
-    // The place of the probe whose fields these bytes are, where they were met.
+    // The place of the probe whose fields these bytes are, if they were read before.
     #[inline(always)]
     fn known(&self, key: &[u8]) -> Option<u32>
         ensures { IfSome result (λ p. (probe : Probe)
@@ -132,7 +132,7 @@ impl Probes {
         self.keys.find(key)
     }
 
-    // The same, whether they were met or not.
+    // The same, whether they were read before or not.
     #[inline(always)]
     fn unit(&mut self, key: &[u8]) -> Option<u32>
         ensures grows { Extends self.old self.new }
@@ -184,7 +184,7 @@ impl Probes {
         )
     }
 
-    /// The places of others' probes, which are kept where they weren't.
+    /// The places of others' probes, which are added if they aren't there.
     pub(crate) fn places_of(&mut self, alloc: Global, others: &Probes) -> Option<Vec<u32>>
         ensures grows { Extends self.old self.new }
         ensures places { IfSome result (λ places. ArePlaces self.new places.items others.now) }

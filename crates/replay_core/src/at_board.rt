@@ -57,7 +57,7 @@ pub(crate) fn in_threads<R: Threads + Wait + Sync, L: Lanes + Sync, G: Gate + Sy
         (Gives span (L.runs input.now.lanes.now) input.now.groups.now input.now.trace.now)
         board.now)) v.items) }
 {
-    // Callers know nothing of a closure that captures a value whose type has a lifetime.
+    // A contract knows nothing of a closure that captures a value with a lifetime.
     let (alloc, lanes, trace) = (input.alloc, input.lanes, input.trace);
     let (selections, groups, gate) = (input.selections, input.groups, input.gate);
     thread::scope(

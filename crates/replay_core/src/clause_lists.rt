@@ -16,7 +16,7 @@ pub(crate) struct ClauseLists {
     lists: Vec<ClausePlaces>,
     // One without clauses.
     empty: ClausePlaces,
-    // By the hash of a list, the place of the one that was last kept.
+    // By the hash of a list, the place of the last one that was added.
     hashed: IndexMap<u64, usize, HashKey>,
 }
 
@@ -51,7 +51,7 @@ impl ClauseLists {
         }
     }
 
-    /// The place of a list, which is kept where it wasn't.
+    /// The place of a list, which is added if it isn't there.
     pub(crate) fn keep(&mut self, list: ClausePlaces) -> Result<usize, AllocError>
         ensures grows { Extends self.old self.new }
         ensures place { IfOk result (λ p. slice_get self.new p ≡ Some list) }
@@ -75,7 +75,7 @@ impl ClauseLists {
         }
     }
 
-    // Keeps a list at a new place.
+    // Adds a list at a new place.
     fn add(&mut self, hash: u64, list: ClausePlaces) -> Result<usize, AllocError>
         ensures grows { Extends self.old self.new }
         ensures place { IfOk result (λ p. slice_get self.new p ≡ Some list) }

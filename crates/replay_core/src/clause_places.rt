@@ -39,7 +39,7 @@ impl ClausePlaces {
         }
     }
 
-    /// Of these places.
+    /// The list of these places.
     pub(crate) fn of(alloc: Global, places: &[usize]) -> Result<ClausePlaces, AllocError>
         ensures { IfOk result (λ c. c ≡ places.now) }
     {

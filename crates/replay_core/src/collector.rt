@@ -12,8 +12,8 @@ use crate::sorting::by_number;
 use crate::whole::Whole;
 use std::alloc::{AllocError, Global};
 
-/// Makes one whole of the pieces of this many groups, each with its group's number. They come in any
-/// order. Where they aren't one of each group, the fault names a group with two pieces or none, or
+/// Makes one whole of the pieces of this many groups, each with its group's number. They come in
+/// any order. If they aren't one of each group, the fault names a group with two pieces or none, or
 /// one that isn't there.
 ///
 /// ```text

@@ -96,7 +96,7 @@ impl<'a> DescriptionTable<'a> {
         Ok(())
     }
 
-    // The table, after all were added.
+    // Sorts the table, once all descriptions are there.
     fn sort(self) -> Result<DescriptionTable<'a>, AllocError>
         ensures { HaveKinds self.entry
             → IfOk result (λ t. IsTable t (given_of self.entry.described.items)) }
@@ -129,7 +129,7 @@ impl<'a> DescriptionTable<'a> {
         Ok(clauses)
     }
 
-    // The places of the clauses of those of a kind with this hash that select the probe.
+    // The places of the clauses whose descriptions of a kind, with this hash, select the probe.
     fn clauses_of_kind(
         &self,
         alloc: Global,
@@ -161,7 +161,7 @@ fn is_exact(description: &Description) -> bool
         && is_literal(description.name.as_slice())
 }
 
-// The place of a kind, which is added where it wasn't there.
+// The place of a kind, which is added if it isn't there.
 fn kind_of<'a>(
     kinds: &mut Vec<Option<&'a Description>>,
     own: Option<&'a Description>,
@@ -217,7 +217,7 @@ fn hash_of_description(hash_key: HashKey, description: &Description) -> u64
     hasher.finish()
 }
 
-// The hash of those of a kind that select the probe.
+// The hash of the descriptions of a kind that select the probe.
 fn hash_sought(hash_key: HashKey, kind: Option<&Description>, probe: &Probe) -> u64
     ensures { result ≡ hash_sought hash_key kind.entry probe.now }
 {

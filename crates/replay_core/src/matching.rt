@@ -57,7 +57,7 @@ fn is_wild_match(pattern: &[u8], text: &[u8]) -> bool
     }
 }
 
-// Whether the pattern matches what comes after some of the bytes.
+// Whether the pattern matches some ending of the text.
 fn is_match_anywhere(pattern: &[u8], text: &[u8]) -> bool
     ensures { IsTrue result ↔ Matches (42 ∷ pattern.now) text.now }
 {

@@ -6,7 +6,7 @@ ghost use Rattle.replay_core.specs.Tables.{CanMerge, Serve};
 use aggregations::AggTable;
 use std::alloc::{AllocError, Global};
 
-/// One table in place of these: neighbours are merged first.
+/// All tables as one: neighbours are merged first.
 pub(crate) fn merge_all(alloc: Global, mut tables: Vec<AggTable>) -> Result<AggTable, AllocError>
     requires some { 0 < length tables.items }
     requires can { CanMerge tables.items }
@@ -21,7 +21,7 @@ pub(crate) fn merge_all(alloc: Global, mut tables: Vec<AggTable>) -> Result<AggT
     Ok(table)
 }
 
-// Each two neighbours merged.
+// Each pair of neighbours, merged.
 fn merge_neighbours(alloc: Global, tables: Vec<AggTable>) -> Result<Vec<AggTable>, AllocError>
     requires can { CanMerge tables.items }
     ensures half { IfOk result (λ v. (length v.items + length v.items ≤ length tables.items + 1)

@@ -28,7 +28,7 @@ impl Piece {
     ghost use Rattle.replay_core.specs.{Effects.NotesEffect, Seen.piece_seen};
     ghost use Rattle.replay_core.specs.Steps.Seen.{IsEmptyPiece};
 
-    /// Without any firing, with aggregations of these functions.
+    /// A piece of no firing, with aggregations of these functions.
     pub(crate) fn new(
         alloc: Global,
         hash_key: HashKey,
@@ -123,8 +123,8 @@ impl Piece {
     }
 }
 
-// The line that stands for a division by 0, at the firing of this number in the clause at this
-// place of the script, from 1.
+// The line of a division by 0, at the firing of this number in the clause at this place of the
+// script, from 1.
 fn fault_line(alloc: Global, number: u64, place: u64) -> Result<Text, AllocError>
     ensures { IfOk result (λ t. t ≡ fault_line number place) }
 {

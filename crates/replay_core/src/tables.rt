@@ -16,7 +16,7 @@ pub(crate) struct Tables {
 }
 
 impl Tables {
-    /// Nothing is assigned.
+    /// Tables in which nothing is assigned.
     pub(crate) fn new(alloc: Global, hash_key: HashKey) -> Tables
         ensures locals { result.locals ≡ [] }
         ensures own { result.own ≡ [] }

@@ -20,9 +20,9 @@ use crate::worker::WorkerInput;
 use std::alloc::AllocError;
 use std::sync::Wait;
 
-/// Takes groups until it is at the end, and makes a piece of a beginning of each. A beginning
-/// ends after a firing that exits, and before one whose number is over the least that a worker
-/// found to exit. Err where memory was refused.
+/// Takes groups until it is at the end, and makes a piece of a beginning of each. A beginning ends
+/// after a firing that exits, and before one whose number is above the least that a worker found to
+/// exit. Err where memory was refused.
 ///
 /// ```text
 /// let (pieces, seat) = work_until(&rt, &board, seat, &input)?;

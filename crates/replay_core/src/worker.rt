@@ -111,7 +111,7 @@ where
 }
 
 impl<'a, L: Lanes, G> WorkerInput<'a, L, G> {
-    // What the firings of a group make that count.
+    // What the firings of a group that count make.
     fn piece_of(&self, group: u32, span: Span) -> Result<Piece, AllocError>
         requires group { group < (grouping self.now.groups.now).count }
         requires ready { IsReady

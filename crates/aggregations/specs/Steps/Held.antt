@@ -29,8 +29,7 @@ number_of (Greatest m) = m
 number_of (Mean m) = m.sum
 number_of (Counts h) = pos 0
 
--- what is held after so many arguments more, of which this is the number; a histogram takes them by
--- itself
+-- what is held after n more arguments that equal this number; a histogram takes them by itself
 abbrev pub after : Held → ℤ → ℕ → Held
 after (Counted n) number count = Counted (n + count)
 after (Summed s) number count = Summed (int_wrap w64 (s +ℤ number))

@@ -50,11 +50,11 @@ unfoldable pub Rises : ℕ → List Firing → ℕ → Type 0
 Rises last [] end = last ≡ end
 Rises last (f ∷ fs) end = (last < f.number) × Rises f.number fs end
 
--- what is left after so many bytes: the next one is where a row ended
+-- what is left after `count` bytes: the next one is where a row ended
 abbrev pub left_after : ℕ → List ℕ → List ℕ
 left_after count bytes = 10 ∷ drop (count + 1) bytes
 
--- the bytes begin with the rows of these firings, and their numbers rise; so many bytes come before
+-- the bytes begin with the rows of these firings, and their numbers rise; `count` bytes come before
 -- what is left
 pub record IsPiece (bytes : List ℕ) (fs : List Firing) (count : ℕ) : Type 0 where
   pub rows : ReadsRows bytes fs (left_after count bytes)
@@ -89,7 +89,7 @@ pub record GoesOn (old : List Firing) (bytes : List ℕ) (new : List Firing) (re
   pub taken : (tail : List ℕ) → left_in State.StartRecord (Some (bytes ++ tail))
       ≡ rows ++ left_in State.StartRecord (Some (rest ++ tail))
 
--- the rows of the first bytes, so many, come after the old firings, and give the new ones
+-- the rows in the first `count` bytes come after the old firings, and give the new ones
 pub record PassesRows (old : List Firing) (bytes : List ℕ) (new : List Firing) (count : ℕ)
     : Type 0 where
   pub read : GoesOn old bytes new (left_after count bytes)

@@ -16,7 +16,7 @@ use core::dec2flt::read_digits;
 // No number above this is read here: ten times it plus a digit still fits in 64 bits.
 const LARGE: u64 = 1_844_674_407_370_955_160;
 
-// So many digits write a number of 64 bits.
+// A number of this many digits fits in 64 bits.
 const SHORT: usize = 19;
 
 // The digits at the front: the number that they write, and how many there are.
@@ -189,7 +189,7 @@ fn other_argument(bytes: &[u8]) -> Option<(i64, &[u8])>
     }
 }
 
-// One that isn't left out.
+// An argument that isn't empty.
 #[inline(always)]
 fn longer_argument(bytes: &[u8]) -> Option<(i64, &[u8])>
     ensures { IfSome result (λ p. (field : List ℕ)

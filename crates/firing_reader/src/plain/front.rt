@@ -69,7 +69,7 @@ fn is_word_byte(b: u8) -> bool
     b'-' <= b && b < 128
 }
 
-// How many such bytes come first.
+// How many bytes at the front are in ASCII, from the minus on.
 pub(crate) fn word_front(bytes: &[u8]) -> usize
     ensures count { result ≤ length bytes.now }
     ensures words { All IsWordByte (take result bytes.now) }

@@ -11,8 +11,8 @@ use crate::owners::Owners;
 use crate::probes::Probes;
 use crate::stored_row::Row;
 
-// The row after a line feed, and what comes from its own line feed on. It follows a firing with the
-// number `last`. What it shares with others is kept.
+// The row after a line feed, and the bytes from its own line feed on. Its number has to be above
+// `last`. Its owner and its probe are added if they aren't there.
 #[inline(always)]
 pub(crate) fn row<'a>(
     owners: &mut Owners,

@@ -29,7 +29,7 @@ pub(crate) fn end_of_three(bytes: &[u8]) -> usize
     end_after(bytes, 3)
 }
 
-/// How many bytes there are up to the fourth comma, it included; 0 where there are fewer commas.
+/// How many bytes there are up to and including the fourth comma; 0 where there are fewer commas.
 #[inline(always)]
 pub(crate) fn end_of_four(bytes: &[u8]) -> usize
     ensures { result ≤ length bytes.now }

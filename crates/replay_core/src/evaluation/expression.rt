@@ -280,7 +280,7 @@ fn choose(
     }
 }
 
-// The word of the same.
+// The word of the chosen expression.
 #[cycle(evaluation)]
 fn choose_word(
     test: &TypedExpr,

@@ -50,7 +50,7 @@ pub(crate) fn word_as_type(holds: DType, word: u64) -> u64
     }
 }
 
-/// One more, or one less.
+/// The word plus or minus one.
 pub(crate) fn step_result(step: Step, word: u64) -> u64
     ensures { result ≡ spec.step_result step word }
 {
@@ -60,7 +60,7 @@ pub(crate) fn step_result(step: Step, word: u64) -> u64
     }
 }
 
-/// What `++` and `--` answer.
+/// The value of `++` and `--`.
 pub(crate) fn step_value(answer: Answer, old: u64, new: u64) -> u64
     ensures { result ≡ spec.step_value answer old new }
 {

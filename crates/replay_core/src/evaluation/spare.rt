@@ -1,4 +1,4 @@
-//! What evaluation writes again and again.
+//! Buffers that evaluation uses again.
 
 ghost use Rattle.std.specs.Prelude.{◌≡◌, length, IfOk};
 
@@ -6,8 +6,8 @@ use d_values::Key;
 use dif_machine::{Frame, key_of_zeros};
 use std::alloc::{AllocError, Global};
 
-/// Keys that were used, kept so that the next of as many parts takes their room, and the machine's
-/// frame for all runs.
+/// Keys that were used, whose room the next key of as many parts takes, and the machine's frame for
+/// all runs.
 #[derive(Drop)]
 pub struct Spare {
     keys: Vec<Key>,
@@ -15,7 +15,7 @@ pub struct Spare {
 }
 
 impl Spare {
-    /// No key is kept.
+    /// Buffers without any key.
     pub fn new(alloc: Global) -> Spare {
         Spare {
             keys: Vec::new(alloc),

@@ -52,7 +52,7 @@ macro_rules! run_on_state {
     };
 }
 
-// A copy of what a run of an object lends.
+// A copy of the value that a run of an object lends.
 fn run_for_value(object: &TypedObject, state: &mut State<'_>) -> Result<Value, EvalFault>
     ensures { Meets (λ f. spec.value_of f object.now.object) result state.old state.new }
 {
@@ -61,7 +61,7 @@ fn run_for_value(object: &TypedObject, state: &mut State<'_>) -> Result<Value, E
     Ok(value)
 }
 
-// The word of what a run of an object lends.
+// The word of the value that a run of an object lends.
 #[inline(never)]
 fn run_for_word(object: &TypedObject, state: &mut State<'_>) -> Result<u64, EvalFault>
     ensures { Meets (λ f vars. number_outcome (spec.value_of f object.now.object vars))
@@ -71,8 +71,8 @@ fn run_for_word(object: &TypedObject, state: &mut State<'_>) -> Result<u64, Eval
     Ok(word_of(value))
 }
 
-// Puts what a run of an object lends in the place of a key's part.
-// (inlined, it has a key's loop note where each text of the firing stands)
+// Puts what a run of an object lends in the place of a key's part. Not inlined: a key's loop would
+// keep the address of each text of the firing.
 #[inline(never)]
 fn run_for_part(
     object: &TypedObject,
