@@ -22,6 +22,17 @@ fn key_of(alloc: Global, parts: [Part; 2]) -> Result<Key, AllocError> {
     Ok(key)
 }
 
+// How keys of these parts compare, and whether they are equal.
+fn compare(
+    alloc: Global,
+    left: [Part; 2],
+    right: [Part; 2],
+) -> Result<(Ordering, bool), AllocError> {
+    let left = key_of(alloc, left)?;
+    let right = key_of(alloc, right)?;
+    Ok((left.cmp(&right), left == right))
+}
+
 #[test]
 fn keys_ascend(rt: HostRuntime) -> Result<(), Fail> {
     let ascending = [
@@ -45,64 +56,108 @@ fn keys_ascend(rt: HostRuntime) -> Result<(), Fail> {
     ];
     for i in 0..ascending.len() {
         for j in 0..ascending.len() {
-            let left = key_of(rt.alloc(), ascending[i])?;
-            let right = key_of(rt.alloc(), ascending[j])?;
-            assert_eq!(rt; left.cmp(&right), i.cmp(&j), "{i} {j}");
-            assert_eq!(rt; left == right, i == j, "{i} {j}");
+            let (order, is_same) = compare(rt.alloc(), ascending[i], ascending[j])?;
+            assert!(rt; order == i.cmp(&j) && is_same == (i == j), "{i} {j}");
         }
     }
     Ok(())
 }
 
+// Whether a key has these parts.
+fn has_parts(alloc: Global, key: &Key, parts: [Part; 2]) -> Result<bool, AllocError> {
+    let other = key_of(alloc, parts)?;
+    Ok(*key == other)
+}
+
+// Overwrites the two parts of a key, and says whether it has the others then.
+fn overwrite(
+    alloc: Global,
+    key: &mut Key,
+    number: i64,
+    name: &'static [u8],
+) -> Result<bool, AllocError> {
+    if key.parts().len() != 2 {
+        return Ok(false);
+    }
+    key.set_number(0, number);
+    key.set_name(1, name)?;
+    has_parts(alloc, key, [Part::N(number), Part::T(name)])
+}
+
+// Overwrites the first part, a number, by a text, and says whether the key has that then.
+fn overwrite_number(
+    alloc: Global,
+    key: &mut Key,
+    name: &'static [u8],
+    second: &'static [u8],
+) -> Result<bool, AllocError> {
+    if key.parts().len() != 2 {
+        return Ok(false);
+    }
+    key.set_name(0, name)?;
+    has_parts(alloc, key, [Part::T(name), Part::T(second)])
+}
+
+// Whether a key of two parts has each of those that it is given.
+fn is_overwritten(alloc: Global, key: &mut Key) -> Result<bool, AllocError> {
+    Ok(
+        overwrite(alloc, key, -7, b"a longer name")?
+            && overwrite(alloc, key, 3, b"")?
+            && overwrite(alloc, key, 0, b"ab")?
+            && overwrite_number(alloc, key, b"x", b"ab")?,
+    )
+}
+
 #[test]
 fn parts_are_overwritten(rt: HostRuntime) -> Result<(), Fail> {
-    let alloc = rt.alloc();
-    let mut key = key_of(alloc, [Part::N(1), Part::T(b"first")])?;
+    let mut key = key_of(rt.alloc(), [Part::N(1), Part::T(b"first")])?;
     let copy = key.clone()?;
-    for (number, name) in [(-7, b"a longer name".as_slice()), (3, b""), (0, b"ab")] {
-        assert_eq!(rt; key.parts().len(), 2);
-        key.set_number(0, number);
-        key.set_name(1, name)?;
-        assert!(rt;
-            key == key_of(alloc, [Part::N(number), Part::T(name)])?,
-            "{number}"
-        );
-    }
-    assert_eq!(rt; key.parts().len(), 2);
-    key.set_name(0, b"x")?;
-    assert!(rt; key == key_of(alloc, [Part::T(b"x"), Part::T(b"ab")])?);
-    assert!(rt; copy == key_of(alloc, [Part::N(1), Part::T(b"first")])?);
+    let is_overwritten = is_overwritten(rt.alloc(), &mut key)?;
+    assert!(rt; is_overwritten);
+    assert!(rt; has_parts(rt.alloc(), &copy, [Part::N(1), Part::T(b"first")])?);
     Ok(())
 }
 
 #[test]
 fn texts_keep_their_bytes(rt: HostRuntime) -> Result<(), Fail> {
-    let bytes = Vec::from_slice(rt.alloc(), b"read")?;
-    let text = Text::from(bytes);
-    assert_eq!(rt; text.clone()?.as_bytes(), b"read".as_slice());
-    assert_eq!(rt; text.into_bytes().as_slice(), b"read".as_slice());
+    let text = Text::from(Vec::from_slice(rt.alloc(), b"read")?);
+    let copy = text.clone()?;
+    assert!(rt; copy.as_bytes() == b"read".as_slice());
+    assert!(rt; text.into_bytes().as_slice() == b"read".as_slice());
     Ok(())
+}
+
+const LONG: [u8; 254] = [b'x'; 254];
+
+// The length, the first and the last byte of two texts that are joined.
+fn joined(
+    alloc: Global,
+    one: &[u8],
+    other: &[u8],
+) -> Result<(usize, Option<u8>, Option<u8>), AllocError> {
+    let text = join_text(alloc, one, other)?;
+    let bytes = text.as_bytes();
+    Ok((bytes.len(), bytes.first().copied(), bytes.last().copied()))
 }
 
 #[test]
 fn texts_join(rt: HostRuntime) -> Result<(), Fail> {
-    let alloc = rt.alloc();
-    let long = vec![in alloc; b'x'; 254]?;
-    let rows: [(&[u8], &[u8], usize, u8); 4] = [
-        (b"ab", b"cat", 5, b't'),
-        (&long, b"yz", 255, b'y'),
-        (b"", b"", 0, 0),
-        (b"z", &long, 255, b'x'),
+    let rows: [(&[u8], &[u8], (usize, Option<u8>, Option<u8>)); 4] = [
+        (b"ab", b"cat", (5, Some(b'a'), Some(b't'))),
+        (&LONG, b"yz", (255, Some(b'x'), Some(b'y'))),
+        (b"", b"", (0, None, None)),
+        (b"z", &LONG, (255, Some(b'z'), Some(b'x'))),
     ];
-    for (a, b, length, last) in rows {
-        let joined = join_text(alloc, a, b)?;
-        let bytes = joined.as_bytes();
-        assert_eq!(rt; bytes.len(), length);
-        assert_eq!(rt; bytes.last().copied().unwrap_or(0), last);
-        assert_eq!(rt; bytes.first().copied(), a.iter().chain(b).next().copied());
+    for (one, other, wanted) in rows {
+        let found = joined(rt.alloc(), one, other)?;
+        assert!(rt; found == wanted, "{wanted:?}");
     }
+    Ok(())
+}
+
+#[test]
+fn texts_ascend_by_their_bytes(rt: HostRuntime) {
     assert_eq!(rt; compare_text(b"a", b"ab"), Ordering::Less);
     assert_eq!(rt; compare_text(b"b\x80", b"b\x7f"), Ordering::Greater);
     assert_eq!(rt; compare_text(b"", b""), Ordering::Equal);
-    Ok(())
 }

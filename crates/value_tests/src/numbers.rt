@@ -1,5 +1,8 @@
 //! Worked values of every operator and type. The expected numbers are a C compiler's, but for a
 //! least value divided by -1. Words are written as the signed numbers of their 64 bits.
+
+ghost use Rattle.std.specs.Prelude.{◌<◌};
+
 use d_values::{
     ArithmeticOperator, ComparisonOperator, IntType, ShiftOperator, binary, common, compare,
     complement, convert, negate, promotion_of, shift,
@@ -188,14 +191,17 @@ fn arithmetic(rt: HostRuntime) {
     }
 }
 
+// Whether an operator refuses to divide by zero, if it divides, and takes zero on its left.
+fn divides_by_no_zero(op: ArithmeticOperator, t: IntType) -> bool {
+    let divides = op == ArithmeticOperator::Divide || op == ArithmeticOperator::Remainder;
+    binary(op, t, 7, 0).is_err() == divides && binary(op, t, 0, 7).is_ok()
+}
+
 #[test]
 fn zero_divides_nothing(rt: HostRuntime) {
     for op in OPERATORS {
-        let refused = op == ArithmeticOperator::Divide || op == ArithmeticOperator::Remainder;
-        for t in [IntType::INT32, IntType::UINT64] {
-            assert_eq!(rt; binary(op, t, 7, 0).is_err(), refused, "{op:?}");
-            assert!(rt; binary(op, t, 0, 7).is_ok(), "{op:?}");
-        }
+        assert!(rt; divides_by_no_zero(op, IntType::INT32), "{op:?}");
+        assert!(rt; divides_by_no_zero(op, IntType::UINT64), "{op:?}");
     }
 }
 
@@ -345,50 +351,75 @@ fn opposites_and_complements(rt: HostRuntime) {
     }
 }
 
+const TYPES: [IntType; 4] = [
+    IntType::INT32,
+    IntType::UINT32,
+    IntType::INT64,
+    IntType::UINT64,
+];
+
+const SMALL: [IntType; 4] = [
+    IntType::INT8,
+    IntType::UINT8,
+    IntType::INT16,
+    IntType::UINT16,
+];
+
+// Whether the later of two types is what they have in common, and small ones count as INT32.
+fn have_in_common(i: usize, j: usize) -> bool
+    requires i { i < 4 }
+    requires j { j < 4 }
+{
+    common(TYPES[i], TYPES[j]) == TYPES[i.max(j)]
+        && common(SMALL[i], TYPES[j]) == TYPES[j]
+        && common(SMALL[i], SMALL[j]) == IntType::INT32
+}
+
 #[test]
 fn common_types(rt: HostRuntime) {
-    let types = [
-        IntType::INT32,
-        IntType::UINT32,
-        IntType::INT64,
-        IntType::UINT64,
-    ];
-    let small = [
-        IntType::INT8,
-        IntType::UINT8,
-        IntType::INT16,
-        IntType::UINT16,
-    ];
     for i in 0..4 {
-        assert_eq!(rt; promotion_of(small[i]), IntType::INT32);
-        assert_eq!(rt; promotion_of(types[i]), types[i]);
+        assert!(rt; promotion_of(SMALL[i]) == IntType::INT32 && promotion_of(TYPES[i]) == TYPES[i]);
         for j in 0..4 {
-            assert_eq!(rt; common(types[i], types[j]), types[i.max(j)]);
-            assert_eq!(rt; common(small[i], types[j]), types[j]);
-            assert_eq!(rt; common(small[i], small[j]), IntType::INT32);
+            assert!(rt; have_in_common(i, j), "{i} {j}");
         }
     }
 }
 
+const MINUS_ONE: u64 = u64::MAX;
+
+const COMPARED: [(IntType, u64, u64, Ordering); 5] = [
+    (IntType::INT32, MINUS_ONE, 1, Ordering::Less),
+    (IntType::UINT64, MINUS_ONE, 1, Ordering::Greater),
+    (IntType::INT64, 1 << 63, 0, Ordering::Less),
+    (IntType::UINT64, 1 << 63, 0, Ordering::Greater),
+    (IntType::INT8, 7, 7, Ordering::Equal),
+];
+
 #[test]
 fn comparisons(rt: HostRuntime) {
-    let minus_one = u64::MAX;
-    assert_eq!(rt; compare(IntType::INT32, minus_one, 1), Ordering::Less);
-    assert_eq!(rt; compare(IntType::UINT64, minus_one, 1), Ordering::Greater);
-    assert_eq!(rt; compare(IntType::INT64, 1 << 63, 0), Ordering::Less);
-    assert_eq!(rt; compare(IntType::UINT64, 1 << 63, 0), Ordering::Greater);
-    assert_eq!(rt; compare(IntType::INT8, 7, 7), Ordering::Equal);
-    let operators = [
-        (ComparisonOperator::Less, [true, false, false]),
-        (ComparisonOperator::LessEqual, [true, true, false]),
-        (ComparisonOperator::Greater, [false, false, true]),
-        (ComparisonOperator::GreaterEqual, [false, true, true]),
-        (ComparisonOperator::Equal, [false, true, false]),
-        (ComparisonOperator::NotEqual, [true, false, true]),
-    ];
-    for (op, [less, equal, greater]) in operators {
-        assert_eq!(rt; op.holds(Ordering::Less), less);
-        assert_eq!(rt; op.holds(Ordering::Equal), equal);
-        assert_eq!(rt; op.holds(Ordering::Greater), greater);
+    for (t, a, b, order) in COMPARED {
+        assert!(rt; compare(t, a, b) == order, "{t:?} {a} {b}");
+    }
+}
+
+// Operators, and whether they hold of less, of the same and of more.
+const HOLD: [(ComparisonOperator, [bool; 3]); 6] = [
+    (ComparisonOperator::Less, [true, false, false]),
+    (ComparisonOperator::LessEqual, [true, true, false]),
+    (ComparisonOperator::Greater, [false, false, true]),
+    (ComparisonOperator::GreaterEqual, [false, true, true]),
+    (ComparisonOperator::Equal, [false, true, false]),
+    (ComparisonOperator::NotEqual, [true, false, true]),
+];
+
+#[test]
+fn operators_hold(rt: HostRuntime) {
+    for (op, wanted) in HOLD {
+        let found = [
+            op.holds(Ordering::Less),
+            op.holds(Ordering::Equal),
+            op.holds(Ordering::Greater),
+        ];
+        assert!(rt; found == wanted, "{op:?}");
     }
 }
