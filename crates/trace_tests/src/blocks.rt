@@ -2,10 +2,13 @@
 //! all bytes at once.
 
 use crate::drawn_traces::{Chance, drawn_trace};
-use crate::traces::{HEADER, MIXED, OTHER_HEADER, QUOTED_HEADER, SECOND, is_same, whole_trace};
+use crate::traces::{
+    HEADER, MIXED, OTHER_HEADER, QUOTED_HEADER, SECOND, is_read, is_same, whole_trace,
+};
 use firing_reader::{Reader, Trace, TraceFault, read_trace};
 use keyed_hash::HashKey;
 use std::alloc::{AllocError, Global};
+use std::random::RandomSource;
 use std::test::Fail;
 use std::thread::Threads;
 
@@ -24,14 +27,20 @@ fn in_blocks_by<R: Threads>(
     reader.finish(rt)
 }
 
-// Reads it by one worker.
-fn in_blocks<R: Threads>(
+// How many workers read, how long each block is, and how many bytes are read at once at least.
+type Way = (u32, usize, usize);
+
+// Whether a trace that comes in these blocks is read as all of it at once.
+fn is_same_in<R: Threads + RandomSource>(
     rt: &R,
     alloc: Global,
+    bytes: &[u8],
     blocks: &[&[u8]],
-    least: usize,
-) -> Result<Trace, TraceFault> {
-    in_blocks_by(rt, alloc, 1, blocks, least)
+    (workers, _, least): Way,
+) -> bool {
+    let whole = read_trace(alloc, HashKey::random(rt), bytes);
+    let found = in_blocks_by(rt, alloc, workers, blocks, least);
+    is_same(&whole, &found)
 }
 
 // Cuts a trace into blocks of this size.
@@ -56,108 +65,193 @@ fn drawn_blocks<'a>(
     Ok(blocks)
 }
 
+// Whether a trace is read the same in one way.
+fn is_same_by<R: Threads + RandomSource>(
+    rt: &R,
+    alloc: Global,
+    bytes: &[u8],
+    way: Way,
+) -> Result<bool, AllocError> {
+    let blocks = blocks_of(alloc, bytes, way.1)?;
+    Ok(is_same_in(rt, alloc, bytes, &blocks, way))
+}
+
+// The first of these ways in which a trace is read otherwise.
+fn other_way<R: Threads + RandomSource>(
+    rt: &R,
+    alloc: Global,
+    bytes: &[u8],
+    ways: &[Way],
+) -> Result<Option<Way>, AllocError> {
+    for way in ways {
+        if !is_same_by(rt, alloc, bytes, *way)? {
+            return Ok(Some(*way));
+        }
+    }
+    Ok(None)
+}
+
+// The same of a drawn trace.
+fn other_way_of_drawn<R: Threads + RandomSource>(
+    rt: &R,
+    alloc: Global,
+    seed: u64,
+    ways: &[Way],
+) -> Result<Option<Way>, AllocError> {
+    let bytes = drawn_trace(alloc, seed)?;
+    other_way(rt, alloc, &bytes, ways)
+}
+
+const BY_ONE: [Way; 7] = [
+    (1, 1, 1),
+    (1, 2, 1),
+    (1, 3, 1),
+    (1, 7, 1),
+    (1, 7, 300),
+    (1, 64, 1),
+    (1, 1000, 1),
+];
+
 #[test]
 fn drawn_traces_read_the_same_in_blocks(rt: HostRuntime) -> Result<(), Fail> {
     for seed in 0..300 {
-        let bytes = drawn_trace(rt.alloc(), seed)?;
-        let whole = read_trace(rt.alloc(), HashKey::random(&rt), &bytes);
-        for (size, least) in [(1, 1), (2, 1), (3, 1), (7, 1), (7, 300), (64, 1), (1000, 1)] {
-            let blocks = blocks_of(rt.alloc(), &bytes, size)?;
-            let found = in_blocks(&rt, rt.alloc(), &blocks, least);
-            assert!(rt; is_same(&whole, &found), "trace {seed} by {size} bytes");
-        }
+        let other = other_way_of_drawn(&rt, rt.alloc(), seed, &BY_ONE)?;
+        assert_eq!(rt; other, None, "trace {seed}");
     }
     Ok(())
+}
+
+// Whether a drawn trace is read the same in blocks of drawn sizes.
+fn is_same_in_drawn_blocks<R: Threads + RandomSource>(
+    rt: &R,
+    alloc: Global,
+    seed: u64,
+) -> Result<bool, AllocError> {
+    let bytes = drawn_trace(alloc, seed)?;
+    let mut chance = Chance { state: seed };
+    let least = chance.below(100);
+    let blocks = drawn_blocks(alloc, &mut chance, &bytes)?;
+    Ok(is_same_in(rt, alloc, &bytes, &blocks, (1, 0, least)))
 }
 
 #[test]
 fn drawn_traces_read_the_same_in_drawn_blocks(rt: HostRuntime) -> Result<(), Fail> {
     for seed in 0..300 {
-        let bytes = drawn_trace(rt.alloc(), seed)?;
-        let whole = read_trace(rt.alloc(), HashKey::random(&rt), &bytes);
-        let mut chance = Chance { state: seed };
-        let least = chance.below(100);
-        let blocks = drawn_blocks(rt.alloc(), &mut chance, &bytes)?;
-        let found = in_blocks(&rt, rt.alloc(), &blocks, least);
-        assert!(rt; is_same(&whole, &found), "trace {seed}");
+        let is_same = is_same_in_drawn_blocks(&rt, rt.alloc(), seed)?;
+        assert!(rt; is_same, "trace {seed}");
     }
     Ok(())
 }
+
+const BY_SEVERAL: [Way; 3] = [(2, 64, 300), (3, 1000, 1), (4, 1000, 2000)];
 
 // Several workers read blocks of few rows, and of many.
 #[test]
 fn drawn_traces_read_the_same_in_blocks_by_several(rt: HostRuntime) -> Result<(), Fail> {
     for seed in 0..100 {
-        let bytes = drawn_trace(rt.alloc(), seed)?;
-        let whole = read_trace(rt.alloc(), HashKey::random(&rt), &bytes);
-        for (workers, size, least) in [(2, 64, 300), (3, 1000, 1), (4, 1000, 2000)] {
-            let blocks = blocks_of(rt.alloc(), &bytes, size)?;
-            let found = in_blocks_by(&rt, rt.alloc(), workers, &blocks, least);
-            assert!(rt;
-                is_same(&whole, &found),
-                "trace {seed} by {workers} workers"
-            );
-        }
+        let other = other_way_of_drawn(&rt, rt.alloc(), seed, &BY_SEVERAL)?;
+        assert_eq!(rt; other, None, "trace {seed}");
     }
     Ok(())
 }
 
+// The first place at which a trace that is cut in two is read otherwise.
+fn first_other_cut<R: Threads + RandomSource>(
+    rt: &R,
+    alloc: Global,
+    bytes: &[u8],
+) -> Option<usize> {
+    for cut in 0..bytes.len() {
+        let blocks = [&bytes[..cut], &bytes[cut..]];
+        if !is_same_in(rt, alloc, bytes, &blocks, (1, 0, 1)) {
+            return Some(cut);
+        }
+    }
+    None
+}
+
+// The same of a trace of three pieces.
+fn first_other_cut_of<R: Threads + RandomSource>(
+    rt: &R,
+    alloc: Global,
+    [head, first, rest]: [&[u8]; 3],
+) -> Result<Option<usize>, AllocError> {
+    let bytes = whole_trace(alloc, head, first, rest)?;
+    Ok(first_other_cut(rt, alloc, &bytes))
+}
+
+const HEADED: [[&[u8]; 3]; 7] = [
+    [b"", HEADER, MIXED],
+    [b"\xef\xbb\xbf", HEADER, MIXED],
+    [b"\xef\xbb\xbf", QUOTED_HEADER, MIXED],
+    [b"\n\r\n\n", HEADER, MIXED],
+    [
+        b"\n\r\n\n",
+        QUOTED_HEADER,
+        b"1,0,1,1,a,0,p,,f,hit,\"\n\",0,0,0,0,0,0,0,0,0\n",
+    ],
+    [b"", OTHER_HEADER, MIXED],
+    [HEADER, b"\xef\xbb\xbf", MIXED],
+];
+
 // A byte order mark, a header and rows, one of which has quotes, are cut at each byte.
 #[test]
 fn headers_and_rows_are_cut_anywhere(rt: HostRuntime) -> Result<(), Fail> {
-    let none: &[u8] = b"";
-    for (head, first, rest) in [
-        (none, HEADER, MIXED),
-        (b"\xef\xbb\xbf", HEADER, MIXED),
-        (b"\xef\xbb\xbf", QUOTED_HEADER, MIXED),
-        (b"\n\r\n\n", HEADER, MIXED),
-        (
-            b"\n\r\n\n",
-            QUOTED_HEADER,
-            b"1,0,1,1,a,0,p,,f,hit,\"\n\",0,0,0,0,0,0,0,0,0\n",
-        ),
-        (none, OTHER_HEADER, MIXED),
-        (HEADER, b"\xef\xbb\xbf", MIXED),
-    ] {
-        let bytes = whole_trace(rt.alloc(), head, first, rest)?;
-        let whole = read_trace(rt.alloc(), HashKey::random(&rt), &bytes);
-        for cut in 0..bytes.len() {
-            let blocks = [&bytes[..cut], &bytes[cut..]];
-            let found = in_blocks(&rt, rt.alloc(), &blocks, 1);
-            assert!(rt; is_same(&whole, &found), "{head:?} {first:?} at {cut}");
-        }
+    for (row, pieces) in HEADED.iter().enumerate() {
+        let cut = first_other_cut_of(&rt, rt.alloc(), *pieces)?;
+        assert_eq!(rt; cut, None, "row {row}");
     }
     Ok(())
 }
+
+// A row: how it begins, a byte that it has many times, how often, and how it ends.
+type LongRow = (&'static [u8], u8, usize, &'static [u8]);
+
+// A trace of this row and another.
+fn long_row(alloc: Global, (front, byte, count, back): LongRow) -> Result<Vec<u8>, AllocError> {
+    let mut bytes = whole_trace(alloc, HEADER, front, b"")?;
+    for _ in 0..count {
+        bytes.push(byte)?;
+    }
+    bytes.extend_from_slice(back)?;
+    bytes.extend_from_slice(SECOND)?;
+    Ok(bytes)
+}
+
+const IN_SHORT_BLOCKS: [Way; 3] = [(1, 1, 1), (1, 7, 1), (1, 64, 1)];
+
+// Whether the trace of a long row is read, and the same in blocks that are shorter than the row.
+fn is_long_row_same<R: Threads + RandomSource>(
+    rt: &R,
+    alloc: Global,
+    row: LongRow,
+) -> Result<bool, AllocError> {
+    let bytes = long_row(alloc, row)?;
+    Ok(is_read(rt, alloc, &bytes) && other_way(rt, alloc, &bytes, &IN_SHORT_BLOCKS)?.is_none())
+}
+
+const LONG_ROWS: [LongRow; 2] = [
+    (
+        b"1,0,1,1,a,0,p,,f,hit,",
+        b'0',
+        3000,
+        b"7,0,0,0,0,0,0,0,0,0\n",
+    ),
+    (
+        b"1,0,1,1,a,0,p,,\"",
+        b'\n',
+        200,
+        b"\",hit,0,0,0,0,0,0,0,0,0,0\n",
+    ),
+];
 
 // A row is longer than many blocks: one has a number after many zeros, one a text of line feeds in
 // quotes.
 #[test]
 fn a_row_is_longer_than_blocks(rt: HostRuntime) -> Result<(), Fail> {
-    let number: &[u8] = b"1,0,1,1,a,0,p,,f,hit,";
-    let rest: &[u8] = b"7,0,0,0,0,0,0,0,0,0\n";
-    for (front, byte, count, back) in [
-        (number, b'0', 3000, rest),
-        (
-            b"1,0,1,1,a,0,p,,\"",
-            b'\n',
-            200,
-            b"\",hit,0,0,0,0,0,0,0,0,0,0\n",
-        ),
-    ] {
-        let mut bytes = whole_trace(rt.alloc(), HEADER, front, b"")?;
-        for _ in 0..count {
-            bytes.push(byte)?;
-        }
-        bytes.extend_from_slice(back)?;
-        bytes.extend_from_slice(SECOND)?;
-        let whole = read_trace(rt.alloc(), HashKey::random(&rt), &bytes);
-        assert!(rt; whole.is_ok(), "{byte}");
-        for size in [1, 7, 64] {
-            let blocks = blocks_of(rt.alloc(), &bytes, size)?;
-            let found = in_blocks(&rt, rt.alloc(), &blocks, 1);
-            assert!(rt; is_same(&whole, &found), "{byte} by {size} bytes");
-        }
+    for (at, row) in LONG_ROWS.iter().enumerate() {
+        let is_same = is_long_row_same(&rt, rt.alloc(), *row)?;
+        assert!(rt; is_same, "row {at}");
     }
     Ok(())
 }

@@ -2,11 +2,14 @@
 
 ghost use Rattle.std.specs.Prelude.{◌≤◌};
 
-use crate::traces::{HEADER, is_same, whole_trace};
+use crate::traces::{HEADER, is_read, is_same, is_same_by_csv, whole_trace};
 use firing_reader::{read_trace, read_trace_by};
 use keyed_hash::HashKey;
 use std::alloc::{AllocError, Global};
+use std::ops::Range;
+use std::random::RandomSource;
 use std::test::Fail;
+use std::thread::Threads;
 
 /// How many traces are drawn.
 const TRACES: u64 = 600;
@@ -148,24 +151,82 @@ pub(crate) fn drawn_trace(alloc: Global, seed: u64) -> Result<Vec<u8>, AllocErro
     Ok(bytes)
 }
 
-// A byte order mark before the header leaves all of a trace to csv.
+// Whether a drawn trace is read as csv alone reads it.
+fn is_drawn_as_by_csv(
+    source: &impl RandomSource,
+    alloc: Global,
+    seed: u64,
+) -> Result<bool, AllocError> {
+    let bytes = drawn_trace(alloc, seed)?;
+    is_same_by_csv(source, alloc, &bytes)
+}
+
 #[test]
-fn drawn_traces_read_the_same_in_every_way(rt: HostRuntime) -> Result<(), Fail> {
+fn drawn_traces_read_as_by_csv_alone(rt: HostRuntime) -> Result<(), Fail> {
+    for seed in 0..TRACES {
+        let is_same = is_drawn_as_by_csv(&rt, rt.alloc(), seed)?;
+        assert!(rt; is_same, "trace {seed}");
+    }
+    Ok(())
+}
+
+// Whether a trace is read the same by as many workers as this, and by one.
+fn is_same_by<R: Threads + Sync + RandomSource>(
+    rt: &R,
+    alloc: Global,
+    bytes: &[u8],
+    workers: u32,
+) -> bool {
+    let alone = read_trace(alloc, HashKey::random(rt), bytes);
+    let parted = read_trace_by(rt, alloc, HashKey::random(rt), bytes, workers);
+    is_same(&alone, &parted)
+}
+
+// The first of these numbers of workers by whom a trace is read otherwise than by one.
+fn other_workers<R: Threads + Sync + RandomSource>(
+    rt: &R,
+    alloc: Global,
+    bytes: &[u8],
+    numbers: Range<u32>,
+) -> Option<u32> {
+    for workers in numbers {
+        if !is_same_by(rt, alloc, bytes, workers) {
+            return Some(workers);
+        }
+    }
+    None
+}
+
+// The same of a drawn trace, and up to 8 workers.
+fn other_workers_of_drawn<R: Threads + Sync + RandomSource>(
+    rt: &R,
+    alloc: Global,
+    seed: u64,
+) -> Result<Option<u32>, AllocError> {
+    let bytes = drawn_trace(alloc, seed)?;
+    Ok(other_workers(rt, alloc, &bytes, 1..9))
+}
+
+#[test]
+fn drawn_traces_read_the_same_in_pieces(rt: HostRuntime) -> Result<(), Fail> {
+    for seed in 0..TRACES {
+        let other = other_workers_of_drawn(&rt, rt.alloc(), seed)?;
+        assert_eq!(rt; other, None, "trace {seed}");
+    }
+    Ok(())
+}
+
+// Whether a drawn trace has a fault.
+fn is_refused(source: &impl RandomSource, alloc: Global, seed: u64) -> Result<bool, AllocError> {
+    let bytes = drawn_trace(alloc, seed)?;
+    Ok(!is_read(source, alloc, &bytes))
+}
+
+#[test]
+fn some_drawn_traces_have_a_fault(rt: HostRuntime) -> Result<(), Fail> {
     let mut refused: u32 = 0;
     for seed in 0..TRACES {
-        let bytes = drawn_trace(rt.alloc(), seed)?;
-        let marked = whole_trace(rt.alloc(), b"\xef\xbb\xbf", &bytes, b"")?;
-        let found = read_trace(rt.alloc(), HashKey::random(&rt), &bytes);
-        let alone = read_trace(rt.alloc(), HashKey::random(&rt), &marked);
-        assert!(rt; is_same(&found, &alone), "trace {seed}");
-        for workers in 1..9 {
-            let parted = read_trace_by(&rt, rt.alloc(), HashKey::random(&rt), &bytes, workers);
-            assert!(rt;
-                is_same(&found, &parted),
-                "trace {seed} by {workers} workers"
-            );
-        }
-        if found.is_err() {
+        if is_refused(&rt, rt.alloc(), seed)? {
             refused = refused.wrapping_add(1);
         }
     }
@@ -192,15 +253,19 @@ fn varied_rows(alloc: Global) -> Result<Vec<u8>, AllocError> {
     Ok(bytes)
 }
 
+// Whether the varied rows are read, and by up to 16 workers the same.
+fn are_varied_rows_same<R: Threads + Sync + RandomSource>(
+    rt: &R,
+    alloc: Global,
+) -> Result<bool, AllocError> {
+    let bytes = varied_rows(alloc)?;
+    Ok(is_read(rt, alloc, &bytes) && other_workers(rt, alloc, &bytes, 1..17).is_none())
+}
+
 #[test]
 fn plain_rows_read_the_same_in_pieces(rt: HostRuntime) -> Result<(), Fail> {
-    let bytes = varied_rows(rt.alloc())?;
-    let alone = read_trace(rt.alloc(), HashKey::random(&rt), &bytes);
-    assert!(rt; alone.is_ok());
-    for workers in 1..17 {
-        let parted = read_trace_by(&rt, rt.alloc(), HashKey::random(&rt), &bytes, workers);
-        assert!(rt; is_same(&alone, &parted), "{workers} workers");
-    }
+    let is_same = are_varied_rows_same(&rt, rt.alloc())?;
+    assert!(rt; is_same);
     Ok(())
 }
 
@@ -214,13 +279,32 @@ fn plain_rows(alloc: Global) -> Result<Vec<u8>, AllocError> {
     Ok(bytes)
 }
 
+// The first length at which a trace that ends there is read otherwise by four workers.
+fn other_end<R: Threads + Sync + RandomSource>(
+    rt: &R,
+    alloc: Global,
+    bytes: &[u8],
+) -> Option<usize> {
+    for end in HEADER.len()..bytes.len() + 1 {
+        if !is_same_by(rt, alloc, &bytes[..end], 4) {
+            return Some(end);
+        }
+    }
+    None
+}
+
+// The same of plain rows.
+fn other_end_of_rows<R: Threads + Sync + RandomSource>(
+    rt: &R,
+    alloc: Global,
+) -> Result<Option<usize>, AllocError> {
+    let bytes = plain_rows(alloc)?;
+    Ok(other_end(rt, alloc, &bytes))
+}
+
 #[test]
 fn cut_rows_read_the_same_in_four_pieces(rt: HostRuntime) -> Result<(), Fail> {
-    let bytes = plain_rows(rt.alloc())?;
-    for end in HEADER.len()..bytes.len() + 1 {
-        let found = read_trace(rt.alloc(), HashKey::random(&rt), &bytes[..end]);
-        let parted = read_trace_by(&rt, rt.alloc(), HashKey::random(&rt), &bytes[..end], 4);
-        assert!(rt; is_same(&found, &parted), "{end} bytes");
-    }
+    let end = other_end_of_rows(&rt, rt.alloc())?;
+    assert_eq!(rt; end, None);
     Ok(())
 }

@@ -1,13 +1,13 @@
 //! Groups, boards and queues, at worked rows and by real threads.
 
+ghost use Rattle.std.specs.Prelude.{◌<◌, ◌≤◌};
 ghost use Rattle.shard_queue.specs.Boards.{IsAt};
 ghost use Rattle.shard_queue.specs.Queues.{IsIn};
 
-use firing_reader::{Trace, read_trace};
+use firing_reader::{Trace, TraceFault, read_trace};
 use keyed_hash::HashKey;
 use shard_queue::{ClaimBoard, ClaimSeat, GroupFault, GroupQueue, Groups, QueueSeat};
 use std::alloc::{AllocError, Global};
-use std::process::Abort;
 use std::sync::Wait;
 use std::test::Fail;
 use std::thread;
@@ -16,15 +16,20 @@ const HEADER: &str =
     "number,cpu,thread,pid,execname,time,provider,module,function,name,arg0,arg1,arg2,arg3,arg4,\
     arg5,arg6,arg7,arg8,arg9\n";
 
-// A trace in which these threads fire, in this order.
-fn trace_of(rt: &impl Abort, alloc: Global, threads: &[i32]) -> Result<Trace, AllocError> {
+// A header, and a row of each of these threads.
+fn rows_of(alloc: Global, threads: &[i32]) -> Result<String, AllocError> {
     let mut text = String::from_str(alloc, HEADER)?;
     for (i, thread) in threads.iter().enumerate() {
         let row = format!(in alloc; "{i}1,0,{thread},1,a,0,p,,f,hit,,,,,,,,,,\n")?;
         text.push_str(&row)?;
     }
-    let hash_key = HashKey::of_seed(&[]);
-    Ok(read_trace(alloc, hash_key, text.as_bytes()).expect(rt, "a trace"))
+    Ok(text)
+}
+
+// A trace in which these threads fire, in this order.
+fn trace_of(alloc: Global, threads: &[i32]) -> Result<Trace, TraceFault> {
+    let text = rows_of(alloc, threads)?;
+    read_trace(alloc, HashKey::of_seed(&[]), text.as_bytes())
 }
 
 fn lists_of(alloc: Global, lists: &[&[i32]]) -> Result<Vec<Vec<i32>>, AllocError> {
@@ -53,24 +58,29 @@ const DEALT: [(&[i32], u32, i32, Option<u32>, &[u32]); 12] = [
     (&[], 2, 1, None, &[]),
 ];
 
+// The groups into which these threads are dealt.
+fn deal(alloc: Global, fired: &[i32], groups: u32) -> Result<Groups, TraceFault>
+    requires { (0 < groups) × (groups ≤ 4096) }
+{
+    let trace = trace_of(alloc, fired)?;
+    Ok(Groups::deal(alloc, &trace, groups)?)
+}
+
+// The group of a thread, if it has one, and the places of that group.
+fn group_and_places(groups: &Groups, thread: i32) -> (Option<u32>, &[u32]) {
+    match groups.group_of(thread) {
+        Some(group) => (Some(group), groups.places(group)),
+        None => (None, &[]),
+    }
+}
+
 #[test]
 fn threads_are_dealt_in_turn(rt: HostRuntime) -> Result<(), Fail> {
-    let alloc = rt.alloc();
-    for (fired, groups, thread, group, places) in DEALT {
-        let trace = trace_of(&rt, alloc, fired)?;
-        let dealt = Groups::deal(alloc, &trace, groups)?;
-        assert_eq!(rt; dealt.len(), groups as usize + 1);
-        assert_eq!(rt;
-            dealt.group_of(thread),
-            group,
-            "thread {thread} of {groups} groups"
-        );
-        if let Some(group) = dealt.group_of(thread) {
-            assert!(rt;
-                dealt.places(group) == places,
-                "places of {group} of {groups} groups"
-            );
-        }
+    for (fired, count, thread, group, places) in DEALT {
+        let groups = deal(rt.alloc(), fired, count)?;
+        let is_dealt = groups.len() == count as usize + 1
+            && group_and_places(&groups, thread) == (group, places);
+        assert!(rt; is_dealt, "thread {thread} of {count} groups");
     }
     Ok(())
 }
@@ -127,79 +137,126 @@ const LISTED: [(&[i32], &[&[i32]], Option<GroupFault>); 16] = [
     ),
 ];
 
+// The groups of a trace in which these threads fire, by these lists.
+fn group_by(alloc: Global, fired: &[i32], lists: &[Vec<i32>]) -> Result<Groups, GroupFault> {
+    let Ok(trace) = trace_of(alloc, fired) else {
+        return Err(GroupFault::Memory);
+    };
+    Groups::from_lists(alloc, &trace, lists)
+}
+
+// The fault of these lists.
+fn fault_of(
+    alloc: Global,
+    fired: &[i32],
+    lists: &[&[i32]],
+) -> Result<Option<GroupFault>, AllocError> {
+    let lists = lists_of(alloc, lists)?;
+    Ok(group_by(alloc, fired, &lists).err())
+}
+
 #[test]
 fn lists_group_threads_or_have_a_first_fault(rt: HostRuntime) -> Result<(), Fail> {
-    let alloc = rt.alloc();
     for (i, (fired, lists, fault)) in LISTED.iter().enumerate() {
-        let trace = trace_of(&rt, alloc, fired)?;
-        let lists = lists_of(alloc, lists)?;
-        assert_eq!(rt;
-            Groups::from_lists(alloc, &trace, &lists).err(),
-            *fault,
-            "row {i}"
-        );
+        let found = fault_of(rt.alloc(), fired, lists)?;
+        assert_eq!(rt; found, *fault, "row {i}");
     }
     Ok(())
+}
+
+// The groups of the threads 2, 1 and 2 by four lists, two of which are empty.
+fn groups_of_two(alloc: Global) -> Result<Groups, GroupFault> {
+    let lists = lists_of(alloc, &[&[], &[2], &[], &[1]])?;
+    group_by(alloc, &[2, 1, 2], &lists)
 }
 
 #[test]
 fn threads_are_in_the_group_of_their_list(rt: HostRuntime) -> Result<(), Fail> {
-    let alloc = rt.alloc();
-    let trace = trace_of(&rt, alloc, &[2, 1, 2])?;
-    let lists = lists_of(alloc, &[&[], &[2], &[], &[1]])?;
-    let groups = Groups::from_lists(alloc, &trace, &lists).expect(&rt, "groups");
+    let groups = groups_of_two(rt.alloc())?;
     assert_eq!(rt; groups.len(), 5);
-    assert!(rt; groups.group_of(1) == Some(3) && groups.group_of(2) == Some(1));
-    assert!(rt; groups.group_of(0) == Some(4) && groups.group_of(3).is_none());
-    for (group, places) in [
-        (0, &[][..]),
-        (1, &[1, 3][..]),
-        (2, &[][..]),
-        (3, &[2][..]),
-        (4, &[0, 4][..]),
+    for (thread, found) in [
+        (0, (Some(4), &[0, 4][..])),
+        (1, (Some(3), &[2][..])),
+        (2, (Some(1), &[1, 3][..])),
+        (3, (None, &[][..])),
     ] {
-        assert!(rt; groups.places(group) == places, "group {group}");
+        assert!(rt;
+            group_and_places(&groups, thread) == found,
+            "thread {thread}"
+        );
+    }
+    for group in [0, 2] {
+        assert!(rt; groups.len() > 2 && groups.places(group).is_empty());
     }
     Ok(())
+}
+
+// A list of the thread 1, and empty ones: as many lists as this.
+fn many_lists(alloc: Global, count: usize) -> Result<Vec<Vec<i32>>, AllocError> {
+    let mut lists = lists_of(alloc, &[&[1]])?;
+    for _ in 1..count {
+        lists.push(Vec::new(alloc))?;
+    }
+    Ok(lists)
+}
+
+// How many groups as many lists as this give.
+fn count_groups(alloc: Global, count: usize) -> Result<usize, GroupFault> {
+    let lists = many_lists(alloc, count)?;
+    Ok(group_by(alloc, &[1], &lists)?.len())
+}
+
+// The fault of 4,096 lists and one of a thread that is a stranger.
+fn fault_of_a_list_too_many(alloc: Global) -> Result<Option<GroupFault>, AllocError> {
+    let mut lists = many_lists(alloc, 4096)?;
+    lists.push(Vec::from_slice(alloc, &[7])?)?;
+    Ok(group_by(alloc, &[1], &lists).err())
 }
 
 #[test]
 fn more_than_4096_lists_are_too_many(rt: HostRuntime) -> Result<(), Fail> {
-    let alloc = rt.alloc();
-    let trace = trace_of(&rt, alloc, &[1])?;
-    let mut lists = lists_of(alloc, &[&[1]])?;
-    for _ in 1..4096 {
-        lists.push(Vec::new(alloc))?;
-    }
-    assert_eq!(rt;
-        Groups::from_lists(alloc, &trace, &lists)
-            .expect(&rt, "groups")
-            .len(),
-        4097
-    );
+    assert_eq!(rt; count_groups(rt.alloc(), 4096), Ok(4097));
     // a list too many comes before a thread that is a stranger
-    lists.push(Vec::from_slice(alloc, &[7])?)?;
-    assert_eq!(rt;
-        Groups::from_lists(alloc, &trace, &lists).err(),
-        Some(GroupFault::TooMany)
-    );
+    let fault = fault_of_a_list_too_many(rt.alloc())?;
+    assert_eq!(rt; fault, Some(GroupFault::TooMany));
     Ok(())
+}
+
+// Two seats claim in turn.
+fn claims_in_turn(board: &ClaimBoard, a: &mut ClaimSeat, b: &mut ClaimSeat) -> [Option<u32>; 6]
+    requires a { IsAt board.now a.old }
+    requires b { IsAt board.now b.old }
+    ensures a { IsAt board.now a.new }
+    ensures b { IsAt board.now b.new }
+{
+    [
+        board.claim(a),
+        board.claim(b),
+        board.claim(a),
+        board.claim(b),
+        board.claim(b),
+        board.claim(a),
+    ]
+}
+
+const IN_TURN: [Option<u32>; 6] = [Some(0), Some(1), Some(2), None, None, None];
+
+// Whether there are two lists, which have these numbers.
+fn are_lists(lists: &[Vec<u32>], first: &[u32], second: &[u32]) -> bool {
+    lists.len() == 2 && lists[0].as_slice() == first && lists[1].as_slice() == second
 }
 
 #[test]
 fn two_seats_claim_three_groups(rt: HostRuntime) -> Result<(), Fail> {
-    let alloc = rt.alloc();
-    let (board, mut seats) = ClaimBoard::open(alloc, 3, 2)?;
+    let (board, mut seats) = ClaimBoard::open(rt.alloc(), 3, 2)?;
     let mut b = seats.pop().expect(&rt, "two seats");
     let mut a = seats.pop().expect(&rt, "two seats");
-    assert!(rt; board.claim(&mut a) == Some(0) && board.claim(&mut b) == Some(1));
-    assert!(rt; board.claim(&mut a) == Some(2) && board.claim(&mut b).is_none());
-    assert!(rt; board.claim(&mut b).is_none() && board.claim(&mut a).is_none());
+    let claimed = claims_in_turn(&board, &mut a, &mut b);
     seats.push(a)?;
     seats.push(b)?;
-    let closed = board.close(alloc, seats)?;
-    assert!(rt; closed.lists[0].as_slice() == [0, 2].as_slice());
-    assert!(rt; closed.lists[1].as_slice() == [1].as_slice() && closed.least == u64::MAX);
+    let closed = board.close(rt.alloc(), seats)?;
+    assert!(rt; claimed == IN_TURN && closed.least == u64::MAX);
+    assert!(rt; are_lists(&closed.lists, &[0, 2], &[1]));
     Ok(())
 }
 
@@ -220,19 +277,38 @@ fn least_is_shared_by_the_seats(rt: HostRuntime) -> Result<(), Fail> {
     Ok(())
 }
 
+// Two seats take in turn.
+fn takes_in_turn<R: Wait>(
+    rt: &R,
+    queue: &GroupQueue,
+    a: &mut QueueSeat,
+    b: &mut QueueSeat,
+) -> [Option<u32>; 6]
+    requires a { IsIn queue.now a.old }
+    requires b { IsIn queue.now b.old }
+    ensures a { IsIn queue.now a.new }
+    ensures b { IsIn queue.now b.new }
+{
+    [
+        queue.take(rt, a),
+        queue.take(rt, b),
+        queue.take(rt, a),
+        queue.take(rt, b),
+        queue.take(rt, b),
+        queue.take(rt, a),
+    ]
+}
+
 #[test]
 fn two_seats_take_three_groups(rt: HostRuntime) -> Result<(), Fail> {
-    let alloc = rt.alloc();
-    let (queue, mut seats) = GroupQueue::open(&rt, alloc, 3, 2)?;
+    let (queue, mut seats) = GroupQueue::open(&rt, rt.alloc(), 3, 2)?;
     let mut b = seats.pop().expect(&rt, "two seats");
     let mut a = seats.pop().expect(&rt, "two seats");
-    assert!(rt; queue.take(&rt, &mut a) == Some(0) && queue.take(&rt, &mut b) == Some(1));
-    assert!(rt; queue.take(&rt, &mut a) == Some(2) && queue.take(&rt, &mut b).is_none());
-    assert!(rt; queue.take(&rt, &mut b).is_none() && queue.take(&rt, &mut a).is_none());
+    let taken = takes_in_turn(&rt, &queue, &mut a, &mut b);
     seats.push(a)?;
     seats.push(b)?;
-    let lists = queue.close(alloc, seats)?;
-    assert!(rt; lists[0].as_slice() == [0, 2].as_slice() && lists[1].as_slice() == [1].as_slice());
+    let lists = queue.close(rt.alloc(), seats)?;
+    assert!(rt; taken == IN_TURN && are_lists(&lists, &[0, 2], &[1]));
     Ok(())
 }
 
