@@ -98,15 +98,46 @@ fn run_alone(alloc: Global, code: &[Instr], numbers: &[u64]) -> Result<Shown, Al
     run_over(alloc, code, numbers, &mut locals, &mut own)
 }
 
-// What an operator makes of two integers.
-fn operator_result(alloc: Global, op: Operator, a: u64, b: u64) -> Result<Shown, AllocError> {
+// Whether the code returns this integer.
+fn returns(alloc: Global, code: &[Instr], numbers: &[u64], word: u64) -> Result<bool, AllocError> {
+    let shown = run_alone(alloc, code, numbers)?;
+    Ok(shown == Shown::Number(word))
+}
+
+// Whether what is shown is this text.
+fn is_text(shown: &Shown, wanted: &[u8]) -> bool {
+    match shown {
+        Shown::Bytes(bytes) => bytes.as_slice() == wanted,
+        _ => false,
+    }
+}
+
+// Whether the code returns this text.
+fn returns_text(
+    alloc: Global,
+    code: &[Instr],
+    numbers: &[u64],
+    wanted: &[u8],
+) -> Result<bool, AllocError> {
+    let shown = run_alone(alloc, code, numbers)?;
+    Ok(is_text(&shown, wanted))
+}
+
+// Whether an operator makes this of two integers.
+fn is_result(
+    alloc: Global,
+    op: Operator,
+    (a, b): (u64, u64),
+    wanted: &Shown,
+) -> Result<bool, AllocError> {
     let code = [
         Instr::Setx(0, R1),
         Instr::Setx(1, R2),
         Instr::Alu(op, R1, R2, R3),
         Instr::Ret(R3),
     ];
-    run_alone(alloc, &code, &[a, b])
+    let shown = run_alone(alloc, &code, &[a, b])?;
+    Ok(shown == *wanted)
 }
 
 // Whether a branch is taken after a comparison of two integers.
@@ -120,7 +151,7 @@ fn is_taken(alloc: Global, condition: Condition, a: u64, b: u64) -> Result<bool,
         Instr::Setx(2, R3),
         Instr::Ret(R3),
     ];
-    Ok(run_alone(alloc, &code, &[a, b, 1])? == Shown::Number(1))
+    returns(alloc, &code, &[a, b, 1], 1)
 }
 
 #[test]
@@ -149,19 +180,23 @@ fn operators(rt: HostRuntime) -> Result<(), Fail> {
     ];
     for i in 0..rows.len() {
         let (op, a, b, word) = rows[i];
-        assert!(&rt; operator_result(rt.alloc(), op, a, b)? == Shown::Number(word));
+        assert!(&rt; is_result(rt.alloc(), op, (a, b), &Shown::Number(word))?);
     }
     Ok(())
 }
 
 #[test]
 fn divisions_by_zero_end_the_run(rt: HostRuntime) -> Result<(), Fail> {
-    let alloc = rt.alloc();
     let zero = Shown::Fault(MachineFault::DivideByZero);
-    assert!(&rt; operator_result(alloc, Operator::Sdiv, 1, 0)? == zero);
-    assert!(&rt; operator_result(alloc, Operator::Udiv, 1, 0)? == zero);
-    assert!(&rt; operator_result(alloc, Operator::Srem, 1, 0)? == zero);
-    assert!(&rt; operator_result(alloc, Operator::Urem, 1, 0)? == zero);
+    for op in [
+        Operator::Sdiv,
+        Operator::Udiv,
+        Operator::Srem,
+        Operator::Urem,
+    ] {
+        let is_zero = is_result(rt.alloc(), op, (1, 0), &zero)?;
+        assert!(&rt; is_zero);
+    }
     Ok(())
 }
 
@@ -195,7 +230,7 @@ fn integers_of_the_firing(rt: HostRuntime) -> Result<(), Fail> {
     for i in 0..rows.len() {
         let (v, word) = rows[i];
         let code = [Instr::Ldgs(v, R1), Instr::Ret(R1)];
-        assert!(&rt; run_alone(rt.alloc(), &code, &[])? == Shown::Number(word));
+        assert!(&rt; returns(rt.alloc(), &code, &[], word)?);
     }
     Ok(())
 }
@@ -213,7 +248,7 @@ fn texts_of_the_firing(rt: HostRuntime) -> Result<(), Fail> {
     for i in 0..rows.len() {
         let (v, bytes) = rows[i];
         let code = [Instr::Ldgs(v, R1), Instr::Mov(R1, R2), Instr::Ret(R2)];
-        assert!(&rt; run_alone(alloc, &code, &[])? == Shown::Bytes(Vec::from_slice(alloc, bytes)?));
+        assert!(&rt; returns_text(alloc, &code, &[], bytes)?);
     }
     Ok(())
 }
@@ -224,7 +259,7 @@ fn arguments_of_the_firing(rt: HostRuntime) -> Result<(), Fail> {
     for i in 0..rows.len() {
         let (n, word) = rows[i];
         let code = [Instr::Setx(0, R1), Instr::Ldga(0, R1, R2), Instr::Ret(R2)];
-        assert!(&rt; run_alone(rt.alloc(), &code, &[n])? == Shown::Number(word));
+        assert!(&rt; returns(rt.alloc(), &code, &[n], word)?);
     }
     Ok(())
 }
@@ -350,7 +385,7 @@ const SINGLE_INSTRUCTIONS: [(&'static [Instr], u64); 16] = [
 fn single_instructions(rt: HostRuntime) -> Result<(), Fail> {
     for i in 0..SINGLE_INSTRUCTIONS.len() {
         let (code, word) = SINGLE_INSTRUCTIONS[i];
-        assert!(&rt; run_alone(rt.alloc(), code, &[1, u64::MAX])? == Shown::Number(word));
+        assert!(&rt; returns(rt.alloc(), code, &[1, u64::MAX], word)?);
     }
     Ok(())
 }
@@ -369,15 +404,16 @@ fn joined_texts_are_cut(rt: HostRuntime) -> Result<(), Fail> {
         Instr::Call(Function::Strlen, R3),
         Instr::Ret(R3),
     ];
-    assert!(&rt; run_alone(alloc, &code, &[])? == Shown::Number(255));
+    assert!(&rt; returns(alloc, &code, &[], 255)?);
     Ok(())
 }
 
-#[test]
-fn variables_keep_what_was_written_before_a_division_by_zero(rt: HostRuntime) -> Result<(), Fail> {
-    let alloc = rt.alloc();
-    let mut locals = ClauseLocals::new(alloc);
-    let mut own = ThreadTable::new(alloc, HashKey::of_seed(&[]));
+// Whether a run writes to a variable of a clause and to one of a thread, and then divides by zero.
+fn divides_after_writes(
+    alloc: Global,
+    locals: &mut ClauseLocals,
+    own: &mut ThreadTable,
+) -> Result<bool, AllocError> {
     let code = [
         Instr::Setx(0, R1),
         Instr::Stts(COUNT, R1),
@@ -385,9 +421,17 @@ fn variables_keep_what_was_written_before_a_division_by_zero(rt: HostRuntime) ->
         Instr::Alu(Operator::Sdiv, R1, R0, R2),
         Instr::Ret(R2),
     ];
-    let result = run_over(alloc, &code, &[1], &mut locals, &mut own)?;
-    assert!(&rt; result == Shown::Fault(MachineFault::DivideByZero));
-    assert!(&rt; matches!(own.get(COUNT, &Key::new(alloc)), ValueRef::Int(1)));
+    let shown = run_over(alloc, &code, &[1], locals, own)?;
+    Ok(shown == Shown::Fault(MachineFault::DivideByZero))
+}
+
+#[test]
+fn variables_keep_what_was_written_before_a_division_by_zero(rt: HostRuntime) -> Result<(), Fail> {
+    let mut locals = ClauseLocals::new(rt.alloc());
+    let mut own = ThreadTable::new(rt.alloc(), HashKey::of_seed(&[]));
+    let is_ended = divides_after_writes(rt.alloc(), &mut locals, &mut own)?;
+    assert!(&rt; is_ended);
+    assert!(&rt; matches!(own.get(COUNT, &Key::new(rt.alloc())), ValueRef::Int(1)));
     assert!(&rt; matches!(locals.get(COUNT), ValueRef::Int(1)));
     Ok(())
 }
@@ -405,7 +449,7 @@ fn a_variable_is_its_slot_and_its_kind(rt: HostRuntime) -> Result<(), Fail> {
         Instr::Ldls(NAME, R2),
         Instr::Ret(R2),
     ];
-    assert!(&rt; run_alone(alloc, &code, &[7])? == Shown::Bytes(Vec::from_slice(alloc, b"cat")?));
+    assert!(&rt; returns_text(alloc, &code, &[7], b"cat")?);
     Ok(())
 }
 
@@ -431,44 +475,76 @@ fn run_in_frame(
     }
 }
 
-// One frame for runs that leave texts in registers and in the tuple, that fault, and that use none.
+// Whether the code returns this text in this frame.
+fn returns_in_frame(
+    alloc: Global,
+    frame: &mut Frame,
+    code: &[Instr],
+    wanted: &[u8],
+) -> Result<bool, AllocError> {
+    let shown = run_in_frame(alloc, frame, code, &[])?;
+    Ok(is_text(&shown, wanted))
+}
+
+// Whether the code returns this integer, or has this fault, in this frame.
+fn ends_in_frame(
+    alloc: Global,
+    frame: &mut Frame,
+    code: &[Instr],
+    wanted: &Shown,
+) -> Result<bool, AllocError> {
+    let shown = run_in_frame(alloc, frame, code, &[7])?;
+    Ok(shown == *wanted)
+}
+
+const JOIN: [Instr; 6] = [
+    Instr::Sets(0, R1),
+    Instr::Ldgs(7, R2),
+    Instr::Pushtr(R1),
+    Instr::Pushtr(R2),
+    Instr::Call(Function::Strjoin, R3),
+    Instr::Ret(R3),
+];
+
+const MEASURE: [Instr; 5] = [
+    Instr::Ldgs(7, R1),
+    Instr::Pushtr(R1),
+    Instr::Call(Function::Strlen, R2),
+    Instr::Flushts,
+    Instr::Ret(R2),
+];
+
+const DIVIDE: [Instr; 5] = [
+    Instr::Setx(0, R1),
+    Instr::Ldgs(7, R2),
+    Instr::Pushtr(R2),
+    Instr::Alu(Operator::Udiv, R1, R0, R1),
+    Instr::Ret(R1),
+];
+
+const PROGRAM: [Instr; 2] = [Instr::Ldgs(4, R1), Instr::Ret(R1)];
+
+const CONSTANT: [Instr; 2] = [Instr::Sets(0, R1), Instr::Ret(R1)];
+
+// Whether runs in one frame end as they should: some leave texts in registers and in the tuple, one
+// faults, and some use no text that another left.
+fn serves(alloc: Global, frame: &mut Frame) -> Result<bool, AllocError> {
+    let zero = Shown::Fault(MachineFault::DivideByZero);
+    Ok(
+        returns_in_frame(alloc, frame, &JOIN, b"catread")?
+            && ends_in_frame(alloc, frame, &MEASURE, &Shown::Number(4))?
+            && ends_in_frame(alloc, frame, &DIVIDE, &zero)?
+            && returns_in_frame(alloc, frame, &PROGRAM, b"cat")?
+            && returns_in_frame(alloc, frame, &CONSTANT, b"cat")?,
+    )
+}
+
 #[test]
 fn a_frame_serves_many_runs(rt: HostRuntime) -> Result<(), Fail> {
-    let alloc = rt.alloc();
-    let mut frame = Frame::new(alloc);
-    let join = [
-        Instr::Sets(0, R1),
-        Instr::Ldgs(7, R2),
-        Instr::Pushtr(R1),
-        Instr::Pushtr(R2),
-        Instr::Call(Function::Strjoin, R3),
-        Instr::Ret(R3),
-    ];
-    let measure = [
-        Instr::Ldgs(7, R1),
-        Instr::Pushtr(R1),
-        Instr::Call(Function::Strlen, R2),
-        Instr::Flushts,
-        Instr::Ret(R2),
-    ];
-    let divide = [
-        Instr::Setx(0, R1),
-        Instr::Ldgs(7, R2),
-        Instr::Pushtr(R2),
-        Instr::Alu(Operator::Udiv, R1, R0, R1),
-        Instr::Ret(R1),
-    ];
-    let name = [Instr::Ldgs(4, R1), Instr::Ret(R1)];
-    let constant = [Instr::Sets(0, R1), Instr::Ret(R1)];
+    let mut frame = Frame::new(rt.alloc());
     for _ in 0..3 {
-        let joined = run_in_frame(alloc, &mut frame, &join, &[])?;
-        assert!(&rt; joined == Shown::Bytes(Vec::from_slice(alloc, b"catread")?));
-        assert!(&rt; run_in_frame(alloc, &mut frame, &measure, &[])? == Shown::Number(4));
-        let divided = run_in_frame(alloc, &mut frame, &divide, &[7])?;
-        assert!(&rt; divided == Shown::Fault(MachineFault::DivideByZero));
-        let cat = Shown::Bytes(Vec::from_slice(alloc, b"cat")?);
-        assert!(&rt; run_in_frame(alloc, &mut frame, &name, &[])? == cat);
-        assert!(&rt; run_in_frame(alloc, &mut frame, &constant, &[])? == cat);
+        let serves = serves(rt.alloc(), &mut frame)?;
+        assert!(&rt; serves);
     }
     Ok(())
 }

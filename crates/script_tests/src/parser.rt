@@ -6,7 +6,7 @@ use std::alloc::{AllocError, Global};
 use std::test::Fail;
 
 // The script's tree as text, or its fault.
-pub fn tree_text(alloc: Global, script: &[u8]) -> Result<String, AllocError> {
+fn tree_text(alloc: Global, script: &[u8]) -> Result<String, AllocError> {
     let tokens = match lex(alloc, script) {
         Ok(tokens) => tokens,
         Err(fault) => return format!(in alloc; "{fault:?}"),
@@ -113,13 +113,24 @@ const EXPRESSIONS: [(&str, &str); 60] = [
     ("\"\" == \"a\\n\\\"\\\\\"", "(\"\" == \"a\\n\\\"\\\\\")"),
 ];
 
+// Whether a script has this tree.
+pub(crate) fn has_tree(alloc: Global, script: &str, tree: &str) -> Result<bool, AllocError> {
+    let shown = tree_text(alloc, script.as_bytes())?;
+    Ok(shown.as_str() == tree)
+}
+
+// Whether a script of one expression has this tree.
+fn is_joined(alloc: Global, expression: &str, tree: &str) -> Result<bool, AllocError> {
+    let script = format!(in alloc; "hit{{{expression}}}")?;
+    let tree = format!(in alloc; ":::hit {{ {tree}; }}\n")?;
+    has_tree(alloc, &script, &tree)
+}
+
 #[test]
 fn expressions(rt: HostRuntime) -> Result<(), Fail> {
     for (expression, tree) in EXPRESSIONS {
-        let script = format!(in rt.alloc(); "hit{{{expression}}}")?;
-        let want = format!(in rt.alloc(); ":::hit {{ {tree}; }}\n")?;
-        let got = tree_text(rt.alloc(), script.as_bytes())?;
-        assert_eq!(rt; got.as_str(), want.as_str(), "{expression}");
+        let is_joined = is_joined(rt.alloc(), expression, tree)?;
+        assert!(rt; is_joined, "{expression}");
     }
     Ok(())
 }
@@ -174,8 +185,8 @@ const SCRIPTS: [(&str, &str); 16] = [
 #[test]
 fn scripts(rt: HostRuntime) -> Result<(), Fail> {
     for (script, want) in SCRIPTS {
-        let got = tree_text(rt.alloc(), script.as_bytes())?;
-        assert_eq!(rt; got.as_str(), want, "{script}");
+        let has_tree = has_tree(rt.alloc(), script, want)?;
+        assert!(rt; has_tree, "{script}");
     }
     Ok(())
 }

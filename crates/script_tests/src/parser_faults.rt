@@ -1,6 +1,6 @@
 //! The deepest trees and the largest scripts, and what is one step over a limit.
 
-use crate::parser::tree_text;
+use crate::parser::has_tree;
 use std::alloc::{AllocError, Global};
 use std::test::Fail;
 use std::thread;
@@ -31,28 +31,40 @@ fn nested_text(alloc: Global, times: usize, parts: [&str; 3]) -> Result<String, 
     Ok(text)
 }
 
-fn nested_tree(alloc: Global, times: usize, parts: [&str; 3]) -> Result<String, AllocError> {
+// Whether the script that traces this nested expression has this tree.
+fn is_traced(
+    alloc: Global,
+    times: usize,
+    parts: [&str; 3],
+    tree: &str,
+) -> Result<bool, AllocError> {
     let inner = nested_text(alloc, times, parts)?;
     let script = format!(in alloc; ":::a{{trace({inner})}}")?;
-    tree_text(alloc, script.as_bytes())
+    has_tree(alloc, &script, tree)
 }
 
-// What the deepest trees print as, and what one step more gives; nothing where all is as it should
-// be.
-fn deepest(alloc: Global) -> Result<String, AllocError> {
+// Whether a nested expression prints so.
+fn is_printed(
+    alloc: Global,
+    times: usize,
+    parts: [&str; 3],
+    printed: [&str; 3],
+) -> Result<bool, AllocError> {
+    let inner = nested_text(alloc, times, printed)?;
+    let tree = format!(in alloc; ":::a {{ trace({inner}); }}\n")?;
+    is_traced(alloc, times, parts, &tree)
+}
+
+// How often the first tree repeats that does not print so at its limit, or is not too deep above it.
+fn first_wrong(alloc: Global) -> Result<Option<usize>, AllocError> {
     for (times, parts, printed) in DEEPEST {
-        let inner = nested_text(alloc, times, printed)?;
-        let want = format!(in alloc; ":::a {{ trace({inner}); }}\n")?;
-        let got = nested_tree(alloc, times, parts)?;
-        if got != want {
-            return Ok(got);
-        }
-        let deeper = nested_tree(alloc, times + 1, parts)?;
-        if deeper.as_str() != "TooDeep" {
-            return Ok(deeper);
+        if !is_printed(alloc, times, parts, printed)?
+            || !is_traced(alloc, times + 1, parts, "TooDeep")?
+        {
+            return Ok(Some(times));
         }
     }
-    Ok(String::new(alloc))
+    Ok(None)
 }
 
 // In a thread with 2 MiB of stack.
@@ -61,9 +73,9 @@ fn depth(rt: HostRuntime) -> Result<(), Fail> {
     let alloc = rt.alloc();
     let other = thread::Builder::new()
         .stack_size(2 << 20)
-        .spawn(&rt, move || deepest(alloc))?;
+        .spawn(&rt, move || first_wrong(alloc))?;
     let wrong = other.join(&rt)?;
-    assert_eq!(rt; wrong.as_str(), "");
+    assert_eq!(rt; wrong, None);
     Ok(())
 }
 
@@ -91,16 +103,31 @@ const MANY: [(usize, [&str; 3], [&str; 3]); 6] = [
     ),
 ];
 
+// What such a script prints as.
+fn repeated_tree(alloc: Global, times: usize, printed: [&str; 3]) -> Result<String, AllocError> {
+    match printed {
+        ["", fault, ""] => nested_text(alloc, 1, ["", fault, ""]),
+        tree => nested_text(alloc, times, tree),
+    }
+}
+
+// Whether it does.
+fn is_repeated(
+    alloc: Global,
+    times: usize,
+    parts: [&str; 3],
+    printed: [&str; 3],
+) -> Result<bool, AllocError> {
+    let script = nested_text(alloc, times, parts)?;
+    let tree = repeated_tree(alloc, times, printed)?;
+    has_tree(alloc, &script, &tree)
+}
+
 #[test]
 fn numbers(rt: HostRuntime) -> Result<(), Fail> {
     for (times, parts, printed) in MANY {
-        let script = nested_text(rt.alloc(), times, parts)?;
-        let want = match printed {
-            ["", fault, ""] => nested_text(rt.alloc(), 1, ["", fault, ""])?,
-            tree => nested_text(rt.alloc(), times, tree)?,
-        };
-        let got = tree_text(rt.alloc(), script.as_bytes())?;
-        assert_eq!(rt; got.as_str(), want.as_str(), "{times} times");
+        let is_repeated = is_repeated(rt.alloc(), times, parts, printed)?;
+        assert!(rt; is_repeated, "{times} times");
     }
     Ok(())
 }

@@ -154,17 +154,24 @@ fn faults_of_single_instructions(rt: HostRuntime) -> Result<(), Fail> {
     Ok(())
 }
 
+// What the validator returns for an object of this instruction and no tables.
+fn judgement_without_tables(
+    alloc: Global,
+    load: Instr,
+) -> Result<Result<Kind, DifFault>, AllocError> {
+    let difo = Difo {
+        code: Vec::from_slice(alloc, &[load, RETURN])?,
+        texts: Vec::new(alloc),
+        numbers: Vec::new(alloc),
+    };
+    Ok(verdict(alloc, difo))
+}
+
 #[test]
 fn tables_of_no_entries(rt: HostRuntime) -> Result<(), Fail> {
-    let alloc = rt.alloc();
-    let loads = [Setx(0, R1), Sets(0, R1)];
-    for i in 0..loads.len() {
-        let difo = Difo {
-            code: Vec::from_slice(alloc, &[loads[i], RETURN])?,
-            texts: Vec::new(alloc),
-            numbers: Vec::new(alloc),
-        };
-        assert!(&rt; verdict(alloc, difo) == Err(DifFault::TableIndex { pc: 0 }));
+    for load in [Setx(0, R1), Sets(0, R1)] {
+        let judged = judgement_without_tables(rt.alloc(), load)?;
+        assert!(&rt; judged == Err(DifFault::TableIndex { pc: 0 }));
     }
     Ok(())
 }
