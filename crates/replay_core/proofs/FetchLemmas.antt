@@ -1,5 +1,5 @@
 -- Firings whose rows and lists of clauses are read before the first of them runs.
-use Rattle.std.specs.Prelude.{◌≡◌, ◌≤◌, ◌<◌, ℕ, zero, suc, List, [], ◌∷◌, ◌++◌, Some}
+use Rattle.std.specs.Prelude.{◌≡◌, ◌≤◌, ◌<◌, ◌-◌, ℕ, zero, suc, List, [], ◌∷◌, ◌++◌, Some}
 use Rattle.std.specs.Prelude.{filter, length, map, slice_get, take, drop}
 use Rattle.std.proofs.Common.{arith, get_or, ap, ◌∙◌}
 use Rattle.std.specs.Borrow.{Bor}
@@ -12,7 +12,8 @@ use Rattle.firing_reader.specs.Trace.{IsTrace}
 use Rattle.replay_core.specs.declared.span.Span.{Span}
 use Rattle.replay_core.specs.Working.{is_in}
 use Rattle.replay_core.specs.Steps.Working.{firings_at}
-use Rattle.replay_core.proofs.TraceRuns.{few_kept}
+use Rattle.replay_core.specs.Vocabulary.{with_ends}
+use Rattle.replay_core.proofs.TraceRuns.{at_row, few_kept}
 use Rattle.replay_core.proofs.WorkSteps.{at_of}
 
 -- ---- rows
@@ -20,6 +21,12 @@ use Rattle.replay_core.proofs.WorkSteps.{at_of}
 pub row_ranges : (trace : List Firing) (place : ℕ) (f : Firing) → IsTrace trace → row_before trace place ≡ Some f → HasRanges f
 row_ranges trace zero f are is = absurd cc
 row_ranges trace (suc i) f are is = (at_of IsFiring trace i f are.firings is).ranges
+
+pub row_at : (trace : List Firing) (place : ℕ) (f : Firing) → row_before trace place ≡ Some f → slice_get (with_ends trace trace) place ≡ Some f
+row_at trace zero f is = absurd cc
+row_at trace (suc i) f is =
+    let same : suc i - 1 ≡ i = omega arith in
+    at_row trace (suc i) f (omega arith) (rw same is)
 
 -- ---- lists
 
