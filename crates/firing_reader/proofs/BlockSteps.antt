@@ -22,9 +22,11 @@ use Rattle.firing_reader.specs.Left.{left_in}
 use Rattle.firing_reader.specs.Plain.{rows_after, rows_in}
 use Rattle.firing_reader.specs.Steps.Plain.{GoesOn, Leaves, header_line}
 use Rattle.firing_reader.specs.Steps.RowEnds.{RowsEnd}
-use Rattle.firing_reader.specs.Trace.{rows_of, trace_in, trace_of}
+use Rattle.firing_reader.specs.Gives.{GivesBy}
+use Rattle.firing_reader.specs.Trace.{IsTrace, rows_of, trace_in, trace_of}
+use Rattle.firing_reader.proofs.Kept.{is_trace, rows_trace}
 use Rattle.firing_reader.proofs.PlainHeader.{after_header}
-use Rattle.firing_reader.proofs.PlainRows.{ends_feed, fault_chunk, goes_both, goes_chunk, goes_feed}
+use Rattle.firing_reader.proofs.PlainRows.{all_read, ends_feed, fault_chunk, goes_both, goes_chunk, goes_feed}
 use Rattle.firing_reader.proofs.PlainRows.{goes_first, goes_reads, goes_rows, skip_feed}
 use Rattle.firing_reader.proofs.Rows.{trace_err, trace_ok, trace_rows}
 
@@ -213,3 +215,13 @@ begins_fault x fs y e h (inr fault) = inr (λ tail. h.goes_on tail ∙ fault tai
 
 pub begins_rows : (x : List ℕ) (fs : List Firing) (y : List ℕ) (gs : List Firing) (z : List ℕ) → Begins x fs y → GoesOn fs y gs z → AreRead gs
 begins_rows x fs y gs z h g = goes_rows fs y gs z g h.are_read
+
+-- what a call leaves is a trace where it read the bytes of a whole one
+pub whole_is_trace : (r : Result (Unit {0}) TraceFault) (bytes : List ℕ) (fs : List Firing) → GivesBy (λ _. fs) r (trace_of bytes) → OnOk r (IsTrace fs)
+whole_is_trace (Ok _) bytes fs read = is_trace bytes fs read
+whole_is_trace (Err e) bytes fs read = tt
+
+-- and where it read rows after those of one
+pub rest_is_trace : (r : Result (Unit {0}) TraceFault) (a : List Firing) (bytes : List ℕ) (fs : List Firing) → GivesBy (λ _. fs) r (rows_in a bytes) → AreRead a → OnOk r (IsTrace fs)
+rest_is_trace (Ok _) a bytes fs read are_read = let (rows, all) = all_read a bytes fs read are_read in rows_trace rows fs all
+rest_is_trace (Err e) a bytes fs read are_read = tt

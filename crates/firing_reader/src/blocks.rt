@@ -2,7 +2,8 @@
 
 ghost use Rattle.std.specs.Prelude.{◌≡◌, ◌≢◌, ◌<◌, ◌≤◌, ◌+◌, ◌++◌, ◌∷◌, [], ℕ, List, OnOk, OnErr};
 ghost use Rattle.std.specs.Prelude.{IfOk, IfErr, IfSome, MatchBool, MatchResult, drop, length};
-ghost use Rattle.firing_reader.specs.{Vocabulary.Memory, Gives.Gives, Trace.trace_of};
+ghost use Rattle.firing_reader.specs.{Vocabulary.Memory, Gives.Gives, Gives.GivesBy};
+ghost use Rattle.firing_reader.specs.Trace.{IsTrace, trace_of};
 ghost use Rattle.firing_reader.specs.Blocks.{AreRead, BeginsAtFeed, IsKeptAt};
 ghost use Rattle.firing_reader.specs.Steps.Blocks.{Begins, IsFaultOf};
 ghost use Rattle.firing_reader.specs.Blocks.{reads, reads_at};
@@ -145,11 +146,7 @@ impl Reader {
             alloc,
             hash_key,
         };
-        match advance(&context, &mut pieces, stage, &mut firings, &mut left)? {
-            Stage::Header => read_whole(alloc, &mut firings, &left)?,
-            Stage::Rows => read_rest(alloc, &mut firings, &left)?,
-            Stage::Refused(fault) => return Err(fault),
-        }
+        read_left(&context, &mut pieces, stage, &mut firings, &mut left)?;
         Ok(Trace::of(firings))
     }
 
@@ -317,6 +314,26 @@ fn advance<R: Threads>(
             Ok(stage)
         }
         Stage::Refused(_) => Ok(stage),
+    }
+}
+
+// Reads all that is left, after the last block.
+fn read_left<R: Threads>(
+    context: &Context<R>,
+    pieces: &mut [Firings],
+    stage: Stage,
+    firings: &mut Firings,
+    left: &mut Vec<u8>,
+) -> Result<(), TraceFault>
+    requires { IsKeptAt stage firings.old left.old.items }
+    ensures trace { OnOk result (IsTrace firings.new) }
+    ensures read { GivesBy (λ _. firings.new) result
+        (reads_at stage firings.old (left.old.items ++ [])) }
+{
+    match advance(context, pieces, stage, firings, left)? {
+        Stage::Header => read_whole(context.alloc, firings, left),
+        Stage::Rows => read_rest(context.alloc, firings, left),
+        Stage::Refused(fault) => Err(fault),
     }
 }
 

@@ -64,10 +64,11 @@ impl Keys {
     pub(crate) fn new(alloc: Global, hash_key: HashKey) -> Result<Keys, AllocError>
         ensures { IfOk result (λ keys. keys ≡ []) }
     {
+        let slots = Slots::new(alloc, hash_key)?;
         Ok(Keys {
             bytes: Vec::new(alloc),
             known: Vec::new(alloc),
-            slots: Slots::new(alloc, hash_key)?,
+            slots,
         })
     }
 

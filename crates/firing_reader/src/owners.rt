@@ -50,11 +50,14 @@ impl Owners {
     pub(crate) fn new(alloc: Global, hash_key: HashKey) -> Result<Owners, AllocError>
         ensures { IfOk result (λ owners. owners ≡ []) }
     {
+        let texts = Texts::new(alloc, hash_key)?;
+        let slots = Slots::new(alloc, hash_key)?;
+        let keys = Keys::new(alloc, hash_key)?;
         Ok(Owners {
-            texts: Texts::new(alloc, hash_key)?,
+            texts,
             stored: Vec::new(alloc),
-            slots: Slots::new(alloc, hash_key)?,
-            keys: Keys::new(alloc, hash_key)?,
+            slots,
+            keys,
         })
     }
 
@@ -179,7 +182,8 @@ impl Owners {
         let mut places = Vec::new(alloc);
         for place in 0..others.len() {
             let at = u32_of(place)?;
-            places.push(self.place_of_other(others, at)?).ok()?;
+            let own = self.place_of_other(others, at)?;
+            places.push(own).ok()?;
         }
         Some(places)
     }

@@ -34,7 +34,8 @@ pub(crate) fn pieces_for(
 ) -> Result<Vec<Firings>, AllocError> {
     let mut pieces = Vec::new(alloc);
     for _ in 1..workers {
-        pieces.push(Firings::new(alloc, hash_key)?)?;
+        let piece = Firings::new(alloc, hash_key)?;
+        pieces.push(piece)?;
     }
     Ok(pieces)
 }
@@ -44,7 +45,8 @@ fn empty(alloc: Global, hash_key: HashKey, piece: &mut Firings) -> Result<(), Al
     ensures { OnOk result (piece.new ≡ []) }
 {
     if piece.unit_count() > MOST_KEPT {
-        *piece = Firings::new(alloc, hash_key)?;
+        let new = Firings::new(alloc, hash_key)?;
+        *piece = new;
     }
     piece.clear();
     Ok(())

@@ -54,11 +54,14 @@ impl Probes {
     pub(crate) fn new(alloc: Global, hash_key: HashKey) -> Result<Probes, AllocError>
         ensures { IfOk result (λ probes. probes ≡ []) }
     {
+        let texts = Texts::new(alloc, hash_key)?;
+        let slots = Slots::new(alloc, hash_key)?;
+        let keys = Keys::new(alloc, hash_key)?;
         Ok(Probes {
-            texts: Texts::new(alloc, hash_key)?,
+            texts,
             stored: Vec::new(alloc),
-            slots: Slots::new(alloc, hash_key)?,
-            keys: Keys::new(alloc, hash_key)?,
+            slots,
+            keys,
         })
     }
 
@@ -192,7 +195,8 @@ impl Probes {
         let mut places = Vec::new(alloc);
         for place in 0..others.len() {
             let at = u32_of(place)?;
-            places.push(self.place_of_other(others, at)?).ok()?;
+            let own = self.place_of_other(others, at)?;
+            places.push(own).ok()?;
         }
         Some(places)
     }

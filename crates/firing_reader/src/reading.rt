@@ -7,7 +7,7 @@ ghost use Rattle.csv.specs.Reading.{records as records_of, default_config, strip
 ghost use Rattle.firing_reader.specs.{Vocabulary.Memory};
 ghost use Rattle.firing_reader.specs.Gives.{Gives, GivesBy};
 ghost use Rattle.firing_reader.specs.Plain.{rows_after, rows_in};
-ghost use Rattle.firing_reader.specs.Trace.{next_of, trace_of};
+ghost use Rattle.firing_reader.specs.Trace.{next_of, trace_in, trace_of};
 
 use crate::fault::TraceFault;
 use crate::firing::Firing;
@@ -100,6 +100,29 @@ pub(crate) fn read_rest(
     read_by_csv(alloc, firings, rest)
 }
 
+// Reads the header of these records, and the rows after it. Returns false where there is no record.
+fn read_all(
+    records: &mut Records,
+    fields: &mut ByteRecord,
+    firings: &mut Firings,
+) -> Result<bool, TraceFault>
+    requires empty { firings.old ≡ [] }
+    ensures read { IfOk result (λ found. MatchBool found (trace_in records.old ≡ Ok firings.new)
+        ((records.old ≡ []) × (firings.new ≡ []))) }
+    ensures faulty { IfErr result (λ e. (e ≡ Memory) ⊎ ((trace_in records.old ≡ Err e)
+        × (records.old ≢ []))) }
+    ensures few { OnOk result (length firings.new ≤ MOST_ROWS) }
+{
+    if !records.read(fields)? {
+        return Ok(false);
+    }
+    if !is_header(fields) {
+        return Err(TraceFault::Header);
+    }
+    read_rows(records, fields, firings)?;
+    Ok(true)
+}
+
 /// Reads the header and rows by csv. It returns false where there is no record.
 pub(crate) fn read_records(
     alloc: Global,
@@ -115,14 +138,7 @@ pub(crate) fn read_records(
 {
     let mut records = Records::new(alloc, bytes);
     let mut fields = ByteRecord::new(alloc);
-    if !records.read(&mut fields)? {
-        return Ok(false);
-    }
-    if !is_header(&fields) {
-        return Err(TraceFault::Header);
-    }
-    read_rows(&mut records, &mut fields, firings)?;
-    Ok(true)
+    read_all(&mut records, &mut fields, firings)
 }
 
 /// Reads the bytes of a whole trace.

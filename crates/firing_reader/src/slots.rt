@@ -62,10 +62,11 @@ fn mixed(hash: u64, word: u64) -> u64 {
 
 impl Slots {
     pub(crate) fn new(alloc: Global, hash_key: HashKey) -> Result<Slots, AllocError> {
+        let slots = vec![in alloc; Slot::EMPTY; FEWEST]?;
         Ok(Slots {
             alloc,
             secret: hash_key.build_hasher().finish(),
-            slots: vec![in alloc; Slot::EMPTY; FEWEST]?,
+            slots,
             used: 0,
         })
     }

@@ -40,7 +40,8 @@ pub(crate) fn read_arguments<'a>(all: &mut Vec<i64>, bytes: &'a [u8]) -> Option<
     let mut rest = bytes;
     for n in 0..9u32 {
         if let Some(end) = after_zeros(rest, 10 - n as usize) {
-            return Some((Given::new(first, n)?, end));
+            let given = Given::new(first, n)?;
+            return Some((given, end));
         }
         let (value, after) = next_argument(rest)?;
         all.push(value).ok()?;
@@ -48,5 +49,6 @@ pub(crate) fn read_arguments<'a>(all: &mut Vec<i64>, bytes: &'a [u8]) -> Option<
     }
     let (value, end) = last_argument(rest)?;
     all.push(value).ok()?;
-    Some((Given::new(first, 10)?, end))
+    let given = Given::new(first, 10)?;
+    Some((given, end))
 }

@@ -137,7 +137,8 @@ fn above_zero(bytes: &[u8]) -> Option<(i64, &[u8])>
         × BeginsWith bytes.now field p.1.now × (signed_of field ≡ Some p.0)) }
 {
     let (number, count) = digits(bytes)?;
-    Some((positive(number)?, rest_after(bytes, count)))
+    let value = positive(number)?;
+    Some((value, rest_after(bytes, count)))
 }
 
 // An argument whose minus comes before these bytes.
@@ -150,7 +151,8 @@ fn below_zero(bytes: &[u8]) -> Option<(i64, &[u8])>
     if count == 0 {
         return None;
     }
-    Some((negative(number)?, rest_after(bytes, count)))
+    let value = negative(number)?;
+    Some((value, rest_after(bytes, count)))
 }
 
 // An argument, whatever ends it.
@@ -196,7 +198,8 @@ fn longer_argument(bytes: &[u8]) -> Option<(i64, &[u8])>
         × Passes bytes.now (field ∷ []) p.1.now × (signed_of field ≡ Some p.0)) }
 {
     let (value, rest) = argument(bytes)?;
-    Some((value, after_comma(rest)?))
+    let after = after_comma(rest)?;
+    Some((value, after))
 }
 
 // An argument that a line feed ends. The line feed is the first byte of what comes after it.

@@ -9,8 +9,8 @@ loop-n-init c = record { read = none_so_far c.args.bytes.now c.args.all.now.item
 
 pub returns-in-Some-clause-args : goal.returns-in-Some-clause-args
 returns-in-Some-clause-args c =
-    let g = c.in_ok-new.field-0 in
-    let e = c.in_ok-new.ensures in
+    let g = c.in_ok-given.given in
+    let e = c.in_ok-given.ensures in
     zeros_last c.loop-n.n (10 - c.loop-n.n) c.args.bytes.now c.loop-n.rest.now c.in-Some.end.now c.args.all.now.items c.loop-n.all.items g c.loop-n.invariant.read c.in-Some.ensures
     (omega arith) (omega (arith, e.first, c.loop-n.invariant.first)) (omega (arith, e.count))
 
@@ -31,7 +31,7 @@ returns-clause-args c =
     let v = c.in_ok-value-2.value in
     let same = to_z-of_z w64 v (search rules) in
     let pushed : c.push-2.new.self.items ≡ c.loop-n.all.items ++ v ∷ [] = grind (arith, common_steps) in
-    let g = c.in_ok-new-2.field-0 in
-    let e = c.in_ok-new-2.ensures in
+    let g = c.in_ok-given-2.given in
+    let e = c.in_ok-given-2.ensures in
     value_last c.loop-n.n c.args.bytes.now c.loop-n.rest.now c.in_ok-value-2.end.now c.args.all.now.items c.loop-n.all.items c.push-2.new.self.items g field v (omega arith)
     c.loop-n.invariant.read closes read pushed (omega (arith, e.first, c.loop-n.invariant.first)) (omega (arith, e.count))

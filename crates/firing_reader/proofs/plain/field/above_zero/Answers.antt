@@ -6,4 +6,4 @@ pub returns : goal.returns
 returns c =
     let field = take c.in_ok-number.count c.args.bytes.now in
     let read = positive_read field c.in_ok-number.number c.in_ok-number.ensures.digits c.in_ok-number.ensures.value in
-    (field, record { split = c.rest_after.ensures; plain = digits_join field c.in_ok-number.ensures.digits }, search (rules, read ∙ sym c.positive.ensures ∙ c.in_ok-positive.was))
+    (field, record { split = c.rest_after.ensures; plain = digits_join field c.in_ok-number.ensures.digits }, search (rules, read ∙ sym c.positive.ensures ∙ c.in_ok-value.was))

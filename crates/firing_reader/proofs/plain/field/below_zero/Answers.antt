@@ -7,4 +7,4 @@ returns c =
     let field = take c.in_ok-number.count c.args.bytes.now in
     let some : 0 < length field = grind (arith, length-take) in
     let read = negative_read field c.in_ok-number.number some c.in_ok-number.ensures.digits c.in_ok-number.ensures.value in
-    (field, record { split = c.rest_after.ensures; plain = digits_join field c.in_ok-number.ensures.digits }, search (rules, read ∙ sym c.negative.ensures ∙ c.in_ok-negative.was))
+    (field, record { split = c.rest_after.ensures; plain = digits_join field c.in_ok-number.ensures.digits }, search (rules, read ∙ sym c.negative.ensures ∙ c.in_ok-value.was))
