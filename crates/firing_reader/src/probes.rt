@@ -114,14 +114,13 @@ impl Probes {
         ensures probe { IfSome result (λ p. (probe : Probe)
             × (slice_get self.new p ≡ Some probe) × ReadsProbe key.now [] probe) }
     {
-        let (provider, rest) = text(key)?;
-        let (probemod, rest) = text(rest)?;
-        let (probefunc, rest) = text(rest)?;
-        let (name, rest) = text(rest)?;
-        if !rest.is_empty() || provider.as_bytes() == RESERVED {
-            return None;
-        }
-        let place = self.keep(&provider, &probemod, &probefunc, &name)?;
+        let probe = probe_in(key)?;
+        let place = self.keep(
+            &probe.provider,
+            &probe.probemod,
+            &probe.probefunc,
+            &probe.name,
+        )?;
         self.keys.keep(key, place)?;
         Some(place)
     }
@@ -259,6 +258,25 @@ fn tag_of(slots: &Slots, probe: StoredProbe) -> u32 {
     let first = u64::from(probe.provider) << 32 | u64::from(probe.probemod);
     let second = u64::from(probe.probefunc) << 32 | u64::from(probe.name);
     slots.tag_of_pair(first, second)
+}
+
+// The probe whose fields these bytes are, if they are those of one.
+fn probe_in(key: &[u8]) -> Option<Probe>
+    ensures { IfSome result (ReadsProbe key.now []) }
+{
+    let (provider, rest) = text(key)?;
+    let (probemod, rest) = text(rest)?;
+    let (probefunc, rest) = text(rest)?;
+    let (name, rest) = text(rest)?;
+    if !rest.is_empty() || provider.as_bytes() == RESERVED {
+        return None;
+    }
+    Some(Probe {
+        provider,
+        probemod,
+        probefunc,
+        name,
+    })
 }
 
 // Stores this probe at a new place.

@@ -208,6 +208,8 @@ pub(crate) fn last_argument(bytes: &[u8]) -> Option<(i64, &[u8])>
         × Closes bytes.now (field ∷ []) p.1.now × (signed_of field ≡ Some p.0)) }
 {
     let (value, rest) = argument(bytes)?;
-    after_feed(rest)?;
-    Some((value, rest))
+    match after_feed(rest) {
+        Some(_) => Some((value, rest)),
+        None => None,
+    }
 }
