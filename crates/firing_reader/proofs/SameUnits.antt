@@ -74,7 +74,7 @@ pub probe_placed_by : (own others : List Probe) (at : ℕ) (key : List ℕ) (fou
 probe_placed_by own others at key None met h = tt
 probe_placed_by own others at key (Some p) (a, there, reads) (b, kept, again) = kept ∙ ap (λ (o : Probe). Some o) (one_probe key b a again reads) ∙ sym there
 
--- bytes that were met of an owner
+-- bytes that an owner was read from
 pub owner_bytes : (os : List Owner) (ks : List (List ℕ × ℕ)) (place : ℕ) (found : Option (Bor (List ℕ))) → All (IsOwnerKey os) ks → IfSome found (λ key. Contains ks (key.now, place))
     → IfSome found (λ key. (o : Owner) × (slice_get os place ≡ Some o) × ReadsOwner key.now [] o)
 owner_bytes os ks place None all h = tt

@@ -50,13 +50,13 @@ pub record IsProbeKey (probes : List Probe) (key : List ℕ × ℕ) : Type 0 whe
   pub there : slice_get probes key.1 ≡ Some probe
   pub reads : ReadsProbe key.0 [] probe
 
--- owners that are stored, and the bytes that were met of them
+-- owners that are stored, and bytes that they were read from
 pub record AreOwners (texts : List (List ℕ)) (stored : List StoredOwner)
     (keys : List (List ℕ × ℕ)) : Type 0 where
   pub texts_in : All (IsOwnerIn texts) stored
   pub keys_in : All (IsOwnerKey (map (owner_in texts) stored)) keys
 
--- probes that are stored, and the bytes that were met of them
+-- probes that are stored, and bytes that they were read from
 pub record AreProbes (texts : List (List ℕ)) (stored : List StoredProbe)
     (keys : List (List ℕ × ℕ)) : Type 0 where
   pub texts_in : All (IsProbeIn texts) stored

@@ -152,7 +152,7 @@ impl Owners {
         Some((place, rest))
     }
 
-    // Bytes that were met of the owner at a place.
+    // Bytes that the owner at a place was read from.
     fn bytes_at(&self, place: u32) -> Option<&[u8]>
         ensures { IfSome result (λ key. (owner : Owner)
             × (slice_get self.now place ≡ Some owner) × ReadsOwner key.now [] owner) }
@@ -160,8 +160,8 @@ impl Owners {
         self.keys.bytes_at(place)
     }
 
-    // The place of an owner of others, who is kept where they weren't. The bytes that were met of
-    // them, if any, are looked up as a whole.
+    // The place of an owner of others, who is kept where they weren't. The bytes that they were
+    // read from, if any, are looked up as a whole.
     fn place_of_other(&mut self, others: &Owners, at: u32) -> Option<u32>
         requires { at < length others.now }
         ensures grows { Extends self.old self.new }

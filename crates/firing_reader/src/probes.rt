@@ -159,7 +159,7 @@ impl Probes {
         Some((place, rest))
     }
 
-    // Bytes that were met of the probe at a place.
+    // Bytes that the probe at a place was read from.
     fn bytes_at(&self, place: u32) -> Option<&[u8]>
         ensures { IfSome result (λ key. (probe : Probe)
             × (slice_get self.now place ≡ Some probe) × ReadsProbe key.now [] probe) }
@@ -167,8 +167,8 @@ impl Probes {
         self.keys.bytes_at(place)
     }
 
-    // The place of a probe of others, which is kept where it wasn't. The bytes that were met of it,
-    // if any, are looked up as a whole.
+    // The place of a probe of others, which is kept where it wasn't. The bytes that it was read
+    // from, if any, are looked up as a whole.
     fn place_of_other(&mut self, others: &Probes, at: u32) -> Option<u32>
         requires { at < length others.now }
         ensures grows { Extends self.old self.new }
