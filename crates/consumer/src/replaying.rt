@@ -78,17 +78,51 @@ impl<'a, R: Threads + Wait + Sync, L: Layout> Consumer<'a, R, L> {
         ensures { (source trace : List ℕ) → IsAccepted source (typed_script_of script.now)
             → Gives read (trace_of trace) → IsReplay L.shows source trace plan.now result }
     {
-        let alloc = self.alloc;
         let trace = read?;
-        let groups = groups_of(alloc, &plan.groups, &trace)?;
+        self.replay_trace(script, &trace, plan, gate)
+    }
+
+    // Does the same with a trace that was read.
+    fn replay_trace<G: Gate + Sync>(
+        &self,
+        script: &TypedScript,
+        trace: &Trace,
+        plan: &Plan,
+        gate: &G,
+    ) -> Result<Replayed, Refusal>
+        requires { IsInBounds plan.now }
+        ensures { (source bytes : List ℕ) → IsAccepted source (typed_script_of script.now)
+            → trace_of bytes ≡ Ok trace.now → IsReplay L.shows source bytes plan.now result }
+    {
+        let groups = groups_of(self.alloc, &plan.groups, trace)?;
         let job = Job {
-            trace: &trace,
+            trace,
             groups: &groups,
             gate,
         };
-        let ran = self.run(script, &job, plan)?;
-        let replayed = self.run_output(script, ran)?;
+        let replayed = self.replay_job(script, &job, plan)?;
         Ok(replayed)
+    }
+
+    // Runs a script over a job's trace, and shows what it makes.
+    fn replay_job<G: Gate + Sync>(
+        &self,
+        script: &TypedScript,
+        job: &Job<G>,
+        plan: &Plan,
+    ) -> Result<Replayed, AllocError>
+        requires plan { IsInBounds plan.now }
+        requires groups { AreOf job.now.groups.now (run_threads job.now.trace.now) }
+        requires few { (grouping job.now.groups.now).count ≤ MOST_GROUPS + 1 }
+        ensures { let m = typed_script_of script.now in
+            let trace = job.now.trace.now in
+            let groups = grouping job.now.groups.now in
+            IsGroupedBy plan.now.groups trace groups
+            → IfOk result (λ r. IsShown L.shows m trace (output_of r)
+            × IsCarriedOut plan.now trace (firings_over m trace) r) }
+    {
+        let ran = self.run(script, job, plan)?;
+        self.run_output(script, ran)
     }
 
     // Runs a script over a job's trace, by the engine and the workers of a plan.
