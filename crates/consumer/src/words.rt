@@ -132,7 +132,8 @@ pub fn read_words<'a>(alloc: Global, help: Help, words: &'a [&'a str]) -> Result
     ensures taken { let given = map (λ w. w.now) words.now in
         takes program given ≡ true → HasPlan given → IfErr result (λ e. e ≡ Memory) }
 {
-    match command(alloc, help)?.try_get_matches_from(words) {
+    let command = command(alloc, help)?;
+    match command.try_get_matches_from(words) {
         Ok(matches) => request_in(alloc, help, &matches),
         Err(error) => Err(usage_fault(error)),
     }
@@ -152,19 +153,19 @@ fn request_in(alloc: Global, help: Help, matches: &ArgMatches<'_>) -> Result<Ask
 fn command<'a>(alloc: Global, help: Help) -> Result<Command<'a>, AllocError>
     ensures { IfOk result (λ c. app_of c ≡ program) }
 {
-    let script = option(alloc, "script", 's', "FILE", SCRIPT);
-    let workers = with_default(option(alloc, "workers", 'w', "N", WORKERS), "4");
-    let groups = with_default(option(alloc, "groups", 'g', "N", GROUPS), "16");
-    let engine = with_default(option(alloc, "engine", 'e', "ENGINE", ENGINE), "dif");
-    Command::new(alloc, "dreplay")
+    let command = Command::new(alloc, "dreplay")
         .no_binary_name(true)
         .override_usage(help.usage)
         .about(help.about)
-        .after_help(help.more)
-        .arg(script)?
-        .arg(with_numbers(workers, MOST_WORKERS))?
-        .arg(with_numbers(groups, MOST_GROUPS))?
-        .arg(engine)
+        .after_help(help.more);
+    let script = option(alloc, "script", 's', "FILE", SCRIPT);
+    let command = command.arg(script)?;
+    let workers = with_default(option(alloc, "workers", 'w', "N", WORKERS), "4");
+    let command = command.arg(with_numbers(workers, MOST_WORKERS))?;
+    let groups = with_default(option(alloc, "groups", 'g', "N", GROUPS), "16");
+    let command = command.arg(with_numbers(groups, MOST_GROUPS))?;
+    let engine = with_default(option(alloc, "engine", 'e', "ENGINE", ENGINE), "dif");
+    command.arg(engine)
 }
 
 // An option with a name of one letter.
@@ -236,7 +237,9 @@ fn plan_in(alloc: Global, help: Help, matches: &ArgMatches<'_>) -> Result<Plan, 
 fn out_of_range(alloc: Global, help: Help) -> Result<UsageFault, AllocError>
     ensures { IfOk result (IsMistake ErrorKind.ValueValidation) }
 {
-    let error = command(alloc, help)?.error(
+    let error = mistake(
+        alloc,
+        help,
         ErrorKind::ValueValidation,
         "a number is out of range",
     )?;
@@ -247,7 +250,12 @@ fn out_of_range(alloc: Global, help: Help) -> Result<UsageFault, AllocError>
 fn no_engine(alloc: Global, help: Help) -> Result<UsageFault, AllocError>
     ensures { IfOk result (IsMistake ErrorKind.InvalidValue) }
 {
-    let error = command(alloc, help)?.error(ErrorKind::InvalidValue, "the engine is dif or tree")?;
+    let error = mistake(
+        alloc,
+        help,
+        ErrorKind::InvalidValue,
+        "the engine is dif or tree",
+    )?;
     Ok(UsageFault::Usage(error))
 }
 
@@ -300,5 +308,23 @@ fn usage_fault(error: clap::Error) -> UsageFault
 fn not_text(alloc: Global, help: Help) -> Result<clap::Error, AllocError>
     ensures { IfOk result (λ e. kind_of e ≡ ErrorKind.ValueValidation) }
 {
-    command(alloc, help)?.error(ErrorKind::ValueValidation, "a word is not UTF-8")
+    mistake(
+        alloc,
+        help,
+        ErrorKind::ValueValidation,
+        "a word is not UTF-8",
+    )
+}
+
+// A mistake with this text, in clap's form.
+fn mistake(
+    alloc: Global,
+    help: Help,
+    kind: ErrorKind,
+    text: &str,
+) -> Result<clap::Error, AllocError>
+    ensures { IfOk result (λ e. kind_of e ≡ kind) }
+{
+    let mut command = command(alloc, help)?;
+    command.error(kind, text)
 }

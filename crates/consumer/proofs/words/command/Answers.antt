@@ -13,7 +13,7 @@ returns c =
     let workers = c.with_numbers.ensures.rule ∙ ap (λ (r : Rule). numbered r 16) (c.with_default-workers.ensures.rule ∙ ap (λ (r : Rule). default r (codes "4")) c.option.ensures.rule) in
     let groups = c.with_numbers-2.ensures.rule ∙ ap (λ (r : Rule). numbered r 4096) (c.with_default-groups.ensures.rule ∙ ap (λ (r : Rule). default r (codes "16")) c.option-2.ensures.rule) in
     let engine = c.with_default-engine.ensures.rule ∙ ap (λ (r : Rule). default r (codes "dif")) c.option-3.ensures.rule in
-    let one = with_option _ _ _ bare _ c.in_ok-arg.ensures c.option-script.ensures.local c.option-script.ensures.rule (search rules) in
-    let two = with_option _ _ _ _ _ c.in_ok-arg-2.ensures (c.with_numbers.ensures.local ∙ c.with_default-workers.ensures.local ∙ c.option.ensures.local) workers one in
-    let three = with_option _ _ _ _ _ c.in_ok-arg-3.ensures (c.with_numbers-2.ensures.local ∙ c.with_default-groups.ensures.local ∙ c.option-2.ensures.local) groups two in
+    let one = with_option _ _ _ bare _ c.in_ok-command.ensures c.option-script.ensures.local c.option-script.ensures.rule (search rules) in
+    let two = with_option _ _ _ _ _ c.in_ok-command-2.ensures (c.with_numbers.ensures.local ∙ c.with_default-workers.ensures.local ∙ c.option.ensures.local) workers one in
+    let three = with_option _ _ _ _ _ c.in_ok-command-3.ensures (c.with_numbers-2.ensures.local ∙ c.with_default-groups.ensures.local ∙ c.option-2.ensures.local) groups two in
     ok_with_option _ _ _ _ _ c.arg-4.ensures (c.with_default-engine.ensures.local ∙ c.option-3.ensures.local) engine three
