@@ -308,12 +308,8 @@ fn usage_fault(error: clap::Error) -> UsageFault
 fn not_text(alloc: Global, help: Help) -> Result<clap::Error, AllocError>
     ensures { IfOk result (λ e. kind_of e ≡ ErrorKind.ValueValidation) }
 {
-    mistake(
-        alloc,
-        help,
-        ErrorKind::ValueValidation,
-        "a word is not UTF-8",
-    )
+    let text = "a word is not UTF-8";
+    mistake(alloc, help, ErrorKind::ValueValidation, text)
 }
 
 // A mistake with this text, in clap's form.
