@@ -5,8 +5,8 @@ ghost use Rattle.firing_reader.specs.{Gives.Gives};
 ghost use Rattle.shard_queue.specs.{Groups.AreOf, Groups.grouping, Threads.run_threads};
 ghost use Rattle.replay_core.specs.Exit.{firings_over};
 ghost use Rattle.consumer.specs.{Answer.IsShown, Scripts.IsAccepted};
-ghost use Rattle.consumer.specs.Vocabulary.{Firing, Grouping, Plan, functions_in, functions_of};
-ghost use Rattle.consumer.specs.Vocabulary.{MOST_GROUPS, trace_of, typed_script_of};
+ghost use Rattle.consumer.specs.Vocabulary.{Firing, Grouping, Plan, ScriptMeant, functions_in};
+ghost use Rattle.consumer.specs.Vocabulary.{MOST_GROUPS, functions_of, trace_of, typed_script_of};
 ghost use Rattle.consumer.specs.Plans.{IsGroupedBy, IsInBounds};
 ghost use Rattle.consumer.specs.Replaying.{IsCarriedOut, IsReplay, output_of};
 ghost use Rattle.consumer.specs.Steps.Replaying.{IsRunBy};
@@ -19,7 +19,7 @@ use crate::scripts::judge;
 use d_types::TypedScript;
 use dif_codegen::compile;
 use firing_reader::{Trace, TraceFault, read_trace_by};
-use replay_core::{DifLanes, Gate, Job, Layout, OpenGate, Ran, TreeLanes, run_all};
+use replay_core::{DifLanes, Gate, Job, Lanes, Layout, OpenGate, Ran, TreeLanes, run_all};
 use std::alloc::AllocError;
 use std::sync::Wait;
 use std::thread::Threads;
@@ -138,18 +138,35 @@ impl<'a, R: Threads + Wait + Sync, L: Layout> Consumer<'a, R, L> {
         ensures { IfOk result (IsRunBy (typed_script_of script.now) job.now.trace.now
             (grouping job.now.groups.now) plan.now.workers) }
     {
-        let (rt, alloc, workers) = (self.rt, self.alloc, plan.workers);
         match plan.engine {
             EngineKind::Tree => {
                 let lanes = TreeLanes::new(plan.hash_key, script);
-                run_all(rt, alloc, &lanes, job, workers)
+                self.run_lanes(&lanes, job, plan)
             }
             EngineKind::Dif => {
-                let program = compile(alloc, script)?;
+                let program = compile(self.alloc, script)?;
                 let lanes = DifLanes::new(plan.hash_key, &program);
-                run_all(rt, alloc, &lanes, job, workers)
+                self.run_lanes(&lanes, job, plan)
             }
         }
+    }
+
+    // Runs what lanes run over a job's trace, by the workers of a plan.
+    fn run_lanes<K: Lanes + Sync, G: Gate + Sync>(
+        &self,
+        lanes: &K,
+        job: &Job<G>,
+        plan: &Plan,
+    ) -> Result<Ran, AllocError>
+        requires plan { IsInBounds plan.now }
+        requires groups { AreOf job.now.groups.now (run_threads job.now.trace.now) }
+        requires few { (grouping job.now.groups.now).count ≤ MOST_GROUPS + 1 }
+        requires script { (m : ScriptMeant) × K.runs lanes.now m }
+        ensures { (m : ScriptMeant) → K.runs lanes.now m
+            → IfOk result (IsRunBy m job.now.trace.now
+            (grouping job.now.groups.now) plan.now.workers) }
+    {
+        run_all(self.rt, self.alloc, lanes, job, plan.workers)
     }
 
     // What a run shows.
