@@ -158,7 +158,8 @@ impl<'a, R: Threads> Intake for BundleIntake<'a, R> {
             Some(trace) => trace.take(block),
             None => {
                 self.first.extend_from_slice(block)?;
-                self.trace = trace_after(self.rt, self.alloc, self.plan, &self.first)?;
+                let trace = trace_after(self.rt, self.alloc, self.plan, &self.first)?;
+                self.trace = trace;
                 Ok(())
             }
         }
@@ -178,8 +179,14 @@ fn trace_after<'a, R: Threads>(
 {
     let (passed, trace) = first_lines(first);
     match trace {
-        Some(trace) => Ok(Some(TraceIntake::begun(rt, alloc, plan, &first[..passed], trace)?)),
-        None if first.len() > MOST_UNDIVIDED => Ok(Some(TraceIntake::unread(rt, alloc, plan)?)),
+        Some(trace) => {
+            let intake = TraceIntake::begun(rt, alloc, plan, &first[..passed], trace)?;
+            Ok(Some(intake))
+        }
+        None if first.len() > MOST_UNDIVIDED => {
+            let intake = TraceIntake::unread(rt, alloc, plan)?;
+            Ok(Some(intake))
+        }
         None => Ok(None),
     }
 }

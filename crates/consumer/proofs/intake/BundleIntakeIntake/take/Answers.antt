@@ -5,6 +5,6 @@ use Rattle.consumer.proofs.intake.BundleIntakeIntake.take.Goals as goal
 pub returns-in-Some : goal.returns-in-Some
 returns-in-Some g c = bundle_goes c.take.result c.args.self.now.first.items _ c.take.new.self c.args.self.now.trace c.args.block.now c.in-Some.is c.take.ensures
 
-pub returns-in_ok-self-in-None : goal.returns-in_ok-self-in-None
-returns-in_ok-self-in-None g c =
-    bundle_told c.args.self.now.first.items _ c.deref.result.now c.args.block.now c.args.self.now.trace c.in_ok-self-in-None.field-0 c.in-None.is (search rules) c.deref.ensures.value c.in_ok-self-in-None.ensures
+pub returns-in_ok-trace-in-None : goal.returns-in_ok-trace-in-None
+returns-in_ok-trace-in-None g c =
+    bundle_told c.args.self.now.first.items _ c.deref.result.now c.args.block.now c.args.self.now.trace c.in_ok-trace-in-None.trace c.in-None.is (search rules) c.deref.ensures.value c.in_ok-trace-in-None.ensures
