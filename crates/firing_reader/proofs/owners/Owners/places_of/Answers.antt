@@ -15,9 +15,9 @@ loop-place-preserved c =
     let o = get_or others i no_owner in
     let within : i < length others = search rules in
     let there : slice_get others i ≡ Some o = slice_get-get_or others i no_owner within in
-    let kept : slice_get c.place_of_other.new.self c.in_ok-place_of_other.field-0 ≡ Some o = rw c.in_ok-at.ensures at c.in_ok-place_of_other.ensures.place ∙ there in
-    let one = place_more c.loop-place.self c.place_of_other.new.self c.loop-place.places.items (take i others) c.in_ok-place_of_other.field-0 o c.place_of_other.ensures.grows c.loop-place.invariant.places kept in
-    let pushed : c.push.new.self.items ≡ c.loop-place.places.items ++ c.in_ok-place_of_other.field-0 ∷ [] = grind (arith, common_steps) in
+    let kept : slice_get c.place_of_other.new.self c.in_ok-own.own ≡ Some o = rw c.in_ok-at.ensures at c.in_ok-own.ensures.place ∙ there in
+    let one = place_more c.loop-place.self c.place_of_other.new.self c.loop-place.places.items (take i others) c.in_ok-own.own o c.place_of_other.ensures.grows c.loop-place.invariant.places kept in
+    let pushed : c.push.new.self.items ≡ c.loop-place.places.items ++ c.in_ok-own.own ∷ [] = grind (arith, common_steps) in
     record {
       grows = extends_more _ _ _ c.loop-place.invariant.grows c.place_of_other.ensures.grows;
       places = rw (pushed, take_more others i o (slice_get_within others i o there), get_or_from_slice_get others i o o there) one;
