@@ -16,6 +16,15 @@ argument word =
     else if bytes_eq word (codes "arg9") then Some (BuiltIn.Argument 9)
     else None
 
+-- a part of the probe's name, or an argument
+abbrev pub of_probe : List ℕ → Option BuiltIn
+of_probe word =
+    if bytes_eq word (codes "probeprov") then Some BuiltIn.Probeprov
+    else if bytes_eq word (codes "probemod") then Some BuiltIn.Probemod
+    else if bytes_eq word (codes "probefunc") then Some BuiltIn.Probefunc
+    else if bytes_eq word (codes "probename") then Some BuiltIn.Probename
+    else argument word
+
 -- the built-in variable
 abbrev pub built_in : List ℕ → Option BuiltIn
 built_in word =
@@ -24,11 +33,7 @@ built_in word =
     else if bytes_eq word (codes "pid") then Some BuiltIn.Pid
     else if bytes_eq word (codes "tid") then Some BuiltIn.Tid
     else if bytes_eq word (codes "execname") then Some BuiltIn.Execname
-    else if bytes_eq word (codes "probeprov") then Some BuiltIn.Probeprov
-    else if bytes_eq word (codes "probemod") then Some BuiltIn.Probemod
-    else if bytes_eq word (codes "probefunc") then Some BuiltIn.Probefunc
-    else if bytes_eq word (codes "probename") then Some BuiltIn.Probename
-    else argument word
+    else of_probe word
 
 -- a function or an action
 abbrev pub callee_named : List ℕ → Option Callee

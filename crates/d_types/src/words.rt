@@ -1,6 +1,7 @@
 //! What words name.
 
 ghost use Rattle.std.specs.Prelude.{◌≡◌};
+ghost use Rattle.d_types.specs.{Vocabulary.bytes_eq};
 ghost use Rattle.d_types.specs.Words as spec;
 
 use crate::typed::BuiltIn;
@@ -27,31 +28,54 @@ pub enum Aggregating {
     Lquantize,
 }
 
+fn is(word: &[u8], name: &str) -> bool
+    ensures { result ≡ bytes_eq word.now name.now }
+{
+    word == name.as_bytes()
+}
+
 fn argument(word: &[u8]) -> Option<BuiltIn>
     ensures { result ≡ spec.argument word.now }
 {
-    if word == b"arg0".as_slice() {
+    if is(word, "arg0") {
         Some(BuiltIn::Argument(0))
-    } else if word == b"arg1".as_slice() {
+    } else if is(word, "arg1") {
         Some(BuiltIn::Argument(1))
-    } else if word == b"arg2".as_slice() {
+    } else if is(word, "arg2") {
         Some(BuiltIn::Argument(2))
-    } else if word == b"arg3".as_slice() {
+    } else if is(word, "arg3") {
         Some(BuiltIn::Argument(3))
-    } else if word == b"arg4".as_slice() {
+    } else if is(word, "arg4") {
         Some(BuiltIn::Argument(4))
-    } else if word == b"arg5".as_slice() {
+    } else if is(word, "arg5") {
         Some(BuiltIn::Argument(5))
-    } else if word == b"arg6".as_slice() {
+    } else if is(word, "arg6") {
         Some(BuiltIn::Argument(6))
-    } else if word == b"arg7".as_slice() {
+    } else if is(word, "arg7") {
         Some(BuiltIn::Argument(7))
-    } else if word == b"arg8".as_slice() {
+    } else if is(word, "arg8") {
         Some(BuiltIn::Argument(8))
-    } else if word == b"arg9".as_slice() {
+    } else if is(word, "arg9") {
         Some(BuiltIn::Argument(9))
     } else {
         None
+    }
+}
+
+// A part of the probe's name, or an argument.
+fn of_probe(word: &[u8]) -> Option<BuiltIn>
+    ensures { result ≡ spec.of_probe word.now }
+{
+    if is(word, "probeprov") {
+        Some(BuiltIn::Probeprov)
+    } else if is(word, "probemod") {
+        Some(BuiltIn::Probemod)
+    } else if is(word, "probefunc") {
+        Some(BuiltIn::Probefunc)
+    } else if is(word, "probename") {
+        Some(BuiltIn::Probename)
+    } else {
+        argument(word)
     }
 }
 
@@ -59,26 +83,18 @@ fn argument(word: &[u8]) -> Option<BuiltIn>
 pub(crate) fn built_in(word: &[u8]) -> Option<BuiltIn>
     ensures { result ≡ spec.built_in word.now }
 {
-    if word == b"timestamp".as_slice() {
+    if is(word, "timestamp") {
         Some(BuiltIn::Timestamp)
-    } else if word == b"cpu".as_slice() {
+    } else if is(word, "cpu") {
         Some(BuiltIn::Cpu)
-    } else if word == b"pid".as_slice() {
+    } else if is(word, "pid") {
         Some(BuiltIn::Pid)
-    } else if word == b"tid".as_slice() {
+    } else if is(word, "tid") {
         Some(BuiltIn::Tid)
-    } else if word == b"execname".as_slice() {
+    } else if is(word, "execname") {
         Some(BuiltIn::Execname)
-    } else if word == b"probeprov".as_slice() {
-        Some(BuiltIn::Probeprov)
-    } else if word == b"probemod".as_slice() {
-        Some(BuiltIn::Probemod)
-    } else if word == b"probefunc".as_slice() {
-        Some(BuiltIn::Probefunc)
-    } else if word == b"probename".as_slice() {
-        Some(BuiltIn::Probename)
     } else {
-        argument(word)
+        of_probe(word)
     }
 }
 
@@ -86,15 +102,15 @@ pub(crate) fn built_in(word: &[u8]) -> Option<BuiltIn>
 pub(crate) fn callee_named(word: &[u8]) -> Option<Callee>
     ensures { result ≡ spec.callee_named word.now }
 {
-    if word == b"strlen".as_slice() {
+    if is(word, "strlen") {
         Some(Callee::Strlen)
-    } else if word == b"strjoin".as_slice() {
+    } else if is(word, "strjoin") {
         Some(Callee::Strjoin)
-    } else if word == b"trace".as_slice() {
+    } else if is(word, "trace") {
         Some(Callee::Trace)
-    } else if word == b"printf".as_slice() {
+    } else if is(word, "printf") {
         Some(Callee::Printf)
-    } else if word == b"exit".as_slice() {
+    } else if is(word, "exit") {
         Some(Callee::Exit)
     } else {
         None
@@ -105,19 +121,19 @@ pub(crate) fn callee_named(word: &[u8]) -> Option<Callee>
 pub(crate) fn aggregating_named(word: &[u8]) -> Option<Aggregating>
     ensures { result ≡ spec.aggregating_named word.now }
 {
-    if word == b"count".as_slice() {
+    if is(word, "count") {
         Some(Aggregating::Count)
-    } else if word == b"sum".as_slice() {
+    } else if is(word, "sum") {
         Some(Aggregating::Sum)
-    } else if word == b"min".as_slice() {
+    } else if is(word, "min") {
         Some(Aggregating::Min)
-    } else if word == b"max".as_slice() {
+    } else if is(word, "max") {
         Some(Aggregating::Max)
-    } else if word == b"avg".as_slice() {
+    } else if is(word, "avg") {
         Some(Aggregating::Avg)
-    } else if word == b"quantize".as_slice() {
+    } else if is(word, "quantize") {
         Some(Aggregating::Quantize)
-    } else if word == b"lquantize".as_slice() {
+    } else if is(word, "lquantize") {
         Some(Aggregating::Lquantize)
     } else {
         None
