@@ -7,9 +7,11 @@ ghost use Rattle.d_types.specs.Operators as spec;
 
 use crate::fault::TypeFault;
 use crate::operators::BinarySort;
-use crate::typed::{Operation, TypedExpr};
+use crate::typed::{LogicOperator, Operation, TypedExpr};
 use d_parser::UnaryOperator;
-use d_values::{DType, IntType, common, promotion_of};
+use d_values::{
+    ArithmeticOperator, ComparisonOperator, DType, IntType, ShiftOperator, common, promotion_of,
+};
 use std::alloc::Global;
 
 /// An integer as one of another type.
@@ -25,7 +27,8 @@ pub(crate) fn convert(
     if from == to {
         Ok(x)
     } else {
-        Ok(TypedExpr::Convert(from, to, Box::new(alloc, x)?))
+        let x = Box::new(alloc, x)?;
+        Ok(TypedExpr::Convert(from, to, x))
     }
 }
 
@@ -40,7 +43,10 @@ pub(crate) fn as_type(
     ensures err { OnlyMemory result }
 {
     match (x.type_of(), to) {
-        (DType::Int(t), DType::Int(u)) => Ok(Some(convert(alloc, t, u, x)?)),
+        (DType::Int(t), DType::Int(u)) => {
+            let x = convert(alloc, t, u, x)?;
+            Ok(Some(x))
+        }
         (DType::Text, DType::Text) => Ok(Some(x)),
         _ => Ok(None),
     }
@@ -58,7 +64,8 @@ pub(crate) fn unary(
     match x.type_of() {
         DType::Int(t) => {
             let x = convert(alloc, t, promotion_of(t), x)?;
-            Ok(Some(TypedExpr::Unary(operator, promotion_of(t), Box::new(alloc, x)?)))
+            let x = Box::new(alloc, x)?;
+            Ok(Some(TypedExpr::Unary(operator, promotion_of(t), x)))
         }
         DType::Text => Ok(None),
     }
@@ -75,7 +82,123 @@ fn operate(
     ensures err { OnlyMemory result }
 {
     let x = Box::new(alloc, x)?;
-    Ok(Some(TypedExpr::Operate(operation, x, Box::new(alloc, y)?)))
+    let y = Box::new(alloc, y)?;
+    Ok(Some(TypedExpr::Operate(operation, x, y)))
+}
+
+fn arithmetic(
+    alloc: Global,
+    op: ArithmeticOperator,
+    x: TypedExpr,
+    y: TypedExpr,
+) -> Result<Option<TypedExpr>, TypeFault>
+    ensures ok { IfOk result
+        (λ z. option_map typed_of z ≡ spec.operation_by (BinarySort.Arithmetic op)
+        (type_of (typed_of x)) (type_of (typed_of y)) (typed_of x) (typed_of y)) }
+    ensures err { OnlyMemory result }
+{
+    match (x.type_of(), y.type_of()) {
+        (DType::Int(t), DType::Int(u)) => {
+            let x = convert(alloc, t, common(t, u), x)?;
+            let y = convert(alloc, u, common(t, u), y)?;
+            operate(alloc, Operation::Arithmetic(op, common(t, u)), x, y)
+        }
+        _ => Ok(None),
+    }
+}
+
+fn shift(
+    alloc: Global,
+    op: ShiftOperator,
+    x: TypedExpr,
+    y: TypedExpr,
+) -> Result<Option<TypedExpr>, TypeFault>
+    ensures ok { IfOk result
+        (λ z. option_map typed_of z ≡ spec.operation_by (BinarySort.Shift op)
+        (type_of (typed_of x)) (type_of (typed_of y)) (typed_of x) (typed_of y)) }
+    ensures err { OnlyMemory result }
+{
+    match (x.type_of(), y.type_of()) {
+        (DType::Int(t), DType::Int(_)) => {
+            let x = convert(alloc, t, promotion_of(t), x)?;
+            operate(alloc, Operation::Shift(op, promotion_of(t)), x, y)
+        }
+        _ => Ok(None),
+    }
+}
+
+fn compare_integers(
+    alloc: Global,
+    op: ComparisonOperator,
+    t: IntType,
+    x: TypedExpr,
+    y: TypedExpr,
+) -> Result<Option<TypedExpr>, TypeFault>
+    ensures ok { IfOk result
+        (λ z. option_map typed_of z ≡ Some (Typed.Compare op t (typed_of x) (typed_of y))) }
+    ensures err { OnlyMemory result }
+{
+    let x = Box::new(alloc, x)?;
+    let y = Box::new(alloc, y)?;
+    Ok(Some(TypedExpr::Compare(op, t, x, y)))
+}
+
+fn compare_texts(
+    alloc: Global,
+    op: ComparisonOperator,
+    x: TypedExpr,
+    y: TypedExpr,
+) -> Result<Option<TypedExpr>, TypeFault>
+    ensures ok { IfOk result
+        (λ z. option_map typed_of z ≡ Some (Typed.CompareText op (typed_of x) (typed_of y))) }
+    ensures err { OnlyMemory result }
+{
+    let x = Box::new(alloc, x)?;
+    let y = Box::new(alloc, y)?;
+    Ok(Some(TypedExpr::CompareText(op, x, y)))
+}
+
+fn compare(
+    alloc: Global,
+    op: ComparisonOperator,
+    x: TypedExpr,
+    y: TypedExpr,
+) -> Result<Option<TypedExpr>, TypeFault>
+    ensures ok { IfOk result
+        (λ z. option_map typed_of z ≡ spec.operation_by (BinarySort.Compare op)
+        (type_of (typed_of x)) (type_of (typed_of y)) (typed_of x) (typed_of y)) }
+    ensures err { OnlyMemory result }
+{
+    match (x.type_of(), y.type_of()) {
+        (DType::Int(t), DType::Int(u)) => {
+            let x = convert(alloc, t, common(t, u), x)?;
+            let y = convert(alloc, u, common(t, u), y)?;
+            compare_integers(alloc, op, common(t, u), x, y)
+        }
+        (DType::Text, DType::Text) => compare_texts(alloc, op, x, y),
+        _ => Ok(None),
+    }
+}
+
+fn logic(
+    alloc: Global,
+    op: LogicOperator,
+    x: TypedExpr,
+    y: TypedExpr,
+) -> Result<Option<TypedExpr>, TypeFault>
+    ensures ok { IfOk result
+        (λ z. option_map typed_of z ≡ spec.operation_by (BinarySort.Logic op)
+        (type_of (typed_of x)) (type_of (typed_of y)) (typed_of x) (typed_of y)) }
+    ensures err { OnlyMemory result }
+{
+    match (x.type_of(), y.type_of()) {
+        (DType::Int(_), DType::Int(_)) => {
+            let x = Box::new(alloc, x)?;
+            let y = Box::new(alloc, y)?;
+            Ok(Some(TypedExpr::Logic(op, x, y)))
+        }
+        _ => Ok(None),
+    }
 }
 
 /// What an operator makes of two operands.
@@ -90,32 +213,29 @@ pub(crate) fn binary(
         (type_of (typed_of y)) (typed_of x) (typed_of y)) }
     ensures err { OnlyMemory result }
 {
-    match (sort, x.type_of(), y.type_of()) {
-        (BinarySort::Arithmetic(op), DType::Int(t), DType::Int(u)) => {
-            let x = convert(alloc, t, common(t, u), x)?;
-            let y = convert(alloc, u, common(t, u), y)?;
-            operate(alloc, Operation::Arithmetic(op, common(t, u)), x, y)
-        }
-        (BinarySort::Shift(op), DType::Int(t), DType::Int(_)) => {
-            let x = convert(alloc, t, promotion_of(t), x)?;
-            operate(alloc, Operation::Shift(op, promotion_of(t)), x, y)
-        }
-        (BinarySort::Compare(op), DType::Int(t), DType::Int(u)) => {
-            let x = convert(alloc, t, common(t, u), x)?;
-            let y = convert(alloc, u, common(t, u), y)?;
-            let x = Box::new(alloc, x)?;
-            Ok(Some(TypedExpr::Compare(op, common(t, u), x, Box::new(alloc, y)?)))
-        }
-        (BinarySort::Compare(op), DType::Text, DType::Text) => {
-            let x = Box::new(alloc, x)?;
-            Ok(Some(TypedExpr::CompareText(op, x, Box::new(alloc, y)?)))
-        }
-        (BinarySort::Logic(op), DType::Int(_), DType::Int(_)) => {
-            let x = Box::new(alloc, x)?;
-            Ok(Some(TypedExpr::Logic(op, x, Box::new(alloc, y)?)))
-        }
-        _ => Ok(None),
+    match sort {
+        BinarySort::Arithmetic(op) => arithmetic(alloc, op, x, y),
+        BinarySort::Shift(op) => shift(alloc, op, x, y),
+        BinarySort::Compare(op) => compare(alloc, op, x, y),
+        BinarySort::Logic(op) => logic(alloc, op, x, y),
     }
+}
+
+fn choice_of(
+    alloc: Global,
+    t: DType,
+    x: TypedExpr,
+    y: TypedExpr,
+    z: TypedExpr,
+) -> Result<Option<TypedExpr>, TypeFault>
+    ensures ok { IfOk result (λ w. option_map typed_of w
+        ≡ Some (Typed.Choice t (typed_of x) (typed_of y) (typed_of z))) }
+    ensures err { OnlyMemory result }
+{
+    let x = Box::new(alloc, x)?;
+    let y = Box::new(alloc, y)?;
+    let z = Box::new(alloc, z)?;
+    Ok(Some(TypedExpr::Choice(t, x, y, z)))
 }
 
 /// `x ? y : z`
@@ -133,15 +253,9 @@ pub(crate) fn choice(
         (DType::Int(_), DType::Int(t), DType::Int(u)) => {
             let y = convert(alloc, t, common(t, u), y)?;
             let z = convert(alloc, u, common(t, u), z)?;
-            let x = Box::new(alloc, x)?;
-            let y = Box::new(alloc, y)?;
-            Ok(Some(TypedExpr::Choice(DType::Int(common(t, u)), x, y, Box::new(alloc, z)?)))
+            choice_of(alloc, DType::Int(common(t, u)), x, y, z)
         }
-        (DType::Int(_), DType::Text, DType::Text) => {
-            let x = Box::new(alloc, x)?;
-            let y = Box::new(alloc, y)?;
-            Ok(Some(TypedExpr::Choice(DType::Text, x, y, Box::new(alloc, z)?)))
-        }
+        (DType::Int(_), DType::Text, DType::Text) => choice_of(alloc, DType::Text, x, y, z),
         _ => Ok(None),
     }
 }
