@@ -89,6 +89,28 @@ fn load_at(
     }
 }
 
+/// A variable of a thread or of the clauses, as the script names it.
+#[derive(Clone, Copy)]
+pub(crate) struct VariableName<'a> {
+    pub(crate) space: Space,
+    pub(crate) line: usize,
+    pub(crate) name: &'a ByteString,
+}
+
+fn load(
+    table: &[Entry],
+    variable: VariableName<'_>,
+    keys: Vec<TypedExpr>,
+) -> Result<TypedExpr, TypeFault>
+    ensures { Gives typed_of result
+        (spec.load_at variable.entry.space variable.entry.line (rows_of_entries table.now)
+        (find variable.entry.space variable.entry.name.now (rows_of_entries table.now))
+        (typeds_of keys.items)) }
+{
+    let found = find(table, variable.space, variable.name.as_slice());
+    load_at(variable.space, variable.line, table, found, keys)
+}
+
 /// The typed tree of a variable or built-in that is read.
 pub(crate) fn read(
     table: &[Entry],
@@ -101,12 +123,12 @@ pub(crate) fn read(
     match variable {
         d_parser::Variable::Plain { line, name } => plain(*line, built_in(name.as_slice()), &keys),
         d_parser::Variable::Thread { line, name } => {
-            let found = find(table, Space::Thread, name.as_slice());
-            load_at(Space::Thread, *line, table, found, keys)
+            let (space, line) = (Space::Thread, *line);
+            load(table, VariableName { space, line, name }, keys)
         }
         d_parser::Variable::Clause { line, name } => {
-            let found = find(table, Space::Clause, name.as_slice());
-            load_at(Space::Clause, *line, table, found, keys)
+            let (space, line) = (Space::Clause, *line);
+            load(table, VariableName { space, line, name }, keys)
         }
     }
 }
@@ -158,14 +180,6 @@ fn settle(table: &mut [Entry], slot: usize, holds: Option<DType>)
             set_type(table, slot, holds);
         }
     }
-}
-
-/// A variable of a thread or of the clauses, as the script names it.
-#[derive(Clone, Copy)]
-pub(crate) struct VariableName<'a> {
-    pub(crate) space: Space,
-    pub(crate) line: usize,
-    pub(crate) name: &'a ByteString,
 }
 
 // A new variable, and its slot.
@@ -245,8 +259,13 @@ pub(crate) fn target(
         d_parser::Variable::Plain { line, name } => {
             plain_target(alloc, *line, name, built_in(name.as_slice()), keys)
         }
-        d_parser::Variable::Thread { line, name } | d_parser::Variable::Clause { line, name } => {
-            let (space, line) = (space_of(variable), *line);
+        d_parser::Variable::Thread { line, name } => {
+            let (space, line) = (Space::Thread, *line);
+            let variable = VariableName { space, line, name };
+            slot_for(alloc, table, variable, holds, keys)
+        }
+        d_parser::Variable::Clause { line, name } => {
+            let (space, line) = (Space::Clause, *line);
             let variable = VariableName { space, line, name };
             slot_for(alloc, table, variable, holds, keys)
         }
