@@ -6,7 +6,7 @@ ghost use Rattle.d_types.specs.Typed as spec;
 use crate::constants::integer;
 use crate::typed::{BuiltIn, Operation, TypedExpr};
 use d_parser::{IntegerType, UnaryOperator};
-use d_values::DType;
+use d_values::{DType, IntType};
 
 fn type_of_built_in(built_in: BuiltIn) -> DType
     ensures { result ≡ spec.type_of_built_in built_in }
@@ -20,6 +20,24 @@ fn type_of_built_in(built_in: BuiltIn) -> DType
         | BuiltIn::Probemod
         | BuiltIn::Probefunc
         | BuiltIn::Probename => DType::Text,
+    }
+}
+
+fn type_of_unary(operator: UnaryOperator, t: IntType) -> DType
+    ensures { result ≡ spec.type_of_unary operator t }
+{
+    match operator {
+        UnaryOperator::Not => integer(IntegerType::Int32),
+        UnaryOperator::Complement | UnaryOperator::Negate | UnaryOperator::Keep => DType::Int(t),
+    }
+}
+
+fn type_of_operation(operation: Operation) -> DType
+    ensures { result ≡ spec.type_of_operation operation }
+{
+    match operation {
+        Operation::Arithmetic(_, t) => DType::Int(t),
+        Operation::Shift(_, t) => DType::Int(t),
     }
 }
 
@@ -38,14 +56,8 @@ impl TypedExpr {
             TypedExpr::Text(_) => DType::Text,
             TypedExpr::BuiltIn(built_in) => type_of_built_in(*built_in),
             TypedExpr::Read(variable, _) => variable.holds,
-            TypedExpr::Unary(UnaryOperator::Not, _, _) => integer(IntegerType::Int32),
-            TypedExpr::Unary(
-                UnaryOperator::Complement | UnaryOperator::Negate | UnaryOperator::Keep,
-                t,
-                _,
-            ) => DType::Int(*t),
-            TypedExpr::Operate(Operation::Arithmetic(_, t), _, _) => DType::Int(*t),
-            TypedExpr::Operate(Operation::Shift(_, t), _, _) => DType::Int(*t),
+            TypedExpr::Unary(operator, t, _) => type_of_unary(*operator, *t),
+            TypedExpr::Operate(operation, _, _) => type_of_operation(*operation),
             TypedExpr::Compare(_, _, _, _) => integer(IntegerType::Int32),
             TypedExpr::CompareText(_, _, _) => integer(IntegerType::Int32),
             TypedExpr::Logic(_, _, _) => integer(IntegerType::Int32),
