@@ -1,10 +1,10 @@
 -- Arguments, taken from the end.
-use Rattle.std.proofs.Common.{◌≡◌, ◌==◌, true, false, List, [], ◌∷◌, ◌++◌, length, Some, None}
+use Rattle.std.proofs.Common.{◌≡◌, ◌==◌, true, false, List, [], ◌∷◌, ◌++◌, length, Option, Some, None}
 use Rattle.std.proofs.Common.{vec_len, refl, sym, ap, ◌∙◌, Vec, Global, arith}
 use Rattle.std.proofs.lemmas.List.{nil_from_length}
 use Rattle.std.proofs.lemmas.Bool.Decides.{nat_tests}
 use Rattle.d_types.specs.declared.typed.TypedExpr.{TypedExpr}
-use Rattle.d_types.specs.Typed.{typed_of, typeds_of, type_of}
+use Rattle.d_types.specs.Typed.{Typed, typed_of, typeds_of, type_of}
 use Rattle.d_types.specs.Typing.{strjoin, only, strjoin_of}
 
 none_left : (v : Vec TypedExpr Global) → (vec_len v == 0) ≡ true → v.items ≡ []
@@ -21,12 +21,6 @@ too_many [] x h = cc
 too_many (y ∷ []) x h = refl
 too_many (y ∷ z ∷ ys) x h = refl
 
-too_many_joined : (ys : List TypedExpr) (x y : TypedExpr) → (length ys == 0) ≡ false → strjoin_of (typeds_of ((ys ++ x ∷ []) ++ y ∷ [])) ≡ None
-too_many_joined [] x y h = cc
-too_many_joined (a ∷ []) x y h = refl
-too_many_joined (a ∷ b ∷ []) x y h = refl
-too_many_joined (a ∷ b ∷ c ∷ ys) x y h = refl
-
 module _ (all : List TypedExpr) (rest : Vec TypedExpr Global) (x : TypedExpr) (popped : all ≡ rest.items ++ x ∷ []) where
   pub one_argument : (vec_len rest == 0) ≡ true → only (typeds_of all) ≡ Some (typed_of x)
   one_argument h = rw (popped, none_left rest h) refl
@@ -34,9 +28,20 @@ module _ (all : List TypedExpr) (rest : Vec TypedExpr Global) (x : TypedExpr) (p
   pub more_arguments : (vec_len rest == 0) ≡ false → only (typeds_of all) ≡ None
   more_arguments h = rw popped (too_many rest.items x (some_left rest h))
 
-module _ (all others : List TypedExpr) (rest : Vec TypedExpr Global) (x y : TypedExpr) (last : all ≡ others ++ y ∷ []) (popped : others ≡ rest.items ++ x ∷ []) where
-  pub two_arguments : (vec_len rest == 0) ≡ true → strjoin_of (typeds_of all) ≡ strjoin (type_of (typed_of x)) (type_of (typed_of y)) (typed_of x) (typed_of y)
-  two_arguments h = rw (last, popped, none_left rest h) refl
+-- a first argument, if it is the only one before the second
+abbrev joined : Option Typed → Typed → Option Typed
+joined None y = None
+joined (Some x) y = strjoin (type_of x) (type_of y) x y
 
-  pub more_than_two : (vec_len rest == 0) ≡ false → strjoin_of (typeds_of all) ≡ None
-  more_than_two h = rw (last, popped) (too_many_joined rest.items x y (some_left rest h))
+joined_last : (xs : List TypedExpr) (y : TypedExpr) → strjoin_of (typeds_of (xs ++ y ∷ [])) ≡ joined (only (typeds_of xs)) (typed_of y)
+joined_last [] y = refl
+joined_last (a ∷ []) y = refl
+joined_last (a ∷ b ∷ []) y = refl
+joined_last (a ∷ b ∷ c ∷ xs) y = refl
+
+module _ (all others : List TypedExpr) (y : TypedExpr) (last : all ≡ others ++ y ∷ []) where
+  pub two_arguments : (x : TypedExpr) → Some (typed_of x) ≡ only (typeds_of others) → strjoin_of (typeds_of all) ≡ strjoin (type_of (typed_of x)) (type_of (typed_of y)) (typed_of x) (typed_of y)
+  two_arguments x h = rw (last, joined_last others y, ← h) refl
+
+  pub not_two : None ≡ only (typeds_of others) → strjoin_of (typeds_of all) ≡ None
+  not_two h = rw (last, joined_last others y, ← h) refl

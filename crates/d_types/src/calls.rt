@@ -17,7 +17,10 @@ fn length_of(alloc: Global, x: TypedExpr) -> Result<Option<TypedExpr>, TypeFault
     ensures err { OnlyMemory result }
 {
     match x.type_of() {
-        DType::Text => Ok(Some(TypedExpr::Strlen(Box::new(alloc, x)?))),
+        DType::Text => {
+            let x = Box::new(alloc, x)?;
+            Ok(Some(TypedExpr::Strlen(x)))
+        }
         DType::Int(_) => Ok(None),
     }
 }
@@ -30,7 +33,8 @@ fn join(alloc: Global, x: TypedExpr, y: TypedExpr) -> Result<Option<TypedExpr>, 
     match (x.type_of(), y.type_of()) {
         (DType::Text, DType::Text) => {
             let x = Box::new(alloc, x)?;
-            Ok(Some(TypedExpr::Strjoin(x, Box::new(alloc, y)?)))
+            let y = Box::new(alloc, y)?;
+            Ok(Some(TypedExpr::Strjoin(x, y)))
         }
         _ => Ok(None),
     }
@@ -69,13 +73,10 @@ fn strjoin(alloc: Global, args: Vec<TypedExpr>) -> Result<Option<TypedExpr>, Typ
     let Some(y) = rest.pop() else {
         return Ok(None);
     };
-    let Some(x) = rest.pop() else {
-        return Ok(None);
-    };
-    if !rest.is_empty() {
-        return Ok(None);
+    match only(rest) {
+        Some(x) => join(alloc, x, y),
+        None => Ok(None),
     }
-    join(alloc, x, y)
 }
 
 /// A call of a function.
