@@ -1,11 +1,13 @@
 //! Assignments to a slot. None where the types don't fit.
 
-ghost use Rattle.std.specs.Prelude.{◌≡◌, IfOk, option_map};
+ghost use Rattle.std.specs.Prelude.{◌≡◌, IfOk, Some, None, option_map};
+ghost use Rattle.d_types.specs.Faults.{Gives};
 ghost use Rattle.d_types.specs.Steps.Faults.{OnlyMemory};
 ghost use Rattle.d_types.specs.Typed.{typed_of, typeds_of, Typed, type_of};
 ghost use Rattle.d_types.specs.Variables.{type_at};
 ghost use Rattle.d_types.specs.Steps.Variables.{rows_of_entries};
 ghost use Rattle.d_types.specs.Targets as spec;
+ghost use Rattle.d_types.specs.Typing.{fitting, beside};
 
 use crate::constants::integer;
 use crate::fault::TypeFault;
@@ -38,37 +40,58 @@ pub(crate) fn type_at_once(sort: AssignSort) -> Option<DType>
 
 fn assign_of(
     alloc: Global,
-    variable: Variable,
-    keys: Vec<TypedExpr>,
+    holds: DType,
+    to: Assignee,
     x: TypedExpr,
-) -> Result<TypedExpr, TypeFault>
-    ensures ok { IfOk result
-        (λ y. typed_of y ≡ Typed.Assign variable (typeds_of keys.items) (typed_of x)) }
+) -> Result<Option<TypedExpr>, TypeFault>
+    ensures ok { IfOk result (λ y. option_map typed_of y ≡ Some (Typed.Assign
+        (record { space = to.space; slot = to.slot; holds = holds }) (typeds_of to.keys.items)
+        (typed_of x))) }
     ensures err { OnlyMemory result }
 {
+    let variable = variable_at(to.space, to.slot, holds)?;
     let x = Box::new(alloc, x)?;
-    Ok(TypedExpr::Assign(variable, keys, x))
+    Ok(Some(TypedExpr::Assign(variable, to.keys, x)))
 }
 
 fn update_of(
     alloc: Global,
     operation: Operation,
-    variable: Variable,
-    keys: Vec<TypedExpr>,
+    holds: DType,
+    to: Assignee,
     x: TypedExpr,
-) -> Result<TypedExpr, TypeFault>
-    ensures ok { IfOk result
-        (λ y. typed_of y ≡ Typed.Update operation variable (typeds_of keys.items) (typed_of x)) }
+) -> Result<Option<TypedExpr>, TypeFault>
+    ensures ok { IfOk result (λ y. option_map typed_of y ≡ Some (Typed.Update operation
+        (record { space = to.space; slot = to.slot; holds = holds }) (typeds_of to.keys.items)
+        (typed_of x))) }
     ensures err { OnlyMemory result }
 {
+    let variable = variable_at(to.space, to.slot, holds)?;
     let x = Box::new(alloc, x)?;
-    Ok(TypedExpr::Update(operation, variable, keys, x))
+    Ok(Some(TypedExpr::Update(operation, variable, to.keys, x)))
 }
 
 fn step_of(step: Step, answer: Answer, variable: Variable, keys: Vec<TypedExpr>) -> TypedExpr
     ensures { typed_of result ≡ Typed.Count step answer variable (typeds_of keys.items) }
 {
     TypedExpr::Step(step, answer, variable, keys)
+}
+
+// The first value that is stored in a slot gives it its type.
+fn store_first(
+    alloc: Global,
+    table: &mut [Entry],
+    to: Assignee,
+    x: TypedExpr,
+) -> Result<Option<TypedExpr>, TypeFault>
+    ensures ok { IfOk result (λ y. option_map (λ z. (typed_of z, rows_of_entries table.new)) y
+        ≡ spec.store to.space None to.slot (typeds_of to.keys.items) (typed_of x)
+        (rows_of_entries table.old)) }
+    ensures err { OnlyMemory result }
+{
+    let holds = x.type_of();
+    set_type(table, to.slot, holds);
+    assign_of(alloc, holds, to, x)
 }
 
 fn store(
@@ -82,19 +105,10 @@ fn store(
         (typeds_of to.keys.items) (typed_of x) (rows_of_entries table.old)) }
     ensures err { OnlyMemory result }
 {
-    let Assignee { space, slot, keys } = to;
-    match type_at(table, slot) {
-        None => {
-            let holds = x.type_of();
-            let variable = variable_at(space, slot, holds)?;
-            set_type(table, slot, holds);
-            Ok(Some(assign_of(alloc, variable, keys, x)?))
-        }
+    match type_at(table, to.slot) {
+        None => store_first(alloc, table, to, x),
         Some(holds) => match as_type(alloc, holds, x)? {
-            Some(y) => {
-                let variable = variable_at(space, slot, holds)?;
-                Ok(Some(assign_of(alloc, variable, keys, y)?))
-            }
+            Some(y) => assign_of(alloc, holds, to, y),
             None => Ok(None),
         },
     }
@@ -114,41 +128,47 @@ pub(crate) fn assignment(
         (rows_of_entries table.old)) }
     ensures err { OnlyMemory result }
 {
-    let Assignee { space, slot, keys } = to;
-    match (sort, type_at(table, slot), x.type_of()) {
-        (AssignSort::Set, _, _) => store(alloc, table, Assignee { space, slot, keys }, x),
+    match (sort, type_at(table, to.slot), x.type_of()) {
+        (AssignSort::Set, _, _) => store(alloc, table, to, x),
         (AssignSort::Arithmetic(op), Some(DType::Int(t)), DType::Int(u)) => {
             let x = convert(alloc, u, common(t, u), x)?;
-            let variable = variable_at(space, slot, DType::Int(t))?;
             let operation = Operation::Arithmetic(op, common(t, u));
-            Ok(Some(update_of(alloc, operation, variable, keys, x)?))
+            update_of(alloc, operation, DType::Int(t), to, x)
         }
         (AssignSort::Shift(op), Some(DType::Int(t)), DType::Int(_)) => {
-            let variable = variable_at(space, slot, DType::Int(t))?;
             let operation = Operation::Shift(op, promotion_of(t));
-            Ok(Some(update_of(alloc, operation, variable, keys, x)?))
+            update_of(alloc, operation, DType::Int(t), to, x)
         }
         _ => Ok(None),
     }
 }
 
+/// `++` or `--`: the line that it is on, and which value it gives.
+#[derive(Clone, Copy)]
+pub(crate) struct StepOperator {
+    pub(crate) line: usize,
+    pub(crate) by: Step,
+    pub(crate) answer: Answer,
+}
+
 /// `++` or `--` on a slot.
 pub(crate) fn step(
     table: &[Entry],
-    by: Step,
-    answer: Answer,
+    operator: StepOperator,
     to: Assignee,
-) -> Result<Option<TypedExpr>, TypeFault>
-    ensures ok { IfOk result (λ y. option_map typed_of y ≡ spec.step by answer to.space
-        (type_at (rows_of_entries table.now) to.slot) to.slot (typeds_of to.keys.items)) }
-    ensures err { OnlyMemory result }
+) -> Result<TypedExpr, TypeFault>
+    ensures { Gives (λ x. (typed_of x, rows_of_entries table.now)) result
+        (fitting operator.line (beside (rows_of_entries table.now)
+        (spec.step operator.by operator.answer to.space
+        (type_at (rows_of_entries table.now) to.slot) to.slot (typeds_of to.keys.items)))) }
 {
-    let Assignee { space, slot, keys } = to;
-    match type_at(table, slot) {
+    match type_at(table, to.slot) {
         Some(DType::Int(t)) => {
-            let variable = variable_at(space, slot, DType::Int(t))?;
-            Ok(Some(step_of(by, answer, variable, keys)))
+            let variable = variable_at(to.space, to.slot, DType::Int(t))?;
+            Ok(step_of(operator.by, operator.answer, variable, to.keys))
         }
-        _ => Ok(None),
+        _ => Err(TypeFault::Mismatch {
+            line: operator.line,
+        }),
     }
 }

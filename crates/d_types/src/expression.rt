@@ -9,7 +9,7 @@ ghost use Rattle.d_types.specs.Typed.{typed_of, typeds_of, Typeds};
 ghost use Rattle.d_types.specs.Typing as spec;
 ghost use Rattle.d_types.specs.Steps.Typing as steps;
 
-use crate::assignments::{Assignee, assignment, step, type_at_once};
+use crate::assignments::{Assignee, StepOperator, assignment, step, type_at_once};
 use crate::calls::call;
 use crate::constants::{int_type, integer, type_of_constant};
 use crate::fault::TypeFault;
@@ -196,14 +196,6 @@ struct TypedTarget<'a> {
     keys: Vec<TypedExpr>,
 }
 
-// `++` or `--`: the line that it is on, and which value it gives.
-#[derive(Clone, Copy)]
-struct StepOperator {
-    line: usize,
-    by: Step,
-    answer: Answer,
-}
-
 // `++` and `--`, once the keys are typed.
 fn step_rest(
     alloc: Global,
@@ -216,14 +208,10 @@ fn step_rest(
         to.entry.variable.now (typeds_of to.entry.keys.items)) }
 {
     let TypedTarget { variable, keys } = to;
-    let StepOperator { line, by, answer } = operator;
-    let space = space_of(variable);
     let long = Some(integer(IntegerType::Int64));
     let slot = target(alloc, table, variable, long, &keys)?;
-    match step(table, by, answer, Assignee { space, slot, keys })? {
-        Some(typed) => Ok(typed),
-        None => Err(TypeFault::Mismatch { line }),
-    }
+    let space = space_of(variable);
+    step(table, operator, Assignee { space, slot, keys })
 }
 
 #[cycle(typing)]
