@@ -1,5 +1,6 @@
 //! Instructions as one reads them: `add r1, r2, r3`.
 
+ghost use Rattle.std.specs.Fmt.{decimal, WritesOnOk};
 ghost use Rattle.std.specs.Prelude.{Some};
 ghost use Rattle.dif_validate.specs.Texts as spec;
 
@@ -84,34 +85,67 @@ impl fmt::Display for Function {
     }
 }
 
+// Writes an instruction by its name and a register.
+fn one<W: fmt::Write>(f: &mut fmt::Formatter<W>, name: &str, a: Reg) -> fmt::Result
+    ensures { WritesOnOk W.write_str_gives f.old result
+        (spec.one name.now (spec.register_name a)) f.new }
+{
+    write!(f, "{name} {a}")
+}
+
+// Writes an instruction by its name and two registers.
+fn two<W: fmt::Write>(f: &mut fmt::Formatter<W>, name: &str, a: Reg, b: Reg) -> fmt::Result
+    ensures { WritesOnOk W.write_str_gives f.old result
+        (spec.two name.now (spec.register_name a) (spec.register_name b)) f.new }
+{
+    write!(f, "{name} {a}, {b}")
+}
+
+// Writes an instruction by its name, an index and a register.
+fn indexed<W: fmt::Write>(f: &mut fmt::Formatter<W>, name: &str, i: usize, a: Reg) -> fmt::Result
+    ensures { WritesOnOk W.write_str_gives f.old result
+        (spec.two name.now (decimal i) (spec.register_name a)) f.new }
+{
+    write!(f, "{name} {i}, {a}")
+}
+
+// Writes an instruction by its name, a variable and a register.
+fn variable<W: fmt::Write>(f: &mut fmt::Formatter<W>, name: &str, x: Var, a: Reg) -> fmt::Result
+    ensures { WritesOnOk W.write_str_gives f.old result
+        (spec.two name.now (spec.variable_name x) (spec.register_name a)) f.new }
+{
+    let x = Shown(x);
+    write!(f, "{name} {x}, {a}")
+}
+
 impl fmt::Display for Instr {
     ghost output = { λ i. Some (spec.instr_text i) };
 
     fn fmt<W: fmt::Write>(&self, f: &mut fmt::Formatter<W>) -> fmt::Result {
         match self {
             Instr::Alu(op, a, b, d) => write!(f, "{op} {a}, {b}, {d}"),
-            Instr::Not(a, d) => write!(f, "not {a}, {d}"),
-            Instr::Mov(a, d) => write!(f, "mov {a}, {d}"),
-            Instr::Cmp(a, b) => write!(f, "cmp {a}, {b}"),
-            Instr::Tst(a) => write!(f, "tst {a}"),
-            Instr::Scmp(a, b) => write!(f, "scmp {a}, {b}"),
+            Instr::Not(a, d) => two(f, "not", *a, *d),
+            Instr::Mov(a, d) => two(f, "mov", *a, *d),
+            Instr::Cmp(a, b) => two(f, "cmp", *a, *b),
+            Instr::Tst(a) => one(f, "tst", *a),
+            Instr::Scmp(a, b) => two(f, "scmp", *a, *b),
             Instr::Ba(to) => write!(f, "ba {to}"),
             Instr::Branch(condition, to) => write!(f, "{condition} {to}"),
-            Instr::Setx(i, d) => write!(f, "setx {i}, {d}"),
-            Instr::Sets(i, d) => write!(f, "sets {i}, {d}"),
+            Instr::Setx(i, d) => indexed(f, "setx", *i, *d),
+            Instr::Sets(i, d) => indexed(f, "sets", *i, *d),
             Instr::Ldgs(v, d) => write!(f, "ldgs {v}, {d}"),
             Instr::Ldga(v, a, d) => write!(f, "ldga {v}, {a}, {d}"),
-            Instr::Ldts(x, d) => write!(f, "ldts {}, {d}", Shown(*x)),
-            Instr::Stts(x, a) => write!(f, "stts {}, {a}", Shown(*x)),
-            Instr::Ldls(x, d) => write!(f, "ldls {}, {d}", Shown(*x)),
-            Instr::Stls(x, a) => write!(f, "stls {}, {a}", Shown(*x)),
-            Instr::Pushtr(a) => write!(f, "pushtr {a}"),
-            Instr::Pushtv(a) => write!(f, "pushtv {a}"),
+            Instr::Ldts(x, d) => variable(f, "ldts", *x, *d),
+            Instr::Stts(x, a) => variable(f, "stts", *x, *a),
+            Instr::Ldls(x, d) => variable(f, "ldls", *x, *d),
+            Instr::Stls(x, a) => variable(f, "stls", *x, *a),
+            Instr::Pushtr(a) => one(f, "pushtr", *a),
+            Instr::Pushtv(a) => one(f, "pushtv", *a),
             Instr::Flushts => f.write_str("flushts"),
-            Instr::Ldtaa(x, d) => write!(f, "ldtaa {}, {d}", Shown(*x)),
-            Instr::Sttaa(x, a) => write!(f, "sttaa {}, {a}", Shown(*x)),
+            Instr::Ldtaa(x, d) => variable(f, "ldtaa", *x, *d),
+            Instr::Sttaa(x, a) => variable(f, "sttaa", *x, *a),
             Instr::Call(function, d) => write!(f, "call {function}, {d}"),
-            Instr::Ret(a) => write!(f, "ret {a}"),
+            Instr::Ret(a) => one(f, "ret", *a),
             Instr::Nop => f.write_str("nop"),
         }
     }
