@@ -29,9 +29,8 @@ impl ByteString {
     pub fn from_slice(alloc: Global, bytes: &[u8]) -> Result<Self, AllocError>
         ensures { IfOk result (λ s. s ≡ bytes.now) }
     {
-        Ok(ByteString {
-            bytes: bytes.to_vec(alloc)?,
-        })
+        let bytes = bytes.to_vec(alloc)?;
+        Ok(ByteString { bytes })
     }
 
     /// The bytes themselves.

@@ -5,6 +5,7 @@ ghost use Rattle.d_lexer.specs.Faults as spec;
 ghost use Rattle.d_lexer.specs.declared.fault.Stop.TheVariants.{Memory};
 
 use std::alloc::{AllocError, AllocFailed};
+use std::fmt;
 use thiserror::Error;
 
 /// Why a script has no tokens. A line is that on which the refused token, comment, option line or
@@ -12,33 +13,63 @@ use thiserror::Error;
 #[derive(Clone, Copy, Debug, PartialEq, Eq, Error)]
 pub enum LexFault {
     /// More than 65,536 bytes: this is checked first.
-    #[error("the script has more than {most} bytes", most = MOST_BYTES)]
     TooLong,
     /// A byte that no token begins with at its place.
-    #[error("line {line}: a byte that no token has here")]
     BadByte { line: usize },
     /// A comment or a text constant without its end.
-    #[error("line {line}: a comment or a text constant without an end")]
     Unclosed { line: usize },
     /// A number that isn't a valid integer constant, or is 2^64 or more.
-    #[error("line {line}: not an integer constant below 2^64")]
     Constant { line: usize },
     /// A backslash in a text constant before a byte that makes no escape.
-    #[error("line {line}: an unknown escape in a text constant")]
     Escape { line: usize },
     /// A line that begins with `#` and is not `#pragma D option quiet`.
-    #[error("line {line}: an option line other than `#pragma D option quiet`")]
     OptionLine { line: usize },
     /// Memory ran out.
-    #[error("out of memory")]
     Memory,
 }
 
 /// The most bytes that a script may have.
 pub const MOST_BYTES: usize = 65536;
 
+impl LexFault {
+    // The line that it names.
+    fn line(self) -> Option<usize> {
+        match self {
+            LexFault::BadByte { line }
+            | LexFault::Unclosed { line }
+            | LexFault::Constant { line }
+            | LexFault::Escape { line }
+            | LexFault::OptionLine { line } => Some(line),
+            LexFault::TooLong | LexFault::Memory => None,
+        }
+    }
+
+    // What is wrong, without the line.
+    fn message(self) -> &'static str {
+        match self {
+            LexFault::TooLong => "the script has more than 65536 bytes",
+            LexFault::BadByte { .. } => "a byte that no token has here",
+            LexFault::Unclosed { .. } => "a comment or a text constant without an end",
+            LexFault::Constant { .. } => "not an integer constant below 2^64",
+            LexFault::Escape { .. } => "an unknown escape in a text constant",
+            LexFault::OptionLine { .. } => "an option line other than `#pragma D option quiet`",
+            LexFault::Memory => "out of memory",
+        }
+    }
+}
+
+impl fmt::Display for LexFault {
+    fn fmt<W: fmt::Write>(&self, f: &mut fmt::Formatter<W>) -> fmt::Result {
+        let message = self.message();
+        match self.line() {
+            Some(line) => write!(f, "line {line}: {message}"),
+            None => f.write_str(message),
+        }
+    }
+}
+
 /// What is wrong at a place; its line is added later.
-#[derive(Clone, Copy, Debug)]
+#[derive(Clone, Copy)]
 pub enum Flaw {
     BadByte,
     Unclosed,
@@ -62,7 +93,7 @@ impl Flaw {
 }
 
 /// Why a step read nothing.
-#[derive(Clone, Copy, Debug)]
+#[derive(Clone, Copy)]
 pub enum Stop {
     Memory,
     Flawed(Flaw),

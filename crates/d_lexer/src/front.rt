@@ -22,7 +22,7 @@ use crate::words::{aggregation_front, run_front, word_front};
 use std::alloc::Global;
 
 /// Bytes that separate tokens, or a token; and how many bytes more than one it has.
-#[derive(Debug, Drop)]
+#[derive(Drop)]
 pub enum Front {
     Gap(usize),
     Token(TokenKind, usize),

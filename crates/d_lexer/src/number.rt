@@ -35,7 +35,8 @@ fn suffix_of(bytes: &[u8]) -> Option<Suffix>
 fn one_more(base: u64, n: u64, k: u64) -> Option<u64>
     ensures { result ≡ spec.one_digit_more base n k }
 {
-    n.checked_mul(base)?.checked_add(k)
+    let shifted = n.checked_mul(base)?;
+    shifted.checked_add(k)
 }
 
 #[tactic(auto, unfolding(crate::specs::Steps::Numbers::number_from))]
@@ -46,7 +47,10 @@ fn number_from(base: u64, first: u64, bytes: &[u8]) -> Option<(u64, Suffix)>
     let mut rest = bytes;
     while let [d, after @ ..] = rest {
         match digit_of(base, *d) {
-            None => return Some((n, suffix_of(rest)?)),
+            None => {
+                let suffix = suffix_of(rest)?;
+                return Some((n, suffix));
+            }
             Some(k) => n = one_more(base, n, k)?,
         }
         rest = after;

@@ -55,7 +55,18 @@ fn is_trail(bytes: &[u8]) -> bool
 fn next_word<'a>(word: &[u8], bytes: &'a [u8]) -> Option<&'a [u8]>
     ensures { FindsBytes (λ r. r.now) result (spec.next_word word.now bytes.now) }
 {
-    after_word(word, spaces(bytes)?)
+    let rest = spaces(bytes)?;
+    after_word(word, rest)
+}
+
+// What is left after spaces and `D option quiet`.
+fn after_option(bytes: &[u8]) -> Option<&[u8]>
+    ensures { FindsBytes (λ r. r.now) result
+        (spec.after_option_words spec.option_words bytes.now) }
+{
+    let rest = next_word(b"D", bytes)?;
+    let rest = next_word(b"option", rest)?;
+    next_word(b"quiet", rest)
 }
 
 #[tactic(auto, unfolding(crate::specs::Steps::OptionLine::after_option_word))]
@@ -65,9 +76,7 @@ fn after_words(bytes: &[u8]) -> Option<&[u8]>
         (spec.after_option_words spec.option_words)) }
 {
     let rest = after_word(b"pragma", bytes)?;
-    let rest = next_word(b"D", rest)?;
-    let rest = next_word(b"option", rest)?;
-    next_word(b"quiet", rest)
+    after_option(rest)
 }
 
 /// Whether a line is `#pragma D option quiet`, by the bytes after its `#`.

@@ -6,7 +6,7 @@ ghost use Rattle.d_lexer.specs.Places as spec;
 use crate::token::{Mark, TokenKind};
 
 /// Where in a script a token is: it decides which tokens there are.
-#[derive(Clone, Copy, Debug)]
+#[derive(Clone, Copy)]
 pub enum Place {
     /// Between clauses, where probe descriptions are.
     Head,

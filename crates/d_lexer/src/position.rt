@@ -7,7 +7,7 @@ use crate::byte_kinds::is_space;
 use crate::fault::MOST_BYTES;
 
 /// How many bytes came before, the line, and whether the line has held only spaces and tabs so far.
-#[derive(Clone, Copy, Debug)]
+#[derive(Clone, Copy)]
 pub struct Position {
     pub at: usize,
     pub line: usize,

@@ -1,6 +1,6 @@
 //! Words, aggregation names and description runs.
 
-ghost use Rattle.std.specs.Prelude.{◌≡◌, ◌∷◌, IfErr, IfOk};
+ghost use Rattle.std.specs.Prelude.{◌≡◌, ◌∷◌, ◌++◌, IfErr, IfOk};
 ghost use Rattle.d_lexer.specs.Bytes as spec;
 ghost use Rattle.d_lexer.specs.Steps.Scan as scan;
 
@@ -11,14 +11,23 @@ use crate::front::Front;
 use crate::token::TokenKind;
 use std::alloc::Global;
 
+// Adds the bytes of a run, its first byte and the others.
+fn add_run(bytes: &mut Vec<u8>, b: u8, run: &[u8]) -> Result<(), Stop>
+    ensures ok { IfOk result (λ _. bytes.new.items ≡ bytes.old.items ++ b ∷ run.now) }
+    ensures err { IfErr result (λ e. e ≡ Stop.Memory) }
+{
+    bytes.push(b)?;
+    bytes.extend_from_slice(run)?;
+    Ok(())
+}
+
 // The bytes of a run, from its first byte and the others.
 fn copy_run(alloc: Global, b: u8, run: &[u8]) -> Result<ByteString, Stop>
     ensures ok { IfOk result (λ s. s ≡ b ∷ run.now) }
     ensures err { IfErr result (λ e. e ≡ Stop.Memory) }
 {
     let mut bytes = Vec::with_capacity(alloc, run.len() + 1)?;
-    bytes.push(b)?;
-    bytes.extend_from_slice(run)?;
+    add_run(&mut bytes, b, run)?;
     Ok(ByteString::from_vec(bytes))
 }
 
@@ -27,14 +36,16 @@ pub(crate) fn word_front(alloc: Global, b: u8, rest: &[u8]) -> Result<Front, Sto
     ensures { scan.Gives result (scan.word_front b rest.now) }
 {
     let n = word_len(rest);
-    Ok(Front::Token(TokenKind::Word(copy_run(alloc, b, &rest[..n])?), n))
+    let word = copy_run(alloc, b, &rest[..n])?;
+    Ok(Front::Token(TokenKind::Word(word), n))
 }
 
 // An `@` alone.
 fn bare_name(alloc: Global) -> Result<Front, Stop>
     ensures { scan.Gives result scan.bare_name }
 {
-    Ok(Front::Token(TokenKind::AggregationName(copy_run(alloc, b'_', &[])?), 0))
+    let name = copy_run(alloc, b'_', &[])?;
+    Ok(Front::Token(TokenKind::AggregationName(name), 0))
 }
 
 // An `@` and the word after it.
@@ -42,10 +53,8 @@ fn whole_name(alloc: Global, b: u8, rest: &[u8]) -> Result<Front, Stop>
     ensures { scan.Gives result (scan.whole_name b rest.now) }
 {
     let n = word_len(rest);
-    Ok(Front::Token(
-        TokenKind::AggregationName(copy_run(alloc, b, &rest[..n])?),
-        n + 1,
-    ))
+    let name = copy_run(alloc, b, &rest[..n])?;
+    Ok(Front::Token(TokenKind::AggregationName(name), n + 1))
 }
 
 /// An aggregation name, after its `@`.
