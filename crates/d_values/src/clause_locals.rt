@@ -1,6 +1,6 @@
 //! Clause-local variables.
 
-ghost use Rattle.std.specs.Prelude.{◌≡◌, [], unwrap_or, OnOk, OnErr};
+ghost use Rattle.std.specs.Prelude.{◌≡◌, [], Some, unwrap_or, OnOk, OnErr};
 ghost use Rattle.d_values.specs.{Variables.same_var};
 ghost use Rattle.d_values.specs.Vocabulary.{get, Updates};
 ghost use Rattle.d_values.specs.Stores.{blank, kind_of, value_to_keep, lent_value, local_entry};
@@ -118,6 +118,15 @@ fn put(map: &mut IndexMap<Var, Value>, var: Var, value: Value) -> Result<(), All
         map.swap_remove(&var);
         return Ok(());
     }
+    put_kept(map, var, value)
+}
+
+// Sets a variable's value, which isn't blank.
+#[inline(always)]
+fn put_kept(map: &mut IndexMap<Var, Value>, var: Var, value: Value) -> Result<(), AllocError>
+    ensures ok { OnOk result (Updates same_var map.old map.new var (Some value)) }
+    ensures err { OnErr result (map.new.entries ≡ map.old.entries) }
+{
     if let Some(index) = index_of(map, var) {
         if let Some(place) = map.get_index_mut(index) {
             *place = value;

@@ -1,7 +1,7 @@
 //! The elements of an array.
 
-ghost use Rattle.std.specs.Prelude.{◌≡◌, MatchOption, None, true, unwrap_or, IfOk, OnOk};
-ghost use Rattle.std.specs.Prelude.{OnErr};
+ghost use Rattle.std.specs.Prelude.{◌≡◌, MatchOption, None, Some, true, unwrap_or, IfOk};
+ghost use Rattle.std.specs.Prelude.{OnErr, OnOk};
 ghost use Rattle.indexmap.specs.IndexMap.{get, Updates};
 ghost use Rattle.d_values.specs.{Keys.same_key, Steps.Places.IsKeyAt};
 ghost use Rattle.d_values.specs.Stores.{blank, value_to_keep, lent_value};
@@ -72,17 +72,54 @@ pub(crate) fn replace(
     ensures err { OnErr result (elements.new.entries ≡ elements.old.entries) }
 {
     if value.is_blank() {
-        if let Some((removed, _)) = remove(elements, first, key) {
-            keep_room(rooms, removed);
-        }
+        unset(elements, first, rooms, key);
         return Ok(first);
     }
+    put(elements, first, rooms, key, value)
+}
+
+// Removes a key, and keeps its room.
+#[inline(always)]
+fn unset(elements: &mut Elements, first: usize, rooms: &mut Vec<Key>, key: &Key)
+    ensures { Updates same_key elements.old elements.new key.now None }
+{
+    if let Some((removed, _)) = remove(elements, first, key) {
+        keep_room(rooms, removed);
+    }
+}
+
+// Sets a key's value, which isn't blank, and returns its index.
+#[inline(always)]
+fn put(
+    elements: &mut Elements,
+    first: usize,
+    rooms: &mut Vec<Key>,
+    key: &Key,
+    value: Value,
+) -> Result<usize, AllocError>
+    ensures ok { OnOk result (Updates same_key elements.old elements.new key.now (Some value)) }
+    ensures err { OnErr result (elements.new.entries ≡ elements.old.entries) }
+{
     if let Some(index) = index_of(elements, first, key) {
         if let Some(place) = elements.get_index_mut(index) {
             *place = value;
             return Ok(index);
         }
     }
+    add(elements, rooms, key, value)
+}
+
+// Adds a key and its value, and returns the index.
+#[inline(always)]
+fn add(
+    elements: &mut Elements,
+    rooms: &mut Vec<Key>,
+    key: &Key,
+    value: Value,
+) -> Result<usize, AllocError>
+    ensures ok { OnOk result (Updates same_key elements.old elements.new key.now (Some value)) }
+    ensures err { OnErr result (elements.new.entries ≡ elements.old.entries) }
+{
     let last = elements.len();
     let key = copy_of(rooms, key)?;
     elements.insert(key, value)?;

@@ -22,6 +22,15 @@ pub(crate) fn index_of<V, S: BuildHasher>(map: &IndexMap<Var, V, S>, var: Var) -
             return Some(index);
         }
     }
+    index_by_hash(map, var)
+}
+
+// The index of the variable's entry, by its hash.
+#[inline(always)]
+fn index_by_hash<V, S: BuildHasher>(map: &IndexMap<Var, V, S>, var: Var) -> Option<usize>
+    ensures { MatchOption result (get same_var map.now var ≡ None)
+        (λ i. IsVarAt map.now.entries i var) }
+{
     let (index, _, _) = map.get_full(&var)?;
     Some(index)
 }

@@ -85,6 +85,15 @@ impl Text {
             self.bytes.copy_from_slice(bytes);
             return Ok(());
         }
+        self.refill(bytes)
+    }
+
+    // Takes these bytes, for which it makes room first.
+    #[inline(always)]
+    fn refill(&mut self, bytes: &[u8]) -> Result<(), AllocError>
+        ensures ok { OnOk result (self.new ≡ bytes.now) }
+        ensures err { OnErr result (self.new ≡ self.old) }
+    {
         let more = bytes.len().saturating_sub(self.bytes.len());
         self.bytes.reserve(more)?;
         self.bytes.clear();
