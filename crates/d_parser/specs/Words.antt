@@ -11,27 +11,34 @@ kind_among [] word = WordKind.Plain
 kind_among (entry ∷ entries) word =
     if bytes_eq word entry.0 then entry.1 else kind_among entries word
 
+abbrev pub unsigned_words : List (List ℕ × WordKind)
+unsigned_words =
+    (codes "uint8_t", WordKind.Fixed IntegerType.Uint8) ∷ (
+      codes "uint16_t",
+      WordKind.Fixed IntegerType.Uint16,
+    ) ∷ (codes "uint32_t", WordKind.Fixed IntegerType.Uint32)
+    ∷ (codes "uint64_t", WordKind.Fixed IntegerType.Uint64) ∷ []
+
 abbrev pub fixed_words : List (List ℕ × WordKind)
 fixed_words =
     (codes "int8_t", WordKind.Fixed IntegerType.Int8) ∷ (
       codes "int16_t",
       WordKind.Fixed IntegerType.Int16,
     ) ∷ (codes "int32_t", WordKind.Fixed IntegerType.Int32)
-    ∷ (codes "int64_t", WordKind.Fixed IntegerType.Int64)
-    ∷ (codes "uint8_t", WordKind.Fixed IntegerType.Uint8) ∷ (
-      codes "uint16_t",
-      WordKind.Fixed IntegerType.Uint16,
-    ) ∷ (codes "uint32_t", WordKind.Fixed IntegerType.Uint32)
-    ∷ (codes "uint64_t", WordKind.Fixed IntegerType.Uint64) ∷ []
+    ∷ (codes "int64_t", WordKind.Fixed IntegerType.Int64) ∷ unsigned_words
+
+abbrev pub integer_words : List (List ℕ × WordKind)
+integer_words =
+    (codes "char", WordKind.Char) ∷ (codes "short", WordKind.Short) ∷ (codes "int", WordKind.Int)
+    ∷ (codes "long", WordKind.Long) ∷ (codes "signed", WordKind.Signed)
+    ∷ (codes "unsigned", WordKind.Unsigned) ∷ fixed_words
 
 abbrev pub reserved_words : List (List ℕ × WordKind)
 reserved_words =
     (codes "self", WordKind.Thread) ∷ (codes "this", WordKind.Clause) ∷ (
       codes "string",
       WordKind.Text,
-    ) ∷ (codes "char", WordKind.Char) ∷ (codes "short", WordKind.Short)
-    ∷ (codes "int", WordKind.Int) ∷ (codes "long", WordKind.Long)
-    ∷ (codes "signed", WordKind.Signed) ∷ (codes "unsigned", WordKind.Unsigned) ∷ fixed_words
+    ) ∷ integer_words
 
 -- what a word stands for
 abbrev pub word_kind : List ℕ → WordKind

@@ -35,6 +35,13 @@ pub(crate) fn read(target: Target) -> Expr
     Expr::Read(target)
 }
 
+fn boxed(alloc: Global, e: Expr) -> Result<Box<Expr>, ParseFault>
+    ensures ok { IfOk result (λ b. b.value ≡ e) }
+    ensures err { OnlyMemory result }
+{
+    Ok(Box::new(alloc, e)?)
+}
+
 fn assignment(operator: AssignOperator, target: Target, value: Box<Expr>) -> Expr
     ensures { spec.tree_of result ≡ spec.Assign operator (steps.target_of target).0
         (steps.target_of target).1 (spec.tree_of value.value) }
@@ -56,7 +63,7 @@ pub(crate) fn assign(
         (steps.target_of target).1 (spec.tree_of value)) }
     ensures err { OnlyMemory result }
 {
-    let value = Box::new(alloc, value)?;
+    let value = boxed(alloc, value)?;
     Ok(assignment(operator, target, value))
 }
 
@@ -102,7 +109,7 @@ pub(crate) fn unary(
         (λ e. spec.tree_of e ≡ spec.Unary line operator (spec.tree_of operand)) }
     ensures err { OnlyMemory result }
 {
-    let operand = Box::new(alloc, operand)?;
+    let operand = boxed(alloc, operand)?;
     Ok(Expr::Unary {
         line,
         operator,
@@ -119,7 +126,7 @@ pub(crate) fn cast(
     ensures ok { IfOk result (λ e. spec.tree_of e ≡ spec.Cast line to (spec.tree_of operand)) }
     ensures err { OnlyMemory result }
 {
-    let operand = Box::new(alloc, operand)?;
+    let operand = boxed(alloc, operand)?;
     Ok(Expr::Cast { line, to, operand })
 }
 
@@ -133,8 +140,8 @@ pub(crate) fn binary(
         (λ e. spec.tree_of e ≡ spec.Binary operator (spec.tree_of left) (spec.tree_of right)) }
     ensures err { OnlyMemory result }
 {
-    let left = Box::new(alloc, left)?;
-    let right = Box::new(alloc, right)?;
+    let left = boxed(alloc, left)?;
+    let right = boxed(alloc, right)?;
     Ok(Expr::Binary {
         operator,
         left,
@@ -152,9 +159,9 @@ pub(crate) fn choice(
         ≡ spec.Choice (spec.tree_of test) (spec.tree_of first) (spec.tree_of second)) }
     ensures err { OnlyMemory result }
 {
-    let test = Box::new(alloc, test)?;
-    let first = Box::new(alloc, first)?;
-    let second = Box::new(alloc, second)?;
+    let test = boxed(alloc, test)?;
+    let first = boxed(alloc, first)?;
+    let second = boxed(alloc, second)?;
     Ok(Expr::Choice {
         test,
         first,

@@ -22,10 +22,10 @@ fn description(alloc: Global, tokens: &[Token]) -> Result<(Description, &[Token]
         return Err(ParseFault::Syntax { line: AT_END });
     };
     match &token.kind {
-        TokenKind::DescriptionRun(run) => Ok((
-            description_of(alloc, run.as_slice(), token.line)?,
-            rest,
-        )),
+        TokenKind::DescriptionRun(run) => {
+            let description = description_of(alloc, run.as_slice(), token.line)?;
+            Ok((description, rest))
+        }
         _ => Err(ParseFault::Syntax { line: token.line }),
     }
 }
@@ -97,7 +97,8 @@ fn predicate(
         return Ok((None, tokens));
     }
     let (test, rest) = phrase(alloc, fuel, ASSIGNMENT, tail(tokens))?;
-    Ok((Some(test), after_mark(Mark::ClosingSlash, rest)?))
+    let rest = after_mark(Mark::ClosingSlash, rest)?;
+    Ok((Some(test), rest))
 }
 
 /// A clause at the front.

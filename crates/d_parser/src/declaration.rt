@@ -55,7 +55,8 @@ fn types_on(
         (spec.types_on (spec.further_types turns) all.items tokens.now) }
 {
     if !is_at(Mark::Comma, tokens) {
-        return Ok((all, after_mark(Mark::CloseBracket, tokens)?));
+        let rest = after_mark(Mark::CloseBracket, tokens)?;
+        return Ok((all, rest));
     }
     let mut all = all;
     let (next, rest) = whole_type(tail(tokens))?;
@@ -84,10 +85,11 @@ fn key_types(
 fn word_of(alloc: Global, token: &Token) -> Result<ByteString, ParseFault>
     ensures ok { Gives (λ x. x) result (spec.some_word token.now.kind) }
 {
-    match &token.kind {
-        TokenKind::Word(word) => Ok(ByteString::from_slice(alloc, word.as_slice())?),
-        _ => Ok(ByteString::from_slice(alloc, b"")?),
-    }
+    let bytes = match &token.kind {
+        TokenKind::Word(word) => word.as_slice(),
+        _ => b"",
+    };
+    Ok(ByteString::from_slice(alloc, bytes)?)
 }
 
 /// The line of the first token that can't follow, if these words aren't a type and a name.
@@ -115,7 +117,10 @@ fn typed_name(
         });
     };
     match type_of(types) {
-        Some(declared) => Ok((declared, word_of(alloc, name)?, rest)),
+        Some(declared) => {
+            let name = word_of(alloc, name)?;
+            Ok((declared, name, rest))
+        }
         None => Err(ParseFault::Syntax {
             line: line_without_name(words, tokens),
         }),

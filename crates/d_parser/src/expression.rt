@@ -36,7 +36,8 @@ fn closed_list<'a>(
     let mut all = Vec::new(alloc);
     all.push(first)?;
     let (all, rest) = further(alloc, fuel, all, rest)?;
-    Ok((all, after_mark(close, rest)?))
+    let rest = after_mark(close, rest)?;
+    Ok((all, rest))
 }
 
 #[cycle(expression)]
@@ -129,7 +130,8 @@ fn follows<'a>(
                 return Ok((build::read(target), tokens));
             }
             let (value, rest) = phrase(alloc, fuel, ASSIGNMENT, tail(tokens))?;
-            Ok((build::assign(alloc, operator, target, value)?, rest))
+            let whole = build::assign(alloc, operator, target, value)?;
+            Ok((whole, rest))
         }
         _ => Ok((build::read(target), tokens)),
     }
@@ -152,14 +154,8 @@ fn part_at_name<'a>(
 {
     if begins_call(word.name, tokens) {
         let (all, rest) = arguments(alloc, fuel, tail(tokens))?;
-        return Ok((
-            build::call(
-                word.line,
-                ByteString::from_slice(alloc, word.name.as_slice())?,
-                all,
-            ),
-            rest,
-        ));
+        let function = ByteString::from_slice(alloc, word.name.as_slice())?;
+        return Ok((build::call(word.line, function, all), rest));
     }
     let (target, rest) = target(alloc, fuel, word, tokens)?;
     follows(alloc, fuel, level, target, rest)
@@ -188,7 +184,8 @@ fn cast<'a>(
 {
     let (to, rest) = cast_type(tokens)?;
     let (operand, rest) = phrase(alloc, fuel, UNARY, rest)?;
-    Ok((build::cast(alloc, line, to, operand)?, rest))
+    let whole = build::cast(alloc, line, to, operand)?;
+    Ok((whole, rest))
 }
 
 /// A cast or an expression, after the opening parenthesis.
@@ -208,7 +205,8 @@ fn part_in_parentheses<'a>(
         return cast(alloc, fuel, line, tokens);
     }
     let (inner, rest) = phrase(alloc, fuel, ASSIGNMENT, tokens)?;
-    Ok((inner, after_mark(Mark::CloseParenthesis, rest)?))
+    let rest = after_mark(Mark::CloseParenthesis, rest)?;
+    Ok((inner, rest))
 }
 
 /// The target after `++` or `--`.
@@ -260,7 +258,8 @@ fn part_at_mark<'a>(
     match prefix_of(mark) {
         Prefix::Unary(operator) => {
             let (operand, rest) = phrase(alloc, fuel, UNARY, tokens)?;
-            Ok((build::unary(alloc, line, operator, operand)?, rest))
+            let whole = build::unary(alloc, line, operator, operand)?;
+            Ok((whole, rest))
         }
         Prefix::Step(step) => part_at_step(alloc, fuel, line, step, tokens),
         Prefix::Other => Err(ParseFault::Syntax { line }),
@@ -288,10 +287,8 @@ fn part<'a>(
             rest,
         )),
         TokenKind::TextConstant(bytes) => {
-            Ok((
-                build::text(token.line, ByteString::from_slice(alloc, bytes.as_slice())?),
-                rest,
-            ))
+            let bytes = ByteString::from_slice(alloc, bytes.as_slice())?;
+            Ok((build::text(token.line, bytes), rest))
         }
         TokenKind::Word(name) => {
             let word = Word {
@@ -390,7 +387,8 @@ fn alternatives<'a>(
     let (first, rest) = phrase(alloc, fuel, ASSIGNMENT, tokens)?;
     let rest = after_mark(Mark::Colon, rest)?;
     let (second, rest) = phrase(alloc, fuel, CONDITION, rest)?;
-    Ok((build::choice(alloc, test, first, second)?, rest))
+    let whole = build::choice(alloc, test, first, second)?;
+    Ok((whole, rest))
 }
 
 /// A phrase of the level.

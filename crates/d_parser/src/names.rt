@@ -55,7 +55,10 @@ fn plain_word(alloc: Global, tokens: &[Token]) -> Result<(ByteString, &[Token]),
     };
     match &token.kind {
         TokenKind::Word(name) => match word_kind(name.as_slice()) {
-            WordKind::Plain => Ok((ByteString::from_slice(alloc, name.as_slice())?, rest)),
+            WordKind::Plain => {
+                let name = ByteString::from_slice(alloc, name.as_slice())?;
+                Ok((name, rest))
+            }
             _ => Err(ParseFault::Syntax { line: token.line }),
         },
         _ => Err(ParseFault::Syntax { line: token.line }),
@@ -67,7 +70,8 @@ fn plain_word(alloc: Global, tokens: &[Token]) -> Result<(ByteString, &[Token]),
 fn member(alloc: Global, tokens: &[Token]) -> Result<(ByteString, &[Token]), ParseFault>
     ensures { Gives (λ x. (x.0, x.1.now)) result (steps.member tokens.now) }
 {
-    plain_word(alloc, after_mark(Mark::Arrow, tokens)?)
+    let rest = after_mark(Mark::Arrow, tokens)?;
+    plain_word(alloc, rest)
 }
 
 /// A word of the script, and its line.
@@ -138,7 +142,8 @@ pub(crate) fn cast_type(tokens: &[Token]) -> Result<(IntegerType, &[Token]), Par
             line: line_without_cast(words, tokens),
         });
     };
-    Ok((to, after_mark(Mark::CloseParenthesis, rest)?))
+    let rest = after_mark(Mark::CloseParenthesis, rest)?;
+    Ok((to, rest))
 }
 
 impl Variable {

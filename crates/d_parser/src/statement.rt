@@ -20,7 +20,10 @@ fn any_word(alloc: Global, tokens: &[Token]) -> Result<(ByteString, &[Token]), P
         return Err(ParseFault::Syntax { line: AT_END });
     };
     match &token.kind {
-        TokenKind::Word(word) => Ok((ByteString::from_slice(alloc, word.as_slice())?, rest)),
+        TokenKind::Word(word) => {
+            let name = ByteString::from_slice(alloc, word.as_slice())?;
+            Ok((name, rest))
+        }
         _ => Err(ParseFault::Syntax { line: token.line }),
     }
 }
@@ -38,8 +41,10 @@ fn aggregation<'a>(
         (spec.aggregation fuel line name.now tokens.now) }
 {
     let (keys, rest) = keys(alloc, fuel, tokens)?;
-    let (function, rest) = any_word(alloc, after_mark(Mark::Assign, rest)?)?;
-    let (arguments, rest) = arguments(alloc, fuel, after_mark(Mark::OpenParenthesis, rest)?)?;
+    let rest = after_mark(Mark::Assign, rest)?;
+    let (function, rest) = any_word(alloc, rest)?;
+    let rest = after_mark(Mark::OpenParenthesis, rest)?;
+    let (arguments, rest) = arguments(alloc, fuel, rest)?;
     let name = ByteString::from_slice(alloc, name.as_slice())?;
     let statement = Stmt::Aggregation {
         line,

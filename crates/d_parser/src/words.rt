@@ -1,6 +1,7 @@
 //! Words: which are reserved, and which types they spell.
 
 ghost use Rattle.std.specs.Prelude.{◌≡◌, ◌≤◌, length};
+ghost use Rattle.d_parser.specs.{Vocabulary.bytes_eq};
 ghost use Rattle.d_parser.specs.Words as spec;
 ghost use Rattle.d_parser.specs.Steps.Words as steps;
 
@@ -28,27 +29,61 @@ pub enum WordKind {
     Fixed(IntegerType),
 }
 
-fn fixed_kind(word: &[u8]) -> WordKind
-    ensures { result ≡ spec.kind_among spec.fixed_words word.now }
+fn is(word: &[u8], spelled: &str) -> bool
+    ensures { result ≡ bytes_eq word.now spelled.now }
 {
-    if word == b"int8_t".as_slice() {
-        WordKind::Fixed(IntegerType::Int8)
-    } else if word == b"int16_t".as_slice() {
-        WordKind::Fixed(IntegerType::Int16)
-    } else if word == b"int32_t".as_slice() {
-        WordKind::Fixed(IntegerType::Int32)
-    } else if word == b"int64_t".as_slice() {
-        WordKind::Fixed(IntegerType::Int64)
-    } else if word == b"uint8_t".as_slice() {
+    word == spelled.as_bytes()
+}
+
+fn unsigned_kind(word: &[u8]) -> WordKind
+    ensures { result ≡ spec.kind_among spec.unsigned_words word.now }
+{
+    if is(word, "uint8_t") {
         WordKind::Fixed(IntegerType::Uint8)
-    } else if word == b"uint16_t".as_slice() {
+    } else if is(word, "uint16_t") {
         WordKind::Fixed(IntegerType::Uint16)
-    } else if word == b"uint32_t".as_slice() {
+    } else if is(word, "uint32_t") {
         WordKind::Fixed(IntegerType::Uint32)
-    } else if word == b"uint64_t".as_slice() {
+    } else if is(word, "uint64_t") {
         WordKind::Fixed(IntegerType::Uint64)
     } else {
         WordKind::Plain
+    }
+}
+
+fn fixed_kind(word: &[u8]) -> WordKind
+    ensures { result ≡ spec.kind_among spec.fixed_words word.now }
+{
+    if is(word, "int8_t") {
+        WordKind::Fixed(IntegerType::Int8)
+    } else if is(word, "int16_t") {
+        WordKind::Fixed(IntegerType::Int16)
+    } else if is(word, "int32_t") {
+        WordKind::Fixed(IntegerType::Int32)
+    } else if is(word, "int64_t") {
+        WordKind::Fixed(IntegerType::Int64)
+    } else {
+        unsigned_kind(word)
+    }
+}
+
+fn integer_kind(word: &[u8]) -> WordKind
+    ensures { result ≡ spec.kind_among spec.integer_words word.now }
+{
+    if is(word, "char") {
+        WordKind::Char
+    } else if is(word, "short") {
+        WordKind::Short
+    } else if is(word, "int") {
+        WordKind::Int
+    } else if is(word, "long") {
+        WordKind::Long
+    } else if is(word, "signed") {
+        WordKind::Signed
+    } else if is(word, "unsigned") {
+        WordKind::Unsigned
+    } else {
+        fixed_kind(word)
     }
 }
 
@@ -56,26 +91,14 @@ fn fixed_kind(word: &[u8]) -> WordKind
 pub(crate) fn word_kind(word: &[u8]) -> WordKind
     ensures { result ≡ spec.word_kind word.now }
 {
-    if word == b"self".as_slice() {
+    if is(word, "self") {
         WordKind::Thread
-    } else if word == b"this".as_slice() {
+    } else if is(word, "this") {
         WordKind::Clause
-    } else if word == b"string".as_slice() {
+    } else if is(word, "string") {
         WordKind::Text
-    } else if word == b"char".as_slice() {
-        WordKind::Char
-    } else if word == b"short".as_slice() {
-        WordKind::Short
-    } else if word == b"int".as_slice() {
-        WordKind::Int
-    } else if word == b"long".as_slice() {
-        WordKind::Long
-    } else if word == b"signed".as_slice() {
-        WordKind::Signed
-    } else if word == b"unsigned".as_slice() {
-        WordKind::Unsigned
     } else {
-        fixed_kind(word)
+        integer_kind(word)
     }
 }
 
@@ -164,12 +187,17 @@ fn type_from(first: WordKind, others: &[Token]) -> Option<DeclaredType>
         (WordKind::Signed, []) => Some(DeclaredType::Integer(IntegerType::Int32)),
         (WordKind::Unsigned, []) => Some(DeclaredType::Integer(IntegerType::Uint32)),
         (WordKind::Signed, [next, rest @ ..]) => {
-            Some(DeclaredType::Integer(widths_with(kind_of(next), rest)?.0))
+            let (signed, _) = widths_with(kind_of(next), rest)?;
+            Some(DeclaredType::Integer(signed))
         }
         (WordKind::Unsigned, [next, rest @ ..]) => {
-            Some(DeclaredType::Integer(widths_with(kind_of(next), rest)?.1))
+            let (_, unsigned) = widths_with(kind_of(next), rest)?;
+            Some(DeclaredType::Integer(unsigned))
         }
-        _ => Some(DeclaredType::Integer(widths_with(first, others)?.0)),
+        _ => {
+            let (signed, _) = widths_with(first, others)?;
+            Some(DeclaredType::Integer(signed))
+        }
     }
 }
 
