@@ -21,14 +21,23 @@ fn compile_statement(alloc: Global, s: &TypedStmt) -> Result<Action, AllocError>
     ensures { IfOk result (λ a. action_code a ≡ compiled_action (action_of s.now)) }
 {
     match s {
-        TypedStmt::Evaluate(e) => Ok(Action::Plain(compile_expression(alloc, e)?)),
-        TypedStmt::Trace(e) => Ok(Action::Trace(compile_expression(alloc, e)?)),
+        TypedStmt::Evaluate(e) => {
+            let object = compile_expression(alloc, e)?;
+            Ok(Action::Plain(object))
+        }
+        TypedStmt::Trace(e) => {
+            let object = compile_expression(alloc, e)?;
+            Ok(Action::Trace(object))
+        }
         TypedStmt::Print(format, arguments) => {
             let arguments = compile_expressions(alloc, arguments)?;
             let format: Vec<Piece> = format.to_vec(alloc)?;
             Ok(Action::Printf(format, arguments))
         }
-        TypedStmt::Exit(e) => Ok(Action::Exit(compile_expression(alloc, e)?)),
+        TypedStmt::Exit(e) => {
+            let object = compile_expression(alloc, e)?;
+            Ok(Action::Exit(object))
+        }
         TypedStmt::Aggregate(place, keys, argument) => {
             let keys = compile_expressions(alloc, keys)?;
             let argument = compile_optional(alloc, argument)?;
@@ -45,7 +54,8 @@ fn compile_statements(alloc: Global, all: &[TypedStmt]) -> Result<Vec<Action>, A
 {
     let mut actions = Vec::new(alloc);
     for s in all {
-        actions.push(compile_statement(alloc, s)?)?;
+        let action = compile_statement(alloc, s)?;
+        actions.push(action)?;
     }
     Ok(actions)
 }
@@ -73,7 +83,8 @@ fn compile_clauses(alloc: Global, all: &[TypedClause]) -> Result<Vec<CompiledCla
 {
     let mut clauses = Vec::new(alloc);
     for c in all {
-        clauses.push(compile_clause(alloc, c)?)?;
+        let clause = compile_clause(alloc, c)?;
+        clauses.push(clause)?;
     }
     Ok(clauses)
 }

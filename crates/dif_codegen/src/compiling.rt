@@ -44,7 +44,8 @@ pub(crate) fn compile_expressions(
 {
     let mut objects = Vec::new(alloc);
     for e in all {
-        objects.push(compile_expression(alloc, e)?)?;
+        let object = compile_expression(alloc, e)?;
+        objects.push(object)?;
     }
     Ok(objects)
 }
@@ -59,7 +60,10 @@ pub(crate) fn compile_optional(
     ensures { IfOk result (λ o. o ≡ optional_object (typed_argument e.now)) }
 {
     match e {
-        Some(e) => Ok(Some(compile_expression(alloc, e)?)),
+        Some(e) => {
+            let object = compile_expression(alloc, e)?;
+            Ok(Some(object))
+        }
         None => Ok(None),
     }
 }

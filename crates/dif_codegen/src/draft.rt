@@ -36,7 +36,8 @@ pub(crate) fn put_text(draft: &mut Difo, text: &Text, d: Reg) -> Result<(), Allo
     ensures { OnOk result (Adds (pieces.text text.now d) draft.old draft.new) }
 {
     draft.code.push(Instr::Sets(draft.texts.len(), d))?;
-    draft.texts.push(text.clone()?)?;
+    let text = text.clone()?;
+    draft.texts.push(text)?;
     Ok(())
 }
 

@@ -32,7 +32,7 @@ loop-c-preserved c =
       few.1,
       (slots, is.1),
       rw c.in_ok-push.ensures.items
-          (mapped_on clause_code (λ s. compiled_clause (meant_of s)) c.args.all.now c.loop-c.c-index c.c-item.result _ c.loop-c.clauses.items c.loop-c-test.true c.c-item.is c.in_ok-compile_clause.ensures c.loop-c.invariant.2),
+          (mapped_on clause_code (λ s. compiled_clause (meant_of s)) c.args.all.now c.loop-c.c-index c.c-item.result _ c.loop-c.clauses.items c.loop-c-test.true c.c-item.is c.in_ok-clause.ensures c.loop-c.invariant.2),
     )
 
 pub returns : goal.returns

@@ -32,7 +32,7 @@ loop-s-preserved c =
       few.1,
       (slots, is.1),
       rw c.in_ok-push.ensures.items
-          (mapped_on action_code (λ s. compiled_action (action_of s)) c.args.all.now c.loop-s.s-index c.s-item.result _ c.loop-s.actions.items c.loop-s-test.true c.s-item.is c.in_ok-compile_statement.ensures c.loop-s.invariant.2),
+          (mapped_on action_code (λ s. compiled_action (action_of s)) c.args.all.now c.loop-s.s-index c.s-item.result _ c.loop-s.actions.items c.loop-s-test.true c.s-item.is c.in_ok-action.ensures c.loop-s.invariant.2),
     )
 
 pub returns : goal.returns

@@ -18,7 +18,7 @@ loop-e-preserved c =
     let few = expressions_on c.args.all.now c.loop-e.e-index c.e-item.result c.loop-e.objects.items FitsRegisters c.loop-e-test.true c.e-item.is c.loop-e.invariant.0 in
     let is = expressions_on c.args.all.now c.loop-e.e-index c.e-item.result c.loop-e.objects.items (IsConsistent slots) c.loop-e-test.true c.e-item.is c.loop-e.invariant.1.1 in
     let on = compiled_on c.args.all.now c.loop-e.e-index c.e-item.result c.loop-e.objects.items c.loop-e-test.true c.e-item.is c.loop-e.invariant.2 in
-    (few.1, (slots, is.1), rw (c.in_ok-push.ensures.items, c.in_ok-compile_expression.ensures) on)
+    (few.1, (slots, is.1), rw (c.in_ok-push.ensures.items, c.in_ok-object.ensures) on)
 
 pub returns : goal.returns
 returns c = compiled_end _ _ _ c.loop-e-test.false c.loop-e.invariant.2
