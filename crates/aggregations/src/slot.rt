@@ -77,7 +77,8 @@ impl Slot {
             None => {
                 let mut entries = Entries::new(alloc, hash_key, self.function);
                 entries.add(key, arg)?;
-                self.entries = Some(Box::new(alloc, entries)?);
+                let entries = Box::new(alloc, entries)?;
+                self.entries = Some(entries);
                 Ok(())
             }
         }
