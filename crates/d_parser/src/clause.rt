@@ -1,7 +1,8 @@
 //! Clauses: descriptions, predicate and statements.
 
-ghost use Rattle.std.specs.Prelude.{Some};
+ghost use Rattle.std.specs.Prelude.{◌≡◌, ◌++◌, ◌∷◌, [], IfOk, Some};
 ghost use Rattle.d_parser.specs.{Tree.clause_of, Tree.predicate_of, Reading.Gives};
+ghost use Rattle.d_parser.specs.Steps.Reading.{OnlyMemory};
 ghost use Rattle.d_parser.specs.Steps.ReadingScripts as spec;
 
 use crate::description::description_of;
@@ -28,6 +29,15 @@ fn description(alloc: Global, tokens: &[Token]) -> Result<(Description, &[Token]
         }
         _ => Err(ParseFault::Syntax { line: token.line }),
     }
+}
+
+/// Adds a description at the end.
+fn put(all: &mut Vec<Description>, next: Description) -> Result<(), ParseFault>
+    ensures ok { IfOk result (λ _. all.new.items ≡ all.old.items ++ next ∷ []) }
+    ensures err { OnlyMemory result }
+{
+    all.push(next)?;
+    Ok(())
 }
 
 /// The descriptions after commas.
@@ -66,7 +76,7 @@ fn descriptions_on<'a>(
     }
     let mut all = all;
     let (next, rest) = description(alloc, tail(tokens))?;
-    all.push(next)?;
+    put(&mut all, next)?;
     further_descriptions(alloc, turns, all, rest)
 }
 
@@ -80,7 +90,7 @@ fn descriptions(
 {
     let (first, rest) = description(alloc, tokens)?;
     let mut all = Vec::new(alloc);
-    all.push(first)?;
+    put(&mut all, first)?;
     further_descriptions(alloc, fuel, all, rest)
 }
 

@@ -52,7 +52,7 @@ pub const MULTIPLICATIVE: u8 = 13;
 pub const UNARY: u8 = 14;
 
 /// What a mark before an operand does.
-#[derive(Clone, Copy, Debug)]
+#[derive(Clone, Copy)]
 pub enum Prefix {
     Unary(UnaryOperator),
     Step(Step),
@@ -60,7 +60,7 @@ pub enum Prefix {
 }
 
 /// What a mark after an operand does.
-#[derive(Clone, Copy, Debug)]
+#[derive(Clone, Copy)]
 pub enum Follow {
     Infix(BinaryOperator),
     Assign(AssignOperator),

@@ -9,7 +9,7 @@ use crate::tree::{DeclaredType, IntegerType};
 use d_lexer::{Token, TokenKind};
 
 /// What a word stands for.
-#[derive(Clone, Copy, Debug)]
+#[derive(Clone, Copy)]
 pub enum WordKind {
     /// Not reserved.
     Plain,
