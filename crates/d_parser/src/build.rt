@@ -42,6 +42,15 @@ fn boxed(alloc: Global, e: Expr) -> Result<Box<Expr>, ParseFault>
     Ok(Box::new(alloc, e)?)
 }
 
+fn boxed_two(alloc: Global, a: Expr, b: Expr) -> Result<(Box<Expr>, Box<Expr>), ParseFault>
+    ensures ok { IfOk result (λ both. (both.0.value ≡ a) × (both.1.value ≡ b)) }
+    ensures err { OnlyMemory result }
+{
+    let a = boxed(alloc, a)?;
+    let b = boxed(alloc, b)?;
+    Ok((a, b))
+}
+
 fn assignment(operator: AssignOperator, target: Target, value: Box<Expr>) -> Expr
     ensures { spec.tree_of result ≡ spec.Assign operator (steps.target_of target).0
         (steps.target_of target).1 (spec.tree_of value.value) }
@@ -140,8 +149,7 @@ pub(crate) fn binary(
         (λ e. spec.tree_of e ≡ spec.Binary operator (spec.tree_of left) (spec.tree_of right)) }
     ensures err { OnlyMemory result }
 {
-    let left = boxed(alloc, left)?;
-    let right = boxed(alloc, right)?;
+    let (left, right) = boxed_two(alloc, left, right)?;
     Ok(Expr::Binary {
         operator,
         left,
@@ -160,8 +168,7 @@ pub(crate) fn choice(
     ensures err { OnlyMemory result }
 {
     let test = boxed(alloc, test)?;
-    let first = boxed(alloc, first)?;
-    let second = boxed(alloc, second)?;
+    let (first, second) = boxed_two(alloc, first, second)?;
     Ok(Expr::Choice {
         test,
         first,

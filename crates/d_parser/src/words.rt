@@ -178,22 +178,38 @@ fn widths_with(first: WordKind, others: &[Token]) -> Option<(IntegerType, Intege
     }
 }
 
-fn type_from(first: WordKind, others: &[Token]) -> Option<DeclaredType>
-    ensures { result ≡ spec.type_from first others.now }
+fn signed_from(others: &[Token]) -> Option<DeclaredType>
+    ensures { result ≡ spec.type_from WordKind.Signed others.now }
 {
-    match (first, others) {
-        (WordKind::Fixed(fixed), []) => Some(DeclaredType::Integer(fixed)),
-        (WordKind::Text, []) => Some(DeclaredType::Text),
-        (WordKind::Signed, []) => Some(DeclaredType::Integer(IntegerType::Int32)),
-        (WordKind::Unsigned, []) => Some(DeclaredType::Integer(IntegerType::Uint32)),
-        (WordKind::Signed, [next, rest @ ..]) => {
+    match others {
+        [] => Some(DeclaredType::Integer(IntegerType::Int32)),
+        [next, rest @ ..] => {
             let (signed, _) = widths_with(kind_of(next), rest)?;
             Some(DeclaredType::Integer(signed))
         }
-        (WordKind::Unsigned, [next, rest @ ..]) => {
+    }
+}
+
+fn unsigned_from(others: &[Token]) -> Option<DeclaredType>
+    ensures { result ≡ spec.type_from WordKind.Unsigned others.now }
+{
+    match others {
+        [] => Some(DeclaredType::Integer(IntegerType::Uint32)),
+        [next, rest @ ..] => {
             let (_, unsigned) = widths_with(kind_of(next), rest)?;
             Some(DeclaredType::Integer(unsigned))
         }
+    }
+}
+
+fn type_from(first: WordKind, others: &[Token]) -> Option<DeclaredType>
+    ensures { result ≡ spec.type_from first others.now }
+{
+    match first {
+        WordKind::Signed => signed_from(others),
+        WordKind::Unsigned => unsigned_from(others),
+        WordKind::Fixed(fixed) if others.is_empty() => Some(DeclaredType::Integer(fixed)),
+        WordKind::Text if others.is_empty() => Some(DeclaredType::Text),
         _ => {
             let (signed, _) = widths_with(first, others)?;
             Some(DeclaredType::Integer(signed))
