@@ -1,6 +1,7 @@
 //! The lines of a run.
 
 ghost use Rattle.std.specs.Prelude.{◌≡◌, ◌++◌, IfOk, OnOk};
+ghost use Rattle.data_lines.specs.{Texts.text_value};
 ghost use Rattle.data_lines.specs.Lines as spec;
 
 use crate::numbers::put_number;
@@ -51,6 +52,36 @@ fn written_name(alloc: Global, name: &[u8]) -> Result<Vec<u8>, AllocError>
     Ok(written)
 }
 
+// Puts an aggregation's name, as scripts write it.
+fn put_name(alloc: Global, out: &mut Vec<u8>, name: &[u8]) -> Result<(), AllocError>
+    ensures { OnOk result
+        (out.new.items ≡ out.old.items ++ text_value (spec.written_name name.now)) }
+{
+    let written = written_name(alloc, name)?;
+    put_text(out, &written)
+}
+
+// Puts what the lines of an aggregation begin with.
+fn put_entry_head(
+    alloc: Global,
+    out: &mut Vec<u8>,
+    place: usize,
+    name: &[u8],
+    function: AggFn,
+) -> Result<(), AllocError>
+    ensures { OnOk result
+        (out.new.items ≡ out.old.items ++ spec.entry_head place name.now function) }
+{
+    out.extend_from_slice(b"{\"kind\":\"entry\",\"aggregation\":")?;
+    put_number(out, place)?;
+    out.extend_from_slice(b",\"name\":")?;
+    put_name(alloc, out, name)?;
+    out.extend_from_slice(b",\"function\":\"")?;
+    out.extend_from_slice(function_word(function))?;
+    out.extend_from_slice(b"\",\"key\":")?;
+    Ok(())
+}
+
 /// What the lines of an aggregation begin with.
 pub fn entry_head(
     alloc: Global,
@@ -60,14 +91,9 @@ pub fn entry_head(
 ) -> Result<Vec<u8>, AllocError>
     ensures { IfOk result (λ head. head.items ≡ spec.entry_head place name.now function) }
 {
-    let mut out = Vec::from_slice(alloc, b"{\"kind\":\"entry\",\"aggregation\":")?;
-    put_number(&mut out, place)?;
-    out.extend_from_slice(b",\"name\":")?;
-    put_text(&mut out, &written_name(alloc, name)?)?;
-    out.extend_from_slice(b",\"function\":\"")?;
-    out.extend_from_slice(function_word(function))?;
-    out.extend_from_slice(b"\",\"key\":")?;
-    Ok(out)
+    let mut head = Vec::new(alloc);
+    put_entry_head(alloc, &mut head, place, name, function)?;
+    Ok(head)
 }
 
 /// Puts the line of an entry, after what the lines of its aggregation begin with.
