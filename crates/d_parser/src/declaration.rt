@@ -161,12 +161,10 @@ pub(crate) fn of_clause(
 {
     let (declared, name, rest) = typed_name(alloc, tokens)?;
     let rest = after_mark(Mark::Semicolon, rest)?;
-    Ok((
-        Declaration::Clause {
-            line,
-            declared,
-            name,
-        },
-        rest,
-    ))
+    let declaration = Declaration::Clause {
+        line,
+        declared,
+        name,
+    };
+    Ok((declaration, rest))
 }

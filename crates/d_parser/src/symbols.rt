@@ -1,6 +1,6 @@
 //! Operators and types as a script writes them.
 
-ghost use Rattle.std.specs.Prelude.{Some};
+ghost use Rattle.std.specs.Prelude.{◌≡◌, Some};
 ghost use Rattle.d_parser.specs.Symbols as spec;
 
 use crate::operators::{AssignOperator, BinaryOperator, Step, UnaryOperator};
@@ -31,11 +31,11 @@ impl fmt::Display for Step {
     }
 }
 
-impl fmt::Display for BinaryOperator {
-    ghost output = { λ o. Some (spec.binary_symbol o) };
-
-    fn fmt<W: fmt::Write>(&self, f: &mut fmt::Formatter<W>) -> fmt::Result {
-        f.write_str(match self {
+impl BinaryOperator {
+    fn symbol(self) -> &'static str
+        ensures { result.now ≡ spec.binary_symbol self }
+    {
+        match self {
             BinaryOperator::Multiply => "*",
             BinaryOperator::Divide => "/",
             BinaryOperator::Remainder => "%",
@@ -55,15 +55,23 @@ impl fmt::Display for BinaryOperator {
             BinaryOperator::And => "&&",
             BinaryOperator::Xor => "^^",
             BinaryOperator::Or => "||",
-        })
+        }
     }
 }
 
-impl fmt::Display for AssignOperator {
-    ghost output = { λ o. Some (spec.assign_symbol o) };
+impl fmt::Display for BinaryOperator {
+    ghost output = { λ o. Some (spec.binary_symbol o) };
 
     fn fmt<W: fmt::Write>(&self, f: &mut fmt::Formatter<W>) -> fmt::Result {
-        f.write_str(match self {
+        f.write_str(self.symbol())
+    }
+}
+
+impl AssignOperator {
+    fn symbol(self) -> &'static str
+        ensures { result.now ≡ spec.assign_symbol self }
+    {
+        match self {
             AssignOperator::Set => "=",
             AssignOperator::Add => "+=",
             AssignOperator::Subtract => "-=",
@@ -75,15 +83,23 @@ impl fmt::Display for AssignOperator {
             AssignOperator::BitXor => "^=",
             AssignOperator::ShiftLeft => "<<=",
             AssignOperator::ShiftRight => ">>=",
-        })
+        }
     }
 }
 
-impl fmt::Display for IntegerType {
-    ghost output = { λ t. Some (spec.integer_word t) };
+impl fmt::Display for AssignOperator {
+    ghost output = { λ o. Some (spec.assign_symbol o) };
 
     fn fmt<W: fmt::Write>(&self, f: &mut fmt::Formatter<W>) -> fmt::Result {
-        f.write_str(match self {
+        f.write_str(self.symbol())
+    }
+}
+
+impl IntegerType {
+    fn word(self) -> &'static str
+        ensures { result.now ≡ spec.integer_word self }
+    {
+        match self {
             IntegerType::Int8 => "int8_t",
             IntegerType::Int16 => "int16_t",
             IntegerType::Int32 => "int32_t",
@@ -92,7 +108,15 @@ impl fmt::Display for IntegerType {
             IntegerType::Uint16 => "uint16_t",
             IntegerType::Uint32 => "uint32_t",
             IntegerType::Uint64 => "uint64_t",
-        })
+        }
+    }
+}
+
+impl fmt::Display for IntegerType {
+    ghost output = { λ t. Some (spec.integer_word t) };
+
+    fn fmt<W: fmt::Write>(&self, f: &mut fmt::Formatter<W>) -> fmt::Result {
+        f.write_str(self.word())
     }
 }
 
