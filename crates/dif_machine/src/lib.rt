@@ -8,6 +8,7 @@ mod frame;
 mod held;
 mod keys;
 pub mod laws;
+mod loads;
 mod operating;
 mod running;
 mod sources;
@@ -17,6 +18,7 @@ mod tuple;
 pub use fault::MachineFault;
 pub use frame::Frame;
 pub use keys::key_of_zeros;
+pub use loads::lent_load;
 pub use running::{run, run_in};
 
 // Of what a frame is made. No caller needs them: they are public since definitions speak of them.

@@ -13,7 +13,8 @@ ghost use Rattle.dif_machine.specs.Semantics.{Goes, act};
 use crate::context::Context;
 use crate::fault::MachineFault;
 use crate::frame::Frame;
-use crate::sources::{built_in, owned_value};
+use crate::loads::{instruction, lent_argument, lent_source, returns_at};
+use crate::sources::owned_value;
 use crate::stepping::step;
 use d_values::{ClauseLocals, Key, ThreadTable, Value, ValueRef};
 use dif_validate::{Instr, Reg, ValidDifo};
@@ -70,24 +71,13 @@ fn source<'a>(
         (variables locals.now own.now)
         ≡ Goes (with_value start R1 (lent_value lent)) (variables locals.now own.now)) }
 {
-    if let Instr::Ldgs(v, Reg::R1) = *instr {
-        return built_in(context.firing, v);
-    }
     if let Instr::Ldls(x, Reg::R1) = *instr {
         return integer_of(locals.get(x));
     }
     if let Instr::Ldts(x, Reg::R1) = *instr {
         return integer_of(own.get(x, &Key::new(alloc)));
     }
-    if let Instr::Sets(i, Reg::R1) = *instr {
-        let text = context.difo.texts.get(i)?;
-        return Some(ValueRef::Text(text.as_bytes()));
-    }
-    if let Instr::Setx(i, Reg::R1) = *instr {
-        let word = context.difo.numbers.get(i)?;
-        return Some(ValueRef::Int(*word));
-    }
-    None
+    lent_source(instr, context.difo, context.firing)
 }
 
 // The value of an object that only loads it. This needs no frame.
@@ -102,13 +92,10 @@ fn single_load<'a>(
         Runs (object_of context.entry.difo.now) context.entry.firing.now
         (variables locals.now own.now) (Returns (lent_value lent) (variables locals.now own.now))) }
 {
-    let Some(Instr::Ret(Reg::R1)) = context.difo.code.get(1) else {
-        return None;
-    };
-    match context.difo.code.get(0) {
-        Some(first) => source(alloc, first, context, locals, own),
-        None => None,
+    if !returns_at(context.difo, 1) {
+        return lent_argument(context.difo, context.firing);
     }
+    source(alloc, instruction(context.difo, 0)?, context, locals, own)
 }
 
 /// Runs an object from its first instruction to its end, in a frame that may have served other
