@@ -3,7 +3,6 @@
 mod clause;
 mod expression;
 mod lent_key;
-mod loads;
 mod objects;
 mod printing;
 mod statement;

@@ -2,8 +2,8 @@
 
 ghost use Rattle.std.specs.Prelude.{◌≡◌, ◌<◌, IfSome, length, slice_set};
 ghost use Rattle.dif_codegen.specs.Meaning as spec;
-ghost use Rattle.replay_core.specs.Vocabulary.{Has, Variables, action_code, number_outcome};
-ghost use Rattle.replay_core.specs.Vocabulary.{part_of, value_result, with};
+ghost use Rattle.replay_core.specs.Vocabulary.{Has, Variables, action_code, lent_value};
+ghost use Rattle.replay_core.specs.Vocabulary.{number_outcome, part_of, value_result, with};
 ghost use Rattle.replay_core.specs.Evaluation.{Meets, Returns, variables_of};
 ghost use Rattle.replay_core.specs.Steps.Evaluation.{Leaves};
 
@@ -12,12 +12,11 @@ use crate::piece::Piece;
 use crate::state::State;
 use crate::statements::expression::{Arguments, Expression};
 use crate::statements::lent_key::LentKey;
-use crate::statements::loads::lent_load;
 use crate::statements::statement::{Statement, aggregate, exit, plain, print, trace};
 use crate::tables::Tables;
 use d_values::{DType, Key, Value, ValueRef};
 use dif_codegen::{Action, TypedObject};
-use dif_machine::{Frame, MachineFault};
+use dif_machine::{Frame, MachineFault, lent_load};
 use firing_reader::Firing;
 use std::alloc::Global;
 
@@ -113,6 +112,15 @@ fn run_for_arguments(objects: &[TypedObject], state: &mut State<'_>) -> Result<A
     Ok(Arguments { values })
 }
 
+// Lends the value of an object that only loads it; none of any other object.
+#[inline(always)]
+fn lend_value<'a>(object: &'a TypedObject, firing: &'a Firing) -> Option<ValueRef<'a>>
+    ensures { IfSome result (λ lent. (vars : Variables)
+        → spec.value_of firing.now object.now.object vars ≡ Has (lent_value lent) vars) }
+{
+    lent_load(object.object.difo(), firing)
+}
+
 // From left to right.
 fn lend_key<'a>(objects: &'a [TypedObject], firing: &'a Firing<'a>) -> Option<LentKey<'a>>
     ensures { IfSome result (λ key. (vars : Variables)
@@ -120,7 +128,7 @@ fn lend_key<'a>(objects: &'a [TypedObject], firing: &'a Firing<'a>) -> Option<Le
 {
     let mut key = LentKey::new();
     for object in objects {
-        let value = lent_load(object, firing)?;
+        let value = lend_value(object, firing)?;
         if !key.push(value) {
             return None;
         }
