@@ -20,6 +20,7 @@ const LARGE: u64 = 1_844_674_407_370_955_160;
 const SHORT: usize = 19;
 
 // The digits at the front: the number that they write, and how many there are.
+#[inline(always)]
 fn digits(bytes: &[u8]) -> Option<(u64, usize)>
     ensures count { IfSome result (λ p. p.1 ≤ length bytes.now) }
     ensures digits { IfSome result (λ p. AllDigits 10 (take p.1 bytes.now)) }
@@ -66,6 +67,7 @@ fn one_digit(bytes: &[u8]) -> Option<(u8, &[u8])>
 }
 
 // A number from least to most that a comma ends.
+#[inline(always)]
 pub(crate) fn whole(bytes: &[u8], least: u64, most: u64) -> Option<(u64, &[u8])>
     ensures value { IfSome result (λ p. (field : List ℕ)
         × Passes bytes.now (field ∷ []) p.1.now × (whole_of least most field ≡ Some p.0)) }
@@ -80,6 +82,7 @@ pub(crate) fn whole(bytes: &[u8], least: u64, most: u64) -> Option<(u64, &[u8])>
 }
 
 // A number of at most 31 bits, from least, that a comma ends.
+#[inline(always)]
 pub(crate) fn int(bytes: &[u8], least: u64) -> Option<(i32, &[u8])>
     ensures { IfSome result (λ p. (field : List ℕ)
         × Passes bytes.now (field ∷ []) p.1.now × (int_of least field ≡ Some p.0)) }
@@ -180,7 +183,7 @@ pub(crate) fn next_argument(bytes: &[u8]) -> Option<(i64, &[u8])>
 }
 
 // The same, whatever it is.
-#[inline(never)]
+#[inline(always)]
 fn other_argument(bytes: &[u8]) -> Option<(i64, &[u8])>
     ensures { IfSome result (λ p. (field : List ℕ)
         × Passes bytes.now (field ∷ []) p.1.now × (signed_of field ≡ Some p.0)) }
