@@ -20,6 +20,9 @@ fn after_zeros(bytes: &[u8], count: usize) -> Option<&[u8]>
     requires least { 1 ≤ count }
     ensures { IfSome result (λ rest. Closes bytes.now (replicate count (48 ∷ [])) rest.now) }
 {
+    if !bytes.starts_with(b"0") {
+        return None;
+    }
     let zeros = &ZEROS[20 - 2 * count..];
     if bytes.len() < zeros.len() || !is_same(&bytes[..zeros.len()], zeros) {
         return None;
