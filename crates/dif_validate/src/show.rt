@@ -1,7 +1,7 @@
 //! Instructions as one reads them: `add r1, r2, r3`.
 
 ghost use Rattle.std.specs.Fmt.{decimal, WritesOnOk};
-ghost use Rattle.std.specs.Prelude.{Some};
+ghost use Rattle.std.specs.Prelude.{◌≡◌, Some};
 ghost use Rattle.dif_validate.specs.Texts as spec;
 
 use crate::instruction::{Condition, Function, Instr, Operator};
@@ -33,11 +33,11 @@ impl fmt::Display for Reg {
     }
 }
 
-impl fmt::Display for Operator {
-    ghost output = { λ op. Some (spec.operator_name op) };
-
-    fn fmt<W: fmt::Write>(&self, f: &mut fmt::Formatter<W>) -> fmt::Result {
-        f.write_str(match self {
+impl Operator {
+    fn name(self) -> &'static str
+        ensures { result.now ≡ spec.operator_name self }
+    {
+        match self {
             Operator::Or => "or",
             Operator::Xor => "xor",
             Operator::And => "and",
@@ -51,15 +51,23 @@ impl fmt::Display for Operator {
             Operator::Udiv => "udiv",
             Operator::Srem => "srem",
             Operator::Urem => "urem",
-        })
+        }
     }
 }
 
-impl fmt::Display for Condition {
-    ghost output = { λ condition. Some (spec.branch_name condition) };
+impl fmt::Display for Operator {
+    ghost output = { λ op. Some (spec.operator_name op) };
 
     fn fmt<W: fmt::Write>(&self, f: &mut fmt::Formatter<W>) -> fmt::Result {
-        f.write_str(match self {
+        f.write_str(self.name())
+    }
+}
+
+impl Condition {
+    fn name(self) -> &'static str
+        ensures { result.now ≡ spec.branch_name self }
+    {
+        match self {
             Condition::Equal => "be",
             Condition::NotEqual => "bne",
             Condition::Greater => "bg",
@@ -70,7 +78,15 @@ impl fmt::Display for Condition {
             Condition::AboveEqual => "bgeu",
             Condition::Below => "blu",
             Condition::BelowEqual => "bleu",
-        })
+        }
+    }
+}
+
+impl fmt::Display for Condition {
+    ghost output = { λ condition. Some (spec.branch_name condition) };
+
+    fn fmt<W: fmt::Write>(&self, f: &mut fmt::Formatter<W>) -> fmt::Result {
+        f.write_str(self.name())
     }
 }
 
