@@ -7,16 +7,24 @@ use crate::operators::{AssignOperator, BinaryOperator, Step, UnaryOperator};
 use crate::tree::{DeclaredType, IntegerType};
 use std::fmt;
 
-impl fmt::Display for UnaryOperator {
-    ghost output = { λ o. Some (spec.unary_symbol o) };
-
-    fn fmt<W: fmt::Write>(&self, f: &mut fmt::Formatter<W>) -> fmt::Result {
-        f.write_str(match self {
+impl UnaryOperator {
+    fn symbol(self) -> &'static str
+        ensures { result.now ≡ spec.unary_symbol self }
+    {
+        match self {
             UnaryOperator::Not => "!",
             UnaryOperator::Complement => "~",
             UnaryOperator::Negate => "-",
             UnaryOperator::Keep => "+",
-        })
+        }
+    }
+}
+
+impl fmt::Display for UnaryOperator {
+    ghost output = { λ o. Some (spec.unary_symbol o) };
+
+    fn fmt<W: fmt::Write>(&self, f: &mut fmt::Formatter<W>) -> fmt::Result {
+        f.write_str(self.symbol())
     }
 }
 
