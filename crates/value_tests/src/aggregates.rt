@@ -5,18 +5,11 @@ use aggregations::{AggFn, AggTable, LinearRange, Partial};
 use d_values::{Key, KeyPart, Text};
 use keyed_hash::HashKey;
 use std::alloc::{AllocError, Global};
-use std::process::Abort;
 use std::test::Fail;
 
-// How many of the entries are of the key, and the count of the last of these.
-fn count_of(entries: &[(&Key, &Partial)], key: &Key) -> (usize, Option<i64>) {
-    let mut found = (0usize, None);
-    for (held, partial) in entries {
-        if **held == *key {
-            found = (found.0.wrapping_add(1), partial.single());
-        }
-    }
-    found
+// Whether an entry is of the key, and has this count.
+fn is_count((held, partial): (&Key, &Partial), key: &Key, count: i64) -> bool {
+    *held == *key && partial.single() == Some(count)
 }
 
 // The key with this one text.
@@ -24,7 +17,8 @@ fn key_of(alloc: Global, name: &str) -> Result<Key, AllocError>
     ensures { IfOk result (λ k. length k ≡ 1) }
 {
     let mut key = Key::new(alloc);
-    key.push(KeyPart::Name(Text::from_slice(alloc, name.as_bytes())?))?;
+    let text = Text::from_slice(alloc, name.as_bytes())?;
+    key.push(KeyPart::Name(text))?;
     Ok(key)
 }
 
@@ -36,18 +30,19 @@ fn has_count(
     count: i64,
 ) -> Result<bool, AllocError> {
     let key = key_of(alloc, name)?;
-    let (times, last) = count_of(entries, &key);
-    Ok(times == 1 && last == Some(count))
+    Ok(entries.iter().any(|entry| is_count(*entry, &key, count)))
 }
 
-// Whether the entries have just these counts, each of the key with this one text.
+// Whether the entries have just these counts, each of the key with this one text. The texts differ,
+// so as many entries as counts are one for each text.
 fn are_counts(
     alloc: Global,
     entries: &[(&Key, &Partial)],
     counts: &[(&str, i64)],
 ) -> Result<bool, AllocError> {
     for (name, count) in counts {
-        if !has_count(alloc, entries, name, *count)? {
+        let is_held = has_count(alloc, entries, name, *count)?;
+        if !is_held {
             return Ok(false);
         }
     }
@@ -109,18 +104,18 @@ fn counted(alloc: Global) -> Result<AggTable, AllocError>
 fn has_all_counts(alloc: Global, table: &AggTable) -> Result<bool, AllocError>
     requires { length (functions_of table.now) ≡ 3 }
 {
-    Ok(
-        has_counts(alloc, table, 0, &[("cat", 1), ("sh", 2), ("", 1)])?
-            && has_counts(alloc, table, 1, &[])?
-            && has_counts(alloc, table, 2, &[("cat", 1)])?,
-    )
+    let first = has_counts(alloc, table, 0, &[("cat", 1), ("sh", 2), ("", 1)])?;
+    let second = has_counts(alloc, table, 1, &[])?;
+    let third = has_counts(alloc, table, 2, &[("cat", 1)])?;
+    Ok(first && second && third)
 }
 
 #[test]
 fn counts_by_key(rt: HostRuntime) -> Result<(), Fail> {
     let table = counted(rt.alloc())?;
     assert!(rt; table.len() == 3 && table.function(2) == AggFn::Count);
-    assert!(rt; has_all_counts(rt.alloc(), &table)?);
+    let is_counted = has_all_counts(rt.alloc(), &table)?;
+    assert!(rt; is_counted);
     Ok(())
 }
 
@@ -186,7 +181,8 @@ fn table_of(alloc: Global, function: AggFn, args: &[i64]) -> Result<AggTable, Al
 {
     let functions = vec![in alloc; function]?;
     let mut table = AggTable::new(alloc, HashKey::of_seed(&[]), functions)?;
-    add_all(&mut table, &Key::new(alloc), args)?;
+    let key = Key::new(alloc);
+    add_all(&mut table, &key, args)?;
     Ok(table)
 }
 
@@ -350,7 +346,8 @@ fn powers_of_two(rt: HostRuntime) -> Result<(), Fail> {
     let quantize = AggFn::Quantize;
     let few = [(63, 0, 1), (64, 1, 1), (65, 2, 2), (66, 4, 1)];
     let args = (&[0, 1, 2][..], &[3, 4][..]);
-    assert!(rt; has_buckets(rt.alloc(), quantize, args, &few, 9)?);
+    let has_few = has_buckets(rt.alloc(), quantize, args, &few, 9)?;
+    assert!(rt; has_few);
     let wide = [
         (0, -4611686018427387904, 1),
         (61, -2, 2),
@@ -358,7 +355,8 @@ fn powers_of_two(rt: HostRuntime) -> Result<(), Fail> {
         (126, 4611686018427387904, 1),
     ];
     let args = (&[-1, -2, i64::MIN][..], &[i64::MAX, -3][..]);
-    assert!(rt; has_buckets(rt.alloc(), quantize, args, &wide, -5)?);
+    let has_wide = has_buckets(rt.alloc(), quantize, args, &wide, -5)?;
+    assert!(rt; has_wide);
     Ok(())
 }
 
@@ -368,7 +366,8 @@ fn levels_of_a_range(rt: HostRuntime) -> Result<(), Fail> {
     let linear = AggFn::Lquantize(range);
     let levels = [(0, -1, 1), (1, 0, 1), (3, 6, 1), (4, 9, 2)];
     let args = (&[-1, 0, 8, 9][..], &[100][..]);
-    assert!(rt; has_buckets(rt.alloc(), linear, args, &levels, 23)?);
+    let has_levels = has_buckets(rt.alloc(), linear, args, &levels, 23)?;
+    assert!(rt; has_levels);
     assert_eq!(rt; linear.buckets(), 5);
     Ok(())
 }
@@ -421,24 +420,27 @@ const POWERS: [(i64, u32); 14] = [
 
 const LEVELS: [(i64, u32); 7] = [(-1, 0), (0, 1), (2, 1), (3, 2), (8, 3), (9, 4), (100, 4)];
 
-// Asserts that these numbers are counted in these buckets.
-fn check_buckets(
-    rt: &impl Abort,
+// The first of these numbers that is counted in another bucket.
+fn first_elsewhere(
     alloc: Global,
     function: AggFn,
     rows: &[(i64, u32)],
-) -> Result<(), AllocError> {
+) -> Result<Option<i64>, AllocError> {
     for (number, bucket) in rows {
         let is_counted = is_in_bucket(alloc, function, *number, *bucket)?;
-        assert!(rt; is_counted, "{number}");
+        if !is_counted {
+            return Ok(Some(*number));
+        }
     }
-    Ok(())
+    Ok(None)
 }
 
 #[test]
 fn buckets_of_numbers(rt: HostRuntime) -> Result<(), Fail> {
-    check_buckets(&rt, rt.alloc(), AggFn::Quantize, &POWERS)?;
+    let elsewhere = first_elsewhere(rt.alloc(), AggFn::Quantize, &POWERS)?;
+    assert_eq!(rt; elsewhere, None);
     let range = LinearRange::new(0, 10, 3).expect(&rt, "a range");
-    check_buckets(&rt, rt.alloc(), AggFn::Lquantize(range), &LEVELS)?;
+    let elsewhere = first_elsewhere(rt.alloc(), AggFn::Lquantize(range), &LEVELS)?;
+    assert_eq!(rt; elsewhere, None);
     Ok(())
 }

@@ -28,15 +28,20 @@ fn hash_of(key: HashKey, writes: &[&[u8]]) -> u64 {
     hasher.finish()
 }
 
+// The hash of a text.
+fn text_hash(key: HashKey) -> u64 {
+    hash_of(key, &[b"a text of more than two words"])
+}
+
 #[test]
 fn sources_give_keys(rt: HostRuntime) {
-    let hash = |key: HashKey| hash_of(key, &[b"a text of more than two words"]);
-    let failed = hash(HashKey::random(&Source(None)));
-    assert_eq!(rt; failed, hash(HashKey::of_seed(&[0; 8])));
-    let given = hash(HashKey::random(&Source(Some(7))));
-    assert_eq!(rt; given, hash(HashKey::of_seed(&[7; 8])));
+    let failed = text_hash(HashKey::random(&Source(None)));
+    assert_eq!(rt; failed, text_hash(HashKey::of_seed(&[0; 8])));
+    let given = text_hash(HashKey::random(&Source(Some(7))));
+    assert_eq!(rt; given, text_hash(HashKey::of_seed(&[7; 8])));
     assert!(rt; given != failed);
-    assert!(rt; given != hash(HashKey::random(&rt)));
+    let drawn = text_hash(HashKey::random(&rt));
+    assert!(rt; given != drawn);
 }
 
 // The same bytes, divided into two writes at different places, and other bytes in their place.

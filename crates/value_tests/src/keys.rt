@@ -10,14 +10,22 @@ enum Part {
     Absent,
 }
 
+// Adds the part to a key, unless it is absent.
+fn add_part(alloc: Global, key: &mut Key, part: Part) -> Result<(), AllocError> {
+    match part {
+        Part::N(number) => key.push(KeyPart::Number(number)),
+        Part::T(bytes) => {
+            let text = Text::from_slice(alloc, bytes)?;
+            key.push(KeyPart::Name(text))
+        }
+        Part::Absent => Ok(()),
+    }
+}
+
 fn key_of(alloc: Global, parts: [Part; 2]) -> Result<Key, AllocError> {
     let mut key = Key::new(alloc);
     for part in parts {
-        match part {
-            Part::N(number) => key.push(KeyPart::Number(number))?,
-            Part::T(bytes) => key.push(KeyPart::Name(Text::from_slice(alloc, bytes)?))?,
-            Part::Absent => {}
-        }
+        add_part(alloc, &mut key, part)?;
     }
     Ok(key)
 }
@@ -100,12 +108,11 @@ fn overwrite_number(
 
 // Whether a key of two parts has each of those that it is given.
 fn is_overwritten(alloc: Global, key: &mut Key) -> Result<bool, AllocError> {
-    Ok(
-        overwrite(alloc, key, -7, b"a longer name")?
-            && overwrite(alloc, key, 3, b"")?
-            && overwrite(alloc, key, 0, b"ab")?
-            && overwrite_number(alloc, key, b"x", b"ab")?,
-    )
+    let by_longer = overwrite(alloc, key, -7, b"a longer name")?;
+    let by_empty = overwrite(alloc, key, 3, b"")?;
+    let by_shorter = overwrite(alloc, key, 0, b"ab")?;
+    let by_text = overwrite_number(alloc, key, b"x", b"ab")?;
+    Ok(by_longer && by_empty && by_shorter && by_text)
 }
 
 #[test]
@@ -114,13 +121,15 @@ fn parts_are_overwritten(rt: HostRuntime) -> Result<(), Fail> {
     let copy = key.clone()?;
     let is_overwritten = is_overwritten(rt.alloc(), &mut key)?;
     assert!(rt; is_overwritten);
-    assert!(rt; has_parts(rt.alloc(), &copy, [Part::N(1), Part::T(b"first")])?);
+    let is_kept = has_parts(rt.alloc(), &copy, [Part::N(1), Part::T(b"first")])?;
+    assert!(rt; is_kept);
     Ok(())
 }
 
 #[test]
 fn texts_keep_their_bytes(rt: HostRuntime) -> Result<(), Fail> {
-    let text = Text::from(Vec::from_slice(rt.alloc(), b"read")?);
+    let bytes = Vec::from_slice(rt.alloc(), b"read")?;
+    let text = Text::from(bytes);
     let copy = text.clone()?;
     assert!(rt; copy.as_bytes() == b"read".as_slice());
     assert!(rt; text.into_bytes().as_slice() == b"read".as_slice());

@@ -24,7 +24,10 @@ const OTHER: Var = Var {
 fn value_of(alloc: Global, value: ValueRef<'_>) -> Result<Value, AllocError> {
     match value {
         ValueRef::Int(n) => Ok(Value::Int(n)),
-        ValueRef::Text(bytes) => Ok(Value::Text(Text::from_slice(alloc, bytes)?)),
+        ValueRef::Text(bytes) => {
+            let text = Text::from_slice(alloc, bytes)?;
+            Ok(Value::Text(text))
+        }
     }
 }
 
@@ -55,15 +58,20 @@ fn read_locals(locals: &ClauseLocals) -> [u64; 3] {
     ]
 }
 
+// Adds a text and a number to a key.
+fn add_parts(alloc: Global, key: &mut Key, name: &[u8], number: i64) -> Result<(), AllocError> {
+    let text = Text::from_slice(alloc, name)?;
+    key.push(KeyPart::Name(text))?;
+    key.push(KeyPart::Number(number))
+}
+
 // Eight parts of both kinds, the last one this.
 fn long_key(alloc: Global, last: i64) -> Result<Key, AllocError> {
     let mut key = Key::new(alloc);
     for number in [-1, 0, 1] {
-        key.push(KeyPart::Number(number))?;
-        key.push(KeyPart::Name(Text::from_slice(alloc, b"x")?))?;
+        add_parts(alloc, &mut key, b"x", number)?;
     }
-    key.push(KeyPart::Name(Text::new(alloc)))?;
-    key.push(KeyPart::Number(last))?;
+    add_parts(alloc, &mut key, b"", last)?;
     Ok(key)
 }
 
