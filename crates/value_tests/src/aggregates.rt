@@ -89,14 +89,31 @@ fn add_rows(table: &mut AggTable, key: &mut Key) -> Result<(), AllocError>
     add(table, key, 0, b"")
 }
 
+// Adds these rows, with a key for them.
+fn fill(alloc: Global, table: &mut AggTable) -> Result<(), AllocError>
+    requires functions { length (functions_of table.old) ≡ 3 }
+    requires room { count_held table.old ≡ 0 }
+    ensures { functions_of table.new ≡ functions_of table.old }
+{
+    let mut key = key_of(alloc, "")?;
+    add_rows(table, &mut key)
+}
+
+// An empty table of three counts.
+fn three_counts(alloc: Global) -> Result<AggTable, AllocError>
+    ensures functions { IfOk result (λ t. length (functions_of t) ≡ 3) }
+    ensures held { IfOk result (λ t. count_held t ≡ 0) }
+{
+    let functions = vec![in alloc; AggFn::Count; 3]?;
+    AggTable::new(alloc, HashKey::of_seed(&[]), functions)
+}
+
 // A table of three counts, with these rows.
 fn counted(alloc: Global) -> Result<AggTable, AllocError>
     ensures { IfOk result (λ t. length (functions_of t) ≡ 3) }
 {
-    let mut key = key_of(alloc, "")?;
-    let functions = vec![in alloc; AggFn::Count; 3]?;
-    let mut table = AggTable::new(alloc, HashKey::of_seed(&[]), functions)?;
-    add_rows(&mut table, &mut key)?;
+    let mut table = three_counts(alloc)?;
+    fill(alloc, &mut table)?;
     Ok(table)
 }
 
