@@ -47,14 +47,23 @@ fn verdict(alloc: Global, difo: Difo) -> Result<Kind, DifFault> {
     }
 }
 
+// The texts of each object.
+fn one_text(alloc: Global) -> Result<Vec<Text>, AllocError> {
+    let text = Text::from_slice(alloc, b"a")?;
+    let mut texts = Vec::new(alloc);
+    texts.push(text)?;
+    Ok(texts)
+}
+
 // What the validator returns for this code.
 fn judgement(alloc: Global, code: &[Instr]) -> Result<Result<Kind, DifFault>, AllocError> {
-    let mut texts = Vec::new(alloc);
-    texts.push(Text::from_slice(alloc, b"a")?)?;
+    let code = Vec::from_slice(alloc, code)?;
+    let texts = one_text(alloc)?;
+    let numbers = Vec::from_slice(alloc, &[1])?;
     let difo = Difo {
-        code: Vec::from_slice(alloc, code)?,
+        code,
         texts,
-        numbers: Vec::from_slice(alloc, &[1])?,
+        numbers,
     };
     Ok(verdict(alloc, difo))
 }
@@ -69,7 +78,8 @@ fn first_other_verdict(
     codes: &[&[Instr]],
 ) -> Result<Option<usize>, AllocError> {
     for row in 0..codes.len() {
-        if judgement(alloc, codes[row])? != expected {
+        let judged = judgement(alloc, codes[row])?;
+        if judged != expected {
             return Ok(Some(row));
         }
     }
@@ -80,7 +90,8 @@ fn first_other_verdict(
 fn first_wrong(alloc: Global, tables: &[Table<'_>]) -> Result<Option<(usize, usize)>, AllocError> {
     for table in 0..tables.len() {
         let (expected, codes) = tables[table];
-        if let Some(row) = first_other_verdict(alloc, expected, codes)? {
+        let other = first_other_verdict(alloc, expected, codes)?;
+        if let Some(row) = other {
             return Ok(Some((table, row)));
         }
     }
@@ -96,7 +107,8 @@ fn first_accepted(
     fault: DifFault,
 ) -> Result<Option<usize>, AllocError> {
     for i in 0..instrs.len() {
-        if judgement(alloc, &[before, instrs[i], RETURN])? != Err(fault) {
+        let judged = judgement(alloc, &[before, instrs[i], RETURN])?;
+        if judged != Err(fault) {
             return Ok(Some(i));
         }
     }
@@ -140,17 +152,20 @@ const OF_AN_UNSET_REGISTER: [Instr; 15] = [
     Ret(R1),
 ];
 
+const OF_TUPLES: [Instr; 4] = [Ldtaa(NUMBER, R1), Sttaa(NUMBER, R0), STRLEN, STRJOIN];
+
 #[test]
 fn faults_of_single_instructions(rt: HostRuntime) -> Result<(), Fail> {
     let alloc = rt.alloc();
     let kind = DifFault::RegisterKind { pc: 1 };
-    assert!(&rt; first_accepted(alloc, TEXT_IN_R1, &AFTER_A_TEXT, kind)? == None);
-    assert!(&rt;
-        first_accepted(alloc, Nop, &OF_AN_UNSET_REGISTER, DifFault::Unset { pc: 1 })? == None
-    );
-    let of_tuples = [Ldtaa(NUMBER, R1), Sttaa(NUMBER, R0), STRLEN, STRJOIN];
+    let accepted = first_accepted(alloc, TEXT_IN_R1, &AFTER_A_TEXT, kind)?;
+    assert!(&rt; accepted == None);
+    let unset = DifFault::Unset { pc: 1 };
+    let accepted = first_accepted(alloc, Nop, &OF_AN_UNSET_REGISTER, unset)?;
+    assert!(&rt; accepted == None);
     let tuple = DifFault::TupleShape { pc: 1 };
-    assert!(&rt; first_accepted(alloc, Nop, &of_tuples, tuple)? == None);
+    let accepted = first_accepted(alloc, Nop, &OF_TUPLES, tuple)?;
+    assert!(&rt; accepted == None);
     Ok(())
 }
 
@@ -159,8 +174,9 @@ fn judgement_without_tables(
     alloc: Global,
     load: Instr,
 ) -> Result<Result<Kind, DifFault>, AllocError> {
+    let code = Vec::from_slice(alloc, &[load, RETURN])?;
     let difo = Difo {
-        code: Vec::from_slice(alloc, &[load, RETURN])?,
+        code,
         texts: Vec::new(alloc),
         numbers: Vec::new(alloc),
     };
@@ -277,7 +293,8 @@ const OBJECTS_WITH_A_FAULT: [Table<'static>; 17] = [
 
 #[test]
 fn faults_of_objects(rt: HostRuntime) -> Result<(), Fail> {
-    assert!(&rt; first_wrong(rt.alloc(), &OBJECTS_WITH_A_FAULT)? == None);
+    let wrong = first_wrong(rt.alloc(), &OBJECTS_WITH_A_FAULT)?;
+    assert!(&rt; wrong == None);
     Ok(())
 }
 
@@ -318,7 +335,8 @@ const WAYS_THAT_MEET: [Table<'static>; 4] = [
 
 #[test]
 fn where_ways_meet_only_what_they_agree_on_is_kept(rt: HostRuntime) -> Result<(), Fail> {
-    assert!(&rt; first_wrong(rt.alloc(), &WAYS_THAT_MEET)? == None);
+    let wrong = first_wrong(rt.alloc(), &WAYS_THAT_MEET)?;
+    assert!(&rt; wrong == None);
     Ok(())
 }
 
@@ -454,8 +472,10 @@ const SEVERAL_FAULTS: [Table<'static>; 13] = [
 
 #[test]
 fn the_least_place_is_reported_and_there_the_lowest_number(rt: HostRuntime) -> Result<(), Fail> {
-    assert!(&rt; first_wrong(rt.alloc(), &FAULTS_AT_TWO_PLACES)? == None);
-    assert!(&rt; first_wrong(rt.alloc(), &SEVERAL_FAULTS)? == None);
+    let wrong = first_wrong(rt.alloc(), &FAULTS_AT_TWO_PLACES)?;
+    assert!(&rt; wrong == None);
+    let wrong = first_wrong(rt.alloc(), &SEVERAL_FAULTS)?;
+    assert!(&rt; wrong == None);
     Ok(())
 }
 
@@ -483,7 +503,8 @@ const UNREACHED_FAULTS: [Table<'static>; 4] = [
 
 #[test]
 fn faults_in_code_that_no_way_reaches(rt: HostRuntime) -> Result<(), Fail> {
-    assert!(&rt; first_wrong(rt.alloc(), &UNREACHED_FAULTS)? == None);
+    let wrong = first_wrong(rt.alloc(), &UNREACHED_FAULTS)?;
+    assert!(&rt; wrong == None);
     Ok(())
 }
 
@@ -535,7 +556,8 @@ const VALID: [Table<'static>; 2] = [
 
 #[test]
 fn valid_objects_return_their_kinds(rt: HostRuntime) -> Result<(), Fail> {
-    assert!(&rt; first_wrong(rt.alloc(), &VALID)? == None);
+    let wrong = first_wrong(rt.alloc(), &VALID)?;
+    assert!(&rt; wrong == None);
     Ok(())
 }
 
@@ -545,38 +567,41 @@ fn prints(alloc: Global, instr: Instr, text: &str) -> Result<bool, AllocError> {
     Ok(shown.as_str() == text)
 }
 
+// Instructions, and how they print.
+const PRINTED: [(Instr, &str); 25] = [
+    (Alu(Operator::Add, R1, R2, R3), "add r1, r2, r3"),
+    (Alu(Operator::Srem, R1, R0, R2), "srem r1, r0, r2"),
+    (Not(R1, R2), "not r1, r2"),
+    (Mov(R1, R2), "mov r1, r2"),
+    (Cmp(R1, R0), "cmp r1, r0"),
+    (Tst(R1), "tst r1"),
+    (Scmp(R1, R2), "scmp r1, r2"),
+    (Ba(5), "ba 5"),
+    (Branch(Condition::BelowEqual, 12), "bleu 12"),
+    (Setx(0, R1), "setx 0, r1"),
+    (Sets(3, R2), "sets 3, r2"),
+    (Ldgs(4, R1), "ldgs 4, r1"),
+    (Ldga(0, R1, R2), "ldga 0, r1, r2"),
+    (Ldts(NUMBER, R1), "ldts n0, r1"),
+    (Stts(TEXT, R1), "stts t3, r1"),
+    (Ldls(TEXT, R1), "ldls t3, r1"),
+    (Stls(NUMBER, R1), "stls n0, r1"),
+    (Pushtr(R1), "pushtr r1"),
+    (Pushtv(R0), "pushtv r0"),
+    (Flushts, "flushts"),
+    (Ldtaa(NUMBER, R1), "ldtaa n0, r1"),
+    (Sttaa(TEXT, R2), "sttaa t3, r2"),
+    (Call(Function::Strjoin, R1), "call strjoin, r1"),
+    (Ret(R0), "ret r0"),
+    (Nop, "nop"),
+];
+
 #[test]
 fn instructions_print_as_one_reads_them(rt: HostRuntime) -> Result<(), Fail> {
-    let rows: [(Instr, &str); 25] = [
-        (Alu(Operator::Add, R1, R2, R3), "add r1, r2, r3"),
-        (Alu(Operator::Srem, R1, R0, R2), "srem r1, r0, r2"),
-        (Not(R1, R2), "not r1, r2"),
-        (Mov(R1, R2), "mov r1, r2"),
-        (Cmp(R1, R0), "cmp r1, r0"),
-        (Tst(R1), "tst r1"),
-        (Scmp(R1, R2), "scmp r1, r2"),
-        (Ba(5), "ba 5"),
-        (Branch(Condition::BelowEqual, 12), "bleu 12"),
-        (Setx(0, R1), "setx 0, r1"),
-        (Sets(3, R2), "sets 3, r2"),
-        (Ldgs(4, R1), "ldgs 4, r1"),
-        (Ldga(0, R1, R2), "ldga 0, r1, r2"),
-        (Ldts(NUMBER, R1), "ldts n0, r1"),
-        (Stts(TEXT, R1), "stts t3, r1"),
-        (Ldls(TEXT, R1), "ldls t3, r1"),
-        (Stls(NUMBER, R1), "stls n0, r1"),
-        (Pushtr(R1), "pushtr r1"),
-        (Pushtv(R0), "pushtv r0"),
-        (Flushts, "flushts"),
-        (Ldtaa(NUMBER, R1), "ldtaa n0, r1"),
-        (Sttaa(TEXT, R2), "sttaa t3, r2"),
-        (Call(Function::Strjoin, R1), "call strjoin, r1"),
-        (Ret(R0), "ret r0"),
-        (Nop, "nop"),
-    ];
-    for i in 0..rows.len() {
-        let (instr, text) = rows[i];
-        assert!(&rt; prints(rt.alloc(), instr, text)?);
+    for i in 0..PRINTED.len() {
+        let (instr, text) = PRINTED[i];
+        let prints = prints(rt.alloc(), instr, text)?;
+        assert!(&rt; prints);
     }
     Ok(())
 }
