@@ -1,23 +1,43 @@
 //! Which tokens scripts have, and which fault.
 
-use d_lexer::{LexFault, MOST_BYTES, TokenKind, lex};
+use d_lexer::{LexFault, MOST_BYTES, Token, TokenKind, lex};
 use std::alloc::{AllocError, Global};
 use std::test::Fail;
 
-// What a token is: a byte string by its bytes, a number by value and suffix, a mark by its name.
-fn kind_text(alloc: Global, kind: &TokenKind) -> Result<String, AllocError> {
-    let (name, bytes) = match kind {
-        TokenKind::DescriptionRun(run) => ("run:", run),
-        TokenKind::Word(word) => ("word:", word),
-        TokenKind::AggregationName(word) => ("@", word),
-        TokenKind::Number { value, suffix } => return format!(in alloc; "{value}:{suffix:?}"),
-        TokenKind::TextConstant(text) => return format!(in alloc; "text:{:?}", text.as_slice()),
-        TokenKind::Mark(mark) => return format!(in alloc; "{mark:?}"),
-    };
+// A name, and these bytes after it.
+fn named_bytes(alloc: Global, name: &str, bytes: &[u8]) -> Result<String, AllocError> {
     let mut shown = String::new(alloc);
     shown.push_str(name)?;
-    for b in bytes.as_slice() {
+    for b in bytes {
         shown.push(char::from(*b))?;
+    }
+    Ok(shown)
+}
+
+// What a token is: a byte string by its bytes, a number by value and suffix, a mark by its name.
+fn kind_text(alloc: Global, kind: &TokenKind) -> Result<String, AllocError> {
+    match kind {
+        TokenKind::DescriptionRun(run) => named_bytes(alloc, "run:", run.as_slice()),
+        TokenKind::Word(word) => named_bytes(alloc, "word:", word.as_slice()),
+        TokenKind::AggregationName(word) => named_bytes(alloc, "@", word.as_slice()),
+        TokenKind::Number { value, suffix } => format!(in alloc; "{value}:{suffix:?}"),
+        TokenKind::TextConstant(text) => format!(in alloc; "text:{:?}", text.as_slice()),
+        TokenKind::Mark(mark) => format!(in alloc; "{mark:?}"),
+    }
+}
+
+// Adds a token and a space.
+fn add_token(alloc: Global, shown: &mut String, kind: &TokenKind) -> Result<(), AllocError> {
+    let text = kind_text(alloc, kind)?;
+    shown.push_str(text.as_str())?;
+    shown.push(' ')
+}
+
+// The tokens, each with a space after it.
+fn all_text(alloc: Global, tokens: &[Token]) -> Result<String, AllocError> {
+    let mut shown = String::new(alloc);
+    for token in tokens {
+        add_token(alloc, &mut shown, &token.kind)?;
     }
     Ok(shown)
 }
@@ -25,14 +45,7 @@ fn kind_text(alloc: Global, kind: &TokenKind) -> Result<String, AllocError> {
 // The script's tokens, each with a space after it, or its fault.
 fn tokens_text(alloc: Global, script: &[u8]) -> Result<String, AllocError> {
     match lex(alloc, script) {
-        Ok(tokens) => {
-            let mut shown = String::new(alloc);
-            for token in &tokens {
-                shown.push_str(kind_text(alloc, &token.kind)?.as_str())?;
-                shown.push(' ')?;
-            }
-            Ok(shown)
-        }
+        Ok(tokens) => all_text(alloc, &tokens),
         Err(fault) => format!(in alloc; "{fault:?}"),
     }
 }
@@ -220,17 +233,20 @@ fn faults(rt: HostRuntime) -> Result<(), Fail> {
     Ok(())
 }
 
-// The tokens or the fault of a script of blanks, with these bytes after them.
-fn blanks_text(alloc: Global, blanks: usize, rest: &[u8]) -> Result<String, AllocError> {
-    let mut script = vec![in alloc; b' '; blanks]?;
+// Whether as many blanks as a script may have, with these bytes after them, have these tokens, or
+// this fault.
+fn is_blanks_text(alloc: Global, rest: &[u8], wanted: &str) -> Result<bool, AllocError> {
+    let mut script = vec![in alloc; b' '; MOST_BYTES]?;
     script.extend_from_slice(rest)?;
-    tokens_text(alloc, &script)
+    is_lexed(alloc, &script, wanted)
 }
 
 #[test]
 fn limit(rt: HostRuntime) -> Result<(), Fail> {
-    assert!(rt; blanks_text(rt.alloc(), MOST_BYTES, b"")?.is_empty());
-    assert!(rt; blanks_text(rt.alloc(), MOST_BYTES, b"\0")?.as_str() == "TooLong");
+    let is_empty = is_blanks_text(rt.alloc(), b"", "")?;
+    assert!(rt; is_empty);
+    let is_too_long = is_blanks_text(rt.alloc(), b"\0", "TooLong")?;
+    assert!(rt; is_too_long);
     Ok(())
 }
 
