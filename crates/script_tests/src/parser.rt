@@ -1,18 +1,28 @@
 //! Which tree scripts have, as text, and which fault.
 
-use d_lexer::lex;
+ghost use Rattle.std.specs.Prelude.{◌≤◌, length};
+ghost use Rattle.d_lexer.specs.{Small.HaveSmallNumbers};
+
+use d_lexer::{MOST_BYTES, Token, lex};
 use d_parser::parse;
 use std::alloc::{AllocError, Global};
 use std::test::Fail;
 
+// The tree of these tokens as text, or its fault.
+fn tree_text_of(alloc: Global, tokens: &[Token]) -> Result<String, AllocError>
+    requires few { length tokens.now ≤ MOST_BYTES }
+    requires small { HaveSmallNumbers tokens.now }
+{
+    match parse(alloc, tokens) {
+        Ok(script) => format!(in alloc; "{script}"),
+        Err(fault) => format!(in alloc; "{fault:?}"),
+    }
+}
+
 // The script's tree as text, or its fault.
 fn tree_text(alloc: Global, script: &[u8]) -> Result<String, AllocError> {
-    let tokens = match lex(alloc, script) {
-        Ok(tokens) => tokens,
-        Err(fault) => return format!(in alloc; "{fault:?}"),
-    };
-    match parse(alloc, &tokens) {
-        Ok(script) => format!(in alloc; "{script}"),
+    match lex(alloc, script) {
+        Ok(tokens) => tree_text_of(alloc, &tokens),
         Err(fault) => format!(in alloc; "{fault:?}"),
     }
 }

@@ -18,16 +18,20 @@ const DEEPEST: [(usize, [&str; 3], [&str; 3]); 6] = [
     (63, ["f(", "1", ")"], ["f(", "1", ")"]),
 ];
 
+// Adds a part this often.
+fn add_often(text: &mut String, times: usize, part: &str) -> Result<(), AllocError> {
+    for _ in 0..times {
+        text.push_str(part)?;
+    }
+    Ok(())
+}
+
 fn nested_text(alloc: Global, times: usize, parts: [&str; 3]) -> Result<String, AllocError> {
     let [opening, inside, closing] = parts;
     let mut text = String::new(alloc);
-    for _ in 0..times {
-        text.push_str(opening)?;
-    }
+    add_often(&mut text, times, opening)?;
     text.push_str(inside)?;
-    for _ in 0..times {
-        text.push_str(closing)?;
-    }
+    add_often(&mut text, times, closing)?;
     Ok(text)
 }
 
@@ -55,12 +59,23 @@ fn is_printed(
     is_traced(alloc, times, parts, &tree)
 }
 
+// Whether a nested expression prints so at its limit, and is too deep above it.
+fn is_deepest(
+    alloc: Global,
+    times: usize,
+    parts: [&str; 3],
+    printed: [&str; 3],
+) -> Result<bool, AllocError> {
+    let is_printed = is_printed(alloc, times, parts, printed)?;
+    let is_too_deep = is_traced(alloc, times.saturating_add(1), parts, "TooDeep")?;
+    Ok(is_printed && is_too_deep)
+}
+
 // How often the first tree repeats that does not print so at its limit, or is not too deep above it.
 fn first_wrong(alloc: Global) -> Result<Option<usize>, AllocError> {
     for (times, parts, printed) in DEEPEST {
-        if !is_printed(alloc, times, parts, printed)?
-            || !is_traced(alloc, times + 1, parts, "TooDeep")?
-        {
+        let is_deepest = is_deepest(alloc, times, parts, printed)?;
+        if !is_deepest {
             return Ok(Some(times));
         }
     }
