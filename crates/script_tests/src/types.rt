@@ -1,25 +1,43 @@
 //! What each fault says. Which fault a script has, the cases of the program show.
 
-use d_lexer::lex;
-use d_parser::parse;
+ghost use Rattle.std.specs.Prelude.{◌≤◌, length};
+ghost use Rattle.d_lexer.specs.{Small.HaveSmallNumbers};
+ghost use Rattle.d_parser.specs.{Numbers.AreSmall, Sizes.IsWithin, Tree.script_of};
+
+use d_lexer::{MOST_BYTES, Token, lex};
+use d_parser::{Script, parse};
 use d_types::check;
 use std::alloc::{AllocError, Global};
 use std::process::Abort;
 use std::test::Fail;
 
-// "typed" for a script that is well typed, else what its fault says.
-fn answer_to(alloc: Global, script: &[u8]) -> Result<String, AllocError> {
-    let tokens = match lex(alloc, script) {
-        Ok(tokens) => tokens,
-        Err(fault) => return format!(in alloc; "{fault:?}"),
-    };
-    let tree = match parse(alloc, &tokens) {
-        Ok(tree) => tree,
-        Err(fault) => return format!(in alloc; "{fault:?}"),
-    };
+// "typed" for a tree that is well typed, else what its fault says.
+fn answer_to_tree(alloc: Global, tree: Script) -> Result<String, AllocError>
+    requires few { IsWithin MOST_BYTES (script_of tree) }
+    requires small { AreSmall (script_of tree) }
+{
     match check(alloc, tree) {
         Ok(_) => format!(in alloc; "typed"),
         Err(fault) => format!(in alloc; "{fault}"),
+    }
+}
+
+// The same of tokens.
+fn answer_to_tokens(alloc: Global, tokens: &[Token]) -> Result<String, AllocError>
+    requires few { length tokens.now ≤ MOST_BYTES }
+    requires small { HaveSmallNumbers tokens.now }
+{
+    match parse(alloc, tokens) {
+        Ok(tree) => answer_to_tree(alloc, tree),
+        Err(fault) => format!(in alloc; "{fault:?}"),
+    }
+}
+
+// The same of a script.
+fn answer_to(alloc: Global, script: &[u8]) -> Result<String, AllocError> {
+    match lex(alloc, script) {
+        Ok(tokens) => answer_to_tokens(alloc, &tokens),
+        Err(fault) => format!(in alloc; "{fault:?}"),
     }
 }
 
