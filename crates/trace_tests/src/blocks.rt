@@ -84,7 +84,8 @@ fn other_way<R: Threads + RandomSource>(
     ways: &[Way],
 ) -> Result<Option<Way>, AllocError> {
     for way in ways {
-        if !is_same_by(rt, alloc, bytes, *way)? {
+        let is_same = is_same_by(rt, alloc, bytes, *way)?;
+        if !is_same {
             return Ok(Some(*way));
         }
     }
@@ -227,7 +228,8 @@ fn is_long_row_same<R: Threads + RandomSource>(
     row: LongRow,
 ) -> Result<bool, AllocError> {
     let bytes = long_row(alloc, row)?;
-    Ok(is_read(rt, alloc, &bytes) && other_way(rt, alloc, &bytes, &IN_SHORT_BLOCKS)?.is_none())
+    let other = other_way(rt, alloc, &bytes, &IN_SHORT_BLOCKS)?;
+    Ok(is_read(rt, alloc, &bytes) && other.is_none())
 }
 
 const LONG_ROWS: [LongRow; 2] = [

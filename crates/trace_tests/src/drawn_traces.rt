@@ -2,7 +2,7 @@
 
 ghost use Rattle.std.specs.Prelude.{◌≤◌};
 
-use crate::traces::{HEADER, is_read, is_same, is_same_by_csv, whole_trace};
+use crate::traces::{HEADER, add_number, is_read, is_same, is_same_by_csv, whole_trace};
 use firing_reader::{read_trace, read_trace_by};
 use keyed_hash::HashKey;
 use std::alloc::{AllocError, Global};
@@ -94,41 +94,74 @@ fn other(chance: &mut Chance, column: usize) -> &'static str {
     }
 }
 
-// Adds a row with this number. One field in `rare` is no plain one, and so is the end of one row in
-// `rare`.
-fn add_row(
+// A field of a row with this number. One in `rare` is no plain one.
+fn field<'a>(chance: &mut Chance, column: usize, number: &'a str, rare: usize) -> &'a str {
+    if chance.below(rare) == 1 {
+        other(chance, column)
+    } else if column == 1 {
+        number
+    } else {
+        plain(chance, column)
+    }
+}
+
+// Adds the fields of a row with this number.
+fn add_fields(
     bytes: &mut Vec<u8>,
     chance: &mut Chance,
     number: &str,
     rare: usize,
 ) -> Result<(), AllocError> {
-    if chance.below(rare) == 1 {
-        bytes.extend_from_slice(b"\xef\xbb\xbf")?;
-    }
     let fields = if chance.below(rare) == 1 {
         19 + chance.below(3)
     } else {
         20
     };
     for column in 1..fields + 1 {
-        let field = if chance.below(rare) == 1 {
-            other(chance, column)
-        } else if column == 1 {
-            number
-        } else {
-            plain(chance, column)
-        };
+        let separator = if column == 1 { "" } else { "," };
+        bytes.extend_from_slice(separator.as_bytes())?;
+        let field = field(chance, column, number, rare);
         bytes.extend_from_slice(field.as_bytes())?;
-        if column < fields {
-            bytes.push(b',')?;
-        }
     }
+    Ok(())
+}
+
+// Adds a row with this number. The end of one row in `rare` is no plain one.
+fn add_row(
+    bytes: &mut Vec<u8>,
+    chance: &mut Chance,
+    number: &str,
+    rare: usize,
+) -> Result<(), AllocError> {
+    let begin: &[u8] = if chance.below(rare) == 1 {
+        b"\xef\xbb\xbf"
+    } else {
+        b""
+    };
+    bytes.extend_from_slice(begin)?;
+    add_fields(bytes, chance, number, rare)?;
     let end = if chance.below(rare) == 1 {
         chance.one_of(&["\r\n", "\n\n", "\r", "", ",\n"])
     } else {
         "\n"
     };
-    bytes.extend_from_slice(end.as_bytes())?;
+    bytes.extend_from_slice(end.as_bytes())
+}
+
+// Adds up to 40 rows.
+fn add_rows(
+    alloc: Global,
+    bytes: &mut Vec<u8>,
+    chance: &mut Chance,
+    rare: usize,
+) -> Result<(), AllocError> {
+    let mut number: u64 = 0;
+    for _ in 0..chance.below(41) {
+        let same = chance.below(rare) == 1;
+        number = number.wrapping_add(if same { 0 } else { 1 + chance.below(3) as u64 });
+        let digits = number.to_string(alloc)?;
+        add_row(bytes, chance, &digits, rare)?;
+    }
     Ok(())
 }
 
@@ -142,12 +175,7 @@ pub(crate) fn drawn_trace(alloc: Global, seed: u64) -> Result<Vec<u8>, AllocErro
         _ => 60,
     };
     let mut bytes = whole_trace(alloc, HEADER, b"", b"")?;
-    let mut number: u64 = 0;
-    for _ in 0..chance.below(41) {
-        let same = chance.below(rare) == 1;
-        number = number.wrapping_add(if same { 0 } else { 1 + chance.below(3) as u64 });
-        add_row(&mut bytes, &mut chance, &number.to_string(alloc)?, rare)?;
-    }
+    add_rows(alloc, &mut bytes, &mut chance, rare)?;
     Ok(bytes)
 }
 
@@ -226,7 +254,8 @@ fn is_refused(source: &impl RandomSource, alloc: Global, seed: u64) -> Result<bo
 fn some_drawn_traces_have_a_fault(rt: HostRuntime) -> Result<(), Fail> {
     let mut refused: u32 = 0;
     for seed in 0..TRACES {
-        if is_refused(&rt, rt.alloc(), seed)? {
+        let is_refused = is_refused(&rt, rt.alloc(), seed)?;
+        if is_refused {
             refused = refused.wrapping_add(1);
         }
     }
@@ -237,18 +266,24 @@ fn some_drawn_traces_have_a_fault(rt: HostRuntime) -> Result<(), Fail> {
 // How many rows are cut.
 const ROWS: u64 = 200;
 
+// Adds the plain fields of a row, after its number.
+fn add_plain_fields(bytes: &mut Vec<u8>, chance: &mut Chance) -> Result<(), AllocError> {
+    for column in 2..21 {
+        bytes.push(b',')?;
+        bytes.extend_from_slice(plain(chance, column).as_bytes())?;
+    }
+    bytes.push(b'\n')?;
+    Ok(())
+}
+
 // A trace of `ROWS` plain rows, whose texts, times and arguments come again and again: pieces of it
 // have some of their texts in common.
 fn varied_rows(alloc: Global) -> Result<Vec<u8>, AllocError> {
     let mut chance = Chance { state: 7 };
     let mut bytes = whole_trace(alloc, HEADER, b"", b"")?;
     for number in 1..ROWS + 1 {
-        bytes.extend_from_slice(number.to_string(alloc)?.as_bytes())?;
-        for column in 2..21 {
-            bytes.push(b',')?;
-            bytes.extend_from_slice(plain(&mut chance, column).as_bytes())?;
-        }
-        bytes.extend_from_slice(b"\n")?;
+        add_number(alloc, &mut bytes, number)?;
+        add_plain_fields(&mut bytes, &mut chance)?;
     }
     Ok(bytes)
 }
@@ -273,7 +308,7 @@ fn plain_rows_read_the_same_in_pieces(rt: HostRuntime) -> Result<(), Fail> {
 fn plain_rows(alloc: Global) -> Result<Vec<u8>, AllocError> {
     let mut bytes = whole_trace(alloc, HEADER, b"", b"")?;
     for number in 1..ROWS + 1 {
-        bytes.extend_from_slice(number.to_string(alloc)?.as_bytes())?;
+        add_number(alloc, &mut bytes, number)?;
         bytes.extend_from_slice(b",0,1,1,a,0,p,,f,hit,0,7,,,,,,,,\n")?;
     }
     Ok(bytes)

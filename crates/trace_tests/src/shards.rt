@@ -1,6 +1,6 @@
 //! Groups, boards and queues, at worked rows and by real threads.
 
-ghost use Rattle.std.specs.Prelude.{◌<◌, ◌≤◌};
+ghost use Rattle.std.specs.Prelude.{◌≡◌, ◌<◌, ◌≤◌, All, IfOk, vec_len};
 ghost use Rattle.shard_queue.specs.Boards.{IsAt};
 ghost use Rattle.shard_queue.specs.Queues.{IsIn};
 
@@ -8,6 +8,7 @@ use firing_reader::{Trace, TraceFault, read_trace};
 use keyed_hash::HashKey;
 use shard_queue::{ClaimBoard, ClaimSeat, GroupFault, GroupQueue, Groups, QueueSeat};
 use std::alloc::{AllocError, Global};
+use std::process::Abort;
 use std::sync::Wait;
 use std::test::Fail;
 use std::thread;
@@ -63,7 +64,8 @@ fn deal(alloc: Global, fired: &[i32], groups: u32) -> Result<Groups, TraceFault>
     requires { (0 < groups) × (groups ≤ 4096) }
 {
     let trace = trace_of(alloc, fired)?;
-    Ok(Groups::deal(alloc, &trace, groups)?)
+    let groups = Groups::deal(alloc, &trace, groups)?;
+    Ok(groups)
 }
 
 // The group of a thread, if it has one, and the places of that group.
@@ -203,13 +205,15 @@ fn many_lists(alloc: Global, count: usize) -> Result<Vec<Vec<i32>>, AllocError> 
 // How many groups as many lists as this give.
 fn count_groups(alloc: Global, count: usize) -> Result<usize, GroupFault> {
     let lists = many_lists(alloc, count)?;
-    Ok(group_by(alloc, &[1], &lists)?.len())
+    let groups = group_by(alloc, &[1], &lists)?;
+    Ok(groups.len())
 }
 
 // The fault of 4,096 lists and one of a thread that is a stranger.
 fn fault_of_a_list_too_many(alloc: Global) -> Result<Option<GroupFault>, AllocError> {
     let mut lists = many_lists(alloc, 4096)?;
-    lists.push(Vec::from_slice(alloc, &[7])?)?;
+    let list = Vec::from_slice(alloc, &[7])?;
+    lists.push(list)?;
     Ok(group_by(alloc, &[1], &lists).err())
 }
 
@@ -246,34 +250,74 @@ fn are_lists(lists: &[Vec<u32>], first: &[u32], second: &[u32]) -> bool {
     lists.len() == 2 && lists[0].as_slice() == first && lists[1].as_slice() == second
 }
 
+// What the two seats of a board claim in turn.
+fn claimed_by_two(
+    rt: &impl Abort,
+    board: &ClaimBoard,
+    seats: &mut Vec<ClaimSeat>,
+) -> Result<[Option<u32>; 6], AllocError>
+    requires at { All (IsAt board.now) seats.old.items }
+    requires two { vec_len seats.old ≡ 2 }
+    ensures at { IfOk result (λ _. All (IsAt board.now) seats.new.items) }
+    ensures two { IfOk result (λ _. vec_len seats.new ≡ 2) }
+{
+    let mut b = seats.pop().expect(rt, "two seats");
+    let mut a = seats.pop().expect(rt, "two seats");
+    let claimed = claims_in_turn(board, &mut a, &mut b);
+    seats.push(a)?;
+    seats.push(b)?;
+    Ok(claimed)
+}
+
 #[test]
 fn two_seats_claim_three_groups(rt: HostRuntime) -> Result<(), Fail> {
     let (board, mut seats) = ClaimBoard::open(rt.alloc(), 3, 2)?;
-    let mut b = seats.pop().expect(&rt, "two seats");
-    let mut a = seats.pop().expect(&rt, "two seats");
-    let claimed = claims_in_turn(&board, &mut a, &mut b);
-    seats.push(a)?;
-    seats.push(b)?;
+    let claimed = claimed_by_two(&rt, &board, &mut seats)?;
     let closed = board.close(rt.alloc(), seats)?;
     assert!(rt; claimed == IN_TURN && closed.least == u64::MAX);
     assert!(rt; are_lists(&closed.lists, &[0, 2], &[1]));
     Ok(())
 }
 
-#[test]
-fn least_is_shared_by_the_seats(rt: HostRuntime) -> Result<(), Fail> {
-    let alloc = rt.alloc();
-    let (board, mut seats) = ClaimBoard::open(alloc, 1, 2)?;
-    let mut b = seats.pop().expect(&rt, "two seats");
-    let mut a = seats.pop().expect(&rt, "two seats");
-    assert!(rt; board.least(&mut a) == u64::MAX);
-    board.lower(&mut a, 40);
-    board.lower(&mut b, 12);
-    board.lower(&mut a, 20);
-    assert!(rt; board.least(&mut a) == 12 && board.least(&mut b) == 12);
+// What the first seat reads at first, and what both read after each has lowered the least number.
+fn least_in_turn(board: &ClaimBoard, a: &mut ClaimSeat, b: &mut ClaimSeat) -> [u64; 3]
+    requires a { IsAt board.now a.old }
+    requires b { IsAt board.now b.old }
+    ensures a { IsAt board.now a.new }
+    ensures b { IsAt board.now b.new }
+{
+    let first = board.least(a);
+    board.lower(a, 40);
+    board.lower(b, 12);
+    board.lower(a, 20);
+    [first, board.least(a), board.least(b)]
+}
+
+// The same of the two seats of a board.
+fn least_by_two(
+    rt: &impl Abort,
+    board: &ClaimBoard,
+    seats: &mut Vec<ClaimSeat>,
+) -> Result<[u64; 3], AllocError>
+    requires at { All (IsAt board.now) seats.old.items }
+    requires two { vec_len seats.old ≡ 2 }
+    ensures at { IfOk result (λ _. All (IsAt board.now) seats.new.items) }
+    ensures two { IfOk result (λ _. vec_len seats.new ≡ 2) }
+{
+    let mut b = seats.pop().expect(rt, "two seats");
+    let mut a = seats.pop().expect(rt, "two seats");
+    let least = least_in_turn(board, &mut a, &mut b);
     seats.push(a)?;
     seats.push(b)?;
-    assert!(rt; board.close(alloc, seats)?.least == 12);
+    Ok(least)
+}
+
+#[test]
+fn least_is_shared_by_the_seats(rt: HostRuntime) -> Result<(), Fail> {
+    let (board, mut seats) = ClaimBoard::open(rt.alloc(), 1, 2)?;
+    let least = least_by_two(&rt, &board, &mut seats)?;
+    let closed = board.close(rt.alloc(), seats)?;
+    assert!(rt; least == [u64::MAX, 12, 12] && closed.least == 12);
     Ok(())
 }
 
@@ -299,14 +343,29 @@ fn takes_in_turn<R: Wait>(
     ]
 }
 
+// What the two seats of a queue take in turn.
+fn taken_by_two<R: Abort + Wait>(
+    rt: &R,
+    queue: &GroupQueue,
+    seats: &mut Vec<QueueSeat>,
+) -> Result<[Option<u32>; 6], AllocError>
+    requires at { All (IsIn queue.now) seats.old.items }
+    requires two { vec_len seats.old ≡ 2 }
+    ensures at { IfOk result (λ _. All (IsIn queue.now) seats.new.items) }
+    ensures two { IfOk result (λ _. vec_len seats.new ≡ 2) }
+{
+    let mut b = seats.pop().expect(rt, "two seats");
+    let mut a = seats.pop().expect(rt, "two seats");
+    let taken = takes_in_turn(rt, queue, &mut a, &mut b);
+    seats.push(a)?;
+    seats.push(b)?;
+    Ok(taken)
+}
+
 #[test]
 fn two_seats_take_three_groups(rt: HostRuntime) -> Result<(), Fail> {
     let (queue, mut seats) = GroupQueue::open(&rt, rt.alloc(), 3, 2)?;
-    let mut b = seats.pop().expect(&rt, "two seats");
-    let mut a = seats.pop().expect(&rt, "two seats");
-    let taken = takes_in_turn(&rt, &queue, &mut a, &mut b);
-    seats.push(a)?;
-    seats.push(b)?;
+    let taken = taken_by_two(&rt, &queue, &mut seats)?;
     let lists = queue.close(rt.alloc(), seats)?;
     assert!(rt; taken == IN_TURN && are_lists(&lists, &[0, 2], &[1]));
     Ok(())
@@ -372,7 +431,8 @@ fn sixteen_seats_claim_one_group(rt: HostRuntime) -> Result<(), Fail> {
     let seats = thread::map_vec(&rt, seats, &|seat| claims_thrice(&board, seat))?;
     let closed = board.close(alloc, seats)?;
     assert_eq!(rt; closed.lists.len(), 16);
-    assert!(rt; are_all_below(alloc, &closed.lists, 1)?);
+    let are_all = are_all_below(alloc, &closed.lists, 1)?;
+    assert!(rt; are_all);
     Ok(())
 }
 
@@ -383,7 +443,8 @@ fn sixteen_threads_claim_each_group_once(rt: HostRuntime) -> Result<(), Fail> {
         let (board, seats) = ClaimBoard::open(alloc, 4096, 16)?;
         let seats = thread::map_vec(&rt, seats, &|seat| claims_all(&board, seat))?;
         let closed = board.close(alloc, seats)?;
-        assert!(rt; are_all_below(alloc, &closed.lists, 4096)?);
+        let are_all = are_all_below(alloc, &closed.lists, 4096)?;
+        assert!(rt; are_all);
     }
     Ok(())
 }
@@ -395,7 +456,8 @@ fn sixteen_threads_take_each_group_once(rt: HostRuntime) -> Result<(), Fail> {
         let (queue, seats) = GroupQueue::open(&rt, alloc, 4096, 16)?;
         let seats = thread::map_vec(&rt, seats, &|seat| takes_all(&rt, &queue, seat))?;
         let lists = queue.close(alloc, seats)?;
-        assert!(rt; are_all_below(alloc, &lists, 4096)?);
+        let are_all = are_all_below(alloc, &lists, 4096)?;
+        assert!(rt; are_all);
     }
     Ok(())
 }
