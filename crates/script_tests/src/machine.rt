@@ -1,7 +1,7 @@
 //! Runs of small objects, with the values worked out by hand.
 use d_values::{ClauseLocals, Key, Kind, Text, ThreadTable, Value, ValueRef, Var};
 use dif_machine::{Frame, MachineFault, run, run_in};
-use dif_validate::{Condition, Difo, Function, Instr, Operator, Reg, validate};
+use dif_validate::{Condition, Difo, Function, Instr, Operator, Reg, ValidDifo, validate};
 use firing_reader::{Args, Firing, Text as Recorded};
 use keyed_hash::HashKey;
 use std::alloc::{AllocError, Global};
@@ -40,30 +40,60 @@ enum Shown {
 }
 
 fn firing() -> Option<Firing<'static>> {
+    let execname = Recorded::from_bytes(b"cat")?;
+    let provider = Recorded::from_bytes(b"syscall")?;
+    let probemod = Recorded::from_bytes(b"linux")?;
+    let probefunc = Recorded::from_bytes(b"read")?;
+    let name = Recorded::from_bytes(b"entry")?;
     Some(Firing {
         number: 1,
         cpu: 2,
         thread: -5,
         pid: 4,
-        execname: Recorded::from_bytes(b"cat")?,
+        execname,
         time: 1,
-        provider: Recorded::from_bytes(b"syscall")?,
-        probemod: Recorded::from_bytes(b"linux")?,
-        probefunc: Recorded::from_bytes(b"read")?,
-        name: Recorded::from_bytes(b"entry")?,
+        provider,
+        probemod,
+        probefunc,
+        name,
         args: Args::of(&[-1, 20, 30, 0, 0, 0, 0, 0, 0, 90]),
     })
 }
 
-fn object(alloc: Global, code: &[Instr], numbers: &[u64]) -> Result<Difo, AllocError> {
+// Adds a text.
+fn add_text(alloc: Global, texts: &mut Vec<Text>, bytes: &[u8]) -> Result<(), AllocError> {
+    let text = Text::from_slice(alloc, bytes)?;
+    texts.push(text)?;
+    Ok(())
+}
+
+// The texts of each object.
+fn two_texts(alloc: Global) -> Result<Vec<Text>, AllocError> {
     let mut texts = Vec::new(alloc);
-    texts.push(Text::from_slice(alloc, b"cat")?)?;
-    texts.push(Text::from_slice(alloc, &[b'x'; 300])?)?;
+    add_text(alloc, &mut texts, b"cat")?;
+    add_text(alloc, &mut texts, &[b'x'; 300])?;
+    Ok(texts)
+}
+
+fn object(alloc: Global, code: &[Instr], numbers: &[u64]) -> Result<Difo, AllocError> {
+    let code = Vec::from_slice(alloc, code)?;
+    let texts = two_texts(alloc)?;
+    let numbers = Vec::from_slice(alloc, numbers)?;
     Ok(Difo {
-        code: Vec::from_slice(alloc, code)?,
+        code,
         texts,
-        numbers: Vec::from_slice(alloc, numbers)?,
+        numbers,
     })
+}
+
+// The valid object of this code, if it is valid.
+fn valid_object(
+    alloc: Global,
+    code: &[Instr],
+    numbers: &[u64],
+) -> Result<Option<ValidDifo>, AllocError> {
+    let object = object(alloc, code, numbers)?;
+    Ok(validate(alloc, object).ok())
 }
 
 fn ending(ended: Result<Value, MachineFault>) -> Shown {
@@ -71,6 +101,19 @@ fn ending(ended: Result<Value, MachineFault>) -> Shown {
         Ok(Value::Int(word)) => Shown::Number(word),
         Ok(Value::Text(text)) => Shown::Bytes(text.into_bytes()),
         Err(fault) => Shown::Fault(fault),
+    }
+}
+
+// Runs the object over these variables.
+fn run_object(
+    alloc: Global,
+    valid: &ValidDifo,
+    locals: &mut ClauseLocals,
+    own: &mut ThreadTable,
+) -> Shown {
+    match firing() {
+        Some(firing) => ending(run(alloc, valid, &firing, locals, own)),
+        None => Shown::Invalid,
     }
 }
 
@@ -82,13 +125,11 @@ fn run_over(
     locals: &mut ClauseLocals,
     own: &mut ThreadTable,
 ) -> Result<Shown, AllocError> {
-    let Ok(valid) = validate(alloc, object(alloc, code, numbers)?) else {
-        return Ok(Shown::Invalid);
-    };
-    let Some(firing) = firing() else {
-        return Ok(Shown::Invalid);
-    };
-    Ok(ending(run(alloc, &valid, &firing, locals, own)))
+    let valid = valid_object(alloc, code, numbers)?;
+    match &valid {
+        Some(valid) => Ok(run_object(alloc, valid, locals, own)),
+        None => Ok(Shown::Invalid),
+    }
 }
 
 // Runs the code over variables that aren't set.
@@ -180,7 +221,8 @@ fn operators(rt: HostRuntime) -> Result<(), Fail> {
     ];
     for i in 0..rows.len() {
         let (op, a, b, word) = rows[i];
-        assert!(&rt; is_result(rt.alloc(), op, (a, b), &Shown::Number(word))?);
+        let is_word = is_result(rt.alloc(), op, (a, b), &Shown::Number(word))?;
+        assert!(&rt; is_word);
     }
     Ok(())
 }
@@ -200,26 +242,32 @@ fn divisions_by_zero_end_the_run(rt: HostRuntime) -> Result<(), Fail> {
     Ok(())
 }
 
+// Whether a branch is taken after comparisons of -8 with 1, of 1 with 1, and of 1 with -8.
+fn are_taken(alloc: Global, condition: Condition) -> Result<[bool; 3], AllocError> {
+    let less = is_taken(alloc, condition, MINUS_8, 1)?;
+    let same = is_taken(alloc, condition, 1, 1)?;
+    let more = is_taken(alloc, condition, 1, MINUS_8)?;
+    Ok([less, same, more])
+}
+
 #[test]
 fn branches(rt: HostRuntime) -> Result<(), Fail> {
-    // -8 against 1, 1 against 1, 1 against -8
-    let rows: [(Condition, bool, bool, bool); 10] = [
-        (Condition::Equal, false, true, false),
-        (Condition::NotEqual, true, false, true),
-        (Condition::Greater, false, false, true),
-        (Condition::GreaterEqual, false, true, true),
-        (Condition::Less, true, false, false),
-        (Condition::LessEqual, true, true, false),
-        (Condition::Above, true, false, false),
-        (Condition::AboveEqual, true, true, false),
-        (Condition::Below, false, false, true),
-        (Condition::BelowEqual, false, true, true),
+    let rows: [(Condition, [bool; 3]); 10] = [
+        (Condition::Equal, [false, true, false]),
+        (Condition::NotEqual, [true, false, true]),
+        (Condition::Greater, [false, false, true]),
+        (Condition::GreaterEqual, [false, true, true]),
+        (Condition::Less, [true, false, false]),
+        (Condition::LessEqual, [true, true, false]),
+        (Condition::Above, [true, false, false]),
+        (Condition::AboveEqual, [true, true, false]),
+        (Condition::Below, [false, false, true]),
+        (Condition::BelowEqual, [false, true, true]),
     ];
     for i in 0..rows.len() {
-        let (condition, less, same, more) = rows[i];
-        assert!(&rt; is_taken(rt.alloc(), condition, MINUS_8, 1)? == less);
-        assert!(&rt; is_taken(rt.alloc(), condition, 1, 1)? == same);
-        assert!(&rt; is_taken(rt.alloc(), condition, 1, MINUS_8)? == more);
+        let (condition, wanted) = rows[i];
+        let taken = are_taken(rt.alloc(), condition)?;
+        assert!(&rt; taken == wanted);
     }
     Ok(())
 }
@@ -230,7 +278,8 @@ fn integers_of_the_firing(rt: HostRuntime) -> Result<(), Fail> {
     for i in 0..rows.len() {
         let (v, word) = rows[i];
         let code = [Instr::Ldgs(v, R1), Instr::Ret(R1)];
-        assert!(&rt; returns(rt.alloc(), &code, &[], word)?);
+        let is_word = returns(rt.alloc(), &code, &[], word)?;
+        assert!(&rt; is_word);
     }
     Ok(())
 }
@@ -248,7 +297,8 @@ fn texts_of_the_firing(rt: HostRuntime) -> Result<(), Fail> {
     for i in 0..rows.len() {
         let (v, bytes) = rows[i];
         let code = [Instr::Ldgs(v, R1), Instr::Mov(R1, R2), Instr::Ret(R2)];
-        assert!(&rt; returns_text(alloc, &code, &[], bytes)?);
+        let is_text = returns_text(alloc, &code, &[], bytes)?;
+        assert!(&rt; is_text);
     }
     Ok(())
 }
@@ -259,7 +309,8 @@ fn arguments_of_the_firing(rt: HostRuntime) -> Result<(), Fail> {
     for i in 0..rows.len() {
         let (n, word) = rows[i];
         let code = [Instr::Setx(0, R1), Instr::Ldga(0, R1, R2), Instr::Ret(R2)];
-        assert!(&rt; returns(rt.alloc(), &code, &[n], word)?);
+        let is_word = returns(rt.alloc(), &code, &[n], word)?;
+        assert!(&rt; is_word);
     }
     Ok(())
 }
@@ -385,7 +436,8 @@ const SINGLE_INSTRUCTIONS: [(&'static [Instr], u64); 16] = [
 fn single_instructions(rt: HostRuntime) -> Result<(), Fail> {
     for i in 0..SINGLE_INSTRUCTIONS.len() {
         let (code, word) = SINGLE_INSTRUCTIONS[i];
-        assert!(&rt; returns(rt.alloc(), code, &[1, u64::MAX], word)?);
+        let is_word = returns(rt.alloc(), code, &[1, u64::MAX], word)?;
+        assert!(&rt; is_word);
     }
     Ok(())
 }
@@ -404,7 +456,8 @@ fn joined_texts_are_cut(rt: HostRuntime) -> Result<(), Fail> {
         Instr::Call(Function::Strlen, R3),
         Instr::Ret(R3),
     ];
-    assert!(&rt; returns(alloc, &code, &[], 255)?);
+    let is_cut = returns(alloc, &code, &[], 255)?;
+    assert!(&rt; is_cut);
     Ok(())
 }
 
@@ -449,8 +502,38 @@ fn a_variable_is_its_slot_and_its_kind(rt: HostRuntime) -> Result<(), Fail> {
         Instr::Ldls(NAME, R2),
         Instr::Ret(R2),
     ];
-    assert!(&rt; returns_text(alloc, &code, &[7], b"cat")?);
+    let is_text = returns_text(alloc, &code, &[7], b"cat")?;
+    assert!(&rt; is_text);
     Ok(())
+}
+
+// What a run in a frame returned.
+fn ending_in_frame(
+    alloc: Global,
+    ended: Result<ValueRef<'_>, MachineFault>,
+) -> Result<Shown, AllocError> {
+    match ended {
+        Ok(ValueRef::Int(word)) => Ok(Shown::Number(word)),
+        Ok(ValueRef::Text(bytes)) => {
+            let bytes = Vec::from_slice(alloc, bytes)?;
+            Ok(Shown::Bytes(bytes))
+        }
+        Err(fault) => Ok(Shown::Fault(fault)),
+    }
+}
+
+// Runs the object in this frame, over variables that aren't set.
+fn run_object_in_frame(
+    alloc: Global,
+    frame: &mut Frame,
+    valid: &ValidDifo,
+) -> Result<Shown, AllocError> {
+    let Some(firing) = firing() else {
+        return Ok(Shown::Invalid);
+    };
+    let mut locals = ClauseLocals::new(alloc);
+    let mut own = ThreadTable::new(alloc, HashKey::of_seed(&[]));
+    ending_in_frame(alloc, run_in(valid, &firing, frame, &mut locals, &mut own))
 }
 
 // Runs the code in this frame, over variables that aren't set.
@@ -460,18 +543,10 @@ fn run_in_frame(
     code: &[Instr],
     numbers: &[u64],
 ) -> Result<Shown, AllocError> {
-    let Ok(valid) = validate(alloc, object(alloc, code, numbers)?) else {
-        return Ok(Shown::Invalid);
-    };
-    let Some(firing) = firing() else {
-        return Ok(Shown::Invalid);
-    };
-    let mut locals = ClauseLocals::new(alloc);
-    let mut own = ThreadTable::new(alloc, HashKey::of_seed(&[]));
-    match run_in(&valid, &firing, frame, &mut locals, &mut own) {
-        Ok(ValueRef::Int(word)) => Ok(Shown::Number(word)),
-        Ok(ValueRef::Text(bytes)) => Ok(Shown::Bytes(Vec::from_slice(alloc, bytes)?)),
-        Err(fault) => Ok(Shown::Fault(fault)),
+    let valid = valid_object(alloc, code, numbers)?;
+    match &valid {
+        Some(valid) => run_object_in_frame(alloc, frame, valid),
+        None => Ok(Shown::Invalid),
     }
 }
 
@@ -529,14 +604,17 @@ const CONSTANT: [Instr; 2] = [Instr::Sets(0, R1), Instr::Ret(R1)];
 // Whether runs in one frame end as they should: some leave texts in registers and in the tuple, one
 // faults, and some use no text that another left.
 fn serves(alloc: Global, frame: &mut Frame) -> Result<bool, AllocError> {
-    let zero = Shown::Fault(MachineFault::DivideByZero);
-    Ok(
-        returns_in_frame(alloc, frame, &JOIN, b"catread")?
-            && ends_in_frame(alloc, frame, &MEASURE, &Shown::Number(4))?
-            && ends_in_frame(alloc, frame, &DIVIDE, &zero)?
-            && returns_in_frame(alloc, frame, &PROGRAM, b"cat")?
-            && returns_in_frame(alloc, frame, &CONSTANT, b"cat")?,
-    )
+    let joins = returns_in_frame(alloc, frame, &JOIN, b"catread")?;
+    let measures = ends_in_frame(alloc, frame, &MEASURE, &Shown::Number(4))?;
+    let faults = ends_in_frame(
+        alloc,
+        frame,
+        &DIVIDE,
+        &Shown::Fault(MachineFault::DivideByZero),
+    )?;
+    let is_program = returns_in_frame(alloc, frame, &PROGRAM, b"cat")?;
+    let is_constant = returns_in_frame(alloc, frame, &CONSTANT, b"cat")?;
+    Ok(joins && measures && faults && is_program && is_constant)
 }
 
 #[test]
