@@ -57,10 +57,19 @@ class Function:
 
 @dataclass
 class Change:
-    """What an edit changes: the lengths of the functions, and whether only their bodies."""
+    """What an edit changes: the functions, each with its new text, and whether only their
+    bodies."""
 
     functions: dict
     is_of_bodies: bool
+
+    def length(self):
+        return sum(map(len, self.functions.values()))
+
+    def calls(self, function):
+        """Returns whether one of these functions seems to call another one."""
+        name = re.compile(rf"\b{function.name}\(")
+        return any(name.search(text) for it, text in self.functions.items() if it != function)
 
 
 def module_of(path):
@@ -69,19 +78,40 @@ def module_of(path):
     return "::".join(parts[:-1] if parts[-1] in ("lib", "main", "mod") else parts)
 
 
-def split(text, path):
-    """Returns the head and the body of each function of a file, and the text around them."""
-    module, found = module_of(path), {}
+def functions_in(text, path):
+    """Gives each function of a file, with where it stands in the text."""
+    module = module_of(path)
     for it in FUNCTION.finditer(text):
         owners = [*OWNER.finditer(text, 0, it.start())] if it["deep"] else []
         owner = owners[-1].groupdict("") if owners else {"type": "", "trait": "", "by": ""}
         cycle = CYCLE.search(text, 0, it.start())
-        in_cycle = cycle[1] if cycle else ""
         whose = owner["type"], owner["trait"], bool(owner["by"])
-        function = Function(module, *whose, it["name"], in_cycle)
+        yield Function(module, *whose, it["name"], cycle[1] if cycle else ""), it
+
+
+def split(text, path):
+    """Returns the head and the body of each function of a file, and the text around them."""
+    found = {}
+    for function, it in functions_in(text, path):
         head, body = found.get(function, ("", ""))
         found[function] = (head + it["head"], body + (it["body"] or ""))
     return found, FUNCTION.sub(r"\g<name>", text)
+
+
+def with_stubs(text, path, stub, is_stub):
+    """Returns a file's text with this stub for the body of each function of which that is said,
+    which is then in no cycle of calls."""
+    made, end = [], 0
+    for function, it in functions_in(text, path):
+        if is_stub(function):
+            before = text[end : it.start()]
+            cycle = CYCLE.search(before) if function.cycle else None
+            if cycle:
+                before = before[: cycle.start()] + cycle[0].partition("\n")[2]
+            deep = it["deep"]
+            made += [before, it["head"], f"{{\n{deep}    {stub}\n{deep}}}"]
+            end = it.end()
+    return "".join([*made, text[end:]])
 
 
 def changed(old, new, path):
@@ -91,7 +121,7 @@ def changed(old, new, path):
         return None
     found = [it for it in functions if functions[it] != new_functions[it]]
     heads = [it for it in found if functions[it][0] != new_functions[it][0]]
-    return Change({it: len("".join(functions[it])) for it in found}, not heads)
+    return Change({it: "".join(new_functions[it]) for it in found}, not heads)
 
 
 def changed_in(folder, texts):

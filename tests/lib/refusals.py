@@ -14,9 +14,9 @@ class Refusals:
         self.kept = rt.Kept(list({it.name: it for it in crates}.values()), is_anew)
         self.scripts = hashlib.sha256(repr(is_beside).encode())
         here = os.path.dirname(__file__)
-        for path in [f"{here}/../edits", f"{here}/bodies.py", f"{here}/without_advice"]:
-            with open(path, "rb") as script:
-                self.scripts.update(script.read())
+        for script in ["../edits", "bodies.py", "skeletons.py", "without_advice"]:
+            with open(f"{here}/{script}", "rb") as file:
+                self.scripts.update(file.read())
 
     def names(self, crate, edits):
         """Returns the names under which it is kept that these edits of a crate were refused."""
