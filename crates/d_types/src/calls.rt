@@ -6,6 +6,7 @@ ghost use Rattle.d_types.specs.Steps.Faults.{OnlyMemory};
 ghost use Rattle.d_types.specs.Typing as spec;
 
 use crate::fault::TypeFault;
+use crate::operations::{boxed, boxed_two};
 use crate::typed::TypedExpr;
 use crate::words::Callee;
 use d_values::DType;
@@ -18,7 +19,7 @@ fn length_of(alloc: Global, x: TypedExpr) -> Result<Option<TypedExpr>, TypeFault
 {
     match x.type_of() {
         DType::Text => {
-            let x = Box::new(alloc, x)?;
+            let x = boxed(alloc, x)?;
             Ok(Some(TypedExpr::Strlen(x)))
         }
         DType::Int(_) => Ok(None),
@@ -32,8 +33,7 @@ fn join(alloc: Global, x: TypedExpr, y: TypedExpr) -> Result<Option<TypedExpr>, 
 {
     match (x.type_of(), y.type_of()) {
         (DType::Text, DType::Text) => {
-            let x = Box::new(alloc, x)?;
-            let y = Box::new(alloc, y)?;
+            let (x, y) = boxed_two(alloc, x, y)?;
             Ok(Some(TypedExpr::Strjoin(x, y)))
         }
         _ => Ok(None),

@@ -1,6 +1,7 @@
 //! What operators make of typed operands. None where they don't take such operands.
 
 ghost use Rattle.std.specs.Prelude.{◌≡◌, IfOk, option_map, Some};
+ghost use Rattle.d_types.specs.{Vocabulary.common_of};
 ghost use Rattle.d_types.specs.{Typed.typed_of, Typed.Typed, Typed.type_of};
 ghost use Rattle.d_types.specs.Steps.Faults.{OnlyMemory};
 ghost use Rattle.d_types.specs.Operators as spec;
@@ -13,6 +14,28 @@ use d_values::{
     ArithmeticOperator, ComparisonOperator, DType, IntType, ShiftOperator, common, promotion_of,
 };
 use std::alloc::Global;
+
+/// An expression in a box.
+pub(crate) fn boxed(alloc: Global, x: TypedExpr) -> Result<Box<TypedExpr>, TypeFault>
+    ensures ok { IfOk result (λ y. y.value ≡ x) }
+    ensures err { OnlyMemory result }
+{
+    Ok(Box::new(alloc, x)?)
+}
+
+/// Two expressions, each in a box.
+pub(crate) fn boxed_two(
+    alloc: Global,
+    x: TypedExpr,
+    y: TypedExpr,
+) -> Result<(Box<TypedExpr>, Box<TypedExpr>), TypeFault>
+    ensures ok { IfOk result (λ both. (both.0.value ≡ x) × (both.1.value ≡ y)) }
+    ensures err { OnlyMemory result }
+{
+    let x = boxed(alloc, x)?;
+    let y = boxed(alloc, y)?;
+    Ok((x, y))
+}
 
 /// An integer as one of another type.
 pub(crate) fn convert(
@@ -27,9 +50,27 @@ pub(crate) fn convert(
     if from == to {
         Ok(x)
     } else {
-        let x = Box::new(alloc, x)?;
+        let x = boxed(alloc, x)?;
         Ok(TypedExpr::Convert(from, to, x))
     }
+}
+
+// Two integers, each as one of their common type.
+fn in_common(
+    alloc: Global,
+    t: IntType,
+    u: IntType,
+    x: TypedExpr,
+    y: TypedExpr,
+) -> Result<(TypedExpr, TypedExpr), TypeFault>
+    ensures ok { IfOk result (λ both.
+        (typed_of both.0 ≡ spec.conversion_node t (common_of t u) (typed_of x))
+        × (typed_of both.1 ≡ spec.conversion_node u (common_of t u) (typed_of y))) }
+    ensures err { OnlyMemory result }
+{
+    let x = convert(alloc, t, common(t, u), x)?;
+    let y = convert(alloc, u, common(t, u), y)?;
+    Ok((x, y))
 }
 
 /// A value as one of a type.
@@ -64,7 +105,7 @@ pub(crate) fn unary(
     match x.type_of() {
         DType::Int(t) => {
             let x = convert(alloc, t, promotion_of(t), x)?;
-            let x = Box::new(alloc, x)?;
+            let x = boxed(alloc, x)?;
             Ok(Some(TypedExpr::Unary(operator, promotion_of(t), x)))
         }
         DType::Text => Ok(None),
@@ -81,8 +122,7 @@ fn operate(
         (λ z. option_map typed_of z ≡ Some (Typed.Operate operation (typed_of x) (typed_of y))) }
     ensures err { OnlyMemory result }
 {
-    let x = Box::new(alloc, x)?;
-    let y = Box::new(alloc, y)?;
+    let (x, y) = boxed_two(alloc, x, y)?;
     Ok(Some(TypedExpr::Operate(operation, x, y)))
 }
 
@@ -99,8 +139,7 @@ fn arithmetic(
 {
     match (x.type_of(), y.type_of()) {
         (DType::Int(t), DType::Int(u)) => {
-            let x = convert(alloc, t, common(t, u), x)?;
-            let y = convert(alloc, u, common(t, u), y)?;
+            let (x, y) = in_common(alloc, t, u, x, y)?;
             operate(alloc, Operation::Arithmetic(op, common(t, u)), x, y)
         }
         _ => Ok(None),
@@ -138,8 +177,7 @@ fn compare_integers(
         (λ z. option_map typed_of z ≡ Some (Typed.Compare op t (typed_of x) (typed_of y))) }
     ensures err { OnlyMemory result }
 {
-    let x = Box::new(alloc, x)?;
-    let y = Box::new(alloc, y)?;
+    let (x, y) = boxed_two(alloc, x, y)?;
     Ok(Some(TypedExpr::Compare(op, t, x, y)))
 }
 
@@ -153,8 +191,7 @@ fn compare_texts(
         (λ z. option_map typed_of z ≡ Some (Typed.CompareText op (typed_of x) (typed_of y))) }
     ensures err { OnlyMemory result }
 {
-    let x = Box::new(alloc, x)?;
-    let y = Box::new(alloc, y)?;
+    let (x, y) = boxed_two(alloc, x, y)?;
     Ok(Some(TypedExpr::CompareText(op, x, y)))
 }
 
@@ -171,8 +208,7 @@ fn compare(
 {
     match (x.type_of(), y.type_of()) {
         (DType::Int(t), DType::Int(u)) => {
-            let x = convert(alloc, t, common(t, u), x)?;
-            let y = convert(alloc, u, common(t, u), y)?;
+            let (x, y) = in_common(alloc, t, u, x, y)?;
             compare_integers(alloc, op, common(t, u), x, y)
         }
         (DType::Text, DType::Text) => compare_texts(alloc, op, x, y),
@@ -193,8 +229,7 @@ fn logic(
 {
     match (x.type_of(), y.type_of()) {
         (DType::Int(_), DType::Int(_)) => {
-            let x = Box::new(alloc, x)?;
-            let y = Box::new(alloc, y)?;
+            let (x, y) = boxed_two(alloc, x, y)?;
             Ok(Some(TypedExpr::Logic(op, x, y)))
         }
         _ => Ok(None),
@@ -232,9 +267,8 @@ fn choice_of(
         ≡ Some (Typed.Choice t (typed_of x) (typed_of y) (typed_of z))) }
     ensures err { OnlyMemory result }
 {
-    let x = Box::new(alloc, x)?;
-    let y = Box::new(alloc, y)?;
-    let z = Box::new(alloc, z)?;
+    let x = boxed(alloc, x)?;
+    let (y, z) = boxed_two(alloc, y, z)?;
     Ok(Some(TypedExpr::Choice(t, x, y, z)))
 }
 
@@ -251,8 +285,7 @@ pub(crate) fn choice(
 {
     match (x.type_of(), y.type_of(), z.type_of()) {
         (DType::Int(_), DType::Int(t), DType::Int(u)) => {
-            let y = convert(alloc, t, common(t, u), y)?;
-            let z = convert(alloc, u, common(t, u), z)?;
+            let (y, z) = in_common(alloc, t, u, y, z)?;
             choice_of(alloc, DType::Int(common(t, u)), x, y, z)
         }
         (DType::Int(_), DType::Text, DType::Text) => choice_of(alloc, DType::Text, x, y, z),
