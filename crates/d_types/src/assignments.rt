@@ -11,7 +11,7 @@ ghost use Rattle.d_types.specs.Typing.{fitting, beside};
 
 use crate::constants::integer;
 use crate::fault::TypeFault;
-use crate::operations::{as_type, convert};
+use crate::operations::{as_type, boxed, convert};
 use crate::operators::AssignSort;
 use crate::targets::variable_at;
 use crate::typed::{Answer, Operation, Space, TypedExpr, Variable};
@@ -38,6 +38,23 @@ pub(crate) fn type_at_once(sort: AssignSort) -> Option<DType>
     }
 }
 
+// The variable of a slot that holds this type, and the value for it in a box.
+fn variable_and_value(
+    alloc: Global,
+    holds: DType,
+    to: &Assignee,
+    x: TypedExpr,
+) -> Result<(Variable, Box<TypedExpr>), TypeFault>
+    ensures ok { IfOk result (λ both.
+        (both.0 ≡ record { space = to.now.space; slot = to.now.slot; holds = holds })
+        × (both.1.value ≡ x)) }
+    ensures err { OnlyMemory result }
+{
+    let variable = variable_at(to.space, to.slot, holds)?;
+    let x = boxed(alloc, x)?;
+    Ok((variable, x))
+}
+
 fn assign_of(
     alloc: Global,
     holds: DType,
@@ -49,8 +66,7 @@ fn assign_of(
         (typed_of x))) }
     ensures err { OnlyMemory result }
 {
-    let variable = variable_at(to.space, to.slot, holds)?;
-    let x = Box::new(alloc, x)?;
+    let (variable, x) = variable_and_value(alloc, holds, &to, x)?;
     Ok(Some(TypedExpr::Assign(variable, to.keys, x)))
 }
 
@@ -66,8 +82,7 @@ fn update_of(
         (typed_of x))) }
     ensures err { OnlyMemory result }
 {
-    let variable = variable_at(to.space, to.slot, holds)?;
-    let x = Box::new(alloc, x)?;
+    let (variable, x) = variable_and_value(alloc, holds, &to, x)?;
     Ok(Some(TypedExpr::Update(operation, variable, to.keys, x)))
 }
 
