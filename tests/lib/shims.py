@@ -1,5 +1,5 @@
-"""Runs a case with a small library of C preloaded into the program, which refuses what the
-environment tells it to."""
+"""Runs a program with a small library of C preloaded into it, which refuses what the environment
+tells it to, or makes reads short."""
 import contextlib
 import os
 import subprocess
@@ -29,6 +29,17 @@ def built(source):
             check=True,
         )
         yield shim
+
+
+def drawn_most(rng):
+    """Draws the most bytes that a read gives."""
+    return rng.choice((1, 2, 3, 7, rng.randrange(8, 1000)))
+
+
+def with_short_reads(shim, most):
+    """The environment in which a read of standard input gives this many bytes at most, by a library
+    that was built of streams.c."""
+    return {**os.environ, "LD_PRELOAD": shim, "READ": f"{most} 0 0"}
 
 
 def run(case, program, plan, shim, told):
