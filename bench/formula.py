@@ -30,7 +30,7 @@ EACH = {
     "byte of an entry's key": 1.1,
     "entry of a histogram": 300,
     "bucket": 40,
-    "thread with variables": 230,
+    "thread with tables": 230,
     "variable": 380,
     "further variable": 510,
     "clause-local variable": 160,
@@ -40,6 +40,18 @@ EACH = {
     "kept text": 16,
     "byte of a kept text": 1.1,
 }
+# The terms of what groups make, which count twice where a script exits.
+MADE_BY_PIECES = [
+    "text",
+    "byte of a text",
+    "aggregation in a group",
+    "aggregation with entries in a group",
+    "entry",
+    "further part of an entry's key",
+    "byte of an entry's key",
+    "entry of a histogram",
+    "bucket",
+]
 # So many bytes of a trace several workers read at a time, unless a row is longer.
 READ_TOGETHER = 1 << 22
 # An aggregation with as many entries is written by threads, so many entries at a time.
