@@ -9,9 +9,9 @@
 #   make cases      the cases alone, over the program that `make build` leaves
 #   make examples   the examples alone, likewise: each answer is compared with the one beside its
 #                   script
-#   make install    puts them and the tools into PREFIX/bin (/usr/local/bin, if PREFIX is not given),
-#                   with man pages, completions, pages and examples in PREFIX/share; it builds
-#                   nothing if the programs are there
+#   make install    puts them and the tools into PREFIX/bin (/usr/local/bin, if PREFIX is not
+#                   given), with man pages, completions, pages and examples in PREFIX/share; it
+#                   builds nothing if the programs are there
 #   make uninstall  removes all of that
 #   make dist       packs it into an archive and a Debian package in dist/, which need no toolchain
 #   make bench      measures it with 1, 2 and 4 workers beside mawk, its instructions where valgrind

@@ -84,8 +84,8 @@ impl Slot {
         }
     }
 
-    /// Takes one argument for the key that these values make. A map that is made here hashes by this
-    /// key.
+    /// Takes one argument for the key that these values make. A map that is made here hashes by
+    /// this key.
     pub(crate) fn add_lent(
         &mut self,
         alloc: Global,

@@ -119,8 +119,8 @@ impl Keys {
         None
     }
 
-    /// Bytes that have this place. They are looked for at this place among the known ones, and found
-    /// as long as each place came with bytes of its own.
+    /// Bytes that have this place. They are looked for at this place among the known ones, and
+    /// found as long as each place came with bytes of its own.
     pub(crate) fn bytes_at(&self, place: u32) -> Option<&[u8]>
         ensures { IfSome result (λ key. Contains self.now (key.now, place)) }
     {

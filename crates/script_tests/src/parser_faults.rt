@@ -71,7 +71,8 @@ fn is_deepest(
     Ok(is_printed && is_too_deep)
 }
 
-// How often the first tree repeats that does not print so at its limit, or is not too deep above it.
+// How often the first tree repeats that does not print so at its limit, or is not too deep above
+// it.
 fn first_wrong(alloc: Global) -> Result<Option<usize>, AllocError> {
     for (times, parts, printed) in DEEPEST {
         let is_deepest = is_deepest(alloc, times, parts, printed)?;
