@@ -26,8 +26,8 @@ IsLeft o (Ok x) made vars = o ≡ Has made vars
 IsLeft o (Err EvalFault.DivideByZero) made vars = o ≡ Faults vars
 IsLeft o (Err EvalFault.Memory) made vars = Unit {0}
 
--- what a call that makes it in a place leaves there and in its state
-abbrev pub Leaves : {A B : Type 0} → (Firing → Variables → Outcome A) → Result B EvalFault → A
+-- what a call that puts a part of a key in its place leaves there and in its state
+abbrev pub PutsPart : {A B : Type 0} → (Firing → Variables → Outcome A) → Result B EvalFault → A
     → (old new : State) → Type 0
-Leaves meaning r made old new =
+PutsPart meaning r made old new =
     Stays old new × IsLeft (meaning old.firing.now (variables_in old)) r made (variables_in new)

@@ -4,7 +4,7 @@ ghost use Rattle.std.specs.Prelude.{◌≡◌, ◌<◌, length, slice_set};
 ghost use Rattle.d_types.specs.Expressions as spec;
 ghost use Rattle.replay_core.specs.Vocabulary.{Typed, typed_of, typeds_of};
 ghost use Rattle.replay_core.specs.Evaluation.{Meets};
-ghost use Rattle.replay_core.specs.Steps.Evaluation.{HasKey, HasText, HasValue, HasWord, Leaves};
+ghost use Rattle.replay_core.specs.Steps.Evaluation.{HasKey, HasText, HasValue, HasWord, PutsPart};
 
 use crate::evaluation::built_in::{built_in, built_in_word};
 use crate::evaluation::changes::{step_variable, update_variable};
@@ -131,7 +131,7 @@ fn evaluate_part(
 ) -> Result<(), EvalFault>
     requires { place < length key.old }
     ensures length { length key.new ≡ length key.old }
-    ensures part { Leaves (λ f vars. spec.with (spec.eval f (typed_of e.now) vars)
+    ensures part { PutsPart (λ f vars. spec.with (spec.eval f (typed_of e.now) vars)
         (λ x. spec.Has (slice_set key.old place (spec.part_of x))))
         result key.new state.old state.new }
 {

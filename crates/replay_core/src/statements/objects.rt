@@ -5,7 +5,7 @@ ghost use Rattle.dif_codegen.specs.Meaning as spec;
 ghost use Rattle.replay_core.specs.Vocabulary.{Has, Variables, action_code, lent_value};
 ghost use Rattle.replay_core.specs.Vocabulary.{number_outcome, part_of, value_result, with};
 ghost use Rattle.replay_core.specs.Evaluation.{Meets, Returns, variables_of};
-ghost use Rattle.replay_core.specs.Steps.Evaluation.{Leaves};
+ghost use Rattle.replay_core.specs.Steps.Evaluation.{PutsPart};
 
 use crate::evaluation::{EvalFault, owned_value, set_part, word_of};
 use crate::piece::Piece;
@@ -81,7 +81,7 @@ fn run_for_part(
 ) -> Result<(), EvalFault>
     requires { place < length key.old }
     ensures length { length key.new ≡ length key.old }
-    ensures part { Leaves (λ f vars. with (spec.value_of f object.now.object vars)
+    ensures part { PutsPart (λ f vars. with (spec.value_of f object.now.object vars)
         (λ x. Has (slice_set key.old place (part_of x)))) result key.new state.old state.new }
 {
     let value = run_on_state!(object, state)?;
