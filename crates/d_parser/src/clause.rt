@@ -9,7 +9,7 @@ use crate::description::description_of;
 use crate::expression::phrase;
 use crate::fault::{AT_END, ParseFault};
 use crate::marks::{ASSIGNMENT, is_at, tail};
-use crate::names::{after_mark, line_at};
+use crate::names::{after_mark, syntax_at};
 use crate::statement::statements;
 use crate::tree::{Clause, Description, Expr};
 use d_lexer::{Mark, Token, TokenKind};
@@ -53,9 +53,7 @@ fn further_descriptions<'a>(
         (spec.further_descriptions turns all.items tokens.now) }
 {
     if turns == 0 {
-        return Err(ParseFault::Syntax {
-            line: line_at(tokens),
-        });
+        return Err(syntax_at(tokens));
     }
     descriptions_on(alloc, turns - 1, all, tokens)
 }

@@ -5,7 +5,7 @@ ghost use Rattle.d_parser.specs.Steps.ReadingScripts as spec;
 
 use crate::fault::ParseFault;
 use crate::marks::{is_at, tail};
-use crate::names::{after_mark, line_after, line_at};
+use crate::names::{after_mark, syntax_at, tokens_after};
 use crate::tree::{Declaration, DeclaredType};
 use crate::words::{split_run, type_length, type_of};
 use d_lexer::{ByteString, Mark, Token, TokenKind};
@@ -19,9 +19,7 @@ fn whole_type(tokens: &[Token]) -> Result<(DeclaredType, &[Token]), ParseFault>
     let (words, rest) = split_run(tokens);
     match type_of(words) {
         Some(declared) => Ok((declared, rest)),
-        None => Err(ParseFault::Syntax {
-            line: line_after(type_length(words), tokens),
-        }),
+        None => Err(syntax_at(tokens_after(type_length(words), tokens))),
     }
 }
 
@@ -37,9 +35,7 @@ fn further_types(
         (spec.further_types turns all.items tokens.now) }
 {
     if turns == 0 {
-        return Err(ParseFault::Syntax {
-            line: line_at(tokens),
-        });
+        return Err(syntax_at(tokens));
     }
     types_on(turns - 1, all, tokens)
 }
@@ -92,13 +88,13 @@ fn word_of(alloc: Global, token: &Token) -> Result<ByteString, ParseFault>
     Ok(ByteString::from_slice(alloc, bytes)?)
 }
 
-/// The line of the first token that can't follow, if these words aren't a type and a name.
-fn line_without_name(words: &[Token], tokens: &[Token]) -> usize {
+/// The tokens from the first that can't follow, if these words aren't a type and a name.
+fn rest_without_name<'a>(words: &[Token], tokens: &'a [Token]) -> &'a [Token] {
     let count = type_length(words);
     if count == 0 || count == words.len() {
-        line_after(count, tokens)
+        tokens_after(count, tokens)
     } else {
-        line_after(count + 1, tokens)
+        tokens_after(count + 1, tokens)
     }
 }
 
@@ -112,18 +108,14 @@ fn typed_name(
 {
     let (words, rest) = split_run(tokens);
     let [types @ .., name] = words else {
-        return Err(ParseFault::Syntax {
-            line: line_at(tokens),
-        });
+        return Err(syntax_at(tokens));
     };
     match type_of(types) {
         Some(declared) => {
             let name = word_of(alloc, name)?;
             Ok((declared, name, rest))
         }
-        None => Err(ParseFault::Syntax {
-            line: line_without_name(words, tokens),
-        }),
+        None => Err(syntax_at(rest_without_name(words, tokens))),
     }
 }
 

@@ -13,7 +13,7 @@ use crate::fault::{AT_END, ParseFault};
 use crate::marks::{
     ASSIGNMENT, CONDITION, Follow, OR, Prefix, UNARY, follow_at, is_at, prefix_of, tail,
 };
-use crate::names::{Word, after_mark, cast_type, is_typed, line_at, variable};
+use crate::names::{Word, after_mark, cast_type, is_typed, syntax_at, variable};
 use crate::operators::Step;
 use crate::tree::{Constant, Expr, Target, Variable};
 use crate::words::{WordKind, word_kind};
@@ -316,9 +316,7 @@ fn climb<'a>(
         ((steps.readers fuel).climb level (tree_of left) tokens.now) }
 {
     if fuel == 0 {
-        return Err(ParseFault::Syntax {
-            line: line_at(tokens),
-        });
+        return Err(syntax_at(tokens));
     }
     climb_on(alloc, fuel - 1, level, left, tokens)
 }
@@ -404,9 +402,7 @@ pub(crate) fn phrase<'a>(
         ((steps.readers fuel).phrase level tokens.now) }
 {
     if fuel == 0 {
-        return Err(ParseFault::Syntax {
-            line: line_at(tokens),
-        });
+        return Err(syntax_at(tokens));
     }
     whole(alloc, fuel - 1, level, tokens)
 }
@@ -440,9 +436,7 @@ fn further<'a>(
         ((steps.readers fuel).further (trees_of all.items) tokens.now) }
 {
     if fuel == 0 {
-        return Err(ParseFault::Syntax {
-            line: line_at(tokens),
-        });
+        return Err(syntax_at(tokens));
     }
     further_on(alloc, fuel - 1, all, tokens)
 }

@@ -1,7 +1,8 @@
 //! Marks, words and variables at the front of a list.
 
 ghost use Rattle.std.specs.Prelude.{◌≡◌};
-ghost use Rattle.d_parser.specs.{Reading.Gives, Words.word_kind};
+ghost use Rattle.d_parser.specs.{Reading.Gives, Vocabulary.ParseFault, Words.word_kind};
+ghost use Rattle.d_parser.specs.Steps.Lines.{line_at};
 ghost use Rattle.d_parser.specs.Steps.Reading as steps;
 
 use crate::fault::{AT_END, ParseFault};
@@ -11,17 +12,21 @@ use crate::words::{WordKind, integer_type, kind_of, split_run, type_length, word
 use d_lexer::{ByteString, Mark, Token, TokenKind};
 use std::alloc::Global;
 
-/// The line of the token after the first `count`.
-pub(crate) fn line_after(count: usize, tokens: &[Token]) -> usize {
-    match tokens.get(count) {
-        Some(token) => token.line,
-        None => AT_END,
-    }
+/// A syntax fault at the first of these tokens, or at the end if there are none.
+pub(crate) fn syntax_at(tokens: &[Token]) -> ParseFault
+    ensures { result ≡ ParseFault.Syntax (line_at tokens.now) }
+{
+    let line = match tokens {
+        [token, ..] => token.line,
+        [] => AT_END,
+    };
+    ParseFault::Syntax { line }
 }
 
-/// The line on which the rest begins.
-pub(crate) fn line_at(tokens: &[Token]) -> usize {
-    line_after(0, tokens)
+/// All tokens but the first `count`.
+pub(crate) fn tokens_after(count: usize, tokens: &[Token]) -> &[Token] {
+    let (_, rest) = tokens.split_at(count.min(tokens.len()));
+    rest
 }
 
 /// The line at which all tokens end; 1 where there are none.
@@ -39,9 +44,7 @@ pub(crate) fn after_mark(mark: Mark, tokens: &[Token]) -> Result<&[Token], Parse
     if is_at(mark, tokens) {
         Ok(tail(tokens))
     } else {
-        Err(ParseFault::Syntax {
-            line: line_at(tokens),
-        })
+        Err(syntax_at(tokens))
     }
 }
 
@@ -123,11 +126,11 @@ pub(crate) fn is_typed(tokens: &[Token]) -> bool
     }
 }
 
-/// The line of the first token that can't follow, if these words aren't an integer type.
-fn line_without_cast(words: &[Token], tokens: &[Token]) -> usize {
+/// The tokens from the first that can't follow, if these words aren't an integer type.
+fn rest_without_cast<'a>(words: &[Token], tokens: &'a [Token]) -> &'a [Token] {
     match words {
-        [first, ..] if matches!(kind_of(first), WordKind::Text) => line_at(tokens),
-        _ => line_after(type_length(words), tokens),
+        [first, ..] if matches!(kind_of(first), WordKind::Text) => tokens,
+        _ => tokens_after(type_length(words), tokens),
     }
 }
 
@@ -138,9 +141,7 @@ pub(crate) fn cast_type(tokens: &[Token]) -> Result<(IntegerType, &[Token]), Par
 {
     let (words, rest) = split_run(tokens);
     let Some(to) = integer_type(words) else {
-        return Err(ParseFault::Syntax {
-            line: line_without_cast(words, tokens),
-        });
+        return Err(syntax_at(rest_without_cast(words, tokens)));
     };
     let rest = after_mark(Mark::CloseParenthesis, rest)?;
     Ok((to, rest))

@@ -8,7 +8,7 @@ ghost use Rattle.d_parser.specs.Steps.ReadingScripts as spec;
 use crate::clause::clause;
 use crate::declaration::{of_clause, of_thread};
 use crate::fault::{AT_END, ParseFault};
-use crate::names::{last_line, line_at};
+use crate::names::{last_line, syntax_at};
 use crate::tree::{Declaration, Item, Script};
 use crate::words::{WordKind, word_kind};
 use d_lexer::{ByteString, MOST_BYTES, Token, TokenKind};
@@ -69,9 +69,7 @@ fn items(alloc: Global, fuel: usize, tokens: &[Token]) -> Result<Vec<Item>, Pars
         all.push(next)?;
         rest = later;
     }
-    Err(ParseFault::Syntax {
-        line: line_at(rest),
-    })
+    Err(syntax_at(rest))
 }
 
 /// The script that all tokens spell.

@@ -6,7 +6,7 @@ ghost use Rattle.d_parser.specs.Steps.ReadingScripts as spec;
 use crate::expression::{arguments, keys, phrase};
 use crate::fault::{AT_END, ParseFault};
 use crate::marks::{ASSIGNMENT, is_at, tail};
-use crate::names::{after_mark, line_at};
+use crate::names::{after_mark, syntax_at};
 use crate::tree::Stmt;
 use d_lexer::{ByteString, Mark, Token, TokenKind};
 use std::alloc::Global;
@@ -126,9 +126,7 @@ fn further<'a>(
         all = longer;
         rest = later;
     }
-    Err(ParseFault::Syntax {
-        line: line_at(rest),
-    })
+    Err(syntax_at(rest))
 }
 
 /// The statements of a clause, after its opening brace.

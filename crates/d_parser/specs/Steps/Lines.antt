@@ -1,5 +1,6 @@
--- The line of a fault at the end of the tokens.
-use Rattle.std.specs.Prelude.{ℕ, zero}
+-- The line of a fault.
+use Rattle.std.specs.Prelude.{ℕ, zero, List, [], ◌∷◌}
+use Rattle.d_lexer.specs.declared.token.Token.{Token}
 use Rattle.d_parser.specs.declared.fault.ParseFault.{ParseFault}
 use Rattle.d_parser.specs.declared.fault.ParseFault.TheVariants as faults
 
@@ -7,3 +8,8 @@ use Rattle.d_parser.specs.declared.fault.ParseFault.TheVariants as faults
 abbrev pub ending_on : ℕ → ParseFault → ParseFault
 ending_on line (faults.Syntax zero) = faults.Syntax line
 ending_on line e = e
+
+-- the line of the first of these tokens, and 0 where there are none
+abbrev pub line_at : List Token → ℕ
+line_at [] = 0
+line_at (t ∷ ts) = t.line

@@ -11,4 +11,5 @@ returns-in_ok-name-in-Some c =
 
 pub returns-in-None : goal.returns-in-None
 returns-in-None c =
-    typed_none c.args.tokens.now c.split_run.result.0.now c.name-item.result c.split_run.ensures.words c.in-len1-up.len_at_least c.name-item.is (sym c.in-None.ensures)
+    rw c.syntax_at-in-None.ensures
+    (typed_none c.args.tokens.now c.split_run.result.0.now c.name-item.result c.split_run.ensures.words c.in-len1-up.len_at_least c.name-item.is (sym c.in-None.ensures))
