@@ -8,7 +8,7 @@ ghost use Rattle.d_types.specs.Typed.{Count, Strjoin};
 ghost use Rattle.dif_codegen.specs.Steps.Code.{code_of, keys_code};
 ghost use Rattle.dif_codegen.specs.Steps.Drafts.{Adds};
 ghost use Rattle.dif_codegen.specs.Steps.Pieces.{both};
-ghost use Rattle.dif_codegen.specs.Vocabulary.{DType};
+ghost use Rattle.dif_codegen.specs.Vocabulary.{DType, LogicOperator};
 
 use crate::choices::{
     close, put_bit, put_comparison, put_differing, put_text_comparison, put_unary,
@@ -30,8 +30,7 @@ fn works_in(operation: Operation) -> IntType
     ensures { result ≡ works_in operation }
 {
     match operation {
-        Operation::Arithmetic(_, t) => t,
-        Operation::Shift(_, t) => t,
+        Operation::Arithmetic(_, t) | Operation::Shift(_, t) => t,
     }
 }
 
@@ -134,39 +133,59 @@ fn emit_logic(
     ensures { OnOk result
         (Adds (code_of (Typed.Logic op (typed_of a.now) (typed_of b.now)) r) draft.old draft.new) }
 {
-    let d = register(r);
     match op {
-        LogicOperator::And => {
-            emit(draft, a, r)?;
-            put(draft, Instr::Tst(d))?;
-            let branch = draft.code.len();
-            put(draft, Instr::Branch(Condition::Equal, 0))?;
-            emit(draft, b, r)?;
-            put_bit(draft, Instr::Tst(d), Condition::NotEqual, d)?;
-            let jump = draft.code.len();
-            put(draft, Instr::Ba(0))?;
-            put_number(draft, 0, d)?;
-            close(draft, branch, Condition::Equal, jump);
-            Ok(())
-        }
-        LogicOperator::Or => {
-            emit(draft, a, r)?;
-            put(draft, Instr::Tst(d))?;
-            let branch = draft.code.len();
-            put(draft, Instr::Branch(Condition::Equal, 0))?;
-            put_number(draft, 1, d)?;
-            let jump = draft.code.len();
-            put(draft, Instr::Ba(0))?;
-            emit(draft, b, r)?;
-            put_bit(draft, Instr::Tst(d), Condition::NotEqual, d)?;
-            close(draft, branch, Condition::Equal, jump);
-            Ok(())
-        }
+        LogicOperator::And => emit_and(draft, a, b, r),
+        LogicOperator::Or => emit_or(draft, a, b, r),
         LogicOperator::Xor => {
+            let d = register(r);
             emit_operands(draft, a, b, r)?;
             put_differing(draft, d, register(r + 1))
         }
     }
+}
+
+// The second operand is computed where the first is true, else the value is 0.
+#[cycle(emission)]
+fn emit_and(draft: &mut Difo, a: &TypedExpr, b: &TypedExpr, r: u8) -> Result<(), AllocError>
+    requires few { r + max (need (typed_of a.now)) (need (typed_of b.now)) ≤ 7 }
+    ensures { OnOk result
+        (Adds (code_of (Typed.Logic LogicOperator.And (typed_of a.now) (typed_of b.now)) r)
+        draft.old draft.new) }
+{
+    let d = register(r);
+    emit(draft, a, r)?;
+    put(draft, Instr::Tst(d))?;
+    let branch = draft.code.len();
+    put(draft, Instr::Branch(Condition::Equal, 0))?;
+    emit(draft, b, r)?;
+    put_bit(draft, Instr::Tst(d), Condition::NotEqual, d)?;
+    let jump = draft.code.len();
+    put(draft, Instr::Ba(0))?;
+    put_number(draft, 0, d)?;
+    close(draft, branch, Condition::Equal, jump);
+    Ok(())
+}
+
+// The second operand is computed where the first is false, else the value is 1.
+#[cycle(emission)]
+fn emit_or(draft: &mut Difo, a: &TypedExpr, b: &TypedExpr, r: u8) -> Result<(), AllocError>
+    requires few { r + max (need (typed_of a.now)) (need (typed_of b.now)) ≤ 7 }
+    ensures { OnOk result
+        (Adds (code_of (Typed.Logic LogicOperator.Or (typed_of a.now) (typed_of b.now)) r)
+        draft.old draft.new) }
+{
+    let d = register(r);
+    emit(draft, a, r)?;
+    put(draft, Instr::Tst(d))?;
+    let branch = draft.code.len();
+    put(draft, Instr::Branch(Condition::Equal, 0))?;
+    put_number(draft, 1, d)?;
+    let jump = draft.code.len();
+    put(draft, Instr::Ba(0))?;
+    emit(draft, b, r)?;
+    put_bit(draft, Instr::Tst(d), Condition::NotEqual, d)?;
+    close(draft, branch, Condition::Equal, jump);
+    Ok(())
 }
 
 #[cycle(emission)]

@@ -73,21 +73,31 @@ emit_choice-returns t c = λ type.
     (choice_adds _ _ _ _ _ _ _ _ _ _ _ _ _ c.in_ok-put.ensures (c.len-branch.ensures ∙ c.put.new.draft.code.ok.0) c.in_ok-put-2.ensures c.in_ok-emit-2.ensures
     (c.len-jump.ensures ∙ c.emit-2.new.draft.code.ok.0) c.in_ok-put-3.ensures c.in_ok-emit-3.ensures c.close.ensures))
 
-pub emit_logic-returns-in_ok-put_number-in-And : goal.emit_logic-returns-in_ok-put_number-in-And
-emit_logic-returns-in_ok-put_number-in-And t c =
-    logic_adds c.args.op And _ _ c.args.r c.args.draft.now c.close.new.draft c.in-And.is
-    (rw (← c.register-d.ensures)
-    (both_adds _ _ _ _ _ c.in_ok-emit-in-And.ensures
-    (choice_adds _ _ _ _ _ _ _ _ _ _ _ _ _ c.in_ok-put-in-And.ensures (c.len-branch.ensures ∙ c.put.new.draft.code.ok.0) c.in_ok-put-in-And-2.ensures (both_adds _ _ _ _ _ c.in_ok-emit-in-And-2.ensures c.in_ok-put_bit-in-And.ensures)
-    (c.len-jump.ensures ∙ c.put_bit.new.draft.code.ok.0) c.in_ok-put-in-And-3.ensures c.in_ok-put_number-in-And.ensures c.close.ensures)))
+pub emit_logic-returns-in-And : goal.emit_logic-returns-in-And
+emit_logic-returns-in-And t c =
+    on_ok c.emit_and.result _ _
+    (λ h. logic_adds c.args.op And (typed_of c.args.a.now) (typed_of c.args.b.now) c.args.r c.args.draft.now c.emit_and.new.draft c.in-And.is h)
+    c.emit_and.ensures
 
-pub emit_logic-returns-in_ok-put_bit-in-Or : goal.emit_logic-returns-in_ok-put_bit-in-Or
-emit_logic-returns-in_ok-put_bit-in-Or t c =
-    logic_adds c.args.op Or _ _ c.args.r c.args.draft.now c.close-in-Or.new.draft c.in-Or.is
-    (rw (← c.register-d.ensures)
-    (both_adds _ _ _ _ _ c.in_ok-emit-in-Or.ensures
-    (choice_adds _ _ _ _ _ _ _ _ _ _ _ _ _ c.in_ok-put-in-Or.ensures (c.len-branch-in-Or.ensures ∙ c.put-in-Or.new.draft.code.ok.0) c.in_ok-put-in-Or-2.ensures c.in_ok-put_number-in-Or.ensures
-    (c.len-jump-in-Or.ensures ∙ c.put_number-in-Or.new.draft.code.ok.0) c.in_ok-put-in-Or-3.ensures (both_adds _ _ _ _ _ c.in_ok-emit-in-Or-2.ensures c.in_ok-put_bit-in-Or.ensures) c.close-in-Or.ensures)))
+pub emit_logic-returns-in-Or : goal.emit_logic-returns-in-Or
+emit_logic-returns-in-Or t c =
+    on_ok c.emit_or.result _ _
+    (λ h. logic_adds c.args.op Or (typed_of c.args.a.now) (typed_of c.args.b.now) c.args.r c.args.draft.now c.emit_or.new.draft c.in-Or.is h)
+    c.emit_or.ensures
+
+pub emit_and-returns : goal.emit_and-returns
+emit_and-returns t c =
+    rw (← c.register-d.ensures)
+    (both_adds _ _ _ _ _ c.in_ok-emit.ensures
+    (choice_adds _ _ _ _ _ _ _ _ _ _ _ _ _ c.in_ok-put.ensures (c.len-branch.ensures ∙ c.put.new.draft.code.ok.0) c.in_ok-put-2.ensures (both_adds _ _ _ _ _ c.in_ok-emit-2.ensures c.in_ok-put_bit.ensures)
+    (c.len-jump.ensures ∙ c.put_bit.new.draft.code.ok.0) c.in_ok-put-3.ensures c.in_ok-put_number.ensures c.close.ensures))
+
+pub emit_or-returns : goal.emit_or-returns
+emit_or-returns t c =
+    rw (← c.register-d.ensures)
+    (both_adds _ _ _ _ _ c.in_ok-emit.ensures
+    (choice_adds _ _ _ _ _ _ _ _ _ _ _ _ _ c.in_ok-put.ensures (c.len-branch.ensures ∙ c.put.new.draft.code.ok.0) c.in_ok-put-2.ensures c.in_ok-put_number.ensures
+    (c.len-jump.ensures ∙ c.put_number.new.draft.code.ok.0) c.in_ok-put-3.ensures (both_adds _ _ _ _ _ c.in_ok-emit-2.ensures c.in_ok-put_bit.ensures) c.close.ensures))
 
 pub emit_logic-returns-in_ok-emit_operands-in-Xor : goal.emit_logic-returns-in_ok-emit_operands-in-Xor
 emit_logic-returns-in_ok-emit_operands-in-Xor t c =

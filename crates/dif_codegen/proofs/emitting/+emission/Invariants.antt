@@ -22,6 +22,12 @@ decreases-emit_join l = 2 + size (typed_of l.a.now) + size (typed_of l.b.now)
 abbrev pub decreases-emit_logic : goal.decreases-emit_logic
 decreases-emit_logic l = 2 + size (typed_of l.a.now) + size (typed_of l.b.now)
 
+abbrev pub decreases-emit_and : goal.decreases-emit_and
+decreases-emit_and l = 1 + size (typed_of l.a.now) + size (typed_of l.b.now)
+
+abbrev pub decreases-emit_or : goal.decreases-emit_or
+decreases-emit_or l = 1 + size (typed_of l.a.now) + size (typed_of l.b.now)
+
 abbrev pub decreases-emit_choice : goal.decreases-emit_choice
 decreases-emit_choice l = 1 + size (typed_of l.c.now) + size (typed_of l.a.now) + size (typed_of l.b.now)
 
