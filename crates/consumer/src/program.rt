@@ -4,6 +4,7 @@ ghost use Rattle.std.specs.Prelude.{◌≡◌, IfOk, IsFalse, MatchResult};
 ghost use Rattle.consumer.specs.{Plans.IsInBounds};
 ghost use Rattle.consumer.specs.Program.{AreUnfailed, Ends, EndsUnasked, IsAsked, IsRunOf};
 ghost use Rattle.consumer.specs.Program.{IsUnasked, streams_seen};
+ghost use Rattle.report.specs.Watched.{watched_has_failed};
 
 use crate::consumer::Consumer;
 use crate::consuming::ConsumeFault;
@@ -14,7 +15,7 @@ use crate::refusal::Refusal;
 use crate::words::{Asked, Help, UsageFault, program_words, read_words, texts_of};
 use keyed_hash::HashKey;
 use replay_core::Layout;
-use report::{Feed, Sink, send};
+use report::{Feed, Sink, Watched, send};
 use std::alloc::Global;
 use std::env::Args;
 use std::io;
@@ -27,6 +28,25 @@ pub struct Streams<F, S, E> {
     pub input: F,
     pub output: S,
     pub errors: E,
+}
+
+impl<F, S, E> Streams<Watched<F>, Watched<S>, Watched<E>> {
+    /// Watches a std reader and two std writers from here on.
+    ///
+    /// ```text
+    /// let mut streams = Streams::watching(bundle, Vec::new(alloc), Vec::new(alloc));
+    /// ```
+    pub fn watching(input: F, output: S, errors: E) -> Streams<Watched<F>, Watched<S>, Watched<E>>
+        ensures input { IsFalse (watched_has_failed result.input) }
+        ensures output { IsFalse (watched_has_failed result.output) }
+        ensures errors { IsFalse (watched_has_failed result.errors) }
+    {
+        Streams {
+            input: Watched::new(input),
+            output: Watched::new(output),
+            errors: Watched::new(errors),
+        }
+    }
 }
 
 impl<'a, R: Threads + Wait + Sync, L: Layout> Consumer<'a, R, L> {

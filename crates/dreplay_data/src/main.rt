@@ -8,17 +8,12 @@ use consumer::{Consumer, Streams, SystemFiles};
 use data_lines::DataLines;
 use help::HELP;
 use keyed_hash::HashKey;
-use report::Watched;
 use std::env::args;
 use std::process::ExitCode;
 
 fn main(rt: HostRuntime) -> ExitCode {
     let files = SystemFiles { rt: &rt };
-    let mut streams = Streams {
-        input: Watched::new(rt.stdin()),
-        output: Watched::new(rt.stdout()),
-        errors: Watched::new(rt.stderr()),
-    };
+    let mut streams = Streams::watching(rt.stdin(), rt.stdout(), rt.stderr());
     let consumer = Consumer {
         rt: &rt,
         alloc: rt.alloc(),
