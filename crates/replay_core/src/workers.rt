@@ -113,8 +113,7 @@ fn in_rounds<R: Threads + Wait + Sync, L: Lanes + Sync, G: Gate + Sync>(
         groups: job.groups,
         gate: job.gate,
     };
-    let round = in_needed_rounds(rt, &input, workers)?;
-    Ok(round)
+    in_needed_rounds(rt, &input, workers)
 }
 
 // One round where the script has no exit, else two.
@@ -169,6 +168,5 @@ fn until_exit<R: Threads + Wait + Sync, L: Lanes + Sync, G: Gate + Sync>(
         last: first.least,
         end,
     };
-    let second = in_round(rt, input, workers, counted)?;
-    Ok(second)
+    in_round(rt, input, workers, counted)
 }

@@ -1,3 +1,4 @@
+use Rattle.std.proofs.lemmas.Result.{IfOk-weaker}
 use Rattle.replay_core.proofs.Rounds.{one_round, two_rounds}
 use Rattle.replay_core.proofs.workers.until_exit.Goals as goal
 
@@ -9,5 +10,7 @@ returns-then-first-clause-run g c =
 pub returns-clause-run : goal.returns-clause-run
 returns-clause-run g c =
     let a = c.args in
-    two_rounds (g.L.Lanes.runs a.input.now.lanes.now) a.input.now.groups.now a.input.now.trace.now c.requires.trace c.requires.ready.placed c.in_ok-first.first c.in_ok-first.ensures.round c.if-first.false
-    _ c.requires.end c.in_ok-second.second c.in_ok-second.ensures.round
+    IfOk-weaker c.in_round-2.result _ _
+    (λ r round. two_rounds (g.L.Lanes.runs a.input.now.lanes.now) a.input.now.groups.now a.input.now.trace.now c.requires.trace c.requires.ready.placed c.in_ok-first.first c.in_ok-first.ensures.round c.if-first.false
+    _ c.requires.end r round)
+    c.in_round-2.ensures.round
