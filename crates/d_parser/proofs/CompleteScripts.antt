@@ -27,7 +27,8 @@ use Rattle.d_parser.specs.Script.{IsClause, IsType, FurtherTypes, AreKeyTypes, I
 use Rattle.d_parser.specs.Script.{IsScript}
 use Rattle.d_parser.specs.Steps.Reading.{◌>>=◌, readers, arguments, part, part_at_mark, operand}
 use Rattle.d_parser.specs.Steps.Reading.{whole}
-use Rattle.d_parser.specs.Steps.ReadingScripts.{any_word, aggregation, stmt_by, stmt, ends_stmt}
+use Rattle.d_parser.specs.Steps.ReadingScripts.{any_word, aggregating_word, aggregation, stmt_by}
+use Rattle.d_parser.specs.Steps.ReadingScripts.{stmt, ends_stmt}
 use Rattle.d_parser.specs.Steps.ReadingScripts.{slot}
 use Rattle.d_parser.specs.Steps.ReadingScripts.{further_stmts, stmts, description, descriptions_on}
 use Rattle.d_parser.specs.Steps.ReadingScripts.{further_descriptions, descriptions_reader}
@@ -78,7 +79,7 @@ unfolding any_word
 word_read word line ts rest h = rw h.is refl
 
 aggregation_read : (n line : ℕ) (name : List ℕ) (all : Trees) (function : List ℕ) (list : Trees) (ts rest : List Token) → IsAggregation line name all function list ts rest → length ts ≤ n → stmt n ts ≡ Some (Aggregation line name all function list, rest)
-unfolding stmt aggregation
+unfolding stmt aggregation aggregating_word
 aggregation_read n line name all function list ts rest h len =
     let one : length ts ≡ suc (length h.at_keys) = ap length h.begins.is in
     let two = keys_take all h.at_keys h.at_assign h.spells_keys in

@@ -21,7 +21,8 @@ use Rattle.d_parser.specs.Script.{IsDescription, FurtherDescriptions, AreDescrip
 use Rattle.d_parser.specs.Script.{IsClause, IsType, FurtherTypes, AreKeyTypes, IsDeclaration}
 use Rattle.d_parser.specs.Script.{IsItem, IsScript}
 use Rattle.d_parser.specs.Steps.Reading.{◌>>=◌, after_mark, readers, keys, arguments}
-use Rattle.d_parser.specs.Steps.ReadingScripts.{word_by, any_word, aggregation, stmt_by, stmt}
+use Rattle.d_parser.specs.Steps.ReadingScripts.{word_by, any_word, aggregating_word, aggregation}
+use Rattle.d_parser.specs.Steps.ReadingScripts.{stmt_by, stmt}
 use Rattle.d_parser.specs.Steps.ReadingScripts.{ends_stmt}
 use Rattle.d_parser.specs.Steps.ReadingScripts.{slot, further_stmts, stmts, with_rest}
 use Rattle.d_parser.specs.Steps.ReadingScripts.{description_by}
@@ -69,15 +70,30 @@ arguments_at n open_at list s =
     let e = openings open_at list s in
     subst (λ (xs : List Token). IfSome (ArgumentsOf open_at) (arguments (readers n) xs)) e (arguments_sound (readers n) (readers_sound n) open_at (subst (λ (xs : List Token). Sign m.OpenParenthesis open_at xs) (sym e) s))
 
+-- what is read between an aggregation's keys and its arguments
+record NameOf (ts : List Token) (x : List ℕ × List Token) : Type 0 where
+  at_word : List Token
+  at_open : List Token
+  word_line : ℕ
+  assigns : Sign m.Assign ts at_word
+  word : Begins (kind.Word x.0) word_line at_word at_open
+  opens : Sign m.OpenParenthesis at_open x.1
+
+name_sound : (ts : List Token) → IfSome (NameOf ts) (aggregating_word ts)
+unfolding aggregating_word
+name_sound ts =
+    then_sound (SignOf m.Assign ts) (NameOf ts) (after_mark m.Assign ts) (λ rest. any_word rest >>= λ word. after_mark m.OpenParenthesis word.1 >>= λ list. Some (word.0, list)) (after_sound m.Assign ts)
+    (λ rest a. then_sound (WordOf rest) (NameOf ts) (any_word rest) (λ word. after_mark m.OpenParenthesis word.1 >>= λ list. Some (word.0, list)) (word_sound rest)
+    (λ word f. then_sound (SignOf m.OpenParenthesis word.1) (NameOf ts) (after_mark m.OpenParenthesis word.1) (λ list. Some (word.0, list)) (after_sound m.OpenParenthesis word.1)
+    (λ list o. record { at_word = rest; at_open = word.1; word_line = f.0; assigns = a; word = f.1; opens = o })))
+
 aggregation_sound : (n line : ℕ) (name : List ℕ) (start ts : List Token) → Begins (kind.AggregationName name) line start ts → IfSome (StmtOf start) (aggregation n line name ts)
 unfolding aggregation
 aggregation_sound n line name start ts h =
-    then_sound (KeysOf ts) (StmtOf start) (keys (readers n) ts) (λ keys. after_mark m.Assign keys.1 >>= λ rest. any_word rest >>= λ word. after_mark m.OpenParenthesis word.1 >>= λ list. arguments (readers n) list >>= λ all. Some (Aggregation line name keys.0 word.0 all.0, all.1)) (keys_sound (readers n) (readers_sound n) ts)
-    (λ keys k. then_sound (SignOf m.Assign keys.1) (StmtOf start) (after_mark m.Assign keys.1) (λ rest. any_word rest >>= λ word. after_mark m.OpenParenthesis word.1 >>= λ list. arguments (readers n) list >>= λ all. Some (Aggregation line name keys.0 word.0 all.0, all.1)) (after_sound m.Assign keys.1)
-    (λ rest a. then_sound (WordOf rest) (StmtOf start) (any_word rest) (λ word. after_mark m.OpenParenthesis word.1 >>= λ list. arguments (readers n) list >>= λ all. Some (Aggregation line name keys.0 word.0 all.0, all.1)) (word_sound rest)
-    (λ word f. then_sound (SignOf m.OpenParenthesis word.1) (StmtOf start) (after_mark m.OpenParenthesis word.1) (λ list. arguments (readers n) list >>= λ all. Some (Aggregation line name keys.0 word.0 all.0, all.1)) (after_sound m.OpenParenthesis word.1)
-    (λ list o. then_sound (ArgumentsOf word.1) (StmtOf start) (arguments (readers n) list) (λ all. Some (Aggregation line name keys.0 word.0 all.0, all.1)) (arguments_at n word.1 list o)
-    (λ all g. record { at_keys = ts; at_assign = keys.1; at_word = rest; at_open = word.1; word_line = f.0; begins = h; spells_keys = k; assigns = a; word = f.1; spells_arguments = g })))))
+    then_sound (KeysOf ts) (StmtOf start) (keys (readers n) ts) (λ keys. aggregating_word keys.1 >>= λ function. arguments (readers n) function.1 >>= λ all. Some (Aggregation line name keys.0 function.0 all.0, all.1)) (keys_sound (readers n) (readers_sound n) ts)
+    (λ keys k. then_sound (NameOf keys.1) (StmtOf start) (aggregating_word keys.1) (λ function. arguments (readers n) function.1 >>= λ all. Some (Aggregation line name keys.0 function.0 all.0, all.1)) (name_sound keys.1)
+    (λ function f. then_sound (ArgumentsOf f.at_open) (StmtOf start) (arguments (readers n) function.1) (λ all. Some (Aggregation line name keys.0 function.0 all.0, all.1)) (arguments_at n f.at_open function.1 f.opens)
+    (λ all g. record { at_keys = ts; at_assign = keys.1; at_word = f.at_word; at_open = f.at_open; word_line = f.word_line; begins = h; spells_keys = k; assigns = f.assigns; word = f.word; spells_arguments = g })))
 
 expression_sound : (n : ℕ) (ts : List Token) → IfSome (StmtOf ts) ((readers n).phrase 1 ts >>= λ x. Some (Expression x.0, x.1))
 expression_sound n ts = then_sound (Whole 1 ts) (StmtOf ts) ((readers n).phrase 1 ts) (λ x. Some (Expression x.0, x.1)) ((readers_sound n).phrase 1 ts (lit≤ tt) (lit≤ tt)) (λ x h. h.phrase)

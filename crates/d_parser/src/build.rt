@@ -39,7 +39,8 @@ fn boxed(alloc: Global, e: Expr) -> Result<Box<Expr>, ParseFault>
     ensures ok { IfOk result (λ b. b.value ≡ e) }
     ensures err { OnlyMemory result }
 {
-    Ok(Box::new(alloc, e)?)
+    let boxed = Box::new(alloc, e)?;
+    Ok(boxed)
 }
 
 fn boxed_two(alloc: Global, a: Expr, b: Expr) -> Result<(Box<Expr>, Box<Expr>), ParseFault>

@@ -69,11 +69,11 @@ fn key_types(
 ) -> Result<(Vec<DeclaredType>, &[Token]), ParseFault>
     ensures { Gives (λ x. (x.0.items, x.1.now)) result (spec.key_types fuel tokens.now) }
 {
-    let mut all = Vec::new(alloc);
     if !is_at(Mark::OpenBracket, tokens) {
-        return Ok((all, tokens));
+        return Ok((Vec::new(alloc), tokens));
     }
     let (first, rest) = whole_type(tail(tokens))?;
+    let mut all = Vec::new(alloc);
     all.push(first)?;
     further_types(fuel, all, rest)
 }
@@ -85,7 +85,8 @@ fn word_of(alloc: Global, token: &Token) -> Result<ByteString, ParseFault>
         TokenKind::Word(word) => word.as_slice(),
         _ => b"",
     };
-    Ok(ByteString::from_slice(alloc, bytes)?)
+    let word = ByteString::from_slice(alloc, bytes)?;
+    Ok(word)
 }
 
 /// The tokens from the first that can't follow, if these words aren't a type and a name.

@@ -28,6 +28,17 @@ fn any_word(alloc: Global, tokens: &[Token]) -> Result<(ByteString, &[Token]), P
     }
 }
 
+/// The word between `=` and an opening parenthesis.
+#[tactic(auto, unfolding(crate::specs::Steps::ReadingScripts::aggregating_word))]
+fn aggregating_word(alloc: Global, tokens: &[Token]) -> Result<(ByteString, &[Token]), ParseFault>
+    ensures { Gives (λ x. (x.0, x.1.now)) result (spec.aggregating_word tokens.now) }
+{
+    let rest = after_mark(Mark::Assign, tokens)?;
+    let (function, rest) = any_word(alloc, rest)?;
+    let rest = after_mark(Mark::OpenParenthesis, rest)?;
+    Ok((function, rest))
+}
+
 /// An aggregation statement, after its name.
 #[tactic(auto, unfolding(crate::specs::Steps::ReadingScripts::aggregation))]
 fn aggregation<'a>(
@@ -41,9 +52,7 @@ fn aggregation<'a>(
         (spec.aggregation fuel line name.now tokens.now) }
 {
     let (keys, rest) = keys(alloc, fuel, tokens)?;
-    let rest = after_mark(Mark::Assign, rest)?;
-    let (function, rest) = any_word(alloc, rest)?;
-    let rest = after_mark(Mark::OpenParenthesis, rest)?;
+    let (function, rest) = aggregating_word(alloc, rest)?;
     let (arguments, rest) = arguments(alloc, fuel, rest)?;
     let name = ByteString::from_slice(alloc, name.as_slice())?;
     let statement = Stmt::Aggregation {

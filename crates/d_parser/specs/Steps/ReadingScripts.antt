@@ -22,12 +22,18 @@ unfoldable pub any_word : Reader (List ℕ)
 any_word [] = None
 any_word (t ∷ ts) = word_by t.kind ts
 
+-- the word between `=` and an opening parenthesis
+unfoldable pub aggregating_word : Reader (List ℕ)
+aggregating_word ts =
+    after_mark Mark.Assign ts >>= λ rest. any_word rest >>= λ word.
+    after_mark Mark.OpenParenthesis word.1 >>= λ list. Some (word.0, list)
+
 -- after the name of an aggregation
 unfoldable pub aggregation : ℕ → ℕ → List ℕ → Reader StmtTree
 aggregation n line name ts =
-    keys (readers n) ts >>= λ keys. after_mark Mark.Assign keys.1 >>= λ rest.
-    any_word rest >>= λ word. after_mark Mark.OpenParenthesis word.1 >>= λ list.
-    arguments (readers n) list >>= λ all. Some (Aggregation line name keys.0 word.0 all.0, all.1)
+    keys (readers n) ts >>= λ keys. aggregating_word keys.1 >>= λ function.
+    arguments (readers n) function.1 >>= λ all.
+    Some (Aggregation line name keys.0 function.0 all.0, all.1)
 
 abbrev pub expression : ℕ → Reader StmtTree
 expression n ts = (readers n).phrase ASSIGNMENT ts >>= λ x. Some (Expression x.0, x.1)
