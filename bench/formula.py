@@ -40,7 +40,7 @@ EACH = {
     "kept text": 16,
     "byte of a kept text": 1.1,
 }
-# The terms of what groups make, which count twice where a script exits.
+# What groups make. These terms count twice where a script exits.
 MADE_BY_PIECES = [
     "text",
     "byte of a text",
@@ -52,18 +52,18 @@ MADE_BY_PIECES = [
     "entry of a histogram",
     "bucket",
 ]
-# So many bytes of a trace several workers read at a time, unless a row is longer.
+# The bytes of a trace that several workers read at a time, unless a row is longer.
 READ_TOGETHER = 1 << 22
-# An aggregation with as many entries is written by threads, so many entries at a time.
+# The fewest entries of an aggregation that threads write, and the most that they write at a time.
 LEAST_BY_THREADS, MOST_BY_THREADS = 2_048, 32_768
 
 
 def bound(counts):
-    """The most bytes of a run with so many of each term."""
+    """Returns the most bytes of a run with these counts of the terms."""
     return sum(EACH[term] * count for term, count in counts.items())
 
 
 def dearest(counts, most=4):
-    """The terms that come to most bytes."""
+    """Returns the terms that come to most bytes, each with its megabytes."""
     terms = sorted(counts, key=lambda term: -EACH[term] * counts[term])
     return ", ".join(f"{term} {EACH[term] * counts[term] / 2**20:.0f}" for term in terms[:most])
