@@ -98,12 +98,12 @@ def split(text, path):
     return found, FUNCTION.sub(r"\g<name>", text)
 
 
-def with_stubs(text, path, stub, is_stub):
-    """Returns a file's text with this stub for the body of each function of which that is said,
-    which is then in no cycle of calls."""
+def with_stubs(text, path, stub, functions):
+    """Returns a file's text with this stub as the body of each of these functions, which is then in
+    no cycle of calls."""
     made, end = [], 0
     for function, it in functions_in(text, path):
-        if is_stub(function):
+        if function in functions:
             before = text[end : it.start()]
             cycle = CYCLE.search(before) if function.cycle else None
             if cycle:
