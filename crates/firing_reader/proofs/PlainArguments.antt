@@ -3,6 +3,7 @@ use Rattle.std.proofs.Common.{◌≡◌, ◌<◌, ◌≤◌, ◌+◌, ◌-◌, �
 use Rattle.std.proofs.Common.{◌++◌, length, get_or, take, drop, map, All, Some, refl, sym, ap, ◌∙◌}
 use Rattle.std.proofs.Common.{arith, length-append, append_assoc, replicate}
 use Rattle.std.proofs.Math.Seq.{take-append_seam}
+use Rattle.std.proofs.lemmas.List.Elements.{All-nil}
 use Rattle.std.proofs.lemmas.List.{append_cancel_left, length-replicate, map-append}
 use Rattle.std.proofs.lemmas.List.{take-append-drop, append-nil}
 use Rattle.firing_reader.specs.declared.stored_row.Given.{Given}
@@ -15,35 +16,36 @@ use Rattle.firing_reader.proofs.PlainFields.{one_joins, one_signed}
 use Rattle.firing_reader.proofs.PlainRows.{closes_more, closes_one, passes_more, passes_one}
 use Rattle.firing_reader.proofs.Stored.{part_kept, ten_same}
 
--- ---- arguments that are all 0
+-- ---- arguments that are all the same
 
--- zeros that commas end, and a last one
-abbrev pub zeros : ℕ → List ℕ
-zeros zero = 48 ∷ []
-zeros (suc n) = 48 ∷ 44 ∷ zeros n
+-- fields that commas end, and a last one
+abbrev pub alike : List ℕ → ℕ → List ℕ
+alike field zero = field
+alike field (suc n) = field ++ 44 ∷ alike field n
 
-zero_joins : All JoinsField (48 ∷ [])
-zero_joins = one_joins 0 (omega arith)
+alike_close : (field : List ℕ) → All JoinsField field → (n : ℕ) (bytes rest after : List ℕ) → bytes ≡ alike field n ++ rest → rest ≡ 10 ∷ after → Closes bytes (replicate (suc n) field) rest
+alike_close field joins zero bytes rest after is feed = closes_one bytes field rest after feed (record { split = is; plain = joins })
+alike_close field joins (suc n) bytes rest after is feed =
+    closes_more bytes (alike field n ++ rest) rest (field ∷ []) (replicate (suc n) field)
+    (passes_one bytes field (alike field n ++ rest) (record { split = is ∙ append_assoc field (44 ∷ alike field n) rest; plain = joins }))
+    (alike_close field joins n (alike field n ++ rest) rest after refl feed)
 
-zeros_close : (n : ℕ) (bytes rest after : List ℕ) → bytes ≡ zeros n ++ rest → rest ≡ 10 ∷ after → Closes bytes (replicate (suc n) (48 ∷ [])) rest
-zeros_close zero bytes rest after is feed = closes_one bytes (48 ∷ []) rest after feed (record { split = is; plain = zero_joins })
-zeros_close (suc n) bytes rest after is feed =
-    closes_more bytes (zeros n ++ rest) rest ((48 ∷ []) ∷ []) (replicate (suc n) (48 ∷ []))
-    (passes_one bytes (48 ∷ []) (zeros n ++ rest) (record { split = is; plain = zero_joins }))
-    (zeros_close n (zeros n ++ rest) rest after refl feed)
-
-zeros_found : (n : ℕ) (found bytes rest : List ℕ) → found ≡ zeros n ++ 10 ∷ [] → take (length found) bytes ≡ found → bytes ≡ take (length found - 1) bytes ++ rest
-    → Closes bytes (replicate (suc n) (48 ∷ [])) rest
-zeros_found n found bytes rest is front split =
+alike_found : (field : List ℕ) → All JoinsField field → (n : ℕ) (found bytes rest : List ℕ) → found ≡ alike field n ++ 10 ∷ [] → take (length found) bytes ≡ found → bytes ≡ take (length found - 1) bytes ++ rest
+    → Closes bytes (replicate (suc n) field) rest
+alike_found field joins n found bytes rest is front split =
     let d = drop (length found) bytes in
-    let whole : bytes ≡ zeros n ++ (10 ∷ d) = sym (take-append-drop (length found) bytes) ∙ ap (λ (l : List ℕ). l ++ d) (front ∙ is) ∙ append_assoc (zeros n) (10 ∷ []) d in
-    let size : length found - 1 ≡ length (zeros n) = omega (arith, ap length is, length-append (zeros n) (10 ∷ [])) in
-    let begin : take (length found - 1) bytes ≡ zeros n = rw size (ap (take (length (zeros n))) whole ∙ take-append_seam (zeros n) (10 ∷ d)) in
-    let rest_is : rest ≡ 10 ∷ d = append_cancel_left (zeros n) rest (10 ∷ d) (ap (λ (l : List ℕ). l ++ rest) (sym begin) ∙ sym split ∙ whole) in
-    zeros_close n bytes rest d (split ∙ ap (λ (l : List ℕ). l ++ rest) begin) rest_is
+    let whole : bytes ≡ alike field n ++ (10 ∷ d) = sym (take-append-drop (length found) bytes) ∙ ap (λ (l : List ℕ). l ++ d) (front ∙ is) ∙ append_assoc (alike field n) (10 ∷ []) d in
+    let size : length found - 1 ≡ length (alike field n) = omega (arith, ap length is, length-append (alike field n) (10 ∷ [])) in
+    let begin : take (length found - 1) bytes ≡ alike field n = rw size (ap (take (length (alike field n))) whole ∙ take-append_seam (alike field n) (10 ∷ d)) in
+    let rest_is : rest ≡ 10 ∷ d = append_cancel_left (alike field n) rest (10 ∷ d) (ap (λ (l : List ℕ). l ++ rest) (sym begin) ∙ sym split ∙ whole) in
+    alike_close field joins n bytes rest d (split ∙ ap (λ (l : List ℕ). l ++ rest) begin) rest_is
+
+-- one that is 0
+abbrev pub nought : List ℕ
+nought = 48 ∷ []
 
 -- the last zeros of the line of ten, with the line feed
-zeros_at : (n : ℕ) → n < 10 → take (20 - (20 - 2 * suc n)) (drop (20 - 2 * suc n) (zeros 9 ++ 10 ∷ [])) ≡ zeros n ++ 10 ∷ []
+zeros_at : (n : ℕ) → n < 10 → take (20 - (20 - 2 * suc n)) (drop (20 - 2 * suc n) (alike nought 9 ++ 10 ∷ [])) ≡ alike nought n ++ 10 ∷ []
 zeros_at zero lt = refl
 zeros_at (suc zero) lt = refl
 zeros_at (suc (suc zero)) lt = refl
@@ -56,10 +58,30 @@ zeros_at (suc (suc (suc (suc (suc (suc (suc (suc zero)))))))) lt = refl
 zeros_at (suc (suc (suc (suc (suc (suc (suc (suc (suc zero))))))))) lt = refl
 zeros_at (suc (suc (suc (suc (suc (suc (suc (suc (suc (suc n)))))))))) lt = absurd (omega arith)
 
-pub zeros_end : (count : ℕ) (found bytes rest : List ℕ) → 1 ≤ count → count ≤ 10 → found ≡ take (20 - (20 - 2 * count)) (drop (20 - 2 * count) (zeros 9 ++ 10 ∷ []))
+pub zeros_end : (count : ℕ) (found bytes rest : List ℕ) → 1 ≤ count → count ≤ 10 → found ≡ take (20 - (20 - 2 * count)) (drop (20 - 2 * count) (alike nought 9 ++ 10 ∷ []))
     → take (length found) bytes ≡ found → bytes ≡ take (length found - 1) bytes ++ rest → Closes bytes (replicate count (48 ∷ [])) rest
 zeros_end zero found bytes rest least most is front split = absurd (omega arith)
-zeros_end (suc n) found bytes rest least most is front split = zeros_found n found bytes rest (is ∙ zeros_at n (omega arith)) front split
+zeros_end (suc n) found bytes rest least most is front split =
+    alike_found nought (one_joins 0 (omega arith)) n found bytes rest (is ∙ zeros_at n (omega arith)) front split
+
+-- the last empty ones of a line of ten, with the line feed
+empty_at : (n : ℕ) → n < 10 → take (10 - (10 - suc n)) (drop (10 - suc n) (alike [] 9 ++ 10 ∷ [])) ≡ alike [] n ++ 10 ∷ []
+empty_at zero lt = refl
+empty_at (suc zero) lt = refl
+empty_at (suc (suc zero)) lt = refl
+empty_at (suc (suc (suc zero))) lt = refl
+empty_at (suc (suc (suc (suc zero)))) lt = refl
+empty_at (suc (suc (suc (suc (suc zero))))) lt = refl
+empty_at (suc (suc (suc (suc (suc (suc zero)))))) lt = refl
+empty_at (suc (suc (suc (suc (suc (suc (suc zero))))))) lt = refl
+empty_at (suc (suc (suc (suc (suc (suc (suc (suc zero)))))))) lt = refl
+empty_at (suc (suc (suc (suc (suc (suc (suc (suc (suc zero))))))))) lt = refl
+empty_at (suc (suc (suc (suc (suc (suc (suc (suc (suc (suc n)))))))))) lt = absurd (omega arith)
+
+pub empty_end : (count : ℕ) (found bytes rest : List ℕ) → 1 ≤ count → count ≤ 10 → found ≡ take (10 - (10 - count)) (drop (10 - count) (alike [] 9 ++ 10 ∷ []))
+    → take (length found) bytes ≡ found → bytes ≡ take (length found - 1) bytes ++ rest → Closes bytes (replicate count []) rest
+empty_end zero found bytes rest least most is front split = absurd (omega arith)
+empty_end (suc n) found bytes rest least most is front split = alike_found [] (All-nil JoinsField) n found bytes rest (is ∙ empty_at n (omega arith)) front split
 
 -- ---- arguments, one after the other
 
@@ -124,21 +146,23 @@ given_read old values all k g is first count some =
     same (v ∷ values) zero = refl
     same (v ∷ values) (suc i) = same values i
 
-zeros_read : (k : ℕ) → map signed_of (replicate k (48 ∷ [])) ≡ map (λ a. Some a) (replicate k (pos 0))
-zeros_read zero = refl
-zeros_read (suc k) = rw (one_signed 0 (omega arith), zeros_read k) refl
+pub nought_read : signed_of nought ≡ Some (pos 0)
+nought_read = one_signed 0 (omega arith)
 
--- zeros after them that are not kept
-pub zeros_last : (n k : ℕ) (bytes rest end : List ℕ) (old all : List ℤ) (g : Given) → ReadSoFar n bytes rest old all → Closes rest (replicate k (48 ∷ [])) end
+alike_read : (field : List ℕ) → signed_of field ≡ Some (pos 0) → (k : ℕ) → map signed_of (replicate k field) ≡ map (λ a. Some a) (replicate k (pos 0))
+alike_read field is zero = refl
+alike_read field is (suc k) = rw (is, alike_read field is k) refl
+
+-- fields after them that are written alike and are not kept
+pub alike_last : (n k : ℕ) (field bytes rest end : List ℕ) (old all : List ℤ) (g : Given) → signed_of field ≡ Some (pos 0) → ReadSoFar n bytes rest old all → Closes rest (replicate k field) end
     → n + k ≡ 10 → first_of g ≡ length old → count_of g ≡ n → ReadsArguments bytes end (ten (given_in all g))
-zeros_last n k bytes rest end old all g h closes some first count =
-    let zero_field : List ℕ = 48 ∷ [] in
-    let size = length-append h.fields (replicate k zero_field) in
-    let zeros = length-replicate k zero_field in
+alike_last n k field bytes rest end old all g is h closes some first count =
+    let size = length-append h.fields (replicate k field) in
+    let zeros = length-replicate k field in
     let args = given_read old h.values all k g h.kept first (omega (arith, h.count, count)) (omega (arith, h.count, some)) in
-    rw args (ten_read (h.fields ++ replicate k (48 ∷ [])) bytes end (h.values ++ replicate k (pos 0)) (omega (arith, size, zeros, h.many, some))
-    (closes_more bytes rest end h.fields (replicate k (48 ∷ [])) h.passes closes)
-    (map-append signed_of h.fields (replicate k (48 ∷ [])) ∙ rw (h.read, zeros_read k) (sym (map-append (λ (a : ℤ). Some a) h.values (replicate k (pos 0))))))
+    rw args (ten_read (h.fields ++ replicate k field) bytes end (h.values ++ replicate k (pos 0)) (omega (arith, size, zeros, h.many, some))
+    (closes_more bytes rest end h.fields (replicate k field) h.passes closes)
+    (map-append signed_of h.fields (replicate k field) ∙ rw (h.read, alike_read field is k) (sym (map-append (λ (a : ℤ). Some a) h.values (replicate k (pos 0))))))
 
 -- the last one
 pub value_last : (n : ℕ) (bytes rest end : List ℕ) (old all new : List ℤ) (g : Given) (field : List ℕ) (value : ℤ) → n ≡ 9 → ReadSoFar n bytes rest old all → Closes rest (field ∷ []) end

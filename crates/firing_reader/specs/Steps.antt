@@ -5,3 +5,4 @@ pub mod Plain
 pub mod Stored
 pub mod Units
 pub mod RowEnds
+pub mod Arguments

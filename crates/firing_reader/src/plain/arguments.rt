@@ -1,7 +1,7 @@
 //! The arguments of a plain row.
 
-ghost use Rattle.std.specs.Prelude.{◌≤◌, ◌∷◌, [], IfSome, replicate};
-ghost use Rattle.firing_reader.specs.Steps.Plain.{Closes, ReadsArguments};
+ghost use Rattle.std.specs.Prelude.{◌≡◌, ◌≤◌, true, IfSome, length, take};
+ghost use Rattle.firing_reader.specs.Steps.{Arguments.EndsAlike, Plain.ReadsArguments};
 ghost use Rattle.firing_reader.specs.{Arguments.ten};
 ghost use Rattle.firing_reader.specs.Stored.{Extends, IsGivenIn, given_in};
 
@@ -13,25 +13,61 @@ use crate::stored_row::Given;
 // Ten arguments that are 0, and the line feed after them.
 const ZEROS: &[u8] = b"0,0,0,0,0,0,0,0,0,0\n";
 
-// What follows `count` arguments that are all 0 and a line feed.
+// Ten that are empty, likewise.
+const EMPTY: &[u8] = b",,,,,,,,,\n";
+
+// Whether bytes begin with these.
+#[inline(always)]
+fn begins_with(bytes: &[u8], front: &[u8]) -> bool
+    ensures long { result ≡ true → length front.now ≤ length bytes.now }
+    ensures same { result ≡ true → take (length front.now) bytes.now ≡ front.now }
+{
+    bytes.len() >= front.len() && is_same(&bytes[..front.len()], front)
+}
+
+// What follows `count` arguments that are all 0, from the line feed after them on.
 #[inline(always)]
 fn after_zeros(bytes: &[u8], count: usize) -> Option<&[u8]>
     requires most { count ≤ 10 }
     requires least { 1 ≤ count }
-    ensures { IfSome result (λ rest. Closes bytes.now (replicate count (48 ∷ [])) rest.now) }
+    ensures { IfSome result (λ rest. EndsAlike bytes.now count rest.now) }
 {
-    if !bytes.starts_with(b"0") {
-        return None;
-    }
     let zeros = &ZEROS[20 - 2 * count..];
-    if bytes.len() < zeros.len() || !is_same(&bytes[..zeros.len()], zeros) {
+    if !bytes.starts_with(b"0") || !begins_with(bytes, zeros) {
         return None;
     }
     Some(rest_after(bytes, zeros.len() - 1))
 }
 
-/// Keeps the arguments that come first, but for zeros that end them. It returns where they are,
-/// and what comes from the line feed on.
+// The same for arguments that are all empty.
+#[inline(always)]
+fn after_empty(bytes: &[u8], count: usize) -> Option<&[u8]>
+    requires most { count ≤ 10 }
+    requires least { 1 ≤ count }
+    ensures { IfSome result (λ rest. EndsAlike bytes.now count rest.now) }
+{
+    let empty = &EMPTY[10 - count..];
+    if !bytes.starts_with(b",") || !begins_with(bytes, empty) {
+        return None;
+    }
+    Some(rest_after(bytes, empty.len() - 1))
+}
+
+// What follows `count` arguments that are written alike, as `0` or not at all.
+#[inline(always)]
+fn after_alike(bytes: &[u8], count: usize) -> Option<&[u8]>
+    requires most { count ≤ 10 }
+    requires least { 1 ≤ count }
+    ensures { IfSome result (λ rest. EndsAlike bytes.now count rest.now) }
+{
+    match after_zeros(bytes, count) {
+        Some(rest) => Some(rest),
+        None => after_empty(bytes, count),
+    }
+}
+
+/// Keeps the arguments that come first, but for those that end them and are all written as `0`, or
+/// all empty. It returns where they are, and what comes from the line feed on.
 #[inline(always)]
 pub(crate) fn read_arguments<'a>(all: &mut Vec<i64>, bytes: &'a [u8]) -> Option<(Given, &'a [u8])>
     ensures grows { Extends all.old.items all.new.items }
@@ -42,7 +78,7 @@ pub(crate) fn read_arguments<'a>(all: &mut Vec<i64>, bytes: &'a [u8]) -> Option<
     let first = all.len();
     let mut rest = bytes;
     for n in 0..9u32 {
-        if let Some(end) = after_zeros(rest, 10 - n as usize) {
+        if let Some(end) = after_alike(rest, 10 - n as usize) {
             let given = Given::new(first, n)?;
             return Some((given, end));
         }

@@ -1,7 +1,7 @@
 use Rattle.std.proofs.Common.{◌≡◌, ◌++◌, ◌∷◌, [], ◌-◌, rules, arith, w64}
 use Rattle.std.proofs.lemmas.Grind.{common_steps}
 use Rattle.std.proofs.lemmas.Int.{to_z-of_z}
-use Rattle.firing_reader.proofs.PlainArguments.{none_so_far, one_so_far, value_last, zeros_last}
+use Rattle.firing_reader.proofs.PlainArguments.{none_so_far, one_so_far, value_last, alike_last}
 use Rattle.firing_reader.proofs.plain.arguments.read_arguments.Goals as goal
 
 pub loop-n-init : goal.loop-n-init
@@ -11,7 +11,8 @@ pub returns-in-Some-clause-args : goal.returns-in-Some-clause-args
 returns-in-Some-clause-args c =
     let g = c.in_ok-given.given in
     let e = c.in_ok-given.ensures in
-    zeros_last c.loop-n.n (10 - c.loop-n.n) c.args.bytes.now c.loop-n.rest.now c.in-Some.end.now c.args.all.now.items c.loop-n.all.items g c.loop-n.invariant.read c.in-Some.ensures
+    let (field, is, closes) = c.in-Some.ensures in
+    alike_last c.loop-n.n (10 - c.loop-n.n) field c.args.bytes.now c.loop-n.rest.now c.in-Some.end.now c.args.all.now.items c.loop-n.all.items g is c.loop-n.invariant.read closes
     (omega arith) (omega (arith, e.first, c.loop-n.invariant.first)) (omega (arith, e.count))
 
 pub loop-n-preserved : goal.loop-n-preserved
