@@ -4,7 +4,7 @@ ghost use Rattle.std.specs.Prelude.{◌≡◌, IfOk, IsFalse, MatchResult};
 ghost use Rattle.consumer.specs.{Plans.IsInBounds};
 ghost use Rattle.consumer.specs.Program.{AreUnfailed, Ends, EndsUnasked, IsAsked, IsRunOf};
 ghost use Rattle.consumer.specs.Program.{IsUnasked, streams_seen};
-ghost use Rattle.report.specs.Watched.{watched_has_failed};
+ghost use Rattle.report.specs.Watched.{watched_calls, watched_has_failed, watched_inner};
 
 use crate::consumer::Consumer;
 use crate::consuming::ConsumeFault;
@@ -40,6 +40,10 @@ impl<F, S, E> Streams<Watched<F>, Watched<S>, Watched<E>> {
         ensures input { IsFalse (watched_has_failed result.input) }
         ensures output { IsFalse (watched_has_failed result.output) }
         ensures errors { IsFalse (watched_has_failed result.errors) }
+        ensures inner { (watched_inner result.input ≡ input)
+            × (watched_inner result.output ≡ output) × (watched_inner result.errors ≡ errors) }
+        ensures calls { (watched_calls result.input ≡ 0)
+            × (watched_calls result.output ≡ 0) × (watched_calls result.errors ≡ 0) }
     {
         Streams {
             input: Watched::new(input),

@@ -20,7 +20,8 @@ pub(crate) fn boxed(alloc: Global, x: TypedExpr) -> Result<Box<TypedExpr>, TypeF
     ensures ok { IfOk result (λ y. y.value ≡ x) }
     ensures err { OnlyMemory result }
 {
-    Ok(Box::new(alloc, x)?)
+    let boxed = Box::new(alloc, x)?;
+    Ok(boxed)
 }
 
 /// Two expressions, each in a box.
