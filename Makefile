@@ -1,7 +1,10 @@
 # dreplay: what a user needs. Building and proving take the Rattle toolchain's command `rt`, which
 # has to be on PATH.
 #
-#   make            builds dreplay, runs the example of examples/counts, then builds dreplay-data
+#   make            builds dreplay and dreplay-data, and answers the question of examples/counts;
+#                   the first time it answers it before it builds them, too, as make try does
+#   make try        answers the question of examples/counts, or of BUNDLE=FILE, before anything is
+#                   proved, by a slow program that checks as it runs; takes a minute or two
 #   make build      builds it: crates/dreplay/out/dreplay, and dreplay-data as
 #                   crates/dreplay_data/out/dreplay_data
 #   make test       the gate: every proof from nothing, the edits that must fail, then every case
@@ -24,8 +27,9 @@ PREFIX ?= /usr/local
 PROGRAM := crates/dreplay/out/dreplay
 DATA_PROGRAM := crates/dreplay_data/out/dreplay_data
 EXAMPLE := examples/counts
+BUNDLE ?= $(EXAMPLE)/bundle
 
-.PHONY: help example build test cases examples install uninstall dist bench clean
+.PHONY: help example try build test cases examples install uninstall dist bench clean
 
 # `make` alone is `make example`.
 .DEFAULT_GOAL := example
@@ -33,7 +37,8 @@ help:
 	@sed -n '/^[^#]/q; s/^# \{0,1\}//p' Makefile
 
 example:
-	@tools/build dreplay
+	@test -e $(PROGRAM) || $(MAKE) --no-print-directory try
+	@tools/build
 	@echo
 	@echo '$$ cat $(EXAMPLE)/script.d'
 	@cat $(EXAMPLE)/script.d
@@ -41,7 +46,11 @@ example:
 	@$(PROGRAM) < $(EXAMPLE)/bundle
 	@echo
 	@echo '$(EXAMPLE)/README.md says how to read it.'
-	@tools/build
+
+# A compiler that proves nothing builds a slow program, which checks each access as it runs.
+try:
+	@echo 'The answer to $(BUNDLE), before any proof, in about two minutes:'
+	@cd crates/dreplay && rt try < '$(abspath $(BUNDLE))'
 
 # The compiler builds nothing that it has not proved: the first time takes minutes, after that only
 # what changed.

@@ -1,6 +1,6 @@
 //! Clauses and their statements.
 
-ghost use Rattle.std.specs.Prelude.{[], Some};
+ghost use Rattle.std.specs.Prelude.{[], Some, Ok};
 ghost use Rattle.d_types.specs.{Faults.Gives};
 ghost use Rattle.d_types.specs.Steps.Variables.{rows_of_entries};
 ghost use Rattle.d_types.specs.Vocabulary.{tree_of, stmt_of, stmts_of, predicate_of, clause_of};
@@ -14,7 +14,7 @@ use crate::fault::TypeFault;
 use crate::needs::{REGISTERS, fits};
 use crate::typed::{TypedAggregation, TypedClause, TypedExpr, TypedStmt};
 use crate::variables::Entry;
-use d_parser::{Clause, Expr, Stmt};
+use d_parser::{Clause, Description, Expr, Stmt};
 use d_values::DType;
 use std::alloc::Global;
 
@@ -118,7 +118,23 @@ pub(crate) fn clause(
 {
     let predicate = predicate(alloc, table, &clause.predicate)?;
     let statements = statements(alloc, table, aggs, &clause.statements)?;
-    let descriptions = Vec::from_clones(alloc, &clause.descriptions)?;
+    with_descriptions(alloc, &clause.descriptions, predicate, statements)
+}
+
+// A clause with copies of these descriptions.
+fn with_descriptions(
+    alloc: Global,
+    descriptions: &[Description],
+    predicate: Option<TypedExpr>,
+    statements: Vec<TypedStmt>,
+) -> Result<TypedClause, TypeFault>
+    ensures { Gives meant_of result (Ok (record {
+      descriptions = descriptions.now;
+      predicate = typed_argument predicate;
+      statements = actions_of statements.items;
+    })) }
+{
+    let descriptions = Vec::from_clones(alloc, descriptions)?;
     Ok(TypedClause {
         descriptions,
         predicate,

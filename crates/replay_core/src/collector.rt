@@ -2,7 +2,8 @@
 
 ghost use Rattle.std.specs.Prelude.{◌≡◌, ◌<◌, map, length, IfOk, IfErr};
 ghost use Rattle.replay_core.specs.Collecting.{IsCollected, IsCollectFault, IsMadeOf};
-ghost use Rattle.replay_core.specs.{Collecting.tables_of, Tables.CanMerge, Uniting.sooner};
+ghost use Rattle.replay_core.specs.{Collecting.tables_of, Tables.CanMerge, Vocabulary.flat_map};
+ghost use Rattle.replay_core.specs.Uniting.{sooner, first_exit};
 
 use crate::collect_fault::CollectFault;
 use crate::merge::merge_all;
@@ -10,6 +11,8 @@ use crate::piece::Piece;
 use crate::placing::{pieces_by_group, pieces_in_order};
 use crate::sorting::by_number;
 use crate::whole::Whole;
+use aggregations::AggTable;
+use d_values::Text;
 use std::alloc::{AllocError, Global};
 
 /// Makes one whole of the pieces of this many groups, each with its group's number. They come in
@@ -32,28 +35,27 @@ pub fn collect(alloc: Global, pieces: Vec<(u32, Piece)>, n: u32) -> Result<Whole
     Ok(whole)
 }
 
+// What the pieces hold, one after the other.
+#[derive(Drop)]
+struct Contents {
+    texts: Vec<(u64, Text)>,
+    tables: Vec<AggTable>,
+    ran: Vec<Vec<u64>>,
+    exit: Option<(u64, u8)>,
+}
+
 // What the pieces have.
 fn whole_of_pieces(alloc: Global, pieces: Vec<Piece>) -> Result<Whole, AllocError>
     requires some { 0 < length pieces.items }
     requires tables { CanMerge (map (λ p. p.table) pieces.items) }
     ensures { IfOk result (IsMadeOf pieces.items) }
 {
-    let mut texts = Vec::new(alloc);
-    let mut tables = Vec::new(alloc);
-    let mut ran = Vec::new(alloc);
-    let mut exit = None;
-    for piece in pieces {
-        let Piece {
-            texts: mut more,
-            table,
-            taken,
-            exit: other,
-        } = piece;
-        texts.append(&mut more)?;
-        tables.push(table)?;
-        ran.push(taken)?;
-        exit = sooner(exit, other);
-    }
+    let Contents {
+        texts,
+        tables,
+        ran,
+        exit,
+    } = contents_of(alloc, pieces)?;
     let texts = by_number(texts)?;
     let table = merge_all(alloc, tables)?;
     Ok(Whole {
@@ -62,6 +64,37 @@ fn whole_of_pieces(alloc: Global, pieces: Vec<Piece>) -> Result<Whole, AllocErro
         ran,
         exit,
     })
+}
+
+// The contents of the pieces, and the first of their exits.
+fn contents_of(alloc: Global, pieces: Vec<Piece>) -> Result<Contents, AllocError>
+    ensures texts { IfOk result
+        (λ c. c.texts.items ≡ flat_map (λ p. p.texts.items) pieces.items) }
+    ensures tables { IfOk result (λ c. c.tables.items ≡ map (λ p. p.table) pieces.items) }
+    ensures ran { IfOk result
+        (λ c. map (λ v. v.items) c.ran.items ≡ map (λ p. p.taken.items) pieces.items) }
+    ensures exit { IfOk result
+        (λ c. c.exit ≡ first_exit (map (λ p. p.exit) pieces.items)) }
+{
+    let mut contents = Contents {
+        texts: Vec::new(alloc),
+        tables: Vec::new(alloc),
+        ran: Vec::new(alloc),
+        exit: None,
+    };
+    for piece in pieces {
+        let Piece {
+            mut texts,
+            table,
+            taken,
+            exit,
+        } = piece;
+        contents.texts.append(&mut texts)?;
+        contents.tables.push(table)?;
+        contents.ran.push(taken)?;
+        contents.exit = sooner(contents.exit, exit);
+    }
+    Ok(contents)
 }
 
 // The exit with the lesser number.
