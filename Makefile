@@ -37,7 +37,8 @@ help:
 	@sed -n '/^[^#]/q; s/^# \{0,1\}//p' Makefile
 
 example:
-	@test -e $(PROGRAM) || $(MAKE) --no-print-directory try
+	@test -e $(PROGRAM) || ! command -v rt > /dev/null || $(MAKE) --no-print-directory try || \
+	    echo 'The slow program gave no answer; the build goes on.'
 	@tools/build
 	@echo
 	@echo '$$ cat $(EXAMPLE)/script.d'
@@ -49,7 +50,7 @@ example:
 
 # A compiler that proves nothing builds a slow program, which checks each access as it runs.
 try:
-	@echo 'The answer to $(BUNDLE), before any proof, in about two minutes:'
+	@echo 'The answer to $(BUNDLE), before any proof, in a minute or two:'
 	@cd crates/dreplay && rt try < '$(abspath $(BUNDLE))'
 
 # The compiler builds nothing that it has not proved: the first time takes minutes, after that only
