@@ -3,6 +3,7 @@
 By the layout of rt fmt a body is `{}`, or stands between a line that ends in '{' and a line '}',
 both as deep as the first line of the function's head.
 """
+import os
 import re
 from dataclasses import dataclass
 
@@ -57,10 +58,11 @@ class Function:
 
 @dataclass
 class Change:
-    """What an edit changes: the functions, each with its new text, and whether only their
-    bodies."""
+    """What an edit changes: the functions, each with its new text, whether nothing more than
+    functions, and whether only their bodies."""
 
     functions: dict
+    is_of_functions: bool
     is_of_bodies: bool
 
     def length(self):
@@ -115,19 +117,21 @@ def with_stubs(text, path, stub, functions):
 
 
 def changed(old, new, path):
-    """Returns what differs in two texts of a file, or None where more than functions does."""
+    """Returns what differs in two texts of a file, or None where they have other functions."""
     (functions, around), (new_functions, new_around) = split(old, path), split(new, path)
-    if around != new_around or functions.keys() != new_functions.keys():
+    if functions.keys() != new_functions.keys():
         return None
     found = [it for it in functions if functions[it] != new_functions[it]]
-    heads = [it for it in found if functions[it][0] != new_functions[it][0]]
-    return Change({it: "".join(new_functions[it]) for it in found}, not heads)
+    has_heads = any(functions[it][0] != new_functions[it][0] for it in found)
+    is_same = around == new_around
+    texts = {it: "".join(new_functions[it]) for it in found}
+    return Change(texts, is_same, is_same and not has_heads)
 
 
 def changed_in(folder, texts):
-    """Returns what these new texts of a folder's files change, or None where that is more than
-    functions."""
-    found = Change({}, True)
+    """Returns what these new texts of a folder's files change, or None where no function is
+    changed, or one is added or taken away."""
+    found = Change({}, True, True)
     for path, text in texts.items():
         if not path.startswith("src/"):
             return None
@@ -136,5 +140,19 @@ def changed_in(folder, texts):
         if not change:
             return None
         found.functions.update(change.functions)
+        found.is_of_functions &= change.is_of_functions
         found.is_of_bodies &= change.is_of_bodies
     return found if found.functions else None
+
+
+def is_named_elsewhere(folder, function):
+    """Returns whether sources in a folder name this function, apart from where it is written, or
+    proofs in it rest on its theorem."""
+    named = {"src": rf"(?<!\bfn )\b{function.name}\b", "proofs": rf"\.{function.name}\.Met\b"}
+    for part, name in named.items():
+        for at, _, files in os.walk(f"{folder}/{part}"):
+            for file in files:
+                with open(f"{at}/{file}", encoding="utf-8") as it:
+                    if re.search(name, it.read()):
+                        return True
+    return False

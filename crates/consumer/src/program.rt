@@ -1,6 +1,6 @@
 //! What the program does with its words, its files and its streams.
 
-ghost use Rattle.std.specs.Prelude.{◌≡◌, IfOk, IsFalse, MatchResult};
+ghost use Rattle.std.specs.Prelude.{◌≡◌, IfOk, IsFalse, MatchResult, Some};
 ghost use Rattle.consumer.specs.{Plans.IsInBounds};
 ghost use Rattle.consumer.specs.Program.{AreUnfailed, Ends, EndsUnasked, IsAsked, IsRunOf};
 ghost use Rattle.consumer.specs.Program.{IsUnasked, streams_seen};
@@ -96,12 +96,30 @@ impl<'a, R: Threads + Wait + Sync, L: Layout> Consumer<'a, R, L> {
             (streams_seen F.seen S.seen E.seen streams.new) result }
         ensures errors { streams.new.errors ≡ streams.old.errors }
     {
-        let (input, output) = (&mut streams.input, &mut streams.output);
-        let Some(file) = &asked.file else {
-            return self.consume(input, output, &asked.plan);
-        };
+        match &asked.file {
+            None => self.consume(&mut streams.input, &mut streams.output, &asked.plan),
+            Some(file) => self.run_file(files, file, asked, streams),
+        }
+    }
+
+    // Runs the script of the file that was asked for, over the input and into the output.
+    fn run_file<C: ScriptFiles, F: Feed, S: Sink, E: Sink>(
+        &self,
+        files: &C,
+        file: &String,
+        asked: &Asked,
+        streams: &mut Streams<F, S, E>,
+    ) -> Result<Replayed, ConsumeFault>
+        requires named { asked.now.file ≡ Some file.now }
+        requires plan { IsInBounds asked.now.plan }
+        requires unfailed { AreUnfailed (streams_seen F.seen S.seen E.seen streams.old) }
+        ensures run { IsRunOf L.shows asked.now (C.bytes files.now)
+            (streams_seen F.seen S.seen E.seen streams.old)
+            (streams_seen F.seen S.seen E.seen streams.new) result }
+        ensures errors { streams.new.errors ≡ streams.old.errors }
+    {
         let script = script_in(self.alloc, files, file.as_str())?;
-        self.consume_trace(&script, input, output, &asked.plan)
+        self.consume_trace(&script, &mut streams.input, &mut streams.output, &asked.plan)
     }
 }
 

@@ -28,7 +28,8 @@ pub fn lent_load<'a>(difo: &'a Difo, firing: &'a Firing) -> Option<ValueRef<'a>>
     if !returns_at(difo, 1) {
         return lent_argument(difo, firing);
     }
-    lent_source(instruction(difo, 0)?, difo, firing)
+    let first = instruction(difo, 0)?;
+    lent_source(first, difo, firing)
 }
 
 /// The instruction at a place, if there is one.
@@ -59,7 +60,8 @@ pub(crate) fn lent_argument(difo: &Difo, firing: &Firing) -> Option<ValueRef<'st
     if !returns_at(difo, 2) {
         return None;
     }
-    let n = constant(instruction(difo, 0)?, difo)?;
+    let first = instruction(difo, 0)?;
+    let n = constant(first, difo)?;
     Some(ValueRef::Int(argument(firing, n)))
 }
 

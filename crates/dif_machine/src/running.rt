@@ -95,7 +95,8 @@ fn single_load<'a>(
     if !returns_at(context.difo, 1) {
         return lent_argument(context.difo, context.firing);
     }
-    source(alloc, instruction(context.difo, 0)?, context, locals, own)
+    let first = instruction(context.difo, 0)?;
+    source(alloc, first, context, locals, own)
 }
 
 /// Runs an object from its first instruction to its end, in a frame that may have served other

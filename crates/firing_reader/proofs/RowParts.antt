@@ -1,5 +1,5 @@
 -- A plain row, as it is stored.
-use Rattle.std.proofs.Common.{◌≡◌, ◌^◌, ℕ, ℤ, List, [], ◌∷◌, ◌++◌, get_or, map, All, Some, refl}
+use Rattle.std.proofs.Common.{◌≡◌, ◌∙◌, ◌^◌, ap, subst, ℕ, ℤ, List, [], ◌∷◌, ◌++◌, get_or, map, All, Some, refl}
 use Rattle.std.specs.Prelude.{slice_get}
 use Rattle.std.proofs.lemmas.List.Elements.{All-append, All-cons, All-nil}
 use Rattle.firing_reader.specs.declared.firing.Firing.{Firing}
@@ -7,7 +7,7 @@ use Rattle.firing_reader.specs.declared.stored_row.Row.{Row}
 use Rattle.firing_reader.specs.declared.unit.Owner.{Owner}
 use Rattle.firing_reader.specs.declared.unit.Probe.{Probe}
 use Rattle.firing_reader.specs.Plain.{Passes, ReadsOwner, ReadsProbe}
-use Rattle.firing_reader.specs.Steps.Plain.{JoinsField, ReadsArguments}
+use Rattle.firing_reader.specs.Steps.Plain.{BeginsRow, JoinsField, ReadsArguments}
 use Rattle.firing_reader.specs.Plain.{ReadsRow, int_of, whole_of}
 use Rattle.firing_reader.specs.Stored.{Extends, IsGivenIn, IsRowIn, firing_in, given_in, no_owner}
 use Rattle.firing_reader.specs.Stored.{no_probe}
@@ -48,20 +48,32 @@ probe_there ps p q b r there h =
       unreserved = rw is h.unreserved;
     }
 
+-- a line feed, and then a number
+pub begins_row : (bytes line rest : List ℕ) (number : ℕ) → bytes ≡ 10 ∷ line → (first : ℕ) × (more : List ℕ) × (line ≡ first ∷ more) × JoinsField first
+    → (field : List ℕ) × Passes line (field ∷ []) rest × (whole_of 1 (2 ^ 62) field ≡ Some number) → BeginsRow bytes number rest
+begins_row bytes line rest number is (first, more, starts, joins) (field, passes, is_number) = record {
+    first = first;
+    more = more;
+    is_bytes = is ∙ ap (λ it. 10 ∷ it) starts;
+    joins = joins;
+    field = field;
+    passes = subst (λ it. Passes it (field ∷ []) rest) starts passes;
+    is_number = is_number;
+  }
+
 -- the parts of a row, one after the other
-pub row_parts : (bytes line b1 b2 b3 b4 b5 rest : List ℕ) (os : List Owner) (ps : List Probe) (args : List ℤ) (r : Row) (o : Owner) (p : Probe)
-    → bytes ≡ 10 ∷ line → (first : ℕ) × (more : List ℕ) × (line ≡ first ∷ more) × JoinsField first
-    → (field : List ℕ) × Passes line (field ∷ []) b1 × (whole_of 1 (2 ^ 62) field ≡ Some r.number)
+pub row_parts : (bytes b1 b2 b3 b4 b5 rest : List ℕ) (os : List Owner) (ps : List Probe) (args : List ℤ) (r : Row) (o : Owner) (p : Probe)
+    → BeginsRow bytes r.number b1
     → (field : List ℕ) × Passes b1 (field ∷ []) b2 × (int_of 0 field ≡ Some r.cpu)
     → slice_get os r.owner ≡ Some o → ReadsOwner b2 b3 o
     → (field : List ℕ) × Passes b3 (field ∷ []) b4 × (whole_of 0 0xFFFF_FFFF_FFFF_FFFF field ≡ Some r.time)
     → slice_get ps r.probe ≡ Some p → ReadsProbe b4 b5 p
     → ReadsArguments b5 rest (ten (given_in args r.given)) → ReadsRow bytes rest (firing_in os ps args r)
-row_parts bytes line b1 b2 b3 b4 b5 rest os ps args r o p is (first, more, starts, joins) (x1, p1, n1) (x2, p2, n2) at_o reads_o (x6, p6, n6) at_p reads_p a =
+row_parts bytes b1 b2 b3 b4 b5 rest os ps args r o p begins (x2, p2, n2) at_o reads_o (x6, p6, n6) at_p reads_p a =
     let f : Firing = firing_in os ps args r in
     let own = owner_there os r.owner o b2 b3 at_o reads_o in
     let fired = probe_there ps r.probe p b4 b5 at_p reads_p in
-    let numbers : ReadsNumbers f = record { x1 = x1; x2 = x2; x6 = x6; is_number = n1; is_cpu = n2; is_time = n6 } in
+    let numbers : ReadsNumbers f = record { x1 = begins.field; x2 = x2; x6 = x6; is_number = begins.is_number; is_cpu = n2; is_time = n6 } in
     let tens = a.x0 ∷ a.x1 ∷ a.x2 ∷ a.x3 ∷ a.x4 ∷ a.x5 ∷ a.x6 ∷ a.x7 ∷ a.x8 ∷ a.x9 ∷ [] in
     let names = own.x3 ∷ own.x4 ∷ own.x5 ∷ [] in
     let texts = fired.x7 ∷ fired.x8 ∷ fired.x9 ∷ fired.x10 ∷ [] in
@@ -69,8 +81,9 @@ row_parts bytes line b1 b2 b3 b4 b5 rest os ps args r o p is (first, more, start
     let q3 = closes_more b3 b4 rest (x6 ∷ []) (texts ++ tens) p6 q4 in
     let q2 = closes_more b2 b3 rest names (x6 ∷ (texts ++ tens)) own.passes q3 in
     let q1 = closes_more b1 b2 rest (x2 ∷ []) (names ++ (x6 ∷ (texts ++ tens))) p2 q2 in
-    let q0 = closes_more line b1 rest (x1 ∷ []) (x2 ∷ (names ++ (x6 ∷ (texts ++ tens)))) p1 q1 in
-    let (after, is_rest, read) = row_read bytes line rest (x1 ∷ x2 ∷ (names ++ (x6 ∷ (texts ++ tens)))) first more is starts joins q0 in
+    let line = begins.first ∷ begins.more in
+    let q0 = closes_more line b1 rest (begins.field ∷ []) (x2 ∷ (names ++ (x6 ∷ (texts ++ tens)))) begins.passes q1 in
+    let (after, is_rest, read) = row_read bytes line rest (begins.field ∷ x2 ∷ (names ++ (x6 ∷ (texts ++ tens)))) begins.first begins.more begins.is_bytes refl begins.joins q0 in
     record {
       fields = fields f numbers own fired a;
       after = after;

@@ -12,13 +12,10 @@ use crate::plain::unit::end_of_four;
 use crate::slots::{NEAR, Slots};
 use crate::text::Text;
 use crate::texts::Texts;
-use crate::unit::Probe;
+use crate::unit::{Probe, RESERVED};
 use keyed_hash::HashKey;
 use std::alloc::{AllocError, Global};
 use std::marker::Model;
-
-// The provider of no recorded firing.
-const RESERVED: &[u8] = b"dtrace";
 
 // A probe as it is stored: its texts by their places.
 #[derive(Clone, Copy, PartialEq, Eq)]

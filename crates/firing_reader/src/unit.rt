@@ -2,6 +2,9 @@
 
 use crate::text::Text;
 
+// The provider of no recorded firing.
+pub(crate) const RESERVED: &[u8] = b"dtrace";
+
 /// Who fired: a row's thread, process and program.
 #[derive(Drop)]
 pub(crate) struct Owner<'a> {

@@ -6,9 +6,8 @@ use crate::replays::reporting;
 use consumer::{ConsumeFault, EngineKind, GroupPlan, Plan, Replayed, refusal_text};
 use keyed_hash::HashKey;
 use report::Watched;
-use std::alloc::{AllocGlobal, Global};
+use std::alloc::{AllocError, AllocGlobal, Global};
 use std::io::{Chain, Read};
-use std::process::Abort;
 use std::sync::Wait;
 use std::test::Fail;
 use std::thread::Threads;
@@ -86,42 +85,81 @@ fn consume_in_two<R: AllocGlobal + Threads + Wait + Sync>(
     (answer, sink.into_inner())
 }
 
-// A bundle that comes in two blocks shows this, or this is said of it.
-fn expect_in_two<R: AllocGlobal + Threads + Wait + Sync + Abort>(
+// Whether this is what a bundle shows, or what is said of its refusal.
+fn is_answer(
+    alloc: Global,
+    answer: &Result<Replayed, ConsumeFault>,
+    out: &[u8],
+    wanted: &str,
+) -> Result<bool, AllocError> {
+    match answer {
+        Ok(_) => Ok(out == wanted.as_bytes()),
+        Err(ConsumeFault::Refused(refusal)) => {
+            let said = refusal_text(alloc, refusal)?;
+            Ok(said.as_str() == wanted && out.is_empty())
+        }
+        Err(_) => Ok(false),
+    }
+}
+
+// Whether a bundle that comes in two blocks shows this, or this is said of it.
+fn answers_in_two<R: AllocGlobal + Threads + Wait + Sync>(
     rt: &R,
     bundle: &[u8],
     at: usize,
     workers: u32,
     wanted: &str,
-) -> Result<(), Fail> {
+) -> Result<bool, AllocError> {
     let (answer, out) = consume_in_two(rt, bundle, at, workers);
-    match &answer {
-        Ok(_) => assert_eq!(rt; out.as_slice(), wanted.as_bytes(), "at {at}"),
-        Err(ConsumeFault::Refused(refusal)) => {
-            let said = refusal_text(rt.alloc(), refusal)?;
-            assert_eq!(rt; said.as_str(), wanted, "at {at}");
-            assert!(rt; out.is_empty());
+    is_answer(rt.alloc(), &answer, &out, wanted)
+}
+
+// The first of these places at which a bundle, cut there, shows something else.
+fn first_wrong_cut<R: AllocGlobal + Threads + Wait + Sync>(
+    rt: &R,
+    bundle: &[u8],
+    places: &[usize],
+    workers: u32,
+    wanted: &str,
+) -> Result<Option<usize>, AllocError> {
+    for at in places {
+        let is_wanted = answers_in_two(rt, bundle, *at, workers, wanted)?;
+        if !is_wanted {
+            return Ok(Some(*at));
         }
-        Err(_) => assert!(rt; false, "at {at}"),
     }
-    Ok(())
+    Ok(None)
+}
+
+// The first place of all at which a bundle, cut there, shows something else.
+fn first_wrong_cut_of_all<R: AllocGlobal + Threads + Wait + Sync>(
+    rt: &R,
+    bundle: &[u8],
+    wanted: &str,
+) -> Result<Option<usize>, AllocError> {
+    for at in 0..=bundle.len() {
+        let is_wanted = answers_in_two(rt, bundle, at, 1, wanted)?;
+        if !is_wanted {
+            return Ok(Some(at));
+        }
+    }
+    Ok(None)
 }
 
 #[test]
 fn a_bundle_may_be_cut_anywhere(rt: HostRuntime) -> Result<(), Fail> {
     for (bundle, wanted) in BUNDLES {
-        for at in 0..=bundle.len() {
-            expect_in_two(&rt, bundle, at, 1, wanted)?;
-        }
-        for at in [0, 20, 22, 24, bundle.len()] {
-            expect_in_two(&rt, bundle, at, 2, wanted)?;
-        }
+        let cut = first_wrong_cut_of_all(&rt, bundle, wanted)?;
+        assert_eq!(rt; cut, None, "{wanted}");
+        let places = [0, 20, 22, 24, bundle.len()];
+        let cut = first_wrong_cut(&rt, bundle, &places, 2, wanted)?;
+        assert_eq!(rt; cut, None, "{wanted}");
     }
     Ok(())
 }
 
 // A bundle whose script has this many bytes, most of which are blanks, or line feeds.
-fn long_bundle(alloc: Global, bytes: usize, filler: u8) -> Result<Vec<u8>, Fail> {
+fn long_bundle(alloc: Global, bytes: usize, filler: u8) -> Result<Vec<u8>, AllocError> {
     let mut bundle = Vec::new(alloc);
     bundle.extend_from_slice(b"BEGIN { trace(1); }")?;
     for _ in bundle.len() + 1..bytes {
@@ -131,19 +169,32 @@ fn long_bundle(alloc: Global, bytes: usize, filler: u8) -> Result<Vec<u8>, Fail>
     Ok(bundle)
 }
 
+// The first place at which such a bundle, cut there, shows something else.
+fn first_wrong_cut_of_long<R: AllocGlobal + Threads + Wait + Sync>(
+    rt: &R,
+    bytes: usize,
+    filler: u8,
+    wanted: &str,
+) -> Result<Option<usize>, AllocError> {
+    let bundle = long_bundle(rt.alloc(), bytes, filler)?;
+    first_wrong_cut(rt, &bundle, &[1, bytes, bytes.saturating_add(4)], 1, wanted)
+}
+
+// How many bytes a script has, what most of them are, and what is said of its bundle.
+const LONG: [(usize, u8, &str); 6] = [
+    (65_536, b' ', "dreplay: trace refused: Trace 1"),
+    (65_536, b'\n', "dreplay: trace refused: Trace 1"),
+    (65_537, b' ', "dreplay: script refused: Lex 1"),
+    (65_537, b'\n', "dreplay: script refused: Lex 1"),
+    (65_541, b' ', "dreplay: script refused: Lex 1"),
+    (65_541, b'\n', "dreplay: script refused: Lex 1"),
+];
+
 #[test]
 fn a_script_at_its_limit_is_told_from_one_past_it(rt: HostRuntime) -> Result<(), Fail> {
-    for (bytes, wanted) in [
-        (65_536, "dreplay: trace refused: Trace 1"),
-        (65_537, "dreplay: script refused: Lex 1"),
-        (65_541, "dreplay: script refused: Lex 1"),
-    ] {
-        for filler in *b" \n" {
-            let bundle = long_bundle(rt.alloc(), bytes, filler)?;
-            for at in [1, bytes, bytes + 4] {
-                expect_in_two(&rt, &bundle, at, 1, wanted)?;
-            }
-        }
+    for (bytes, filler, wanted) in LONG {
+        let cut = first_wrong_cut_of_long(&rt, bytes, filler, wanted)?;
+        assert_eq!(rt; cut, None, "{bytes} bytes");
     }
     Ok(())
 }

@@ -68,12 +68,19 @@ impl Ended {
     }
 }
 
+// Adds a word.
+fn add_word(alloc: Global, all: &mut Vec<String>, word: &str) -> Result<(), AllocError> {
+    let word = String::from_str(alloc, word)?;
+    all.push(word)?;
+    Ok(())
+}
+
 // The words of a process, of which the first is the program's name.
 fn given(alloc: Global, words: &[&str]) -> Result<Args, AllocError> {
     let mut all = Vec::new(alloc);
-    all.push(String::from_str(alloc, "dreplay")?)?;
+    add_word(alloc, &mut all, "dreplay")?;
     for word in words {
-        all.push(String::from_str(alloc, word)?)?;
+        add_word(alloc, &mut all, word)?;
     }
     Ok(all.into_iter())
 }
@@ -100,6 +107,19 @@ fn run_program<R: AllocGlobal + Threads + Wait + Sync>(
         output: streams.output.into_inner().into_inner(),
         errors: streams.errors.into_inner().into_inner(),
     }
+}
+
+// Whether the program, given these words, ends so over this input.
+fn ends<R: AllocGlobal + Threads + Wait + Sync>(
+    rt: &R,
+    words: &[&str],
+    input: &[u8],
+    calls: GoodCalls,
+    (status, output, errors): (u8, &[u8], &[u8]),
+) -> Result<bool, AllocError> {
+    let given = given(rt.alloc(), words)?;
+    let ended = run_program(rt, Ok(given), input, calls);
+    Ok(ended.is(status, output, errors))
 }
 
 const READ_FAILED: &[u8] = b"dreplay: read failed\n";
@@ -166,9 +186,8 @@ For more information, try '--help'.\n",
 #[test]
 fn program_ends_as_its_words_and_input_ask(rt: HostRuntime) -> Result<(), Fail> {
     for (words, input, status, output, errors) in ENDS {
-        let given = given(rt.alloc(), words)?;
-        let ended = run_program(&rt, Ok(given), input, NONE_FAILS);
-        assert!(rt; ended.is(status, output, errors), "{words:?}");
+        let is_end = ends(&rt, words, input, NONE_FAILS, (status, output, errors))?;
+        assert!(rt; is_end, "{words:?}");
     }
     Ok(())
 }
@@ -189,8 +208,8 @@ fn program_tells_that_a_read_failed(rt: HostRuntime) -> Result<(), Fail> {
             input: reads,
             ..NONE_FAILS
         };
-        let ended = run_program(&rt, Ok(given(rt.alloc(), &[])?), BUNDLE, calls);
-        assert!(rt; ended.is(1, b"", READ_FAILED), "at {reads}");
+        let is_end = ends(&rt, &[], BUNDLE, calls, (1, b"", READ_FAILED))?;
+        assert!(rt; is_end, "at {reads}");
     }
     Ok(())
 }
@@ -202,8 +221,8 @@ fn program_tells_that_a_read_of_the_file_failed(rt: HostRuntime) -> Result<(), F
             file: reads,
             ..NONE_FAILS
         };
-        let ended = run_program(&rt, Ok(given(rt.alloc(), &["-s", "s.d"])?), TRACE, calls);
-        assert!(rt; ended.is(1, b"", READ_FAILED), "at {reads}");
+        let is_end = ends(&rt, &["-s", "s.d"], TRACE, calls, (1, b"", READ_FAILED))?;
+        assert!(rt; is_end, "at {reads}");
     }
     Ok(())
 }
@@ -216,8 +235,9 @@ fn program_tells_that_a_write_or_the_flush_failed(rt: HostRuntime) -> Result<(),
             output: writes as u64,
             ..NONE_FAILS
         };
-        let ended = run_program(&rt, Ok(given(rt.alloc(), &[])?), BUNDLE, calls);
-        assert!(rt; ended.is(1, &SHOWN[..writes], WRITE_FAILED), "at {writes}");
+        let wanted = (1, &SHOWN[..writes], WRITE_FAILED);
+        let is_end = ends(&rt, &[], BUNDLE, calls, wanted)?;
+        assert!(rt; is_end, "at {writes}");
     }
     Ok(())
 }
@@ -229,9 +249,9 @@ fn program_keeps_its_status_where_the_errors_fail(rt: HostRuntime) -> Result<(),
             errors: writes as u64,
             ..NONE_FAILS
         };
-        let given = given(rt.alloc(), &[])?;
-        let ended = run_program(&rt, Ok(given), b"BEGIN {\n 08 }", calls);
-        assert!(rt; ended.is(3, b"", &LEX_REFUSED[..writes]), "at {writes}");
+        let wanted = (3, b"".as_slice(), &LEX_REFUSED[..writes]);
+        let is_end = ends(&rt, &[], b"BEGIN {\n 08 }", calls, wanted)?;
+        assert!(rt; is_end, "at {writes}");
     }
     Ok(())
 }
@@ -239,12 +259,21 @@ fn program_keeps_its_status_where_the_errors_fail(rt: HostRuntime) -> Result<(),
 const HELP_SHOWN: &[u8] = b"Replays a D script over a recorded trace\n\n\
 Usage: dreplay [OPTIONS]\n\nOptions:\n";
 
+// Whether the program, given this word, shows the help and nothing else.
+fn shows_help<R: AllocGlobal + Threads + Wait + Sync>(
+    rt: &R,
+    word: &str,
+) -> Result<bool, AllocError> {
+    let given = given(rt.alloc(), &[word])?;
+    let ended = run_program(rt, Ok(given), BUNDLE, NONE_FAILS);
+    Ok(ended.output.starts_with(HELP_SHOWN) && ended.is(0, &ended.output, b""))
+}
+
 #[test]
 fn program_shows_help(rt: HostRuntime) -> Result<(), Fail> {
     for word in ["-h", "--help"] {
-        let ended = run_program(&rt, Ok(given(rt.alloc(), &[word])?), BUNDLE, NONE_FAILS);
-        assert!(rt; ended.output.starts_with(HELP_SHOWN));
-        assert!(rt; ended.is(0, &ended.output, b""), "{word}");
+        let shows_help = shows_help(&rt, word)?;
+        assert!(rt; shows_help, "{word}");
     }
     Ok(())
 }
@@ -256,11 +285,9 @@ fn program_tells_that_help_was_not_written(rt: HostRuntime) -> Result<(), Fail> 
             output: writes as u64,
             ..NONE_FAILS
         };
-        let ended = run_program(&rt, Ok(given(rt.alloc(), &["-h"])?), BUNDLE, calls);
-        assert!(rt;
-            ended.is(1, &HELP_SHOWN[..writes], WRITE_FAILED),
-            "at {writes}"
-        );
+        let wanted = (1, &HELP_SHOWN[..writes], WRITE_FAILED);
+        let is_end = ends(&rt, &["-h"], BUNDLE, calls, wanted)?;
+        assert!(rt; is_end, "at {writes}");
     }
     Ok(())
 }

@@ -204,31 +204,51 @@ fn of_two_groups() -> Plan
     }
 }
 
-// The one worker takes all groups, in order, and the last is that of BEGIN and END.
-fn expect_ran(rt: &impl Abort, replayed: &Replayed, groups: &[u32], ran: &[&[u64]]) {
-    assert_eq!(rt; replayed.by_worker.len(), 1);
-    assert_eq!(rt; replayed.by_worker[0].as_slice(), groups);
-    assert_eq!(rt; replayed.ran.len(), ran.len());
-    for (numbers, wanted) in replayed.ran.iter().zip(ran.iter()) {
-        assert_eq!(rt; numbers.as_slice(), *wanted);
-    }
+// Whether the one worker took all groups, in order, the last of which is that of BEGIN and END, and
+// these firings ran in them.
+fn has_run(replayed: &Replayed, groups: &[u32], ran: &[&[u64]]) -> bool {
+    replayed.by_worker.len() == 1
+        && replayed.by_worker[0].as_slice() == groups
+        && replayed.ran.len() == ran.len()
+        && replayed
+            .ran
+            .iter()
+            .zip(ran.iter())
+            .all(|(numbers, wanted)| numbers.as_slice() == *wanted)
+}
+
+// What a replay shows, its status, the groups that the one worker took, and what ran in them.
+type Wanted<'a> = (&'a [u8], u8, &'a [u32], &'a [&'a [u64]]);
+
+// Whether a replay is so.
+fn replays_as<R: AllocGlobal + Threads + Wait + Sync>(
+    rt: &R,
+    script: &[u8],
+    trace: &[u8],
+    plan: &Plan,
+    wanted: Wanted<'_>,
+) -> Result<bool, Refusal>
+    requires { IsInBounds plan.now }
+{
+    let (shown, status, groups, ran) = wanted;
+    let replayed = reporting(rt).replay(script, trace, plan)?;
+    let is_shown = replayed.bytes.as_slice() == shown && replayed.status == status;
+    Ok(is_shown && has_run(&replayed, groups, ran))
 }
 
 #[test]
 fn each_firing_is_run_once(rt: HostRuntime) -> Result<(), Fail> {
-    let replayed = reporting(&rt).replay(SCRIPT, TRACE, &serial())?;
-    assert_eq!(rt; replayed.bytes.as_slice(), SHOWN);
-    expect_ran(&rt, &replayed, &[0, 1], &[&[1, 4], &[0, 5]]);
-    assert_eq!(rt; replayed.status, 0);
+    let wanted: Wanted<'_> = (SHOWN, 0, &[0, 1], &[&[1, 4], &[0, 5]]);
+    let is_wanted = replays_as(&rt, SCRIPT, TRACE, &serial(), wanted)?;
+    assert!(rt; is_wanted);
     Ok(())
 }
 
 #[test]
 fn begin_and_end_run_without_rows(rt: HostRuntime) -> Result<(), Fail> {
-    let replayed = reporting(&rt).replay(SCRIPT, NO_ROWS, &of_two_groups())?;
-    assert!(rt; replayed.bytes.is_empty());
-    expect_ran(&rt, &replayed, &[0, 1, 2], &[&[], &[], &[0, 1]]);
-    assert_eq!(rt; replayed.status, 0);
+    let wanted: Wanted<'_> = (b"", 0, &[0, 1, 2], &[&[], &[], &[0, 1]]);
+    let is_wanted = replays_as(&rt, SCRIPT, NO_ROWS, &of_two_groups(), wanted)?;
+    assert!(rt; is_wanted);
     Ok(())
 }
 
@@ -236,71 +256,84 @@ const SHOWN_AT_EXIT: &[u8] = b"end\n\n                2\n";
 
 #[test]
 fn firings_after_an_exit_do_not_run(rt: HostRuntime) -> Result<(), Fail> {
-    let replayed = reporting(&rt).replay(EXITING, FOUR_HITS, &serial())?;
-    assert_eq!(rt; replayed.bytes.as_slice(), SHOWN_AT_EXIT);
-    expect_ran(&rt, &replayed, &[0, 1], &[&[10, 12], &[0, 41]]);
-    assert_eq!(rt; replayed.status, 5);
-    let replayed = reporting(&rt).replay(EXITING, FOUR_HITS, &of_two_groups())?;
-    assert_eq!(rt; replayed.bytes.as_slice(), SHOWN_AT_EXIT);
-    expect_ran(&rt, &replayed, &[0, 1, 2], &[&[10], &[12], &[0, 41]]);
-    assert_eq!(rt; replayed.status, 5);
+    let wanted: Wanted<'_> = (SHOWN_AT_EXIT, 5, &[0, 1], &[&[10, 12], &[0, 41]]);
+    let is_wanted = replays_as(&rt, EXITING, FOUR_HITS, &serial(), wanted)?;
+    assert!(rt; is_wanted);
+    let wanted: Wanted<'_> = (SHOWN_AT_EXIT, 5, &[0, 1, 2], &[&[10], &[12], &[0, 41]]);
+    let is_wanted = replays_as(&rt, EXITING, FOUR_HITS, &of_two_groups(), wanted)?;
+    assert!(rt; is_wanted);
     Ok(())
+}
+
+// What becomes of an answer, and what is shown.
+type Answer = (Result<Replayed, ConsumeFault>, Vec<u8>);
+
+// Whether nothing was written, as a read failed.
+fn is_unread((answer, out): &Answer) -> bool {
+    matches!(answer, Err(ConsumeFault::Read)) && out.is_empty()
+}
+
+// Whether just this beginning was written, as a write failed.
+fn is_unwritten((answer, out): &Answer, beginning: &[u8]) -> bool {
+    matches!(answer, Err(ConsumeFault::Write)) && out.as_slice() == beginning
+}
+
+// Whether all was written.
+fn is_shown((answer, out): &Answer) -> bool {
+    answer.is_ok() && out.as_slice() == SHOWN
 }
 
 #[test]
 fn nothing_is_written_after_a_failed_read(rt: HostRuntime) {
     for reads in 0..=BUNDLE.len() as u64 {
-        let (answer, out) = consume_by_bytes(&rt, reads, 100);
-        assert!(rt; matches!(answer, Err(ConsumeFault::Read)), "at {reads}");
-        assert!(rt; out.is_empty());
+        let answer = consume_by_bytes(&rt, reads, 100);
+        assert!(rt; is_unread(&answer), "at {reads}");
     }
-    let (answer, out) = consume_by_bytes(&rt, BUNDLE.len() as u64 + 1, 100);
-    assert!(rt; answer.is_ok());
-    assert_eq!(rt; out.as_slice(), SHOWN);
+    let answer = consume_by_bytes(&rt, BUNDLE.len() as u64 + 1, 100);
+    assert!(rt; is_shown(&answer));
 }
 
 #[test]
 fn nothing_is_written_after_a_failed_read_of_a_trace(rt: HostRuntime) {
     for reads in 0..=TRACE.len() as u64 {
-        let (answer, out) = consume_trace_by_bytes(&rt, 1000, reads, 100);
-        assert!(rt; matches!(answer, Err(ConsumeFault::Read)), "at {reads}");
-        assert!(rt; out.is_empty());
+        let answer = consume_trace_by_bytes(&rt, 1000, reads, 100);
+        assert!(rt; is_unread(&answer), "at {reads}");
     }
-    let (answer, out) = consume_trace_by_bytes(&rt, 1000, TRACE.len() as u64 + 1, 100);
-    assert!(rt; answer.is_ok());
-    assert_eq!(rt; out.as_slice(), SHOWN);
+    let answer = consume_trace_by_bytes(&rt, 1000, TRACE.len() as u64 + 1, 100);
+    assert!(rt; is_shown(&answer));
 }
 
 #[test]
 fn nothing_is_written_after_a_failed_read_of_a_script(rt: HostRuntime) {
     for reads in 0..=SCRIPT.len() as u64 {
-        let (answer, out) = consume_trace_by_bytes(&rt, reads, 1000, 100);
-        assert!(rt; matches!(answer, Err(ConsumeFault::Read)), "at {reads}");
-        assert!(rt; out.is_empty());
+        let answer = consume_trace_by_bytes(&rt, reads, 1000, 100);
+        assert!(rt; is_unread(&answer), "at {reads}");
     }
-    let (answer, out) = consume_trace_by_bytes(&rt, SCRIPT.len() as u64 + 1, 1000, 100);
-    assert!(rt; answer.is_ok());
-    assert_eq!(rt; out.as_slice(), SHOWN);
+    let answer = consume_trace_by_bytes(&rt, SCRIPT.len() as u64 + 1, 1000, 100);
+    assert!(rt; is_shown(&answer));
 }
 
 #[test]
 fn a_beginning_is_written_before_a_failed_write(rt: HostRuntime) {
     for writes in 0..=SHOWN.len() {
-        let (answer, out) = consume_by_bytes(&rt, 1000, writes as u64);
-        assert!(rt; matches!(answer, Err(ConsumeFault::Write)), "at {writes}");
-        assert_eq!(rt; out.as_slice(), &SHOWN[..writes]);
-        let (answer, out) = consume_trace_by_bytes(&rt, 1000, 1000, writes as u64);
-        assert!(rt; matches!(answer, Err(ConsumeFault::Write)), "at {writes}");
-        assert_eq!(rt; out.as_slice(), &SHOWN[..writes]);
+        let answer = consume_by_bytes(&rt, 1000, writes as u64);
+        assert!(rt; is_unwritten(&answer, &SHOWN[..writes]), "at {writes}");
+        let answer = consume_trace_by_bytes(&rt, 1000, 1000, writes as u64);
+        assert!(rt; is_unwritten(&answer, &SHOWN[..writes]), "at {writes}");
     }
+}
+
+// Whether this is said of a refusal.
+fn is_said(alloc: Global, refusal: &Refusal, line: &str) -> Result<bool, AllocError> {
+    let said = refusal_text(alloc, refusal)?;
+    Ok(said.as_str() == line)
 }
 
 #[test]
 fn each_refusal_has_its_line_and_status(rt: HostRuntime) -> Result<(), Fail> {
     for (refusal, status, line) in SAID {
-        let said = refusal_text(rt.alloc(), &refusal)?;
-        assert_eq!(rt; said.as_str(), line);
-        assert_eq!(rt; refusal_status(&refusal), status);
+        let is_said = is_said(rt.alloc(), &refusal, line)?;
+        assert!(rt; is_said && refusal_status(&refusal) == status, "{line}");
     }
     Ok(())
 }
@@ -311,7 +344,8 @@ fn plan_of_lists(alloc: Global, lists: &[&[i32]]) -> Result<Plan, AllocError>
 {
     let mut groups = Vec::new(alloc);
     for list in lists {
-        groups.push(Vec::from_slice(alloc, list)?)?;
+        let list = Vec::from_slice(alloc, list)?;
+        groups.push(list)?;
     }
     Ok(Plan {
         workers: 2,
@@ -334,15 +368,26 @@ const LISTS: [(&[&[i32]], Option<GroupFault>); 6] = [
     (&[], Some(GroupFault::Missing { thread: 7 })),
 ];
 
+// Whether this becomes of these lists.
+fn is_grouped<R: AllocGlobal + Threads + Wait + Sync>(
+    rt: &R,
+    lists: &[&[i32]],
+    fault: Option<GroupFault>,
+) -> Result<bool, AllocError> {
+    let plan = plan_of_lists(rt.alloc(), lists)?;
+    let answer = reporting(rt).replay(SCRIPT, TRACE, &plan);
+    Ok(match answer {
+        Ok(replayed) => fault.is_none() && replayed.bytes.as_slice() == SHOWN,
+        Err(Refusal::Group(found)) => fault == Some(found),
+        Err(_) => false,
+    })
+}
+
 #[test]
 fn threads_are_grouped_by_lists(rt: HostRuntime) -> Result<(), Fail> {
     for (lists, fault) in LISTS {
-        let plan = plan_of_lists(rt.alloc(), lists)?;
-        match (reporting(&rt).replay(SCRIPT, TRACE, &plan), fault) {
-            (Ok(replayed), None) => assert_eq!(rt; replayed.bytes.as_slice(), SHOWN),
-            (Err(Refusal::Group(found)), Some(fault)) => assert_eq!(rt; found, fault),
-            _ => assert!(rt; false),
-        }
+        let is_grouped = is_grouped(&rt, lists, fault)?;
+        assert!(rt; is_grouped, "{lists:?}");
     }
     Ok(())
 }
@@ -427,24 +472,25 @@ const ASKED: [(&[&str], u32, u32, EngineKind); 4] = [
     (&["-g", "+7"], 4, 7, EngineKind::Dif),
 ];
 
-#[test]
-fn words_name_a_plan(rt: HostRuntime) -> Result<(), Fail> {
-    for (words, workers, groups, engine) in ASKED {
-        match read_words(rt.alloc(), HELP, words) {
-            Ok(asked) => {
-                let plan = Plan {
-                    workers,
-                    groups: GroupPlan::Dealt(groups),
-                    engine,
-                    hash_key: HashKey::of_seed(&[]),
-                };
-                assert!(rt; asked.plan == plan);
-                assert!(rt; asked.file.is_none());
-            }
-            Err(_) => assert!(rt; false),
-        }
+// Whether these words ask for this plan, and name no file.
+fn ask_for(alloc: Global, words: &[&str], plan: &Plan) -> bool {
+    match read_words(alloc, HELP, words) {
+        Ok(asked) => asked.plan == *plan && asked.file.is_none(),
+        Err(_) => false,
     }
-    Ok(())
+}
+
+#[test]
+fn words_name_a_plan(rt: HostRuntime) {
+    for (words, workers, groups, engine) in ASKED {
+        let plan = Plan {
+            workers,
+            groups: GroupPlan::Dealt(groups),
+            engine,
+            hash_key: HashKey::of_seed(&[]),
+        };
+        assert!(rt; ask_for(rt.alloc(), words, &plan), "{words:?}");
+    }
 }
 
 const MISTAKES: [&[&str]; 7] = [

@@ -56,14 +56,39 @@ fn pieces_of(
     Ok(pieces)
 }
 
+// Why pieces of these groups are no whole of two groups, if they are none.
+fn fault_of(
+    alloc: Global,
+    script: &TypedScript,
+    groups: &[u32],
+) -> Result<Option<CollectFault>, AllocError> {
+    let pieces = pieces_of(alloc, script, groups)?;
+    Ok(collect(alloc, pieces, 2).err())
+}
+
+// The typed script of this text.
+fn typed(alloc: Global, script: &[u8]) -> Result<TypedScript, Refusal> {
+    let tree = read_script(alloc, script)?;
+    let script = check(alloc, tree)?;
+    Ok(script)
+}
+
+// The first row of the table that is collected otherwise.
+fn first_wrong(alloc: Global, script: &TypedScript) -> Result<Option<usize>, AllocError> {
+    for (row, (groups, fault)) in COLLECTED.iter().enumerate() {
+        let found = fault_of(alloc, script, groups)?;
+        if found != *fault {
+            return Ok(Some(row));
+        }
+    }
+    Ok(None)
+}
+
 #[test]
 fn pieces_are_collected_by_their_groups(rt: HostRuntime) -> Result<(), Fail> {
-    let tree = read_script(rt.alloc(), LATENCY)?;
-    let script = check(rt.alloc(), tree)?;
-    for (groups, fault) in COLLECTED {
-        let pieces = pieces_of(rt.alloc(), &script, groups)?;
-        assert_eq!(rt; collect(rt.alloc(), pieces, 2).err(), fault, "{groups:?}");
-    }
+    let script = typed(rt.alloc(), LATENCY)?;
+    let wrong = first_wrong(rt.alloc(), &script)?;
+    assert_eq!(rt; wrong, None);
     Ok(())
 }
 
@@ -161,8 +186,7 @@ fn ran_by_two<R: Threads + Wait + Sync>(
     alloc: Global,
     meeting: &Meeting,
 ) -> Result<Ran, Refusal> {
-    let tree = read_script(alloc, LATENCY)?;
-    let script = check(alloc, tree)?;
+    let script = typed(alloc, LATENCY)?;
     let trace = read_trace(alloc, HashKey::of_seed(&[]), TWO_THREADS)?;
     let groups = groups_of(alloc, &GroupPlan::Dealt(2), &trace)?;
     let lanes = TreeLanes::new(HashKey::of_seed(&[]), &script);

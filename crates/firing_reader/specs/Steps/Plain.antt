@@ -1,12 +1,12 @@
 -- Plain fields and rows as they are taken off the front of the bytes.
 use Rattle.std.specs.Prelude.{◌≡◌, ◌≢◌, ◌<◌, ◌≤◌, ℕ, List, [], ◌∷◌, ◌++◌, All, Some, codes, map, Ok}
-use Rattle.std.specs.Prelude.{ℤ, ◌+◌, drop, length}
+use Rattle.std.specs.Prelude.{ℤ, ◌+◌, ◌^◌, drop, length}
 use Rattle.csv.specs.declared.parser.State.{State}
 use Rattle.firing_reader.specs.Vocabulary.{next_record, default_config, Firing, MOST_ROWS}
 use Rattle.firing_reader.specs.{Blocks.BeginsAtFeed, Left.left_in}
 use Rattle.firing_reader.specs.Column.{signed_of}
 use Rattle.firing_reader.specs.Trace.{last_number}
-use Rattle.firing_reader.specs.Plain.{ReadsRows, rows_after}
+use Rattle.firing_reader.specs.Plain.{Passes, ReadsRows, rows_after, whole_of}
 
 -- a byte that only joins a field: no comma, quote, carriage return or line feed
 abbrev pub JoinsField : ℕ → Type 0
@@ -28,6 +28,16 @@ Closes bytes fields rest = (after : List ℕ) × (rest ≡ 10 ∷ after)
     × ((before : List (List ℕ)) (tail : List ℕ) →
     next_record default_config State.StartField before [] (bytes ++ tail)
     ≡ Some (before ++ fields, State.StartRecord, after ++ tail))
+
+-- after a record the bytes begin with a row of this number, and the rest comes after its comma
+pub record BeginsRow (bytes : List ℕ) (number : ℕ) (rest : List ℕ) : Type 0 where
+  pub first : ℕ
+  pub more : List ℕ
+  pub is_bytes : bytes ≡ 10 ∷ first ∷ more
+  pub joins : JoinsField first
+  pub field : List ℕ
+  pub passes : Passes (first ∷ more) (field ∷ []) rest
+  pub is_number : whole_of 1 (2 ^ 62) field ≡ Some number
 
 -- the last ten columns: arguments, and the fields that write them
 pub record ReadsArguments (bytes rest : List ℕ) (args : List ℤ) : Type 0 where

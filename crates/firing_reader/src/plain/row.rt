@@ -2,6 +2,7 @@
 
 ghost use Rattle.std.specs.Prelude.{◌<◌, IfSome};
 ghost use Rattle.firing_reader.specs.{Plain.ReadsRow};
+ghost use Rattle.firing_reader.specs.Steps.Plain.{BeginsRow};
 ghost use Rattle.firing_reader.specs.Stored.{Extends, IsRowIn, firing_in};
 
 use super::arguments::read_arguments;
@@ -29,14 +30,7 @@ pub(crate) fn row<'a>(
         (λ p. ReadsRow bytes.now p.1.now (firing_in owners.new probes.new args.new.items p.0)) }
     ensures rises { IfSome result (λ p. last < p.0.number) }
 {
-    let line = after_feed(bytes)?;
-    if !starts_with_digit(line) {
-        return None;
-    }
-    let (number, rest) = whole(line, 1, 1 << 62)?;
-    if number <= last {
-        return None;
-    }
+    let (number, rest) = number_above(bytes, last)?;
     let (cpu, rest) = int(rest, 0)?;
     let (owner, rest) = owners.read(rest)?;
     let (time, rest) = whole(rest, 0, u64::MAX)?;
@@ -51,4 +45,22 @@ pub(crate) fn row<'a>(
         given,
     };
     Some((row, rest))
+}
+
+// The number at the front of the row after a line feed, which has to be above `last`, and what
+// comes after it.
+#[inline(always)]
+fn number_above(bytes: &[u8], last: u64) -> Option<(u64, &[u8])>
+    ensures begins { IfSome result (λ p. BeginsRow bytes.now p.0 p.1.now) }
+    ensures rises { IfSome result (λ p. last < p.0) }
+{
+    let line = after_feed(bytes)?;
+    if !starts_with_digit(line) {
+        return None;
+    }
+    let (number, rest) = whole(line, 1, 1 << 62)?;
+    if number <= last {
+        return None;
+    }
+    Some((number, rest))
 }

@@ -13,4 +13,4 @@ returns c =
     let f = c.args.firing.now in
     let second : slice_get o.code 1 ≡ Some (Ldga 0 R1 R1) = let there = c.in-Some-Ldga-eq0-R1-R1.ensures in first_of (cc, search rules, grind (arith, common_steps)) in
     λ vars. subst (λ n. Runs o f vars (Returns (Int n) vars)) (sym c.argument.ensures)
-    (loads_argument o f c.in_ok-instruction.field-0.now c.in_ok-n.n vars c.in_ok-instruction.ensures second (c.returns_at.ensures c.if-not-returns_at.false) (c.in_ok-n.ensures f vars))
+    (loads_argument o f c.in_ok-first.first.now c.in_ok-n.n vars c.in_ok-first.ensures second (c.returns_at.ensures c.if-not-returns_at.false) (c.in_ok-n.ensures f vars))

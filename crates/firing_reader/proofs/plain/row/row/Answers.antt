@@ -16,8 +16,7 @@ returns-clause-row c =
     let r : Row = record { number = c.in_ok-number.number; time = c.in_ok-time.time; cpu = c.in_ok-cpu.cpu; owner = c.in_ok-owner.owner; probe = c.in_ok-probe.probe; given = c.in_ok-given.given } in
     let (o, at_o, reads_o) = c.in_ok-owner.ensures.owner in
     let (p, at_p, reads_p) = c.in_ok-probe.ensures.probe in
-    let starts = c.starts_with_digit.ensures (search rules) in
-    let done = row_parts c.args.bytes.now c.in_ok-line.line.now c.in_ok-number.rest.now c.in_ok-cpu.rest.now c.in_ok-owner.rest.now c.in_ok-time.rest.now c.in_ok-probe.rest.now c.in_ok-given.rest.now
-    c.read.new.self c.read-2.new.self c.read_arguments.new.all.items r o p c.in_ok-line.ensures starts c.in_ok-number.ensures.value c.in_ok-cpu.ensures at_o reads_o c.in_ok-time.ensures.value at_p reads_p
+    let done = row_parts c.args.bytes.now c.in_ok-number.rest.now c.in_ok-cpu.rest.now c.in_ok-owner.rest.now c.in_ok-time.rest.now c.in_ok-probe.rest.now c.in_ok-given.rest.now
+    c.read.new.self c.read-2.new.self c.read_arguments.new.all.items r o p c.in_ok-number.ensures.begins c.in_ok-cpu.ensures at_o reads_o c.in_ok-time.ensures.value at_p reads_p
     c.in_ok-given.ensures.args in
     rw (to_z-of_z w32 c.in_ok-cpu.cpu (search rules)) done
