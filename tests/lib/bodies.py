@@ -24,36 +24,48 @@ CLOSURE = re.compile(r"::fn::(.+)::[^:]+(?:::call\w*)?$")
 
 @dataclass(frozen=True)
 class Function:
-    """A function: the module that it is written in, its type and trait if it is a method, and the
-    cycle of calls that it is in, if any."""
+    """A function: the module that it is written in, its type and trait if it is a method, the
+    trait's arguments, and the cycle of calls that it is in, if any."""
 
     module: str
     type: str
     trait: str
-    has_arguments: bool
+    arguments: str
     name: str
     cycle: str
 
     def is_at(self, path):
         """Returns whether the prover's path, below the crate, is of the function or of a closure of
-        it. A method stands in its type's module, and the arguments of a trait follow its name."""
+        it. A method stands in its type's module, and the arguments of a trait follow its name, in
+        a form that is known of one name alone."""
         owner, _, name = CLOSURE.sub(r"::\1", f"::{path}").rpartition("::")
         if name != self.name or not self.type:
             return name == self.name and owner.strip(":") == self.module
-        last = owner.rpartition("::")[2]
-        return last.startswith(self.type + self.trait) if self.trait else last == self.type
+        last, whole = owner.rpartition("::")[2], self.type + self.trait
+        if self.arguments and not self.arguments.isidentifier():
+            return last.startswith(whole)
+        return last == whole + self.arguments
 
     def asked(self):
         """Returns what the prover is asked for to find it: its module, where its path isn't known
         to the end."""
         owner = self.type + self.trait if self.type else self.module
-        return self.module if self.has_arguments else "::".join(filter(None, [owner, self.name]))
+        return self.module if self.arguments else "::".join(filter(None, [owner, self.name]))
 
     def is_like(self, other):
         """Returns whether what is said of one may be said of the other: they are the same, or
         methods of one name, which have one proof where their types contain each other."""
         are_methods = self.type and other.type and self.name == other.name
-        return self == other or bool(are_methods)
+        return self == other or bool(are_methods and self.type != other.type)
+
+
+    def is_called_in(self, text):
+        """Returns whether a text seems to call this function: a method by its type or of a value,
+        and any other not so."""
+        found = re.findall(rf"(?:(\w+)::|(\.))?\b{self.name}\(", text)
+        if self.type:
+            return any(dot or owner in (self.type, "Self") for owner, dot in found)
+        return any(not dot and not owner[:1].isupper() for owner, dot in found)
 
 
 @dataclass
@@ -70,8 +82,8 @@ class Change:
 
     def calls(self, function):
         """Returns whether one of these functions seems to call another one."""
-        name = re.compile(rf"\b{function.name}\(")
-        return any(name.search(text) for it, text in self.functions.items() if it != function)
+        texts = [text for it, text in self.functions.items() if it != function]
+        return any(map(function.is_called_in, texts))
 
 
 def module_of(path):
@@ -87,7 +99,7 @@ def functions_in(text, path):
         owners = [*OWNER.finditer(text, 0, it.start())] if it["deep"] else []
         owner = owners[-1].groupdict("") if owners else {"type": "", "trait": "", "by": ""}
         cycle = CYCLE.search(text, 0, it.start())
-        whose = owner["type"], owner["trait"], bool(owner["by"])
+        whose = owner["type"], owner["trait"], owner["by"].strip("<>")
         yield Function(module, *whose, it["name"], cycle[1] if cycle else ""), it
 
 

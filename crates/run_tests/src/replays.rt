@@ -368,7 +368,16 @@ const LISTS: [(&[&[i32]], Option<GroupFault>); 6] = [
     (&[], Some(GroupFault::Missing { thread: 7 })),
 ];
 
-// Whether this becomes of these lists.
+// Whether an answer is the whole one, or where there is a fault of the groups, this fault.
+fn is_of_lists(answer: &Result<Replayed, Refusal>, fault: Option<GroupFault>) -> bool {
+    match answer {
+        Ok(replayed) => fault.is_none() && replayed.bytes.as_slice() == SHOWN,
+        Err(Refusal::Group(found)) => fault == Some(*found),
+        Err(_) => false,
+    }
+}
+
+// Whether a replay over these lists has this answer.
 fn is_grouped<R: AllocGlobal + Threads + Wait + Sync>(
     rt: &R,
     lists: &[&[i32]],
@@ -376,11 +385,7 @@ fn is_grouped<R: AllocGlobal + Threads + Wait + Sync>(
 ) -> Result<bool, AllocError> {
     let plan = plan_of_lists(rt.alloc(), lists)?;
     let answer = reporting(rt).replay(SCRIPT, TRACE, &plan);
-    Ok(match answer {
-        Ok(replayed) => fault.is_none() && replayed.bytes.as_slice() == SHOWN,
-        Err(Refusal::Group(found)) => fault == Some(found),
-        Err(_) => false,
-    })
+    Ok(is_of_lists(&answer, fault))
 }
 
 #[test]
