@@ -38,7 +38,7 @@ use Rattle.d_parser.specs.Steps.Reading.{◌>>=◌, after_mark, if_plain, plain_
 use Rattle.d_parser.specs.Steps.Reading.{variable, is_typed, cast_type, calls, begins_call, Readers}
 use Rattle.d_parser.specs.Steps.Reading.{readers, closed_list, keys_by, keys, arguments, with_keys}
 use Rattle.d_parser.specs.Steps.Reading.{target, follows_by, follows, part_at_name, part_at_cast}
-use Rattle.d_parser.specs.Steps.Reading.{part_in_parentheses, part_at_step_by, part_at_step}
+use Rattle.d_parser.specs.Steps.Reading.{followed, part_in_parentheses, part_at_step_by, part_at_step}
 use Rattle.d_parser.specs.Steps.Reading.{prefixed_by}
 use Rattle.d_parser.specs.Steps.Reading.{part_at_mark, part_by, part, climb_by, climb_on, choice_by}
 use Rattle.d_parser.specs.Steps.Reading.{alternatives, choice, operand, whole, further_on}
@@ -124,6 +124,14 @@ in_parens t j k ts inner close rest o h s = record { pairs = suc h.pairs; high =
 pub record Whole (k : ℕ) (ts : List Token) (x : Tree × List Token) : Type 0 where
   pub phrase : IsPhrase (Spells x.0) (rank x.0) k ts x.1
   pub stops : joins x.1 < k
+
+-- two expressions with a colon between
+record Alternatives (ts : List Token) (x : (Tree × Tree) × List Token) : Type 0 where
+  pub at_colon : List Token
+  pub after : List Token
+  pub first : Whole 1 ts (x.0.0, at_colon)
+  pub colon : Sign m.Colon at_colon after
+  pub second : Whole 2 after (x.0.1, x.1)
 
 -- what is read so far, and that an operator that follows takes it
 pub record Fits (j : ℕ) (ts : List Token) (x : Tree × List Token) : Type 0 where
@@ -465,21 +473,27 @@ module _ (down : Readers) (sound : Sound down) where
 
   -- ---- choice
 
-  choice_of_sound : (k : ℕ) (test : Tree) (start ts : List Token) → k ≤ 2 → 1 ≤ k → Fits k start (test, ts) → follow_at ts ≡ f.Question
-      → IfSome (Whole k start) (alternatives down test (tail ts))
+  alternatives_sound : (ts : List Token) → IfSome (Alternatives ts) (alternatives down ts)
   unfolding alternatives
+  alternatives_sound ts =
+      then_sound (Whole 1 ts) (Alternatives ts) (down.phrase 1 ts) (λ x. followed m.Colon x.0 x.1 >>= λ first. down.phrase 2 first.1 >>= λ second. Some ((first.0, second.0), second.1)) (sound.phrase 1 ts (lit≤ tt) (lit≤ tt))
+      (λ x g. then_sound (λ first. (first.0 ≡ x.0) × SignOf m.Colon x.1 first.1) (Alternatives ts) (followed m.Colon x.0 x.1) (λ first. down.phrase 2 first.1 >>= λ second. Some ((first.0, second.0), second.1))
+      (then_sound (SignOf m.Colon x.1) (λ first. (first.0 ≡ x.0) × SignOf m.Colon x.1 first.1) (after_mark m.Colon x.1) (λ rest. Some (x.0, rest)) (after_sound m.Colon x.1) (λ rest s. (refl, s)))
+      (λ first s. then_sound (Whole 2 first.1) (Alternatives ts) (down.phrase 2 first.1) (λ second. Some ((first.0, second.0), second.1)) (sound.phrase 2 first.1 (lit≤ tt) (lit≤ tt))
+      (λ second d. record { at_colon = x.1; after = first.1; first = subst (λ t. Whole 1 ts (t, x.1)) (sym s.0) g; colon = s.1; second = d })))
+
+  choice_of_sound : (k : ℕ) (test : Tree) (start ts : List Token) → k ≤ 2 → 1 ≤ k → Fits k start (test, ts) → follow_at ts ≡ f.Question
+      → IfSome (Whole k start) (alternatives down (tail ts) >>= λ x. Some (Choice test x.0.0 x.0.1, x.1))
   choice_of_sound k test start ts le pos h e =
       let s = mark_sign m.Question f.Question ts question_is e (λ h. absurd cc) in
       let is : joins ts ≡ 2 = ap joins_of e in
       let max_is : max 3 (joins ts) ≡ 3 = omega arith in
       let head = subst (λ (l : ℕ). IsPhrase (Spells test) (rank test) l start ts) max_is (h.fits (omega arith)) in
-      then_sound (Whole 1 (tail ts)) (Whole k start) (down.phrase 1 (tail ts)) (λ first. after_mark m.Colon first.1 >>= λ rest. down.phrase 2 rest >>= λ second. Some (Choice test first.0 second.0, second.1)) (sound.phrase 1 (tail ts) (lit≤ tt) (lit≤ tt))
-      (λ first g. then_sound (SignOf m.Colon first.1) (Whole k start) (after_mark m.Colon first.1) (λ rest. down.phrase 2 rest >>= λ second. Some (Choice test first.0 second.0, second.1)) (after_sound m.Colon first.1)
-      (λ rest colon. then_sound (Whole 2 rest) (Whole k start) (down.phrase 2 rest) (λ second. Some (Choice test first.0 second.0, second.1)) (sound.phrase 2 rest (lit≤ tt) (lit≤ tt))
-      (λ second d. record {
-        phrase = bare (Choice test first.0 second.0) k start second.1 (ts, tail ts, first.1, rest, head, s, g.phrase, colon, d.phrase) le;
-        stops = let gap = joins_gap (follow_at second.1) d.stops in omega arith;
-      })))
+      then_sound (Alternatives (tail ts)) (Whole k start) (alternatives down (tail ts)) (λ x. Some (Choice test x.0.0 x.0.1, x.1)) (alternatives_sound (tail ts))
+      (λ x a. record {
+        phrase = bare (Choice test x.0.0 x.0.1) k start x.1 (ts, tail ts, a.at_colon, a.after, head, s, a.first.phrase, a.colon, a.second.phrase) le;
+        stops = let gap = joins_gap (follow_at x.1) a.second.stops in omega arith;
+      })
 
   choice_by_sound : (follow : Follow) (k : ℕ) (test : Tree) (start ts : List Token) → k ≤ 2 → 1 ≤ k → Climbed k 3 start (test, ts) → follow_at ts ≡ follow → IfSome (Whole k start) (choice_by down follow test ts)
   choice_by_sound f.Question k test start ts le pos h e = choice_of_sound k test start ts le pos h.fits e

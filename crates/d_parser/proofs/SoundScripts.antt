@@ -28,7 +28,7 @@ use Rattle.d_parser.specs.Steps.ReadingScripts.{slot, further_stmts, stmts, with
 use Rattle.d_parser.specs.Steps.ReadingScripts.{description_by}
 use Rattle.d_parser.specs.Steps.ReadingScripts.{description, descriptions_on, further_descriptions}
 use Rattle.d_parser.specs.Steps.ReadingScripts.{descriptions_reader, predicate_reader}
-use Rattle.d_parser.specs.Steps.ReadingScripts.{clause_reader}
+use Rattle.d_parser.specs.Steps.ReadingScripts.{block, clause_reader}
 use Rattle.d_parser.specs.Steps.ReadingScripts.{whole_type, types_on}
 use Rattle.d_parser.specs.Steps.ReadingScripts.{further_types, key_types, last_by, last_apart}
 use Rattle.d_parser.specs.Steps.ReadingScripts.{spelled_word}
@@ -221,14 +221,21 @@ predicate_sound n ts =
 abbrev ClauseOf : List Token → ClauseTree × List Token → Type 0
 ClauseOf ts x = IsClause x.0 ts x.1
 
+abbrev BlockOf : List Token → List StmtTree × List Token → Type 0
+BlockOf ts x = (rest : List Token) × SignOf m.OpenBrace ts rest × StmtsOf rest x
+
+block_sound : (n : ℕ) (ts : List Token) → IfSome (BlockOf ts) (block n ts)
+block_sound n ts =
+    then_sound (SignOf m.OpenBrace ts) (BlockOf ts) (after_mark m.OpenBrace ts) (stmts n) (after_sound m.OpenBrace ts)
+    (λ rest o. weaken (StmtsOf rest) (BlockOf ts) (stmts n rest) (λ s k. (rest, o, k)) (stmts_sound n rest))
+
 pub clause_sound : (n : ℕ) (ts : List Token) → IfSome (ClauseOf ts) (clause_reader n ts)
 unfolding clause_reader
 clause_sound n ts =
-    then_sound (DescriptionsOf ts) (ClauseOf ts) (descriptions_reader n ts) (λ d. predicate_reader n d.1 >>= λ p. after_mark m.OpenBrace p.1 >>= λ rest. stmts n rest >>= λ s. Some (record { descriptions = d.0; predicate = p.0; statements = s.0 }, s.1)) (descriptions_sound n ts)
-    (λ d h. then_sound (PredicateOf d.1) (ClauseOf ts) (predicate_reader n d.1) (λ p. after_mark m.OpenBrace p.1 >>= λ rest. stmts n rest >>= λ s. Some (record { descriptions = d.0; predicate = p.0; statements = s.0 }, s.1)) (predicate_sound n d.1)
-    (λ p g. then_sound (SignOf m.OpenBrace p.1) (ClauseOf ts) (after_mark m.OpenBrace p.1) (λ rest. stmts n rest >>= λ s. Some (record { descriptions = d.0; predicate = p.0; statements = s.0 }, s.1)) (after_sound m.OpenBrace p.1)
-    (λ rest o. then_sound (StmtsOf rest) (ClauseOf ts) (stmts n rest) (λ s. Some (record { descriptions = d.0; predicate = p.0; statements = s.0 }, s.1)) (stmts_sound n rest)
-    (λ s k. record { at_predicate = d.1; at_brace = p.1; at_stmts = rest; descriptions = h; predicate = g; opens = o; stmts = k }))))
+    then_sound (DescriptionsOf ts) (ClauseOf ts) (descriptions_reader n ts) (λ d. predicate_reader n d.1 >>= λ p. block n p.1 >>= λ s. Some (record { descriptions = d.0; predicate = p.0; statements = s.0 }, s.1)) (descriptions_sound n ts)
+    (λ d h. then_sound (PredicateOf d.1) (ClauseOf ts) (predicate_reader n d.1) (λ p. block n p.1 >>= λ s. Some (record { descriptions = d.0; predicate = p.0; statements = s.0 }, s.1)) (predicate_sound n d.1)
+    (λ p g. then_sound (BlockOf p.1) (ClauseOf ts) (block n p.1) (λ s. Some (record { descriptions = d.0; predicate = p.0; statements = s.0 }, s.1)) (block_sound n p.1)
+    (λ s b. record { at_predicate = d.1; at_brace = p.1; at_stmts = b.0; descriptions = h; predicate = g; opens = b.1; stmts = b.2 })))
 
 -- ---- declarations
 

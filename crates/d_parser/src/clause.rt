@@ -1,7 +1,8 @@
 //! Clauses: descriptions, predicate and statements.
 
 ghost use Rattle.std.specs.Prelude.{◌≡◌, ◌++◌, ◌∷◌, [], IfOk, Some};
-ghost use Rattle.d_parser.specs.{Tree.clause_of, Tree.predicate_of, Reading.Gives};
+ghost use Rattle.d_parser.specs.Tree.{clause_of, predicate_of, stmts_of};
+ghost use Rattle.d_parser.specs.Reading.{Gives};
 ghost use Rattle.d_parser.specs.Steps.Reading.{OnlyMemory};
 ghost use Rattle.d_parser.specs.Steps.ReadingScripts as spec;
 
@@ -11,7 +12,7 @@ use crate::fault::{AT_END, ParseFault};
 use crate::marks::{ASSIGNMENT, is_at, tail};
 use crate::names::{after_mark, syntax_at};
 use crate::statement::statements;
-use crate::tree::{Clause, Description, Expr};
+use crate::tree::{Clause, Description, Expr, Stmt};
 use d_lexer::{Mark, Token, TokenKind};
 use std::alloc::Global;
 
@@ -120,12 +121,19 @@ pub(crate) fn clause(
 {
     let (descriptions, rest) = descriptions(alloc, fuel, tokens)?;
     let (predicate, rest) = predicate(alloc, fuel, rest)?;
-    let rest = after_mark(Mark::OpenBrace, rest)?;
-    let (statements, rest) = statements(alloc, fuel, rest)?;
+    let (statements, rest) = block(alloc, fuel, rest)?;
     let clause = Clause {
         descriptions,
         predicate,
         statements,
     };
     Ok((clause, rest))
+}
+
+/// The statements in braces.
+fn block(alloc: Global, fuel: usize, tokens: &[Token]) -> Result<(Vec<Stmt>, &[Token]), ParseFault>
+    ensures { Gives (λ x. (stmts_of x.0.items, x.1.now)) result (spec.block fuel tokens.now) }
+{
+    let rest = after_mark(Mark::OpenBrace, tokens)?;
+    statements(alloc, fuel, rest)
 }

@@ -205,7 +205,15 @@ fn part_in_parentheses<'a>(
         return cast(alloc, fuel, line, tokens);
     }
     let (inner, rest) = phrase(alloc, fuel, ASSIGNMENT, tokens)?;
-    let rest = after_mark(Mark::CloseParenthesis, rest)?;
+    followed(Mark::CloseParenthesis, inner, rest)
+}
+
+/// An expression that a mark has to follow, and the tokens after the mark.
+fn followed(mark: Mark, inner: Expr, tokens: &[Token]) -> Result<(Expr, &[Token]), ParseFault>
+    ensures { Gives (λ x. (tree_of x.0, x.1.now)) result
+        (steps.followed mark (tree_of inner) tokens.now) }
+{
+    let rest = after_mark(mark, tokens)?;
     Ok((inner, rest))
 }
 
@@ -349,6 +357,7 @@ fn climb_on<'a>(
 
 /// A condition goes on with a question mark.
 #[cycle(expression)]
+#[inline(never)]
 #[tactic(auto, unfolding(crate::specs::Steps::Reading::choice))]
 fn choice<'a>(
     alloc: Global,
@@ -364,29 +373,31 @@ fn choice<'a>(
         return Ok((test, tokens));
     }
     match follow_at(tokens) {
-        Follow::Question => alternatives(alloc, fuel, test, tail(tokens)),
+        Follow::Question => {
+            let ((first, second), rest) = alternatives(alloc, fuel, tail(tokens))?;
+            let whole = build::choice(alloc, test, first, second)?;
+            Ok((whole, rest))
+        }
         _ => Ok((test, tokens)),
     }
 }
 
-/// What comes after the question mark.
+/// The two expressions after the question mark.
 #[cycle(expression)]
 #[inline(never)]
 #[tactic(auto, unfolding(crate::specs::Steps::Reading::alternatives))]
 fn alternatives<'a>(
     alloc: Global,
     fuel: usize,
-    test: Expr,
     tokens: &'a [Token],
-) -> Result<(Expr, &'a [Token]), ParseFault>
-    ensures { Gives (λ x. (tree_of x.0, x.1.now)) result
-        (steps.alternatives (steps.readers fuel) (tree_of test) tokens.now) }
+) -> Result<((Expr, Expr), &'a [Token]), ParseFault>
+    ensures { Gives (λ x. ((tree_of x.0.0, tree_of x.0.1), x.1.now)) result
+        (steps.alternatives (steps.readers fuel) tokens.now) }
 {
     let (first, rest) = phrase(alloc, fuel, ASSIGNMENT, tokens)?;
-    let rest = after_mark(Mark::Colon, rest)?;
+    let (first, rest) = followed(Mark::Colon, first, rest)?;
     let (second, rest) = phrase(alloc, fuel, CONDITION, rest)?;
-    let whole = build::choice(alloc, test, first, second)?;
-    Ok((whole, rest))
+    Ok(((first, second), rest))
 }
 
 /// A phrase of the level.

@@ -180,6 +180,22 @@ impl<'a, L: Lanes> Lanes for MeetingLanes<'a, L> {
     }
 }
 
+// Runs a script over a job's trace by two workers, whose lanes meet.
+fn ran_meeting<R: Threads + Wait + Sync>(
+    rt: &R,
+    alloc: Global,
+    meeting: &Meeting,
+    script: &TypedScript,
+    job: &Job<'_, OpenGate>,
+) -> Result<Ran, AllocError> {
+    let lanes = TreeLanes::new(HashKey::of_seed(&[]), script);
+    let lanes = MeetingLanes {
+        lanes: &lanes,
+        meeting,
+    };
+    run_all(rt, alloc, &lanes, job, 2)
+}
+
 // Runs the script over the trace, where the lanes of its two threads meet.
 fn ran_by_two<R: Threads + Wait + Sync>(
     rt: &R,
@@ -189,17 +205,12 @@ fn ran_by_two<R: Threads + Wait + Sync>(
     let script = typed(alloc, LATENCY)?;
     let trace = read_trace(alloc, HashKey::of_seed(&[]), TWO_THREADS)?;
     let groups = groups_of(alloc, &GroupPlan::Dealt(2), &trace)?;
-    let lanes = TreeLanes::new(HashKey::of_seed(&[]), &script);
-    let lanes = MeetingLanes {
-        lanes: &lanes,
-        meeting,
-    };
     let job = Job {
         trace: &trace,
         groups: &groups,
         gate: &OpenGate,
     };
-    let ran = run_all(rt, alloc, &lanes, &job, 2)?;
+    let ran = ran_meeting(rt, alloc, meeting, &script, &job)?;
     Ok(ran)
 }
 

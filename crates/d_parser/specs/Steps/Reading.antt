@@ -84,6 +84,10 @@ is_clause_local x = false
 
 -- ---- expressions
 
+-- an expression that a mark has to follow
+abbrev pub followed : Mark → Tree → Reader Tree
+followed mark inner ts = after_mark mark ts >>= λ rest. Some (inner, rest)
+
 -- What reads phrases of a level, what operators of a level or more join to a left part, and the
 -- rest of a list.
 pub record Readers : Type 0 where
@@ -150,8 +154,7 @@ module _ (down : Readers) where
   part_in_parentheses line ts =
       if is_typed ts
       then part_at_cast line ts
-      else (down.phrase ASSIGNMENT ts >>= λ inner.
-      after_mark Mark.CloseParenthesis inner.1 >>= λ rest. Some (inner.0, rest))
+      else (down.phrase ASSIGNMENT ts >>= λ inner. followed Mark.CloseParenthesis inner.0 inner.1)
 
   abbrev pub part_at_step_by : ℕ → Step → TokenKind → ℕ → Reader Tree
   part_at_step_by line step (TokenKind.Word name) word_line ts =
@@ -200,14 +203,15 @@ module _ (down : Readers) where
   unfoldable pub climb_on : ℕ → Tree → Reader Tree
   climb_on k left ts = climb_by (follow_at ts) k left ts
 
-  -- after the question mark
-  unfoldable pub alternatives : Tree → Reader Tree
-  alternatives test ts =
-      down.phrase ASSIGNMENT ts >>= λ first. after_mark Mark.Colon first.1 >>= λ rest.
-      down.phrase CONDITION rest >>= λ second. Some (Choice test first.0 second.0, second.1)
+  -- the two expressions after the question mark
+  unfoldable pub alternatives : Reader (Tree × Tree)
+  alternatives ts =
+      down.phrase ASSIGNMENT ts >>= λ x. followed Mark.Colon x.0 x.1 >>= λ first.
+      down.phrase CONDITION first.1 >>= λ second. Some ((first.0, second.0), second.1)
 
   abbrev pub choice_by : Follow → Tree → Reader Tree
-  choice_by Follow.Question test ts = alternatives test (tail ts)
+  choice_by Follow.Question test ts =
+      alternatives (tail ts) >>= λ x. Some (Choice test x.0.0 x.0.1, x.1)
   choice_by follow test ts = Some (test, ts)
 
   -- a condition goes on with a question mark

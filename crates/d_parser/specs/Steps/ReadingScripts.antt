@@ -103,11 +103,13 @@ predicate_reader n ts =
     after_mark Mark.ClosingSlash x.1 >>= λ rest. Some (Some x.0, rest))
     else Some (None, ts)
 
+-- the statements in braces
+abbrev pub block : ℕ → Reader (List StmtTree)
+block n ts = after_mark Mark.OpenBrace ts >>= λ rest. stmts n rest
+
 unfoldable pub clause_reader : ℕ → Reader ClauseTree
 clause_reader n ts =
-    descriptions_reader n ts >>= λ d. predicate_reader n d.1 >>= λ p.
-    after_mark Mark.OpenBrace p.1 >>= λ rest.
-    stmts n rest >>= λ s.
+    descriptions_reader n ts >>= λ d. predicate_reader n d.1 >>= λ p. block n p.1 >>= λ s.
     Some (record { descriptions = d.0; predicate = p.0; statements = s.0 }, s.1)
 
 -- ---- declarations

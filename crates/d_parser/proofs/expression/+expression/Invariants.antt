@@ -8,10 +8,10 @@ abbrev pub decreases-cast : goal.decreases-cast
 decreases-cast l = 9 * l.fuel + 1
 
 abbrev pub decreases-choice : goal.decreases-choice
-decreases-choice l = 9 * l.fuel + 2
+decreases-choice l = 9 * l.fuel + 3
 
 abbrev pub decreases-alternatives : goal.decreases-alternatives
-decreases-alternatives l = 9 * l.fuel + 1
+decreases-alternatives l = 9 * l.fuel + 2
 
 abbrev pub decreases-climb : goal.decreases-climb
 decreases-climb l = 9 * l.fuel
