@@ -180,20 +180,38 @@ impl<'a, L: Lanes> Lanes for MeetingLanes<'a, L> {
     }
 }
 
-// Runs a script over a job's trace by two workers, whose lanes meet.
-fn ran_meeting<R: Threads + Wait + Sync>(
+// Runs a script over a trace of two threads, whose lanes meet.
+fn ran_over<R: Threads + Wait + Sync>(
     rt: &R,
     alloc: Global,
     meeting: &Meeting,
     script: &TypedScript,
-    job: &Job<'_, OpenGate>,
-) -> Result<Ran, AllocError> {
+    trace: &Trace,
+) -> Result<Ran, Refusal> {
+    let groups = groups_of(alloc, &GroupPlan::Dealt(2), trace)?;
     let lanes = TreeLanes::new(HashKey::of_seed(&[]), script);
     let lanes = MeetingLanes {
         lanes: &lanes,
         meeting,
     };
-    run_all(rt, alloc, &lanes, job, 2)
+    let job = Job {
+        trace,
+        groups: &groups,
+        gate: &OpenGate,
+    };
+    let ran = run_all(rt, alloc, &lanes, &job, 2)?;
+    Ok(ran)
+}
+
+// Runs a script over the trace of two threads.
+fn ran_over_two<R: Threads + Wait + Sync>(
+    rt: &R,
+    alloc: Global,
+    meeting: &Meeting,
+    script: &TypedScript,
+) -> Result<Ran, Refusal> {
+    let trace = read_trace(alloc, HashKey::of_seed(&[]), TWO_THREADS)?;
+    ran_over(rt, alloc, meeting, script, &trace)
 }
 
 // Runs the script over the trace, where the lanes of its two threads meet.
@@ -203,15 +221,7 @@ fn ran_by_two<R: Threads + Wait + Sync>(
     meeting: &Meeting,
 ) -> Result<Ran, Refusal> {
     let script = typed(alloc, LATENCY)?;
-    let trace = read_trace(alloc, HashKey::of_seed(&[]), TWO_THREADS)?;
-    let groups = groups_of(alloc, &GroupPlan::Dealt(2), &trace)?;
-    let job = Job {
-        trace: &trace,
-        groups: &groups,
-        gate: &OpenGate,
-    };
-    let ran = ran_meeting(rt, alloc, meeting, &script, &job)?;
-    Ok(ran)
+    ran_over_two(rt, alloc, meeting, &script)
 }
 
 #[test]

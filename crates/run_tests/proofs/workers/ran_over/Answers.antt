@@ -6,7 +6,7 @@ use Rattle.keyed_hash.specs.contracts.hash_key.HashKey as hash_key
 use Rattle.replay_core.proofs.lane.Lane.TheSendSync as lane
 use Rattle.run_tests.proofs.workers.MeetingLane.TheSendSync as meeting_lane
 use Rattle.run_tests.proofs.workers.MeetingLanes.TheSendSync as meeting_lanes
-use Rattle.run_tests.proofs.workers.ran_by_two.Goals as goal
+use Rattle.run_tests.proofs.workers.ran_over.Goals as goal
 
 hash_key_sync : IsSync hash_key.the_row
 hash_key_sync = search (sendable, crosses) depth 20
