@@ -68,10 +68,11 @@ fn exit(
     let Some(x) = only(args) else {
         return Err(TypeFault::Mismatch { line });
     };
-    match x.type_of() {
-        DType::Int(_) => Ok(TypedStmt::Exit(x)),
-        DType::Text => Err(TypeFault::Mismatch { line }),
+    if x.type_of() == DType::Text {
+        drop(x);
+        return Err(TypeFault::Mismatch { line });
     }
+    Ok(TypedStmt::Exit(x))
 }
 
 /// `printf(format, arguments)`

@@ -4,6 +4,8 @@ ghost use Rattle.std.specs.Prelude.{◌≡◌, IfOk, Some, None, option_map};
 ghost use Rattle.d_types.specs.Faults.{Gives};
 ghost use Rattle.d_types.specs.Steps.Faults.{OnlyMemory};
 ghost use Rattle.d_types.specs.Typed.{typed_of, typeds_of, Typed, type_of};
+ghost use Rattle.d_types.specs.{Operators.conversion_node};
+ghost use Rattle.d_types.specs.Vocabulary.{common_of, Int};
 ghost use Rattle.d_types.specs.Variables.{type_at};
 ghost use Rattle.d_types.specs.Steps.Variables.{rows_of_entries};
 ghost use Rattle.d_types.specs.Targets as spec;
@@ -17,7 +19,7 @@ use crate::targets::variable_at;
 use crate::typed::{Answer, Operation, Space, TypedExpr, Variable};
 use crate::variables::{Entry, set_type, type_at};
 use d_parser::{IntegerType, Step};
-use d_values::{DType, common, promotion_of};
+use d_values::{ArithmeticOperator, DType, IntType, common, promotion_of};
 use std::alloc::Global;
 
 /// What is assigned: the variable of a slot, under its keys.
@@ -50,8 +52,8 @@ fn variable_and_value(
         × (both.1.value ≡ x)) }
     ensures err { OnlyMemory result }
 {
-    let variable = variable_at(to.space, to.slot, holds)?;
     let x = boxed(alloc, x)?;
+    let variable = variable_at(to.space, to.slot, holds)?;
     Ok((variable, x))
 }
 
@@ -129,6 +131,26 @@ fn store(
     }
 }
 
+// `+=` and its like, of an integer slot of the first type by a value of the second.
+fn update_in_common(
+    alloc: Global,
+    op: ArithmeticOperator,
+    t: IntType,
+    to: Assignee,
+    u: IntType,
+    x: TypedExpr,
+) -> Result<Option<TypedExpr>, TypeFault>
+    ensures ok { IfOk result (λ y. option_map typed_of y ≡ Some (Typed.Update
+        (Operation.Arithmetic op (common_of t u))
+        (record { space = to.space; slot = to.slot; holds = Int t }) (typeds_of to.keys.items)
+        (conversion_node u (common_of t u) (typed_of x)))) }
+    ensures err { OnlyMemory result }
+{
+    let both = common(t, u);
+    let x = convert(alloc, u, both, x)?;
+    update_of(alloc, Operation::Arithmetic(op, both), DType::Int(t), to, x)
+}
+
 /// An assignment of a value to a slot.
 pub(crate) fn assignment(
     alloc: Global,
@@ -146,15 +168,17 @@ pub(crate) fn assignment(
     match (sort, type_at(table, to.slot), x.type_of()) {
         (AssignSort::Set, _, _) => store(alloc, table, to, x),
         (AssignSort::Arithmetic(op), Some(DType::Int(t)), DType::Int(u)) => {
-            let x = convert(alloc, u, common(t, u), x)?;
-            let operation = Operation::Arithmetic(op, common(t, u));
-            update_of(alloc, operation, DType::Int(t), to, x)
+            update_in_common(alloc, op, t, to, u, x)
         }
         (AssignSort::Shift(op), Some(DType::Int(t)), DType::Int(_)) => {
             let operation = Operation::Shift(op, promotion_of(t));
             update_of(alloc, operation, DType::Int(t), to, x)
         }
-        _ => Ok(None),
+        _ => {
+            drop(to);
+            drop(x);
+            Ok(None)
+        }
     }
 }
 

@@ -1,7 +1,7 @@
 //! Calls in expressions. None where the arguments don't fit.
 
-ghost use Rattle.std.specs.Prelude.{◌≡◌, IfOk, option_map};
-ghost use Rattle.d_types.specs.{Typed.typed_of, Typed.typeds_of, Typed.type_of};
+ghost use Rattle.std.specs.Prelude.{◌≡◌, IfOk, option_map, Some};
+ghost use Rattle.d_types.specs.Typed.{typed_of, typeds_of, type_of, Typed};
 ghost use Rattle.d_types.specs.Steps.Faults.{OnlyMemory};
 ghost use Rattle.d_types.specs.Typing as spec;
 
@@ -22,7 +22,10 @@ fn length_of(alloc: Global, x: TypedExpr) -> Result<Option<TypedExpr>, TypeFault
             let x = boxed(alloc, x)?;
             Ok(Some(TypedExpr::Strlen(x)))
         }
-        DType::Int(_) => Ok(None),
+        DType::Int(_) => {
+            drop(x);
+            Ok(None)
+        }
     }
 }
 
@@ -32,12 +35,22 @@ fn join(alloc: Global, x: TypedExpr, y: TypedExpr) -> Result<Option<TypedExpr>, 
     ensures err { OnlyMemory result }
 {
     match (x.type_of(), y.type_of()) {
-        (DType::Text, DType::Text) => {
-            let (x, y) = boxed_two(alloc, x, y)?;
-            Ok(Some(TypedExpr::Strjoin(x, y)))
+        (DType::Text, DType::Text) => join_texts(alloc, x, y),
+        _ => {
+            drop(x);
+            drop(y);
+            Ok(None)
         }
-        _ => Ok(None),
     }
+}
+
+fn join_texts(alloc: Global, x: TypedExpr, y: TypedExpr) -> Result<Option<TypedExpr>, TypeFault>
+    ensures ok { IfOk result
+        (λ z. option_map typed_of z ≡ Some (Typed.Strjoin (typed_of x) (typed_of y))) }
+    ensures err { OnlyMemory result }
+{
+    let (x, y) = boxed_two(alloc, x, y)?;
+    Ok(Some(TypedExpr::Strjoin(x, y)))
 }
 
 /// The only argument.

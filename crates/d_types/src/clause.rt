@@ -12,6 +12,7 @@ use crate::aggregation::{WrittenAggregation, aggregate};
 use crate::expression::{expr, line_of};
 use crate::fault::TypeFault;
 use crate::needs::{REGISTERS, fits};
+use crate::operations::both;
 use crate::typed::{TypedAggregation, TypedClause, TypedExpr, TypedStmt};
 use crate::variables::Entry;
 use d_parser::{Clause, Description, Expr, Stmt};
@@ -24,10 +25,12 @@ fn test_of(alloc: Global, table: &mut Vec<Entry>, e: &Expr) -> Result<Option<Typ
 {
     let x = expr(alloc, table, e)?;
     if x.type_of() == DType::Text {
+        drop(x);
         Err(TypeFault::Mismatch { line: line_of(e) })
     } else if fits(&x, REGISTERS) {
         Ok(Some(x))
     } else {
+        drop(x);
         Err(TypeFault::NoRegister { line: line_of(e) })
     }
 }
@@ -117,7 +120,8 @@ pub(crate) fn clause(
         (clause_of clause.now)) }
 {
     let predicate = predicate(alloc, table, &clause.predicate)?;
-    let statements = statements(alloc, table, aggs, &clause.statements)?;
+    let statements = statements(alloc, table, aggs, &clause.statements);
+    let (predicate, statements) = both(predicate, statements)?;
     with_descriptions(alloc, &clause.descriptions, predicate, statements)
 }
 
@@ -134,7 +138,8 @@ fn with_descriptions(
       statements = actions_of statements.items;
     })) }
 {
-    let descriptions = Vec::from_clones(alloc, descriptions)?;
+    let descriptions = Vec::from_clones(alloc, descriptions);
+    let ((predicate, statements), descriptions) = both((predicate, statements), descriptions)?;
     Ok(TypedClause {
         descriptions,
         predicate,

@@ -1,11 +1,16 @@
 //! From trees of expressions to typed ones.
 
-ghost use Rattle.std.specs.Prelude.{◌≡◌, IfOk};
+ghost use Rattle.std.specs.Prelude.{◌≡◌, IfOk, option_map};
 ghost use Rattle.d_types.specs.Steps.Variables.{rows_of_entries};
-ghost use Rattle.d_types.specs.Vocabulary.{tree_of, trees_of, Tree};
+ghost use Rattle.d_types.specs.Vocabulary.{tree_of, trees_of, Tree, Int};
 ghost use Rattle.d_types.specs.Faults.{Gives};
 ghost use Rattle.d_types.specs.Steps.Faults.{OnlyMemory};
-ghost use Rattle.d_types.specs.Typed.{typed_of, typeds_of, Typeds};
+ghost use Rattle.d_types.specs.Typed.{typed_of, typeds_of, type_of, Typeds};
+ghost use Rattle.d_types.specs.Variables.{Rows, type_at};
+ghost use Rattle.d_types.specs.{Words.callee_named};
+ghost use Rattle.d_types.specs.Constants as constants;
+ghost use Rattle.d_types.specs.Operators as operators;
+ghost use Rattle.d_types.specs.Targets as targets;
 ghost use Rattle.d_types.specs.Typing as spec;
 ghost use Rattle.d_types.specs.Steps.Typing as steps;
 
@@ -14,8 +19,8 @@ use crate::calls::call;
 use crate::constants::{int_type, integer, type_of_constant};
 use crate::fault::TypeFault;
 use crate::needs::{REGISTERS, fits};
-use crate::operations::{as_type, binary, choice, unary};
-use crate::operators::{assign_sort, binary_sort};
+use crate::operations::{as_type, binary, both, choice, unary};
+use crate::operators::{AssignSort, assign_sort, binary_sort};
 use crate::targets::{line_of_variable, read, space_of, target};
 use crate::typed::{Answer, TypedExpr};
 use crate::variables::{Entry, type_at};
@@ -42,6 +47,17 @@ pub(crate) fn line_of(e: &Expr) -> usize
         Expr::Binary { left, .. } => line_of(left),
         Expr::Choice { test, .. } => line_of(test),
         Expr::Assign { target, .. } => line_of_variable(&target.variable),
+    }
+}
+
+// What is typed, or that its construct, on the line, doesn't take such operands.
+fn typed_or_mismatch(line: usize, typed: Option<TypedExpr>) -> Result<TypedExpr, TypeFault>
+    ensures { (rows : Rows) → Gives (λ x. (typed_of x, rows)) result
+        (spec.fitting line (spec.beside rows (option_map typed_of typed))) }
+{
+    match typed {
+        Some(x) => Ok(x),
+        None => Err(TypeFault::Mismatch { line }),
     }
 }
 
@@ -111,10 +127,22 @@ fn unary_expr(
         (Tree.Unary line operator (tree_of operand.now))) }
 {
     let x = expr(alloc, table, operand)?;
-    match unary(alloc, operator, x)? {
-        Some(typed) => Ok(typed),
-        None => Err(TypeFault::Mismatch { line }),
-    }
+    unary_rest(alloc, line, operator, x)
+}
+
+// A unary operator, once its operand is typed.
+fn unary_rest(
+    alloc: Global,
+    line: usize,
+    operator: UnaryOperator,
+    x: TypedExpr,
+) -> Result<TypedExpr, TypeFault>
+    ensures { (rows : Rows) → Gives (λ y. (typed_of y, rows)) result
+        (spec.fitting line
+        (spec.beside rows (operators.unary operator (type_of (typed_of x)) (typed_of x)))) }
+{
+    let typed = unary(alloc, operator, x)?;
+    typed_or_mismatch(line, typed)
 }
 
 #[cycle(typing)]
@@ -129,10 +157,23 @@ fn cast_expr(
         (spec.expr (rows_of_entries table.old.items) (Tree.Cast line to (tree_of operand.now))) }
 {
     let x = expr(alloc, table, operand)?;
-    match as_type(alloc, DType::Int(int_type(to)), x)? {
-        Some(typed) => Ok(typed),
-        None => Err(TypeFault::Mismatch { line }),
-    }
+    cast_rest(alloc, line, to, x)
+}
+
+// A cast, once its operand is typed.
+fn cast_rest(
+    alloc: Global,
+    line: usize,
+    to: IntegerType,
+    x: TypedExpr,
+) -> Result<TypedExpr, TypeFault>
+    ensures { (rows : Rows) → Gives (λ y. (typed_of y, rows)) result
+        (spec.fitting line
+        (spec.beside rows (operators.as_type (type_of (typed_of x)) (Int (constants.int_type to))
+        (typed_of x)))) }
+{
+    let typed = as_type(alloc, DType::Int(int_type(to)), x)?;
+    typed_or_mismatch(line, typed)
 }
 
 #[cycle(typing)]
@@ -148,13 +189,26 @@ fn binary_expr(
         (Tree.Binary operator (tree_of left.now) (tree_of right.now))) }
 {
     let x = expr(alloc, table, left)?;
-    let y = expr(alloc, table, right)?;
-    match binary(alloc, binary_sort(operator), x, y)? {
-        Some(typed) => Ok(typed),
-        None => Err(TypeFault::Mismatch {
-            line: line_of(left),
-        }),
-    }
+    let y = expr(alloc, table, right);
+    let (x, y) = both(x, y)?;
+    binary_rest(alloc, line_of(left), operator, x, y)
+}
+
+// A binary operator, once its operands are typed.
+fn binary_rest(
+    alloc: Global,
+    line: usize,
+    operator: BinaryOperator,
+    x: TypedExpr,
+    y: TypedExpr,
+) -> Result<TypedExpr, TypeFault>
+    ensures { (rows : Rows) → Gives (λ z. (typed_of z, rows)) result
+        (spec.fitting line
+        (spec.beside rows (operators.binary operator (type_of (typed_of x))
+        (type_of (typed_of y)) (typed_of x) (typed_of y)))) }
+{
+    let typed = binary(alloc, binary_sort(operator), x, y)?;
+    typed_or_mismatch(line, typed)
 }
 
 #[cycle(typing)]
@@ -180,13 +234,24 @@ fn call_expr(
         (Tree.Call line function.now (trees_of args.now))) }
 {
     let args = exprs(alloc, table, args)?;
+    call_rest(alloc, line, function, args)
+}
+
+// A call, once its arguments are typed.
+fn call_rest(
+    alloc: Global,
+    line: usize,
+    function: &[u8],
+    args: Vec<TypedExpr>,
+) -> Result<TypedExpr, TypeFault>
+    ensures { (rows : Rows) → Gives (λ x. (typed_of x, rows)) result
+        (spec.typed_call line (callee_named function.now) (typeds_of args.items) rows) }
+{
     let Some(callee) = callee_named(function) else {
         return Err(TypeFault::Undeclared { line });
     };
-    match call(alloc, callee, args)? {
-        Some(typed) => Ok(typed),
-        None => Err(TypeFault::Mismatch { line }),
-    }
+    let typed = call(alloc, callee, args)?;
+    typed_or_mismatch(line, typed)
 }
 
 // What is assigned, once its keys are typed.
@@ -265,14 +330,28 @@ fn choice_expr(
         (Tree.Choice (tree_of test.now) (tree_of first.now) (tree_of second.now))) }
 {
     let x = expr(alloc, table, test)?;
-    let y = expr(alloc, table, first)?;
-    let z = expr(alloc, table, second)?;
-    match choice(alloc, x, y, z)? {
-        Some(typed) => Ok(typed),
-        None => Err(TypeFault::Mismatch {
-            line: line_of(test),
-        }),
-    }
+    let y = expr(alloc, table, first);
+    let known = both(x, y)?;
+    let z = expr(alloc, table, second);
+    let ((x, y), z) = both(known, z)?;
+    choice_rest(alloc, line_of(test), x, y, z)
+}
+
+// `x ? y : z`, once the three are typed.
+fn choice_rest(
+    alloc: Global,
+    line: usize,
+    x: TypedExpr,
+    y: TypedExpr,
+    z: TypedExpr,
+) -> Result<TypedExpr, TypeFault>
+    ensures { (rows : Rows) → Gives (λ w. (typed_of w, rows)) result
+        (spec.fitting line
+        (spec.beside rows (operators.choice (type_of (typed_of x)) (type_of (typed_of y))
+        (type_of (typed_of z)) (typed_of x) (typed_of y) (typed_of z)))) }
+{
+    let typed = choice(alloc, x, y, z)?;
+    typed_or_mismatch(line, typed)
 }
 
 #[cycle(typing)]
@@ -312,16 +391,51 @@ fn assign_rest(
         (steps.assign_rest (rows_of_entries table.old.items) operator to.entry.variable.now
         (typeds_of to.entry.keys.items) (tree_of value.now)) }
 {
-    let TypedTarget { variable, keys } = to;
+    let line = line_of_variable(to.variable);
     let sort = assign_sort(operator);
-    let slot = target(alloc, table, variable, type_at_once(sort), &keys)?;
+    let assignee = assignee(alloc, table, sort, to)?;
     let x = expr(alloc, table, value)?;
+    assigned(alloc, table, line, sort, assignee, x)
+}
+
+// The slot that is assigned, under its keys.
+fn assignee(
+    alloc: Global,
+    table: &mut Vec<Entry>,
+    sort: AssignSort,
+    to: TypedTarget<'_>,
+) -> Result<Assignee, TypeFault>
+    ensures slot { Gives (λ a. (a.slot, rows_of_entries table.new.items)) result
+        (targets.target (rows_of_entries table.old.items) to.entry.variable.now
+        (targets.type_at_once sort) (typeds_of to.entry.keys.items)) }
+    ensures rest { IfOk result (λ a. (a.space ≡ targets.space_of to.entry.variable.now)
+        × (a.keys ≡ to.entry.keys)) }
+{
+    let TypedTarget { variable, keys } = to;
+    let slot = target(alloc, table, variable, type_at_once(sort), &keys)?;
     let space = space_of(variable);
-    match assignment(alloc, table, sort, Assignee { space, slot, keys }, x)? {
-        Some(typed) => Ok(typed),
-        None => Err(TypeFault::Mismatch {
-            line: line_of_variable(variable),
-        }),
+    Ok(Assignee { space, slot, keys })
+}
+
+// An assignment, once its right side is typed.
+fn assigned(
+    alloc: Global,
+    table: &mut [Entry],
+    line: usize,
+    sort: AssignSort,
+    to: Assignee,
+    x: TypedExpr,
+) -> Result<TypedExpr, TypeFault>
+    ensures { Gives (λ y. (typed_of y, rows_of_entries table.new)) result
+        (spec.fitting line
+        (targets.assignment sort to.space (type_at (rows_of_entries table.old) to.slot)
+        (type_of (typed_of x)) to.slot (typeds_of to.keys.items) (typed_of x)
+        (rows_of_entries table.old))) }
+{
+    let typed = assignment(alloc, table, sort, to, x)?;
+    match typed {
+        Some(y) => Ok(y),
+        None => Err(TypeFault::Mismatch { line }),
     }
 }
 
@@ -352,6 +466,7 @@ pub(crate) fn whole(alloc: Global, table: &mut Vec<Entry>, e: &Expr) -> Result<T
     if fits(&x, REGISTERS) {
         Ok(x)
     } else {
+        drop(x);
         Err(TypeFault::NoRegister { line: line_of(e) })
     }
 }

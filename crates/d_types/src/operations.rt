@@ -1,7 +1,7 @@
 //! What operators make of typed operands. None where they don't take such operands.
 
-ghost use Rattle.std.specs.Prelude.{◌≡◌, IfOk, option_map, Some};
-ghost use Rattle.d_types.specs.{Vocabulary.common_of};
+ghost use Rattle.std.specs.Prelude.{◌≡◌, IfOk, IfErr, Ok, Err, option_map, Some};
+ghost use Rattle.d_types.specs.Vocabulary.{common_of, promoted_of, Int};
 ghost use Rattle.d_types.specs.{Typed.typed_of, Typed.Typed, Typed.type_of};
 ghost use Rattle.d_types.specs.Steps.Faults.{OnlyMemory};
 ghost use Rattle.d_types.specs.Operators as spec;
@@ -15,8 +15,8 @@ use d_values::{
 };
 use std::alloc::Global;
 
-/// An expression in a box.
-pub(crate) fn boxed(alloc: Global, x: TypedExpr) -> Result<Box<TypedExpr>, TypeFault>
+/// A value in a box.
+pub(crate) fn boxed<T: Drop>(alloc: Global, x: T) -> Result<Box<T>, TypeFault>
     ensures ok { IfOk result (λ y. y.value ≡ x) }
     ensures err { OnlyMemory result }
 {
@@ -24,18 +24,25 @@ pub(crate) fn boxed(alloc: Global, x: TypedExpr) -> Result<Box<TypedExpr>, TypeF
     Ok(boxed)
 }
 
-/// Two expressions, each in a box.
-pub(crate) fn boxed_two(
-    alloc: Global,
-    x: TypedExpr,
-    y: TypedExpr,
-) -> Result<(Box<TypedExpr>, Box<TypedExpr>), TypeFault>
-    ensures ok { IfOk result (λ both. (both.0.value ≡ x) × (both.1.value ≡ y)) }
+/// Two values, each in a box.
+pub(crate) fn boxed_two<T: Drop>(alloc: Global, x: T, y: T) -> Result<(Box<T>, Box<T>), TypeFault>
+    ensures ok { IfOk result (λ two. (two.0.value ≡ x) × (two.1.value ≡ y)) }
     ensures err { OnlyMemory result }
 {
     let x = boxed(alloc, x)?;
     let y = boxed(alloc, y)?;
     Ok((x, y))
+}
+
+/// Two values, unless the second failed.
+pub(crate) fn both<A: Drop, B: Drop, E: Drop>(first: A, second: Result<B, E>) -> Result<(A, B), E>
+    ensures ok { IfOk result (λ two. (two.0 ≡ first) × (second ≡ Ok two.1)) }
+    ensures err { IfErr result (λ fault. second ≡ Err fault) }
+{
+    match second {
+        Ok(second) => Ok((first, second)),
+        Err(fault) => Err(fault),
+    }
 }
 
 /// An integer as one of another type.
@@ -69,9 +76,11 @@ fn in_common(
         × (typed_of both.1 ≡ spec.conversion_node u (common_of t u) (typed_of y))) }
     ensures err { OnlyMemory result }
 {
-    let x = convert(alloc, t, common(t, u), x)?;
-    let y = convert(alloc, u, common(t, u), y)?;
-    Ok((x, y))
+    let to = common(t, u);
+    let x = convert(alloc, t, to, x);
+    let (y, x) = both(y, x)?;
+    let y = convert(alloc, u, to, y);
+    both(x, y)
 }
 
 /// A value as one of a type.
@@ -90,7 +99,10 @@ pub(crate) fn as_type(
             Ok(Some(x))
         }
         (DType::Text, DType::Text) => Ok(Some(x)),
-        _ => Ok(None),
+        _ => {
+            drop(x);
+            Ok(None)
+        }
     }
 }
 
@@ -105,12 +117,30 @@ pub(crate) fn unary(
 {
     match x.type_of() {
         DType::Int(t) => {
-            let x = convert(alloc, t, promotion_of(t), x)?;
-            let x = boxed(alloc, x)?;
-            Ok(Some(TypedExpr::Unary(operator, promotion_of(t), x)))
+            let promoted = promotion_of(t);
+            let x = convert(alloc, t, promoted, x)?;
+            unary_of(alloc, operator, promoted, x)
         }
-        DType::Text => Ok(None),
+        DType::Text => {
+            drop(x);
+            Ok(None)
+        }
     }
+}
+
+// What an operator makes of a promoted operand.
+fn unary_of(
+    alloc: Global,
+    operator: UnaryOperator,
+    promoted: IntType,
+    x: TypedExpr,
+) -> Result<Option<TypedExpr>, TypeFault>
+    ensures ok { IfOk result
+        (λ y. option_map typed_of y ≡ Some (Typed.Unary operator promoted (typed_of x))) }
+    ensures err { OnlyMemory result }
+{
+    let x = boxed(alloc, x)?;
+    Ok(Some(TypedExpr::Unary(operator, promoted, x)))
 }
 
 fn operate(
@@ -139,12 +169,30 @@ fn arithmetic(
     ensures err { OnlyMemory result }
 {
     match (x.type_of(), y.type_of()) {
-        (DType::Int(t), DType::Int(u)) => {
-            let (x, y) = in_common(alloc, t, u, x, y)?;
-            operate(alloc, Operation::Arithmetic(op, common(t, u)), x, y)
+        (DType::Int(t), DType::Int(u)) => arithmetic_of(alloc, op, t, u, x, y),
+        _ => {
+            drop(x);
+            drop(y);
+            Ok(None)
         }
-        _ => Ok(None),
     }
+}
+
+// Arithmetic of two integers of these types.
+fn arithmetic_of(
+    alloc: Global,
+    op: ArithmeticOperator,
+    t: IntType,
+    u: IntType,
+    x: TypedExpr,
+    y: TypedExpr,
+) -> Result<Option<TypedExpr>, TypeFault>
+    ensures ok { IfOk result (λ z. option_map typed_of z
+        ≡ spec.operation_by (BinarySort.Arithmetic op) (Int t) (Int u) (typed_of x) (typed_of y)) }
+    ensures err { OnlyMemory result }
+{
+    let (x, y) = in_common(alloc, t, u, x, y)?;
+    operate(alloc, Operation::Arithmetic(op, common(t, u)), x, y)
 }
 
 fn shift(
@@ -159,12 +207,32 @@ fn shift(
     ensures err { OnlyMemory result }
 {
     match (x.type_of(), y.type_of()) {
-        (DType::Int(t), DType::Int(_)) => {
-            let x = convert(alloc, t, promotion_of(t), x)?;
-            operate(alloc, Operation::Shift(op, promotion_of(t)), x, y)
+        (DType::Int(t), DType::Int(_)) => shift_of(alloc, op, t, x, y),
+        _ => {
+            drop(x);
+            drop(y);
+            Ok(None)
         }
-        _ => Ok(None),
     }
+}
+
+// A shift of an integer of this type.
+fn shift_of(
+    alloc: Global,
+    op: ShiftOperator,
+    t: IntType,
+    x: TypedExpr,
+    y: TypedExpr,
+) -> Result<Option<TypedExpr>, TypeFault>
+    ensures ok { IfOk result (λ z. option_map typed_of z ≡ Some (Typed.Operate
+        (Operation.Shift op (promoted_of t)) (spec.conversion_node t (promoted_of t) (typed_of x))
+        (typed_of y))) }
+    ensures err { OnlyMemory result }
+{
+    let promoted = promotion_of(t);
+    let x = convert(alloc, t, promoted, x);
+    let (y, x) = both(y, x)?;
+    operate(alloc, Operation::Shift(op, promoted), x, y)
 }
 
 fn compare_integers(
@@ -180,6 +248,23 @@ fn compare_integers(
 {
     let (x, y) = boxed_two(alloc, x, y)?;
     Ok(Some(TypedExpr::Compare(op, t, x, y)))
+}
+
+// A comparison of two integers of these types.
+fn compare_in_common(
+    alloc: Global,
+    op: ComparisonOperator,
+    t: IntType,
+    u: IntType,
+    x: TypedExpr,
+    y: TypedExpr,
+) -> Result<Option<TypedExpr>, TypeFault>
+    ensures ok { IfOk result (λ z. option_map typed_of z
+        ≡ spec.operation_by (BinarySort.Compare op) (Int t) (Int u) (typed_of x) (typed_of y)) }
+    ensures err { OnlyMemory result }
+{
+    let (x, y) = in_common(alloc, t, u, x, y)?;
+    compare_integers(alloc, op, common(t, u), x, y)
 }
 
 fn compare_texts(
@@ -208,12 +293,13 @@ fn compare(
     ensures err { OnlyMemory result }
 {
     match (x.type_of(), y.type_of()) {
-        (DType::Int(t), DType::Int(u)) => {
-            let (x, y) = in_common(alloc, t, u, x, y)?;
-            compare_integers(alloc, op, common(t, u), x, y)
-        }
+        (DType::Int(t), DType::Int(u)) => compare_in_common(alloc, op, t, u, x, y),
         (DType::Text, DType::Text) => compare_texts(alloc, op, x, y),
-        _ => Ok(None),
+        _ => {
+            drop(x);
+            drop(y);
+            Ok(None)
+        }
     }
 }
 
@@ -229,12 +315,27 @@ fn logic(
     ensures err { OnlyMemory result }
 {
     match (x.type_of(), y.type_of()) {
-        (DType::Int(_), DType::Int(_)) => {
-            let (x, y) = boxed_two(alloc, x, y)?;
-            Ok(Some(TypedExpr::Logic(op, x, y)))
+        (DType::Int(_), DType::Int(_)) => logic_of(alloc, op, x, y),
+        _ => {
+            drop(x);
+            drop(y);
+            Ok(None)
         }
-        _ => Ok(None),
     }
+}
+
+fn logic_of(
+    alloc: Global,
+    op: LogicOperator,
+    x: TypedExpr,
+    y: TypedExpr,
+) -> Result<Option<TypedExpr>, TypeFault>
+    ensures ok { IfOk result
+        (λ z. option_map typed_of z ≡ Some (Typed.Logic op (typed_of x) (typed_of y))) }
+    ensures err { OnlyMemory result }
+{
+    let (x, y) = boxed_two(alloc, x, y)?;
+    Ok(Some(TypedExpr::Logic(op, x, y)))
 }
 
 /// What an operator makes of two operands.
@@ -268,9 +369,45 @@ fn choice_of(
         ≡ Some (Typed.Choice t (typed_of x) (typed_of y) (typed_of z))) }
     ensures err { OnlyMemory result }
 {
+    let sides = boxed_two(alloc, y, z);
+    let (x, sides) = both(x, sides)?;
+    choice_between(alloc, t, x, sides)
+}
+
+// A choice between two that are in boxes.
+fn choice_between(
+    alloc: Global,
+    t: DType,
+    x: TypedExpr,
+    sides: (Box<TypedExpr>, Box<TypedExpr>),
+) -> Result<Option<TypedExpr>, TypeFault>
+    ensures ok { IfOk result (λ w. option_map typed_of w
+        ≡ Some (Typed.Choice t (typed_of x) (typed_of sides.0.value) (typed_of sides.1.value))) }
+    ensures err { OnlyMemory result }
+{
     let x = boxed(alloc, x)?;
-    let (y, z) = boxed_two(alloc, y, z)?;
+    let (y, z) = sides;
     Ok(Some(TypedExpr::Choice(t, x, y, z)))
+}
+
+// A choice between two integers of these types.
+fn choice_in_common(
+    alloc: Global,
+    t: IntType,
+    u: IntType,
+    x: TypedExpr,
+    y: TypedExpr,
+    z: TypedExpr,
+) -> Result<Option<TypedExpr>, TypeFault>
+    ensures ok { IfOk result (λ w. option_map typed_of w
+        ≡ Some (Typed.Choice (Int (common_of t u)) (typed_of x)
+        (spec.conversion_node t (common_of t u) (typed_of y))
+        (spec.conversion_node u (common_of t u) (typed_of z)))) }
+    ensures err { OnlyMemory result }
+{
+    let sides = in_common(alloc, t, u, y, z);
+    let (x, (y, z)) = both(x, sides)?;
+    choice_of(alloc, DType::Int(common(t, u)), x, y, z)
 }
 
 /// `x ? y : z`
@@ -285,11 +422,13 @@ pub(crate) fn choice(
     ensures err { OnlyMemory result }
 {
     match (x.type_of(), y.type_of(), z.type_of()) {
-        (DType::Int(_), DType::Int(t), DType::Int(u)) => {
-            let (y, z) = in_common(alloc, t, u, y, z)?;
-            choice_of(alloc, DType::Int(common(t, u)), x, y, z)
-        }
+        (DType::Int(_), DType::Int(t), DType::Int(u)) => choice_in_common(alloc, t, u, x, y, z),
         (DType::Int(_), DType::Text, DType::Text) => choice_of(alloc, DType::Text, x, y, z),
-        _ => Ok(None),
+        _ => {
+            drop(x);
+            drop(y);
+            drop(z);
+            Ok(None)
+        }
     }
 }
