@@ -2,3 +2,4 @@
 -- definitions.
 pub mod Validity
 pub mod Pass
+pub mod Texts
