@@ -3,8 +3,9 @@
 ghost use Rattle.std.specs.Prelude.{◌≡◌, IfOk, map};
 ghost use Rattle.d_types.specs.{Fitting.FitsRegisters, TypedScripts.typed_script_of};
 ghost use Rattle.d_types.specs.Held.{IsConsistent, Slots};
-ghost use Rattle.d_types.specs.Typed.{action_of, actions_of, meant_of};
-ghost use Rattle.d_types.specs.Wholes.{ActionIs, ActionsAre, ClauseIs, ClausesAre};
+ghost use Rattle.d_types.specs.Typed.{action_of, actions_of, meant_of, typed_of, typeds_of};
+ghost use Rattle.d_types.specs.Typed.{typed_argument, Evaluate, Trace, Print, Exit, Aggregate};
+ghost use Rattle.d_types.specs.Wholes.{ActionIs, ActionsAre, ClauseIs, ClausesAre, EachIs};
 ghost use Rattle.dif_codegen.specs.{Meaning.IsProgramOf};
 ghost use Rattle.dif_codegen.specs.Programs.{action_code, clause_code};
 ghost use Rattle.dif_codegen.specs.Steps.Programs.{compiled_action};
@@ -12,8 +13,73 @@ ghost use Rattle.dif_codegen.specs.Steps.Programs.{compiled_clause};
 
 use crate::compiling::{compile_expression, compile_expressions, compile_optional};
 use crate::program::{Action, CompiledClause, Program};
-use d_types::{Piece, TypedClause, TypedScript, TypedStmt};
+use d_types::{Piece, TypedClause, TypedExpr, TypedScript, TypedStmt};
 use std::alloc::{AllocError, Global};
+
+// An expression, for its assignments.
+fn compile_plain(alloc: Global, e: &TypedExpr) -> Result<Action, AllocError>
+    requires few { FitsRegisters (typed_of e.now) }
+    requires consistent { (slots : Slots) × IsConsistent slots (typed_of e.now) }
+    ensures { IfOk result (λ a. action_code a ≡ compiled_action (Evaluate (typed_of e.now))) }
+{
+    let object = compile_expression(alloc, e)?;
+    Ok(Action::Plain(object))
+}
+
+// `trace(value)`
+fn compile_trace(alloc: Global, e: &TypedExpr) -> Result<Action, AllocError>
+    requires few { FitsRegisters (typed_of e.now) }
+    requires consistent { (slots : Slots) × IsConsistent slots (typed_of e.now) }
+    ensures { IfOk result (λ a. action_code a ≡ compiled_action (Trace (typed_of e.now))) }
+{
+    let object = compile_expression(alloc, e)?;
+    Ok(Action::Trace(object))
+}
+
+// `exit(status)`
+fn compile_exit(alloc: Global, e: &TypedExpr) -> Result<Action, AllocError>
+    requires few { FitsRegisters (typed_of e.now) }
+    requires consistent { (slots : Slots) × IsConsistent slots (typed_of e.now) }
+    ensures { IfOk result (λ a. action_code a ≡ compiled_action (Exit (typed_of e.now))) }
+{
+    let object = compile_expression(alloc, e)?;
+    Ok(Action::Exit(object))
+}
+
+// `printf(format, arguments)`
+fn compile_printf(
+    alloc: Global,
+    format: &[Piece],
+    arguments: &[TypedExpr],
+) -> Result<Action, AllocError>
+    requires few { EachIs FitsRegisters (typeds_of arguments.now) }
+    requires consistent { (slots : Slots) × EachIs (IsConsistent slots) (typeds_of arguments.now) }
+    ensures { IfOk result (λ a. action_code a
+        ≡ compiled_action (Print format.now (typeds_of arguments.now))) }
+{
+    let arguments = compile_expressions(alloc, arguments)?;
+    let format: Vec<Piece> = format.to_vec(alloc)?;
+    Ok(Action::Printf(format, arguments))
+}
+
+// `@name[keys] = function(argument)`
+fn compile_aggregate(
+    alloc: Global,
+    place: usize,
+    keys: &[TypedExpr],
+    argument: &Option<TypedExpr>,
+) -> Result<Action, AllocError>
+    requires few { ActionIs FitsRegisters
+        (Aggregate place (typeds_of keys.now) (typed_argument argument.now)) }
+    requires consistent { (slots : Slots) × ActionIs (IsConsistent slots)
+        (Aggregate place (typeds_of keys.now) (typed_argument argument.now)) }
+    ensures { IfOk result (λ a. action_code a ≡ compiled_action
+        (Aggregate place (typeds_of keys.now) (typed_argument argument.now))) }
+{
+    let keys = compile_expressions(alloc, keys)?;
+    let argument = compile_optional(alloc, argument)?;
+    Ok(Action::Aggregate(place, keys, argument))
+}
 
 fn compile_statement(alloc: Global, s: &TypedStmt) -> Result<Action, AllocError>
     requires few { ActionIs FitsRegisters (action_of s.now) }
@@ -21,27 +87,12 @@ fn compile_statement(alloc: Global, s: &TypedStmt) -> Result<Action, AllocError>
     ensures { IfOk result (λ a. action_code a ≡ compiled_action (action_of s.now)) }
 {
     match s {
-        TypedStmt::Evaluate(e) => {
-            let object = compile_expression(alloc, e)?;
-            Ok(Action::Plain(object))
-        }
-        TypedStmt::Trace(e) => {
-            let object = compile_expression(alloc, e)?;
-            Ok(Action::Trace(object))
-        }
-        TypedStmt::Print(format, arguments) => {
-            let arguments = compile_expressions(alloc, arguments)?;
-            let format: Vec<Piece> = format.to_vec(alloc)?;
-            Ok(Action::Printf(format, arguments))
-        }
-        TypedStmt::Exit(e) => {
-            let object = compile_expression(alloc, e)?;
-            Ok(Action::Exit(object))
-        }
+        TypedStmt::Evaluate(e) => compile_plain(alloc, e),
+        TypedStmt::Trace(e) => compile_trace(alloc, e),
+        TypedStmt::Print(format, arguments) => compile_printf(alloc, format, arguments),
+        TypedStmt::Exit(e) => compile_exit(alloc, e),
         TypedStmt::Aggregate(place, keys, argument) => {
-            let keys = compile_expressions(alloc, keys)?;
-            let argument = compile_optional(alloc, argument)?;
-            Ok(Action::Aggregate(*place, keys, argument))
+            compile_aggregate(alloc, *place, keys, argument)
         }
     }
 }
