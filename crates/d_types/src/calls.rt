@@ -62,6 +62,7 @@ pub(crate) fn only(args: Vec<TypedExpr>) -> Option<TypedExpr>
         return None;
     };
     if !rest.is_empty() {
+        drop(x);
         return None;
     }
     Some(x)
@@ -88,7 +89,10 @@ fn strjoin(alloc: Global, args: Vec<TypedExpr>) -> Result<Option<TypedExpr>, Typ
     };
     match only(rest) {
         Some(x) => join(alloc, x, y),
-        None => Ok(None),
+        None => {
+            drop(y);
+            Ok(None)
+        }
     }
 }
 
