@@ -1,4 +1,7 @@
 //! What operators make of typed operands. None where they don't take such operands.
+//!
+//! Operands that aren't taken are dropped by name, and `both` holds one while the next is made: in
+//! each function that drops a tree at a scope's end, a proof goes through the tree's variants.
 
 ghost use Rattle.std.specs.Prelude.{◌≡◌, IfOk, IfErr, Ok, Err, option_map, Some};
 ghost use Rattle.d_types.specs.Vocabulary.{common_of, promoted_of, Int};
