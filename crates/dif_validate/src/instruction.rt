@@ -73,7 +73,7 @@ pub enum Function {
 pub const LAST_BUILT_IN: u8 = 8;
 
 /// One instruction.
-#[derive(Clone, Copy)]
+#[derive(Clone, Copy, PartialEq, Eq)]
 pub enum Instr {
     /// `OP a, b, d`:    `d = a OP b`; a division by 0 ends the run
     Alu(Operator, Reg, Reg, Reg),
