@@ -1,6 +1,6 @@
 //! Reading a feed to its end.
 ghost use Rattle.std.specs.Prelude.{◌≡◌, ◌⊎◌, ◌+◌, ◌++◌, ◌≤◌, ℕ, List, IfOk, IfSome, OnOk};
-ghost use Rattle.std.specs.Prelude.{IsTrue, IsFalse};
+ghost use Rattle.std.specs.Prelude.{IfErr, IsTrue, IsFalse, length, take};
 ghost use Rattle.std.specs.Io.KnownBytes.{IsAtEnd};
 ghost use Rattle.report.specs.Stream.{LosesBeginning};
 ghost use Rattle.report.specs.Intake.{TakesInput};
@@ -78,11 +78,19 @@ pub fn read_into<F: Feed, T: Intake>(
         if given == 0 {
             return Ok(());
         }
-        intake
-            .take(&buffer[..given])
-            .map_err(|_| ReadFault::Memory)?;
+        take_given(intake, &buffer, given)?;
     }
     Err(ReadFault::Failed)
+}
+
+// Takes the bytes that a call gave: so many, from the start of the buffer on.
+fn take_given<T: Intake>(intake: &mut T, buffer: &[u8], given: usize) -> Result<(), ReadFault>
+    requires { given ≤ length buffer.now }
+    ensures taken { OnOk result (T.takes intake.old (take given buffer.now) intake.new) }
+    ensures fault { IfErr result (λ e. e ≡ ReadFault.Memory) }
+{
+    let taken = intake.take(&buffer[..given]);
+    taken.map_err(|_| ReadFault::Memory)
 }
 
 /// Reads all bytes that the feed has left. At a fault a beginning of them was read and is lost.

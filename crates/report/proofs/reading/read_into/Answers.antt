@@ -23,8 +23,8 @@ returns-then-given-eq0-clause-bytes g c =
       taken = taken;
     }
 
-pub returns-in_err-map_err-clause-rest : goal.returns-in_err-map_err-clause-rest
-returns-in_err-map_err-clause-rest g c =
+pub returns-in_err-take_given-clause-rest : goal.returns-in_err-take_given-clause-rest
+returns-in_err-take_given-clause-rest g c =
     let (input, consumed, taken) = c.loop.invariant.taken in
     (_, Consumes-trans _ _ _ _ _ consumed c.in-Ok.ensures.bytes.0)
 
@@ -34,7 +34,7 @@ loop-preserved g c =
     let size : length c.get.new.buffer ≡ c.loop.buffer.len = omega (arith, c.get.auto.buffer, c.deref_mut.ensures.len) in
     let same : c.get.new.buffer ≡ c.deref.result.now = sym (take_at c.get.new.buffer _ c.loop.buffer.len size) ∙ sym c.deref.ensures.value in
     let more = subst (λ (b : List ℕ). Consumes (g.F.Feed.seen c.loop.feed).remaining (g.F.Feed.seen c.get.new.self).remaining (take c.in-Ok.given b)) same c.in-Ok.ensures.bytes.0 in
-    let step : g.T.Intake.takes c.loop.intake (take c.in-Ok.given c.deref.result.now) c.take.new.self = search rules in
+    let step : g.T.Intake.takes c.loop.intake (take c.in-Ok.given c.deref.result.now) c.take_given.new.intake = search rules in
     record {
       works = search rules;
       calls = search rules;
