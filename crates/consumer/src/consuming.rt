@@ -1,8 +1,8 @@
 //! From the bytes in to the bytes out.
 
-ghost use Rattle.std.specs.Prelude.{◌≡◌, ◌≢◌, [], List, ℕ, Err, IfErr, IsFalse, OnOk};
+ghost use Rattle.std.specs.Prelude.{◌≡◌, ◌≢◌, [], List, ℕ, Err, IfErr, IsFalse, Ok, OnOk};
 ghost use Rattle.consumer.specs.{Bundle.Divides, Plans.IsInBounds};
-ghost use Rattle.consumer.specs.Consuming.{HoldsOfInput, IsReadToEnd, WritesAnswer};
+ghost use Rattle.consumer.specs.Consuming.{HoldsOfInput, IsReadToEnd, WritesAnswer, WritesOut};
 ghost use Rattle.consumer.specs.Consuming.{fault_of_reading};
 ghost use Rattle.consumer.specs.{Judging.IsJudged, Replaying.IsReplay};
 ghost use Rattle.consumer.specs.Vocabulary.{Memory, Refused, reads, trace_of};
@@ -137,10 +137,7 @@ impl<'a, R: Threads + Wait + Sync, L: Layout> Consumer<'a, R, L> {
             → IfErr result (λ e. sink.new ≡ sink.old) }
     {
         match self.answer(taken, plan) {
-            Ok(replayed) => match send(sink, &replayed.bytes) {
-                Ok(()) => Ok(replayed),
-                Err(_) => Err(ConsumeFault::Write),
-            },
+            Ok(replayed) => write_out(replayed, sink),
             Err(refusal) => Err(ConsumeFault::Refused(refusal)),
         }
     }
@@ -160,5 +157,17 @@ impl<'a, R: Threads + Wait + Sync, L: Layout> Consumer<'a, R, L> {
             }
             Err(refusal) => Err(refusal),
         }
+    }
+}
+
+// Writes an answer, and returns it.
+fn write_out<S: Sink>(replayed: Replayed, sink: &mut S) -> Result<Replayed, ConsumeFault>
+    requires { IsFalse (S.seen sink.old).has_failed }
+    ensures out { WritesOut (Ok replayed) (S.seen sink.old) (S.seen sink.new) result }
+    ensures fault { IfErr result (λ e. e ≡ ConsumeFault.Write) }
+{
+    match send(sink, &replayed.bytes) {
+        Ok(()) => Ok(replayed),
+        Err(_) => Err(ConsumeFault::Write),
     }
 }

@@ -1,9 +1,10 @@
 //! What the program does with its words, its files and its streams.
 
-ghost use Rattle.std.specs.Prelude.{◌≡◌, IfOk, IsFalse, MatchResult, Some};
+ghost use Rattle.std.specs.Prelude.{◌≡◌, ◌⊎◌, IfOk, IsFalse, MatchResult, Some};
 ghost use Rattle.consumer.specs.{Plans.IsInBounds};
 ghost use Rattle.consumer.specs.Program.{AreUnfailed, Ends, EndsUnasked, IsAsked, IsRunOf};
-ghost use Rattle.consumer.specs.Program.{IsUnasked, streams_seen};
+ghost use Rattle.consumer.specs.Program.{IsCorrected, IsHelped, IsSpent, IsUnasked, streams_seen};
+ghost use Rattle.consumer.specs.Steps.Program.{EndsAsked};
 ghost use Rattle.report.specs.Watched.{watched_calls, watched_has_failed, watched_inner};
 
 use crate::consumer::Consumer;
@@ -74,12 +75,26 @@ impl<'a, R: Threads + Wait + Sync, L: Layout> Consumer<'a, R, L> {
             (streams_seen F.seen S.seen E.seen streams.new) result }
     {
         match request(self.alloc, help, hash_key, given) {
-            Ok(asked) => {
-                let answer = self.run_asked(files, &asked, streams);
-                end(&mut streams.errors, &answer)
-            }
+            Ok(asked) => self.run_status(files, &asked, streams),
             Err(fault) => explain(self.alloc, &fault, streams),
         }
+    }
+
+    // Runs what was asked for, says why where there is no answer, and returns the status.
+    fn run_status<C: ScriptFiles, F: Feed, S: Sink, E: Sink>(
+        &self,
+        files: &C,
+        asked: &Asked,
+        streams: &mut Streams<F, S, E>,
+    ) -> u8
+        requires plan { IsInBounds asked.now.plan }
+        requires unfailed { AreUnfailed (streams_seen F.seen S.seen E.seen streams.old) }
+        ensures { EndsAsked L.shows asked.now (C.bytes files.now)
+            (streams_seen F.seen S.seen E.seen streams.old)
+            (streams_seen F.seen S.seen E.seen streams.new) result }
+    {
+        let answer = self.run_asked(files, asked, streams);
+        end(&mut streams.errors, &answer)
     }
 
     // Runs what was asked for, over the input and into the output.
@@ -119,7 +134,12 @@ impl<'a, R: Threads + Wait + Sync, L: Layout> Consumer<'a, R, L> {
         ensures errors { streams.new.errors ≡ streams.old.errors }
     {
         let script = script_in(self.alloc, files, file.as_str())?;
-        self.consume_trace(&script, &mut streams.input, &mut streams.output, &asked.plan)
+        self.consume_trace(
+            &script,
+            &mut streams.input,
+            &mut streams.output,
+            &asked.plan,
+        )
     }
 }
 
@@ -159,21 +179,51 @@ fn explain<F: Feed, S: Sink, E: Sink>(
     ensures input { streams.new.input ≡ streams.old.input }
 {
     match fault {
-        UsageFault::Help(help) => match format!(in alloc; "{help}") {
-            Ok(text) => match send(&mut streams.output, text.as_str().as_bytes()) {
-                Ok(()) => 0,
-                Err(_) => end(&mut streams.errors, &Err(ConsumeFault::Write)),
-            },
-            Err(_) => end(&mut streams.errors, &Err(OUT_OF_MEMORY)),
-        },
-        UsageFault::Usage(mistake) => match format!(in alloc; "{mistake}") {
-            Ok(text) => {
-                let _ = send(&mut streams.errors, text.as_str().as_bytes());
-                2
-            }
-            Err(_) => end(&mut streams.errors, &Err(OUT_OF_MEMORY)),
-        },
+        UsageFault::Help(help) => show_help(alloc, help, streams),
+        UsageFault::Usage(mistake) => show_mistake(alloc, mistake, streams),
         UsageFault::Memory => end(&mut streams.errors, &Err(OUT_OF_MEMORY)),
+    }
+}
+
+// Shows the help that was asked for, and returns the status.
+fn show_help<F: Feed, S: Sink, E: Sink>(
+    alloc: Global,
+    help: &clap::Error,
+    streams: &mut Streams<F, S, E>,
+) -> u8
+    requires { AreUnfailed (streams_seen F.seen S.seen E.seen streams.old) }
+    ensures ends { let old = streams_seen F.seen S.seen E.seen streams.old in
+        let new = streams_seen F.seen S.seen E.seen streams.new in
+        IsHelped old new result ⊎ IsSpent old new result }
+    ensures input { streams.new.input ≡ streams.old.input }
+{
+    match format!(in alloc; "{help}") {
+        Ok(text) => match send(&mut streams.output, text.as_str().as_bytes()) {
+            Ok(()) => 0,
+            Err(_) => end(&mut streams.errors, &Err(ConsumeFault::Write)),
+        },
+        Err(_) => end(&mut streams.errors, &Err(OUT_OF_MEMORY)),
+    }
+}
+
+// Says what is wrong with the words, and returns the status.
+fn show_mistake<F: Feed, S: Sink, E: Sink>(
+    alloc: Global,
+    mistake: &clap::Error,
+    streams: &mut Streams<F, S, E>,
+) -> u8
+    requires { AreUnfailed (streams_seen F.seen S.seen E.seen streams.old) }
+    ensures ends { let old = streams_seen F.seen S.seen E.seen streams.old in
+        let new = streams_seen F.seen S.seen E.seen streams.new in
+        IsCorrected old new result ⊎ IsSpent old new result }
+    ensures input { streams.new.input ≡ streams.old.input }
+{
+    match format!(in alloc; "{mistake}") {
+        Ok(text) => {
+            let _ = send(&mut streams.errors, text.as_str().as_bytes());
+            2
+        }
+        Err(_) => end(&mut streams.errors, &Err(OUT_OF_MEMORY)),
     }
 }
 

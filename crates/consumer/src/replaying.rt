@@ -179,12 +179,23 @@ impl<'a, R: Threads + Wait + Sync, L: Layout> Consumer<'a, R, L> {
             × IsCarriedOut plan trace (firings_over m trace) r) }
     {
         let bytes = self.layout.render(self.rt, self.alloc, script, &ran.whole)?;
-        Ok(Replayed {
-            bytes,
-            by_worker: ran.by_worker,
-            status: status(ran.whole.exit),
-            ran: ran.whole.ran,
-        })
+        Ok(replayed_of(bytes, ran))
+    }
+}
+
+// What a run shows in these bytes.
+fn replayed_of(bytes: Vec<u8>, ran: Ran) -> Replayed
+    ensures bytes { result.bytes ≡ bytes }
+    ensures by_worker { result.by_worker ≡ ran.by_worker }
+    ensures status { result.status
+        ≡ unwrap_or (option_map (λ exit. exit.1) ran.whole.exit) 0 }
+    ensures ran { result.ran ≡ ran.whole.ran }
+{
+    Replayed {
+        bytes,
+        by_worker: ran.by_worker,
+        status: status(ran.whole.exit),
+        ran: ran.whole.ran,
     }
 }
 

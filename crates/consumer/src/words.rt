@@ -9,7 +9,7 @@ ghost use Rattle.consumer.specs.{declared.words.UsageFault.TheVariants.Memory};
 ghost use Rattle.consumer.specs.Words.{Asks, HasPlan, IsAskedIn, IsFaultOf, IsMistake, IsNumberIn};
 ghost use Rattle.consumer.specs.Words.{IsPlanIn, engine_called, engine_in};
 ghost use Rattle.consumer.specs.Steps.Words.{IsPlanFault, IsToldAs};
-ghost use Rattle.consumer.specs.Words.{file_in, option, program};
+ghost use Rattle.consumer.specs.Words.{bare, file_in, number_option, option, option_or, program};
 
 use crate::plan::{EngineKind, GroupPlan, Plan};
 use clap::builder::ValueParser;
@@ -153,19 +153,54 @@ fn request_in(alloc: Global, help: Help, matches: &ArgMatches<'_>) -> Result<Ask
 fn command<'a>(alloc: Global, help: Help) -> Result<Command<'a>, AllocError>
     ensures { IfOk result (λ c. app_of c ≡ program) }
 {
-    let command = Command::new(alloc, "dreplay")
+    let command = bare_command(alloc, help);
+    let command = command.arg(script_option(alloc))?;
+    let command = command.arg(workers_option(alloc))?;
+    let command = command.arg(groups_option(alloc))?;
+    command.arg(engine_option(alloc))
+}
+
+// The same without options.
+fn bare_command<'a>(alloc: Global, help: Help) -> Command<'a>
+    ensures { app_of result ≡ bare }
+{
+    Command::new(alloc, "dreplay")
         .no_binary_name(true)
         .override_usage(help.usage)
         .about(help.about)
-        .after_help(help.more);
-    let script = option(alloc, "script", 's', "FILE", SCRIPT);
-    let command = command.arg(script)?;
+        .after_help(help.more)
+}
+
+fn script_option<'a>(alloc: Global) -> Arg<'a>
+    ensures rule { rule_of result ≡ option (codes "script") 115 }
+    ensures local { result.global ≡ false }
+{
+    option(alloc, "script", 's', "FILE", SCRIPT)
+}
+
+fn workers_option<'a>(alloc: Global) -> Arg<'a>
+    ensures rule { rule_of result
+        ≡ number_option (codes "workers") 119 MOST_WORKERS (codes "4") }
+    ensures local { result.global ≡ false }
+{
     let workers = with_default(option(alloc, "workers", 'w', "N", WORKERS), "4");
-    let command = command.arg(with_numbers(workers, MOST_WORKERS))?;
+    with_numbers(workers, MOST_WORKERS)
+}
+
+fn groups_option<'a>(alloc: Global) -> Arg<'a>
+    ensures rule { rule_of result
+        ≡ number_option (codes "groups") 103 MOST_GROUPS (codes "16") }
+    ensures local { result.global ≡ false }
+{
     let groups = with_default(option(alloc, "groups", 'g', "N", GROUPS), "16");
-    let command = command.arg(with_numbers(groups, MOST_GROUPS))?;
-    let engine = with_default(option(alloc, "engine", 'e', "ENGINE", ENGINE), "dif");
-    command.arg(engine)
+    with_numbers(groups, MOST_GROUPS)
+}
+
+fn engine_option<'a>(alloc: Global) -> Arg<'a>
+    ensures rule { rule_of result ≡ option_or (codes "engine") 101 (codes "dif") }
+    ensures local { result.global ≡ false }
+{
+    with_default(option(alloc, "engine", 'e', "ENGINE", ENGINE), "dif")
 }
 
 // An option with a name of one letter.

@@ -1,0 +1,14 @@
+use Rattle.std.proofs.Common.{subst}
+use Rattle.consumer.specs.Refusals.{IsReported}
+use Rattle.consumer.proofs.consumer.Consumer.run_status.Goals as goal
+
+-- a run leaves the errors' stream as it was, and the end writes to no other
+pub returns : goal.returns
+returns g c =
+    let r = c.run_asked-answer.ensures.run in
+    record {
+      answer = c.run_asked-answer.result;
+      run = record { shown = r.shown; read = r.read; blamed = r.blamed; unread = r.unread; few = r.few };
+      ends = c.end.ensures.status;
+      line = subst (λ e. IsReported c.run_asked-answer.result (g.E.Sink.seen e) (g.E.Sink.seen c.end.new.errors)) c.run_asked-answer.ensures.errors c.end.ensures.line;
+    }
