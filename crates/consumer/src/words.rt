@@ -160,7 +160,7 @@ fn command<'a>(alloc: Global, help: Help) -> Result<Command<'a>, AllocError>
     command.arg(engine_option(alloc))
 }
 
-// The same without options.
+// The command before it has options.
 fn bare_command<'a>(alloc: Global, help: Help) -> Command<'a>
     ensures { app_of result ≡ bare }
 {
@@ -171,6 +171,7 @@ fn bare_command<'a>(alloc: Global, help: Help) -> Command<'a>
         .after_help(help.more)
 }
 
+// The option -s: the script's file.
 fn script_option<'a>(alloc: Global) -> Arg<'a>
     ensures rule { rule_of result ≡ option (codes "script") 115 }
     ensures local { result.global ≡ false }
@@ -178,6 +179,7 @@ fn script_option<'a>(alloc: Global) -> Arg<'a>
     option(alloc, "script", 's', "FILE", SCRIPT)
 }
 
+// The option -w: how many workers run.
 fn workers_option<'a>(alloc: Global) -> Arg<'a>
     ensures rule { rule_of result
         ≡ number_option (codes "workers") 119 MOST_WORKERS (codes "4") }
@@ -187,6 +189,7 @@ fn workers_option<'a>(alloc: Global) -> Arg<'a>
     with_numbers(workers, MOST_WORKERS)
 }
 
+// The option -g: how many groups the threads are dealt into.
 fn groups_option<'a>(alloc: Global) -> Arg<'a>
     ensures rule { rule_of result
         ≡ number_option (codes "groups") 103 MOST_GROUPS (codes "16") }
@@ -196,6 +199,7 @@ fn groups_option<'a>(alloc: Global) -> Arg<'a>
     with_numbers(groups, MOST_GROUPS)
 }
 
+// The option -e: the engine's name.
 fn engine_option<'a>(alloc: Global) -> Arg<'a>
     ensures rule { rule_of result ≡ option_or (codes "engine") 101 (codes "dif") }
     ensures local { result.global ≡ false }

@@ -83,7 +83,7 @@ pub fn read_into<F: Feed, T: Intake>(
     Err(ReadFault::Failed)
 }
 
-// Takes the bytes that a call gave: so many, from the start of the buffer on.
+// Takes the first `given` bytes of a buffer.
 fn take_given<T: Intake>(intake: &mut T, buffer: &[u8], given: usize) -> Result<(), ReadFault>
     requires { given ≤ length buffer.now }
     ensures taken { OnOk result (T.takes intake.old (take given buffer.now) intake.new) }

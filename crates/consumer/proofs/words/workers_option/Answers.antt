@@ -1,4 +1,4 @@
-use Rattle.std.proofs.Common.{◌∙◌, ◌∷◌, [], List, ℕ, Some, ap}
+use Rattle.std.proofs.Common.{◌∙◌, ◌∷◌, [], Some, ap}
 use Rattle.std.specs.Prelude.{codes, pos}
 use Rattle.clap.specs.Words.{Rule}
 use Rattle.consumer.specs.Vocabulary.{Signed}
