@@ -172,7 +172,7 @@ fn arithmetic(
     ensures err { OnlyMemory result }
 {
     match (x.type_of(), y.type_of()) {
-        (DType::Int(t), DType::Int(u)) => arithmetic_of(alloc, op, t, u, x, y),
+        (DType::Int(t), DType::Int(u)) => arithmetic_of(alloc, op, (t, u), x, y),
         _ => {
             drop(x);
             drop(y);
@@ -185,15 +185,16 @@ fn arithmetic(
 fn arithmetic_of(
     alloc: Global,
     op: ArithmeticOperator,
-    t: IntType,
-    u: IntType,
+    types: (IntType, IntType),
     x: TypedExpr,
     y: TypedExpr,
 ) -> Result<Option<TypedExpr>, TypeFault>
     ensures ok { IfOk result (λ z. option_map typed_of z
-        ≡ spec.operation_by (BinarySort.Arithmetic op) (Int t) (Int u) (typed_of x) (typed_of y)) }
+        ≡ spec.operation_by (BinarySort.Arithmetic op) (Int types.0) (Int types.1)
+        (typed_of x) (typed_of y)) }
     ensures err { OnlyMemory result }
 {
+    let (t, u) = types;
     let (x, y) = in_common(alloc, t, u, x, y)?;
     operate(alloc, Operation::Arithmetic(op, common(t, u)), x, y)
 }
@@ -257,15 +258,16 @@ fn compare_integers(
 fn compare_in_common(
     alloc: Global,
     op: ComparisonOperator,
-    t: IntType,
-    u: IntType,
+    types: (IntType, IntType),
     x: TypedExpr,
     y: TypedExpr,
 ) -> Result<Option<TypedExpr>, TypeFault>
     ensures ok { IfOk result (λ z. option_map typed_of z
-        ≡ spec.operation_by (BinarySort.Compare op) (Int t) (Int u) (typed_of x) (typed_of y)) }
+        ≡ spec.operation_by (BinarySort.Compare op) (Int types.0) (Int types.1)
+        (typed_of x) (typed_of y)) }
     ensures err { OnlyMemory result }
 {
+    let (t, u) = types;
     let (x, y) = in_common(alloc, t, u, x, y)?;
     compare_integers(alloc, op, common(t, u), x, y)
 }
@@ -296,7 +298,7 @@ fn compare(
     ensures err { OnlyMemory result }
 {
     match (x.type_of(), y.type_of()) {
-        (DType::Int(t), DType::Int(u)) => compare_in_common(alloc, op, t, u, x, y),
+        (DType::Int(t), DType::Int(u)) => compare_in_common(alloc, op, (t, u), x, y),
         (DType::Text, DType::Text) => compare_texts(alloc, op, x, y),
         _ => {
             drop(x);
@@ -396,18 +398,18 @@ fn choice_between(
 // A choice between two integers of these types.
 fn choice_in_common(
     alloc: Global,
-    t: IntType,
-    u: IntType,
+    types: (IntType, IntType),
     x: TypedExpr,
     y: TypedExpr,
     z: TypedExpr,
 ) -> Result<Option<TypedExpr>, TypeFault>
     ensures ok { IfOk result (λ w. option_map typed_of w
-        ≡ Some (Typed.Choice (Int (common_of t u)) (typed_of x)
-        (spec.conversion_node t (common_of t u) (typed_of y))
-        (spec.conversion_node u (common_of t u) (typed_of z)))) }
+        ≡ Some (Typed.Choice (Int (common_of types.0 types.1)) (typed_of x)
+        (spec.conversion_node types.0 (common_of types.0 types.1) (typed_of y))
+        (spec.conversion_node types.1 (common_of types.0 types.1) (typed_of z)))) }
     ensures err { OnlyMemory result }
 {
+    let (t, u) = types;
     let sides = in_common(alloc, t, u, y, z);
     let (x, (y, z)) = both(x, sides)?;
     choice_of(alloc, DType::Int(common(t, u)), x, y, z)
@@ -425,7 +427,7 @@ pub(crate) fn choice(
     ensures err { OnlyMemory result }
 {
     match (x.type_of(), y.type_of(), z.type_of()) {
-        (DType::Int(_), DType::Int(t), DType::Int(u)) => choice_in_common(alloc, t, u, x, y, z),
+        (DType::Int(_), DType::Int(t), DType::Int(u)) => choice_in_common(alloc, (t, u), x, y, z),
         (DType::Int(_), DType::Text, DType::Text) => choice_of(alloc, DType::Text, x, y, z),
         _ => {
             drop(x);
