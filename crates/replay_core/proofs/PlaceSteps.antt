@@ -6,8 +6,10 @@ use Rattle.std.proofs.lemmas.Bool.{cases_eq, lt-ltb, le-ltb}
 use Rattle.std.proofs.lemmas.Grind.{get_or-set_at}
 use Rattle.std.proofs.lemmas.List.{get_or-set_other}
 use Rattle.replay_core.specs.declared.piece.Piece.{Piece}
+use Rattle.replay_core.specs.declared.collect_fault.CollectFault.{CollectFault}
 use Rattle.replay_core.specs.declared.collect_fault.CollectFault.TheVariants.{Twice, Stranger}
-use Rattle.replay_core.specs.Steps.PiecePlaces.{first_bad, first_bad_after, is_filled}
+use Rattle.replay_core.specs.declared.collect_fault.CollectFault.TheVariants.{Missing, Memory}
+use Rattle.replay_core.specs.Steps.PiecePlaces.{IsFault, first_bad, first_bad_after, is_filled}
 
 bad_congr : (n : ℕ) (had other : ℕ → Bool) → ((g : ℕ) → had g ≡ other g) → (ps : List (ℕ × Piece)) → first_bad_after had n ps ≡ first_bad_after other n ps
 bad_congr n had other same [] = refl
@@ -45,3 +47,10 @@ none_pushed [] none zero = refl
 none_pushed [] none (suc k) = refl
 none_pushed (x ∷ xs) none zero = none 0
 none_pushed (x ∷ xs) none (suc k) = none_pushed xs (λ j. none (suc j)) k
+
+-- a fault that isn't of memory is the one that there is
+pub fault_is : (e : CollectFault) (bad : Option CollectFault) → bad ≡ Some e → IsFault e bad
+fault_is (Twice g) bad is = is
+fault_is (Stranger g) bad is = is
+fault_is (Missing g) bad is = is
+fault_is Memory bad is = tt

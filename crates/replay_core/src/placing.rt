@@ -1,9 +1,9 @@
 //! Pieces at the places of their groups.
 
-ghost use Rattle.std.specs.Prelude.{◌≡◌, ◌<◌, ◌^◌, map, vec_len, Some, None, IfOk, IfErr};
+ghost use Rattle.std.specs.Prelude.{◌≡◌, ◌<◌, ◌^◌, map, vec_len, Some, None, IfOk, IfErr, OnOk};
 ghost use Rattle.std.specs.List.Sorted.{IsPermutation};
 ghost use Rattle.replay_core.specs.Steps.PiecePlaces.{first_bad, first_missing, pieces_with_places};
-ghost use Rattle.replay_core.specs.Steps.PiecePlaces.{IsFault};
+ghost use Rattle.replay_core.specs.Steps.PiecePlaces.{IsFault, IsFaultAt, IsPlaced};
 
 use crate::collect_fault::CollectFault;
 use crate::piece::Piece;
@@ -27,15 +27,30 @@ pub(crate) fn pieces_by_group(
         places.push_reserved(None);
     }
     'fill: for (group, piece) in pieces {
-        if group >= n {
-            return Err(CollectFault::Stranger { group });
-        }
-        if places[group as usize].is_some() {
-            return Err(CollectFault::Twice { group });
-        }
-        places[group as usize] = Some(piece);
+        place_piece(&mut places, n, group, piece)?;
     }
     Ok(places)
+}
+
+// Puts a piece into the place of its group.
+fn place_piece(
+    places: &mut Vec<Option<Piece>>,
+    n: u32,
+    group: u32,
+    piece: Piece,
+) -> Result<(), CollectFault>
+    requires { vec_len places.old ≡ n }
+    ensures ok { OnOk result (IsPlaced places.old.items group piece places.new.items) }
+    ensures err { IfErr result (IsFaultAt places.old.items n group piece) }
+{
+    if group >= n {
+        return Err(CollectFault::Stranger { group });
+    }
+    if places[group as usize].is_some() {
+        return Err(CollectFault::Twice { group });
+    }
+    places[group as usize] = Some(piece);
+    Ok(())
 }
 
 /// The pieces, where no place is empty.

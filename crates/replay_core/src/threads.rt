@@ -89,13 +89,52 @@ pub(crate) fn run_on_thread<C: Clause>(
             tables.locals.reset();
             run_on_tables(due, tables, spare, piece)
         }
-        None => {
-            let mut tables = Tables::new(*threads.allocator(), *threads.hasher());
-            let exits = run_on_tables(due, &mut tables, spare, piece)?;
-            threads.insert(due.firing.thread, tables)?;
-            Ok(exits)
-        }
+        None => run_on_new_tables(due, threads, spare, piece),
     }
+}
+
+// The same for a thread without tables, which keeps those made for it.
+fn run_on_new_tables<C: Clause>(
+    due: &Due<C>,
+    threads: &mut IndexMap<i32, Tables, HashKey>,
+    spare: &mut Spare,
+    piece: &mut Piece,
+) -> Result<bool, AllocError>
+    requires there { All (λ place. place < length due.now.clauses.now) due.now.places.now }
+    requires named { All (λ c.
+        C.places c ≤ length (functions_of piece.old.table)) due.now.clauses.now }
+    requires few { All (λ c. C.most c ≤ MOST_BYTES) due.now.clauses.now }
+    requires room { count_held piece.old.table + MOST_BYTES * length due.now.places.now ≤ 2 ^ 52 }
+    requires without { get int_eq threads.old due.now.firing.now.thread ≡ None }
+    ensures functions { functions_of piece.new.table ≡ functions_of piece.old.table }
+    ensures taken { piece.new.taken.items ≡ piece.old.taken.items }
+    ensures notes { OnOk result ((slots : Slots) (cs : List ClauseMeant)
+        → AllMean C.means slots due.now.clauses.now cs → HasTypedBuiltIns due.now.firing.now
+        → AreTypedOwn slots (threads_in threads.old.entries due.now.firing.now.thread) →
+        let start = at_start (threads_in threads.old.entries due.now.firing.now.thread) in
+        let made = all_made due.now.firing.now cs due.now.places.now start in
+        Notes due.now.firing.now.number made (piece_seen piece.old) (piece_seen piece.new)) }
+    ensures threads { OnOk result ((slots : Slots) (cs : List ClauseMeant)
+        → AllMean C.means slots due.now.clauses.now cs → HasTypedBuiltIns due.now.firing.now
+        → AreTypedOwn slots (threads_in threads.old.entries due.now.firing.now.thread) →
+        let start = at_start (threads_in threads.old.entries due.now.firing.now.thread) in
+        let made = all_made due.now.firing.now cs due.now.places.now start in
+        (thread : ℤ) → threads_in threads.new.entries thread
+        ≡ (if int_eq thread due.now.firing.now.thread then made.variables.own
+        else threads_in threads.old.entries thread)) }
+    ensures exits { IfOk result (λ exits. (slots : Slots) (cs : List ClauseMeant)
+        → AllMean C.means slots due.now.clauses.now cs → HasTypedBuiltIns due.now.firing.now
+        → AreTypedOwn slots (threads_in threads.old.entries due.now.firing.now.thread) →
+        let start = at_start (threads_in threads.old.entries due.now.firing.now.thread) in
+        let made = all_made due.now.firing.now cs due.now.places.now start in
+        exits ≡ is_some made.exit) }
+    ensures held { OnOk result (count_held piece.new.table
+        ≤ count_held piece.old.table + MOST_BYTES * length due.now.places.now) }
+{
+    let mut tables = Tables::new(*threads.allocator(), *threads.hasher());
+    let exits = run_on_tables(due, &mut tables, spare, piece)?;
+    threads.insert(due.firing.thread, tables)?;
+    Ok(exits)
 }
 
 // Runs the clauses that are due on these tables, and returns whether one exited.

@@ -1,6 +1,6 @@
 -- Which fault a list of pieces has, and the places of the pieces of a list without one.
-use Rattle.std.specs.Prelude.{◌≡◌, ℕ, ◌==◌, ◌+◌, Bool, true, false, List, [], ◌∷◌, Option, None}
-use Rattle.std.specs.Prelude.{Some, if◌then◌else◌, nat_lt, is_some, slice_index_or}
+use Rattle.std.specs.Prelude.{◌≡◌, ◌<◌, ℕ, ◌==◌, ◌+◌, Bool, true, false, List, [], ◌∷◌, Option, None}
+use Rattle.std.specs.Prelude.{Some, if◌then◌else◌, nat_lt, is_some, slice_index_or, slice_set, length}
 use Rattle.replay_core.specs.declared.collect_fault.CollectFault.{CollectFault}
 use Rattle.replay_core.specs.declared.collect_fault.CollectFault.TheVariants.{Twice, Stranger}
 use Rattle.replay_core.specs.declared.collect_fault.CollectFault.TheVariants.{Missing, Memory}
@@ -20,6 +20,17 @@ module _ {P : Type 0} where
 
   abbrev pub is_filled : List (Option P) → ℕ → Bool
   is_filled places g = is_some (slice_index_or places g None)
+
+  -- a piece is put into the free place of its group
+  pub record IsPlaced (old : List (Option P)) (g : ℕ) (p : P) (new : List (Option P)) : Type 0 where
+    pub within : g < length old
+    pub free : is_filled old g ≡ false
+    pub placed : new ≡ slice_set old g (Some p)
+
+  -- the fault of a piece that can't be put into the place of its group, whatever comes after it
+  abbrev pub IsFaultAt : List (Option P) → ℕ → ℕ → P → CollectFault → Type 0
+  IsFaultAt places n g p e =
+      (rest : List (ℕ × P)) → first_bad_after (is_filled places) n ((g, p) ∷ rest) ≡ Some e
 
   -- the pieces at the places, each with its place, counted from here
   abbrev pub pieces_with_places : ℕ → List (Option P) → List (ℕ × P)

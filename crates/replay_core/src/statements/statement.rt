@@ -5,12 +5,13 @@ ghost use Rattle.d_types.specs.Typed as typed;
 ghost use Rattle.replay_core.specs.{Bounds.place_in, Evaluation.Meets};
 ghost use Rattle.replay_core.specs.Steps.Effects.{IsPerformed};
 ghost use Rattle.replay_core.specs.Vocabulary.{ActionOf, count_held, effect_by, functions_of};
-ghost use Rattle.replay_core.specs.Vocabulary.{argument_by};
+ghost use Rattle.replay_core.specs.Vocabulary.{Effect, Has, argument_by, with};
 
 use crate::evaluation::EvalFault;
 use crate::piece::Piece;
 use crate::state::State;
 use crate::statements::expression::Expression;
+use crate::statements::lent_key::LentKey;
 use crate::statements::printing::{printf_text, trace_line};
 use d_types::Piece as Part;
 
@@ -112,11 +113,54 @@ pub(crate) fn aggregate<X: Expression>(
         (λ f. effect_by (X.by f) (typed.Aggregate place keys.now argument.now))
         result state.old state.new piece.old piece.new }
 {
-    if let Some(key) = X::lend_key(keys, state.firing) {
-        let given = evaluate_argument(argument, state)?;
-        piece.note_lent_contribution(place, key.values(), given)?;
-        return Ok(false);
+    match X::lend_key(keys, state.firing) {
+        Some(key) => aggregate_lent(place, &key, argument, state, piece),
+        None => aggregate_evaluated(place, keys, argument, state, piece),
     }
+}
+
+// The same under a lent key.
+#[inline(always)]
+fn aggregate_lent<X: Expression>(
+    place: usize,
+    key: &LentKey<'_>,
+    argument: &Option<X>,
+    state: &mut State<'_>,
+    piece: &mut Piece,
+) -> Result<bool, EvalFault>
+    requires place { place < length (functions_of piece.old.table) }
+    requires room { count_held piece.old.table < 2 ^ 52 }
+    ensures held { count_held piece.new.table ≤ count_held piece.old.table + 1 }
+    ensures functions { functions_of piece.new.table ≡ functions_of piece.old.table }
+    ensures taken { piece.new.taken.items ≡ piece.old.taken.items }
+    ensures effect { IsPerformed
+        (λ f vars. with (argument_by (X.by f) argument.now vars)
+        (λ z. Has (Effect.Adds place key.now z)))
+        result state.old state.new piece.old piece.new }
+{
+    let given = evaluate_argument(argument, state)?;
+    piece.note_lent_contribution(place, key.values(), given)?;
+    Ok(false)
+}
+
+// The same under a key that is evaluated.
+#[inline(always)]
+fn aggregate_evaluated<X: Expression>(
+    place: usize,
+    keys: &[X],
+    argument: &Option<X>,
+    state: &mut State<'_>,
+    piece: &mut Piece,
+) -> Result<bool, EvalFault>
+    requires place { place < length (functions_of piece.old.table) }
+    requires room { count_held piece.old.table < 2 ^ 52 }
+    ensures held { count_held piece.new.table ≤ count_held piece.old.table + 1 }
+    ensures functions { functions_of piece.new.table ≡ functions_of piece.old.table }
+    ensures taken { piece.new.taken.items ≡ piece.old.taken.items }
+    ensures effect { IsPerformed
+        (λ f. effect_by (X.by f) (typed.Aggregate place keys.now argument.now))
+        result state.old state.new piece.old piece.new }
+{
     let key = X::evaluate_key(keys, state)?;
     let number = evaluate_argument(argument, state)?;
     piece.note_contribution(place, &key, number)?;

@@ -1,9 +1,12 @@
 //! Trees, walked.
 
-ghost use Rattle.std.specs.Prelude.{◌≡◌, IfSome};
+ghost use Rattle.std.specs.Prelude.{◌≡◌, ◌++◌, ◌∷◌, [], IfSome};
 ghost use Rattle.d_types.specs.Clauses as spec;
+ghost use Rattle.d_types.specs.Typed.{type_of};
 ghost use Rattle.replay_core.specs.Evaluation.{Meets};
-ghost use Rattle.replay_core.specs.Vocabulary.{Has, Variables, keys_of, typeds_of};
+ghost use Rattle.replay_core.specs.Steps.Evaluation.{PutsPart};
+ghost use Rattle.replay_core.specs.Vocabulary.{Has, Variables, eval, keys_of, typed_of};
+ghost use Rattle.replay_core.specs.Vocabulary.{typeds_of, with};
 ghost use Rattle.replay_core.specs.Forms.{by_expressions, statement_form};
 
 use crate::evaluation::{EvalFault, evaluate, evaluate_key, evaluate_word, lent_leaf};
@@ -25,10 +28,25 @@ fn evaluate_arguments(
 {
     let mut values = Vec::new(state.alloc);
     for argument in arguments {
-        let value = evaluate(argument, state)?;
-        values.push((argument.type_of(), value))?;
+        push_value(argument, &mut values, state)?;
     }
     Ok(Arguments { values })
+}
+
+// Adds an expression's value, with its type, to these.
+#[inline(always)]
+fn push_value(
+    argument: &TypedExpr,
+    values: &mut Vec<(DType, Value)>,
+    state: &mut State<'_>,
+) -> Result<(), EvalFault>
+    ensures { PutsPart (λ f vars. with (eval f (typed_of argument.now) vars)
+        (λ x. Has (values.old.items ++ (type_of (typed_of argument.now), x) ∷ [])))
+        result values.new.items state.old state.new }
+{
+    let value = evaluate(argument, state)?;
+    values.push((argument.type_of(), value))?;
+    Ok(())
 }
 
 // From left to right.

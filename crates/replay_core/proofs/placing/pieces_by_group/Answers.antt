@@ -1,11 +1,11 @@
-use Rattle.std.proofs.Common.{◌≡◌, ◌<◌, ◌++◌, ◌∷◌, [], true, false, List, None, is_some, get_or}
-use Rattle.std.proofs.Common.{length, refl, sym, ap, ◌∙◌, subst, arith, rules, append-nil}
-use Rattle.std.proofs.lemmas.List.{get_or_default}
+use Rattle.std.proofs.Common.{◌≡◌, ◌<◌, ◌++◌, ◌∷◌, [], List, None, Some, get_or, length, refl, ap, sym}
+use Rattle.std.proofs.Common.{◌∙◌, subst, arith, rules, append-nil}
+use Rattle.std.proofs.lemmas.List.{length-set}
 use Rattle.std.specs.Vec.Iter.{into_iter_items}
 use Rattle.replay_core.specs.Steps.PiecePlaces.{first_bad_after, is_filled, pieces_with_places}
 use Rattle.std.specs.List.Sorted.{IsPermutation}
 use Rattle.replay_core.proofs.SamePieces.{same_start, same_next}
-use Rattle.replay_core.proofs.PlaceSteps.{bad_next, bad_stranger, bad_twice, bad_start, none_pushed}
+use Rattle.replay_core.proofs.PlaceSteps.{bad_next, bad_start, fault_is, none_pushed}
 use Rattle.replay_core.proofs.placing.pieces_by_group.Goals as goal
 
 nil_from : {A : Type 0} (l : List A) → length l ≡ 0 → l ≡ []
@@ -30,20 +30,12 @@ fill-init c =
       same = same_start c.room.places.items c.args.pieces.items _ c.room.invariant.none rest;
     }
 
-pub returns-then-group-n-clause-err : goal.returns-then-group-n-clause-err
-returns-then-group-n-clause-err c =
-    let front : into_iter_items c.fill.group-iterator ≡ (c.in-Some.group, c.in-Some.piece) ∷ into_iter_items c.next.new.self = search rules in
-    c.fill.invariant.bad ∙ ap (first_bad_after (is_filled c.fill.places.items) c.args.n) front ∙ bad_stranger c.args.n (is_filled c.fill.places.items) c.in-Some.group c.in-Some.piece _ (search rules)
-
-pub returns-then-is_some-clause-err : goal.returns-then-is_some-clause-err
-returns-then-is_some-clause-err c =
-    let front : into_iter_items c.fill.group-iterator ≡ (c.in-Some.group, c.in-Some.piece) ∷ into_iter_items c.next.new.self = search rules in
-    let places = c.fill.places.items in
-    let within : c.in-Some.group < length places = search rules in
-    let at : get_or places c.in-Some.group None ≡ c.index.result.now = get_or_default places c.in-Some.group None c.index.result.now within ∙ sym c.index.ensures in
-    let now : is_some c.index.result.now ≡ true = search rules in
-    let had : is_filled places c.in-Some.group ≡ true = ap is_some at ∙ now in
-    c.fill.invariant.bad ∙ ap (first_bad_after (is_filled c.fill.places.items) c.args.n) front ∙ bad_twice c.args.n (is_filled c.fill.places.items) c.in-Some.group c.in-Some.piece _ (search rules) had
+pub returns-in_err-place_piece-clause-err : goal.returns-in_err-place_piece-clause-err
+returns-in_err-place_piece-clause-err c =
+    let rest = into_iter_items c.next.new.self in
+    let front : into_iter_items c.fill.group-iterator ≡ (c.in-Some.group, c.in-Some.piece) ∷ rest = search rules in
+    let told = fault_is _ _ (c.fill.invariant.bad ∙ ap (first_bad_after (is_filled c.fill.places.items) c.args.n) front ∙ c.in_err-place_piece.ensures.err rest) in
+    search (rules, told)
 
 pub fill-preserved : goal.fill-preserved
 fill-preserved c =
@@ -52,14 +44,17 @@ fill-preserved c =
     let p = c.in-Some.piece in
     let rest = into_iter_items c.next.new.self in
     let front : into_iter_items c.fill.group-iterator ≡ (g, p) ∷ rest = search rules in
-    let within : g < length places = search rules in
-    let at : get_or places g None ≡ c.index.result.now = get_or_default places g None c.index.result.now within ∙ sym c.index.ensures in
-    let now : is_some c.index.result.now ≡ false = search rules in
-    let free : is_filled places g ≡ false = ap is_some at ∙ now in
+    let put = c.in_ok-place_piece.ensures.ok in
+    let long = c.fill.invariant.len in
+    let within = put.within in
+    let lt : g < c.args.n = omega arith in
+    let len = ap length put.placed ∙ length-set places g (Some p) in
     record {
-      len = search rules;
-      bad = c.fill.invariant.bad ∙ ap (first_bad_after (is_filled places) c.args.n) front ∙ bad_next c.args.n places g p rest (search rules) within free;
-      same = same_next c.args.pieces.items places g p rest within free (subst (λ l. IsPermutation c.args.pieces.items (pieces_with_places 0 places ++ l)) front c.fill.invariant.same);
+      len = omega arith;
+      bad = c.fill.invariant.bad ∙ ap (first_bad_after (is_filled places) c.args.n) front ∙ bad_next c.args.n places g p rest lt within put.free
+          ∙ ap (λ l. first_bad_after (is_filled l) c.args.n rest) (sym put.placed);
+      same = subst (λ l. IsPermutation c.args.pieces.items (pieces_with_places 0 l ++ rest)) (sym put.placed)
+          (same_next c.args.pieces.items places g p rest within put.free (subst (λ l. IsPermutation c.args.pieces.items (pieces_with_places 0 places ++ l)) front c.fill.invariant.same));
     }
 
 pub returns-clause-ok : goal.returns-clause-ok

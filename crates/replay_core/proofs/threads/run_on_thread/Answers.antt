@@ -1,5 +1,4 @@
 use Rattle.std.specs.Prelude.{◌≡◌, Option, Some, None, is_some, if◌then◌else◌}
-use Rattle.std.specs.Map.{lookup}
 use Rattle.std.specs.Ordering.{int_eq}
 use Rattle.std.proofs.Common.{rules, subst, sym, ap, ◌∙◌}
 use Rattle.std.proofs.lemmas.Cmp.{int_eq_equiv}
@@ -16,8 +15,8 @@ use Rattle.replay_core.specs.Meaning.{at_start}
 use Rattle.replay_core.specs.Seen.{piece_seen}
 use Rattle.replay_core.specs.Threads.{threads_in}
 use Rattle.replay_core.specs.Steps.AllMade.{all_made}
-use Rattle.replay_core.proofs.ThreadLemmas.{Writes, none_turn, own_stays, tables_found, tables_lent}
-use Rattle.replay_core.proofs.ThreadLemmas.{typed_start, started, started_new, thread_written}
+use Rattle.replay_core.proofs.ThreadLemmas.{none_turn, own_stays, tables_found, tables_lent}
+use Rattle.replay_core.proofs.ThreadLemmas.{typed_start, started, thread_written}
 use Rattle.replay_core.proofs.threads.run_on_thread.Goals as goal
 
 no_tables : (tables : Tables) → ◌≡◌ {A = Option Tables} None (Some tables) → ⊥
@@ -65,26 +64,6 @@ returns-in-Some-get_index_mut-clause-threads g c =
     ((told slots cs mean fit (typed_start slots _ _ start good)).1 ∙ ap (λ v. (all_made f cs c.args.due.now.places.now v).variables) start))
     c.run_on_tables.ensures.notes
 
-pub returns-in_ok-insert-in-None-clause-notes : goal.returns-in_ok-insert-in-None-clause-notes
-returns-in_ok-insert-in-None-clause-notes g c = λ slots cs mean fit good.
-    let f = c.args.due.now.firing.now in
-    let old = c.args.threads.now.entries in
-    let had : lookup (int_eq f.thread) old ≡ None = search rules in
-    let start = started_new old f.thread c.new-tables.result.locals c.new-tables.result.own had c.new-tables.ensures.locals c.new-tables.ensures.own in
-    subst (λ v. Notes f.number (all_made f cs c.args.due.now.places.now v) (piece_seen c.args.piece.now) (piece_seen c.run_on_tables-in-None.new.piece)) start
-    (c.in_ok-exits-in-None.ensures.notes slots cs mean fit (typed_start slots _ _ start good)).0
-
-pub returns-in_ok-insert-in-None-clause-threads : goal.returns-in_ok-insert-in-None-clause-threads
-returns-in_ok-insert-in-None-clause-threads g c = λ slots cs mean fit good.
-    let f = c.args.due.now.firing.now in
-    let old = c.args.threads.now.entries in
-    let had : lookup (int_eq f.thread) old ≡ None = search rules in
-    let start = started_new old f.thread c.new-tables.result.locals c.new-tables.result.own had c.new-tables.ensures.locals c.new-tables.ensures.own in
-    let updates : Writes old c.insert.new.self.entries f.thread c.run_on_tables-in-None.new.tables = λ q. search (rules, c.in_ok-insert-in-None.ensures.updates.0 q) in
-    thread_written old c.insert.new.self.entries f.thread c.run_on_tables-in-None.new.tables (all_made f cs c.args.due.now.places.now (at_start (threads_in old f.thread)))
-    updates
-    ((c.in_ok-exits-in-None.ensures.notes slots cs mean fit (typed_start slots _ _ start good)).1 ∙ ap (λ v. (all_made f cs c.args.due.now.places.now v).variables) start)
-
 pub returns-in-Some-get_index_mut-clause-exits : goal.returns-in-Some-get_index_mut-clause-exits
 returns-in-Some-get_index_mut-clause-exits g c =
     let f = c.args.due.now.firing.now in
@@ -97,11 +76,3 @@ returns-in-Some-get_index_mut-clause-exits g c =
     IfOk-weaker c.run_on_tables.result _ _ (λ exits told slots cs mean fit good.
     told slots cs mean fit (typed_start slots _ _ start good) ∙ ap (λ v. is_some (all_made f cs c.args.due.now.places.now v).exit) start)
     c.run_on_tables.ensures.exits
-
-pub returns-in_ok-insert-in-None-clause-exits : goal.returns-in_ok-insert-in-None-clause-exits
-returns-in_ok-insert-in-None-clause-exits g c = λ slots cs mean fit good.
-    let f = c.args.due.now.firing.now in
-    let old = c.args.threads.now.entries in
-    let had : lookup (int_eq f.thread) old ≡ None = search rules in
-    let start = started_new old f.thread c.new-tables.result.locals c.new-tables.result.own had c.new-tables.ensures.locals c.new-tables.ensures.own in
-    c.in_ok-exits-in-None.ensures.exits slots cs mean fit (typed_start slots _ _ start good) ∙ ap (λ v. is_some (all_made f cs c.args.due.now.places.now v).exit) start

@@ -1,50 +1,20 @@
-use Rattle.std.specs.Prelude.{◌≡◌, FitsSigned}
-use Rattle.std.specs.Int.{w64}
-use Rattle.std.proofs.Common.{rules, subst}
-use Rattle.std.proofs.lemmas.Int.{to_z-of_z}
-use Rattle.aggregations.specs.Lent.{key_of}
+use Rattle.std.proofs.Common.{subst, sym}
 use Rattle.d_types.specs.declared.effect.Effect.TheVariants as ef
 use Rattle.d_types.specs.Clauses.{argument_by}
-use Rattle.d_types.specs.Expressions.{Has}
-use Rattle.replay_core.specs.Effects.{NotesEffect}
+use Rattle.d_types.specs.Expressions.{Has, with}
 use Rattle.replay_core.specs.Evaluation.{variables_in}
 use Rattle.replay_core.specs.Seen.{piece_seen}
-use Rattle.replay_core.proofs.EffectLemmas.{adds}
-use Rattle.replay_core.proofs.StateLemmas.{stays_then}
+use Rattle.replay_core.specs.Steps.Effects.{Performs}
 use Rattle.replay_core.proofs.statements.statement.aggregate.Goals as goal
 
 pub returns-in-Some-clause-effect : goal.returns-in-Some-clause-effect
 returns-in-Some-clause-effect g c =
     let f = c.args.state.now.firing.now in
     let by = g.X.Expression.by f in
-    let vars = variables_in c.args.state.now in
-    let after = variables_in c.evaluate_argument.new.state in
-    let place = c.args.place in
-    let number = c.in_ok-given.given in
-    let old = piece_seen c.args.piece.now in
-    let new = piece_seen c.note_lent_contribution.new.self in
-    let fits : FitsSigned w64 number = search rules in
-    let noted = subst (λ y. NotesEffect f.number (ef.Adds place (key_of c.values.result.now) y) old new)
-    (to_z-of_z w64 number fits) (c.in_ok-note_lent_contribution.ensures.notes f.number) in
-    let of_key = subst (λ k. NotesEffect f.number (ef.Adds place k number) old new) c.values.ensures noted in (
-      c.in_ok-given.ensures.0,
-      adds f.number place (by.key c.args.keys.now vars) (argument_by by c.args.argument.now) c.in-Some.key number
-          old new vars after (c.in-Some.ensures vars) c.in_ok-given.ensures.1 of_key,
-    )
-
-pub returns-clause-effect : goal.returns-clause-effect
-returns-clause-effect g c =
-    let f = c.args.state.now.firing.now in
-    let by = g.X.Expression.by f in
-    let vars = variables_in c.args.state.now in
-    let between = variables_in c.evaluate_key.new.state in
-    let after = variables_in c.evaluate_argument-2.new.state in
-    let fits : FitsSigned w64 c.in_ok-number.number = search rules in
-    let noted = subst (λ y. NotesEffect f.number (ef.Adds c.args.place c.in_ok-key.key y) (piece_seen c.args.piece.now) (piece_seen c.note_contribution.new.self))
-    (to_z-of_z w64 c.in_ok-number.number fits) (c.in_ok-note_contribution.ensures.notes f.number) in
-    let given : argument_by by c.args.argument.now between ≡ Has c.in_ok-number.number after =
-    subst (λ s. argument_by (g.X.Expression.by s.now) c.args.argument.now between ≡ Has c.in_ok-number.number after) c.in_ok-key.ensures.0.0 c.in_ok-number.ensures.1 in (
-      stays_then c.args.state.now c.evaluate_key.new.state c.evaluate_argument-2.new.state c.in_ok-key.ensures.0 c.in_ok-number.ensures.0,
-      adds f.number c.args.place (by.key c.args.keys.now vars) (argument_by by c.args.argument.now) c.in_ok-key.key c.in_ok-number.number
-          (piece_seen c.args.piece.now) (piece_seen c.note_contribution.new.self) between after c.in_ok-key.ensures.1 given noted,
+    let made = c.aggregate_lent.ensures.effect in
+    let keyed = c.in-Some.ensures (variables_in c.args.state.now) in (
+      made.0,
+      subst (λ q. Performs f.number (with q (λ key vars. with (argument_by by c.args.argument.now vars) (λ z. Has (ef.Adds c.args.place key z))))
+          (piece_seen c.args.piece.now) c.aggregate_lent.result (piece_seen c.aggregate_lent.new.piece) (variables_in c.aggregate_lent.new.state))
+          (sym keyed) made.1,
     )
