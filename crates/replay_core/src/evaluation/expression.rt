@@ -10,7 +10,7 @@ use crate::evaluation::built_in::{built_in, built_in_word};
 use crate::evaluation::changes::{step_variable, update_variable};
 use crate::evaluation::fault::EvalFault;
 use crate::evaluation::lending::{lent_text, set_part};
-use crate::evaluation::operators::{operation_word, unary, word_for_operation};
+use crate::evaluation::operators::{exclusive_or, operation_or_fault, unary, updated_word};
 use crate::evaluation::variables::{bytes, set, value_at, word_at, word_in};
 use crate::state::State;
 use d_parser::Step;
@@ -183,10 +183,7 @@ fn operate(
 {
     let left = evaluate_word(a, state)?;
     let right = evaluate_word(b, state)?;
-    match operation_word(op, left, right) {
-        Ok(word) => Ok(word),
-        Err(_) => Err(EvalFault::DivideByZero),
-    }
+    operation_or_fault(op, left, right)
 }
 
 // A comparison of two integers: 1 where it holds, else 0.
@@ -256,7 +253,7 @@ fn xor(a: &TypedExpr, b: &TypedExpr, state: &mut State<'_>) -> Result<u64, EvalF
 {
     let x = evaluate_word(a, state)?;
     let y = evaluate_word(b, state)?;
-    Ok(truth((x == 0) != (y == 0)))
+    Ok(exclusive_or(x, y))
 }
 
 // The second of three where the first isn't 0, else the third.
@@ -354,7 +351,7 @@ fn update(
     let key = evaluate_key(keys, state)?;
     let old = word_at(x, &key, state.tables);
     let y = evaluate_word(a, state)?;
-    let made = operation_word(op, word_for_operation(op, old), y);
+    let made = updated_word(op, old, y);
     let word = update_variable(x, &key, made, state)?;
     state.spare.keep(key)?;
     Ok(word)

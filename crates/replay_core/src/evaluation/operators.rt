@@ -3,7 +3,10 @@
 ghost use Rattle.std.specs.Prelude.{◌≡◌};
 ghost use Rattle.d_values.specs.Words.{narrow};
 ghost use Rattle.d_types.specs.Expressions as spec;
+ghost use Rattle.replay_core.specs.Evaluation.{Returns};
+ghost use Rattle.replay_core.specs.Vocabulary.{Variables};
 
+use crate::evaluation::fault::EvalFault;
 use d_parser::{Step, UnaryOperator};
 use d_types::{Answer, Operation};
 use d_values::{DType, IntType, OutOfZero, binary, complement, convert, negate, shift};
@@ -30,8 +33,36 @@ pub(crate) fn operation_word(op: Operation, a: u64, b: u64) -> Result<u64, OutOf
     }
 }
 
-/// The word of a variable as one of the type that the operation works in.
-pub(crate) fn word_for_operation(op: Operation, word: u64) -> u64
+/// The same, or the fault of its evaluation.
+#[inline(always)]
+pub(crate) fn operation_or_fault(op: Operation, a: u64, b: u64) -> Result<u64, EvalFault>
+    ensures { (vars : Variables) → Returns (spec.number_outcome
+        (spec.integer (spec.word_or_fault (spec.operation_of op a b) vars))) result vars }
+{
+    match operation_word(op, a, b) {
+        Ok(word) => Ok(word),
+        Err(_) => Err(EvalFault::DivideByZero),
+    }
+}
+
+/// The word of an operation on the word of a variable and another.
+#[inline(always)]
+pub(crate) fn updated_word(op: Operation, old: u64, y: u64) -> Result<u64, OutOfZero>
+    ensures { result ≡ spec.operation_of op (narrow (spec.works_in op) old) y }
+{
+    operation_word(op, word_for_operation(op, old), y)
+}
+
+/// 1 where just one of the words isn't 0, else 0.
+#[inline(always)]
+pub(crate) fn exclusive_or(x: u64, y: u64) -> u64
+    ensures { result ≡ spec.at_zero x (spec.bit y) (spec.inverse y) }
+{
+    u64::from((x == 0) != (y == 0))
+}
+
+// The word of a variable as one of the type that the operation works in.
+fn word_for_operation(op: Operation, word: u64) -> u64
     ensures { result ≡ narrow (spec.works_in op) word }
 {
     match op {
