@@ -1,14 +1,16 @@
 -- What private functions alone say of their steps. No contract for callers rests on these
 -- definitions.
-pub mod Beginnings
+pub mod Adding
+pub mod AllMade
 pub mod AtBoard
+pub mod Beginnings
+pub mod Caching
+pub mod Described
 pub mod Effects
 pub mod Evaluation
+pub mod Merging
 pub mod Patterns
+pub mod PiecePlaces
 pub mod Places
 pub mod Seen
 pub mod Working
-pub mod Caching
-pub mod Described
-pub mod PiecePlaces
-pub mod AllMade

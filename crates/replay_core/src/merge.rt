@@ -1,7 +1,9 @@
 //! Tables, merged in pairs.
 
-ghost use Rattle.std.specs.Prelude.{◌<◌, ◌≤◌, ◌+◌, ◌∷◌, [], length, IfOk};
+ghost use Rattle.std.specs.Prelude.{◌≡◌, ◌<◌, ◌≤◌, ◌+◌, ◌^◌, ◌∷◌, [], length, IfOk, OnOk};
+ghost use Rattle.replay_core.specs.Steps.Merging.{HasMerged};
 ghost use Rattle.replay_core.specs.Tables.{CanMerge, Serve};
+ghost use Rattle.replay_core.specs.Vocabulary.{count_held, functions_of};
 
 use aggregations::AggTable;
 use std::alloc::{AllocError, Global};
@@ -33,14 +35,26 @@ fn merge_neighbours(alloc: Global, tables: Vec<AggTable>) -> Result<Vec<AggTable
     for table in tables {
         match first.take() {
             None => first = Some(table),
-            Some(mut both) => {
-                both.merge(table)?;
-                pairs.push(both)?;
-            }
+            Some(both) => push_merged(&mut pairs, both, table)?,
         }
     }
     if let Some(last) = first {
         pairs.push(last)?;
     }
     Ok(pairs)
+}
+
+// Merges two tables, and adds the one that they make to these.
+fn push_merged(
+    pairs: &mut Vec<AggTable>,
+    mut both: AggTable,
+    table: AggTable,
+) -> Result<(), AllocError>
+    requires functions { functions_of both ≡ functions_of table }
+    requires room { count_held both + count_held table ≤ 2 ^ 52 }
+    ensures { OnOk result (HasMerged pairs.old.items both table pairs.new.items) }
+{
+    both.merge(table)?;
+    pairs.push(both)?;
+    Ok(())
 }

@@ -4,7 +4,7 @@ ghost use Rattle.std.specs.Prelude.{◌≡◌, ◌<◌, ◌≤◌, true, [], map
 ghost use Rattle.replay_core.specs.Vocabulary.{AreOf, MOST_BYTES, ScriptMeant, grouping, no_number};
 ghost use Rattle.replay_core.specs.Vocabulary.{run_threads, with_ends};
 ghost use Rattle.replay_core.specs.{Running.IsLaneOf, Seen.IsRoomy};
-ghost use Rattle.replay_core.specs.Steps.Working.{firings_at};
+ghost use Rattle.replay_core.specs.Steps.{Adding.IsAdded, Working.firings_at};
 ghost use Rattle.replay_core.specs.Beginnings.{AreBegun, IsBegunOf, least_exit};
 ghost use Rattle.replay_core.specs.Steps.Beginnings.{RunsBeginning};
 ghost use Rattle.replay_core.specs.Beginnings.{lesser_of};
@@ -55,10 +55,36 @@ where
             return Ok((pieces, seat));
         };
         input.gate.begun(group);
-        let piece = piece_until(source, &mut seat, input, group)?;
-        pieces.push((group, piece))?;
+        push_beginning(source, &mut seat, input, &mut pieces, group)?;
     }
     unreachable!()
+}
+
+// Makes the piece of a beginning of a group's firings, and adds it to these.
+fn push_beginning<S: Exits, L: Lanes, G>(
+    source: &S,
+    seat: &mut S::Seat,
+    input: &WorkerInput<L, G>,
+    pieces: &mut Vec<(u32, Piece)>,
+    group: u32,
+) -> Result<(), AllocError>
+    requires seat { S.is_at source.now seat.old }
+    requires group { group < (grouping input.now.groups.now).count }
+    requires script { (m : ScriptMeant) × L.runs input.now.lanes.now m }
+    requires selected { AreSelected
+        (L.runs input.now.lanes.now) input.now.trace.now input.now.selections.now }
+    requires groups { AreOf input.now.groups.now (run_threads input.now.trace.now) }
+    ensures seat { OnOk result (S.is_at source.now seat.new × (S.list seat.new ≡ S.list seat.old)) }
+    ensures seen { OnOk result (S.seen seat.new ≤ S.seen seat.old) }
+    ensures added { OnOk result (IsAdded (λ p. ((m : ScriptMeant) → L.runs input.now.lanes.now m
+        → IsBegunOf m (S.seen seat.new) (grouping input.now.groups.now)
+        (with_ends input.now.trace.now input.now.trace.now) p) × IsRoomy p.1
+        × (S.lowered seat.new ≡ lesser_of (S.lowered seat.old) p.1.exit))
+        pieces.old.items group pieces.new.items) }
+{
+    let piece = piece_until(source, seat, input, group)?;
+    pieces.push((group, piece))?;
+    Ok(())
 }
 
 // What a beginning of a group's firings makes.

@@ -7,7 +7,7 @@ ghost use Rattle.replay_core.specs.Vocabulary.{MOST_TOGETHER, grouping, run_thre
 ghost use Rattle.replay_core.specs.{Running.IsLaneOf, Seen.IsRoomy, Sizes.most_firings};
 ghost use Rattle.replay_core.specs.Selecting.{AreFor, AreSelected, selected_for};
 ghost use Rattle.replay_core.specs.Working.{AreOfGroups, IsOfGroup};
-ghost use Rattle.replay_core.specs.Steps.Working.{IsReady, firings_at};
+ghost use Rattle.replay_core.specs.Steps.{Adding.IsAdded, Working.IsReady, Working.firings_at};
 ghost use Rattle.replay_core.specs.Working.{firings_in, is_in};
 
 use crate::clause_places::ClausePlaces;
@@ -104,13 +104,33 @@ where
             return Ok((pieces, seat));
         };
         input.gate.begun(group);
-        let piece = input.piece_of(group, span)?;
-        pieces.push((group, piece))?;
+        input.push_piece(&mut pieces, group, span)?;
     }
     unreachable!()
 }
 
 impl<'a, L: Lanes, G> WorkerInput<'a, L, G> {
+    // Makes the piece of a group, and adds it to these.
+    fn push_piece(
+        &self,
+        pieces: &mut Vec<(u32, Piece)>,
+        group: u32,
+        span: Span,
+    ) -> Result<(), AllocError>
+        requires group { group < (grouping self.now.groups.now).count }
+        requires ready { IsReady
+            (L.runs self.now.lanes.now) self.now.groups.now self.now.trace.now }
+        requires selected { AreSelected
+            (L.runs self.now.lanes.now) self.now.trace.now self.now.selections.now }
+        ensures { OnOk result (IsAdded (λ p. ((m : ScriptMeant) → L.runs self.now.lanes.now m
+            → IsOfGroup m (grouping self.now.groups.now) (firings_in span self.now.trace.now) p)
+            × IsRoomy p.1) pieces.old.items group pieces.new.items) }
+    {
+        let piece = self.piece_of(group, span)?;
+        pieces.push((group, piece))?;
+        Ok(())
+    }
+
     // What the firings of a group that count make.
     fn piece_of(&self, group: u32, span: Span) -> Result<Piece, AllocError>
         requires group { group < (grouping self.now.groups.now).count }

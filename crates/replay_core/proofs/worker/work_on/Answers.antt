@@ -9,13 +9,13 @@ pub loop-preserved : goal.loop-preserved
 loop-preserved g c =
     let i = c.loop.invariant in
     let w = c.args.input.now in
-    let pushed = c.in_ok-push.ensures.items in
+    let added = c.in_ok-push_piece.ensures in
     let taken = c.in-Some-take.ensures in
     record {
       at = taken.seat;
-      groups = groups_more _ _ _ _ _ pushed i.groups taken.some.2;
+      groups = groups_more _ _ _ _ _ added.pushed i.groups taken.some.2;
       pieces = record {
-        each = λ m runs. all_push (IsOfGroup m (grouping w.groups.now) (firings_in c.args.span w.trace.now)) _ _ _ (i.pieces.each m runs) (c.in_ok-piece.ensures.piece m runs) pushed;
-        roomy = all_push (λ p. IsRoomy p.1) _ _ _ i.pieces.roomy c.in_ok-piece.ensures.roomy pushed;
+        each = λ m runs. all_push (IsOfGroup m (grouping w.groups.now) (firings_in c.args.span w.trace.now)) _ _ _ (i.pieces.each m runs) (added.is.0 m runs) added.pushed;
+        roomy = all_push (λ p. IsRoomy p.1) _ _ _ i.pieces.roomy added.is.1 added.pushed;
       };
     }
