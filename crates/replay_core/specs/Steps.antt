@@ -13,4 +13,5 @@ pub mod Patterns
 pub mod PiecePlaces
 pub mod Places
 pub mod Seen
+pub mod Worked
 pub mod Working

@@ -1,11 +1,11 @@
 //! Workers at a board, each in a thread of its own.
 
-ghost use Rattle.std.specs.Prelude.{◌≡◌, All, vec_len, IfOk};
+ghost use Rattle.std.specs.Prelude.{◌≡◌, ◌+◌, All, vec_len, IfOk, OnOk};
 ghost use Rattle.replay_core.specs.Vocabulary.{IsAt, IsNew, grouping};
 ghost use Rattle.replay_core.specs.{Selecting.AreSelected};
 ghost use Rattle.replay_core.specs.Steps.Working.{IsReady};
 ghost use Rattle.replay_core.specs.AtBoard.{Gives, IsWork};
-ghost use Rattle.replay_core.specs.Steps.AtBoard.{AreFinished};
+ghost use Rattle.replay_core.specs.Steps.{AtBoard.AreFinished, Worked.IsWorkAdded};
 
 use crate::gate::Gate;
 use crate::lanes::Lanes;
@@ -150,9 +150,23 @@ pub(crate) fn pieces_and_seats(
     let mut pieces = Vec::new(alloc);
     let mut seats = Vec::new(alloc);
     for worked in results {
-        let (mut part, seat) = worked?;
-        pieces.append(&mut part)?;
-        seats.push(seat)?;
+        add_worked(worked, &mut pieces, &mut seats)?;
     }
     Ok((pieces, seats))
+}
+
+// Adds what a worker gave back to what others did.
+fn add_worked(
+    worked: Worked,
+    pieces: &mut Vec<(u32, Piece)>,
+    seats: &mut Vec<ClaimSeat>,
+) -> Result<(), AllocError>
+    ensures len { OnOk result (vec_len seats.new ≡ vec_len seats.old + 1) }
+    ensures added { OnOk result (IsWorkAdded worked pieces.old.items pieces.new.items
+        seats.old.items seats.new.items) }
+{
+    let (mut part, seat) = worked?;
+    pieces.append(&mut part)?;
+    seats.push(seat)?;
+    Ok(())
 }

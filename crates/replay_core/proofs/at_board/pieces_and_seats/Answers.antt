@@ -10,11 +10,13 @@ loop-worked-preserved c =
     let i = c.loop-worked.invariant in
     let (before, all, finished) = i.finished in
     let steps = c.in-Some.ensures.steps in
+    let one = c.in_ok-add_worked.ensures in
+    let added = one.added in
     record {
-      len = let a = c.in_ok-push.ensures.len in let b = steps.1 in let m = i.len in omega arith;
+      len = let a = one.len in let b = steps.1 in let m = i.len in omega arith;
       finished = (
         before ++ c.in-Some.worked ∷ [],
         all ∙ ap (λ l. before ++ l) steps.0 ∙ sym (append_assoc before (c.in-Some.worked ∷ []) _),
-        one_finished before c.in-Some.worked _ _ _ _ c.in_ok-part.part c.in_ok-part.seat finished c.in_ok-part.was c.in_ok-append.ensures.items c.in_ok-push.ensures.items,
+        one_finished before c.in-Some.worked _ _ _ _ added.part.0 added.part.1 finished added.came added.added added.seated,
       );
     }
