@@ -1,10 +1,11 @@
 -- Firings whose rows and lists of clauses are read before the first of them runs.
 use Rattle.std.specs.Prelude.{◌≡◌, ◌≤◌, ◌<◌, ◌-◌, ℕ, zero, suc, List, [], ◌∷◌, ◌++◌, Some}
-use Rattle.std.specs.Prelude.{filter, length, map, slice_get, take, drop}
+use Rattle.std.specs.Prelude.{filter, length, map, option_map, slice_get, take, drop}
 use Rattle.std.proofs.Common.{arith, get_or, ap, ◌∙◌}
 use Rattle.std.specs.Borrow.{Bor}
 use Rattle.std.proofs.lemmas.List.Concat.{flat_map-append}
 use Rattle.std.proofs.lemmas.List.Elements.{filter-append}
+use Rattle.std.proofs.lemmas.Option.{slice_get-get_or, slice_get-map}
 use Rattle.firing_reader.specs.declared.firing.Firing.{Firing}
 use Rattle.firing_reader.specs.Firings.{HasRanges, IsFiring}
 use Rattle.firing_reader.specs.Stored.{row_before}
@@ -36,6 +37,10 @@ listed_at lists selected [] i d lt are = absurd (omega arith)
 listed_at [] selected (p ∷ places) i d lt are = absurd cc
 listed_at (l ∷ lists) selected (p ∷ places) zero d lt are = cc
 listed_at (l ∷ lists) selected (p ∷ places) (suc i) d lt are = listed_at lists selected places i d (omega arith) cc
+
+-- what is made of each place, at one of them
+pub mapped_at : {A : Type 0} (f : ℕ → A) (made : List A) (places : List ℕ) (i : ℕ) → i < length places → made ≡ map f places → slice_get made i ≡ Some (f (get_or places i 0))
+mapped_at f made places i lt are = ap (λ l. slice_get l i) are ∙ slice_get-map f places i ∙ ap (option_map f) (slice_get-get_or places i 0 lt)
 
 -- ---- blocks
 

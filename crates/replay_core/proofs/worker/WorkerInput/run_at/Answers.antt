@@ -51,3 +51,20 @@ loop-block-preserved g c =
             (ran.run m (filter (is_in c.args.span) (firings_at run done)) (inv.script m runs are) are (inv.run m runs are));
       },
     )
+
+pub run_block-requires-clause-script : goal.run_block-requires-clause-script
+run_block-requires-clause-script g c κs within =
+    let some = c.requires.script in
+    (some.0, c.loop-block.invariant.3.script some.0 some.1 some.2, some.2)
+
+pub run_block-requires-clause-unspent : goal.run_block-requires-clause-unspent
+run_block-requires-clause-unspent g c κs within = c.loop-block.invariant.3.unspent
+
+pub run_block-requires-clause-short : goal.run_block-requires-clause-short
+run_block-requires-clause-short g c κs within = c.requires.short
+
+pub returns-clause-script : goal.returns-clause-script
+returns-clause-script g c = c.loop-block.invariant.3.script
+
+pub returns-clause-unspent : goal.returns-clause-unspent
+returns-clause-unspent g c = c.loop-block.invariant.3.unspent

@@ -1,4 +1,4 @@
-use Rattle.std.proofs.Common.{◌≡◌, ◌++◌, ◌∷◌, [], List, arith, filter, take, get_or, sym, ap, subst, ◌∙◌, append_assoc}
+use Rattle.std.proofs.Common.{rules, ◌≡◌, ◌++◌, ◌∷◌, [], List, arith, filter, take, get_or, sym, ap, subst, ◌∙◌, append_assoc}
 use Rattle.std.specs.Prelude.{slice_index}
 use Rattle.std.proofs.lemmas.List.{get_or_default}
 use Rattle.firing_reader.specs.declared.firing.Firing.{Firing}
@@ -6,7 +6,8 @@ use Rattle.firing_reader.specs.Ends.{with_ends}
 use Rattle.replay_core.specs.Running.{IsLaneOf}
 use Rattle.replay_core.specs.Working.{is_in}
 use Rattle.replay_core.specs.Steps.Working.{firings_at}
-use Rattle.replay_core.proofs.FetchLemmas.{listed_at}
+use Rattle.replay_core.proofs.BeginLemmas.{at_all}
+use Rattle.replay_core.proofs.FetchLemmas.{listed_at, mapped_at}
 use Rattle.replay_core.proofs.SelectionLemmas.{selected_is, selected_short}
 use Rattle.replay_core.proofs.WorkSteps.{kept_more}
 use Rattle.replay_core.proofs.worker.WorkerInput.run_block.Goals as goal
@@ -52,3 +53,28 @@ loop-at-preserved g c =
           (append_assoc before counted (filter (is_in c.args.span) (f ∷ [])) ∙ ap (λ l. before ++ l) (sym more))
           (ran.run m (before ++ counted) (inv.script m runs are) (selected_is m s.trace.now s.selections.now are place f list.now c.read_at-firing.ensures.firing listed) (inv.run m before runs are is));
     }
+
+pub returns-clause-run : goal.returns-clause-run
+returns-clause-run g c = λ m before runs are is.
+    let t = c.args.self.now.trace.now in
+    let run = with_ends t t in
+    let places = c.args.places.now in
+    subst (λ (l : List Firing). IsLaneOf m (before ++ filter (is_in c.args.span) l) (g.E.Engine.seen c.loop-at.lane))
+    (sym (at_all run places c.loop-at.at (omega arith))) (c.loop-at.invariant.run m before runs are is)
+
+pub returns-clause-script : goal.returns-clause-script
+returns-clause-script g c = c.loop-at.invariant.script
+
+pub returns-clause-unspent : goal.returns-clause-unspent
+returns-clause-unspent g c = c.loop-at.invariant.unspent
+
+pub run_one-requires-clause-unspent : goal.run_one-requires-clause-unspent
+run_one-requires-clause-unspent g c = c.loop-at.invariant.unspent
+
+pub run_one-requires-clause-ranges : goal.run_one-requires-clause-ranges
+run_one-requires-clause-ranges g c = c.read_at-firing.ensures.ranges
+
+pub read_at-firing-requires-clause-row : goal.read_at-firing-requires-clause-row
+read_at-firing-requires-clause-row g c =
+    let read = mapped_at _ c.rows-rows.result c.args.places.now c.loop-at.at (omega arith) c.rows-rows.ensures in
+    search (rules, read)
