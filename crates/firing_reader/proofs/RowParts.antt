@@ -52,14 +52,14 @@ probe_there ps p q b r there h =
 pub begins_row : (bytes line rest : List ℕ) (number : ℕ) → bytes ≡ 10 ∷ line → (first : ℕ) × (more : List ℕ) × (line ≡ first ∷ more) × JoinsField first
     → (field : List ℕ) × Passes line (field ∷ []) rest × (whole_of 1 (2 ^ 62) field ≡ Some number) → BeginsRow bytes number rest
 begins_row bytes line rest number is (first, more, starts, joins) (field, passes, is_number) = record {
-    first = first;
-    more = more;
-    is_bytes = is ∙ ap (λ it. 10 ∷ it) starts;
-    joins = joins;
-    field = field;
-    passes = subst (λ it. Passes it (field ∷ []) rest) starts passes;
-    is_number = is_number;
-  }
+  first = first;
+  more = more;
+  is_bytes = is ∙ ap (λ it. 10 ∷ it) starts;
+  joins = joins;
+  field = field;
+  passes = subst (λ it. Passes it (field ∷ []) rest) starts passes;
+  is_number = is_number;
+}
 
 -- the parts of a row, one after the other
 pub row_parts : (bytes b1 b2 b3 b4 b5 rest : List ℕ) (os : List Owner) (ps : List Probe) (args : List ℤ) (r : Row) (o : Owner) (p : Probe)
