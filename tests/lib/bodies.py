@@ -36,8 +36,8 @@ class Function:
 
     def is_at(self, path):
         """Returns whether the prover's path, below the crate, is of the function or of a closure of
-        it. A method stands in its type's module, and the arguments of a trait follow its name, in
-        a form that is known of one name alone."""
+        it. A method stands in its type's module, and the arguments of a trait follow its name. How
+        they are written there is known where they are one name."""
         owner, _, name = CLOSURE.sub(r"::\1", f"::{path}").rpartition("::")
         if name != self.name or not self.type:
             return name == self.name and owner.strip(":") == self.module
@@ -58,10 +58,9 @@ class Function:
         are_methods = self.type and other.type and self.name == other.name
         return self == other or bool(are_methods and self.type != other.type)
 
-
     def is_called_in(self, text):
-        """Returns whether a text seems to call this function: a method by its type or of a value,
-        and any other not so."""
+        """Returns whether a text seems to call this function: a method is named after a dot or its
+        type, and any other function after neither."""
         found = re.findall(rf"(?:(\w+)::|(\.))?\b{self.name}\(", text)
         if self.type:
             return any(dot or owner in (self.type, "Self") for owner, dot in found)
@@ -129,7 +128,8 @@ def with_stubs(text, path, stub, functions):
 
 
 def changed(old, new, path):
-    """Returns what differs in two texts of a file, or None where they have other functions."""
+    """Returns what differs in two texts of a file, or None where one has a function that the other
+    lacks."""
     (functions, around), (new_functions, new_around) = split(old, path), split(new, path)
     if functions.keys() != new_functions.keys():
         return None
