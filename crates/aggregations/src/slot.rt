@@ -12,6 +12,7 @@ use indexmap::IndexMap;
 use keyed_hash::HashKey;
 use std::alloc::{AllocError, Global};
 use std::marker::Model;
+use std::mem::replace;
 
 /// One aggregation. Its entries have a map only once there is one: a script can have thousands of
 /// aggregations in thousands of groups, most of them without an entry.
@@ -76,9 +77,12 @@ impl Slot {
             Some(entries) => entries.add(key, arg),
             None => {
                 let mut entries = Entries::new(alloc, hash_key, self.function);
-                entries.add(key, arg)?;
+                if let Err(refused) = entries.add(key, arg) {
+                    drop(entries);
+                    return Err(refused);
+                }
                 let entries = Box::new(alloc, entries)?;
-                self.entries = Some(entries);
+                drop(replace(&mut self.entries, Some(entries)));
                 Ok(())
             }
         }

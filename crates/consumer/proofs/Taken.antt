@@ -102,6 +102,13 @@ bundle_told first first' seen block o (Some t) none is same h bytes had =
     let all : seen ≡ bytes ++ block = same ∙ is ∙ ap (λ b. b ++ block) had' in
     λ rest. subst (λ b. IsTakenApart (b ++ rest) t.script t.trace rest) all (h rest)
 
+-- the same, where this was put in the place of nothing
+pub bundle_put : {R : Type 0} (first first' seen block : List ℕ) (o told put : Option (TraceIntake R)) → put ≡ told → o ≡ None → first' ≡ first ++ block
+    → seen ≡ first' → IfSome told (λ t. (rest : List ℕ) → IsTakenApart (seen ++ rest) t.script t.trace rest)
+    → (bytes : List ℕ) → HasTaken first o bytes → HasTaken first' put (bytes ++ block)
+bundle_put {R = R} first first' seen block o told put same_put none is same h bytes had =
+    subst (λ (t : Option (TraceIntake R)). HasTaken first' t (bytes ++ block)) (sym same_put) (bundle_told first first' seen block o told none is same h bytes had)
+
 -- blocks that come one after the other are one
 pub bundle_takes : {R : Type 0} (old : BundleIntake R) (input : List ℕ) (new : BundleIntake R)
     → TakesBlocks (λ a block b. (bytes : List ℕ) → HasTaken a.first.items a.trace bytes → HasTaken b.first.items b.trace (bytes ++ block)) old input new

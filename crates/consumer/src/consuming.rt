@@ -1,4 +1,7 @@
 //! From the bytes in to the bytes out.
+//!
+//! What is owned is dropped by name: in each function that drops a value at a scope's end, a proof
+//! goes through the variants of its type.
 
 ghost use Rattle.std.specs.Prelude.{◌≡◌, ◌≢◌, [], List, ℕ, Err, IfErr, IsFalse, Ok, OnOk};
 ghost use Rattle.consumer.specs.{Bundle.Divides, Plans.IsInBounds};
@@ -25,7 +28,7 @@ pub enum ConsumeFault {
     #[error("read failed")]
     Read,
     /// There is no answer, and nothing was written.
-    #[error("{0}")]
+    #[error(transparent)]
     Refused(Refusal),
     /// The writer failed. A beginning of the answer was written, or all of it where it failed as it
     /// was flushed.
@@ -82,9 +85,16 @@ impl<'a, R: Threads + Wait + Sync, L: Layout> Consumer<'a, R, L> {
             → IfErr result (λ e. sink.new ≡ sink.old) }
     {
         let mut bundle = BundleIntake::new(self.rt, self.alloc, plan);
-        read_into(self.alloc, feed, &mut bundle)?;
-        let taken = bundle.finish()?;
-        self.show(taken, sink, plan)
+        match read_into(self.alloc, feed, &mut bundle) {
+            Ok(()) => {
+                let taken = bundle.finish()?;
+                self.show(taken, sink, plan)
+            }
+            Err(fault) => {
+                drop(bundle);
+                Err(ConsumeFault::from(fault))
+            }
+        }
     }
 
     /// Reads a trace to its end, runs the script over it, writes what the script shows and flushes
@@ -115,8 +125,13 @@ impl<'a, R: Threads + Wait + Sync, L: Layout> Consumer<'a, R, L> {
             → IfErr result (λ e. sink.new ≡ sink.old) }
     {
         let mut taken = TraceIntake::new(self.rt, self.alloc, plan, script)?;
-        read_into(self.alloc, feed, &mut taken)?;
-        self.show(taken, sink, plan)
+        match read_into(self.alloc, feed, &mut taken) {
+            Ok(()) => self.show(taken, sink, plan),
+            Err(fault) => {
+                drop(taken);
+                Err(ConsumeFault::from(fault))
+            }
+        }
     }
 
     // Runs a script over the trace that was taken for it, and writes what the script shows.
@@ -153,9 +168,14 @@ impl<'a, R: Threads + Wait + Sync, L: Layout> Consumer<'a, R, L> {
         match script {
             Ok(script) => {
                 let read = trace.finish(self.rt);
-                self.replay_read(&script, read, plan, &OpenGate)
+                let answer = self.replay_read(&script, read, plan, &OpenGate);
+                drop(script);
+                answer
             }
-            Err(refusal) => Err(refusal),
+            Err(refusal) => {
+                drop(trace);
+                Err(refusal)
+            }
         }
     }
 }

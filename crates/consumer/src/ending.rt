@@ -1,6 +1,6 @@
 //! How the program ends: what it says on standard error, and its status.
 
-ghost use Rattle.std.specs.Prelude.{◌≡◌, ◌∷◌, ◌++◌, ◌≤◌, [], IsFalse, length};
+ghost use Rattle.std.specs.Prelude.{◌≡◌, ◌∷◌, ◌++◌, ◌≤◌, [], Err, IsFalse, length};
 ghost use Rattle.report.specs.Stream.{IsSent};
 ghost use Rattle.consumer.specs.{Lines.reason_bytes};
 ghost use Rattle.consumer.specs.Refusals.{IsReported, consume_fault_line, status_at_end};
@@ -26,6 +26,22 @@ pub fn end<E: Sink>(errors: &mut E, answer: &Result<Replayed, ConsumeFault>) -> 
         tell(errors, fault);
     }
     status_at_end(answer)
+}
+
+/// Writes a fault's line to the errors' stream, and returns the exit status. It allocates nothing.
+///
+/// ```text
+/// fail(&mut errors, ConsumeFault::Write); // 1, and the line `dreplay: write failed`
+/// ```
+pub fn fail<E: Sink>(errors: &mut E, fault: ConsumeFault) -> u8
+    requires { IsFalse (E.seen errors.old).has_failed }
+    ensures status { result ≡ status_at_end (Err fault) }
+    ensures line { IsReported (Err fault) (E.seen errors.old) (E.seen errors.new) }
+{
+    let answer: Result<Replayed, ConsumeFault> = Err(fault);
+    let status = end(errors, &answer);
+    drop(answer);
+    status
 }
 
 // Writes the line of a fault in one piece. If that fails, the status still shows the fault.

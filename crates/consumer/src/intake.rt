@@ -1,4 +1,7 @@
 //! Takes the input of a run block by block: a bundle, or the trace of a script.
+//!
+//! What is owned is dropped by name: in each function that drops a value at a scope's end, a proof
+//! goes through the variants of its type.
 
 ghost use Rattle.std.specs.Prelude.{◌≡◌, ◌++◌, [], ℕ, List, IfOk, IfSome, Err, OnOk};
 ghost use Rattle.consumer.specs.Blocks.{IsTakenApart, HasTaken, TakesTrace};
@@ -15,6 +18,7 @@ use d_types::TypedScript;
 use firing_reader::Reader;
 use report::Intake;
 use std::alloc::{AllocError, Global};
+use std::mem::replace;
 use std::thread::Threads;
 
 // The most bytes of a bundle up to its dividing line and with it, where the script is within the
@@ -74,8 +78,13 @@ impl<'a, R: Threads> TraceIntake<'a, R> {
             ((rest : List ℕ) → reads t.trace rest ≡ trace_of (first.now ++ rest))) }
     {
         let mut intake = TraceIntake::new(rt, alloc, plan, script)?;
-        intake.take(first)?;
-        Ok(intake)
+        match intake.take(first) {
+            Ok(()) => Ok(intake),
+            Err(e) => {
+                drop(intake);
+                Err(e)
+            }
+        }
     }
 
     // Takes the trace of a script that is too long.
@@ -159,7 +168,8 @@ impl<'a, R: Threads> Intake for BundleIntake<'a, R> {
             None => {
                 self.first.extend_from_slice(block)?;
                 let trace = trace_after(self.rt, self.alloc, self.plan, &self.first)?;
-                self.trace = trace;
+                let none = replace(&mut self.trace, trace);
+                drop(none);
                 Ok(())
             }
         }

@@ -8,7 +8,7 @@ use arrayvec::ArrayString;
 use itoa::{Buffer, Integer};
 
 /// Where a fault is.
-#[derive(Clone, Copy, Debug, PartialEq, Eq)]
+#[derive(Clone, Copy)]
 pub enum Place {
     /// No place is reported.
     Nowhere,
@@ -23,7 +23,7 @@ pub enum Place {
 }
 
 /// Why there is no answer, and where.
-#[derive(Clone, Copy, Debug, PartialEq, Eq)]
+#[derive(Clone, Copy)]
 pub struct Reason {
     pub text: &'static str,
     pub place: Place,

@@ -1,4 +1,7 @@
 //! What the program does with its words, its files and its streams.
+//!
+//! What is owned is dropped by name: in each function that drops a value at a scope's end, a proof
+//! goes through the variants of its type.
 
 ghost use Rattle.std.specs.Prelude.{◌≡◌, ◌⊎◌, IfOk, IsFalse, MatchResult, Some};
 ghost use Rattle.consumer.specs.{Plans.IsInBounds};
@@ -9,7 +12,7 @@ ghost use Rattle.report.specs.Watched.{watched_calls, watched_has_failed, watche
 
 use crate::consumer::Consumer;
 use crate::consuming::ConsumeFault;
-use crate::ending::end;
+use crate::ending::{end, fail};
 use crate::files::{ScriptFiles, script_in};
 use crate::plan::Replayed;
 use crate::refusal::Refusal;
@@ -75,8 +78,16 @@ impl<'a, R: Threads + Wait + Sync, L: Layout> Consumer<'a, R, L> {
             (streams_seen F.seen S.seen E.seen streams.new) result }
     {
         match request(self.alloc, help, hash_key, given) {
-            Ok(asked) => self.run_status(files, &asked, streams),
-            Err(fault) => explain(self.alloc, &fault, streams),
+            Ok(asked) => {
+                let status = self.run_status(files, &asked, streams);
+                drop(asked);
+                status
+            }
+            Err(fault) => {
+                let status = explain(self.alloc, &fault, streams);
+                drop(fault);
+                status
+            }
         }
     }
 
@@ -94,7 +105,9 @@ impl<'a, R: Threads + Wait + Sync, L: Layout> Consumer<'a, R, L> {
             (streams_seen F.seen S.seen E.seen streams.new) result }
     {
         let answer = self.run_asked(files, asked, streams);
-        end(&mut streams.errors, &answer)
+        let status = end(&mut streams.errors, &answer);
+        drop(answer);
+        status
     }
 
     // Runs what was asked for, over the input and into the output.
@@ -133,13 +146,19 @@ impl<'a, R: Threads + Wait + Sync, L: Layout> Consumer<'a, R, L> {
             (streams_seen F.seen S.seen E.seen streams.new) result }
         ensures errors { streams.new.errors ≡ streams.old.errors }
     {
-        let script = script_in(self.alloc, files, file.as_str())?;
-        self.consume_trace(
-            &script,
-            &mut streams.input,
-            &mut streams.output,
-            &asked.plan,
-        )
+        match script_in(self.alloc, files, file.as_str()) {
+            Ok(script) => {
+                let answer = self.consume_trace(
+                    &script,
+                    &mut streams.input,
+                    &mut streams.output,
+                    &asked.plan,
+                );
+                drop(script);
+                answer
+            }
+            Err(fault) => Err(fault),
+        }
     }
 }
 
@@ -181,7 +200,7 @@ fn explain<F: Feed, S: Sink, E: Sink>(
     match fault {
         UsageFault::Help(help) => show_help(alloc, help, streams),
         UsageFault::Usage(mistake) => show_mistake(alloc, mistake, streams),
-        UsageFault::Memory => end(&mut streams.errors, &Err(OUT_OF_MEMORY)),
+        UsageFault::Memory => fail(&mut streams.errors, OUT_OF_MEMORY),
     }
 }
 
@@ -200,9 +219,9 @@ fn show_help<F: Feed, S: Sink, E: Sink>(
     match format!(in alloc; "{help}") {
         Ok(text) => match send(&mut streams.output, text.as_str().as_bytes()) {
             Ok(()) => 0,
-            Err(_) => end(&mut streams.errors, &Err(ConsumeFault::Write)),
+            Err(_) => fail(&mut streams.errors, ConsumeFault::Write),
         },
-        Err(_) => end(&mut streams.errors, &Err(OUT_OF_MEMORY)),
+        Err(_) => fail(&mut streams.errors, OUT_OF_MEMORY),
     }
 }
 
@@ -223,7 +242,7 @@ fn show_mistake<F: Feed, S: Sink, E: Sink>(
             let _ = send(&mut streams.errors, text.as_str().as_bytes());
             2
         }
-        Err(_) => end(&mut streams.errors, &Err(OUT_OF_MEMORY)),
+        Err(_) => fail(&mut streams.errors, OUT_OF_MEMORY),
     }
 }
 

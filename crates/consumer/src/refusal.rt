@@ -20,19 +20,19 @@ use thiserror::Error;
 #[derive(Debug, Drop, Error)]
 pub enum Refusal {
     /// Why the script has no tokens.
-    #[error("{0}")]
+    #[error(transparent)]
     Lex(LexFault),
     /// Why its tokens have no tree.
-    #[error("{0}")]
+    #[error(transparent)]
     Parse(ParseFault),
     /// The first fault of its types.
-    #[error("{0}")]
+    #[error(transparent)]
     Typing(TypeFault),
     /// The trace's first fault.
-    #[error("{0}")]
+    #[error(transparent)]
     Trace(TraceFault),
     /// Why the plan's lists are no groups of the trace's threads.
-    #[error("{0}")]
+    #[error(transparent)]
     Group(GroupFault),
     /// Memory ran out.
     #[error("out of memory")]

@@ -1,4 +1,7 @@
 //! The answer of a script over a trace.
+//!
+//! What is owned is dropped by name: in each function that drops a value at a scope's end, a proof
+//! goes through the variants of its type.
 
 ghost use Rattle.std.specs.Prelude.{◌≡◌, ◌≤◌, ◌+◌, ℕ, IfOk, List, unwrap_or, option_map};
 ghost use Rattle.firing_reader.specs.{Gives.Gives};
@@ -63,7 +66,9 @@ impl<'a, R: Threads + Wait + Sync, L: Layout> Consumer<'a, R, L> {
         let alloc = self.alloc;
         let script = judge(alloc, script)?;
         let read = read_trace_by(self.rt, alloc, plan.hash_key, trace, plan.workers);
-        self.replay_read(&script, read, plan, gate)
+        let replayed = self.replay_read(&script, read, plan, gate);
+        drop(script);
+        replayed
     }
 
     /// Does the same with a script that was accepted, and what was read of its trace.
@@ -79,7 +84,9 @@ impl<'a, R: Threads + Wait + Sync, L: Layout> Consumer<'a, R, L> {
             → Gives read (trace_of trace) → IsReplay L.shows source trace plan.now result }
     {
         let trace = read?;
-        self.replay_trace(script, &trace, plan, gate)
+        let replayed = self.replay_trace(script, &trace, plan, gate);
+        drop(trace);
+        replayed
     }
 
     // Does the same with a trace that was read.
@@ -95,12 +102,17 @@ impl<'a, R: Threads + Wait + Sync, L: Layout> Consumer<'a, R, L> {
             → trace_of bytes ≡ Ok trace.now → IsReplay L.shows source bytes plan.now result }
     {
         let groups = groups_of(self.alloc, &plan.groups, trace)?;
-        let job = Job {
-            trace,
-            groups: &groups,
-            gate,
-        };
-        let replayed = self.replay_job(script, &job, plan)?;
+        let answer = self.replay_job(
+            script,
+            &Job {
+                trace,
+                groups: &groups,
+                gate,
+            },
+            plan,
+        );
+        drop(groups);
+        let replayed = answer?;
         Ok(replayed)
     }
 
@@ -145,8 +157,9 @@ impl<'a, R: Threads + Wait + Sync, L: Layout> Consumer<'a, R, L> {
             }
             EngineKind::Dif => {
                 let program = compile(self.alloc, script)?;
-                let lanes = DifLanes::new(plan.hash_key, &program);
-                self.run_lanes(&lanes, job, plan)
+                let ran = self.run_lanes(&DifLanes::new(plan.hash_key, &program), job, plan);
+                drop(program);
+                ran
             }
         }
     }
@@ -178,8 +191,13 @@ impl<'a, R: Threads + Wait + Sync, L: Layout> Consumer<'a, R, L> {
             → IfOk result (λ r. IsShown L.shows m trace (output_of r)
             × IsCarriedOut plan trace (firings_over m trace) r) }
     {
-        let bytes = self.layout.render(self.rt, self.alloc, script, &ran.whole)?;
-        Ok(replayed_of(bytes, ran))
+        match self.layout.render(self.rt, self.alloc, script, &ran.whole) {
+            Ok(bytes) => Ok(replayed_of(bytes, ran)),
+            Err(e) => {
+                drop(ran);
+                Err(e)
+            }
+        }
     }
 }
 

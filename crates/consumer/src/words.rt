@@ -1,4 +1,7 @@
 //! The words after the program's name.
+//!
+//! What is owned is dropped by name: in each function that drops a value at a scope's end, a proof
+//! goes through the variants of its type.
 
 ghost use Rattle.std.specs.Prelude.{◌≡◌, ◌⊎◌, ◌∷◌, [], ℕ, IfErr, IfOk, IfSome, IsErr, IsOkAnd};
 ghost use Rattle.std.specs.Prelude.{MatchResult, None, Some, codes, drop, false, map, option_map};
@@ -47,10 +50,10 @@ impl Asked {
 #[derive(Debug, Drop, Error)]
 pub enum UsageFault {
     /// They ask for help; this is its text.
-    #[error("{0}")]
+    #[error(transparent)]
     Help(clap::Error),
     /// They are not understood. This says why, in clap's words.
-    #[error("{0}")]
+    #[error(transparent)]
     Usage(clap::Error),
     /// Memory ran out.
     #[error("out of memory")]
@@ -134,7 +137,11 @@ pub fn read_words<'a>(alloc: Global, help: Help, words: &'a [&'a str]) -> Result
 {
     let command = command(alloc, help)?;
     match command.try_get_matches_from(words) {
-        Ok(matches) => request_in(alloc, help, &matches),
+        Ok(matches) => {
+            let asked = request_in(alloc, help, &matches);
+            drop(matches);
+            asked
+        }
         Err(error) => Err(usage_fault(error)),
     }
 }
@@ -260,42 +267,42 @@ fn plan_in(alloc: Global, help: Help, matches: &ArgMatches<'_>) -> Result<Plan, 
         (IsPlanFault (rows_of (found_of matches.now))) }
 {
     let Some(workers) = number_named(matches, "workers", 1, MOST_WORKERS) else {
-        return Err(out_of_range(alloc, help)?);
+        return Err(out_of_range(alloc, help));
     };
     let Some(groups) = number_named(matches, "groups", 1, MOST_GROUPS) else {
-        return Err(out_of_range(alloc, help)?);
+        return Err(out_of_range(alloc, help));
     };
     let Some(engine) = engine_named(matches) else {
-        return Err(no_engine(alloc, help)?);
+        return Err(no_engine(alloc, help));
     };
     Ok(Plan::new(workers, GroupPlan::Dealt(groups), engine))
 }
 
 // The mistake of a number out of range that clap accepted. It accepts none, so this is never
 // returned.
-fn out_of_range(alloc: Global, help: Help) -> Result<UsageFault, AllocError>
-    ensures { IfOk result (IsMistake ErrorKind.ValueValidation) }
+fn out_of_range(alloc: Global, help: Help) -> UsageFault
+    ensures { (result ≡ Memory) ⊎ IsMistake ErrorKind.ValueValidation result }
 {
-    let error = mistake(
-        alloc,
-        help,
-        ErrorKind::ValueValidation,
-        "a number is out of range",
-    )?;
-    Ok(UsageFault::Usage(error))
+    let text = "a number is out of range";
+    mistake_fault(alloc, help, ErrorKind::ValueValidation, text)
 }
 
 // The mistake of a name that no engine has.
-fn no_engine(alloc: Global, help: Help) -> Result<UsageFault, AllocError>
-    ensures { IfOk result (IsMistake ErrorKind.InvalidValue) }
+fn no_engine(alloc: Global, help: Help) -> UsageFault
+    ensures { (result ≡ Memory) ⊎ IsMistake ErrorKind.InvalidValue result }
 {
-    let error = mistake(
-        alloc,
-        help,
-        ErrorKind::InvalidValue,
-        "the engine is dif or tree",
-    )?;
-    Ok(UsageFault::Usage(error))
+    let text = "the engine is dif or tree";
+    mistake_fault(alloc, help, ErrorKind::InvalidValue, text)
+}
+
+// The fault of a mistake with this text, unless memory runs out as it is made.
+fn mistake_fault(alloc: Global, help: Help, kind: ErrorKind, text: &str) -> UsageFault
+    ensures { (result ≡ Memory) ⊎ IsMistake kind result }
+{
+    match mistake(alloc, help, kind, text) {
+        Ok(error) => UsageFault::Usage(error),
+        Err(_) => UsageFault::Memory,
+    }
 }
 
 // The number that an option has, if it is in these bounds.
@@ -361,5 +368,7 @@ fn mistake(
     ensures { IfOk result (λ e. kind_of e ≡ kind) }
 {
     let mut command = command(alloc, help)?;
-    command.error(kind, text)
+    let error = command.error(kind, text);
+    drop(command);
+    error
 }

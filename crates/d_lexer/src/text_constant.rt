@@ -1,6 +1,7 @@
 //! Text constants, with their escapes decoded.
 
-ghost use Rattle.std.specs.Prelude.{false};
+ghost use Rattle.std.specs.Prelude.{◌≡◌, false, []};
+ghost use Rattle.d_lexer.specs.Steps.Outcomes as outcomes;
 ghost use Rattle.d_lexer.specs.Steps.Scan as scan;
 
 use crate::byte_kinds::escape_of;
@@ -9,16 +10,26 @@ use crate::fault::{Flaw, Stop};
 use std::alloc::Global;
 
 /// What a text constant holds, and how many bytes it has after its first quote.
-#[tactic(auto, unfolding(crate::specs::Steps::Scan::text_from), using(crate::proofs::Steps::later_none, crate::proofs::Steps::later_plain, crate::proofs::Steps::later_escape))]
 pub(crate) fn text(alloc: Global, bytes: &[u8]) -> Result<(ByteString, usize), Stop>
     ensures { scan.Gives result (scan.text_from false bytes.now) }
 {
     let mut value = Vec::new(alloc);
+    let n = put_text(&mut value, bytes)?;
+    Ok((ByteString::from_vec(value), n))
+}
+
+// Puts what a text constant holds, and returns how many bytes it has after its first quote.
+#[tactic(auto, unfolding(crate::specs::Steps::Scan::text_from), using(crate::proofs::Steps::later_none, crate::proofs::Steps::later_plain, crate::proofs::Steps::later_escape))]
+fn put_text(value: &mut Vec<u8>, bytes: &[u8]) -> Result<usize, Stop>
+    requires { value.old.items ≡ [] }
+    ensures { outcomes.Gives scan.flaw_of (λ n. (value.new.items, n)) result
+        (scan.text_from false bytes.now) }
+{
     let mut rest = bytes;
     let mut n: usize = 0;
     while let [b, after @ ..] = rest {
         if *b == b'"' {
-            return Ok((ByteString::from_vec(value), n + 1));
+            return Ok(n + 1);
         }
         if *b == b'\n' {
             return Err(Stop::Flawed(Flaw::Unclosed));

@@ -47,9 +47,9 @@ fn boxed_two(alloc: Global, a: Expr, b: Expr) -> Result<(Box<Expr>, Box<Expr>), 
     ensures ok { IfOk result (λ both. (both.0.value ≡ a) × (both.1.value ≡ b)) }
     ensures err { OnlyMemory result }
 {
-    let a = boxed(alloc, a)?;
-    let b = boxed(alloc, b)?;
-    Ok((a, b))
+    let a = boxed(alloc, a);
+    let (a, b) = a.map(|a| (a, b))?;
+    boxed(alloc, b).map(|b| (a, b))
 }
 
 fn assignment(operator: AssignOperator, target: Target, value: Box<Expr>) -> Expr
@@ -168,9 +168,9 @@ pub(crate) fn choice(
         ≡ spec.Choice (spec.tree_of test) (spec.tree_of first) (spec.tree_of second)) }
     ensures err { OnlyMemory result }
 {
-    let test = boxed(alloc, test)?;
-    let (first, second) = boxed_two(alloc, first, second)?;
-    Ok(Expr::Choice {
+    let sides = boxed_two(alloc, first, second);
+    let (test, (first, second)) = sides.map(|sides| (test, sides))?;
+    boxed(alloc, test).map(|test| Expr::Choice {
         test,
         first,
         second,

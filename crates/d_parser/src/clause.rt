@@ -106,8 +106,7 @@ fn predicate(
         return Ok((None, tokens));
     }
     let (test, rest) = phrase(alloc, fuel, ASSIGNMENT, tail(tokens))?;
-    let rest = after_mark(Mark::ClosingSlash, rest)?;
-    Ok((Some(test), rest))
+    after_mark(Mark::ClosingSlash, rest).map(|rest| (Some(test), rest))
 }
 
 /// A clause at the front.
@@ -120,14 +119,17 @@ pub(crate) fn clause(
     ensures { Gives (λ x. (clause_of x.0, x.1.now)) result (spec.clause_reader fuel tokens.now) }
 {
     let (descriptions, rest) = descriptions(alloc, fuel, tokens)?;
-    let (predicate, rest) = predicate(alloc, fuel, rest)?;
-    let (statements, rest) = block(alloc, fuel, rest)?;
-    let clause = Clause {
-        descriptions,
-        predicate,
-        statements,
-    };
-    Ok((clause, rest))
+    let predicate = predicate(alloc, fuel, rest);
+    let (descriptions, (predicate, rest)) = predicate.map(|read| (descriptions, read))?;
+    let block = block(alloc, fuel, rest);
+    block.map(|(statements, rest)| {
+        let clause = Clause {
+            descriptions,
+            predicate,
+            statements,
+        };
+        (clause, rest)
+    })
 }
 
 /// The statements in braces.

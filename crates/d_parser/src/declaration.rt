@@ -51,8 +51,7 @@ fn types_on(
         (spec.types_on (spec.further_types turns) all.items tokens.now) }
 {
     if !is_at(Mark::Comma, tokens) {
-        let rest = after_mark(Mark::CloseBracket, tokens)?;
-        return Ok((all, rest));
+        return after_mark(Mark::CloseBracket, tokens).map(|rest| (all, rest));
     }
     let mut all = all;
     let (next, rest) = whole_type(tail(tokens))?;
@@ -132,15 +131,17 @@ pub(crate) fn of_thread<'a>(
         (spec.of_thread fuel line tokens.now) }
 {
     let (declared, name, rest) = typed_name(alloc, tokens)?;
-    let (keys, rest) = key_types(alloc, fuel, rest)?;
-    let rest = after_mark(Mark::Semicolon, rest)?;
-    let declaration = Declaration::Thread {
-        line,
-        declared,
-        name,
-        keys,
-    };
-    Ok((declaration, rest))
+    let keys = key_types(alloc, fuel, rest);
+    let (name, (keys, rest)) = keys.map(|read| (name, read))?;
+    after_mark(Mark::Semicolon, rest).map(|rest| {
+        let declaration = Declaration::Thread {
+            line,
+            declared,
+            name,
+            keys,
+        };
+        (declaration, rest)
+    })
 }
 
 /// What `this` declares.
@@ -153,11 +154,12 @@ pub(crate) fn of_clause(
     ensures { Gives (λ x. (declaration_of x.0, x.1.now)) result (spec.of_clause line tokens.now) }
 {
     let (declared, name, rest) = typed_name(alloc, tokens)?;
-    let rest = after_mark(Mark::Semicolon, rest)?;
-    let declaration = Declaration::Clause {
-        line,
-        declared,
-        name,
-    };
-    Ok((declaration, rest))
+    after_mark(Mark::Semicolon, rest).map(|rest| {
+        let declaration = Declaration::Clause {
+            line,
+            declared,
+            name,
+        };
+        (declaration, rest)
+    })
 }

@@ -36,8 +36,7 @@ fn closed_list<'a>(
     let mut all = Vec::new(alloc);
     all.push(first)?;
     let (all, rest) = further(alloc, fuel, all, rest)?;
-    let rest = after_mark(close, rest)?;
-    Ok((all, rest))
+    after_mark(close, rest).map(|rest| (all, rest))
 }
 
 #[cycle(expression)]
@@ -129,7 +128,8 @@ fn follows<'a>(
             if level > ASSIGNMENT {
                 return Ok((build::read(target), tokens));
             }
-            let (value, rest) = phrase(alloc, fuel, ASSIGNMENT, tail(tokens))?;
+            let value = phrase(alloc, fuel, ASSIGNMENT, tail(tokens));
+            let (target, (value, rest)) = value.map(|value| (target, value))?;
             let whole = build::assign(alloc, operator, target, value)?;
             Ok((whole, rest))
         }
@@ -213,8 +213,7 @@ fn followed(mark: Mark, inner: Expr, tokens: &[Token]) -> Result<(Expr, &[Token]
     ensures { Gives (λ x. (tree_of x.0, x.1.now)) result
         (steps.followed mark (tree_of inner) tokens.now) }
 {
-    let rest = after_mark(mark, tokens)?;
-    Ok((inner, rest))
+    after_mark(mark, tokens).map(|rest| (inner, rest))
 }
 
 /// The target after `++` or `--`.
@@ -324,6 +323,7 @@ fn climb<'a>(
         ((steps.readers fuel).climb level (tree_of left) tokens.now) }
 {
     if fuel == 0 {
+        drop(left);
         return Err(syntax_at(tokens));
     }
     climb_on(alloc, fuel - 1, level, left, tokens)
@@ -347,7 +347,8 @@ fn climb_on<'a>(
             if operator.level() < level {
                 return Ok((left, tokens));
             }
-            let (right, rest) = phrase(alloc, fuel, operator.level() + 1, tail(tokens))?;
+            let right = phrase(alloc, fuel, operator.level() + 1, tail(tokens));
+            let (left, (right, rest)) = right.map(|right| (left, right))?;
             let joined = build::binary(alloc, operator, left, right)?;
             climb(alloc, fuel, level, joined, rest)
         }
@@ -374,7 +375,8 @@ fn choice<'a>(
     }
     match follow_at(tokens) {
         Follow::Question => {
-            let ((first, second), rest) = alternatives(alloc, fuel, tail(tokens))?;
+            let others = alternatives(alloc, fuel, tail(tokens));
+            let (test, ((first, second), rest)) = others.map(|others| (test, others))?;
             let whole = build::choice(alloc, test, first, second)?;
             Ok((whole, rest))
         }
@@ -396,8 +398,8 @@ fn alternatives<'a>(
 {
     let (first, rest) = phrase(alloc, fuel, ASSIGNMENT, tokens)?;
     let (first, rest) = followed(Mark::Colon, first, rest)?;
-    let (second, rest) = phrase(alloc, fuel, CONDITION, rest)?;
-    Ok(((first, second), rest))
+    let second = phrase(alloc, fuel, CONDITION, rest);
+    second.map(|(second, rest)| ((first, second), rest))
 }
 
 /// A phrase of the level.

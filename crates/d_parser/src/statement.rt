@@ -35,8 +35,7 @@ fn aggregating_word(alloc: Global, tokens: &[Token]) -> Result<(ByteString, &[To
 {
     let rest = after_mark(Mark::Assign, tokens)?;
     let (function, rest) = any_word(alloc, rest)?;
-    let rest = after_mark(Mark::OpenParenthesis, rest)?;
-    Ok((function, rest))
+    after_mark(Mark::OpenParenthesis, rest).map(|rest| (function, rest))
 }
 
 /// An aggregation statement, after its name.
@@ -52,16 +51,18 @@ fn aggregation<'a>(
         (spec.aggregation fuel line name.now tokens.now) }
 {
     let (keys, rest) = keys(alloc, fuel, tokens)?;
-    let (function, rest) = aggregating_word(alloc, rest)?;
-    let (arguments, rest) = arguments(alloc, fuel, rest)?;
-    let name = ByteString::from_slice(alloc, name.as_slice())?;
-    let statement = Stmt::Aggregation {
+    let function = aggregating_word(alloc, rest);
+    let (keys, (function, rest)) = function.map(|read| (keys, read))?;
+    let arguments = arguments(alloc, fuel, rest);
+    let (keys, function, (arguments, rest)) = arguments.map(|read| (keys, function, read))?;
+    let name = ByteString::from_slice(alloc, name.as_slice());
+    let statement = name.map(|name| Stmt::Aggregation {
         line,
         name,
         keys,
         function,
         arguments,
-    };
+    })?;
     Ok((statement, rest))
 }
 
@@ -107,8 +108,8 @@ fn slot<'a>(
     if is_at(Mark::Semicolon, tokens) || is_at(Mark::CloseBrace, tokens) {
         return Ok((all, tokens));
     }
-    let mut all = all;
-    let (next, rest) = statement(alloc, fuel, tokens)?;
+    let next = statement(alloc, fuel, tokens);
+    let (mut all, (next, rest)) = next.map(|next| (all, next))?;
     all.push(next)?;
     Ok((all, rest))
 }

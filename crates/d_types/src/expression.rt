@@ -395,7 +395,7 @@ fn assign_rest(
     let sort = assign_sort(operator);
     let assignee = assignee(alloc, table, sort, to)?;
     let x = expr(alloc, table, value)?;
-    assigned(alloc, table, line, sort, assignee, x)
+    assignment_rest(alloc, table, line, sort, assignee, x)
 }
 
 // The slot that is assigned, under its keys.
@@ -418,7 +418,7 @@ fn assignee(
 }
 
 // An assignment, once its right side is typed.
-fn assigned(
+fn assignment_rest(
     alloc: Global,
     table: &mut [Entry],
     line: usize,

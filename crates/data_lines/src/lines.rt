@@ -22,8 +22,7 @@ pub fn put_text_line(out: &mut Vec<u8>, firing: u64, text: &[u8]) -> Result<(), 
     put_number(out, firing)?;
     out.extend_from_slice(b",\"text\":")?;
     put_text(out, text)?;
-    out.extend_from_slice(b"}\n")?;
-    Ok(())
+    out.extend_from_slice(b"}\n")
 }
 
 // The function's word in scripts.
@@ -78,8 +77,7 @@ fn put_entry_head(
     put_name(alloc, out, name)?;
     out.extend_from_slice(b",\"function\":\"")?;
     out.extend_from_slice(function_word(function))?;
-    out.extend_from_slice(b"\",\"key\":")?;
-    Ok(())
+    out.extend_from_slice(b"\",\"key\":")
 }
 
 /// What the lines of an aggregation begin with.

@@ -101,8 +101,7 @@ fn put_string(out: &mut Vec<u8>, plain: &[u8], rest: &[u8]) -> Result<(), AllocE
     out.push(b'"')?;
     out.extend_from_slice(plain)?;
     put_escapes(out, rest)?;
-    out.push(b'"')?;
-    Ok(())
+    out.extend_from_slice(b"\"")
 }
 
 // Puts an object that has a text in hexadecimal digits.
@@ -113,8 +112,7 @@ fn put_in_hex(out: &mut Vec<u8>, text: &[u8]) -> Result<(), AllocError>
     for byte in text {
         put_hex(out, *byte)?;
     }
-    out.extend_from_slice(b"\"}")?;
-    Ok(())
+    out.extend_from_slice(b"\"}")
 }
 
 /// Puts a text: a string where it is UTF-8, and else an object. Most texts are plain bytes and a

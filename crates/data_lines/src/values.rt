@@ -42,8 +42,7 @@ pub fn put_key(out: &mut Vec<u8>, key: &Key) -> Result<(), AllocError>
 {
     out.push(b'[')?;
     put_parts(out, key.parts())?;
-    out.push(b']')?;
-    Ok(())
+    out.extend_from_slice(b"]")
 }
 
 // Puts a member that is a number, and a comma.
@@ -79,8 +78,7 @@ fn put_bucket(out: &mut Vec<u8>, label: i64, count: u64) -> Result<(), AllocErro
     put_number(out, label)?;
     out.push(b',')?;
     put_number(out, count)?;
-    out.push(b']')?;
-    Ok(())
+    out.extend_from_slice(b"]")
 }
 
 // Puts the buckets that have arguments, with commas between them.

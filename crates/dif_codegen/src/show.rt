@@ -1,7 +1,7 @@
 //! Programs as one reads them: what each statement does, with the code of its objects.
 
 use crate::program::{Action, CompiledClause, Program, TypedObject};
-use std::fmt;
+use std::fmt::{self, Display};
 
 impl fmt::Display for TypedObject {
     fn fmt<W: fmt::Write>(&self, f: &mut fmt::Formatter<W>) -> fmt::Result {
@@ -19,30 +19,47 @@ impl fmt::Display for TypedObject {
 // Objects, one after the other.
 fn write_all<W: fmt::Write>(f: &mut fmt::Formatter<W>, all: &[TypedObject]) -> fmt::Result {
     for object in all {
-        write!(f, "{object}")?;
+        Display::fmt(object, f)?;
     }
     Ok(())
+}
+
+// An object after its head.
+fn write_headed<W: fmt::Write>(
+    f: &mut fmt::Formatter<W>,
+    head: &str,
+    object: &TypedObject,
+) -> fmt::Result {
+    f.write_str(head)?;
+    Display::fmt(object, f)
+}
+
+// Keys, and after them what the function takes, if anything.
+fn write_aggregate<W: fmt::Write>(
+    f: &mut fmt::Formatter<W>,
+    place: usize,
+    keys: &[TypedObject],
+    argument: &Option<TypedObject>,
+) -> fmt::Result {
+    write!(f, "  aggregate {place}\n")?;
+    write_all(f, keys)?;
+    match argument {
+        Some(argument) => Display::fmt(argument, f),
+        None => Ok(()),
+    }
 }
 
 impl fmt::Display for Action {
     fn fmt<W: fmt::Write>(&self, f: &mut fmt::Formatter<W>) -> fmt::Result {
         match self {
-            Action::Plain(object) => write!(f, "  evaluate\n{object}"),
-            Action::Trace(object) => write!(f, "  trace\n{object}"),
+            Action::Plain(object) => write_headed(f, "  evaluate\n", object),
+            Action::Trace(object) => write_headed(f, "  trace\n", object),
             Action::Printf(_, arguments) => {
                 f.write_str("  printf\n")?;
                 write_all(f, arguments)
             }
-            Action::Exit(object) => write!(f, "  exit\n{object}"),
-            Action::Aggregate(place, keys, None) => {
-                write!(f, "  aggregate {place}\n")?;
-                write_all(f, keys)
-            }
-            Action::Aggregate(place, keys, Some(argument)) => {
-                write!(f, "  aggregate {place}\n")?;
-                write_all(f, keys)?;
-                write!(f, "{argument}")
-            }
+            Action::Exit(object) => write_headed(f, "  exit\n", object),
+            Action::Aggregate(place, keys, argument) => write_aggregate(f, *place, keys, argument),
         }
     }
 }
@@ -51,10 +68,10 @@ impl fmt::Display for CompiledClause {
     fn fmt<W: fmt::Write>(&self, f: &mut fmt::Formatter<W>) -> fmt::Result {
         f.write_str("clause\n")?;
         if let Some(object) = &self.predicate {
-            write!(f, "  predicate\n{object}")?;
+            write_headed(f, "  predicate\n", object)?;
         }
         for action in &self.actions {
-            write!(f, "{action}")?;
+            Display::fmt(action, f)?;
         }
         Ok(())
     }
@@ -63,7 +80,7 @@ impl fmt::Display for CompiledClause {
 impl fmt::Display for Program {
     fn fmt<W: fmt::Write>(&self, f: &mut fmt::Formatter<W>) -> fmt::Result {
         for clause in &self.clauses {
-            write!(f, "{clause}")?;
+            Display::fmt(clause, f)?;
         }
         Ok(())
     }

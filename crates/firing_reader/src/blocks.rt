@@ -85,7 +85,13 @@ impl Reader {
         ensures { IfOk result (λ r. (rest : List ℕ) → reads r rest ≡ trace_of rest) }
     {
         let firings = Firings::new(alloc, hash_key)?;
-        let pieces = pieces_for(alloc, hash_key, workers)?;
+        let pieces = match pieces_for(alloc, hash_key, workers) {
+            Ok(pieces) => pieces,
+            Err(refused) => {
+                drop(firings);
+                return Err(refused);
+            }
+        };
         Ok(Reader {
             alloc,
             hash_key,
@@ -146,7 +152,13 @@ impl Reader {
             alloc,
             hash_key,
         };
-        read_left(&context, &mut pieces, stage, &mut firings, &mut left)?;
+        let read = read_left(&context, &mut pieces, stage, &mut firings, &mut left);
+        drop(pieces);
+        drop(left);
+        if let Err(fault) = read {
+            drop(firings);
+            return Err(fault);
+        }
         Ok(Trace::of(firings))
     }
 

@@ -1,8 +1,8 @@
 //! Reading plain rows by several workers: each reads a piece of the bytes, and two pieces share the
 //! line feed between them.
 
-ghost use Rattle.std.specs.Prelude.{◌≡◌, ◌≤◌, [], true, IfSome, OnOk, Ok, length};
-ghost use Rattle.firing_reader.specs.Blocks.{BeginsAtFeed};
+ghost use Rattle.std.specs.Prelude.{◌≡◌, ◌<◌, ◌≤◌, ℕ, List, [], true, IfSome, OnOk, Ok, length};
+ghost use Rattle.firing_reader.specs.{Blocks.BeginsAtFeed, Vocabulary.Firing};
 ghost use Rattle.firing_reader.specs.Steps.Plain.{AreCut, GoesAfter, IsPiece, PassesRows, Rises};
 ghost use Rattle.firing_reader.specs.Trace.{last_number, trace_of};
 
@@ -13,6 +13,7 @@ use crate::plain::read_plain;
 use crate::reading::MOST_ROWS;
 use keyed_hash::HashKey;
 use std::alloc::{AllocError, Global};
+use std::mem::replace;
 use std::thread::{Threads, join_mut};
 
 // A piece that has more owners and probes than this isn't used again.
@@ -46,7 +47,7 @@ fn empty(alloc: Global, hash_key: HashKey, piece: &mut Firings) -> Result<(), Al
 {
     if piece.unit_count() > MOST_KEPT {
         let new = Firings::new(alloc, hash_key)?;
-        *piece = new;
+        drop(replace(piece, new));
     }
     piece.clear();
     Ok(())
@@ -109,6 +110,33 @@ fn goes_after(first: &Firings, second: &Firings) -> bool
     second.len() == 0 || first.last_number() < second.get(0).number
 }
 
+// Adds the last piece to the firings of the front, if it goes after all of these. It returns how
+// many bytes come before what is left of both.
+fn add_piece(
+    firings: &mut Firings,
+    piece: &mut Firings,
+    cut: Cut<'_>,
+    passed: usize,
+    more: Option<usize>,
+) -> Option<usize>
+    requires inside { passed < length cut.front.now }
+    requires few { length firings.old ≤ MOST_ROWS }
+    requires piece { IfSome more (IsPiece cut.last.now piece.old) }
+    ensures { (before : List Firing) (bytes : List ℕ)
+        → AreCut bytes cut.entry.front.now cut.entry.last.now
+        → PassesRows before cut.entry.front.now firings.old passed
+        → IfSome result (PassesRows before bytes firings.new) }
+{
+    let Some(more) = more else {
+        return Some(passed);
+    };
+    if passed + 1 != cut.front.len() || !goes_after(firings, piece) {
+        return Some(passed);
+    }
+    firings.append(piece)?;
+    Some(passed + more)
+}
+
 /// Reads the rows after a line feed, as long as they are plain, by one worker more than there are
 /// pieces. It returns how many bytes come before what is left, or None where memory is refused.
 #[cycle(shared)]
@@ -131,14 +159,7 @@ pub(crate) fn read_shared<R: Threads>(
     };
     let (more, passed) = read_both(context, others, piece, firings, cut);
     let passed = passed?;
-    let Some(more) = more else {
-        return Some(passed);
-    };
-    if passed + 1 != cut.front.len() || !goes_after(firings, piece) {
-        return Some(passed);
-    }
-    firings.append(piece)?;
-    Some(passed + more)
+    add_piece(firings, piece, cut, passed, more)
 }
 
 // Reads the last piece by one worker, while the others read those before it.
@@ -183,8 +204,14 @@ pub(crate) fn read_plain_trace<R: Threads>(
     let rows = after_header(bytes)?;
     let mut pieces = pieces_for(context.alloc, context.hash_key, count).ok()?;
     let mut firings = Firings::new(context.alloc, context.hash_key).ok()?;
-    let passed = read_shared(context, &mut pieces, &mut firings, rows)?;
+    let passed = read_shared(context, &mut pieces, &mut firings, rows);
+    drop(pieces);
+    let Some(passed) = passed else {
+        drop(firings);
+        return None;
+    };
     if passed + 1 != rows.len() {
+        drop(firings);
         return None;
     }
     Some(firings)

@@ -168,6 +168,10 @@ pub(crate) fn read_firings(
     ensures { Gives result (trace_of bytes.now) }
 {
     let mut firings = Firings::new(alloc, hash_key)?;
-    read_whole(alloc, &mut firings, bytes)?;
+    let read = read_whole(alloc, &mut firings, bytes);
+    if let Err(fault) = read {
+        drop(firings);
+        return Err(fault);
+    }
     Ok(firings)
 }

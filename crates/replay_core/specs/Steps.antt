@@ -9,6 +9,7 @@ pub mod Described
 pub mod Effects
 pub mod Evaluation
 pub mod Merging
+pub mod OnThread
 pub mod Patterns
 pub mod PiecePlaces
 pub mod Places

@@ -51,7 +51,7 @@ pub(crate) fn run_clauses<C: Clause>(
         let place = repeat.place as usize;
         let exited = clauses[place].run(place as u64 + 1, state, piece)?;
         exits |= exited;
-        if turn < repeat.times {
+        if repeat.goes_on_after(turn) {
             turn += 1;
         } else {
             at += 1;

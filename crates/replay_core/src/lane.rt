@@ -60,7 +60,10 @@ impl<'a, C: Clause> Lane<'a, C> {
         ensures unspent { IfOk result (λ l. l.spent ≡ false) }
     {
         let piece = Piece::new(alloc, hash_key, functions)?;
-        let cache = ThreadCache::new(alloc)?;
+        let Ok(cache) = ThreadCache::new(alloc) else {
+            drop(piece);
+            return Err(AllocError);
+        };
         Ok(Lane {
             clauses,
             threads: IndexMap::with_hasher(alloc, hash_key),

@@ -1,6 +1,6 @@
 //! Tables, merged in pairs.
 
-ghost use Rattle.std.specs.Prelude.{◌≡◌, ◌<◌, ◌≤◌, ◌+◌, ◌^◌, ◌∷◌, [], length, IfOk, OnOk};
+ghost use Rattle.std.specs.Prelude.{◌≡◌, ◌<◌, ◌≤◌, ◌+◌, ◌^◌, ◌++◌, ◌∷◌, [], length, IfOk, OnOk};
 ghost use Rattle.replay_core.specs.Steps.Merging.{HasMerged};
 ghost use Rattle.replay_core.specs.Tables.{CanMerge, Serve};
 ghost use Rattle.replay_core.specs.Vocabulary.{count_held, functions_of};
@@ -39,9 +39,17 @@ fn merge_neighbours(alloc: Global, tables: Vec<AggTable>) -> Result<Vec<AggTable
         }
     }
     if let Some(last) = first {
-        pairs.push(last)?;
+        push_last(&mut pairs, last)?;
     }
     Ok(pairs)
+}
+
+// Adds the last table, which has no neighbour, to these.
+fn push_last(pairs: &mut Vec<AggTable>, last: AggTable) -> Result<(), AllocError>
+    ensures { OnOk result (pairs.new.items ≡ pairs.old.items ++ last ∷ []) }
+{
+    pairs.push(last)?;
+    Ok(())
 }
 
 // Merges two tables, and adds the one that they make to these.

@@ -44,9 +44,11 @@ fn place_piece(
     ensures err { IfErr result (IsFaultAt places.old.items n group piece) }
 {
     if group >= n {
+        drop(piece);
         return Err(CollectFault::Stranger { group });
     }
     if places[group as usize].is_some() {
+        drop(piece);
         return Err(CollectFault::Twice { group });
     }
     places[group as usize] = Some(piece);

@@ -12,7 +12,7 @@ use crate::lanes::Lanes;
 use crate::piece::Piece;
 use crate::span::Span;
 use crate::worker::WorkerInput;
-use shard_queue::{ClaimBoard, MOST_GROUPS, MOST_WORKERS};
+use shard_queue::{ClaimBoard, Closed, MOST_GROUPS, MOST_WORKERS};
 use std::alloc::AllocError;
 use std::sync::Wait;
 use std::thread::Threads;
@@ -48,9 +48,16 @@ pub(crate) fn in_round<R: Threads + Wait + Sync, L: Lanes + Sync, G: Gate + Sync
     let results = in_threads(rt, &board, seats, input, span)?;
     let (pieces, seats) = pieces_and_seats(input.alloc, results)?;
     let closed = board.close(input.alloc, seats)?;
-    Ok(Round {
+    Ok(round_of(pieces, closed))
+}
+
+// What these pieces and a board at its end make.
+fn round_of(pieces: Vec<(u32, Piece)>, closed: Closed) -> Round
+    ensures { result ≡ record { pieces = pieces; lists = closed.lists; least = closed.least } }
+{
+    Round {
         pieces,
         lists: closed.lists,
         least: closed.least,
-    })
+    }
 }

@@ -26,4 +26,13 @@ impl Tables {
             own: ThreadTable::new(alloc, hash_key),
         }
     }
+
+    /// Forgets what the clauses of the last firing shared.
+    #[inline(always)]
+    pub(crate) fn forget_locals(&mut self)
+        ensures locals { self.new.locals ≡ [] }
+        ensures own { self.new.own ≡ self.old.own }
+    {
+        self.locals.reset();
+    }
 }

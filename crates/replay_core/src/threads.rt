@@ -1,16 +1,16 @@
 //! Runs the clauses of a firing over its thread's variables.
 
-ghost use Rattle.std.specs.Prelude.{◌≡◌, ◌+◌, ◌*◌, ◌<◌, ◌≤◌, ◌^◌, ℤ, List, All, IfOk, MatchOption};
-ghost use Rattle.std.specs.Prelude.{OnOk, is_some, length, if◌then◌else◌, true};
+ghost use Rattle.std.specs.Prelude.{◌≡◌, ◌+◌, ◌*◌, ◌<◌, ◌≤◌, ◌^◌, List, All, IfOk, MatchOption};
+ghost use Rattle.std.specs.Prelude.{OnOk, is_some, length, true};
 ghost use Rattle.indexmap.specs.IndexMap.{get};
 ghost use Rattle.replay_core.specs.Vocabulary.{AreTyped, AreTypedOwn, ClauseMeant};
 ghost use Rattle.replay_core.specs.Vocabulary.{HasTypedBuiltIns, Slots, count_held, functions_of};
 ghost use Rattle.replay_core.specs.Vocabulary.{int_eq};
 ghost use Rattle.replay_core.specs.{Evaluation.variables_of, Lanes.Notes};
 ghost use Rattle.replay_core.specs.Steps.Caching.{IsTablesAt};
-ghost use Rattle.replay_core.specs.{Meaning.at_start, Scripts.AllMean, Seen.piece_seen};
-ghost use Rattle.replay_core.specs.{Threads.threads_in};
+ghost use Rattle.replay_core.specs.{Scripts.AllMean, Seen.piece_seen, Threads.threads_in};
 ghost use Rattle.replay_core.specs.Steps.AllMade.{all_made};
+ghost use Rattle.replay_core.specs.Steps.OnThread.{RunsOn, made_on};
 
 use crate::clause::Clause;
 use crate::clause_places::ClausePlaces;
@@ -55,26 +55,12 @@ pub(crate) fn run_on_thread<C: Clause>(
     requires room { count_held piece.old.table + MOST_BYTES * length due.now.places.now ≤ 2 ^ 52 }
     ensures functions { functions_of piece.new.table ≡ functions_of piece.old.table }
     ensures taken { piece.new.taken.items ≡ piece.old.taken.items }
-    ensures notes { OnOk result ((slots : Slots) (cs : List ClauseMeant)
+    ensures run { IfOk result (λ exits. (slots : Slots) (cs : List ClauseMeant)
         → AllMean C.means slots due.now.clauses.now cs → HasTypedBuiltIns due.now.firing.now
-        → AreTypedOwn slots (threads_in threads.old.entries due.now.firing.now.thread) →
-        let start = at_start (threads_in threads.old.entries due.now.firing.now.thread) in
-        let made = all_made due.now.firing.now cs due.now.places.now start in
-        Notes due.now.firing.now.number made (piece_seen piece.old) (piece_seen piece.new)) }
-    ensures threads { OnOk result ((slots : Slots) (cs : List ClauseMeant)
-        → AllMean C.means slots due.now.clauses.now cs → HasTypedBuiltIns due.now.firing.now
-        → AreTypedOwn slots (threads_in threads.old.entries due.now.firing.now.thread) →
-        let start = at_start (threads_in threads.old.entries due.now.firing.now.thread) in
-        let made = all_made due.now.firing.now cs due.now.places.now start in
-        (thread : ℤ) → threads_in threads.new.entries thread
-        ≡ (if int_eq thread due.now.firing.now.thread then made.variables.own
-        else threads_in threads.old.entries thread)) }
-    ensures exits { IfOk result (λ exits. (slots : Slots) (cs : List ClauseMeant)
-        → AllMean C.means slots due.now.clauses.now cs → HasTypedBuiltIns due.now.firing.now
-        → AreTypedOwn slots (threads_in threads.old.entries due.now.firing.now.thread) →
-        let start = at_start (threads_in threads.old.entries due.now.firing.now.thread) in
-        let made = all_made due.now.firing.now cs due.now.places.now start in
-        exits ≡ is_some made.exit) }
+        → AreTypedOwn slots (threads_in threads.old.entries due.now.firing.now.thread)
+        → RunsOn due.now.firing.now
+        (made_on due.now.firing.now cs due.now.places.now threads.old.entries)
+        threads.old.entries threads.new.entries piece.old piece.new exits) }
     ensures held { OnOk result (count_held piece.new.table
         ≤ count_held piece.old.table + MOST_BYTES * length due.now.places.now) }
 {
@@ -86,7 +72,7 @@ pub(crate) fn run_on_thread<C: Clause>(
             let Some(tables) = threads.get_index_mut(index) else {
                 unreachable!()
             };
-            tables.locals.reset();
+            tables.forget_locals();
             run_on_tables(due, tables, spare, piece)
         }
         None => run_on_new_tables(due, threads, spare, piece),
@@ -108,32 +94,21 @@ fn run_on_new_tables<C: Clause>(
     requires without { get int_eq threads.old due.now.firing.now.thread ≡ None }
     ensures functions { functions_of piece.new.table ≡ functions_of piece.old.table }
     ensures taken { piece.new.taken.items ≡ piece.old.taken.items }
-    ensures notes { OnOk result ((slots : Slots) (cs : List ClauseMeant)
+    ensures run { IfOk result (λ exits. (slots : Slots) (cs : List ClauseMeant)
         → AllMean C.means slots due.now.clauses.now cs → HasTypedBuiltIns due.now.firing.now
-        → AreTypedOwn slots (threads_in threads.old.entries due.now.firing.now.thread) →
-        let start = at_start (threads_in threads.old.entries due.now.firing.now.thread) in
-        let made = all_made due.now.firing.now cs due.now.places.now start in
-        Notes due.now.firing.now.number made (piece_seen piece.old) (piece_seen piece.new)) }
-    ensures threads { OnOk result ((slots : Slots) (cs : List ClauseMeant)
-        → AllMean C.means slots due.now.clauses.now cs → HasTypedBuiltIns due.now.firing.now
-        → AreTypedOwn slots (threads_in threads.old.entries due.now.firing.now.thread) →
-        let start = at_start (threads_in threads.old.entries due.now.firing.now.thread) in
-        let made = all_made due.now.firing.now cs due.now.places.now start in
-        (thread : ℤ) → threads_in threads.new.entries thread
-        ≡ (if int_eq thread due.now.firing.now.thread then made.variables.own
-        else threads_in threads.old.entries thread)) }
-    ensures exits { IfOk result (λ exits. (slots : Slots) (cs : List ClauseMeant)
-        → AllMean C.means slots due.now.clauses.now cs → HasTypedBuiltIns due.now.firing.now
-        → AreTypedOwn slots (threads_in threads.old.entries due.now.firing.now.thread) →
-        let start = at_start (threads_in threads.old.entries due.now.firing.now.thread) in
-        let made = all_made due.now.firing.now cs due.now.places.now start in
-        exits ≡ is_some made.exit) }
+        → AreTypedOwn slots (threads_in threads.old.entries due.now.firing.now.thread)
+        → RunsOn due.now.firing.now
+        (made_on due.now.firing.now cs due.now.places.now threads.old.entries)
+        threads.old.entries threads.new.entries piece.old piece.new exits) }
     ensures held { OnOk result (count_held piece.new.table
         ≤ count_held piece.old.table + MOST_BYTES * length due.now.places.now) }
 {
     let mut tables = Tables::new(*threads.allocator(), *threads.hasher());
-    let exits = run_on_tables(due, &mut tables, spare, piece)?;
-    threads.insert(due.firing.thread, tables)?;
+    let Ok(exits) = run_on_tables(due, &mut tables, spare, piece) else {
+        drop(tables);
+        return Err(AllocError);
+    };
+    drop(threads.insert(due.firing.thread, tables)?);
     Ok(exits)
 }
 

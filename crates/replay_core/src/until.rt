@@ -1,6 +1,7 @@
 //! One worker that watches for exits.
 
-ghost use Rattle.std.specs.Prelude.{◌≡◌, ◌<◌, ◌≤◌, true, [], map, length, All, IfOk, OnOk, IsFalse};
+ghost use Rattle.std.specs.Prelude.{◌≡◌, ◌<◌, ◌≤◌, true, false, [], map, min, length, All, IfOk};
+ghost use Rattle.std.specs.Prelude.{OnOk, IsFalse};
 ghost use Rattle.replay_core.specs.Vocabulary.{AreOf, MOST_BYTES, ScriptMeant, grouping, no_number};
 ghost use Rattle.replay_core.specs.Vocabulary.{run_threads, with_ends};
 ghost use Rattle.replay_core.specs.{Running.IsLaneOf, Seen.IsRoomy};
@@ -17,6 +18,7 @@ use crate::piece::Piece;
 use crate::run_firings::firing_at;
 use crate::source::Exits;
 use crate::worker::WorkerInput;
+use firing_reader::Firing;
 use std::alloc::AllocError;
 use std::sync::Wait;
 
@@ -55,7 +57,11 @@ where
             return Ok((pieces, seat));
         };
         input.gate.begun(group);
-        push_beginning(source, &mut seat, input, &mut pieces, group)?;
+        let Ok(()) = push_beginning(source, &mut seat, input, &mut pieces, group) else {
+            drop(pieces);
+            drop(seat);
+            return Err(AllocError);
+        };
     }
     unreachable!()
 }
@@ -109,7 +115,10 @@ fn piece_until<S: Exits, L: Lanes, G>(
     ensures least { IfOk result (λ p. S.lowered seat.new ≡ lesser_of (S.lowered seat.old) p.exit) }
 {
     let mut lane = input.lanes.lane(input.alloc)?;
-    run_until(source, seat, &mut lane, input, input.groups.places(group))?;
+    let Ok(()) = run_until(source, seat, &mut lane, input, input.groups.places(group)) else {
+        drop(lane);
+        return Err(AllocError);
+    };
     Ok(lane.finish())
 }
 
@@ -144,13 +153,39 @@ fn run_until<S: Exits, E: Engine, L, G>(
 {
     for place in places {
         let firing = firing_at(input.trace, *place);
-        if source.least(seat) < firing.number {
+        if is_past_exit(source, seat, &firing) {
             return Ok(());
         }
         if lane.fire(&firing, input.selections.at(*place))? {
-            source.lower(seat, firing.number);
+            tell_exit(source, seat, &firing);
             return Ok(());
         }
     }
     Ok(())
+}
+
+// Whether a firing comes after one that a worker found to exit.
+#[inline(always)]
+fn is_past_exit<S: Exits>(source: &S, seat: &mut S::Seat, firing: &Firing) -> bool
+    requires { S.is_at source.now seat.old }
+    ensures past { result ≡ true → S.seen seat.new < firing.now.number }
+    ensures before { result ≡ false → firing.now.number ≤ S.seen seat.new }
+    ensures seat { S.is_at source.now seat.new }
+    ensures seen { S.seen seat.new ≤ S.seen seat.old }
+    ensures lowered { S.lowered seat.new ≡ S.lowered seat.old }
+    ensures list { S.list seat.new ≡ S.list seat.old }
+{
+    source.least(seat) < firing.number
+}
+
+// Tells the other workers that a firing exits.
+#[inline(always)]
+fn tell_exit<S: Exits>(source: &S, seat: &mut S::Seat, firing: &Firing)
+    requires { S.is_at source.now seat.old }
+    ensures seat { S.is_at source.now seat.new }
+    ensures seen { S.seen seat.new ≡ S.seen seat.old }
+    ensures lowered { S.lowered seat.new ≡ min (S.lowered seat.old) firing.now.number }
+    ensures list { S.list seat.new ≡ S.list seat.old }
+{
+    source.lower(seat, firing.number);
 }

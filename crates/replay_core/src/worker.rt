@@ -104,7 +104,11 @@ where
             return Ok((pieces, seat));
         };
         input.gate.begun(group);
-        input.push_piece(&mut pieces, group, span)?;
+        let Ok(()) = input.push_piece(&mut pieces, group, span) else {
+            drop(pieces);
+            drop(seat);
+            return Err(AllocError);
+        };
     }
     unreachable!()
 }
@@ -174,7 +178,10 @@ impl<'a, L: Lanes, G> WorkerInput<'a, L, G> {
             (with_ends self.now.trace.now self.now.trace.now) places.now)) (E.seen l)) }
     {
         for block in places.chunks(MOST_TOGETHER) {
-            self.run_block(&mut lane, block, span)?;
+            let Ok(()) = self.run_block(&mut lane, block, span) else {
+                drop(lane);
+                return Err(AllocError);
+            };
         }
         Ok(lane)
     }

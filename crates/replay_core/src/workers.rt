@@ -168,5 +168,6 @@ fn until_exit<R: Threads + Wait + Sync, L: Lanes + Sync, G: Gate + Sync>(
         last: first.least,
         end,
     };
+    drop(first);
     in_round(rt, input, workers, counted)
 }

@@ -27,8 +27,7 @@ pub fn put_histogram(out: &mut Vec<u8>, histogram: &Histogram) -> Result<(), All
     out.push(b'\n')?;
     out.extend_from_slice(HEADER)?;
     put_rows(out, histogram)?;
-    out.push(b'\n')?;
-    Ok(())
+    out.extend_from_slice(b"\n")
 }
 
 // Puts the rows from one bucket before the first that has arguments to one after the last.
@@ -68,11 +67,10 @@ fn put_row(
 {
     put_label(out, scale, bucket)?;
     out.extend_from_slice(b" |")?;
-    put_signs(out, ((80 * count + all) / (2 * all)) as usize)?;
+    put_bar(out, count, all)?;
     out.push(b' ')?;
     put_count(out, count)?;
-    out.push(b'\n')?;
-    Ok(())
+    out.extend_from_slice(b"\n")
 }
 
 // The mark before the number of a bucket's label, and that number.
@@ -111,8 +109,17 @@ fn put_label(out: &mut Vec<u8>, scale: Scale, bucket: u32) -> Result<(), AllocEr
             .saturating_sub(digits.len()),
     )?;
     out.extend_from_slice(mark)?;
-    out.extend_from_slice(digits)?;
-    Ok(())
+    out.extend_from_slice(digits)
+}
+
+// Puts the bar of a count, which is a part of all arguments.
+fn put_bar(out: &mut Vec<u8>, count: u64, all: u64) -> Result<(), AllocError>
+    requires some { 0 < all }
+    requires few { all ≤ 2 ^ 52 }
+    requires share { count ≤ all }
+    ensures { OnOk result (out.new.items ≡ out.old.items ++ spec.bar_bytes count all) }
+{
+    put_signs(out, ((80 * count + all) / (2 * all)) as usize)
 }
 
 // Puts a bar of this many signs.

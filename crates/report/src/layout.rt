@@ -32,8 +32,7 @@ fn put_number(out: &mut Vec<u8>, number: i64) -> Result<(), AllocError>
     let digits = buffer.format(number).as_bytes();
     out.push(b' ')?;
     put_spaces(out, NUMBER_WIDTH.saturating_sub(digits.len()))?;
-    out.extend_from_slice(digits)?;
-    Ok(())
+    out.extend_from_slice(digits)
 }
 
 // Puts a part of a key.
@@ -62,11 +61,12 @@ fn put_value(out: &mut Vec<u8>, value: &Partial) -> Result<(), AllocError>
 {
     if let Some(number) = value.single() {
         put_number(out, number)?;
-        out.push(b'\n')?;
+        out.extend_from_slice(b"\n")
     } else if let Some(histogram) = value.histogram() {
-        put_histogram(out, histogram)?;
+        put_histogram(out, histogram)
+    } else {
+        Ok(())
     }
-    Ok(())
 }
 
 /// Puts an entry: the parts of its key, and what it shows.

@@ -134,10 +134,23 @@ fn put_lines<R: Threads + Sync>(
         return put_each(out, entries);
     }
     for round in entries.chunks(ROUND) {
-        let made = blocks(rt, alloc, round)?;
-        put_blocks(out, &made)?;
+        put_round(rt, alloc, out, round)?;
     }
     Ok(())
+}
+
+// Puts a round of entries, in blocks that threads make.
+fn put_round<R: Threads + Sync>(
+    rt: &R,
+    alloc: Global,
+    out: &mut Vec<u8>,
+    round: &[(&Key, &Partial)],
+) -> Result<(), AllocError>
+    ensures { OnOk result (out.new.items
+        ≡ out.old.items ++ flat_map (λ e. entry_bytes (deref_pair e)) round.now) }
+{
+    let made = blocks(rt, alloc, round)?;
+    put_blocks(out, &made)
 }
 
 // Puts entries, one after the other.

@@ -1,8 +1,10 @@
 //! The arguments of a plain row.
 
-ghost use Rattle.std.specs.Prelude.{◌≡◌, ◌≤◌, true, IfSome, length, take};
-ghost use Rattle.firing_reader.specs.Steps.{Arguments.EndsAlike, Plain.ReadsArguments};
-ghost use Rattle.firing_reader.specs.{Arguments.ten};
+ghost use Rattle.std.specs.Prelude.{◌≡◌, ◌≤◌, ◌∷◌, ◌++◌, [], ℕ, ℤ, List, true, Some, IfSome};
+ghost use Rattle.std.specs.Prelude.{MatchOption, length, take};
+ghost use Rattle.firing_reader.specs.Steps.{Arguments.EndsAlike, Plain.Closes};
+ghost use Rattle.firing_reader.specs.Steps.{Plain.ReadsArguments};
+ghost use Rattle.firing_reader.specs.{Arguments.ten, Column.signed_of, Plain.Passes};
 ghost use Rattle.firing_reader.specs.Stored.{Extends, IsGivenIn, given_in};
 
 use super::field::{last_argument, next_argument};
@@ -66,6 +68,30 @@ fn after_alike(bytes: &[u8], count: usize) -> Option<&[u8]>
     }
 }
 
+// Keeps an argument that a comma ends, and returns what comes after the comma.
+#[inline(always)]
+fn keep_next<'a>(all: &mut Vec<i64>, bytes: &'a [u8]) -> Option<&'a [u8]>
+    ensures { MatchOption result (all.new.items ≡ all.old.items)
+        (λ after. (field : List ℕ) × (value : ℤ) × Passes bytes.now (field ∷ []) after.now
+        × (signed_of field ≡ Some value) × (all.new.items ≡ all.old.items ++ value ∷ [])) }
+{
+    let (value, after) = next_argument(bytes)?;
+    all.push(value).ok()?;
+    Some(after)
+}
+
+// Keeps an argument that a line feed ends, and returns the bytes from the line feed on.
+#[inline(always)]
+fn keep_last<'a>(all: &mut Vec<i64>, bytes: &'a [u8]) -> Option<&'a [u8]>
+    ensures { MatchOption result (all.new.items ≡ all.old.items)
+        (λ end. (field : List ℕ) × (value : ℤ) × Closes bytes.now (field ∷ []) end.now
+        × (signed_of field ≡ Some value) × (all.new.items ≡ all.old.items ++ value ∷ [])) }
+{
+    let (value, end) = last_argument(bytes)?;
+    all.push(value).ok()?;
+    Some(end)
+}
+
 /// Keeps the arguments that come first, but for those that end them and are all written as `0`, or
 /// all empty. It returns where they are, and what comes from the line feed on.
 #[inline(always)]
@@ -82,12 +108,9 @@ pub(crate) fn read_arguments<'a>(all: &mut Vec<i64>, bytes: &'a [u8]) -> Option<
             let given = Given::new(first, n)?;
             return Some((given, end));
         }
-        let (value, after) = next_argument(rest)?;
-        all.push(value).ok()?;
-        rest = after;
+        rest = keep_next(all, rest)?;
     }
-    let (value, end) = last_argument(rest)?;
-    all.push(value).ok()?;
+    let end = keep_last(all, rest)?;
     let given = Given::new(first, 10)?;
     Some((given, end))
 }

@@ -1,13 +1,16 @@
-//! The values of built-in variables.
+//! The values of built-in variables and of texts that a script has.
 
-ghost use Rattle.std.specs.Prelude.{◌≡◌, IfOk, MatchOption};
+ghost use Rattle.std.specs.Prelude.{◌≡◌, MatchOption};
 ghost use Rattle.d_types.specs.Expressions as spec;
 ghost use Rattle.d_types.specs.Storage.{word_of};
+ghost use Rattle.replay_core.specs.Evaluation.{Returns};
+ghost use Rattle.replay_core.specs.Vocabulary.{Variables};
 
+use crate::evaluation::fault::EvalFault;
 use d_types::BuiltIn;
 use d_values::{Text, Value};
 use firing_reader::Firing;
-use std::alloc::{AllocError, Global};
+use std::alloc::Global;
 
 /// The word of a built-in variable: 0 for a text, and for an argument of a number over 9.
 pub(crate) fn built_in_word(built_in: BuiltIn, firing: &Firing) -> u64
@@ -49,8 +52,9 @@ pub(crate) fn built_in(
     alloc: Global,
     built_in: BuiltIn,
     firing: &Firing,
-) -> Result<Value, AllocError>
-    ensures { IfOk result (λ v. v ≡ spec.built_in_value firing.now built_in) }
+) -> Result<Value, EvalFault>
+    ensures { (vars : Variables)
+        → Returns (spec.Has (spec.built_in_value firing.now built_in) vars) result vars }
 {
     match built_in_text(built_in, firing) {
         None => Ok(Value::Int(built_in_word(built_in, firing))),
@@ -59,4 +63,12 @@ pub(crate) fn built_in(
             Ok(Value::Text(text))
         }
     }
+}
+
+/// The value of a text that a script has.
+pub(crate) fn constant_text(text: &Text) -> Result<Value, EvalFault>
+    ensures { (vars : Variables) → Returns (spec.Has (Value.Text text.now) vars) result vars }
+{
+    let text = text.clone()?;
+    Ok(Value::Text(text))
 }

@@ -6,25 +6,20 @@ ghost use Rattle.replay_core.specs.Vocabulary.{Typed, typed_of, typeds_of};
 ghost use Rattle.replay_core.specs.Evaluation.{Meets};
 ghost use Rattle.replay_core.specs.Steps.Evaluation.{HasKey, HasText, HasValue, HasWord, PutsPart};
 
-use crate::evaluation::built_in::{built_in, built_in_word};
-use crate::evaluation::changes::{step_variable, update_variable};
-use crate::evaluation::fault::EvalFault;
-use crate::evaluation::lending::{lent_text, set_part};
-use crate::evaluation::operators::{exclusive_or, operation_or_fault, unary, updated_word};
-use crate::evaluation::variables::{bytes, set, value_at, word_at, word_in};
-use crate::state::State;
-use d_parser::Step;
-use d_types::{Answer, LogicOperator, Operation, TypedExpr, Variable};
-use d_values::{
-    ComparisonOperator, IntType, Key, Text, Value, compare, compare_text, convert, join_text,
+use crate::evaluation::built_in::{built_in, built_in_word, constant_text};
+use crate::evaluation::changes::{
+    assign_variable, assign_variable_word, read_variable, read_variable_word, step_variable,
+    update_variable,
 };
-
-// 1 for true, 0 for false.
-fn truth(holds: bool) -> u64
-    ensures { result ≡ spec.truth holds }
-{
-    u64::from(holds)
-}
+use crate::evaluation::fault::EvalFault;
+use crate::evaluation::lending::{lent_text, put_part};
+use crate::evaluation::operators::{
+    compared_texts, compared_words, exclusive_or, operation_or_fault, truth, unary, updated_word,
+};
+use crate::evaluation::variables::{bytes, word_at, word_in};
+use crate::state::State;
+use d_types::{LogicOperator, Operation, TypedExpr, Variable};
+use d_values::{ComparisonOperator, IntType, Key, Text, Value, convert, join_text};
 
 /// The value of an expression, with the variables as it leaves them (Dynamic Tracing Guide, "Types,
 /// Operators, and Expressions"). Refused at a division by 0, whose variables stay as they then are.
@@ -33,15 +28,12 @@ pub(crate) fn evaluate(e: &TypedExpr, state: &mut State<'_>) -> Result<Value, Ev
     ensures { HasValue (typed_of e.now) result state.old state.new }
 {
     match e {
-        TypedExpr::Text(text) => {
-            let text = text.clone()?;
-            Ok(Value::Text(text))
+        TypedExpr::Text(text) => constant_text(text),
+        TypedExpr::BuiltIn(b) => built_in(state.alloc, *b, state.firing),
+        TypedExpr::Read(x, keys) => {
+            let key = evaluate_key(keys, state)?;
+            read_variable(*x, key, state)
         }
-        TypedExpr::BuiltIn(b) => {
-            let value = built_in(state.alloc, *b, state.firing)?;
-            Ok(value)
-        }
-        TypedExpr::Read(x, keys) => read(*x, keys, state),
         TypedExpr::Choice(_, test, a, b) => choose(test, a, b, state),
         TypedExpr::Assign(x, keys, a) => assign(*x, keys, a, state),
         TypedExpr::Strjoin(a, b) => join(a, b, state),
@@ -70,7 +62,10 @@ pub(crate) fn evaluate_word(e: &TypedExpr, state: &mut State<'_>) -> Result<u64,
         TypedExpr::Constant(_, word) => Ok(*word),
         TypedExpr::Text(_) => Ok(0),
         TypedExpr::BuiltIn(b) => Ok(built_in_word(*b, state.firing)),
-        TypedExpr::Read(x, keys) => read_word(*x, keys, state),
+        TypedExpr::Read(x, keys) => {
+            let key = evaluate_key(keys, state)?;
+            read_variable_word(*x, key, state)
+        }
         TypedExpr::Unary(op, t, a) => {
             let x = evaluate_word(a, state)?;
             Ok(unary(*op, *t, x))
@@ -88,7 +83,10 @@ pub(crate) fn evaluate_word(e: &TypedExpr, state: &mut State<'_>) -> Result<u64,
         }
         TypedExpr::Assign(x, keys, a) => assign_word(*x, keys, a, state),
         TypedExpr::Update(op, x, keys, a) => update(*op, *x, keys, a, state),
-        TypedExpr::Step(by, answer, x, keys) => step(*by, *answer, *x, keys, state),
+        TypedExpr::Step(by, answer, x, keys) => {
+            let key = evaluate_key(keys, state)?;
+            step_variable(*by, *answer, *x, key, state)
+        }
         TypedExpr::Strlen(a) => {
             let x = evaluate_text(a, state)?;
             Ok(x.as_bytes().len() as u64)
@@ -142,32 +140,10 @@ fn evaluate_part(
         }
         None => {
             let value = evaluate(e, state)?;
-            set_part(key, place, value.as_ref())?;
+            put_part(key, place, value)?;
             Ok(())
         }
     }
-}
-
-// The value of a variable.
-#[cycle(evaluation)]
-fn read(x: Variable, keys: &[TypedExpr], state: &mut State<'_>) -> Result<Value, EvalFault>
-    ensures { HasValue (Typed.Read x (typeds_of keys.now)) result state.old state.new }
-{
-    let key = evaluate_key(keys, state)?;
-    let value = value_at(state.alloc, x, &key, state.tables)?;
-    state.spare.keep(key)?;
-    Ok(value)
-}
-
-// The word of a variable's value.
-#[cycle(evaluation)]
-fn read_word(x: Variable, keys: &[TypedExpr], state: &mut State<'_>) -> Result<u64, EvalFault>
-    ensures { HasWord (Typed.Read x (typeds_of keys.now)) result state.old state.new }
-{
-    let key = evaluate_key(keys, state)?;
-    let word = word_at(x, &key, state.tables);
-    state.spare.keep(key)?;
-    Ok(word)
 }
 
 // An operator on two integers.
@@ -200,7 +176,7 @@ fn compare_words(
 {
     let x = evaluate_word(a, state)?;
     let y = evaluate_word(b, state)?;
-    Ok(truth(op.holds(compare(t, x, y))))
+    Ok(compared_words(op, t, x, y))
 }
 
 // A comparison of two texts.
@@ -216,7 +192,7 @@ fn compare_texts(
 {
     let x = evaluate_text(a, state)?;
     let y = evaluate_text(b, state)?;
-    Ok(truth(op.holds(compare_text(x.as_bytes(), y.as_bytes()))))
+    Ok(compared_texts(op, x, y))
 }
 
 // `&&`: the second only where the first isn't 0.
@@ -311,10 +287,7 @@ fn assign(
 {
     let at = evaluate_key(keys, state)?;
     let value = evaluate(right, state)?;
-    let copy = value.clone()?;
-    set(state.alloc, x, &at, value, state.tables)?;
-    state.spare.keep(at)?;
-    Ok(copy)
+    assign_variable(x, at, value, state)
 }
 
 // The same, for the word of the value.
@@ -330,10 +303,7 @@ fn assign_word(
 {
     let key = evaluate_key(keys, state)?;
     let value = evaluate(a, state)?;
-    let word = word_in(&value);
-    set(state.alloc, x, &key, value, state.tables)?;
-    state.spare.keep(key)?;
-    Ok(word)
+    assign_variable_word(x, key, value, state)
 }
 
 // The variable is read before the right side is evaluated.
@@ -352,26 +322,7 @@ fn update(
     let old = word_at(x, &key, state.tables);
     let y = evaluate_word(a, state)?;
     let made = updated_word(op, old, y);
-    let word = update_variable(x, &key, made, state)?;
-    state.spare.keep(key)?;
-    Ok(word)
-}
-
-// `++` and `--`.
-#[cycle(evaluation)]
-fn step(
-    by: Step,
-    answer: Answer,
-    x: Variable,
-    keys: &[TypedExpr],
-    state: &mut State<'_>,
-) -> Result<u64, EvalFault>
-    ensures { HasWord (Typed.Count by answer x (typeds_of keys.now)) result state.old state.new }
-{
-    let key = evaluate_key(keys, state)?;
-    let word = step_variable(by, answer, x, &key, state)?;
-    state.spare.keep(key)?;
-    Ok(word)
+    update_variable(x, key, made, state)
 }
 
 // Two texts as one, cut to 255 bytes.

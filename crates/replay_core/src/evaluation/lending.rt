@@ -73,3 +73,12 @@ pub(crate) fn set_part(key: &mut Key, place: usize, value: ValueRef<'_>) -> Resu
         ValueRef::Text(bytes) => key.set_name(place, bytes),
     }
 }
+
+/// The same for a value that is owned.
+pub(crate) fn put_part(key: &mut Key, place: usize, value: Value) -> Result<(), AllocError>
+    requires { place < length key.old }
+    ensures ok { OnOk result (key.new ≡ slice_set key.old place (spec.part_of value)) }
+    ensures err { OnErr result (key.new ≡ key.old) }
+{
+    set_part(key, place, value.as_ref())
+}

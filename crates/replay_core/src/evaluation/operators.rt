@@ -1,7 +1,9 @@
-//! Operators on the words of integers.
+//! Operators on words and texts.
 
 ghost use Rattle.std.specs.Prelude.{◌≡◌};
-ghost use Rattle.d_values.specs.Words.{narrow};
+ghost use Rattle.d_values.specs.Operators.{holds_of};
+ghost use Rattle.d_values.specs.Texts.{text_cmp};
+ghost use Rattle.d_values.specs.Words.{narrow, order_of};
 ghost use Rattle.d_types.specs.Expressions as spec;
 ghost use Rattle.replay_core.specs.Evaluation.{Returns};
 ghost use Rattle.replay_core.specs.Vocabulary.{Variables};
@@ -9,7 +11,17 @@ ghost use Rattle.replay_core.specs.Vocabulary.{Variables};
 use crate::evaluation::fault::EvalFault;
 use d_parser::{Step, UnaryOperator};
 use d_types::{Answer, Operation};
-use d_values::{DType, IntType, OutOfZero, binary, complement, convert, negate, shift};
+use d_values::{
+    ComparisonOperator, DType, IntType, OutOfZero, Text, binary, compare, compare_text, complement,
+    convert, negate, shift,
+};
+
+/// 1 for true, 0 for false.
+pub(crate) fn truth(holds: bool) -> u64
+    ensures { result ≡ spec.truth holds }
+{
+    u64::from(holds)
+}
 
 /// An operator before its operand, of the type.
 pub(crate) fn unary(op: UnaryOperator, t: IntType, word: u64) -> u64
@@ -51,6 +63,21 @@ pub(crate) fn updated_word(op: Operation, old: u64, y: u64) -> Result<u64, OutOf
     ensures { result ≡ spec.operation_of op (narrow (spec.works_in op) old) y }
 {
     operation_word(op, word_for_operation(op, old), y)
+}
+
+/// 1 where the comparison of two words holds, else 0.
+#[inline(always)]
+pub(crate) fn compared_words(op: ComparisonOperator, t: IntType, x: u64, y: u64) -> u64
+    ensures { result ≡ spec.truth (holds_of op (order_of t x y)) }
+{
+    truth(op.holds(compare(t, x, y)))
+}
+
+/// The same for two texts.
+pub(crate) fn compared_texts(op: ComparisonOperator, x: Text, y: Text) -> u64
+    ensures { result ≡ spec.truth (holds_of op (text_cmp x y)) }
+{
+    truth(op.holds(compare_text(x.as_bytes(), y.as_bytes())))
 }
 
 /// 1 where just one of the words isn't 0, else 0.

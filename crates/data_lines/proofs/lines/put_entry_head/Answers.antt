@@ -3,7 +3,7 @@ use Rattle.std.specs.Prelude.{codes}
 use Rattle.std.specs.Fmt.{decimal}
 use Rattle.data_lines.specs.Lines.{function_word, written_name}
 use Rattle.data_lines.specs.Texts.{text_value}
-use Rattle.data_lines.proofs.Pieces.{put_more}
+use Rattle.data_lines.proofs.Pieces.{put_last, put_more}
 use Rattle.data_lines.proofs.lines.put_entry_head.Goals as goal
 
 pub returns : goal.returns
@@ -22,4 +22,4 @@ returns c =
     let five : c.extend_from_slice-3.new.self.items ≡ old ++ (kind ++ place ++ before_name ++ name ++ before_function) = put_more old _ _ (kind ++ place ++ before_name ++ name) before_function four c.in_ok-extend_from_slice-3.ensures.items in
     let word : c.extend_from_slice-4.new.self.items ≡ c.extend_from_slice-3.new.self.items ++ function = subst (λ w. c.extend_from_slice-4.new.self.items ≡ c.extend_from_slice-3.new.self.items ++ w) c.function_word.ensures c.in_ok-extend_from_slice-4.ensures.items in
     let six : c.extend_from_slice-4.new.self.items ≡ old ++ (kind ++ place ++ before_name ++ name ++ before_function ++ function) = put_more old _ _ (kind ++ place ++ before_name ++ name ++ before_function) function five word in
-    put_more old _ _ (kind ++ place ++ before_name ++ name ++ before_function ++ function) (codes "\",\"key\":") six c.in_ok-extend_from_slice-5.ensures.items
+    put_last c.extend_from_slice-5.result old _ _ (kind ++ place ++ before_name ++ name ++ before_function ++ function) (codes "\",\"key\":") six c.extend_from_slice-5.ensures.items

@@ -86,8 +86,13 @@ run-requires-clause-room g c =
     let room = c.requires.room in
     omega (arith, most, left, held, room)
 
-pub loop-at-preserved-then-turn-repeat : goal.loop-at-preserved-then-turn-repeat
-loop-at-preserved-then-turn-repeat g c =
+pub overflow_add-turn : goal.overflow_add-turn
+overflow_add-turn g c =
+    let fits = c.goes_on_after.ensures.fits c.if-goes_on_after.true in
+    omega (arith, fits)
+
+pub loop-at-preserved-then-goes_on_after : goal.loop-at-preserved-then-goes_on_after
+loop-at-preserved-then-goes_on_after g c =
     let f = c.args.state.now.firing.now in
     let clauses = c.args.clauses.now in
     let all = c.places.inside.repeats.items in
@@ -115,7 +120,7 @@ loop-at-preserved-then-turn-repeat g c =
     let here : c.loop-at.state.firing.now ≡ f = ap (λ s. s.now) i.stays.0 in
     let held = c.run.ensures.held in
     let before_held = i.held in
-    let others = c.if-turn-repeat.true in
+    let others = c.goes_on_after.ensures.more c.if-goes_on_after.true in
     record {
       first = omega arith;
       begun = λ s lt same.
@@ -158,7 +163,7 @@ loop-at-preserved g c =
     let inside : r.place < length clauses = placed (λ p. p < length clauses) all at r there within c.index-repeat.ensures (omega arith) in
     let most : g.C.Clause.most clause ≤ 65536 = subst (λ x. g.C.Clause.most x ≤ 65536) (sym c.index-clauses-place.is) (c.requires.few r.place clause inside) in
     let cut = turn_taken all at (turn - 1) r within c.index-repeat.ensures (omega arith) in
-    let others = c.if-turn-repeat.false in
+    let others = c.goes_on_after.ensures.last c.if-goes_on_after.false in
     let last : turn - 1 + 1 ≡ r.times = omega (arith, others) in
     let done : places_left all at (turn - 1 + 1) ≡ places_left all (at + 1) 0 = ap (places_left all at) last ∙ clause_done all at r within c.index-repeat.ensures in
     let long = ap length (cut ∙ ap (λ (l : List ℕ). r.place ∷ l) done) in

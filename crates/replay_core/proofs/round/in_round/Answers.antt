@@ -1,8 +1,9 @@
-use Rattle.std.proofs.Common.{rules, arith, ◌≡◌, ◌<◌, ap, ◌∙◌, length}
+use Rattle.std.proofs.Common.{rules, arith, ◌≡◌, ◌<◌, ap, subst, sym, ◌∙◌, length, vec_len}
 use Rattle.std.proofs.lemmas.List.{length-map}
 use Rattle.std.specs.List.{flat_map}
 use Rattle.shard_queue.specs.Groups.{grouping}
-use Rattle.replay_core.specs.AtBoard.{Gives, IsWork}
+use Rattle.replay_core.specs.AtBoard.{Gives, IsRound, IsWork}
+use Rattle.replay_core.specs.declared.round.Round.{Round}
 use Rattle.replay_core.proofs.Parts.{all_at, drawn_lists, finished_parts, whole_round}
 use Rattle.replay_core.proofs.round.in_round.Goals as goal
 
@@ -23,8 +24,9 @@ returns-clause-round g c =
     let end : board.end ≡ (grouping input.groups.now).count = search rules in
     let some : 0 < length seats = search rules in
     let closed = c.in_ok-closed.ensures in
-    whole_round P board _ _ seats parts some end closed.whole
-    (ap (λ xs. flat_map (λ v. v.items) xs) closed.lists ∙ drawn_lists seats) closed.least.0 closed.least.1
+    subst (λ (r : Round). IsRound P (grouping input.groups.now).count r) (sym c.round_of.ensures)
+    (whole_round P board _ _ seats parts some end closed.whole
+    (ap (λ xs. flat_map (λ v. v.items) xs) closed.lists ∙ drawn_lists seats) closed.least.0 closed.least.1)
 
 pub returns-clause-lists : goal.returns-clause-lists
 returns-clause-lists g c =
@@ -33,4 +35,5 @@ returns-clause-lists g c =
     let all = c.in_ok-pieces.ensures.len in
     let each = c.in_ok-results.ensures.len in
     let opened = c.in_ok-board.ensures.seats.0 in
-    omega (arith, are, same, all, each, opened)
+    let made = ap (λ (r : Round). vec_len r.lists) c.round_of.ensures in
+    omega (arith, are, same, all, each, opened, made)

@@ -35,7 +35,7 @@ returns-clause-piece g c = λ m runs.
     let lane = g.L.Lane.Engine.seen c.run_until.new.lane in
     let seen = g.S.Source.seen c.run_until.new.seat in
     let all = ap (firings_at fs) (c.places.ensures ∙ c.requires.groups.places c.args.group ∙ ap (places_of groups c.args.group) (sym (threads_are t))) ∙ chosen (λ t. is_group c.args.group (groups.group t)) fs 0 fs refl in
-    let ran = subst (λ (l : List Firing). RunsBeginning m seen l lane) all (c.in_ok-run_until.ensures.run m (c.in_ok-lane.ensures.script m runs) (c.requires.selected.each m runs)) in
+    let ran = subst (λ (l : List Firing). RunsBeginning m seen l lane) all (c.in-Ok.ensures.run m (c.in_ok-lane.ensures.script m runs) (c.requires.selected.each m runs)) in
     record {
       fired = ran.0;
       beginning = ran.1;
@@ -45,7 +45,7 @@ returns-clause-piece g c = λ m runs.
 pub returns-clause-least : goal.returns-clause-least
 returns-clause-least g c =
     let script = c.requires.script in
-    c.in_ok-run_until.ensures.least script.0 (c.in_ok-lane.ensures.script script.0 script.1) (c.requires.selected.each script.0 script.1)
+    c.in-Ok.ensures.least script.0 (c.in_ok-lane.ensures.script script.0 script.1) (c.requires.selected.each script.0 script.1)
     ∙ ap (λ p. lesser_of (g.S.Source.lowered c.args.seat.now) p.exit) (sym c.finish.ensures.piece)
 
 pub run_until-requires-clause-script : goal.run_until-requires-clause-script

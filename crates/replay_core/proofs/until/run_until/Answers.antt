@@ -45,8 +45,8 @@ fire-requires-clause-few g c =
     let inside = c.loop-place-test.true in
     omega (arith, taken, same, few, most, all, inside)
 
-pub returns-then-least-firing-clause-run : goal.returns-then-least-firing-clause-run
-returns-then-least-firing-clause-run g c = λ m runs are.
+pub returns-then-is_past_exit-clause-run : goal.returns-then-is_past_exit-clause-run
+returns-then-is_past_exit-clause-run g c = λ m runs are.
     let inv = c.loop-place.invariant in
     let i = c.loop-place.place-index in
     let places = c.args.places.now in
@@ -57,8 +57,8 @@ returns-then-least-firing-clause-run g c = λ m runs are.
     let before = firings_at run (take i places) in
     let rest = firings_at run (drop (i + 1) places) in
     let all = at_parts run places i ∙ ap (λ l. before ++ l) (at_next run places i place f (omega arith) item c.firing_at-firing.ensures.firing) in
-    let over : g.S.Source.seen c.least.new.seat < f.number = let same = c.least.ensures.seen in let lt = c.if-least-firing.true in omega (arith, same, lt) in
-    (before, ended_by_number m (g.S.Source.seen c.least.new.seat) before f rest (firings_at run places) (inv.none m runs are) over all, inv.run m runs are)
+    let over : g.S.Source.seen c.is_past_exit.new.seat < f.number = c.is_past_exit.ensures.past c.if-is_past_exit.true in
+    (before, ended_by_number m (g.S.Source.seen c.is_past_exit.new.seat) before f rest (firings_at run places) (inv.none m runs are) over all, inv.run m runs are)
 
 pub returns-then-branch-clause-run : goal.returns-then-branch-clause-run
 returns-then-branch-clause-run g c = λ m runs are.
@@ -76,7 +76,7 @@ returns-then-branch-clause-run g c = λ m runs are.
     let here = inv.script m runs are in
     let exits = sym c.if-branch.true ∙ c.in_ok-fire.ensures.exits m here (selected_is m c.args.input.now.trace.now c.args.input.now.selections.now are (slice_index c.args.places.now c.loop-place.place-index) c.firing_at-firing.result c.at.result.now c.firing_at-firing.ensures.firing c.at.ensures) in (
       before ++ f ∷ [],
-      ended_by_exit m (g.S.Source.seen c.lower.new.seat) before f rest (firings_at run places) old.threads (inv.run m runs are).threads (inv.none m runs are) exits all,
+      ended_by_exit m (g.S.Source.seen c.tell_exit.new.seat) before f rest (firings_at run places) old.threads (inv.run m runs are).threads (inv.none m runs are) exits all,
       fires_more m before f old (g.E.Engine.seen c.fire.new.self) (inv.run m runs are) (c.in_ok-fire.ensures.step m here (selected_is m c.args.input.now.trace.now c.args.input.now.selections.now are (slice_index c.args.places.now c.loop-place.place-index) c.firing_at-firing.result c.at.result.now c.firing_at-firing.ensures.firing c.at.ensures)),
     )
 
@@ -93,7 +93,7 @@ returns-then-branch-clause-least g c = λ m runs are.
     let here = inv.script m runs are in
     let exits = sym c.if-branch.true ∙ c.in_ok-fire.ensures.exits m here (selected_is m c.args.input.now.trace.now c.args.input.now.selections.now are (slice_index c.args.places.now c.loop-place.place-index) c.firing_at-firing.result c.at.result.now c.firing_at-firing.ensures.firing c.at.ensures) in
     let lane = fires_more m before f old (g.E.Engine.seen c.fire.new.self) (inv.run m runs are) (c.in_ok-fire.ensures.step m here (selected_is m c.args.input.now.trace.now c.args.input.now.selections.now are (slice_index c.args.places.now c.loop-place.place-index) c.firing_at-firing.result c.at.result.now c.firing_at-firing.ensures.firing c.at.ensures)) in
-    c.lower.ensures.lowered ∙ ap (λ n. min n f.number) (c.least.ensures.lowered ∙ inv.lowered)
+    c.tell_exit.ensures.lowered ∙ ap (λ n. min n f.number) (c.is_past_exit.ensures.lowered ∙ inv.lowered)
     ∙ now_lowered m before f old.threads number (inv.run m runs are).threads (inv.none m runs are) exits
     ∙ ap (lesser_of number) (sym lane.piece.exit)
 
@@ -109,11 +109,11 @@ loop-place-preserved g c =
     let item : get_or places i place ≡ place = get_or_default places i place 0 (omega arith) in
     let before = firings_at run (take i places) in
     let more = at_more run places i place f (omega arith) item c.firing_at-firing.ensures.firing in
-    let looked = c.least.ensures in
+    let looked = c.is_past_exit.ensures in
     record {
       at = looked.seat;
-      list = looked.others.0 ∙ inv.list;
-      seen = let a = looked.seen in let b = looked.own.1 in let d = inv.seen in omega arith;
+      list = looked.list ∙ inv.list;
+      seen = let a = looked.seen in let d = inv.seen in omega arith;
       lowered = looked.lowered ∙ inv.lowered;
       script = λ m runs are. c.fire.ensures.script m (inv.script m runs are) (selected_is m c.args.input.now.trace.now c.args.input.now.selections.now are (slice_index c.args.places.now c.loop-place.place-index) c.firing_at-firing.result c.at.result.now c.firing_at-firing.ensures.firing c.at.ensures);
       unspent = search rules;

@@ -9,7 +9,7 @@ pub loop-preserved : goal.loop-preserved
 loop-preserved g c =
     let i = c.loop.invariant in
     let w = c.args.input.now in
-    let added = c.in_ok-push_piece.ensures in
+    let added = c.in-Ok.ensures in
     let taken = c.in-Some-take.ensures in
     record {
       at = taken.seat;

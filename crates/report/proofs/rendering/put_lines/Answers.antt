@@ -18,7 +18,7 @@ loop-round-preserved g c =
     let round = c.in-Some.round.now in
     let after = chunks_rest c.next.new.self in
     let parts = c.in-Some.ensures.steps.1.0 in
-    let put : c.put_blocks.new.out.items ≡ out ++ flat_map bytes round = c.in_ok-put_blocks.ensures ∙ ap (λ l. out ++ flat_map (λ block. block.items) l) c.deref.ensures.value ∙ ap (λ l. out ++ l) c.in_ok-made.ensures in (
+    let put : c.put_round.new.out.items ≡ out ++ flat_map bytes round = c.in_ok-put_round.ensures in (
       search rules,
       tt,
       ap (λ l. l ++ flat_map bytes after) put ∙ append_assoc out (flat_map bytes round) (flat_map bytes after)

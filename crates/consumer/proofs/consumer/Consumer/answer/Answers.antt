@@ -5,7 +5,7 @@ use Rattle.consumer.proofs.consumer.Consumer.answer.Goals as goal
 
 pub returns-in-Ok : goal.returns-in-Ok
 returns-in-Ok g c = λ script trace judged read.
-    c.replay_read.ensures script trace (rw c.in-Ok.is at judged)
+    c.replay_read-answer.ensures script trace (rw c.in-Ok.is at judged)
     (subst (Gives c.finish-read.result) (rw c.in-Ok.is at read) c.finish-read.ensures)
 
 pub returns-in-Err : goal.returns-in-Err

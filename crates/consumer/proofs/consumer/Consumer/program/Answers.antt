@@ -4,8 +4,8 @@ use Rattle.consumer.proofs.consumer.Consumer.program.Goals as goal
 
 pub returns-in-Ok : goal.returns-in-Ok
 returns-in-Ok g c =
-    let run = c.run_status.ensures in
+    let run = c.run_status-status.ensures in
     ran c.in-Ok.asked run.answer c.in-Ok.ensures.exact run.run run.ends run.line
 
 pub returns-in-Err : goal.returns-in-Err
-returns-in-Err g c = unasked c.in-Err.fault c.in-Err.ensures.exact (ap g.F.Feed.seen c.explain.ensures.input) c.explain.ensures.ends
+returns-in-Err g c = unasked c.in-Err.fault c.in-Err.ensures.exact (ap g.F.Feed.seen c.explain-status.ensures.input) c.explain-status.ensures.ends

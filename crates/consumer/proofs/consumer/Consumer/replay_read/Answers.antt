@@ -11,4 +11,4 @@ returns-in_err-trace g c = λ source bytes accepted gives.
 
 pub returns : goal.returns
 returns g c = λ source bytes accepted gives.
-    c.replay_trace.ensures source bytes accepted (rw c.in_ok-trace.was at gives)
+    c.replay_trace-replayed.ensures source bytes accepted (rw c.in_ok-trace.was at gives)

@@ -8,4 +8,4 @@ returns-in_err-script g c =
     rw (p.1, p.2) (script_refused g.L.Layout.shows c.args.script.now c.args.trace.now c.args.plan.now c.in_err-script.field-0.0 c.in_err-script.ensures)
 
 pub returns : goal.returns
-returns g c = c.replay_read.ensures c.args.script.now c.args.trace.now c.in_ok-script.ensures c.read_trace_by-read.ensures
+returns g c = c.replay_read-replayed.ensures c.args.script.now c.args.trace.now c.in_ok-script.ensures c.read_trace_by-read.ensures

@@ -9,6 +9,6 @@ returns g c =
     record {
       answer = c.run_asked-answer.result;
       run = record { shown = r.shown; read = r.read; blamed = r.blamed; unread = r.unread; few = r.few };
-      ends = c.end.ensures.status;
-      line = subst (λ e. IsReported c.run_asked-answer.result (g.E.Sink.seen e) (g.E.Sink.seen c.end.new.errors)) c.run_asked-answer.ensures.errors c.end.ensures.line;
+      ends = c.end-status.ensures.status;
+      line = subst (λ e. IsReported c.run_asked-answer.result (g.E.Sink.seen e) (g.E.Sink.seen c.end-status.new.errors)) c.run_asked-answer.ensures.errors c.end-status.ensures.line;
     }

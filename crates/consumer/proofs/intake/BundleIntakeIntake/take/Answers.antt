@@ -1,5 +1,5 @@
 use Rattle.std.proofs.Common.{rules}
-use Rattle.consumer.proofs.Taken.{bundle_goes, bundle_told}
+use Rattle.consumer.proofs.Taken.{bundle_goes, bundle_put}
 use Rattle.consumer.proofs.intake.BundleIntakeIntake.take.Goals as goal
 
 pub returns-in-Some : goal.returns-in-Some
@@ -7,4 +7,4 @@ returns-in-Some g c = bundle_goes c.take.result c.args.self.now.first.items _ c.
 
 pub returns-in_ok-trace-in-None : goal.returns-in_ok-trace-in-None
 returns-in_ok-trace-in-None g c =
-    bundle_told c.args.self.now.first.items _ c.deref.result.now c.args.block.now c.args.self.now.trace c.in_ok-trace-in-None.trace c.in-None.is (search rules) c.deref.ensures.value c.in_ok-trace-in-None.ensures
+    bundle_put c.args.self.now.first.items _ c.deref.result.now c.args.block.now c.args.self.now.trace c.in_ok-trace-in-None.trace _ c.replace-none.ensures.after c.in-None.is (search rules) c.deref.ensures.value c.in_ok-trace-in-None.ensures

@@ -1,6 +1,4 @@
-use Rattle.std.proofs.Common.{◌≡◌, ◌++◌, ◌∷◌, [], ◌-◌, rules, arith, w64}
-use Rattle.std.proofs.lemmas.Grind.{common_steps}
-use Rattle.std.proofs.lemmas.Int.{to_z-of_z}
+use Rattle.std.proofs.Common.{◌-◌, rules, arith}
 use Rattle.firing_reader.proofs.PlainArguments.{none_so_far, one_so_far, value_last, alike_last}
 use Rattle.firing_reader.proofs.plain.arguments.read_arguments.Goals as goal
 
@@ -17,22 +15,16 @@ returns-in-Some-clause-args c =
 
 pub loop-n-preserved : goal.loop-n-preserved
 loop-n-preserved c =
-    let (field, passes, read) = c.in_ok-value.ensures in
-    let v = c.in_ok-value.value in
-    let same = to_z-of_z w64 v (search rules) in
-    let pushed : c.push.new.self.items ≡ c.loop-n.all.items ++ v ∷ [] = grind (arith, common_steps) in
+    let (field, value, passes, read, pushed) = c.in_ok-rest.ensures in
     record {
-      read = one_so_far c.loop-n.n c.args.bytes.now c.loop-n.rest.now c.in_ok-value.after.now c.args.all.now.items c.loop-n.all.items c.push.new.self.items field v c.loop-n.invariant.read passes read pushed;
+      read = one_so_far c.loop-n.n c.args.bytes.now c.loop-n.rest.now c.in_ok-rest.rest.now c.args.all.now.items c.loop-n.all.items c.keep_next.new.all.items field value c.loop-n.invariant.read passes read pushed;
       first = c.loop-n.invariant.first;
     }
 
 pub returns-clause-args : goal.returns-clause-args
 returns-clause-args c =
-    let (field, closes, read) = c.in_ok-value-2.ensures in
-    let v = c.in_ok-value-2.value in
-    let same = to_z-of_z w64 v (search rules) in
-    let pushed : c.push-2.new.self.items ≡ c.loop-n.all.items ++ v ∷ [] = grind (arith, common_steps) in
+    let (field, value, closes, read, pushed) = c.in_ok-end.ensures in
     let g = c.in_ok-given-2.given in
     let e = c.in_ok-given-2.ensures in
-    value_last c.loop-n.n c.args.bytes.now c.loop-n.rest.now c.in_ok-value-2.end.now c.args.all.now.items c.loop-n.all.items c.push-2.new.self.items g field v (omega arith)
+    value_last c.loop-n.n c.args.bytes.now c.loop-n.rest.now c.in_ok-end.end.now c.args.all.now.items c.loop-n.all.items c.keep_last.new.all.items g field value (omega arith)
     c.loop-n.invariant.read closes read pushed (omega (arith, e.first, c.loop-n.invariant.first)) (omega (arith, e.count))

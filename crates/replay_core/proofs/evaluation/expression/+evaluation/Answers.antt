@@ -4,16 +4,19 @@ use Rattle.d_types.proofs.Nodes.{read_is, assign_is, update_is, step_is}
 use Rattle.replay_core.proofs.Weights.{weight, key_is_light}
 use Rattle.replay_core.proofs.evaluation.expression.+evaluation.Goals as goal
 
-pub evaluate-read-requires : goal.evaluate-read-requires
-evaluate-read-requires t c = let w = ap weight (read_is _ _ _ _ c.in-Read.is c.deref.ensures.value) in (omega (arith, w), tt)
+pub evaluate-evaluate_key-requires : goal.evaluate-evaluate_key-requires
+evaluate-evaluate_key-requires t c = let w = ap weight (read_is _ _ _ _ c.in-Read.is c.deref.ensures.value) in (omega (arith, w), tt)
 
 pub evaluate-assign-requires : goal.evaluate-assign-requires
 evaluate-assign-requires t c = let w = ap weight (assign_is _ _ _ _ _ c.in-Assign.is c.deref-in-Assign.ensures.value) in
     let right = ap (λ k. weight (typed_of k)) c.deref-in-Assign-2.ensures in
     (omega (arith, w, right), tt)
 
-pub evaluate-returns-in-Read : goal.evaluate-returns-in-Read
-evaluate-returns-in-Read t c = rw (read_is _ _ _ _ c.in-Read.is c.deref.ensures.value) (search rules)
+pub evaluate-returns-in_err-key-in-Read : goal.evaluate-returns-in_err-key-in-Read
+evaluate-returns-in_err-key-in-Read t c = rw (read_is _ _ _ _ c.in-Read.is c.deref.ensures.value) (search rules)
+
+pub evaluate-returns-in_ok-key-in-Read : goal.evaluate-returns-in_ok-key-in-Read
+evaluate-returns-in_ok-key-in-Read t c = rw (read_is _ _ _ _ c.in-Read.is c.deref.ensures.value) (search rules)
 
 pub evaluate-returns-in-Assign : goal.evaluate-returns-in-Assign
 evaluate-returns-in-Assign t c = rw (assign_is _ _ _ _ _ c.in-Assign.is c.deref-in-Assign.ensures.value) (search rules)
@@ -26,8 +29,8 @@ evaluate_key-evaluate_part-requires t c =
     let inside = c.loop-place-test.true in
     (omega (arith, light, at), search rules)
 
-pub evaluate_word-read_word-requires : goal.evaluate_word-read_word-requires
-evaluate_word-read_word-requires t c = let w = ap weight (read_is _ _ _ _ c.in-Read.is c.deref.ensures.value) in (omega (arith, w), tt)
+pub evaluate_word-evaluate_key-requires : goal.evaluate_word-evaluate_key-requires
+evaluate_word-evaluate_key-requires t c = let w = ap weight (read_is _ _ _ _ c.in-Read.is c.deref.ensures.value) in (omega (arith, w), tt)
 
 pub evaluate_word-assign_word-requires : goal.evaluate_word-assign_word-requires
 evaluate_word-assign_word-requires t c = let w = ap weight (assign_is _ _ _ _ _ c.in-Assign.is c.deref-in-Assign.ensures.value) in
@@ -39,11 +42,14 @@ evaluate_word-update-requires t c = let w = ap weight (update_is _ _ _ _ _ _ c.i
     let right = ap (λ k. weight (typed_of k)) c.deref-in-Update-2.ensures in
     (omega (arith, w, right), tt)
 
-pub evaluate_word-step-requires : goal.evaluate_word-step-requires
-evaluate_word-step-requires t c = let w = ap weight (step_is _ _ _ _ _ _ c.in-Step.is c.deref-in-Step.ensures.value) in (omega (arith, w), tt)
+pub evaluate_word-evaluate_key-requires-in-Step : goal.evaluate_word-evaluate_key-requires-in-Step
+evaluate_word-evaluate_key-requires-in-Step t c = let w = ap weight (step_is _ _ _ _ _ _ c.in-Step.is c.deref-in-Step.ensures.value) in (omega (arith, w), tt)
 
-pub evaluate_word-returns-in-Read : goal.evaluate_word-returns-in-Read
-evaluate_word-returns-in-Read t c = rw (read_is _ _ _ _ c.in-Read.is c.deref.ensures.value) (search rules)
+pub evaluate_word-returns-in_err-key-in-Read : goal.evaluate_word-returns-in_err-key-in-Read
+evaluate_word-returns-in_err-key-in-Read t c = rw (read_is _ _ _ _ c.in-Read.is c.deref.ensures.value) (search rules)
+
+pub evaluate_word-returns-in_ok-key-in-Read : goal.evaluate_word-returns-in_ok-key-in-Read
+evaluate_word-returns-in_ok-key-in-Read t c = rw (read_is _ _ _ _ c.in-Read.is c.deref.ensures.value) (search rules)
 
 pub evaluate_word-returns-in-Assign : goal.evaluate_word-returns-in-Assign
 evaluate_word-returns-in-Assign t c = rw (assign_is _ _ _ _ _ c.in-Assign.is c.deref-in-Assign.ensures.value) (search rules)
@@ -51,5 +57,8 @@ evaluate_word-returns-in-Assign t c = rw (assign_is _ _ _ _ _ c.in-Assign.is c.d
 pub evaluate_word-returns-in-Update : goal.evaluate_word-returns-in-Update
 evaluate_word-returns-in-Update t c = rw (update_is _ _ _ _ _ _ c.in-Update.is c.deref-in-Update.ensures.value) (search rules)
 
-pub evaluate_word-returns-in-Step : goal.evaluate_word-returns-in-Step
-evaluate_word-returns-in-Step t c = rw (step_is _ _ _ _ _ _ c.in-Step.is c.deref-in-Step.ensures.value) (search rules)
+pub evaluate_word-returns-in_err-key-in-Step : goal.evaluate_word-returns-in_err-key-in-Step
+evaluate_word-returns-in_err-key-in-Step t c = rw (step_is _ _ _ _ _ _ c.in-Step.is c.deref-in-Step.ensures.value) (search rules)
+
+pub evaluate_word-returns-in_ok-key-in-Step : goal.evaluate_word-returns-in_ok-key-in-Step
+evaluate_word-returns-in_ok-key-in-Step t c = rw (step_is _ _ _ _ _ _ c.in-Step.is c.deref-in-Step.ensures.value) (search rules)

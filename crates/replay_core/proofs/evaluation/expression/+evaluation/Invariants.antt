@@ -55,15 +55,6 @@ decreases-operate l = 5 * (weight (typed_of l.a.now) + weight (typed_of l.b.now)
 abbrev pub decreases-or : goal.decreases-or
 decreases-or l = 5 * (weight (typed_of l.a.now) + weight (typed_of l.b.now)) + 3
 
-abbrev pub decreases-read : goal.decreases-read
-decreases-read l = 5 * weights (typeds_of l.keys.now) + 4
-
-abbrev pub decreases-read_word : goal.decreases-read_word
-decreases-read_word l = 5 * weights (typeds_of l.keys.now) + 4
-
-abbrev pub decreases-step : goal.decreases-step
-decreases-step l = 5 * weights (typeds_of l.keys.now) + 4
-
 abbrev pub decreases-update : goal.decreases-update
 decreases-update l = 5 * (weights (typeds_of l.keys.now) + weight (typed_of l.a.now)) + 4
 

@@ -10,7 +10,7 @@ use Rattle.replay_core.specs.Patterns.{probe_of}
 use Rattle.replay_core.specs.Seen.{piece_seen}
 use Rattle.replay_core.specs.Threads.{threads_in}
 use Rattle.replay_core.specs.Steps.AllMade.{all_made}
-use Rattle.replay_core.proofs.FiringLemmas.{both, goes_on, places_within, some_same}
+use Rattle.replay_core.proofs.FiringLemmas.{goes_on, places_within, some_same}
 use Rattle.replay_core.proofs.FiringLemmas.{all_made_are}
 use Rattle.replay_core.proofs.SelectionLemmas.{zip_length}
 use Rattle.replay_core.proofs.ThreadLemmas.{typed_after}
@@ -45,15 +45,16 @@ returns-clause-step g c =
     let threads = threads_in c.args.self.now.threads.entries in
     let start = at_start (threads f.thread) in
     let fit = firing_is f c.requires.ranges in
-    on_ok_weaker c.run_on_thread.result (λ (notes, others) m runs selected typed.
+    IfOk-weaker c.run_on_thread.result _ _ (λ exits told m runs selected typed.
+    let run = told (slots_of m) m.clauses runs.clauses_mean fit (typed f.thread) in
     let made = all_made f m.clauses c.args.places.now start in
     let is : made ≡ firing_result m f (threads f.thread) =
     ap (λ l. all_made f m.clauses l start) selected ∙ all_made_are m f start in
     record {
-      threads = λ i thread. (others (slots_of m) m.clauses runs.clauses_mean fit (typed f.thread) thread ∙ ap (λ r. if int_eq thread f.thread then r.variables.own else threads thread) is) i;
+      threads = λ i thread. (run.threads thread ∙ ap (λ r. if int_eq thread f.thread then r.variables.own else threads thread) is) i;
       piece = goes_on m f threads made (piece_seen c.args.self.now.piece) _ (piece_seen c.run_on_thread.new.piece) is
-          (search rules) (notes (slots_of m) m.clauses runs.clauses_mean fit (typed f.thread));
-    }) (both _ _ c.run_on_thread.result c.run_on_thread.ensures.notes c.run_on_thread.ensures.threads)
+          (search rules) run.notes;
+    }) c.run_on_thread.ensures.run
 
 pub returns-clause-exits : goal.returns-clause-exits
 returns-clause-exits g c =
@@ -62,9 +63,10 @@ returns-clause-exits g c =
     let start = at_start (threads f.thread) in
     let fit = firing_is f c.requires.ranges in
     IfOk-weaker c.run_on_thread.result _ _ (λ exits told m runs selected typed.
+    let run = told (slots_of m) m.clauses runs.clauses_mean fit (typed f.thread) in
     let is : all_made f m.clauses c.args.places.now start ≡ firing_result m f (threads f.thread) =
     ap (λ l. all_made f m.clauses l start) selected ∙ all_made_are m f start in
-    told (slots_of m) m.clauses runs.clauses_mean fit (typed f.thread) ∙ ap (λ r. is_some r.exit) is ∙ some_same (λ status. (f.number, status)) (firing_result m f (threads f.thread)).exit) c.run_on_thread.ensures.exits
+    run.exited ∙ ap (λ r. is_some r.exit) is ∙ some_same (λ status. (f.number, status)) (firing_result m f (threads f.thread)).exit) c.run_on_thread.ensures.run
 
 pub returns-clause-typed : goal.returns-clause-typed
 returns-clause-typed g c =
@@ -72,9 +74,10 @@ returns-clause-typed g c =
     let threads = threads_in c.args.self.now.threads.entries in
     let start = at_start (threads f.thread) in
     let fit = firing_is f c.requires.ranges in
-    on_ok_weaker c.run_on_thread.result (λ others m runs selected typed thread.
+    IfOk-weaker c.run_on_thread.result _ _ (λ exits told m runs selected typed thread.
+    let run = told (slots_of m) m.clauses runs.clauses_mean fit (typed f.thread) in
     let is : all_made f m.clauses c.args.places.now start ≡ firing_result m f (threads f.thread) =
     ap (λ l. all_made f m.clauses l start) selected ∙ all_made_are m f start in
     let left : threads_in c.run_on_thread.new.threads.entries thread ≡ threads_after m f threads thread =
-    others (slots_of m) m.clauses runs.clauses_mean fit (typed f.thread) thread ∙ ap (λ r. if int_eq thread f.thread then r.variables.own else threads thread) is in
-    subst (AreTypedOwn (slots_of m)) (sym left) (typed_after m f threads runs.clauses_mean.keep fit typed thread)) c.run_on_thread.ensures.threads
+    run.threads thread ∙ ap (λ r. if int_eq thread f.thread then r.variables.own else threads thread) is in
+    subst (AreTypedOwn (slots_of m)) (sym left) (typed_after m f threads runs.clauses_mean.keep fit typed thread)) c.run_on_thread.ensures.run

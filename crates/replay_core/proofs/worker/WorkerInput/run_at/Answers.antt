@@ -38,7 +38,7 @@ loop-block-preserved g c =
     let inv = c.loop-block.invariant.3 in
     let block = c.in-Some.block.now in
     let steps = c.in-Some.ensures.steps in
-    let ran = c.in_ok-run_block.ensures in (
+    let ran = c.in-Ok.ensures in (
       search rules,
       tt,
       done ++ block,
