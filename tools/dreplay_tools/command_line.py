@@ -39,6 +39,11 @@ class CommandLine(argparse.ArgumentParser):
         self.exit(FAILED, f"{self.prog}: {said} ({self.prog} --help)\n")
 
 
+def after_title(doc):
+    """A doc without its first paragraph; nothing where Python drops docs (-OO)."""
+    return (doc or "").partition("\n\n")[2]
+
+
 def number(shown):
     """A number from 1 to 999999999."""
     if not shown.isascii() or not shown.isdigit() or not 0 < len(shown.lstrip("0")) < 10:

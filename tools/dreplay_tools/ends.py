@@ -5,7 +5,7 @@ import os
 import signal
 import sys
 
-MOST_SAID = 1000  # letters of a message
+MOST_SAID, MOST_OF_A_NAME = 1000, 800  # letters of a message, and of a file's name in it
 FAILED = 2  # a file or standard stream fails, memory runs out, or the command line is wrong
 INTERRUPTED = 128 + signal.SIGINT
 
@@ -21,7 +21,17 @@ class Failure(Exception):
 def reason(error):
     """An error of the system in words, with the file that it is about."""
     words = error.strerror or str(error) or type(error).__name__
-    return f"{error.filename}: {words}" if error.filename else words
+    return f"{shortened(str(error.filename), MOST_OF_A_NAME)}: {words}" if error.filename else words
+
+
+def standard_input():
+    """Standard input in bytes. Python takes a read that would block for the end, so it is made to
+    wait.
+    """
+    if sys.stdin is None:
+        raise Failure("standard input is closed")
+    os.set_blocking(sys.stdin.fileno(), True)
+    return sys.stdin.buffer
 
 
 def shortened(text, most=60):
@@ -48,7 +58,7 @@ class Tool:
         """Shows how far the work is, in one line that is written over, where standard error is a
         terminal.
         """
-        if sys.stderr is not None and sys.stderr.isatty():
+        if sys.stderr.isatty():
             self.progress_shown = True
             print(f"\r\x1b[K{self.name}: {what}", end="", file=sys.stderr, flush=True)
 
@@ -61,6 +71,8 @@ class Tool:
         """Runs main, which returns the exit status, and ends the process."""
         status = FAILED
         try:
+            if sys.stderr is None:  # it is closed, and print would take standard output
+                sys.stderr = open(os.devnull, "w")
             status = self.status_of(main)
             self.erase_progress()
             sys.stderr.flush()  # of argparse; before Python 3.9 lines waited there

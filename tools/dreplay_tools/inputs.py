@@ -6,13 +6,16 @@ import gzip
 import lzma
 import shutil
 import subprocess
-import sys
 import tempfile
 import zlib
 
-from .ends import Failure
+from .ends import Failure, standard_input
 
 GZIP, BZIP2, XZ, ZSTD = b"\x1f\x8b", b"BZh", b"\xfd7zXZ\x00", b"\x28\xb5\x2f\xfd"
+
+
+def damaged(shown):
+    return Failure(f"{shown}: its compression is damaged")
 
 
 def decompressed(file, shown):
@@ -52,7 +55,7 @@ def zstd(file, shown):
     except BrokenPipeError:
         pass
     if child.wait():
-        raise Failure(f"{shown}: its compression is damaged")
+        raise damaged(shown)
     spool.seek(0)
     return spool
 
@@ -62,12 +65,7 @@ def opened(path):
     input.
     """
     shown = "standard input" if path == "-" else path
-    if path == "-":
-        if sys.stdin is None:
-            raise Failure("standard input is closed")
-        file = sys.stdin.buffer
-    else:
-        file = open(path, "rb")
+    file = standard_input() if path == "-" else open(path, "rb")
     try:
         inner = decompressed(file, shown)
         if inner is None and file.seekable():
@@ -75,9 +73,13 @@ def opened(path):
         # What can be read only once is copied to a file that nobody else sees.
         spool = tempfile.TemporaryFile()
         shutil.copyfileobj(inner or file, spool, 1 << 20)
-    except (EOFError, lzma.LZMAError, zlib.error, gzip.BadGzipFile):
-        raise Failure(f"{shown}: its compression is damaged")
+    except (EOFError, lzma.LZMAError, zlib.error):
+        raise damaged(shown)
     except IsADirectoryError:
         raise Failure(f"{shown}: Is a directory")
+    except OSError as why:
+        if why.errno is None:  # it isn't of the system, but of gzip or bz2
+            raise damaged(shown)
+        raise
     spool.seek(0)
     return spool
