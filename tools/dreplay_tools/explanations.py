@@ -42,10 +42,10 @@ def lines(line, refusal, place, given):
     elif refusal is refusals.USAGE:
         guessed = guesses.of_usage(line)
     elif given.missing:
-        guessed = [f"{given.missing} doesn't exist"]
+        guessed = [f"{labels.printable(given.missing)} doesn't exist"]
     name = f" ({refusal.name})" if refusal.number else ""
     said = [f"Cause: {refusal.cause}", f"To do: {refusal.remedy}", *map(sentence, guessed)]
-    return [line + name, "", *shown, *said]
+    return [labels.printable(line) + name, "", *shown, *said]
 
 
 def sentence(guess):

@@ -14,9 +14,10 @@ from .trace import COLUMNS, TEXT_BYTES
 Probe = namedtuple("Probe", "provider module function name")
 FIRST = COLUMNS.index("provider")
 OWN = [Probe("dtrace", "", "", "BEGIN"), Probe("dtrace", "", "", "END")]
-MOST_LOOKED_AT = 3_000_000  # comparisons of a description with a probe
+MOST_LOOKED_AT = 2_000_000  # comparisons of a description with a probe, or of letters
 MOST_NEAR = 1000  # probes among which the nearest is sought
 MOST_LIKE = 64  # letters of a name that are compared
+MOST_PAIRS = 6_000_000  # of letters that are compared in all
 MOST_NAMED = 10
 NEVER = {
     "tick": (
@@ -55,17 +56,38 @@ def patterns(description):
 
 
 def matches(pattern, text):
-    """Whether a pattern is of a text: `*` is any bytes, `?` one, and nothing any text."""
+    """Whether a pattern is of a text: `*` is any bytes, `?` one, and nothing any text. Also how
+    many letters it took to compare.
+    """
     if pattern in ("", "*"):
-        return True
-    if "*" not in pattern and "?" not in pattern:
-        return pattern == text
+        return True, 0
+    if "?" in pattern:
+        return matches_by_letters(pattern, text)
+    first, *pieces = pattern.split("*")
+    if not pieces:
+        return pattern == text, 0
+    last = pieces.pop()
+    at, end, letters = len(first), len(text) - len(last), 0
+    if at > end or not text.startswith(first) or not text.endswith(last):
+        return False, 0
+    for piece in filter(None, pieces):
+        letters += (len(text) + 3) // 4  # they are compared faster than one by one
+        at = text.find(piece, at, end)
+        if at < 0:
+            return False, letters
+        at += len(piece)
+    return True, letters
+
+
+def matches_by_letters(pattern, text):
+    """The same, of any pattern."""
     pattern = re.sub(r"\*+", "*", pattern)
     if len(pattern) - pattern.count("*") > len(text):
-        return False
-    at = place = 0
+        return False, 0
+    at = place = letters = 0
     star = back = -1
     while at < len(text):
+        letters += 1
         if place < len(pattern) and pattern[place] == "*":
             star, back, place = place, at, place + 1
         elif place < len(pattern) and pattern[place] in ("?", text[at]):
@@ -74,8 +96,8 @@ def matches(pattern, text):
             back += 1
             at, place = back, star + 1
         else:
-            return False
-    return not pattern[place:].strip("*")
+            return False, letters
+    return not pattern[place:].strip("*"), letters
 
 
 class Looked:
@@ -83,6 +105,7 @@ class Looked:
 
     def __init__(self, script, probes):
         self.probes, self.known, self.left = [*OWN, *probes], {}, MOST_LOOKED_AT
+        self.pairs = MOST_PAIRS
         self.names = [set(names) for names in zip(*self.probes)]
         self.wrong, seen = [], set()
         for clause in script.clauses:
@@ -97,7 +120,7 @@ class Looked:
                 return False
         for probe in self.probes:
             self.left -= 1
-            if all(self.field(pattern, text) for pattern, text in zip(wanted, probe)):
+            if self.left <= 0 or all(map(self.field, wanted, probe)):
                 return True
         return False
 
@@ -106,7 +129,8 @@ class Looked:
         if key not in self.known:
             if len(self.known) > 500_000:
                 self.known.clear()
-            self.known[key] = matches(pattern, text)
+            self.known[key], letters = matches(pattern, text)
+            self.left -= letters
         return self.known[key]
 
     def lines(self):
@@ -138,10 +162,19 @@ class Looked:
         own = {shown(probe): probe for probe in self.probes[len(OWN) :][:MOST_NEAR]}
         best, most = None, 0.6
         for probe in own.values():
+            self.pairs -= pairs_of(wanted, probe)
+            if self.pairs <= 0:
+                break
             grade = like(wanted, probe)
             if grade > most:
                 best, most = probe, grade
         return best
+
+
+def pairs_of(wanted, probe):
+    """How many pairs of letters there are to compare."""
+    lengths = [[min(len(text), MOST_LIKE) for text in texts] for texts in (wanted, probe)]
+    return sum(a * b for a, b in zip(*lengths))
 
 
 def like(wanted, probe):

@@ -500,7 +500,8 @@ def found(line):
             )
             match = re.match(
                 pattern
-                + r"(?: line (?P<line>\d+)| row (?P<row>\d+)(?: column (?P<column>\d+))?)?(?!\d)",
+                + r"(?: line (?P<line>\d{1,9})"
+                r"| row (?P<row>\d{1,9})(?: column (?P<column>\d{1,9}))?)?(?!\d)",
                 line,
             )
             if match and (refusal is USAGE or match.end() == len(line)):
