@@ -175,6 +175,8 @@ def is_text(some, known):
         if after and some[after].text in ASSIGNING:
             if some[after].text != "=":
                 return False
+            if (some[0].text, some[2].text) in known:
+                return known[some[0].text, some[2].text]
             some = some[after + 1 :]
             continue
         chosen = question(some)
@@ -238,10 +240,10 @@ def assignments(some):
 
 
 def learn(some, known):
-    """Takes what the assignments of an expression say. Inner ones are known first, so it goes on
-    while one is learnt.
+    """Takes what the assignments of an expression say. Inner ones come last in it and are known
+    first, so it begins with the last, and goes on while one is learnt.
     """
-    waiting = list(assignments(some))
+    waiting = list(assignments(some))[::-1]
     while waiting:
         left = []
         for name, right in waiting:

@@ -177,7 +177,7 @@ def value(shown):
     if digits[:2] in ("0x", "0X"):
         number = int(digits[2:], 16)
     else:
-        if len(digits) > 30:
+        if len(digits.lstrip("0")) > 30:
             return None
         number = int(digits, 8) if digits[0] == "0" else int(digits)
     return number if number < 2**64 else None
