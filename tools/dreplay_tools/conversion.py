@@ -355,7 +355,7 @@ class Conversion:
         ahead.
         """
         if name in SPECIAL:
-            rest = self.lines.find(lambda line: self.rest_of(line, thread, name))
+            rest = self.lines.find(thread, lambda line: self.rest_of(line, thread, name))
             self.birth(thread, Call(name, shown + (rest or "")))
         begun = Begun(name, shown)
         if not self.rows.full and (self.wanted.all or self.wanted.row(name, time)):
@@ -369,8 +369,6 @@ class Conversion:
         """What a line has of a thread's call, if it resumes it; the empty text if the thread has
         ended.
         """
-        if not line.startswith((thread, "[pid")):
-            return None
         found = self.shape.line.fullmatch(line.rstrip("\r\n"))
         if not found or found[1] != thread:
             return None

@@ -9,6 +9,7 @@ from .tracepoints import switches
 
 MOST_NAMED = 10
 BETWEEN_PROGRESS = 65536
+RESERVED = "dtrace"  # a provider that no row may have
 NOTHING_CONVERTED, SOME_SKIPPED = 3, 1
 
 
@@ -63,14 +64,17 @@ class Events:
         if not (0 < event.thread <= MOST_NUMBER and 0 <= event.cpu <= MOST_NUMBER):
             raise BadEvent("the number of its thread, process or processor is out of range")
         probe = event.probe
+        if probe.provider == RESERVED:
+            raise BadEvent(f"its group is {RESERVED}, whose probes are BEGIN and END alone")
         if probe.lacking:
             self.lacking += 1
             self.lacks.setdefault(probe.function, f"line {place}: {probe.lacking}")
         args = ["" if value is None else str(value) for value in probe.args[:ARGS]]
         args += [""] * (ARGS - len(args))
         self.rows.add(
-            f",{event.cpu},{event.thread},{process},{named(event.name)},{time},{probe.provider},"
-            f"{cell(probe.module)},{cell(probe.function)},{probe.name},{','.join(args)}"
+            f",{event.cpu},{event.thread},{process},{named(event.name)},{time},"
+            f"{cell(probe.provider)},{cell(probe.module)},{cell(probe.function)},{probe.name},"
+            f"{','.join(args)}"
         )
 
     def time(self, event):

@@ -163,7 +163,7 @@ def thread_of(shown):
     if shown.endswith(")"):
         shown, _, inside = shown[:-1].rpartition("(")
         inside, shown = inside.strip(), shown.rstrip()
-        if inside.isdigit() and len(inside) <= 10:
+        if inside.isdigit() and inside.isascii() and len(inside) <= 10:
             process = int(inside)
         elif inside.strip("-"):
             return None

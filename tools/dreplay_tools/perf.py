@@ -112,11 +112,12 @@ def events_of_record(line, names, signs):
             )
         if "end" in record:
             return []
-        system, _, function = str(record["event"]).partition(":")
+        system, _, function = text_of(record["event"]).partition(":")
         thread, process, cpu, time = (whole(record[key]) for key in ("tid", "pid", "cpu", "time"))
-        name, fields, args = str(record["comm"]), record["fields"], record.get("args")
+        name, fields, args = text_of(record["comm"]), record["fields"], record.get("args")
         fields = {
-            key: with_sign(value, signs.get((function, key))) for key, value in fields.items()
+            key: with_sign(plain(value), signs.get((function, key)))
+            for key, value in fields.items()
         }
         probe = probe_of_fields(system, function, fields, args, names)
     except (ValueError, KeyError, TypeError, AttributeError, RecursionError):
@@ -129,6 +130,19 @@ def whole(value):
     if type(value) is not int:
         raise TypeError
     return value
+
+
+def text_of(value):
+    """A text, which has to have bytes."""
+    value.encode("utf-8", "surrogateescape")
+    return value
+
+
+def plain(value):
+    """A field's value: a number of 64 bits or a text; none for all else."""
+    if type(value) is str:
+        return text_of(value)
+    return value if type(value) is int and signed(value) is not None else None
 
 
 def with_sign(value, size):

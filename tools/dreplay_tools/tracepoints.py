@@ -192,9 +192,13 @@ def switches(event):
     on = Probe("sched", "", "on-cpu", [leaves])
     process = event.process if event.thread == leaves else None
     if leaves != 0:
-        yield Event(fields.get("prev_comm", ""), leaves, process, event.cpu, event.time, off)
+        yield Event(name_of(fields.get("prev_comm")), leaves, process, event.cpu, event.time, off)
     if comes != 0:
-        yield Event(fields.get("next_comm", ""), comes, None, event.cpu, event.time, on)
+        yield Event(name_of(fields.get("next_comm")), comes, None, event.cpu, event.time, on)
+
+
+def name_of(value):
+    return value if isinstance(value, str) else ""
 
 
 def number_of(value):
