@@ -46,7 +46,7 @@ class Job:
                 told["answered"],
             )
             return not self.is_answered or os.path.exists(self.answer)
-        except (OSError, ValueError, KeyError, TypeError):
+        except (OSError, ValueError, KeyError, TypeError, RecursionError):
             return False
 
     def run(self):
