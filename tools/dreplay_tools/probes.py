@@ -17,7 +17,7 @@ OWN = [Probe("dtrace", "", "", "BEGIN"), Probe("dtrace", "", "", "END")]
 MOST_LOOKED_AT = 2_000_000  # comparisons of a description with a probe, or of letters
 MOST_NEAR = 1000  # probes among which the nearest is sought
 MOST_LIKE = 64  # letters of a name that are compared
-MOST_PAIRS = 6_000_000  # of letters that are compared in all
+MOST_STEPS = 4_000_000  # of comparisons of names for the nearest, as steps_of counts them
 MOST_NAMED = 10
 NEVER = {
     "tick": (
@@ -105,7 +105,7 @@ class Looked:
 
     def __init__(self, script, probes):
         self.probes, self.known, self.left = [*OWN, *probes], {}, MOST_LOOKED_AT
-        self.pairs = MOST_PAIRS
+        self.steps = MOST_STEPS
         self.names = [set(names) for names in zip(*self.probes)]
         self.wrong, seen = [], set()
         for clause in script.clauses:
@@ -162,8 +162,8 @@ class Looked:
         own = {shown(probe): probe for probe in self.probes[len(OWN) :][:MOST_NEAR]}
         best, most = None, 0.6
         for probe in own.values():
-            self.pairs -= pairs_of(wanted, probe)
-            if self.pairs <= 0:
+            self.steps -= steps_of(wanted, probe)
+            if self.steps <= 0:
                 break
             grade = like(wanted, probe)
             if grade > most:
@@ -171,10 +171,10 @@ class Looked:
         return best
 
 
-def pairs_of(wanted, probe):
-    """How many pairs of letters there are to compare."""
+def steps_of(wanted, probe):
+    """About how many steps a comparison takes at worst, which grows by the third power."""
     lengths = [[min(len(text), MOST_LIKE) for text in texts] for texts in (wanted, probe)]
-    return sum(a * b for a, b in zip(*lengths))
+    return sum(a * b * (a + b) // 32 for a, b in zip(*lengths))
 
 
 def like(wanted, probe):
