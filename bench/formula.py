@@ -41,7 +41,7 @@ EACH = {
     "byte of a kept text": 1.1,
 }
 # What groups make. These terms count twice where a script exits.
-MADE_BY_PIECES = [
+MADE_BY_GROUPS = [
     "text",
     "byte of a text",
     "aggregation in a group",
@@ -51,6 +51,15 @@ MADE_BY_PIECES = [
     "byte of an entry's key",
     "entry of a histogram",
     "bucket",
+    "thread with tables",
+    "variable",
+    "further variable",
+    "clause-local variable",
+    "thread's array",
+    "element",
+    "further part of an element's key",
+    "kept text",
+    "byte of a kept text",
 ]
 # The bytes of a trace that several workers read at a time, unless a row is longer.
 READ_TOGETHER = 1 << 22
