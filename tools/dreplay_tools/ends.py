@@ -1,6 +1,8 @@
 """How a tool ends: every end is an exit status and at most a line on standard error, and never a
 traceback.
 """
+import contextlib
+import io
 import os
 import signal
 import sys
@@ -30,7 +32,8 @@ def standard_input():
     """
     if sys.stdin is None:
         raise Failure("standard input is closed")
-    os.set_blocking(sys.stdin.fileno(), True)
+    with contextlib.suppress(io.UnsupportedOperation):  # it has no descriptor, as in a test
+        os.set_blocking(sys.stdin.fileno(), True)
     return sys.stdin.buffer
 
 
