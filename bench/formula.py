@@ -5,7 +5,7 @@ EACH = {
     "run": 3_500_000,
     "worker": 400_000,
     "group": 800,
-    "byte read by several workers": 12,
+    "byte read by several workers": 14,
     "byte of the script": 190,
     "byte of the longest row": 4,
     "byte of the answer": 1.1,

@@ -1,10 +1,13 @@
 -- Traces and bundles that come in blocks.
 use Rattle.std.proofs.Common.{◌≡◌, ◌+◌, ◌<◌, ℕ, List, [], ◌++◌, sym, ap, ◌∙◌, subst, append_assoc}
 use Rattle.std.proofs.Common.{append-nil, inl, length, refl, take}
-use Rattle.std.specs.Prelude.{IfOk, IfSome, Option, Some, None, OnOk, Result, Ok, Err}
+use Rattle.std.specs.Prelude.{IfOk, IfSome, MatchResult, Option, Some, None, OnOk, Result, Ok, Err}
 use Rattle.firing_reader.specs.Blocks.{Taken}
 use Rattle.d_lexer.specs.declared.fault.LexFault.TheVariants as lex
+use Rattle.std.specs.declared.alloc.AllocError.{AllocError}
 use Rattle.report.specs.Intake.{TakesBlocks}
+use Rattle.report.specs.declared.reading.ReadFault.{ReadFault}
+use Rattle.report.specs.declared.reading.ReadFault.TheVariants as read_fault
 use Rattle.consumer.specs.Steps.Beginnings.{IsDividedAt, IsUndivided}
 use Rattle.consumer.specs.Blocks.{HasTaken, IsTakenApart, TakesTrace}
 use Rattle.consumer.specs.Bundle.{Divides}
@@ -26,6 +29,12 @@ on_ok_any (Err e) P h = tt
 on_ok_both : {A E : Type 0} (r : Result A E) (P Q R : Type 0) → (P → Q → R) → OnOk r P → OnOk r Q → OnOk r R
 on_ok_both (Ok a) P Q R f h k = f h k
 on_ok_both (Err e) P Q R f h k = tt
+
+-- what holds where memory was given, once it was
+pub was_given : (done : Result (Unit {0}) AllocError) (reported : Result (Unit {0}) ReadFault) (x : Unit {0}) (P : Type 0)
+    → MatchResult done (λ _. reported ≡ Ok tt) (λ _. reported ≡ Err read_fault.Memory) → reported ≡ Ok x → OnOk done P → P
+was_given (Ok _) reported x P is given p = p
+was_given (Err e) reported x P is given p = absurd cc
 
 -- ---- a trace
 
@@ -56,6 +65,12 @@ trace_takes old b n (TakesBlocks.more front block mid new front_taken step) =
           (λ h k rest. k rest ∙ h (block ++ rest) ∙ ap (reads old.trace) (sym (append_assoc front block rest)))
           before.taken after;
     }
+
+-- a row is taken out, the rows before it are read, bytes are added to it, and it is put back
+pub trace_beside : (old out read new : Taken) (row bytes : List ℕ) → ((rest : List ℕ) → reads out (row ++ rest) ≡ reads old rest) → ((rest : List ℕ) → reads read rest ≡ reads out rest)
+    → ((rest : List ℕ) → reads new rest ≡ reads read ((row ++ bytes) ++ rest)) → GoesOn old bytes new
+trace_beside old out read new row bytes back same put rest =
+    put rest ∙ same ((row ++ bytes) ++ rest) ∙ ap (reads out) (append_assoc row bytes rest) ∙ back (bytes ++ rest)
 
 -- from the start of a trace
 pub trace_begun : {R : Type 0} (old new : TraceIntake R) (first : List ℕ) → ((rest : List ℕ) → reads old.trace rest ≡ trace_of rest)
@@ -108,6 +123,15 @@ pub bundle_put : {R : Type 0} (first first' seen block : List ℕ) (o told put :
     → (bytes : List ℕ) → HasTaken first o bytes → HasTaken first' put (bytes ++ block)
 bundle_put {R = R} first first' seen block o told put same_put none is same h bytes had =
     subst (λ (t : Option (TraceIntake R)). HasTaken first' t (bytes ++ block)) (sym same_put) (bundle_told first first' seen block o told none is same h bytes had)
+
+-- where the trace takes blocks the bundle does
+pub bundle_blocks : {R A E : Type 0} (r : Result A E) (t t' : TraceIntake R) (old new : BundleIntake R) (bytes : List ℕ) → old.trace ≡ Some t
+    → new.first ≡ old.first → new.trace ≡ Some t'
+    → OnOk r (TakesBlocks (λ a block b. TakesTrace a.script b.script a.trace b.trace block) t bytes t')
+    → OnOk r (TakesBlocks (λ a block b. (bytes : List ℕ) → HasTaken a.first.items a.trace bytes → HasTaken b.first.items b.trace (bytes ++ block)) old bytes new)
+bundle_blocks {E = E} r t t' old new bytes is same_first is_new h =
+    on_ok r _ _ (λ taken. TakesBlocks.more [] bytes old new TakesBlocks.none
+    (rw (same_first, is_new) (bundle_goes {E = E} (Ok tt) old.first.items t t' old.trace bytes is (trace_takes t bytes t' taken)))) h
 
 -- blocks that come one after the other are one
 pub bundle_takes : {R : Type 0} (old : BundleIntake R) (input : List ℕ) (new : BundleIntake R)

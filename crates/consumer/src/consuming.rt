@@ -164,7 +164,13 @@ impl<'a, R: Threads + Wait + Sync, L: Layout> Consumer<'a, R, L> {
             → OnOk taken.entry.script (reads taken.entry.trace [] ≡ trace_of trace)
             → IsReplay L.shows script trace plan.now result }
     {
-        let TraceIntake { script, trace, .. } = taken;
+        let TraceIntake {
+            script,
+            trace,
+            block,
+            ..
+        } = taken;
+        drop(block);
         match script {
             Ok(script) => {
                 let read = trace.finish(self.rt);

@@ -3,7 +3,10 @@
 //! What is owned is dropped by name: in each function that drops a value at a scope's end, a proof
 //! goes through the variants of its type.
 
-ghost use Rattle.std.specs.Prelude.{◌≡◌, ◌++◌, [], ℕ, List, IfOk, IfSome, Err, OnOk};
+ghost use Rattle.std.specs.Prelude.{◌≡◌, ◌++◌, [], ℕ, List, IfOk, IfSome, Err, MatchResult, Ok};
+ghost use Rattle.std.specs.Prelude.{OnOk};
+ghost use Rattle.std.specs.{Io.KnownBytes.Consumes, Thread.IsSync};
+ghost use Rattle.report.specs.{Intake.TakesSome, Turns.GoesOn, Turns.IsTurn};
 ghost use Rattle.consumer.specs.Blocks.{IsTakenApart, HasTaken, TakesTrace};
 ghost use Rattle.consumer.specs.Judging.{IsJudged};
 ghost use Rattle.consumer.specs.Vocabulary.{Lex, reads, trace_of};
@@ -16,25 +19,28 @@ use crate::scripts::judge;
 use d_lexer::{LexFault, MOST_BYTES};
 use d_types::TypedScript;
 use firing_reader::Reader;
-use report::Intake;
+use report::{Feed, FeedIntake, Intake, ReadFault, Reading, read_block, take_next};
 use std::alloc::{AllocError, Global};
 use std::mem::replace;
-use std::thread::Threads;
+use std::thread::{Threads, join_mut};
 
 // The most bytes of a bundle up to its dividing line and with it, where the script is within the
 // limit. A dividing line has up to four.
 const MOST_UNDIVIDED: usize = MOST_BYTES + 4;
 
-// How many bytes of a trace several workers read at a time. Starting them takes little time beside
-// that.
+// How many bytes of a trace come while several workers read those before. Starting the workers
+// takes little time beside that.
 const SHARED_BLOCK: usize = 1 << 22;
+
+// How many bytes several workers read at least. The row that isn't whole is apart from them.
+const LEAST_SHARED: usize = SHARED_BLOCK / 2;
 
 // A reader that has taken nothing, for the workers of a plan. A single worker reads each block as
 // it comes.
 fn reader_for(alloc: Global, plan: &Plan) -> Result<Reader, AllocError>
     ensures { IfOk result (λ r. (rest : List ℕ) → reads r rest ≡ trace_of rest) }
 {
-    let least = if plan.workers < 2 { 1 } else { SHARED_BLOCK };
+    let least = if plan.workers < 2 { 1 } else { LEAST_SHARED };
     Reader::new(alloc, plan.hash_key, plan.workers, least)
 }
 
@@ -46,6 +52,10 @@ pub(crate) struct TraceIntake<'a, R> {
     pub(crate) script: Result<TypedScript, Refusal>,
     /// What was read of the trace.
     pub(crate) trace: Reader,
+    // Whether the next bytes come while others are read.
+    is_shared: bool,
+    /// The room for them.
+    pub(crate) block: Vec<u8>,
 }
 
 impl<'a, R: Threads> TraceIntake<'a, R> {
@@ -62,7 +72,7 @@ impl<'a, R: Threads> TraceIntake<'a, R> {
     {
         let trace = reader_for(alloc, plan)?;
         let script = judge(alloc, script);
-        Ok(TraceIntake { rt, script, trace })
+        Ok(TraceIntake::of(rt, alloc, plan, script, trace))
     }
 
     // Takes the trace of a script, of which the first bytes have come.
@@ -93,8 +103,91 @@ impl<'a, R: Threads> TraceIntake<'a, R> {
     {
         let trace = reader_for(alloc, plan)?;
         let script = Err(Refusal::Lex(LexFault::TooLong));
-        Ok(TraceIntake { rt, script, trace })
+        Ok(TraceIntake::of(rt, alloc, plan, script, trace))
     }
+
+    // Takes the trace of this script by this reader.
+    fn of(
+        rt: &'a R,
+        alloc: Global,
+        plan: &Plan,
+        script: Result<TypedScript, Refusal>,
+        trace: Reader,
+    ) -> TraceIntake<'a, R>
+        ensures { (result.script ≡ script) × (result.trace ≡ trace) }
+    {
+        TraceIntake {
+            rt,
+            script,
+            trace,
+            is_shared: plan.workers > 1,
+            block: Vec::new(alloc),
+        }
+    }
+}
+
+impl<'a, R: Threads + Sync> TraceIntake<'a, R> {
+    // Takes the next bytes of a feed while other threads read the rows that have come.
+    fn take_beside<F: Feed>(
+        &mut self,
+        feed: &mut F,
+        reading: &mut Reading,
+    ) -> Result<bool, ReadFault>
+        requires { GoesOn reading.old.calls_left (F.seen feed.old) }
+        ensures turn { IsTurn (F.seen feed.old) (F.seen feed.new)
+            reading.old.calls_left reading.new.calls_left result }
+        ensures taken { TakesSome (λ old block new.
+            TakesTrace old.script new.script old.trace new.trace block)
+            (F.seen feed.old).remaining (F.seen feed.new).remaining self.old self.new result }
+    {
+        refused(self.trace.take_out_row(&mut self.block))?;
+        let (read, given) = read_beside(self.rt, &mut self.trace, feed, reading, &mut self.block);
+        let ended = given?;
+        refused(read)?;
+        refused(self.trace.take_block(&mut self.block))?;
+        Ok(ended)
+    }
+}
+
+// How a reading reports that memory was refused.
+fn refused(done: Result<(), AllocError>) -> Result<(), ReadFault>
+    ensures { MatchResult done (λ _. result ≡ Ok tt) (λ _. result ≡ Err ReadFault.Memory) }
+{
+    done.map_err(|_| ReadFault::Memory)
+}
+
+// Reads the rows that have come in other threads, while this one adds what a feed gives to a block.
+fn read_beside<R: Threads + Sync, F: Feed>(
+    rt: &R,
+    trace: &mut Reader,
+    feed: &mut F,
+    reading: &mut Reading,
+    block: &mut Vec<u8>,
+) -> (Result<(), AllocError>, Result<bool, ReadFault>)
+    requires { GoesOn reading.old.calls_left (F.seen feed.old) }
+    ensures read { OnOk result.0 ((rest : List ℕ) → reads trace.new rest ≡ reads trace.old rest) }
+    ensures turn { IsTurn (F.seen feed.old) (F.seen feed.new)
+        reading.old.calls_left reading.new.calls_left result.1 }
+    ensures bytes { (bytes : List ℕ)
+        × Consumes (F.seen feed.old).remaining (F.seen feed.new).remaining bytes
+        × OnOk result.1 (block.new.items ≡ block.old.items ++ bytes) }
+{
+    join_mut(
+        rt,
+        &mut || -> Result<(), AllocError>
+            requires { IsSync R.row }
+            ensures { OnOk result
+                ((rest : List ℕ) → reads trace.exit.now rest ≡ reads trace.entry.now rest) }
+        { trace.read(rt) },
+        &mut || -> Result<bool, ReadFault>
+            requires { GoesOn reading.now.calls_left (F.seen feed.now) }
+            ensures turn { IsTurn (F.seen feed.entry.now) (F.seen feed.exit.now)
+                reading.entry.now.calls_left reading.exit.now.calls_left result }
+            ensures bytes { (bytes : List ℕ)
+                × Consumes (F.seen feed.entry.now).remaining (F.seen feed.exit.now).remaining bytes
+                × OnOk result (block.exit.now.items ≡ block.entry.now.items ++ bytes) }
+        { read_block(feed, reading, block, SHARED_BLOCK) },
+    )
 }
 
 impl<'a, R: Threads> Intake for TraceIntake<'a, R> {
@@ -106,6 +199,21 @@ impl<'a, R: Threads> Intake for TraceIntake<'a, R> {
             Ok(_) => self.trace.take(self.rt, block),
             Err(_) => Ok(()),
         }
+    }
+}
+
+impl<'a, R: Threads + Sync> FeedIntake for TraceIntake<'a, R> {
+    ghost may_read = { IsSync R.row };
+
+    fn take_from<F: Feed>(
+        &mut self,
+        feed: &mut F,
+        reading: &mut Reading,
+    ) -> Result<bool, ReadFault> {
+        if self.is_shared && self.script.is_ok() {
+            return self.take_beside(feed, reading);
+        }
+        take_next(self, feed, reading)
     }
 }
 
@@ -172,6 +280,21 @@ impl<'a, R: Threads> Intake for BundleIntake<'a, R> {
                 drop(none);
                 Ok(())
             }
+        }
+    }
+}
+
+impl<'a, R: Threads + Sync> FeedIntake for BundleIntake<'a, R> {
+    ghost may_read = { IsSync R.row };
+
+    fn take_from<F: Feed>(
+        &mut self,
+        feed: &mut F,
+        reading: &mut Reading,
+    ) -> Result<bool, ReadFault> {
+        match &mut self.trace {
+            Some(trace) => trace.take_from(feed, reading),
+            None => take_next(self, feed, reading),
         }
     }
 }

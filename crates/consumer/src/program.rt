@@ -3,10 +3,10 @@
 //! What is owned is dropped by name: in each function that drops a value at a scope's end, a proof
 //! goes through the variants of its type.
 
-ghost use Rattle.std.specs.Prelude.{◌≡◌, ◌⊎◌, IfOk, IsFalse, MatchResult, Some};
+ghost use Rattle.std.specs.Prelude.{◌≡◌, IfOk, IsFalse, MatchResult, Some};
 ghost use Rattle.consumer.specs.{Plans.IsInBounds};
 ghost use Rattle.consumer.specs.Program.{AreUnfailed, Ends, EndsUnasked, IsAsked, IsRunOf};
-ghost use Rattle.consumer.specs.Program.{IsCorrected, IsHelped, IsSpent, IsUnasked, streams_seen};
+ghost use Rattle.consumer.specs.Program.{IsUnasked, streams_seen};
 ghost use Rattle.consumer.specs.Steps.Program.{EndsAsked};
 ghost use Rattle.report.specs.Watched.{watched_calls, watched_has_failed, watched_inner};
 
@@ -211,9 +211,9 @@ fn show_help<F: Feed, S: Sink, E: Sink>(
     streams: &mut Streams<F, S, E>,
 ) -> u8
     requires { AreUnfailed (streams_seen F.seen S.seen E.seen streams.old) }
-    ensures ends { let old = streams_seen F.seen S.seen E.seen streams.old in
-        let new = streams_seen F.seen S.seen E.seen streams.new in
-        IsHelped old new result ⊎ IsSpent old new result }
+    ensures ends { EndsUnasked (UsageFault.Help help.now)
+        (streams_seen F.seen S.seen E.seen streams.old)
+        (streams_seen F.seen S.seen E.seen streams.new) result }
     ensures input { streams.new.input ≡ streams.old.input }
 {
     match format!(in alloc; "{help}") {
@@ -232,9 +232,9 @@ fn show_mistake<F: Feed, S: Sink, E: Sink>(
     streams: &mut Streams<F, S, E>,
 ) -> u8
     requires { AreUnfailed (streams_seen F.seen S.seen E.seen streams.old) }
-    ensures ends { let old = streams_seen F.seen S.seen E.seen streams.old in
-        let new = streams_seen F.seen S.seen E.seen streams.new in
-        IsCorrected old new result ⊎ IsSpent old new result }
+    ensures ends { EndsUnasked (UsageFault.Usage mistake.now)
+        (streams_seen F.seen S.seen E.seen streams.old)
+        (streams_seen F.seen S.seen E.seen streams.new) result }
     ensures input { streams.new.input ≡ streams.old.input }
 {
     match format!(in alloc; "{mistake}") {

@@ -12,7 +12,6 @@ use crate::aggregation::{WrittenAggregation, aggregate};
 use crate::expression::{expr, line_of};
 use crate::fault::TypeFault;
 use crate::needs::{REGISTERS, fits};
-use crate::operations::both;
 use crate::typed::{TypedAggregation, TypedClause, TypedExpr, TypedStmt};
 use crate::variables::Entry;
 use d_parser::{Clause, Description, Expr, Stmt};
@@ -121,7 +120,7 @@ pub(crate) fn clause(
 {
     let predicate = predicate(alloc, table, &clause.predicate)?;
     let statements = statements(alloc, table, aggs, &clause.statements);
-    let (predicate, statements) = both(predicate, statements)?;
+    let (predicate, statements) = statements.map(|statements| (predicate, statements))?;
     with_descriptions(alloc, &clause.descriptions, predicate, statements)
 }
 
@@ -138,11 +137,10 @@ fn with_descriptions(
       statements = actions_of statements.items;
     })) }
 {
-    let descriptions = Vec::from_clones(alloc, descriptions);
-    let ((predicate, statements), descriptions) = both((predicate, statements), descriptions)?;
-    Ok(TypedClause {
+    let clause = Vec::from_clones(alloc, descriptions).map(|descriptions| TypedClause {
         descriptions,
         predicate,
         statements,
-    })
+    })?;
+    Ok(clause)
 }

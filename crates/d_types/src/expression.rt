@@ -19,7 +19,7 @@ use crate::calls::call;
 use crate::constants::{int_type, integer, type_of_constant};
 use crate::fault::TypeFault;
 use crate::needs::{REGISTERS, fits};
-use crate::operations::{as_type, binary, both, choice, unary};
+use crate::operations::{as_type, binary, choice, unary};
 use crate::operators::{AssignSort, assign_sort, binary_sort};
 use crate::targets::{line_of_variable, read, space_of, target};
 use crate::typed::{Answer, TypedExpr};
@@ -190,7 +190,7 @@ fn binary_expr(
 {
     let x = expr(alloc, table, left)?;
     let y = expr(alloc, table, right);
-    let (x, y) = both(x, y)?;
+    let (x, y) = y.map(|y| (x, y))?;
     binary_rest(alloc, line_of(left), operator, x, y)
 }
 
@@ -331,9 +331,9 @@ fn choice_expr(
 {
     let x = expr(alloc, table, test)?;
     let y = expr(alloc, table, first);
-    let known = both(x, y)?;
+    let (x, y) = y.map(|y| (x, y))?;
     let z = expr(alloc, table, second);
-    let ((x, y), z) = both(known, z)?;
+    let (x, y, z) = z.map(|z| (x, y, z))?;
     choice_rest(alloc, line_of(test), x, y, z)
 }
 

@@ -1,10 +1,10 @@
 //! What operators make of typed operands. None where they don't take such operands.
 //!
-//! Operands that aren't taken are dropped by name, and `both` holds one while the next is made: in
-//! each function that drops a tree at a scope's end, a proof goes through the tree's variants.
+//! Operands that aren't taken are dropped by name, and the next result holds one while it is made:
+//! in each function that drops a tree at a scope's end, a proof goes through the tree's variants.
 
-ghost use Rattle.std.specs.Prelude.{◌≡◌, IfOk, IfErr, Ok, Err, option_map, Some};
-ghost use Rattle.d_types.specs.Vocabulary.{common_of, promoted_of, Int};
+ghost use Rattle.std.specs.Prelude.{◌≡◌, IfOk, option_map, Some};
+ghost use Rattle.d_types.specs.Vocabulary.{common_of, promoted_of, Int, Text};
 ghost use Rattle.d_types.specs.{Typed.typed_of, Typed.Typed, Typed.type_of};
 ghost use Rattle.d_types.specs.Steps.Faults.{OnlyMemory};
 ghost use Rattle.d_types.specs.Operators as spec;
@@ -13,9 +13,7 @@ use crate::fault::TypeFault;
 use crate::operators::BinarySort;
 use crate::typed::{LogicOperator, Operation, TypedExpr};
 use d_parser::UnaryOperator;
-use d_values::{
-    ArithmeticOperator, ComparisonOperator, DType, IntType, ShiftOperator, common, promotion_of,
-};
+use d_values::{ComparisonOperator, DType, IntType, ShiftOperator, common, promotion_of};
 use std::alloc::Global;
 
 /// A value in a box.
@@ -35,17 +33,6 @@ pub(crate) fn boxed_two<T: Drop>(alloc: Global, x: T, y: T) -> Result<(Box<T>, B
     let x = boxed(alloc, x)?;
     let y = boxed(alloc, y)?;
     Ok((x, y))
-}
-
-/// Two values, unless the second failed.
-pub(crate) fn both<A: Drop, B: Drop, E: Drop>(first: A, second: Result<B, E>) -> Result<(A, B), E>
-    ensures ok { IfOk result (λ two. (two.0 ≡ first) × (second ≡ Ok two.1)) }
-    ensures err { IfErr result (λ fault. second ≡ Err fault) }
-{
-    match second {
-        Ok(second) => Ok((first, second)),
-        Err(fault) => Err(fault),
-    }
 }
 
 /// An integer as one of another type.
@@ -81,9 +68,8 @@ fn in_common(
 {
     let to = common(t, u);
     let x = convert(alloc, t, to, x);
-    let (y, x) = both(y, x)?;
-    let y = convert(alloc, u, to, y);
-    both(x, y)
+    let (x, y) = x.map(|x| (x, y))?;
+    convert(alloc, u, to, y).map(|y| (x, y))
 }
 
 /// A value as one of a type.
@@ -160,68 +146,8 @@ fn operate(
     Ok(Some(TypedExpr::Operate(operation, x, y)))
 }
 
-fn arithmetic(
-    alloc: Global,
-    op: ArithmeticOperator,
-    x: TypedExpr,
-    y: TypedExpr,
-) -> Result<Option<TypedExpr>, TypeFault>
-    ensures ok { IfOk result
-        (λ z. option_map typed_of z ≡ spec.operation_by (BinarySort.Arithmetic op)
-        (type_of (typed_of x)) (type_of (typed_of y)) (typed_of x) (typed_of y)) }
-    ensures err { OnlyMemory result }
-{
-    match (x.type_of(), y.type_of()) {
-        (DType::Int(t), DType::Int(u)) => arithmetic_of(alloc, op, (t, u), x, y),
-        _ => {
-            drop(x);
-            drop(y);
-            Ok(None)
-        }
-    }
-}
-
-// Arithmetic of two integers of these types.
-fn arithmetic_of(
-    alloc: Global,
-    op: ArithmeticOperator,
-    types: (IntType, IntType),
-    x: TypedExpr,
-    y: TypedExpr,
-) -> Result<Option<TypedExpr>, TypeFault>
-    ensures ok { IfOk result (λ z. option_map typed_of z
-        ≡ spec.operation_by (BinarySort.Arithmetic op) (Int types.0) (Int types.1)
-        (typed_of x) (typed_of y)) }
-    ensures err { OnlyMemory result }
-{
-    let (t, u) = types;
-    let (x, y) = in_common(alloc, t, u, x, y)?;
-    operate(alloc, Operation::Arithmetic(op, common(t, u)), x, y)
-}
-
-fn shift(
-    alloc: Global,
-    op: ShiftOperator,
-    x: TypedExpr,
-    y: TypedExpr,
-) -> Result<Option<TypedExpr>, TypeFault>
-    ensures ok { IfOk result
-        (λ z. option_map typed_of z ≡ spec.operation_by (BinarySort.Shift op)
-        (type_of (typed_of x)) (type_of (typed_of y)) (typed_of x) (typed_of y)) }
-    ensures err { OnlyMemory result }
-{
-    match (x.type_of(), y.type_of()) {
-        (DType::Int(t), DType::Int(_)) => shift_of(alloc, op, t, x, y),
-        _ => {
-            drop(x);
-            drop(y);
-            Ok(None)
-        }
-    }
-}
-
 // A shift of an integer of this type.
-fn shift_of(
+fn shift(
     alloc: Global,
     op: ShiftOperator,
     t: IntType,
@@ -235,7 +161,7 @@ fn shift_of(
 {
     let promoted = promotion_of(t);
     let x = convert(alloc, t, promoted, x);
-    let (y, x) = both(y, x)?;
+    let (x, y) = x.map(|x| (x, y))?;
     operate(alloc, Operation::Shift(op, promoted), x, y)
 }
 
@@ -254,24 +180,6 @@ fn compare_integers(
     Ok(Some(TypedExpr::Compare(op, t, x, y)))
 }
 
-// A comparison of two integers of these types.
-fn compare_in_common(
-    alloc: Global,
-    op: ComparisonOperator,
-    types: (IntType, IntType),
-    x: TypedExpr,
-    y: TypedExpr,
-) -> Result<Option<TypedExpr>, TypeFault>
-    ensures ok { IfOk result (λ z. option_map typed_of z
-        ≡ spec.operation_by (BinarySort.Compare op) (Int types.0) (Int types.1)
-        (typed_of x) (typed_of y)) }
-    ensures err { OnlyMemory result }
-{
-    let (t, u) = types;
-    let (x, y) = in_common(alloc, t, u, x, y)?;
-    compare_integers(alloc, op, common(t, u), x, y)
-}
-
 fn compare_texts(
     alloc: Global,
     op: ComparisonOperator,
@@ -286,50 +194,7 @@ fn compare_texts(
     Ok(Some(TypedExpr::CompareText(op, x, y)))
 }
 
-fn compare(
-    alloc: Global,
-    op: ComparisonOperator,
-    x: TypedExpr,
-    y: TypedExpr,
-) -> Result<Option<TypedExpr>, TypeFault>
-    ensures ok { IfOk result
-        (λ z. option_map typed_of z ≡ spec.operation_by (BinarySort.Compare op)
-        (type_of (typed_of x)) (type_of (typed_of y)) (typed_of x) (typed_of y)) }
-    ensures err { OnlyMemory result }
-{
-    match (x.type_of(), y.type_of()) {
-        (DType::Int(t), DType::Int(u)) => compare_in_common(alloc, op, (t, u), x, y),
-        (DType::Text, DType::Text) => compare_texts(alloc, op, x, y),
-        _ => {
-            drop(x);
-            drop(y);
-            Ok(None)
-        }
-    }
-}
-
 fn logic(
-    alloc: Global,
-    op: LogicOperator,
-    x: TypedExpr,
-    y: TypedExpr,
-) -> Result<Option<TypedExpr>, TypeFault>
-    ensures ok { IfOk result
-        (λ z. option_map typed_of z ≡ spec.operation_by (BinarySort.Logic op)
-        (type_of (typed_of x)) (type_of (typed_of y)) (typed_of x) (typed_of y)) }
-    ensures err { OnlyMemory result }
-{
-    match (x.type_of(), y.type_of()) {
-        (DType::Int(_), DType::Int(_)) => logic_of(alloc, op, x, y),
-        _ => {
-            drop(x);
-            drop(y);
-            Ok(None)
-        }
-    }
-}
-
-fn logic_of(
     alloc: Global,
     op: LogicOperator,
     x: TypedExpr,
@@ -341,6 +206,54 @@ fn logic_of(
 {
     let (x, y) = boxed_two(alloc, x, y)?;
     Ok(Some(TypedExpr::Logic(op, x, y)))
+}
+
+// What an operator makes of two integers of these types.
+fn of_integers(
+    alloc: Global,
+    sort: BinarySort,
+    types: (IntType, IntType),
+    x: TypedExpr,
+    y: TypedExpr,
+) -> Result<Option<TypedExpr>, TypeFault>
+    ensures ok { IfOk result (λ z. option_map typed_of z
+        ≡ spec.operation_by sort (Int types.0) (Int types.1) (typed_of x) (typed_of y)) }
+    ensures err { OnlyMemory result }
+{
+    let (t, u) = types;
+    match sort {
+        BinarySort::Arithmetic(op) => {
+            let (x, y) = in_common(alloc, t, u, x, y)?;
+            operate(alloc, Operation::Arithmetic(op, common(t, u)), x, y)
+        }
+        BinarySort::Shift(op) => shift(alloc, op, t, x, y),
+        BinarySort::Compare(op) => {
+            let (x, y) = in_common(alloc, t, u, x, y)?;
+            compare_integers(alloc, op, common(t, u), x, y)
+        }
+        BinarySort::Logic(op) => logic(alloc, op, x, y),
+    }
+}
+
+// What an operator makes of two texts.
+fn of_texts(
+    alloc: Global,
+    sort: BinarySort,
+    x: TypedExpr,
+    y: TypedExpr,
+) -> Result<Option<TypedExpr>, TypeFault>
+    ensures ok { IfOk result (λ z. option_map typed_of z
+        ≡ spec.operation_by sort Text Text (typed_of x) (typed_of y)) }
+    ensures err { OnlyMemory result }
+{
+    match sort {
+        BinarySort::Compare(op) => compare_texts(alloc, op, x, y),
+        BinarySort::Arithmetic(_) | BinarySort::Shift(_) | BinarySort::Logic(_) => {
+            drop(x);
+            drop(y);
+            Ok(None)
+        }
+    }
 }
 
 /// What an operator makes of two operands.
@@ -355,11 +268,14 @@ pub(crate) fn binary(
         (type_of (typed_of y)) (typed_of x) (typed_of y)) }
     ensures err { OnlyMemory result }
 {
-    match sort {
-        BinarySort::Arithmetic(op) => arithmetic(alloc, op, x, y),
-        BinarySort::Shift(op) => shift(alloc, op, x, y),
-        BinarySort::Compare(op) => compare(alloc, op, x, y),
-        BinarySort::Logic(op) => logic(alloc, op, x, y),
+    match (x.type_of(), y.type_of()) {
+        (DType::Int(t), DType::Int(u)) => of_integers(alloc, sort, (t, u), x, y),
+        (DType::Text, DType::Text) => of_texts(alloc, sort, x, y),
+        _ => {
+            drop(x);
+            drop(y);
+            Ok(None)
+        }
     }
 }
 
@@ -375,24 +291,8 @@ fn choice_of(
     ensures err { OnlyMemory result }
 {
     let sides = boxed_two(alloc, y, z);
-    let (x, sides) = both(x, sides)?;
-    choice_between(alloc, t, x, sides)
-}
-
-// A choice between two that are in boxes.
-fn choice_between(
-    alloc: Global,
-    t: DType,
-    x: TypedExpr,
-    sides: (Box<TypedExpr>, Box<TypedExpr>),
-) -> Result<Option<TypedExpr>, TypeFault>
-    ensures ok { IfOk result (λ w. option_map typed_of w
-        ≡ Some (Typed.Choice t (typed_of x) (typed_of sides.0.value) (typed_of sides.1.value))) }
-    ensures err { OnlyMemory result }
-{
-    let x = boxed(alloc, x)?;
-    let (y, z) = sides;
-    Ok(Some(TypedExpr::Choice(t, x, y, z)))
+    let (x, (y, z)) = sides.map(|sides| (x, sides))?;
+    boxed(alloc, x).map(|x| Some(TypedExpr::Choice(t, x, y, z)))
 }
 
 // A choice between two integers of these types.
@@ -411,7 +311,7 @@ fn choice_in_common(
 {
     let (t, u) = types;
     let sides = in_common(alloc, t, u, y, z);
-    let (x, (y, z)) = both(x, sides)?;
+    let (x, (y, z)) = sides.map(|sides| (x, sides))?;
     choice_of(alloc, DType::Int(common(t, u)), x, y, z)
 }
 

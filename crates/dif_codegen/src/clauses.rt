@@ -3,8 +3,8 @@
 ghost use Rattle.std.specs.Prelude.{◌≡◌, IfOk, map};
 ghost use Rattle.d_types.specs.{Fitting.FitsRegisters, TypedScripts.typed_script_of};
 ghost use Rattle.d_types.specs.Held.{IsConsistent, Slots};
-ghost use Rattle.d_types.specs.Typed.{action_of, actions_of, meant_of, typed_of, typeds_of};
-ghost use Rattle.d_types.specs.Typed.{typed_argument, Evaluate, Trace, Print, Exit, Aggregate};
+ghost use Rattle.d_types.specs.Typed.{action_of, actions_of, meant_of, typed_argument, typeds_of};
+ghost use Rattle.d_types.specs.Typed.{Aggregate, Print};
 ghost use Rattle.d_types.specs.Wholes.{ActionIs, ActionsAre, ClauseIs, ClausesAre, EachIs};
 ghost use Rattle.dif_codegen.specs.{Meaning.IsProgramOf};
 ghost use Rattle.dif_codegen.specs.Programs.{action_code, clause_code};
@@ -15,36 +15,6 @@ use crate::compiling::{compile_expression, compile_expressions, compile_optional
 use crate::program::{Action, CompiledClause, Program};
 use d_types::{Piece, TypedClause, TypedExpr, TypedScript, TypedStmt};
 use std::alloc::{AllocError, Global};
-
-// An expression, for its assignments.
-fn compile_plain(alloc: Global, e: &TypedExpr) -> Result<Action, AllocError>
-    requires few { FitsRegisters (typed_of e.now) }
-    requires consistent { (slots : Slots) × IsConsistent slots (typed_of e.now) }
-    ensures { IfOk result (λ a. action_code a ≡ compiled_action (Evaluate (typed_of e.now))) }
-{
-    let object = compile_expression(alloc, e)?;
-    Ok(Action::Plain(object))
-}
-
-// `trace(value)`
-fn compile_trace(alloc: Global, e: &TypedExpr) -> Result<Action, AllocError>
-    requires few { FitsRegisters (typed_of e.now) }
-    requires consistent { (slots : Slots) × IsConsistent slots (typed_of e.now) }
-    ensures { IfOk result (λ a. action_code a ≡ compiled_action (Trace (typed_of e.now))) }
-{
-    let object = compile_expression(alloc, e)?;
-    Ok(Action::Trace(object))
-}
-
-// `exit(status)`
-fn compile_exit(alloc: Global, e: &TypedExpr) -> Result<Action, AllocError>
-    requires few { FitsRegisters (typed_of e.now) }
-    requires consistent { (slots : Slots) × IsConsistent slots (typed_of e.now) }
-    ensures { IfOk result (λ a. action_code a ≡ compiled_action (Exit (typed_of e.now))) }
-{
-    let object = compile_expression(alloc, e)?;
-    Ok(Action::Exit(object))
-}
 
 // `printf(format, arguments)`
 fn compile_printf(
@@ -87,10 +57,10 @@ fn compile_statement(alloc: Global, s: &TypedStmt) -> Result<Action, AllocError>
     ensures { IfOk result (λ a. action_code a ≡ compiled_action (action_of s.now)) }
 {
     match s {
-        TypedStmt::Evaluate(e) => compile_plain(alloc, e),
-        TypedStmt::Trace(e) => compile_trace(alloc, e),
+        TypedStmt::Evaluate(e) => compile_expression(alloc, e).map(Action::Plain),
+        TypedStmt::Trace(e) => compile_expression(alloc, e).map(Action::Trace),
         TypedStmt::Print(format, arguments) => compile_printf(alloc, format, arguments),
-        TypedStmt::Exit(e) => compile_exit(alloc, e),
+        TypedStmt::Exit(e) => compile_expression(alloc, e).map(Action::Exit),
         TypedStmt::Aggregate(place, keys, argument) => {
             compile_aggregate(alloc, *place, keys, argument)
         }

@@ -2,4 +2,3 @@
 -- definitions.
 pub mod Validity
 pub mod Pass
-pub mod Texts

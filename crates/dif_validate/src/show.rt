@@ -3,7 +3,6 @@
 ghost use Rattle.std.specs.Fmt.{decimal, WritesOnOk};
 ghost use Rattle.std.specs.Prelude.{◌≡◌, Some};
 ghost use Rattle.dif_validate.specs.Texts as spec;
-ghost use Rattle.dif_validate.specs.Steps.Texts as steps;
 
 use crate::instruction::{Condition, Function, Instr, Operator};
 use crate::register::Reg;
@@ -186,7 +185,7 @@ fn call<W: fmt::Write>(
 
 impl Instr {
     fn name(self) -> &'static str
-        ensures { result.now ≡ steps.instr_name self }
+        ensures { result.now ≡ spec.instr_name self }
     {
         match self {
             Instr::Alu(op, _, _, _) => op.name(),

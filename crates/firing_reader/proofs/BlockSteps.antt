@@ -1,7 +1,7 @@
 -- What a step of reading blocks does.
 use Rattle.std.proofs.Common.{◌≡◌, ◌≢◌, ◌<◌, ◌≤◌, ◌+◌, ◌-◌, ℕ, suc, Bool, true, false, List, []}
 use Rattle.std.proofs.Common.{◌∷◌, ◌++◌, length, take, drop, Some, Ok, Err, refl, sym, ap, ◌∙◌}
-use Rattle.std.proofs.Common.{append_assoc, arith, add-one, inl, inr, length-append, length-drop}
+use Rattle.std.proofs.Common.{append_assoc, arith, add-one, subst, zero, inl, inr, length-append, length-drop}
 use Rattle.std.proofs.Common.{take_all}
 use lib.Seq.{paste}
 use Rattle.std.proofs.Math.Seq.{drop-append-add}
@@ -12,11 +12,12 @@ use Rattle.csv.specs.Reading.{default_config, is_bom, records, strip_bom}
 use Rattle.csv.specs.declared.parser.State.TheVariants as st
 use Rattle.firing_reader.specs.declared.blocks.Stage.{Stage}
 use Rattle.firing_reader.specs.declared.blocks.Stage.TheVariants as stage
-use Rattle.std.specs.Prelude.{◌⊎◌, IfErr, OnOk, Result}
+use Rattle.std.specs.Prelude.{◌⊎◌, IfErr, OnErr, OnOk, Result}
+use Rattle.std.specs.declared.alloc.AllocError.{AllocError}
 use Rattle.firing_reader.specs.declared.fault.TraceFault.{TraceFault}
 use Rattle.firing_reader.specs.declared.fault.TraceFault.TheVariants.{Memory}
 use Rattle.firing_reader.specs.declared.firing.Firing.{Firing}
-use Rattle.firing_reader.specs.Blocks.{AreRead, IsKeptAt}
+use Rattle.firing_reader.specs.Blocks.{AreRead, BeginsAtFeed, IsKeptAt, Taken, reads_at}
 use Rattle.firing_reader.specs.Steps.Blocks.{Begins, IsFaultOf}
 use Rattle.firing_reader.specs.Left.{left_in}
 use Rattle.firing_reader.specs.Plain.{rows_after, rows_in}
@@ -205,6 +206,36 @@ pub kept_more : (s : Stage) (fs : List Firing) (x block : List ℕ) → IsKeptAt
 kept_more stage.Header fs x block h = h
 kept_more stage.Rows fs x block ((after, is), are_read) = ((after ++ block, ap (λ (l : List ℕ). l ++ block) is), are_read)
 kept_more (stage.Refused e) fs x block h = h
+
+abbrev pub with_left : Stage → List Firing → List ℕ → Taken
+with_left s fs x = record { stage = s; firings = fs; left = x }
+
+-- the bytes up to a place after the first
+pub kept_front : (s : Stage) (fs : List Firing) (x : List ℕ) (at : ℕ) → (0 < length x → 0 < at) → IsKeptAt s fs x → IsKeptAt s fs (take at x)
+kept_front stage.Header fs x at some h = h
+kept_front stage.Rows fs x zero some ((after, is), are_read) = absurd (omega (arith, some (omega (arith, ap length is))))
+kept_front stage.Rows fs x (suc at) some ((after, is), are_read) = ((take at after, ap (take (suc at)) is), are_read)
+kept_front (stage.Refused e) fs x at some h = h
+
+-- a block after them, but for its line feed
+pub kept_added : (r : Result (Unit {0}) AllocError) (s : Stage) (fs : List Firing) (x block y : List ℕ) → BeginsAtFeed block
+    → OnOk r ((bytes : List ℕ) → block ≡ 10 ∷ bytes → y ≡ x ++ bytes) → OnErr r (y ≡ x) → IsKeptAt s fs x → IsKeptAt s fs y
+kept_added (Ok _) s fs x block y (bytes, is) added refused h = subst (IsKeptAt s fs) (sym (added bytes is)) (kept_more s fs x bytes h)
+kept_added (Err e) s fs x block y feed added refused h = subst (IsKeptAt s fs) (sym refused) h
+
+pub reads_added : (r : Result (Unit {0}) AllocError) (s : Stage) (fs : List Firing) (x block y : List ℕ) → OnOk r ((bytes : List ℕ) → block ≡ 10 ∷ bytes → y ≡ x ++ bytes)
+    → OnOk r ((bytes rest : List ℕ) → block ≡ 10 ∷ bytes → reads_at s fs (y ++ rest) ≡ reads_at s fs (x ++ (bytes ++ rest)))
+reads_added (Ok _) s fs x block y added = λ bytes rest is. ap (reads_at s fs) (ap (λ (l : List ℕ). l ++ rest) (added bytes is) ∙ append_assoc x bytes rest)
+reads_added (Err e) s fs x block y added = tt
+
+pub same_left : (r : Result (Unit {0}) AllocError) (s : Stage) (fs : List Firing) (x y : List ℕ) → OnErr r (y ≡ x)
+    → OnErr r (with_left s fs y ≡ with_left s fs x)
+same_left (Ok _) s fs x y refused = tt
+same_left (Err e) s fs x y refused = ap (with_left s fs) refused
+
+-- a row that is taken out, and then put back
+pub row_back : (s : Stage) (fs : List Firing) (x : List ℕ) (at : ℕ) (rest : List ℕ) → reads_at s fs (take at x ++ (drop at x ++ rest)) ≡ reads_at s fs (x ++ rest)
+row_back s fs x at rest = ap (reads_at s fs) (sym (append_assoc (take at x) (drop at x) rest) ∙ ap (λ (l : List ℕ). l ++ rest) (take-append-drop at x))
 
 pub begins_then : (x : List ℕ) (fs : List Firing) (y : List ℕ) (gs : List Firing) (z : List ℕ) → Begins x fs y → GoesOn fs y gs z → (tail : List ℕ) → rows_in gs (z ++ tail) ≡ trace_of (x ++ tail)
 begins_then x fs y gs z h g tail = sym (h.goes_on tail ∙ goes_reads fs y gs z g tail)

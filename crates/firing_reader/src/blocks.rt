@@ -1,7 +1,7 @@
 //! Reading a trace that comes in blocks.
 
 ghost use Rattle.std.specs.Prelude.{◌≡◌, ◌≢◌, ◌<◌, ◌≤◌, ◌+◌, ◌++◌, ◌∷◌, [], ℕ, List, OnOk, OnErr};
-ghost use Rattle.std.specs.Prelude.{IfOk, IfErr, IfSome, MatchBool, MatchResult, drop, length};
+ghost use Rattle.std.specs.Prelude.{IfOk, IfErr, IfSome, MatchBool, drop, length, true};
 ghost use Rattle.firing_reader.specs.{Vocabulary.Memory, Gives.Gives, Gives.GivesBy};
 ghost use Rattle.firing_reader.specs.Trace.{IsTrace, trace_of};
 ghost use Rattle.firing_reader.specs.Blocks.{AreRead, BeginsAtFeed, IsKeptAt};
@@ -23,6 +23,7 @@ use crate::trace::Trace;
 use keyed_hash::HashKey;
 use std::alloc::{AllocError, Global};
 use std::marker::Model;
+use std::mem::swap;
 use std::thread::Threads;
 
 // What a reader reads next.
@@ -128,10 +129,48 @@ impl Reader {
                 TraceFault::Memory,
             );
         }
-        if self.left.len() < self.enough {
-            return Ok(());
-        }
         self.read(rt)
+    }
+
+    /// Moves the row that isn't whole to a block, after a line feed. Then one thread can add to the
+    /// block while another reads the rows before it.
+    ///
+    /// ```text
+    /// // the header, a row, and `2,0,7,`
+    /// let mut block = Vec::new(alloc);
+    /// reader.take_out_row(&mut block)?; // the block is a line feed and `2,0,7,`
+    /// reader.read(&rt)?; // by one thread, while another adds `700,cat,..` to the block
+    /// reader.take_block(&mut block)?;
+    /// ```
+    pub fn take_out_row(&mut self, block: &mut Vec<u8>) -> Result<(), AllocError>
+        ensures row { OnOk result ((row : List ℕ) × (block.new.items ≡ 10 ∷ row)
+            × ((rest : List ℕ) → reads self.new (row ++ rest) ≡ reads self.old rest)) }
+        ensures refused { OnErr result (self.new ≡ self.old) }
+    {
+        let at = after_last_feed(&self.left);
+        block.clear();
+        block.push(b'\n')?;
+        block.extend_from_slice(&self.left[at..])?;
+        self.left.truncate(at);
+        Ok(())
+    }
+
+    /// Takes the bytes of a block after the line feed that it begins with, and reads nothing yet.
+    /// It leaves another room to the block where it can keep the block's own.
+    ///
+    /// ```text
+    /// reader.take_block(&mut block)?; // as `take` of its bytes from 1 on, but reads later
+    /// ```
+    pub fn take_block(&mut self, block: &mut Vec<u8>) -> Result<(), AllocError>
+        requires { BeginsAtFeed block.old.items }
+        ensures taken { OnOk result ((bytes rest : List ℕ) → block.old.items ≡ 10 ∷ bytes
+            → reads self.new rest ≡ reads self.old (bytes ++ rest)) }
+        ensures refused { OnErr result (self.new ≡ self.old) }
+    {
+        match self.stage {
+            Stage::Header | Stage::Rows => add_block(&mut self.left, block),
+            Stage::Refused(_) => Ok(()),
+        }
     }
 
     /// The trace of all blocks, or its first fault, exactly as `read_trace` returns it.
@@ -162,11 +201,19 @@ impl Reader {
         Ok(Trace::of(firings))
     }
 
-    // Reads what is whole.
-    fn read<R: Threads>(&mut self, rt: &R) -> Result<(), AllocError>
+    /// Reads the rows that are whole, once there are as many bytes as are read at a time. Where
+    /// memory is refused, the reader can only return that.
+    ///
+    /// ```text
+    /// reader.read(&rt)?; // what `finish` returns stays the same
+    /// ```
+    pub fn read<R: Threads>(&mut self, rt: &R) -> Result<(), AllocError>
         ensures taken { OnOk result ((rest : List ℕ) → reads self.new rest ≡ reads self.old rest) }
         ensures refused { OnErr result (self.new.stage ≡ Refused Memory) }
     {
+        if self.left.len() < self.enough {
+            return Ok(());
+        }
         let context = Context {
             rt,
             alloc: self.alloc,
@@ -187,6 +234,44 @@ impl Reader {
             Err(fault) => refuse(self.alloc, &mut self.stage, &mut self.left, fault),
         }
     }
+}
+
+// How many bytes there are up to the last line feed and with it; all of them where there is none.
+fn after_last_feed(bytes: &[u8]) -> usize
+    ensures within { result ≤ length bytes.now }
+    ensures some { 0 < length bytes.now → 0 < result }
+{
+    for at in (0..bytes.len()).rev() {
+        if bytes[at] == b'\n' {
+            return at + 1;
+        }
+    }
+    bytes.len()
+}
+
+// Whether these bytes are one line feed.
+fn is_feed(bytes: &[u8]) -> bool
+    ensures { result ≡ true → bytes.now ≡ 10 ∷ [] }
+{
+    match bytes {
+        [b'\n'] => true,
+        _ => false,
+    }
+}
+
+// Adds the bytes of a block after the line feed that it begins with. Where they come after a line
+// feed, the block is kept.
+fn add_block(left: &mut Vec<u8>, block: &mut Vec<u8>) -> Result<(), AllocError>
+    requires { BeginsAtFeed block.old.items }
+    ensures added { OnOk result ((bytes : List ℕ) → block.old.items ≡ 10 ∷ bytes
+        → left.new.items ≡ left.old.items ++ bytes) }
+    ensures refused { OnErr result (left.new.items ≡ left.old.items) }
+{
+    if is_feed(left) {
+        swap(left, block);
+        return Ok(());
+    }
+    left.extend_from_slice(&block[1..])
 }
 
 // Keeps nothing but a fault, and returns it if memory was refused.

@@ -1,16 +1,31 @@
 -- What takes blocks.
-use Rattle.std.proofs.Common.{Global, ◌≡◌, ℕ, List, [], ◌++◌, Option, IfSome, refl, sym, ap, ◌∙◌}
+use Rattle.std.proofs.Common.{Global, ◌≡◌, ℕ, Bool, List, [], ◌++◌, Ok, Option, IfSome, refl, sym}
+use Rattle.std.proofs.Common.{ap, ◌∙◌}
 use Rattle.std.proofs.Common.{subst, append_assoc, append-nil}
 use Rattle.std.proofs.KnownBytes.{Consumes-all, Consumes-trans}
 use Rattle.std.specs.Io.KnownBytes.{Consumes, IsAtEnd}
 use Rattle.std.specs.declared.vec.Vec.{Vec}
-use Rattle.report.specs.Intake.{TakesBlocks, TakesInput}
+use Rattle.report.specs.Intake.{TakesBlocks, TakesInput, TakesSome}
 
--- at the end of a feed what it gave is all that it had
-pub all_given : (a b c : Option (List ℕ)) (input block : List ℕ) → Consumes a b input → Consumes b c block → block ≡ [] → IsAtEnd c → IfSome a (λ all. input ≡ all)
-all_given a b c input block p q none end =
-    let all : Consumes a c input = subst (Consumes a c) (ap (λ (l : List ℕ). input ++ l) none ∙ append-nil input) (Consumes-trans a b c input block p q) in
-    Consumes-all a c input [] input all end refl
+-- blocks after blocks
+takes_both : {T : Type 0} (Takes : T → List ℕ → T → Type 0) (old : T) (front : List ℕ) (mid : T) (more : List ℕ) (new : T) → TakesBlocks Takes old front mid
+    → TakesBlocks Takes mid more new → TakesBlocks Takes old (front ++ more) new
+takes_both Takes old front mid b n first TakesBlocks.none = subst (λ bytes. TakesBlocks Takes old bytes mid) (sym (append-nil front)) first
+takes_both Takes old front mid b n first (TakesBlocks.more more block last new taken step) =
+    subst (λ bytes. TakesBlocks Takes old bytes new) (append_assoc front more block)
+    (TakesBlocks.more (front ++ more) block last new (takes_both Takes old front mid more last first taken) step)
+
+-- some of a feed, and then some more
+pub takes_more : {T : Type 0} (Takes : T → List ℕ → T → Type 0) (a b c : Option (List ℕ)) (old mid new : T) (ended : Bool) → (input : List ℕ) × Consumes a b input × TakesBlocks Takes old input mid
+    → TakesSome Takes b c mid new (Ok ended) → (input : List ℕ) × Consumes a c input × TakesBlocks Takes old input new
+takes_more Takes a b c old mid new ended (front, given, taken) s =
+    (front ++ s.input, Consumes-trans a b c front s.input given s.given, takes_both Takes old front mid s.input new taken s.taken)
+
+-- at the end of a feed it has taken all
+pub takes_all : {T : Type 0} (Takes : T → List ℕ → T → Type 0) (a c : Option (List ℕ)) (old new : T) → (input : List ℕ) × Consumes a c input × TakesBlocks Takes old input new → IsAtEnd c
+    → TakesInput Takes a old new
+takes_all Takes a c old new (input, given, taken) end =
+    record { input = input; read = Consumes-all a c input [] input given end refl; taken = taken }
 
 -- a vector gets the bytes of all blocks
 vec_takes : (old : Vec ℕ Global) (bytes : List ℕ) (new : Vec ℕ Global) → TakesBlocks (λ a block b. b.items ≡ a.items ++ block) old bytes new
@@ -25,3 +40,10 @@ pub vec_input : (remaining : Option (List ℕ)) (old new : Vec ℕ Global) → o
 vec_input remaining old new empty h =
     let is : new.items ≡ h.input = vec_takes old h.input new h.taken ∙ ap (λ (l : List ℕ). l ++ h.input) empty in
     rw is h.read
+
+-- a vector with some of a feed's bytes, and then with more
+pub vec_more : (a b c : Option (List ℕ)) (old mid new : Vec ℕ Global) (ended : Bool) → (bytes : List ℕ) × Consumes a b bytes × (mid.items ≡ old.items ++ bytes)
+    → TakesSome (λ a block b. b.items ≡ a.items ++ block) b c mid new (Ok ended) → (bytes : List ℕ) × Consumes a c bytes × (new.items ≡ old.items ++ bytes)
+vec_more a b c old mid new ended (front, given, is) s =
+    let all : new.items ≡ mid.items ++ s.input = vec_takes mid s.input new s.taken in
+    (front ++ s.input, Consumes-trans a b c front s.input given s.given, all ∙ ap (λ (l : List ℕ). l ++ s.input) is ∙ append_assoc old.items front s.input)

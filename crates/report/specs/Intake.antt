@@ -1,5 +1,7 @@
 -- Intakes, which take the bytes of a feed block by block.
-use Rattle.std.specs.Prelude.{◌≡◌, ℕ, ◌++◌, Option, List, [], IfSome}
+use Rattle.std.specs.Prelude.{◌≡◌, ℕ, ◌++◌, Bool, Option, List, Result, [], IfSome, OnOk}
+use Rattle.std.specs.Io.KnownBytes.{Consumes}
+use Rattle.report.specs.declared.reading.ReadFault.{ReadFault}
 
 -- it takes blocks, one after the other, which together are these bytes
 pub data TakesBlocks {T : Type 0} (Takes : T → List ℕ → T → Type 0) (old : T)
@@ -14,3 +16,11 @@ pub record TakesInput {T : Type 0} (Takes : T → List ℕ → T → Type 0)
   pub input : List ℕ
   pub read : IfSome remaining (λ all. input ≡ all)
   pub taken : TakesBlocks Takes old input new
+
+-- it takes what a feed with these bytes gives, up to those that remain
+pub record TakesSome {T : Type 0} (Takes : T → List ℕ → T → Type 0)
+    (remaining remaining' : Option (List ℕ)) (old new : T) (result : Result Bool ReadFault)
+    : Type 0 where
+  pub input : List ℕ
+  pub given : Consumes remaining remaining' input
+  pub taken : OnOk result (TakesBlocks Takes old input new)

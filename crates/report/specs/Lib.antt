@@ -8,5 +8,6 @@ pub mod Listing
 pub mod Output
 pub mod Report
 pub mod Stream
+pub mod Turns
 pub mod Watched
 pub mod Steps

@@ -15,7 +15,9 @@ pub mod stream;
 pub mod watched;
 pub mod writing;
 
-pub use reading::{Intake, ReadFault, read_into, read_to_end};
+pub use reading::{
+    FeedIntake, Intake, ReadFault, Reading, read_block, read_into, read_to_end, take_next,
+};
 pub use rendering::render;
 pub use report::Report;
 pub use stream::{Failed, Feed, Sink};

@@ -1,9 +1,10 @@
 //! Reading a feed to its end.
-ghost use Rattle.std.specs.Prelude.{◌≡◌, ◌⊎◌, ◌+◌, ◌++◌, ◌≤◌, ℕ, List, IfOk, IfSome, OnOk};
+ghost use Rattle.std.specs.Prelude.{◌≡◌, ◌⊎◌, ◌+◌, ◌<◌, ◌++◌, ◌≤◌, ℕ, List, IfOk, IfSome, OnOk};
 ghost use Rattle.std.specs.Prelude.{IfErr, IsTrue, IsFalse, length, take};
-ghost use Rattle.std.specs.Io.KnownBytes.{IsAtEnd};
+ghost use Rattle.std.specs.Io.KnownBytes.{Consumes, IsAtEnd};
 ghost use Rattle.report.specs.Stream.{LosesBeginning};
-ghost use Rattle.report.specs.Intake.{TakesInput};
+ghost use Rattle.report.specs.Intake.{TakesInput, TakesSome};
+ghost use Rattle.report.specs.Turns.{GoesOn, IsTurn};
 
 use crate::stream::Feed;
 use std::alloc::{AllocError, Global};
@@ -26,6 +27,28 @@ pub const MOST_CALLS: u64 = 1 << 32;
 // The bytes that one call may give.
 const ROOM: usize = 1 << 16;
 
+/// What is left of the calls that a reading may make, and the buffer for the bytes of one.
+#[derive(Drop)]
+pub struct Reading {
+    /// How many calls of `get` it may still make.
+    pub calls_left: u64,
+    buffer: Vec<u8>,
+    ghost has_room: { 0 < length buffer.items },
+}
+
+impl Reading {
+    // A reading that has made no call.
+    fn new(alloc: Global) -> Result<Reading, AllocError>
+        ensures { IfOk result (λ r. r.calls_left ≡ MOST_CALLS) }
+    {
+        let buffer = vec![in alloc; 0u8; ROOM]?;
+        Ok(Reading {
+            calls_left: MOST_CALLS,
+            buffer,
+        })
+    }
+}
+
 /// Takes the bytes that a feed gives, block by block.
 pub trait Intake {
     // What a block makes of it.
@@ -36,6 +59,21 @@ pub trait Intake {
         ensures { OnOk result (takes self.old block.now self.new) };
 }
 
+/// An intake that reads a feed.
+pub trait FeedIntake: Intake {
+    // What it needs of the threads by which it reads.
+    ghost may_read: { Type 0 };
+
+    /// Takes the next bytes of a feed, and returns whether it has ended.
+    fn take_from<F: Feed>(&mut self, feed: &mut F, reading: &mut Reading) -> Result<bool, ReadFault>
+        requires threads { may_read }
+        requires going { GoesOn reading.old.calls_left (F.seen feed.old) }
+        ensures turn { IsTurn (F.seen feed.old) (F.seen feed.new)
+            reading.old.calls_left reading.new.calls_left result }
+        ensures taken { TakesSome Self.takes (F.seen feed.old).remaining (F.seen feed.new).remaining
+            self.old self.new result };
+}
+
 impl Intake for Vec<u8> {
     ghost takes = { λ old block new. new.items ≡ old.items ++ block };
 
@@ -44,41 +82,76 @@ impl Intake for Vec<u8> {
     }
 }
 
-/// Reads all bytes that the feed has left into an intake, block by block. At a fault a beginning of
-/// them was read.
+impl FeedIntake for Vec<u8> {
+    ghost may_read = { Unit {0} };
+
+    fn take_from<F: Feed>(
+        &mut self,
+        feed: &mut F,
+        reading: &mut Reading,
+    ) -> Result<bool, ReadFault> {
+        take_next(self, feed, reading)
+    }
+}
+
+/// Takes what one call of a feed gives, and returns whether it has ended.
 ///
 /// ```text
-/// let mut feed = Watched::new(b"number,cpu\n".as_slice());
-/// let mut bytes = Vec::new(alloc);
-/// read_into(alloc, &mut feed, &mut bytes)?; // `number,cpu` and a line feed
+/// // of an intake that has nothing to do beside reading, its `take_from`
+/// take_next(self, feed, reading)
 /// ```
-pub fn read_into<F: Feed, T: Intake>(
-    alloc: Global,
-    feed: &mut F,
+pub fn take_next<F: Feed, T: Intake>(
     intake: &mut T,
-) -> Result<(), ReadFault>
-    requires { IsFalse (F.seen feed.old).has_failed }
-    ensures bytes { OnOk result
-        (TakesInput T.takes (F.seen feed.old).remaining intake.old intake.new) }
-    ensures nothing_left { OnOk result (IsAtEnd (F.seen feed.new).remaining) }
-    ensures ended { OnOk result
-        (IsTrue (F.seen feed.new).has_ended × IsFalse (F.seen feed.new).has_failed) }
-    ensures failed { result ≡ Err ReadFault.Failed →
-        IsTrue (F.seen feed.new).has_failed ⊎ (IsFalse (F.seen feed.new).has_ended
-        × ((F.seen feed.new).calls ≡ (F.seen feed.old).calls + MOST_CALLS)) }
-    ensures memory { result ≡ Err ReadFault.Memory → IsFalse (F.seen feed.new).has_failed }
-    ensures rest { LosesBeginning (F.seen feed.old).remaining (F.seen feed.new).remaining }
-    ensures calls { (F.seen feed.new).calls ≤ (F.seen feed.old).calls + MOST_CALLS }
+    feed: &mut F,
+    reading: &mut Reading,
+) -> Result<bool, ReadFault>
+    requires { GoesOn reading.old.calls_left (F.seen feed.old) }
+    ensures turn { IsTurn (F.seen feed.old) (F.seen feed.new)
+        reading.old.calls_left reading.new.calls_left result }
+    ensures taken { TakesSome T.takes (F.seen feed.old).remaining (F.seen feed.new).remaining
+        intake.old intake.new result }
 {
-    let mut buffer = vec![in alloc; 0u8; ROOM].map_err(|_| ReadFault::Memory)?;
-    for _ in 0..MOST_CALLS {
-        let Ok(given) = feed.get(&mut buffer) else {
-            return Err(ReadFault::Failed);
-        };
-        if given == 0 {
-            return Ok(());
+    if reading.calls_left == 0 {
+        return Err(ReadFault::Failed);
+    }
+    reading.calls_left -= 1;
+    let Ok(given) = feed.get(&mut reading.buffer) else {
+        return Err(ReadFault::Failed);
+    };
+    if given == 0 {
+        return Ok(true);
+    }
+    take_given(intake, &reading.buffer, given)?;
+    Ok(false)
+}
+
+/// Adds what a feed gives to a block until this has so many bytes or more, and returns whether the
+/// feed has ended.
+///
+/// ```text
+/// let mut block = Vec::new(alloc);
+/// read_block(feed, reading, &mut block, 1 << 22)?; // false: 4 MiB were read, or a little more
+/// ```
+pub fn read_block<F: Feed>(
+    feed: &mut F,
+    reading: &mut Reading,
+    block: &mut Vec<u8>,
+    enough: usize,
+) -> Result<bool, ReadFault>
+    requires { GoesOn reading.old.calls_left (F.seen feed.old) }
+    ensures turn { IsTurn (F.seen feed.old) (F.seen feed.new)
+        reading.old.calls_left reading.new.calls_left result }
+    ensures bytes { (bytes : List ℕ)
+        × Consumes (F.seen feed.old).remaining (F.seen feed.new).remaining bytes
+        × OnOk result (block.new.items ≡ block.old.items ++ bytes) }
+{
+    while reading.calls_left > 0 {
+        if take_next(block, feed, reading)? {
+            return Ok(true);
         }
-        take_given(intake, &buffer, given)?;
+        if block.len() >= enough {
+            return Ok(false);
+        }
     }
     Err(ReadFault::Failed)
 }
@@ -91,6 +164,42 @@ fn take_given<T: Intake>(intake: &mut T, buffer: &[u8], given: usize) -> Result<
 {
     let taken = intake.take(&buffer[..given]);
     taken.map_err(|_| ReadFault::Memory)
+}
+
+/// Reads all bytes that the feed has left into an intake, block by block. At a fault a beginning of
+/// them was read.
+///
+/// ```text
+/// let mut feed = Watched::new(b"number,cpu\n".as_slice());
+/// let mut bytes = Vec::new(alloc);
+/// read_into(alloc, &mut feed, &mut bytes)?; // `number,cpu` and a line feed
+/// ```
+pub fn read_into<F: Feed, T: FeedIntake>(
+    alloc: Global,
+    feed: &mut F,
+    intake: &mut T,
+) -> Result<(), ReadFault>
+    requires threads { T.may_read }
+    requires feed { IsFalse (F.seen feed.old).has_failed }
+    ensures bytes { OnOk result
+        (TakesInput T.takes (F.seen feed.old).remaining intake.old intake.new) }
+    ensures nothing_left { OnOk result (IsAtEnd (F.seen feed.new).remaining) }
+    ensures ended { OnOk result
+        (IsTrue (F.seen feed.new).has_ended × IsFalse (F.seen feed.new).has_failed) }
+    ensures failed { result ≡ Err ReadFault.Failed →
+        IsTrue (F.seen feed.new).has_failed ⊎ (IsFalse (F.seen feed.new).has_ended
+        × ((F.seen feed.new).calls ≡ (F.seen feed.old).calls + MOST_CALLS)) }
+    ensures memory { result ≡ Err ReadFault.Memory → IsFalse (F.seen feed.new).has_failed }
+    ensures rest { LosesBeginning (F.seen feed.old).remaining (F.seen feed.new).remaining }
+    ensures calls { (F.seen feed.new).calls ≤ (F.seen feed.old).calls + MOST_CALLS }
+{
+    let mut reading = Reading::new(alloc).map_err(|_| ReadFault::Memory)?;
+    while reading.calls_left > 0 {
+        if intake.take_from(feed, &mut reading)? {
+            return Ok(());
+        }
+    }
+    Err(ReadFault::Failed)
 }
 
 /// Reads all bytes that the feed has left. At a fault a beginning of them was read and is lost.

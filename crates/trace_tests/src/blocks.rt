@@ -27,6 +27,35 @@ fn in_blocks_by<R: Threads>(
     reader.finish(rt)
 }
 
+// Takes a block as the program does that reads the rows before it meanwhile.
+fn take_beside<R: Threads>(
+    rt: &R,
+    reader: &mut Reader,
+    kept: &mut Vec<u8>,
+    block: &[u8],
+) -> Result<(), AllocError> {
+    reader.take_out_row(kept)?;
+    kept.extend_from_slice(block)?;
+    reader.read(rt)?;
+    reader.take_block(kept)
+}
+
+// Reads the same, where each block comes beside the rows before it.
+fn in_blocks_beside<R: Threads>(
+    rt: &R,
+    alloc: Global,
+    workers: u32,
+    blocks: &[&[u8]],
+    least: usize,
+) -> Result<Trace, TraceFault> {
+    let mut reader = Reader::new(alloc, HashKey::of_seed(&[]), workers, least)?;
+    let mut kept = Vec::new(alloc);
+    for block in blocks {
+        take_beside(rt, &mut reader, &mut kept, block)?;
+    }
+    reader.finish(rt)
+}
+
 // How many workers read, how long each block is, and how many bytes are read at once at least.
 type Way = (u32, usize, usize);
 
@@ -40,7 +69,8 @@ fn is_same_in<R: Threads + RandomSource>(
 ) -> bool {
     let whole = read_trace(alloc, HashKey::random(rt), bytes);
     let found = in_blocks_by(rt, alloc, workers, blocks, least);
-    is_same(&whole, &found)
+    let beside = in_blocks_beside(rt, alloc, workers, blocks, least);
+    is_same(&whole, &found) && is_same(&whole, &beside)
 }
 
 // Cuts a trace into blocks of this size.

@@ -1,6 +1,8 @@
 -- The effect of a statement, noted in a piece.
-use Rattle.std.specs.Prelude.{◌≡◌, ℕ, Bool, [], ◌∷◌, Result, Ok, Err, is_some}
+use Rattle.std.specs.Prelude.{◌≡◌, ◌+◌, ◌<◌, ◌≤◌, ◌^◌, ℕ, Bool, [], ◌∷◌, Result, Ok, Err, is_some}
+use Rattle.std.specs.Prelude.{length}
 use Rattle.replay_core.specs.Vocabulary.{Effect, Faults, Firing, Has, Outcome, Variables, exit_in}
+use Rattle.replay_core.specs.Vocabulary.{count_held, functions_of}
 use Rattle.replay_core.specs.declared.{evaluation.fault.EvalFault.EvalFault, piece.Piece.Piece}
 use Rattle.replay_core.specs.declared.{state.State.State}
 use Rattle.replay_core.specs.{Evaluation.Stays, Evaluation.variables_in, Pieces.PieceSeen}
@@ -24,3 +26,16 @@ abbrev pub IsPerformed : (Firing → Variables → Outcome Effect) → Result Bo
 IsPerformed meaning r old new before after =
     Stays old new × Performs old.firing.now.number (meaning old.firing.now (variables_in old))
     (piece_seen before) r (piece_seen after) (variables_in new)
+
+-- ---- contributions
+
+-- there is an aggregation at this place, and room for a contribution
+pub record HasRoomAt (place : ℕ) (p : Piece) : Type 0 where
+  pub known : place < length (functions_of p.table)
+  pub room : count_held p.table < 2 ^ 52
+
+-- it has at most one contribution more, of the same aggregations and the same firings
+pub record HasOneMore (old new : Piece) : Type 0 where
+  pub held : count_held new.table ≤ count_held old.table + 1
+  pub functions : functions_of new.table ≡ functions_of old.table
+  pub taken : new.taken.items ≡ old.taken.items

@@ -3,7 +3,7 @@
 ghost use Rattle.std.specs.Prelude.{◌≡◌, ◌+◌, ◌<◌, ◌≤◌, ◌^◌, List, length};
 ghost use Rattle.d_types.specs.Typed as typed;
 ghost use Rattle.replay_core.specs.{Bounds.place_in, Evaluation.Meets};
-ghost use Rattle.replay_core.specs.Steps.Effects.{IsPerformed};
+ghost use Rattle.replay_core.specs.Steps.Effects.{HasOneMore, HasRoomAt, IsPerformed};
 ghost use Rattle.replay_core.specs.Vocabulary.{ActionOf, count_held, effect_by, functions_of};
 ghost use Rattle.replay_core.specs.Vocabulary.{Effect, Has, argument_by, with};
 
@@ -104,11 +104,8 @@ pub(crate) fn aggregate<X: Expression>(
     state: &mut State<'_>,
     piece: &mut Piece,
 ) -> Result<bool, EvalFault>
-    requires place { place < length (functions_of piece.old.table) }
-    requires room { count_held piece.old.table < 2 ^ 52 }
-    ensures held { count_held piece.new.table ≤ count_held piece.old.table + 1 }
-    ensures functions { functions_of piece.new.table ≡ functions_of piece.old.table }
-    ensures taken { piece.new.taken.items ≡ piece.old.taken.items }
+    requires { HasRoomAt place piece.old }
+    ensures piece { HasOneMore piece.old piece.new }
     ensures effect { IsPerformed
         (λ f. effect_by (X.by f) (typed.Aggregate place keys.now argument.now))
         result state.old state.new piece.old piece.new }
@@ -128,11 +125,8 @@ fn aggregate_lent<X: Expression>(
     state: &mut State<'_>,
     piece: &mut Piece,
 ) -> Result<bool, EvalFault>
-    requires place { place < length (functions_of piece.old.table) }
-    requires room { count_held piece.old.table < 2 ^ 52 }
-    ensures held { count_held piece.new.table ≤ count_held piece.old.table + 1 }
-    ensures functions { functions_of piece.new.table ≡ functions_of piece.old.table }
-    ensures taken { piece.new.taken.items ≡ piece.old.taken.items }
+    requires { HasRoomAt place piece.old }
+    ensures piece { HasOneMore piece.old piece.new }
     ensures effect { IsPerformed
         (λ f vars. with (argument_by (X.by f) argument.now vars)
         (λ z. Has (Effect.Adds place key.now z)))
@@ -152,11 +146,8 @@ fn aggregate_evaluated<X: Expression>(
     state: &mut State<'_>,
     piece: &mut Piece,
 ) -> Result<bool, EvalFault>
-    requires place { place < length (functions_of piece.old.table) }
-    requires room { count_held piece.old.table < 2 ^ 52 }
-    ensures held { count_held piece.new.table ≤ count_held piece.old.table + 1 }
-    ensures functions { functions_of piece.new.table ≡ functions_of piece.old.table }
-    ensures taken { piece.new.taken.items ≡ piece.old.taken.items }
+    requires { HasRoomAt place piece.old }
+    ensures piece { HasOneMore piece.old piece.new }
     ensures effect { IsPerformed
         (λ f. effect_by (X.by f) (typed.Aggregate place keys.now argument.now))
         result state.old state.new piece.old piece.new }
