@@ -6,6 +6,7 @@ pub mod Divisions
 pub mod Grouped
 pub mod HasAnswer
 pub mod Hashed
+pub mod LongFiles
 pub mod LongScripts
 pub mod OnePlan
 pub mod Options

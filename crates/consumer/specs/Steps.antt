@@ -2,5 +2,6 @@
 -- definitions.
 pub mod Replaying
 pub mod Program
+pub mod Files
 pub mod Words
 pub mod Beginnings

@@ -12,6 +12,7 @@ pub use Rattle.clap.specs.declared.error.kind.ErrorKind.TheVariants.{DisplayHelp
 pub use Rattle.clap.specs.declared.error.kind.ErrorKind.TheVariants.{OutOfMemory, UnknownArgument}
 pub use Rattle.d_lexer.specs.Lexing.{IsLexed, IsRefused}
 pub use Rattle.d_lexer.specs.declared.fault.LexFault.{LexFault}
+pub use Rattle.d_lexer.specs.declared.fault.TheConstants.{MOST_BYTES}
 pub use Rattle.d_lexer.specs.declared.token.Token.{Token}
 pub use Rattle.d_parser.specs.declared.fault.ParseFault.{ParseFault}
 pub use Rattle.d_parser.specs.declared.fault.ParseFault.TheVariants.{Syntax}

@@ -2,10 +2,12 @@
 
 ghost use Rattle.std.specs.Prelude.{◌≡◌, ◌⊎◌, ℕ, List, Option, Some, None, IfErr, IfOk, IfSome};
 ghost use Rattle.std.specs.Prelude.{IsFalse};
+ghost use Rattle.consumer.specs.{Steps.Files.IsScriptIn};
 ghost use Rattle.consumer.specs.Vocabulary.{Memory, Read, Refused};
 
 use crate::consuming::ConsumeFault;
-use report::{Failed, Feed, Watched, read_to_end};
+use d_lexer::MOST_BYTES;
+use report::{Failed, Feed, ReadFault, Reading, Watched, read_block};
 use std::alloc::Global;
 use std::fs::File;
 use std::rt::Files;
@@ -43,19 +45,32 @@ impl<'a, R: Files> ScriptFiles for SystemFiles<'a, R> {
     }
 }
 
-/// Reads the script in a file, and closes the file: in a process that was started without a
-/// standard input, an open file would take its place.
-pub fn script_in<C: ScriptFiles>(
+/// Reads the script in a file, or a beginning of it that is too long for a script, and closes the
+/// file: in a process that was started without a standard input, an open file would take its place.
+pub(crate) fn script_in<C: ScriptFiles>(
     alloc: Global,
     files: &C,
     name: &str,
 ) -> Result<Vec<u8>, ConsumeFault>
     ensures bytes { IfOk result (λ script. IfSome (C.bytes files.now name.now) (λ all.
-        script.items ≡ all)) }
+        IsScriptIn all script.items)) }
     ensures fault { IfErr result (λ e. (e ≡ Read) ⊎ (e ≡ Refused Memory)) }
 {
     match files.open(name) {
-        Ok(mut file) => Ok(read_to_end(alloc, &mut file)?),
+        Ok(mut file) => Ok(script_bytes(alloc, &mut file)?),
         Err(_) => Err(ConsumeFault::Read),
     }
+}
+
+// Reads a file to its end, or until a script of its bytes is too long.
+fn script_bytes<F: Feed>(alloc: Global, file: &mut F) -> Result<Vec<u8>, ReadFault>
+    requires { IsFalse (F.seen file.old).has_failed }
+    ensures { IfOk result (λ script. IfSome (F.seen file.old).remaining (λ all.
+        IsScriptIn all script.items)) }
+{
+    let mut reading = Reading::new(alloc).map_err(|_| ReadFault::Memory)?;
+    let mut script = Vec::new(alloc);
+    let read = read_block(file, &mut reading, &mut script, MOST_BYTES + 1);
+    drop(reading);
+    read.map(|_| script)
 }

@@ -1,6 +1,6 @@
 //! Reading a feed to its end.
 ghost use Rattle.std.specs.Prelude.{◌≡◌, ◌⊎◌, ◌+◌, ◌<◌, ◌++◌, ◌≤◌, ℕ, List, IfOk, IfSome, OnOk};
-ghost use Rattle.std.specs.Prelude.{IfErr, IsTrue, IsFalse, length, take};
+ghost use Rattle.std.specs.Prelude.{IfErr, IsTrue, IsFalse, Ok, false, length, take};
 ghost use Rattle.std.specs.Io.KnownBytes.{Consumes, IsAtEnd};
 ghost use Rattle.report.specs.Stream.{LosesBeginning};
 ghost use Rattle.report.specs.Intake.{TakesInput, TakesSome};
@@ -37,8 +37,13 @@ pub struct Reading {
 }
 
 impl Reading {
-    // A reading that has made no call.
-    fn new(alloc: Global) -> Result<Reading, AllocError>
+    /// A reading that has made no call.
+    ///
+    /// ```text
+    /// let mut reading = Reading::new(alloc)?;
+    /// reading.calls_left; // 4,294,967,296
+    /// ```
+    pub fn new(alloc: Global) -> Result<Reading, AllocError>
         ensures { IfOk result (λ r. r.calls_left ≡ MOST_CALLS) }
     {
         let buffer = vec![in alloc; 0u8; ROOM]?;
@@ -144,6 +149,7 @@ pub fn read_block<F: Feed>(
     ensures bytes { (bytes : List ℕ)
         × Consumes (F.seen feed.old).remaining (F.seen feed.new).remaining bytes
         × OnOk result (block.new.items ≡ block.old.items ++ bytes) }
+    ensures enough { result ≡ Ok false → enough ≤ length block.new.items }
 {
     while reading.calls_left > 0 {
         if take_next(block, feed, reading)? {
