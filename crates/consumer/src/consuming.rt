@@ -1,7 +1,4 @@
 //! From the bytes in to the bytes out.
-//!
-//! What is owned is dropped by name: in each function that drops a value at a scope's end, a proof
-//! goes through the variants of its type.
 
 ghost use Rattle.std.specs.Prelude.{◌≡◌, ◌≢◌, [], List, ℕ, Err, IfErr, IsFalse, Ok, OnOk};
 ghost use Rattle.consumer.specs.{Bundle.Divides, Plans.IsInBounds};

@@ -1,7 +1,4 @@
 //! Takes the input of a run block by block: a bundle, or the trace of a script.
-//!
-//! What is owned is dropped by name: in each function that drops a value at a scope's end, a proof
-//! goes through the variants of its type.
 
 ghost use Rattle.std.specs.Prelude.{◌≡◌, ◌++◌, [], ℕ, List, IfOk, IfSome, Err, MatchResult, Ok};
 ghost use Rattle.std.specs.Prelude.{OnOk};

@@ -1,7 +1,4 @@
 //! What the program does with its words, its files and its streams.
-//!
-//! What is owned is dropped by name: in each function that drops a value at a scope's end, a proof
-//! goes through the variants of its type.
 
 ghost use Rattle.std.specs.Prelude.{◌≡◌, IfOk, IsFalse, MatchResult, Some};
 ghost use Rattle.consumer.specs.{Plans.IsInBounds};

@@ -1,7 +1,4 @@
 //! The answer of a script over a trace.
-//!
-//! What is owned is dropped by name: in each function that drops a value at a scope's end, a proof
-//! goes through the variants of its type.
 
 ghost use Rattle.std.specs.Prelude.{◌≡◌, ◌≤◌, ◌+◌, ℕ, IfOk, List, unwrap_or, option_map};
 ghost use Rattle.firing_reader.specs.{Gives.Gives};

@@ -1,7 +1,4 @@
 //! The words after the program's name.
-//!
-//! What is owned is dropped by name: in each function that drops a value at a scope's end, a proof
-//! goes through the variants of its type.
 
 ghost use Rattle.std.specs.Prelude.{◌≡◌, ◌⊎◌, ◌∷◌, [], ℕ, IfErr, IfOk, IfSome, IsErr, IsOkAnd};
 ghost use Rattle.std.specs.Prelude.{MatchResult, None, Some, codes, drop, false, map, option_map};
