@@ -1,5 +1,5 @@
 -- The script in a file that is read until it is too long.
-use Rattle.std.proofs.Common.{◌≡◌, ◌<◌, ◌≤◌, ◌⊎◌, ⊎_elim, inl, inr, ℕ, List, ◌++◌, Option, None, Some}
+use Rattle.std.proofs.Common.{◌≡◌, ◌<◌, ◌≤◌, ⊎_elim, inl, inr, ℕ, List, Option, None, Some}
 use Rattle.std.proofs.Common.{Result, Ok, Err, IfSome, length, length-append, refl, ap, ◌∙◌, subst, arith}
 use Rattle.std.proofs.Common.{rules}
 use Rattle.d_lexer.specs.declared.fault.LexFault.{LexFault}

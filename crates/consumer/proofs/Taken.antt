@@ -1,5 +1,5 @@
 -- Traces and bundles that come in blocks.
-use Rattle.std.proofs.Common.{◌≡◌, ◌+◌, ◌<◌, ℕ, List, [], ◌++◌, sym, ap, ◌∙◌, subst, append_assoc}
+use Rattle.std.proofs.Common.{◌≡◌, ◌<◌, ℕ, List, [], ◌++◌, sym, ap, ◌∙◌, subst, append_assoc}
 use Rattle.std.proofs.Common.{append-nil, inl, length, refl, take}
 use Rattle.std.specs.Prelude.{IfOk, IfSome, MatchResult, Option, Some, None, OnOk, Result, Ok, Err}
 use Rattle.firing_reader.specs.Blocks.{Taken}

@@ -1,6 +1,6 @@
 -- What is said of a reader's bytes where they were not all read.
-use Rattle.std.proofs.Common.{Global, ◌≡◌, ◌≢◌, ◌⊎◌, ◌∙◌, ◌≤◌, ◌+◌, ℕ, List, [], Option, Some, None}
-use Rattle.std.proofs.Common.{Result, Err, ap, inl, inr, refl, rules, sym}
+use Rattle.std.proofs.Common.{Global, ◌≡◌, ◌≢◌, ◌⊎◌, ◌∙◌, ℕ, List, [], Option, Some, None}
+use Rattle.std.proofs.Common.{Result, Err, ap, inl, inr, refl, rules}
 use Rattle.std.specs.Result.{IsErrAnd}
 use Rattle.std.proofs.lemmas.Result.{err_from_is_err_and}
 use Rattle.replay_core.specs.Layouts.{LayoutMeant}
@@ -40,11 +40,11 @@ memory_shown script trace plan seen result told =
     record { answer = Err Memory; is = tt; out = (refl, p.1 ∙ ap Err p.2) }
 
 -- of what a file of that name doesn't tell, where one is named
-no_file : {A : Type 0} (file : Option A) (name : A) (P : Type 0) → file ≡ Some name → IfNone file P
+pub no_file : {A : Type 0} (file : Option A) (name : A) (P : Type 0) → file ≡ Some name → IfNone file P
 no_file file name P named = rw named tt
 
 -- and of what it tells
-any_file : {A : Type 0} (file : Option A) (name : A) (P : Type 0) (Q : A → Type 0) → file ≡ Some name → Q name → MatchOption file P Q
+pub any_file : {A : Type 0} (file : Option A) (name : A) (P : Type 0) (Q : A → Type 0) → file ≡ Some name → Q name → MatchOption file P Q
 any_file file name P Q named holds = rw named holds
 
 -- where the script of a file is not read, the run ends by that fault, and no stream is touched

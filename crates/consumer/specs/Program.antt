@@ -1,6 +1,6 @@
 -- How the program ends, and what went to its streams by then.
-use Rattle.std.specs.Prelude.{◌≡◌, ◌≢◌, ◌≤◌, ◌⊎◌, ◌+◌, ℕ, List, Option, Result, Ok, Err, IfNone}
-use Rattle.std.specs.Prelude.{IfSome, IsFalse, IsOkAnd, IsTrue, MatchBool, MatchOption, MatchResult}
+use Rattle.std.specs.Prelude.{◌≡◌, ◌≢◌, ◌≤◌, ◌⊎◌, ◌+◌, ℕ, List, Option, Result, Err, IfNone}
+use Rattle.std.specs.Prelude.{IsFalse, IsOkAnd, IsTrue, MatchBool, MatchOption, MatchResult}
 use Rattle.std.specs.Prelude.{drop, map, string_bytes}
 use Rattle.std.specs.declared.vec.IntoIter.{IntoIter}
 use Rattle.std.specs.declared.string.String.{String}
@@ -9,8 +9,8 @@ use Rattle.report.specs.Stream.{FeedSeen, IsSent, SinkSeen}
 use Rattle.consumer.specs.Bundle.{Divides}
 use Rattle.consumer.specs.Consuming.{HoldsOfInput, IsCutShort, WritesAnswer}
 use Rattle.consumer.specs.Refusals.{IsReported, status_at_end}
-use Rattle.consumer.specs.Vocabulary.{into_iter_items, ErrorKind, MOST_CALLS, Asked, ConsumeFault}
-use Rattle.consumer.specs.Vocabulary.{Read, Refused, Write, Refusal, Memory, Replayed, UsageFault}
+use Rattle.consumer.specs.Vocabulary.{into_iter_items, MOST_CALLS, Asked, ConsumeFault}
+use Rattle.consumer.specs.Vocabulary.{Read, Refused, Write, Memory, Replayed, UsageFault}
 use Rattle.consumer.specs.Words.{Asks, IsFaultOf, IsMistake}
 use Rattle.consumer.specs.declared.program.Streams.{Streams}
 use Rattle.consumer.specs.declared.words.UsageFault.TheVariants.{Help, Usage}
