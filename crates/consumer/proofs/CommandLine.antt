@@ -8,9 +8,9 @@ use Rattle.clap.specs.declared.error.kind.ErrorKind.TheVariants.{DisplayHelp, In
 use Rattle.clap.specs.declared.error.kind.ErrorKind.TheVariants.{OutOfMemory, UnknownArgument}
 use Rattle.clap.specs.declared.error.kind.ErrorKind.{ErrorKind}
 use Rattle.clap.proofs.OnLiterals.{clap_on_literals}
-use Rattle.consumer.specs.Words.{Asks, AsksHelp, HasPlan, IsAskedIn, IsFaultOf, IsNumberIn, IsOption}
-use Rattle.consumer.specs.Words.{IsPlanBy, IsPlanIn, IsValue, Mistakes}
-use Rattle.consumer.specs.Steps.Words.{IsPlanFault, IsToldAs}
+use Rattle.consumer.specs.Words.{Asks, AsksHelp, HasPlan, IsRequestIn, IsFaultOf, IsNumberIn, IsOption}
+use Rattle.consumer.specs.Words.{IsPlanBy, IsPlanIn, IsOptionValue, Mistakes}
+use Rattle.consumer.specs.Steps.Words.{IsPlanFault, IsReportedAs}
 use Rattle.consumer.specs.Words.{AskForRun}
 use Rattle.consumer.specs.Words.{SetPlan, engine_called}
 use Rattle.consumer.specs.Words.{file_in, program}
@@ -19,7 +19,7 @@ use Rattle.std.proofs.lemmas.Option.{same_Some}
 use Rattle.consumer.specs.Plans.{IsDefault}
 use Rattle.consumer.specs.Vocabulary.{IsNumeral, digits_value, without_leading_plus, Dealt, Dif}
 use Rattle.consumer.specs.Vocabulary.{Plan, MOST_GROUPS, MOST_WORKERS}
-use Rattle.consumer.specs.declared.words.Asked.{Asked}
+use Rattle.consumer.specs.declared.words.Request.{Request}
 use Rattle.consumer.specs.declared.words.UsageFault.{UsageFault}
 use Rattle.consumer.specs.declared.words.UsageFault.TheVariants.{Help, Usage, Memory}
 
@@ -45,30 +45,30 @@ no_fault a words same free =
     subst (λ (x : App). fault_of x words ≡ []) same (free (ap is_simple_and_free same ∙ is_free_program))
 
 -- what is asked in the matches is asked by the words
-pub asked : (rows : List Row) (words : List (List ℕ)) (r : Result Asked UsageFault) → fault_of program words ≡ []
-    → rows ≡ matches_of program words → MatchResult r (IsAskedIn rows) (IsPlanFault rows) → MatchResult r (Asks words) (IsFaultOf words)
-asked rows words (Ok x) none same named = record { accepted = none; named = subst (λ r. IsAskedIn r x) same named }
-asked rows words (Err (Help e)) none same fault = absurd fault
-asked rows words (Err (Usage e)) none same fault =
+pub request : (rows : List Row) (words : List (List ℕ)) (r : Result Request UsageFault) → fault_of program words ≡ []
+    → rows ≡ matches_of program words → MatchResult r (IsRequestIn rows) (IsPlanFault rows) → MatchResult r (Asks words) (IsFaultOf words)
+request rows words (Ok x) none same named = record { accepted = none; named = subst (λ r. IsRequestIn r x) same named }
+request rows words (Err (Help e)) none same fault = absurd fault
+request rows words (Err (Usage e)) none same fault =
     (fault.0, fault.1, inr (none, λ has. fault.2 has.0 (subst (λ r. IsPlanIn r has.0) (sym same) has.1)))
-asked rows words (Err Memory) none same fault = tt
+request rows words (Err Memory) none same fault = tt
 
 -- where they name a plan, only memory can be wanting
-pub asked_or_memory : (rows : List Row) (words : List (List ℕ)) (r : Result Asked UsageFault) → rows ≡ matches_of program words
-    → MatchResult r (IsAskedIn rows) (IsPlanFault rows) → HasPlan words → IfErr r (λ e. e ≡ Memory)
-asked_or_memory rows words (Ok x) same named has = tt
-asked_or_memory rows words (Err (Help e)) same fault has = absurd fault
-asked_or_memory rows words (Err (Usage e)) same fault has =
+pub request_or_memory : (rows : List Row) (words : List (List ℕ)) (r : Result Request UsageFault) → rows ≡ matches_of program words
+    → MatchResult r (IsRequestIn rows) (IsPlanFault rows) → HasPlan words → IfErr r (λ e. e ≡ Memory)
+request_or_memory rows words (Ok x) same named has = tt
+request_or_memory rows words (Err (Help e)) same fault has = absurd fault
+request_or_memory rows words (Err (Usage e)) same fault has =
     absurd (fault.2 has.0 (subst (λ r. IsPlanIn r has.0) (sym same) has.1))
-asked_or_memory rows words (Err Memory) same fault has = refl
+request_or_memory rows words (Err Memory) same fault has = refl
 
 -- where clap promises that only memory can fail, the fault is reported as Memory
-pub only_memory : (a : App) (words : List (List ℕ)) (error : Error) (fault : UsageFault) → a ≡ program → IsToldAs error fault
+pub only_memory : (a : App) (words : List (List ℕ)) (error : Error) (fault : UsageFault) → a ≡ program → IsReportedAs error fault
     → (takes a words ≡ true → kind_of error ≡ OutOfMemory) → takes program words ≡ true → fault ≡ Memory
 only_memory a words error fault same told promise taken =
     told_so error fault told (promise (subst (λ (x : App). takes x words ≡ true) (sym same) taken))
   where
-    told_so : (error : Error) (fault : UsageFault) → IsToldAs error fault → kind_of error ≡ OutOfMemory → fault ≡ Memory
+    told_so : (error : Error) (fault : UsageFault) → IsReportedAs error fault → kind_of error ≡ OutOfMemory → fault ≡ Memory
     told_so error (Help e) told memory = cc
     told_so error (Usage e) told memory = absurd (told.2 memory)
     told_so error Memory told memory = refl
@@ -91,10 +91,10 @@ hyphen_runs : (fault_of program (codes "-s" ∷ (45 ∷ []) ∷ []) ≡ []) × (
 unfolding clap_on_literals
 hyphen_runs = (refl, refl)
 
-pub help_asked : (words : List (List ℕ)) → AsksHelp words → fault_of program words ≡ DisplayHelp ∷ []
+pub help_requested : (words : List (List ℕ)) → AsksHelp words → fault_of program words ≡ DisplayHelp ∷ []
 unfolding clap_on_literals
-help_asked _ AsksHelp.short = refl
-help_asked _ AsksHelp.long = refl
+help_requested _ AsksHelp.short = refl
+help_requested _ AsksHelp.long = refl
 
 -- of a name after -s in one word, but with an equals sign
 joined_runs : (b : ℕ) (rest : List ℕ) → (b == 61) ≡ false
@@ -219,10 +219,10 @@ default_plan rows plan has is = record {
   engine = same_Some plan.engine Dif (sym is.engine ∙ ap (option_and_then engine_called) has.engine);
 }
 
-pub defaults : (words : List (List ℕ)) (file : Option (List ℕ)) (asked : Asked) → AskForRun words file
-    → Asks words asked → IsDefault asked.plan
-defaults words file asked runs asks =
-    default_plan (matches_of program words) asked.plan (has_defaults words file runs) asks.named.plan
+pub defaults : (words : List (List ℕ)) (file : Option (List ℕ)) (request : Request) → AskForRun words file
+    → Asks words request → IsDefault request.plan
+defaults words file request runs asks =
+    default_plan (matches_of program words) request.plan (has_defaults words file runs) asks.named.plan
 
 -- the values that the words give to the options of a plan
 record HasValues (rows : List Row) (w g e : List ℕ) : Type 0 where
@@ -275,7 +275,7 @@ plan_by rows workers groups engine plan has is = record {
   engine = sym (ap (option_and_then engine_called) has.engine) ∙ is.engine;
 }
 
-pub plans_named : (words : List (List ℕ)) (workers groups engine : List ℕ) (asked : Asked)
-    → SetPlan words workers groups engine → Asks words asked → IsPlanBy workers groups engine asked.plan
-plans_named words workers groups engine asked set asks =
-    plan_by (matches_of program words) workers groups engine asked.plan (has_values words workers groups engine set) asks.named.plan
+pub plans_named : (words : List (List ℕ)) (workers groups engine : List ℕ) (request : Request)
+    → SetPlan words workers groups engine → Asks words request → IsPlanBy workers groups engine request.plan
+plans_named words workers groups engine request set asks =
+    plan_by (matches_of program words) workers groups engine request.plan (has_values words workers groups engine set) asks.named.plan

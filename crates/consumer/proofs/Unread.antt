@@ -15,7 +15,7 @@ use Rattle.consumer.specs.declared.plan.Replayed.{Replayed}
 use Rattle.consumer.specs.declared.refusal.Refusal.TheVariants.{Memory}
 use Rattle.consumer.specs.Consuming.{HoldsOfInput, WritesAnswer, fault_of_reading}
 use Rattle.consumer.specs.Program.{AreUnfailed, IsRunOf, StreamsSeen}
-use Rattle.consumer.specs.Vocabulary.{Asked}
+use Rattle.consumer.specs.Vocabulary.{Request}
 use Rattle.std.specs.Prelude.{IfNone, MatchOption}
 use Rattle.std.specs.declared.string.String.{String}
 
@@ -48,27 +48,27 @@ pub any_file : {A : Type 0} (file : Option A) (name : A) (P : Type 0) (Q : A →
 any_file file name P Q named holds = rw named holds
 
 -- where the script of a file is not read, the run ends by that fault, and no stream is touched
-pub script_unread : {shows : LayoutMeant} (asked : Asked) (holds : List ℕ → Option (List ℕ)) (seen : StreamsSeen) (result : Result Replayed ConsumeFault)
-    (fault : ConsumeFault) (name : String Global) → asked.file ≡ Some name → AreUnfailed seen → IsErrAnd result (λ e. e ≡ fault)
-    → (fault ≡ Read) ⊎ (fault ≡ Refused Memory) → IsRunOf shows asked holds seen seen result
-script_unread asked holds seen result fault name named unfailed told (inl read) =
+pub script_unread : {shows : LayoutMeant} (request : Request) (holds : List ℕ → Option (List ℕ)) (seen : StreamsSeen) (result : Result Replayed ConsumeFault)
+    (fault : ConsumeFault) (name : String Global) → request.file ≡ Some name → AreUnfailed seen → IsErrAnd result (λ e. e ≡ fault)
+    → (fault ≡ Read) ⊎ (fault ≡ Refused Memory) → IsRunOf shows request holds seen seen result
+script_unread request holds seen result fault name named unfailed told (inl read) =
     let p = err_from_is_err_and result told in
     let failed : result ≡ Err Read = p.1 ∙ ap Err (p.2 ∙ read) in
     record {
       shown = λ other. absurd (other failed);
       read = λ other. absurd (other failed);
-      blamed = λ _. no_file asked.file name _ named;
+      blamed = λ _. no_file request.file name _ named;
       unread = λ _. refl;
       few = search rules;
     }
-script_unread asked holds seen result fault name named unfailed told (inr memory) =
+script_unread request holds seen result fault name named unfailed told (inr memory) =
     let p = err_from_is_err_and result told in
     let spent : result ≡ Err (Refused Memory) = p.1 ∙ ap Err (p.2 ∙ memory) in
     record {
-      shown = λ other. any_file asked.file name _ _ named (holds_of_any _ _ (λ script. holds_of_any _ _
+      shown = λ other. any_file request.file name _ _ named (holds_of_any _ _ (λ script. holds_of_any _ _
           (λ trace. record { answer = Err Memory; is = tt; out = (refl, spent) })));
       read = λ other. (unfailed.input, inl spent);
-      blamed = λ _. no_file asked.file name _ named;
+      blamed = λ _. no_file request.file name _ named;
       unread = λ _. refl;
       few = search rules;
     }

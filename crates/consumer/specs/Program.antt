@@ -9,7 +9,7 @@ use Rattle.report.specs.Stream.{FeedSeen, IsSent, SinkSeen}
 use Rattle.consumer.specs.Bundle.{Divides}
 use Rattle.consumer.specs.Consuming.{HoldsOfInput, IsCutShort, WritesAnswer}
 use Rattle.consumer.specs.Refusals.{IsReported, status_at_end}
-use Rattle.consumer.specs.Vocabulary.{into_iter_items, MOST_CALLS, Asked, ConsumeFault}
+use Rattle.consumer.specs.Vocabulary.{into_iter_items, MOST_CALLS, ConsumeFault, Request}
 use Rattle.consumer.specs.Vocabulary.{Read, Refused, Write, Memory, Replayed, UsageFault}
 use Rattle.consumer.specs.Words.{Asks, IsFaultOf, IsMistake}
 use Rattle.consumer.specs.declared.program.Streams.{Streams}
@@ -42,31 +42,31 @@ abbrev pub words_of : {A Z : Type 0} → IntoIter (String A) Z → List (List �
 words_of all = map string_bytes (drop 1 (into_iter_items all))
 
 -- they ask for this
-abbrev pub IsAsked : {A Z E : Type 0} → Result (IntoIter (String A) Z) E → Asked → Type 0
-IsAsked given asked = IsOkAnd given (λ all. Asks (words_of all) asked)
+abbrev pub IsRequest : {A Z E : Type 0} → Result (IntoIter (String A) Z) E → Request → Type 0
+IsRequest given request = IsOkAnd given (λ all. Asks (words_of all) request)
 
 -- they ask for no run, for this reason; or one is not UTF-8, or memory ran out
-abbrev pub IsUnasked : {A Z E : Type 0} → Result (IntoIter (String A) Z) E → UsageFault → Type 0
-IsUnasked given fault = (fault ≡ usage.Memory) ⊎ MatchResult given
+abbrev pub IsNoRequest : {A Z E : Type 0} → Result (IntoIter (String A) Z) E → UsageFault → Type 0
+IsNoRequest given fault = (fault ≡ usage.Memory) ⊎ MatchResult given
     (λ all. IsFaultOf (words_of all) fault) (λ e. IsMistake ValueValidation fault)
 
 -- ---- a run
 
 -- What was asked for is run: without a file over the input's bundle, and with one, which has the
 -- script, over the input's trace. The result is of the input's bytes, and of the file's.
-pub record IsRunOf (shows : LayoutMeant) (asked : Asked) (holds : List ℕ → Option (List ℕ))
+pub record IsRunOf (shows : LayoutMeant) (request : Request) (holds : List ℕ → Option (List ℕ))
     (old new : StreamsSeen) (result : Result Replayed ConsumeFault) : Type 0 where
-  pub shown : result ≢ Err Read → MatchOption asked.file
+  pub shown : result ≢ Err Read → MatchOption request.file
       (HoldsOfInput old.input.remaining (λ bundle. (script trace : List ℕ)
       × Divides bundle script trace
-      × WritesAnswer shows script trace asked.plan old.output new.output result))
+      × WritesAnswer shows script trace request.plan old.output new.output result))
       (λ file. HoldsOfInput (holds (string_bytes file)) (λ script.
       HoldsOfInput old.input.remaining (λ trace.
-      WritesAnswer shows script trace asked.plan old.output new.output result)))
+      WritesAnswer shows script trace request.plan old.output new.output result)))
   pub read : result ≢ Err Read → IsFalse new.input.has_failed
       × ((result ≡ Err (Refused Memory)) ⊎ IsTrue new.input.has_ended)
   -- the input is blamed where it failed or had not ended, or else the file
-  pub blamed : result ≡ Err Read → IfNone asked.file (IsCutShort old.input new.input)
+  pub blamed : result ≡ Err Read → IfNone request.file (IsCutShort old.input new.input)
   -- and then nothing is written
   pub unread : result ≡ Err Read → new.output ≡ old.output
   pub few : new.input.calls ≤ old.input.calls + MOST_CALLS
@@ -94,10 +94,10 @@ pub record IsCorrected (old new : StreamsSeen) (status : ℕ) : Type 0 where
   pub sent : IsSent text old.errors new.errors
   pub output : new.output ≡ old.output
 
-abbrev pub EndsUnasked : UsageFault → (old new : StreamsSeen) → ℕ → Type 0
-EndsUnasked (Help e) old new status = IsHelped old new status ⊎ IsSpent old new status
-EndsUnasked (Usage e) old new status = IsCorrected old new status ⊎ IsSpent old new status
-EndsUnasked usage.Memory old new status = IsSpent old new status
+abbrev pub EndsWithoutRun : UsageFault → (old new : StreamsSeen) → ℕ → Type 0
+EndsWithoutRun (Help e) old new status = IsHelped old new status ⊎ IsSpent old new status
+EndsWithoutRun (Usage e) old new status = IsCorrected old new status ⊎ IsSpent old new status
+EndsWithoutRun usage.Memory old new status = IsSpent old new status
 
 -- ---- the program
 
@@ -105,8 +105,8 @@ EndsUnasked usage.Memory old new status = IsSpent old new status
 -- no answer, its line; or they ask for none, and the input is not read.
 pub data Ends {A Z E : Type 0} (shows : LayoutMeant) (given : Result (IntoIter (String A) Z) E)
     (holds : List ℕ → Option (List ℕ)) (old new : StreamsSeen) (status : ℕ) : Type 0 where
-  ran : (asked : Asked) (result : Result Replayed ConsumeFault) → IsAsked given asked
-      → IsRunOf shows asked holds old new result → status ≡ status_at_end result
+  ran : (request : Request) (result : Result Replayed ConsumeFault) → IsRequest given request
+      → IsRunOf shows request holds old new result → status ≡ status_at_end result
       → IsReported result old.errors new.errors → Ends shows given holds old new status
-  unasked : (fault : UsageFault) → IsUnasked given fault → new.input ≡ old.input
-      → EndsUnasked fault old new status → Ends shows given holds old new status
+  without_run : (fault : UsageFault) → IsNoRequest given fault → new.input ≡ old.input
+      → EndsWithoutRun fault old new status → Ends shows given holds old new status

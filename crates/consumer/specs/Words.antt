@@ -6,7 +6,7 @@ use Rattle.clap.specs.Words.{App, IsAmong, Row, Rule, fault_of, first_of, kind_o
 use Rattle.clap.specs.Words.{new_app, new_rule, one_of, with_rule}
 use Rattle.consumer.specs.Vocabulary.{bytes_eq, IsNumeral, digits_value, without_leading_plus}
 use Rattle.consumer.specs.Vocabulary.{Signed, ErrorKind, DisplayHelp, OutOfMemory, InvalidValue}
-use Rattle.consumer.specs.Vocabulary.{UnknownArgument, Asked, UsageFault, EngineKind, Dif, Tree}
+use Rattle.consumer.specs.Vocabulary.{UnknownArgument, Request, UsageFault, EngineKind, Dif, Tree}
 use Rattle.consumer.specs.Vocabulary.{Dealt, Plan, MOST_GROUPS, MOST_WORKERS}
 use Rattle.consumer.specs.declared.words.UsageFault.TheVariants.{Help, Usage, Memory}
 
@@ -70,16 +70,16 @@ pub record IsPlanIn (rows : List Row) (plan : Plan) : Type 0 where
       × IsNumberIn 1 MOST_GROUPS rows (codes "groups") n
   pub engine : engine_in rows ≡ Some plan.engine
 
-pub record IsAskedIn (rows : List Row) (asked : Asked) : Type 0 where
-  pub file : option_map string_bytes asked.file ≡ file_in rows
-  pub plan : IsPlanIn rows asked.plan
+pub record IsRequestIn (rows : List Row) (request : Request) : Type 0 where
+  pub file : option_map string_bytes request.file ≡ file_in rows
+  pub plan : IsPlanIn rows request.plan
 
 -- ---- words
 
 -- clap finds no fault in the words, and they name the file and the plan
-pub record Asks (words : List (List ℕ)) (asked : Asked) : Type 0 where
+pub record Asks (words : List (List ℕ)) (request : Request) : Type 0 where
   pub accepted : fault_of program words ≡ []
-  pub named : IsAskedIn (matches_of program words) asked
+  pub named : IsRequestIn (matches_of program words) request
 
 -- the words name a plan
 abbrev pub HasPlan : List (List ℕ) → Type 0
@@ -113,15 +113,17 @@ pub data AskForRun : List (List ℕ) → Option (List ℕ) → Type 0 where
       → AskForRun ((codes "-s" ++ b ∷ rest) ∷ []) (Some (b ∷ rest))
 
 -- a word that doesn't begin with a hyphen
-abbrev pub IsValue : List ℕ → Type 0
-IsValue word = (b : ℕ) × (rest : List ℕ) × (word ≡ b ∷ rest) × (b ≢ 45)
+abbrev pub IsOptionValue : List ℕ → Type 0
+IsOptionValue word = (b : ℕ) × (rest : List ℕ) × (word ≡ b ∷ rest) × (b ≢ 45)
 
 -- the words that set the workers, the groups or the engine, with the three values that these then
 -- have
 pub data SetPlan : List (List ℕ) → (workers groups engine : List ℕ) → Type 0 where
-  workers : (w : List ℕ) → IsValue w → SetPlan (codes "-w" ∷ w ∷ []) w (codes "16") (codes "dif")
-  groups : (g : List ℕ) → IsValue g → SetPlan (codes "-g" ∷ g ∷ []) (codes "4") g (codes "dif")
-  engine : (e : List ℕ) → IsValue e → SetPlan (codes "-e" ∷ e ∷ []) (codes "4") (codes "16") e
+  workers : (w : List ℕ) → IsOptionValue w
+      → SetPlan (codes "-w" ∷ w ∷ []) w (codes "16") (codes "dif")
+  groups : (g : List ℕ) → IsOptionValue g
+      → SetPlan (codes "-g" ∷ g ∷ []) (codes "4") g (codes "dif")
+  engine : (e : List ℕ) → IsOptionValue e → SetPlan (codes "-e" ∷ e ∷ []) (codes "4") (codes "16") e
 
 -- the plan with the workers, the groups and the engine that these values name
 pub record IsPlanBy (w g e : List ℕ) (plan : Plan) : Type 0 where

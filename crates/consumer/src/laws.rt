@@ -6,8 +6,8 @@ ghost use Rattle.clap.specs.Words.{fault_of, matches_of};
 ghost use Rattle.firing_reader.specs.Ends.{with_ends};
 ghost use Rattle.replay_core.specs.{Groups.AreGrouped, Layouts.ShowsEach};
 ghost use Rattle.consumer.specs.{Bundle.Divides, Refusals.plain_refusal};
-ghost use Rattle.consumer.specs.Vocabulary.{Asked, DisplayHelp, ErrorKind, Firing, Grouping, Plan};
-ghost use Rattle.consumer.specs.Vocabulary.{Group, GroupFault, Memory, Refusal, Replayed};
+ghost use Rattle.consumer.specs.Vocabulary.{DisplayHelp, ErrorKind, Firing, Grouping, Plan};
+ghost use Rattle.consumer.specs.Vocabulary.{Group, GroupFault, Memory, Refusal, Replayed, Request};
 ghost use Rattle.consumer.specs.Answer.{IsAnswer, IsSameAnswer, Shown, without_line};
 ghost use Rattle.consumer.specs.Plans.{IsDefault, IsGroupedBy, IsInBounds, IsMisgrouped};
 ghost use Rattle.consumer.specs.Replaying.{IsOfPlan, IsReplay, output_of, ran_in};
@@ -113,17 +113,17 @@ pub fn runs_accepted()
 
 /// Without words, and with `-s FILE`, the plan has 4 workers, 16 groups and compiled code.
 pub fn plans_by_default()
-    ensures { (words : List (List ℕ)) (file : Option (List ℕ)) (asked : Asked)
+    ensures { (words : List (List ℕ)) (file : Option (List ℕ)) (request : Request)
         → AskForRun words file
-        → Asks words asked → IsDefault asked.plan }
+        → Asks words request → IsDefault request.plan }
 {}
 
 /// `-w W`, `-g G` and `-e E`, each alone, set the workers, the groups and the engine to this value,
 /// and leave the others as they are by default.
 pub fn plans_by_words()
-    ensures { (words : List (List ℕ)) (workers groups engine : List ℕ) (asked : Asked)
-        → SetPlan words workers groups engine → Asks words asked
-        → IsPlanBy workers groups engine asked.plan }
+    ensures { (words : List (List ℕ)) (workers groups engine : List ℕ) (request : Request)
+        → SetPlan words workers groups engine → Asks words request
+        → IsPlanBy workers groups engine request.plan }
 {}
 
 /// `-h` and `--help` ask for help.

@@ -27,4 +27,4 @@ pub use plan::{EngineKind, GroupPlan, Plan, Replayed};
 pub use program::Streams;
 pub use refusal::{Refusal, refusal_status, refusal_text};
 pub use scripts::read_script;
-pub use words::{Asked, Help, UsageFault, read_words};
+pub use words::{Help, Request, UsageFault, read_words};

@@ -2,9 +2,9 @@
 
 ghost use Rattle.std.specs.Prelude.{◌≡◌, IfOk, IsFalse, MatchResult, Some};
 ghost use Rattle.consumer.specs.{Plans.IsInBounds};
-ghost use Rattle.consumer.specs.Program.{AreUnfailed, Ends, EndsUnasked, IsAsked, IsRunOf};
-ghost use Rattle.consumer.specs.Program.{IsUnasked, streams_seen};
-ghost use Rattle.consumer.specs.Steps.Program.{EndsAsked};
+ghost use Rattle.consumer.specs.Program.{AreUnfailed, Ends, EndsWithoutRun, IsNoRequest, IsRequest};
+ghost use Rattle.consumer.specs.Program.{IsRunOf, streams_seen};
+ghost use Rattle.consumer.specs.Steps.Program.{EndsWithRun};
 ghost use Rattle.report.specs.Watched.{watched_calls, watched_has_failed, watched_inner};
 
 use crate::consumer::Consumer;
@@ -13,7 +13,7 @@ use crate::ending::{end, fail};
 use crate::files::{ScriptFiles, script_in};
 use crate::plan::Replayed;
 use crate::refusal::Refusal;
-use crate::words::{Asked, Help, UsageFault, program_words, read_words, texts_of};
+use crate::words::{Help, Request, UsageFault, program_words, read_words, texts_of};
 use keyed_hash::HashKey;
 use replay_core::Layout;
 use report::{Feed, Sink, Watched, send};
@@ -75,9 +75,9 @@ impl<'a, R: Threads + Wait + Sync, L: Layout> Consumer<'a, R, L> {
             (streams_seen F.seen S.seen E.seen streams.new) result }
     {
         match request(self.alloc, help, hash_key, given) {
-            Ok(asked) => {
-                let status = self.run_status(files, &asked, streams);
-                drop(asked);
+            Ok(request) => {
+                let status = self.run_status(files, &request, streams);
+                drop(request);
                 status
             }
             Err(fault) => {
@@ -92,38 +92,38 @@ impl<'a, R: Threads + Wait + Sync, L: Layout> Consumer<'a, R, L> {
     fn run_status<C: ScriptFiles, F: Feed, S: Sink, E: Sink>(
         &self,
         files: &C,
-        asked: &Asked,
+        request: &Request,
         streams: &mut Streams<F, S, E>,
     ) -> u8
-        requires plan { IsInBounds asked.now.plan }
+        requires plan { IsInBounds request.now.plan }
         requires unfailed { AreUnfailed (streams_seen F.seen S.seen E.seen streams.old) }
-        ensures { EndsAsked L.shows asked.now (C.bytes files.now)
+        ensures { EndsWithRun L.shows request.now (C.bytes files.now)
             (streams_seen F.seen S.seen E.seen streams.old)
             (streams_seen F.seen S.seen E.seen streams.new) result }
     {
-        let answer = self.run_asked(files, asked, streams);
+        let answer = self.run_request(files, request, streams);
         let status = end(&mut streams.errors, &answer);
         drop(answer);
         status
     }
 
     // Runs what was asked for, over the input and into the output.
-    fn run_asked<C: ScriptFiles, F: Feed, S: Sink, E: Sink>(
+    fn run_request<C: ScriptFiles, F: Feed, S: Sink, E: Sink>(
         &self,
         files: &C,
-        asked: &Asked,
+        request: &Request,
         streams: &mut Streams<F, S, E>,
     ) -> Result<Replayed, ConsumeFault>
-        requires plan { IsInBounds asked.now.plan }
+        requires plan { IsInBounds request.now.plan }
         requires unfailed { AreUnfailed (streams_seen F.seen S.seen E.seen streams.old) }
-        ensures run { IsRunOf L.shows asked.now (C.bytes files.now)
+        ensures run { IsRunOf L.shows request.now (C.bytes files.now)
             (streams_seen F.seen S.seen E.seen streams.old)
             (streams_seen F.seen S.seen E.seen streams.new) result }
         ensures errors { streams.new.errors ≡ streams.old.errors }
     {
-        match &asked.file {
-            None => self.consume(&mut streams.input, &mut streams.output, &asked.plan),
-            Some(file) => self.run_file(files, file, asked, streams),
+        match &request.file {
+            None => self.consume(&mut streams.input, &mut streams.output, &request.plan),
+            Some(file) => self.run_file(files, file, request, streams),
         }
     }
 
@@ -132,13 +132,13 @@ impl<'a, R: Threads + Wait + Sync, L: Layout> Consumer<'a, R, L> {
         &self,
         files: &C,
         file: &String,
-        asked: &Asked,
+        request: &Request,
         streams: &mut Streams<F, S, E>,
     ) -> Result<Replayed, ConsumeFault>
-        requires named { asked.now.file ≡ Some file.now }
-        requires plan { IsInBounds asked.now.plan }
+        requires named { request.now.file ≡ Some file.now }
+        requires plan { IsInBounds request.now.plan }
         requires unfailed { AreUnfailed (streams_seen F.seen S.seen E.seen streams.old) }
-        ensures run { IsRunOf L.shows asked.now (C.bytes files.now)
+        ensures run { IsRunOf L.shows request.now (C.bytes files.now)
             (streams_seen F.seen S.seen E.seen streams.old)
             (streams_seen F.seen S.seen E.seen streams.new) result }
         ensures errors { streams.new.errors ≡ streams.old.errors }
@@ -149,7 +149,7 @@ impl<'a, R: Threads + Wait + Sync, L: Layout> Consumer<'a, R, L> {
                     &script,
                     &mut streams.input,
                     &mut streams.output,
-                    &asked.plan,
+                    &request.plan,
                 );
                 drop(script);
                 answer
@@ -165,18 +165,18 @@ fn request(
     help: Help,
     hash_key: HashKey,
     given: io::Result<Args>,
-) -> Result<Asked, UsageFault>
-    ensures exact { MatchResult result (IsAsked given) (IsUnasked given) }
-    ensures plan { IfOk result (λ asked. IsInBounds asked.plan) }
+) -> Result<Request, UsageFault>
+    ensures exact { MatchResult result (IsRequest given) (IsNoRequest given) }
+    ensures plan { IfOk result (λ request. IsInBounds request.plan) }
 {
-    let asked = asked_by(alloc, help, given)?;
-    Ok(asked.hashed_by(hash_key))
+    let request = request_by(alloc, help, given)?;
+    Ok(request.hashed_by(hash_key))
 }
 
 // What the program's words ask for.
-fn asked_by(alloc: Global, help: Help, given: io::Result<Args>) -> Result<Asked, UsageFault>
-    ensures exact { MatchResult result (IsAsked given) (IsUnasked given) }
-    ensures plan { IfOk result (λ asked. IsInBounds asked.plan) }
+fn request_by(alloc: Global, help: Help, given: io::Result<Args>) -> Result<Request, UsageFault>
+    ensures exact { MatchResult result (IsRequest given) (IsNoRequest given) }
+    ensures plan { IfOk result (λ request. IsInBounds request.plan) }
 {
     let words = program_words(alloc, help, given)?;
     let words = texts_of(alloc, &words)?;
@@ -190,7 +190,7 @@ fn explain<F: Feed, S: Sink, E: Sink>(
     streams: &mut Streams<F, S, E>,
 ) -> u8
     requires { AreUnfailed (streams_seen F.seen S.seen E.seen streams.old) }
-    ensures ends { EndsUnasked fault.now (streams_seen F.seen S.seen E.seen streams.old)
+    ensures ends { EndsWithoutRun fault.now (streams_seen F.seen S.seen E.seen streams.old)
         (streams_seen F.seen S.seen E.seen streams.new) result }
     ensures input { streams.new.input ≡ streams.old.input }
 {
@@ -208,7 +208,7 @@ fn show_help<F: Feed, S: Sink, E: Sink>(
     streams: &mut Streams<F, S, E>,
 ) -> u8
     requires { AreUnfailed (streams_seen F.seen S.seen E.seen streams.old) }
-    ensures ends { EndsUnasked (UsageFault.Help help.now)
+    ensures ends { EndsWithoutRun (UsageFault.Help help.now)
         (streams_seen F.seen S.seen E.seen streams.old)
         (streams_seen F.seen S.seen E.seen streams.new) result }
     ensures input { streams.new.input ≡ streams.old.input }
@@ -229,7 +229,7 @@ fn show_mistake<F: Feed, S: Sink, E: Sink>(
     streams: &mut Streams<F, S, E>,
 ) -> u8
     requires { AreUnfailed (streams_seen F.seen S.seen E.seen streams.old) }
-    ensures ends { EndsUnasked (UsageFault.Usage mistake.now)
+    ensures ends { EndsWithoutRun (UsageFault.Usage mistake.now)
         (streams_seen F.seen S.seen E.seen streams.old)
         (streams_seen F.seen S.seen E.seen streams.new) result }
     ensures input { streams.new.input ≡ streams.old.input }

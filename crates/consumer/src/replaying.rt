@@ -68,7 +68,7 @@ impl<'a, R: Threads + Wait + Sync, L: Layout> Consumer<'a, R, L> {
         replayed
     }
 
-    /// Does the same with a script that was accepted, and what was read of its trace.
+    /// Replays a script that was accepted over what was read of its trace.
     pub(crate) fn replay_read<G: Gate + Sync>(
         &self,
         script: &TypedScript,
@@ -86,7 +86,7 @@ impl<'a, R: Threads + Wait + Sync, L: Layout> Consumer<'a, R, L> {
         replayed
     }
 
-    // Does the same with a trace that was read.
+    // Replays a script that was accepted over its trace.
     fn replay_trace<G: Gate + Sync>(
         &self,
         script: &TypedScript,

@@ -6,9 +6,9 @@ ghost use Rattle.std.specs.Prelude.{pos, string_bytes, true};
 ghost use Rattle.clap.specs.Words.{app_of, found_of, kind_of, rows_of, rule_of, takes};
 ghost use Rattle.consumer.specs.{Vocabulary.into_iter_items, Vocabulary.Signed};
 ghost use Rattle.consumer.specs.{declared.words.UsageFault.TheVariants.Memory};
-ghost use Rattle.consumer.specs.Words.{Asks, HasPlan, IsAskedIn, IsFaultOf, IsMistake, IsNumberIn};
-ghost use Rattle.consumer.specs.Words.{IsPlanIn, engine_called, engine_in};
-ghost use Rattle.consumer.specs.Steps.Words.{IsPlanFault, IsToldAs};
+ghost use Rattle.consumer.specs.Words.{Asks, HasPlan, IsFaultOf, IsMistake, IsNumberIn, IsPlanIn};
+ghost use Rattle.consumer.specs.Words.{IsRequestIn, engine_called, engine_in};
+ghost use Rattle.consumer.specs.Steps.Words.{IsPlanFault, IsReportedAs};
 ghost use Rattle.consumer.specs.Words.{bare, file_in, number_option, option, option_or, program};
 
 use crate::plan::{EngineKind, GroupPlan, Plan};
@@ -24,7 +24,7 @@ use thiserror::Error;
 
 /// What the words ask for.
 #[derive(Debug, Drop)]
-pub struct Asked {
+pub struct Request {
     /// The file that holds the script. Standard input is then the trace alone. Without a file it
     /// is a bundle.
     pub file: Option<String>,
@@ -32,14 +32,14 @@ pub struct Asked {
     pub plan: Plan,
 }
 
-impl Asked {
+impl Request {
     /// The same, where the run's maps hash by this key.
-    pub fn hashed_by(self, hash_key: HashKey) -> Asked
+    pub fn hashed_by(self, hash_key: HashKey) -> Request
         ensures { result ≡ record self { plan = record self.plan { hash_key = hash_key } } }
     {
-        let Asked { file, plan } = self;
+        let Request { file, plan } = self;
         let plan = plan.hashed_by(hash_key);
-        Asked { file, plan }
+        Request { file, plan }
     }
 }
 
@@ -126,7 +126,11 @@ pub fn texts_of(alloc: Global, words: &[String]) -> Result<Vec<&str>, AllocError
 /// read_words(alloc, help, &["-s", "s.d", "-w", "2"])?;
 /// read_words(alloc, help, &["-w", "17"]); // Err(UsageFault::Usage(..))
 /// ```
-pub fn read_words<'a>(alloc: Global, help: Help, words: &'a [&'a str]) -> Result<Asked, UsageFault>
+pub fn read_words<'a>(
+    alloc: Global,
+    help: Help,
+    words: &'a [&'a str],
+) -> Result<Request, UsageFault>
     ensures exact { let given = map (λ w. w.now) words.now in
         MatchResult result (Asks given) (IsFaultOf given) }
     ensures taken { let given = map (λ w. w.now) words.now in
@@ -135,22 +139,22 @@ pub fn read_words<'a>(alloc: Global, help: Help, words: &'a [&'a str]) -> Result
     let command = command(alloc, help)?;
     match command.try_get_matches_from(words) {
         Ok(matches) => {
-            let asked = request_in(alloc, help, &matches);
+            let request = request_in(alloc, help, &matches);
             drop(matches);
-            asked
+            request
         }
         Err(error) => Err(usage_fault(error)),
     }
 }
 
 // The file and the plan of clap's matches.
-fn request_in(alloc: Global, help: Help, matches: &ArgMatches<'_>) -> Result<Asked, UsageFault>
-    ensures { MatchResult result (IsAskedIn (rows_of (found_of matches.now)))
+fn request_in(alloc: Global, help: Help, matches: &ArgMatches<'_>) -> Result<Request, UsageFault>
+    ensures { MatchResult result (IsRequestIn (rows_of (found_of matches.now)))
         (IsPlanFault (rows_of (found_of matches.now))) }
 {
     let file = file_named(alloc, matches)?;
     let plan = plan_in(alloc, help, matches)?;
-    Ok(Asked { file, plan })
+    Ok(Request { file, plan })
 }
 
 // A program's options, with all that help says of them.
@@ -338,7 +342,7 @@ fn engine_called(name: &str) -> Option<EngineKind>
 
 // What clap's error is: a request for help, a mistake, or out of memory.
 fn usage_fault(error: clap::Error) -> UsageFault
-    ensures { IsToldAs error result }
+    ensures { IsReportedAs error result }
 {
     match error.kind() {
         ErrorKind::DisplayHelp => UsageFault::Help(error),

@@ -5,14 +5,14 @@ ghost use Rattle.report.specs.Columns.{spaces};
 
 use std::alloc::AllocError;
 
-/// The width of the widest column.
-pub const WIDEST: usize = 50;
+/// The most spaces that are put at once.
+pub const MOST_SPACES: usize = 50;
 
-const BLANKS: [u8; WIDEST] = [b' '; WIDEST];
+const BLANKS: [u8; MOST_SPACES] = [b' '; MOST_SPACES];
 
 /// Puts this many spaces.
 pub fn put_spaces(out: &mut Vec<u8>, count: usize) -> Result<(), AllocError>
-    requires { count ≤ 50 }
+    requires { count ≤ MOST_SPACES }
     ensures { OnOk result (out.new.items ≡ out.old.items ++ spaces count) }
 {
     out.extend_from_slice(&BLANKS[..count])

@@ -130,7 +130,7 @@ pub fn take_next<F: Feed, T: Intake>(
     Ok(false)
 }
 
-/// Adds what a feed gives to a block until this has so many bytes or more, and returns whether the
+/// Adds what a feed gives to a block until it has at least `enough` bytes, and returns whether the
 /// feed has ended.
 ///
 /// ```text

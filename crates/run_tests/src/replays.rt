@@ -480,7 +480,7 @@ const ASKED: [(&[&str], u32, u32, EngineKind); 4] = [
 // Whether these words ask for this plan, and name no file.
 fn ask_for(alloc: Global, words: &[&str], plan: &Plan) -> bool {
     match read_words(alloc, HELP, words) {
-        Ok(asked) => asked.plan == *plan && asked.file.is_none(),
+        Ok(request) => request.plan == *plan && request.file.is_none(),
         Err(_) => false,
     }
 }
@@ -511,7 +511,7 @@ const MISTAKES: [&[&str]; 7] = [
 #[test]
 fn words_out_of_range_are_a_mistake(rt: HostRuntime) {
     for words in MISTAKES {
-        let asked = read_words(rt.alloc(), HELP, words);
-        assert!(rt; matches!(asked, Err(UsageFault::Usage(_))));
+        let request = read_words(rt.alloc(), HELP, words);
+        assert!(rt; matches!(request, Err(UsageFault::Usage(_))));
     }
 }

@@ -13,8 +13,8 @@ IsPlanFault rows (Usage e) = (kind_of e ≢ DisplayHelp) × (kind_of e ≢ OutOf
 IsPlanFault rows Memory = Unit {0}
 
 -- clap's error is reported as what it is
-abbrev pub IsToldAs : Error → UsageFault → Type 0
-IsToldAs error (Help e) = (e ≡ error) × (kind_of error ≡ DisplayHelp)
-IsToldAs error (Usage e) =
+abbrev pub IsReportedAs : Error → UsageFault → Type 0
+IsReportedAs error (Help e) = (e ≡ error) × (kind_of error ≡ DisplayHelp)
+IsReportedAs error (Usage e) =
     (e ≡ error) × (kind_of error ≢ DisplayHelp) × (kind_of error ≢ OutOfMemory)
-IsToldAs error Memory = kind_of error ≡ OutOfMemory
+IsReportedAs error Memory = kind_of error ≡ OutOfMemory

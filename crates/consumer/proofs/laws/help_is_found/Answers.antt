@@ -1,5 +1,5 @@
-use Rattle.consumer.proofs.CommandLine.{help_asked}
+use Rattle.consumer.proofs.CommandLine.{help_requested}
 use Rattle.consumer.proofs.laws.help_is_found.Goals as goal
 
 pub returns : goal.returns
-returns c = help_asked
+returns c = help_requested

@@ -6,7 +6,7 @@ use Rattle.consumer.proofs.consumer.Consumer.run_file.Goals as goal
 
 -- the file of -s was not read
 pub returns-in-Err-clause-run : goal.returns-in-Err-clause-run
-returns-in-Err-clause-run g c = script_unread c.args.asked.now _ _ (Err c.in-Err.fault) c.in-Err.fault
+returns-in-Err-clause-run g c = script_unread c.args.request.now _ _ (Err c.in-Err.fault) c.in-Err.fault
     c.args.file.now c.requires.named c.requires.unfailed refl c.in-Err.ensures.fault
 
 -- it was read, or so much of it that it is too long
@@ -15,10 +15,10 @@ returns-in-Ok-clause-run g c =
     let ends = c.consume_trace-answer.ensures in
     let known = rw c.as_str.ensures.value at c.in-Ok.ensures.bytes in
     record {
-      shown = λ other. any_file c.args.asked.now.file c.args.file.now _ _ c.requires.named
+      shown = λ other. any_file c.args.request.now.file c.args.file.now _ _ c.requires.named
           (holds_of_file _ _ _ _ _ _ _ _ known (rw c.deref.ensures.value at ends.shown other));
       read = λ other. ends.read.whole other;
-      blamed = λ _. no_file c.args.asked.now.file c.args.file.now _ c.requires.named;
+      blamed = λ _. no_file c.args.request.now.file c.args.file.now _ c.requires.named;
       unread = search rules;
       few = ends.read.few;
     }

@@ -5,10 +5,10 @@ use Rattle.consumer.proofs.consumer.Consumer.run_status.Goals as goal
 -- a run leaves the errors' stream as it was, and the end writes to no other
 pub returns : goal.returns
 returns g c =
-    let r = c.run_asked-answer.ensures.run in
+    let r = c.run_request-answer.ensures.run in
     record {
-      answer = c.run_asked-answer.result;
+      answer = c.run_request-answer.result;
       run = record { shown = r.shown; read = r.read; blamed = r.blamed; unread = r.unread; few = r.few };
       ends = c.end-status.ensures.status;
-      line = subst (λ e. IsReported c.run_asked-answer.result (g.E.Sink.seen e) (g.E.Sink.seen c.end-status.new.errors)) c.run_asked-answer.ensures.errors c.end-status.ensures.line;
+      line = subst (λ e. IsReported c.run_request-answer.result (g.E.Sink.seen e) (g.E.Sink.seen c.end-status.new.errors)) c.run_request-answer.ensures.errors c.end-status.ensures.line;
     }
