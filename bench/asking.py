@@ -1,5 +1,6 @@
 """The questions of the benchmarks: the traces that they are asked of, who answers them, and what
-each answer tells."""
+each answer says."""
+import argparse
 import os
 import shutil
 import subprocess
@@ -8,6 +9,15 @@ import sys
 HERE = os.path.dirname(os.path.abspath(__file__))
 PROGRAM = f"{HERE}/../crates/dreplay/out/dreplay"
 QUESTIONS = ["reading", "counts", "latency", "heavy", "dense"]
+
+
+def parser(doc):
+    """A reader of a benchmark's words, with its doc as help."""
+    return argparse.ArgumentParser(
+        description=doc,
+        usage=argparse.SUPPRESS,
+        formatter_class=argparse.RawDescriptionHelpFormatter,
+    )
 
 
 def stop_without(tools, program):
@@ -28,8 +38,8 @@ def write_trace(path, rows, *words):
 
 def write_bundle(question, trace, path):
     """Writes the bundle that asks a question of a trace."""
-    asked = f"{HERE}/questions/{question}.d"
-    with open(path, "wb") as file, open(asked, "rb") as script, open(trace, "rb") as rows:
+    source = f"{HERE}/questions/{question}.d"
+    with open(path, "wb") as file, open(source, "rb") as script, open(trace, "rb") as rows:
         file.write(script.read() + b"---\n")
         shutil.copyfileobj(rows, file)
 
@@ -56,7 +66,7 @@ def others(question, written):
 
 
 def facts_of(output):
-    """What an answer of dreplay tells, as mawk writes it, a line each: a text; keys and a value;
+    """What an answer of dreplay says, as mawk writes it, a line each: a text; keys and a value;
     keys, a bucket's label and its count, where it isn't 0."""
     facts, keys = [], []
     for line in output.splitlines():

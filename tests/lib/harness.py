@@ -164,10 +164,10 @@ def parser_of_all_programs(doc):
     return made
 
 
-def all_programs_of(words, tally):
+def all_programs_of(args, tally):
     """The programs to run that are built, and those of dreplay-data. Where either is given, only
     what is given is run."""
-    chosen = words.program or [], words.data_program or []
+    chosen = args.program or [], args.data_program or []
     if not any(chosen):
         chosen = PROGRAMS, DATA_PROGRAMS
     return [tally.built([os.path.abspath(path) for path in paths]) for paths in chosen]
@@ -183,9 +183,9 @@ def add_program(made, what):
     )
 
 
-def programs_by_name(words):
+def programs_by_name(args):
     """The programs that add_program's words give, by the names under which they are run."""
-    found = {"dreplay": words.program, "dreplay-data": words.data_program}
+    found = {"dreplay": args.program, "dreplay-data": args.data_program}
     return {name: os.path.abspath(path) for name, path in found.items()}
 
 
@@ -196,8 +196,8 @@ def link_programs(folder, programs):
             os.symlink(path, f"{folder}/{name}")
 
 
-def programs_of(words):
-    return [os.path.abspath(path) for path in words.program or PROGRAMS]
+def programs_of(args):
+    return [os.path.abspath(path) for path in args.program or PROGRAMS]
 
 
 def add_names(made):
@@ -206,21 +206,21 @@ def add_names(made):
     made.add_argument("names", nargs="*", metavar="NAME", help=names)
 
 
-def asked(doc):
-    """Reads a test script's words by its doc: the programs to run, and the names of cases and
+def programs_and_names(doc):
+    """Reads the words of a test script by its doc: the programs to run, and the names of cases and
     examples."""
     made = parser_of_programs(doc)
     add_names(made)
-    words = made.parse_args()
-    return programs_of(words), words.names
+    args = made.parse_args()
+    return programs_of(args), args.names
 
 
-def asked_of_all(doc, tally):
+def all_programs_and_names(doc, tally):
     """The same of a test that runs dreplay-data too: its programs come second."""
     made = parser_of_all_programs(doc)
     add_names(made)
-    words = made.parse_args()
-    return *all_programs_of(words, tally), words.names
+    args = made.parse_args()
+    return *all_programs_of(args, tally), args.names
 
 
 class Tally:

@@ -17,7 +17,6 @@ OWNER = re.compile(
     r"^(?:pub(?:\([^)]*\))? )?(?:impl|trait)\b(?:<[^>]*>)?(?:.* for)? (\w+)", re.MULTILINE
 )
 TYPE = re.compile(r"^pub(?:\([^)]*\))? (?:enum|struct) (\w+)[^{(;]*([{(])", re.MULTILINE)
-VARIANT = re.compile(r"^    (\w+)(\(.*\))?,?$", re.MULTILINE)
 SELF = re.compile(r"\s*(&('\w+ )?(mut )?|mut )?self\b")
 # What pages name of that library, of Rattle and of the system; and texts that they quote.
 OTHER_NAMES = {
