@@ -1,1 +1,1 @@
-"""What is drawn by chance: scripts and traces, objects, and changes of bytes."""
+"""What is drawn at random: scripts and traces, objects, and changes of bytes."""

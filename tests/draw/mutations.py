@@ -1,4 +1,4 @@
-"""Changes bytes by chance: bits, bytes, numbers, slices, ends, and pieces of other texts."""
+"""Changes bytes at random: bits, bytes, numbers, slices, ends, and pieces of other texts."""
 import re
 
 BYTES = b"\0\t\n\r \"#%&'()*+,-./0:;<=>?@[\\]^_`aeghi{|}~\x7f\x80\xc3\xff"
@@ -77,5 +77,5 @@ MUTATIONS += [splice, other_end, other_text, swap_lines]
 
 
 def mutate(rng, text, other):
-    """Changes a text once, by chance; a text of the same kind is there to take pieces from."""
+    """Changes a text once, at random; a text of the same kind is there to take pieces from."""
     return rng.choice(MUTATIONS)(rng, text, other)

@@ -1,4 +1,4 @@
-"""Draws objects of DIF by chance: over half of them valid, the others with a fault or several.
+"""Draws random objects of DIF: over half of them valid, the others with a fault or several.
 
 Most instructions are drawn until one has no fault at its place. Then some are changed.
 """
@@ -44,7 +44,7 @@ SHARES = [share for share, _ in GROUPS]
 
 
 def drawn(seed, place):
-    """The object at a place in the list that a seed stands for."""
+    """The object at a place in the list that a seed fixes."""
     chance = random.Random(f"{seed} {place} object")
     numbers = chance.choices(NUMBERS, k=chance.choice([0, 1, 3, 5]))
     texts = chance.choices(TEXTS, k=chance.choice([0, 1, 2, 4]))

@@ -20,7 +20,7 @@ HEADER = (",".join(COLUMNS + [f"arg{place}" for place in range(10)]) + "\n").enc
 
 
 def read(path, absent=b""):
-    """The bytes of a file, or what stands for it where there is none."""
+    """The bytes of a file, or those that are given for a file that isn't there."""
     if not os.path.exists(path):
         return absent
     with open(path, "rb") as file:
@@ -152,8 +152,7 @@ def every_name():
 
 
 def named(words):
-    """The names that the words of a test script stand for: cases, examples, and all cases of a
-    file."""
+    """The names that the words of a test script mean: cases, examples, and all cases of a file."""
     return [name for word in words for name in subjects().get(word, [word])] or every_name()
 
 

@@ -9,7 +9,7 @@ from dataclasses import dataclass, field
 from lib.names import TOP, definitions, read
 
 USE = re.compile(r"^(?:pub )?use ([^{\n]*(?:\{[^}]*\})?[^\n]*)$", re.MULTILINE)
-# A name, perhaps behind the name of the module that it is of; or an operator.
+# A name, perhaps after the name of the module that it is of; or an operator.
 WORD = re.compile(r"(?:([^\W\d][\w']*)\.)?([^\W\d][\w']*)|([^\w\s()\[\]{}.,;]+)")
 
 

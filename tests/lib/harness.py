@@ -87,7 +87,7 @@ class Case:
 
 
 def drawn_plan(seed, place):
-    """The plan for one place in the list that a seed stands for."""
+    """The plan for a place in the list that a seed fixes."""
     return random.Random(f"{seed} {place} plan").choice(PLANS)
 
 

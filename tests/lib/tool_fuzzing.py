@@ -1,5 +1,5 @@
-"""What tests/fuzz_tools fuzzes a tool by: rounds drawn by chance, a run of the tool in a process of
-its own, and what is wrong with it.
+"""What tests/fuzz_tools fuzzes a tool by: random rounds, a run of the tool in a process of its own,
+and what is wrong with it.
 """
 import importlib
 import io
@@ -26,7 +26,8 @@ MOST_SAID = 2_000  # bytes of a line on standard error
 BROKEN = (b"Traceback", b"a fault of this tool", b"Error: ", b"most recent call")
 CONTROLS = re.compile(rb"[\0-\x08\x0b-\x1f\x7f]")
 COMMANDS = ("true", "cat", "zstd")  # that a run finds on PATH, beside the programs and a strace
-# What stands for strace: it runs nothing and attaches to nothing, and has recorded what is there.
+# What takes the place of strace: it runs nothing and attaches to nothing, and has recorded what is
+# there.
 STRACE = """#!/bin/sh
 [ "$1" = -V ] && { echo "strace -- version 6.1"; exit 0; }
 until [ "$1" = -o ]; do shift; done

@@ -83,7 +83,7 @@ class Variable:
 class Aggregation:
     keys: list
     function: str
-    range: str
+    linear: str
 
 
 def draw(chance):
@@ -258,7 +258,7 @@ class Drawer:
         if known.function != "count":
             tokens += self.integer(2)
         if known.function == "lquantize":
-            tokens += [",", *known.range.split()]
+            tokens += [",", *known.linear.split()]
         return tokens + [")"]
 
     def bracketed(self, parts):
@@ -317,7 +317,7 @@ class Drawer:
         return [self.chance.choice(self.chance.choice(ways))]
 
     def operand(self, depth):
-        """An integer that any operator may stand beside."""
+        """An integer that may be beside any operator."""
         tokens = self.integer(depth)
         return tokens if len(tokens) == 1 else ["(", *tokens, ")"]
 

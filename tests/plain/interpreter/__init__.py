@@ -3,7 +3,7 @@ program.
 
 `answer` takes what the program takes, and gives what it has to give: the bytes, the line of a
 refusal, the exit status; with the rendering of `data`, those of dreplay-data. tests/differential
-compares them over scripts and traces drawn by chance.
+compares them over random scripts and traces.
 """
 import re
 import sys
@@ -28,7 +28,7 @@ class Answer:
 
 
 def divide(bundle):
-    """A bundle's script and trace: what stands before and after its first dividing line."""
+    """A bundle's script and trace: what is before and after its first dividing line."""
     line = DIVIDING_LINE.search(bundle)
     return (bundle[: line.start()], bundle[line.end() :]) if line else (bundle, b"")
 

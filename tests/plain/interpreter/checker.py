@@ -34,7 +34,7 @@ STEP = LEVELS = range(1, 65_536)
 
 
 class LinearRange(NamedTuple):
-    """Where the buckets of lquantize stand."""
+    """The bounds and the step of lquantize's buckets."""
 
     lower: int
     upper: int
@@ -186,7 +186,7 @@ class Checker:
 
     def printf(self, call, types):
         first = call.arguments[0] if call.arguments else None
-        pieces = formats.pieces(first.bytes) if isinstance(first, tree.Text) else None
+        pieces = formats.pieces(first.content) if isinstance(first, tree.Text) else None
         if pieces is None:
             refuse(PRINTF, call)
         if tuple(piece.takes_text for piece in formats.conversions(pieces)) != kinds_of(types[1:]):

@@ -44,7 +44,7 @@ def is_mark(token, spelling):
 
 
 def is_too_deep(tokens):
-    """Whether too many brackets are open at some token, or too many tokens stand in a row."""
+    """Whether too many brackets are open at some token, or too many tokens follow one another."""
     opened = in_a_row = 0
     for token in tokens:
         says = token.says if token.kind == "mark" else None
@@ -79,7 +79,7 @@ class Parser:
         return self.tokens[self.at - 1]
 
     def takes(self, *marks):
-        """Goes over one of these marks, where one stands here."""
+        """Goes over one of these marks, if one is here."""
         return self.take("mark", *marks) if self.looks_at("mark", *marks) else None
 
     def script(self):

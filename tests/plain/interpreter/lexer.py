@@ -46,7 +46,7 @@ def lex(script):
 
 
 class Lexer:
-    """Reads a script from the left. `place` is where in the script it stands: head, declaration,
+    """Reads a script from the left. `place` is where in the script it is: head, declaration,
     predicate or body."""
 
     def __init__(self, script):
@@ -93,7 +93,7 @@ class Lexer:
         return stop + 2
 
     def is_option_line(self):
-        """Whether here stands a `#` with nothing but spaces and tabs before it on its line."""
+        """Whether a `#` is here with nothing but spaces and tabs before it on its line."""
         start = self.script.rfind(b"\n", 0, self.at) + 1
         return self.script.startswith(b"#", self.at) and not self.script[start : self.at].strip(
             b" \t"

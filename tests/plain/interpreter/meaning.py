@@ -125,7 +125,7 @@ def perform_printf(evaluation, call, texts, _):
     first, *rest = call.arguments
     texts.append(
         formats.written(
-            first.bytes, [(evaluation.value(argument), argument.type) for argument in rest]
+            first.content, [(evaluation.value(argument), argument.type) for argument in rest]
         )
     )
 
@@ -153,7 +153,7 @@ class Evaluation:
             case tree.Number():
                 return expression.value
             case tree.Text():
-                return expression.bytes[:MOST_TEXT]
+                return expression.content[:MOST_TEXT]
             case tree.Place(space=""):
                 return BUILT_INS[expression.name](self.firing)
             case tree.Place():

@@ -1,5 +1,5 @@
-"""Why a script or a trace is refused: the part that found it, the fault's number, and where it
-stands."""
+"""Why a script or a trace is refused: the part that found it, the fault's number, and its
+place."""
 
 STATUSES = {"Lex": 3, "Parse": 3, "Type": 3, "Trace": 4}
 

@@ -12,7 +12,7 @@ BYTE_ORDER_MARK = b"\xef\xbb\xbf"
 MOST_ROWS, MOST_TEXT, MOST_DIGITS = 1_000_000, 255, 20
 NO_HEADER, BAD_COLUMNS, BAD_NUMBER, BAD_ORDER, BAD_TEXT, RESERVED, TOO_MANY = range(1, 8)
 
-# a field that begins with a quote: its quoted part, and what stands between that and its end
+# a field that begins with a quote: its quoted part, and what is between that and its end
 QUOTED = re.compile(rb'"((?:[^"]|"")*)(?:"([^,\r\n]*)|\Z)')
 PLAIN = re.compile(rb"[^,\r\n]*")
 LINE_ENDS = re.compile(rb"[\r\n]*")
@@ -48,7 +48,7 @@ def read(trace):
 
 
 def end_point(number, time, name):
-    """The firing BEGIN or END, which stands in no row."""
+    """The firing BEGIN or END, which is in no row."""
     return Firing(number, 0, 0, 0, b"dtrace", time, b"dtrace", b"", b"", name, (0,) * 10)
 
 

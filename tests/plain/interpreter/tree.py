@@ -21,7 +21,7 @@ class Number(Expression):
 @dataclass
 class Text(Expression):
     line: int
-    bytes: bytes
+    content: bytes
 
 
 @dataclass
