@@ -154,6 +154,13 @@ def declared():
     return found
 
 
+def laws():
+    """The names of the laws: the public functions of laws.rt, and of d_types' meaning.rt."""
+    paths = files("src/laws.rt") + ["crates/d_types/src/meaning.rt"]
+    texts = (read(f"{TOP}/{path}") for path in paths)
+    return {name for text in texts for name in re.findall(r"(?m)^pub fn (\w+)", text)}
+
+
 def names_of_cases():
     paths = glob.glob(f"{TOP}/tests/cases/*.txt")
     names = {name for path in paths for name in re.findall(r"(?m)^== (\w+) ==$", read(path))}
