@@ -1,5 +1,6 @@
 """What sources and definitions declare, as far as pages and examples in comments speak of it."""
 import glob
+import os
 import re
 from collections import defaultdict
 
@@ -152,6 +153,10 @@ def declared():
         found |= {name for pair in DECLARED.findall(read(f"{TOP}/{path}")) for name in pair}
         found |= {path.split("/")[1], path.split("/")[-1].split(".")[0]}
     return found
+
+
+def is_module(crate, name):
+    return os.path.exists(f"{TOP}/crates/{crate}/src/{name}.rt")
 
 
 def laws():
