@@ -16,12 +16,13 @@ from .script import FUNCTIONS, Aggregation
 OTHER_ANSWER = 1
 FORMAT, VERSION = "dreplay-data", 1
 NUMBERS = (-(2**63), 2**63 - 1)
-COUNTS = (1, 2**64 - 1)
+MOST_COUNT = 2**64 - 1
+COUNTS = (1, MOST_COUNT)
 FIRINGS = (0, 2**64)
 BOUNDS = (-(2**31), 2**31 - 1)
 STEPS = (1, 65_535)
 MOST_AGGREGATIONS, MOST_KEYS, MOST_DIGITS = 65_536, 8, 30
-MOST_ROWS = 5_000_000  # of the histograms of an aggregation
+MOST_ROWS = 1_000_000  # of all histograms that are shown
 SHARED = ("count", "sum")  # functions whose values have a total
 TITLE = re.compile(r"@(?:[A-Za-z_]\w*)?", re.ASCII)
 HEX = re.compile(r"(?:[0-9a-f]{2})*", re.ASCII)
@@ -65,16 +66,26 @@ class Table:
         ranked.sort(key=operator.itemgetter(0, 1))
         return [(list(key), value) for _, _, key, value in ranked]
 
+    def rows(self, entries):
+        """How many rows the histograms of some of the entries have."""
+        if not self.aggregation.is_histogram:
+            return 0
+        return sum(len(rows_of(value, self.buckets)) for _, value in entries)
+
     def shown(self, entries):
         """Some of the entries as they are shown."""
-        if self.aggregation.is_histogram:
-            rows = sum(len(rows_of(value, self.buckets)) for _, value in entries)
-            if rows > MOST_ROWS:
-                why = f"the histograms of {self.title} have {rows:,} rows: take fewer by --top"
-                raise Failure(why)
         total = sum(self.held.values()) if self.aggregation.function in SHARED else 0
         figures = [(key, figure(value, self.buckets)) for key, value in entries]
         return Shown(self.aggregation, figures, total)
+
+
+def all_shown(chosen):
+    """Tables as they are shown, each with those of its entries that are."""
+    rows = sum(table.rows(entries) for table, entries in chosen)
+    if rows > MOST_ROWS:
+        why = f"the histograms have {rows:,} rows, more than {MOST_ROWS:,}: take fewer by --top"
+        raise Failure(why)
+    return (table.shown(entries) for table, entries in chosen)
 
 
 @dataclass
@@ -209,16 +220,19 @@ def held_of(function, value, buckets):
 
 def counts_of(pairs, buckets):
     """The counts of a histogram, by the places of its buckets, which ascend."""
-    counts, before = {}, None
+    counts, before, place_of = {}, buckets.ends[0] - 1, buckets.place
     if not isinstance(pairs, list) or not pairs:
         raise Wrong("its histogram has no counts")
     for pair in pairs:
-        if not isinstance(pair, list) or len(pair) != 2 or not is_whole(pair[0], NUMBERS):
+        if type(pair) is not list or len(pair) != 2 or type(pair[0]) is not int:
             raise Wrong("its histogram has a count without a label")
-        place = buckets.place(pair[0])
-        if place is None or (before is not None and place <= before):
-            raise Wrong(f"its histogram has no bucket {pair[0]} in this place")
-        counts[place], before = number_of(pair[1], COUNTS), place
+        label, count = pair
+        place = place_of(label)
+        if place is None or place <= before:
+            raise Wrong(f"its histogram has no bucket {label} in this place")
+        if type(count) is not int or not 0 < count <= MOST_COUNT:
+            raise Wrong("its value is none of its function")
+        counts[place], before = count, place
     return counts
 
 

@@ -1,5 +1,4 @@
 """From the lines of strace to the rows of a trace."""
-import fnmatch
 import io
 import os
 import re
@@ -9,6 +8,7 @@ from .ahead import Ahead
 from .ends import shortened
 from .errors import RETURNED
 from .paths import path_of
+from .patterns import Names
 from .processes import Processes
 from .strace import SYMBOL, BadLine, Call
 from .trace import ARGS, MOST_TIME, Rows, field, text
@@ -70,11 +70,7 @@ class Wanted:
 
     def __init__(self, calls, since):
         self.since, self.first = since, None
-        self.calls = (
-            re.compile("|".join(fnmatch.translate(call) for call in calls.split(",")))
-            if calls
-            else None
-        )
+        self.calls = Names(calls.split(",")) if calls else None
         self.all = self.calls is None and since is None
 
     def row(self, name, time):
@@ -82,7 +78,7 @@ class Wanted:
             self.first = time
         if self.since is not None and time - self.first < self.since:
             return False
-        return self.calls is None or self.calls.match(name) is not None
+        return self.calls is None or self.calls.has(name)
 
 
 class Begun:

@@ -69,6 +69,14 @@ def padded(text, columns, right=False):
     return spaces + text if right else text + spaces
 
 
+def aligned(texts, right=False):
+    """Texts of a column, each as wide as the widest."""
+    columns = max(map(width, texts))
+    if "".join(texts).isascii():
+        return [text.rjust(columns) if right else text.ljust(columns) for text in texts]
+    return [padded(text, columns, right) for text in texts]
+
+
 def cut(text, most):
     """A text of at most `most` columns."""
     if width(text) <= most:

@@ -5,9 +5,9 @@ from dataclasses import dataclass
 from html import escape
 
 from .forms import total_of
-from .labels import SHARE, cut, interval, name, numbered, padded, width
+from .labels import SHARE, aligned, cut, interval, name, numbered, padded, width
 
-MOST_BARS, MOST_CHARTS = 40, 40
+MOST_BARS, MOST_BUCKETS, MOST_CHARTS = 40, 1000, 40
 EIGHTHS = " ▏▎▍▌▋▊▉█"
 WIDTH, ROW, WIDEST_LABEL = 760, 20, 40
 FONT = "font-family=\"'DejaVu Sans', Verdana, sans-serif\""
@@ -41,21 +41,27 @@ class Chart:
     shown: list
     unit: str
     more: int = 0  # how many bars aren't drawn
+    of: str = "entries"  # what the bars are
 
 
 def charts(all_shown, words):
     """The charts of an answer, the most telling ones first, and how many more there are."""
-    drawn = []
+    wanted = []
     for shown in all_shown:
         if shown.aggregation.is_histogram:
-            drawn += [histogram(shown, keys, rows, words) for keys, rows in shown.entries]
+            wanted += [(shown, *entry) for entry in shown.entries]
         elif shown.entries:
-            drawn.append(bars_of(shown, words))
-    return drawn[:MOST_CHARTS], max(0, len(drawn) - MOST_CHARTS)
+            wanted.append((shown,))
+    drawn = [
+        (histogram if shown.aggregation.is_histogram else bars_of)(shown, *entry, words)
+        for shown, *entry in wanted[:MOST_CHARTS]
+    ]
+    return drawn, len(wanted) - len(drawn)
 
 
 def histogram(shown, keys, rows, words):
     total = sum(row.count for row in rows)
+    rows, more = largest(rows, MOST_BUCKETS, lambda row: row.count)
     unit = SHARE if words.value_unit == SHARE else None
     what = f"{shown.title} {shown.aggregation.value_name}"
     title = "  ".join(map(name, keys))
@@ -67,13 +73,15 @@ def histogram(shown, keys, rows, words):
         [row.count for row in rows],
         [numbered(row.count, unit, total) for row in rows],
         None,
+        more,
+        "buckets",
     )
 
 
 def bars_of(shown, words):
     """The chart of an aggregation of numbers: the largest entries."""
     total = total_of(shown) if words.value_unit == SHARE else 0
-    entries, more = largest(shown.entries, MOST_BARS)
+    entries, more = largest(shown.entries, MOST_BARS, lambda entry: abs(entry[1]))
     labels = [[name(key) for key in keys] or [shown.title] for keys, _ in entries]
     right = [not is_text for is_text in shown.aggregation.texts] or [False]
     values = [value for _, value in entries]
@@ -91,14 +99,15 @@ def bars_of(shown, words):
     )
 
 
-def largest(entries, most):
-    """At most `most` entries, those of the largest numbers, in their order; and how many are left
+def largest(some, most, size):
+    """At most `most` of some, those of the largest sizes, in their order; and how many are left
     out.
     """
-    if len(entries) <= most:
-        return entries, 0
-    order = sorted(range(len(entries)), key=lambda place: abs(entries[place][1]), reverse=True)
-    return [entries[place] for place in sorted(order[:most])], len(entries) - most
+    if len(some) <= most:
+        return some, 0
+    sizes = list(map(size, some))
+    order = sorted(range(len(some)), key=sizes.__getitem__, reverse=True)
+    return [some[place] for place in sorted(order[:most])], len(some) - most
 
 
 def and_more(count, what):
@@ -124,13 +133,13 @@ def in_terminal(chart, columns):
         place = padded(label, left, right=chart.right == [True])
         yield f"  {place} {padded(shown, numbers, right=True)} {bar(value, scale, before)}".rstrip()
     if chart.more:
-        yield f"  {and_more(chart.more, 'entries')}"
+        yield f"  {and_more(chart.more, chart.of)}"
 
 
 def in_columns(rows, right):
     """Rows of texts as lines, each text as wide as the widest in its place."""
-    widths = [max(map(width, column)) for column in zip(*rows)]
-    return ["  ".join(padded(*cell) for cell in zip(row, widths, right)).rstrip() for row in rows]
+    columns = [aligned(column, is_right) for column, is_right in zip(zip(*rows), right)]
+    return ["  ".join(row).rstrip() for row in zip(*columns)]
 
 
 def bar(value, scale, before):
@@ -242,7 +251,7 @@ def chart_at(chart, top, wide):
         parts.append(text_at(max(start + length, axis.zero) + 6, y + 12, shown, "muted"))
     parts.append(line(axis.zero, begin - 4, axis.zero, end + 2, "axis"))
     if chart.more:
-        parts.append(text_at(left, end + 36, and_more(chart.more, "entries"), "muted"))
+        parts.append(text_at(left, end + 36, and_more(chart.more, chart.of), "muted"))
     return parts, end + 22 - top + (18 if chart.more else 0)
 
 

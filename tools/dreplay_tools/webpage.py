@@ -6,7 +6,7 @@ from html import escape
 from .forms import table
 from .heat import WIDEST_COLUMN, WIDEST_ROW, caption, has_heat, heat_of
 from .labels import SHARE, cut, interval, name, numbered, printable
-from .pictures import MOST_CHARTS, and_more, largest
+from .pictures import MOST_BUCKETS, MOST_CHARTS, and_more, largest
 
 MOST_ROWS = 20_000
 WIDEST_INTERVAL = 28  # of a histogram's labels in one line
@@ -161,7 +161,7 @@ def data_table(shown, words, with_bars):
     sorts = [entry[1] for entry in shown.entries] if with_bars else [row[-1] for row in rows]
     more = len(rows) - MOST_ROWS
     if more > 0 and with_bars:
-        entries, _ = largest(list(zip(rows, sorts)), MOST_ROWS)
+        entries, _ = largest(list(zip(rows, sorts)), MOST_ROWS, lambda entry: abs(entry[1]))
         rows, sorts = map(list, zip(*entries))
     rows = rows[:MOST_ROWS]
     is_number = [
@@ -218,7 +218,9 @@ class Bars:
 
 def card(keys, rows, words):
     """A histogram: a row for each bucket."""
-    bars, total = Bars([row.count for row in rows]), sum(row.count for row in rows)
+    total = sum(row.count for row in rows)
+    rows, more = largest(rows, MOST_BUCKETS, lambda row: row.count)
+    bars = Bars([row.count for row in rows])
     unit = SHARE if words.value_unit == SHARE else None
     title = "  ".join(map(name, keys))
     yield f'<div class="card">{f"<h3>{escape(title)}</h3>" if title else ""}<table>'
@@ -230,7 +232,7 @@ def card(keys, rows, words):
             f' class="bars">{bars.of(row.count)}</td><td'
             f' class="number">{numbered(row.count, unit, total)}</td></tr>'
         )
-    yield "</table></div>"
+    yield "</table>" + f"<p>{and_more(more, 'buckets')}</p>" * bool(more) + "</div>"
 
 
 def heat_table(heat):
