@@ -22,6 +22,7 @@ FIRINGS = (0, 2**64)
 BOUNDS = (-(2**31), 2**31 - 1)
 STEPS = (1, 65_535)
 MOST_AGGREGATIONS, MOST_KEYS, MOST_DIGITS = 65_536, 8, 30
+MOST_OF_A_LINE = 1 << 26  # bytes
 MOST_ROWS = 1_000_000  # of all histograms that are shown
 SHARED = ("count", "sum")  # functions whose values have a total
 TITLE = re.compile(r"@(?:[A-Za-z_]\w*)?", re.ASCII)
@@ -247,6 +248,8 @@ class Reader:
 
     def line(self, line):
         """Takes a line. Returns the answer that it ends, if it ends one."""
+        if len(line) == MOST_OF_A_LINE:
+            raise Wrong("it is longer than a line of dreplay-data can be")
         if self.answer is None:
             self.begin(line)
             return None
@@ -342,7 +345,7 @@ def range_of(aggregation):
 def read(lines, name, script=None):
     """The answers that an input holds one after the other. A script names the columns."""
     reader, number = Reader(script), 0
-    for number, line in enumerate(lines, 1):
+    for number, line in enumerate(iter(lambda: lines.readline(MOST_OF_A_LINE), b""), 1):
         try:
             answer = reader.line(line)
         except Wrong as why:

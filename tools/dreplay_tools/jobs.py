@@ -40,11 +40,10 @@ class Job:
                 told = json.load(file)
             if told["state"] != self.state():
                 return False
-            self.status, self.line, self.is_answered = (
-                told["status"],
-                told["line"],
-                told["answered"],
-            )
+            ended = told["status"], told["line"], told["answered"]
+            if [*map(type, ended)] != [int, str, bool] or not 0 <= ended[0] < 256:
+                return False
+            self.status, self.line, self.is_answered = ended
             return not self.is_answered or os.path.exists(self.answer)
         except (OSError, ValueError, KeyError, TypeError, RecursionError):
             return False

@@ -1,20 +1,25 @@
 """Where the rows of a trace go: standard output, a file, or several files by thread."""
 import os
-import stat
 import sys
 
 from .ends import Failure
 from .trace import HEADER, MOST_ROWS
 
 
+def is_regular(path):
+    """Whether a path leads to a regular file that still has a name."""
+    return os.path.isfile(os.path.realpath(path))
+
+
 class Replaced:
     """A file that takes its place only when all of it is there. What is no regular file, such as a
-    pipe, is written as it is.
+    pipe, is written as it is. A link stays, as /dev/stdout is one.
     """
 
     def __init__(self, path, mode="wb", **how):
-        in_place = os.path.exists(path) and not stat.S_ISREG(os.stat(path).st_mode)
-        self.path, self.part = path, None if in_place else f"{path}.part"
+        self.path = os.path.realpath(path)
+        in_place = not path or (os.path.exists(path) and not is_regular(path))
+        self.part = None if in_place else f"{self.path}.part"
         try:
             self.file = open(self.part or path, mode, **how)
         except OSError as why:

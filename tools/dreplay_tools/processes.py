@@ -3,6 +3,8 @@ from .ends import Failure, shortened
 from .strace import BIRTHS
 from .trace import MOST_NUMBER, field, text
 
+MOST_OF_A_LINE = 1 << 16  # bytes
+
 
 class Processes:
     """The process of each thread and the program of each process. What a call changes shows from
@@ -16,7 +18,7 @@ class Processes:
     def read(self, path):
         """Takes threads that ran before the recording: lines of thread, process and name."""
         with open(path, "rb") as file:
-            for number, line in enumerate(file, 1):
+            for number, line in enumerate(iter(lambda: file.readline(MOST_OF_A_LINE), b""), 1):
                 words = line.rstrip(b"\n").split(b" ", 2)
                 if len(words) < 3 or not is_number(words[0]) or not is_number(words[1]):
                     raise Failure(

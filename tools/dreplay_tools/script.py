@@ -102,8 +102,13 @@ class Script:
                     clause = Clause()
 
 
-def of_bytes(data):
+def of_file(file):
     """The script that a file holds."""
+    return of_bytes(file.read(MOST_BYTES + 1))
+
+
+def of_bytes(data):
+    """The script of some bytes."""
     if len(data) > MOST_BYTES:
         raise Failure("the script has more than 65,536 bytes, so dreplay refused it")
     return Script(decoded(data))
