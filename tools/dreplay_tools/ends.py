@@ -6,6 +6,7 @@ import io
 import os
 import signal
 import sys
+import warnings
 
 MOST_SAID, MOST_OF_A_NAME = 1000, 800  # letters of a message, and of a file's name in it
 FAILED = 2  # a file or standard stream fails, memory runs out, or the command line is wrong
@@ -73,6 +74,7 @@ class Tool:
     def run(self, main):
         """Runs main, which returns the exit status, and ends the process."""
         status = FAILED
+        warnings.simplefilter("ignore")  # of Python, which may be asked to show them
         try:
             if sys.stderr is None:  # it is closed, and print would take standard output
                 sys.stderr = open(os.devnull, "w")
