@@ -44,20 +44,17 @@ def table(shown, words):
     return [*names, *(["from", "below"] if unit is None else ["value"]), "count"], rows
 
 
-def cell_of(cell):
-    return f"{cell:,}" if isinstance(cell, int) else printable(cell)
-
-
 def as_table(shown, words):
     """Columns of a terminal: numbers right, texts left."""
     names, rows = table(shown, words)
     texts = [*shown.aggregation.texts, *[False] * len(names)]
     keys, last, columns = len(shown.aggregation.keys), len(names) - 1, []
     for place, (name, column) in enumerate(zip(names, list(zip(*rows)) or [()] * len(names))):
-        cells = list(map(cell_of, column))
+        cells = [f"{cell:,}" if type(cell) is int else printable(cell) for cell in column]
         if place < keys:  # an empty name is seen; an end that a bucket hasn't stays empty
             cells = [cell or '""' for cell in cells]
-        is_right = not texts[place] and all(type(cell) is int or cell == "" for cell in column)
+        others = {cell for cell in column if type(cell) is not int}
+        is_right = not texts[place] and others <= {""}
         columns.append(aligned([printable(name), *cells], is_right or place == last))
     lines = [("  " + "  ".join(row)).rstrip() for row in zip(*columns)]
     return [printable(shown.title), *lines]
@@ -72,12 +69,16 @@ def as_markdown(shown, words):
         in_bars(map(marked, names)),
         "|" + "|".join(ends) + "|",
     ]
-    return [*lines, *(in_bars(map(marked, row)) for row in rows)]
+    columns = (
+        [str(cell) if type(cell) is int else marked(cell) for cell in column]
+        for column in zip(*rows)
+    )
+    return [*lines, *map(in_bars, zip(*columns))]
 
 
-def marked(cell):
-    """A text in which Markdown sees no markup; numbers need none."""
-    return str(cell) if isinstance(cell, int) else MARKUP.sub(r"\\\1", printable(cell))
+def marked(text):
+    """A text in which Markdown sees no markup."""
+    return MARKUP.sub(r"\\\1", printable(text))
 
 
 def in_bars(cells):

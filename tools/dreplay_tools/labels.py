@@ -71,10 +71,11 @@ def padded(text, columns, right=False):
 
 def aligned(texts, right=False):
     """Texts of a column, each as wide as the widest."""
-    columns = max(map(width, texts))
-    if "".join(texts).isascii():
-        return [text.rjust(columns) if right else text.ljust(columns) for text in texts]
-    return [padded(text, columns, right) for text in texts]
+    if not "".join(texts).isascii():
+        columns = max(map(width, texts))
+        return [padded(text, columns, right) for text in texts]
+    columns = max(map(len, texts))
+    return [text.rjust(columns) if right else text.ljust(columns) for text in texts]
 
 
 def cut(text, most):
