@@ -186,6 +186,7 @@ def be_tool(subject, code, trial, folder, streams):
         os.environ.update(
             COLUMNS="80", LC_ALL="C.UTF-8", TMPDIR=folder, PATH=f"{folder}/commands"
         )
+        tempfile.tempdir = None  # found anew, as this process has its parent's
         sys.argv = [subject.path, *trial.words]
         resource.setrlimit(resource.RLIMIT_AS, (MEMORY, MEMORY))
         signal.setitimer(signal.ITIMER_PROF, SECONDS)
