@@ -17,6 +17,7 @@
 mod arguments;
 mod blocks;
 mod columns;
+mod distinct;
 mod ends;
 mod fault;
 mod firing;

@@ -1,15 +1,14 @@
 //! Who fired, each kept once.
 
-ghost use Rattle.std.specs.Prelude.{◌≡◌, ◌<◌, ◌++◌, ◌∷◌, [], true, Some, IfOk, IfSome, MatchOption};
-ghost use Rattle.std.specs.Prelude.{slice_get, length, vec_len};
+ghost use Rattle.std.specs.Prelude.{◌≡◌, ◌<◌, [], Some, IfOk, IfSome, slice_get, length};
 ghost use Rattle.firing_reader.specs.{declared.unit.Owner.Owner, Plain.ReadsOwner};
-ghost use Rattle.firing_reader.specs.Steps.Units.{GainsOnly};
 ghost use Rattle.firing_reader.specs.Stored.{ArePlaces, Extends};
 
+use crate::distinct::{Distinct, place_of};
 use crate::keys::{Keys, u32_of};
 use crate::plain::field::{int, text};
 use crate::plain::unit::end_of_three;
-use crate::slots::{NEAR, Slots};
+use crate::slots::Slots;
 use crate::text::Text;
 use crate::texts::Texts;
 use crate::unit::Owner;
@@ -23,6 +22,18 @@ pub(crate) struct StoredOwner {
     thread: i32,
     pid: i32,
     execname: u32,
+}
+
+impl Distinct for StoredOwner {
+    fn is(self, other: StoredOwner) -> bool {
+        self == other
+    }
+
+    fn tag(self, slots: &Slots) -> u32 {
+        let thread = u64::from(self.thread.cast_unsigned());
+        let pid = u64::from(self.pid.cast_unsigned());
+        slots.tag_of_pair(thread << 32 | pid, u64::from(self.execname))
+    }
 }
 
 /// The owners of firings. Contracts see the list of them.
@@ -186,66 +197,5 @@ impl Owners {
             places.push(own).ok()?;
         }
         Some(places)
-    }
-}
-
-// Whether this owner is stored at a place.
-fn is_at(stored: &[StoredOwner], place: u32, owner: StoredOwner) -> bool
-    ensures { result ≡ true → slice_get stored.now place ≡ Some owner }
-{
-    match stored.get(place as usize) {
-        Some(kept) => *kept == owner,
-        None => false,
-    }
-}
-
-// The place of this owner, where it is found.
-fn find(stored: &[StoredOwner], slots: &Slots, owner: StoredOwner, tag: u32) -> Option<u32>
-    ensures { IfSome result (λ p. slice_get stored.now p ≡ Some owner) }
-{
-    for n in 0..NEAR {
-        let slot = slots.near(tag, n);
-        if slot.is_empty() {
-            return None;
-        }
-        if slot.is_of(tag) && is_at(stored, slot.place, owner) {
-            return Some(slot.place);
-        }
-    }
-    None
-}
-
-// The tag of this owner.
-fn tag_of(slots: &Slots, owner: StoredOwner) -> u32 {
-    let thread = u64::from(owner.thread.cast_unsigned());
-    let pid = u64::from(owner.pid.cast_unsigned());
-    slots.tag_of_pair(thread << 32 | pid, u64::from(owner.execname))
-}
-
-// Stores this owner at a new place.
-fn add(
-    stored: &mut Vec<StoredOwner>,
-    slots: &mut Slots,
-    owner: StoredOwner,
-    tag: u32,
-) -> Option<u32>
-    ensures { MatchOption result (stored.new.items ≡ stored.old.items)
-        (λ p. (stored.new.items ≡ stored.old.items ++ owner ∷ []) × (p ≡ vec_len stored.old)) }
-{
-    let place = u32::try_from(stored.len()).ok()?;
-    stored.push(owner).ok()?;
-    slots.note(tag, place);
-    Some(place)
-}
-
-// The place of this owner, which is stored where it isn't found.
-fn place_of(stored: &mut Vec<StoredOwner>, slots: &mut Slots, owner: StoredOwner) -> Option<u32>
-    ensures grows { GainsOnly owner stored.old.items stored.new.items }
-    ensures place { IfSome result (λ p. slice_get stored.new.items p ≡ Some owner) }
-{
-    let tag = tag_of(slots, owner);
-    match find(stored, slots, owner, tag) {
-        Some(place) => Some(place),
-        None => add(stored, slots, owner, tag),
     }
 }

@@ -1,15 +1,14 @@
 //! The probes of firings, each kept once.
 
-ghost use Rattle.std.specs.Prelude.{◌≡◌, ◌<◌, ◌++◌, ◌∷◌, [], true, Some, IfOk, IfSome, MatchOption};
-ghost use Rattle.std.specs.Prelude.{slice_get, length, vec_len};
+ghost use Rattle.std.specs.Prelude.{◌≡◌, ◌<◌, [], Some, IfOk, IfSome, slice_get, length};
 ghost use Rattle.firing_reader.specs.{declared.unit.Probe.Probe, Plain.ReadsProbe};
-ghost use Rattle.firing_reader.specs.Steps.Units.{GainsOnly};
 ghost use Rattle.firing_reader.specs.Stored.{ArePlaces, Extends};
 
+use crate::distinct::{Distinct, place_of};
 use crate::keys::{Keys, u32_of};
 use crate::plain::field::text;
 use crate::plain::unit::end_of_four;
-use crate::slots::{NEAR, Slots};
+use crate::slots::Slots;
 use crate::text::Text;
 use crate::texts::Texts;
 use crate::unit::{Probe, RESERVED};
@@ -24,6 +23,18 @@ pub(crate) struct StoredProbe {
     probemod: u32,
     probefunc: u32,
     name: u32,
+}
+
+impl Distinct for StoredProbe {
+    fn is(self, other: StoredProbe) -> bool {
+        self == other
+    }
+
+    fn tag(self, slots: &Slots) -> u32 {
+        let first = u64::from(self.provider) << 32 | u64::from(self.probemod);
+        let second = u64::from(self.probefunc) << 32 | u64::from(self.name);
+        slots.tag_of_pair(first, second)
+    }
 }
 
 /// The probes of firings. Contracts see the list of them.
@@ -224,39 +235,6 @@ fn stored_of(
     })
 }
 
-// Whether this probe is stored at a place.
-fn is_at(stored: &[StoredProbe], place: u32, probe: StoredProbe) -> bool
-    ensures { result ≡ true → slice_get stored.now place ≡ Some probe }
-{
-    match stored.get(place as usize) {
-        Some(kept) => *kept == probe,
-        None => false,
-    }
-}
-
-// The place of this probe, where it is found.
-fn find(stored: &[StoredProbe], slots: &Slots, probe: StoredProbe, tag: u32) -> Option<u32>
-    ensures { IfSome result (λ p. slice_get stored.now p ≡ Some probe) }
-{
-    for n in 0..NEAR {
-        let slot = slots.near(tag, n);
-        if slot.is_empty() {
-            return None;
-        }
-        if slot.is_of(tag) && is_at(stored, slot.place, probe) {
-            return Some(slot.place);
-        }
-    }
-    None
-}
-
-// The tag of this probe.
-fn tag_of(slots: &Slots, probe: StoredProbe) -> u32 {
-    let first = u64::from(probe.provider) << 32 | u64::from(probe.probemod);
-    let second = u64::from(probe.probefunc) << 32 | u64::from(probe.name);
-    slots.tag_of_pair(first, second)
-}
-
 // The probe whose fields these bytes are, if they are those of one.
 fn probe_in(key: &[u8]) -> Option<Probe>
     ensures { IfSome result (ReadsProbe key.now []) }
@@ -274,32 +252,4 @@ fn probe_in(key: &[u8]) -> Option<Probe>
         probefunc,
         name,
     })
-}
-
-// Stores this probe at a new place.
-fn add(
-    stored: &mut Vec<StoredProbe>,
-    slots: &mut Slots,
-    probe: StoredProbe,
-    tag: u32,
-) -> Option<u32>
-    ensures { MatchOption result (stored.new.items ≡ stored.old.items)
-        (λ p. (stored.new.items ≡ stored.old.items ++ probe ∷ []) × (p ≡ vec_len stored.old)) }
-{
-    let place = u32::try_from(stored.len()).ok()?;
-    stored.push(probe).ok()?;
-    slots.note(tag, place);
-    Some(place)
-}
-
-// The place of this probe, which is stored where it isn't found.
-fn place_of(stored: &mut Vec<StoredProbe>, slots: &mut Slots, probe: StoredProbe) -> Option<u32>
-    ensures grows { GainsOnly probe stored.old.items stored.new.items }
-    ensures place { IfSome result (λ p. slice_get stored.new.items p ≡ Some probe) }
-{
-    let tag = tag_of(slots, probe);
-    match find(stored, slots, probe, tag) {
-        Some(place) => Some(place),
-        None => add(stored, slots, probe, tag),
-    }
 }
