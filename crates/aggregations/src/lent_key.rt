@@ -4,6 +4,7 @@ ghost use Rattle.std.specs.Prelude.{◌≡◌, ◌↔◌, ◌<◌, length, slice
 ghost use Rattle.aggregations.specs.Lent.{key_of, part_of_lent};
 
 use d_values::{Key, KeyPart, ValueRef};
+use keyed_hash::is_same;
 use std::alloc::{AllocError, Global};
 use std::hash::{FoldHasher, Hasher};
 
@@ -34,7 +35,7 @@ fn is_part_of(part: &KeyPart, value: ValueRef<'_>) -> bool
         },
         ValueRef::Text(bytes) => match part {
             KeyPart::Number(_) => false,
-            KeyPart::Name(text) => text.as_bytes() == bytes,
+            KeyPart::Name(text) => is_same(text.as_bytes(), bytes),
         },
     }
 }

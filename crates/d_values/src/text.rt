@@ -5,6 +5,7 @@ ghost use Rattle.d_values.specs.Vocabulary.{ap, partial_equiv_from_equiv, po, as
 ghost use Rattle.d_values.specs.Texts.{same_text, text_cmp, same_text_decides, same_text_equiv};
 ghost use Rattle.d_values.specs.Texts.{text_cmp_total, text_cmp_ties, joined_text};
 
+use keyed_hash::is_same;
 use std::alloc::{AllocError, Global};
 use std::cmp::Ordering;
 use std::hash::{Hash, Hasher};
@@ -145,7 +146,7 @@ impl PartialEq for Text {
         ensures value { result ≡ same_text self.now other.now }
         ensures meant { IsTrue result ↔ (self.now ≡ other.now) }
     {
-        self.as_bytes() == other.as_bytes()
+        is_same(self.as_bytes(), other.as_bytes())
     }
 }
 

@@ -17,7 +17,6 @@ pub mod PlainHeader
 pub mod PieceRows
 pub mod Stored
 pub mod Moved
-pub mod SameBytes
 pub mod Shared
 pub mod PlainArguments
 pub mod RowParts

@@ -4,9 +4,8 @@ ghost use Rattle.std.specs.Prelude.{◌≡◌, ◌++◌, ◌∷◌, [], IfOk, If
 ghost use Rattle.std.specs.Prelude.{vec_len};
 ghost use Rattle.std.specs.Vec.{vec_capacity};
 
-use crate::same::is_same;
 use crate::slots::{NEAR, Slots};
-use keyed_hash::HashKey;
+use keyed_hash::{HashKey, is_same};
 use std::alloc::{AllocError, Global};
 use std::marker::Model;
 

@@ -36,7 +36,6 @@ mod reading;
 mod records;
 mod row;
 mod row_ends;
-mod same;
 mod slots;
 mod stored_row;
 mod text;

@@ -2,8 +2,8 @@
 
 ghost use Rattle.std.specs.Prelude.{◌≡◌, ◌↔◌, IfOk, IsTrue};
 
-use crate::same::is_same;
 use crate::text::Text;
+use keyed_hash::is_same;
 use std::alloc::{AllocError, Global};
 use std::fmt;
 use std::marker::Model;

@@ -1,7 +1,6 @@
 //! Where to look for a thing that was kept, by its hash.
 
-use crate::same::word_at;
-use keyed_hash::HashKey;
+use keyed_hash::{HashKey, word_at};
 use std::alloc::{AllocError, Global};
 use std::hash::{BuildHasher, Hasher};
 

@@ -9,8 +9,8 @@ ghost use Rattle.firing_reader.specs.Stored.{Extends, IsGivenIn, given_in};
 
 use super::field::{last_argument, next_argument};
 use super::front::rest_after;
-use crate::same::is_same;
 use crate::stored_row::Given;
+use keyed_hash::is_same;
 
 // Ten arguments that are 0, and the line feed after them.
 const ZEROS: &[u8] = b"0,0,0,0,0,0,0,0,0,0\n";

@@ -1,8 +1,8 @@
 use Rattle.std.proofs.Common.{◌≡◌, ◌+◌, ◌-◌, ◌*◌, List, ℕ, sym, ap, ◌∙◌, arith, take, drop, length}
 use Rattle.std.specs.Int.{from_le_bytes, w64}
 use Rattle.std.proofs.lemmas.Bool.{eq-eqb, eqb-true}
-use Rattle.firing_reader.proofs.SameBytes.{same_last, same_next}
-use Rattle.firing_reader.proofs.same.is_same_long.Goals as goal
+use Rattle.keyed_hash.proofs.SameBytes.{same_last, same_next}
+use Rattle.keyed_hash.proofs.same.is_same_long.Goals as goal
 
 pub loop-word-preserved : goal.loop-word-preserved
 loop-word-preserved c =

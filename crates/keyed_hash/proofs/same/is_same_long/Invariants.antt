@@ -1,5 +1,5 @@
 use Rattle.std.proofs.Common.{◌≡◌, ◌*◌, take}
-use Rattle.firing_reader.proofs.same.is_same_long.Given as goal
+use Rattle.keyed_hash.proofs.same.is_same_long.Given as goal
 
 abbrev pub invariant-loop-word : goal.invariant-loop-word
 invariant-loop-word l = take (8 * l.word) l.left ≡ take (8 * l.word) l.right
