@@ -1,20 +1,15 @@
 -- What words name.
-use Rattle.std.specs.Prelude.{ℕ, List, codes, Option, Some, None, if◌then◌else◌}
+use Rattle.std.specs.Prelude.{ℕ, ◌-◌, List, [], ◌∷◌, codes, Option, Some, None, ◌&&◌}
+use Rattle.std.specs.Prelude.{if◌then◌else◌}
+use Rattle.std.specs.Char.{is_ascii_digit}
 use Rattle.d_types.specs.Vocabulary.{bytes_eq, BuiltIn, Callee, Aggregating}
 
+-- arg0 to arg9
 abbrev pub argument : List ℕ → Option BuiltIn
-argument word =
-    if bytes_eq word (codes "arg0") then Some (BuiltIn.Argument 0)
-    else if bytes_eq word (codes "arg1") then Some (BuiltIn.Argument 1)
-    else if bytes_eq word (codes "arg2") then Some (BuiltIn.Argument 2)
-    else if bytes_eq word (codes "arg3") then Some (BuiltIn.Argument 3)
-    else if bytes_eq word (codes "arg4") then Some (BuiltIn.Argument 4)
-    else if bytes_eq word (codes "arg5") then Some (BuiltIn.Argument 5)
-    else if bytes_eq word (codes "arg6") then Some (BuiltIn.Argument 6)
-    else if bytes_eq word (codes "arg7") then Some (BuiltIn.Argument 7)
-    else if bytes_eq word (codes "arg8") then Some (BuiltIn.Argument 8)
-    else if bytes_eq word (codes "arg9") then Some (BuiltIn.Argument 9)
-    else None
+argument (a ∷ r ∷ g ∷ digit ∷ []) =
+    if bytes_eq (a ∷ r ∷ g ∷ []) (codes "arg") && is_ascii_digit digit
+    then Some (BuiltIn.Argument (digit - 48)) else None
+argument word = None
 
 -- a part of the probe's name, or an argument
 abbrev pub of_probe : List ℕ → Option BuiltIn

@@ -285,10 +285,7 @@ fn new_place(
         return Err(TypeFault::Keys { line });
     }
     match usage.function {
-        Some(function) => {
-            let place = define(alloc, aggs, usage.name, keys, function)?;
-            Ok(place)
-        }
+        Some(function) => define(alloc, aggs, usage.name, keys, function),
         None => Err(TypeFault::LquantizeBounds { line }),
     }
 }

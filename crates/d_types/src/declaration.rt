@@ -11,7 +11,6 @@ ghost use Rattle.d_types.specs.Scripts as spec;
 use crate::constants::declared_type;
 use crate::fault::TypeFault;
 use crate::targets::{VariableName, copy_of};
-use crate::typed::Space;
 use crate::variables::{Entry, MOST_KEYS, find, kind_of};
 use d_parser::{Declaration, DeclaredType};
 use d_values::Kind;
@@ -97,28 +96,16 @@ pub(crate) fn declaration(
             name,
             keys,
         } => {
-            let (space, line) = (Space::Thread, *line);
-            declare(
-                alloc,
-                table,
-                VariableName { space, line, name },
-                *declared,
-                keys,
-            )
+            let variable = VariableName::of_thread(*line, name);
+            declare(alloc, table, variable, *declared, keys)
         }
         Declaration::Clause {
             line,
             declared,
             name,
         } => {
-            let (space, line) = (Space::Clause, *line);
-            declare(
-                alloc,
-                table,
-                VariableName { space, line, name },
-                *declared,
-                &[],
-            )
+            let variable = VariableName::of_clause(*line, name);
+            declare(alloc, table, variable, *declared, &[])
         }
     }
 }

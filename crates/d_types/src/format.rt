@@ -1,7 +1,6 @@
 //! The formats of printf.
 
 ghost use Rattle.std.specs.Prelude.{◌≡◌, IfOk, OnOk, option_map, []};
-ghost use Rattle.d_parser.specs.Script.{is_digit};
 ghost use Rattle.d_types.specs.{Typed.typeds_of};
 ghost use Rattle.d_types.specs.Steps.Faults.{OnlyMemory};
 ghost use Rattle.d_types.specs.Formats as spec;
@@ -21,6 +20,13 @@ pub struct Flags {
     pub zeros: bool,
     pub width: u8,
 }
+
+// No flag and no width.
+const NO_FLAGS: Flags = Flags {
+    left: false,
+    zeros: false,
+    width: 0,
+};
 
 /// Where a byte of a format is.
 #[derive(Clone, Copy)]
@@ -85,49 +91,29 @@ fn at_length(flags: Flags, byte: u8) -> Turn
     }
 }
 
-fn is_digit(byte: u8) -> bool
-    ensures { result ≡ is_digit byte }
-{
-    48 <= byte && byte <= 57
-}
-
 fn at_width(flags: Flags, byte: u8) -> Turn
     ensures { result ≡ spec.at_width flags byte }
 {
-    if is_digit(byte) {
-        let width = flags.width as u16 * 10 + byte.saturating_sub(48) as u16;
-        if width <= MOST_WIDTH {
-            let flags = Flags {
-                left: flags.left,
-                zeros: flags.zeros,
-                width: width as u8,
-            };
-            Some((Place::Width(flags), None))
-        } else {
-            None
-        }
-    } else {
-        at_length(flags, byte)
+    if !byte.is_ascii_digit() {
+        return at_length(flags, byte);
     }
+    let width = u16::from(flags.width) * 10 + u16::from(byte - b'0');
+    if width > MOST_WIDTH {
+        return None;
+    }
+    let width = width as u8;
+    Some((Place::Width(Flags { width, ..flags }), None))
 }
 
 fn at_flags(flags: Flags, byte: u8) -> Turn
     ensures { result ≡ spec.at_flags flags byte }
 {
     if byte == b'-' {
-        let flags = Flags {
-            left: true,
-            zeros: flags.zeros,
-            width: flags.width,
-        };
-        Some((Place::Flagged(flags), None))
+        let left = true;
+        Some((Place::Flagged(Flags { left, ..flags }), None))
     } else if byte == b'0' {
-        let flags = Flags {
-            left: flags.left,
-            zeros: true,
-            width: flags.width,
-        };
-        Some((Place::Flagged(flags), None))
+        let zeros = true;
+        Some((Place::Flagged(Flags { zeros, ..flags }), None))
     } else {
         at_width(flags, byte)
     }
@@ -136,16 +122,11 @@ fn at_flags(flags: Flags, byte: u8) -> Turn
 fn turn(place: Place, byte: u8) -> Turn
     ensures { result ≡ spec.turn place byte }
 {
-    let none = Flags {
-        left: false,
-        zeros: false,
-        width: 0,
-    };
     match place {
         Place::Outside if byte == b'%' => Some((Place::Opened, None)),
         Place::Outside => Some((Place::Outside, Some(Piece::Byte(byte)))),
         Place::Opened if byte == b'%' => Some((Place::Outside, Some(Piece::Byte(byte)))),
-        Place::Opened => at_flags(none, byte),
+        Place::Opened => at_flags(NO_FLAGS, byte),
         Place::Flagged(flags) => at_flags(flags, byte),
         Place::Width(flags) => at_width(flags, byte),
         Place::Half(flags) if byte == b'h' => Some((Place::Sized(flags), None)),
@@ -207,10 +188,7 @@ pub(crate) fn arguments_fit(pieces: &[Piece], args: &[TypedExpr]) -> bool
     ensures { result ≡ spec.fit pieces.now (typeds_of args.now) }
 {
     match pieces {
-        [] => match args {
-            [] => true,
-            [_first, ..] => false,
-        },
+        [] => args.is_empty(),
         [Piece::Byte(_), others @ ..] => arguments_fit(others, args),
         [Piece::Argument(conversion), others @ ..] => match args {
             [] => false,

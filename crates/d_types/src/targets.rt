@@ -1,6 +1,7 @@
 //! Variables that are read and assigned.
 
-ghost use Rattle.std.specs.Prelude.{◌≡◌, ◌++◌, ◌∷◌, [], IfOk, OnOk, length};
+ghost use Rattle.std.specs.Prelude.{◌≡◌, ◌++◌, ◌∷◌, [], IfOk, OnOk, Ok, Err, length};
+ghost use Rattle.std.specs.Prelude.{if◌then◌else◌};
 ghost use Rattle.d_types.specs.Faults.{Gives};
 ghost use Rattle.d_types.specs.Steps.Faults.{OnlyMemory};
 ghost use Rattle.d_types.specs.Typed.{typed_of, typeds_of, Typed};
@@ -97,6 +98,28 @@ pub(crate) struct VariableName<'a> {
     pub(crate) name: &'a ByteString,
 }
 
+impl<'a> VariableName<'a> {
+    /// `self->name`
+    pub(crate) fn of_thread(line: usize, name: &'a ByteString) -> VariableName<'a>
+        ensures space { result.space ≡ Space.Thread }
+        ensures line { result.line ≡ line }
+        ensures name { result.name.now ≡ name.now }
+    {
+        let space = Space::Thread;
+        VariableName { space, line, name }
+    }
+
+    /// `this->name`
+    pub(crate) fn of_clause(line: usize, name: &'a ByteString) -> VariableName<'a>
+        ensures space { result.space ≡ Space.Clause }
+        ensures line { result.line ≡ line }
+        ensures name { result.name.now ≡ name.now }
+    {
+        let space = Space::Clause;
+        VariableName { space, line, name }
+    }
+}
+
 fn load(
     table: &[Entry],
     variable: VariableName<'_>,
@@ -123,12 +146,10 @@ pub(crate) fn read(
     match variable {
         d_parser::Variable::Plain { line, name } => plain(*line, built_in(name.as_slice()), &keys),
         d_parser::Variable::Thread { line, name } => {
-            let (space, line) = (Space::Thread, *line);
-            load(table, VariableName { space, line, name }, keys)
+            load(table, VariableName::of_thread(*line, name), keys)
         }
         d_parser::Variable::Clause { line, name } => {
-            let (space, line) = (Space::Clause, *line);
-            load(table, VariableName { space, line, name }, keys)
+            load(table, VariableName::of_clause(*line, name), keys)
         }
     }
 }
@@ -209,6 +230,17 @@ fn add_entry(
     Ok(slot)
 }
 
+// Refuses a variable with too many keys, or with keys of other kinds.
+fn check_keys(fit: bool, line: usize) -> Result<(), TypeFault>
+    ensures { result ≡ (if fit then Ok tt else Err (TypeFault.Keys line)) }
+{
+    if fit {
+        Ok(())
+    } else {
+        Err(TypeFault::Keys { line })
+    }
+}
+
 fn slot_for(
     alloc: Global,
     table: &mut Vec<Entry>,
@@ -224,20 +256,11 @@ fn slot_for(
 {
     match find(table, variable.space, variable.name.as_slice()) {
         None => {
-            if most_keys(variable.space) < keys.len() {
-                return Err(TypeFault::Keys {
-                    line: variable.line,
-                });
-            }
-            let added = add_entry(alloc, table, variable, holds, keys)?;
-            Ok(added)
+            check_keys(keys.len() <= most_keys(variable.space), variable.line)?;
+            add_entry(alloc, table, variable, holds, keys)
         }
         Some(slot) => {
-            if !keys_fit(table, slot, keys) {
-                return Err(TypeFault::Keys {
-                    line: variable.line,
-                });
-            }
+            check_keys(keys_fit(table, slot, keys), variable.line)?;
             settle(table, slot, holds);
             Ok(slot)
         }
@@ -260,13 +283,11 @@ pub(crate) fn target(
             plain_target(alloc, *line, name, built_in(name.as_slice()), keys)
         }
         d_parser::Variable::Thread { line, name } => {
-            let (space, line) = (Space::Thread, *line);
-            let variable = VariableName { space, line, name };
+            let variable = VariableName::of_thread(*line, name);
             slot_for(alloc, table, variable, holds, keys)
         }
         d_parser::Variable::Clause { line, name } => {
-            let (space, line) = (Space::Clause, *line);
-            let variable = VariableName { space, line, name };
+            let variable = VariableName::of_clause(*line, name);
             slot_for(alloc, table, variable, holds, keys)
         }
     }

@@ -37,28 +37,11 @@ fn is(word: &[u8], name: &str) -> bool
 fn argument(word: &[u8]) -> Option<BuiltIn>
     ensures { result ≡ spec.argument word.now }
 {
-    if is(word, "arg0") {
-        Some(BuiltIn::Argument(0))
-    } else if is(word, "arg1") {
-        Some(BuiltIn::Argument(1))
-    } else if is(word, "arg2") {
-        Some(BuiltIn::Argument(2))
-    } else if is(word, "arg3") {
-        Some(BuiltIn::Argument(3))
-    } else if is(word, "arg4") {
-        Some(BuiltIn::Argument(4))
-    } else if is(word, "arg5") {
-        Some(BuiltIn::Argument(5))
-    } else if is(word, "arg6") {
-        Some(BuiltIn::Argument(6))
-    } else if is(word, "arg7") {
-        Some(BuiltIn::Argument(7))
-    } else if is(word, "arg8") {
-        Some(BuiltIn::Argument(8))
-    } else if is(word, "arg9") {
-        Some(BuiltIn::Argument(9))
-    } else {
-        None
+    match word {
+        [b'a', b'r', b'g', digit] if digit.is_ascii_digit() => {
+            Some(BuiltIn::Argument(*digit - b'0'))
+        }
+        _ => None,
     }
 }
 

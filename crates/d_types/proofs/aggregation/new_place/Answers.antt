@@ -1,5 +1,6 @@
 use Rattle.std.proofs.Common.{refl}
 use Rattle.d_types.specs.Typed.{aggs_of}
+use Rattle.d_types.proofs.Binds.{passed_on}
 use Rattle.d_types.proofs.NewAggregations.{agg_refused, agg_within}
 use Rattle.d_types.proofs.aggregation.new_place.Goals as goal
 
@@ -9,6 +10,7 @@ returns-then-keys-gt-MOST_KEYS c = agg_refused c.args.usage.line c.args.usage.na
 pub returns-in-None : goal.returns-in-None
 returns-in-None c = rw (agg_within c.args.usage.line c.args.usage.name.now c.args.usage.keys.now c.args.usage.function (aggs_of c.args.aggs.now.items) c.if-keys-gt-MOST_KEYS.false, c.in-None.is) refl
 
-pub returns-in_ok-place-in-Some : goal.returns-in_ok-place-in-Some
-returns-in_ok-place-in-Some c =
-    rw (agg_within c.args.usage.line c.args.usage.name.now c.args.usage.keys.now c.args.usage.function (aggs_of c.args.aggs.now.items) c.if-keys-gt-MOST_KEYS.false, c.in-Some.is, c.in_ok-place-in-Some.ensures.place, c.in_ok-place-in-Some.ensures.added) refl
+pub returns-in-Some : goal.returns-in-Some
+returns-in-Some c =
+    passed_on c.define.result _ _ _ _ (rw (agg_within c.args.usage.line c.args.usage.name.now c.args.usage.keys.now c.args.usage.function (aggs_of c.args.aggs.now.items) c.if-keys-gt-MOST_KEYS.false, c.in-Some.is) refl)
+    c.define.ensures.place c.define.ensures.added c.define.ensures.err

@@ -1,18 +1,20 @@
-use Rattle.std.proofs.Common.{◌≡◌, ◌<◌, ◌≤◌, length, None}
+use Rattle.std.proofs.Common.{◌≡◌, None}
 use Rattle.d_types.specs.Variables.{find}
 use Rattle.d_types.specs.Steps.Variables.{rows_of_entries}
-use Rattle.d_types.specs.Targets.{most_keys}
-use Rattle.d_types.proofs.NewVariables.{slot_refused, slot_new}
+use Rattle.d_types.proofs.Binds.{passed_on}
+use Rattle.d_types.proofs.NewVariables.{slot_refused, slot_new, check_passed, check_failed, refused}
 use Rattle.d_types.proofs.targets.slot_for.Goals as goal
 
-pub returns-then-most_keys-keys : goal.returns-then-most_keys-keys
-returns-then-most_keys-keys c =
+pub returns-in_err-check_keys-in-None : goal.returns-in_err-check_keys-in-None
+returns-in_err-check_keys-in-None c =
     let o : find c.args.variable.space c.args.variable.name.now (rows_of_entries c.args.table.now.items) ≡ None = cc in
-    let h : most_keys c.args.variable.space < length c.args.keys.now = rw (← c.most_keys.ensures) c.if-most_keys-keys.true in
-    slot_refused c.args.variable.space c.args.variable.line c.args.variable.name.now (rows_of_entries c.args.table.now.items) c.args.holds c.args.keys.now _ o h
+    let k = check_failed _ _ _ (rw c.most_keys.ensures at c.in_err-check_keys-in-None.ensures) in
+    refused _ c.from_residual.result _ _ _ c.from_residual.ensures.1 k.1
+    (slot_refused c.args.variable.space c.args.variable.line c.args.variable.name.now (rows_of_entries c.args.table.now.items) c.args.holds c.args.keys.now _ o k.0)
 
-pub returns-in_ok-added-in-None : goal.returns-in_ok-added-in-None
-returns-in_ok-added-in-None c =
+pub returns-in_ok-check_keys-in-None : goal.returns-in_ok-check_keys-in-None
+returns-in_ok-check_keys-in-None c =
     let o : find c.args.variable.space c.args.variable.name.now (rows_of_entries c.args.table.now.items) ≡ None = cc in
-    let h : length c.args.keys.now ≤ most_keys c.args.variable.space = rw (← c.most_keys.ensures) c.if-most_keys-keys.false in
-    rw (c.in_ok-added-in-None.ensures.slot, c.in_ok-added-in-None.ensures.added) (slot_new c.args.variable.space c.args.variable.line c.args.variable.name.now (rows_of_entries c.args.table.now.items) c.args.holds c.args.keys.now _ o h)
+    let h = check_passed _ _ _ (rw c.most_keys.ensures at c.in_ok-check_keys-in-None.ensures) in
+    passed_on c.add_entry.result _ _ _ _ (slot_new c.args.variable.space c.args.variable.line c.args.variable.name.now (rows_of_entries c.args.table.now.items) c.args.holds c.args.keys.now _ o h)
+    c.add_entry.ensures.slot c.add_entry.ensures.added c.add_entry.ensures.err
