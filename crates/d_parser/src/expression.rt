@@ -234,10 +234,7 @@ fn part_at_step<'a>(
     };
     match &token.kind {
         TokenKind::Word(name) => {
-            let word = Word {
-                name,
-                line: token.line,
-            };
+            let word = Word::new(name, token.line);
             let (target, rest) = target(alloc, fuel, word, rest)?;
             Ok((build::before(line, step, target), rest))
         }
@@ -298,11 +295,7 @@ fn part<'a>(
             Ok((build::text(token.line, bytes), rest))
         }
         TokenKind::Word(name) => {
-            let word = Word {
-                name,
-                line: token.line,
-            };
-            part_at_name(alloc, fuel, level, word, rest)
+            part_at_name(alloc, fuel, level, Word::new(name, token.line), rest)
         }
         TokenKind::Mark(mark) => part_at_mark(alloc, fuel, *mark, token.line, rest),
         _ => Err(ParseFault::Syntax { line: token.line }),

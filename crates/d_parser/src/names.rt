@@ -84,6 +84,15 @@ pub(crate) struct Word<'a> {
     pub(crate) line: usize,
 }
 
+impl<'a> Word<'a> {
+    pub(crate) fn new(name: &'a ByteString, line: usize) -> Word<'a>
+        ensures name { result.name.now ≡ name.now }
+        ensures line { result.line ≡ line }
+    {
+        Word { name, line }
+    }
+}
+
 /// The variable that a word begins.
 #[tactic(auto, unfolding(crate::specs::Steps::Reading::variable))]
 pub(crate) fn variable<'a>(
