@@ -39,28 +39,16 @@ impl Partial {
         ensures value { IfOk result (λ p. IsValue function p (arg ∷ [])) }
         ensures count { IfOk result (λ p. count_in p ≤ 1) }
     {
-        match function {
-            AggFn::Count => Ok(Partial {
-                held: Held::Counted(1),
-            }),
-            AggFn::Sum => Ok(Partial {
-                held: Held::Summed(arg),
-            }),
-            AggFn::Min => Ok(Partial {
-                held: Held::Least(arg),
-            }),
-            AggFn::Max => Ok(Partial {
-                held: Held::Greatest(arg),
-            }),
-            AggFn::Avg => {
-                let mean = Mean { sum: arg, count: 1 };
-                Ok(Partial {
-                    held: Held::Mean(mean),
-                })
-            }
-            AggFn::Quantize => Partial::of_scale(alloc, Scale::Powers, arg),
-            AggFn::Lquantize(range) => Partial::of_scale(alloc, Scale::Steps(range), arg),
-        }
+        let held = match function {
+            AggFn::Count => Held::Counted(1),
+            AggFn::Sum => Held::Summed(arg),
+            AggFn::Min => Held::Least(arg),
+            AggFn::Max => Held::Greatest(arg),
+            AggFn::Avg => Held::Mean(Mean { sum: arg, count: 1 }),
+            AggFn::Quantize => return Partial::of_scale(alloc, Scale::Powers, arg),
+            AggFn::Lquantize(range) => return Partial::of_scale(alloc, Scale::Steps(range), arg),
+        };
+        Ok(Partial { held })
     }
 
     // The histogram of one argument.

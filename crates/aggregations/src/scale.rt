@@ -1,6 +1,7 @@
 //! The scales of histograms: their buckets and what these are called by.
 
 ghost use Rattle.std.specs.Prelude.{◌≡◌, ℕ, ◌+◌, ◌<◌, ◌≤◌, ◌^◌, ◌==◌};
+ghost use Rattle.aggregations.specs.Vocabulary.{Powers, Steps};
 ghost use Rattle.aggregations.specs.Buckets as spec;
 
 use crate::linear_range::LinearRange;
@@ -29,7 +30,7 @@ impl Scale {
         }
     }
 
-    /// The number that a bucket is called by.
+    /// The number that labels a bucket.
     ///
     /// ```text
     /// Scale::Powers.label(63); // 0
@@ -40,22 +41,8 @@ impl Scale {
         ensures { result ≡ spec.label self bucket }
     {
         match self {
-            Scale::Powers => {
-                if bucket < 63 {
-                    -(1i64 << (62 - bucket))
-                } else if bucket == 63 {
-                    0
-                } else {
-                    1i64 << (bucket - 64)
-                }
-            }
-            Scale::Steps(range) => {
-                if bucket == 0 {
-                    i64::from(range.lower()) - 1
-                } else {
-                    i64::from(range.lower()) + i64::from(bucket - 1) * i64::from(range.step())
-                }
-            }
+            Scale::Powers => power_label(bucket),
+            Scale::Steps(range) => step_label(range, bucket),
         }
     }
 
@@ -65,25 +52,61 @@ impl Scale {
         ensures only { (b : ℕ) → b < spec.buckets self → spec.is_in self b x ≡ (b == result) }
     {
         match self {
-            Scale::Powers => {
-                if x < 0 {
-                    62 - top_bit(x.unsigned_abs()).min(62)
-                } else if x == 0 {
-                    63
-                } else {
-                    64 + top_bit(x.unsigned_abs())
-                }
-            }
-            Scale::Steps(range) => {
-                let lower = i64::from(range.lower());
-                if x < lower {
-                    0
-                } else {
-                    let steps = x.abs_diff(lower) / u64::from(range.step());
-                    steps.min(u64::from(range.levels())) as u32 + 1
-                }
-            }
+            Scale::Powers => power_bucket(x),
+            Scale::Steps(range) => step_bucket(range, x),
         }
+    }
+}
+
+fn power_label(bucket: u32) -> i64
+    requires { bucket < spec.buckets Powers }
+    ensures { result ≡ spec.label Powers bucket }
+{
+    if bucket < 63 {
+        -(1i64 << (62 - bucket))
+    } else if bucket == 63 {
+        0
+    } else {
+        1i64 << (bucket - 64)
+    }
+}
+
+fn step_label(range: LinearRange, bucket: u32) -> i64
+    ensures { result ≡ spec.label (Steps range) bucket }
+{
+    if bucket == 0 {
+        i64::from(range.lower()) - 1
+    } else {
+        i64::from(range.lower()) + i64::from(bucket - 1) * i64::from(range.step())
+    }
+}
+
+// The bucket of powers that the number is in, and no other.
+fn power_bucket(x: i64) -> u32
+    ensures within { result < spec.buckets Powers }
+    ensures only { (b : ℕ) → b < spec.buckets Powers → spec.is_in Powers b x ≡ (b == result) }
+{
+    if x < 0 {
+        62 - top_bit(x.unsigned_abs()).min(62)
+    } else if x == 0 {
+        63
+    } else {
+        64 + top_bit(x.unsigned_abs())
+    }
+}
+
+// The bucket of the range that the number is in, and no other.
+fn step_bucket(range: LinearRange, x: i64) -> u32
+    ensures within { result < spec.buckets (Steps range) }
+    ensures only { (b : ℕ) → b < spec.buckets (Steps range)
+        → spec.is_in (Steps range) b x ≡ (b == result) }
+{
+    let lower = i64::from(range.lower());
+    if x < lower {
+        0
+    } else {
+        let steps = x.abs_diff(lower) / u64::from(range.step());
+        steps.min(u64::from(range.levels())) as u32 + 1
     }
 }
 
