@@ -5,7 +5,7 @@ use Rattle.dif_validate.specs.Vocabulary.{DifFault, Backward, OutOfCode, Registe
 use Rattle.dif_validate.specs.Vocabulary.{TupleShape, TableIndex, Variable, Flow, Next, Jump}
 use Rattle.dif_validate.specs.Vocabulary.{Either, End, Instr, LAST_BUILT_IN, Kind, Object, Shape}
 use Rattle.dif_validate.specs.Vocabulary.{at}
-use Rattle.dif_validate.specs.Rows.{Named, NoName, NumberAt, TextAt, VariableAt, ArrayAt}
+use Rattle.dif_validate.specs.Vocabulary.{Named, NoName, NumberAt, TextAt, VariableAt, ArrayAt}
 use Rattle.dif_validate.specs.Rows.{row_of}
 use Rattle.dif_validate.specs.Asks.{asks, finds_other, finds_unset, lacks_comparison, takes_tuple}
 use Rattle.dif_validate.specs.Flow.{flow, jump_target, before}

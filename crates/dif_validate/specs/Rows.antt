@@ -6,14 +6,7 @@ use Rattle.dif_validate.specs.Vocabulary.{End, Function, Strlen, Strjoin, Instr,
 use Rattle.dif_validate.specs.Vocabulary.{Tst, Scmp, Ba, Branch, Setx, Sets, Ldgs, Ldga, Ldts, Stts}
 use Rattle.dif_validate.specs.Vocabulary.{Ldls, Stls, Pushtr, Pushtv, Flushts, Ldtaa, Sttaa, Call}
 use Rattle.dif_validate.specs.Vocabulary.{Ret, Nop, Kind, Number, Text, Reg}
-
--- what it names by a number
-pub data Named : Type 0 where
-  NoName : Named
-  NumberAt : (i : ℕ) → Named
-  TextAt : (i : ℕ) → Named
-  VariableAt : (v : ℕ) → Named
-  ArrayAt : (v : ℕ) → Named
+use Rattle.dif_validate.specs.Vocabulary.{Named, NoName, NumberAt, TextAt, VariableAt, ArrayAt}
 
 -- which tuple it takes: any, one with room for another part, one that isn't empty, or that of a
 -- function

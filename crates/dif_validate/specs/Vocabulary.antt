@@ -8,6 +8,9 @@ pub use Rattle.dif_validate.specs.declared.fault.DifFault.TheVariants.{Empty, No
 pub use Rattle.dif_validate.specs.declared.fault.DifFault.TheVariants.{OutOfCode, RegisterKind}
 pub use Rattle.dif_validate.specs.declared.fault.DifFault.TheVariants.{Unset, TupleShape}
 pub use Rattle.dif_validate.specs.declared.fault.DifFault.TheVariants.{TableIndex, Variable, Memory}
+pub use Rattle.dif_validate.specs.declared.faults.Named.{Named}
+pub use Rattle.dif_validate.specs.declared.faults.Named.TheVariants.{NoName, NumberAt, TextAt}
+pub use Rattle.dif_validate.specs.declared.faults.Named.TheVariants.{VariableAt, ArrayAt}
 pub use Rattle.dif_validate.specs.declared.flow.Flow.{Flow}
 pub use Rattle.dif_validate.specs.declared.flow.Flow.TheVariants.{Next, Jump, Either, End}
 pub use Rattle.dif_validate.specs.declared.instruction.Condition.{Condition}
