@@ -48,12 +48,20 @@ def matches_by_letters(pattern, text):
 
 
 class Names:
-    """The names that one of several patterns is of. Each is compared once, or once in a while."""
+    """The names that one of several patterns is of. Each is compared once, or once in a while.
+    A pattern without a star, or with one at its end, is looked up among all of its kind.
+    """
 
     def __init__(self, patterns):
-        self.whole = {pattern for pattern in patterns if not {"*", "?"} & set(pattern)}
-        self.patterns = [pattern for pattern in patterns if pattern not in self.whole]
-        self.known = {}
+        self.whole, self.starts, self.others, self.known = set(), set(), [], {}
+        for pattern in patterns:
+            if not {"*", "?"} & set(pattern):
+                self.whole.add(pattern)
+            elif pattern.endswith("*") and not {"*", "?"} & set(pattern[:-1]):
+                self.starts.add(pattern[:-1])
+            else:
+                self.others.append(pattern)
+        self.lengths = {len(start) for start in self.starts}
 
     def has(self, name):
         if name in self.whole:
@@ -61,5 +69,10 @@ class Names:
         if name not in self.known:
             if len(self.known) > 100_000:
                 self.known.clear()
-            self.known[name] = any(matches(pattern, name)[0] for pattern in self.patterns)
+            self.known[name] = self.is_matched(name)
         return self.known[name]
+
+    def is_matched(self, name):
+        return any(name[:length] in self.starts for length in self.lengths) or any(
+            matches(pattern, name)[0] for pattern in self.others
+        )
