@@ -119,7 +119,7 @@ fault_line number place =
     codes "error: firing "
     ++ (decimal number ++ (codes " clause " ++ (decimal place ++ codes ": divide-by-zero\n")))
 
--- a fault's line stands in place of all texts
+-- a fault's line takes the place of all texts
 abbrev pub run_result : List ℕ → Ran → Made
 run_result line all = record {
   texts = if all.faulted then line ∷ [] else texts_in all.effects;

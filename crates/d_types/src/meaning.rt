@@ -56,8 +56,8 @@ pub fn scripts_are_consistent()
 /// e`, where evaluating the keys twice is evaluating them once: so it is where nothing is assigned
 /// in them, as in constants, built-ins, variables and operators on them, and where there are none.
 /// `x[keys]` is read before e is evaluated, and both are converted as in the operation. `++x[keys]`
-/// is `x[keys] += 1`, and `--x[keys]` is `x[keys] -= 1`, whatever the keys. After x they change it
-/// likewise, and have the value that it had.
+/// is `x[keys] += 1`, and `--x[keys]` is `x[keys] -= 1`, whatever the keys. After x they make the
+/// same change, and give the value that it had.
 pub fn changes_in_place_are_assignments()
     ensures update { (f : Firing) (t : IntType) (o : Operation) (x : Variable) (keys : Typeds)
         (e : Typed) (vars : Variables)

@@ -27,6 +27,11 @@ impl Held {
     ghost use Rattle.d_values.specs.{Stores.value_to_keep, Tables.elements_of, Tables.with_scalar};
 
     /// What the variable holds without a key. Takes no memory.
+    ///
+    /// ```text
+    /// // after `self->n = 5;`
+    /// held.scalar(); // the value 5
+    /// ```
     pub fn scalar(&self) -> Option<&Value>
         ensures { MatchOption result (self.now.scalar ≡ None)
             (λ value. self.now.scalar ≡ Some value.now) }

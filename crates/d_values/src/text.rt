@@ -64,6 +64,10 @@ impl Text {
     }
 
     /// Gives the bytes back. Takes no memory.
+    ///
+    /// ```text
+    /// Text::from_slice(alloc, b"cat")?.into_bytes(); // a vector of `cat`
+    /// ```
     pub fn into_bytes(self) -> Vec<u8>
         ensures { result.items ≡ self }
     {

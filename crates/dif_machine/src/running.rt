@@ -100,7 +100,7 @@ fn single_load<'a>(
 }
 
 /// Runs an object from its first instruction to its end, in a frame that may have served other
-/// runs, and lends what it returns. The variables keep the writes so far, also after a fault.
+/// runs, and lends what it returns. The variables keep the writes so far, even after a fault.
 ///
 /// ```text
 /// let mut frame = Frame::new(alloc);
@@ -130,7 +130,7 @@ pub fn run_in<'a>(
 }
 
 /// Runs an object from its first instruction to its end, and returns what it returns. The variables
-/// keep the writes so far, also after a fault.
+/// keep the writes so far, even after a fault.
 ///
 /// ```text
 /// // setx 0, r1; stls n0, r1; ret r1, where the number is 5

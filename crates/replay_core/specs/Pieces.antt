@@ -15,7 +15,7 @@ pub record PieceSeen : Type 0 where
   -- the first of them that exited, and its status
   pub exit : Option (ℕ × ℕ)
 
--- the same of a whole, whose numbers are listed group by group
+-- the same for a whole, whose numbers are listed group by group
 pub record WholeSeen : Type 0 where
   pub texts : List (ℕ × List ℕ)
   pub table : List Aggregation

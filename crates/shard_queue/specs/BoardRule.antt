@@ -29,7 +29,7 @@ module _ {S : Type 0} where
     pub two : length s.words ≡ 2
     pub draws : Draws k.0 k.1 (slice_index s.words 0) (map hand_of s.views)
     pub least : IsLeastLowered (slice_index s.words 1) (map low_of s.views)
-    -- who counts no seat has lowered nothing
+    -- a view that counts no seat has lowered nothing
     pub idle : (by : ℕ) (v : BoardView) → get_elem? s.views by ≡ some v
         → v.hand.seats ≡ 0 → v.low.lowered ≡ no_number
 

@@ -1,5 +1,5 @@
 -- The rule of a queue. It holds the numbers from the front on, and after them an end mark for each
--- seat: who takes one of those is at the end.
+-- seat: a seat that takes one of those is at the end.
 use Rattle.std.specs.Prelude.{◌≡◌, ℕ, zero, suc, ◌+◌, ◌-◌, ◌≤◌, ◌<◌, ◌⊎◌, min, List, [], ◌∷◌, ◌++◌}
 use Rattle.std.specs.Prelude.{length, sum_by, Contains}
 use Rattle.shard_queue.specs.Vocabulary.{Hand}

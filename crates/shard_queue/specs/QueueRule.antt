@@ -10,7 +10,7 @@ among seats h = record { hand = h; seats = seats }
 abbrev pub hand_in : QueueView → Hand
 hand_in v = v.hand
 
--- who counts seats knows how many there are
+-- a view that counts seats knows how many there are
 abbrev pub Know : ℕ → List QueueView → Type 0
 Know seats views = (by : ℕ) (v : QueueView)
     → get_elem? views by ≡ some v → 0 < v.hand.seats → v.seats ≡ seats

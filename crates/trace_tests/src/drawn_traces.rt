@@ -1,4 +1,4 @@
-//! Traces drawn by chance, each read in every way: in one pass, by csv alone, and in pieces.
+//! Random traces, each read in every way: in one pass, by csv alone, and in pieces.
 
 ghost use Rattle.std.specs.Prelude.{◌≤◌};
 
@@ -14,7 +14,7 @@ use std::thread::Threads;
 /// How many traces are drawn.
 const TRACES: u64 = 600;
 
-/// Draws numbers by chance. The same seed gives the same numbers.
+/// Draws random numbers. The same seed gives the same numbers.
 #[derive(Drop)]
 pub(crate) struct Chance {
     pub(crate) state: u64,

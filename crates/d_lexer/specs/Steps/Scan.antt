@@ -211,7 +211,7 @@ with_first_token t s = (t ∷ s.0, s.1)
 abbrev pub token_from : Position → TokenKind → ℕ → Token
 token_from pos t n = record { kind = t; start = pos.at; stop = pos.at + suc n; line = pos.line }
 
--- what comes of what is at the front
+-- the step that what is at the front leads to
 abbrev pub scan_by : (go : ℕ → Place → Scanned) → Place → Position → Result Front Flaw → Scanned
 scan_by go p pos (Err g) = ([], Bad (on_line g pos.line))
 scan_by go p pos (Ok (Gap n)) = go n p

@@ -15,7 +15,7 @@ use keyed_hash::is_same;
 // Ten arguments that are 0, and the line feed after them.
 const ZEROS: &[u8] = b"0,0,0,0,0,0,0,0,0,0\n";
 
-// Ten that are empty, likewise.
+// The same for ten that are empty.
 const EMPTY: &[u8] = b",,,,,,,,,\n";
 
 // Whether bytes begin with these.

@@ -20,7 +20,7 @@ Performs number (Faults after) old (Ok exits) new vars = ⊥
 Performs number (Faults after) old (Err EvalFault.DivideByZero) new vars =
     (vars ≡ after) × (new ≡ old)
 
--- the same of a statement in a state
+-- the same for a statement in a state
 abbrev pub IsPerformed : (Firing → Variables → Outcome Effect) → Result Bool EvalFault
     → (old new : State) → (before after : Piece) → Type 0
 IsPerformed meaning r old new before after =

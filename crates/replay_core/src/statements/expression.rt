@@ -1,6 +1,6 @@
 //! Expressions as engines evaluate them.
 
-ghost use Rattle.std.specs.Prelude.{◌≡◌, IfSome, List};
+ghost use Rattle.std.specs.Prelude.{◌≡◌, [], IfSome, IsTrue, List};
 
 use crate::evaluation::EvalFault;
 use crate::state::State;
@@ -24,7 +24,7 @@ impl Model for Arguments {
 }
 
 /// An expression in the form in which an engine evaluates it. Each call leaves the variables as the
-/// evaluation does, also at a division by 0.
+/// evaluation does, even at a division by 0.
 pub(crate) trait Expression: Sized {
     ghost use Rattle.replay_core.specs.{Evaluation.Meets};
     ghost use Rattle.replay_core.specs.Vocabulary.{Evaluation, Firing as Recorded, Has, Variables};
@@ -50,11 +50,13 @@ pub(crate) trait Expression: Sized {
     fn evaluate_key(keys: &[Self], state: &mut State<'_>) -> Result<Key, EvalFault>
         ensures { Meets (λ f. (by f).key keys.now) result state.old state.new };
 
-    /// The same key, lent, where each part is a constant or a built-in variable that can be lent,
-    /// and there are few. Then evaluation changes no variable.
-    fn lend_key<'a>(keys: &'a [Self], firing: &'a Firing<'a>) -> Option<LentKey<'a>>
-        ensures { IfSome result (λ key. (vars : Variables)
-            → (by firing.now).key keys.now vars ≡ Has key vars) };
+    /// Puts the same key, lent, into an empty one, and returns true, where each part is a constant
+    /// or a built-in variable that can be lent, and there are few. Then evaluation changes no
+    /// variable. Otherwise it returns false, and the key has a part of it.
+    fn lend_key<'a>(keys: &'a [Self], firing: &'a Firing<'a>, key: &mut LentKey<'a>) -> bool
+        requires { key.old ≡ [] }
+        ensures { IsTrue result → (vars : Variables)
+            → (by firing.now).key keys.now vars ≡ Has key.new vars };
 
     /// The values of several, from left to right.
     fn evaluate_arguments(arguments: &[Self], state: &mut State<'_>) -> Result<Arguments, EvalFault>

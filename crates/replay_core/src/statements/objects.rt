@@ -1,6 +1,6 @@
 //! Objects, run by the machine.
 
-ghost use Rattle.std.specs.Prelude.{◌≡◌, ◌<◌, IfSome, length, slice_set};
+ghost use Rattle.std.specs.Prelude.{◌≡◌, ◌<◌, [], IfSome, IsTrue, length, slice_set};
 ghost use Rattle.dif_codegen.specs.Meaning as spec;
 ghost use Rattle.replay_core.specs.Vocabulary.{Has, Variables, action_code, lent_value};
 ghost use Rattle.replay_core.specs.Vocabulary.{number_outcome, part_of, value_result, with};
@@ -122,18 +122,21 @@ fn lend_value<'a>(object: &'a TypedObject, firing: &'a Firing) -> Option<ValueRe
 }
 
 // From left to right.
-fn lend_key<'a>(objects: &'a [TypedObject], firing: &'a Firing<'a>) -> Option<LentKey<'a>>
-    ensures { IfSome result (λ key. (vars : Variables)
-        → spec.key_of_objects firing.now objects.now vars ≡ Has key vars) }
+#[inline(always)]
+fn lend_key<'a>(objects: &'a [TypedObject], firing: &'a Firing<'a>, key: &mut LentKey<'a>) -> bool
+    requires { key.old ≡ [] }
+    ensures { IsTrue result → (vars : Variables)
+        → spec.key_of_objects firing.now objects.now vars ≡ Has key.new vars }
 {
-    let mut key = LentKey::new();
     for object in objects {
-        let value = lend_value(object, firing)?;
+        let Some(value) = lend_value(object, firing) else {
+            return false;
+        };
         if !key.push(value) {
-            return None;
+            return false;
         }
     }
-    Some(key)
+    true
 }
 
 impl Expression for TypedObject {
@@ -155,8 +158,13 @@ impl Expression for TypedObject {
         run_for_key(keys, state)
     }
 
-    fn lend_key<'a>(keys: &'a [TypedObject], firing: &'a Firing<'a>) -> Option<LentKey<'a>> {
-        lend_key(keys, firing)
+    #[inline(always)]
+    fn lend_key<'a>(
+        keys: &'a [TypedObject],
+        firing: &'a Firing<'a>,
+        key: &mut LentKey<'a>,
+    ) -> bool {
+        lend_key(keys, firing, key)
     }
 
     fn evaluate_arguments(

@@ -110,10 +110,11 @@ pub(crate) fn aggregate<X: Expression>(
         (λ f. effect_by (X.by f) (typed.Aggregate place keys.now argument.now))
         result state.old state.new piece.old piece.new }
 {
-    match X::lend_key(keys, state.firing) {
-        Some(key) => aggregate_lent(place, &key, argument, state, piece),
-        None => aggregate_evaluated(place, keys, argument, state, piece),
+    let mut key = LentKey::new();
+    if X::lend_key(keys, state.firing, &mut key) {
+        return aggregate_lent(place, &key, argument, state, piece);
     }
+    aggregate_evaluated(place, keys, argument, state, piece)
 }
 
 // The same under a lent key.

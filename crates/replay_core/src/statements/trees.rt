@@ -1,6 +1,6 @@
 //! Trees, walked.
 
-ghost use Rattle.std.specs.Prelude.{◌≡◌, ◌++◌, ◌∷◌, [], IfSome};
+ghost use Rattle.std.specs.Prelude.{◌≡◌, ◌++◌, ◌∷◌, [], IfSome, IsTrue};
 ghost use Rattle.d_types.specs.Clauses as spec;
 ghost use Rattle.d_types.specs.Typed.{type_of};
 ghost use Rattle.replay_core.specs.Evaluation.{Meets};
@@ -50,18 +50,21 @@ fn push_value(
 }
 
 // From left to right.
-fn lend_key<'a>(keys: &'a [TypedExpr], firing: &'a Firing<'a>) -> Option<LentKey<'a>>
-    ensures { IfSome result (λ key. (vars : Variables)
-        → keys_of firing.now (typeds_of keys.now) vars ≡ Has key vars) }
+#[inline(always)]
+fn lend_key<'a>(keys: &'a [TypedExpr], firing: &'a Firing<'a>, key: &mut LentKey<'a>) -> bool
+    requires { key.old ≡ [] }
+    ensures { IsTrue result → (vars : Variables)
+        → keys_of firing.now (typeds_of keys.now) vars ≡ Has key.new vars }
 {
-    let mut key = LentKey::new();
     for part in keys {
-        let value = lent_leaf(part, firing)?;
+        let Some(value) = lent_leaf(part, firing) else {
+            return false;
+        };
         if !key.push(value) {
-            return None;
+            return false;
         }
     }
-    Some(key)
+    true
 }
 
 impl Expression for TypedExpr {
@@ -83,8 +86,9 @@ impl Expression for TypedExpr {
         evaluate_key(keys, state)
     }
 
-    fn lend_key<'a>(keys: &'a [TypedExpr], firing: &'a Firing<'a>) -> Option<LentKey<'a>> {
-        lend_key(keys, firing)
+    #[inline(always)]
+    fn lend_key<'a>(keys: &'a [TypedExpr], firing: &'a Firing<'a>, key: &mut LentKey<'a>) -> bool {
+        lend_key(keys, firing, key)
     }
 
     fn evaluate_arguments(

@@ -8,5 +8,5 @@ use Rattle.firing_reader.proofs.trace.threads_of.Given as goal
 abbrev pub invariant-loop-at : goal.invariant-loop-at
 invariant-loop-at l = record {
   seen : (q : ℤ) → (contains int_cmp l.seen q || has_thread q (drop l.at l.firings)) ≡ has_thread q l.firings;
-  at_hand : (t : ℤ) → Contains l.at_hand.items t → contains int_cmp l.seen t ≡ true;
+  cached : (t : ℤ) → Contains l.cached.items t → contains int_cmp l.seen t ≡ true;
 }
