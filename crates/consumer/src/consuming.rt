@@ -63,7 +63,7 @@ impl<'a, R: Threads + Wait + Sync, L: Layout> Consumer<'a, R, L> {
     /// let replayed = consumer.consume(&mut feed, &mut sink, &plan)?;
     /// sink.into_inner(); // `1` and a line feed, as `replayed.bytes`
     /// ```
-    pub fn consume<F: Feed, S: Sink>(
+    pub fn consume<F: Feed + Send, S: Sink>(
         &self,
         feed: &mut F,
         sink: &mut S,
@@ -103,7 +103,7 @@ impl<'a, R: Threads + Wait + Sync, L: Layout> Consumer<'a, R, L> {
     /// consumer.consume_trace(b"BEGIN { trace(1); }", &mut feed, &mut sink, &plan)?;
     /// sink.into_inner(); // `1` and a line feed
     /// ```
-    pub fn consume_trace<F: Feed, S: Sink>(
+    pub fn consume_trace<F: Feed + Send, S: Sink>(
         &self,
         script: &[u8],
         feed: &mut F,

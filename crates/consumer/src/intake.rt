@@ -125,7 +125,7 @@ impl<'a, R: Threads> TraceIntake<'a, R> {
 
 impl<'a, R: Threads + Sync> TraceIntake<'a, R> {
     // Takes the next bytes of a feed while other threads read the rows that have come.
-    fn take_beside<F: Feed>(
+    fn take_beside<F: Feed + Send>(
         &mut self,
         feed: &mut F,
         reading: &mut Reading,
@@ -138,7 +138,7 @@ impl<'a, R: Threads + Sync> TraceIntake<'a, R> {
             (F.seen feed.old).remaining (F.seen feed.new).remaining self.old self.new result }
     {
         refused(self.trace.take_out_row(&mut self.block))?;
-        let (read, given) = read_beside(self.rt, &mut self.trace, feed, reading, &mut self.block);
+        let (given, read) = read_beside(self.rt, &mut self.trace, feed, reading, &mut self.block);
         let ended = given?;
         refused(read)?;
         refused(self.trace.take_block(&mut self.block))?;
@@ -153,29 +153,25 @@ fn refused(done: Result<(), AllocError>) -> Result<(), ReadFault>
     done.map_err(|_| ReadFault::Memory)
 }
 
-// Reads the rows that have come in other threads, while this one adds what a feed gives to a block.
-fn read_beside<R: Threads + Sync, F: Feed>(
+// Adds what a feed gives to a block in one more thread, while this one and others read the rows that
+// have come. A new thread may wait until this one does, so it isn't one that all of them wait for.
+fn read_beside<R: Threads + Sync, F: Feed + Send>(
     rt: &R,
     trace: &mut Reader,
     feed: &mut F,
     reading: &mut Reading,
     block: &mut Vec<u8>,
-) -> (Result<(), AllocError>, Result<bool, ReadFault>)
+) -> (Result<bool, ReadFault>, Result<(), AllocError>)
     requires { GoesOn reading.old.calls_left (F.seen feed.old) }
-    ensures read { OnOk result.0 ((rest : List ℕ) → reads trace.new rest ≡ reads trace.old rest) }
     ensures turn { IsTurn (F.seen feed.old) (F.seen feed.new)
-        reading.old.calls_left reading.new.calls_left result.1 }
+        reading.old.calls_left reading.new.calls_left result.0 }
     ensures bytes { (bytes : List ℕ)
         × Consumes (F.seen feed.old).remaining (F.seen feed.new).remaining bytes
-        × OnOk result.1 (block.new.items ≡ block.old.items ++ bytes) }
+        × OnOk result.0 (block.new.items ≡ block.old.items ++ bytes) }
+    ensures read { OnOk result.1 ((rest : List ℕ) → reads trace.new rest ≡ reads trace.old rest) }
 {
     join_mut(
         rt,
-        &mut || -> Result<(), AllocError>
-            requires { IsSync R.row }
-            ensures { OnOk result
-                ((rest : List ℕ) → reads trace.exit.now rest ≡ reads trace.entry.now rest) }
-        { trace.read(rt) },
         &mut || -> Result<bool, ReadFault>
             requires { GoesOn reading.now.calls_left (F.seen feed.now) }
             ensures turn { IsTurn (F.seen feed.entry.now) (F.seen feed.exit.now)
@@ -184,6 +180,11 @@ fn read_beside<R: Threads + Sync, F: Feed>(
                 × Consumes (F.seen feed.entry.now).remaining (F.seen feed.exit.now).remaining bytes
                 × OnOk result (block.exit.now.items ≡ block.entry.now.items ++ bytes) }
         { read_block(feed, reading, block, SHARED_BLOCK) },
+        &mut || -> Result<(), AllocError>
+            requires { IsSync R.row }
+            ensures { OnOk result
+                ((rest : List ℕ) → reads trace.exit.now rest ≡ reads trace.entry.now rest) }
+        { trace.read(rt) },
     )
 }
 
@@ -202,7 +203,7 @@ impl<'a, R: Threads> Intake for TraceIntake<'a, R> {
 impl<'a, R: Threads + Sync> FeedIntake for TraceIntake<'a, R> {
     ghost may_read = { IsSync R.row };
 
-    fn take_from<F: Feed>(
+    fn take_from<F: Feed + Send>(
         &mut self,
         feed: &mut F,
         reading: &mut Reading,
@@ -284,7 +285,7 @@ impl<'a, R: Threads> Intake for BundleIntake<'a, R> {
 impl<'a, R: Threads + Sync> FeedIntake for BundleIntake<'a, R> {
     ghost may_read = { IsSync R.row };
 
-    fn take_from<F: Feed>(
+    fn take_from<F: Feed + Send>(
         &mut self,
         feed: &mut F,
         reading: &mut Reading,

@@ -61,7 +61,7 @@ impl<'a, R: Threads + Wait + Sync, L: Layout> Consumer<'a, R, L> {
     /// ```text
     /// consumer.program(HELP, hash_key, &files, words, &mut streams); // 0, with the answer written
     /// ```
-    pub fn program<C: ScriptFiles, F: Feed, S: Sink, E: Sink>(
+    pub fn program<C: ScriptFiles, F: Feed + Send, S: Sink, E: Sink>(
         &self,
         help: Help,
         hash_key: HashKey,
@@ -89,7 +89,7 @@ impl<'a, R: Threads + Wait + Sync, L: Layout> Consumer<'a, R, L> {
     }
 
     // Runs what was asked for, says why where there is no answer, and returns the status.
-    fn run_status<C: ScriptFiles, F: Feed, S: Sink, E: Sink>(
+    fn run_status<C: ScriptFiles, F: Feed + Send, S: Sink, E: Sink>(
         &self,
         files: &C,
         request: &Request,
@@ -108,7 +108,7 @@ impl<'a, R: Threads + Wait + Sync, L: Layout> Consumer<'a, R, L> {
     }
 
     // Runs what was asked for, over the input and into the output.
-    fn run_request<C: ScriptFiles, F: Feed, S: Sink, E: Sink>(
+    fn run_request<C: ScriptFiles, F: Feed + Send, S: Sink, E: Sink>(
         &self,
         files: &C,
         request: &Request,
@@ -128,7 +128,7 @@ impl<'a, R: Threads + Wait + Sync, L: Layout> Consumer<'a, R, L> {
     }
 
     // Runs the script of the file that was asked for, over the input and into the output.
-    fn run_file<C: ScriptFiles, F: Feed, S: Sink, E: Sink>(
+    fn run_file<C: ScriptFiles, F: Feed + Send, S: Sink, E: Sink>(
         &self,
         files: &C,
         file: &String,
@@ -184,7 +184,7 @@ fn request_by(alloc: Global, help: Help, given: io::Result<Args>) -> Result<Requ
 }
 
 // Shows the help that was asked for, or says what is wrong with the words, and returns the status.
-fn explain<F: Feed, S: Sink, E: Sink>(
+fn explain<F: Feed + Send, S: Sink, E: Sink>(
     alloc: Global,
     fault: &UsageFault,
     streams: &mut Streams<F, S, E>,
@@ -202,7 +202,7 @@ fn explain<F: Feed, S: Sink, E: Sink>(
 }
 
 // Shows the help that was asked for, and returns the status.
-fn show_help<F: Feed, S: Sink, E: Sink>(
+fn show_help<F: Feed + Send, S: Sink, E: Sink>(
     alloc: Global,
     help: &clap::Error,
     streams: &mut Streams<F, S, E>,
@@ -223,7 +223,7 @@ fn show_help<F: Feed, S: Sink, E: Sink>(
 }
 
 // Says what is wrong with the words, and returns the status.
-fn show_mistake<F: Feed, S: Sink, E: Sink>(
+fn show_mistake<F: Feed + Send, S: Sink, E: Sink>(
     alloc: Global,
     mistake: &clap::Error,
     streams: &mut Streams<F, S, E>,

@@ -21,7 +21,7 @@ use std::thread::Threads;
 /// let replayed = consume(&rt, alloc, &mut feed, &mut sink, &plan)?;
 /// sink.into_inner(); // `1` and a line feed, as `replayed.bytes`
 /// ```
-pub fn consume<R: Threads + Wait + Sync, F: Feed, S: Sink>(
+pub fn consume<R: Threads + Wait + Sync, F: Feed + Send, S: Sink>(
     rt: &R,
     alloc: Global,
     feed: &mut F,

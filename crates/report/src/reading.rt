@@ -70,7 +70,7 @@ pub trait FeedIntake: Intake {
     ghost may_read: { Type 0 };
 
     /// Takes the next bytes of a feed, and returns whether it has ended.
-    fn take_from<F: Feed>(&mut self, feed: &mut F, reading: &mut Reading) -> Result<bool, ReadFault>
+    fn take_from<F: Feed + Send>(&mut self, feed: &mut F, reading: &mut Reading) -> Result<bool, ReadFault>
         requires threads { may_read }
         requires going { GoesOn reading.old.calls_left (F.seen feed.old) }
         ensures turn { IsTurn (F.seen feed.old) (F.seen feed.new)
@@ -90,7 +90,7 @@ impl Intake for Vec<u8> {
 impl FeedIntake for Vec<u8> {
     ghost may_read = { Unit {0} };
 
-    fn take_from<F: Feed>(
+    fn take_from<F: Feed + Send>(
         &mut self,
         feed: &mut F,
         reading: &mut Reading,
@@ -180,7 +180,7 @@ fn take_given<T: Intake>(intake: &mut T, buffer: &[u8], given: usize) -> Result<
 /// let mut bytes = Vec::new(alloc);
 /// read_into(alloc, &mut feed, &mut bytes)?; // `number,cpu` and a line feed
 /// ```
-pub fn read_into<F: Feed, T: FeedIntake>(
+pub fn read_into<F: Feed + Send, T: FeedIntake>(
     alloc: Global,
     feed: &mut F,
     intake: &mut T,
@@ -214,7 +214,7 @@ pub fn read_into<F: Feed, T: FeedIntake>(
 /// let mut feed = Watched::new(b"number,cpu\n".as_slice());
 /// let bytes = read_to_end(alloc, &mut feed)?; // `number,cpu` and a line feed
 /// ```
-pub fn read_to_end<F: Feed>(alloc: Global, feed: &mut F) -> Result<Vec<u8>, ReadFault>
+pub fn read_to_end<F: Feed + Send>(alloc: Global, feed: &mut F) -> Result<Vec<u8>, ReadFault>
     requires { IsFalse (F.seen feed.old).has_failed }
     ensures bytes { IfOk result (λ v. IfSome (F.seen feed.old).remaining (λ all. v.items ≡ all)) }
     ensures nothing_left { OnOk result (IsAtEnd (F.seen feed.new).remaining) }
