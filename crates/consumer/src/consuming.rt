@@ -12,7 +12,7 @@ use crate::intake::{BundleIntake, TraceIntake};
 use crate::plan::{Plan, Replayed};
 use crate::refusal::Refusal;
 use replay_core::{Layout, OpenGate};
-use report::{Feed, ReadFault, Sink, read_into, send};
+use report::{Feed, ReadFault, Sink, send};
 use std::alloc::AllocError;
 use std::sync::Wait;
 use std::thread::Threads;
@@ -82,7 +82,7 @@ impl<'a, R: Threads + Wait + Sync, L: Layout> Consumer<'a, R, L> {
             → IfErr result (λ e. sink.new ≡ sink.old) }
     {
         let mut bundle = BundleIntake::new(self.rt, self.alloc, plan);
-        match read_into(self.alloc, feed, &mut bundle) {
+        match bundle.read_from(self.alloc, feed) {
             Ok(()) => {
                 let taken = bundle.finish()?;
                 self.show(taken, sink, plan)
@@ -122,7 +122,7 @@ impl<'a, R: Threads + Wait + Sync, L: Layout> Consumer<'a, R, L> {
             → IfErr result (λ e. sink.new ≡ sink.old) }
     {
         let mut taken = TraceIntake::new(self.rt, self.alloc, plan, script)?;
-        match read_into(self.alloc, feed, &mut taken) {
+        match taken.read_from(self.alloc, feed) {
             Ok(()) => self.show(taken, sink, plan),
             Err(fault) => {
                 drop(taken);

@@ -1,9 +1,12 @@
 //! Takes the input of a run block by block: a bundle, or the trace of a script.
 
-ghost use Rattle.std.specs.Prelude.{◌≡◌, ◌++◌, [], ℕ, List, IfOk, IfSome, Err, MatchResult, Ok};
-ghost use Rattle.std.specs.Prelude.{OnOk};
-ghost use Rattle.std.specs.{Io.KnownBytes.Consumes, Thread.IsSync};
-ghost use Rattle.report.specs.{Intake.TakesSome, Turns.GoesOn, Turns.IsTurn};
+ghost use Rattle.std.specs.Prelude.{◌≡◌, ◌⊎◌, ◌+◌, ◌≤◌, ◌++◌, [], ℕ, List, IfOk, IfSome, IsTrue};
+ghost use Rattle.std.specs.Prelude.{IsFalse, Err, MatchResult, Ok, OnOk};
+ghost use Rattle.std.specs.Io.KnownBytes.{Consumes, IsAtEnd};
+ghost use Rattle.std.specs.Thread.{IsSync};
+ghost use Rattle.report.specs.{Stream.LosesBeginning, Turns.GoesOn, Turns.IsTurn};
+ghost use Rattle.report.specs.Intake.{TakesInput, TakesSome};
+ghost use Rattle.report.specs.declared.reading.TheConstants.{MOST_CALLS};
 ghost use Rattle.consumer.specs.Blocks.{IsTakenApart, HasTaken, TakesTrace};
 ghost use Rattle.consumer.specs.Judging.{IsJudged};
 ghost use Rattle.consumer.specs.Vocabulary.{Lex, reads, trace_of};
@@ -16,7 +19,7 @@ use crate::scripts::judge;
 use d_lexer::{LexFault, MOST_BYTES};
 use d_types::TypedScript;
 use firing_reader::Reader;
-use report::{Feed, FeedIntake, Intake, ReadFault, Reading, read_block, take_next};
+use report::{Feed, Intake, ReadFault, Reading, read_block, take_next};
 use std::alloc::{AllocError, Global};
 use std::mem::replace;
 use std::thread::{Threads, join_mut};
@@ -124,6 +127,52 @@ impl<'a, R: Threads> TraceIntake<'a, R> {
 }
 
 impl<'a, R: Threads + Sync> TraceIntake<'a, R> {
+    /// Takes all bytes that a feed has left. At a fault a beginning of them was read.
+    pub(crate) fn read_from<F: Feed + Send>(
+        &mut self,
+        alloc: Global,
+        feed: &mut F,
+    ) -> Result<(), ReadFault>
+        requires feed { IsFalse (F.seen feed.old).has_failed }
+        ensures bytes { OnOk result (TakesInput (λ old block new. TakesTrace old.script new.script old.trace new.trace block)
+            (F.seen feed.old).remaining self.old self.new) }
+        ensures nothing_left { OnOk result (IsAtEnd (F.seen feed.new).remaining) }
+        ensures ended { OnOk result
+            (IsTrue (F.seen feed.new).has_ended × IsFalse (F.seen feed.new).has_failed) }
+        ensures failed { result ≡ Err ReadFault.Failed →
+            IsTrue (F.seen feed.new).has_failed ⊎ (IsFalse (F.seen feed.new).has_ended
+            × ((F.seen feed.new).calls ≡ (F.seen feed.old).calls + MOST_CALLS)) }
+        ensures memory { result ≡ Err ReadFault.Memory → IsFalse (F.seen feed.new).has_failed }
+        ensures rest { LosesBeginning (F.seen feed.old).remaining (F.seen feed.new).remaining }
+        ensures calls { (F.seen feed.new).calls ≤ (F.seen feed.old).calls + MOST_CALLS }
+    {
+        let mut reading = Reading::new(alloc).map_err(|_| ReadFault::Memory)?;
+        while reading.calls_left > 0 {
+            if self.take_from(feed, &mut reading)? {
+                return Ok(());
+            }
+        }
+        Err(ReadFault::Failed)
+    }
+
+    // Takes the next bytes of a feed, and returns whether it has ended.
+    fn take_from<F: Feed + Send>(
+        &mut self,
+        feed: &mut F,
+        reading: &mut Reading,
+    ) -> Result<bool, ReadFault>
+        requires { GoesOn reading.old.calls_left (F.seen feed.old) }
+        ensures turn { IsTurn (F.seen feed.old) (F.seen feed.new)
+            reading.old.calls_left reading.new.calls_left result }
+        ensures taken { TakesSome (λ old block new. TakesTrace old.script new.script old.trace new.trace block)
+            (F.seen feed.old).remaining (F.seen feed.new).remaining self.old self.new result }
+    {
+        if self.is_shared && self.script.is_ok() {
+            return self.take_beside(feed, reading);
+        }
+        take_next(self, feed, reading)
+    }
+
     // Takes the next bytes of a feed while other threads read the rows that have come.
     fn take_beside<F: Feed + Send>(
         &mut self,
@@ -200,21 +249,6 @@ impl<'a, R: Threads> Intake for TraceIntake<'a, R> {
     }
 }
 
-impl<'a, R: Threads + Sync> FeedIntake for TraceIntake<'a, R> {
-    ghost may_read = { IsSync R.row };
-
-    fn take_from<F: Feed + Send>(
-        &mut self,
-        feed: &mut F,
-        reading: &mut Reading,
-    ) -> Result<bool, ReadFault> {
-        if self.is_shared && self.script.is_ok() {
-            return self.take_beside(feed, reading);
-        }
-        take_next(self, feed, reading)
-    }
-}
-
 /// Takes a bundle: the bytes of its script, and from the dividing line on its trace.
 #[derive(Drop)]
 pub(crate) struct BundleIntake<'a, R> {
@@ -282,14 +316,51 @@ impl<'a, R: Threads> Intake for BundleIntake<'a, R> {
     }
 }
 
-impl<'a, R: Threads + Sync> FeedIntake for BundleIntake<'a, R> {
-    ghost may_read = { IsSync R.row };
+impl<'a, R: Threads + Sync> BundleIntake<'a, R> {
+    /// Takes all bytes that a feed has left. At a fault a beginning of them was read.
+    pub(crate) fn read_from<F: Feed + Send>(
+        &mut self,
+        alloc: Global,
+        feed: &mut F,
+    ) -> Result<(), ReadFault>
+        requires feed { IsFalse (F.seen feed.old).has_failed }
+        ensures bytes { OnOk result (TakesInput (λ old block new. (bytes : List ℕ)
+            → HasTaken old.first.items old.trace bytes
+            → HasTaken new.first.items new.trace (bytes ++ block))
+            (F.seen feed.old).remaining self.old self.new) }
+        ensures nothing_left { OnOk result (IsAtEnd (F.seen feed.new).remaining) }
+        ensures ended { OnOk result
+            (IsTrue (F.seen feed.new).has_ended × IsFalse (F.seen feed.new).has_failed) }
+        ensures failed { result ≡ Err ReadFault.Failed →
+            IsTrue (F.seen feed.new).has_failed ⊎ (IsFalse (F.seen feed.new).has_ended
+            × ((F.seen feed.new).calls ≡ (F.seen feed.old).calls + MOST_CALLS)) }
+        ensures memory { result ≡ Err ReadFault.Memory → IsFalse (F.seen feed.new).has_failed }
+        ensures rest { LosesBeginning (F.seen feed.old).remaining (F.seen feed.new).remaining }
+        ensures calls { (F.seen feed.new).calls ≤ (F.seen feed.old).calls + MOST_CALLS }
+    {
+        let mut reading = Reading::new(alloc).map_err(|_| ReadFault::Memory)?;
+        while reading.calls_left > 0 {
+            if self.take_from(feed, &mut reading)? {
+                return Ok(());
+            }
+        }
+        Err(ReadFault::Failed)
+    }
 
+    // Takes the next bytes of a feed, and returns whether it has ended.
     fn take_from<F: Feed + Send>(
         &mut self,
         feed: &mut F,
         reading: &mut Reading,
-    ) -> Result<bool, ReadFault> {
+    ) -> Result<bool, ReadFault>
+        requires { GoesOn reading.old.calls_left (F.seen feed.old) }
+        ensures turn { IsTurn (F.seen feed.old) (F.seen feed.new)
+            reading.old.calls_left reading.new.calls_left result }
+        ensures taken { TakesSome (λ old block new. (bytes : List ℕ)
+            → HasTaken old.first.items old.trace bytes
+            → HasTaken new.first.items new.trace (bytes ++ block))
+            (F.seen feed.old).remaining (F.seen feed.new).remaining self.old self.new result }
+    {
         match &mut self.trace {
             Some(trace) => trace.take_from(feed, reading),
             None => take_next(self, feed, reading),

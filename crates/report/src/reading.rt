@@ -64,21 +64,6 @@ pub trait Intake {
         ensures { OnOk result (takes self.old block.now self.new) };
 }
 
-/// An intake that reads a feed.
-pub trait FeedIntake: Intake {
-    // What it needs of the threads by which it reads.
-    ghost may_read: { Type 0 };
-
-    /// Takes the next bytes of a feed, and returns whether it has ended.
-    fn take_from<F: Feed + Send>(&mut self, feed: &mut F, reading: &mut Reading) -> Result<bool, ReadFault>
-        requires threads { may_read }
-        requires going { GoesOn reading.old.calls_left (F.seen feed.old) }
-        ensures turn { IsTurn (F.seen feed.old) (F.seen feed.new)
-            reading.old.calls_left reading.new.calls_left result }
-        ensures taken { TakesSome Self.takes (F.seen feed.old).remaining (F.seen feed.new).remaining
-            self.old self.new result };
-}
-
 impl Intake for Vec<u8> {
     ghost takes = { λ old block new. new.items ≡ old.items ++ block };
 
@@ -87,23 +72,10 @@ impl Intake for Vec<u8> {
     }
 }
 
-impl FeedIntake for Vec<u8> {
-    ghost may_read = { Unit {0} };
-
-    fn take_from<F: Feed + Send>(
-        &mut self,
-        feed: &mut F,
-        reading: &mut Reading,
-    ) -> Result<bool, ReadFault> {
-        take_next(self, feed, reading)
-    }
-}
-
 /// Takes what one call of a feed gives, and returns whether it has ended.
 ///
 /// ```text
-/// // of an intake that has nothing to do beside reading, its `take_from`
-/// take_next(self, feed, reading)
+/// take_next(&mut bytes, &mut feed, &mut reading)?; // false, and `bytes` has up to 64 KiB more
 /// ```
 pub fn take_next<F: Feed, T: Intake>(
     intake: &mut T,
@@ -180,12 +152,11 @@ fn take_given<T: Intake>(intake: &mut T, buffer: &[u8], given: usize) -> Result<
 /// let mut bytes = Vec::new(alloc);
 /// read_into(alloc, &mut feed, &mut bytes)?; // `number,cpu` and a line feed
 /// ```
-pub fn read_into<F: Feed + Send, T: FeedIntake>(
+pub fn read_into<F: Feed, T: Intake>(
     alloc: Global,
     feed: &mut F,
     intake: &mut T,
 ) -> Result<(), ReadFault>
-    requires threads { T.may_read }
     requires feed { IsFalse (F.seen feed.old).has_failed }
     ensures bytes { OnOk result
         (TakesInput T.takes (F.seen feed.old).remaining intake.old intake.new) }
@@ -201,7 +172,7 @@ pub fn read_into<F: Feed + Send, T: FeedIntake>(
 {
     let mut reading = Reading::new(alloc).map_err(|_| ReadFault::Memory)?;
     while reading.calls_left > 0 {
-        if intake.take_from(feed, &mut reading)? {
+        if take_next(intake, feed, &mut reading)? {
             return Ok(());
         }
     }
@@ -214,7 +185,7 @@ pub fn read_into<F: Feed + Send, T: FeedIntake>(
 /// let mut feed = Watched::new(b"number,cpu\n".as_slice());
 /// let bytes = read_to_end(alloc, &mut feed)?; // `number,cpu` and a line feed
 /// ```
-pub fn read_to_end<F: Feed + Send>(alloc: Global, feed: &mut F) -> Result<Vec<u8>, ReadFault>
+pub fn read_to_end<F: Feed>(alloc: Global, feed: &mut F) -> Result<Vec<u8>, ReadFault>
     requires { IsFalse (F.seen feed.old).has_failed }
     ensures bytes { IfOk result (λ v. IfSome (F.seen feed.old).remaining (λ all. v.items ≡ all)) }
     ensures nothing_left { OnOk result (IsAtEnd (F.seen feed.new).remaining) }

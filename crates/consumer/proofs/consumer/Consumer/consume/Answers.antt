@@ -18,7 +18,7 @@ returns-in_err-taken-in-Ok-clause-shown g c = λ other. holds_of_any _ _
 pub returns-in_ok-taken-in-Ok-clause-shown : goal.returns-in_ok-taken-in-Ok-clause-shown
 returns-in_ok-taken-in-Ok-clause-shown g c = λ other.
     let input = c.in-Ok.ensures.bytes in
-    let apart = c.in_ok-taken-in-Ok.ensures input.input (bundle_takes c.new-bundle.result input.input c.read_into.new.intake input.taken [] c.new-bundle.ensures) in
+    let apart = c.in_ok-taken-in-Ok.ensures input.input (bundle_takes c.new-bundle.result input.input c.read_from.new.self input.taken [] c.new-bundle.ensures) in
     record {
       input = input.input;
       read = input.read;

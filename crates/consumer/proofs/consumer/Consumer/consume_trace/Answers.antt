@@ -16,10 +16,10 @@ returns-in-Err-clause-shown g c = λ other. holds_of_any _ _
 pub returns-in-Ok-clause-shown : goal.returns-in-Ok-clause-shown
 returns-in-Ok-clause-shown g c = λ other.
     let input = c.in-Ok.ensures.bytes in
-    let takes = trace_takes c.in_ok-taken.taken input.input c.read_into.new.intake input.taken in
+    let takes = trace_takes c.in_ok-taken.taken input.input c.read_from.new.self input.taken in
     record {
       input = input.input;
       read = input.read;
       holds = c.show.ensures.shown c.args.script.now input.input (subst (IsJudged c.args.script.now) (sym takes.same) c.in_ok-taken.ensures.judged)
-          (trace_ended c.in_ok-taken.taken c.read_into.new.intake input.input c.in_ok-taken.ensures.trace takes);
+          (trace_ended c.in_ok-taken.taken c.read_from.new.self input.input c.in_ok-taken.ensures.trace takes);
     }

@@ -1,6 +1,6 @@
 use Rattle.std.proofs.Common.{refl}
 use Rattle.consumer.proofs.Taken.{bundle_blocks}
-use Rattle.consumer.proofs.intake.BundleIntakeFeedIntake.take_from.Goals as goal
+use Rattle.consumer.proofs.intake.BundleIntake.take_from.Goals as goal
 
 pub returns-in-Some-clause-taken : goal.returns-in-Some-clause-taken
 returns-in-Some-clause-taken g c =
