@@ -1,4 +1,5 @@
-# A job in the background makes a list; the shell looks for it until it is there, then packs it and searches in it.
+# A job in the background makes a list; the shell looks for it until it is there, then packs it and
+# searches in it.
 (
     sleep 0.05
     ls -R /usr/share/doc/[p-s]* | head -n 3000 > list

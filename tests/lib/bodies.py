@@ -46,9 +46,9 @@ class Function:
             return last.startswith(whole)
         return last == whole + self.arguments
 
-    def asked(self):
-        """Returns what the prover is asked for to find it: its module, where its path isn't known
-        to the end."""
+    def search_name(self):
+        """Returns the name that the prover finds it by: that of its module, where its path isn't
+        known to the end."""
         owner = self.type + self.trait if self.type else self.module
         return self.module if self.arguments else "::".join(filter(None, [owner, self.name]))
 

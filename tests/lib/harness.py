@@ -183,6 +183,19 @@ def add_program(made, what):
     )
 
 
+def add_drawn(made, what, count):
+    """Gives a reader of words --count and --seed: how many are drawn, and what they depend on."""
+    how_many = f"how many {what} ({count})"
+    made.add_argument("--count", type=int, default=count, metavar="N", help=how_many)
+    made.add_argument("--seed", default="1", metavar="SEED", help="what they are drawn by (1)")
+
+
+def add_first(made):
+    """Gives a reader of words --first: with which round it begins."""
+    first = "the number of the first round (0)"
+    made.add_argument("--first", type=int, default=0, metavar="N", help=first)
+
+
 def programs_by_name(args):
     """The programs that add_program's words give, by the names under which they are run."""
     found = {"dreplay": args.program, "dreplay-data": args.data_program}

@@ -15,19 +15,9 @@ def built(source):
     """Builds tests/shims/SOURCE with gcc in a temporary folder, for as long as it is used."""
     with tempfile.TemporaryDirectory(prefix="dreplay-") as room:
         shim = f"{room}/shim.so"
-        subprocess.run(
-            [
-                "gcc",
-                "-O2",
-                "-Wall",
-                "-shared",
-                "-fPIC",
-                "-o",
-                shim,
-                f"{harness.TOP}/tests/shims/{source}",
-            ],
-            check=True,
-        )
+        source = f"{harness.TOP}/tests/shims/{source}"
+        command = ["gcc", "-O2", "-Wall", "-shared", "-fPIC", "-o", shim, source]
+        subprocess.run(command, check=True)
         yield shim
 
 
@@ -42,11 +32,11 @@ def with_short_reads(shim, most):
     return {**os.environ, "LD_PRELOAD": shim, "READ": f"{most} 0 0"}
 
 
-def run(case, program, plan, shim, told):
-    """Runs a case under a plan with a library that refuses what `told` says. Returns what it left,
-    and whether anything was refused."""
+def run(case, program, plan, shim, refusals):
+    """Runs a case under a plan with a library that refuses what these variables of the environment
+    say. Returns what it left, and whether anything was refused."""
     reads, writes = os.pipe()
-    environment = {**os.environ, "LD_PRELOAD": shim, "REFUSED": str(writes), **told}
+    environment = {**os.environ, "LD_PRELOAD": shim, "REFUSED": str(writes), **refusals}
     try:
         result = case.run(program, plan, env=environment, pass_fds=[writes])
     finally:

@@ -5,7 +5,7 @@
 #include <sys/wait.h>
 #include <unistd.h>
 
-static volatile uint64_t *kept; // what a child told its parent
+static volatile uint64_t *kept; // what a child reported to its parent
 
 // Whether this is the child, which may take this many seconds, or any time for 0. The parent goes
 // on when the child has ended, and ends where the child failed.
@@ -24,12 +24,12 @@ int32_t is_child(uint32_t seconds)
     return 0;
 }
 
-void tell(uint64_t number)
+void set_reported(uint64_t number)
 {
     *kept = number;
 }
 
-uint64_t told(void)
+uint64_t reported(void)
 {
     return *kept;
 }

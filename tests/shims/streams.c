@@ -23,9 +23,9 @@ __attribute__((constructor)) static void start(void)
 {
     const char *names[] = {"READ", "WRITE", "ERROR", "RANDOM"};
     for (int i = 0; i < 4; i++) {
-        const char *told = getenv(names[i]);
-        if (told)
-            sscanf(told, "%lu %lu %lu", &streams[i].most, &streams[i].failing, &streams[i].error);
+        const char *given = getenv(names[i]);
+        if (given)
+            sscanf(given, "%lu %lu %lu", &streams[i].most, &streams[i].failing, &streams[i].error);
     }
     real_read = (ssize_t(*)(int, void *, size_t))dlsym(RTLD_NEXT, "read");
     real_write = (ssize_t(*)(int, const void *, size_t))dlsym(RTLD_NEXT, "write");

@@ -24,6 +24,18 @@ class CommandLine(argparse.ArgumentParser):
             "--version", action="version", version=f"{name} {VERSION}", help="write the version"
         )
 
+    def add_option(self, usage, explanation, **how):
+        """Adds an option by how the help shows it, such as `-j, --jobs N`. One that takes nothing
+        is a flag.
+        """
+        *others, last = usage.split(", ")
+        name, _, metavar = last.partition(" ")
+        if metavar:
+            how["metavar"] = metavar
+        elif "choices" not in how:
+            how["action"] = "store_true"
+        self.add_argument(*others, name, help=explanation, **how)
+
     def _print_message(self, message, file=None):
         # argparse takes no notice of a help that can't be written.
         if message and file is sys.stdout and file is not None:

@@ -93,7 +93,7 @@ class Begun:
 
 
 class Losses:
-    """What a trace doesn't have of its recording, to be told once."""
+    """What a trace doesn't have of its recording, to be reported once."""
 
     def __init__(self):
         self.symbols = self.undated = self.unnamed_errors = self.unknown_births = 0
@@ -117,7 +117,7 @@ class Losses:
         if self.unknown_births == 1:
             self.first_birth = f"line {line}"
 
-    def told(self):
+    def warnings(self):
         """A line for each kind."""
         if self.symbols:
             calls = counted(self.symbols, "call has", "calls have")

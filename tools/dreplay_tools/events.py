@@ -115,11 +115,11 @@ class Events:
             return NOTHING_CONVERTED
         self.rows.flush()
         self.output.keep()
-        for told in self.told():
-            self.tool.say(told)
+        for warning in self.warnings():
+            self.tool.say(warning)
         return SOME_SKIPPED if self.skipped else 0
 
-    def told(self):
+    def warnings(self):
         if self.idle:
             yield f"events of idle processors, which have no thread, are left out: {self.idle:,}"
         if self.strangers:

@@ -108,8 +108,8 @@ def as_json(texts, all_shown):
     """The texts and all aggregations as one value, laid out as by an indent of two. Python's
     encoder takes several times as long for such a layout.
     """
-    told = [in_object(members(shown), 2) for shown in all_shown]
-    return in_object([("texts", in_json(texts)), ("aggregations", in_list(told, 1))], 0)
+    aggregations = [in_object(members(shown), 2) for shown in all_shown]
+    return in_object([("texts", in_json(texts)), ("aggregations", in_list(aggregations, 1))], 0)
 
 
 def members(shown):

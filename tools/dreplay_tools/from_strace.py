@@ -15,7 +15,7 @@ LINES_TO_LOOK_AT = 1000  # the first lines, in which the shape of all is looked 
 
 @dataclass
 class Options:
-    """What dreplay-from-strace is asked for on its command line."""
+    """The options of dreplay-from-strace."""
 
     name: str = "unknown"
     only: str = None
@@ -69,10 +69,8 @@ def report(conversion, output, tool):
             f"{strangers} threads have no call that began them, so each counts as a process of its "
             "own: record with dreplay-record"
         )
-    for told in conversion.losses.told():
-        tool.say(told)
-    for told in output.warnings():
-        tool.say(told)
+    for warning in (*conversion.losses.warnings(), *output.warnings()):
+        tool.say(warning)
     return SOME_SKIPPED if skipped else 0
 
 

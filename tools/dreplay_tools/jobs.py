@@ -37,10 +37,10 @@ class Job:
         """Whether an earlier run did this; it is taken then."""
         try:
             with open(self.note, encoding="utf-8") as file:
-                told = json.load(file)
-            if told["state"] != self.state():
+                note = json.load(file)
+            if note["state"] != self.state():
                 return False
-            ended = told["status"], told["line"], told["answered"]
+            ended = note["status"], note["line"], note["answered"]
             if [*map(type, ended)] != [int, str, bool] or not 0 <= ended[0] < 256:
                 return False
             self.status, self.line, self.is_answered = ended
@@ -57,16 +57,15 @@ class Job:
             self.ended(why.status, self.without_name(str(why)))
         except OSError as why:
             self.ended(FAILED, self.without_name(reason(why)))
-        if self.is_answered or self.line.startswith(
-            REFUSED
-        ):  # all else may end otherwise next time
-            told = {
+        # All else may end otherwise next time.
+        if self.is_answered or self.line.startswith(REFUSED):
+            note = {
                 "state": state,
                 "status": self.status,
                 "line": self.line,
                 "answered": self.is_answered,
             }
-            replace(self.note, json.dumps(told).encode())
+            replace(self.note, json.dumps(note).encode())
         return self
 
     def without_name(self, line):
@@ -145,9 +144,9 @@ def refusal_of_script(program, script):
     except OSError as why:
         raise Failure(f"{program} can't be run: {reason(why)}")
     line = ran.stderr.decode("utf-8", "replace").split("\n")[0]
-    return (
-        ("", 0) if line.startswith("dreplay: trace refused: ") else (line, ran.returncode or FAILED)
-    )
+    if line.startswith(REFUSED):
+        return "", 0
+    return line, ran.returncode or FAILED
 
 
 def replace(path, data):

@@ -41,33 +41,21 @@ def quoted(shown):
 
 def add_outputs(parser):
     """The options of where the trace goes, and of its times."""
-    parser.add_argument(
-        "-o",
-        dest="out",
-        metavar="FILE",
-        help="where the trace goes, once it is complete (standard output)",
-    )
-    parser.add_argument(
-        "--split",
-        type=parts,
-        metavar="N",
-        help="cut it by thread into N parts: run.1.csv, run.2.csv ..",
-    )
+    where = "where the trace goes, once it is complete (standard output)"
+    parser.add_option("-o FILE", where, dest="out")
+    cut = "cut it by thread into N parts: run.1.csv, run.2.csv .."
+    parser.add_option("--split N", cut, type=parts)
     add_from_zero(parser)
 
 
 def add_from_zero(parser):
-    parser.add_argument(
-        "--from-zero",
-        action="store_true",
-        help="times since the first line of the recording, and not since 1970",
-    )
+    since = "times since the first line of the recording, and not since 1970"
+    parser.add_option("--from-zero", since)
 
 
 def add_machine(parser):
-    parser.add_argument(
-        "--machine",
-        metavar="NAME",
-        help="the machine whose numbers of system calls raw_syscalls has, as 'uname -m' shows it "
+    parser.add_option(
+        "--machine NAME",
+        "the machine whose numbers of system calls raw_syscalls has, as 'uname -m' shows it "
         "(this one)",
     )

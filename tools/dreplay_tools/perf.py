@@ -203,8 +203,8 @@ def recorder():
     )
 
 
-def told(file, tool):
-    """What perf tells of a recording, as a file, and whether it has records or text.
+def records_or_text(file, tool):
+    """What perf prints of a recording, as a file, and whether it has records or text.
 
     perf's interpreter ends where the name of a thread isn't UTF-8; the text that perf prints is
     taken then.
