@@ -1,26 +1,27 @@
-# dreplay: what a user needs. Building and proving take the Rattle toolchain's command `rt`, which
-# has to be on PATH.
+# Builds, tests and installs dreplay. Building and proving take the Rattle toolchain's command `rt`,
+# which has to be on PATH.
 #
-#   make            builds dreplay and dreplay-data, and answers the question of examples/counts;
-#                   the first time it answers it before it builds them, too, as make try does
+#   make            builds dreplay and dreplay-data, and answers the question of examples/counts.
+#                   The first time it also answers it before the build, as make try does
 #   make try        answers the question of examples/counts, or of BUNDLE=FILE, before anything is
 #                   proved, by a slow program that checks as it runs; takes a minute or two
-#   make build      builds it: crates/dreplay/out/dreplay, and dreplay-data as
-#                   crates/dreplay_data/out/dreplay_data
+#   make build      builds crates/dreplay/out/dreplay and crates/dreplay_data/out/dreplay_data
 #   make test       the gate: every proof from nothing, the edits that must fail, then every case
-#                   over both built programs
-#   make cases      the cases alone, over the program that `make build` leaves
-#   make examples   the examples alone, likewise: each answer is compared with the one beside its
-#                   script
-#   make install    puts them and the tools into PREFIX/bin (/usr/local/bin, if PREFIX is not
-#                   given), with man pages, completions, pages and examples in PREFIX/share; it
-#                   builds nothing if the programs are there
-#   make uninstall  removes all of that
-#   make dist       packs it into an archive and a Debian package in dist/, which need no toolchain
-#   make bench      measures it with 1, 2 and 4 workers beside mawk, its instructions where valgrind
-#                   is installed, and the lexer, the parser, the reader and a thread's variables
-#                   alone
-#   make clean      removes what was built and proved
+#                   over both programs
+#   make cases      builds dreplay, and runs the cases and the examples over it, and those of the
+#                   converter of strace's recordings
+#   make examples   builds dreplay, and runs the examples alone: each answer is compared with the
+#                   one beside its script
+#   make install    puts the programs and the tools into PREFIX/bin (without PREFIX into
+#                   /usr/local/bin), and man pages, completions, documents and examples into
+#                   PREFIX/share; builds the programs only if they aren't there
+#   make uninstall  removes all that make install put into PREFIX
+#   make dist       packs the same into an archive and a Debian package in dist/, which need no
+#                   toolchain
+#   make bench      measures the time with 1, 2 and 4 workers beside mawk, the instructions where
+#                   valgrind is installed, and the lexer, the parser, the reader and a thread's
+#                   variables alone
+#   make clean      removes what was built and proved, and dist/
 #   make help       prints this
 
 PREFIX ?= /usr/local
@@ -85,8 +86,8 @@ $(PROGRAM) $(DATA_PROGRAM):
 	@$(MAKE) --no-print-directory build
 
 install: $(PROGRAM) $(DATA_PROGRAM)
-	install -D -m 755 $(PROGRAM) '$(DESTDIR)$(PREFIX)/bin/dreplay'
-	install -m 755 $(DATA_PROGRAM) '$(DESTDIR)$(PREFIX)/bin/dreplay-data'
+	@install -D -m 755 $(PROGRAM) '$(DESTDIR)$(PREFIX)/bin/dreplay'
+	@install -m 755 $(DATA_PROGRAM) '$(DESTDIR)$(PREFIX)/bin/dreplay-data'
 	@echo "$$INSTALLED" | while read -r folder mode files; do \
 	    install -d '$(DESTDIR)$(PREFIX)'/"$$folder" && \
 	    install -m "$$mode" $$files '$(DESTDIR)$(PREFIX)'/"$$folder" || exit 1; done
@@ -96,9 +97,10 @@ install: $(PROGRAM) $(DATA_PROGRAM)
 	        '$(DESTDIR)$(PREFIX)/share/fish/vendor_completions.d/'"$$tool.fish" || exit 1; done
 	@ln -sf dreplay.bash '$(DESTDIR)$(PREFIX)/share/bash-completion/completions/dreplay'
 	@tools/install-docs '$(DESTDIR)$(PREFIX)/share/doc/dreplay'
+	@echo 'dreplay is installed: $(DESTDIR)$(PREFIX)/bin/dreplay'
 
 uninstall:
-	rm -f '$(DESTDIR)$(PREFIX)/bin/dreplay' '$(DESTDIR)$(PREFIX)/bin/dreplay-data'
+	@rm -f '$(DESTDIR)$(PREFIX)/bin/dreplay' '$(DESTDIR)$(PREFIX)/bin/dreplay-data'
 	@echo "$$INSTALLED" | while read -r folder mode files; do \
 	    for file in $$files; do rm -f '$(DESTDIR)$(PREFIX)'/"$$folder/$${file##*/}"; done; done
 	@for tool in dreplay dreplay-data $(notdir $(TOOLS)); do \
@@ -115,4 +117,4 @@ bench: build
 	@for part in lexer parser reading variables; do bench/part $$part || exit 1; done
 
 clean:
-	rm -rf crates/*/out dist
+	@rm -rf crates/*/out dist
