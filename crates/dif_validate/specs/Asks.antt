@@ -1,11 +1,11 @@
 -- What an instruction asks of the registers, the comparison and the tuple.
-use Rattle.std.specs.Prelude.{Bool, true, false, not, ◌&&◌, ◌||◌, List, [], ◌∷◌, length, nat_lt}
+use Rattle.std.specs.Prelude.{Bool, true, false, not, ◌&&◌, ◌||◌, List, [], ◌∷◌}
 use Rattle.dif_validate.specs.Vocabulary.{Asks, Nothing, Any, One, Two, Flow, Next, Jump, Either}
 use Rattle.dif_validate.specs.Vocabulary.{End, Function, Strlen, Strjoin, Instr, Kind, Text, Shape}
 use Rattle.dif_validate.specs.Vocabulary.{at}
 use Rattle.dif_validate.specs.Rows.{TupleNeed, AnyTuple, WithRoom, Filled, TupleOf, row_of}
 use Rattle.dif_validate.specs.Flow.{flow}
-use Rattle.dif_validate.specs.Shapes.{is_other, is_unset}
+use Rattle.dif_validate.specs.Shapes.{is_other, is_unset, has_room}
 
 -- the registers that it reads
 abbrev pub asks : Instr → Asks
@@ -50,7 +50,7 @@ is_some_tuple (k ∷ ks) = true
 -- it can take the tuple
 abbrev pub takes_by : TupleNeed → List Kind → Bool
 takes_by AnyTuple tuple = true
-takes_by WithRoom tuple = nat_lt (length tuple) 8
+takes_by WithRoom tuple = has_room tuple
 takes_by Filled tuple = is_some_tuple tuple
 takes_by (TupleOf f) tuple = is_tuple_of f tuple
 

@@ -91,13 +91,17 @@ abbrev pub first_of_faults : Option DifFault → Option DifFault → Option DifF
 first_of_faults None rest = rest
 first_of_faults (Some fault) rest = Some fault
 
+-- it names what isn't there
+abbrev pub fault_of_name : Instr → ℕ → Object → Option DifFault
+fault_of_name i pc o =
+    if_so (misses_table i o) (TableIndex pc)
+    (if_so (misses_variable i) (Variable pc) None)
+
 abbrev pub fault_of_instr : Object → ℕ → Instr → Option Kind → Option Shape → Option DifFault
 fault_of_instr o pc i kind way =
     if_so (goes_back i pc) (Backward pc)
     (if_so (goes_out i (length o.code)) (OutOfCode pc)
-    (first_of_faults (fault_if_reached i pc kind way)
-    (if_so (misses_table i o) (TableIndex pc)
-    (if_so (misses_variable i) (Variable pc) None))))
+    (first_of_faults (fault_if_reached i pc kind way) (fault_of_name i pc o)))
 
 abbrev pub fault_there : Object → ℕ → Option Instr → Option DifFault
 fault_there o pc None = None

@@ -1,9 +1,9 @@
 -- What is known after an instruction.
-use Rattle.std.specs.Prelude.{List, [], ◌∷◌, ◌++◌, length, nat_lt, if◌then◌else◌, Option, Some}
-use Rattle.std.specs.Prelude.{None, true}
+use Rattle.std.specs.Prelude.{List, [], ◌∷◌, ◌++◌, if◌then◌else◌, Option, Some, None, true}
 use Rattle.dif_validate.specs.Vocabulary.{Instr, Kind, Reg, Shape, at, put}
 use Rattle.dif_validate.specs.Rows.{Change, Puts, Copies, ComparesTwo, Pushes, Empties}
 use Rattle.dif_validate.specs.Rows.{StoresVariable, NoChange, row_of}
+use Rattle.dif_validate.specs.Shapes.{has_room}
 
 abbrev pub with_register : Shape → Reg → Option Kind → Shape
 with_register s r kind =
@@ -21,7 +21,7 @@ shape_with_tuple s tuple =
 abbrev pub tuple_with : Option (List Kind) → Kind → Option (List Kind)
 tuple_with None kind = None
 tuple_with (Some tuple) kind =
-    if nat_lt (length tuple) 8 then Some (tuple ++ kind ∷ []) else None
+    if has_room tuple then Some (tuple ++ kind ∷ []) else None
 
 -- what is known after a change
 abbrev pub shape_after : Change → Shape → Shape

@@ -27,7 +27,7 @@ pub data Change : Type 0 where
   StoresVariable : Change
   NoChange : Change
 
-pub record Row : Type 0 where
+pub record InstructionRow : Type 0 where
   pub asks : Asks
   pub named : Named
   pub tuple : TupleNeed
@@ -37,20 +37,20 @@ pub record Row : Type 0 where
 -- ---- rows
 
 -- it names nothing, takes any tuple and goes on to the next instruction
-abbrev pub plain_row : Asks → Change → Row
+abbrev pub plain_row : Asks → Change → InstructionRow
 plain_row asks change =
     record { asks = asks; named = NoName; tuple = AnyTuple; change = change; flow = Next }
 
-abbrev pub naming_row : Named → Asks → Change → Row
+abbrev pub naming_row : Named → Asks → Change → InstructionRow
 naming_row named asks change =
     record { asks = asks; named = named; tuple = AnyTuple; change = change; flow = Next }
 
-abbrev pub tuple_row : TupleNeed → Asks → Change → Row
+abbrev pub tuple_row : TupleNeed → Asks → Change → InstructionRow
 tuple_row tuple asks change =
     record { asks = asks; named = NoName; tuple = tuple; change = change; flow = Next }
 
 -- it changes nothing
-abbrev pub leading_row : Asks → Flow → Row
+abbrev pub leading_row : Asks → Flow → InstructionRow
 leading_row asks flow =
     record { asks = asks; named = NoName; tuple = AnyTuple; change = NoChange; flow = flow }
 
@@ -62,7 +62,7 @@ abbrev pub kind_of_function : Function → Kind
 kind_of_function Strlen = Number
 kind_of_function Strjoin = Text
 
-abbrev pub row_of : Instr → Row
+abbrev pub row_of : Instr → InstructionRow
 row_of (Alu op a b d) = plain_row (Two Number a b) (Puts Number d)
 row_of (Not a d) = plain_row (One Number a) (Puts Number d)
 row_of (Mov a d) = plain_row (Any a) (Copies a d)

@@ -1,6 +1,6 @@
 -- What is known before an instruction, whichever way led there.
-use Rattle.std.specs.Prelude.{Bool, true, false, not, ◌&&◌, if◌then◌else◌, List, [], ◌∷◌, Option}
-use Rattle.std.specs.Prelude.{Some, None}
+use Rattle.std.specs.Prelude.{Bool, true, false, not, ◌&&◌, if◌then◌else◌, List, [], ◌∷◌, length}
+use Rattle.std.specs.Prelude.{nat_lt, Option, Some, None}
 use Rattle.dif_validate.specs.Vocabulary.{Kind, Number, Text, Reg, R0, R1, R2, R3, R4, R5, R6, R7}
 use Rattle.dif_validate.specs.Vocabulary.{Shape, at}
 
@@ -26,6 +26,10 @@ abbrev pub is_unset : Option Kind → Bool
 is_unset None = true
 is_unset (Some kind) = false
 
+-- another kind fits into the tuple
+abbrev pub has_room : List Kind → Bool
+has_room tuple = nat_lt (length tuple) 8
+
 -- ---- shapes
 
 -- at the start the first register is a number, all others are unset, nothing was compared, and the
@@ -42,17 +46,20 @@ abbrev pub common_kind : Option Kind → Option Kind → Option Kind
 common_kind (Some k) (Some j) = if is_same k j then Some k else None
 common_kind _ _ = None
 
+abbrev pub common_kinds : List (Option Kind) → List (Option Kind) → List (Option Kind)
+common_kinds these those =
+    let common = λ (r : Reg). common_kind (at these r) (at those r) in
+    common R0 ∷ common R1 ∷ common R2 ∷ common R3
+    ∷ common R4 ∷ common R5 ∷ common R6 ∷ common R7 ∷ []
+
 -- and so is the tuple
 abbrev pub common_tuple : Option (List Kind) → Option (List Kind) → Option (List Kind)
 common_tuple (Some t) (Some u) = if are_same t u then Some t else None
 common_tuple _ _ = None
 
 abbrev pub meet : Shape → Shape → Shape
-meet s t =
-    let both = λ (r : Reg). common_kind (at s.registers r) (at t.registers r) in
-    record {
-      registers =
-          both R0 ∷ both R1 ∷ both R2 ∷ both R3 ∷ both R4 ∷ both R5 ∷ both R6 ∷ both R7 ∷ [];
-      compared = s.compared && t.compared;
-      tuple = common_tuple s.tuple t.tuple;
-    }
+meet s t = record {
+  registers = common_kinds s.registers t.registers;
+  compared = s.compared && t.compared;
+  tuple = common_tuple s.tuple t.tuple;
+}

@@ -103,15 +103,11 @@ fn kind_of_built_in(v: u8) -> Kind
 fn tuple_with(tuple: Option<Tuple>, kind: Kind) -> Option<Tuple>
     ensures { result ≡ spec.tuple_with tuple kind }
 {
-    match tuple {
-        Some(mut tuple) => {
-            if tuple.kinds().len() < 8 {
-                tuple.push(kind);
-                Some(tuple)
-            } else {
-                None
-            }
-        }
-        None => None,
+    let mut tuple = tuple?;
+    if tuple.has_room() {
+        tuple.push(kind);
+        Some(tuple)
+    } else {
+        None
     }
 }
