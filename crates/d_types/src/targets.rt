@@ -196,10 +196,9 @@ fn settle(table: &mut [Entry], slot: usize, holds: Option<DType>)
         ≡ spec.settle_slot (type_at (rows_of_entries table.old) slot) slot holds
         (rows_of_entries table.old) }
 {
-    if type_at(table, slot).is_none() {
-        if let Some(holds) = holds {
-            set_type(table, slot, holds);
-        }
+    match (type_at(table, slot), holds) {
+        (None, Some(holds)) => set_type(table, slot, holds),
+        (Some(_), _) | (None, None) => {}
     }
 }
 
