@@ -1,5 +1,5 @@
-"""The questions of the benchmarks: the traces that they are asked of, who answers them, and what
-each answer says."""
+"""The questions of the benchmarks: the traces that they are of, who answers them, and what each
+answer says."""
 import argparse
 import os
 import shutil
@@ -12,7 +12,7 @@ QUESTIONS = ["reading", "counts", "latency", "heavy", "dense"]
 
 
 def parser(doc):
-    """A reader of a benchmark's words, with its doc as help."""
+    """A parser of a benchmark's command line, with its doc as help."""
     return argparse.ArgumentParser(
         description=doc,
         usage=argparse.SUPPRESS,

@@ -133,7 +133,7 @@ def differences(has, wants):
 
 
 def parser(doc):
-    """A reader of a script's words, with the usage and the first paragraph of its doc."""
+    """A parser of a test's command line, with the usage and the first paragraph of its doc."""
     usage = doc.split("usage: ")[1].split("\n\n")[0]
     first = doc.split("\n\n")[0]
     return argparse.ArgumentParser(
@@ -142,25 +142,19 @@ def parser(doc):
 
 
 def parser_of_programs(doc):
-    """A reader of words that has --program: the programs to run. programs_of reads them off its
-    answer."""
+    """A parser with --program: the programs to run. programs_of takes them from its result."""
     made = parser(doc)
-    made.add_argument(
-        "--program",
-        action="append",
-        metavar="PATH",
-        help="a program to run in the place of the gate's two",
-    )
+    program = "a program to run in the place of the gate's two"
+    made.add_argument("--program", action="append", metavar="PATH", help=program)
     return made
 
 
 def parser_of_all_programs(doc):
-    """A reader of words that has --data-program too: a dreplay-data to run. all_programs_of reads
-    both off its answer."""
+    """A parser with --data-program too: a dreplay-data to run. all_programs_of takes both from its
+    result."""
     made = parser_of_programs(doc)
-    made.add_argument(
-        "--data-program", action="append", metavar="PATH", help="a dreplay-data to run likewise"
-    )
+    program = "a dreplay-data to run likewise"
+    made.add_argument("--data-program", action="append", metavar="PATH", help=program)
     return made
 
 
@@ -174,30 +168,27 @@ def all_programs_of(args, tally):
 
 
 def add_program(made, what):
-    """Gives a reader of words --program and --data-program, where one of each is run."""
-    made.add_argument(
-        "--program", default=PROGRAMS[0], metavar="PATH", help=f"the program that {what} run"
-    )
-    made.add_argument(
-        "--data-program", default=DATA_PROGRAMS[0], metavar="PATH", help="the same for dreplay-data"
-    )
+    """Gives a parser --program and --data-program, where one of each is run."""
+    program, same = f"the program that {what} run", "the same for dreplay-data"
+    made.add_argument("--program", default=PROGRAMS[0], metavar="PATH", help=program)
+    made.add_argument("--data-program", default=DATA_PROGRAMS[0], metavar="PATH", help=same)
 
 
 def add_drawn(made, what, count):
-    """Gives a reader of words --count and --seed: how many are drawn, and what they depend on."""
+    """Gives a parser --count and --seed: how many are drawn, and what they depend on."""
     how_many = f"how many {what} ({count})"
     made.add_argument("--count", type=int, default=count, metavar="N", help=how_many)
     made.add_argument("--seed", default="1", metavar="SEED", help="what they are drawn by (1)")
 
 
 def add_first(made):
-    """Gives a reader of words --first: with which round it begins."""
+    """Gives a parser --first: with which round it begins."""
     first = "the number of the first round (0)"
     made.add_argument("--first", type=int, default=0, metavar="N", help=first)
 
 
 def programs_by_name(args):
-    """The programs that add_program's words give, by the names under which they are run."""
+    """The programs of add_program's options, by the names under which they are run."""
     found = {"dreplay": args.program, "dreplay-data": args.data_program}
     return {name: os.path.abspath(path) for name, path in found.items()}
 
@@ -214,13 +205,13 @@ def programs_of(args):
 
 
 def add_names(made):
-    """Gives a reader of words the names of cases and examples."""
+    """Gives a parser the names of cases and examples."""
     names = "a case, a file of tests/cases without .txt, or examples/FOLDER/SCRIPT"
     made.add_argument("names", nargs="*", metavar="NAME", help=names)
 
 
 def programs_and_names(doc):
-    """Reads the words of a test script by its doc: the programs to run, and the names of cases and
+    """Parses a test's command line by its doc: the programs to run, and the names of cases and
     examples."""
     made = parser_of_programs(doc)
     add_names(made)

@@ -11,7 +11,7 @@ MOST_SAID = 300
 
 
 class CommandLine(argparse.ArgumentParser):
-    """A reader of a command line, with --version and a help that is the tool's doc."""
+    """A parser of a command line, with --version and a help that is the tool's doc."""
 
     def __init__(self, name, doc, epilog):
         super().__init__(

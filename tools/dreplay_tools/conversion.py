@@ -149,12 +149,12 @@ class Conversion:
     returned.
     """
 
-    def __init__(self, words, recording, shape, out, tool):
-        self.processes = Processes(text(os.fsencode(words.name)))
-        if words.threads:
-            self.processes.read(words.threads)
-        self.wanted, self.words = Wanted(words.only, words.since), words
-        self.rows, self.shape, self.tool = Rows(out, words.rows), shape, tool
+    def __init__(self, options, recording, shape, out, tool):
+        self.processes = Processes(text(os.fsencode(options.name)))
+        if options.threads:
+            self.processes.read(options.threads)
+        self.wanted, self.options = Wanted(options.only, options.since), options
+        self.rows, self.shape, self.tool = Rows(out, options.rows), shape, tool
         self.size = os.fstat(recording.fileno()).st_size or 1
         lines = io.TextIOWrapper(
             recording, encoding="utf-8", errors="surrogateescape", newline="\n"
@@ -163,14 +163,14 @@ class Conversion:
         self.pending, self.arguments, self.losses = {}, Arguments(), Losses()
         self.understood = self.skipped = self.left_out = self.line = 0
         self.in_summary = False
-        self.zero = None if words.from_zero else 0
+        self.zero = None if options.from_zero else 0
         self.quick = (
             shape.has_threads
             and shape.has_dates
             and self.wanted.all
-            and words.rows is None
-            and not words.paths
-            and not words.ppid
+            and options.rows is None
+            and not options.paths
+            and not options.ppid
         )
         self.whole, self.begun, self.resumed = (
             re.compile(shape.quick_prefix + kind, re.ASCII).fullmatch
@@ -431,14 +431,14 @@ class Conversion:
 
     def module(self, name, args):
         """The column module: with --paths the first path of a call."""
-        if not self.words.paths:
+        if not self.options.paths:
             return ""
         path = path_of(name, args)
         return field(text(path)) if path else ""
 
     def with_parent(self, thread, columns):
         """Columns of arguments, the last of them the parent's process where --ppid asks for it."""
-        if not self.words.ppid:
+        if not self.options.ppid:
             return columns
         return f"{columns.rpartition(',')[0]},{self.processes.parent(thread)}"
 

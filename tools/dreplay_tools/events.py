@@ -142,5 +142,5 @@ def cell(shown):
     return field(text(shown.encode("utf-8", "surrogateescape")))
 
 
-def machine(words):
-    return words.machine or os.uname().machine
+def machine(args):
+    return args.machine or os.uname().machine

@@ -24,9 +24,9 @@ def total_of(shown):
     return shown.total
 
 
-def table(shown, words):
+def table(shown, args):
     """The columns' names and the rows of an aggregation. A histogram has a row for each bucket."""
-    names, unit, value_unit = list(shown.aggregation.keys), words.unit, words.value_unit
+    names, unit, value_unit = list(shown.aggregation.keys), args.unit, args.value_unit
     if not shown.aggregation.is_histogram:
         total = total_of(shown) if value_unit == SHARE else 0
         rows = [
@@ -44,9 +44,9 @@ def table(shown, words):
     return [*names, *(["from", "below"] if unit is None else ["value"]), "count"], rows
 
 
-def as_table(shown, words):
+def as_table(shown, args):
     """Columns of a terminal: numbers right, texts left."""
-    names, rows = table(shown, words)
+    names, rows = table(shown, args)
     texts = [*shown.aggregation.texts, *[False] * len(names)]
     keys, last, columns = len(shown.aggregation.keys), len(names) - 1, []
     for place, (name, column) in enumerate(zip(names, list(zip(*rows)) or [()] * len(names))):
@@ -60,8 +60,8 @@ def as_table(shown, words):
     return [printable(shown.title), *lines]
 
 
-def as_markdown(shown, words):
-    names, rows = table(shown, words)
+def as_markdown(shown, args):
+    names, rows = table(shown, args)
     ends = ["---"] * (len(names) - 1) + ["---:"]
     lines = [
         f"**{marked(shown.title)}**",
@@ -85,12 +85,12 @@ def in_bars(cells):
     return "| " + " | ".join(cells) + " |"
 
 
-def as_csv(shown, words):
-    names, rows = table(shown, words)
+def as_csv(shown, args):
+    names, rows = table(shown, args)
     out = io.StringIO()
     writer = csv.writer(out, lineterminator="\n")
     writer.writerows(
-        [guarded(cell, words.guard) if type(cell) is str else cell for cell in row]
+        [guarded(cell, args.guard) if type(cell) is str else cell for cell in row]
         for row in (names, *rows)
     )
     return out.getvalue()

@@ -46,16 +46,16 @@ def has_heat(shown):
     return keys == 2 and len(shown.entries) > 0 and all(value >= 0 for _, value in shown.entries)
 
 
-def heat_of(shown, words):
+def heat_of(shown, args):
     if not has_heat(shown):
         raise Failure(
             f"{shown.title} has no heat map: one is made of histograms by key, or of counts and"
             " sums by two keys"
         )
-    return of_histograms(shown, words) if shown.aggregation.is_histogram else of_pairs(shown)
+    return of_histograms(shown, args) if shown.aggregation.is_histogram else of_pairs(shown)
 
 
-def of_histograms(shown, words):
+def of_histograms(shown, args):
     """A column for each histogram, by key; a row for each bucket, the highest on top."""
     entries = filled(sorted(shown.entries, key=lambda entry: sortable(entry[0])))
     order = kept(
@@ -77,7 +77,7 @@ def of_histograms(shown, words):
         f"{shown.title} {shown.aggregation.value_name}",
         f"by {', '.join(shown.aggregation.keys)}",
         columns,
-        [interval(buckets[ends], words.unit) for ends in rows],
+        [interval(buckets[ends], args.unit) for ends in rows],
         cells,
         len(entries) - len(order),
         len(buckets) - len(rows),

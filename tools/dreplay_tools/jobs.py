@@ -20,8 +20,8 @@ REFUSED = "dreplay: trace refused: "
 class Job:
     """The run over one trace: where its answer goes, what it is of, and how it ended."""
 
-    def __init__(self, trace, folder, words):
-        self.trace, self.words = trace, words
+    def __init__(self, trace, folder, command):
+        self.trace, self.command = trace, command
         whole = os.path.abspath(trace).encode("utf-8", "surrogateescape")
         name = f"{os.path.basename(trace)[:MOST_NAME]}-{hashlib.sha256(whole).hexdigest()[:12]}"
         self.answer = os.path.join(folder, name + ".answer")
@@ -31,7 +31,7 @@ class Job:
     def state(self):
         """What an answer depends on: script, program and trace as they are now."""
         found = os.stat(self.trace)
-        return [*self.words.state, found.st_size, found.st_mtime_ns]
+        return [*self.command.state, found.st_size, found.st_mtime_ns]
 
     def is_done(self):
         """Whether an earlier run did this; it is taken then."""
@@ -80,9 +80,8 @@ class Job:
         ) as out:
             try:
                 os.lseek(trace.fileno(), 0, os.SEEK_SET)  # its first bytes were looked at
-                ran = subprocess.run(
-                    self.words.command, stdin=trace, stdout=out, stderr=subprocess.PIPE
-                )
+                words = self.command.words
+                ran = subprocess.run(words, stdin=trace, stdout=out, stderr=subprocess.PIPE)
                 line = ran.stderr.decode("utf-8", "replace").split("\n")[0]
                 self.ended(ran.returncode, line)
                 if self.is_answered:
@@ -101,11 +100,11 @@ class Job:
         self.line = line or ("" if self.is_answered else killed)
 
 
-class Words:
-    """The command that is run for each trace, and what it is of."""
+class Command:
+    """The command that is run for each trace, and the state of what it is of."""
 
     def __init__(self, script, program):
-        self.command = [program, "-s", script, *PLAN]
+        self.words = [program, "-s", script, *PLAN]
         with open(script, "rb") as file:
             found = os.stat(program)
             self.state = [hashlib.sha256(file.read()).hexdigest(), found.st_size, found.st_mtime_ns]
@@ -113,10 +112,9 @@ class Words:
 
 def jobs_of(traces, folder, script, program):
     """A job for each trace, each trace once."""
-    words = Words(script, program)
-    return list(
-        {job.answer: job for job in (Job(trace, folder, words) for trace in traces)}.values()
-    )
+    command = Command(script, program)
+    jobs = (Job(trace, folder, command) for trace in traces)
+    return list({job.answer: job for job in jobs}.values())
 
 
 def all_run(jobs, at_once):

@@ -44,7 +44,7 @@ class Chart:
     of: str = "entries"  # what the bars are
 
 
-def charts(all_shown, words):
+def charts(all_shown, args):
     """The charts of an answer, the most telling ones first, and how many more there are."""
     wanted = []
     for shown in all_shown:
@@ -53,22 +53,22 @@ def charts(all_shown, words):
         elif shown.entries:
             wanted.append((shown,))
     drawn = [
-        (histogram if shown.aggregation.is_histogram else bars_of)(shown, *entry, words)
+        (histogram if shown.aggregation.is_histogram else bars_of)(shown, *entry, args)
         for shown, *entry in wanted[:MOST_CHARTS]
     ]
     return drawn, len(wanted) - len(drawn)
 
 
-def histogram(shown, keys, rows, words):
+def histogram(shown, keys, rows, args):
     total = sum(row.count for row in rows)
     rows, more = largest(rows, MOST_BUCKETS, lambda row: row.count)
-    unit = SHARE if words.value_unit == SHARE else None
+    unit = SHARE if args.value_unit == SHARE else None
     what = f"{shown.title} {shown.aggregation.value_name}"
     title = "  ".join(map(name, keys))
     return Chart(
         title or what,
         what if title else "",
-        [[interval(row, words.unit)] for row in rows],
+        [[interval(row, args.unit)] for row in rows],
         [True],
         [row.count for row in rows],
         [numbered(row.count, unit, total) for row in rows],
@@ -78,15 +78,15 @@ def histogram(shown, keys, rows, words):
     )
 
 
-def bars_of(shown, words):
+def bars_of(shown, args):
     """The chart of an aggregation of numbers: the largest entries."""
-    total = total_of(shown) if words.value_unit == SHARE else 0
+    total = total_of(shown) if args.value_unit == SHARE else 0
     entries, more = largest(shown.entries, MOST_BARS, lambda entry: abs(entry[1]))
     labels = [[name(key) for key in keys] or [shown.title] for keys, _ in entries]
     right = [not is_text for is_text in shown.aggregation.texts] or [False]
     values = [value for _, value in entries]
-    unit = None if words.value_unit == SHARE else words.value_unit
-    shown_values = [numbered(value, words.value_unit, total) for value in values]
+    unit = None if args.value_unit == SHARE else args.value_unit
+    shown_values = [numbered(value, args.value_unit, total) for value in values]
     return Chart(
         f"{shown.title} {shown.aggregation.value_name}",
         "",

@@ -103,13 +103,13 @@ HEAD = """<!DOCTYPE html>
 """
 
 
-def page(texts, all_shown, words, script):
+def page(texts, all_shown, args, script):
     """The lines of a page."""
-    yield HEAD.format(title=escape(words.title or "An answer of dreplay"), style=STYLE)
+    yield HEAD.format(title=escape(args.title or "An answer of dreplay"), style=STYLE)
     if not all_shown:
         yield "<p>No aggregation has an entry.</p>"
     for shown in all_shown:
-        yield from section(shown, words)
+        yield from section(shown, args)
     if texts:
         yield "<h2>Texts</h2>"
         yield f"<pre>{escape(in_lines(texts))}</pre>"
@@ -123,7 +123,7 @@ def in_lines(text):
     return "\n".join(printable(line.expandtabs()) for line in text.split("\n"))
 
 
-def section(shown, words):
+def section(shown, args):
     """An aggregation: a heat map where there is one, histograms or a table of bars, and all its
     rows.
     """
@@ -135,19 +135,19 @@ def section(shown, words):
         f" {count_of(len(shown.entries), 'entry', 'entries')}</p>"
     )
     if has_heat(shown) and len(shown.entries) > 1:
-        yield from heat_table(heat_of(shown, words))
+        yield from heat_table(heat_of(shown, args))
     if aggregation.is_histogram:
         yield '<div class="cards">'
         for keys, rows in shown.entries[:MOST_CHARTS]:
-            yield from card(keys, rows, words)
+            yield from card(keys, rows, args)
         yield "</div>"
         if len(shown.entries) > MOST_CHARTS:
             yield f"<p>{and_more(len(shown.entries) - MOST_CHARTS, 'histograms')}</p>"
         yield "<details><summary>All buckets</summary>"
-        yield from data_table(shown, words, with_bars=False)
+        yield from data_table(shown, args, with_bars=False)
         yield "</details>"
     else:
-        yield from data_table(shown, words, with_bars=True)
+        yield from data_table(shown, args, with_bars=True)
     yield "</section>"
 
 
@@ -155,9 +155,9 @@ def count_of(number, one, many):
     return f"{number:,} {one if number == 1 else many}"
 
 
-def data_table(shown, words, with_bars):
+def data_table(shown, args, with_bars):
     """A table whose columns sort at a click."""
-    names, rows = table(shown, words)
+    names, rows = table(shown, args)
     sorts = [entry[1] for entry in shown.entries] if with_bars else [row[-1] for row in rows]
     more = len(rows) - MOST_ROWS
     if more > 0 and with_bars:
@@ -216,16 +216,16 @@ class Bars:
         return f'<div class="track">{bar}{self.zero}</div>' if bar or self.zero else ""
 
 
-def card(keys, rows, words):
+def card(keys, rows, args):
     """A histogram: a row for each bucket."""
     total = sum(row.count for row in rows)
     rows, more = largest(rows, MOST_BUCKETS, lambda row: row.count)
     bars = Bars([row.count for row in rows])
-    unit = SHARE if words.value_unit == SHARE else None
+    unit = SHARE if args.value_unit == SHARE else None
     title = "  ".join(map(name, keys))
     yield f'<div class="card">{f"<h3>{escape(title)}</h3>" if title else ""}<table>'
     for row in rows:
-        label = interval(row, words.unit)
+        label = interval(row, args.unit)
         long = " class=long" * (len(label) > WIDEST_INTERVAL)
         yield (
             f'<tr><th scope="row"{long}>{escape(label)}</th><td'
