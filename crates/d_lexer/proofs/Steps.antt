@@ -29,3 +29,5 @@ later_plain w n x (Ok t) = let k : (n + 1) + t.1 ≡ n + suc t.1 = omega arith i
 pub later_escape : (w : List ℕ) (n x : ℕ) (r : Result (List ℕ × ℕ) Flaw) → later_text (w ++ x ∷ []) (n + 2) r ≡ later_text w n (skip_one (with_byte x r))
 later_escape w n x (Err g) = refl
 later_escape w n x (Ok t) = let k : (n + 2) + t.1 ≡ n + suc (suc t.1) = omega arith in rw (append_assoc w (x ∷ []) t.0, k) refl
+
+pub ruleset later = (later_none, later_plain, later_escape)

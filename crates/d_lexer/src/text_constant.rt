@@ -19,7 +19,7 @@ pub(crate) fn text(alloc: Global, bytes: &[u8]) -> Result<(ByteString, usize), S
 }
 
 // Puts what a text constant holds, and returns how many bytes it has after its first quote.
-#[tactic(auto, unfolding(crate::specs::Steps::Scan::text_from), using(crate::proofs::Steps::later_none, crate::proofs::Steps::later_plain, crate::proofs::Steps::later_escape))]
+#[tactic(auto, unfolding(crate::specs::Steps::Scan::text_from), using(crate::proofs::Steps::later))]
 fn put_text(value: &mut Vec<u8>, bytes: &[u8]) -> Result<usize, Stop>
     requires { value.old.items ≡ [] }
     ensures { outcomes.Gives scan.flaw_of (λ n. (value.new.items, n)) result

@@ -15,6 +15,7 @@ use Rattle.d_parser.proofs.Sound.{IfSome}
 use Rattle.d_parser.proofs.SoundScripts.{script_sound}
 use Rattle.d_parser.proofs.CompleteScripts.{script_complete}
 use Rattle.d_parser.proofs.Counts.{script_within}
+use Rattle.d_parser.proofs.Deep.{deep_is, is_deep_of}
 
 pub found_of : (r : Result Script ParseFault) (ts : List Token) → Gives script_of r (script_reader ts) → IfOk r (λ s. IsScript (script_of s) ts)
 found_of (Ok s) ts h = subst (λ (o : Option (List ItemTree)). IfSome (λ all. IsScript all ts) o) h (script_sound ts)
@@ -33,3 +34,5 @@ passed_of (Err faults.Memory) ts h = tt
 pub few_of : (r : Result Script ParseFault) (ts : List Token) (n : ℕ) → length ts ≤ n → Gives script_of r (script_reader ts) → IfOk r (λ s. IsWithin n (script_of s))
 few_of (Ok s) ts n le h = script_within (script_of s) ts n le (found_of (Ok s) ts h)
 few_of (Err e) ts n le h = tt
+
+pub ruleset whole_script = (found_of, only_of, passed_of, deep_is, is_deep_of)

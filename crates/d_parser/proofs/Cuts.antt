@@ -37,3 +37,5 @@ pub first_field : (bytes rest : List ℕ) → after_colon bytes ≡ Some rest �
 unfolding before_colon after_colon
 first_field [] rest e = absurd cc
 first_field (x ∷ bytes) rest e = field_by (x == colon) x bytes (before_colon bytes) rest (after_colon bytes) (shorter bytes rest) (first_field bytes rest) e
+
+pub ruleset fields = (whole_field, first_field, shorter)

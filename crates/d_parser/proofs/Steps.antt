@@ -109,3 +109,7 @@ items_goes k n c all (t ∷ ts) x h l e = rw (at_suc n c h) (rw e refl)
 pub items_end : (k n c : ℕ) (all : List ItemTree) (ts : List Token) → n ≤ c → items_reader k (n - c) all ts ≡ None
 unfolding items_reader
 items_end k n c all ts h = let e : n - c ≡ 0 = omega arith in rw e refl
+
+pub ruleset descriptions = (descriptions_step, descriptions_none)
+
+pub ruleset stmts = (stmts_stop, stmts_goes, stmts_fail, stmts_fail_slot, stmts_end)

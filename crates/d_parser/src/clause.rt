@@ -43,7 +43,7 @@ fn put(all: &mut Vec<Description>, next: Description) -> Result<(), ParseFault>
 
 /// The descriptions after commas.
 #[cycle(descriptions)]
-#[tactic(auto, using(crate::proofs::Steps::descriptions_step, crate::proofs::Steps::descriptions_none))]
+#[tactic(auto, using(crate::proofs::Steps::descriptions))]
 fn further_descriptions<'a>(
     alloc: Global,
     turns: usize,

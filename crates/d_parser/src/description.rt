@@ -26,7 +26,7 @@ fn after_colon(bytes: &[u8]) -> Option<&[u8]>
 }
 
 /// The bytes before the first colon, and those after it if there is one.
-#[tactic(auto, using(crate::proofs::Cuts::whole_field, crate::proofs::Cuts::first_field, crate::proofs::Cuts::shorter))]
+#[tactic(auto, using(crate::proofs::Cuts::fields))]
 fn cut(bytes: &[u8]) -> (&[u8], Option<&[u8]>)
     ensures field { result.0.now ≡ spec.before_colon bytes.now }
     ensures later { MatchOption result.1 (spec.after_colon bytes.now ≡ None)

@@ -24,7 +24,7 @@ use std::alloc::Global;
 /// let script = parse(alloc, &tokens)?; // one clause, with one statement
 /// parse(alloc, &lex(alloc, b"hit {\n 1 + }")?); // Err(ParseFault::Syntax { line: 2 })
 /// ```
-#[tactic(auto, using(crate::proofs::Answering::found_of, crate::proofs::Answering::only_of, crate::proofs::Answering::passed_of, crate::proofs::Deep::deep_is, crate::proofs::Deep::is_deep_of))]
+#[tactic(auto, using(crate::proofs::Answering::whole_script))]
 pub fn parse(alloc: Global, tokens: &[Token]) -> Result<Script, ParseFault>
     requires few { length tokens.now ≤ MOST_BYTES }
     requires small { token.HaveSmallNumbers tokens.now }

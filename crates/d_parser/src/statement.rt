@@ -115,7 +115,7 @@ fn slot<'a>(
 }
 
 /// The statements after semicolons, and the closing brace.
-#[tactic(auto, using(crate::proofs::Steps::stmts_stop, crate::proofs::Steps::stmts_goes, crate::proofs::Steps::stmts_fail, crate::proofs::Steps::stmts_fail_slot, crate::proofs::Steps::stmts_end))]
+#[tactic(auto, using(crate::proofs::Steps::stmts))]
 fn further<'a>(
     alloc: Global,
     fuel: usize,
