@@ -20,6 +20,10 @@ pub trait ScriptFiles {
     ghost bytes: { Self → List ℕ → Option (List ℕ) };
 
     /// Opens a file, to be read from its first byte.
+    ///
+    /// ```text
+    /// files.open("script.d")?; // a file of which no byte was read
+    /// ```
     fn open(&self, name: &str) -> Result<Self::File, Failed>
         ensures unread { IfOk result (λ file. IsFalse (Self.File.seen file).has_failed) }
         ensures bytes { IfOk result (λ file. IfSome (bytes self.now name.now) (λ all.

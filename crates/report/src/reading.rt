@@ -60,6 +60,12 @@ pub trait Intake {
     ghost takes: { Self → List ℕ → Self → Type 0 };
 
     /// Takes the next block.
+    ///
+    /// ```text
+    /// let mut bytes = Vec::new(alloc);
+    /// bytes.take(b"1,0,")?;
+    /// bytes.take(b"7")?; // bytes are 1,0,7
+    /// ```
     fn take(&mut self, block: &[u8]) -> Result<(), AllocError>
         ensures { OnOk result (takes self.old block.now self.new) };
 }

@@ -19,6 +19,10 @@ pub trait Sink {
 
     /// Writes a beginning of the piece and returns its length, which is 0 for an empty piece alone.
     /// A failed call writes nothing.
+    ///
+    /// ```text
+    /// out.put(b"cat")?; // 1, 2 or 3
+    /// ```
     fn put(&mut self, piece: &[u8]) -> Result<usize, Failed>
         requires { IsFalse (seen self.old).has_failed }
         ensures bound { WritesAtMost result piece.now }
@@ -45,6 +49,10 @@ pub trait Feed {
     /// Puts the next bytes at the buffer's front and returns how many; what the buffer holds after
     /// them is unspecified. Zero, if the buffer isn't empty, means the end. A failed call takes no
     /// byte.
+    ///
+    /// ```text
+    /// let count = input.get(&mut buffer)?; // buffer[..count] are the next bytes
+    /// ```
     fn get(&mut self, buffer: &mut [u8]) -> Result<usize, Failed>
         requires { IsFalse (seen self.old).has_failed }
         ensures bound { ReadsAtMost result buffer.new }
