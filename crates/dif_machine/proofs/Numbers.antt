@@ -1,6 +1,6 @@
 -- Numbers of 64 bits are themselves as words.
 use Rattle.std.specs.Prelude.{◌≡◌, ℕ, ℤ, pos, negsuc, ◌+◌, ◌-◌, ◌%◌, ◌^◌, ◌<◌, Bool, true, false}
-use Rattle.std.specs.Prelude.{◌&&◌, nat_le, if◌then◌else◌}
+use Rattle.std.specs.Prelude.{nat_le, if◌then◌else◌}
 use Rattle.std.proofs.Common.{◌∙◌, arith, refl}
 use Rattle.d_values.specs.Numbers.{bits_of}
 use Rattle.d_values.specs.Types.{INT64}

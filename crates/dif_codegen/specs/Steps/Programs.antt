@@ -2,7 +2,7 @@
 use Rattle.std.specs.Prelude.{List, [], ◌∷◌, map, Option, Some, None}
 use Rattle.d_types.specs.Typed as typed
 use Rattle.d_types.specs.Typed.{Typeds, end, more, type_of, Evaluate, Trace, Print, Exit, Aggregate}
-use Rattle.dif_codegen.specs.Vocabulary.{Typed, ClauseMeant, Action, TypedObject}
+use Rattle.dif_codegen.specs.Vocabulary.{Typed, ClauseMeant, TypedObject}
 use Rattle.dif_codegen.specs.Steps.Code.{object_code}
 use Rattle.dif_codegen.specs.Programs.{ActionCode, ClauseCode}
 

@@ -1,4 +1,4 @@
-use Rattle.std.specs.Prelude.{◌≡◌, ℕ, ℤ, ◌+◌, ◌-◌, ◌*◌, ◌/◌, ◌%◌, ◌^◌, ◌<◌, bit_and, bit_or}
+use Rattle.std.specs.Prelude.{◌≡◌, ℤ, ◌+◌, ◌-◌, ◌*◌, ◌/◌, ◌%◌, ◌^◌, bit_and, bit_or}
 use Rattle.std.specs.Prelude.{bit_xor, int_div, int_rem, Ok, true}
 use Rattle.std.proofs.Common.{ap, arith, sym, ◌∙◌}
 use Rattle.std.specs.Int.{int_shr}
@@ -14,7 +14,6 @@ use Rattle.dif_validate.specs.declared.instruction.Operator.TheVariants.{Or, Xor
 use Rattle.dif_validate.specs.declared.instruction.Operator.TheVariants.{Sra, Sub, Add, Mul, Sdiv}
 use Rattle.dif_validate.specs.declared.instruction.Operator.TheVariants.{Udiv, Srem, Urem}
 use Rattle.dif_machine.specs.Plain.{divided_by, signed}
-use Rattle.dif_machine.specs.Vocabulary.{OutOfZero}
 use Rattle.dif_machine.proofs.Numbers.{bits_small, signed_stays, whole}
 use Rattle.dif_machine.proofs.laws.operators_are_plain.Goals as goal
 

@@ -1,8 +1,6 @@
 use Rattle.std.specs.List.{list_any}
-use Rattle.std.specs.Prelude.{◌≡◌}
 use Rattle.std.proofs.Common.{ap, ◌∙◌}
 use Rattle.d_types.specs.Typed.{is_exit}
-use Rattle.dif_codegen.specs.Meaning.{code_exits}
 use Rattle.dif_codegen.specs.Programs.{action_code}
 use Rattle.dif_codegen.proofs.Exiting.{program_exits, written_exits}
 use Rattle.dif_codegen.proofs.program.Program.exits.Goals as goal
