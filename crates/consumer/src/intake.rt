@@ -340,7 +340,8 @@ impl<'a, R: Threads + Sync> BundleIntake<'a, R> {
     {
         let mut reading = Reading::new(alloc).map_err(|_| ReadFault::Memory)?;
         while reading.calls_left > 0 {
-            if self.take_from(feed, &mut reading)? {
+            let ended = self.take_from(feed, &mut reading)?;
+            if ended {
                 return Ok(());
             }
         }

@@ -14,26 +14,26 @@ loop-reading-init g c =
       taken = ([], Consumes-nil _, TakesBlocks.none);
     }
 
-pub returns-in_err-take_from-clause-rest : goal.returns-in_err-take_from-clause-rest
-returns-in_err-take_from-clause-rest g c =
+pub returns-in_err-ended-clause-rest : goal.returns-in_err-ended-clause-rest
+returns-in_err-ended-clause-rest g c =
     let (input, given, taken) = c.loop-reading.invariant.taken in
     (_, Consumes-trans _ _ _ _ _ given c.take_from.ensures.taken.given)
 
-pub returns-then-branch-clause-bytes : goal.returns-then-branch-clause-bytes
-returns-then-branch-clause-bytes g c =
-    let ended = rw c.if-branch.true at c.in_ok-take_from.ensures.turn.given in
-    takes_all _ _ _ _ _ (takes_more _ _ _ _ _ _ _ _ c.loop-reading.invariant.taken c.in_ok-take_from.ensures.taken) ended.nothing_left
+pub returns-then-ended-clause-bytes : goal.returns-then-ended-clause-bytes
+returns-then-ended-clause-bytes g c =
+    let ended = rw c.if-ended.true at c.in_ok-ended.ensures.turn.given in
+    takes_all _ _ _ _ _ (takes_more _ _ _ _ _ _ _ _ c.loop-reading.invariant.taken c.in_ok-ended.ensures.taken) ended.nothing_left
 
-pub returns-then-branch-clause-rest : goal.returns-then-branch-clause-rest
-returns-then-branch-clause-rest g c =
+pub returns-then-ended-clause-rest : goal.returns-then-ended-clause-rest
+returns-then-ended-clause-rest g c =
     let (input, given, taken) = c.loop-reading.invariant.taken in
     (_, Consumes-trans _ _ _ _ _ given c.take_from.ensures.taken.given)
 
 pub loop-reading-preserved : goal.loop-reading-preserved
 loop-reading-preserved g c =
-    let goes_on = rw c.if-branch.false at c.in_ok-take_from.ensures.turn.given in
+    let goes_on = rw c.if-ended.false at c.in_ok-ended.ensures.turn.given in
     record {
       going = goes_on.0;
       counted = omega (arith, c.take_from.ensures.turn.counted, c.loop-reading.invariant.counted);
-      taken = takes_more _ _ _ _ _ _ _ _ c.loop-reading.invariant.taken c.in_ok-take_from.ensures.taken;
+      taken = takes_more _ _ _ _ _ _ _ _ c.loop-reading.invariant.taken c.in_ok-ended.ensures.taken;
     }
