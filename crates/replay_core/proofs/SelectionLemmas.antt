@@ -1,5 +1,5 @@
 -- Clauses that are selected, by their places.
-use Rattle.std.specs.Prelude.{◌≡◌, ℕ, suc, ◌+◌, ◌<◌, ◌≤◌, List, [], ◌∷◌, ◌++◌, All}
+use Rattle.std.specs.Prelude.{◌≡◌, ℕ, zero, suc, ◌+◌, ◌<◌, ◌≤◌, List, [], ◌∷◌, ◌++◌, All}
 use Rattle.std.specs.Prelude.{map, length, slice_get}
 use Rattle.std.specs.Prelude.{Some}
 use Rattle.std.specs.List.{AllZip}
@@ -18,7 +18,13 @@ use Rattle.d_types.specs.Typed.{ScriptMeant}
 use Rattle.replay_core.specs.Patterns.{probe_of}
 use Rattle.replay_core.specs.Selecting.{AreFor, list_at, selected_for, selected_in}
 
--- ---- lists by probe
+-- ---- lists by place
+
+-- an element of the first of two lists
+slice_get_left : {A : Type 0} (xs ys : List A) (i : ℕ) (x : A) → slice_get xs i ≡ Some x → slice_get (xs ++ ys) i ≡ Some x
+slice_get_left [] ys i x there = absurd cc
+slice_get_left (y ∷ xs) ys zero x there = there
+slice_get_left (y ∷ xs) ys (suc i) x there = slice_get_left xs ys i x there
 
 pub at_listed : (lists : List (List ℕ)) (by_probe : List ℕ) (wanted : List (List ℕ)) (i : ℕ) (d : List ℕ) → ArePlaces lists by_probe wanted → i < length wanted
     → list_at lists (get_or by_probe i 0) ≡ get_or wanted i d
@@ -53,6 +59,15 @@ module _ (lists : List (List ℕ)) (by_probe : List ℕ) (probes : List Probe) (
         map-append own trace (end_of trace ∷ []),
       ) refl
 
+-- the list of a row's probe
+pub row_selected : (lists : List (List ℕ)) (begin end : ℕ) (f : ℕ → ℕ) (places : List ℕ) (i p : ℕ) → slice_get places i ≡ Some p
+    → slice_get (selected_in lists begin (map f places) end) (suc i) ≡ Some (list_at lists (f p))
+row_selected lists begin end f places i p there =
+    let rows = map (list_at lists) (map f places) in
+    let tail = list_at lists end ∷ [] in
+    let same : slice_get rows i ≡ Some (list_at lists (f p)) = slice_get-map (list_at lists) (map f places) i ∙ rw (slice_get-map f places i, there) refl in
+    slice_get_left rows tail i (list_at lists (f p)) same
+
 -- the list of one more probe
 pub lists_more : (h : Probe → List ℕ) (t u : List (List ℕ)) (places : List ℕ) (probes : List Probe) (i place : ℕ) (p : Probe) → Extends t u → ArePlaces t places (take i (map h probes))
     → slice_get probes i ≡ Some p → slice_get u place ≡ Some (h p) → ArePlaces u (places ++ place ∷ []) (take (i + 1) (map h probes))
@@ -60,12 +75,6 @@ lists_more h t u places probes i place p grows are there kept =
     let others = map h probes in
     let same : slice_get others i ≡ Some (h p) = slice_get-map h probes i ∙ rw there refl in
     rw (take_more others i (h p) (slice_get_within others i (h p) same), get_or_from_slice_get others i (h p) (h p) same) (place_more t u places (take i others) place (h p) grows are kept)
-
--- the list of one more row
-pub rows_more : (f : ℕ → ℕ) (places rows : List ℕ) (i p r : ℕ) → rows ≡ take i (map f places) → slice_get places i ≡ Some p → r ≡ f p → rows ++ r ∷ [] ≡ take (i + 1) (map f places)
-rows_more f places rows i p r so_far there is =
-    let same : slice_get (map f places) i ≡ Some (f p) = slice_get-map f places i ∙ rw there refl in
-    rw (take_more (map f places) i (f p) (slice_get_within (map f places) i (f p) same), get_or_from_slice_get (map f places) i (f p) (f p) same, so_far, is) refl
 
 -- ---- what a lane is given
 

@@ -10,6 +10,7 @@ ghost use Rattle.replay_core.specs.Steps.{AtBoard.AreFinished, Worked.IsWorkAdde
 use crate::gate::Gate;
 use crate::lanes::Lanes;
 use crate::piece::Piece;
+use crate::selection::Selections;
 use crate::span::Span;
 use crate::until::work_until;
 use crate::worker::{WorkerInput, work, work_on};
@@ -38,20 +39,47 @@ impl<'a, L: Lanes> Promise<Worked> for Works<'a, L> {
         (IsWork (Gives p.span (L.runs p.lanes.now) p.groups.now p.trace.now) p.board.now) };
 }
 
+/// Lends selections. The closures of threads capture a value of a type that does so, as a contract
+/// knows nothing of a closure that captures a `Selections`, which has a lifetime.
+pub(crate) trait LendSelections {
+    ghost use Rattle.std.specs.Prelude.{◌≡◌, ℕ, List};
+
+    /// The places of the clauses, firing by firing.
+    ghost lent: { Self → List (List ℕ) };
+
+    /// The selections themselves.
+    fn lend(&self) -> &Selections<'_>
+        ensures { result.now ≡ lent self.now };
+}
+
+impl<'a> LendSelections for Selections<'a> {
+    ghost lent = { λ s. s };
+
+    fn lend(&self) -> &Selections<'_> {
+        self
+    }
+}
+
 /// Runs a worker for each seat, all at once, and joins them. Where one can't be started the others
 /// are joined too.
-pub(crate) fn in_threads<R: Threads + Wait + Sync, L: Lanes + Sync, G: Gate + Sync>(
+pub(crate) fn in_threads<R, L, S, G>(
     rt: &R,
     board: &ClaimBoard,
     seats: Vec<ClaimSeat>,
     input: &WorkerInput<L, G>,
+    selections: &S,
     span: Span,
 ) -> Result<Vec<Worked>, AllocError>
+where
+    R: Threads + Wait + Sync,
+    L: Lanes + Sync,
+    S: LendSelections + Sync,
+    G: Gate + Sync,
     requires seats { All (λ s. IsAt board.now s × IsNew s) seats.items }
     requires end { board.now.end ≡ (grouping input.now.groups.now).count }
     requires ready { IsReady (L.runs input.now.lanes.now) input.now.groups.now input.now.trace.now }
     requires selected { AreSelected
-        (L.runs input.now.lanes.now) input.now.trace.now input.now.selections.now }
+        (L.runs input.now.lanes.now) input.now.trace.now (S.lent selections.now) }
     ensures len { IfOk result (λ v. vec_len v ≡ vec_len seats) }
     ensures works { IfOk result (λ v. All (λ r. IfOk r (IsWork
         (Gives span (L.runs input.now.lanes.now) input.now.groups.now input.now.trace.now)
@@ -59,7 +87,7 @@ pub(crate) fn in_threads<R: Threads + Wait + Sync, L: Lanes + Sync, G: Gate + Sy
 {
     // A contract knows nothing of a closure that captures a value with a lifetime.
     let (alloc, lanes, trace) = (input.alloc, input.lanes, input.trace);
-    let (selections, groups, gate) = (input.selections, input.groups, input.gate);
+    let (groups, gate) = (input.groups, input.gate);
     thread::scope(
         thread::scope_env(),
         rt,
@@ -67,7 +95,7 @@ pub(crate) fn in_threads<R: Threads + Wait + Sync, L: Lanes + Sync, G: Gate + Sy
             requires seats { All (λ s. IsAt board.now s × IsNew s) seats.items }
             requires end { board.now.end ≡ (grouping groups.now).count }
             requires ready { IsReady (L.runs lanes.now) groups.now trace.now }
-            requires selected { AreSelected (L.runs lanes.now) trace.now selections.now }
+            requires selected { AreSelected (L.runs lanes.now) trace.now (S.lent selections.now) }
             ensures len { IfOk result (λ v. vec_len v ≡ vec_len seats) }
             ensures works { IfOk result (λ v. All (λ r. IfOk r
                 (IsWork (Gives span (L.runs lanes.entry.now) groups.entry.now trace.entry.now)
@@ -89,7 +117,7 @@ pub(crate) fn in_threads<R: Threads + Wait + Sync, L: Lanes + Sync, G: Gate + Sy
                         requires end { board.now.end ≡ (grouping groups.now).count }
                         requires ready { IsReady (L.runs lanes.now) groups.now trace.now }
                         requires selected { AreSelected (L.runs lanes.now)
-                            trace.now selections.now }
+                            trace.now (S.lent selections.now) }
                         ensures { IfOk result
                             (IsWork (Gives span (L.runs lanes.entry.now) groups.entry.now
                             trace.entry.now) board.entry.now) }
@@ -98,7 +126,7 @@ pub(crate) fn in_threads<R: Threads + Wait + Sync, L: Lanes + Sync, G: Gate + Sy
                             alloc,
                             lanes,
                             trace,
-                            selections,
+                            selections: selections.lend(),
                             groups,
                             gate,
                         };

@@ -62,7 +62,11 @@ impl<'a> Lanes for DifLanes<'a> {
         self.program.exits()
     }
 
-    fn selections(&self, alloc: Global, trace: &Trace) -> Result<Selections, AllocError> {
+    fn selections<'t>(
+        &self,
+        alloc: Global,
+        trace: &'t Trace,
+    ) -> Result<Selections<'t>, AllocError> {
         select(alloc, self.hash_key, self.program.clauses(), trace)
     }
 

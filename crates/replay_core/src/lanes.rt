@@ -22,7 +22,7 @@ pub trait Lanes {
         ensures { (m : ScriptMeant) → runs self.now m → result ≡ has_exit m };
 
     /// Which of its clauses run for each firing of a run over the trace.
-    fn selections(&self, alloc: Global, trace: &Trace) -> Result<Selections, AllocError>
+    fn selections<'t>(&self, alloc: Global, trace: &'t Trace) -> Result<Selections<'t>, AllocError>
         requires { (m : ScriptMeant) × runs self.now m }
         ensures { IfOk result (AreSelected (runs self.now) trace.now) };
 

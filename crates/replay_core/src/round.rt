@@ -45,7 +45,7 @@ pub(crate) fn in_round<R: Threads + Wait + Sync, L: Lanes + Sync, G: Gate + Sync
 {
     let end = input.groups.len() as u32;
     let (board, seats) = ClaimBoard::open(input.alloc, end, workers as usize)?;
-    let results = in_threads(rt, &board, seats, input, span)?;
+    let results = in_threads(rt, &board, seats, input, input.selections, span)?;
     let (pieces, seats) = pieces_and_seats(input.alloc, results)?;
     let closed = board.close(input.alloc, seats)?;
     Ok(round_of(pieces, closed))

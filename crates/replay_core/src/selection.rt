@@ -22,31 +22,34 @@ use std::marker::Model;
 /// Which clauses run for each firing of a run over a trace. Contracts see the places of the
 /// clauses, firing by firing: of BEGIN, of each row, and of END.
 #[derive(Drop)]
-pub struct Selections {
+pub struct Selections<'a> {
+    // The probe of each row.
+    firings: ProbePlaces<'a>,
     lists: ClauseLists,
-    // The place of each row's list.
-    by_row: Vec<u32>,
+    // The place of each probe's list.
+    by_probe: Vec<u32>,
     begin: u32,
     end: u32,
 }
 
-impl Model for Selections {
-    ghost use Rattle.std.specs.Prelude.{ℕ, List};
+impl<'a> Model for Selections<'a> {
+    ghost use Rattle.std.specs.Prelude.{ℕ, List, get_or, map};
     ghost use Rattle.replay_core.specs.Selecting.{selected_in};
 
     ghost Value = { List (List ℕ) };
 
-    ghost view = { λ s. selected_in s.lists s.begin s.by_row.items s.end };
+    ghost view = { λ s. selected_in s.lists s.begin
+        (map (λ p. get_or s.by_probe.items p 0) s.firings.places) s.end };
 }
 
-impl Selections {
+impl<'a> Selections<'a> {
     // Those of clauses with these descriptions.
     fn new(
         alloc: Global,
         hash_key: HashKey,
         descriptions: &[&[Description]],
-        trace: &Trace,
-    ) -> Result<Selections, AllocError>
+        trace: &'a Trace,
+    ) -> Result<Selections<'a>, AllocError>
         ensures { IfOk result (λ s.
             s ≡ map (λ f. places_for (probe_of f) 0 (map (λ d. d.now) descriptions.now))
             (with_ends trace.now trace.now)) }
@@ -57,10 +60,10 @@ impl Selections {
         let begin = list_for(alloc, &mut lists, &table, &trace.begin().into_probe())?;
         let end = list_for(alloc, &mut lists, &table, &trace.end().into_probe())?;
         let by_probe = lists_for(alloc, &mut lists, &table, &firings)?;
-        let by_row = lists_by_row(alloc, &by_probe, &firings)?;
         Ok(Selections {
+            firings,
             lists,
-            by_row,
+            by_probe,
             begin,
             end,
         })
@@ -76,10 +79,11 @@ impl Selections {
             return self.lists.at(self.begin as usize);
         }
         let row = place as usize - 1;
-        if row >= self.by_row.len() {
+        if row >= self.firings.len() {
             return self.lists.at(self.end as usize);
         }
-        self.lists.at(self.by_row[row] as usize)
+        let list = list_of(&self.by_probe, self.firings.place(row));
+        self.lists.at(list as usize)
     }
 
     /// Those of the firings at these places, in their order.
@@ -98,22 +102,6 @@ impl Selections {
     }
 }
 
-// The place of the list of each row's probe.
-fn lists_by_row(
-    alloc: Global,
-    by_probe: &[u32],
-    firings: &ProbePlaces,
-) -> Result<Vec<u32>, AllocError>
-    ensures { IfOk result (λ rows. rows.items
-        ≡ map (λ p. get_or by_probe.now p 0) firings.now.places) }
-{
-    let mut rows = Vec::with_capacity(alloc, firings.len())?;
-    for row in 0..firings.len() {
-        rows.push(list_of(by_probe, firings.place(row)))?;
-    }
-    Ok(rows)
-}
-
 // The place of a probe's list.
 fn list_of(by_probe: &[u32], probe: u32) -> u32
     ensures { result ≡ get_or by_probe.now probe 0 }
@@ -125,12 +113,12 @@ fn list_of(by_probe: &[u32], probe: u32) -> u32
 }
 
 /// Which of these clauses run for each firing of a run over the trace.
-pub(crate) fn select<C: Clause>(
+pub(crate) fn select<'a, C: Clause>(
     alloc: Global,
     hash_key: HashKey,
     clauses: &[C],
-    trace: &Trace,
-) -> Result<Selections, AllocError>
+    trace: &'a Trace,
+) -> Result<Selections<'a>, AllocError>
     requires { sum_by C.probes clauses.now ≤ MOST_BYTES }
     ensures { IfOk result (AreSelected
         (λ m. AllZip (λ c. C.means c (slots_of m)) clauses.now m.clauses) trace.now) }

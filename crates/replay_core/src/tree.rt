@@ -65,7 +65,11 @@ impl<'a> Lanes for TreeLanes<'a> {
         self.script.exits()
     }
 
-    fn selections(&self, alloc: Global, trace: &Trace) -> Result<Selections, AllocError> {
+    fn selections<'t>(
+        &self,
+        alloc: Global,
+        trace: &'t Trace,
+    ) -> Result<Selections<'t>, AllocError> {
         select(alloc, self.hash_key, self.script.clauses(), trace)
     }
 

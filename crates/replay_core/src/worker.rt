@@ -31,7 +31,7 @@ pub struct WorkerInput<'a, L, G> {
     pub alloc: Global,
     pub lanes: &'a L,
     pub trace: &'a Trace,
-    pub selections: &'a Selections,
+    pub selections: &'a Selections<'a>,
     pub groups: &'a Groups,
     pub gate: &'a G,
 }

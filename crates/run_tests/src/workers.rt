@@ -166,7 +166,11 @@ impl<'a, L: Lanes> Lanes for MeetingLanes<'a, L> {
         self.lanes.exits()
     }
 
-    fn selections(&self, alloc: Global, trace: &Trace) -> Result<Selections, AllocError> {
+    fn selections<'t>(
+        &self,
+        alloc: Global,
+        trace: &'t Trace,
+    ) -> Result<Selections<'t>, AllocError> {
         self.lanes.selections(alloc, trace)
     }
 

@@ -1,4 +1,4 @@
-use Rattle.std.proofs.Common.{◌≡◌, ◌∙◌, List, ℕ, Some, ap, get_or, map}
+use Rattle.std.proofs.Common.{◌≡◌, ◌∙◌, List, ℕ, Some, ap, map}
 use Rattle.std.specs.Prelude.{slice_get}
 use Rattle.firing_reader.specs.Ends.{begin_of, end_of}
 use Rattle.firing_reader.specs.Stored.{ArePlaces}
@@ -7,7 +7,6 @@ use Rattle.firing_reader.specs.declared.unit.Probe.{Probe}
 use Rattle.firing_reader.proofs.Stored.{named_more}
 use Rattle.replay_core.specs.Patterns.{probe_of}
 use Rattle.replay_core.specs.Places.{places_for}
-use Rattle.replay_core.specs.Selecting.{selected_in}
 use Rattle.replay_core.proofs.SelectionLemmas.{run_listed}
 use Rattle.replay_core.proofs.selection.Selections.new.Goals as goal
 
@@ -27,7 +26,4 @@ returns c =
     let last : slice_get all c.in_ok-end.end ≡ Some (own (probe_of (end_of t))) =
     named_more _ all _ _ c.in_ok-by_probe.ensures.grows (c.in_ok-end.ensures.place ds table) ∙ ap (λ p. Some (own p)) end_is in
     let of : ArePlaces probes places (map probe_of t) = c.probe_places-firings.ensures ∙ ap (λ (fs : List Firing). map (λ (p : Probe). Some p) (map probe_of fs)) c.firings.ensures.value in
-    let rows : c.in_ok-by_row.by_row.items ≡ map (λ p. get_or c.in_ok-by_probe.by_probe.items p 0) places =
-    c.in_ok-by_row.ensures ∙ ap (λ (l : List ℕ). map (λ p. get_or l p 0) places) c.deref.ensures.value in
-    ap (λ (l : List ℕ). selected_in all c.in_ok-begin.begin l c.in_ok-end.end) rows
-    ∙ run_listed all c.in_ok-by_probe.by_probe.items probes own c.in_ok-begin.begin c.in_ok-end.end places t (c.in_ok-by_probe.ensures.places ds table) of first last
+    run_listed all c.in_ok-by_probe.by_probe.items probes own c.in_ok-begin.begin c.in_ok-end.end places t (c.in_ok-by_probe.ensures.places ds table) of first last
