@@ -72,7 +72,7 @@ fn script_bytes<F: Feed>(alloc: Global, file: &mut F) -> Result<Vec<u8>, ReadFau
     ensures { IfOk result (λ script. IfSome (F.seen file.old).remaining (λ all.
         IsScriptIn all script.items)) }
 {
-    let mut reading = Reading::new(alloc).map_err(|_| ReadFault::Memory)?;
+    let mut reading = Reading::new(alloc)?;
     let mut script = Vec::new(alloc);
     let read = read_block(file, &mut reading, &mut script, MOST_BYTES + 1);
     drop(reading);

@@ -134,7 +134,8 @@ impl<'a, R: Threads + Sync> TraceIntake<'a, R> {
         feed: &mut F,
     ) -> Result<(), ReadFault>
         requires feed { IsFalse (F.seen feed.old).has_failed }
-        ensures bytes { OnOk result (TakesInput (λ old block new. TakesTrace old.script new.script old.trace new.trace block)
+        ensures bytes { OnOk result (TakesInput (λ old block new.
+            TakesTrace old.script new.script old.trace new.trace block)
             (F.seen feed.old).remaining self.old self.new) }
         ensures nothing_left { OnOk result (IsAtEnd (F.seen feed.new).remaining) }
         ensures ended { OnOk result
@@ -146,7 +147,7 @@ impl<'a, R: Threads + Sync> TraceIntake<'a, R> {
         ensures rest { LosesBeginning (F.seen feed.old).remaining (F.seen feed.new).remaining }
         ensures calls { (F.seen feed.new).calls ≤ (F.seen feed.old).calls + MOST_CALLS }
     {
-        let mut reading = Reading::new(alloc).map_err(|_| ReadFault::Memory)?;
+        let mut reading = Reading::new(alloc)?;
         while reading.calls_left > 0 {
             if self.take_from(feed, &mut reading)? {
                 return Ok(());
@@ -164,7 +165,8 @@ impl<'a, R: Threads + Sync> TraceIntake<'a, R> {
         requires { GoesOn reading.old.calls_left (F.seen feed.old) }
         ensures turn { IsTurn (F.seen feed.old) (F.seen feed.new)
             reading.old.calls_left reading.new.calls_left result }
-        ensures taken { TakesSome (λ old block new. TakesTrace old.script new.script old.trace new.trace block)
+        ensures taken { TakesSome (λ old block new.
+            TakesTrace old.script new.script old.trace new.trace block)
             (F.seen feed.old).remaining (F.seen feed.new).remaining self.old self.new result }
     {
         if self.is_shared && self.script.is_ok() {
@@ -173,7 +175,8 @@ impl<'a, R: Threads + Sync> TraceIntake<'a, R> {
         take_next(self, feed, reading)
     }
 
-    // Takes the next bytes of a feed while other threads read the rows that have come.
+    // Takes the next bytes of a feed in a new thread, while this one and others read the rows that
+    // have come.
     fn take_beside<F: Feed + Send>(
         &mut self,
         feed: &mut F,
@@ -202,8 +205,8 @@ fn refused(done: Result<(), AllocError>) -> Result<(), ReadFault>
     done.map_err(|_| ReadFault::Memory)
 }
 
-// Adds what a feed gives to a block in one more thread, while this one and others read the rows that
-// have come. A new thread may wait until this one does, so it isn't one that all of them wait for.
+// Adds what a feed gives to a block in one more thread, while this one and others read the rows
+// that have come. A new thread may not run until its parent waits, so nothing else waits for it.
 fn read_beside<R: Threads + Sync, F: Feed + Send>(
     rt: &R,
     trace: &mut Reader,
@@ -338,7 +341,7 @@ impl<'a, R: Threads + Sync> BundleIntake<'a, R> {
         ensures rest { LosesBeginning (F.seen feed.old).remaining (F.seen feed.new).remaining }
         ensures calls { (F.seen feed.new).calls ≤ (F.seen feed.old).calls + MOST_CALLS }
     {
-        let mut reading = Reading::new(alloc).map_err(|_| ReadFault::Memory)?;
+        let mut reading = Reading::new(alloc)?;
         while reading.calls_left > 0 {
             let ended = self.take_from(feed, &mut reading)?;
             if ended {

@@ -184,7 +184,7 @@ fn request_by(alloc: Global, help: Help, given: io::Result<Args>) -> Result<Requ
 }
 
 // Shows the help that was asked for, or says what is wrong with the words, and returns the status.
-fn explain<F: Feed + Send, S: Sink, E: Sink>(
+fn explain<F: Feed, S: Sink, E: Sink>(
     alloc: Global,
     fault: &UsageFault,
     streams: &mut Streams<F, S, E>,
@@ -202,7 +202,7 @@ fn explain<F: Feed + Send, S: Sink, E: Sink>(
 }
 
 // Shows the help that was asked for, and returns the status.
-fn show_help<F: Feed + Send, S: Sink, E: Sink>(
+fn show_help<F: Feed, S: Sink, E: Sink>(
     alloc: Global,
     help: &clap::Error,
     streams: &mut Streams<F, S, E>,
@@ -223,7 +223,7 @@ fn show_help<F: Feed + Send, S: Sink, E: Sink>(
 }
 
 // Says what is wrong with the words, and returns the status.
-fn show_mistake<F: Feed + Send, S: Sink, E: Sink>(
+fn show_mistake<F: Feed, S: Sink, E: Sink>(
     alloc: Global,
     mistake: &clap::Error,
     streams: &mut Streams<F, S, E>,

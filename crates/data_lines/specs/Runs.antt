@@ -34,7 +34,7 @@ pub record Listed : Type 0 where
 abbrev pub place_and_aggregation : Listed → ℕ × Agg
 place_and_aggregation l = (l.place, l.aggregation)
 
--- the entries are those that the contributions give the aggregation, each before those after it
+-- the entries are those that the contributions give the aggregation, in ascending order
 abbrev pub HasItsEntries : List Contribution → Listed → Type 0
 HasItsEntries contributions l = IsListing l.aggregation.function l.place contributions l.entries
 

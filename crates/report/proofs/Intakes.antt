@@ -34,12 +34,11 @@ vec_takes old b n TakesBlocks.none = sym (append-nil old.items)
 vec_takes old b n (TakesBlocks.more front block mid new taken step) =
     step ∙ ap (λ (l : List ℕ). l ++ block) (vec_takes old front mid taken) ∙ append_assoc old.items front block
 
--- a vector that was empty has those of the whole input
-pub vec_input : (remaining : Option (List ℕ)) (old new : Vec ℕ Global) → old.items ≡ [] → TakesInput (λ a block b. b.items ≡ a.items ++ block) remaining old new
-    → IfSome remaining (λ all. new.items ≡ all)
-vec_input remaining old new empty h =
-    let is : new.items ≡ h.input = vec_takes old h.input new h.taken ∙ ap (λ (l : List ℕ). l ++ h.input) empty in
-    rw is h.read
+-- a vector with what a feed gave, and then with more
+pub vec_read : (a b c : Option (List ℕ)) (mid new : Vec ℕ Global) (ended : Bool) → Consumes a b mid.items → TakesSome (λ a block b. b.items ≡ a.items ++ block) b c mid new (Ok ended)
+    → Consumes a c new.items
+vec_read a b c mid new ended given s =
+    subst (Consumes a c) (sym (vec_takes mid s.input new s.taken)) (Consumes-trans a b c mid.items s.input given s.given)
 
 -- a vector with some of a feed's bytes, and then with more
 pub vec_more : (a b c : Option (List ℕ)) (old mid new : Vec ℕ Global) (ended : Bool) → (bytes : List ℕ) × Consumes a b bytes × (mid.items ≡ old.items ++ bytes)

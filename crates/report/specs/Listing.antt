@@ -19,7 +19,7 @@ abbrev pub ComesBefore : Entry → Entry → Type 0
 ComesBefore x y =
     (entry_rank x <ℤ entry_rank y) ⊎ ((entry_rank x ≡ entry_rank y) × (key_cmp x.0 y.0 ≡ Less))
 
--- the entries that the contributions give an aggregation, each before those after it
+-- the entries that the contributions give an aggregation, in ascending order
 pub record IsListing (function : AggFn) (agg : ℕ) (contributions : List Contribution)
     (entries : List Entry) : Type 0 where
   pub are : AreEntries function agg contributions entries

@@ -15,7 +15,7 @@ pub mod stream;
 pub mod watched;
 pub mod writing;
 
-pub use reading::{Intake, ReadFault, Reading, read_block, read_into, read_to_end, take_next};
+pub use reading::{Intake, ReadFault, Reading, read_block, read_to_end, take_next};
 pub use rendering::render;
 pub use report::Report;
 pub use stream::{Failed, Feed, Sink};

@@ -3,7 +3,7 @@ ghost use Rattle.std.specs.Prelude.{◌≡◌, ◌⊎◌, ◌+◌, ◌<◌, ◌+
 ghost use Rattle.std.specs.Prelude.{IfErr, IsTrue, IsFalse, Ok, false, length, take};
 ghost use Rattle.std.specs.Io.KnownBytes.{Consumes, IsAtEnd};
 ghost use Rattle.report.specs.Stream.{LosesBeginning};
-ghost use Rattle.report.specs.Intake.{TakesInput, TakesSome};
+ghost use Rattle.report.specs.Intake.{TakesSome};
 ghost use Rattle.report.specs.Turns.{GoesOn, IsTurn};
 
 use crate::stream::Feed;
@@ -43,10 +43,11 @@ impl Reading {
     /// let mut reading = Reading::new(alloc)?;
     /// reading.calls_left; // 4,294,967,296
     /// ```
-    pub fn new(alloc: Global) -> Result<Reading, AllocError>
-        ensures { IfOk result (λ r. r.calls_left ≡ MOST_CALLS) }
+    pub fn new(alloc: Global) -> Result<Reading, ReadFault>
+        ensures reading { IfOk result (λ r. r.calls_left ≡ MOST_CALLS) }
+        ensures fault { IfErr result (λ e. e ≡ ReadFault.Memory) }
     {
-        let buffer = vec![in alloc; 0u8; ROOM]?;
+        let buffer = vec![in alloc; 0u8; ROOM].map_err(|_| ReadFault::Memory)?;
         Ok(Reading {
             calls_left: MOST_CALLS,
             buffer,
@@ -150,41 +151,6 @@ fn take_given<T: Intake>(intake: &mut T, buffer: &[u8], given: usize) -> Result<
     taken.map_err(|_| ReadFault::Memory)
 }
 
-/// Reads all bytes that the feed has left into an intake, block by block. At a fault a beginning of
-/// them was read.
-///
-/// ```text
-/// let mut feed = Watched::new(b"number,cpu\n".as_slice());
-/// let mut bytes = Vec::new(alloc);
-/// read_into(alloc, &mut feed, &mut bytes)?; // `number,cpu` and a line feed
-/// ```
-pub fn read_into<F: Feed, T: Intake>(
-    alloc: Global,
-    feed: &mut F,
-    intake: &mut T,
-) -> Result<(), ReadFault>
-    requires feed { IsFalse (F.seen feed.old).has_failed }
-    ensures bytes { OnOk result
-        (TakesInput T.takes (F.seen feed.old).remaining intake.old intake.new) }
-    ensures nothing_left { OnOk result (IsAtEnd (F.seen feed.new).remaining) }
-    ensures ended { OnOk result
-        (IsTrue (F.seen feed.new).has_ended × IsFalse (F.seen feed.new).has_failed) }
-    ensures failed { result ≡ Err ReadFault.Failed →
-        IsTrue (F.seen feed.new).has_failed ⊎ (IsFalse (F.seen feed.new).has_ended
-        × ((F.seen feed.new).calls ≡ (F.seen feed.old).calls + MOST_CALLS)) }
-    ensures memory { result ≡ Err ReadFault.Memory → IsFalse (F.seen feed.new).has_failed }
-    ensures rest { LosesBeginning (F.seen feed.old).remaining (F.seen feed.new).remaining }
-    ensures calls { (F.seen feed.new).calls ≤ (F.seen feed.old).calls + MOST_CALLS }
-{
-    let mut reading = Reading::new(alloc).map_err(|_| ReadFault::Memory)?;
-    while reading.calls_left > 0 {
-        if take_next(intake, feed, &mut reading)? {
-            return Ok(());
-        }
-    }
-    Err(ReadFault::Failed)
-}
-
 /// Reads all bytes that the feed has left. At a fault a beginning of them was read and is lost.
 ///
 /// ```text
@@ -205,6 +171,11 @@ pub fn read_to_end<F: Feed>(alloc: Global, feed: &mut F) -> Result<Vec<u8>, Read
     ensures calls { (F.seen feed.new).calls ≤ (F.seen feed.old).calls + MOST_CALLS }
 {
     let mut bytes = Vec::new(alloc);
-    read_into(alloc, feed, &mut bytes)?;
-    Ok(bytes)
+    let mut reading = Reading::new(alloc)?;
+    while reading.calls_left > 0 {
+        if take_next(&mut bytes, feed, &mut reading)? {
+            return Ok(bytes);
+        }
+    }
+    Err(ReadFault::Failed)
 }

@@ -1,18 +1,15 @@
--- The intake has taken what the feed gave, in calls that are off the most.
-use Rattle.std.proofs.Common.{◌≡◌, ◌+◌, ℕ, List}
+-- The bytes are what the feed gave, in calls that are off the most.
+use Rattle.std.proofs.Common.{◌≡◌, ◌+◌}
 use Rattle.std.specs.Io.KnownBytes.{Consumes}
-use Rattle.report.specs.Intake.{TakesBlocks}
 use Rattle.report.specs.Turns.{GoesOn}
 use Rattle.report.specs.declared.reading.TheConstants.{MOST_CALLS}
-use Rattle.report.proofs.reading.read_into.Given as goal
+use Rattle.report.proofs.reading.read_to_end.Given as goal
 
 abbrev pub invariant-loop-reading : goal.invariant-loop-reading
 invariant-loop-reading g l = record {
   going : GoesOn l.reading.calls_left (g.F.Feed.seen l.feed);
   counted : (g.F.Feed.seen l.feed).calls + l.reading.calls_left ≡ (g.F.Feed.seen l.initial.feed).calls + MOST_CALLS;
-  taken : (input : List ℕ)
-      × Consumes (g.F.Feed.seen l.initial.feed).remaining (g.F.Feed.seen l.feed).remaining input
-      × TakesBlocks g.T.Intake.takes l.initial.intake input l.intake;
+  given : Consumes (g.F.Feed.seen l.initial.feed).remaining (g.F.Feed.seen l.feed).remaining l.bytes.items;
 }
 
 abbrev pub decreases-loop-reading : goal.decreases-loop-reading
