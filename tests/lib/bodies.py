@@ -1,6 +1,6 @@
 """What a text tells of an edit: which functions it changes.
 
-By the layout of rt fmt a body is `{}`, or stands between a line that ends in '{' and a line '}',
+By the layout of rt fmt a body is `{}`, or lies between a line that ends in '{' and a line '}',
 both as deep as the first line of the function's head.
 """
 import os
@@ -36,7 +36,7 @@ class Function:
 
     def is_at(self, path):
         """Returns whether the prover's path, below the crate, is of the function or of a closure of
-        it. A method stands in its type's module, and the arguments of a trait follow its name. How
+        it. A method is in its type's module, and the arguments of a trait follow its name. How
         they are written there is known where they are one name."""
         owner, _, name = CLOSURE.sub(r"::\1", f"::{path}").rpartition("::")
         if name != self.name or not self.type:
@@ -92,7 +92,7 @@ def module_of(path):
 
 
 def functions_in(text, path):
-    """Gives each function of a file, with where it stands in the text."""
+    """Gives each function of a file, with its place in the text."""
     module = module_of(path)
     for it in FUNCTION.finditer(text):
         owners = [*OWNER.finditer(text, 0, it.start())] if it["deep"] else []

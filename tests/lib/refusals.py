@@ -5,7 +5,7 @@ import os
 
 class Refusals:
     """Where rt keeps what it proved, it also keeps which edits were refused, each by the sum of all
-    that this stands on: the edit, its crate and those below it, the kit, and the scripts that try
+    that this depends on: the edit, its crate and those below it, the kit, and the scripts that try
     it. What was tried over the libraries of rt ci is kept apart from what was tried over others.
     """
 
@@ -28,7 +28,7 @@ class Refusals:
         return bool(found) and found[0] == self.rt.REFUSED
 
     def keep(self, crate, names):
-        """Keeps that these were refused, unless a file that this stands on changed meanwhile."""
+        """Keeps that these were refused, unless a file that this depends on changed meanwhile."""
         if all(self.kept.is_untouched(it) for it in [*crate.below(), crate]):
             for name in names:
                 self.kept.keep_tried(name, self.rt.REFUSED, "refused, as it must be")

@@ -41,7 +41,7 @@ is_first pos b z = pos.at == 0 && b == hash && next_is 33 z
 abbrev pub is_hash : Place → Position → ℕ → Bool
 is_hash p pos b = is_head p && pos.fresh && b == hash
 
--- ---- where the script goes on after a token
+-- ---- the place that follows a token
 
 -- braces, a slash of the head and a semicolon of a declaration lead elsewhere
 abbrev pub place_after_mark : Place → Mark → Place

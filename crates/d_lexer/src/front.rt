@@ -21,7 +21,7 @@ use crate::token::TokenKind;
 use crate::words::{aggregation_front, run_front, word_front};
 use std::alloc::Global;
 
-/// Bytes that separate tokens, or a token; and how many bytes more than one it has.
+/// Bytes that separate tokens, or a token; and its number of bytes after the first.
 #[derive(Drop)]
 pub enum Front {
     Gap(usize),

@@ -173,7 +173,7 @@ fn three_at(place: Place, a: u8, b: u8, c: u8) -> Option<(Mark, usize)>
     }
 }
 
-/// The longest mark at the front, and how many bytes more than one it has.
+/// The longest mark at the front, and its number of bytes after the first.
 #[tactic(auto, unfolding(crate::specs::Steps::Scan::mark_at))]
 pub(crate) fn mark_at(place: Place, a: u8, rest: &[u8]) -> Option<(Mark, usize)>
     ensures { result ≡ mark_at place a rest.now }

@@ -19,7 +19,7 @@ pub enum Place {
 }
 
 impl Place {
-    /// Where the script goes on after a token.
+    /// The place that follows a token.
     pub(crate) fn after(self, kind: &TokenKind) -> Place
         ensures { result ≡ spec.place_after self kind.now }
     {

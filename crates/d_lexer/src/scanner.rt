@@ -31,7 +31,7 @@ struct Cursor {
     pos: Position,
 }
 
-// Reads what is at the front: where the script goes on, and how many bytes more than one were read.
+// Reads what is at the front: the place that follows, and how many bytes after the first were read.
 fn step(
     alloc: Global,
     cursor: Cursor,

@@ -38,7 +38,7 @@ fn step_fits(keys: &[TypedExpr], registers: usize) -> bool
     keys_fit(keys, registers) && keys.len() < registers
 }
 
-/// Whether there are registers enough for the keys, and as `value` says for what comes after them.
+/// Whether there are enough registers for the keys, and, as `value` says, for what comes after.
 #[cycle(needs)]
 fn both_fit(keys: &[TypedExpr], value: bool, registers: usize) -> bool
     ensures { result ≡ nat_le (spec.need_of_keys 0 (typeds_of keys.now)) registers && value }

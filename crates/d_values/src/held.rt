@@ -30,7 +30,7 @@ impl Held {
     ///
     /// ```text
     /// // after `self->n = 5;`
-    /// held.scalar(); // the value 5
+    /// held.scalar(); // Some: the value 5
     /// ```
     pub fn scalar(&self) -> Option<&Value>
         ensures { MatchOption result (self.now.scalar ≡ None)

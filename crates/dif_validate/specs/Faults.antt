@@ -91,7 +91,7 @@ abbrev pub first_of_faults : Option DifFault → Option DifFault → Option DifF
 first_of_faults None rest = rest
 first_of_faults (Some fault) rest = Some fault
 
--- it names what isn't there
+-- the fault, if it names what isn't there
 abbrev pub fault_of_name : Instr → ℕ → Object → Option DifFault
 fault_of_name i pc o =
     if_so (misses_table i o) (TableIndex pc)

@@ -11,7 +11,7 @@ pub(crate) struct Given {
 }
 
 impl Given {
-    /// So many from a place on, where the place has 28 bits.
+    /// `count` arguments from the place `first` on; none where that is 2^28 or more.
     pub(crate) fn new(first: usize, count: u32) -> Option<Given>
         requires { count ≤ 10 }
         ensures first { IfSome result (λ g. first_of g ≡ first) }
@@ -38,7 +38,7 @@ impl Given {
         (self.packed % 16) as usize
     }
 
-    /// As many, so much later.
+    /// The same number of arguments, `shift` places later.
     pub(crate) fn moved(self, shift: u32) -> Given
         requires { first_of self + shift < 2 ^ 28 }
         ensures { result ≡ moved_given shift self }

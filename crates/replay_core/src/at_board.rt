@@ -39,8 +39,9 @@ impl<'a, L: Lanes> Promise<Worked> for Works<'a, L> {
         (IsWork (Gives p.span (L.runs p.lanes.now) p.groups.now p.trace.now) p.board.now) };
 }
 
-/// Lends selections. The closures of threads capture a value of a type that does so, as a contract
-/// knows nothing of a closure that captures a `Selections`, which has a lifetime.
+/// What lends selections. The closures of threads capture a value of a type parameter with this
+/// trait, and not a `Selections`: a contract knows nothing of a closure that captures a type with a
+/// lifetime.
 pub(crate) trait LendSelections {
     ghost use Rattle.std.specs.Prelude.{◌≡◌, ℕ, List};
 
@@ -61,7 +62,7 @@ impl<'a> LendSelections for Selections<'a> {
 }
 
 /// Runs a worker for each seat, all at once, and joins them. Where one can't be started the others
-/// are joined too.
+/// are joined too. The workers are lent these selections, and not those of the input.
 pub(crate) fn in_threads<R, L, S, G>(
     rt: &R,
     board: &ClaimBoard,

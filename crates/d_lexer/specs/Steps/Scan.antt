@@ -97,7 +97,7 @@ two_at p a b = with_length 1 (mark_of p (a ∷ b ∷ [])) (one_at p a)
 abbrev pub three_at : Place → ℕ → ℕ → ℕ → Option (Mark × ℕ)
 three_at p a b c = with_length 2 (mark_of p (a ∷ b ∷ c ∷ [])) (two_at p a b)
 
--- the longest mark at the front, and how many bytes more than one it has
+-- the longest mark at the front, and its number of bytes after the first
 unfoldable pub mark_at : Place → ℕ → List ℕ → Option (Mark × ℕ)
 mark_at p a [] = one_at p a
 mark_at p a (b ∷ []) = two_at p a b
@@ -108,7 +108,7 @@ abbrev pub FitsFront : Front → ℕ → Type 0
 FitsFront (Gap n) len = n ≤ len
 FitsFront (Front.Token k n) len = n ≤ len
 
--- ---- what is at the front: a gap or a token, with how many bytes more than one it has
+-- ---- what is at the front: a gap or a token, with its number of bytes after the first
 
 -- a mark, or a byte that begins nothing
 abbrev pub mark_front : Option (Mark × ℕ) → Result Front Flaw
