@@ -2,6 +2,7 @@
 
 use consumer::Help;
 
+/// The texts that `--help` shows.
 pub const HELP: Help = Help {
     usage: "dreplay-data [OPTIONS]",
     about: "Replays a D script over a recorded trace of probe firings, \
