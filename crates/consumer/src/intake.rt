@@ -206,7 +206,7 @@ fn refused(done: Result<(), AllocError>) -> Result<(), ReadFault>
 }
 
 // Adds what a feed gives to a block in one more thread, while this one and others read the rows
-// that have come. A new thread may not run until its parent waits, so nothing else waits for it.
+// that have come. A new thread may start only when its parent waits, so nothing else waits for it.
 fn read_beside<R: Threads + Sync, F: Feed + Send>(
     rt: &R,
     trace: &mut Reader,

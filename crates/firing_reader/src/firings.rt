@@ -67,6 +67,15 @@ impl Firings {
         self.args.clear();
     }
 
+    /// Forgets all firings, their owners and their probes.
+    pub(crate) fn clear_all(&mut self)
+        ensures { self.new ≡ [] }
+    {
+        self.clear();
+        self.owners.clear();
+        self.probes.clear();
+    }
+
     /// How many owners and probes are kept.
     pub(crate) fn unit_count(&self) -> usize {
         self.owners.len().saturating_add(self.probes.len())

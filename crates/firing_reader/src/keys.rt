@@ -4,7 +4,7 @@ ghost use Rattle.std.specs.Prelude.{◌≡◌, ◌++◌, ◌∷◌, [], IfOk, If
 ghost use Rattle.std.specs.Prelude.{vec_len};
 ghost use Rattle.std.specs.Vec.{vec_capacity};
 
-use crate::slots::{NEAR, Slots};
+use crate::slots::{NEAR, NOWHERE, Slot, Slots};
 use keyed_hash::{HashKey, is_same};
 use std::alloc::{AllocError, Global};
 use std::marker::Model;
@@ -16,6 +16,17 @@ pub(crate) struct Known {
     count: u32,
     place: u32,
 }
+
+impl Known {
+    const NONE: Known = Known {
+        begin: 0,
+        count: 0,
+        place: 0,
+    };
+}
+
+/// How many bytes are looked for together, so that the processor waits for all of them at once.
+pub(crate) const TOGETHER: usize = 16;
 
 /// A number of 32 bits.
 pub(crate) fn u32_of(number: usize) -> Option<u32>
@@ -71,9 +82,18 @@ impl Keys {
         })
     }
 
-    // The place that these bytes have, where they are those at this place of the known ones.
+    /// Forgets all of them.
+    pub(crate) fn clear(&mut self)
+        ensures { self.new ≡ [] }
+    {
+        self.slots.clear();
+        self.known.clear();
+        self.bytes.clear();
+    }
+
+    /// The place that these bytes have, where they are those at this place of the known ones.
     #[inline(always)]
-    fn place_at(&self, known: u32, key: &[u8]) -> Option<u32>
+    pub(crate) fn place_at(&self, known: u32, key: &[u8]) -> Option<u32>
         ensures { IfSome result (λ p. Contains self.now (key.now, p)) }
     {
         let known = self.known.get(known as usize)?;
@@ -129,6 +149,62 @@ impl Keys {
         }
         let begin = known.begin as usize;
         Some(&self.bytes[begin..begin + known.count as usize])
+    }
+
+    // The tags of those at 16 places from this one on; 0 where there are none.
+    fn tags(&self, from: u32) -> [u32; TOGETHER] {
+        let mut tags = [0; TOGETHER];
+        for n in 0..TOGETHER {
+            if let Some(key) = self.bytes_at(from.wrapping_add(n as u32)) {
+                tags[n] = self.slots.tag(key);
+            }
+        }
+        tags
+    }
+
+    // The first slots of these tags.
+    fn first_slots(&self, tags: &[u32; TOGETHER]) -> [Slot; TOGETHER] {
+        let mut slots = [Slot::EMPTY; TOGETHER];
+        for n in 0..TOGETHER {
+            slots[n] = self.slots.near(tags[n], 0);
+        }
+        slots
+    }
+
+    // The known ones that these slots lead to.
+    fn known_in(&self, slots: &[Slot; TOGETHER]) -> [Known; TOGETHER] {
+        let mut all = [Known::NONE; TOGETHER];
+        for n in 0..TOGETHER {
+            if let Some(known) = self.known.get(slots[n].place as usize) {
+                all[n] = *known;
+            }
+        }
+        all
+    }
+
+    /// Where the bytes of others may be among the known ones, for those at 16 places from this one
+    /// on: guesses, which `place_at` checks. Each step is taken for all of them before the next.
+    pub(crate) fn guesses(&self, others: &Keys, from: u32) -> [u32; TOGETHER] {
+        let slots = self.first_slots(&others.tags(from));
+        let known = self.known_in(&slots);
+        let mut guesses = [NOWHERE; TOGETHER];
+        for n in 0..TOGETHER {
+            if self.begins_alike(known[n], others, from.wrapping_add(n as u32)) {
+                guesses[n] = slots[n].place;
+            }
+        }
+        guesses
+    }
+
+    // Whether these bytes are as many as those of others at a place, and begin alike.
+    fn begins_alike(&self, known: Known, others: &Keys, place: u32) -> bool {
+        match others.bytes_at(place) {
+            Some(key) => {
+                known.count as usize == key.len()
+                    && self.bytes.get(known.begin as usize) == key.first()
+            }
+            None => false,
+        }
     }
 
     /// Keeps bytes with a place. Where memory is refused nothing is kept.

@@ -13,10 +13,9 @@ use crate::plain::read_plain;
 use crate::reading::MOST_ROWS;
 use keyed_hash::HashKey;
 use std::alloc::{AllocError, Global};
-use std::mem::replace;
 use std::thread::{Threads, join_mut};
 
-// A piece that has more owners and probes than this isn't used again.
+// A piece that has more owners and probes than this forgets them before it is used again.
 const MOST_KEPT: usize = 1024;
 
 /// Where the threads and the memory of a reading come from.
@@ -41,27 +40,26 @@ pub(crate) fn pieces_for(
     Ok(pieces)
 }
 
-// Empties a piece, so that its room is used again.
-fn empty(alloc: Global, hash_key: HashKey, piece: &mut Firings) -> Result<(), AllocError>
-    ensures { OnOk result (piece.new ≡ []) }
+// Empties a piece, whose room is used again.
+fn empty(piece: &mut Firings)
+    ensures { piece.new ≡ [] }
 {
     if piece.unit_count() > MOST_KEPT {
-        let new = Firings::new(alloc, hash_key)?;
-        drop(replace(piece, new));
+        piece.clear_all();
+    } else {
+        piece.clear();
     }
-    piece.clear();
-    Ok(())
 }
 
 // Reads a piece apart from the firings before it. It returns how many bytes come before what is
 // left.
-fn read_piece(alloc: Global, hash_key: HashKey, piece: &mut Firings, bytes: &[u8]) -> Option<usize>
+fn read_piece(piece: &mut Firings, bytes: &[u8]) -> usize
     requires { BeginsAtFeed bytes.now }
-    ensures { IfSome result (IsPiece bytes.now piece.new) }
+    ensures { IsPiece bytes.now piece.new result }
 {
-    empty(alloc, hash_key, piece).ok()?;
+    empty(piece);
     let rest = read_plain(piece, bytes);
-    Some(bytes.len() - rest.len())
+    bytes.len() - rest.len()
 }
 
 // Reads a piece after the firings before it. It returns how many bytes come before what is left.
@@ -117,19 +115,16 @@ fn add_piece(
     piece: &mut Firings,
     cut: Cut<'_>,
     passed: usize,
-    more: Option<usize>,
+    more: usize,
 ) -> Option<usize>
     requires inside { passed < length cut.front.now }
     requires few { length firings.old ≤ MOST_ROWS }
-    requires piece { IfSome more (IsPiece cut.last.now piece.old) }
+    requires piece { IsPiece cut.last.now piece.old more }
     ensures { (before : List Firing) (bytes : List ℕ)
         → AreCut bytes cut.entry.front.now cut.entry.last.now
         → PassesRows before cut.entry.front.now firings.old passed
         → IfSome result (PassesRows before bytes firings.new) }
 {
-    let Some(more) = more else {
-        return Some(passed);
-    };
     if passed + 1 != cut.front.len() || !goes_after(firings, piece) {
         return Some(passed);
     }
@@ -170,21 +165,20 @@ fn read_both<R: Threads>(
     piece: &mut Firings,
     firings: &mut Firings,
     cut: Cut<'_>,
-) -> (Option<usize>, Option<usize>)
+) -> (usize, Option<usize>)
     requires front { BeginsAtFeed cut.front.now }
     requires last { BeginsAtFeed cut.last.now }
     requires few { length firings.old ≤ MOST_ROWS }
-    ensures piece { IfSome result.0 (IsPiece cut.entry.last.now piece.new) }
+    ensures piece { IsPiece cut.entry.last.now piece.new result.0 }
     ensures front { IfSome result.1 (PassesRows firings.old cut.entry.front.now firings.new) }
 {
-    let (alloc, hash_key) = (context.alloc, context.hash_key);
     let Cut { front, last } = cut;
     join_mut(
         context.rt,
-        &mut || -> Option<usize>
+        &mut || -> usize
             requires { BeginsAtFeed last.now }
-            ensures { IfSome result (IsPiece last.entry.now piece.exit.now) }
-        { read_piece(alloc, hash_key, piece, last) },
+            ensures { IsPiece last.entry.now piece.exit.now result }
+        { read_piece(piece, last) },
         &mut || -> Option<usize>
             requires { BeginsAtFeed front.now × (length firings.now ≤ MOST_ROWS) }
             ensures { IfSome result

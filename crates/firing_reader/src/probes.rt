@@ -5,7 +5,7 @@ ghost use Rattle.firing_reader.specs.{declared.unit.Probe.Probe, Plain.ReadsProb
 ghost use Rattle.firing_reader.specs.Stored.{ArePlaces, Extends};
 
 use crate::distinct::{Distinct, place_of};
-use crate::keys::{Keys, u32_of};
+use crate::keys::{Keys, TOGETHER, u32_of};
 use crate::plain::field::text;
 use crate::plain::unit::end_of_four;
 use crate::slots::Slots;
@@ -79,6 +79,16 @@ impl Probes {
         self.stored.len()
     }
 
+    /// Forgets all of them.
+    pub(crate) fn clear(&mut self)
+        ensures { self.new ≡ [] }
+    {
+        self.texts.clear();
+        self.stored.clear();
+        self.slots.clear();
+        self.keys.clear();
+    }
+
     /// The probe at a place.
     #[inline(always)]
     pub(crate) fn at(&self, place: u32) -> Probe
@@ -142,6 +152,14 @@ impl Probes {
         self.keys.find(key)
     }
 
+    // The same, if the bytes are those at this place of the known ones.
+    fn known_at(&self, guess: u32, key: &[u8]) -> Option<u32>
+        ensures { IfSome result (λ p. (probe : Probe)
+            × (slice_get self.now p ≡ Some probe) × ReadsProbe key.now [] probe) }
+    {
+        self.keys.place_at(guess, key)
+    }
+
     // The same, whether they were read before or not.
     #[inline(always)]
     fn unit(&mut self, key: &[u8]) -> Option<u32>
@@ -176,14 +194,17 @@ impl Probes {
     }
 
     // The place of a probe of others, which is kept where it wasn't. The bytes that it was read
-    // from, if any, are looked up as a whole.
-    fn place_of_other(&mut self, others: &Probes, at: u32) -> Option<u32>
+    // from, if any, are looked up as a whole, first at a guess.
+    fn place_of_other(&mut self, others: &Probes, at: u32, guess: u32) -> Option<u32>
         requires { at < length others.now }
         ensures grows { Extends self.old self.new }
         ensures place { IfSome result (λ p. slice_get self.new p ≡ slice_get others.now at) }
     {
         if let Some(key) = others.bytes_at(at) {
-            return self.unit(key);
+            return match self.known_at(guess, key) {
+                Some(place) => Some(place),
+                None => self.unit(key),
+            };
         }
         let probe = others.at(at);
         self.keep(
@@ -200,9 +221,13 @@ impl Probes {
         ensures places { IfSome result (λ places. ArePlaces self.new places.items others.now) }
     {
         let mut places = Vec::new(alloc);
+        let mut guesses = [0; TOGETHER];
         for place in 0..others.len() {
             let at = u32_of(place)?;
-            let own = self.place_of_other(others, at)?;
+            if place % TOGETHER == 0 {
+                guesses = self.keys.guesses(&others.keys, at);
+            }
+            let own = self.place_of_other(others, at, guesses[place % TOGETHER])?;
             places.push(own).ok()?;
         }
         Some(places)

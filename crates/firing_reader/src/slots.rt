@@ -11,7 +11,7 @@ const FEWEST: usize = 2048;
 pub(crate) const NEAR: usize = 8;
 
 // No place.
-const NOWHERE: u32 = u32::MAX;
+pub(crate) const NOWHERE: u32 = u32::MAX;
 
 /// The place of a thing, and the upper half of its hash.
 #[derive(Clone, Copy)]
@@ -21,7 +21,7 @@ pub(crate) struct Slot {
 }
 
 impl Slot {
-    const EMPTY: Slot = Slot {
+    pub(crate) const EMPTY: Slot = Slot {
         tag: 0,
         place: NOWHERE,
     };
@@ -118,6 +118,12 @@ impl Slots {
         put(&mut self.slots, Slot { tag, place });
         self.used = self.used.wrapping_add(1);
         Some(())
+    }
+
+    /// Forgets all places, and keeps the slots.
+    pub(crate) fn clear(&mut self) {
+        self.slots.fill(Slot::EMPTY);
+        self.used = 0;
     }
 
     // Doubles the number of slots.

@@ -4,7 +4,7 @@ ghost use Rattle.std.specs.Prelude.{◌≡◌, ◌<◌, ◌≤◌, All, IfOk, Li
 ghost use Rattle.std.specs.Prelude.{length, map, slice_get, sum_by, take};
 ghost use Rattle.replay_core.specs.Vocabulary.{AllZip, ArePlaces, ClauseMeant, Description};
 ghost use Rattle.replay_core.specs.Vocabulary.{Extends, MOST_BYTES, MOST_TOGETHER};
-ghost use Rattle.replay_core.specs.Vocabulary.{ScriptMeant, Slots, slots_of, with_ends};
+ghost use Rattle.replay_core.specs.Vocabulary.{Slots, slots_of, with_ends};
 ghost use Rattle.replay_core.specs.{Places.places_for};
 ghost use Rattle.replay_core.specs.Steps.Described.{IsTableOf};
 ghost use Rattle.replay_core.specs.{Patterns.probe_of, Selecting.AreSelected};

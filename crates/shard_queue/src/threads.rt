@@ -6,7 +6,7 @@ ghost use Rattle.shard_queue.specs.{Threads.has, Vocabulary.IsStrictlySortedBy, 
 use keyed_hash::DirectMapped;
 
 // How many threads are cached.
-const CACHED: usize = 256;
+const CACHED: usize = 4096;
 
 /// The places of threads that were sought lately.
 pub(crate) type ThreadCache = DirectMapped<{ CACHED }>;

@@ -1,6 +1,6 @@
 //! Expressions as engines evaluate them.
 
-ghost use Rattle.std.specs.Prelude.{◌≡◌, [], IfSome, IsTrue, List};
+ghost use Rattle.std.specs.Prelude.{◌≡◌, [], IsTrue, List};
 
 use crate::evaluation::EvalFault;
 use crate::state::State;

@@ -1,6 +1,6 @@
 //! Trees, walked.
 
-ghost use Rattle.std.specs.Prelude.{◌≡◌, ◌++◌, ◌∷◌, [], IfSome, IsTrue};
+ghost use Rattle.std.specs.Prelude.{◌≡◌, ◌++◌, ◌∷◌, [], IsTrue};
 ghost use Rattle.d_types.specs.Clauses as spec;
 ghost use Rattle.d_types.specs.Typed.{type_of};
 ghost use Rattle.replay_core.specs.Evaluation.{Meets};
