@@ -18,6 +18,7 @@ pub mod PieceRows
 pub mod Stored
 pub mod Moved
 pub mod Shared
+pub mod Spans
 pub mod PlainArguments
 pub mod RowParts
 pub mod BlockSteps

@@ -35,8 +35,8 @@ pub(crate) fn u32_of(number: usize) -> Option<u32>
     u32::try_from(number).ok()
 }
 
-// Adds bytes, if there is memory for them.
-fn add_bytes(all: &mut Vec<u8>, bytes: &[u8]) -> Option<()>
+/// Adds bytes, if there is memory for them.
+pub(crate) fn add_bytes(all: &mut Vec<u8>, bytes: &[u8]) -> Option<()>
     ensures { MatchOption result (all.new.items ≡ all.old.items)
         (λ _. all.new.items ≡ all.old.items ++ bytes.now) }
 {

@@ -16,6 +16,7 @@
 
 mod arguments;
 mod blocks;
+mod byte_strings;
 mod columns;
 mod distinct;
 mod ends;
@@ -26,7 +27,6 @@ mod firings;
 mod header;
 mod keys;
 pub mod laws;
-mod owned_text;
 mod owners;
 mod pieces;
 mod plain;
@@ -48,7 +48,6 @@ pub use fault::TraceFault;
 pub use firing::{Args, Firing};
 pub use firing_rows::{FiringRows, MOST_TOGETHER};
 pub use firings::Firings;
-pub use owned_text::OwnedText;
 pub use probe_places::ProbePlaces;
 pub use reading::MOST_ROWS;
 pub use text::{TEXT_LIMIT, Text};
