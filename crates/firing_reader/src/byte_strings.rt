@@ -4,7 +4,7 @@ ghost use Rattle.std.specs.Prelude.{◌≡◌, ◌++◌, ◌∷◌, ◌<◌, ◌
 ghost use Rattle.std.specs.Prelude.{IfSome, length, slice_get, vec_capacity, vec_len};
 ghost use Rattle.firing_reader.specs.Units.{bytes_of};
 
-use crate::keys::{add_bytes, u32_of};
+use crate::keys::u32_of;
 use std::alloc::Global;
 use std::marker::Model;
 
@@ -33,8 +33,16 @@ impl Model for ByteStrings {
     ghost invariant = { λ s. All (IsSpanIn s.bytes.items) s.spans.items };
 }
 
-// Makes room for one more, if there is memory for it.
-fn make_room(all: &mut Vec<Span>) -> Option<()>
+/// Adds bytes, if there is memory for them.
+pub(crate) fn add_bytes(all: &mut Vec<u8>, bytes: &[u8]) -> Option<()>
+    ensures { MatchOption result (all.new.items ≡ all.old.items)
+        (λ _. all.new.items ≡ all.old.items ++ bytes.now) }
+{
+    all.extend_from_slice(bytes).ok()
+}
+
+/// Makes room for one more, if there is memory for it.
+pub(crate) fn make_room<T>(all: &mut Vec<T>) -> Option<()>
     ensures same { all.new.items ≡ all.old.items }
     ensures room { IfSome result (λ _. vec_len all.new < vec_capacity all.new) }
 {

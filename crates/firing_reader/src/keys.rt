@@ -1,9 +1,8 @@
 //! Bytes of rows that were read before, each with the place of what they mean.
 
-ghost use Rattle.std.specs.Prelude.{◌≡◌, ◌++◌, ◌∷◌, [], IfOk, IfSome, MatchOption, Contains, ◌<◌};
-ghost use Rattle.std.specs.Prelude.{vec_len};
-ghost use Rattle.std.specs.Vec.{vec_capacity};
+ghost use Rattle.std.specs.Prelude.{◌≡◌, ◌++◌, ◌∷◌, [], IfOk, IfSome, MatchOption, Contains};
 
+use crate::byte_strings::{add_bytes, make_room};
 use crate::slots::{NEAR, NOWHERE, Slot, Slots};
 use keyed_hash::{HashKey, is_same};
 use std::alloc::{AllocError, Global};
@@ -33,22 +32,6 @@ pub(crate) fn u32_of(number: usize) -> Option<u32>
     ensures { IfSome result (λ n. n ≡ number) }
 {
     u32::try_from(number).ok()
-}
-
-/// Adds bytes, if there is memory for them.
-pub(crate) fn add_bytes(all: &mut Vec<u8>, bytes: &[u8]) -> Option<()>
-    ensures { MatchOption result (all.new.items ≡ all.old.items)
-        (λ _. all.new.items ≡ all.old.items ++ bytes.now) }
-{
-    all.extend_from_slice(bytes).ok()
-}
-
-// Makes room for one more, if there is memory for it.
-fn make_room(all: &mut Vec<Known>) -> Option<()>
-    ensures same { all.new.items ≡ all.old.items }
-    ensures room { IfSome result (λ _. vec_len all.new < vec_capacity all.new) }
-{
-    all.reserve(1).ok()
 }
 
 /// Bytes that were read before, each with a place. Contracts see the list of them.

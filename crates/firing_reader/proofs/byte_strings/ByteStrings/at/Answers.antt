@@ -1,10 +1,7 @@
-use Rattle.std.proofs.Common.{rules, ◌≡◌, ◌<◌, ◌∙◌, Some, sym, ap, length}
-use Rattle.std.specs.Prelude.{slice_get}
+use Rattle.std.proofs.Common.{◌<◌, length}
 use Rattle.std.proofs.lemmas.List.{length-map}
 use Rattle.std.proofs.lemmas.List.Elements.{All-get_or}
-use Rattle.std.proofs.lemmas.Option.{slice_get-get_or}
 use Rattle.firing_reader.specs.Units.{IsSpanIn, bytes_of}
-use Rattle.firing_reader.proofs.Spans.{span_at}
 use Rattle.firing_reader.proofs.byte_strings.ByteStrings.at.Goals as goal
 
 pub bytes_at-requires : goal.bytes_at-requires
