@@ -40,6 +40,18 @@ pub(crate) fn pieces_for(
     Ok(pieces)
 }
 
+// How many of an equal share of the bytes a piece has. If it had many owners and probes, they are
+// fewer: its worker adds all of them once more, where the first thread finds most.
+fn share_of(piece: &Firings, equal: usize) -> usize
+    ensures { result ≤ equal }
+{
+    if piece.unit_count() > MOST_KEPT {
+        equal - equal / 8
+    } else {
+        equal
+    }
+}
+
 // Empties a piece, whose room is used again.
 fn empty(piece: &mut Firings)
     ensures { piece.new ≡ [] }
@@ -149,7 +161,7 @@ pub(crate) fn read_shared<R: Threads>(
     let Some((piece, others)) = pieces.split_last_mut() else {
         return Some(read_alone(firings, bytes));
     };
-    let Some(cut) = cut_at_feed(bytes, bytes.len() - share) else {
+    let Some(cut) = cut_at_feed(bytes, bytes.len() - share_of(piece, share)) else {
         return Some(read_alone(firings, bytes));
     };
     let (more, passed) = read_both(context, others, piece, firings, cut);
