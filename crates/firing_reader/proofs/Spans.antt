@@ -1,27 +1,21 @@
 -- Byte strings that are stored one after another.
-use Rattle.std.proofs.Common.{◌≡◌, ◌∙◌, ℕ, List, [], ◌∷◌, ◌++◌, length, map, All, Some, refl}
-use Rattle.std.specs.Prelude.{slice_get}
+use Rattle.std.proofs.Common.{◌≡◌, ◌∙◌, ℕ, List, [], ◌∷◌, ◌++◌, length, map, All, refl}
 use Rattle.std.proofs.lemmas.List.{map-append}
 use Rattle.std.proofs.lemmas.List.Elements.{All-head, All-tail}
-use Rattle.std.proofs.lemmas.Option.{slice_get-map}
 use Rattle.firing_reader.specs.declared.byte_strings.Span.{Span}
 use Rattle.firing_reader.specs.Stored.{Extends}
-use Rattle.firing_reader.specs.Units.{IsSpanIn, bytes_of}
+use Rattle.firing_reader.specs.Steps.Spans.{IsSpanIn, bytes_of}
 use Rattle.firing_reader.proofs.Shared.{last_part}
-use Rattle.firing_reader.proofs.Stored.{part_more, within_more}
+use Rattle.firing_reader.proofs.Stored.{part_more}
 
+-- more bytes after them change none
 spans_same : (b c : List ℕ) (ss : List Span) → Extends b c → All (IsSpanIn b) ss → map (bytes_of c) ss ≡ map (bytes_of b) ss
 spans_same b c [] e all = refl
 spans_same b c (s ∷ ss) e all = rw (part_more b c s.begin s.count e (All-head (IsSpanIn b) s ss all), spans_same b c ss e (All-tail (IsSpanIn b) s ss all)) refl
 
-pub spans_more : (b c : List ℕ) (ss : List Span) → Extends b c → All (IsSpanIn b) ss → All (IsSpanIn c) ss
-spans_more b c ss e all = λ k d within. within_more b c _ e (all k d within)
-
+-- one more at the end
 pub span_push : (b bytes : List ℕ) (ss : List Span) (s : Span) (old : List (List ℕ)) → All (IsSpanIn b) ss → map (bytes_of b) ss ≡ old
     → s.begin ≡ length b → s.count ≡ length bytes → map (bytes_of (b ++ bytes)) (ss ++ s ∷ []) ≡ old ++ bytes ∷ []
 span_push b bytes ss s old all is first many =
     let one : bytes_of (b ++ bytes) s ≡ bytes = rw (first, many) (last_part b bytes) in
     map-append (bytes_of (b ++ bytes)) ss (s ∷ []) ∙ rw (spans_same b (b ++ bytes) ss (bytes, refl) all, is, one) refl
-
-pub span_at : (b : List ℕ) (ss : List Span) (i : ℕ) (s : Span) → slice_get ss i ≡ Some s → slice_get (map (bytes_of b) ss) i ≡ Some (bytes_of b s)
-span_at b ss i s found = slice_get-map (bytes_of b) ss i ∙ rw found refl

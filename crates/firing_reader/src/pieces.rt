@@ -1,7 +1,7 @@
 //! Reading plain rows by several workers: each reads a piece of the bytes, and two pieces share the
 //! line feed between them.
 
-ghost use Rattle.std.specs.Prelude.{◌≡◌, ◌<◌, ◌≤◌, ℕ, List, [], true, IfSome, OnOk, Ok, length};
+ghost use Rattle.std.specs.Prelude.{◌≡◌, ◌<◌, ◌≤◌, ℕ, List, [], true, IfSome, Ok, length};
 ghost use Rattle.firing_reader.specs.{Blocks.BeginsAtFeed, Vocabulary.Firing};
 ghost use Rattle.firing_reader.specs.Steps.Plain.{AreCut, GoesAfter, IsPiece, PassesRows, Rises};
 ghost use Rattle.firing_reader.specs.Trace.{last_number, trace_of};
