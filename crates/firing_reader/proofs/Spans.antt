@@ -4,7 +4,7 @@ use Rattle.std.proofs.lemmas.List.{map-append}
 use Rattle.std.proofs.lemmas.List.Elements.{All-head, All-tail}
 use Rattle.firing_reader.specs.declared.byte_strings.Span.{Span}
 use Rattle.firing_reader.specs.Stored.{Extends}
-use Rattle.firing_reader.specs.Steps.Spans.{IsSpanIn, bytes_of}
+use Rattle.firing_reader.specs.Units.{IsSpanIn, bytes_of}
 use Rattle.firing_reader.proofs.Shared.{last_part}
 use Rattle.firing_reader.proofs.Stored.{part_more}
 

@@ -2,11 +2,13 @@
 -- bytes of rows that were met before.
 use Rattle.std.specs.Prelude.{◌≡◌, ◌<◌, ◌≤◌, ◌+◌, ℕ, List, [], Some, length, get_or, slice_get, map}
 use Rattle.std.specs.Prelude.{take, drop, All}
+use Rattle.firing_reader.specs.declared.byte_strings.Span.{Span}
 use Rattle.firing_reader.specs.declared.keys.Known.{Known}
 use Rattle.firing_reader.specs.declared.owners.StoredOwner.{StoredOwner}
 use Rattle.firing_reader.specs.declared.probes.StoredProbe.{StoredProbe}
 use Rattle.firing_reader.specs.declared.unit.Owner.{Owner}
 use Rattle.firing_reader.specs.declared.unit.Probe.{Probe}
+use Rattle.firing_reader.specs.Column.{text_of}
 use Rattle.firing_reader.specs.Plain.{ReadsOwner, ReadsProbe}
 
 -- an owner with its text, and a probe with its texts
@@ -30,6 +32,17 @@ pub record IsProbeIn (texts : List (List ℕ)) (p : StoredProbe) : Type 0 where
   pub probemod : p.probemod < length texts
   pub probefunc : p.probefunc < length texts
   pub name : p.name < length texts
+
+-- the bytes of a span of all
+abbrev pub bytes_of : List ℕ → Span → List ℕ
+bytes_of bytes s = take s.count (drop s.begin bytes)
+
+abbrev pub IsSpanIn : List ℕ → Span → Type 0
+IsSpanIn bytes s = s.begin + s.count ≤ length bytes
+
+-- these bytes are a text
+abbrev pub IsText : List ℕ → Type 0
+IsText bytes = text_of bytes ≡ Some bytes
 
 -- bytes that were met, and the place of what they mean
 abbrev pub known_in : List ℕ → Known → List ℕ × ℕ

@@ -2,7 +2,7 @@
 
 ghost use Rattle.std.specs.Prelude.{◌≡◌, ◌++◌, ◌∷◌, ◌<◌, ◌≤◌, ◌+◌, [], ℕ, MatchOption, Some};
 ghost use Rattle.std.specs.Prelude.{IfSome, length, slice_get, vec_capacity, vec_len};
-ghost use Rattle.firing_reader.specs.Steps.Spans.{bytes_of};
+ghost use Rattle.firing_reader.specs.Units.{bytes_of};
 
 use crate::keys::u32_of;
 use std::alloc::Global;
@@ -24,7 +24,7 @@ pub(crate) struct ByteStrings {
 
 impl Model for ByteStrings {
     ghost use Rattle.std.specs.Prelude.{All, List, ℕ, map};
-    ghost use Rattle.firing_reader.specs.Steps.Spans.{IsSpanIn, bytes_of};
+    ghost use Rattle.firing_reader.specs.Units.{IsSpanIn, bytes_of};
 
     ghost Value = { List (List ℕ) };
 

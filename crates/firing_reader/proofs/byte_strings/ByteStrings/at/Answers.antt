@@ -1,7 +1,7 @@
 use Rattle.std.proofs.Common.{◌<◌, length}
 use Rattle.std.proofs.lemmas.List.{length-map}
 use Rattle.std.proofs.lemmas.List.Elements.{All-get_or}
-use Rattle.firing_reader.specs.Steps.Spans.{IsSpanIn, bytes_of}
+use Rattle.firing_reader.specs.Units.{IsSpanIn, bytes_of}
 use Rattle.firing_reader.proofs.byte_strings.ByteStrings.at.Goals as goal
 
 pub bytes_at-requires : goal.bytes_at-requires
