@@ -23,6 +23,7 @@ pub mod PlainArguments
 pub mod RowParts
 pub mod BlockSteps
 pub mod SharedRows
+pub mod WaitingRows
 pub mod SameUnits
 pub mod Probing
 pub mod Written

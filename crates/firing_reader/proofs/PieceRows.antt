@@ -12,7 +12,8 @@ use Rattle.firing_reader.specs.declared.firing.Firing.{Firing}
 use Rattle.firing_reader.specs.Left.{left_in}
 use Rattle.firing_reader.specs.Firings.{number_of}
 use Rattle.firing_reader.specs.Plain.{ReadsRow, ReadsRows}
-use Rattle.firing_reader.specs.Steps.Plain.{ReadsMore, Rises}
+use Rattle.firing_reader.specs.Pieces.{Rises}
+use Rattle.firing_reader.specs.Steps.Plain.{ReadsMore}
 use Rattle.firing_reader.specs.Trace.{last_number}
 use Rattle.firing_reader.proofs.Left.{left_more, left_none}
 use Rattle.firing_reader.proofs.PlainRows.{skip_feed}

@@ -7,13 +7,13 @@ use Rattle.std.proofs.lemmas.List.{append-nil, drop-append-le}
 use Rattle.csv.specs.declared.parser.State.TheVariants as st
 use Rattle.firing_reader.specs.declared.firing.Firing.{Firing}
 use Rattle.firing_reader.specs.Plain.{ReadsRows, rows_after, rows_in}
-use Rattle.firing_reader.specs.Steps.Plain.{AreCut, GoesAfter, GoesOn, IsPiece, Leaves, PassesRows}
-use Rattle.firing_reader.specs.Steps.Plain.{ReadsMore, Rises, left_after}
+use Rattle.firing_reader.specs.Pieces.{AreCut, IsPiece, Rises, left_after}
+use Rattle.firing_reader.specs.Steps.Plain.{GoesAfter, GoesOn, Leaves, PassesRows, ReadsMore}
 use Rattle.firing_reader.specs.Trace.{last_number}
 use Rattle.firing_reader.proofs.BlockSteps.{left_from}
 use Rattle.firing_reader.proofs.Left.{left_none}
 use Rattle.firing_reader.proofs.PieceRows.{only_feed}
-use Rattle.firing_reader.proofs.PlainRows.{goes_all, goes_row}
+use Rattle.firing_reader.proofs.PlainRows.{goes_all, goes_both, goes_row}
 use Rattle.firing_reader.proofs.Rows.{after_none, last_push}
 
 -- ---- where rows were read up to a place
@@ -33,7 +33,7 @@ left_inside x rest after count h is place =
 -- ---- a piece and what comes before it
 
 -- more bytes at the end
-goes_more : (old : List Firing) (x : List ℕ) (new : List Firing) (y t : List ℕ) → GoesOn old x new y → GoesOn old (x ++ t) new (y ++ t)
+pub goes_more : (old : List Firing) (x : List ℕ) (new : List Firing) (y t : List ℕ) → GoesOn old x new y → GoesOn old (x ++ t) new (y ++ t)
 goes_more old x new y t g = record {
   rows = g.rows;
   read = g.read;
@@ -101,6 +101,20 @@ passes_both old bytes front last mid fs new count more c h whole p goes is =
     }
 
 -- ---- one worker
+
+-- rows that come after those of a piece that was passed to its end
+pub passes_on : (old : List Firing) (bytes front last : List ℕ) (mid new : List Firing) (count more : ℕ) → AreCut bytes front last → PassesRows old front mid count → count + 1 ≡ length front
+    → PassesRows mid last new more → PassesRows old bytes new (count + more)
+passes_on old bytes front last mid new count more c h whole p =
+    let size = ap length c.is_bytes in
+    let both = length-append front c.after in
+    let own = ap length c.is_last in
+    let first : GoesOn old bytes mid last = rw (c.is_last, ← none_left front c.after count whole) (cut_read old bytes front c.after mid count c.is_bytes h) in
+    record {
+      read = rw (last_left bytes front c.after count more c.is_bytes whole, ← c.is_last) (goes_both old bytes mid last new (left_after more last) first p.read);
+      few = p.few;
+      inside = omega (arith, size, both, own, whole, p.inside);
+    }
 
 pub passes_alone : (old : List Firing) (bytes : List ℕ) (new : List Firing) (rest after : List ℕ) (count : ℕ) → Leaves bytes rest → rest ≡ 10 ∷ after → count ≡ length bytes - length rest → GoesOn old bytes new rest
     → length new ≤ 1_000_000 → PassesRows old bytes new count

@@ -13,5 +13,6 @@ pub mod Stored
 pub mod Probing
 pub mod Units
 pub mod Blocks
+pub mod Pieces
 pub mod Written
 pub mod Steps

@@ -2,6 +2,7 @@
 -- definitions.
 pub mod Blocks
 pub mod Plain
+pub mod Pieces
 pub mod Stored
 pub mod Units
 pub mod RowEnds

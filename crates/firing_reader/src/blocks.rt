@@ -4,17 +4,19 @@ ghost use Rattle.std.specs.Prelude.{◌≡◌, ◌≢◌, ◌<◌, ◌≤◌, �
 ghost use Rattle.std.specs.Prelude.{IfOk, IfErr, IfSome, MatchBool, drop, length, true};
 ghost use Rattle.firing_reader.specs.{Vocabulary.Memory, Gives.Gives, Gives.GivesBy};
 ghost use Rattle.firing_reader.specs.Trace.{IsTrace, trace_of};
-ghost use Rattle.firing_reader.specs.Blocks.{AreRead, BeginsAtFeed, IsKeptAt};
+ghost use Rattle.firing_reader.specs.Blocks.{AreRead, BeginsAtFeed};
 ghost use Rattle.firing_reader.specs.Steps.Blocks.{Begins, IsFaultOf};
 ghost use Rattle.firing_reader.specs.Blocks.{reads, reads_at};
 ghost use Rattle.firing_reader.specs.Plain.{rows_in};
+ghost use Rattle.firing_reader.specs.Pieces.{IsKept, unread};
+ghost use Rattle.firing_reader.specs.Steps.Pieces.{Adds, AreWaiting, Leads};
 ghost use Rattle.firing_reader.specs.Steps.Plain.{GoesOn};
 ghost use Rattle.firing_reader.specs.declared.blocks.Stage.TheVariants.{Refused};
 
 use crate::fault::TraceFault;
 use crate::firings::Firings;
 use crate::header::{HEADER, MARK, after_header, after_mark};
-use crate::pieces::{Context, pieces_for, read_shared};
+use crate::pieces::{Context, Piece, Waiting, add_pieces, no_pieces, read_pieces};
 use crate::plain::front::rest_after;
 use crate::plain::read_plain;
 use crate::reading::{read_by_csv, read_records, read_rest, read_whole};
@@ -52,8 +54,10 @@ pub struct Reader {
     hash_key: HashKey,
     stage: Stage,
     firings: Firings,
-    // For the pieces of the rows that several workers read.
-    pieces: Vec<Firings>,
+    // Rows that several workers have read, and that come after the firings.
+    waiting: Waiting,
+    // For the pieces of the rows that they read next.
+    pieces: Vec<Piece>,
     // What is not read yet. Rows begin at the line feed before the first of them.
     left: Vec<u8>,
     // How many bytes there are at least before some are read.
@@ -64,14 +68,18 @@ pub struct Reader {
 }
 
 impl Model for Reader {
-    ghost use Rattle.firing_reader.specs.Blocks.{Taken, IsKeptAt};
+    ghost use Rattle.firing_reader.specs.{Blocks.Taken, Pieces.IsKept, Pieces.unread};
 
     ghost Value = { Taken };
 
-    ghost view = { λ r.
-        record { stage = r.stage; firings = r.firings; left = r.left.items } };
+    ghost view = { λ r. record {
+      stage = r.stage;
+      firings = r.firings;
+      left = unread r.waiting.bytes.items r.left.items;
+    } };
 
-    ghost invariant = { λ r. IsKeptAt r.stage r.firings r.left.items };
+    ghost invariant = { λ r. IsKept r.stage r.firings r.waiting.pieces.items
+        r.waiting.bytes.items r.left.items };
 }
 
 impl Reader {
@@ -86,8 +94,8 @@ impl Reader {
         ensures { IfOk result (λ r. (rest : List ℕ) → reads r rest ≡ trace_of rest) }
     {
         let firings = Firings::new(alloc, hash_key)?;
-        let pieces = match pieces_for(alloc, hash_key, workers) {
-            Ok(pieces) => pieces,
+        let (waiting, pieces) = match rooms_for(alloc, hash_key, workers) {
+            Ok(rooms) => rooms,
             Err(refused) => {
                 drop(firings);
                 return Err(refused);
@@ -98,6 +106,7 @@ impl Reader {
             hash_key,
             stage: Stage::Header,
             firings,
+            waiting,
             pieces,
             left: Vec::new(alloc),
             least,
@@ -125,6 +134,7 @@ impl Reader {
             return refuse(
                 self.alloc,
                 &mut self.stage,
+                &mut self.waiting,
                 &mut self.left,
                 TraceFault::Memory,
             );
@@ -182,6 +192,7 @@ impl Reader {
             hash_key,
             stage,
             mut firings,
+            mut waiting,
             mut pieces,
             mut left,
             ..
@@ -191,7 +202,15 @@ impl Reader {
             alloc,
             hash_key,
         };
-        let read = read_left(&context, &mut pieces, stage, &mut firings, &mut left);
+        let read = read_left(
+            &context,
+            stage,
+            &mut firings,
+            &mut waiting,
+            &mut pieces,
+            &mut left,
+        );
+        drop(waiting);
         drop(pieces);
         drop(left);
         if let Err(fault) = read {
@@ -221,9 +240,10 @@ impl Reader {
         };
         match advance(
             &context,
-            &mut self.pieces,
             self.stage,
             &mut self.firings,
+            &mut self.waiting,
+            &mut self.pieces,
             &mut self.left,
         ) {
             Ok(stage) => {
@@ -231,9 +251,40 @@ impl Reader {
                 self.enough = self.least.max(self.left.len().saturating_mul(2));
                 Ok(())
             }
-            Err(fault) => refuse(self.alloc, &mut self.stage, &mut self.left, fault),
+            Err(fault) => refuse(
+                self.alloc,
+                &mut self.stage,
+                &mut self.waiting,
+                &mut self.left,
+                fault,
+            ),
         }
     }
+}
+
+// Room for the pieces that this many workers read, and for as many that wait. A single worker reads
+// none. Of more, one thread adds those that wait.
+fn rooms_for(
+    alloc: Global,
+    hash_key: HashKey,
+    workers: u32,
+) -> Result<(Waiting, Vec<Piece>), AllocError>
+    ensures { IfOk result (λ rooms. rooms.0.bytes.items ≡ []) }
+{
+    let count = if workers < 2 { 0 } else { (workers - 1).max(2) };
+    let pieces = no_pieces(alloc, hash_key, count)?;
+    let others = match no_pieces(alloc, hash_key, count) {
+        Ok(others) => others,
+        Err(refused) => {
+            drop(pieces);
+            return Err(refused);
+        }
+    };
+    let waiting = Waiting {
+        pieces: others,
+        bytes: Vec::new(alloc),
+    };
+    Ok((waiting, pieces))
 }
 
 // How many bytes there are up to the last line feed and with it; all of them where there is none.
@@ -278,14 +329,17 @@ fn add_block(left: &mut Vec<u8>, block: &mut Vec<u8>) -> Result<(), AllocError>
 fn refuse(
     alloc: Global,
     stage: &mut Stage,
+    waiting: &mut Waiting,
     left: &mut Vec<u8>,
     fault: TraceFault,
 ) -> Result<(), AllocError>
     ensures stage { stage.new ≡ Refused fault }
+    ensures none { waiting.new.bytes.items ≡ [] }
     ensures memory { OnErr result (fault ≡ Memory) }
     ensures other { OnOk result (fault ≢ Memory) }
 {
     *stage = Stage::Refused(fault);
+    waiting.bytes = Vec::new(alloc);
     *left = Vec::new(alloc);
     match fault {
         TraceFault::Memory => Err(AllocError),
@@ -341,95 +395,185 @@ fn read_rows(alloc: Global, firings: &mut Firings, left: &mut Vec<u8>) -> Result
     Ok(())
 }
 
-// Reads plain rows with several workers. Returns None if memory is refused.
-fn read_front<R: Threads>(
-    context: &Context<R>,
-    pieces: &mut [Firings],
+/// Adds the rows that wait to the firings before them, and reads those that couldn't be read apart.
+pub(crate) fn add_waiting(
+    alloc: Global,
     firings: &mut Firings,
-    left: &mut Vec<u8>,
-) -> Option<()>
-    requires feed { BeginsAtFeed left.old.items }
+    waiting: &mut Waiting,
+) -> Result<(), TraceFault>
+    requires waiting { AreWaiting waiting.old.pieces.items waiting.old.bytes.items }
     requires are_read { AreRead firings.old }
-    ensures read { IfSome result
-        (λ _. GoesOn firings.old left.old.items firings.new left.new.items) }
-    ensures feed { IfSome result (λ _. BeginsAtFeed left.new.items) }
+    ensures added { OnOk result
+        (Adds firings.old waiting.old.bytes.items firings.new waiting.new.bytes.items) }
+    ensures fault { IfErr result (λ e.
+        IsFaultOf e (λ tail. rows_in firings.old (waiting.old.bytes.items ++ tail))) }
 {
-    if pieces.is_empty() {
-        return Some(());
+    let Waiting { pieces, bytes } = waiting;
+    if bytes.is_empty() {
+        return Ok(());
     }
-    let passed = read_shared(context, pieces, firings, left)?;
-    keep_from(left, passed);
-    Some(())
+    let Some(passed) = add_pieces(firings, pieces, bytes) else {
+        return Err(TraceFault::Memory);
+    };
+    keep_from(bytes, passed);
+    read_rows(alloc, firings, bytes)
 }
 
-// Reads the rows that are whole, and plain ones by all workers.
-fn read_rows_by<R: Threads>(
-    context: &Context<R>,
-    pieces: &mut [Firings],
+// Puts the bytes that wait before those that are left.
+fn give_back(waiting: &mut Waiting, left: &mut Vec<u8>) -> Result<(), AllocError>
+    requires { BeginsAtFeed left.old.items }
+    ensures left { OnOk result (left.new.items ≡ unread waiting.old.bytes.items left.old.items) }
+    ensures none { OnOk result (waiting.new.bytes.items ≡ []) }
+{
+    if waiting.bytes.is_empty() {
+        return Ok(());
+    }
+    waiting.bytes.extend_from_slice(&left[1..])?;
+    swap(&mut waiting.bytes, left);
+    waiting.bytes.clear();
+    Ok(())
+}
+
+// Reads the rows that are whole by this thread, those that wait first.
+fn read_alone(
+    alloc: Global,
     firings: &mut Firings,
+    waiting: &mut Waiting,
     left: &mut Vec<u8>,
 ) -> Result<(), TraceFault>
     requires feed { BeginsAtFeed left.old.items }
+    requires leads { Leads waiting.old.bytes.items }
     requires are_read { AreRead firings.old }
-    ensures read { OnOk result (GoesOn firings.old left.old.items firings.new left.new.items) }
+    ensures read { OnOk result (GoesOn firings.old (unread waiting.old.bytes.items left.old.items)
+        firings.new left.new.items) }
     ensures feed { OnOk result (BeginsAtFeed left.new.items) }
-    ensures fault { IfErr result (λ e.
-        IsFaultOf e (λ tail. rows_in firings.old (left.old.items ++ tail))) }
+    ensures none { OnOk result (waiting.new.bytes.items ≡ []) }
+    ensures fault { IfErr result (λ e. IsFaultOf e
+        (λ tail. rows_in firings.old (unread waiting.old.bytes.items left.old.items ++ tail))) }
 {
-    let Some(()) = read_front(context, pieces, firings, left) else {
-        return Err(TraceFault::Memory);
-    };
-    read_rows(context.alloc, firings, left)
+    give_back(waiting, left)?;
+    read_rows(alloc, firings, left)
+}
+
+// Reads the rows that are whole by all workers. They wait, and this thread adds those that waited.
+fn read_rows_by<R: Threads>(
+    context: &Context<R>,
+    firings: &mut Firings,
+    waiting: &mut Waiting,
+    pieces: &mut Vec<Piece>,
+    left: &mut Vec<u8>,
+) -> Result<(), TraceFault>
+    requires feed { BeginsAtFeed left.old.items }
+    requires waiting { AreWaiting waiting.old.pieces.items waiting.old.bytes.items }
+    requires are_read { AreRead firings.old }
+    ensures read { OnOk result (GoesOn firings.old (unread waiting.old.bytes.items left.old.items)
+        firings.new (unread waiting.new.bytes.items left.new.items)) }
+    ensures feed { OnOk result (BeginsAtFeed left.new.items) }
+    ensures waiting { OnOk result
+        (AreWaiting waiting.new.pieces.items waiting.new.bytes.items) }
+    ensures fault { IfErr result (λ e. IsFaultOf e
+        (λ tail. rows_in firings.old (unread waiting.old.bytes.items left.old.items ++ tail))) }
+{
+    if pieces.is_empty() {
+        return read_alone(context.alloc, firings, waiting, left);
+    }
+    read_pieces(context, pieces, left, firings, waiting)?;
+    if waiting.bytes.len() > 1 {
+        return read_alone(context.alloc, firings, waiting, left);
+    }
+    keep_waiting(waiting, pieces, left)?;
+    Ok(())
+}
+
+// Keeps the pieces of the bytes that are left as those that wait, where no others do.
+fn keep_waiting(
+    waiting: &mut Waiting,
+    pieces: &mut Vec<Piece>,
+    left: &mut Vec<u8>,
+) -> Result<(), AllocError>
+    ensures waiting { waiting.new.bytes.items ≡ left.old.items }
+    ensures pieces { waiting.new.pieces.items ≡ pieces.old.items }
+    ensures left { OnOk result (left.new.items ≡ 10 ∷ []) }
+{
+    swap(&mut waiting.bytes, left);
+    swap(&mut waiting.pieces, pieces);
+    left.clear();
+    left.push(b'\n')?;
+    Ok(())
 }
 
 // Reads what is whole, and returns what is to be read next.
 fn advance<R: Threads>(
     context: &Context<R>,
-    pieces: &mut [Firings],
     stage: Stage,
     firings: &mut Firings,
+    waiting: &mut Waiting,
+    pieces: &mut Vec<Piece>,
     left: &mut Vec<u8>,
 ) -> Result<Stage, TraceFault>
-    requires { IsKeptAt stage firings.old left.old.items }
-    ensures kept { IfOk result (λ next. IsKeptAt next firings.new left.new.items) }
+    requires { IsKept stage firings.old waiting.old.pieces.items waiting.old.bytes.items
+        left.old.items }
+    ensures kept { IfOk result (λ next. IsKept next firings.new waiting.new.pieces.items
+        waiting.new.bytes.items left.new.items) }
     ensures read { IfOk result (λ next. (tail : List ℕ)
-        → reads_at next firings.new (left.new.items ++ tail)
-        ≡ reads_at stage firings.old (left.old.items ++ tail)) }
-    ensures fault { IfErr result (λ e.
-        IsFaultOf e (λ tail. reads_at stage firings.old (left.old.items ++ tail))) }
+        → reads_at next firings.new (unread waiting.new.bytes.items left.new.items ++ tail)
+        ≡ reads_at stage firings.old (unread waiting.old.bytes.items left.old.items ++ tail)) }
+    ensures fault { IfErr result (λ e. IsFaultOf e
+        (λ tail. reads_at stage firings.old
+        (unread waiting.old.bytes.items left.old.items ++ tail))) }
 {
     match stage {
         Stage::Header => {
             if !read_header(context.alloc, firings, left)? {
                 return Ok(stage);
             }
-            read_rows_by(context, pieces, firings, left)?;
+            read_rows_by(context, firings, waiting, pieces, left)?;
             Ok(Stage::Rows)
         }
         Stage::Rows => {
-            read_rows_by(context, pieces, firings, left)?;
+            read_rows_by(context, firings, waiting, pieces, left)?;
             Ok(stage)
         }
         Stage::Refused(_) => Ok(stage),
     }
 }
 
+// Reads all rows that are left, after the last block.
+fn read_last_rows(
+    alloc: Global,
+    firings: &mut Firings,
+    waiting: &mut Waiting,
+    left: &mut Vec<u8>,
+) -> Result<(), TraceFault>
+    requires feed { BeginsAtFeed left.old.items }
+    requires waiting { AreWaiting waiting.old.pieces.items waiting.old.bytes.items }
+    requires are_read { AreRead firings.old }
+    ensures { GivesBy (λ _. firings.new) result
+        (rows_in firings.old (unread waiting.old.bytes.items left.old.items)) }
+{
+    add_waiting(alloc, firings, waiting)?;
+    give_back(waiting, left)?;
+    read_rest(alloc, firings, left)
+}
+
 // Reads all that is left, after the last block.
 fn read_left<R: Threads>(
     context: &Context<R>,
-    pieces: &mut [Firings],
     stage: Stage,
     firings: &mut Firings,
+    waiting: &mut Waiting,
+    pieces: &mut Vec<Piece>,
     left: &mut Vec<u8>,
 ) -> Result<(), TraceFault>
-    requires { IsKeptAt stage firings.old left.old.items }
+    requires { IsKept stage firings.old waiting.old.pieces.items waiting.old.bytes.items
+        left.old.items }
     ensures trace { OnOk result (IsTrace firings.new) }
     ensures read { GivesBy (λ _. firings.new) result
-        (reads_at stage firings.old (left.old.items ++ [])) }
+        (reads_at stage firings.old (unread waiting.old.bytes.items left.old.items ++ [])) }
 {
-    match advance(context, pieces, stage, firings, left)? {
+    match advance(context, stage, firings, waiting, pieces, left)? {
         Stage::Header => read_whole(context.alloc, firings, left),
-        Stage::Rows => read_rest(context.alloc, firings, left),
+        Stage::Rows => read_last_rows(context.alloc, firings, waiting, left),
         Stage::Refused(fault) => Err(fault),
     }
 }

@@ -1,11 +1,18 @@
 //! Reading plain rows by several workers: each reads a piece of the bytes, and two pieces share the
 //! line feed between them.
 
-ghost use Rattle.std.specs.Prelude.{◌≡◌, ◌<◌, ◌≤◌, ℕ, List, [], true, IfSome, Ok, length};
-ghost use Rattle.firing_reader.specs.{Blocks.BeginsAtFeed, Vocabulary.Firing};
-ghost use Rattle.firing_reader.specs.Steps.Plain.{AreCut, GoesAfter, IsPiece, PassesRows, Rises};
+ghost use Rattle.std.specs.Prelude.{◌≡◌, ◌≤◌, ◌+◌, ◌++◌, [], true, IfErr, IfSome, OnOk};
+ghost use Rattle.std.specs.Prelude.{◌-◌, Ok, drop, length};
+ghost use Rattle.firing_reader.specs.Blocks.{AreRead, BeginsAtFeed};
+ghost use Rattle.firing_reader.specs.Plain.{rows_in};
+ghost use Rattle.firing_reader.specs.Steps.Blocks.{IsFaultOf};
+ghost use Rattle.firing_reader.specs.Pieces.{AreCut, ArePieces, IsPiece, Rises};
+ghost use Rattle.firing_reader.specs.Steps.Pieces.{Adds, AreWaiting};
+ghost use Rattle.firing_reader.specs.Steps.Plain.{GoesAfter, PassesRows};
 ghost use Rattle.firing_reader.specs.Trace.{last_number, trace_of};
 
+use crate::blocks::add_waiting;
+use crate::fault::TraceFault;
 use crate::firings::Firings;
 use crate::header::after_header;
 use crate::plain::front::after_feed;
@@ -26,52 +33,63 @@ pub(crate) struct Context<'a, R> {
     pub(crate) hash_key: HashKey,
 }
 
-/// Pieces without firings for this many workers. The first of them needs none.
-pub(crate) fn pieces_for(
+/// Rows that a worker reads apart from those before them.
+#[derive(Drop)]
+pub(crate) struct Piece {
+    firings: Firings,
+    // The place of the line feed that ends its bytes, and with which the next piece begins.
+    end: usize,
+    // How many of its bytes come before what is left.
+    passed: usize,
+}
+
+/// Rows that were read in pieces, and aren't among the firings yet.
+#[derive(Drop)]
+pub(crate) struct Waiting {
+    pub(crate) pieces: Vec<Piece>,
+    /// Their bytes, from the line feed before them on; or none.
+    pub(crate) bytes: Vec<u8>,
+}
+
+/// So many pieces without bytes.
+pub(crate) fn no_pieces(
     alloc: Global,
     hash_key: HashKey,
-    workers: u32,
-) -> Result<Vec<Firings>, AllocError> {
+    count: u32,
+) -> Result<Vec<Piece>, AllocError> {
     let mut pieces = Vec::new(alloc);
-    for _ in 1..workers {
-        let piece = Firings::new(alloc, hash_key)?;
-        pieces.push(piece)?;
+    for _ in 0..count {
+        let firings = Firings::new(alloc, hash_key)?;
+        pieces.push(Piece {
+            firings,
+            end: 0,
+            passed: 0,
+        })?;
     }
     Ok(pieces)
 }
 
-// How many of an equal share of the bytes a piece has. If it had many owners and probes, they are
-// fewer: its worker adds all of them once more, where the first thread finds most.
-fn share_of(piece: &Firings, equal: usize) -> usize
-    ensures { result ≤ equal }
+// Empties the firings of a piece, whose room is used again.
+fn empty(firings: &mut Firings)
+    ensures { firings.new ≡ [] }
 {
-    if piece.unit_count() > MOST_KEPT {
-        equal - equal / 8
+    if firings.unit_count() > MOST_KEPT {
+        firings.clear_all();
     } else {
-        equal
+        firings.clear();
     }
 }
 
-// Empties a piece, whose room is used again.
-fn empty(piece: &mut Firings)
-    ensures { piece.new ≡ [] }
-{
-    if piece.unit_count() > MOST_KEPT {
-        piece.clear_all();
-    } else {
-        piece.clear();
-    }
-}
-
-// Reads a piece apart from the firings before it. It returns how many bytes come before what is
-// left.
-fn read_piece(piece: &mut Firings, bytes: &[u8]) -> usize
+// Reads a piece apart from the firings before it.
+fn read_piece(piece: &mut Piece, bytes: &[u8])
     requires { BeginsAtFeed bytes.now }
-    ensures { IsPiece bytes.now piece.new result }
+    ensures piece { IsPiece bytes.now piece.new.firings piece.new.passed }
+    ensures end { piece.new.end + 1 ≡ length bytes.now }
 {
-    empty(piece);
-    let rest = read_plain(piece, bytes);
-    bytes.len() - rest.len()
+    empty(&mut piece.firings);
+    let rest = read_plain(&mut piece.firings, bytes);
+    piece.passed = bytes.len() - rest.len();
+    piece.end = bytes.len() - 1;
 }
 
 // Reads a piece after the firings before it. It returns how many bytes come before what is left.
@@ -91,9 +109,26 @@ struct Cut<'a> {
     last: &'a [u8],
 }
 
+// Cuts bytes at the first line feed from a place on, or else at the first of all.
+fn cut_near(bytes: &[u8], from: usize) -> Cut<'_>
+    requires { BeginsAtFeed bytes.now }
+    ensures cut { AreCut bytes.now result.front.now result.last.now }
+    ensures last { result.last.now ≡ drop (length result.front.now - 1) bytes.now }
+{
+    match cut_at_feed(bytes, from) {
+        Some(cut) => cut,
+        None => Cut {
+            front: &bytes[..1],
+            last: bytes,
+        },
+    }
+}
+
 // Cuts bytes at the first line feed from a place on.
 fn cut_at_feed(bytes: &[u8], from: usize) -> Option<Cut<'_>>
-    ensures { IfSome result (λ cut. AreCut bytes.now cut.front.now cut.last.now) }
+    ensures cut { IfSome result (λ cut. AreCut bytes.now cut.front.now cut.last.now) }
+    ensures last { IfSome result
+        (λ cut. cut.last.now ≡ drop (length cut.front.now - 1) bytes.now) }
 {
     for at in from..bytes.len() {
         if bytes[at] == b'\n' {
@@ -120,83 +155,131 @@ fn goes_after(first: &Firings, second: &Firings) -> bool
     second.len() == 0 || first.last_number() < second.get(0).number
 }
 
-// Adds the last piece to the firings of the front, if it goes after all of these. It returns how
-// many bytes come before what is left of both.
-fn add_piece(
-    firings: &mut Firings,
-    piece: &mut Firings,
-    cut: Cut<'_>,
-    passed: usize,
-    more: usize,
-) -> Option<usize>
-    requires inside { passed < length cut.front.now }
+// Adds the rows of a piece to the firings before it. Where they don't go after these, it reads them
+// as far as they do. It returns how many bytes come before what is left, or None where memory is
+// refused.
+fn add_piece(firings: &mut Firings, piece: &Piece, bytes: &[u8]) -> Option<usize>
+    requires feed { BeginsAtFeed bytes.now }
     requires few { length firings.old ≤ MOST_ROWS }
-    requires piece { IsPiece cut.last.now piece.old more }
-    ensures { (before : List Firing) (bytes : List ℕ)
-        → AreCut bytes cut.entry.front.now cut.entry.last.now
-        → PassesRows before cut.entry.front.now firings.old passed
-        → IfSome result (PassesRows before bytes firings.new) }
+    requires piece { IsPiece bytes.now piece.now.firings piece.now.passed }
+    ensures { IfSome result (PassesRows firings.old bytes.now firings.new) }
 {
-    if passed + 1 != cut.front.len() || !goes_after(firings, piece) {
-        return Some(passed);
+    if !goes_after(firings, &piece.firings) {
+        return Some(read_alone(firings, bytes));
     }
-    firings.append(piece)?;
-    Some(passed + more)
+    firings.append(&piece.firings)?;
+    Some(piece.passed)
 }
 
-/// Reads the rows after a line feed, as long as they are plain, by one worker more than there are
-/// pieces. It returns how many bytes come before what is left, or None where memory is refused.
-#[cycle(shared)]
-pub(crate) fn read_shared<R: Threads>(
+/// Adds the rows of pieces to the firings before them. It returns how many bytes come before what
+/// is left, or None where memory is refused.
+#[cycle(adding)]
+pub(crate) fn add_pieces(firings: &mut Firings, pieces: &[Piece], bytes: &[u8]) -> Option<usize>
+    requires pieces { ArePieces pieces.now bytes.now }
+    requires few { length firings.old ≤ MOST_ROWS }
+    ensures { IfSome result (PassesRows firings.old bytes.now firings.new) }
+{
+    let Some((piece, others)) = pieces.split_first() else {
+        return Some(read_alone(firings, bytes));
+    };
+    let passed = add_piece(firings, piece, &bytes[..piece.end + 1])?;
+    if passed < piece.end {
+        return Some(passed);
+    }
+    let more = add_pieces(firings, others, &bytes[piece.end..])?;
+    Some(piece.end + more)
+}
+
+/// Reads bytes in pieces, each by a new thread, while this one adds the rows that wait to the
+/// firings before them.
+#[cycle(reading)]
+pub(crate) fn read_pieces<R: Threads>(
     context: &Context<R>,
-    pieces: &mut [Firings],
+    pieces: &mut [Piece],
+    bytes: &[u8],
+    firings: &mut Firings,
+    waiting: &mut Waiting,
+) -> Result<(), TraceFault>
+    requires feed { BeginsAtFeed bytes.now }
+    requires waiting { AreWaiting waiting.old.pieces.items waiting.old.bytes.items }
+    requires are_read { AreRead firings.old }
+    ensures pieces { ArePieces pieces.new bytes.now }
+    ensures added { OnOk result
+        (Adds firings.old waiting.old.bytes.items firings.new waiting.new.bytes.items) }
+    ensures fault { IfErr result (λ e.
+        IsFaultOf e (λ tail. rows_in firings.old (waiting.old.bytes.items ++ tail))) }
+{
+    let share = bytes.len() / pieces.len().max(1);
+    let Some((piece, others)) = pieces.split_first_mut() else {
+        return add_waiting(context.alloc, firings, waiting);
+    };
+    let cut = cut_near(bytes, share.min(bytes.len().saturating_sub(1)));
+    read_both(context, piece, others, cut, firings, waiting)
+}
+
+// Reads the first piece in a new thread, while others read those after it.
+#[cycle(reading)]
+fn read_both<R: Threads>(
+    context: &Context<R>,
+    piece: &mut Piece,
+    others: &mut [Piece],
+    cut: Cut<'_>,
+    firings: &mut Firings,
+    waiting: &mut Waiting,
+) -> Result<(), TraceFault>
+    requires front { BeginsAtFeed cut.front.now }
+    requires last { BeginsAtFeed cut.last.now }
+    requires waiting { AreWaiting waiting.old.pieces.items waiting.old.bytes.items }
+    requires are_read { AreRead firings.old }
+    ensures piece { IsPiece cut.entry.front.now piece.new.firings piece.new.passed }
+    ensures end { piece.new.end + 1 ≡ length cut.entry.front.now }
+    ensures others { ArePieces others.new cut.entry.last.now }
+    ensures added { OnOk result
+        (Adds firings.old waiting.old.bytes.items firings.new waiting.new.bytes.items) }
+    ensures fault { IfErr result (λ e.
+        IsFaultOf e (λ tail. rows_in firings.old (waiting.old.bytes.items ++ tail))) }
+{
+    let Cut { front, last } = cut;
+    let ((), added) = join_mut(
+        context.rt,
+        &mut || -> ()
+            requires { BeginsAtFeed front.now }
+            ensures piece { IsPiece front.entry.now piece.exit.now.firings piece.exit.now.passed }
+            ensures end { piece.exit.now.end + 1 ≡ length front.entry.now }
+        { read_piece(piece, front) },
+        &mut || -> Result<(), TraceFault>
+            requires { BeginsAtFeed last.now × AreRead firings.now
+                × AreWaiting waiting.now.pieces.items waiting.now.bytes.items }
+            ensures others { ArePieces others.exit.now last.entry.now }
+            ensures added { OnOk result (Adds firings.entry.now waiting.entry.now.bytes.items
+                firings.exit.now waiting.exit.now.bytes.items) }
+            ensures fault { IfErr result (λ e. IsFaultOf e
+                (λ tail. rows_in firings.entry.now (waiting.entry.now.bytes.items ++ tail))) }
+        { read_pieces(context, others, last, firings, waiting) },
+    );
+    added
+}
+
+// Reads rows in pieces where there are no firings yet, and adds them. It returns how many bytes come
+// before what is left.
+fn read_first<R: Threads>(
+    context: &Context<R>,
+    pieces: &mut [Piece],
     firings: &mut Firings,
     bytes: &[u8],
 ) -> Option<usize>
     requires feed { BeginsAtFeed bytes.now }
-    requires few { length firings.old ≤ MOST_ROWS }
-    ensures { IfSome result (PassesRows firings.old bytes.now firings.new) }
+    requires none { firings.old ≡ [] }
+    ensures { IfSome result (PassesRows [] bytes.now firings.new) }
 {
-    let share = bytes.len() / (pieces.len() + 1);
-    let Some((piece, others)) = pieces.split_last_mut() else {
-        return Some(read_alone(firings, bytes));
+    let mut none = Waiting {
+        pieces: Vec::new(context.alloc),
+        bytes: Vec::new(context.alloc),
     };
-    let Some(cut) = cut_at_feed(bytes, bytes.len() - share_of(piece, share)) else {
-        return Some(read_alone(firings, bytes));
-    };
-    let (more, passed) = read_both(context, others, piece, firings, cut);
-    let passed = passed?;
-    add_piece(firings, piece, cut, passed, more)
-}
-
-// Reads the last piece by one worker, while the others read those before it.
-#[cycle(shared)]
-fn read_both<R: Threads>(
-    context: &Context<R>,
-    others: &mut [Firings],
-    piece: &mut Firings,
-    firings: &mut Firings,
-    cut: Cut<'_>,
-) -> (usize, Option<usize>)
-    requires front { BeginsAtFeed cut.front.now }
-    requires last { BeginsAtFeed cut.last.now }
-    requires few { length firings.old ≤ MOST_ROWS }
-    ensures piece { IsPiece cut.entry.last.now piece.new result.0 }
-    ensures front { IfSome result.1 (PassesRows firings.old cut.entry.front.now firings.new) }
-{
-    let Cut { front, last } = cut;
-    join_mut(
-        context.rt,
-        &mut || -> usize
-            requires { BeginsAtFeed last.now }
-            ensures { IsPiece last.entry.now piece.exit.now result }
-        { read_piece(piece, last) },
-        &mut || -> Option<usize>
-            requires { BeginsAtFeed front.now × (length firings.now ≤ MOST_ROWS) }
-            ensures { IfSome result
-                (PassesRows firings.entry.now front.entry.now firings.exit.now) }
-        { read_shared(context, others, firings, front) },
-    )
+    let read = read_pieces(context, pieces, bytes, firings, &mut none);
+    drop(none);
+    read.ok()?;
+    add_pieces(firings, pieces, bytes)
 }
 
 // The firings of a trace that is nothing but a header and plain rows, read by this many workers.
@@ -208,9 +291,9 @@ pub(crate) fn read_plain_trace<R: Threads>(
     ensures { IfSome result (λ fs. trace_of bytes.now ≡ Ok fs) }
 {
     let rows = after_header(bytes)?;
-    let mut pieces = pieces_for(context.alloc, context.hash_key, count).ok()?;
+    let mut pieces = no_pieces(context.alloc, context.hash_key, count).ok()?;
     let mut firings = Firings::new(context.alloc, context.hash_key).ok()?;
-    let passed = read_shared(context, &mut pieces, &mut firings, rows);
+    let passed = read_first(context, &mut pieces, &mut firings, rows);
     drop(pieces);
     let Some(passed) = passed else {
         drop(firings);

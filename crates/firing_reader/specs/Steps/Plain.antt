@@ -1,9 +1,9 @@
 -- Plain fields and rows as they are taken off the front of the bytes.
 use Rattle.std.specs.Prelude.{◌≡◌, ◌≢◌, ◌<◌, ◌≤◌, ℕ, List, [], ◌∷◌, ◌++◌, All, Some, codes, map, Ok}
-use Rattle.std.specs.Prelude.{ℤ, ◌+◌, ◌^◌, drop, length}
+use Rattle.std.specs.Prelude.{ℤ, ◌+◌, ◌^◌, length}
 use Rattle.csv.specs.declared.parser.State.{State}
 use Rattle.firing_reader.specs.Vocabulary.{next_record, default_config, Firing, MOST_ROWS}
-use Rattle.firing_reader.specs.{Blocks.BeginsAtFeed, Left.left_in}
+use Rattle.firing_reader.specs.{Left.left_in, Pieces.Rises, Pieces.left_after}
 use Rattle.firing_reader.specs.Column.{signed_of}
 use Rattle.firing_reader.specs.Trace.{last_number}
 use Rattle.firing_reader.specs.Plain.{Passes, ReadsRows, rows_after, whole_of}
@@ -54,29 +54,6 @@ pub record ReadsArguments (bytes rest : List ℕ) (args : List ℤ) : Type 0 whe
   pub closes : Closes bytes (x0 ∷ x1 ∷ x2 ∷ x3 ∷ x4 ∷ x5 ∷ x6 ∷ x7 ∷ x8 ∷ x9 ∷ []) rest
   pub values : map signed_of (x0 ∷ x1 ∷ x2 ∷ x3 ∷ x4 ∷ x5 ∷ x6 ∷ x7 ∷ x8 ∷ x9 ∷ [])
       ≡ map (λ a. Some a) args
-
--- from a number the numbers of these firings rise to another
-unfoldable pub Rises : ℕ → List Firing → ℕ → Type 0
-Rises last [] end = last ≡ end
-Rises last (f ∷ fs) end = (last < f.number) × Rises f.number fs end
-
--- what is left after `count` bytes: the next one is where a row ended
-abbrev pub left_after : ℕ → List ℕ → List ℕ
-left_after count bytes = 10 ∷ drop (count + 1) bytes
-
--- the bytes begin with the rows of these firings, and their numbers rise; `count` bytes come before
--- what is left
-pub record IsPiece (bytes : List ℕ) (fs : List Firing) (count : ℕ) : Type 0 where
-  pub rows : ReadsRows bytes fs (left_after count bytes)
-  pub rises : Rises 0 fs (last_number fs)
-  pub inside : count < length bytes
-
--- two pieces that share a line feed
-pub record AreCut (bytes front last : List ℕ) : Type 0 where
-  pub feed : BeginsAtFeed front
-  pub after : List ℕ
-  pub is_last : last ≡ 10 ∷ after
-  pub is_bytes : bytes ≡ front ++ after
 
 -- a trace may have these firings after those
 pub record GoesAfter (first second : List Firing) : Type 0 where

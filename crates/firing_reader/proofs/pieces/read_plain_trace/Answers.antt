@@ -6,6 +6,5 @@ use Rattle.firing_reader.proofs.pieces.read_plain_trace.Goals as goal
 pub returns : goal.returns
 returns g c =
     let (after, rest, all) = c.in_ok-rows.ensures in
-    let none : c.in_ok-firings.firings ≡ [] = search rules in
-    let passes = rw none at (rw c.in-Some.is at c.read_shared-passed.ensures) in
-    after_header c.args.bytes.now after all ∙ rw rest at (rows_whole c.in_ok-rows.rows.now c.read_shared-passed.new.firings c.in-Some.passed passes (search rules))
+    let passes = rw c.in-Some.is at c.read_first-passed.ensures in
+    after_header c.args.bytes.now after all ∙ rw rest at (rows_whole c.in_ok-rows.rows.now c.read_first-passed.new.firings c.in-Some.passed passes (search rules))

@@ -1,8 +1,8 @@
 use Rattle.std.proofs.Common.{◌+◌, ◌*◌, length}
-use Rattle.firing_reader.proofs.pieces.+shared.Given as goal
+use Rattle.firing_reader.proofs.pieces.+reading.Given as goal
 
-abbrev pub decreases-read_shared : goal.decreases-read_shared
-decreases-read_shared g l = 4 * length l.pieces.now
+abbrev pub decreases-read_pieces : goal.decreases-read_pieces
+decreases-read_pieces g l = 4 * length l.pieces.now
 
 abbrev pub decreases-read_both : goal.decreases-read_both
 decreases-read_both g l = 4 * length l.others.now + 3

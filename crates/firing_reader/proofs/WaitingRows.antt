@@ -1,0 +1,214 @@
+-- Rows that wait: pieces of bytes that were read apart.
+use Rattle.std.proofs.Common.{◌≡◌, ◌<◌, ◌≤◌, ◌+◌, ◌-◌, ◌⊎◌, ℕ, zero, suc, List, [], ◌∷◌, ◌++◌, length, take, drop, get_or, take-append-drop}
+use Rattle.std.proofs.Common.{Result, Ok, Err, refl, sym, ap, subst, ◌∙◌, arith, append_assoc}
+use Rattle.std.proofs.Common.{length-append, inl, inr}
+use Rattle.std.specs.declared.alloc.AllocError.{AllocError}
+use Rattle.std.specs.Prelude.{OnErr, OnOk, IfErr}
+use Rattle.std.proofs.Math.Seq.{take-append_seam}
+use Rattle.std.proofs.lemmas.List.{append-nil}
+use Rattle.firing_reader.specs.declared.blocks.Stage.{Stage}
+use Rattle.firing_reader.specs.declared.blocks.Stage.TheVariants as stage
+use Rattle.firing_reader.specs.declared.firing.Firing.{Firing}
+use Rattle.firing_reader.specs.declared.pieces.Piece.{Piece}
+use Rattle.firing_reader.specs.Vocabulary.{Memory, TraceFault}
+use Rattle.firing_reader.specs.Blocks.{AreRead, BeginsAtFeed, IsKeptAt, reads_at}
+use Rattle.firing_reader.specs.Plain.{rows_in}
+use Rattle.firing_reader.specs.Pieces.{AreCut, ArePieces, BeginsWithPiece, IsKept, IsPiece, Waits}
+use Rattle.firing_reader.specs.Pieces.{left_after, unread}
+use Rattle.firing_reader.specs.Steps.Blocks.{IsFaultOf}
+use Rattle.firing_reader.specs.Steps.Pieces.{Adds, AreWaiting, Leads}
+use Rattle.firing_reader.specs.Steps.Plain.{GoesAfter, GoesOn, PassesRows}
+use Rattle.firing_reader.specs.Trace.{last_number, rows_of}
+use Rattle.firing_reader.proofs.BlockSteps.{kept_front, kept_more}
+use Rattle.firing_reader.proofs.PlainRows.{goes_both, goes_first, goes_rows}
+use Rattle.firing_reader.proofs.SharedRows.{goes_more, goes_rows_of, passes_front, passes_on}
+
+-- ---- pieces
+
+-- a piece that goes after the firings
+pub piece_after : (old : List Firing) (bytes : List ℕ) (fs new : List Firing) (count : ℕ) → IsPiece bytes fs count → GoesAfter old fs → new ≡ old ++ fs → PassesRows old bytes new count
+piece_after old bytes fs new count p goes is = record {
+  read = rw is (goes_rows_of old bytes old bytes fs (left_after count bytes) (last_number (old ++ fs)) (goes_first old bytes) p.rows goes.rises goes.few);
+  few = rw is (omega (arith, length-append old fs, goes.few));
+  inside = p.inside;
+}
+
+take_short : (n : ℕ) (xs : List ℕ) → length (take n xs) ≤ n
+take_short zero xs = omega arith
+take_short (suc n) [] = omega arith
+take_short (suc n) (x ∷ xs) = omega (arith, take_short n xs)
+
+-- the rows of the first piece, which was passed to its end, and of those after it
+pub pieces_after : (old : List Firing) (bytes : List ℕ) (p : Piece) (mid new : List Firing) (count more : ℕ) → BeginsWithPiece bytes p → PassesRows old (take (p.end + 1) bytes) mid count → p.end ≤ count
+    → PassesRows mid (drop p.end bytes) new more → PassesRows old bytes new (p.end + more)
+pieces_after old bytes p mid new count more b h past rest =
+    let short = take_short (p.end + 1) bytes in
+    let is : count ≡ p.end = omega (arith, short, h.inside, past) in
+    let whole : p.end + 1 ≡ length (take (p.end + 1) bytes) = omega (arith, short, h.inside, past) in
+    passes_on old bytes (take (p.end + 1) bytes) (drop p.end bytes) mid new p.end more b.cut (rw is at h) whole rest
+
+-- the first piece, and those after it
+pub pieces_cut : (bytes front last : List ℕ) (p : Piece) (ps : List Piece) → AreCut bytes front last → last ≡ drop (length front - 1) bytes → p.end + 1 ≡ length front → IsPiece front p.firings p.passed
+    → ArePieces ps last → ArePieces (p ∷ ps) bytes
+pieces_cut bytes front last p ps c at end piece others =
+    let place : length front - 1 ≡ p.end = omega (arith, end) in
+    let own : take (p.end + 1) bytes ≡ front = rw (end, c.is_bytes) (take-append_seam front c.after) in
+    let rest : drop p.end bytes ≡ last = sym (at ∙ ap (λ (n : ℕ). drop n bytes) place) in
+    (record { cut = rw (own, rest) c; piece = rw own piece }, rw rest others)
+
+pub pieces_feed : (ps : List Piece) (bytes : List ℕ) → ArePieces ps bytes → BeginsAtFeed bytes
+pieces_feed [] bytes h = h
+pieces_feed (p ∷ ps) bytes (b, others) =
+    let (after, is) = b.cut.feed in
+    (after ++ b.cut.after, b.cut.is_bytes ∙ ap (λ (l : List ℕ). l ++ b.cut.after) is)
+
+-- ---- what waits, and what is left
+
+pub feed_leads : (w : List ℕ) → BeginsAtFeed w → Leads w
+feed_leads w (after, is) left feed = subst (λ (x : List ℕ). BeginsAtFeed (unread x left)) (sym is) (after ++ drop 1 left, refl)
+
+pub waiting_leads : (ps : List Piece) (w : List ℕ) → AreWaiting ps w → Leads w
+waiting_leads ps [] h left feed = feed
+waiting_leads ps (b ∷ w) h left feed = feed_leads (b ∷ w) (pieces_feed ps (b ∷ w) h) left feed
+
+-- bytes that wait, and rows that were added
+pub adds_some : (r : Result (Unit {0}) TraceFault) (old : List Firing) (w : List ℕ) (new : List Firing) (rest : List ℕ) → 1 ≤ length w → OnOk r (GoesOn old w new rest) → OnOk r (BeginsAtFeed rest) → OnOk r (Adds old w new rest)
+adds_some (Err e) old w new rest some read feed = tt
+adds_some (Ok _) old [] new rest some read feed = absurd (omega (arith, some))
+adds_some (Ok _) old (b ∷ w) new rest some read feed = (read, feed)
+
+pub adds_leads : (old : List Firing) (w : List ℕ) (new : List Firing) (rest : List ℕ) → Adds old w new rest → Leads rest
+adds_leads old [] new rest (same, none) left feed = rw none feed
+adds_leads old (b ∷ w) new rest (read, begins) left feed = feed_leads rest begins left feed
+
+pub adds_read : (old : List Firing) (w : List ℕ) (new : List Firing) (rest : List ℕ) → Adds old w new rest → AreRead old → AreRead new
+adds_read old [] new rest (same, none) read = rw same read
+adds_read old (b ∷ w) new rest (goes, begins) read = goes_rows old (b ∷ w) new rest goes read
+
+unread_feed : (w left : List ℕ) → BeginsAtFeed w → unread w left ≡ w ++ drop 1 left
+unread_feed w left (after, is) = subst (λ (x : List ℕ). unread x left ≡ x ++ drop 1 left) (sym is) refl
+
+pub adds_goes : (old : List Firing) (w : List ℕ) (new : List Firing) (rest left : List ℕ) → Adds old w new rest → GoesOn old (unread w left) new (unread rest left)
+adds_goes old [] new rest left (same, none) = rw (same, none) (goes_first old left)
+adds_goes old (b ∷ w) new rest left (goes, begins) = rw (unread_feed rest left begins) (goes_more old (b ∷ w) new rest (drop 1 left) goes)
+
+last_fault : (e : TraceFault) (old : List Firing) (bytes : List ℕ) → IsFaultOf e (λ tail. rows_in old (bytes ++ tail)) → (e ≡ Memory) ⊎ (rows_in old bytes ≡ Err e)
+last_fault e old bytes (inl memory) = inl memory
+last_fault e old bytes (inr fault) = inr (sym (ap (rows_in old) (append-nil bytes)) ∙ fault [])
+
+pub none_read : AreRead []
+unfolding rows_of
+none_read = ([], refl)
+
+-- a fault of what waits, whatever is left
+pub fault_waiting : (e : TraceFault) (old : List Firing) (w left : List ℕ) → IsFaultOf e (λ tail. rows_in old (w ++ tail)) → IsFaultOf e (λ tail. rows_in old (unread w left ++ tail))
+fault_waiting e old w left (inl memory) = inl memory
+fault_waiting e old [] left (inr fault) = inr (λ tail. fault (left ++ tail))
+fault_waiting e old (b ∷ w) left (inr fault) = inr (λ tail. ap (λ (l : List ℕ). rows_in old (b ∷ l)) (append_assoc w (drop 1 left) tail) ∙ fault (drop 1 left ++ tail))
+
+-- the same, with nothing more to come
+pub fault_last : (e : TraceFault) (old : List Firing) (w left : List ℕ) → IsFaultOf e (λ tail. rows_in old (w ++ tail)) → (e ≡ Memory) ⊎ (rows_in old (unread w left) ≡ Err e)
+fault_last e old w left h = last_fault e old (unread w left) (fault_waiting e old w left h)
+
+-- rows that one thread read, after those that were added
+pub alone_after : (r : Result (Unit {0}) TraceFault) (old : List Firing) (x : List ℕ) (mid : List Firing) (y : List ℕ) (new : List Firing) (w left : List ℕ) → GoesOn old x mid y → OnOk r (GoesOn mid y new left) → OnOk r (w ≡ [])
+    → OnOk r (GoesOn old x new (unread w left))
+alone_after (Err e) old x mid y new w left g h none = tt
+alone_after (Ok _) old x mid y new w left g h none = rw none (goes_both old x mid y new left g h)
+
+-- what was left waits, and nothing else does
+pub keeps_left : (w left : List ℕ) → length w ≤ 1 → Leads w → BeginsAtFeed left → unread w left ≡ unread left (10 ∷ [])
+keeps_left [] left few leads (after, is) = is ∙ sym (ap (λ (x : List ℕ). unread x (10 ∷ [])) is ∙ ap (λ (l : List ℕ). 10 ∷ l) (append-nil after))
+keeps_left (b ∷ []) left few leads (after, is) =
+    let (rest, own) = leads left (after, is) in
+    let head : b ≡ 10 = ap (λ (l : List ℕ). get_or l 0 0) own in
+    let first : unread (b ∷ []) left ≡ 10 ∷ after = rw (head, is) refl in
+    first ∙ sym (ap (λ (x : List ℕ). unread x (10 ∷ [])) is ∙ ap (λ (l : List ℕ). 10 ∷ l) (append-nil after))
+keeps_left (b ∷ c ∷ w) left few leads feed = absurd (omega (arith, few))
+
+-- ---- what a reader keeps
+
+rows_wait : (ps : List Piece) (w left : List ℕ) → BeginsAtFeed left → AreWaiting ps w → Waits stage.Rows ps w left
+rows_wait ps [] left feed waiting = tt
+rows_wait ps (b ∷ w) left feed waiting = (feed, waiting)
+
+pub kept_rows : (fs : List Firing) (ps : List Piece) (w left : List ℕ) → BeginsAtFeed left → AreWaiting ps w → AreRead fs → IsKept stage.Rows fs ps w left
+kept_rows fs ps w left feed waiting read = record {
+  kept = (waiting_leads ps w waiting left feed, read);
+  waits = rows_wait ps w left feed waiting;
+}
+
+pub header_none : (ps : List Piece) (w left : List ℕ) → Waits stage.Header ps w left → w ≡ []
+header_none ps [] left h = refl
+header_none ps (b ∷ w) left h = absurd h
+
+pub rows_feed : (fs : List Firing) (ps : List Piece) (w left : List ℕ) → IsKept stage.Rows fs ps w left → BeginsAtFeed left
+rows_feed fs ps [] left h = h.kept.0
+rows_feed fs ps (b ∷ w) left h = h.waits.0
+
+pub rows_waiting : (ps : List Piece) (w left : List ℕ) → Waits stage.Rows ps w left → AreWaiting ps w
+rows_waiting ps [] left h = tt
+rows_waiting ps (b ∷ w) left h = h.1
+
+-- more at the end of what is left
+waits_more : (s : Stage) (ps : List Piece) (w x more : List ℕ) → Waits s ps w x → Waits s ps w (x ++ more) × (unread w (x ++ more) ≡ unread w x ++ more)
+waits_more s ps [] x more h = (tt, refl)
+waits_more stage.Header ps (b ∷ w) x more h = absurd h
+waits_more (stage.Refused e) ps (b ∷ w) x more h = absurd h
+waits_more stage.Rows ps (b ∷ w) x more ((after, is), pieces) =
+    let feed : BeginsAtFeed (x ++ more) = (after ++ more, ap (λ (l : List ℕ). l ++ more) is) in
+    let own : drop 1 (x ++ more) ≡ drop 1 x ++ more = subst (λ (l : List ℕ). drop 1 (l ++ more) ≡ drop 1 l ++ more) (sym is) refl in
+    ((feed, pieces), ap (λ (l : List ℕ). b ∷ (w ++ l)) own ∙ ap (λ (l : List ℕ). b ∷ l) (sym (append_assoc w (drop 1 x) more)))
+
+pub keeps_more : (s : Stage) (fs : List Firing) (ps : List Piece) (w x more : List ℕ) → IsKept s fs ps w x → IsKept s fs ps w (x ++ more)
+keeps_more s fs ps w x more h =
+    let (waits, is) = waits_more s ps w x more h.waits in
+    record { kept = rw is (kept_more s fs (unread w x) more h.kept); waits = waits }
+
+pub reads_more : (s : Stage) (fs : List Firing) (ps : List Piece) (w x more rest : List ℕ) → Waits s ps w x → reads_at s fs (unread w (x ++ more) ++ rest) ≡ reads_at s fs (unread w x ++ (more ++ rest))
+reads_more s fs ps w x more rest h =
+    let (waits, is) = waits_more s ps w x more h in
+    ap (λ (l : List ℕ). reads_at s fs (l ++ rest)) is ∙ ap (reads_at s fs) (append_assoc (unread w x) more rest)
+
+-- a front of what is left
+front_feed : (x : List ℕ) (at : ℕ) → (0 < length x → 0 < at) → BeginsAtFeed x → BeginsAtFeed (take at x)
+front_feed x zero some (after, is) = absurd (omega (arith, some (omega (arith, ap length is))))
+front_feed x (suc at) some (after, is) = (take at after, ap (take (suc at)) is)
+
+front_waits : (s : Stage) (ps : List Piece) (w x : List ℕ) (at : ℕ) → (0 < length x → 0 < at) → Waits s ps w x → Waits s ps w (take at x)
+front_waits s ps [] x at some h = tt
+front_waits stage.Header ps (b ∷ w) x at some h = absurd h
+front_waits (stage.Refused e) ps (b ∷ w) x at some h = absurd h
+front_waits stage.Rows ps (b ∷ w) x at some ((after, is), pieces) = (front_feed x at some (after, is), pieces)
+
+front_kept : (s : Stage) (fs : List Firing) (ps : List Piece) (w x : List ℕ) (at : ℕ) → (0 < length x → 0 < at) → IsKept s fs ps w x → IsKeptAt s fs (unread w (take at x))
+front_kept s fs ps [] x at some h = kept_front s fs x at some h.kept
+front_kept stage.Header fs ps (b ∷ w) x at some h = absurd h.waits
+front_kept (stage.Refused e) fs ps (b ∷ w) x at some h = absurd h.waits
+front_kept stage.Rows fs ps (b ∷ w) x at some h = (feed_leads (b ∷ w) (pieces_feed ps (b ∷ w) h.waits.1) (take at x) (front_feed x at some h.waits.0), h.kept.1)
+
+pub keeps_front : (s : Stage) (fs : List Firing) (ps : List Piece) (w x : List ℕ) (at : ℕ) → (0 < length x → 0 < at) → IsKept s fs ps w x → IsKept s fs ps w (take at x)
+keeps_front s fs ps w x at some h = record {
+  kept = front_kept s fs ps w x at some h;
+  waits = front_waits s ps w x at some h.waits;
+}
+
+pub row_left : (s : Stage) (fs : List Firing) (ps : List Piece) (w x : List ℕ) (at : ℕ) (rest : List ℕ) → (0 < length x → 0 < at) → Waits s ps w x → reads_at s fs (unread w (take at x) ++ (drop at x ++ rest)) ≡ reads_at s fs (unread w x ++ rest)
+row_left s fs ps w x at rest some h =
+    sym (reads_more s fs ps w (take at x) (drop at x) rest (front_waits s ps w x at some h)) ∙ ap (λ (l : List ℕ). reads_at s fs (unread w l ++ rest)) (take-append-drop at x)
+
+-- ---- a block that was added to what is left
+
+pub added_kept : (r : Result (Unit {0}) AllocError) (s : Stage) (fs : List Firing) (ps : List Piece) (w x block y : List ℕ) → BeginsAtFeed block
+    → OnOk r ((bytes : List ℕ) → block ≡ 10 ∷ bytes → y ≡ x ++ bytes) → OnErr r (y ≡ x) → IsKept s fs ps w x → IsKept s fs ps w y
+added_kept (Ok _) s fs ps w x block y (bytes, is) added refused h = subst (IsKept s fs ps w) (sym (added bytes is)) (keeps_more s fs ps w x bytes h)
+added_kept (Err e) s fs ps w x block y feed added refused h = subst (IsKept s fs ps w) (sym refused) h
+
+pub added_reads : (r : Result (Unit {0}) AllocError) (s : Stage) (fs : List Firing) (ps : List Piece) (w x block y : List ℕ) → Waits s ps w x → OnOk r ((bytes : List ℕ) → block ≡ 10 ∷ bytes → y ≡ x ++ bytes)
+    → OnOk r ((bytes rest : List ℕ) → block ≡ 10 ∷ bytes → reads_at s fs (unread w y ++ rest) ≡ reads_at s fs (unread w x ++ (bytes ++ rest)))
+added_reads (Ok _) s fs ps w x block y h added = λ bytes rest is. ap (λ (l : List ℕ). reads_at s fs (unread w l ++ rest)) (added bytes is) ∙ reads_more s fs ps w x bytes rest h
+added_reads (Err e) s fs ps w x block y h added = tt
+
+pub same_unread : (r : Result (Unit {0}) AllocError) (w x y : List ℕ) → OnErr r (y ≡ x) → OnErr r (unread w y ≡ unread w x)
+same_unread (Ok _) w x y refused = tt
+same_unread (Err e) w x y refused = ap (unread w) refused

@@ -1,0 +1,60 @@
+-- Pieces of bytes, one after another, that were read apart, and what of a trace waits in them.
+use Rattle.std.specs.Prelude.{◌≡◌, ◌<◌, ℕ, List, [], ◌∷◌, ◌++◌, ◌+◌, drop, length, take}
+use Rattle.firing_reader.specs.declared.blocks.Stage.{Stage}
+use Rattle.firing_reader.specs.declared.blocks.Stage.TheVariants.{Header, Rows, Refused}
+use Rattle.firing_reader.specs.declared.pieces.Piece.{Piece}
+use Rattle.firing_reader.specs.Vocabulary.{Firing}
+use Rattle.firing_reader.specs.Plain.{ReadsRows}
+use Rattle.firing_reader.specs.Trace.{last_number}
+use Rattle.firing_reader.specs.Blocks.{BeginsAtFeed, IsKeptAt}
+
+-- from a number the numbers of these firings rise to another
+unfoldable pub Rises : ℕ → List Firing → ℕ → Type 0
+Rises last [] end = last ≡ end
+Rises last (f ∷ fs) end = (last < f.number) × Rises f.number fs end
+
+-- what is left after `count` bytes: the next one is where a row ended
+abbrev pub left_after : ℕ → List ℕ → List ℕ
+left_after count bytes = 10 ∷ drop (count + 1) bytes
+
+-- the bytes begin with the rows of these firings, and their numbers rise; `count` bytes come before
+-- what is left
+pub record IsPiece (bytes : List ℕ) (fs : List Firing) (count : ℕ) : Type 0 where
+  pub rows : ReadsRows bytes fs (left_after count bytes)
+  pub rises : Rises 0 fs (last_number fs)
+  pub inside : count < length bytes
+
+-- two pieces that share a line feed
+pub record AreCut (bytes front last : List ℕ) : Type 0 where
+  pub feed : BeginsAtFeed front
+  pub after : List ℕ
+  pub is_last : last ≡ 10 ∷ after
+  pub is_bytes : bytes ≡ front ++ after
+
+-- the bytes begin with those of this piece, and it has their rows
+pub record BeginsWithPiece (bytes : List ℕ) (p : Piece) : Type 0 where
+  pub cut : AreCut bytes (take (p.end + 1) bytes) (drop p.end bytes)
+  pub piece : IsPiece (take (p.end + 1) bytes) p.firings p.passed
+
+-- the bytes are those of the pieces, one after another, and what comes after them
+abbrev pub ArePieces : List Piece → List ℕ → Type 0
+ArePieces [] bytes = BeginsAtFeed bytes
+ArePieces (p ∷ ps) bytes = BeginsWithPiece bytes p × ArePieces ps (drop p.end bytes)
+
+-- what isn't among the firings: bytes that wait, and those that are left, which share a line feed
+abbrev pub unread : List ℕ → List ℕ → List ℕ
+unread [] left = left
+unread (b ∷ bytes) left = b ∷ (bytes ++ drop 1 left)
+
+-- only rows wait, and there is a line feed before what is left
+abbrev pub Waits : Stage → List Piece → List ℕ → List ℕ → Type 0
+Waits stage pieces [] left = Unit {0}
+Waits Header pieces (b ∷ bytes) left = ⊥
+Waits Rows pieces (b ∷ bytes) left = BeginsAtFeed left × ArePieces pieces (b ∷ bytes)
+Waits (Refused e) pieces (b ∷ bytes) left = ⊥
+
+-- what a reader keeps at each stage, with the rows that wait
+pub record IsKept (stage : Stage) (firings : List Firing) (pieces : List Piece)
+    (waiting left : List ℕ) : Type 0 where
+  pub kept : IsKeptAt stage firings (unread waiting left)
+  pub waits : Waits stage pieces waiting left
