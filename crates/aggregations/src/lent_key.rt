@@ -1,10 +1,9 @@
 //! Keys of values that are lent.
 
-ghost use Rattle.std.specs.Prelude.{◌≡◌, ◌↔◌, ◌<◌, length, slice_set, IfOk, OnOk, IsTrue};
+ghost use Rattle.std.specs.Prelude.{◌≡◌, ◌<◌, length, slice_set, IfOk, OnOk, IsTrue};
 ghost use Rattle.aggregations.specs.Lent.{key_of, part_of_lent};
 
 use d_values::{Key, KeyPart, ValueRef};
-use keyed_hash::is_same;
 use std::alloc::{AllocError, Global};
 use std::hash::{FoldHasher, Hasher};
 
@@ -17,27 +16,11 @@ pub(crate) fn is_key_of(key: &Key, values: &[ValueRef<'_>]) -> bool
         return false;
     }
     for place in 0..parts.len() {
-        if !is_part_of(&parts[place], values[place]) {
+        if !parts[place].is_of(values[place]) {
             return false;
         }
     }
     true
-}
-
-// Whether the value makes the part.
-fn is_part_of(part: &KeyPart, value: ValueRef<'_>) -> bool
-    ensures { IsTrue result ↔ (part.now ≡ part_of_lent value.entry) }
-{
-    match value {
-        ValueRef::Int(word) => match part {
-            KeyPart::Number(number) => *number == word.cast_signed(),
-            KeyPart::Name(_) => false,
-        },
-        ValueRef::Text(bytes) => match part {
-            KeyPart::Number(_) => false,
-            KeyPart::Name(text) => is_same(text.as_bytes(), bytes),
-        },
-    }
 }
 
 /// The key that these values make, in the room of another where both have as many parts.

@@ -1,7 +1,7 @@
 -- What is set, before and after.
 use Rattle.std.specs.Prelude.{◌≡◌, ℕ, zero, suc, Bool, true, false, ◌&&◌, if◌then◌else◌, List, []}
 use Rattle.std.specs.Prelude.{◌∷◌, Option, None, Some, unwrap_or, option_map, slice_get, Result, Ok}
-use Rattle.std.specs.Prelude.{Err, OnOk, OnErr}
+use Rattle.std.specs.Prelude.{Err, OnOk, OnErr, IfSome, MatchOption}
 use Rattle.std.proofs.Common.{refl, sym, ap, ◌∙◌, subst, true≢false}
 use Rattle.std.specs.Map.{lookup, lookup_key, values_of}
 use Rattle.indexmap.specs.Layout.{set_value_at}
@@ -207,3 +207,17 @@ on_err (Err e) p f = f p
 pub on_either : {X E P Q R : Type 0} (r : Result X E) → OnOk r P → OnErr r Q → (P → R) → (Q → R) → R
 on_either (Ok v) p q f g = f p
 on_either (Err e) p q f g = g q
+
+-- ---- by whether there was a value
+
+pub on_some : {X : Type 0} (P Q : X → Type 0) (r : Option X) → IfSome r P → ((x : X) → P x → Q x) → IfSome r Q
+on_some P Q None p f = p
+on_some P Q (Some x) p f = f x p
+
+pub on_match : {X P Q : Type 0} (R S : X → Type 0) (r : Option X) → MatchOption r P R → (P → Q) → ((x : X) → R x → S x) → MatchOption r Q S
+on_match R S None p f g = f p
+on_match R S (Some x) p f g = g x p
+
+pub by_match : {X P Q : Type 0} (R : X → Type 0) (r : Option X) → MatchOption r P R → (P → Q) → ((x : X) → R x → Q) → Q
+by_match R None p f g = f p
+by_match R (Some x) p f g = g x p

@@ -1,12 +1,13 @@
 //! The elements of an array.
 
 ghost use Rattle.std.specs.Prelude.{◌≡◌, MatchOption, None, Some, true, unwrap_or, IfOk};
-ghost use Rattle.std.specs.Prelude.{OnErr, OnOk};
+ghost use Rattle.std.specs.Prelude.{IfSome, OnErr, OnOk};
 ghost use Rattle.indexmap.specs.IndexMap.{get, Updates};
 ghost use Rattle.d_values.specs.{Keys.same_key, Steps.Places.IsKeyAt};
 ghost use Rattle.d_values.specs.Stores.{blank, value_to_keep, lent_value};
 
 use crate::key::{Key, copy_in_room};
+use crate::key_parts::KeyParts;
 use crate::value::{Kind, Value, ValueRef};
 use indexmap::IndexMap;
 use keyed_hash::HashKey;
@@ -47,13 +48,85 @@ fn index_of(elements: &Elements, first: usize, key: &Key) -> Option<usize>
     Some(index)
 }
 
-// Whether the key is at the index.
-fn is_at(elements: &Elements, index: usize, key: &Key) -> bool
-    ensures { result ≡ true → IsKeyAt elements.now.entries index key.now }
+// Whether the key of these parts is at the index.
+fn is_at<K: KeyParts>(elements: &Elements, index: usize, key: &K) -> bool
+    ensures { result ≡ true → IsKeyAt elements.now.entries index (K.parts key.now) }
 {
     match elements.get_index(index) {
-        Some((there, _)) => there == key,
+        Some((there, _)) => key.are_of(there),
         None => false,
+    }
+}
+
+/// The value at the index, if the key there has these parts.
+pub(crate) fn lend_at<'a, K: KeyParts>(
+    elements: &'a Elements,
+    index: usize,
+    key: &K,
+) -> Option<ValueRef<'a>>
+    ensures { IfSome result
+        (λ value. get same_key elements.now (K.parts key.now) ≡ Some (lent_value value)) }
+{
+    if !is_at(elements, index, key) {
+        return None;
+    }
+    let (_, value) = elements.get_index(index)?;
+    Some(value.as_ref())
+}
+
+/// Sets the value at the index, if the key there has these parts. Otherwise it gives the value
+/// back.
+pub(crate) fn replace_at<K: KeyParts>(
+    elements: &mut Elements,
+    index: usize,
+    rooms: &mut Vec<Key>,
+    key: &K,
+    value: Value,
+) -> Option<Value>
+    ensures { MatchOption result
+        (Updates same_key elements.old elements.new (K.parts key.now) (value_to_keep value))
+        (λ back. (back ≡ value) × (elements.new.entries ≡ elements.old.entries)) }
+{
+    if !is_at(elements, index, key) {
+        return Some(value);
+    }
+    if !value.is_blank() {
+        return put_at(elements, index, key, value);
+    }
+    unset_at(elements, index, rooms, key);
+    None
+}
+
+// Removes the key of these parts, which is at the index, and keeps its room.
+#[inline(always)]
+fn unset_at<K: KeyParts>(elements: &mut Elements, index: usize, rooms: &mut Vec<Key>, key: &K)
+    requires { IsKeyAt elements.old.entries index (K.parts key.now) }
+    ensures { Updates same_key elements.old elements.new (K.parts key.now) None }
+{
+    if let Some((removed, _)) = elements.swap_remove_index(index) {
+        keep_room(rooms, removed);
+    }
+}
+
+// Sets the value at the index, where the key of these parts is.
+#[inline(always)]
+fn put_at<K: KeyParts>(
+    elements: &mut Elements,
+    index: usize,
+    key: &K,
+    value: Value,
+) -> Option<Value>
+    requires { IsKeyAt elements.old.entries index (K.parts key.now) }
+    ensures { MatchOption result
+        (Updates same_key elements.old elements.new (K.parts key.now) (Some value))
+        (λ back. (back ≡ value) × (elements.new.entries ≡ elements.old.entries)) }
+{
+    match elements.get_index_mut(index) {
+        Some(place) => {
+            *place = value;
+            None
+        }
+        None => Some(value),
     }
 }
 

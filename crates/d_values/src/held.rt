@@ -3,8 +3,9 @@
 ghost use Rattle.std.specs.Prelude.{◌≡◌, [], false, is_some};
 ghost use Rattle.d_values.specs.{Vocabulary.lookup, Keys.same_key};
 
-use crate::elements::{Elements, lend, replace};
+use crate::elements::{Elements, lend, lend_at, replace, replace_at};
 use crate::key::Key;
+use crate::key_parts::KeyParts;
 use crate::value::{Kind, Value, ValueRef};
 use indexmap::IndexMap;
 use keyed_hash::HashKey;
@@ -15,13 +16,13 @@ use std::alloc::{AllocError, Global};
 pub struct Held {
     scalar: Option<Value>,
     elements: Elements,
-    // Where the element is that was set last.
+    // Where the element is that was set or looked for last.
     last: usize,
     ghost keyed: { is_some (lookup (same_key []) elements.entries) ≡ false },
 }
 
 impl Held {
-    ghost use Rattle.std.specs.Prelude.{List, MatchOption, None, OnErr, OnOk, Some};
+    ghost use Rattle.std.specs.Prelude.{IfSome, List, MatchOption, None, OnErr, OnOk, Some};
     ghost use Rattle.std.specs.Prelude.{if◌then◌else◌, unwrap_or};
     ghost use Rattle.d_values.specs.{Vocabulary.KeyPart, Stores.blank, Stores.lent_value};
     ghost use Rattle.d_values.specs.{Stores.value_to_keep, Tables.elements_of, Tables.with_scalar};
@@ -74,6 +75,45 @@ impl Held {
             Some(value) => value.as_ref(),
             None => ValueRef::blank(kind),
         }
+    }
+
+    /// Notes where the key is, if it has a value.
+    pub(crate) fn note(&mut self, key: &Key)
+        ensures { elements_of self.new ≡ elements_of self.old }
+    {
+        if let Some((index, _, _)) = self.elements.get_full(key) {
+            self.last = index;
+        }
+    }
+
+    /// The value at the key of these parts, if it is the element that was set or noted last.
+    pub(crate) fn last<K: KeyParts>(&self, key: &K) -> Option<ValueRef<'_>>
+        ensures { IfSome result (λ value.
+            lookup (same_key (K.parts key.now)) (elements_of self.now) ≡ Some (lent_value value)) }
+    {
+        if key.is_empty() {
+            return None;
+        }
+        lend_at(&self.elements, self.last, key)
+    }
+
+    /// Sets that value. It gives the new value back if the element is another one.
+    pub(crate) fn set_last<K: KeyParts>(
+        &mut self,
+        rooms: &mut Vec<Key>,
+        key: &K,
+        value: Value,
+    ) -> Option<Value>
+        ensures { MatchOption result ((k : List KeyPart)
+            → lookup (same_key k) (elements_of self.new)
+            ≡ (if same_key (K.parts key.now) k then value_to_keep value
+            else lookup (same_key k) (elements_of self.old)))
+            (λ back. (back ≡ value) × (elements_of self.new ≡ elements_of self.old)) }
+    {
+        if key.is_empty() {
+            return Some(value);
+        }
+        replace_at(&mut self.elements, self.last, rooms, key, value)
     }
 
     /// Sets the key's value.

@@ -4,13 +4,16 @@ ghost use Rattle.std.specs.Prelude.{◌≡◌, ◌↔◌, ◌<◌, ◌++◌, ◌
 ghost use Rattle.std.specs.Prelude.{IsTrue, slice_set, vec_len, refl};
 ghost use Rattle.d_values.specs.Vocabulary.{ap, partial_equiv_from_equiv, po, flat_map};
 ghost use Rattle.d_values.specs.Vocabulary.{as_partial_cmp};
-ghost use Rattle.d_values.specs.Keys.{part_cmp, key_cmp, same_part, same_key, part_writes};
-ghost use Rattle.d_values.specs.Keys.{DecidesByFirstDifference};
+ghost use Rattle.d_values.specs.Keys.{part_cmp, part_of, key_cmp, same_part, same_key};
+ghost use Rattle.d_values.specs.Keys.{DecidesByFirstDifference, part_writes};
+ghost use Rattle.d_values.specs.Stores.{lent_value};
 ghost use Rattle.d_values.specs.KeyLaws.{same_part_decides, same_part_equiv, part_cmp_total};
 ghost use Rattle.d_values.specs.KeyLaws.{part_cmp_ties, same_key_decides, same_key_equiv};
 ghost use Rattle.d_values.specs.KeyLaws.{key_cmp_total, key_cmp_ties};
 
 use crate::text::Text;
+use crate::value::ValueRef;
+use keyed_hash::is_same;
 use std::alloc::{AllocError, Global};
 use std::cmp::Ordering;
 use std::hash::{Hash, Hasher};
@@ -26,6 +29,26 @@ pub enum KeyPart {
 }
 
 impl KeyPart {
+    /// Whether this is the part that a value makes.
+    ///
+    /// ```text
+    /// KeyPart::Number(7).is_of(ValueRef::Int(7)); // true
+    /// ```
+    pub fn is_of(&self, value: ValueRef<'_>) -> bool
+        ensures { IsTrue result ↔ (self.now ≡ part_of (lent_value value.entry)) }
+    {
+        match value {
+            ValueRef::Int(word) => match self {
+                KeyPart::Number(number) => *number == word.cast_signed(),
+                KeyPart::Name(_) => false,
+            },
+            ValueRef::Text(bytes) => match self {
+                KeyPart::Number(_) => false,
+                KeyPart::Name(text) => is_same(text.as_bytes(), bytes),
+            },
+        }
+    }
+
     // Becomes this text, reusing the room of its old text.
     fn set_name(&mut self, alloc: Global, bytes: &[u8]) -> Result<(), AllocError>
         ensures ok { OnOk result (self.new ≡ KeyPart.Name bytes.now) }

@@ -12,7 +12,7 @@ ghost use Rattle.dif_machine.specs.Steps.Held.{register_content};
 use crate::comparing::Comparison;
 use crate::context::Context;
 use crate::held::{Cell, Held};
-use crate::keys::LastKey;
+use crate::keys::{LastKey, TupleParts};
 use crate::sources::owned_value;
 use crate::tuple::{Tuple, eight_cells};
 use d_values::{Text, Value, ValueRef};
@@ -225,6 +225,17 @@ impl Frame {
     {
         self.tuple.clear();
         self.pc += 1;
+    }
+
+    /// The tuple, as the parts of a key.
+    pub(crate) fn tuple_parts<'a>(&'a self, context: Context<'a>) -> TupleParts<'a>
+        ensures tuple { result.cells.now ≡ self.now.tuple }
+        ensures context { result.context ≡ context.entry }
+    {
+        TupleParts {
+            cells: self.tuple.cells(),
+            context,
+        }
     }
 
     /// Writes the tuple as a key.

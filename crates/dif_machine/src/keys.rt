@@ -1,32 +1,33 @@
 //! Keys of elements, each written over an earlier one.
 
 ghost use Rattle.std.specs.Prelude.{◌≡◌, ◌≤◌, ◌<◌, length, pos, replicate, slice_set, IfOk, OnOk};
+ghost use Rattle.std.specs.Prelude.{IsTrue};
 ghost use Rattle.dif_machine.specs.Held.{content, part_of_cell, parts_of};
 ghost use Rattle.dif_machine.specs.Vocabulary.{Number, object_of};
 
 use crate::context::Context;
-use crate::held::Cell;
-use d_values::{Key, KeyPart, ValueRef};
+use crate::held::{Cell, Held};
+use d_values::{Key, KeyPart, KeyParts, ValueRef};
 use std::alloc::{AllocError, Global};
 use std::marker::Model;
 
-/// The key that was written last, and the room of others, each at the number of its parts.
-/// Contracts see the key that was written last.
+/// The key that was written last, and the room of others: each at the number of its parts, and those
+/// that begin with a text after the others. Contracts see the key that was written last.
 #[derive(Drop)]
 pub struct LastKey {
-    keys: [Key; 9],
-    parts: usize,
+    keys: [Key; 18],
+    place: usize,
 }
 
 impl Model for LastKey {
-    ghost use Rattle.std.specs.Prelude.{◌≤◌, [], List, slice_index_or};
+    ghost use Rattle.std.specs.Prelude.{◌<◌, [], List, slice_index_or};
     ghost use Rattle.d_values.specs.declared.key.KeyPart.{KeyPart};
 
     ghost Value = { List KeyPart };
 
-    ghost view = { λ k. slice_index_or k.keys k.parts [] };
+    ghost view = { λ k. slice_index_or k.keys k.place [] };
 
-    ghost invariant = { λ k. k.parts ≤ 8 };
+    ghost invariant = { λ k. k.place < 18 };
 }
 
 impl LastKey {
@@ -43,8 +44,17 @@ impl LastKey {
                 Key::new(alloc),
                 Key::new(alloc),
                 Key::new(alloc),
+                Key::new(alloc),
+                Key::new(alloc),
+                Key::new(alloc),
+                Key::new(alloc),
+                Key::new(alloc),
+                Key::new(alloc),
+                Key::new(alloc),
+                Key::new(alloc),
+                Key::new(alloc),
             ],
-            parts: 0,
+            place: 0,
         }
     }
 
@@ -52,7 +62,7 @@ impl LastKey {
     pub(crate) fn key(&self) -> &Key
         ensures { result.now ≡ self.now }
     {
-        &self.keys[self.parts]
+        &self.keys[self.place]
     }
 
     /// Writes the key of what these cells hold.
@@ -67,10 +77,61 @@ impl LastKey {
             (self.new
             ≡ parts_of (object_of context.entry.difo.now) context.entry.firing.now cells.now) }
     {
-        self.parts = cells.len();
-        resize(alloc, &mut self.keys[self.parts], cells.len())?;
-        write_over(&mut self.keys[self.parts], cells, context)?;
+        self.place = room_for(cells);
+        resize(alloc, &mut self.keys[self.place], cells.len())?;
+        write_over(&mut self.keys[self.place], cells, context)?;
         Ok(())
+    }
+}
+
+/// What the cells of a tuple hold, as the parts of a key that isn't written.
+#[derive(Clone, Copy)]
+pub(crate) struct TupleParts<'a> {
+    pub(crate) cells: &'a [Cell],
+    pub(crate) context: Context<'a>,
+}
+
+impl<'a> KeyParts for TupleParts<'a> {
+    ghost parts = { λ t.
+        parts_of (object_of t.context.difo.now) t.context.firing.now t.cells.now };
+
+    fn is_empty(&self) -> bool {
+        self.cells.is_empty()
+    }
+
+    fn are_of(&self, key: &Key) -> bool {
+        are_held(key.parts(), self.cells, self.context)
+    }
+}
+
+// Whether cells hold these parts.
+fn are_held(parts: &[KeyPart], cells: &[Cell], context: Context<'_>) -> bool
+    ensures { IsTrue result → parts.now
+        ≡ parts_of (object_of context.entry.difo.now) context.entry.firing.now cells.now }
+{
+    if parts.len() != cells.len() {
+        return false;
+    }
+    for place in 0..parts.len() {
+        if !parts[place].is_of(cells[place].lend(context)) {
+            return false;
+        }
+    }
+    true
+}
+
+// Where the room is for a key of what these cells hold: an integer in the place of a text would free
+// the text's room.
+fn room_for(cells: &[Cell]) -> usize
+    requires { length cells.now ≤ 8 }
+    ensures { result < 18 }
+{
+    match cells.first() {
+        Some(cell) => match cell.held {
+            Held::Unset | Held::Int(_) => cells.len(),
+            Held::Constant(_) | Held::BuiltIn(_) | Held::Own => 9 + cells.len(),
+        },
+        None => 0,
     }
 }
 

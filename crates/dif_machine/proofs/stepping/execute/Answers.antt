@@ -117,7 +117,7 @@ pub ldtaa-requires : goal.ldtaa-requires
 ldtaa-requires c = can c.args.context.difo.now c.args.context.firing.now c.args.frame.now _ _ (variables c.args.locals.now c.args.own.now) c.in-Ldtaa.is c.requires
 
 pub returns-in-Ldtaa : goal.returns-in-Ldtaa
-returns-in-Ldtaa c = does c.args.context.difo.now c.args.context.firing.now c.args.frame.now _ _ c.in-Ldtaa.is c.ldtaa.result c.ldtaa.new.frame (variables c.args.locals.now c.args.own.now) (variables c.args.locals.now c.args.own.now) (c.ldtaa.ensures (local_of c.args.locals.now))
+returns-in-Ldtaa c = does c.args.context.difo.now c.args.context.firing.now c.args.frame.now _ _ c.in-Ldtaa.is c.ldtaa.result c.ldtaa.new.frame (variables c.args.locals.now c.args.own.now) (variables c.args.locals.now c.ldtaa.new.own) (c.ldtaa.ensures (local_of c.args.locals.now))
 
 pub sttaa-requires : goal.sttaa-requires
 sttaa-requires c = can c.args.context.difo.now c.args.context.firing.now c.args.frame.now _ _ (variables c.args.locals.now c.args.own.now) c.in-Sttaa.is c.requires

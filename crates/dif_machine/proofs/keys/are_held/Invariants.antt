@@ -1,0 +1,8 @@
+use Rattle.std.proofs.Common.{◌≡◌, take}
+use Rattle.dif_machine.specs.Held.{parts_of}
+use Rattle.dif_machine.specs.Vocabulary.{object_of}
+use Rattle.dif_machine.proofs.keys.are_held.Given as goal
+
+abbrev pub invariant-loop-place : goal.invariant-loop-place
+invariant-loop-place l =
+    take l.place l.parts ≡ parts_of (object_of l.context.difo.now) l.context.firing.now (take l.place l.cells)
