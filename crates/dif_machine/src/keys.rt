@@ -11,8 +11,8 @@ use d_values::{Key, KeyPart, KeyParts, ValueRef};
 use std::alloc::{AllocError, Global};
 use std::marker::Model;
 
-/// The key that was written last, and the room of others: each at the number of its parts, and those
-/// that begin with a text after the others. Contracts see the key that was written last.
+/// The key that was written last, and the room of others: each at the number of its parts, and
+/// those that begin with a text after the others. Contracts see the key that was written last.
 #[derive(Drop)]
 pub struct LastKey {
     keys: [Key; 18],
@@ -120,8 +120,8 @@ fn are_held(parts: &[KeyPart], cells: &[Cell], context: Context<'_>) -> bool
     true
 }
 
-// Where the room is for a key of what these cells hold: an integer in the place of a text would free
-// the text's room.
+// Where the room is for a key of what these cells hold: an integer in the place of a text would
+// free the text's room.
 fn room_for(cells: &[Cell]) -> usize
     requires { length cells.now ≤ 8 }
     ensures { result < 18 }

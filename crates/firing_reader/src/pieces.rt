@@ -260,8 +260,8 @@ fn read_both<R: Threads>(
     added
 }
 
-// Reads rows in pieces where there are no firings yet, and adds them. It returns how many bytes come
-// before what is left.
+// Reads rows in pieces where there are no firings yet, and adds them. It returns how many bytes
+// come before what is left.
 fn read_first<R: Threads>(
     context: &Context<R>,
     pieces: &mut [Piece],
