@@ -210,6 +210,9 @@ on_either (Err e) p q f g = g q
 
 -- ---- by whether there was a value
 
+pub some_is : {X : Type 0} (x y : X) → Some x ≡ Some y → x ≡ y
+some_is x y e = cc
+
 pub on_some : {X : Type 0} (P Q : X → Type 0) (r : Option X) → IfSome r P → ((x : X) → P x → Q x) → IfSome r Q
 on_some P Q None p f = p
 on_some P Q (Some x) p f = f x p

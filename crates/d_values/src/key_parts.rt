@@ -16,9 +16,9 @@ pub trait KeyParts {
     fn is_empty(&self) -> bool
         ensures { IsTrue result ↔ (parts self.now ≡ []) };
 
-    /// Whether the key has these parts, as far as it is known.
+    /// Whether the key has these parts.
     fn are_of(&self, key: &Key) -> bool
-        ensures { IsTrue result → key.now ≡ parts self.now };
+        ensures { IsTrue result ↔ (key.now ≡ parts self.now) };
 }
 
 impl KeyParts for Key {

@@ -1,7 +1,7 @@
 //! Keys of elements, each written over an earlier one.
 
 ghost use Rattle.std.specs.Prelude.{◌≡◌, ◌≤◌, ◌<◌, length, pos, replicate, slice_set, IfOk, OnOk};
-ghost use Rattle.std.specs.Prelude.{IsTrue};
+ghost use Rattle.std.specs.Prelude.{◌↔◌, IsTrue};
 ghost use Rattle.dif_machine.specs.Held.{content, part_of_cell, parts_of};
 ghost use Rattle.dif_machine.specs.Vocabulary.{Number, object_of};
 
@@ -106,8 +106,8 @@ impl<'a> KeyParts for TupleParts<'a> {
 
 // Whether cells hold these parts.
 fn are_held(parts: &[KeyPart], cells: &[Cell], context: Context<'_>) -> bool
-    ensures { IsTrue result → parts.now
-        ≡ parts_of (object_of context.entry.difo.now) context.entry.firing.now cells.now }
+    ensures { IsTrue result ↔ (parts.now
+        ≡ parts_of (object_of context.entry.difo.now) context.entry.firing.now cells.now) }
 {
     if parts.len() != cells.len() {
         return false;

@@ -9,7 +9,7 @@ pub returns-in-Some : goal.returns-in-Some
 returns-in-Some g c = λ is.
     let entries = c.args.elements.now.entries in
     let held = c.in-Some.field-0-1.now in
-    let same = c.are_of.ensures (search rules) in
+    let same = c.are_of.ensures.0 (search rules) in
     record {
       held = held;
       entry = sym c.in-Some.ensures.entry ∙ ap (λ k. Some (k, held)) same;

@@ -2,11 +2,8 @@ use Rattle.std.specs.Prelude.{◌≡◌, Some}
 use Rattle.std.proofs.Common.{ap, ◌∙◌}
 use Rattle.d_values.specs.Tables.{elements_of}
 use Rattle.d_values.specs.declared.held.Held.{Held}
-use Rattle.d_values.proofs.Storing.{pairs_of-set_value_at, value_found}
+use Rattle.d_values.proofs.Storing.{pairs_of-set_value_at, some_is, value_found}
 use Rattle.d_values.proofs.thread_table.note.Goals as goal
-
-some_is : (x y : Held) → Some x ≡ Some y → x ≡ y
-some_is x y e = cc
 
 pub returns-in-Some-get_index_mut : goal.returns-in-Some-get_index_mut
 returns-in-Some-get_index_mut c =

@@ -6,12 +6,9 @@ use Rattle.d_values.specs.Stores.{value_to_keep}
 use Rattle.d_values.specs.Tables.{elements_of}
 use Rattle.d_values.specs.Variables.{same_var_equiv}
 use Rattle.d_values.specs.declared.held.Held.{Held}
-use Rattle.d_values.proofs.Storing.{holds_by, on_err, on_ok, pairs_of-set_value_at, sets_by}
+use Rattle.d_values.proofs.Storing.{holds_by, on_err, on_ok, pairs_of-set_value_at, sets_by, some_is}
 use Rattle.d_values.proofs.Storing.{value_found}
 use Rattle.d_values.proofs.thread_table.put.Goals as goal
-
-some_is : (x y : Held) → Some x ≡ Some y → x ≡ y
-some_is x y e = cc
 
 pub returns-in-Some-get_index_mut-clause-ok : goal.returns-in-Some-get_index_mut-clause-ok
 returns-in-Some-get_index_mut-clause-ok c =

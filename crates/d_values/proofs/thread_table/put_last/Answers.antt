@@ -6,11 +6,8 @@ use Rattle.d_values.specs.Stores.{value_to_keep}
 use Rattle.d_values.specs.Tables.{elements_of}
 use Rattle.d_values.specs.Variables.{same_var_equiv}
 use Rattle.d_values.specs.declared.held.Held.{Held}
-use Rattle.d_values.proofs.Storing.{holds_by, on_match, pairs_of-set_value_at, sets_by, value_found}
+use Rattle.d_values.proofs.Storing.{holds_by, on_match, pairs_of-set_value_at, sets_by, some_is, value_found}
 use Rattle.d_values.proofs.thread_table.put_last.Goals as goal
-
-some_is : (x y : Held) → Some x ≡ Some y → x ≡ y
-some_is x y e = cc
 
 pub returns-in-Some-get_index_mut : goal.returns-in-Some-get_index_mut
 returns-in-Some-get_index_mut g c =
