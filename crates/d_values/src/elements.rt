@@ -38,11 +38,20 @@ fn index_of(elements: &Elements, first: usize, key: &Key) -> Option<usize>
     ensures { MatchOption result (get same_key elements.now key.now ≡ None)
         (λ i. IsKeyAt elements.now.entries i key.now) }
 {
-    if elements.is_empty() {
-        return None;
-    }
     if is_at(elements, first, key) {
         return Some(first);
+    }
+    index_by_hash(elements, key)
+}
+
+// Where the key is, by its hash.
+#[inline(always)]
+fn index_by_hash(elements: &Elements, key: &Key) -> Option<usize>
+    ensures { MatchOption result (get same_key elements.now key.now ≡ None)
+        (λ i. IsKeyAt elements.now.entries i key.now) }
+{
+    if elements.is_empty() {
+        return None;
     }
     let (index, _, _) = elements.get_full(key)?;
     Some(index)
@@ -144,19 +153,22 @@ pub(crate) fn replace(
         (Updates same_key elements.old elements.new key.now (value_to_keep value)) }
     ensures err { OnErr result (elements.new.entries ≡ elements.old.entries) }
 {
+    let Some(value) = replace_at(elements, first, rooms, key, value) else {
+        return Ok(first);
+    };
     if value.is_blank() {
-        unset(elements, first, rooms, key);
+        unset(elements, rooms, key);
         return Ok(first);
     }
-    put(elements, first, rooms, key, value)
+    put(elements, rooms, key, value)
 }
 
 // Removes a key, and keeps its room.
 #[inline(always)]
-fn unset(elements: &mut Elements, first: usize, rooms: &mut Vec<Key>, key: &Key)
+fn unset(elements: &mut Elements, rooms: &mut Vec<Key>, key: &Key)
     ensures { Updates same_key elements.old elements.new key.now None }
 {
-    if let Some((removed, _)) = remove(elements, first, key) {
+    if let Some((removed, _)) = elements.swap_remove_entry(key) {
         keep_room(rooms, removed);
     }
 }
@@ -165,7 +177,6 @@ fn unset(elements: &mut Elements, first: usize, rooms: &mut Vec<Key>, key: &Key)
 #[inline(always)]
 fn put(
     elements: &mut Elements,
-    first: usize,
     rooms: &mut Vec<Key>,
     key: &Key,
     value: Value,
@@ -173,13 +184,13 @@ fn put(
     ensures ok { OnOk result (Updates same_key elements.old elements.new key.now (Some value)) }
     ensures err { OnErr result (elements.new.entries ≡ elements.old.entries) }
 {
-    if let Some(index) = index_of(elements, first, key) {
-        if let Some(place) = elements.get_index_mut(index) {
-            *place = value;
-            return Ok(index);
-        }
+    let Some(index) = index_by_hash(elements, key) else {
+        return add(elements, rooms, key, value);
+    };
+    match put_at(elements, index, key, value) {
+        None => Ok(index),
+        Some(value) => add(elements, rooms, key, value),
     }
-    add(elements, rooms, key, value)
 }
 
 // Adds a key and its value, and returns the index.
@@ -197,16 +208,6 @@ fn add(
     let key = copy_of(rooms, key)?;
     elements.insert(key, value)?;
     Ok(last)
-}
-
-// Removes a key, which is first compared with that at this index, and its value.
-fn remove(elements: &mut Elements, first: usize, key: &Key) -> Option<(Key, Value)>
-    ensures { Updates same_key elements.old elements.new key.now None }
-{
-    if is_at(elements, first, key) {
-        return elements.swap_remove_index(first);
-    }
-    elements.swap_remove_entry(key)
 }
 
 // A copy of a key, in a room that was kept.

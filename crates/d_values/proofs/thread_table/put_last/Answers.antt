@@ -1,4 +1,4 @@
-use Rattle.std.specs.Prelude.{◌≡◌, Some}
+use Rattle.std.specs.Prelude.{◌≡◌}
 use Rattle.std.proofs.Common.{ap, ◌∙◌}
 use Rattle.indexmap.specs.IndexMap.{with_value_at}
 use Rattle.indexmap.proofs.CallerLemmas.{updates-with_value_at}

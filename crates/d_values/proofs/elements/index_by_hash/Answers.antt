@@ -3,7 +3,7 @@ use Rattle.std.specs.Map.{lookup_key}
 use Rattle.std.proofs.Common.{sym, ap, ◌∙◌}
 use Rattle.d_values.specs.Keys.{same_key}
 use Rattle.d_values.proofs.Storing.{same_key_found}
-use Rattle.d_values.proofs.elements.index_of.Goals as goal
+use Rattle.d_values.proofs.elements.index_by_hash.Goals as goal
 
 pub returns : goal.returns
 returns c =
