@@ -1,13 +1,16 @@
 # Builds, tests and installs dreplay. Building and proving take the Rattle toolchain's command `rt`,
 # which has to be on PATH.
 #
-#   make            builds dreplay and dreplay-data, and answers the question of examples/counts.
+#   make            builds the programs, and answers the question of examples/counts.
 #                   The first time it also answers it before the build, as make try does
 #   make try        answers the question of examples/counts, or of BUNDLE=FILE, before anything is
 #                   proved, by a slow program that checks as it runs; takes a minute or two
-#   make build      builds crates/dreplay/out/dreplay and crates/dreplay_data/out/dreplay_data
+#   make build      builds crates/dreplay/out/dreplay, crates/dreplay_data/out/dreplay_data and
+#                   crates/dreplay_rows/out/dreplay_rows
+#   make check      what needs no proof, in under two minutes: layouts and documents, and cases and
+#                   examples over the program that is built; says what it left out
 #   make test       the gate: every proof from nothing, the edits that must fail, then every case
-#                   over both programs
+#                   over both programs. With INSTALL=1 it installs commands that some tests need
 #   make cases      builds dreplay, and runs the cases and the examples over it, and those of the
 #                   converter of strace's recordings
 #   make examples   builds dreplay, and runs the examples alone: each answer is compared with the
@@ -27,10 +30,12 @@
 PREFIX ?= /usr/local
 PROGRAM := crates/dreplay/out/dreplay
 DATA_PROGRAM := crates/dreplay_data/out/dreplay_data
+ROWS_PROGRAM := crates/dreplay_rows/out/dreplay_rows
+PROGRAMS := $(PROGRAM) $(DATA_PROGRAM) $(ROWS_PROGRAM)
 EXAMPLE := examples/counts
 BUNDLE ?= $(EXAMPLE)/bundle
 
-.PHONY: help example try build test cases examples install uninstall dist bench clean
+.PHONY: help example try build check test cases examples install uninstall dist bench clean
 
 # `make` alone is `make example`.
 .DEFAULT_GOAL := example
@@ -59,6 +64,9 @@ try:
 build:
 	@tools/build
 
+check:
+	@tests/check
+
 test:
 	@tests/gate
 
@@ -82,16 +90,17 @@ share/fish/vendor_completions.d 644 completions/dreplay.fish
 endef
 export INSTALLED
 
-$(PROGRAM) $(DATA_PROGRAM):
+$(PROGRAMS):
 	@$(MAKE) --no-print-directory build
 
-install: $(PROGRAM) $(DATA_PROGRAM)
+install: $(PROGRAMS)
 	@install -D -m 755 $(PROGRAM) '$(DESTDIR)$(PREFIX)/bin/dreplay'
 	@install -m 755 $(DATA_PROGRAM) '$(DESTDIR)$(PREFIX)/bin/dreplay-data'
+	@install -m 755 $(ROWS_PROGRAM) '$(DESTDIR)$(PREFIX)/bin/dreplay-rows'
 	@echo "$$INSTALLED" | while read -r folder mode files; do \
 	    install -d '$(DESTDIR)$(PREFIX)'/"$$folder" && \
 	    install -m "$$mode" $$files '$(DESTDIR)$(PREFIX)'/"$$folder" || exit 1; done
-	@for tool in dreplay-data $(notdir $(TOOLS)); do \
+	@for tool in dreplay-data dreplay-rows $(notdir $(TOOLS)); do \
 	    ln -sf dreplay.bash '$(DESTDIR)$(PREFIX)/share/bash-completion/completions/'"$$tool" && \
 	    ln -sf dreplay.fish \
 	        '$(DESTDIR)$(PREFIX)/share/fish/vendor_completions.d/'"$$tool.fish" || exit 1; done
@@ -100,16 +109,17 @@ install: $(PROGRAM) $(DATA_PROGRAM)
 	@echo 'dreplay is installed: $(DESTDIR)$(PREFIX)/bin/dreplay'
 
 uninstall:
-	@rm -f '$(DESTDIR)$(PREFIX)/bin/dreplay' '$(DESTDIR)$(PREFIX)/bin/dreplay-data'
+	@rm -f '$(DESTDIR)$(PREFIX)/bin/dreplay' '$(DESTDIR)$(PREFIX)/bin/dreplay-data' \
+	    '$(DESTDIR)$(PREFIX)/bin/dreplay-rows'
 	@echo "$$INSTALLED" | while read -r folder mode files; do \
 	    for file in $$files; do rm -f '$(DESTDIR)$(PREFIX)'/"$$folder/$${file##*/}"; done; done
-	@for tool in dreplay dreplay-data $(notdir $(TOOLS)); do \
+	@for tool in dreplay dreplay-data dreplay-rows $(notdir $(TOOLS)); do \
 	    rm -f '$(DESTDIR)$(PREFIX)/share/bash-completion/completions/'"$$tool" \
 	        '$(DESTDIR)$(PREFIX)/share/fish/vendor_completions.d/'"$$tool.fish"; done
 	@rm -rf '$(DESTDIR)$(PREFIX)/share/dreplay' '$(DESTDIR)$(PREFIX)/share/doc/dreplay'
 
-dist: $(PROGRAM) $(DATA_PROGRAM)
-	@tools/make-dist $(PROGRAM) $(DATA_PROGRAM)
+dist: $(PROGRAMS)
+	@tools/make-dist $(PROGRAM) $(DATA_PROGRAM) $(ROWS_PROGRAM)
 
 bench: build
 	@bench/run --workers 1,2,4

@@ -1,5 +1,5 @@
 """The tools that read scripts and answers as subjects of tests/fuzz_tools: dreplay-show,
-dreplay-explain and dreplay-many.
+dreplay-explain, dreplay-many and dreplay-ask.
 """
 import gzip
 import json
@@ -8,7 +8,7 @@ import re
 import xml.dom.minidom
 import xml.parsers.expat
 
-from lib import case_files
+from lib import case_files, converter_subjects
 from lib.tool_fuzzing import CONTROLS, Round, Subject
 from plain import interpreter
 
@@ -121,6 +121,8 @@ def rounds_of_show():
         Round(["-s", "script.d", "-t", "trace.csv", "answer"], {**texts, "trace.csv": trace})
         for texts, trace in named
     ]
+    against = ["-s", "script.d", "--against", "answer", "answer"]
+    rounds += [Round(against, texts) for texts, _ in named]
     traces = {trace for _, trace in named}
     return rounds + [
         Round(["-f", "timeline", "-t", "trace.csv"], {"trace.csv": trace}) for trace in traces
@@ -137,6 +139,8 @@ def rounds_of_explain():
             Round([*words, line], texts),
             Round(words, {**texts, "": line.encode() + b"\n"}),
             Round(words, {**texts, "": answer + FAULTS}),
+            Round(["--clauses", *words], texts),
+            Round(["--short", "--check", "script.d"], texts),
             Round(["-b", "bundle"], {"bundle": script + b"---\n" + trace, "": USAGE}),
         ]
     return rounds
@@ -147,6 +151,27 @@ def rounds_of_many():
     for script, _, trace in SCRIPTS:
         texts = {"script.d": script, "a.csv": trace, "b.csv": trace, "c.gz": gzip.compress(trace)}
         rounds.append(Round(["-s", "script.d", "-j", "2", "a.csv", "b.csv", "c.gz"], texts))
+    return rounds
+
+
+def ask_fault(result, trial):
+    """Says what is wrong with a question asked of a recording, or nothing."""
+    if result.status in (3, 4) and not result.stderr:
+        return f"status {result.status} without a line on standard error"
+    return ""
+
+
+def rounds_of_ask():
+    """Questions of traces, and of recordings of each kind."""
+    rounds = []
+    for script, _, trace in SCRIPTS:
+        texts = {"script.d": script, "run.csv": trace, "run.gz": gzip.compress(trace)}
+        rounds.append(Round(["-s", "script.d", "run.csv", "run.gz"], texts))
+        rounds.append(Round(["-", "{ @[probefunc] = count(); }"], {"": trace}))
+    for subject in converter_subjects.SUBJECTS:
+        if "-from-" in subject.tool:
+            question = ":::entry { @[execname, probefunc] = count(); }"
+            rounds += [Round(["-", question], trial.texts) for trial in subject.rounds[::9]]
     return rounds
 
 
@@ -166,11 +191,20 @@ SUBJECTS = [
             ["--width", "9"],
             ["--title", "<b>&\t"],
             ["-o", "shown"],
+            ["--percentiles", "50,99.9"],
+            ["--fail-if", "value > 1 || @q.p99 > 5"],
+            ["--against", "answer"],
         ],
-        {0, 1, 2},
+        {0, 1, 2, 5},
         show_fault,
     ),
-    Subject("dreplay-explain", rounds_of_explain(), [], {0, 1, 2}, explain_fault),
+    Subject(
+        "dreplay-explain",
+        rounds_of_explain(),
+        [["--short"], ["--check", "script.d"], ["--clauses"]],
+        {0, 1, 2, 3, 4},
+        explain_fault,
+    ),
     Subject(
         "dreplay-many",
         rounds_of_many(),
@@ -178,5 +212,19 @@ SUBJECTS = [
         {0, 1, 2, 3, 4},
         many_fault,
         program="dreplay-data",
+    ),
+    Subject(
+        "dreplay-ask",
+        rounds_of_ask(),
+        [["--no-cache"], ["-f", "html"], ["--with", "x y"], ["-f", "timeline"], ["-c", "true"]],
+        {0, 1, 2, 3, 4, 125},
+        ask_fault,
+        program="dreplay-data",
+        speakers=(
+            "dreplay-show",
+            "dreplay-record",
+            *(subject.tool for subject in converter_subjects.SUBJECTS),
+        ),
+        explains=(3, 4),
     ),
 ]

@@ -187,5 +187,10 @@ def conversion_of(name):
     return harness.Case(name, folder, read(f"{folder}/recording"), words, [[]], "", expected)
 
 
+def recorded():
+    """A recording of which dreplay-rows knows all lines, and the trace that it writes."""
+    return dataclasses.replace(conversion_of("recorded_by_dreplay_record"), words=[])
+
+
 def folders(path):
     return sorted(name for name in os.listdir(path) if os.path.isdir(f"{path}/{name}"))

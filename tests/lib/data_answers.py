@@ -36,15 +36,15 @@ def lines_fault(output):
 
 def interpreted(bundle, seconds):
     """What the plain interpreter makes of a bundle as dreplay-data, but for the line of a syntax
-    fault, or nothing where it takes longer."""
-    signal.signal(signal.SIGALRM, give_up)
-    signal.alarm(seconds)
+    fault, or nothing where it takes longer by the processor."""
+    signal.signal(signal.SIGPROF, give_up)
+    signal.setitimer(signal.ITIMER_PROF, seconds)
     try:
         answer = interpreter.answer(*interpreter.divide(bundle), interpreter.data.render)
     except TimeoutError:
         return None
     finally:
-        signal.alarm(0)
+        signal.setitimer(signal.ITIMER_PROF, 0)
     return harness.without_syntax_line(harness.Result(answer.status, answer.stdout, answer.stderr))
 
 

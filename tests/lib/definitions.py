@@ -12,6 +12,9 @@ USE = re.compile(r"^(?:pub )?use ([^{\n]*(?:\{[^}]*\})?[^\n]*)$", re.MULTILINE)
 # A name, perhaps after the name of the module that it is of; or an operator.
 WORD = re.compile(r"(?:([^\W\d][\w']*)\.)?([^\W\d][\w']*)|([^\w\s()\[\]{}.,;]+)")
 
+# What a block of `do` stands for, without naming it.
+STEPS = ("◌>>=◌", "◌>>◌")
+
 
 @dataclass
 class Definition:
@@ -29,7 +32,8 @@ class Definition:
     def words(self):
         """The words of its lines, in order: what is before a name, and the name or operator."""
         words = (word for line in self.lines for word in WORD.findall(line))
-        return [*dict.fromkeys((of, name or f"◌{sign}◌") for of, name, sign in words)]
+        found = dict.fromkeys((of, name or f"◌{sign}◌") for of, name, sign in words)
+        return [*found, *(("", it) for it in STEPS if ("", "do") in found)]
 
     def constructors(self):
         """The names of a data type's constructors."""
@@ -49,7 +53,7 @@ def split(path):
     """The definitions of a file, in order, and where the names are from that it takes by `use`."""
     text = read(f"{TOP}/{path}")
     found, mutual, comment = [], False, ""
-    for line in USE.sub("", text).splitlines():
+    for line in outside_modules(USE.sub("", text)):
         if line.lstrip().startswith("--"):
             comment += line.strip(" -") + " "
             continue
@@ -61,6 +65,15 @@ def split(path):
             found[-1].lines.append(line)
         comment = ""
     return found, taken(text)
+
+
+def outside_modules(text):
+    """The lines of a file, where what is in a `module _` is as if it were outside."""
+    inside = False
+    for line in text.splitlines():
+        begins = line.startswith("module _")
+        inside = begins or inside and line[:1] in ("", " ")
+        yield "" if begins else line.removeprefix("  ") if inside else line
 
 
 def first_comment(path):

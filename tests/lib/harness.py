@@ -18,6 +18,11 @@ DATA_PROGRAMS = [
     f"{TOP}/crates/dreplay_data/out/dreplay_data",
     f"{TOP}/crates/dreplay_data/out/dreplay_data.by-rattle",
 ]
+# The same of dreplay-rows.
+ROWS_PROGRAMS = [
+    f"{TOP}/crates/dreplay_rows/out/dreplay_rows",
+    f"{TOP}/crates/dreplay_rows/out/dreplay_rows.by-rattle",
+]
 
 
 def plans(workers, groups, engines):
@@ -220,11 +225,18 @@ def programs_and_names(doc):
 
 
 def all_programs_and_names(doc, tally):
-    """The same of a test that runs dreplay-data too: its programs come second."""
+    """The same of a test that runs dreplay-data and dreplay-rows too: their programs come second
+    and third. Where any is given, only what is given is run."""
     made = parser_of_all_programs(doc)
+    program = "a dreplay-rows to run likewise"
+    made.add_argument("--rows-program", action="append", metavar="PATH", help=program)
     add_names(made)
     args = made.parse_args()
-    return *all_programs_of(args, tally), args.names
+    chosen = args.program or [], args.data_program or [], args.rows_program or []
+    if not any(chosen):
+        chosen = PROGRAMS, DATA_PROGRAMS, ROWS_PROGRAMS
+    built = [tally.built([os.path.abspath(path) for path in paths]) for paths in chosen]
+    return *built, args.names
 
 
 class Tally:
@@ -246,6 +258,11 @@ class Tally:
         self.failed += bool(why)
         if why:
             print(f"FAILED {what}: {why}", flush=True)
+
+    def add(self, passed, failed):
+        """Adds what another program has counted."""
+        self.passed += passed
+        self.failed += failed
 
     def end(self):
         """Prints the last line, and returns the exit status: checks that ran, and all of them

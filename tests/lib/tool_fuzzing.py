@@ -18,7 +18,7 @@ from lib import harness
 
 SECONDS, SECONDS_BY_THE_CLOCK = (
     5,
-    60,
+    600,
 )  # of the processor, and on a busy machine, that a run may take
 MEMORY = 2 << 30
 TOOLS = f"{harness.TOP}/tools"
@@ -80,6 +80,8 @@ class Subject:
     statuses: set
     fault: callable = lambda result, trial: ""
     program: str = ""  # that it needs
+    speakers: tuple = ()  # tools that it runs, whose lines on standard error are passed on
+    explains: tuple = ()  # statuses with which it explains a refusal, in lines of any kind
 
     @property
     def path(self):
@@ -183,9 +185,8 @@ def be_tool(subject, code, trial, folder, streams):
             open(2, "wb", 0, closefd=False), errors="backslashreplace", write_through=True
         )
         os.chdir(f"{folder}/here")
-        os.environ.update(
-            COLUMNS="80", LC_ALL="C.UTF-8", TMPDIR=folder, PATH=f"{folder}/commands"
-        )
+        os.environ.update(COLUMNS="80", LC_ALL="C.UTF-8", TMPDIR=folder, PATH=f"{folder}/commands")
+        os.environ["XDG_CACHE_HOME"] = folder
         tempfile.tempdir = None  # found anew, as this process has its parent's
         sys.argv = [subject.path, *trial.words]
         resource.setrlimit(resource.RLIMIT_AS, (MEMORY, MEMORY))
@@ -230,9 +231,9 @@ def said_fault(subject, result):
     lines = result.stderr.splitlines()
     if any(len(line) > MOST_SAID for line in lines):
         return f"a line on standard error has over {MOST_SAID} bytes"
-    if not all(
-        line.startswith(subject.tool.encode() + b": ") for line in lines
-    ):
+    speakers = tuple(f"{tool}: ".encode() for tool in (subject.tool, *subject.speakers))
+    is_explained = result.status in subject.explains
+    if not is_explained and not all(line.startswith(speakers) for line in lines):
         return f"standard error is {result.stderr[:300]!r}"
     if result.status == 2 and not lines:
         return "status 2 without a line on standard error"

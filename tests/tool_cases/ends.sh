@@ -1,6 +1,9 @@
-# What the cases of how a tool ends share.
+# What the cases of how a tool ends share, and those that wait for one.
 
 try() { "$@"; echo "status $?" >&2; }
+
+# Whether a process still runs. A case that waits for what a process does ends its wait with the process.
+lives() { grep -q '^State:[[:space:]]*[^XZ]' "/proc/$1/status" 2> /dev/null; }
 
 # Interrupts a tool that waits for more on standard input. It has begun when it has read more than a pipe holds, a line that
 # ends in $LINE.
@@ -9,7 +12,8 @@ interrupted() {
     mkfifo "$T/pipe"
     { printf '%200000s\n' "${LINE-}"; : > "$T/begun"; exec sleep 600; } > "$T/pipe" 2> /dev/null & writer=$!
     "$@" < "$T/pipe" & tool=$!
-    until [ -e "$T/begun" ]; do sleep 0.1; done
+    # Until it waits for more.
+    until [ -e "$T/begun" ] && grep -q '^State:.*S' /proc/$tool/status || ! lives $tool; do sleep 0.1; done
     kill -INT $tool; wait $tool; echo "status $?" >&2
     kill $writer; rm "$T/pipe" "$T/begun"
 }

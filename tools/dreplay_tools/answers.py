@@ -77,7 +77,7 @@ class Table:
         """Some of the entries as they are shown."""
         total = sum(self.held.values()) if self.aggregation.function in SHARED else 0
         figures = [(key, figure(value, self.buckets)) for key, value in entries]
-        return Shown(self.aggregation, figures, total)
+        return Shown(self.aggregation, figures, total, self.buckets)
 
 
 def all_shown(chosen):
@@ -97,6 +97,7 @@ class Shown:
     aggregation: Aggregation
     entries: list = field(default_factory=list)
     total: int = 0  # of all values, also of those that are left out
+    buckets: object = None  # of its histograms
 
     @property
     def title(self):
@@ -109,6 +110,7 @@ class Answer:
 
     texts: bytes
     tables: dict
+    firings: int = 0
 
 
 def encoded(text):
@@ -330,7 +332,7 @@ class Reader:
     def end(self, found):
         if not is_whole(found.get("firings"), FIRINGS) or "exit" not in found:
             raise Wrong("it doesn't say whether the run exited, and how many firings were run")
-        answer = Answer(b"".join(self.texts), self.answer.tables)
+        answer = Answer(b"".join(self.texts), self.answer.tables, found["firings"])
         self.answer = None
         return answer
 

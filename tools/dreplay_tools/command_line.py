@@ -3,8 +3,7 @@ import argparse
 import re
 import sys
 
-from .ends import FAILED
-from .labels import cut, printable
+from .ends import FAILED, shortened
 from .version import VERSION
 
 MOST_SAID = 300
@@ -47,7 +46,7 @@ class CommandLine(argparse.ArgumentParser):
     def error(self, message):
         # Releases of Python differ in whether they quote the choices of an option.
         plain = re.sub(r"\(choose from .*\)", lambda found: found[0].replace("'", ""), message)
-        said = cut(printable(plain), MOST_SAID)
+        said = shortened(plain, MOST_SAID)
         self.exit(FAILED, f"{self.prog}: {said} ({self.prog} --help)\n")
 
 
@@ -60,6 +59,6 @@ def number(shown):
     """A number from 1 to 999999999."""
     if not shown.isascii() or not shown.isdigit() or not 0 < len(shown.lstrip("0")) < 10:
         raise argparse.ArgumentTypeError(
-            f"{cut(printable(shown), 20)!r} is no number from 1 to 999999999"
+            f"{shortened(shown, 20)!r} is no number from 1 to 999999999"
         )
     return int(shown)

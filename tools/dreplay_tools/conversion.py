@@ -1,68 +1,19 @@
 """From the lines of strace to the rows of a trace."""
 import io
 import os
-import re
 
 from . import strace
-from .ahead import Ahead
-from .ends import shortened
-from .errors import RETURNED
+from .ahead import RUN, Ahead, count_of, is_run
+from .ends import Failure, shortened
+from .frequent_lines import SPECIAL, Arguments, Reader
 from .paths import path_of
 from .patterns import Names
+from .pieces import Pieces
 from .processes import Processes
-from .strace import SYMBOL, BadLine, Call
-from .trace import ARGS, MOST_TIME, Rows, field, text
+from .strace import SYMBOL, BadLine, Call, CutOff
+from .trace import MOST_TIME, Rows, field, text
 
-# So many skipped lines are named. A recording made with other options would have them all skipped.
-MOST_NAMED = 10
 BETWEEN_PROGRESS = 65536
-
-# The result of a call on the lines that are most frequent.
-RESULT = (
-    r"\) += (0|-?[1-9]\d{0,17}|0x[0-9a-f]{1,15})(?: (E[A-Z0-9_]+) \([^()]*\))?"
-    r"(?: <(\d{1,9})\.(\d{6}|\d{9})>)?\n"
-)
-WHOLE = rf"({strace.NAME})\((.*)" + RESULT
-BEGUN = rf"({strace.NAME})\((.*?) ?<unfinished \.\.\.>\n"
-RESUMED = rf"<\.\.\. ({strace.NAME}) resumed>(.*)" + RESULT
-TEXT_CONSTANT = re.compile(r'"(?:[^"\\]|\\.)*(?:"|\\?$)')
-MOST_NESTED = 8  # brackets in brackets, of an argument list that is read in the quick way
-INNERMOST = re.compile(r"[(\[{][^()\[\]{}]*[)\]}]")
-SPECIAL = strace.BIRTHS | set(strace.PROGRAMS)
-COMMAS = ["," * (ARGS - max(count, 1)) for count in range(ARGS + 1)]
-NANOSECONDS = {6: "000", 9: ""}  # what follows a fraction of so many digits
-
-
-class Arguments(dict):
-    """The fields of arguments as they are shown, worked out once and remembered for a while."""
-
-    def __missing__(self, shown):
-        if len(self) > 100_000:
-            self.clear()
-        value = self[shown] = strace.argument(shown)
-        return value
-
-    def columns(self, shown):
-        """The ten columns of an argument list."""
-        plain = shown
-        if '"' in plain:
-            plain = TEXT_CONSTANT.sub("_", plain)
-        for _ in range(MOST_NESTED):
-            if not ("{" in plain or "[" in plain or "(" in plain):
-                break
-            plain, changes = INNERMOST.subn("_", plain)
-            if not changes:
-                return self.careful(shown)
-        if '"' in plain or "<" in plain or "/*" in plain or "{" in plain or "[" in plain:
-            return self.careful(shown)
-        return self.joined(plain.split(", ")) if plain else COMMAS[0]
-
-    def careful(self, shown):
-        """The same, of one that has comments or names of files in it, or isn't closed."""
-        return self.joined(strace.split(shown)[0])
-
-    def joined(self, args):
-        return ",".join([self[arg.strip()] for arg in args[:ARGS]]) + COMMAS[min(len(args), ARGS)]
 
 
 class Wanted:
@@ -82,14 +33,15 @@ class Wanted:
 
 
 class Begun:
-    """A call that hasn't returned: what is shown of it so far, and the place and the columns of its
-    entry's row.
+    """A call that hasn't returned: what is shown of it so far, and the time, the place and the
+    columns of its entry's row. One that began before the recording has no time.
     """
 
-    __slots__ = ("name", "shown", "place", "columns")
+    __slots__ = ("name", "shown", "time", "place", "columns")
 
-    def __init__(self, name, shown, place=None, columns=""):
-        self.name, self.shown, self.place, self.columns = name, shown, place, columns
+    def __init__(self, name, shown, time=None, place=None, columns=""):
+        self.name, self.shown, self.time = name, shown, time
+        self.place, self.columns = place, columns
 
 
 class Losses:
@@ -97,15 +49,16 @@ class Losses:
 
     def __init__(self):
         self.symbols = self.undated = self.unnamed_errors = self.unknown_births = 0
-        self.first_symbol = self.first_error = self.first_birth = ""
+        self.first_error = self.first_birth = ""
+        self.first_symbol = None, ""  # its line, and the argument
 
-    def symbol(self, line, shown):
-        """A call on a line that has an argument which is no integer."""
-        self.symbols += 1
-        if self.symbols == 1:
+    def symbol(self, line, shown, calls=1):
+        """Calls, the first of them on a line, that have an argument which is no integer."""
+        self.symbols += calls
+        if self.first_symbol[0] is None or line < self.first_symbol[0]:
             args = strace.split(shown)[0]
             first = next((arg for arg in args if strace.argument(arg) == SYMBOL), "")
-            self.first_symbol = f"line {line}: {shortened(first, 40)}"
+            self.first_symbol = line, shortened(first, 40)
 
     def error(self, line, name):
         self.unnamed_errors += 1
@@ -121,9 +74,10 @@ class Losses:
         """A line for each kind."""
         if self.symbols:
             calls = counted(self.symbols, "call has", "calls have")
+            line, argument = self.first_symbol
             yield (
-                f"{calls} arguments that are no integers ({self.first_symbol}); these are empty, "
-                "which reads as 0: dreplay-record keeps numbers, and so does strace "
+                f"{calls} arguments that are no integers (line {line}: {argument}); these are "
+                "empty, which reads as 0: dreplay-record keeps numbers, and so does strace "
                 "-e raw='!execve,clone,clone3'"
             )
         if self.undated:
@@ -149,43 +103,69 @@ class Conversion:
     returned.
     """
 
+    # So many skipped lines are named. A recording made with other options would have them all
+    # skipped.
+    most_named = 10
+
     def __init__(self, options, recording, shape, out, tool):
         self.processes = Processes(text(os.fsencode(options.name)))
         if options.threads:
             self.processes.read(options.threads)
         self.wanted, self.options = Wanted(options.only, options.since), options
         self.rows, self.shape, self.tool = Rows(out, options.rows), shape, tool
-        self.size = os.fstat(recording.fileno()).st_size or 1
-        lines = io.TextIOWrapper(
-            recording, encoding="utf-8", errors="surrogateescape", newline="\n"
-        )
-        self.lines = Ahead(shape.on_terminal.mended(lines) if shape.on_terminal else lines)
+        self.size, self.done = os.fstat(recording.fileno()).st_size or 1, 0
         self.pending, self.arguments, self.losses = {}, Arguments(), Losses()
         self.understood = self.skipped = self.left_out = self.line = 0
         self.in_summary = False
         self.zero = None if options.from_zero else 0
-        self.quick = (
-            shape.has_threads
-            and shape.has_dates
-            and self.wanted.all
-            and options.rows is None
-            and not options.paths
-            and not options.ppid
+        if shape.has_threads and shape.has_dates and options.from_zero:
+            self.zero = first_time(recording, shape)
+        read = self.read if self.has_frequent else self.as_they_are
+        self.lines = Ahead(read(recording))
+
+    @property
+    def has_frequent(self):
+        """Whether most lines can be read without those before them."""
+        options, is_dated = self.options, self.shape.has_threads and self.shape.has_dates
+        is_plain = self.wanted.all and not (options.rows or options.paths or options.ppid)
+        return is_dated and is_plain and self.zero is not None
+
+    def read(self, recording):
+        """The lines, of which the frequent ones have been read."""
+        pieces = Pieces(recording, Reader(self.shape, self.zero).read, self.options.jobs)
+        lines = 0
+        for items, undated, symbols, first_symbol in pieces:
+            self.losses.undated += undated
+            if symbols:
+                line, shown = first_symbol
+                self.losses.symbol(lines + line, shown, symbols)
+            yield from items
+            lines += sum(map(count_of, items))
+            self.done += pieces.bytes
+
+    def as_they_are(self, recording):
+        lines = io.TextIOWrapper(
+            recording, encoding="utf-8", errors="surrogateescape", newline="\n"
         )
-        self.whole, self.begun, self.resumed = (
-            re.compile(shape.quick_prefix + kind, re.ASCII).fullmatch
-            for kind in (WHOLE, BEGUN, RESUMED)
-        )
+        on_terminal = self.shape.on_terminal
+        for line in on_terminal.mended(lines) if on_terminal else lines:
+            self.done += len(line)
+            yield line
 
     def run(self):
         """Converts all lines, or those that give as many rows as are wanted."""
-        offset = 0
-        for self.line, line in enumerate(self.lines, 1):
-            self.take(line)
-            offset += len(line)
-            if self.line % BETWEEN_PROGRESS == 0:
-                done = min(offset * 100 // self.size, 100)
-                self.tool.progress(f"{self.line:,} lines, {self.rows.number:,} rows, {done} %")
+        shown = 0
+        for line in self.lines:
+            self.line += 1
+            if type(line) is str:
+                self.take(line)
+            elif len(line) == RUN:
+                self.take_run(*line)
+            else:
+                self.take_resumed(*line)
+            if self.line - shown > BETWEEN_PROGRESS:
+                shown, done = self.line, min(self.done * 100 // self.size, 100)
+                self.tool.progress(f"{shown:,} lines, {self.rows.number:,} rows, {done} %")
             if self.rows.full:
                 self.left_out = sum(1 for _ in self.lines)
         for call in self.pending.values():
@@ -196,94 +176,78 @@ class Conversion:
     def take(self, line):
         """Takes a line, or says why it is skipped."""
         try:
-            if self.quick and self.zero is not None and self.take_quickly(line):
-                self.understood += 1
-                return
             shown = line.rstrip("\r\n")
             if not self.is_aside(shown):
                 self.take_event(*self.shape.read(shown))
                 self.understood += 1
         except BadLine as why:
+            if self.in_summary:
+                return
+            if self.options.whole and isinstance(why, CutOff):
+                raise Failure(f"strace couldn't write all of line {self.line}, as on a full disk")
             self.skipped += 1
-            if self.skipped <= MOST_NAMED:
+            if self.skipped <= self.most_named:
                 self.tool.say(f"line {self.line} skipped: {why}")
 
     # -- the frequent lines
 
-    def take_quickly(self, line):
-        """Takes a line if it is one of the frequent kinds. Returns whether it was."""
-        if line.endswith("<unfinished ...>\n"):
-            return self.take_begun(self.begun(line))
-        if " resumed>" in line:
-            return self.take_resumed(self.resumed(line))
-        return self.take_whole(self.whole(line))
+    def take_run(self, threads, rows, returns):
+        """Takes a run of lines that have been read, as `frequent_lines` has them."""
+        heads, number, shown, before = self.processes.heads, self.rows.number, [], self.line - 1
+        for place, (thread, row, back) in enumerate(zip(threads, rows, returns), 1):
+            head = heads.get(thread) or self.processes.head(thread)
+            if back is not None:
+                number += 2
+                shown.append(f"{number - 1}{head}{row}{number}{head}{back}")
+                continue
+            number += 1
+            if type(row) is tuple:
+                self.line = before + place
+                self.forget(thread)
+            if len(row) == 3 and type(row) is tuple:
+                self.rows.number = number
+                self.rows.put_all(shown)
+                self.begin_read(thread, f"{number}{head}", *row)
+                shown = []
+            else:
+                shown.append(f"{number}{head}{row if type(row) is str else row[0]}")
+        self.rows.number, self.line = number, before + len(rows)
+        self.understood += len(rows)
+        self.rows.put_all(shown)
 
-    def take_whole(self, found):
-        if found is None:
-            return False
-        thread, seconds, fraction, name, shown, result, error, took, took_fraction = found.groups()
-        zeros = NANOSECONDS.get(len(fraction))
-        if name in SPECIAL or zeros is None or len(took_fraction or fraction) != len(fraction):
-            return False
-        time = back = int(seconds + fraction + zeros) - self.zero
-        if took:
-            back += int(took + took_fraction + zeros)
-        values = returned(result, error)
-        if values is None or time < 0 or back > MOST_TIME:
-            return False
-        self.losses.undated += took is None
-        head = self.processes.heads.get(thread) or self.processes.head(thread)
-        columns = self.arguments.columns(shown)
-        if SYMBOL in columns:
-            columns = self.without_symbols(columns, shown)
-        number = self.rows.number = self.rows.number + 2
-        self.rows.put(
-            f"{number - 1}{head}{time},syscall,,{name},entry,{columns}\n"
-            f"{number}{head}{back},syscall,,{name},return,{values}\n"
-        )
-        return True
+    def head_of(self, thread):
+        """The columns in front of the time of a thread's row."""
+        return self.processes.heads.get(thread) or self.processes.head(thread)
 
-    def take_begun(self, found):
-        if found is None:
-            return False
-        thread, seconds, fraction, name, shown = found.groups()
-        zeros = NANOSECONDS.get(len(fraction))
-        if name in SPECIAL or zeros is None or thread in self.pending:
-            return False
-        time = int(seconds + fraction + zeros) - self.zero
-        head = self.head(thread, time)
-        place = self.rows.open()
-        columns = f"{self.rows.number}{head}{time},syscall,,{name},entry,"
-        self.pending[thread] = Begun(name, shown, place, columns)
-        return True
+    def begin_read(self, thread, head, name, shown, time):
+        place = self.rows.open_numbered()
+        columns = f"{head}{time},syscall,,{name},entry,"
+        self.pending[thread] = Begun(name, shown, time, place, columns)
 
-    def take_resumed(self, found):
-        if found is None:
-            return False
-        thread, seconds, fraction, name, shown, result, error, _, _ = found.groups()
-        zeros = NANOSECONDS.get(len(fraction))
+    def take_resumed(self, thread, name, shown, values, took, line):
+        """Takes a call's second line, or the line as it is where it isn't that of the first one."""
         call = self.pending.get(thread)
         if call is None or call.place is None or call.name != name:
-            return False
-        values = returned(result, error)
-        if name in SPECIAL or zeros is None or values is None:
-            return False
-        time = int(seconds + fraction + zeros) - self.zero
-        head = self.head(thread, time)
+            self.take(line)
+            return
+        back = call.time + (took or 0)
+        if back > MOST_TIME:
+            self.take(line)
+            return
+        self.understood += 1
+        self.losses.undated += took is None
+        head = self.head_of(thread)
         del self.pending[thread]
-        shown = call.shown + shown
-        columns = self.arguments.columns(shown)
+        columns = self.arguments.columns(call.shown + shown)
         if SYMBOL in columns:
-            columns = self.without_symbols(columns, shown)
+            columns = self.without_symbols(columns, call.shown + shown)
         self.rows.close(call.place, f"{call.columns}{columns}\n")
         number = self.rows.number = self.rows.number + 1
-        self.rows.put(f"{number}{head}{time},syscall,,{name},return,{values}\n")
-        return True
+        self.rows.put(f"{number}{head}{back},syscall,,{name},return,{values}\n")
 
     def head(self, thread, time):
-        """The columns in front of the time of a thread's row."""
         check_time(time)
-        return self.processes.heads.get(thread) or self.processes.head(thread)
+        return self.head_of(thread)
 
     def without_symbols(self, columns, shown):
         """Columns of an argument list in which the arguments that are no integers are empty."""
@@ -294,15 +258,14 @@ class Conversion:
 
     def is_aside(self, line):
         """Whether a line is what strace writes beside the calls: stacks (-k), data (-e write=), the
-        summary of -C.
+        head of the summary of -C, in which no further line is a call.
         """
         if line.startswith("% time "):
             self.in_summary = True
+            return True
         on_terminal = self.shape.on_terminal
-        return (
-            self.in_summary
-            or line.startswith((" > ", " | "))
-            or (on_terminal is not None and on_terminal.takes(line))
+        return line.startswith((" > ", " | ")) or (
+            on_terminal is not None and on_terminal.takes(line)
         )
 
     def take_event(self, thread, time, event):
@@ -331,14 +294,11 @@ class Conversion:
             return
         call = Call(name, shown)
         if not call.whole:
-            raise BadLine("it is cut off")
-        back = time + (call.took or 0)
-        check_time(back)
+            raise CutOff("it is cut off")
+        check_time(time + (call.took or 0))
         self.birth(thread, call)
         self.row(thread, time, call, "entry", self.arguments_of(name, call.args))
-        if call.result is not None and call.took is None:
-            self.losses.undated += 1
-        self.end(thread, back, call)
+        self.end(thread, time, call)
 
     def birth(self, thread, call):
         """Takes what a call's entry shows of programs and processes."""
@@ -353,7 +313,7 @@ class Conversion:
         if name in SPECIAL:
             rest = self.lines.find(thread, lambda line: self.rest_of(line, thread, name))
             self.birth(thread, Call(name, shown + (rest or "")))
-        begun = Begun(name, shown)
+        begun = Begun(name, shown, time)
         if not self.rows.full and (self.wanted.all or self.wanted.row(name, time)):
             head = self.head(thread, time)
             begun.place = self.rows.open()
@@ -363,8 +323,10 @@ class Conversion:
 
     def rest_of(self, line, thread, name):
         """What a line has of a thread's call, if it resumes it; the empty text if the thread has
-        ended.
+        ended, or begins another one.
         """
+        if type(line) is not str:
+            return "" if is_run(line) else None
         found = self.shape.line.fullmatch(line.rstrip("\r\n"))
         if not found or found[1] != thread:
             return None
@@ -388,8 +350,8 @@ class Conversion:
         call = Call(name, begun.shown + shown)
         self.complete(begun, call.shown)
         if not call.whole:
-            raise BadLine("it is cut off")
-        self.end(thread, time, call)
+            raise CutOff("it is cut off")
+        self.end(thread, begun.time, call, time)
 
     def complete(self, begun, shown):
         """Writes the row of an entry, now that all is known that is shown of its arguments."""
@@ -404,9 +366,17 @@ class Conversion:
         if begun:
             self.complete(begun, begun.shown)
 
-    def end(self, thread, time, call):
+    def end(self, thread, began, call, seen=None):
+        """The return of a call, which lasted as long as strace says. One that began before the
+        recording returned when it was seen.
+        """
         if call.result is None:
             return
+        if began is None:
+            time = seen
+        else:
+            self.losses.undated += call.took is None
+            time = began + (call.took or 0)
         self.processes.returned(thread, call)
         error = call.result if call.error is None else call.error
         if isinstance(error, str):
@@ -443,6 +413,19 @@ class Conversion:
         return f"{columns.rpartition(',')[0]},{self.processes.parent(thread)}"
 
 
+def first_time(recording, shape):
+    """The time of the first line that has one, from which --from-zero counts."""
+    start, time = recording.tell(), None
+    for line in recording:
+        try:
+            time = shape.read(line.decode("utf-8", "surrogateescape").rstrip("\r\n"))[1]
+            break
+        except BadLine:
+            pass
+    recording.seek(start)
+    return time
+
+
 def check_time(time):
     if not 0 <= time <= MOST_TIME:
         raise BadLine(
@@ -450,13 +433,3 @@ def check_time(time):
             if time > 0
             else "its time is before that of the first line, from which --from-zero counts"
         )
-
-
-def returned(result, error):
-    """What a call returned, as columns; none where its error has no known number."""
-    if error:
-        value = RETURNED.get(error)
-        return f"-1,{value},,,,,,,," if value and result == "-1" else None
-    if result[:2] == "0x":
-        result = str(int(result, 16))
-    return f"{result},{result},,,,,,,,"

@@ -8,9 +8,13 @@ import signal
 import sys
 import warnings
 
-MOST_SAID, MOST_OF_A_NAME = 1000, 800  # letters of a message, and of a file's name in it
+MOST_SAID, MOST_OF_A_NAME = 1000, 800  # bytes of a message, and of a file's name in it
 FAILED = 2  # a file or standard stream fails, memory runs out, or the command line is wrong
 INTERRUPTED = 128 + signal.SIGINT
+
+
+class Signalled(BaseException):
+    """The end of a tool by a signal: what is unfinished is removed first."""
 
 
 class Failure(Exception):
@@ -35,13 +39,28 @@ def standard_input():
         raise Failure("standard input is closed")
     with contextlib.suppress(io.UnsupportedOperation):  # it has no descriptor, as in a test
         os.set_blocking(sys.stdin.fileno(), True)
+    if sys.stdin.isatty():
+        tool = Tool(os.path.basename(sys.argv[0]))
+        tool.say("it reads what is typed here, until Ctrl-D; --help says what it takes")
     return sys.stdin.buffer
 
 
-def shortened(text, most=60):
-    """A text fit for a message: not long, and without control characters."""
-    text = text if len(text) <= most else text[:most] + ".."
-    return "".join(c if c.isprintable() else c.encode("unicode_escape").decode() for c in text)
+def escaped(letter):
+    """A letter that no terminal takes for a command."""
+    return letter if letter.isprintable() else letter.encode("unicode_escape").decode()
+
+
+def shortened(text, most=60, shown=escaped):
+    """A text fit for a message: what is shown of it has `most` bytes at most, and no control
+    characters.
+    """
+    kept, left = [], most
+    for letter in map(shown, text):
+        left -= len(letter.encode("utf-8"))
+        if left < 0:
+            return "".join(kept) + ".."
+        kept.append(letter)
+    return "".join(kept)
 
 
 class Tool:
@@ -83,6 +102,9 @@ class Tool:
             sys.stderr.flush()  # of argparse; before Python 3.9 lines waited there
         except KeyboardInterrupt:
             status = INTERRUPTED
+        except Signalled as end:
+            signal.signal(end.args[0], signal.SIG_DFL)
+            os.kill(os.getpid(), end.args[0])
         except (OSError, ValueError, AttributeError):
             pass
         # Nothing of Python's own end may write: it would try the failed stream again.
@@ -92,6 +114,9 @@ class Tool:
         try:
             signal.signal(signal.SIGPIPE, signal.SIG_DFL)
             signal.signal(signal.SIGINT, signal.default_int_handler)
+            for number in (signal.SIGTERM, signal.SIGHUP):
+                if signal.getsignal(number) == signal.SIG_DFL:  # nohup has one ignored
+                    signal.signal(number, signalled)
             if sys.stdout is None:
                 raise Failure("standard output is closed")
             sys.stdout.reconfigure(encoding="utf-8", errors="surrogateescape")
@@ -118,6 +143,10 @@ class Tool:
         except Exception as why:  # whatever nobody thought of
             self.say(f"a fault of this tool, please report it: {type(why).__name__}: {why}")
             return FAILED
+
+
+def signalled(number, _):
+    raise Signalled(number)
 
 
 def flushed(status):

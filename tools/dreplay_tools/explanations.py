@@ -6,13 +6,13 @@ import io
 import itertools
 from dataclasses import dataclass
 
-from . import guesses, labels, places, probes, refusals
+from . import ends, guesses, labels, places, probes, refusals
 from .script import Script
 from .tokens import MOST_BYTES, decoded, tokens
 from .trace import COLUMNS
 
 NEIGHBOURS = 2  # lines shown before and after the one that is refused
-MOST_SHOWN = 200  # letters shown of a line or field
+MOST_SHOWN = 200  # bytes shown of a line or field
 
 
 @dataclass
@@ -25,10 +25,13 @@ class Inputs:
     missing: str = None  # the script's file, where it doesn't exist
 
 
+def escaped(letter):
+    return letter if letter == "\t" else labels.printable(letter)
+
+
 def shortened(text):
     """A line or field fit for a terminal: its start, without control bytes."""
-    text = text if len(text) <= MOST_SHOWN else text[:MOST_SHOWN] + ".."
-    return "".join(c if c == "\t" else labels.printable(c) for c in text)
+    return ends.shortened(text, MOST_SHOWN, escaped)
 
 
 def lines(line, refusal, place, given):
@@ -102,13 +105,13 @@ def with_mark(script_lines, at, number, token):
     """A line of a script, and below it a mark at the refused token."""
     text = script_lines[at - 1]
     yield f"{'>' if at == number else ' '} {at:4} | {shortened(text)}"
-    if token and at == token.line and token.column <= MOST_SHOWN:
-        before = "".join(
-            c if c == "\t" else " " * labels.width(labels.printable(c))
-            for c in text[: token.column - 1]
-        )
-        word = token.text.split("\n")[0][:MOST_SHOWN]
-        yield f"       | {before}{'^' * max(1, labels.width(labels.printable(word)))}"
+    if not token or at != token.line:
+        return
+    before = "".join(map(escaped, text[: token.column - 1]))
+    if len(before.encode("utf-8")) < MOST_SHOWN:
+        blank = "".join(c if c == "\t" else " " * labels.width(c) for c in before)
+        word = shortened(token.text.split("\n")[0])
+        yield f"       | {blank}{'^' * max(1, labels.width(word))}"
 
 
 # -- the trace

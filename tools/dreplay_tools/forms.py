@@ -6,11 +6,13 @@ import io
 import json
 import re
 
+from . import comparison, percentiles
 from .answers import SHARED
+from .comparison import Compared
 from .ends import Failure
 from .labels import SHARE, aligned, interval, numbered, printable
 
-FORMULA = ("=", "+", "-", "@", "\t", "\r")
+FORMULA = (*"=+-@", *"＝＋－＠", "\t", "\r")  # after blanks, too
 MARKUP = re.compile(r"([\\`*_\[\]<|&~])")
 
 
@@ -25,7 +27,13 @@ def total_of(shown):
 
 
 def table(shown, args):
-    """The columns' names and the rows of an aggregation. A histogram has a row for each bucket."""
+    """The columns' names and the rows of an aggregation. A histogram has a row for each bucket, or
+    where percentiles are asked for one row.
+    """
+    if isinstance(shown, Compared):
+        return comparison.table(shown, args)
+    if args.percentiles and shown.aggregation.is_histogram:
+        return percentiles.table(shown, args)
     names, unit, value_unit = list(shown.aggregation.keys), args.unit, args.value_unit
     if not shown.aggregation.is_histogram:
         total = total_of(shown) if value_unit == SHARE else 0
@@ -50,12 +58,14 @@ def as_table(shown, args):
     texts = [*shown.aggregation.texts, *[False] * len(names)]
     keys, last, columns = len(shown.aggregation.keys), len(names) - 1, []
     for place, (name, column) in enumerate(zip(names, list(zip(*rows)) or [()] * len(names))):
-        cells = [f"{cell:,}" if type(cell) is int else printable(cell) for cell in column]
+        mark = "d" if place < keys else ",d"  # a number that is a key, such as a pid, is a name
+        cells = [format(cell, mark) if type(cell) is int else printable(cell) for cell in column]
         if place < keys:  # an empty name is seen; an end that a bucket hasn't stays empty
             cells = [cell or '""' for cell in cells]
         others = {cell for cell in column if type(cell) is not int}
         is_right = not texts[place] and others <= {""}
-        columns.append(aligned([printable(name), *cells], is_right or place == last))
+        is_right |= place == last or (place >= keys and isinstance(shown, Compared))
+        columns.append(aligned([printable(name), *cells], is_right))
     lines = [("  " + "  ".join(row)).rstrip() for row in zip(*columns)]
     return [printable(shown.title), *lines]
 
@@ -101,34 +111,84 @@ def guarded(cell, guard):
     takes for a formula.
     """
     shown = printable(cell)
-    return "'" + shown if guard and cell.startswith(FORMULA) else shown
+    is_formula = cell.startswith(FORMULA) or cell.lstrip().startswith(FORMULA)
+    return "'" + shown if guard and is_formula else shown
 
 
-def as_json(texts, all_shown):
+def as_json(texts, all_shown, args):
     """The texts and all aggregations as one value, laid out as by an indent of two. Python's
     encoder takes several times as long for such a layout.
     """
-    aggregations = [in_object(members(shown), 2) for shown in all_shown]
+    aggregations = [in_object(members(shown, args), 2) for shown in all_shown]
     return in_object([("texts", in_json(texts)), ("aggregations", in_list(aggregations, 1))], 0)
 
 
-def members(shown):
+def members(shown, args):
     aggregation = shown.aggregation
+    of_entry = members_of_change if isinstance(shown, Compared) else members_of_entry
     yield "name", in_json(shown.title)
     yield "keys", in_list(map(in_json, aggregation.keys), 3)
     yield "function", in_json(aggregation.value_name)
-    entries = []
-    for keys, value in shown.entries:
-        if aggregation.is_histogram:
-            value = in_list(map(bucket_in_json, value), 5)
-        entry = [("keys", in_list(map(in_json, keys), 5)), ("value", value)]
-        entries.append(in_object(entry, 4))
+    entries = [in_object(of_entry(shown, entry, args), 4) for entry in shown.entries]
     yield "entries", in_list(entries, 3)
 
 
-def bucket_in_json(row):
+def members_of_entry(shown, entry, args):
+    keys, value = entry
+    yield "keys", in_list(map(in_json, keys), 5)
+    if not shown.aggregation.is_histogram:
+        yield "value", value
+        return
+    yield "value", in_list([bucket_in_json(row, [("count", row.count)]) for row in value], 5)
+    if args.percentiles:
+        found = [percentile_in_json(percent, [("", value)]) for percent in args.percentiles]
+        yield "percentiles", in_list(found, 5)
+
+
+def members_of_change(shown, change, args):
+    """The members of an entry of a comparison: what isn't there is null."""
+    yield "keys", in_list(map(in_json, change.key), 5)
+    both = [("before", change.before), ("after", change.after)]
+    if not shown.aggregation.is_histogram:
+        quotient = shown.quotient(change)
+        both += [
+            ("difference", shown.difference(change)),
+            ("ratio", None if quotient is None else f"{quotient:.6g}"),
+        ]
+        yield from ((name, "null" if value is None else value) for name, value in both)
+        return
+    rows = change.before or change.after
+    counts = [[of[place].count if of else 0 for _, of in both] for place in range(len(rows))]
+    yield "value", in_list(
+        [
+            bucket_in_json(row, [("before", before), ("after", after)])
+            for row, (before, after) in zip(rows, counts)
+        ],
+        5,
+    )
+    if args.percentiles:
+        found = [percentile_in_json(percent, both) for percent in args.percentiles]
+        yield "percentiles", in_list(found, 5)
+
+
+def bucket_in_json(row, counts, depth=6):
     low, high = ("null" if end is None else end for end in (row.low, row.high))
-    return in_object([("from", low), ("below", high), ("count", row.count)], 6)
+    return in_object([("from", low), ("below", high), *counts], depth)
+
+
+def percentile_in_json(percent, named):
+    """A percentile of a histogram, or of two by their names."""
+    found = [("percent", percent)]
+    for name, rows in named:
+        bucket = percentiles.percentile(rows, percent) if rows else None
+        if name:
+            found.append((name, "null" if bucket is None else bucket_in_json(bucket, [], 7)))
+        else:
+            found += [
+                (end, "null" if of is None else of)
+                for end, of in (("from", bucket.low), ("below", bucket.high))
+            ]
+    return in_object(found, 6)
 
 
 def in_object(named, depth):

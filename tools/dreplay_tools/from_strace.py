@@ -2,8 +2,7 @@
 import os
 from dataclasses import dataclass
 
-from . import inputs, strace
-from .conversion import MOST_NAMED, Conversion
+from . import inputs, rows_program, strace
 from .folders import merged
 from .output import Output
 from .strace import Shape
@@ -27,6 +26,9 @@ class Options:
     from_zero: bool = False
     paths: bool = False
     ppid: bool = False
+    whole: bool = False  # a line that is cut off ends it
+    jobs: int = None  # processes that read it; as many as there are processors for a large one
+    python: bool = False  # without the program dreplay-rows
 
 
 def shape_of(recording):
@@ -47,7 +49,7 @@ def shape_of(recording):
 def report(conversion, output, tool):
     """Says what a reader of the trace should know, and gives the exit status."""
     skipped = conversion.skipped
-    if skipped > MOST_NAMED:
+    if skipped > conversion.most_named:
         tool.say(f"{skipped} lines skipped in all")
     if not conversion.understood:
         alone = conversion.in_summary and not skipped
@@ -58,6 +60,8 @@ def report(conversion, output, tool):
         )
         tool.say(f"nothing was converted: {why}")
         return NOTHING_CONVERTED
+    if not conversion.rows.number and not conversion.wanted.all:
+        tool.say("no row is left: --only or --since leave out all")
     if conversion.left_out:
         rows, left_out = conversion.rows.number, conversion.left_out
         tool.say(
@@ -80,10 +84,20 @@ def convert(path, options, tool):
     refuse_strangers(recording, "strace")
     shape, output = shape_of(recording), Output(options.out, options.split)
     try:
-        conversion = Conversion(options, recording, shape, output, tool)
-        conversion.run()
-        if conversion.understood:
+        if rows_program.converts(recording, options, shape, output):
             output.keep()
+            return 0
+        return convert_here(recording, options, shape, output, tool)
     finally:
         output.abandon()
+
+
+def convert_here(recording, options, shape, output, tool):
+    """Converts a recording without dreplay-rows, and returns the exit status."""
+    from .conversion import Conversion  # which takes longer to load than that to start
+
+    conversion = Conversion(options, recording, shape, output, tool)
+    conversion.run()
+    if conversion.understood:
+        output.keep()
     return report(conversion, output, tool)

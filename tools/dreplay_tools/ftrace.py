@@ -1,10 +1,17 @@
 """Lines of the kernel's tracer: of its file trace, and of 'trace-cmd report'."""
+import os
 import re
+import shutil
+import subprocess
+import tempfile
 
+from .ends import Failure, shortened
 from .fields import BadEvent
-from .tracepoints import Event, Probe, probe_of, returned
+from .tracepoints import Event, Lost, Probe, probe_of, returned
 from .trace import signed
 
+NOTHING_CONVERTED = 3
+TRACE_DAT = b"\x17\x08\x44tracing", b"tracing"
 WORDS_OF_A_NAME = 64
 WORD = re.compile(r"\S+")
 CPU = re.compile(r"\[(\d{1,10})\]", re.ASCII)
@@ -27,9 +34,103 @@ TOOK = re.compile(r"(?:[$@*#!+]\s*)?(\d{1,12})\.(\d{1,6}) us", re.ASCII)
 LEAF = re.compile(rf"({NAME})(?: \[\w{{1,60}}\])?\(\);?(?: /\*.*\*/)?$", re.ASCII)
 OPENS = re.compile(rf"({NAME})(?: \[\w{{1,60}}\])?\(\) \{{(?: /\*.*\*/)?$", re.ASCII)
 CLOSES = re.compile(rf"\}}(?: /\* ({NAME})(?: .*)?\*/)?$", re.ASCII)
+# What a reader of the kernel's buffer has missed, as the kernel and as trace-cmd say it; and how
+# many events are left in it, of how many.
+LOST = re.compile(
+    r"CPU:\d{1,5} \[(?:LOST (?:(\d{1,18}) )?EVENTS|(?:(\d{1,18}) )?EVENTS DROPPED)\]", re.ASCII
+)
+WRITTEN = re.compile(r"# entries-in-buffer/entries-written: (\d{1,18})/(\d{1,18})", re.ASCII)
+# The groups of tracepoints, by what their names begin with; a longer beginning comes first.
+GROUPS = {
+    "sched_": "sched",
+    "block_": "block",
+    "irq_handler_": "irq",
+    "softirq_": "irq",
+    "tasklet_": "irq",
+    "netif_": "net",
+    "net_dev_": "net",
+    "napi_gro_": "net",
+    "napi_": "napi",
+    "kfree_skb": "skb",
+    "consume_skb": "skb",
+    "skb_": "skb",
+    "kmalloc": "kmem",
+    "kfree": "kmem",
+    "kmem_": "kmem",
+    "rss_stat": "kmem",
+    "mm_page_": "kmem",
+    "mm_vmscan_": "vmscan",
+    "mm_shrink_slab_": "vmscan",
+    "mm_compaction_": "compaction",
+    "mm_filemap_": "filemap",
+    "mm_migrate_": "migrate",
+    "page_fault_": "exceptions",
+    "writeback_": "writeback",
+    "balance_dirty_pages": "writeback",
+    "ext4_": "ext4",
+    "jbd2_": "jbd2",
+    "xfs_": "xfs",
+    "btrfs_": "btrfs",
+    "nvme_": "nvme",
+    "scsi_": "scsi",
+    "tcp_": "tcp",
+    "sock_": "sock",
+    "timer_": "timer",
+    "hrtimer_": "timer",
+    "itimer_": "timer",
+    "tick_": "timer",
+    "signal_": "signal",
+    "task_": "task",
+    "workqueue_": "workqueue",
+    "rcu_": "rcu",
+    "kvm_mmu_": "kvmmmu",
+    "kvm_tdp_mmu_": "kvmmmu",
+    "kvm_": "kvm",
+    "io_uring_": "io_uring",
+    "iomap_": "iomap",
+    "cgroup_": "cgroup",
+    "percpu_": "percpu",
+    "neigh_": "neigh",
+    "qdisc_": "qdisc",
+    "xdp_": "xdp",
+    "cpuhp_": "cpuhp",
+    "rpm_": "rpm",
+    "page_pool_": "page_pool",
+    "local_timer_": "irq_vectors",
+    "call_function_": "irq_vectors",
+    "reschedule_": "irq_vectors",
+    "irq_work_": "irq_vectors",
+    "cpu_idle": "power",
+    "cpu_frequency": "power",
+}
 ASIDE = re.compile(
     r"\s*$|#|cpus=|CPU:?\s*\d|\s*=> |\s*=>$|version = |\s*-{3}[- ]*$|CPU \d{1,5} is empty"
 )
+
+
+def as_text(file):
+    """A recording as text: what 'trace-cmd report' prints of a trace.dat, all else as it is."""
+    begins = file.peek(16)[:16] if hasattr(file, "peek") else b""
+    if not begins.startswith(TRACE_DAT):
+        return file
+    if not shutil.which("trace-cmd"):
+        raise Failure("trace-cmd is not installed; where it is, try 'trace-cmd report -i FILE'")
+    number = os.dup(file.fileno())
+    os.lseek(number, 0, os.SEEK_SET)
+    out, said = tempfile.TemporaryFile(), tempfile.TemporaryFile()
+    words = ["trace-cmd", "report", "-i", f"/proc/self/fd/{number}"]
+    how = {"stdin": subprocess.DEVNULL, "stdout": out, "stderr": said, "pass_fds": [number]}
+    status = subprocess.call(words, **how)
+    os.close(number)
+    if status:
+        said.seek(0)
+        why = (said.read(4096).decode("utf-8", "replace").splitlines() or ["no reason"])[-1]
+        raise Failure(
+            f"nothing was converted: trace-cmd report can't read it: {shortened(why, 300)}",
+            NOTHING_CONVERTED,
+        )
+    out.seek(0)
+    return out
 
 
 class Lines:
@@ -50,6 +151,11 @@ class Lines:
             seconds, fraction, cpu, name, thread = graph.groups()
             time = nanoseconds(seconds, fraction)
             return self.of_graph((name, int(thread), None, int(cpu)), time, line[graph.end() :])
+        if lost := LOST.fullmatch(line):
+            number = lost[1] or lost[2]
+            return [Lost(int(number) if number else None)]
+        if written := WRITTEN.match(line):
+            return [Lost(max(0, int(written[2]) - int(written[1])))]
         if ASIDE.match(line) or SWITCHED.match(line):
             return []
         if GRAPH_WITHOUT.match(line):
@@ -121,11 +227,18 @@ def probe_of_text(shown, event, rest, names):
     if (found := ENTERED.match(shown)) and shown.endswith(")"):
         return probe_of("", f"sys_enter_{found[1]}", shown[found.end() : -1], names)
     if event:
-        system = "raw_syscalls" if event[1] in ("sys_enter", "sys_exit") else ""
+        system = "raw_syscalls" if event[1] in ("sys_enter", "sys_exit") else group_of(event[1])
         return probe_of(system, event[1], rest.strip(), names)
     if CALLED.match(shown):
         return function_of(shown)
     raise BadEvent("it is no event of a tracepoint or a probe")
+
+
+def group_of(event):
+    """The group of a tracepoint of the kernel, which ftrace doesn't write; empty for one that isn't
+    known by the beginning of its name.
+    """
+    return next((group for begins, group in GROUPS.items() if event.startswith(begins)), "")
 
 
 def beginning(line):

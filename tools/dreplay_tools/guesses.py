@@ -8,6 +8,7 @@ import itertools
 import re
 
 from . import mistakes, script, strangers, tokens
+from .ends import shortened
 from .trace import ARGS, COLUMNS, HEADER
 
 NAMES = sorted(mistakes.BUILTINS | mistakes.CALLED)
@@ -45,6 +46,10 @@ RECORDED = {
     "strace": "it is a recording of strace: make a trace of it by dreplay-from-strace",
     "perf": "it is of `perf script`: make a trace of it by dreplay-from-perf",
     "ftrace": "it is of the kernel's tracer: make a trace of it by dreplay-from-ftrace",
+    "trace.dat": "it is a recording of trace-cmd: make a trace of it by dreplay-from-ftrace",
+    "chrome": "it is of trace events in JSON: make a trace of it by dreplay-from-chrome",
+    "ctf file": "it is a file of CTF: make a trace of its folder by dreplay-from-ctf",
+    "babeltrace": "it is of babeltrace2: make a trace of it by dreplay-from-ctf",
 }
 
 
@@ -104,7 +109,7 @@ def of_trace_in_script(data, bundle):
     if bundle and near:
         return (
             "the dividing line isn't exactly three minuses: it is `"
-            + near[0].decode("latin-1").rstrip("\r")
+            + shortened(near[0].decode("latin-1").rstrip("\r"))
             + "`"
         )
     if bundle and data.lstrip().lower().startswith(b"number,"):
@@ -117,6 +122,8 @@ def of_trace_in_script(data, bundle):
 def of_mistakes(refusal, place, refused):
     """Guesses on the token that is refused, and on the others of its line."""
     line, at = place.get("line"), place.get("token")
+    if at is not None and (control := mistakes.of_control(refused.tokens, at)):
+        return control
     there, found = looked_at(refused.tokens, line, at), []
     if at is not None and refusal.kind == "Type" and refusal.number == 2:
         found += mistakes.of_variable(refused, at)
@@ -159,7 +166,7 @@ def misspelt(tokens, there):
 
 def of_header(data):
     """Guesses on a trace whose header isn't the one that dreplay knows."""
-    encoding = of_encoding(data)
+    encoding = RECORDED.get(strangers.kind_of_start(data[:4096])) or of_encoding(data)
     if encoding:
         return [encoding]
     text = data[:100_000].decode("utf-8", "replace").lstrip("\ufeff")
@@ -197,7 +204,7 @@ def of_header(data):
 def of_columns(names):
     """How a header differs from that of a trace."""
     lacks = [name for name in COLUMNS if name not in names]
-    others = [name[:40] for name in names if name not in COLUMNS]
+    others = [shortened(name, 40) for name in names if name not in COLUMNS]
     said = ["the header lacks " + ", ".join(f"`{name}`" for name in lacks)] if lacks else []
     if others:
         said.append(
@@ -226,7 +233,7 @@ def of_number(name, shown):
     if shown != shown.strip():
         return "it has a space: take the spaces out"
     if re.fullmatch(r"[+-]?\d+\.0*", shown):
-        return f"it was written as a fraction: `{shown.split('.')[0]}` is meant"
+        return f"it was written as a fraction: `{shortened(shown.split('.')[0])}` is meant"
     if re.fullmatch(r"[+-]?\d+(\.\d+)?[eE][+-]?\d+", shown):
         return (
             "a spreadsheet has rounded it to an exponent: format the column as a whole number and"

@@ -5,11 +5,13 @@ import math
 from dataclasses import dataclass
 from html import escape
 
+from .axes import JOINED, Axis, are_numbers, is_scale, named, one_sortable, scale, sortable
 from .ends import Failure
-from .labels import cut, interval, name, numbered
+from .held import Bucket
+from .labels import cut, interval, numbered
 from .pictures import and_more, picture, points, text_at
 
-MOST_COLUMNS, MOST_ROWS, MOST_FILLED = 60, 60, 60
+MOST_COLUMNS, MOST_ROWS, MOST_BUCKETS = 60, 60, 64
 WIDEST_ROW, WIDEST_COLUMN = 30, 24  # of labels
 CELL, GAP, HIGH = 22, 1, 18
 
@@ -52,89 +54,94 @@ def heat_of(shown, args):
             f"{shown.title} has no heat map: one is made of histograms by key, or of counts and"
             " sums by two keys"
         )
-    return of_histograms(shown, args) if shown.aggregation.is_histogram else of_pairs(shown)
+    return (of_histograms if shown.aggregation.is_histogram else of_pairs)(shown, args)
 
 
 def of_histograms(shown, args):
-    """A column for each histogram, by key; a row for each bucket, the highest on top."""
-    entries = filled(sorted(shown.entries, key=lambda entry: sortable(entry[0])))
-    order = kept(
-        range(len(entries)), lambda place: sum(row.count for row in entries[place][1]), MOST_COLUMNS
-    )
-    buckets = {}
-    for place in order:
-        buckets.update({bounds(row): row for row in entries[place][1] if row.count})
-    rows = sorted(buckets, reverse=True)[:MOST_ROWS]
-    row_places = {ends: place for place, ends in enumerate(rows)}
-    cells = {
-        (column, row_places[bounds(row)]): row.count
-        for column, place in enumerate(order)
-        for row in entries[place][1]
-        if row.count and bounds(row) in row_places
-    }
-    columns = ["  ".join(map(name, entries[place][0])) for place in order]
+    """A column for each histogram, by key; a row for each bucket from the lowest to the highest,
+    the highest on top, or for several that are neighbours.
+    """
+    keys = shown.aggregation.keys
+    columns, histograms = columns_of(shown, args)
+    counts = {}
+    for key, rows in histograms:
+        for row in rows:
+            place = columns.places.get(key)
+            if row.count and place is not None:
+                counts[place, bounds(row)] = counts.get((place, bounds(row)), 0) + row.count
+    rows = rows_of({ends for _, ends in counts}, shown.buckets)
+    cells = {}
+    for (column, ends), count in counts.items():
+        cell = column, rows.places[ends]
+        cells[cell] = cells.get(cell, 0) + count
     return Heat(
         f"{shown.title} {shown.aggregation.value_name}",
-        f"by {', '.join(shown.aggregation.keys)}",
-        columns,
-        [interval(buckets[ends], args.unit) for ends in rows],
+        f"by {', '.join(keys)}",
+        columns.labels,
+        [interval(bucket, args.unit) for bucket in rows.labels],
         cells,
-        len(entries) - len(order),
-        len(buckets) - len(rows),
+        columns.more,
+        0,
     )
 
 
-def of_pairs(shown):
+def columns_of(shown, args):
+    """The axis of an aggregation's histograms, and these by their keys on it."""
+    keys = shown.aggregation.keys
+    entries = sorted(shown.entries, key=lambda entry: sortable(entry[0]))
+    if len(keys) == 1:
+        ones = [key[0] for key, _ in entries]
+        few = are_numbers(ones) and not args.top and ones[-1] - ones[0] < MOST_COLUMNS
+        if few or is_scale(ones, keys[0], args):
+            return scale(ones, MOST_COLUMNS), [(key[0], rows) for key, rows in entries]
+    histograms = [(tuple(key), rows) for key, rows in entries]
+    sizes = {key: sum(row.count for row in rows) for key, rows in histograms}
+    return named(list(sizes), sizes.get, MOST_COLUMNS), histograms
+
+
+def rows_of(there, buckets):
+    """The axis of buckets, from the highest down to the lowest that isn't empty, of which `there`
+    has the ends; neighbours are joined where there are too many.
+    """
+    first, last = buckets.ends
+    lowest, highest = min(there), max(there)
+    every = [buckets.bucket(place, 0) for place in range(first, last + 1)]
+    every = [bucket for bucket in every if lowest <= bounds(bucket) <= highest]
+    joined = -(-len(every) // MOST_BUCKETS)
+    groups = [every[start : start + joined] for start in range(0, len(every), joined)][::-1]
+    places = {bounds(bucket): place for place, group in enumerate(groups) for bucket in group}
+    return Axis([Bucket(group[0].low, group[-1].high, 0) for group in groups], places, 0)
+
+
+def of_pairs(shown, args):
     """A row for each first key, a column for each second one."""
-    across = totals(shown.entries, 1)
-    down = totals(shown.entries, 0)
-    columns = kept(sorted(across, key=one_sortable), across.get, MOST_COLUMNS)
-    rows = kept(sorted(down, key=one_sortable), down.get, MOST_ROWS)
-    column_places = {key: place for place, key in enumerate(columns)}
-    row_places = {key: place for place, key in enumerate(rows)}
-    cells = {
-        (column_places[keys[1]], row_places[keys[0]]): value
-        for keys, value in shown.entries
-        if keys[1] in column_places and keys[0] in row_places
-    }
+    down, across = (axis_of_part(shown, place, args) for place in (0, 1))
+    cells = {}
+    for (row, column), value in shown.entries:
+        if row in down.places and column in across.places:
+            cells.setdefault((across.places[column], down.places[row]), []).append(value)
+    joined = JOINED.get(shown.aggregation.function, sum)
     return Heat(
         f"{shown.title} {shown.aggregation.value_name}",
         " by ".join(shown.aggregation.keys),
-        [name(key) for key in columns],
-        [name(key) for key in rows],
-        cells,
-        len(across) - len(columns),
-        len(down) - len(rows),
+        across.labels,
+        down.labels,
+        {cell: joined(values) for cell, values in cells.items()},
+        across.more,
+        down.more,
     )
 
 
-def totals(entries, place):
-    found = {}
-    for keys, value in entries:
-        found[keys[place]] = found.get(keys[place], 0) + value
-    return found
-
-
-def kept(keys, weight, most):
-    """At most `most` keys in their order: those that weigh most."""
-    keys = list(keys)
-    if len(keys) <= most:
-        return keys
-    heaviest = set(
-        sorted(range(len(keys)), key=lambda place: weight(keys[place]), reverse=True)[:most]
-    )
-    return [key for place, key in enumerate(keys) if place in heaviest]
-
-
-def filled(entries):
-    """Entries with one integer as key, and empty ones between them where that makes few."""
-    if not entries or len(entries[0][0]) != 1 or not isinstance(entries[0][0][0], int):
-        return entries
-    there = {keys[0]: rows for keys, rows in entries}
-    first, last = min(there), max(there)
-    if last - first >= MOST_FILLED:
-        return entries
-    return [([key], there.get(key, [])) for key in range(first, last + 1)]
+def axis_of_part(shown, place, args):
+    """The axis of one of two keys. Averages can't be joined, so their numbers are names."""
+    sizes = {}
+    for keys, value in shown.entries:
+        sizes[keys[place]] = sizes.get(keys[place], 0) + value
+    keys, most = sorted(sizes, key=one_sortable), MOST_COLUMNS if place else MOST_ROWS
+    on_a_scale = is_scale(keys, shown.aggregation.keys[place], args)
+    if on_a_scale and (shown.aggregation.function in JOINED or keys[-1] - keys[0] < most):
+        return scale(keys, most)
+    return named(keys, sizes.get, most)
 
 
 def bounds(row):
@@ -143,14 +150,6 @@ def bounds(row):
         row.low if row.low is not None else -(2**64),
         row.high if row.high is not None else 2**64,
     )
-
-
-def one_sortable(key):
-    return (0, key, "") if isinstance(key, int) else (1, 0, key)
-
-
-def sortable(keys):
-    return [one_sortable(key) for key in keys]
 
 
 # -- as a picture

@@ -73,7 +73,11 @@ def opened(path):
         # What can be read only once is copied to a file that nobody else sees.
         spool = tempfile.TemporaryFile()
         shutil.copyfileobj(inner or file, spool, 1 << 20)
-    except (EOFError, lzma.LZMAError, zlib.error):
+    except EOFError:
+        raise Failure(
+            f"{shown}: its end is missing; gzip -dc, bzip2 -dc or xz -dc writes what is there"
+        )
+    except (lzma.LZMAError, zlib.error):
         raise damaged(shown)
     except IsADirectoryError:
         raise Failure(f"{shown}: Is a directory")

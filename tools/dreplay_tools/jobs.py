@@ -5,15 +5,17 @@ import concurrent.futures
 import hashlib
 import json
 import os
+import re
 import signal
 import subprocess
-import tempfile
 
 from .ends import FAILED, Failure, reason
 from .inputs import opened
+from .output import Replaced
 
 PLAN = ["-w", "1", "-g", "1"]  # as many programs run as there are processors, so each is one thread
 MOST_NAME = 100
+ANSWER = re.compile(r"(.*)-[0-9a-f]{12}\.answer", re.DOTALL)
 REFUSED = "dreplay: trace refused: "
 
 
@@ -30,8 +32,7 @@ class Job:
 
     def state(self):
         """What an answer depends on: script, program and trace as they are now."""
-        found = os.stat(self.trace)
-        return [*self.command.state, found.st_size, found.st_mtime_ns]
+        return [self.command.script, *state_of(self.command.program), *state_of(self.trace)]
 
     def is_done(self):
         """Whether an earlier run did this; it is taken then."""
@@ -53,6 +54,8 @@ class Job:
         try:
             state = self.state()
             self.run_program()
+            if state != self.state():
+                raise Failure("the trace or the program changed while it was run: run it again")
         except Failure as why:
             self.ended(why.status, self.without_name(str(why)))
         except OSError as why:
@@ -65,7 +68,8 @@ class Job:
                 "line": self.line,
                 "answered": self.is_answered,
             }
-            replace(self.note, json.dumps(note).encode())
+            with Replaced(self.note) as file:
+                file.write(json.dumps(note).encode())
         return self
 
     def without_name(self, line):
@@ -74,23 +78,20 @@ class Job:
         return line[len(name) :] if line.startswith(name) else line
 
     def run_program(self):
-        folder = os.path.dirname(self.answer) or "."
-        with opened(self.trace) as trace, tempfile.NamedTemporaryFile(
-            dir=folder, delete=False
-        ) as out:
-            try:
+        out = Replaced(self.answer)
+        try:
+            with opened(self.trace) as trace:
                 os.lseek(trace.fileno(), 0, os.SEEK_SET)  # its first bytes were looked at
                 words = self.command.words
-                ran = subprocess.run(words, stdin=trace, stdout=out, stderr=subprocess.PIPE)
-                line = ran.stderr.decode("utf-8", "replace").split("\n")[0]
-                self.ended(ran.returncode, line)
-                if self.is_answered:
-                    os.replace(out.name, self.answer)
-                elif os.path.exists(self.answer):
-                    os.unlink(self.answer)
-            finally:
-                if os.path.exists(out.name):
-                    os.unlink(out.name)
+                ran = subprocess.run(words, stdin=trace, stdout=out.file, stderr=subprocess.PIPE)
+            line = ran.stderr.decode("utf-8", "replace").split("\n")[0]
+            self.ended(ran.returncode, line)
+            if self.is_answered:
+                out.keep()
+            elif os.path.exists(self.answer):
+                os.unlink(self.answer)
+        finally:
+            out.abandon()
 
     def ended(self, status, line):
         """Takes how the program ended. A script may end with any status; a refusal has a line."""
@@ -101,13 +102,18 @@ class Job:
 
 
 class Command:
-    """The command that is run for each trace, and the state of what it is of."""
+    """The command that is run for each trace. The script is a copy that nobody changes."""
 
     def __init__(self, script, program):
-        self.words = [program, "-s", script, *PLAN]
+        self.words, self.program = [program, "-s", script, *PLAN], program
         with open(script, "rb") as file:
-            found = os.stat(program)
-            self.state = [hashlib.sha256(file.read()).hexdigest(), found.st_size, found.st_mtime_ns]
+            self.script = hashlib.sha256(file.read()).hexdigest()
+
+
+def state_of(path):
+    """What tells whether a file has changed."""
+    found = os.stat(path)
+    return found.st_size, found.st_mtime_ns
 
 
 def jobs_of(traces, folder, script, program):
@@ -117,19 +123,25 @@ def jobs_of(traces, folder, script, program):
     return list({job.answer: job for job in jobs}.values())
 
 
+def interrupted(number, _):
+    """Takes a signal for an interrupt. Further ones are ignored: the runs that have begun end, and
+    leave nothing half done.
+    """
+    for further in (signal.SIGHUP, signal.SIGINT, signal.SIGTERM):
+        signal.signal(further, signal.SIG_IGN)
+    raise KeyboardInterrupt
+
+
 def all_run(jobs, at_once):
     """Runs jobs, some at once, and returns each when it is done. When it is left, no further one
     begins.
     """
+    waiting = []
     with concurrent.futures.ThreadPoolExecutor(at_once) as pool:
-        waiting = [pool.submit(job.run) for job in jobs]
         try:
+            waiting += (pool.submit(job.run) for job in jobs)
             for done in concurrent.futures.as_completed(waiting):
                 yield done.result()
-        except KeyboardInterrupt:
-            for number in (signal.SIGINT, signal.SIGTERM):
-                signal.signal(number, signal.SIG_IGN)  # those that run end, and leave nothing
-            raise
         finally:
             for future in waiting:
                 future.cancel()
@@ -147,8 +159,8 @@ def refusal_of_script(program, script):
     return line, ran.returncode or FAILED
 
 
-def replace(path, data):
-    """Writes a file that is either there as a whole or not at all."""
-    with open(path + ".part", "wb") as file:
-        file.write(data)
-    os.replace(path + ".part", path)
+def of_others(folder, jobs):
+    """The traces whose answers are in the folder though they aren't among those of the jobs."""
+    own = {os.path.basename(job.answer) for job in jobs}
+    names = (ANSWER.fullmatch(name) for name in sorted(os.listdir(folder)))
+    return [name[1] for name in names if name and name[0] not in own]

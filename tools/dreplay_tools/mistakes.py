@@ -2,7 +2,9 @@
 """
 import re
 
-from .script import FUNCTIONS, TEXT_BUILTINS, group_end
+from .descriptions import advice
+from .ends import shortened
+from .script import FUNCTIONS, TEXT_BUILTINS, group_end, parts
 from .tokens import ASSIGNING, BODY, HEAD, PREDICATE, joined
 
 NUMBER_BUILTINS = {"timestamp", "cpu", "pid", "tid", *(f"arg{place}" for place in range(10))}
@@ -19,13 +21,24 @@ CONVERSION = re.compile(
 )
 
 # Words of D, of bpftrace and of C that dreplay doesn't have, and what to write instead.
-NO_MEMORY = (
-    "a trace has no memory of processes: `dreplay-record --paths` puts the first path of a call"
-    " into `probemod`"
+PATHS = (
+    "with `--paths` a call's first path is in `probemod`: `dreplay-record --paths`, or `dreplay-ask"
+    " --with=--paths`"
 )
+NO_MEMORY = f"a trace has no memory of processes: {PATHS}"
 NO_STACKS = "a trace has no stacks"
+SHARED = 'for what threads share see "State that threads share" in docs/COMING_FROM.md'
 NO_LOOPS = "D has no loops"
 NO_PARTS = "texts are compared and joined, and have no parts: `==`, `strlen`, `strjoin`"
+NO_IF = "D has no `if`: use clauses with predicates, `/ condition /`, or `condition ? a : b`"
+CONTROLS = {
+    **dict.fromkeys(("if", "else"), NO_IF),
+    **dict.fromkeys(("for", "while", "unroll"), NO_LOOPS),
+}
+NOT_RECORDED = "cwd root epid id ipl lgrp pset chip uid gid username cgroup uregs reg zonename jid"
+MACROS = "target pid ppid uid gid euid egid pgid sid projid taskid".split()
+MOST_SHOWN = 60  # letters of a token in a guess
+MOST_JOINED = 20  # tokens without a blank between them, and blocks, that are looked at
 WORDS = {
     "comm": "`comm` is bpftrace's; in D it is `execname`",
     "nsecs": "`nsecs` is bpftrace's; in D it is `timestamp`",
@@ -36,8 +49,11 @@ WORDS = {
     "vtimestamp": "a trace has one time: use `timestamp`",
     "hist": "`hist` is bpftrace's; in D it is `quantize`",
     "lhist": "`lhist` is bpftrace's; in D it is `lquantize(value, lower, upper, step)`",
-    "llquantize": "there is no `llquantize`; use `quantize` or `lquantize`",
-    "stddev": "there is no `stddev`; use `avg`, `min`, `max` or `quantize`",
+    "llquantize": (
+        "there is no `llquantize`: use `quantize`, or an `lquantize` for each power of ten, as in"
+        " docs/COMING_FROM.md"
+    ),
+    "stddev": "there is no `stddev`: docs/COMING_FROM.md makes it of sums",
     "stats": "`stats` is bpftrace's; use `count`, `avg` and `sum` under three names",
     "printa": (
         "there is no `printa`: aggregations are shown at the end, and dreplay-show lays them out"
@@ -53,18 +69,20 @@ WORDS = {
     "normalize": "there is no `normalize`: divide before, as in `sum(arg0 / 1024)`",
     "denormalize": "there is no `denormalize`",
     "delete": "assign 0: `self->x = 0;` gives the storage back",
-    "if": "D has no `if`: use a predicate, `/ condition /`, or `condition ? a : b`",
-    "else": "D has no `if` and `else`: use two clauses with predicates, or `condition ? a : b`",
-    **dict.fromkeys(("for", "while", "unroll"), NO_LOOPS),
+    **CONTROLS,
     **dict.fromkeys(("copyinstr", "copyin", "str", "stringof", "uptr", "buf"), NO_MEMORY),
-    **dict.fromkeys(("stack", "ustack", "jstack", "kstack"), NO_STACKS),
+    **dict.fromkeys(("stack", "ustack", "jstack", "kstack", "caller", "ucaller"), NO_STACKS),
+    **dict.fromkeys(("stackdepth", "ustackdepth", "usym", "ksym", "sym", "umod"), NO_STACKS),
     **dict.fromkeys(
         ("substr", "strstr", "index", "rindex", "strchr", "strtok", "strcontains"), NO_PARTS
     ),
-    "uid": "a trace has no `uid`",
-    "gid": "a trace has no `gid`",
-    "zonename": "a trace has no `zonename`",
-    "ppid": "a trace has no column for it: `dreplay-record --ppid` puts the parent into `arg9`",
+    "fds": f"there is no `fds`: {PATHS}",
+    "progenyof": "there is no `progenyof`: a trace is of a command and all that it starts",
+    **{word: f"a trace has no `{word}`" for word in NOT_RECORDED.split()},
+    "ppid": (
+        "with `--ppid` the parent is in `arg9`: `dreplay-record --ppid`, or `dreplay-ask"
+        " --with=--ppid`"
+    ),
     "errno": (
         "of a call that failed, `arg0` of the return is -1 and `arg1` the error's number below 0,"
         " as in `@[arg1]`"
@@ -72,7 +90,9 @@ WORDS = {
     "retval": "`retval` is bpftrace's; in D it is `arg0` or `arg1` of a probe `return`",
     "args": "there is no `args`: the arguments are `arg0` to `arg9`, all integers",
     "curpsinfo": "there is no `curpsinfo`: use `pid` and `execname`",
-    "curthread": "there is no `curthread`: use `tid`",
+    **{word: f"there is no `{word}`: use `tid`" for word in ("curthread", "curlwpsinfo")},
+    "curcpu": "there is no `curcpu`: use `cpu`",
+    "strftime": "times are nanoseconds since 1970: write `timestamp`",
     "basename": "there is no `basename`",
     "dirname": "there is no `dirname`",
     "inline": "there is no `inline`: write the constant where it is used",
@@ -85,15 +105,6 @@ WORDS = {
     ),
     "func": "use `probefunc`",
     "probe": "use `probefunc` and `probename`",
-    "tracepoint": "of bpftrace's `tracepoint:syscalls:sys_enter_read` make `syscall::read:entry`",
-    "kprobe": (
-        "of bpftrace's `kprobe:vfs_read` make a description of what the trace holds, such as"
-        " `fbt::vfs_read:entry`"
-    ),
-    "kretprobe": (
-        "of bpftrace's `kretprobe:vfs_read` make what the trace holds, such as"
-        " `fbt::vfs_read:return`"
-    ),
     "interval": (
         "timers never fire in a trace: `timestamp / 1000000000` as a key gives an entry for each"
         " second"
@@ -106,7 +117,9 @@ WORDS = {
 
 
 class Near:
-    """A token of a refused script, with those before and after it."""
+    """A token of a refused script, with those before and after it. What is shown of their texts
+    is shortened, as a name or a text constant may fill the script.
+    """
 
     def __init__(self, tokens, at):
         self.tokens, self.at = tokens, at
@@ -116,6 +129,9 @@ class Near:
         """The text of the token `offset` places further on; empty where there is none."""
         at = self.at + offset
         return self.tokens[at].text if 0 <= at < len(self.tokens) else ""
+
+    def shown(self, offset):
+        return shortened(self.text(offset))
 
     def kind(self, offset):
         at = self.at + offset
@@ -133,11 +149,12 @@ class Near:
 
 
 def of_tokens(script, places):
-    """What is mistaken about the tokens at some places of a script, each mistake once."""
-    found = []
-    for place in places:
-        near = Near(script.tokens, place)
-        found += [guess for rule in RULES for guess in rule(near) if guess]
+    """What is mistaken about the tokens at some places of a line, each mistake once."""
+    nears, found = [Near(script.tokens, place) for place in places], []
+    comment = min((near.at for near in nears if begins_comment(near)), default=len(script.tokens))
+    for near in nears:
+        if near.at <= comment:
+            found += [guess for rule in RULES for guess in rule(near) if guess]
     return list(dict.fromkeys(found))
 
 
@@ -167,7 +184,7 @@ def quote(near):
     )
     if closing is None or near.token.line != near.tokens[closing].line:
         return "texts are in double quotes, and there are no character constants"
-    inside = joined(near.tokens[near.at + 1 : closing])
+    inside = shortened(joined(near.tokens[near.at + 1 : closing]))
     return f'texts are in double quotes: `"{inside}"`; of one character write the byte\'s number'
 
 
@@ -180,6 +197,13 @@ def hash_mark(near):
 
 
 def dollar(near):
+    name = near.text(1)
+    if near.token.place == HEAD and name.isdigit():
+        return '`$` is of awk: "From awk" in docs/COMING_FROM.md says what to write here'
+    if near.text(-1) == "pid" and near.token.place == HEAD:
+        return None  # the description is translated
+    if near.kind(1) == "word" and name not in MACROS and len(name) <= MOST_SHOWN:
+        return f"`${name}` is bpftrace's; in D it is `this->{name}`"
     return "there are no macro arguments: write the value itself" if near.kind(1) else None
 
 
@@ -194,7 +218,8 @@ def in_head(near):
 
 
 def dot(near):
-    return f"write `{near.text(-1)}->{near.text(1)}`" if near.text(-1) in ("this", "self") else None
+    scope = near.text(-1)
+    return f"write `{scope}->{near.shown(1)}`" if scope in ("this", "self") else None
 
 
 OF_BYTES = {
@@ -225,6 +250,25 @@ def words_of_others(near):
         first = token.text.split(":")[0]
         if first in WORDS and first not in ("str", "index"):
             yield WORDS[first]
+        yield advice(described(near))
+
+
+def described(near):
+    """A description of another tool, which may have marks: uprobe:/bin/sh:main, pid$target:..."""
+    text, end = near.text(0), near.at + 1
+    if not (near.text(1) == "$" or (text.endswith(":") and near.text(1) == "/")):
+        return text
+    while near.is_near(end - near.at) and near.tokens[end].text not in ("{", ","):
+        text += near.tokens[end].text
+        end += 1
+        if end > near.at + MOST_JOINED:
+            break
+    return text
+
+
+def queries(near):
+    if near.at == 0 and near.text(0).lower() == "select":
+        yield 'this is SQL: "From SQL" in docs/COMING_FROM.md says what to write here'
 
 
 def brackets(near):
@@ -235,10 +279,20 @@ def brackets(near):
         yield f"`{word}` is a function: `{word}({'' if word == 'count' else '..'})`"
     elif word in BUILTINS and after == "(":
         yield f"`{word}` is a variable: it has no brackets"
+    elif word == "exit" and near.text(2) == ")":
+        yield "`exit` takes a status: `exit(0)`"
+    elif word == "lquantize" and arguments(near) == 3:
+        yield "`lquantize` takes a step, too: `lquantize(value, lower, upper, step)`"
     elif word == "count" and near.text(2) not in (")", ""):
         yield "`count()` takes no argument; of a value take `sum`"
     elif word in FUNCTIONS - {"count"} and near.text(2) == ")":
         yield f"`{word}` takes a value: `{word}(arg0)`"
+
+
+def arguments(near):
+    """How many arguments a function has that is called here."""
+    end = group_end(near.tokens, near.at + 1)
+    return len(parts(near.tokens[near.at + 2 : end - 1]))
 
 
 def unquoted(near):
@@ -248,18 +302,20 @@ def unquoted(near):
         and near.text(1) not in ("(", "->")
     ):
         if near.text(0) not in BUILTINS | {"self", "this"}:
-            yield f'a text is in double quotes: `"{near.text(0)}"`'
+            yield f'a text is in double quotes: `"{near.shown(0)}"`'
 
 
 def declarations(near):
     """Words of types that declare something where that can't be."""
     kind, name = near.text(0), near.text(1)
-    if kind not in TYPES or near.text(-1) in ("self", "this", "->", "(", "[", ",", *TYPES):
+    before = ("self", "this", "inline", "->", "(", "[", ",", *TYPES)
+    if kind not in TYPES or near.text(-1) in before:
         return
     while name in TYPES:
         near = Near(near.tokens, near.at + 1)
         name = near.text(1)
     if near.kind(1) in ("word", "run") and re.fullmatch(r"\w+", name):
+        name = shortened(name)
         yield (
             f"there are no global variables: declare `self {kind} {name};` or `this {kind} {name};`"
             " before the first clause"
@@ -269,19 +325,21 @@ def declarations(near):
 def globals_(near):
     """A word that is assigned, or has keys, and is no variable."""
     token, word = near.token, near.text(0)
-    if token.kind != "word" or token.place != BODY or near.text(-1) in ("->", ".", "self", "this"):
+    before = ("->", ".", "$", "self", "this")
+    if token.kind != "word" or token.place != BODY or near.text(-1) in before:
         return
     if word in BUILTINS | set(CALLED) | set(WORDS) | set(TYPES):
         return
+    word = near.shown(0)
     if near.text(1) == "[":
         yield (
             f"there are no global arrays: `self->{word}[..]` is the thread's, and `@{word}[..]` an"
-            " aggregation"
+            f" aggregation; {SHARED}"
         )
     elif near.text(1) in ASSIGNING | {"++", "--"} or near.text(-1) in ("++", "--"):
         yield (
             f"there are no global variables: `self->{word}` is the thread's, and `@{word} ="
-            " count();` is all threads'"
+            f" count();` is all threads'; {SHARED}"
         )
         if near.text(2) == "timestamp":
             yield (
@@ -303,13 +361,17 @@ def aggregations(near):
         after = near.after_keys()
         if after in ASSIGNING - {"="} or after in ("++", "--"):
             yield (
-                f"an aggregation takes a function: `{near.text(0)}[keys] = count();` or `="
+                f"an aggregation takes a function: `{near.shown(0)}[keys] = count();` or `="
                 " sum(value);`"
             )
 
 
+def begins_comment(near):
+    return near.text(0) == near.text(1) == "/" and near.is_near(1) and not near.token.closes
+
+
 def comments(near):
-    if near.text(0) == "/" and near.text(1) == "/" and near.is_near(1) and not near.token.closes:
+    if begins_comment(near):
         yield "there are no comments after `//`: write `/* .. */`"
 
 
@@ -337,17 +399,17 @@ def formats(near):
     if near.token.kind != "text" or near.text(-2) != "printf":
         return
     for found in CONVERSION.finditer(near.text(0)):
-        shown = found[1]
-        if shown is None:
+        if found[1] is None:
             continue
-        if "@" in shown:
+        shown, end = shortened(found[1]), found[1][-1:]
+        if "@" in found[1]:
             yield (
                 "`%@` is of printa: aggregations are shown at the end, and dreplay-show lays"
                 " them out"
             )
-        elif shown[-1:] == "p":
+        elif end == "p":
             yield "`%p`: of an address write `%x`"
-        elif shown[-1:] in "feg" or "." in shown:
+        elif end in "feg" or "." in found[1]:
             yield f"`{shown}`: there are no fractions: `%d`, and a width such as `%8d`"
         else:
             yield (
@@ -362,6 +424,7 @@ RULES = [
     aggregations,
     unquoted,
     words_of_others,
+    queries,
     brackets,
     declarations,
     globals_,
@@ -379,7 +442,10 @@ def of_place(script, at):
     """What may be missing before a token that the grammar doesn't take there."""
     near = Near(script.tokens, at)
     before = near.text(-1)
-    if near.token.place == PREDICATE and near.text(0) == "{" and not script.tokens[at - 1].closes:
+    if near.kind(0) == "run" and at == len(script.tokens) - 1:
+        shown = near.text(0) if len(near.text(0)) <= MOST_SHOWN else "provider:::name"
+        yield f"a clause has a body: `{shown} {{ @[probefunc] = count(); }}`"
+    elif near.token.place == PREDICATE and near.text(0) == "{" and not script.tokens[at - 1].closes:
         yield "the slash that ends the predicate is missing: `/ condition / {`"
     elif at == len(script.tokens) - 1 and near.text(0) != "}" and near.token.place == BODY:
         yield "a brace `}` is missing at the end"
@@ -388,11 +454,49 @@ def of_place(script, at):
         and near.kind(0) in ("word", "aggregation")
         and ends_statement(near, before)
     ):
-        yield f"a semicolon may be missing after `{before}` in line {script.tokens[at - 1].line}"
+        line = script.tokens[at - 1].line
+        yield f"a semicolon may be missing after `{near.shown(-1)}` in line {line}"
     elif near.text(0) in (";", "}", "{") and (open_one := unclosed(script.tokens, at)):
         yield f"`{open_one.text}` in line {open_one.line}, column {open_one.column} isn't closed"
     elif near.text(0) in (")", "]") and unclosed(script.tokens, at) is None:
         yield f"nothing is open that `{near.text(0)}` could close"
+
+
+def of_control(tokens, at):
+    """What to write for an `if` or a loop that leads the statement or the block of a token.
+
+    dreplay refuses what follows it: the statement, or what stands after the block, as the brace
+    that ends the block ends the clause.
+    """
+    blocks = open_blocks(tokens[:at]) if tokens[at].place == HEAD else []
+    leading = [leader(tokens, place) for place in (at, *reversed(blocks))]
+    return [CONTROLS[word] for word in leading if word in CONTROLS][:1]
+
+
+def open_blocks(tokens):
+    """The places of the last braces that open blocks in a clause whose own brace isn't closed."""
+    depth, blocks = 0, []
+    for place, token in enumerate(tokens):
+        if token.text == "}":
+            depth = max(depth - 1, 0)
+        elif token.text == "{":
+            depth += 1
+            if depth == 1:
+                blocks.clear()
+            else:
+                blocks.append(place)
+    return blocks[-MOST_JOINED:] if depth else []
+
+
+def leader(tokens, at):
+    """The word before a place, or before the parentheses that end there."""
+    depth = 0
+    for place in range(at - 1, -1, -1):
+        text = tokens[place].text
+        depth += (text == ")") - (text == "(")
+        if depth == 0 and text != "(":
+            return text
+    return ""
 
 
 def ends_statement(near, before):
@@ -434,18 +538,15 @@ def of_variable(script, at):
         if is_assigned(script.tokens, place, scope, name)
     ]
     if not assigned:
-        yield f"nothing assigns `{name}`"
+        yield f"nothing assigns `{near.shown(2)}`"
         return
-    right = right_side(script.tokens, assigned[0])
-    kind = (
-        "string"
-        if script.variables.get((scope, name))
-        else "uint64_t" if "timestamp" in right else "int64_t"
-    )
-    shown = f"{scope} {kind} {name}{'[..]' if keys else ''};"
+    is_time = any("timestamp" in right_side(script.tokens, place) for place in assigned)
+    kind = "uint64_t" if is_time else "int64_t"
+    kind = "string" if script.variables.get((scope, name)) else kind
+    name, line = near.shown(2), script.tokens[assigned[0]].line
     yield (
-        f"`{name}` is assigned in line {script.tokens[assigned[0]].line}, and not before: declare"
-        f" `{shown}` on top"
+        f"`{name}` is assigned in line {line}, and not before: declare"
+        f" `{scope} {kind} {name}{'[..]' if keys else ''};` on top"
     )
 
 

@@ -2,7 +2,9 @@
 import argparse
 import re
 
-MOST_PARTS = 1000
+from .system_calls import MACHINES
+
+MOST_PARTS, MOST_JOBS = 1000, 64
 
 
 def seconds(shown):
@@ -29,10 +31,35 @@ def parts(shown):
     return int(shown)
 
 
+def jobs(shown):
+    if not re.fullmatch(r"[1-9]\d?", shown, re.ASCII) or int(shown) > MOST_JOBS:
+        raise argparse.ArgumentTypeError(
+            f"{quoted(shown)} is no number of processes from 1 to {MOST_JOBS}"
+        )
+    return int(shown)
+
+
 def process(shown):
     if not re.fullmatch(r"[1-9]\d{0,9}", shown, re.ASCII):
         raise argparse.ArgumentTypeError(f"{quoted(shown)} is no number of a process")
     return int(shown)
+
+
+def calls(shown):
+    """Names of calls, separated by commas."""
+    if not shown.replace(",", "").strip():
+        raise argparse.ArgumentTypeError("it has no name of a call, such as read or open*")
+    return shown
+
+
+def machine(shown):
+    """A machine whose numbers of system calls are known, or none."""
+    if shown not in (*MACHINES, "none"):
+        known = ", ".join(MACHINES)
+        raise argparse.ArgumentTypeError(
+            f"{quoted(shown)} is none of {known}, as 'uname -m' shows them, or none"
+        )
+    return shown
 
 
 def quoted(shown):
@@ -57,5 +84,6 @@ def add_machine(parser):
     parser.add_option(
         "--machine NAME",
         "the machine whose numbers of system calls raw_syscalls has, as 'uname -m' shows it "
-        "(this one)",
+        "(this one); none leaves numbers",
+        type=machine,
     )

@@ -1,9 +1,18 @@
 """Where the rows of a trace go: standard output, a file, or several files by thread."""
+import contextlib
 import os
+import shutil
+import stat
 import sys
+import tempfile
 
 from .ends import Failure
 from .trace import HEADER, MOST_ROWS
+
+
+UMASK = os.umask(0)
+os.umask(UMASK)
+MOST_OF_A_NAME = 50  # letters of a file's name in that of an unfinished one
 
 
 def is_regular(path):
@@ -12,19 +21,34 @@ def is_regular(path):
 
 
 class Replaced:
-    """A file that takes its place only when all of it is there. What is no regular file, such as a
-    pipe, is written as it is. A link stays, as /dev/stdout is one.
+    """A file that takes its place only when all of it is there, with the mode of the one that it
+    replaces. What is no regular file, such as a pipe, is written as it is. A link stays, as
+    /dev/stdout is one.
     """
 
     def __init__(self, path, mode="wb", **how):
-        self.path = os.path.realpath(path)
+        self.path, self.part = os.path.realpath(path), None
         in_place = not path or (os.path.exists(path) and not is_regular(path))
-        self.part = None if in_place else f"{self.path}.part"
         try:
-            self.file = open(self.part or path, mode, **how)
+            self.file = open(path if in_place else self.opened(), mode, **how)
         except OSError as why:
+            self.abandon()
             why.filename = path
             raise
+
+    def opened(self):
+        """A new file beside the one that it will replace, which no other run has."""
+        folder, name = os.path.split(self.path)
+        number, self.part = tempfile.mkstemp(".part", f"{name[:MOST_OF_A_NAME]}.", folder)
+        try:
+            replaced = os.stat(self.path)
+        except FileNotFoundError:
+            os.fchmod(number, 0o666 & ~UMASK)
+        else:
+            with contextlib.suppress(PermissionError):  # another's file becomes one's own
+                os.fchown(number, replaced.st_uid, replaced.st_gid)
+            os.fchmod(number, stat.S_IMODE(replaced.st_mode) & 0o777)
+        return number
 
     def keep(self):
         """Ends a file that is complete."""
@@ -37,7 +61,8 @@ class Replaced:
         """Ends a file that isn't complete. One that was to be replaced stays as it was."""
         part, self.part = self.part, None
         if part:
-            os.unlink(part)
+            with contextlib.suppress(FileNotFoundError):
+                os.unlink(part)
 
     def __enter__(self):
         return self.file
@@ -48,6 +73,16 @@ class Replaced:
                 self.keep()
         finally:
             self.abandon()
+
+
+@contextlib.contextmanager
+def named(path):
+    """Says of an error of the system which file it is about."""
+    try:
+        yield
+    except OSError as why:
+        why.filename = why.filename or path
+        raise
 
 
 class Sink:
@@ -64,15 +99,34 @@ class Sink:
         self.begun = True
         rows = "".join(shown)
         self.rows += rows_in(rows)
-        self.file.write((head + rows).encode("utf-8"))
+        with named(self.path):
+            self.file.write((head + rows).encode("utf-8"))
+
+    def fill(self, write):
+        """Has `write` write the whole trace, with its header, to a file. Returns whether it did;
+        what it wrote otherwise is taken back.
+        """
+        with contextlib.ExitStack() as closed:
+            is_own = self.replaced is not None and self.replaced.part is not None
+            file = self.file if is_own else closed.enter_context(tempfile.TemporaryFile())
+            self.begun = write(file)
+            if is_own and not self.begun:
+                file.seek(0)
+                file.truncate()
+            elif self.begun and not is_own:
+                file.seek(0)
+                with named(self.path):
+                    shutil.copyfileobj(file, self.file)
+        return self.begun
 
     def keep(self):
         """Ends a trace that is complete."""
         self.write([])
-        if self.replaced:
-            self.replaced.keep()
-        else:
-            self.file.flush()
+        with named(self.path):
+            if self.replaced:
+                self.replaced.keep()
+            else:
+                self.file.flush()
 
     def abandon(self):
         """Ends a trace that isn't complete."""
@@ -106,6 +160,10 @@ class Output:
             cut.setdefault(part, []).append(text)
         for part, texts in cut.items():
             part.write(texts)
+
+    def fill(self, write):
+        """Has `write` write the whole trace of the only part, and returns whether it did."""
+        return self.parts[0].fill(write)
 
     def part(self, thread):
         """The part of a thread. A new thread goes where the fewest rows are."""

@@ -6,15 +6,17 @@ import mmap
 import os
 import re
 import shutil
+import struct
 import subprocess
 import tempfile
 
 from .ends import Failure, shortened
 from .fields import BadEvent, integer
-from .tracepoints import Event, Probe, placed, probe_of, raw_call, returned
-from .trace import signed
+from .tracepoints import Event, Lost, Probe, placed, probe_of, raw_call, returned
+from .trace import MOST_NUMBER, signed
 
 NOTHING_CONVERTED = 3
+NUMBERS = range(MOST_NUMBER + 1)  # of threads and processes
 WORDS_OF_A_NAME, MOST_OF_A_RECORD, MOST_OF_A_FORMAT = 64, 100_000, 20_000
 THREAD = re.compile(r"(-?\d{1,10})(?:/(-?\d{1,10}))?", re.ASCII)
 CPU = re.compile(r"\[(\d{1,10})\]", re.ASCII)
@@ -23,24 +25,30 @@ EVENT = re.compile(r"([\w-]{1,100}):([\w.-]{1,250}):", re.ASCII)
 COUNTER = re.compile(r"[\w./,=-]{1,250}:(?:[ukhpPGHSDWIeb]{1,12}:)?", re.ASCII)
 MODIFIERS = re.compile(r"[ukhpPGHSDWIeb]{1,12}", re.ASCII)
 FRAME = re.compile(r"\s+[0-9a-f]{1,16} ", re.ASCII)
+LOST = re.compile(r": PERF_RECORD_LOST(?:_SAMPLES)? lost (\d{1,20})$", re.ASCII)
 WORD = re.compile(r"\S+")
 FORMAT = re.compile(rb"name: ([\w.]{1,250})\nID: \d{1,9}\nformat:\n")
 SIGNED_FIELD = re.compile(
     rb"\tfield:[^;\n]{0,200}?(\w{1,80});\toffset:\d{1,9};\tsize:([124]);\tsigned:1;"
 )
 TEXT_FIELDS = "comm,pid,tid,cpu,time,event,trace"
+# Of a file of perf: its first numbers, of which the last are place and size of the records; what a
+# record begins with, a number of 64 bits, and records of some kinds.
+DATA, RECORD, NUMBER = struct.Struct("<7Q"), struct.Struct("<IHH"), struct.Struct("<Q")
+LOST_EVENTS, LOST_SAMPLES, TRACING_DATA, AUXTRACE, BY_A_FILTER = 2, 13, 66, 71, 1 << 15
+SIZE_IN_A_PIPE = 16  # of the header of a recording that perf wrote to a pipe
 
 
 def events_of(line, names):
     """The event of a line of 'perf script'; no event of a line that is none and may be there."""
-    if (
-        not line.strip()
-        or line.startswith("#")
-        or (FRAME.match(line) and line.rstrip().endswith(")"))
-    ):
+    if not line.strip() or line.startswith("#"):
         return []
     found = beginning(line)
     if not found:
+        if lost := LOST.search(line):
+            return [Lost(int(lost[1]))]
+        if FRAME.match(line) and line.rstrip().endswith(")"):
+            return []  # of a stack. A name such as dd has the digits of an address, too
         raise BadEvent("it is no event of a tracepoint or a probe")
     name, first, second, cpu, time, event, rest = found
     system, function = EVENT.fullmatch(event).groups() if EVENT.fullmatch(event) else ("", "")
@@ -49,7 +57,8 @@ def events_of(line, names):
     probe = probe_of(system, function, rest.strip(), names)
     thread, process = (int(first), None) if second is None else (int(second), int(first))
     if thread < 0:  # it has ended
-        thread = integer(probe.fields.get("prev_pid", ""))
+        own = "pid" if function == "sched_stat_runtime" else "prev_pid"
+        thread = integer(probe.fields.get(own, ""))
         if thread is None or thread < 0:
             raise BadEvent("its thread had ended, and perf doesn't tell its number")
         name = probe.fields.get("prev_comm", name)
@@ -122,7 +131,7 @@ def events_of_record(line, names, signs):
         probe = probe_of_fields(system, function, fields, args, names)
     except (ValueError, KeyError, TypeError, AttributeError, RecursionError):
         raise BadEvent("it is no record of recorders/perf.py")
-    return [Event(name, thread, process if process >= 0 else None, cpu, time, probe)]
+    return [Event(name, thread, process if process in NUMBERS else None, cpu, time, probe)]
 
 
 def whole(value):
@@ -196,6 +205,41 @@ def signs_of(file):
     return {(event, name): size for event, own in known for name, size in own.items()}
 
 
+def lost_of(file):
+    """How many events a recording says were lost, by its records of that.
+
+    A kernel of 6.0 or later has the sum of each event at the end as well, in records of samples.
+    """
+    in_gaps = in_sums = 0
+    with mmap.mmap(file.fileno(), 0, access=mmap.ACCESS_READ) as whole:
+        for kind, misc, place, size in records_of(whole):
+            if kind == LOST_EVENTS and size >= 24:
+                in_gaps += NUMBER.unpack_from(whole, place + 16)[0]
+            elif kind == LOST_SAMPLES and size >= 16 and not misc & BY_A_FILTER:
+                in_sums += NUMBER.unpack_from(whole, place + 8)[0]
+    return max(in_gaps, in_sums)
+
+
+def records_of(whole):
+    """Kind, flags, place and size of each record of a recording."""
+    if len(whole) < DATA.size:
+        return
+    _, size_of_header, _, _, _, place, size = DATA.unpack_from(whole)
+    if size_of_header == SIZE_IN_A_PIPE:
+        place, size = SIZE_IN_A_PIPE, 0
+    end = min(place + size if size else len(whole), len(whole))
+    while place + RECORD.size + NUMBER.size <= end:
+        kind, misc, size = RECORD.unpack_from(whole, place)
+        if size < RECORD.size:
+            return
+        yield kind, misc, place, size
+        if kind == AUXTRACE:  # its data follows
+            size += NUMBER.unpack_from(whole, place + RECORD.size)[0]
+        elif kind == TRACING_DATA:  # likewise, up to a multiple of 8 bytes
+            size += -(-(NUMBER.unpack_from(whole, place + RECORD.size)[0] & 0xFFFFFFFF) // 8) * 8
+        place += size
+
+
 def recorder():
     """Where recorders/perf.py is, beside the tools' modules."""
     return os.path.join(
@@ -211,7 +255,8 @@ def records_or_text(file, tool):
     """
     if not shutil.which("perf"):
         raise Failure(
-            f"perf is not installed; where it is, try 'perf script -i FILE -F {TEXT_FIELDS} --ns'"
+            "perf is not installed; where it is, try 'perf script -i FILE "
+            f"-F {TEXT_FIELDS} --ns --show-lost-events'"
         )
     records, _ = run_perf(file, "-s", recorder())
     if ended_well(records):

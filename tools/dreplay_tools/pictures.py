@@ -4,8 +4,10 @@ screen readers.
 from dataclasses import dataclass
 from html import escape
 
+from .axes import are_numbers, on_scale
 from .forms import total_of
 from .labels import SHARE, aligned, cut, interval, name, numbered, padded, width
+from .percentiles import percentile
 
 MOST_BARS, MOST_BUCKETS, MOST_CHARTS = 40, 1000, 40
 EIGHTHS = " ▏▎▍▌▋▊▉█"
@@ -42,6 +44,13 @@ class Chart:
     unit: str
     more: int = 0  # how many bars aren't drawn
     of: str = "entries"  # what the bars are
+    percentiles: str = ""
+
+    @property
+    def notes(self):
+        """The lines below it: how many bars aren't drawn, and its percentiles."""
+        more = and_more(self.more, self.of) if self.more else ""
+        return [line for line in (more, self.percentiles) if line]
 
 
 def charts(all_shown, args):
@@ -60,7 +69,7 @@ def charts(all_shown, args):
 
 
 def histogram(shown, keys, rows, args):
-    total = sum(row.count for row in rows)
+    total, found = sum(row.count for row in rows), shown_percentiles(rows, args)
     rows, more = largest(rows, MOST_BUCKETS, lambda row: row.count)
     unit = SHARE if args.value_unit == SHARE else None
     what = f"{shown.title} {shown.aggregation.value_name}"
@@ -75,18 +84,26 @@ def histogram(shown, keys, rows, args):
         None,
         more,
         "buckets",
+        found,
     )
+
+
+def shown_percentiles(rows, args):
+    """The percentiles of a histogram that are asked for, in a line."""
+    found = [(percent, percentile(rows, percent)) for percent in args.percentiles or ()]
+    return ", ".join(f"p{percent} {interval(row, args.unit)}" for percent, row in found if row)
 
 
 def bars_of(shown, args):
     """The chart of an aggregation of numbers: the largest entries."""
     total = total_of(shown) if args.value_unit == SHARE else 0
-    entries, more = largest(shown.entries, MOST_BARS, lambda entry: abs(entry[1]))
-    labels = [[name(key) for key in keys] or [shown.title] for keys, _ in entries]
+    labels, values, more = labelled_bars(shown, args)
     right = [not is_text for is_text in shown.aggregation.texts] or [False]
-    values = [value for _, value in entries]
     unit = None if args.value_unit == SHARE else args.value_unit
-    shown_values = [numbered(value, args.value_unit, total) for value in values]
+    shown_values = [
+        "" if value is None else numbered(value, args.value_unit, total) for value in values
+    ]
+    values = [value or 0 for value in values]
     return Chart(
         f"{shown.title} {shown.aggregation.value_name}",
         "",
@@ -97,6 +114,20 @@ def bars_of(shown, args):
         unit,
         more,
     )
+
+
+def labelled_bars(shown, args):
+    """The labels and values of bars, and how many entries have none: the largest ones, or by number
+    on a scale, where a mark of a gap has no value.
+    """
+    ones = [keys[0] for keys, _ in shown.entries if len(keys) == 1]
+    if args.sort == "key" and are_numbers(ones):
+        bars = on_scale(shown.entries, shown.aggregation.function, args, MOST_BARS)
+        if bars is not None:
+            return [[label] for label, _ in bars], [value for _, value in bars], 0
+    entries, more = largest(shown.entries, MOST_BARS, lambda entry: abs(entry[1]))
+    labels = [[name(key) for key in keys] or [shown.title] for keys, _ in entries]
+    return labels, [value for _, value in entries], more
 
 
 def largest(some, most, size):
@@ -132,8 +163,7 @@ def in_terminal(chart, columns):
     for label, value, shown in zip(labels, chart.values, chart.shown):
         place = padded(label, left, right=chart.right == [True])
         yield f"  {place} {padded(shown, numbers, right=True)} {bar(value, scale, before)}".rstrip()
-    if chart.more:
-        yield f"  {and_more(chart.more, chart.of)}"
+    yield from (f"  {note}" for note in chart.notes)
 
 
 def in_columns(rows, right):
@@ -250,9 +280,10 @@ def chart_at(chart, top, wide):
         )
         parts.append(text_at(max(start + length, axis.zero) + 6, y + 12, shown, "muted"))
     parts.append(line(axis.zero, begin - 4, axis.zero, end + 2, "axis"))
-    if chart.more:
-        parts.append(text_at(left, end + 36, and_more(chart.more, chart.of), "muted"))
-    return parts, end + 22 - top + (18 if chart.more else 0)
+    for place, note in enumerate(chart.notes):
+        shown = cut(note, max(10, int((wide - left) / 8)))
+        parts.append(text_at(left, end + 36 + 18 * place, shown, "muted"))
+    return parts, end + 22 - top + 18 * len(chart.notes)
 
 
 def labels_of(chart):

@@ -8,17 +8,20 @@ import io
 import itertools
 from collections import Counter, namedtuple
 
+from .descriptions import translated
+from .ends import shortened
 from .patterns import matches
 from .trace import COLUMNS, TEXT_BYTES
 
 Probe = namedtuple("Probe", "provider module function name")
-FIRST = COLUMNS.index("provider")
+FIRST, LAST = COLUMNS.index("provider"), COLUMNS[-1]
+OPTIONS = {"probemod": "--paths", LAST: "--ppid"}  # by which the converter of strace fills it
 OWN = [Probe("dtrace", "", "", "BEGIN"), Probe("dtrace", "", "", "END")]
 MOST_LOOKED_AT = 2_000_000  # comparisons of a description with a probe, or of letters
 MOST_NEAR = 1000  # probes among which the nearest is sought
 MOST_LIKE = 64  # letters of a name that are compared
 MOST_STEPS = 4_000_000  # of comparisons of names for the nearest, as steps_of counts them
-MOST_NAMED = 10
+MOST_NAMED, MOST_SHOWN = 10, 200  # descriptions, and bytes of each
 NEVER = {
     "tick": (
         "timers never fire in a trace: `timestamp / 1000000000` as a key gives an entry for each"
@@ -29,20 +32,41 @@ NEVER = {
 }
 
 
+class Found(Counter):
+    """How many rows each probe has, and whether the last argument of any is there."""
+
+    has_last = False
+
+    def take(self, file):
+        """Adds the rows of a trace; each byte of the file is read as one letter."""
+        text, found = io.TextIOWrapper(file, encoding="latin-1", newline=""), Counter()
+        text.readline()
+        while block := text.readlines(1 << 24):
+            if any('"' in line for line in block):
+                self.take_rows(csv.reader(itertools.chain(block, text)), found)
+                break
+            found.update(tuple(line.split(",", FIRST + 4)[FIRST : FIRST + 4]) for line in block)
+            self.has_last = self.has_last or not all(map(ends_in_comma, block))
+        self.update({Probe(*probe): count for probe, count in found.items() if is_probe(probe)})
+
+    def take_rows(self, rows, found):
+        """Counts rows of which some have quotes."""
+        csv.field_size_limit(2**31 - 1)
+        for row in rows:
+            if len(row) == len(COLUMNS):
+                found[tuple(row[FIRST : FIRST + 4])] += 1
+                self.has_last |= row[-1] != ""
+
+
+def ends_in_comma(line):
+    return line.rstrip("\r\n").endswith(",")
+
+
 def probes_of(file):
-    """How many rows of a trace each probe has; each byte of the file is read as one letter."""
-    text = io.TextIOWrapper(file, encoding="latin-1", newline="")
-    text.readline()
-    found, block = Counter(), text.readlines(1 << 24)
-    while block:
-        if any('"' in line for line in block):
-            csv.field_size_limit(2**31 - 1)
-            rows = csv.reader(itertools.chain(block, text))
-            found.update(tuple(row[FIRST : FIRST + 4]) for row in rows if len(row) == len(COLUMNS))
-            break
-        found.update(tuple(line.split(",", FIRST + 4)[FIRST : FIRST + 4]) for line in block)
-        block = text.readlines(1 << 24)
-    return Counter({Probe(*probe): count for probe, count in found.items() if is_probe(probe)})
+    """The probes of a trace."""
+    found = Found()
+    found.take(file)
+    return found
 
 
 def is_probe(fields):
@@ -60,7 +84,7 @@ class Looked:
 
     def __init__(self, script, probes):
         self.probes, self.known, self.left = [*OWN, *probes], {}, MOST_LOOKED_AT
-        self.steps = MOST_STEPS
+        self.steps, self.script, self.has_last = MOST_STEPS, script, probes.has_last
         self.names = [set(names) for names in zip(*self.probes)]
         self.wrong, seen = [], set()
         for clause in script.clauses:
@@ -92,25 +116,49 @@ class Looked:
         """For each description that matches no row a line for a person."""
         for token in self.wrong[:MOST_NAMED]:
             yield (
-                f"line {token.line}: {token.text} matches no row:"
-                f" {self.remedy(patterns(token.text))}"
+                f"line {token.line}: {shortened(token.text, MOST_SHOWN)} matches no row:"
+                f" {self.remedy(token)}"
             )
         if len(self.wrong) > MOST_NAMED:
             yield f"{len(self.wrong) - MOST_NAMED:,} more descriptions match no row"
+        yield from self.empty_columns()
         if self.left <= 0:
             yield "there are too many descriptions and probes to look at all"
 
-    def remedy(self, wanted):
+    def empty_columns(self):
+        """For each column that a clause asks for, and that no row has, a line for a person."""
+        providers, modules, *_ = self.names
+        lacking = {}
+        if "syscall" in providers:
+            lacking = {"probemod": modules <= {""}, LAST: not self.has_last}
+        for token in self.script.tokens:
+            if token.kind == "word" and lacking.pop(token.text, False):
+                yield (
+                    f"line {token.line}: {token.text} is empty in all rows: recordings of strace"
+                    f" have it with {OPTIONS[token.text]}"
+                )
+
+    def remedy(self, token):
+        wanted, meant = patterns(token.text), translated(token.text)
+        if meant:
+            has = self.has(patterns(meant.split(" ")[0]))
+            return f"in a trace it is {meant}" + ("" if has else ", and this one has none")
         for begin, why in NEVER.items():
             if wanted.name.startswith(begin):
                 return why
-        near = self.nearest(wanted)
+        near = self.with_words(wanted) or self.nearest(wanted)
         if near:
             return f"the nearest probe of the trace is {shown(near)}"
         return (
             "a script of `::: / tid / { @[probeprov, probemod, probefunc, probename] = count(); }`"
             " shows what there is"
         )
+
+    def with_words(self, wanted):
+        """A probe of the trace that has all words of a description, if in other fields."""
+        words = {field for field in wanted if field}
+        found = (probe for probe in self.probes[len(OWN) :][:MOST_NEAR] if words <= set(probe))
+        return next(found, None)
 
     def nearest(self, wanted):
         """The probe of the trace whose names are most like those of a description."""

@@ -430,9 +430,9 @@ SYSTEM = [
         "",
         "Memory ran out.",
         (
-            "Take a part of the trace, or a machine with more memory. A trace of 1,000,000 rows"
-            " takes 2 to 15 times the size of its file, and more with variables on very many"
-            " threads."
+            "Take a part of the trace, or a machine with more memory. A trace takes up to three"
+            " times the size of its file where its names repeat, up to 20 times where they all"
+            " differ, and more with variables on very many threads."
         ),
         (),
     ),

@@ -50,11 +50,16 @@ NOTES = r"(?:\(\+ +\d+\.\d+\) )?(?:\[[ 0-9a-f?]+\] )*"
 MIDNIGHT = 24 * 60 * 60 * 10**9
 THE_THREAD = "1"  # of a recording that shows none, as that of strace without -f
 
+BEGINNING = re.compile(r"\d{1,10}(?: +[\d.]*)?", re.ASCII)  # of a line, and no more
 SYMBOL = "*"  # stands for an argument that is no integer, such as O_RDONLY
 
 
 class BadLine(Exception):
     """A line that isn't one of strace's, or that was cut off."""
+
+
+class CutOff(BadLine):
+    """A line whose end is missing."""
 
 
 def nanoseconds(seconds, fraction):
@@ -232,7 +237,7 @@ class Shape:
         """The thread, the time in nanoseconds and the event of a line."""
         found = self.line.fullmatch(line)
         if not found:
-            raise BadLine(cause_of(line))
+            raise (CutOff if BEGINNING.fullmatch(line) else BadLine)(cause_of(line))
         thread, time = found[1], self.time(found[2], found[3])
         if self.on_terminal:
             thread = self.on_terminal.thread(thread, found[4])

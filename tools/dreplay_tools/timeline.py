@@ -9,6 +9,7 @@ import json
 from .ends import Failure
 from .trace import COLUMNS
 
+FIRST_ARG = COLUMNS.index("arg0")
 PHASES = {"entry": "B", "return": "E"}
 
 
@@ -37,22 +38,25 @@ class Events:
     """The rows of a trace as events, in microseconds since its first row."""
 
     def __init__(self):
-        self.first, self.named = None, set()
+        self.first, self.processes, self.threads = None, set(), {}
+
+    def new_names(self, process, thread, name):
+        """What has a name that wasn't told yet."""
+        if (process, name) not in self.processes:
+            self.processes.add((process, name))
+            yield "process_name"
+        if self.threads.get((process, thread)) != name:
+            self.threads[process, thread] = name
+            yield "thread_name"
 
     def of(self, row):
-        """The events of a row: before the first of a process its name."""
+        """The events of a row: before those of a process or thread its name, where that is new."""
         thread, process, time, name = int(row[2][:20]), int(row[3][:20]), int(row[5][:20]), row[9]
         if self.first is None:
             self.first = time
-        if (process, row[4]) not in self.named:
-            self.named.add((process, row[4]))
-            yield {
-                "ph": "M",
-                "name": "process_name",
-                "pid": process,
-                "tid": thread,
-                "args": {"name": row[4]},
-            }
+        for kind in self.new_names(process, thread, row[4]):
+            args = {"name": row[4]}
+            yield {"ph": "M", "name": kind, "pid": process, "tid": thread, "args": args}
         phase = PHASES.get(name, "i")
         title = row[8] if phase != "i" else ":".join(row[6:10])
         event = {
@@ -63,4 +67,11 @@ class Events:
             "tid": thread,
             "ts": (time - self.first) / 1000,
         }
-        yield event if phase != "i" else event | {"s": "t"}
+        if args := arguments(row[FIRST_ARG:]):
+            event["args"] = args
+        yield event if phase != "i" else {**event, "s": "t"}
+
+
+def arguments(fields):
+    """The arguments of a row that aren't empty, by their names."""
+    return {f"arg{place}": int(field[:20]) for place, field in enumerate(fields) if field}

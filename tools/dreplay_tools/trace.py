@@ -69,9 +69,19 @@ class Rows:
         if len(rows) >= self.IN_A_CHUNK:
             self.next_chunk()
 
+    def put_all(self, shown):
+        """Adds rows likewise, of several lines."""
+        self.chunk.rows += shown
+        if len(self.chunk.rows) >= self.IN_A_CHUNK:
+            self.next_chunk()
+
     def open(self):
         """Adds a row that is filled in later, by `close` of its place."""
         self.number += 1
+        return self.open_numbered()
+
+    def open_numbered(self):
+        """The same, of a row that is counted already."""
         place = self.chunk, len(self.chunk.rows)
         self.chunk.open += 1
         self.put(None)

@@ -48,6 +48,13 @@ class Probe:
 
 
 @dataclass
+class Lost:
+    """So many events that the recorder has lost; none where it doesn't say how many."""
+
+    count: int = None
+
+
+@dataclass
 class Event:
     """An event: where and when it was, and its probe. The process may be unknown, and of an ended
     thread the thread.

@@ -3,6 +3,8 @@ nothing else.
 """
 from html import escape
 
+from . import page_parts
+from .comparison import Compared
 from .forms import table
 from .heat import WIDEST_COLUMN, WIDEST_ROW, caption, has_heat, heat_of
 from .labels import SHARE, cut, interval, name, numbered, printable
@@ -10,6 +12,7 @@ from .pictures import MOST_BUCKETS, MOST_CHARTS, and_more, largest
 
 MOST_ROWS = 20_000
 WIDEST_INTERVAL = 28  # of a histogram's labels in one line
+FEWEST_IN_HEAT = 3  # rows and columns, below which a heat map shows no more than a table
 
 STYLE = """
 :root { color-scheme: light dark; --surface: #ffffff; --ink: #1f2328; --muted: #59636e;
@@ -35,7 +38,6 @@ pre { background: var(--head); padding: .75rem; overflow-x: auto; border-radius:
   linear-gradient(var(--surface), var(--surface)) right / 10px 100% no-repeat local,
   linear-gradient(transparent, var(--grid)) bottom / 100% 10px no-repeat,
   linear-gradient(to right, transparent, var(--grid)) right / 10px 100% no-repeat; }
-@media print { .scroll, pre { max-height: none; } }
 table { border-collapse: collapse; font-variant-numeric: tabular-nums; }
 table.data { width: 100%; }
 th, td { padding: .2rem .6rem; text-align: left; vertical-align: top;
@@ -67,8 +69,20 @@ th[aria-sort=descending] button::after { content: " \\25be"; }
 .heat td { border: 1px solid var(--surface); padding: 0; min-width: 1.3rem; height: 1.15rem;
   background: rgba(var(--heat), var(--v, 0)); }
 .heat tbody th { position: sticky; left: 0; background: var(--surface); text-align: right; }
-.heat tfoot th { writing-mode: vertical-rl; transform: rotate(180deg); text-align: right;
-  max-height: 12rem; padding: .3rem 0; }
+.heat tfoot th { writing-mode: vertical-rl; text-orientation: sideways; transform: rotate(180deg);
+  text-align: right; max-height: 12rem; padding: .3rem 0; }
+.track i, .heat td, .key i, .scale i { -webkit-print-color-adjust: exact;
+  print-color-adjust: exact; }
+@media print { .scroll { overflow: visible; } .scroll, pre { max-height: none; }
+  .heat { font-size: .5rem; } .heat td { min-width: 0; width: .55rem; }
+  .heat tfoot th { line-height: 1; }
+  .cards { grid-template-columns: repeat(3, 1fr); gap: .5rem; }
+  .card { font-size: .65rem; padding: .4rem; }
+  .card .track, .pair .track { height: .45rem; margin-top: .1rem; }
+  table.data { font-size: .75rem; } .data .number { white-space: normal; }
+  .data th, .data td { padding: .15rem .3rem; overflow-wrap: break-word; }
+  thead th { position: static; } tr, .card, h2, h3 { break-inside: avoid; }
+  h2, h3 { break-after: avoid; } }
 """
 
 SCRIPT = """
@@ -103,20 +117,25 @@ HEAD = """<!DOCTYPE html>
 """
 
 
-def page(texts, all_shown, args, script):
+def page(texts, all_shown, args, script, origin):
     """The lines of a page."""
-    yield HEAD.format(title=escape(args.title or "An answer of dreplay"), style=STYLE)
+    from . import compared_page
+
+    style = STYLE + page_parts.STYLE + compared_page.STYLE
+    yield HEAD.format(title=escape(args.title or "An answer of dreplay"), style=style)
     if not all_shown:
         yield "<p>No aggregation has an entry.</p>"
     for shown in all_shown:
-        yield from section(shown, args)
+        is_compared = isinstance(shown, Compared)
+        yield from (compared_page.section if is_compared else section)(shown, args)
     if texts:
         yield "<h2>Texts</h2>"
         yield f"<pre>{escape(in_lines(texts))}</pre>"
     if script is not None:
         yield "<h2>Script</h2>"
         yield f"<pre>{escape(in_lines(script.text))}</pre>"
-    yield f"<script>{SCRIPT}</script>\n</body>\n</html>"
+    yield from origin.foot()
+    yield f"<script>{SCRIPT}{page_parts.SCRIPT}</script>\n</body>\n</html>"
 
 
 def in_lines(text):
@@ -134,9 +153,13 @@ def section(shown, args):
         f"<p><code>{escape(printable(aggregation.value_name))}</code>{by};"
         f" {count_of(len(shown.entries), 'entry', 'entries')}</p>"
     )
-    if has_heat(shown) and len(shown.entries) > 1:
-        yield from heat_table(heat_of(shown, args))
+    if has_heat(shown):
+        heat = heat_of(shown, args)
+        if min(len(heat.rows), len(heat.columns)) >= FEWEST_IN_HEAT:
+            yield from heat_table(heat)
     if aggregation.is_histogram:
+        if args.percentiles:
+            yield from data_table(shown, args, with_bars=False)
         yield '<div class="cards">'
         for keys, rows in shown.entries[:MOST_CHARTS]:
             yield from card(keys, rows, args)
@@ -144,7 +167,8 @@ def section(shown, args):
         if len(shown.entries) > MOST_CHARTS:
             yield f"<p>{and_more(len(shown.entries) - MOST_CHARTS, 'histograms')}</p>"
         yield "<details><summary>All buckets</summary>"
-        yield from data_table(shown, args, with_bars=False)
+        whole = type(args)(**{**vars(args), "percentiles": None})
+        yield from data_table(shown, whole, with_bars=False)
         yield "</details>"
     else:
         yield from data_table(shown, args, with_bars=True)
@@ -177,7 +201,12 @@ def data_table(shown, args, with_bars):
         )
     yield ("<th class=bars></th>" if with_bars else "") + "</tr></thead><tbody>"
     for row, value in zip(rows, sorts):
-        cells = [*map(cell, row[:-1], is_number), cell(row[-1], True, value)]
+        keys = len(shown.aggregation.keys)
+        cells = [
+            cell(part, number, is_key=place < keys)
+            for place, (part, number) in enumerate(zip(row[:-1], is_number))
+        ]
+        cells.append(cell(row[-1], True, value))
         yield "<tr>" + "".join(cells) + (
             f'<td class="bars">{bars.of(value)}</td>' if with_bars else ""
         ) + "</tr>"
@@ -186,16 +215,16 @@ def data_table(shown, args, with_bars):
         yield f"<p>{and_more(more, 'rows')}</p>"
 
 
-def cell(value, is_number, sort=None):
-    """A cell of a table; numbers sort by what they are."""
+def cell(value, is_number, sort=None, is_key=False):
+    """A cell of a table; numbers sort by what they are. A key, such as a pid, is a name."""
     sort = value if isinstance(value, int) else sort
     by = f' data-n="{sort}"' if isinstance(sort, int) else ""
     shown = (
-        f"{value:,}"
+        format(value, "d" if is_key else ",d")
         if isinstance(value, int)
         else name(value) if not is_number else printable(value)
     )
-    return f"<td{' class=number' * is_number}{by}>{escape(shown)}</td>"
+    return f"<td{' class=number' * is_number}{by}>{escape(shown).replace('_', '_<wbr>')}</td>"
 
 
 class Bars:
@@ -246,6 +275,8 @@ def heat_table(heat):
         ) + "</tr>"
     labels = "".join(heat_label("col", column, WIDEST_COLUMN) for column in heat.columns)
     yield f"</tbody><tfoot><tr><td></td>{labels}</tr></tfoot></table></div>"
+    if heat.most:
+        yield page_parts.scale(heat.most)
 
 
 def heat_label(scope, label, most):

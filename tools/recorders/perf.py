@@ -10,6 +10,7 @@ import struct
 import sys
 
 ARGUMENTS = slice(16, 64)  # of the bytes of raw_syscalls:sys_enter
+NUMBERS = range(2**31)  # of threads; perf tells the -1 of one that has ended as 2^32 - 1
 events = 0
 
 
@@ -37,7 +38,7 @@ def trace_unhandled(event_name, context, fields, sample):
             key: plain(value) for key, value in fields.items() if not key.startswith("common_")
         },
     }
-    if where["tid"] < 0:  # the thread has ended
+    if where["tid"] not in NUMBERS:  # the thread has ended
         record.update(tid=fields["common_pid"], comm=fields.get("prev_comm", fields["common_comm"]))
     raw = sample["raw_buf"]
     if name == "raw_syscalls:sys_enter" and len(raw) >= ARGUMENTS.stop:

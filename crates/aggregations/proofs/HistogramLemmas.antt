@@ -67,24 +67,13 @@ more_used f old new k more within here others =
     ap (seen f) (changed_at (used_at old) (used_at new) (buckets f) k (get_or (counts_used f old) k 0 + more) within
     (here ∙ ap (λ n. n + more) (sym (count_used f old k within))) (λ b lt ne. others b ne))
 
-pub inserted_used : (f : Scale) (old new : List (ℕ × ℕ)) (k more : ℕ) → k < buckets f → lookup (nat_eq k) old ≡ None
-    → ((q : ℕ) → lookup (nat_eq q) new ≡ cond (nat_eq k q) (Some more) (lookup (nat_eq q) old))
+-- a bucket gets more
+pub put_used : (f : Scale) (old new : List (ℕ × ℕ)) (k more : ℕ) → k < buckets f
+    → ((q : ℕ) → lookup (nat_eq q) new ≡ cond (nat_eq k q) (Some (used_at old k + more)) (lookup (nat_eq q) old))
     → seen f (counts_used f new) ≡ with_more (seen f (counts_used f old)) k more
-inserted_used f old new k more within gone up = more_used f old new k more within
-    (let now : used_at new k ≡ more = ap (λ o. unwrap_or o 0) (up k ∙ ap (λ b. cond b (Some more) (lookup (nat_eq k) old)) (eq-eqb k k refl)) in
-    let was : used_at old k ≡ 0 = ap (λ o. unwrap_or o 0) gone in
-    omega arith)
-    (λ q ne. ap (λ o. unwrap_or o 0) (up q ∙ ap (λ b. cond b (Some more) (lookup (nat_eq q) old)) (ne_eqb k q (λ e. ne (sym e)))))
-
-pub written_used : (f : Scale) (old new : List (ℕ × ℕ)) (k was more : ℕ) → k < buckets f → lookup (nat_eq k) old ≡ Some was
-    → lookup (nat_eq k) new ≡ Some (was + more)
-    → ((q : ℕ) → nat_eq k q ≡ false → lookup (nat_eq q) new ≡ lookup (nat_eq q) old)
-    → seen f (counts_used f new) ≡ with_more (seen f (counts_used f old)) k more
-written_used f old new k was more within there here others = more_used f old new k more within
-    (let now : used_at new k ≡ was + more = ap (λ o. unwrap_or o 0) here in
-    let before : used_at old k ≡ was = ap (λ o. unwrap_or o 0) there in
-    omega arith)
-    (λ q ne. ap (λ o. unwrap_or o 0) (others q (ne_eqb k q (λ e. ne (sym e)))))
+put_used f old new k more within up = more_used f old new k more within
+    (ap (λ o. unwrap_or o 0) (up k ∙ ap (λ b. cond b (Some (used_at old k + more)) (lookup (nat_eq k) old)) (eq-eqb k k refl)))
+    (λ q ne. ap (λ o. unwrap_or o 0) (up q ∙ ap (λ b. cond b (Some (used_at old k + more)) (lookup (nat_eq q) old)) (ne_eqb k q (λ e. ne (sym e)))))
 
 -- ---- one more argument
 
@@ -194,42 +183,31 @@ count_kept f used b kept = ⊎_elim (λ (lt : b < buckets f). count_used f used 
     nothing None e le = ap (λ o. unwrap_or o 0) e
     nothing (Some m) e le = let h = kept.each b m e in absurd (omega arith)
 
-pub kept_inserted : (f : Scale) (old new : List (ℕ × ℕ)) (k more : ℕ) → k < buckets f → 0 < more → AreUsed f old
-    → seen f (counts_used f new) ≡ with_more (seen f (counts_used f old)) k more → sum (counts_used f old) + more ≤ 2 ^ 52
-    → ((q n : ℕ) → lookup (nat_eq q) new ≡ Some n → (q ≡ k) × (0 < n) ⊎ (lookup (nat_eq q) old ≡ Some n)) → IsDistinct nat_eq (keys_of new) → AreUsed f new
-kept_inserted f old new k more within some was is room at apart = record {
+pub kept_put : (f : Scale) (old new : List (ℕ × ℕ)) (k more : ℕ) → k < buckets f → 0 < more → AreUsed f old → sum (counts_used f old) + more ≤ 2 ^ 52
+    → ((q : ℕ) → lookup (nat_eq q) new ≡ cond (nat_eq k q) (Some (used_at old k + more)) (lookup (nat_eq q) old))
+    → IsDistinct nat_eq (keys_of new) → AreUsed f new
+kept_put f old new k more within some was room up apart = record {
   apart = apart;
-  each = λ q n there. ⊎_elim (λ (h : (q ≡ k) × (0 < n)). (subst (λ b. b < buckets f) (sym h.0) within, h.1)) (λ (h : lookup (nat_eq q) old ≡ Some n). was.each q n h) (at q n there);
+  each = λ q n there. ⊎_elim (λ (e : q ≡ k). (subst (λ b. b < buckets f) (sym e) within, positive q n e there))
+      (λ (ne : q ≡ k → ⊥). was.each q n (sym (up q ∙ ap (λ b. cond b (Some (used_at old k + more)) (lookup (nat_eq q) old)) (ne_eqb k q (λ e. ne (sym e)))) ∙ there))
+      (cases_eq q k);
   few =
       let sums = sum-with_more (seen f (counts_used f old)) k more (subst (λ n. k < n) (sym (length-table (used_at old) (buckets f))) within) in
-      let e : sum (counts_used f new) ≡ sum (with_more (seen f (counts_used f old)) k more).counts = ap (λ h. sum h.counts) is in
+      let e : sum (counts_used f new) ≡ sum (with_more (seen f (counts_used f old)) k more).counts = ap (λ h. sum h.counts) (put_used f old new k more within up) in
       omega arith;
 }
+  where
+    positive : (q n : ℕ) → q ≡ k → lookup (nat_eq q) new ≡ Some n → 0 < n
+    positive q n e there =
+        let is : Some (used_at old k + more) ≡ Some n = sym (up q ∙ ap (λ b. cond b (Some (used_at old k + more)) (lookup (nat_eq q) old)) (eq-eqb k q (sym e))) ∙ there in
+        let same : used_at old k + more ≡ n = cc in
+        omega arith
 
 pub count-le_sum : (f : Scale) (used : List (ℕ × ℕ)) (b : ℕ) → AreUsed f used → used_at used b ≤ sum (counts_used f used)
 count-le_sum f used b kept = ⊎_elim
     (λ (lt : b < buckets f). let one = get_or-le-sum_by (λ n. n) (counts_used f used) b 0 (subst (λ n. b < n) (sym (length-table (used_at used) (buckets f))) lt) in let is = count_kept f used b kept in omega arith)
     (λ (le : buckets f ≤ b). let past = get_or_past (counts_used f used) b 0 (subst (λ n. n ≤ b) (sym (length-table (used_at used) (buckets f))) le) in let is = count_kept f used b kept in omega arith)
     (cases_lt b (buckets f))
-
--- what is found once the count at k is n
-pub found_written : (old new : List (ℕ × ℕ)) (k n : ℕ) → 0 < n → lookup (nat_eq k) new ≡ Some n
-    → ((q : ℕ) → nat_eq k q ≡ false → lookup (nat_eq q) new ≡ lookup (nat_eq q) old)
-    → (q m : ℕ) → lookup (nat_eq q) new ≡ Some m → (q ≡ k) × (0 < m) ⊎ (lookup (nat_eq q) old ≡ Some m)
-found_written old new k n some here others q m there = ⊎_elim
-    (λ (e : q ≡ k). inl (e, positive (sym (subst (λ b. lookup (nat_eq b) new ≡ Some m) e there) ∙ here)))
-    (λ (ne : q ≡ k → ⊥). inr (sym (others q (ne_eqb k q (λ e. ne (sym e)))) ∙ there))
-    (cases_eq q k)
-  where
-    positive : Some m ≡ Some n → 0 < m
-    positive e = let same : m ≡ n = cc in omega arith
-
-pub found_inserted : (old new : List (ℕ × ℕ)) (k n : ℕ) → 0 < n
-    → ((q : ℕ) → lookup (nat_eq q) new ≡ cond (nat_eq k q) (Some n) (lookup (nat_eq q) old))
-    → (q m : ℕ) → lookup (nat_eq q) new ≡ Some m → (q ≡ k) × (0 < m) ⊎ (lookup (nat_eq q) old ≡ Some m)
-found_inserted old new k n some up = found_written old new k n some
-    (up k ∙ ap (λ b. cond b (Some n) (lookup (nat_eq k) old)) (eq-eqb k k refl))
-    (λ q e. up q ∙ ap (λ b. cond b (Some n) (lookup (nat_eq q) old)) e)
 
 -- ---- two histograms of one scale
 

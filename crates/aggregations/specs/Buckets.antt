@@ -1,4 +1,5 @@
 -- The buckets of histograms.
+-- Source: Dynamic Tracing Guide, "Aggregations" (quantize, lquantize).
 use Rattle.std.specs.Prelude.{ℕ, zero, suc, ◌+◌, ◌-◌, ◌*◌, ◌^◌, ◌==◌, nat_lt}
 use Rattle.std.specs.Prelude.{List, map, count_by, Bool, ◌&&◌, ◌||◌, if◌then◌else◌}
 use Rattle.std.specs.Prelude.{ℤ, pos, ◌+ℤ◌, ◌-ℤ◌, neg_ℤ, int_le, int_lt, Option, None, Some}

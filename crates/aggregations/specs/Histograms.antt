@@ -1,4 +1,5 @@
 -- Histograms: how many arguments each bucket of a scale has.
+-- Source: Dynamic Tracing Guide, "Aggregations".
 use Rattle.std.specs.Prelude.{◌≡◌, ℕ, ◌<◌, ◌≤◌, ◌^◌, nat_eq, ℤ, Some, List, map, sum, slice_index}
 use Rattle.std.specs.List.{range_with_len, IsDistinct}
 use Rattle.std.specs.{Map.lookup, Map.keys_of, Option.unwrap_or}

@@ -1,4 +1,5 @@
 -- The value of an aggregation, from the arguments in their order.
+-- Source: Dynamic Tracing Guide, "Aggregations".
 use Rattle.std.specs.Prelude.{◌≡◌, ℕ, ◌<◌, ◌≤◌, ◌^◌, ℤ, pos, ◌+ℤ◌, ◌≤ℤ◌, List, [], ◌∷◌, All}
 use Rattle.std.specs.Prelude.{Contains, length, sum, IsSomeAnd}
 use Rattle.std.specs.Int.{int_wrap, w64}

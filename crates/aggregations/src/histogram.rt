@@ -1,12 +1,18 @@
 //! Histograms.
 
 ghost use Rattle.std.specs.Prelude.{◌≡◌, ◌+◌, ◌<◌, ◌≤◌, ◌^◌, ℤ, OnOk, OnErr, MatchOption, List, []};
-ghost use Rattle.std.specs.Prelude.{◌∷◌, ◌++◌, length, slice_index, sum};
+ghost use Rattle.std.specs.Prelude.{◌∷◌, ◌++◌, None, Some, length, nat_eq, slice_index, sum, true};
+ghost use Rattle.indexmap.specs.IndexMap.{get, IsUnique, Updates};
+ghost use Rattle.aggregations.specs.Histograms.{used_at};
+ghost use Rattle.aggregations.specs.Steps.Histograms.{IsBucketAt};
 
 use crate::scale::Scale;
 use indexmap::IndexMap;
 use std::alloc::{AllocError, Global};
 use std::marker::Model;
+
+// The first few buckets are compared one by one, which costs less than a look-up.
+const FEW: usize = 8;
 
 /// How many arguments each bucket of a scale has. Only buckets that have arguments take room.
 #[derive(Drop)]
@@ -118,13 +124,7 @@ impl Histogram {
         ensures ok { OnOk result (self.new ≡ with_more self.old bucket more) }
         ensures err { OnErr result (self.new ≡ self.old) }
     {
-        match self.used.get_mut(&bucket) {
-            Some(count) => *count += more,
-            None => {
-                self.used.insert(bucket, more)?;
-            }
-        }
-        Ok(())
+        put_more(&mut self.used, bucket, more)
     }
 
     // Takes one more argument.
@@ -155,5 +155,55 @@ impl Histogram {
             }
         }
         Ok(())
+    }
+}
+
+// Adds to what a bucket has.
+fn put_more(used: &mut IndexMap<u32, u64>, bucket: u32, more: u64) -> Result<(), AllocError>
+    requires { used_at used.old.entries bucket + more < 2 ^ 64 }
+    ensures ok { OnOk result (Updates nat_eq used.old used.new bucket
+        (Some (used_at used.old.entries bucket + more))) }
+    ensures unique { OnOk result (IsUnique nat_eq used.new) }
+    ensures err { OnErr result (used.new.entries ≡ used.old.entries) }
+{
+    let Some(index) = index_of(used, bucket) else {
+        used.insert(bucket, more)?;
+        return Ok(());
+    };
+    let (_, count) = used.pair_mut(index);
+    *count += more;
+    Ok(())
+}
+
+// The index of the bucket's count.
+fn index_of(used: &IndexMap<u32, u64>, bucket: u32) -> Option<usize>
+    ensures { MatchOption result (get nat_eq used.now bucket ≡ None)
+        (λ i. IsBucketAt used.now.entries i bucket) }
+{
+    for index in 0..used.len().min(FEW) {
+        if is_at(used, index, bucket) {
+            return Some(index);
+        }
+    }
+    index_by_hash(used, bucket)
+}
+
+// The index of the bucket's count, by its hash.
+#[inline(never)]
+fn index_by_hash(used: &IndexMap<u32, u64>, bucket: u32) -> Option<usize>
+    ensures { MatchOption result (get nat_eq used.now bucket ≡ None)
+        (λ i. IsBucketAt used.now.entries i bucket) }
+{
+    let (index, _, _) = used.get_full(&bucket)?;
+    Some(index)
+}
+
+// Whether the bucket's count has this index.
+fn is_at(used: &IndexMap<u32, u64>, index: usize, bucket: u32) -> bool
+    ensures { result ≡ true → IsBucketAt used.now.entries index bucket }
+{
+    match used.get_index(index) {
+        Some((there, _)) => *there == bucket,
+        None => false,
     }
 }

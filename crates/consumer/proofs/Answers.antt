@@ -14,14 +14,11 @@ use Rattle.d_parser.specs.Script.{IsScript}
 use Rattle.d_parser.specs.Tree.{ItemTree}
 use Rattle.d_parser.proofs.CompleteScripts.{one_script}
 use Rattle.d_types.specs.declared.fault.TypeFault.{TypeFault}
-use Rattle.d_types.specs.Faults.{Fault, type_fault_of}
-use Rattle.d_types.specs.Scripts as typing
+use Rattle.d_types.specs.Checking.{IsChecked}
 use Rattle.d_types.specs.Typed.{ScriptMeant}
-use Rattle.d_types.specs.WellTyped.{IsWell}
 use Rattle.d_types.specs.Clauses.{Made}
 use Rattle.firing_reader.specs.declared.firing.Firing.{Firing}
-use Rattle.d_types.proofs.CompleteScripts.{script_complete}
-use Rattle.d_types.proofs.OneMeaning.{one_well}
+use Rattle.d_types.proofs.Checked as types
 use Rattle.replay_core.specs.Layouts.{LayoutMeant}
 use Rattle.consumer.specs.declared.refusal.Refusal.{Refusal}
 use Rattle.consumer.specs.declared.refusal.Refusal.TheVariants.{Lex, Parse, Typing, Trace, Group}
@@ -113,16 +110,15 @@ lex_is f g e = ap Lex e
 
 accepted_not_mistyped : (script : List ℕ) (m : ScriptMeant) (f : TypeFault) → IsAccepted script m → ¬ IsMistyped script f
 accepted_not_mistyped script m f a n =
-    let typed = script_complete a.items m a.well a.fits in
-    let refused : typing.script a.items ≡ Err n.first = subst (λ all. typing.script all ≡ Err n.first) (same_tree script n.items a.items n.tree a.tree) n.refused in
+    let refused = subst (λ all. IsChecked all (Err f)) (same_tree script n.items a.items n.tree a.tree) n.refused in
+    let never = types.one_answer a.items (Ok m) (Err f) a.means refused in
     cc
 
 same_type_fault : (script : List ℕ) (f g : TypeFault) → IsMistyped script f → IsMistyped script g → f ≡ g
 same_type_fault script f g a b =
-    let one = a.refused in
-    let two : typing.script a.items ≡ Err b.first = subst (λ all. typing.script all ≡ Err b.first) (same_tree script b.items a.items b.tree a.tree) b.refused in
-    let first : a.first ≡ b.first = cc in
-    a.is ∙ ap type_fault_of first ∙ sym b.is
+    let refused = subst (λ all. IsChecked all (Err g)) (same_tree script b.items a.items b.tree a.tree) b.refused in
+    let same = types.one_answer a.items (Err f) (Err g) a.refused refused in
+    cc
 
 abbrev IsScriptRefusal : Refusal → Type 0
 IsScriptRefusal (Lex f) = Unit {0}
@@ -144,8 +140,9 @@ accepted_not_refused shows script trace m Memory a own r = own
 
 pub same_meaning : (script : List ℕ) (m n : ScriptMeant) → IsAccepted script m → IsAccepted script n → m ≡ n
 same_meaning script m n a b =
-    let well : IsWell a.items n = subst (λ items. IsWell items n) (same_tree script b.items a.items b.tree a.tree) b.well in
-    one_well a.items m n a.well well
+    let means = subst (λ all. IsChecked all (Ok n)) (same_tree script b.items a.items b.tree a.tree) b.means in
+    let same = types.one_answer a.items (Ok m) (Ok n) a.means means in
+    cc
 
 -- each run is shown by one text at most
 abbrev pub ShowsOne : LayoutMeant → Type 0

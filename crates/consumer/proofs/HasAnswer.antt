@@ -21,11 +21,10 @@ use Rattle.d_parser.proofs.CompleteScripts as complete
 use Rattle.d_parser.proofs.Deep.{deep_is, not_deep}
 use Rattle.d_parser.proofs.Sound.{IfSome}
 use Rattle.d_parser.proofs.SoundScripts as sound
-use Rattle.d_types.specs.Faults.{Fault, type_fault_of}
-use Rattle.d_types.specs.Scripts as typing
+use Rattle.d_types.specs.declared.fault.TypeFault.{TypeFault}
+use Rattle.d_types.specs.Checking.{IsChecked}
 use Rattle.d_types.specs.Typed.{ScriptMeant}
-use Rattle.d_types.proofs.Fitting.{script_fits}
-use Rattle.d_types.proofs.SoundScripts as types
+use Rattle.d_types.proofs.Checked as types
 use Rattle.replay_core.specs.Exit.{exit_status, history_over}
 use Rattle.replay_core.specs.Layouts.{LayoutMeant, ShowsEach}
 use Rattle.consumer.specs.declared.refusal.Refusal.{Refusal}
@@ -44,18 +43,18 @@ module _ (shows : LayoutMeant) (each : ShowsEach shows) (script trace : List ℕ
       (Ok shown, (m, fs, record { accepted = a; reads = e }, record { bytes = out.1; status = refl }))
   over_trace m a (Err f) e = (Err (Trace f), ((m, a), e))
 
-  of_tree : (items : List ItemTree) → HasTree script items → (r : Result ScriptMeant Fault) → typing.script items ≡ r → HasAnswer shows script trace
+  of_tree : (items : List ItemTree) → HasTree script items → (r : Result ScriptMeant TypeFault) → IsChecked items r → HasAnswer shows script trace
   of_tree items tree (Ok m) e =
-      over_trace m (record { items = items; tree = tree; well = types.script_sound items m e; fits = script_fits items m e }) (trace_of trace) refl
-  of_tree items tree (Err first) e =
-      (Err (Typing (type_fault_of first)), record { items = items; tree = tree; first = first; refused = e; is = refl })
+      over_trace m (record { items = items; tree = tree; means = e }) (trace_of trace) refl
+  of_tree items tree (Err fault) e = (Err (Typing fault), record { items = items; tree = tree; refused = e })
 
   read : (tokens : List Token) → HasTokens script tokens → (r : Option (List ItemTree)) → reading.script_reader tokens ≡ r → HasAnswer shows script trace
   read tokens has None e =
       (Err (Parse (parse.Syntax 1)), (tokens, has, λ items spelled. let is = complete.script_complete items tokens spelled in cc))
   read tokens has (Some items) e =
       let spelled : IsScript items tokens = subst (IfSome (λ all. IsScript all tokens)) e (sound.script_sound tokens) in
-      of_tree items (record { tokens = tokens; has = has; spelled = spelled }) (typing.script items) refl
+      let checked = types.has_answer items in
+      of_tree items (record { tokens = tokens; has = has; spelled = spelled }) checked.0 checked.1
 
   of_tokens : (tokens : List Token) → IsLexed script tokens → (deep : Bool) → is_deep 0 0 tokens ≡ deep → HasAnswer shows script trace
   of_tokens tokens lexed true e = (Err (Parse parse.TooDeep), (tokens, lexed, deep_is tokens e))

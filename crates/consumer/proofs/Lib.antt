@@ -5,13 +5,13 @@ pub mod Dividing
 pub mod Divisions
 pub mod Grouped
 pub mod HasAnswer
-pub mod Hashed
 pub mod LongFiles
 pub mod LongScripts
 pub mod OnePlan
 pub mod Options
 pub mod PlainRefusals
 pub mod PlainTraces
+pub mod Programs
 pub mod Refusing
 pub mod Taken
 pub mod Trees

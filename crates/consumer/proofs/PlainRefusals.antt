@@ -12,10 +12,9 @@ use Rattle.d_lexer.specs.declared.fault.LexFault.TheVariants as lex
 use Rattle.d_lexer.proofs.Spans.{fault_has_its_line}
 use Rattle.d_parser.specs.declared.fault.ParseFault.{ParseFault}
 use Rattle.d_parser.specs.declared.fault.ParseFault.TheVariants as parse
-use Rattle.d_types.specs.Faults.{Cause, GlobalAssignment, Undeclared, Mismatch, Keys}
-use Rattle.d_types.specs.Faults.{AggregationRedefined, LquantizeBounds, PrintfArguments, ReadOnly}
-use Rattle.d_types.specs.Faults.{NoRegister, type_fault_at}
 use Rattle.d_types.specs.declared.fault.TypeFault.{TypeFault}
+use Rattle.d_types.specs.declared.fault.TypeFault.TheVariants as types
+use Rattle.d_types.proofs.Checked.{fault_is_named}
 use Rattle.replay_core.specs.Layouts.{LayoutMeant}
 use Rattle.shard_queue.specs.Faults.{IsListFault, all_of, first_missing, first_wrong}
 use Rattle.shard_queue.specs.Threads.{has, items_of}
@@ -66,19 +65,17 @@ parse_plain script parse.Memory r = absurd r
 
 -- ---- types
 
-cause_plain : (c : Cause) (line : ℕ) → plain_refusal (Typing (type_fault_at c line)) ≡ Typing (type_fault_at c line)
-cause_plain (GlobalAssignment name) line = refl
-cause_plain Undeclared line = refl
-cause_plain Mismatch line = refl
-cause_plain Keys line = refl
-cause_plain AggregationRedefined line = refl
-cause_plain LquantizeBounds line = refl
-cause_plain PrintfArguments line = refl
-cause_plain ReadOnly line = refl
-cause_plain NoRegister line = refl
-
 typing_plain : (script : List ℕ) (f : TypeFault) → IsMistyped script f → plain_refusal (Typing f) ≡ Typing f
-typing_plain script f r = subst (λ x. plain_refusal (Typing x) ≡ Typing x) (sym r.is) (cause_plain r.first.cause r.first.line)
+typing_plain script (types.GlobalAssignment name line) r = refl
+typing_plain script (types.Undeclared line) r = refl
+typing_plain script (types.Mismatch line) r = refl
+typing_plain script (types.Keys line) r = refl
+typing_plain script (types.AggregationRedefined line) r = refl
+typing_plain script (types.LquantizeBounds line) r = refl
+typing_plain script (types.PrintfArguments line) r = refl
+typing_plain script (types.ReadOnly line) r = refl
+typing_plain script (types.NoRegister line) r = refl
+typing_plain script types.Memory r = absurd (fault_is_named r.items types.Memory r.refused refl)
 
 -- ---- groups
 

@@ -6,11 +6,8 @@ use Rattle.firing_reader.specs.Trace.{trace_of}
 use Rattle.d_parser.specs.Tree.{ItemTree}
 use Rattle.d_types.specs.declared.fault.TypeFault.{TypeFault}
 use Rattle.d_types.specs.declared.fault.TypeFault.TheVariants as types
-use Rattle.d_types.specs.Faults.{Fails, GlobalAssignment, Undeclared, Mismatch, Keys}
-use Rattle.d_types.specs.Faults.{AggregationRedefined, LquantizeBounds, PrintfArguments, ReadOnly}
-use Rattle.d_types.specs.Faults.{NoRegister}
-use Rattle.d_types.specs.Scripts as typing
 use Rattle.d_types.specs.Typed.{ScriptMeant}
+use Rattle.d_types.specs.TypedScripts.{IsCheckOf}
 use Rattle.consumer.specs.declared.plan.Plan.{Plan}
 use Rattle.firing_reader.specs.declared.firing.Firing.{Firing}
 use Rattle.replay_core.specs.Layouts.{LayoutMeant}
@@ -26,26 +23,17 @@ use Rattle.consumer.specs.Replaying.{IsReplay}
 use Rattle.consumer.specs.Judging.{IsScriptRefused}
 use Rattle.consumer.specs.Scripts.{HasTree, IsAccepted, IsUnread}
 
-pub types_refused : (script : List ℕ) (items : List ItemTree) → HasTree script items → (e : TypeFault) → Fails e (typing.script items) → IsScriptRefused script (plain_refusal (Typing e))
+pub types_refused : (script : List ℕ) (items : List ItemTree) → HasTree script items → (e : TypeFault) → IsCheckOf items (Err e) → IsScriptRefused script (plain_refusal (Typing e))
 types_refused script items tree types.Memory h = tt
-types_refused script items tree (types.GlobalAssignment name line) h =
-    record { items = items; tree = tree; first = record { cause = GlobalAssignment name; line = line }; refused = h; is = refl }
-types_refused script items tree (types.Undeclared line) h =
-    record { items = items; tree = tree; first = record { cause = Undeclared; line = line }; refused = h; is = refl }
-types_refused script items tree (types.Mismatch line) h =
-    record { items = items; tree = tree; first = record { cause = Mismatch; line = line }; refused = h; is = refl }
-types_refused script items tree (types.Keys line) h =
-    record { items = items; tree = tree; first = record { cause = Keys; line = line }; refused = h; is = refl }
-types_refused script items tree (types.AggregationRedefined line) h =
-    record { items = items; tree = tree; first = record { cause = AggregationRedefined; line = line }; refused = h; is = refl }
-types_refused script items tree (types.LquantizeBounds line) h =
-    record { items = items; tree = tree; first = record { cause = LquantizeBounds; line = line }; refused = h; is = refl }
-types_refused script items tree (types.PrintfArguments line) h =
-    record { items = items; tree = tree; first = record { cause = PrintfArguments; line = line }; refused = h; is = refl }
-types_refused script items tree (types.ReadOnly line) h =
-    record { items = items; tree = tree; first = record { cause = ReadOnly; line = line }; refused = h; is = refl }
-types_refused script items tree (types.NoRegister line) h =
-    record { items = items; tree = tree; first = record { cause = NoRegister; line = line }; refused = h; is = refl }
+types_refused script items tree (types.GlobalAssignment name line) h = record { items = items; tree = tree; refused = h }
+types_refused script items tree (types.Undeclared line) h = record { items = items; tree = tree; refused = h }
+types_refused script items tree (types.Mismatch line) h = record { items = items; tree = tree; refused = h }
+types_refused script items tree (types.Keys line) h = record { items = items; tree = tree; refused = h }
+types_refused script items tree (types.AggregationRedefined line) h = record { items = items; tree = tree; refused = h }
+types_refused script items tree (types.LquantizeBounds line) h = record { items = items; tree = tree; refused = h }
+types_refused script items tree (types.PrintfArguments line) h = record { items = items; tree = tree; refused = h }
+types_refused script items tree (types.ReadOnly line) h = record { items = items; tree = tree; refused = h }
+types_refused script items tree (types.NoRegister line) h = record { items = items; tree = tree; refused = h }
 
 pub unread_refused : (script : List ℕ) (e : Refusal) → (e ≡ Memory) ⊎ IsUnread script e → IsScriptRefused script e
 unread_refused script e (inl h) = rw h tt

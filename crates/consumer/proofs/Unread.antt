@@ -16,7 +16,7 @@ use Rattle.consumer.specs.declared.refusal.Refusal.TheVariants.{Memory}
 use Rattle.consumer.specs.Consuming.{HoldsOfInput, WritesAnswer, fault_of_reading}
 use Rattle.consumer.specs.Program.{AreUnfailed, IsRunOf, StreamsSeen}
 use Rattle.consumer.specs.Vocabulary.{Request}
-use Rattle.std.specs.Prelude.{IfNone, MatchOption}
+use Rattle.std.specs.Prelude.{IsSome, MatchOption}
 use Rattle.std.specs.declared.string.String.{String}
 
 -- what holds of any bytes holds of those that were to be read
@@ -39,11 +39,11 @@ memory_shown script trace plan seen result told =
     let p = err_from_is_err_and result told in
     record { answer = Err Memory; is = tt; out = (refl, p.1 ∙ ap Err p.2) }
 
--- of what a file of that name doesn't tell, where one is named
-pub no_file : {A : Type 0} (file : Option A) (name : A) (P : Type 0) → file ≡ Some name → IfNone file P
-no_file file name P named = rw named tt
+-- a file is asked for, where one is named
+pub some_file : {A : Type 0} (file : Option A) (name : A) → file ≡ Some name → IsSome file
+some_file file name named = rw named refl
 
--- and of what it tells
+-- what holds of it holds of the one that is named
 pub any_file : {A : Type 0} (file : Option A) (name : A) (P : Type 0) (Q : A → Type 0) → file ≡ Some name → Q name → MatchOption file P Q
 any_file file name P Q named holds = rw named holds
 
@@ -57,7 +57,7 @@ script_unread request holds seen result fault name named unfailed told (inl read
     record {
       shown = λ other. absurd (other failed);
       read = λ other. absurd (other failed);
-      blamed = λ _. no_file request.file name _ named;
+      blamed = λ _. inr (some_file request.file name named, refl);
       unread = λ _. refl;
       few = search rules;
     }
@@ -68,7 +68,7 @@ script_unread request holds seen result fault name named unfailed told (inr memo
       shown = λ other. any_file request.file name _ _ named (holds_of_any _ _ (λ script. holds_of_any _ _
           (λ trace. record { answer = Err Memory; is = tt; out = (refl, spent) })));
       read = λ other. (unfailed.input, inl spent);
-      blamed = λ _. no_file request.file name _ named;
+      blamed = λ _. inr (some_file request.file name named, refl);
       unread = λ _. refl;
       few = search rules;
     }

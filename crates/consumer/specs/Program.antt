@@ -1,7 +1,8 @@
 -- How the program ends, and what went to its streams by then.
-use Rattle.std.specs.Prelude.{◌≡◌, ◌≢◌, ◌≤◌, ◌⊎◌, ◌+◌, ℕ, List, Option, Result, Err, IfNone}
-use Rattle.std.specs.Prelude.{IsFalse, IsOkAnd, IsTrue, MatchBool, MatchOption, MatchResult}
+use Rattle.std.specs.Prelude.{◌≡◌, ◌≢◌, ◌≤◌, ◌⊎◌, ◌+◌, ℕ, List, Option, Result, Err}
+use Rattle.std.specs.Prelude.{IsFalse, IsOkAnd, IsSome, IsTrue, MatchBool, MatchOption, MatchResult}
 use Rattle.std.specs.Prelude.{drop, map, string_bytes}
+use Rattle.std.specs.Io.KnownBytes.{Appends}
 use Rattle.std.specs.declared.vec.IntoIter.{IntoIter}
 use Rattle.std.specs.declared.string.String.{String}
 use Rattle.replay_core.specs.Layouts.{LayoutMeant}
@@ -65,8 +66,10 @@ pub record IsRunOf (shows : LayoutMeant) (request : Request) (holds : List ℕ �
       WritesAnswer shows script trace request.plan old.output new.output result)))
   pub read : result ≢ Err Read → IsFalse new.input.has_failed
       × ((result ≡ Err (Refused Memory)) ⊎ IsTrue new.input.has_ended)
-  -- the input is blamed where it failed or had not ended, or else the file
-  pub blamed : result ≡ Err Read → IfNone request.file (IsCutShort old.input new.input)
+  -- the input is blamed where it failed or had not ended, or else the file, before any input is
+  -- read
+  pub blamed : result ≡ Err Read → IsCutShort old.input new.input
+      ⊎ (IsSome request.file × (new.input ≡ old.input))
   -- and then nothing is written
   pub unread : result ≡ Err Read → new.output ≡ old.output
   pub few : new.input.calls ≤ old.input.calls + MOST_CALLS
@@ -110,3 +113,16 @@ pub data Ends {A Z E : Type 0} (shows : LayoutMeant) (given : Result (IntoIter (
       → IsReported result old.errors new.errors → Ends shows given holds old new status
   without_run : (fault : UsageFault) → IsNoRequest given fault → new.input ≡ old.input
       → EndsWithoutRun fault old new status → Ends shows given holds old new status
+
+-- it ended since memory ran out, or reading or writing failed, and says so
+pub record IsBroken (old new : StreamsSeen) (status : ℕ) : Type 0 where
+  pub fault : ConsumeFault
+  pub is : status_at_end (Err fault) ≡ 1
+  pub ends : status ≡ 1
+  pub line : IsReported (Err fault) old.errors new.errors
+
+-- the same bytes go to two sinks
+pub record WriteAlike (old new old' new' : SinkSeen) : Type 0 where
+  pub bytes : List ℕ
+  pub first : Appends old.bytes new.bytes bytes
+  pub second : Appends old'.bytes new'.bytes bytes

@@ -1,8 +1,7 @@
 -- From the bytes of a script to its tree and its types, or why it has none.
-use Rattle.std.specs.Prelude.{◌≡◌, ◌≤◌, ◌<◌, ℕ, List, Err}
+use Rattle.std.specs.Prelude.{◌≤◌, ◌<◌, ℕ, List, Ok, Err}
 use Rattle.d_parser.specs.{Limits.IsDeep, Limits.clauses, Script.IsScript, Tree.ItemTree}
-use Rattle.d_types.specs.Scripts as typing
-use Rattle.d_types.specs.{Faults.Fault, Faults.type_fault_of, Fitting.ScriptFits, WellTyped.IsWell}
+use Rattle.d_types.specs.Checking.{IsChecked}
 use Rattle.consumer.specs.Vocabulary.{Token, IsLexed, IsRefused, ParseFault, MOST_CLAUSES}
 use Rattle.consumer.specs.Vocabulary.{TypeFault, ScriptMeant, Refusal, Lex, Parse}
 
@@ -42,13 +41,10 @@ IsUnread script e = ⊥
 pub record IsMistyped (script : List ℕ) (fault : TypeFault) : Type 0 where
   pub items : List ItemTree
   pub tree : HasTree script items
-  pub first : Fault
-  pub refused : typing.script items ≡ Err first
-  pub is : fault ≡ type_fault_of first
+  pub refused : IsChecked items (Err fault)
 
 -- the script is well typed with six registers, and this is what it means
 pub record IsAccepted (script : List ℕ) (m : ScriptMeant) : Type 0 where
   pub items : List ItemTree
   pub tree : HasTree script items
-  pub well : IsWell items m
-  pub fits : ScriptFits m
+  pub means : IsChecked items (Ok m)

@@ -9,7 +9,7 @@ ghost use Rattle.consumer.specs.Vocabulary.{Memory, Refused, reads, trace_of};
 
 use crate::consumer::Consumer;
 use crate::intake::{BundleIntake, TraceIntake};
-use crate::plan::{Plan, Replayed};
+use crate::plan::{Plan, ReadingPlan, Replayed};
 use crate::refusal::Refusal;
 use replay_core::{Layout, OpenGate};
 use report::{Feed, ReadFault, Sink, send};
@@ -81,7 +81,8 @@ impl<'a, R: Threads + Wait + Sync, L: Layout> Consumer<'a, R, L> {
         ensures untouched { result ≢ Err ConsumeFault.Write
             → IfErr result (λ e. sink.new ≡ sink.old) }
     {
-        let mut bundle = BundleIntake::new(self.rt, self.alloc, plan);
+        let reading = self.reading(plan);
+        let mut bundle = BundleIntake::new(self.rt, self.alloc, &reading);
         match bundle.read_from(self.alloc, feed) {
             Ok(()) => {
                 let taken = bundle.finish()?;
@@ -121,13 +122,22 @@ impl<'a, R: Threads + Wait + Sync, L: Layout> Consumer<'a, R, L> {
         ensures untouched { result ≢ Err ConsumeFault.Write
             → IfErr result (λ e. sink.new ≡ sink.old) }
     {
-        let mut taken = TraceIntake::new(self.rt, self.alloc, plan, script)?;
+        let reading = self.reading(plan);
+        let mut taken = TraceIntake::new(self.rt, self.alloc, &reading, script)?;
         match taken.read_from(self.alloc, feed) {
             Ok(()) => self.show(taken, sink, plan),
             Err(fault) => {
                 drop(taken);
                 Err(ConsumeFault::from(fault))
             }
+        }
+    }
+
+    // How the trace of a run is read.
+    fn reading(&self, plan: &Plan) -> ReadingPlan {
+        ReadingPlan {
+            workers: plan.workers,
+            hash_key: self.hash_key,
         }
     }
 

@@ -13,7 +13,7 @@ ghost use Rattle.consumer.specs.Vocabulary.{Lex, reads, trace_of};
 ghost use Rattle.d_lexer.specs.declared.fault.LexFault.TheVariants.{TooLong};
 
 use crate::bundle::{divide, first_lines};
-use crate::plan::Plan;
+use crate::plan::ReadingPlan;
 use crate::refusal::Refusal;
 use crate::scripts::judge;
 use d_lexer::{LexFault, MOST_BYTES};
@@ -37,7 +37,7 @@ const LEAST_SHARED: usize = SHARED_BLOCK / 2;
 
 // A reader that has taken nothing, for the workers of a plan. A single worker reads each block as
 // it comes.
-fn reader_for(alloc: Global, plan: &Plan) -> Result<Reader, AllocError>
+fn reader_for(alloc: Global, plan: &ReadingPlan) -> Result<Reader, AllocError>
     ensures { IfOk result (λ r. (rest : List ℕ) → reads r rest ≡ trace_of rest) }
 {
     let least = if plan.workers < 2 { 1 } else { LEAST_SHARED };
@@ -63,7 +63,7 @@ impl<'a, R: Threads> TraceIntake<'a, R> {
     pub(crate) fn new(
         rt: &'a R,
         alloc: Global,
-        plan: &Plan,
+        plan: &ReadingPlan,
         script: &[u8],
     ) -> Result<TraceIntake<'a, R>, AllocError>
         ensures judged { IfOk result (λ t. IsJudged script.now t.script) }
@@ -79,7 +79,7 @@ impl<'a, R: Threads> TraceIntake<'a, R> {
     fn begun(
         rt: &'a R,
         alloc: Global,
-        plan: &Plan,
+        plan: &ReadingPlan,
         script: &[u8],
         first: &[u8],
     ) -> Result<TraceIntake<'a, R>, AllocError>
@@ -98,7 +98,11 @@ impl<'a, R: Threads> TraceIntake<'a, R> {
     }
 
     // Takes the trace of a script that is too long.
-    fn unread(rt: &'a R, alloc: Global, plan: &Plan) -> Result<TraceIntake<'a, R>, AllocError>
+    fn unread(
+        rt: &'a R,
+        alloc: Global,
+        plan: &ReadingPlan,
+    ) -> Result<TraceIntake<'a, R>, AllocError>
         ensures { IfOk result (λ t. t.script ≡ Err (Lex TooLong)) }
     {
         let trace = reader_for(alloc, plan)?;
@@ -110,7 +114,7 @@ impl<'a, R: Threads> TraceIntake<'a, R> {
     fn of(
         rt: &'a R,
         alloc: Global,
-        plan: &Plan,
+        plan: &ReadingPlan,
         script: Result<TypedScript, Refusal>,
         trace: Reader,
     ) -> TraceIntake<'a, R>
@@ -257,7 +261,7 @@ impl<'a, R: Threads> Intake for TraceIntake<'a, R> {
 pub(crate) struct BundleIntake<'a, R> {
     rt: &'a R,
     alloc: Global,
-    plan: &'a Plan,
+    plan: &'a ReadingPlan,
     // The bundle's first bytes.
     first: Vec<u8>,
     // Takes the trace, once the script is known.
@@ -266,7 +270,7 @@ pub(crate) struct BundleIntake<'a, R> {
 
 impl<'a, R: Threads> BundleIntake<'a, R> {
     /// Takes a bundle from its start on.
-    pub(crate) fn new(rt: &'a R, alloc: Global, plan: &'a Plan) -> BundleIntake<'a, R>
+    pub(crate) fn new(rt: &'a R, alloc: Global, plan: &'a ReadingPlan) -> BundleIntake<'a, R>
         ensures { HasTaken result.first.items result.trace [] }
     {
         BundleIntake {
@@ -377,7 +381,7 @@ impl<'a, R: Threads + Sync> BundleIntake<'a, R> {
 fn trace_after<'a, R: Threads>(
     rt: &'a R,
     alloc: Global,
-    plan: &Plan,
+    plan: &ReadingPlan,
     first: &[u8],
 ) -> Result<Option<TraceIntake<'a, R>>, AllocError>
     ensures { IfOk result (λ trace. IfSome trace (λ t. (rest : List ℕ)

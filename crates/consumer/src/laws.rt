@@ -2,6 +2,7 @@
 //! computes nothing.
 
 ghost use Rattle.std.specs.Prelude.{◌≡◌, ◌∷◌, ◌⊎◌, [], ℕ, List, Option, Result, Ok, Err};
+ghost use Rattle.std.specs.Prelude.{IsSome, Some};
 ghost use Rattle.clap.specs.Words.{fault_of, matches_of};
 ghost use Rattle.firing_reader.specs.Ends.{with_ends};
 ghost use Rattle.replay_core.specs.{Groups.AreGrouped, Layouts.ShowsEach};
@@ -9,12 +10,15 @@ ghost use Rattle.consumer.specs.{Bundle.Divides, Refusals.plain_refusal};
 ghost use Rattle.consumer.specs.Vocabulary.{DisplayHelp, ErrorKind, Firing, Grouping, Plan};
 ghost use Rattle.consumer.specs.Vocabulary.{Group, GroupFault, Memory, Refusal, Replayed, Request};
 ghost use Rattle.consumer.specs.Answer.{IsAnswer, IsSameAnswer, Shown, without_line};
+ghost use Rattle.consumer.specs.Program.{Ends, IsBroken, IsRequest, StreamsSeen, WriteAlike};
 ghost use Rattle.consumer.specs.Plans.{IsDefault, IsGroupedBy, IsInBounds, IsMisgrouped};
 ghost use Rattle.consumer.specs.Replaying.{IsOfPlan, IsReplay, output_of, ran_in};
 ghost use Rattle.consumer.specs.Words.{Asks, AsksHelp, IsPlanBy, Mistakes, AskForRun, SetPlan};
 ghost use Rattle.consumer.specs.Words.{file_in, program};
 
 use replay_core::Layout;
+use std::env::Args;
+use std::io;
 
 /// A bundle is divided in one way.
 pub fn one_division()
@@ -96,6 +100,21 @@ pub fn one_plan_runs_alike<L: Layout>()
         → IsReplay L.shows script trace plan (Err (Group e))
         → IsReplay L.shows script trace plan (Err (Group f)) → e ≡ f }
 {}
+
+/// Two runs of a program whose words ask for a run, over the same known input and files, end with
+/// the same status and write the same bytes, unless memory ran out, or a stream failed, in one.
+pub fn programs_agree<L: Layout>(given: &io::Result<Args>)
+    ensures { ShowsEach L.shows
+        → (holds : List ℕ → Option (List ℕ)) (input : List ℕ) (request : Request)
+        (old new old' new' : StreamsSeen) (status status' : ℕ) → IsRequest given.now request
+        → ((name : List ℕ) → IsSome (holds name)) → old.input.remaining ≡ Some input
+        → old'.input.remaining ≡ Some input → Ends L.shows given.now holds old new status
+        → Ends L.shows given.now holds old' new' status'
+        → IsBroken old new status ⊎ IsBroken old' new' status'
+        ⊎ ((status ≡ status') × WriteAlike old.output new.output old'.output new'.output) }
+{
+    let _ = given;
+}
 
 /// A plan groups a trace's threads in one way at most, and has no fault then.
 pub fn one_grouping()

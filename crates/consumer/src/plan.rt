@@ -1,12 +1,13 @@
 //! How a run is carried out, and what it gave.
 
-ghost use Rattle.std.specs.Prelude.{◌≡◌};
-
 use keyed_hash::HashKey;
 
 /// How a run is carried out. The answer is the same under every plan.
-#[derive(Drop)]
-#[derive_where(Debug, PartialEq, Eq)]
+///
+/// ```text
+/// let plan = Plan { workers: 4, groups: GroupPlan::Dealt(16), engine: EngineKind::Dif };
+/// ```
+#[derive(Debug, Drop, PartialEq, Eq)]
 pub struct Plan {
     /// How many workers there are, from 1 to `MOST_WORKERS`.
     pub workers: u32,
@@ -14,39 +15,15 @@ pub struct Plan {
     pub groups: GroupPlan,
     /// What evaluates the script.
     pub engine: EngineKind,
-    /// The hash key of the run's maps.
-    #[derive_where(skip)]
-    pub hash_key: HashKey,
 }
 
-impl Plan {
-    /// A plan whose maps hash by a fixed key: whoever writes the trace could choose keys that
-    /// collide, and so make the run slow.
-    ///
-    /// ```text
-    /// let plan = Plan::new(4, GroupPlan::Dealt(16), EngineKind::Dif);
-    /// let plan = plan.hashed_by(HashKey::random(&rt)); // for the traces of strangers
-    /// ```
-    pub fn new(workers: u32, groups: GroupPlan, engine: EngineKind) -> Plan
-        ensures workers { result.workers ≡ workers }
-        ensures groups { result.groups ≡ groups }
-        ensures engine { result.engine ≡ engine }
-    {
-        let hash_key = HashKey::of_seed(&[]);
-        Plan {
-            workers,
-            groups,
-            engine,
-            hash_key,
-        }
-    }
-
-    /// The same plan, whose maps hash by this key.
-    pub fn hashed_by(self, hash_key: HashKey) -> Plan
-        ensures { result ≡ record self { hash_key = hash_key } }
-    {
-        Plan { hash_key, ..self }
-    }
+/// How a trace is read as it comes.
+#[derive(Clone, Copy, Drop)]
+pub(crate) struct ReadingPlan {
+    /// How many workers there are.
+    pub(crate) workers: u32,
+    /// The hash key of the trace's maps.
+    pub(crate) hash_key: HashKey,
 }
 
 /// How the threads of a trace are grouped.

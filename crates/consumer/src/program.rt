@@ -14,7 +14,6 @@ use crate::files::{ScriptFiles, script_in};
 use crate::plan::Replayed;
 use crate::refusal::Refusal;
 use crate::words::{Help, Request, UsageFault, program_words, read_words, texts_of};
-use keyed_hash::HashKey;
 use replay_core::Layout;
 use report::{Feed, Sink, Watched, send};
 use std::alloc::Global;
@@ -55,16 +54,14 @@ impl<F, S, E> Streams<Watched<F>, Watched<S>, Watched<E>> {
 }
 
 impl<'a, R: Threads + Wait + Sync, L: Layout> Consumer<'a, R, L> {
-    /// Does all that a program with this layout does, and returns its exit status. The key is that
-    /// of the run's hash maps; nothing else depends on it.
+    /// Does all that a program with this layout does, and returns its exit status.
     ///
     /// ```text
-    /// consumer.program(HELP, hash_key, &files, words, &mut streams); // 0, with the answer written
+    /// consumer.program(HELP, &files, words, &mut streams); // 0, with the answer written
     /// ```
     pub fn program<C: ScriptFiles, F: Feed + Send, S: Sink, E: Sink>(
         &self,
         help: Help,
-        hash_key: HashKey,
         files: &C,
         given: io::Result<Args>,
         streams: &mut Streams<F, S, E>,
@@ -74,7 +71,7 @@ impl<'a, R: Threads + Wait + Sync, L: Layout> Consumer<'a, R, L> {
             (streams_seen F.seen S.seen E.seen streams.old)
             (streams_seen F.seen S.seen E.seen streams.new) result }
     {
-        match request(self.alloc, help, hash_key, given) {
+        match request(self.alloc, help, given) {
             Ok(request) => {
                 let status = self.run_status(files, &request, streams);
                 drop(request);
@@ -159,22 +156,8 @@ impl<'a, R: Threads + Wait + Sync, L: Layout> Consumer<'a, R, L> {
     }
 }
 
-// What the program's words ask for, with this key for the run's maps.
-fn request(
-    alloc: Global,
-    help: Help,
-    hash_key: HashKey,
-    given: io::Result<Args>,
-) -> Result<Request, UsageFault>
-    ensures exact { MatchResult result (IsRequest given) (IsNoRequest given) }
-    ensures plan { IfOk result (λ request. IsInBounds request.plan) }
-{
-    let request = request_by(alloc, help, given)?;
-    Ok(request.hashed_by(hash_key))
-}
-
 // What the program's words ask for.
-fn request_by(alloc: Global, help: Help, given: io::Result<Args>) -> Result<Request, UsageFault>
+fn request(alloc: Global, help: Help, given: io::Result<Args>) -> Result<Request, UsageFault>
     ensures exact { MatchResult result (IsRequest given) (IsNoRequest given) }
     ensures plan { IfOk result (λ request. IsInBounds request.plan) }
 {

@@ -19,19 +19,22 @@ use crate::scripts::judge;
 use d_types::TypedScript;
 use dif_codegen::compile;
 use firing_reader::{Trace, TraceFault, read_trace_by};
-use replay_core::{DifLanes, Gate, Job, Lanes, Layout, OpenGate, Ran, TreeLanes, run_all};
+use replay_core::{DifLanes, Gate, Lanes, Layout, OpenGate, TreeLanes, Whole, run_all};
+use shard_queue::Groups;
 use std::alloc::AllocError;
 use std::sync::Wait;
 use std::thread::Threads;
+
+// The whole of a run, and the groups that each worker took.
+type Ran = (Whole, Vec<Vec<u32>>);
 
 impl<'a, R: Threads + Wait + Sync, L: Layout> Consumer<'a, R, L> {
     /// Runs a script over a trace, between BEGIN and END. The script is refused before the trace,
     /// and the trace before the groups; `Refusal::Memory` may come at any point.
     ///
     /// ```text
-    /// let consumer = Consumer { rt: &rt, alloc, layout: Report };
-    /// let (groups, engine) = (GroupPlan::Dealt(16), EngineKind::Dif);
-    /// let plan = Plan::new(4, groups, engine);
+    /// let consumer = Consumer::new(&rt, alloc, Report);
+    /// let plan = Plan { workers: 4, groups: GroupPlan::Dealt(16), engine: EngineKind::Dif };
     /// let replayed = consumer.replay(b"BEGIN { trace(1); exit(3); }", &trace, &plan)?;
     /// replayed.bytes; // `1` and a line feed
     /// replayed.status; // 3
@@ -44,8 +47,8 @@ impl<'a, R: Threads + Wait + Sync, L: Layout> Consumer<'a, R, L> {
         self.replay_with(script, trace, plan, &OpenGate)
     }
 
-    /// Does the same, where each worker passes a gate before the first firing of each group that it
-    /// took.
+    /// Does the same, and calls a gate with each group that a worker takes, before the group's
+    /// first firing. The answer doesn't depend on the gate.
     ///
     /// ```text
     /// consumer.replay_with(script, trace, &plan, &OpenGate); // as `replay` does
@@ -62,7 +65,7 @@ impl<'a, R: Threads + Wait + Sync, L: Layout> Consumer<'a, R, L> {
     {
         let alloc = self.alloc;
         let script = judge(alloc, script)?;
-        let read = read_trace_by(self.rt, alloc, plan.hash_key, trace, plan.workers);
+        let read = read_trace_by(self.rt, alloc, self.hash_key, trace, plan.workers);
         let replayed = self.replay_read(&script, read, plan, gate);
         drop(script);
         replayed
@@ -99,96 +102,94 @@ impl<'a, R: Threads + Wait + Sync, L: Layout> Consumer<'a, R, L> {
             → trace_of bytes ≡ Ok trace.now → IsReplay L.shows source bytes plan.now result }
     {
         let groups = groups_of(self.alloc, &plan.groups, trace)?;
-        let answer = self.replay_job(
-            script,
-            &Job {
-                trace,
-                groups: &groups,
-                gate,
-            },
-            plan,
-        );
+        let answer = self.replay_groups(script, trace, &groups, plan, gate);
         drop(groups);
         let replayed = answer?;
         Ok(replayed)
     }
 
-    // Runs a script over a job's trace, and shows what it makes.
-    fn replay_job<G: Gate + Sync>(
+    // Runs a script over a trace, and shows what it makes.
+    fn replay_groups<G: Gate + Sync>(
         &self,
         script: &TypedScript,
-        job: &Job<G>,
+        trace: &Trace,
+        groups: &Groups,
         plan: &Plan,
+        gate: &G,
     ) -> Result<Replayed, AllocError>
         requires plan { IsInBounds plan.now }
-        requires groups { AreOf job.now.groups.now (run_threads job.now.trace.now) }
-        requires few { (grouping job.now.groups.now).count ≤ MOST_GROUPS + 1 }
+        requires groups { AreOf groups.now (run_threads trace.now) }
+        requires few { (grouping groups.now).count ≤ MOST_GROUPS + 1 }
         ensures { let m = typed_script_of script.now in
-            let trace = job.now.trace.now in
-            let groups = grouping job.now.groups.now in
-            IsGroupedBy plan.now.groups trace groups
-            → IfOk result (λ r. IsShown L.shows m trace (output_of r)
-            × IsCarriedOut plan.now trace (firings_over m trace) r) }
+            IsGroupedBy plan.now.groups trace.now (grouping groups.now)
+            → IfOk result (λ r. IsShown L.shows m trace.now (output_of r)
+            × IsCarriedOut plan.now trace.now (firings_over m trace.now) r) }
     {
-        let ran = self.run(script, job, plan)?;
+        let ran = self.run(script, trace, groups, plan, gate)?;
         self.run_output(script, ran)
     }
 
-    // Runs a script over a job's trace, by the engine and the workers of a plan.
+    // Runs a script over a trace, by the engine and the workers of a plan.
     fn run<G: Gate + Sync>(
         &self,
         script: &TypedScript,
-        job: &Job<G>,
+        trace: &Trace,
+        groups: &Groups,
         plan: &Plan,
+        gate: &G,
     ) -> Result<Ran, AllocError>
         requires plan { IsInBounds plan.now }
-        requires groups { AreOf job.now.groups.now (run_threads job.now.trace.now) }
-        requires few { (grouping job.now.groups.now).count ≤ MOST_GROUPS + 1 }
-        ensures { IfOk result (IsRunBy (typed_script_of script.now) job.now.trace.now
-            (grouping job.now.groups.now) plan.now.workers) }
+        requires groups { AreOf groups.now (run_threads trace.now) }
+        requires few { (grouping groups.now).count ≤ MOST_GROUPS + 1 }
+        ensures { IfOk result (IsRunBy (typed_script_of script.now) trace.now
+            (grouping groups.now) plan.now.workers) }
     {
         match plan.engine {
             EngineKind::Tree => {
-                let lanes = TreeLanes::new(plan.hash_key, script);
-                self.run_lanes(&lanes, job, plan)
+                let lanes = TreeLanes::with_hash_key(self.hash_key, script);
+                self.run_lanes(&lanes, trace, groups, plan, gate)
             }
             EngineKind::Dif => {
                 let program = compile(self.alloc, script)?;
-                let ran = self.run_lanes(&DifLanes::new(plan.hash_key, &program), job, plan);
+                let lanes = DifLanes::with_hash_key(self.hash_key, &program);
+                let ran = self.run_lanes(&lanes, trace, groups, plan, gate);
                 drop(program);
                 ran
             }
         }
     }
 
-    // Runs what lanes run over a job's trace, by the workers of a plan.
+    // Runs what lanes run over a trace, by the workers of a plan.
     fn run_lanes<K: Lanes + Sync, G: Gate + Sync>(
         &self,
         lanes: &K,
-        job: &Job<G>,
+        trace: &Trace,
+        groups: &Groups,
         plan: &Plan,
+        gate: &G,
     ) -> Result<Ran, AllocError>
         requires plan { IsInBounds plan.now }
-        requires groups { AreOf job.now.groups.now (run_threads job.now.trace.now) }
-        requires few { (grouping job.now.groups.now).count ≤ MOST_GROUPS + 1 }
+        requires groups { AreOf groups.now (run_threads trace.now) }
+        requires few { (grouping groups.now).count ≤ MOST_GROUPS + 1 }
         requires script { (m : ScriptMeant) × K.runs lanes.now m }
         ensures { (m : ScriptMeant) → K.runs lanes.now m
-            → IfOk result (IsRunBy m job.now.trace.now
-            (grouping job.now.groups.now) plan.now.workers) }
+            → IfOk result (IsRunBy m trace.now
+            (grouping groups.now) plan.now.workers) }
     {
-        run_all(self.rt, self.alloc, lanes, job, plan.workers)
+        let workers = plan.workers;
+        run_all(self.rt, self.alloc, lanes, trace, groups, workers, gate)
     }
 
     // What a run shows.
     fn run_output(&self, script: &TypedScript, ran: Ran) -> Result<Replayed, AllocError>
-        requires { functions_of ran.whole.table ≡ functions_in (typed_script_of script.now) }
+        requires { functions_of ran.0.table ≡ functions_in (typed_script_of script.now) }
         ensures { let m = typed_script_of script.now in
             (plan : Plan) (trace : List Firing) (grouping : Grouping)
             → IsGroupedBy plan.groups trace grouping → IsRunBy m trace grouping plan.workers ran
             → IfOk result (λ r. IsShown L.shows m trace (output_of r)
             × IsCarriedOut plan trace (firings_over m trace) r) }
     {
-        match self.layout.render(self.rt, self.alloc, script, &ran.whole) {
+        match self.layout.render(self.rt, self.alloc, script, &ran.0) {
             Ok(bytes) => Ok(replayed_of(bytes, ran)),
             Err(e) => {
                 drop(ran);
@@ -201,16 +202,16 @@ impl<'a, R: Threads + Wait + Sync, L: Layout> Consumer<'a, R, L> {
 // What a run shows in these bytes.
 fn replayed_of(bytes: Vec<u8>, ran: Ran) -> Replayed
     ensures bytes { result.bytes ≡ bytes }
-    ensures by_worker { result.by_worker ≡ ran.by_worker }
-    ensures status { result.status
-        ≡ unwrap_or (option_map (λ exit. exit.1) ran.whole.exit) 0 }
-    ensures ran { result.ran ≡ ran.whole.ran }
+    ensures by_worker { result.by_worker ≡ ran.1 }
+    ensures status { result.status ≡ unwrap_or (option_map (λ exit. exit.1) ran.0.exit) 0 }
+    ensures ran { result.ran ≡ ran.0.ran }
 {
+    let (whole, by_worker) = ran;
     Replayed {
         bytes,
-        by_worker: ran.by_worker,
-        status: status(ran.whole.exit),
-        ran: ran.whole.ran,
+        by_worker,
+        status: status(whole.exit),
+        ran: whole.ran,
     }
 }
 

@@ -15,7 +15,6 @@ use crate::plan::{EngineKind, GroupPlan, Plan};
 use clap::builder::ValueParser;
 use clap::error::ErrorKind;
 use clap::{Arg, ArgMatches, Command, value_parser};
-use keyed_hash::HashKey;
 use shard_queue::{MOST_GROUPS, MOST_WORKERS};
 use std::alloc::{AllocError, Global};
 use std::env::Args;
@@ -30,17 +29,6 @@ pub struct Request {
     pub file: Option<String>,
     /// How the run is carried out.
     pub plan: Plan,
-}
-
-impl Request {
-    /// The same, where the run's maps hash by this key.
-    pub fn hashed_by(self, hash_key: HashKey) -> Request
-        ensures { result ≡ record self { plan = record self.plan { hash_key = hash_key } } }
-    {
-        let Request { file, plan } = self;
-        let plan = plan.hashed_by(hash_key);
-        Request { file, plan }
-    }
 }
 
 /// Why the words ask for no run.
@@ -276,7 +264,11 @@ fn plan_in(alloc: Global, help: Help, matches: &ArgMatches<'_>) -> Result<Plan, 
     let Some(engine) = engine_named(matches) else {
         return Err(no_engine(alloc, help));
     };
-    Ok(Plan::new(workers, GroupPlan::Dealt(groups), engine))
+    Ok(Plan {
+        workers,
+        groups: GroupPlan::Dealt(groups),
+        engine,
+    })
 }
 
 // The mistake of a number out of range that clap accepted. It accepts none, so this is never

@@ -24,6 +24,7 @@ use Rattle.d_lexer.specs.Bytes.{stands_for_itself, begins_comment, escape_of, is
 use Rattle.d_lexer.specs.Numbers.{IsNoNumber}
 use Rattle.d_lexer.specs.Steps.Numbers.{number_spelled}
 use Rattle.d_lexer.specs.Marks.{mark_of}
+use Rattle.d_lexer.specs.Steps.Marks.{mark_by}
 use Rattle.d_lexer.specs.Places.{position_after, after_byte, is_head, is_first, is_hash}
 use Rattle.d_lexer.specs.Places.{place_after}
 use Rattle.d_lexer.specs.Faults.{on_line}
@@ -46,6 +47,7 @@ use Rattle.d_lexer.proofs.Base.{run_fills, run_is, scan_skip}
 use Rattle.d_lexer.proofs.Steps.{later_text, later_none}
 use Rattle.d_lexer.proofs.Numbers.{number_reads, none_reads}
 use Rattle.d_lexer.proofs.OptionLines.{option_reads, no_option_reads}
+use Rattle.d_lexer.proofs.MarkTables.{mark_walked}
 use Rattle.d_lexer.proofs.Marks.{MarkIs, mark_sound, mark_complete, mark_free, is_free}
 
 -- the bytes begin with this one, and this is read there
@@ -235,8 +237,8 @@ token_mark Predicate b z e = inside_mark Predicate b z e
 token_mark Body b z e = inside_mark Body b z e
 
 no_mark_empty : (p : Place) (k : Mark) → mark_of p [] ≡ Some k → ⊥
-unfolding mark_of
-no_mark_empty p k e = cc
+unfolding mark_by
+no_mark_empty p k e = let walked = mark_walked p [] k e in cc
 
 mark_reads : (p : Place) (pos : Position) (own rest : List ℕ) (k : Mark) → IsMark p own rest k → Reads p pos own rest (λ n. Ok (front.Token (kind.Mark k) n))
 mark_reads p pos [] rest k h = absurd (no_mark_empty p k h.is)

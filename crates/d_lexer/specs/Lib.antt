@@ -10,4 +10,3 @@ pub mod Steps
 pub mod Lexing
 pub mod Spans
 pub mod Small
-pub mod Spelling

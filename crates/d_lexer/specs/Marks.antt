@@ -1,85 +1,46 @@
--- Which bytes are a mark, in which place.
-use Rattle.std.specs.Prelude.{ℕ, ◌&&◌, if◌then◌else◌, ◌==◌, List, [], ◌∷◌, Option, Some, None}
-use Rattle.d_lexer.specs.Bytes.{entry_of}
+-- How each mark is spelled, and in which places it is one.
+-- Source: Dynamic Tracing Guide, "Types, Operators, and Expressions".
+use Rattle.std.specs.Prelude.{ℕ, if◌then◌else◌, List, [], ◌∷◌, Option, Some, None, codes}
+use Rattle.std.specs.Str.{bytes_eq}
 use Rattle.d_lexer.specs.Vocabulary.{Mark, Place, Head, Declaration, Predicate, Body}
 use Rattle.d_lexer.specs.declared.token.Mark.TheVariants as mark
 
--- + - * / % & | ^ ~ < > ! ? : = ( ) [ ] { } , ;
-abbrev pub singles : List (ℕ × Mark)
-singles =
-    (43, mark.Plus) ∷ (45, mark.Minus) ∷ (42, mark.Star) ∷ (47, mark.Slash)
-    ∷ (37, mark.Percent) ∷ (38, mark.And) ∷ (124, mark.Or) ∷ (94, mark.Xor)
-    ∷ (126, mark.Tilde) ∷ (60, mark.Less) ∷ (62, mark.Greater) ∷ (33, mark.Not)
-    ∷ (63, mark.Question) ∷ (58, mark.Colon) ∷ (61, mark.Assign) ∷ (40, mark.OpenParenthesis)
-    ∷ (41, mark.CloseParenthesis) ∷ (91, mark.OpenBracket) ∷ (93, mark.CloseBracket)
-    ∷ (123, mark.OpenBrace) ∷ (125, mark.CloseBrace) ∷ (44, mark.Comma)
-    ∷ (59, mark.Semicolon) ∷ []
+-- the marks, but for slashes, outside the head
+abbrev pub marks : List (List ℕ × Mark)
+marks =
+    (codes "<<=", mark.ShiftLeftAssign) ∷ (codes ">>=", mark.ShiftRightAssign)
+    ∷ (codes "->", mark.Arrow) ∷ (codes "++", mark.Increment) ∷ (codes "--", mark.Decrement)
+    ∷ (codes "<<", mark.ShiftLeft) ∷ (codes ">>", mark.ShiftRight) ∷ (codes "<=", mark.LessEqual)
+    ∷ (codes ">=", mark.GreaterEqual) ∷ (codes "==", mark.Equal) ∷ (codes "!=", mark.NotEqual)
+    ∷ (codes "&&", mark.AndAnd) ∷ (codes "||", mark.OrOr) ∷ (codes "^^", mark.XorXor)
+    ∷ (codes "+=", mark.AddAssign) ∷ (codes "-=", mark.SubtractAssign)
+    ∷ (codes "*=", mark.MultiplyAssign) ∷ (codes "/=", mark.DivideAssign)
+    ∷ (codes "%=", mark.RemainderAssign) ∷ (codes "&=", mark.AndAssign)
+    ∷ (codes "|=", mark.OrAssign) ∷ (codes "^=", mark.XorAssign) ∷ (codes "+", mark.Plus)
+    ∷ (codes "-", mark.Minus) ∷ (codes "*", mark.Star) ∷ (codes "%", mark.Percent)
+    ∷ (codes "&", mark.And) ∷ (codes "|", mark.Or) ∷ (codes "^", mark.Xor)
+    ∷ (codes "~", mark.Tilde) ∷ (codes "<", mark.Less) ∷ (codes ">", mark.Greater)
+    ∷ (codes "!", mark.Not) ∷ (codes "?", mark.Question) ∷ (codes ":", mark.Colon)
+    ∷ (codes "=", mark.Assign) ∷ (codes "(", mark.OpenParenthesis)
+    ∷ (codes ")", mark.CloseParenthesis) ∷ (codes "[", mark.OpenBracket)
+    ∷ (codes "]", mark.CloseBracket) ∷ (codes "{", mark.OpenBrace)
+    ∷ (codes "}", mark.CloseBrace) ∷ (codes ",", mark.Comma) ∷ (codes ";", mark.Semicolon) ∷ []
 
--- , / { } ;
-abbrev pub of_head : List (ℕ × Mark)
-of_head =
-    (44, mark.Comma) ∷ (47, mark.Slash) ∷ (123, mark.OpenBrace) ∷ (125, mark.CloseBrace)
-    ∷ (59, mark.Semicolon) ∷ []
-
--- ++ -- << >> && || ^^
-abbrev pub doubles : List (ℕ × Mark)
-doubles =
-    (43, mark.Increment) ∷ (45, mark.Decrement) ∷ (60, mark.ShiftLeft)
-    ∷ (62, mark.ShiftRight) ∷ (38, mark.AndAnd) ∷ (124, mark.OrOr) ∷ (94, mark.XorXor) ∷ []
-
--- followed by =: <= >= == != += -= *= /= %= &= |= ^=
-abbrev pub settings : List (ℕ × Mark)
-settings =
-    (60, mark.LessEqual) ∷ (62, mark.GreaterEqual) ∷ (61, mark.Equal) ∷ (33, mark.NotEqual)
-    ∷ (43, mark.AddAssign) ∷ (45, mark.SubtractAssign) ∷ (42, mark.MultiplyAssign)
-    ∷ (47, mark.DivideAssign) ∷ (37, mark.RemainderAssign) ∷ (38, mark.AndAssign)
-    ∷ (124, mark.OrAssign) ∷ (94, mark.XorAssign) ∷ []
-
--- doubled and followed by =: <<= >>=
-abbrev pub shift_marks : List (ℕ × Mark)
-shift_marks = (60, mark.ShiftLeftAssign) ∷ (62, mark.ShiftRightAssign) ∷ []
-
--- followed by >: ->
-abbrev pub arrows : List (ℕ × Mark)
-arrows = (45, mark.Arrow) ∷ []
-
--- a mark of one byte; in a predicate a slash is the closing one until the next token says that it
+-- the marks of a place; in a predicate a slash is the closing one until the next token says that it
 -- is not
-abbrev pub mark_one : Place → ℕ → Option Mark
-mark_one Head a = entry_of of_head a
-mark_one Declaration a = entry_of singles a
-mark_one Predicate a = if a == 47 then Some mark.ClosingSlash else entry_of singles a
-mark_one Body a = entry_of singles a
+abbrev pub marks_in : Place → List (List ℕ × Mark)
+marks_in Head =
+    (codes ",", mark.Comma) ∷ (codes "/", mark.Slash) ∷ (codes "{", mark.OpenBrace)
+    ∷ (codes "}", mark.CloseBrace) ∷ (codes ";", mark.Semicolon) ∷ []
+marks_in Declaration = (codes "/", mark.Slash) ∷ marks
+marks_in Predicate = (codes "/", mark.ClosingSlash) ∷ marks
+marks_in Body = (codes "/", mark.Slash) ∷ marks
 
--- outside the head: a mark of two bytes
-abbrev pub two_bytes : ℕ → ℕ → Option Mark
-two_bytes a b =
-    if b == 61 then entry_of settings a
-    else (if a == b then entry_of doubles a
-    else (if b == 62 then entry_of arrows a else None))
-
--- a mark of two bytes; the head has none
-abbrev pub mark_two : Place → ℕ → ℕ → Option Mark
-mark_two Head a b = None
-mark_two Declaration a b = two_bytes a b
-mark_two Predicate a b = two_bytes a b
-mark_two Body a b = two_bytes a b
-
--- outside the head: a mark of three bytes
-abbrev pub three_bytes : ℕ → ℕ → ℕ → Option Mark
-three_bytes a b c = if c == 61 && a == b then entry_of shift_marks a else None
-
--- a mark of three bytes; the head has none
-abbrev pub mark_three : Place → ℕ → ℕ → ℕ → Option Mark
-mark_three Head a b c = None
-mark_three Declaration a b c = three_bytes a b c
-mark_three Predicate a b c = three_bytes a b c
-mark_three Body a b c = three_bytes a b c
+abbrev pub mark_among : List (List ℕ × Mark) → List ℕ → Option Mark
+mark_among [] bytes = None
+mark_among (entry ∷ entries) bytes =
+    if bytes_eq bytes entry.0 then Some entry.1 else mark_among entries bytes
 
 -- the mark of these bytes in this place
 unfoldable pub mark_of : Place → List ℕ → Option Mark
-mark_of p [] = None
-mark_of p (a ∷ []) = mark_one p a
-mark_of p (a ∷ b ∷ []) = mark_two p a b
-mark_of p (a ∷ b ∷ c ∷ []) = mark_three p a b c
-mark_of p (a ∷ b ∷ c ∷ d ∷ z) = None
+mark_of p bytes = mark_among (marks_in p) bytes

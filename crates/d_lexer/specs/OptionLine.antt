@@ -1,4 +1,5 @@
 -- Option lines.
+-- Source: Dynamic Tracing Guide, "Options and Tunables".
 use Rattle.std.specs.Prelude.{◌≡◌, ℕ, Bool, true, ◌||◌, ◌==◌, List, [], ◌∷◌, ◌++◌, codes}
 use Rattle.std.specs.List.{AllByRecursion}
 use Rattle.d_lexer.specs.Bytes.{is_space}

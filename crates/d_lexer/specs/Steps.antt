@@ -2,6 +2,7 @@
 -- to agree with the relation beside this folder.
 pub mod Numbers
 pub mod OptionLine
+pub mod Marks
 pub mod Scan
 pub mod Lexing
 pub mod Outcomes

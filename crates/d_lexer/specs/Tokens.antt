@@ -1,4 +1,5 @@
 -- Which tokens a script has, and which fault.
+-- Source: Dynamic Tracing Guide, "D Program Structure".
 use Rattle.std.specs.Prelude.{◌≡◌, ℕ, ◌+◌, ◌≤◌, ◌⊎◌, Bool, true, false, ◌&&◌, ◌||◌, ◌==◌, Some}
 use Rattle.std.specs.Prelude.{None, List, [], ◌∷◌, ◌++◌, length, codes}
 use Rattle.d_lexer.specs.Vocabulary.{AllByRecursion, is_ascii_digit, Mark, Token, TokenKind, Place}

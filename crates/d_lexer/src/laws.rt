@@ -1,8 +1,8 @@
 //! What holds of every script's tokens and first fault.
 
-ghost use Rattle.std.specs.Prelude.{◌≡◌, ◌≢◌, ℕ, List};
-ghost use Rattle.d_lexer.specs.Vocabulary.{AllByRecursion, Body, LexFault, Mark, Place, Token};
-ghost use Rattle.d_lexer.specs.{Marks.mark_of, Small.HaveSmallNumbers, Spelling.spelling};
+ghost use Rattle.std.specs.Prelude.{◌≡◌, ℕ, List};
+ghost use Rattle.d_lexer.specs.Vocabulary.{AllByRecursion, LexFault, Token};
+ghost use Rattle.d_lexer.specs.{Small.HaveSmallNumbers};
 ghost use Rattle.d_lexer.specs.Lexing.{AreTokens, HasOne, IsFirstFault};
 ghost use Rattle.d_lexer.specs.Spans.{AreInOrder, IsInPlace, HasItsLine};
 
@@ -45,16 +45,6 @@ pub fn tokens_in_order()
 pub fn fault_has_its_line()
     ensures { (bytes : List ℕ) (fault : LexFault)
         → IsFirstFault bytes fault → HasItsLine bytes fault }
-{}
-
-/// What is read as a mark is its spelling.
-pub fn marks_are_spelled()
-    ensures { (p : Place) (own : List ℕ) (k : Mark) → mark_of p own ≡ Some k → own ≡ spelling k }
-{}
-
-/// Each mark's spelling is that mark in a body; a closing slash is in a predicate alone.
-pub fn spellings_are_marks()
-    ensures { (k : Mark) → k ≢ Mark.ClosingSlash → mark_of Body (spelling k) ≡ Some k }
 {}
 
 /// Numbers are below 2^64.

@@ -3,7 +3,7 @@
 ghost use Rattle.std.specs.Prelude.{◌≡◌, []};
 ghost use Rattle.d_lexer.specs.{Bytes.entry_of, Vocabulary.Body};
 ghost use Rattle.d_lexer.specs.Steps.Scan.{mark_at, one_at, three_at, two_at};
-ghost use Rattle.d_lexer.specs.Marks as spec;
+ghost use Rattle.d_lexer.specs.Steps.Marks as spec;
 
 use crate::place::Place;
 use crate::token::Mark;
@@ -143,7 +143,7 @@ fn mark_three(place: Place, a: u8, b: u8, c: u8) -> Option<Mark>
     }
 }
 
-#[tactic(auto, unfolding(crate::specs::Marks::mark_of))]
+#[tactic(auto, unfolding(crate::specs::Steps::Marks::mark_by))]
 fn one_at(place: Place, a: u8) -> Option<(Mark, usize)>
     ensures { result ≡ one_at place a }
 {
@@ -153,7 +153,7 @@ fn one_at(place: Place, a: u8) -> Option<(Mark, usize)>
     }
 }
 
-#[tactic(auto, unfolding(crate::specs::Marks::mark_of))]
+#[tactic(auto, unfolding(crate::specs::Steps::Marks::mark_by))]
 fn two_at(place: Place, a: u8, b: u8) -> Option<(Mark, usize)>
     ensures { result ≡ two_at place a b }
 {
@@ -163,7 +163,7 @@ fn two_at(place: Place, a: u8, b: u8) -> Option<(Mark, usize)>
     }
 }
 
-#[tactic(auto, unfolding(crate::specs::Marks::mark_of))]
+#[tactic(auto, unfolding(crate::specs::Steps::Marks::mark_by))]
 fn three_at(place: Place, a: u8, b: u8, c: u8) -> Option<(Mark, usize)>
     ensures { result ≡ three_at place a b c }
 {

@@ -1,7 +1,7 @@
 -- What spells a tree is read as that tree.
 use Rattle.std.proofs.Common.{◌≡◌, ℕ, zero, suc, ◌<◌, ◌≤◌, max, Bool, true, false, List, [], ◌∷◌}
-use Rattle.std.proofs.Common.{◌++◌, length, Some, None, refl, sym, ap, subst, ◌∙◌, arith, rules}
-use Rattle.std.proofs.Common.{inl, inr, lit≤, lit<, length-append}
+use Rattle.std.proofs.Common.{◌++◌, length, Some, None, refl, sym, ap, ◌∙◌, arith, rules}
+use Rattle.std.proofs.Common.{inl, inr, lit≤, lit<}
 use Rattle.std.proofs.lemmas.List.{append-nil}
 use Rattle.std.proofs.lemmas.Bool.{cases_lt, le-leb, lt-leb}
 use denote.Enum.Bare.{same_true}
@@ -30,15 +30,15 @@ use Rattle.d_parser.specs.declared.marks.Follow.TheVariants as f
 use Rattle.d_parser.specs.Tree.{Tree, Known, Read, Call, Unary, Cast, Before, After, Binary, Choice}
 use Rattle.d_parser.specs.Tree.{Assign, Trees, end, more}
 use Rattle.d_parser.specs.Steps.Tree.{add}
-use Rattle.d_parser.specs.Words.{word_kind, word_kind_of, only_integer, type_from}
-use Rattle.d_parser.specs.Steps.Words.{begins_type}
-use Rattle.d_parser.specs.Words.{integer_type, is_word, AreWords}
-use Rattle.d_parser.specs.Steps.Words.{run, after_run}
+use Rattle.d_parser.specs.declared.tree.DeclaredType.TheVariants as d
+use Rattle.d_parser.specs.Words.{word_kind, word_kind_of}
+use Rattle.d_parser.specs.Steps.Words.{begins_type, is_word, run, after_run, type_from}
+use Rattle.d_parser.specs.Steps.Words.{only_integer, integer_type}
 use Rattle.d_parser.specs.Marks.{prefix_of, follow_of, level_of}
 use Rattle.d_parser.specs.Steps.Marks.{follow_at, kind_is, is_at}
 use Rattle.d_parser.specs.Steps.Marks.{same_mark, tail}
-use Rattle.d_parser.specs.Grammar.{token, Begins, Sign, Within, IsPhrase, rank, IsPlain, IsTarget}
-use Rattle.d_parser.specs.Grammar.{IsEnclosed, Spells, SpellsKeys, SpellsList, SpellsMore}
+use Rattle.d_parser.specs.Grammar.{token, IsToken, IsMark, Within, IsPhrase, level, IsWord, IsMember}
+use Rattle.d_parser.specs.Grammar.{IsTarget, IsEnclosed, Spells, SpellsKeys, SpellsList, SpellsMore}
 use Rattle.d_parser.specs.Steps.Reading.{after_mark, plain_word, member, variable, typed_by}
 use Rattle.d_parser.specs.Steps.Reading.{is_typed}
 use Rattle.d_parser.specs.Steps.Reading.{cast_type, calls, begins_call, readers, closed_list}
@@ -48,8 +48,10 @@ use Rattle.d_parser.specs.Steps.Reading.{part_at_name, part_at_cast, part_in_par
 use Rattle.d_parser.specs.Steps.Reading.{part_at_step}
 use Rattle.d_parser.specs.Steps.Reading.{part_at_mark, part_by, part, climb_by, climb_on, choice_by}
 use Rattle.d_parser.specs.Steps.Reading.{alternatives, choice, operand, whole, further_on}
-use Rattle.d_parser.proofs.Takes.{sign_one, takes, phrase_takes, keys_take, target_takes}
-use Rattle.d_parser.proofs.Runs.{run_is, later_is}
+use Rattle.d_parser.proofs.Takes.{sign_one, word_one, member_takes, type_takes, takes, phrase_takes}
+use Rattle.d_parser.proofs.Takes.{keys_take, target_takes}
+use Rattle.d_parser.proofs.Runs.{AreWords, run_is, later_is}
+use Rattle.d_parser.proofs.Types.{type_is, type_words}
 
 -- ---- what follows
 
@@ -113,19 +115,19 @@ level_below b.And = lit≤ tt
 level_below b.Xor = lit≤ tt
 level_below b.Or = lit≤ tt
 
-pub sign_follow : (mark : Mark) (ts rest : List Token) → Sign mark ts rest → follow_at ts ≡ follow_of mark
+pub sign_follow : (mark : Mark) (ts rest : List Token) → IsMark mark ts rest → follow_at ts ≡ follow_of mark
 sign_follow mark ts rest h = ap follow_at h.begins.is
 
-pub sign_tail : (mark : Mark) (ts rest : List Token) → Sign mark ts rest → tail ts ≡ rest
+pub sign_tail : (mark : Mark) (ts rest : List Token) → IsMark mark ts rest → tail ts ≡ rest
 sign_tail mark ts rest h = ap tail h.begins.is
 
-pub sign_at : (mark other : Mark) (ts rest : List Token) → Sign mark ts rest → is_at other ts ≡ same_mark mark other
+pub sign_at : (mark other : Mark) (ts rest : List Token) → IsMark mark ts rest → is_at other ts ≡ same_mark mark other
 sign_at mark other ts rest h = ap (is_at other) h.begins.is
 
-pub after_sign : (mark : Mark) (ts rest : List Token) → same_mark mark mark ≡ true → Sign mark ts rest → after_mark mark ts ≡ Some rest
+pub after_sign : (mark : Mark) (ts rest : List Token) → same_mark mark mark ≡ true → IsMark mark ts rest → after_mark mark ts ≡ Some rest
 after_sign mark ts rest s h = rw (sign_at mark mark ts rest h, s, sign_tail mark ts rest h) refl
 
-pub sign_reach : (mark : Mark) (ts rest : List Token) (f : Follow) → Sign mark ts rest → follow_of mark ≡ f → reach ts ≡ reach_of f
+pub sign_reach : (mark : Mark) (ts rest : List Token) (f : Follow) → IsMark mark ts rest → follow_of mark ≡ f → reach ts ≡ reach_of f
 sign_reach mark ts rest f h e = ap reach_of (sign_follow mark ts rest h ∙ e)
 
 -- nothing but what opens or steps goes on a unary part
@@ -194,26 +196,26 @@ pub record Climbed (n k : ℕ) (t : Tree) (ts rest : List Token) : Type 0 where
   pub is : operand (readers n) k ts ≡ (readers left).climb (max k 3) t rest
 
 abbrev Climbs : Tree → Type 0
-Climbs t = (n k l : ℕ) (ts rest : List Token) → Spells t ts rest → 3 ≤ l → l ≤ 13 → l ≤ rank t → k ≤ l → length ts ≤ n → reach rest ≤ l → (reach rest ≡ 1 → 2 ≤ k) → Climbed n k t ts rest
+Climbs t = (n k l : ℕ) (ts rest : List Token) → Spells t ts rest → 3 ≤ l → l ≤ 13 → l ≤ level t → k ≤ l → length ts ≤ n → reach rest ≤ l → (reach rest ≡ 1 → 2 ≤ k) → Climbed n k t ts rest
 
 abbrev Phrases : Tree → Type 0
-Phrases t = (n k : ℕ) (ts rest : List Token) → Spells t ts rest → k ≤ rank t → length ts < n → reach rest < k → (readers n).phrase k ts ≡ Some (t, rest)
+Phrases t = (n k : ℕ) (ts rest : List Token) → Spells t ts rest → k ≤ level t → length ts < n → reach rest < k → (readers n).phrase k ts ≡ Some (t, rest)
 
 pub record Reads (t : Tree) : Type 0 where
   pub climbs : Climbs t
   pub phrases : Phrases t
 
-rank_low : (t : Tree) → 1 ≤ rank t
-rank_low (Known line constant) = lit≤ tt
-rank_low (Read x keys) = lit≤ tt
-rank_low (Call line name arguments) = lit≤ tt
-rank_low (Unary line op a) = lit≤ tt
-rank_low (Cast line to a) = lit≤ tt
-rank_low (Before line step x keys) = lit≤ tt
-rank_low (After x keys step) = lit≤ tt
-rank_low (Binary op a b) = let h = level_high op in omega arith
-rank_low (Choice test a b) = lit≤ tt
-rank_low (Assign op x keys a) = lit≤ tt
+level_least : (t : Tree) → 1 ≤ level t
+level_least (Known line constant) = lit≤ tt
+level_least (Read x keys) = lit≤ tt
+level_least (Call line name arguments) = lit≤ tt
+level_least (Unary line op a) = lit≤ tt
+level_least (Cast line to a) = lit≤ tt
+level_least (Before line step x keys) = lit≤ tt
+level_least (After x keys step) = lit≤ tt
+level_least (Binary op a b) = let h = level_high op in omega arith
+level_least (Choice test a b) = lit≤ tt
+level_least (Assign op x keys a) = lit≤ tt
 
 -- ---- parentheses
 
@@ -251,68 +253,68 @@ untyped_by : (b : Bool) (n k : ℕ) (ts : List Token) (x : Tree × List Token) �
 untyped_by true n k ts x h e = let none = typed_none n k ts h in absurd cc
 untyped_by false n k ts x h e = refl
 
-parens_read : (n k line : ℕ) (t : Tree) (inner close rest : List Token) → (readers n).phrase 1 inner ≡ Some (t, close) → Sign m.CloseParenthesis close rest → part_at_mark (readers n) m.OpenParenthesis line inner ≡ Some (t, rest)
+parens_read : (n k line : ℕ) (t : Tree) (inner close rest : List Token) → (readers n).phrase 1 inner ≡ Some (t, close) → IsMark m.CloseParenthesis close rest → part_at_mark (readers n) m.OpenParenthesis line inner ≡ Some (t, rest)
 unfolding part_at_mark part_in_parentheses
 parens_read n k line t inner close rest e h =
     rw (untyped_by (is_typed inner) n 1 inner (t, close) refl e) (rw e (rw (after_sign m.CloseParenthesis close rest refl h) refl))
 
-parens_part : (n k : ℕ) (t : Tree) (ts inner close rest : List Token) → Sign m.OpenParenthesis ts inner → (readers n).phrase 1 inner ≡ Some (t, close) → Sign m.CloseParenthesis close rest → part (readers n) k ts ≡ Some (t, rest)
+parens_part : (n k : ℕ) (t : Tree) (ts inner close rest : List Token) → IsMark m.OpenParenthesis ts inner → (readers n).phrase 1 inner ≡ Some (t, close) → IsMark m.CloseParenthesis close rest → part (readers n) k ts ≡ Some (t, rest)
 unfolding part
 parens_part n k t ts inner close rest o e h = rw o.begins.is (parens_read n k o.line t inner close rest e h)
 
-close_reach : (ts rest : List Token) → Sign m.CloseParenthesis ts rest → reach ts ≡ 0
+close_reach : (ts rest : List Token) → IsMark m.CloseParenthesis ts rest → reach ts ≡ 0
 close_reach ts rest h = sign_reach m.CloseParenthesis ts rest f.Other h refl
 
 inside : (t : Tree) → Reads t → (p n : ℕ) (ts rest : List Token) → Within p (Spells t) ts rest → length ts < n → reach rest < 1 → (readers n).phrase 1 ts ≡ Some (t, rest)
-inside t r zero n ts rest h len e = r.phrases n 1 ts rest h (rank_low t) len e
+inside t r zero n ts rest h len e = r.phrases n 1 ts rest h (level_least t) len e
 inside t r (suc p) zero ts rest h len e = absurd (omega arith)
 inside t r (suc p) (suc n) ts rest h len e =
-    let one = sign_one m.OpenParenthesis ts h.0 h.2 in
-    let two = sign_one m.CloseParenthesis h.1 rest h.4 in
-    let less = phrase_takes t 1 (takes t) h.0 h.1 (record { pairs = p; high = λ e. rank_low t; within = h.3 }) in
-    let zero_reach = close_reach h.1 rest h.4 in
-    part_ends n 1 ts t rest (parens_part n 1 t ts h.0 h.1 rest h.2 (inside t r p n h.0 h.1 h.3 (omega arith) (omega arith)) h.4) (omega arith) e
+    let one = sign_one m.OpenParenthesis ts h.0 h.1 in
+    let two = sign_one m.CloseParenthesis h.2.0 rest h.2.2 in
+    let less = phrase_takes t 1 (takes t) h.0 h.2.0 (record { pairs = p; high = λ e. level_least t; within = h.2.1 }) in
+    let zero_reach = close_reach h.2.0 rest h.2.2 in
+    part_ends n 1 ts t rest (parens_part n 1 t ts h.0 h.2.0 rest h.1 (inside t r p n h.0 h.2.0 h.2.1 (omega arith) (omega arith)) h.2.2) (omega arith) e
 
 wrapped_part : (t : Tree) → Reads t → (p n k : ℕ) (ts rest : List Token) → Within (suc p) (Spells t) ts rest → length ts ≤ n → part (readers n) k ts ≡ Some (t, rest)
 wrapped_part t r p n k ts rest h len =
-    let one = sign_one m.OpenParenthesis ts h.0 h.2 in
-    let zero_reach = close_reach h.1 rest h.4 in
-    parens_part n k t ts h.0 h.1 rest h.2 (inside t r p n h.0 h.1 h.3 (omega arith) (omega arith)) h.4
+    let one = sign_one m.OpenParenthesis ts h.0 h.1 in
+    let zero_reach = close_reach h.2.0 rest h.2.2 in
+    parens_part n k t ts h.0 h.2.0 rest h.1 (inside t r p n h.0 h.2.0 h.2.1 (omega arith) (omega arith)) h.2.2
 
-phrase_by : (t : Tree) → Reads t → (p n k : ℕ) (ts rest : List Token) → (p ≡ 0 → k ≤ rank t) → Within p (Spells t) ts rest → length rest < length ts → length ts < n → reach rest < k → (readers n).phrase k ts ≡ Some (t, rest)
+phrase_by : (t : Tree) → Reads t → (p n k : ℕ) (ts rest : List Token) → (p ≡ 0 → k ≤ level t) → Within p (Spells t) ts rest → length rest < length ts → length ts < n → reach rest < k → (readers n).phrase k ts ≡ Some (t, rest)
 phrase_by t r zero n k ts rest high h less len e = r.phrases n k ts rest h (high refl) len e
 phrase_by t r (suc p) zero k ts rest high h less len e = absurd (omega arith)
 phrase_by t r (suc p) (suc n) k ts rest high h less len e = part_ends n k ts t rest (wrapped_part t r p n k ts rest h (omega arith)) (omega arith) e
 
-pub phrase_of : (t : Tree) → Reads t → (n k : ℕ) (ts rest : List Token) → IsPhrase (Spells t) (rank t) k ts rest → length ts < n → reach rest < k → (readers n).phrase k ts ≡ Some (t, rest)
+pub phrase_of : (t : Tree) → Reads t → (n k : ℕ) (ts rest : List Token) → IsPhrase (Spells t) (level t) k ts rest → length ts < n → reach rest < k → (readers n).phrase k ts ≡ Some (t, rest)
 phrase_of t r n k ts rest h len e = phrase_by t r h.pairs n k ts rest h.high h.within (phrase_takes t k (takes t) ts rest h) len e
 
 climbed_part : (n k : ℕ) (t : Tree) (ts rest : List Token) → length rest < n → part (readers n) k ts ≡ Some (t, rest) → Climbed n k t ts rest
 climbed_part n k t ts rest len e = record { left = n; enough = len; within = omega arith; is = operand_of n k ts t rest e }
 
-climbs_by : (t : Tree) → Reads t → (p n k l : ℕ) (ts rest : List Token) → (p ≡ 0 → l ≤ rank t) → Within p (Spells t) ts rest → length rest < length ts → 3 ≤ l → l ≤ 13 → k ≤ l → length ts ≤ n → reach rest ≤ l → (reach rest ≡ 1 → 2 ≤ k) → Climbed n k t ts rest
+climbs_by : (t : Tree) → Reads t → (p n k l : ℕ) (ts rest : List Token) → (p ≡ 0 → l ≤ level t) → Within p (Spells t) ts rest → length rest < length ts → 3 ≤ l → l ≤ 13 → k ≤ l → length ts ≤ n → reach rest ≤ l → (reach rest ≡ 1 → 2 ≤ k) → Climbed n k t ts rest
 climbs_by t r zero n k l ts rest high h less low most le len e free = r.climbs n k l ts rest h low most (high refl) le len e free
 climbs_by t r (suc p) n k l ts rest high h less low most le len e free = climbed_part n k t ts rest (omega arith) (wrapped_part t r p n k ts rest h len)
 
-climbs_of : (t : Tree) → Reads t → (n k l : ℕ) (ts rest : List Token) → IsPhrase (Spells t) (rank t) l ts rest → 3 ≤ l → l ≤ 13 → k ≤ l → length ts ≤ n → reach rest ≤ l → (reach rest ≡ 1 → 2 ≤ k) → Climbed n k t ts rest
+climbs_of : (t : Tree) → Reads t → (n k l : ℕ) (ts rest : List Token) → IsPhrase (Spells t) (level t) l ts rest → 3 ≤ l → l ≤ 13 → k ≤ l → length ts ≤ n → reach rest ≤ l → (reach rest ≡ 1 → 2 ≤ k) → Climbed n k t ts rest
 climbs_of t r n k l ts rest h low most le len e free = climbs_by t r h.pairs n k l ts rest h.high h.within (phrase_takes t l (takes t) ts rest h) low most le len e free
 
 -- ---- from one statement to the other
 
-from_climbs : (t : Tree) → 3 ≤ rank t → rank t ≤ 13 → Climbs t → Phrases t
+from_climbs : (t : Tree) → 3 ≤ level t → level t ≤ 13 → Climbs t → Phrases t
 from_climbs t high most climbs zero k ts rest s le len e = absurd (omega arith)
 from_climbs t high most climbs (suc n) k ts rest s le len e =
     let up = climbs n k (max k 3) ts rest s (omega arith) (omega arith) (omega arith) (omega arith) (omega arith) (omega arith) (λ one. omega arith) in
     whole_of n k ts t rest (up.is ∙ climb_ends up.left (max k 3) t rest (let h = up.enough in omega arith) (omega arith)) ∙ choice_stays n k t rest e
 
-reads_joined : (t : Tree) → 3 ≤ rank t → rank t ≤ 13 → Climbs t → Reads t
+reads_joined : (t : Tree) → 3 ≤ level t → level t ≤ 13 → Climbs t → Reads t
 reads_joined t high most climbs = record { climbs = climbs; phrases = from_climbs t high most climbs }
 
 -- what is one part, whatever comes after it
 abbrev IsPart : Tree → Type 0
 IsPart t = (n k : ℕ) (ts rest : List Token) → Spells t ts rest → length ts ≤ n → reach rest < 15 → (reach rest ≡ 1 → 2 ≤ k) → part (readers n) k ts ≡ Some (t, rest)
 
-part_phrase : (t : Tree) → rank t ≤ 15 → IsPart t → Phrases t
+part_phrase : (t : Tree) → level t ≤ 15 → IsPart t → Phrases t
 part_phrase t low is_part zero k ts rest s le len e = absurd (omega arith)
 part_phrase t low is_part (suc n) k ts rest s le len e =
     let less = takes t ts rest s in
@@ -323,10 +325,10 @@ part_climbs t is_part n k l ts rest s low most high le len e free =
     let less = takes t ts rest s in
     climbed_part n k t ts rest (omega arith) (is_part n k ts rest s len (omega arith) free)
 
-reads_part : (t : Tree) → rank t ≤ 15 → IsPart t → Reads t
+reads_part : (t : Tree) → level t ≤ 15 → IsPart t → Reads t
 reads_part t low is_part = record { climbs = part_climbs t is_part; phrases = part_phrase t low is_part }
 
-reads_low : (t : Tree) → rank t < 3 → Phrases t → Reads t
+reads_low : (t : Tree) → level t < 3 → Phrases t → Reads t
 reads_low t low phrases = record { climbs = λ n k l ts rest s h1 h2 h3. absurd (omega arith); phrases = phrases }
 
 -- ---- constants
@@ -351,12 +353,12 @@ not_open mark x h other = open_is (same_mark mark m.OpenParenthesis) mark x refl
 unary_part : (line : ℕ) (op : UnaryOperator) (a : Tree) → Reads a → IsPart (Unary line op a)
 unfolding part part_at_mark
 unary_part line op a r n k ts rest s len e free =
-    let one : length ts ≡ suc (length s.1) = ap length s.3.is in
-    rw (s.3.is, not_open s.0 (p.Unary op) s.2 (λ h. absurd cc), s.2) (rw (phrase_of a r n 14 s.1 rest s.4 (omega arith) (omega (arith, below_unary (follow_at rest) e))) refl)
+    let one : length ts ≡ suc (length s.2.0) = ap length s.2.1.is in
+    rw (s.2.1.is, not_open s.0 (p.Unary op) s.1 (λ h. absurd cc), s.1) (rw (phrase_of a r n 14 s.2.0 rest s.2.2 (omega arith) (omega (arith, below_unary (follow_at rest) e))) refl)
 
-cast_read : (n line : ℕ) (to : IntegerType) (words close rest : List Token) → AreWords words → integer_type words ≡ Some to → Sign m.CloseParenthesis close rest → cast_type (words ++ close) ≡ Some (to, rest)
+cast_read : (to : IntegerType) (words close rest : List Token) → AreWords words → integer_type words ≡ Some to → IsMark m.CloseParenthesis close rest → cast_type (words ++ close) ≡ Some (to, rest)
 unfolding cast_type run after_run
-cast_read n line to words close rest h t s =
+cast_read to words close rest h t s =
     let run_close : run close ≡ [] = rw s.begins.is refl in
     let later_close : after_run close ≡ close = rw s.begins.is refl in
     rw (run_is words close h ∙ (ap (λ (xs : List Token). words ++ xs) run_close ∙ append-nil words), later_is words close h ∙ later_close, t, after_sign m.CloseParenthesis close rest refl s) refl
@@ -393,16 +395,18 @@ typed_word (kind.Mark mark) h e = absurd cc
 
 typed_words : (words close : List Token) (to : IntegerType) → AreWords words → integer_type words ≡ Some to → is_typed (words ++ close) ≡ true
 typed_words [] close to h e = absurd cc
-typed_words (t ∷ ts) close to h e = typed_word t.kind h.0 (typed_from (word_kind_of t.kind) ts to e)
+typed_words (t ∷ ts) close to h e = typed_word t.kind h.0 (typed_from (word_kind_of t.kind) ts to (sym (ap only_integer (type_is t ts)) ∙ e))
 
 cast_part : (line : ℕ) (to : IntegerType) (a : Tree) → Reads a → IsPart (Cast line to a)
 unfolding part part_at_mark part_in_parentheses part_at_cast
 cast_part line to a r n k ts rest s len e free =
-    let one : length ts ≡ suc (length (s.1.words ++ s.1.close)) = ap length s.1.opens.is in
-    let two = length-append s.1.words s.1.close in
-    let three = sign_one m.CloseParenthesis s.1.close s.0 s.1.closes in
-    rw (s.1.opens.is, typed_words s.1.words s.1.close to s.1.are_words s.1.spells, cast_read n line to s.1.words s.1.close s.0 s.1.are_words s.1.spells s.1.closes)
-    (rw (phrase_of a r n 14 s.0 rest s.2 (omega arith) (omega (arith, below_unary (follow_at rest) e))) refl)
+    let one : length ts ≡ suc (length s.0) = ap length s.1.is in
+    let two = type_takes (d.Integer to) s.0 s.2.0 s.2.1 in
+    let three = sign_one m.CloseParenthesis s.2.0 s.2.2.0 s.2.2.1 in
+    let words = type_words s.2.1.0 (d.Integer to) s.2.1.2 in
+    let spells : integer_type s.2.1.0 ≡ Some to = ap only_integer s.2.1.2 in
+    rw (s.1.is, s.2.1.1, typed_words s.2.1.0 s.2.0 to words spells, cast_read to s.2.1.0 s.2.0 s.2.2.0 words spells s.2.2.1)
+    (rw (phrase_of a r n 14 s.2.2.0 rest s.2.2.2 (omega arith) (omega (arith, below_unary (follow_at rest) e))) refl)
 
 -- ---- lists
 
@@ -436,14 +440,14 @@ pub record ReadsAll (l : Trees) : Type 0 where
 -- nothing goes on an expression before a comma, or where the list ends
 more_reach : (l : Trees) (ts rest : List Token) → SpellsMore l ts rest → reach rest ≡ 0 → reach ts ≡ 0
 more_reach end ts rest h e = ap reach h ∙ e
-more_reach (more a l) ts rest h e = sign_reach m.Comma ts h.0 f.Other h.2 refl
+more_reach (more a l) ts rest h e = sign_reach m.Comma ts h.0 f.Other h.1 refl
 
 further_end : (n : ℕ) (acc : Trees) (ts : List Token) → 0 < n → is_at m.Comma ts ≡ false → (readers n).further acc ts ≡ Some (acc, ts)
 unfolding further_on
 further_end zero acc ts pos h = absurd (omega arith)
 further_end (suc n) acc ts pos h = rw h refl
 
-further_goes : (n : ℕ) (acc : Trees) (a : Tree) (ts first later : List Token) → Sign m.Comma ts first → (readers n).phrase 1 first ≡ Some (a, later) → (readers (suc n)).further acc ts ≡ (readers n).further (add acc a) later
+further_goes : (n : ℕ) (acc : Trees) (a : Tree) (ts first later : List Token) → IsMark m.Comma ts first → (readers n).phrase 1 first ≡ Some (a, later) → (readers (suc n)).further acc ts ≡ (readers n).further (add acc a) later
 unfolding further_on
 further_goes n acc a ts first later s e = rw (sign_at m.Comma m.Comma ts first s, sign_tail m.Comma ts first s) (rw e refl)
 
@@ -453,12 +457,12 @@ furthers_end n acc ts rest s len h e = rw s (further_end n acc rest (omega arith
 furthers_more : (a : Tree) (l : Trees) → Reads a → Furthers l → Furthers (more a l)
 furthers_more a l r g zero acc ts rest s len h e = absurd (omega arith)
 furthers_more a l r g (suc n) acc ts rest s len h e =
-    let one = sign_one m.Comma ts s.0 s.2 in
-    let less = phrase_takes a 1 (takes a) s.0 s.1 s.3 in
-    let quiet = more_reach l s.1 rest s.4 e in
-    further_goes n acc a ts s.0 s.1 s.2 (phrase_of a r n 1 s.0 s.1 s.3 (omega arith) (omega arith)) ∙ g n (add acc a) s.1 rest s.4 (omega arith) h e
+    let one = sign_one m.Comma ts s.0 s.1 in
+    let less = phrase_takes a 1 (takes a) s.0 s.2.0 s.2.1 in
+    let quiet = more_reach l s.2.0 rest s.2.2 e in
+    further_goes n acc a ts s.0 s.2.0 s.1 (phrase_of a r n 1 s.0 s.2.0 s.2.1 (omega arith) (omega arith)) ∙ g n (add acc a) s.2.0 rest s.2.2 (omega arith) h e
 
-listed_read : (n : ℕ) (close : Mark) (a : Tree) (l : Trees) (ts later closing rest : List Token) → Reads a → Furthers l → IsPhrase (Spells a) (rank a) 1 ts later → SpellsMore l later closing → Sign close closing rest → same_mark close close ≡ true → same_mark close m.Comma ≡ false → follow_of close ≡ f.Other → length ts < n → closed_list (readers n) close ts ≡ Some (more a l, rest)
+listed_read : (n : ℕ) (close : Mark) (a : Tree) (l : Trees) (ts later closing rest : List Token) → Reads a → Furthers l → IsPhrase (Spells a) (level a) 1 ts later → SpellsMore l later closing → IsMark close closing rest → same_mark close close ≡ true → same_mark close m.Comma ≡ false → follow_of close ≡ f.Other → length ts < n → closed_list (readers n) close ts ≡ Some (more a l, rest)
 unfolding closed_list
 listed_read n close a l ts later closing rest r g h hs s self comma other len =
     let less = phrase_takes a 1 (takes a) ts later h in
@@ -481,12 +485,12 @@ pub keys_read : (n : ℕ) (all : Trees) → ReadsAll all → (ts rest : List Tok
 unfolding keys
 keys_read n end r ts rest s len h = rw s (keys_none n (follow_at rest) rest h)
 keys_read n (more a l) r ts rest s len h =
-    let one = sign_one m.OpenBracket ts s.0 s.3 in
-    rw (sign_follow m.OpenBracket ts s.0 s.3, sign_tail m.OpenBracket ts s.0 s.3)
-    (listed_read n m.CloseBracket a l s.0 s.1 s.2 rest r.parts.0 r.parts.1 s.4 s.5 s.6 refl refl refl (omega arith))
+    let one = sign_one m.OpenBracket ts s.0 s.1 in
+    rw (sign_follow m.OpenBracket ts s.0 s.1, sign_tail m.OpenBracket ts s.0 s.1)
+    (listed_read n m.CloseBracket a l s.0 s.2.1.0 s.2.0 rest r.parts.0 r.parts.1 s.2.1.1 s.2.1.2 s.2.2 refl refl refl (omega arith))
 
 -- no expression begins with a closing parenthesis
-close_none : (n k : ℕ) (ts rest : List Token) → Sign m.CloseParenthesis ts rest → (readers n).phrase k ts ≡ None
+close_none : (n k : ℕ) (ts rest : List Token) → IsMark m.CloseParenthesis ts rest → (readers n).phrase k ts ≡ None
 unfolding whole operand part part_at_mark
 close_none zero k ts rest h = refl
 close_none (suc n) k ts rest h = rw h.begins.is refl
@@ -499,7 +503,7 @@ mark_there (kind.Number value suffix) mark h = absurd cc
 mark_there (kind.TextConstant bytes) mark h = absurd cc
 mark_there (kind.Mark found) mark h = ap kind.Mark (same_true the_type (search rules) found mark h)
 
-pub sign_there : (mark : Mark) (ts : List Token) → is_at mark ts ≡ true → Sign mark ts (tail ts)
+pub sign_there : (mark : Mark) (ts : List Token) → is_at mark ts ≡ true → IsMark mark ts (tail ts)
 sign_there mark [] h = absurd cc
 sign_there mark (t ∷ ts) h = record { line = t.line; begins = record { start = t.start; stop = t.stop; is = ap (λ (k : TokenKind). token k t.start t.stop t.line ∷ ts) (mark_there t.kind mark h) } }
 
@@ -513,16 +517,17 @@ first_not_close n ts x e = not_close_by (is_at m.CloseParenthesis ts) n ts x ref
 pub arguments_read : (n : ℕ) (all : Trees) → ReadsAll all → (list rest : List Token) → IsEnclosed m.OpenParenthesis m.CloseParenthesis (SpellsList all) list rest → length list ≤ n → arguments (readers n) (tail list) ≡ Some (all, rest)
 unfolding arguments
 arguments_read n end r list rest s len =
-    let start : tail list ≡ s.later = sign_tail m.OpenParenthesis list s.inner s.opens ∙ s.inside in
-    rw (start, sign_at m.CloseParenthesis m.CloseParenthesis s.later rest s.closes, sign_tail m.CloseParenthesis s.later rest s.closes) refl
+    let start : tail list ≡ s.2.0 = sign_tail m.OpenParenthesis list s.0 s.1 ∙ s.2.1 in
+    rw (start, sign_at m.CloseParenthesis m.CloseParenthesis s.2.0 rest s.2.2, sign_tail m.CloseParenthesis s.2.0 rest s.2.2) refl
 arguments_read n (more a l) r list rest s len =
-    let one = sign_one m.OpenParenthesis list s.inner s.opens in
-    let less = phrase_takes a 1 (takes a) s.inner s.inside.0 s.inside.1 in
-    let ends = close_reach s.later rest s.closes in
-    let quiet = more_reach l s.inside.0 s.later s.inside.2 ends in
-    let first = phrase_of a r.parts.0 n 1 s.inner s.inside.0 s.inside.1 (omega arith) (omega arith) in
-    rw (sign_tail m.OpenParenthesis list s.inner s.opens, first_not_close n s.inner (a, s.inside.0) first)
-    (listed_read n m.CloseParenthesis a l s.inner s.inside.0 s.later rest r.parts.0 r.parts.1 s.inside.1 s.inside.2 s.closes refl refl refl (omega arith))
+    let one = sign_one m.OpenParenthesis list s.0 s.1 in
+    let inside = s.2.1 in
+    let less = phrase_takes a 1 (takes a) s.0 inside.0 inside.1 in
+    let ends = close_reach s.2.0 rest s.2.2 in
+    let quiet = more_reach l inside.0 s.2.0 inside.2 ends in
+    let first = phrase_of a r.parts.0 n 1 s.0 inside.0 inside.1 (omega arith) (omega arith) in
+    rw (sign_tail m.OpenParenthesis list s.0 s.1, first_not_close n s.0 (a, inside.0) first)
+    (listed_read n m.CloseParenthesis a l s.0 inside.0 s.2.0 rest r.parts.0 r.parts.1 inside.1 inside.2 s.2.2 refl refl refl (omega arith))
 
 -- ---- targets
 
@@ -531,17 +536,17 @@ pub record TargetAt (n : ℕ) (x : Variable) (all : Trees) (ts rest : List Token
   pub name : List ℕ
   pub line : ℕ
   pub later : List Token
-  pub begins : Begins (kind.Word name) line ts later
+  pub begins : IsToken (kind.Word name) line ts later
   pub no_call : begins_call name later ≡ false
   pub read : target (readers n) (word_kind name) name line later ≡ Some ((x, all), rest)
 
-plain_read : (name : List ℕ) (line : ℕ) (ts rest : List Token) → IsPlain name line ts rest → plain_word ts ≡ Some (name, rest)
+plain_read : (name : List ℕ) (line : ℕ) (ts rest : List Token) → IsWord w.Plain name line ts rest → plain_word ts ≡ Some (name, rest)
 unfolding plain_word
-plain_read name line ts rest h = rw h.begins.is (rw h.plain refl)
+plain_read name line ts rest h = rw h.1.is (rw h.0 refl)
 
-member_read : (name : List ℕ) (rest at_arrow at_name : List Token) (name_line : ℕ) → Sign m.Arrow at_arrow at_name → IsPlain name name_line at_name rest → member at_arrow ≡ Some (name, rest)
+member_read : (which : WordKind) (name : List ℕ) (line : ℕ) (ts rest : List Token) (h : IsMember which name line ts rest) → member h.2.0 ≡ Some (name, rest)
 unfolding member
-member_read name rest at_arrow at_name name_line s h = rw (after_sign m.Arrow at_arrow at_name refl s) (plain_read name name_line at_name rest h)
+member_read which name line ts rest h = rw (after_sign m.Arrow h.2.0 h.2.2.0 refl h.2.2.1) (plain_read name h.1 h.2.2.0 rest h.2.2.2)
 
 plain_no_call : (follow : Follow) → opens_of follow ≡ false → calls w.Plain follow ≡ false
 plain_no_call (f.Infix op) h = refl
@@ -554,42 +559,38 @@ plain_no_call f.Other h = refl
 
 keys_follow : (all : Trees) (ts rest : List Token) → SpellsKeys all ts rest → opens_of (follow_at rest) ≡ false → calls w.Plain (follow_at ts) ≡ false
 keys_follow end ts rest s h = rw s (plain_no_call (follow_at rest) h)
-keys_follow (more a l) ts rest s h = rw (sign_follow m.OpenBracket ts s.0 s.3) refl
+keys_follow (more a l) ts rest s h = rw (sign_follow m.OpenBracket ts s.0 s.1) refl
 
 target_at : (n : ℕ) (x : Variable) (all : Trees) → ReadsAll all → (ts rest : List Token) → IsTarget x all (SpellsKeys all) ts rest → length ts ≤ suc n → opens_of (follow_at rest) ≡ false → TargetAt n x all ts rest
 unfolding target with_keys variable
 target_at n (v.Plain line name) all r ts rest s len h =
-    let one : length ts ≡ suc (length s.later) = ap length s.variable.begins.is in
+    let one = word_one w.Plain name line ts s.0 s.1 in
     record {
       name = name;
       line = line;
-      later = s.later;
-      begins = s.variable.begins;
-      no_call = rw s.variable.plain (keys_follow all s.later rest s.keys h);
-      read = rw s.variable.plain (rw (keys_read n all r s.later rest s.keys (omega arith) h) refl);
+      later = s.0;
+      begins = s.1.1;
+      no_call = rw s.1.0 (keys_follow all s.0 rest s.2 h);
+      read = rw s.1.0 (rw (keys_read n all r s.0 rest s.2 (omega arith) h) refl);
     }
 target_at n (v.Thread line name) all r ts rest s len h =
-    let one : length ts ≡ suc (length s.variable.at_arrow) = ap length s.variable.begins.is in
-    let two = sign_one m.Arrow s.variable.at_arrow s.variable.at_name s.variable.arrow in
-    let three : length s.variable.at_name ≡ suc (length s.later) = ap length s.variable.name.begins.is in
+    let less = member_takes w.Thread name line ts s.0 s.1 in
     record {
-      name = s.variable.first;
+      name = s.1.0;
       line = line;
-      later = s.variable.at_arrow;
-      begins = s.variable.begins;
-      no_call = rw s.variable.reserved refl;
-      read = rw s.variable.reserved (rw (member_read name s.later s.variable.at_arrow s.variable.at_name s.variable.name_line s.variable.arrow s.variable.name)
-          (rw (keys_read n all r s.later rest s.keys (omega arith) h) refl));
+      later = s.1.2.0;
+      begins = s.1.2.1.1;
+      no_call = rw s.1.2.1.0 refl;
+      read = rw s.1.2.1.0 (rw (member_read w.Thread name line ts s.0 s.1) (rw (keys_read n all r s.0 rest s.2 (omega arith) h) refl));
     }
 target_at n (v.Clause line name) all r ts rest s len h =
     record {
-      name = s.variable.first;
+      name = s.1.0;
       line = line;
-      later = s.variable.at_arrow;
-      begins = s.variable.begins;
-      no_call = rw s.variable.reserved refl;
-      read = rw s.variable.reserved (rw (member_read name s.later s.variable.at_arrow s.variable.at_name s.variable.name_line s.variable.arrow s.variable.name)
-          (rw s.may (let same : s.later ≡ rest = subst (λ (l : Trees). SpellsKeys l s.later rest) s.may s.keys in rw same refl)));
+      later = s.1.2.0;
+      begins = s.1.2.1.1;
+      no_call = rw s.1.2.1.0 refl;
+      read = rw s.1.2.1.0 (rw (member_read w.Clause name line ts rest s.1) (rw s.0 refl));
     }
 
 -- a part that begins with a target
@@ -623,8 +624,8 @@ read_part x all r n k ts rest s len e free =
 after_part : (x : Variable) (all : Trees) (step : Step) → ReadsAll all → IsPart (After x all step)
 unfolding follows
 after_part x all step r n k ts rest s len e free =
-    let there = sign_follow s.0 s.1 rest s.4 ∙ s.2 in
-    named_read n k x all ts s.1 (target_at n x all r ts s.1 s.3 (omega arith) (ap opens_of there)) ∙ rw (there, sign_tail s.0 s.1 rest s.4) refl
+    let there = sign_follow s.0 s.2.0 rest s.2.2 ∙ s.1 in
+    named_read n k x all ts s.2.0 (target_at n x all r ts s.2.0 s.2.1 (omega arith) (ap opens_of there)) ∙ rw (there, sign_tail s.0 s.2.0 rest s.2.2) refl
 
 stepped_read : (n line : ℕ) (step : Step) (x : Variable) (all : Trees) (ts rest : List Token) → TargetAt n x all ts rest → part_at_step (readers n) line step ts ≡ Some (Before line step x all, rest)
 unfolding part_at_step
@@ -633,26 +634,26 @@ stepped_read n line step x all ts rest h = rw h.begins.is (rw h.read refl)
 before_part : (line : ℕ) (step : Step) (x : Variable) (all : Trees) → ReadsAll all → IsPart (Before line step x all)
 unfolding part part_at_mark
 before_part line step x all r n k ts rest s len e free =
-    let one : length ts ≡ suc (length s.1) = ap length s.3.is in
-    rw (s.3.is, not_open s.0 (p.Step step) s.2 (λ h. absurd cc), s.2) (stepped_read n line step x all s.1 rest (target_at n x all r s.1 rest s.4 (omega arith) (free_follow (follow_at rest) e)))
+    let one : length ts ≡ suc (length s.2.0) = ap length s.2.1.is in
+    rw (s.2.1.is, not_open s.0 (p.Step step) s.1 (λ h. absurd cc), s.1) (stepped_read n line step x all s.2.0 rest (target_at n x all r s.2.0 rest s.2.2 (omega arith) (free_follow (follow_at rest) e)))
 
 call_part : (line : ℕ) (name : List ℕ) (all : Trees) → ReadsAll all → IsPart (Call line name all)
 unfolding part part_at_name
 call_part line name all r n k ts rest s len e free =
-    let one : length ts ≡ suc (length s.0) = ap length s.1.begins.is in
-    let there = sign_follow m.OpenParenthesis s.0 s.2.inner s.2.opens in
-    rw s.1.begins.is (rw (s.1.plain, there) (rw (arguments_read n all r s.0 rest s.2 (omega arith)) refl))
+    let one = word_one w.Plain name line ts s.0 s.1 in
+    let there = sign_follow m.OpenParenthesis s.0 s.2.0 s.2.1 in
+    rw s.1.1.is (rw (s.1.0, there) (rw (arguments_read n all r s.0 rest s.2 (omega arith)) refl))
 
 -- ---- assignment
 
 assign_part : (op : AssignOperator) (x : Variable) (all : Trees) (a : Tree) → ReadsAll all → Reads a → (n k : ℕ) (ts rest : List Token) → Spells (Assign op x all a) ts rest → k ≤ 1 → length ts ≤ n → reach rest < k → part (readers n) k ts ≡ Some (Assign op x all a, rest)
 unfolding follows
 assign_part op x all a r ra n k ts rest s le len e =
-    let there = sign_follow s.0 s.1 s.2 s.5 ∙ s.3 in
-    let one = sign_one s.0 s.1 s.2 s.5 in
-    let less = target_takes x all (SpellsKeys all) (keys_take all) ts s.1 s.4 in
-    named_read n k x all ts s.1 (target_at n x all r ts s.1 s.4 (omega arith) (ap opens_of there))
-    ∙ rw (there, le-leb k 1 le, sign_tail s.0 s.1 s.2 s.5) (rw (phrase_of a ra n 1 s.2 rest s.6 (omega arith) (omega arith)) refl)
+    let there = sign_follow s.0 s.2.0 s.2.2.0 s.2.2.1 ∙ s.1 in
+    let one = sign_one s.0 s.2.0 s.2.2.0 s.2.2.1 in
+    let less = target_takes x all (SpellsKeys all) (keys_take all) ts s.2.0 s.2.1 in
+    named_read n k x all ts s.2.0 (target_at n x all r ts s.2.0 s.2.1 (omega arith) (ap opens_of there))
+    ∙ rw (there, le-leb k 1 le, sign_tail s.0 s.2.0 s.2.2.0 s.2.2.1) (rw (phrase_of a ra n 1 s.2.2.0 rest s.2.2.2 (omega arith) (omega arith)) refl)
 
 assign_phrases : (op : AssignOperator) (x : Variable) (all : Trees) (a : Tree) → ReadsAll all → Reads a → Phrases (Assign op x all a)
 assign_phrases op x all a r ra zero k ts rest s le len e = absurd (omega arith)
@@ -662,11 +663,11 @@ assign_phrases op x all a r ra (suc n) k ts rest s le len e =
 
 -- ---- operators
 
-climb_goes : (n k : ℕ) (mark : Mark) (op : BinaryOperator) (a b : Tree) (ts right rest : List Token) → follow_of mark ≡ f.Infix op → Sign mark ts right → k ≤ level_of op → (readers n).phrase (suc (level_of op)) right ≡ Some (b, rest) → (readers (suc n)).climb k a ts ≡ (readers n).climb k (Binary op a b) rest
+climb_goes : (n k : ℕ) (mark : Mark) (op : BinaryOperator) (a b : Tree) (ts right rest : List Token) → follow_of mark ≡ f.Infix op → IsMark mark ts right → k ≤ level_of op → (readers n).phrase (suc (level_of op)) right ≡ Some (b, rest) → (readers (suc n)).climb k a ts ≡ (readers n).climb k (Binary op a b) rest
 unfolding climb_on
 climb_goes n k mark op a b ts right rest o s le e = rw (sign_follow mark ts right s, o, sign_tail mark ts right s, le-leb k (level_of op) le) (rw e refl)
 
-climbed_by : (left n k : ℕ) (op : BinaryOperator) (a b : Tree) (ts rest : List Token) (mark : Mark) (middle right : List Token) → Reads b → follow_of mark ≡ f.Infix op → Sign mark middle right → IsPhrase (Spells b) (rank b) (suc (level_of op)) right rest → k ≤ level_of op → reach rest ≤ level_of op → length middle < left → left ≤ n → operand (readers n) k ts ≡ (readers left).climb (max k 3) a middle → Climbed n k (Binary op a b) ts rest
+climbed_by : (left n k : ℕ) (op : BinaryOperator) (a b : Tree) (ts rest : List Token) (mark : Mark) (middle right : List Token) → Reads b → follow_of mark ≡ f.Infix op → IsMark mark middle right → IsPhrase (Spells b) (level b) (suc (level_of op)) right rest → k ≤ level_of op → reach rest ≤ level_of op → length middle < left → left ≤ n → operand (readers n) k ts ≡ (readers left).climb (max k 3) a middle → Climbed n k (Binary op a b) ts rest
 climbed_by zero n k op a b ts rest mark middle right rb o s h le e len within is = absurd (omega arith)
 climbed_by (suc left) n k op a b ts rest mark middle right rb o s h le e len within is =
     let one = sign_one mark middle right s in
@@ -681,15 +682,15 @@ climbed_by (suc left) n k op a b ts rest mark middle right rb o s h le e len wit
 
 binary_climbs : (op : BinaryOperator) (a b : Tree) → Reads a → Reads b → Climbs (Binary op a b)
 binary_climbs op a b ra rb n k l ts rest s low most high le len e free =
-    let there = sign_reach s.0 s.1 s.2 (f.Infix op) s.5 s.3 in
+    let there = sign_reach s.0 s.2.0 s.2.2.0 (f.Infix op) s.2.2.1 s.1 in
     let lowest = level_high op in
     let highest = level_below op in
-    let first = climbs_of a ra n k (level_of op) ts s.1 s.4 lowest highest (omega arith) len (omega arith) (λ one. absurd (omega arith)) in
-    climbed_by first.left n k op a b ts rest s.0 s.1 s.2 rb s.3 s.5 s.6 (omega arith) (omega arith) first.enough first.within first.is
+    let first = climbs_of a ra n k (level_of op) ts s.2.0 s.2.1 lowest highest (omega arith) len (omega arith) (λ one. absurd (omega arith)) in
+    climbed_by first.left n k op a b ts rest s.0 s.2.0 s.2.2.0 rb s.1 s.2.2.1 s.2.2.2 (omega arith) (omega arith) first.enough first.within first.is
 
 -- ---- choice
 
-choice_goes : (n k : ℕ) (test a b : Tree) (question first colon second rest : List Token) → k ≤ 2 → Sign m.Question question first → (readers n).phrase 1 first ≡ Some (a, colon) → Sign m.Colon colon second → (readers n).phrase 2 second ≡ Some (b, rest) → choice (readers n) k test question ≡ Some (Choice test a b, rest)
+choice_goes : (n k : ℕ) (test a b : Tree) (question first colon second rest : List Token) → k ≤ 2 → IsMark m.Question question first → (readers n).phrase 1 first ≡ Some (a, colon) → IsMark m.Colon colon second → (readers n).phrase 2 second ≡ Some (b, rest) → choice (readers n) k test question ≡ Some (Choice test a b, rest)
 unfolding choice alternatives
 choice_goes n k test a b question first colon second rest le q e s g =
     rw (le-leb k 2 le, sign_follow m.Question question first q, sign_tail m.Question question first q) (rw e (rw (after_sign m.Colon colon second refl s) (rw g refl)))
@@ -697,17 +698,19 @@ choice_goes n k test a b question first colon second rest le q e s g =
 choice_phrases : (test a b : Tree) → Reads test → Reads a → Reads b → Phrases (Choice test a b)
 choice_phrases test a b rt ra rb zero k ts rest s le len e = absurd (omega arith)
 choice_phrases test a b rt ra rb (suc n) k ts rest s le len e =
-    let at_question = sign_reach m.Question s.0 s.1 f.Question s.5 refl in
-    let at_colon = sign_reach m.Colon s.2 s.3 f.Other s.7 refl in
-    let one = phrase_takes test 3 (takes test) ts s.0 s.4 in
-    let two = sign_one m.Question s.0 s.1 s.5 in
-    let three = phrase_takes a 1 (takes a) s.1 s.2 s.6 in
-    let four = sign_one m.Colon s.2 s.3 s.7 in
-    let head = climbs_of test rt n k 3 ts s.0 s.4 (lit≤ tt) (lit≤ tt) (omega arith) (omega arith) (omega arith) (λ h. absurd (omega arith)) in
+    let u = s.2.2 in
+    let v = u.2 in
+    let at_question = sign_reach m.Question s.0 s.2.0 f.Question s.2.1 refl in
+    let at_colon = sign_reach m.Colon u.0 v.0 f.Other v.1 refl in
+    let one = phrase_takes test 3 (takes test) ts s.0 s.1 in
+    let two = sign_one m.Question s.0 s.2.0 s.2.1 in
+    let three = phrase_takes a 1 (takes a) s.2.0 u.0 u.1 in
+    let four = sign_one m.Colon u.0 v.0 v.1 in
+    let head = climbs_of test rt n k 3 ts s.0 s.1 (lit≤ tt) (lit≤ tt) (omega arith) (omega arith) (omega arith) (λ h. absurd (omega arith)) in
     let enough = head.enough in
-    let first = phrase_of a ra n 1 s.1 s.2 s.6 (omega arith) (omega arith) in
-    let second = phrase_of b rb n 2 s.3 rest s.8 (omega arith) (omega arith) in
-    whole_of n k ts test s.0 (head.is ∙ climb_ends head.left (max k 3) test s.0 (omega arith) (omega arith)) ∙ choice_goes n k test a b s.0 s.1 s.2 s.3 rest le s.5 first s.7 second
+    let first = phrase_of a ra n 1 s.2.0 u.0 u.1 (omega arith) (omega arith) in
+    let second = phrase_of b rb n 2 v.0 rest v.2 (omega arith) (omega arith) in
+    whole_of n k ts test s.0 (head.is ∙ climb_ends head.left (max k 3) test s.0 (omega arith) (omega arith)) ∙ choice_goes n k test a b s.0 s.2.0 u.0 v.0 rest le s.2.1 first v.1 second
 
 -- ---- all
 

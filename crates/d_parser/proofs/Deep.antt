@@ -1,17 +1,19 @@
 -- Depth, token by token and of the whole list.
-use Rattle.std.proofs.Common.{◌≡◌, ℕ, zero, suc, ◌+◌, ◌<◌, ◌≤◌, Bool, true, false, List, [], ◌∷◌}
-use Rattle.std.proofs.Common.{◌++◌, length, refl, ap, arith, inl, inr}
+use Rattle.std.proofs.Common.{◌≡◌, ℕ, zero, suc, ◌+◌, ◌-◌, ◌<◌, ◌≤◌, Bool, true, false, List, [], ◌∷◌}
+use Rattle.std.proofs.Common.{◌++◌, length, cond, refl, sym, ap, ◌∙◌, arith, inl, inr}
 use Rattle.std.specs.Prelude.{◌||◌, ◌⊎◌, nat_lt}
 use Rattle.std.proofs.lemmas.Bool.{cases_lt, ltb-true, lt-ltb}
+use Rattle.std.proofs.lemmas.List.Sums.{sum_by-append}
 use Rattle.d_lexer.specs.declared.token.Token.{Token}
-use Rattle.d_parser.specs.Limits.{BracketTurn, Opens, Closes, Ends, Goes, bracket_turn, opens}
-use Rattle.d_parser.specs.Limits.{closes, ends}
-use Rattle.d_parser.specs.Limits.{openings, closings, endings, IsDeep}
-use Rattle.d_parser.specs.Steps.Depth.{open_by, row_by, open_after, row_with, is_deep}
+use Rattle.d_lexer.specs.declared.token.Mark.TheVariants as m
+use Rattle.d_lexer.specs.declared.token.TokenKind.{TokenKind}
+use Rattle.d_lexer.specs.declared.token.TokenKind.TheVariants as kind
+use Rattle.d_parser.specs.Limits.{opens, closes, ends_row, how_many, IsDeep}
+use Rattle.d_parser.specs.Steps.Depth.{open_after, row_with, is_deep}
 
 -- a stretch that is too deep after b open brackets and r tokens in a row
 abbrev Full : ℕ → ℕ → List Token → Type 0
-Full b r p = (64 + closings p < b + openings p) ⊎ ((1024 < r + length p) × (endings p ≡ 0))
+Full b r p = (64 + how_many closes p < b + how_many opens p) ⊎ ((1024 < r + length p) × (how_many ends_row p ≡ 0))
 
 -- such a stretch at the front
 record Front (b r : ℕ) (ts : List Token) : Type 0 where
@@ -22,30 +24,40 @@ record Front (b r : ℕ) (ts : List Token) : Type 0 where
 
 -- ---- a step
 
-deeper : (u : BracketTurn) (b x y : ℕ) → 64 + y < open_by u b + x → (64 + (closes u + y) < b + (opens u + x)) ⊎ (64 + y < x)
-deeper Opens b x y h = inl (omega arith)
-deeper Closes zero x y h = inr (omega arith)
-deeper Closes (suc b) x y h = inl (omega arith)
-deeper Ends b x y h = inl (omega arith)
-deeper Goes b x y h = inl (omega arith)
+-- no token both opens and closes
+apart : (t : TokenKind) → opens t ≡ true → closes t ≡ false
+apart (kind.Mark m.CloseParenthesis) h = absurd cc
+apart (kind.Mark m.CloseBracket) h = absurd cc
+apart t h = refl
 
-shallower : (u : BracketTurn) (b x y : ℕ) → 64 + (closes u + y) < b + (opens u + x) → 64 + y < open_by u b + x
-shallower Opens b x y h = omega arith
-shallower Closes b x y h = omega arith
-shallower Ends b x y h = omega arith
-shallower Goes b x y h = omega arith
+deeper : (o c : Bool) (b x y : ℕ) → (o ≡ true → c ≡ false) → 64 + y < cond o (suc b) (cond c (b - 1) b) + x → (64 + (cond c 1 0 + y) < b + (cond o 1 0 + x)) ⊎ (64 + y < x)
+deeper true true b x y e h = absurd (let both = e refl in cc)
+deeper true false b x y e h = inl (omega arith)
+deeper false true zero x y e h = inr (omega arith)
+deeper false true (suc b) x y e h = inl (omega arith)
+deeper false false b x y e h = inl (omega arith)
 
-longer : (u : BracketTurn) (r n e : ℕ) → 1024 < row_by u r + n → e ≡ 0 → ((1024 < r + suc n) × (ends u + e ≡ 0)) ⊎ (1024 < n)
-longer Opens r n e h k = inl (omega arith, omega arith)
-longer Closes r n e h k = inl (omega arith, omega arith)
-longer Ends r n e h k = inr (omega arith)
-longer Goes r n e h k = inl (omega arith, omega arith)
+shallower : (o c : Bool) (b x y : ℕ) → 64 + (cond c 1 0 + y) < b + (cond o 1 0 + x) → 64 + y < cond o (suc b) (cond c (b - 1) b) + x
+shallower true c b x y h = omega arith
+shallower false true b x y h = omega arith
+shallower false false b x y h = omega arith
 
-shorter : (u : BracketTurn) (r n e : ℕ) → 1024 < r + suc n → ends u + e ≡ 0 → (1024 < row_by u r + n) × (e ≡ 0)
-shorter Opens r n e h k = (omega arith, omega arith)
-shorter Closes r n e h k = (omega arith, omega arith)
-shorter Ends r n e h k = absurd (omega arith)
-shorter Goes r n e h k = (omega arith, omega arith)
+longer : (ends : Bool) (r n e : ℕ) → 1024 < cond ends 0 (suc r) + n → e ≡ 0 → ((1024 < r + suc n) × (cond ends 1 0 + e ≡ 0)) ⊎ (1024 < n)
+longer true r n e h k = inr (omega arith)
+longer false r n e h k = inl (omega arith, omega arith)
+
+shorter : (ends : Bool) (r n e : ℕ) → 1024 < r + suc n → cond ends 1 0 + e ≡ 0 → (1024 < cond ends 0 (suc r) + n) × (e ≡ 0)
+shorter true r n e h k = absurd (omega arith)
+shorter false r n e h k = (omega arith, omega arith)
+
+counted : (is : TokenKind → Bool) (t : Token) (p : List Token) → how_many is (t ∷ p) ≡ cond (is t.kind) 1 0 + how_many is p
+counted is t p = let parts = sum_by-append (λ (x : Token). cond (is x.kind) 1 0) (t ∷ []) p in omega arith
+
+open_with : (t : Token) (p : List Token) (b : ℕ) → 64 + (cond (closes t.kind) 1 0 + how_many closes p) < b + (cond (opens t.kind) 1 0 + how_many opens p) → 64 + how_many closes (t ∷ p) < b + how_many opens (t ∷ p)
+open_with t p b h = rw (counted closes t p, counted opens t p) h
+
+open_without : (t : Token) (p : List Token) (b : ℕ) → 64 + how_many closes (t ∷ p) < b + how_many opens (t ∷ p) → 64 + (cond (closes t.kind) 1 0 + how_many closes p) < b + (cond (opens t.kind) 1 0 + how_many opens p)
+open_without t p b h = rw (← counted closes t p, ← counted opens t p) h
 
 -- ---- from the tokens one by one to the list
 
@@ -57,7 +69,7 @@ one_of false false z h = inr (inr h)
 within : (t : Token) (ts : List Token) → IsDeep ts → IsDeep (t ∷ ts)
 within t ts d = record { before = t ∷ d.before; stretch = d.stretch; later = d.later; is = ap (λ (l : List Token). t ∷ l) d.is; deep = d.deep }
 
-here : (t : Token) (p q ts : List Token) → ts ≡ p ++ q → (64 + closings p < openings p) ⊎ ((1024 < length p) × (endings p ≡ 0)) → IsDeep (t ∷ ts)
+here : (t : Token) (p q ts : List Token) → ts ≡ p ++ q → (64 + how_many closes p < how_many opens p) ⊎ ((1024 < length p) × (how_many ends_row p ≡ 0)) → IsDeep (t ∷ ts)
 here t p q ts e d = record { before = t ∷ []; stretch = p; later = q; is = ap (λ (l : List Token). t ∷ l) e; deep = d }
 
 front : (t : Token) (p q ts : List Token) (b r : ℕ) → ts ≡ p ++ q → Full b r (t ∷ p) → Front b r (t ∷ ts)
@@ -66,12 +78,12 @@ front t p q ts b r e f = record { p = t ∷ p; q = q; is = ap (λ (l : List Toke
 step : (t : Token) (ts : List Token) (b r : ℕ) → Front (open_after t.kind b) (row_with t.kind r) ts → Front b r (t ∷ ts) ⊎ IsDeep (t ∷ ts)
 step t ts b r f =
     elim f.full [
-      | inl d ↦ elim (deeper (bracket_turn t.kind) b (openings f.p) (closings f.p) d) [
-        | inl w ↦ inl (front t f.p f.q ts b r f.is (inl w))
+      | inl d ↦ elim (deeper (opens t.kind) (closes t.kind) b (how_many opens f.p) (how_many closes f.p) (apart t.kind) d) [
+        | inl w ↦ inl (front t f.p f.q ts b r f.is (inl (open_with t f.p b w)))
         | inr w ↦ inr (here t f.p f.q ts f.is (inl w))
       ]
-      | inr l ↦ elim (longer (bracket_turn t.kind) r (length f.p) (endings f.p) l.0 l.1) [
-        | inl w ↦ inl (front t f.p f.q ts b r f.is (inr w))
+      | inr l ↦ elim (longer (ends_row t.kind) r (length f.p) (how_many ends_row f.p) l.0 l.1) [
+        | inl w ↦ inl (front t f.p f.q ts b r f.is (inr (w.0, counted ends_row t f.p ∙ w.1)))
         | inr w ↦ inr (here t f.p f.q ts f.is (inr (w, l.1)))
       ]
     ]
@@ -118,11 +130,11 @@ front_deep [] q b r le short f = elim f [
 ]
 front_deep (t ∷ p) q b r le short f =
     go_on t (p ++ q) b r (λ le2 short2. front_deep p q (open_after t.kind b) (row_with t.kind r) le2 short2 (elim f [
-      | inl d ↦ inl (shallower (bracket_turn t.kind) b (openings p) (closings p) d)
-      | inr l ↦ inr (shorter (bracket_turn t.kind) r (length p) (endings p) l.0 l.1)
+      | inl d ↦ inl (shallower (opens t.kind) (closes t.kind) b (how_many opens p) (how_many closes p) (open_without t p b d))
+      | inr l ↦ inr (shorter (ends_row t.kind) r (length p) (how_many ends_row p) l.0 (sym (counted ends_row t p) ∙ l.1))
     ]))
 
-part_deep : (before stretch later : List Token) (b r : ℕ) → b ≤ 64 → r ≤ 1024 → (64 + closings stretch < openings stretch) ⊎ ((1024 < length stretch) × (endings stretch ≡ 0)) → is_deep b r (before ++ stretch ++ later) ≡ true
+part_deep : (before stretch later : List Token) (b r : ℕ) → b ≤ 64 → r ≤ 1024 → (64 + how_many closes stretch < how_many opens stretch) ⊎ ((1024 < length stretch) × (how_many ends_row stretch ≡ 0)) → is_deep b r (before ++ stretch ++ later) ≡ true
 part_deep [] stretch later b r le short d = front_deep stretch later b r le short (elim d [
   | inl x ↦ inl (omega arith)
   | inr x ↦ inr ((let l = x.0 in omega arith), x.1)

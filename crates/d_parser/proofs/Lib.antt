@@ -1,12 +1,14 @@
 pub mod Rows
 pub mod Steps
 pub mod Runs
+pub mod Types
 pub mod Takes
+pub mod Cuts
+pub mod Descriptions
 pub mod Complete
 pub mod Sound
 pub mod SoundScripts
 pub mod CompleteScripts
-pub mod Cuts
 pub mod Answering
 pub mod Deep
 pub mod Counts

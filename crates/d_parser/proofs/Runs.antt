@@ -2,8 +2,11 @@
 use Rattle.std.proofs.Common.{◌≡◌, suc, ◌-◌, ◌≤◌, Bool, true, false, cond, List, [], ◌∷◌, ◌++◌}
 use Rattle.std.proofs.Common.{length, take, drop, refl, ap, arith}
 use Rattle.d_lexer.specs.declared.token.Token.{Token}
-use Rattle.d_parser.specs.Words.{is_word, AreWords}
-use Rattle.d_parser.specs.Steps.Words.{run, after_run}
+use Rattle.d_parser.specs.Steps.Words.{is_word, run, after_run}
+
+abbrev pub AreWords : List Token → Type 0
+AreWords [] = Unit {0}
+AreWords (t ∷ ts) = (is_word t.kind ≡ true) × AreWords ts
 
 short_by : (b : Bool) (t : Token) (ts later : List Token) → length later ≤ length ts → length (cond b later (t ∷ ts)) ≤ length (t ∷ ts)
 short_by true t ts later h = omega arith

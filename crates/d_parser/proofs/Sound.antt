@@ -13,6 +13,8 @@ use Rattle.d_lexer.specs.declared.token.TokenKind.TheVariants as kind
 use Rattle.d_parser.specs.declared.operators.BinaryOperator.{BinaryOperator}
 use Rattle.d_parser.specs.declared.operators.AssignOperator.{AssignOperator}
 use Rattle.d_parser.specs.declared.operators.Step.{Step}
+use Rattle.d_parser.specs.declared.tree.DeclaredType.{DeclaredType}
+use Rattle.d_parser.specs.declared.tree.DeclaredType.TheVariants as d
 use Rattle.d_parser.specs.declared.tree.IntegerType.{IntegerType}
 use Rattle.d_parser.specs.declared.tree.Constant.TheVariants as c
 use Rattle.d_parser.specs.declared.tree.Variable.{Variable}
@@ -26,13 +28,13 @@ use Rattle.d_parser.specs.declared.marks.Follow.TheVariants as f
 use Rattle.d_parser.specs.Tree.{Tree, Known, Read, Call, Unary, Cast, Before, After, Binary, Choice}
 use Rattle.d_parser.specs.Tree.{Assign, Trees, end, more}
 use Rattle.d_parser.specs.Steps.Tree.{add}
-use Rattle.d_parser.specs.Words.{word_kind, integer_type}
-use Rattle.d_parser.specs.Steps.Words.{run, after_run}
+use Rattle.d_parser.specs.Words.{word_kind, type_of_words}
+use Rattle.d_parser.specs.Steps.Words.{run, after_run, only_integer, integer_type}
 use Rattle.d_parser.specs.Marks.{prefix_of, follow_of, level_of}
 use Rattle.d_parser.specs.Steps.Marks.{follow_kind, follow_at, is_at}
 use Rattle.d_parser.specs.Steps.Marks.{same_mark, tail}
-use Rattle.d_parser.specs.Grammar.{token, Begins, Sign, IsPhrase, rank, IsPlain, IsVariable}
-use Rattle.d_parser.specs.Grammar.{MayHave, IsTarget, IsEnclosed, IsCast, Spells, SpellsKeys}
+use Rattle.d_parser.specs.Grammar.{Part, ◌⨟◌, token, IsToken, IsMark, IsPhrase, level, IsWord}
+use Rattle.d_parser.specs.Grammar.{IsMember, IsTarget, IsType, IsEnclosed, Spells, SpellsKeys}
 use Rattle.d_parser.specs.Grammar.{SpellsList, SpellsMore}
 use Rattle.d_parser.specs.Steps.Reading.{◌>>=◌, after_mark, if_plain, plain_word, plain_by, member}
 use Rattle.d_parser.specs.Steps.Reading.{variable, is_typed, cast_type, calls, begins_call, Readers}
@@ -43,7 +45,7 @@ use Rattle.d_parser.specs.Steps.Reading.{prefixed_by}
 use Rattle.d_parser.specs.Steps.Reading.{part_at_mark, part_by, part, climb_by, climb_on, choice_by}
 use Rattle.d_parser.specs.Steps.Reading.{alternatives, choice, operand, whole, further_on}
 use Rattle.d_parser.proofs.Complete.{level_high, level_below, sign_there, join, join_more}
-use Rattle.d_parser.proofs.Runs.{are_words, run_joined}
+use Rattle.d_parser.proofs.Runs.{run_joined}
 
 -- what an answer meets, if there is one
 abbrev pub IfSome : {A : Type 0} → (A → Type 0) → Option A → Type 0
@@ -58,8 +60,8 @@ pub test_sound : {A : Type 0} (Q : A → Type 0) (b : Bool) (x y : Option A) →
 test_sound Q true x y f g = f refl
 test_sound Q false x y f g = g refl
 
-pub after_sound : (mark : Mark) (ts : List Token) → IfSome (λ rest. Sign mark ts rest) (after_mark mark ts)
-after_sound mark ts = test_sound (λ rest. Sign mark ts rest) (is_at mark ts) (Some (tail ts)) None (λ h. sign_there mark ts h) (λ h. tt)
+pub after_sound : (mark : Mark) (ts : List Token) → IfSome (λ rest. IsMark mark ts rest) (after_mark mark ts)
+after_sound mark ts = test_sound (λ rest. IsMark mark ts rest) (is_at mark ts) (Some (tail ts)) None (λ h. sign_there mark ts h) (λ h. tt)
 
 -- ---- what follows
 
@@ -93,7 +95,7 @@ joins_gap f.Other h = lit< tt
 pub record FollowSign (follow : Follow) (ts : List Token) : Type 0 where
   pub mark : Mark
   pub is : follow_of mark ≡ follow
-  pub sign : Sign mark ts (tail ts)
+  pub sign : IsMark mark ts (tail ts)
 
 follow_kind_sound : (t : TokenKind) (follow : Follow) → follow_kind t ≡ follow → (follow ≡ f.Other → ⊥) → (mark : Mark) × (t ≡ kind.Mark mark) × (follow_of mark ≡ follow)
 follow_kind_sound (kind.Mark mark) follow h other = (mark, refl, h)
@@ -111,18 +113,18 @@ follow_sound follow (t ∷ ts) h other =
 
 -- ---- phrases
 
-bare : (t : Tree) (k : ℕ) (ts rest : List Token) → Spells t ts rest → k ≤ rank t → IsPhrase (Spells t) (rank t) k ts rest
+bare : (t : Tree) (k : ℕ) (ts rest : List Token) → Spells t ts rest → k ≤ level t → IsPhrase (Spells t) (level t) k ts rest
 bare t k ts rest s h = record { pairs = 0; high = λ e. h; within = s }
 
-lower : (t : Tree) (j k : ℕ) (ts rest : List Token) → j ≤ k → IsPhrase (Spells t) (rank t) k ts rest → IsPhrase (Spells t) (rank t) j ts rest
+lower : (t : Tree) (j k : ℕ) (ts rest : List Token) → j ≤ k → IsPhrase (Spells t) (level t) k ts rest → IsPhrase (Spells t) (level t) j ts rest
 lower t j k ts rest le h = record { pairs = h.pairs; high = λ e. let high = h.high e in omega arith; within = h.within }
 
-in_parens : (t : Tree) (j k : ℕ) (ts inner close rest : List Token) → Sign m.OpenParenthesis ts inner → IsPhrase (Spells t) (rank t) j inner close → Sign m.CloseParenthesis close rest → IsPhrase (Spells t) (rank t) k ts rest
-in_parens t j k ts inner close rest o h s = record { pairs = suc h.pairs; high = λ e. absurd (omega arith); within = (inner, close, o, h.within, s) }
+in_parens : (t : Tree) (j k : ℕ) (ts inner close rest : List Token) → IsMark m.OpenParenthesis ts inner → IsPhrase (Spells t) (level t) j inner close → IsMark m.CloseParenthesis close rest → IsPhrase (Spells t) (level t) k ts rest
+in_parens t j k ts inner close rest o h s = record { pairs = suc h.pairs; high = λ e. absurd (omega arith); within = (inner, o, (close, h.within, s)) }
 
 -- what is read as a phrase of level k, and that no operator that it could take follows
 pub record Whole (k : ℕ) (ts : List Token) (x : Tree × List Token) : Type 0 where
-  pub phrase : IsPhrase (Spells x.0) (rank x.0) k ts x.1
+  pub phrase : IsPhrase (Spells x.0) (level x.0) k ts x.1
   pub stops : joins x.1 < k
 
 -- two expressions with a colon between
@@ -130,13 +132,13 @@ record Alternatives (ts : List Token) (x : (Tree × Tree) × List Token) : Type 
   pub at_colon : List Token
   pub after : List Token
   pub first : Whole 1 ts (x.0.0, at_colon)
-  pub colon : Sign m.Colon at_colon after
+  pub colon : IsMark m.Colon at_colon after
   pub second : Whole 2 after (x.0.1, x.1)
 
 -- what is read so far, and that an operator that follows takes it
 pub record Fits (j : ℕ) (ts : List Token) (x : Tree × List Token) : Type 0 where
-  pub phrase : IsPhrase (Spells x.0) (rank x.0) j ts x.1
-  pub fits : 1 ≤ joins x.1 → IsPhrase (Spells x.0) (rank x.0) (max 3 (joins x.1)) ts x.1
+  pub phrase : IsPhrase (Spells x.0) (level x.0) j ts x.1
+  pub fits : 1 ≤ joins x.1 → IsPhrase (Spells x.0) (level x.0) (max 3 (joins x.1)) ts x.1
 
 pub record Climbed (j k : ℕ) (ts : List Token) (x : Tree × List Token) : Type 0 where
   pub fits : Fits j ts x
@@ -154,16 +156,16 @@ pub record Sound (down : Readers) : Type 0 where
   pub further : (acc : Trees) (ts : List Token) → IfSome (Further acc ts) (down.further acc ts)
 
 -- what is a phrase of every level up to 14
-any_fits : (t : Tree) (j : ℕ) (ts rest : List Token) → j ≤ 14 → ((l : ℕ) → l ≤ 14 → IsPhrase (Spells t) (rank t) l ts rest) → Fits j ts (t, rest)
+any_fits : (t : Tree) (j : ℕ) (ts rest : List Token) → j ≤ 14 → ((l : ℕ) → l ≤ 14 → IsPhrase (Spells t) (level t) l ts rest) → Fits j ts (t, rest)
 any_fits t j ts rest le h = record { phrase = h j le; fits = λ one. h (max 3 (joins rest)) (let low = joins_below (follow_at rest) in omega arith) }
 
-bare_fits : (t : Tree) (j : ℕ) (ts rest : List Token) → j ≤ 14 → 14 ≤ rank t → Spells t ts rest → Fits j ts (t, rest)
+bare_fits : (t : Tree) (j : ℕ) (ts rest : List Token) → j ≤ 14 → 14 ≤ level t → Spells t ts rest → Fits j ts (t, rest)
 bare_fits t j ts rest le high s = any_fits t j ts rest le (λ l h. bare t l ts rest s (omega arith))
 
 -- ---- words and variables
 
-plain_kind_sound : (word : WordKind) (name : List ℕ) (line start stop : ℕ) (ts : List Token) → word_kind name ≡ word → IfSome (λ x. IsPlain x.0 line (token (kind.Word name) start stop line ∷ ts) x.1) (if_plain word name ts)
-plain_kind_sound w.Plain name line start stop ts e = record { begins = record { start = start; stop = stop; is = refl }; plain = e }
+plain_kind_sound : (word : WordKind) (name : List ℕ) (line start stop : ℕ) (ts : List Token) → word_kind name ≡ word → IfSome (λ x. IsWord w.Plain x.0 line (token (kind.Word name) start stop line ∷ ts) x.1) (if_plain word name ts)
+plain_kind_sound w.Plain name line start stop ts e = (e, record { start = start; stop = stop; is = refl })
 plain_kind_sound w.Thread name line start stop ts e = tt
 plain_kind_sound w.Clause name line start stop ts e = tt
 plain_kind_sound w.Text name line start stop ts e = tt
@@ -176,9 +178,9 @@ plain_kind_sound w.Unsigned name line start stop ts e = tt
 plain_kind_sound (w.Fixed t) name line start stop ts e = tt
 
 abbrev AnyPlain : List Token → List ℕ × List Token → Type 0
-AnyPlain ts x = (line : ℕ) × IsPlain x.0 line ts x.1
+AnyPlain ts x = (line : ℕ) × IsWord w.Plain x.0 line ts x.1
 
-plain_by_sound : (t : TokenKind) (line start stop : ℕ) (ts : List Token) → IfSome (λ x. IsPlain x.0 line (token t start stop line ∷ ts) x.1) (plain_by t ts)
+plain_by_sound : (t : TokenKind) (line start stop : ℕ) (ts : List Token) → IfSome (λ x. IsWord w.Plain x.0 line (token t start stop line ∷ ts) x.1) (plain_by t ts)
 plain_by_sound (kind.Word name) line start stop ts = plain_kind_sound (word_kind name) name line start stop ts refl
 plain_by_sound (kind.DescriptionRun name) line start stop ts = tt
 plain_by_sound (kind.AggregationName name) line start stop ts = tt
@@ -193,28 +195,31 @@ weaken P Q (Some x) k h = k x h
 plain_sound : (ts : List Token) → IfSome (AnyPlain ts) (plain_word ts)
 unfolding plain_word
 plain_sound [] = tt
-plain_sound (t ∷ ts) = weaken (λ x. IsPlain x.0 t.line (t ∷ ts) x.1) (AnyPlain (t ∷ ts)) (plain_by t.kind ts) (λ x h. (t.line, h)) (plain_by_sound t.kind t.line t.start t.stop ts)
+plain_sound (t ∷ ts) = weaken (λ x. IsWord w.Plain x.0 t.line (t ∷ ts) x.1) (AnyPlain (t ∷ ts)) (plain_by t.kind ts) (λ x h. (t.line, h)) (plain_by_sound t.kind t.line t.start t.stop ts)
 
-pub record Member (ts : List Token) (x : List ℕ × List Token) : Type 0 where
-  pub at_name : List Token
-  pub line : ℕ
-  pub arrow : Sign m.Arrow ts at_name
-  pub name : IsPlain x.0 line at_name x.1
+abbrev Member : List Token → List ℕ × List Token → Type 0
+Member ts x = (line : ℕ) × (IsMark m.Arrow ⨟ IsWord w.Plain x.0 line) ts x.1
 
 member_sound : (ts : List Token) → IfSome (Member ts) (member ts)
 unfolding member
-member_sound ts = then_sound (λ rest. Sign m.Arrow ts rest) (Member ts) (after_mark m.Arrow ts) (λ rest. plain_word rest) (after_sound m.Arrow ts)
-    (λ rest s. weaken (AnyPlain rest) (Member ts) (plain_word rest) (λ x h. record { at_name = rest; line = h.0; arrow = s; name = h.1 }) (plain_sound rest))
+member_sound ts = then_sound (λ rest. IsMark m.Arrow ts rest) (Member ts) (after_mark m.Arrow ts) (λ rest. plain_word rest) (after_sound m.Arrow ts)
+    (λ rest s. weaken (AnyPlain rest) (Member ts) (plain_word rest) (λ x h. (h.0, (rest, s, h.1))) (plain_sound rest))
 
-variable_sound : (word : WordKind) (name : List ℕ) (line : ℕ) (start ts : List Token) → word_kind name ≡ word → Begins (kind.Word name) line start ts → IfSome (λ x. IsVariable x.0 start x.1) (variable word name line ts)
+-- the words of a variable
+abbrev IsVariable : Variable → Part
+IsVariable (v.Plain line name) = IsWord w.Plain name line
+IsVariable (v.Thread line name) = IsMember w.Thread name line
+IsVariable (v.Clause line name) = IsMember w.Clause name line
+
+variable_sound : (word : WordKind) (name : List ℕ) (line : ℕ) (start ts : List Token) → word_kind name ≡ word → IsToken (kind.Word name) line start ts → IfSome (λ x. IsVariable x.0 start x.1) (variable word name line ts)
 unfolding variable
-variable_sound w.Plain name line start ts e h = record { begins = h; plain = e }
+variable_sound w.Plain name line start ts e h = (e, h)
 variable_sound w.Thread name line start ts e h =
     then_sound (Member ts) (λ x. IsVariable x.0 start x.1) (member ts) (λ x. Some (v.Thread line x.0, x.1)) (member_sound ts)
-    (λ x g. record { first = name; at_arrow = ts; at_name = g.at_name; name_line = g.line; begins = h; reserved = e; arrow = g.arrow; name = g.name })
+    (λ x g. (name, g.0, (ts, (e, h), g.1)))
 variable_sound w.Clause name line start ts e h =
     then_sound (Member ts) (λ x. IsVariable x.0 start x.1) (member ts) (λ x. Some (v.Clause line x.0, x.1)) (member_sound ts)
-    (λ x g. record { first = name; at_arrow = ts; at_name = g.at_name; name_line = g.line; begins = h; reserved = e; arrow = g.arrow; name = g.name })
+    (λ x g. (name, g.0, (ts, (e, h), g.1)))
 variable_sound w.Text name line start ts e h = tt
 variable_sound w.Char name line start ts e h = tt
 variable_sound w.Short name line start ts e h = tt
@@ -224,16 +229,21 @@ variable_sound w.Signed name line start ts e h = tt
 variable_sound w.Unsigned name line start ts e h = tt
 variable_sound (w.Fixed t) name line start ts e h = tt
 
-integer_by : (o : Option IntegerType) (ts : List Token) → integer_type (run ts) ≡ o → IfSome (λ to. integer_type (run ts) ≡ Some to) o
+integer_by : (o : Option DeclaredType) (ts : List Token) → type_of_words (run ts) ≡ o → IfSome (λ to. type_of_words (run ts) ≡ Some (d.Integer to)) (only_integer o)
 integer_by None ts e = tt
-integer_by (Some to) ts e = e
+integer_by (Some (d.Integer to)) ts e = e
+integer_by (Some d.Text) ts e = tt
 
-cast_sound : (line : ℕ) (start ts : List Token) → Begins (kind.Mark m.OpenParenthesis) line start ts → IfSome (λ x. IsCast line x.0 start x.1) (cast_type ts)
+-- the type of a cast, and the parenthesis after it
+abbrev CastOf : List Token → IntegerType × List Token → Type 0
+CastOf ts x = (IsType (d.Integer x.0) ⨟ IsMark m.CloseParenthesis) ts x.1
+
+cast_sound : (ts : List Token) → IfSome (CastOf ts) (cast_type ts)
 unfolding cast_type
-cast_sound line start ts h =
-    then_sound (λ to. integer_type (run ts) ≡ Some to) (λ x. IsCast line x.0 start x.1) (integer_type (run ts)) (λ to. after_mark m.CloseParenthesis (after_run ts) >>= λ rest. Some (to, rest)) (integer_by (integer_type (run ts)) ts refl)
-    (λ to e. then_sound (λ rest. Sign m.CloseParenthesis (after_run ts) rest) (λ x. IsCast line x.0 start x.1) (after_mark m.CloseParenthesis (after_run ts)) (λ rest. Some (to, rest)) (after_sound m.CloseParenthesis (after_run ts))
-    (λ rest s. record { words = run ts; close = after_run ts; opens = subst (λ (xs : List Token). Begins (kind.Mark m.OpenParenthesis) line start xs) (run_joined ts) h; are_words = are_words ts; spells = e; closes = s }))
+cast_sound ts =
+    then_sound (λ to. type_of_words (run ts) ≡ Some (d.Integer to)) (CastOf ts) (integer_type (run ts)) (λ to. after_mark m.CloseParenthesis (after_run ts) >>= λ rest. Some (to, rest)) (integer_by (type_of_words (run ts)) ts refl)
+    (λ to e. then_sound (λ rest. IsMark m.CloseParenthesis (after_run ts) rest) (CastOf ts) (after_mark m.CloseParenthesis (after_run ts)) (λ rest. Some (to, rest)) (after_sound m.CloseParenthesis (after_run ts))
+    (λ rest s. (after_run ts, (run ts, run_joined ts, e), s)))
 
 -- ---- marks
 
@@ -249,8 +259,8 @@ question_is : (mark : Mark) → follow_of mark ≡ f.Question → mark ≡ m.Que
 question_is m.Question e = refl
 question_is mark e = absurd cc
 
-mark_sign : (mark : Mark) (follow : Follow) (ts : List Token) → ((found : Mark) → follow_of found ≡ follow → found ≡ mark) → follow_at ts ≡ follow → (follow ≡ f.Other → ⊥) → Sign mark ts (tail ts)
-mark_sign mark follow ts one e other = let s = follow_sound follow ts e other in subst (λ (k : Mark). Sign k ts (tail ts)) (one s.mark s.is) s.sign
+mark_sign : (mark : Mark) (follow : Follow) (ts : List Token) → ((found : Mark) → follow_of found ≡ follow → found ≡ mark) → follow_at ts ≡ follow → (follow ≡ f.Other → ⊥) → IsMark mark ts (tail ts)
+mark_sign mark follow ts one e other = let s = follow_sound follow ts e other in subst (λ (k : Mark). IsMark k ts (tail ts)) (one s.mark s.is) s.sign
 
 calls_sound : (word : WordKind) (follow : Follow) → calls word follow ≡ true → (word ≡ w.Plain) × (follow ≡ f.Parenthesis)
 calls_sound w.Plain f.Parenthesis e = (refl, refl)
@@ -265,9 +275,9 @@ pub record Listed (close : Mark) (ts : List Token) (x : Trees × List Token) : T
   pub later : List Token
   pub closing : List Token
   pub is : x.0 ≡ more first others
-  pub phrase : IsPhrase (Spells first) (rank first) 1 ts later
+  pub phrase : IsPhrase (Spells first) (level first) 1 ts later
   pub spells : SpellsMore others later closing
-  pub closes : Sign close closing x.1
+  pub closes : IsMark close closing x.1
 
 abbrev pub KeysOf : List Token → Trees × List Token → Type 0
 KeysOf ts x = SpellsKeys x.0 ts x.1
@@ -279,13 +289,10 @@ abbrev TargetOf : List Token → (Variable × Trees) × List Token → Type 0
 TargetOf ts x = IsTarget x.0.0 x.0.1 (SpellsKeys x.0.1) ts x.1
 
 abbrev pub SignOf : Mark → List Token → List Token → Type 0
-SignOf mark ts rest = Sign mark ts rest
+SignOf mark ts rest = IsMark mark ts rest
 
 abbrev VariableOf : List Token → Variable × List Token → Type 0
 VariableOf ts x = IsVariable x.0 ts x.1
-
-abbrev CastOf : ℕ → List Token → IntegerType × List Token → Type 0
-CastOf line ts x = IsCast line x.0 ts x.1
 
 module _ (down : Readers) (sound : Sound down) where
   listed_sound : (close : Mark) (ts : List Token) → IfSome (Listed close ts) (closed_list down close ts)
@@ -299,7 +306,7 @@ module _ (down : Readers) (sound : Sound down) where
   keys_by_sound : (follow : Follow) (ts : List Token) → follow_at ts ≡ follow → IfSome (KeysOf ts) (keys_by down follow ts)
   keys_by_sound f.Bracket ts e =
       weaken (Listed m.CloseBracket (tail ts)) (KeysOf ts) (closed_list down m.CloseBracket (tail ts))
-      (λ x h. subst (λ (l : Trees). SpellsKeys l ts x.1) (sym h.is) (tail ts, h.later, h.closing, mark_sign m.OpenBracket f.Bracket ts bracket_is e (λ h. absurd cc), h.phrase, h.spells, h.closes))
+      (λ x h. subst (λ (l : Trees). SpellsKeys l ts x.1) (sym h.is) (tail ts, mark_sign m.OpenBracket f.Bracket ts bracket_is e (λ h. absurd cc), (h.closing, (h.later, h.phrase, h.spells), h.closes)))
       (listed_sound m.CloseBracket (tail ts))
   keys_by_sound (f.Infix op) ts e = refl
   keys_by_sound (f.Assign op) ts e = refl
@@ -312,26 +319,22 @@ module _ (down : Readers) (sound : Sound down) where
   unfolding keys
   keys_sound ts = keys_by_sound (follow_at ts) ts refl
 
-  pub arguments_sound : (list : List Token) → Sign m.OpenParenthesis list (tail list) → IfSome (ArgumentsOf list) (arguments down (tail list))
+  pub arguments_sound : (list : List Token) → IsMark m.OpenParenthesis list (tail list) → IfSome (ArgumentsOf list) (arguments down (tail list))
   unfolding arguments
   arguments_sound list s =
       test_sound (ArgumentsOf list) (is_at m.CloseParenthesis (tail list)) (Some (end, tail (tail list))) (closed_list down m.CloseParenthesis (tail list))
-      (λ h. record { inner = tail list; later = tail list; opens = s; inside = refl; closes = sign_there m.CloseParenthesis (tail list) h })
+      (λ h. (tail list, s, (tail list, refl, sign_there m.CloseParenthesis (tail list) h)))
       (λ h. weaken (Listed m.CloseParenthesis (tail list)) (ArgumentsOf list) (closed_list down m.CloseParenthesis (tail list))
-      (λ x g. record { inner = tail list; later = g.closing; opens = s; inside = subst (λ (l : Trees). SpellsList l (tail list) g.closing) (sym g.is) (g.later, g.phrase, g.spells); closes = g.closes })
+      (λ x g. (tail list, s, (g.closing, subst (λ (l : Trees). SpellsList l (tail list) g.closing) (sym g.is) (g.later, g.phrase, g.spells), g.closes)))
       (listed_sound m.CloseParenthesis (tail list)))
-
-  keyed_sound : (x : Variable) (start ts : List Token) → IsVariable x start ts → ((all : Trees) → MayHave x all) → IfSome (TargetOf start) (keys down ts >>= λ k. Some ((x, k.0), k.1))
-  keyed_sound x start ts h may =
-      then_sound (KeysOf ts) (TargetOf start) (keys down ts) (λ k. Some ((x, k.0), k.1)) (keys_sound ts) (λ k g. record { later = ts; variable = h; keys = g; may = may k.0 })
 
   with_keys_sound : (x : Variable) (start ts : List Token) → IsVariable x start ts → IfSome (TargetOf start) (with_keys down x ts)
   unfolding with_keys
-  with_keys_sound (v.Plain line name) start ts h = keyed_sound (v.Plain line name) start ts h (λ all. tt)
-  with_keys_sound (v.Thread line name) start ts h = keyed_sound (v.Thread line name) start ts h (λ all. tt)
-  with_keys_sound (v.Clause line name) start ts h = record { later = ts; variable = h; keys = refl; may = refl }
+  with_keys_sound (v.Plain line name) start ts h = then_sound (KeysOf ts) (TargetOf start) (keys down ts) (λ k. Some ((v.Plain line name, k.0), k.1)) (keys_sound ts) (λ k g. (ts, h, g))
+  with_keys_sound (v.Thread line name) start ts h = then_sound (KeysOf ts) (TargetOf start) (keys down ts) (λ k. Some ((v.Thread line name, k.0), k.1)) (keys_sound ts) (λ k g. (ts, h, g))
+  with_keys_sound (v.Clause line name) start ts h = (refl, h)
 
-  target_sound : (name : List ℕ) (line : ℕ) (start ts : List Token) → Begins (kind.Word name) line start ts → IfSome (TargetOf start) (target down (word_kind name) name line ts)
+  target_sound : (name : List ℕ) (line : ℕ) (start ts : List Token) → IsToken (kind.Word name) line start ts → IfSome (TargetOf start) (target down (word_kind name) name line ts)
   unfolding target
   target_sound name line start ts h =
       then_sound (VariableOf start) (TargetOf start) (variable (word_kind name) name line ts) (λ x. with_keys down x.0 x.1) (variable_sound (word_kind name) name line start ts refl h) (λ x g. with_keys_sound x.0 start x.1 g)
@@ -344,14 +347,14 @@ module _ (down : Readers) (sound : Sound down) where
       let s = follow_sound (f.Assign op) ts e (λ h. absurd cc) in
       then_sound (Whole 1 (tail ts)) (Fits j start) (down.phrase 1 (tail ts)) (λ value. Some (Assign op x.0 x.1 value.0, value.1)) (sound.phrase 1 (tail ts) (lit≤ tt) (lit≤ tt))
       (λ value g. record {
-        phrase = bare (Assign op x.0 x.1 value.0) j start value.1 (s.mark, ts, tail ts, s.is, h, s.sign, g.phrase) low;
+        phrase = bare (Assign op x.0 x.1 value.0) j start value.1 (s.mark, s.is, (ts, h, (tail ts, s.sign, g.phrase))) low;
         fits = λ one. absurd (let stop = g.stops in omega arith);
       })
 
   follows_by_sound : (follow : Follow) (j : ℕ) (x : Variable × Trees) (start ts : List Token) → j ≤ 14 → TargetOf start (x, ts) → follow_at ts ≡ follow → IfSome (Fits j start) (follows_by down follow j x ts)
   follows_by_sound (f.Step step) j x start ts le h e =
       let s = follow_sound (f.Step step) ts e (λ h. absurd cc) in
-      bare_fits (After x.0 x.1 step) j start (tail ts) le (lit≤ tt) (s.mark, ts, s.is, h, s.sign)
+      bare_fits (After x.0 x.1 step) j start (tail ts) le (lit≤ tt) (s.mark, s.is, (ts, h, s.sign))
   follows_by_sound (f.Assign op) j x start ts le h e =
       elim (cases_lt 1 j) [
         | inl high ↦ rw (lt-leb j 1 high) (read_sound j x start ts le h)
@@ -367,27 +370,27 @@ module _ (down : Readers) (sound : Sound down) where
   unfolding follows
   follows_sound j x start ts le h = follows_by_sound (follow_at ts) j x start ts le h refl
 
-  call_sound : (j : ℕ) (name : List ℕ) (line : ℕ) (start ts : List Token) → j ≤ 14 → Begins (kind.Word name) line start ts → begins_call name ts ≡ true → IfSome (Fits j start) (arguments down (tail ts) >>= λ all. Some (Call line name all.0, all.1))
+  call_sound : (j : ℕ) (name : List ℕ) (line : ℕ) (start ts : List Token) → j ≤ 14 → IsToken (kind.Word name) line start ts → begins_call name ts ≡ true → IfSome (Fits j start) (arguments down (tail ts) >>= λ all. Some (Call line name all.0, all.1))
   call_sound j name line start ts le h e =
       let both = calls_sound (word_kind name) (follow_at ts) e in
       then_sound (ArgumentsOf ts) (Fits j start) (arguments down (tail ts)) (λ all. Some (Call line name all.0, all.1)) (arguments_sound ts (mark_sign m.OpenParenthesis f.Parenthesis ts parenthesis_is both.1 (λ h. absurd cc)))
-      (λ all g. bare_fits (Call line name all.0) j start all.1 le (lit≤ tt) (ts, record { begins = h; plain = both.0 }, g))
+      (λ all g. bare_fits (Call line name all.0) j start all.1 le (lit≤ tt) (ts, (both.0, h), g))
 
-  named_sound : (j : ℕ) (name : List ℕ) (line : ℕ) (start ts : List Token) → j ≤ 14 → Begins (kind.Word name) line start ts → IfSome (Fits j start) (part_at_name down j name line ts)
+  named_sound : (j : ℕ) (name : List ℕ) (line : ℕ) (start ts : List Token) → j ≤ 14 → IsToken (kind.Word name) line start ts → IfSome (Fits j start) (part_at_name down j name line ts)
   unfolding part_at_name
   named_sound j name line start ts le h =
       test_sound (Fits j start) (begins_call name ts) (arguments down (tail ts) >>= λ all. Some (Call line name all.0, all.1)) (target down (word_kind name) name line ts >>= λ x. follows down j x.0 x.1)
       (λ e. call_sound j name line start ts le h e)
       (λ e. then_sound (TargetOf start) (Fits j start) (target down (word_kind name) name line ts) (λ x. follows down j x.0 x.1) (target_sound name line start ts h) (λ x g. follows_sound j x.0 start x.1 le g))
 
-  casted_sound : (j line : ℕ) (start ts : List Token) → j ≤ 14 → Begins (kind.Mark m.OpenParenthesis) line start ts → IfSome (Fits j start) (part_at_cast down line ts)
+  casted_sound : (j line : ℕ) (start ts : List Token) → j ≤ 14 → IsToken (kind.Mark m.OpenParenthesis) line start ts → IfSome (Fits j start) (part_at_cast down line ts)
   unfolding part_at_cast
   casted_sound j line start ts le h =
-      then_sound (CastOf line start) (Fits j start) (cast_type ts) (λ to. down.phrase 14 to.1 >>= λ a. Some (Cast line to.0 a.0, a.1)) (cast_sound line start ts h)
+      then_sound (CastOf ts) (Fits j start) (cast_type ts) (λ to. down.phrase 14 to.1 >>= λ a. Some (Cast line to.0 a.0, a.1)) (cast_sound ts)
       (λ to g. then_sound (Whole 14 to.1) (Fits j start) (down.phrase 14 to.1) (λ a. Some (Cast line to.0 a.0, a.1)) (sound.phrase 14 to.1 (lit≤ tt) (lit≤ tt))
-      (λ a k. bare_fits (Cast line to.0 a.0) j start a.1 le (lit≤ tt) (to.1, g, k.phrase)))
+      (λ a k. bare_fits (Cast line to.0 a.0) j start a.1 le (lit≤ tt) (ts, h, (g.0, g.1, (to.1, g.2, k.phrase)))))
 
-  parens_sound : (j line : ℕ) (start ts : List Token) → j ≤ 14 → Begins (kind.Mark m.OpenParenthesis) line start ts → IfSome (Fits j start) (part_in_parentheses down line ts)
+  parens_sound : (j line : ℕ) (start ts : List Token) → j ≤ 14 → IsToken (kind.Mark m.OpenParenthesis) line start ts → IfSome (Fits j start) (part_in_parentheses down line ts)
   unfolding part_in_parentheses
   parens_sound j line start ts le h =
       test_sound (Fits j start) (is_typed ts) (part_at_cast down line ts) (down.phrase 1 ts >>= λ inner. after_mark m.CloseParenthesis inner.1 >>= λ rest. Some (inner.0, rest))
@@ -396,33 +399,33 @@ module _ (down : Readers) (sound : Sound down) where
       (λ inner g. then_sound (SignOf m.CloseParenthesis inner.1) (Fits j start) (after_mark m.CloseParenthesis inner.1) (λ rest. Some (inner.0, rest)) (after_sound m.CloseParenthesis inner.1)
       (λ rest s. any_fits inner.0 j start rest le (λ l high. in_parens inner.0 1 l start ts inner.1 rest (record { line = line; begins = h }) g.phrase s))))
 
-  stepped_by_sound : (t : TokenKind) (begin stop word_line : ℕ) (j line : ℕ) (step : Step) (mark : Mark) (start ts : List Token) → j ≤ 14 → prefix_of mark ≡ p.Step step → Begins (kind.Mark mark) line start (token t begin stop word_line ∷ ts) → IfSome (Fits j start) (part_at_step_by down line step t word_line ts)
+  stepped_by_sound : (t : TokenKind) (begin stop word_line : ℕ) (j line : ℕ) (step : Step) (mark : Mark) (start ts : List Token) → j ≤ 14 → prefix_of mark ≡ p.Step step → IsToken (kind.Mark mark) line start (token t begin stop word_line ∷ ts) → IfSome (Fits j start) (part_at_step_by down line step t word_line ts)
   stepped_by_sound (kind.Word name) begin stop word_line j line step mark start ts le e h =
       then_sound (TargetOf (token (kind.Word name) begin stop word_line ∷ ts)) (Fits j start) (target down (word_kind name) name word_line ts) (λ x. Some (Before line step x.0.0 x.0.1, x.1)) (target_sound name word_line (token (kind.Word name) begin stop word_line ∷ ts) ts (record { start = begin; stop = stop; is = refl }))
-      (λ x g. bare_fits (Before line step x.0.0 x.0.1) j start x.1 le (lit≤ tt) (mark, token (kind.Word name) begin stop word_line ∷ ts, e, h, g))
+      (λ x g. bare_fits (Before line step x.0.0 x.0.1) j start x.1 le (lit≤ tt) (mark, e, (token (kind.Word name) begin stop word_line ∷ ts, h, g)))
   stepped_by_sound (kind.DescriptionRun name) begin stop word_line j line step mark start ts le e h = tt
   stepped_by_sound (kind.AggregationName name) begin stop word_line j line step mark start ts le e h = tt
   stepped_by_sound (kind.Number value suffix) begin stop word_line j line step mark start ts le e h = tt
   stepped_by_sound (kind.TextConstant bytes) begin stop word_line j line step mark start ts le e h = tt
   stepped_by_sound (kind.Mark found) begin stop word_line j line step mark start ts le e h = tt
 
-  stepped_sound : (j line : ℕ) (step : Step) (mark : Mark) (start ts : List Token) → j ≤ 14 → prefix_of mark ≡ p.Step step → Begins (kind.Mark mark) line start ts → IfSome (Fits j start) (part_at_step down line step ts)
+  stepped_sound : (j line : ℕ) (step : Step) (mark : Mark) (start ts : List Token) → j ≤ 14 → prefix_of mark ≡ p.Step step → IsToken (kind.Mark mark) line start ts → IfSome (Fits j start) (part_at_step down line step ts)
   unfolding part_at_step
   stepped_sound j line step mark start [] le e h = tt
   stepped_sound j line step mark start (t ∷ ts) le e h = stepped_by_sound t.kind t.start t.stop t.line j line step mark start ts le e h
 
-  prefixed_sound : (x : Prefix) (j line : ℕ) (mark : Mark) (start ts : List Token) → j ≤ 14 → prefix_of mark ≡ x → Begins (kind.Mark mark) line start ts → IfSome (Fits j start) (prefixed_by down x line ts)
+  prefixed_sound : (x : Prefix) (j line : ℕ) (mark : Mark) (start ts : List Token) → j ≤ 14 → prefix_of mark ≡ x → IsToken (kind.Mark mark) line start ts → IfSome (Fits j start) (prefixed_by down x line ts)
   prefixed_sound (p.Unary op) j line mark start ts le e h =
       then_sound (Whole 14 ts) (Fits j start) (down.phrase 14 ts) (λ a. Some (Unary line op a.0, a.1)) (sound.phrase 14 ts (lit≤ tt) (lit≤ tt))
-      (λ a g. bare_fits (Unary line op a.0) j start a.1 le (lit≤ tt) (mark, ts, e, h, g.phrase))
+      (λ a g. bare_fits (Unary line op a.0) j start a.1 le (lit≤ tt) (mark, e, (ts, h, g.phrase)))
   prefixed_sound (p.Step step) j line mark start ts le e h = stepped_sound j line step mark start ts le e h
   prefixed_sound p.Other j line mark start ts le e h = tt
 
-  marked_sound : (j line : ℕ) (mark : Mark) (start ts : List Token) → j ≤ 14 → Begins (kind.Mark mark) line start ts → IfSome (Fits j start) (part_at_mark down mark line ts)
+  marked_sound : (j line : ℕ) (mark : Mark) (start ts : List Token) → j ≤ 14 → IsToken (kind.Mark mark) line start ts → IfSome (Fits j start) (part_at_mark down mark line ts)
   unfolding part_at_mark
   marked_sound j line mark start ts le h =
       test_sound (Fits j start) (same_mark mark m.OpenParenthesis) (part_in_parentheses down line ts) (prefixed_by down (prefix_of mark) line ts)
-      (λ e. parens_sound j line start ts le (subst (λ (k : Mark). Begins (kind.Mark k) line start ts) (same_true the_type (search rules) mark m.OpenParenthesis e) h))
+      (λ e. parens_sound j line start ts le (subst (λ (k : Mark). IsToken (kind.Mark k) line start ts) (same_true the_type (search rules) mark m.OpenParenthesis e) h))
       (λ e. prefixed_sound (prefix_of mark) j line mark start ts le refl h)
 
   part_by_sound : (t : TokenKind) (begin stop line : ℕ) (j : ℕ) (ts : List Token) → j ≤ 14 → IfSome (Fits j (token t begin stop line ∷ ts)) (part_by down j t line ts)
@@ -447,10 +450,10 @@ module _ (down : Readers) (sound : Sound down) where
       let least = level_high op in
       let most = level_below op in
       let max_is : max 3 (joins ts) ≡ level_of op = omega arith in
-      let first = subst (λ (l : ℕ). IsPhrase (Spells left) (rank left) l start ts) max_is (h.fits (omega arith)) in
+      let first = subst (λ (l : ℕ). IsPhrase (Spells left) (level left) l start ts) max_is (h.fits (omega arith)) in
       then_sound (Whole (suc (level_of op)) (tail ts)) (Climbed j k start) (down.phrase (suc (level_of op)) (tail ts)) (λ right. down.climb k (Binary op left right.0) right.1) (sound.phrase (suc (level_of op)) (tail ts) (omega arith) (omega arith))
       (λ right g.
-      let spelled : Spells (Binary op left right.0) start right.1 = (s.mark, ts, tail ts, s.is, first, s.sign, g.phrase) in
+      let spelled : Spells (Binary op left right.0) start right.1 = (s.mark, s.is, (ts, first, (tail ts, s.sign, g.phrase))) in
       sound.climb j k (Binary op left right.0) start right.1 high le
       (record { phrase = bare (Binary op left right.0) j start right.1 spelled (omega arith); fits = λ one. bare (Binary op left right.0) (max 3 (joins right.1)) start right.1 spelled (let stop = g.stops in omega arith) }))
 
@@ -488,10 +491,10 @@ module _ (down : Readers) (sound : Sound down) where
       let s = mark_sign m.Question f.Question ts question_is e (λ h. absurd cc) in
       let is : joins ts ≡ 2 = ap joins_of e in
       let max_is : max 3 (joins ts) ≡ 3 = omega arith in
-      let head = subst (λ (l : ℕ). IsPhrase (Spells test) (rank test) l start ts) max_is (h.fits (omega arith)) in
+      let head = subst (λ (l : ℕ). IsPhrase (Spells test) (level test) l start ts) max_is (h.fits (omega arith)) in
       then_sound (Alternatives (tail ts)) (Whole k start) (alternatives down (tail ts)) (λ x. Some (Choice test x.0.0 x.0.1, x.1)) (alternatives_sound (tail ts))
       (λ x a. record {
-        phrase = bare (Choice test x.0.0 x.0.1) k start x.1 (ts, tail ts, a.at_colon, a.after, head, s, a.first.phrase, a.colon, a.second.phrase) le;
+        phrase = bare (Choice test x.0.0 x.0.1) k start x.1 (ts, head, (tail ts, s, (a.at_colon, a.first.phrase, (a.after, a.colon, a.second.phrase)))) le;
         stops = let gap = joins_gap (follow_at x.1) a.second.stops in omega arith;
       })
 
@@ -530,7 +533,7 @@ module _ (down : Readers) (sound : Sound down) where
   further_by_sound acc ts e =
       then_sound (Whole 1 (tail ts)) (Further acc ts) (down.phrase 1 (tail ts)) (λ next. down.further (add acc next.0) next.1) (sound.phrase 1 (tail ts) (lit≤ tt) (lit≤ tt))
       (λ next h. weaken (Further (add acc next.0) next.1) (Further acc ts) (down.further (add acc next.0) next.1)
-      (λ x g. record { list = more next.0 g.list; is = g.is; spells = (tail ts, next.1, sign_there m.Comma ts e, h.phrase, g.spells) })
+      (λ x g. record { list = more next.0 g.list; is = g.is; spells = (tail ts, sign_there m.Comma ts e, (next.1, h.phrase, g.spells)) })
       (sound.further (add acc next.0) next.1))
 
   pub further_on_sound : (acc : Trees) (ts : List Token) → IfSome (Further acc ts) (further_on down acc ts)

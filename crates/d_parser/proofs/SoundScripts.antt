@@ -12,14 +12,14 @@ use Rattle.d_parser.specs.declared.words.WordKind.{WordKind}
 use Rattle.d_parser.specs.declared.words.WordKind.TheVariants as w
 use Rattle.d_parser.specs.Tree.{Tree, StmtTree, Expression, Aggregation, DeclarationTree, OfThread}
 use Rattle.d_parser.specs.Tree.{OfClause, ClauseTree, ItemTree, Declared, Probing}
-use Rattle.d_parser.specs.Words.{word_kind, is_word, type_of_words, AreWords}
-use Rattle.d_parser.specs.Steps.Words.{run, after_run}
+use Rattle.d_parser.specs.Words.{word_kind, type_of_words}
+use Rattle.d_parser.specs.Steps.Words.{is_word, run, after_run}
 use Rattle.d_parser.specs.Steps.Marks.{is_at, tail}
-use Rattle.d_parser.specs.Grammar.{token, Begins, Sign}
-use Rattle.d_parser.specs.Script.{IsStmt, IsSlot, AreFurther, present, AreStmts, description_of}
-use Rattle.d_parser.specs.Script.{IsDescription, FurtherDescriptions, AreDescriptions, IsPredicate}
-use Rattle.d_parser.specs.Script.{IsClause, IsType, FurtherTypes, AreKeyTypes, IsDeclaration}
+use Rattle.d_parser.specs.Grammar.{◌⨟◌, token, IsToken, IsMark, IsEnclosed, IsType}
+use Rattle.d_parser.specs.Script.{EachAfter, SeparatedBy, IsStmt, IsSlot, present, AreStmts}
+use Rattle.d_parser.specs.Script.{IsDescription, IsPredicate, IsClause, AreKeyTypes, IsDeclaration}
 use Rattle.d_parser.specs.Script.{IsItem, IsScript}
+use Rattle.d_parser.specs.Steps.Script.{description_of}
 use Rattle.d_parser.specs.Steps.Reading.{◌>>=◌, after_mark, readers, keys, arguments}
 use Rattle.d_parser.specs.Steps.ReadingScripts.{word_by, any_word, aggregating_word, aggregation}
 use Rattle.d_parser.specs.Steps.ReadingScripts.{stmt_by, stmt}
@@ -36,15 +36,16 @@ use Rattle.d_parser.specs.Steps.ReadingScripts.{typed_name, of_thread, of_clause
 use Rattle.d_parser.specs.Steps.ReadingScripts.{item_by}
 use Rattle.d_parser.specs.Steps.ReadingScripts.{item_reader, items_reader, script_reader}
 use Rattle.d_parser.proofs.Complete.{sign_there}
+use Rattle.d_parser.proofs.Descriptions.{describes}
 use Rattle.d_parser.proofs.Sound.{IfSome, then_sound, test_sound, weaken, after_sound, Whole}
 use Rattle.d_parser.proofs.Sound.{KeysOf, ArgumentsOf, SignOf, keys_sound, arguments_sound}
 use Rattle.d_parser.proofs.Sound.{readers_sound}
-use Rattle.d_parser.proofs.Runs.{are_words, run_joined}
+use Rattle.d_parser.proofs.Runs.{AreWords, are_words, run_joined}
 
 -- ---- statements
 
 abbrev WordOf : List Token → List ℕ × List Token → Type 0
-WordOf ts x = (line : ℕ) × Begins (kind.Word x.0) line ts x.1
+WordOf ts x = (line : ℕ) × IsToken (kind.Word x.0) line ts x.1
 
 word_by_sound : (t : TokenKind) (start stop line : ℕ) (ts : List Token) → IfSome (WordOf (token t start stop line ∷ ts)) (word_by t ts)
 word_by_sound (kind.Word word) start stop line ts = (line, record { start = start; stop = stop; is = refl })
@@ -62,22 +63,22 @@ word_sound (t ∷ ts) = word_by_sound t.kind t.start t.stop t.line ts
 abbrev StmtOf : List Token → StmtTree × List Token → Type 0
 StmtOf ts x = IsStmt x.0 ts x.1
 
-openings : (ts : List Token) (rest : List Token) → Sign m.OpenParenthesis ts rest → tail ts ≡ rest
-openings ts rest h = ap tail h.begins.is
+opening_tail : (ts : List Token) (rest : List Token) → IsMark m.OpenParenthesis ts rest → tail ts ≡ rest
+opening_tail ts rest h = ap tail h.begins.is
 
-arguments_at : (n : ℕ) (open_at list : List Token) → Sign m.OpenParenthesis open_at list → IfSome (ArgumentsOf open_at) (arguments (readers n) list)
+arguments_at : (n : ℕ) (open_at list : List Token) → IsMark m.OpenParenthesis open_at list → IfSome (ArgumentsOf open_at) (arguments (readers n) list)
 arguments_at n open_at list s =
-    let e = openings open_at list s in
-    subst (λ (xs : List Token). IfSome (ArgumentsOf open_at) (arguments (readers n) xs)) e (arguments_sound (readers n) (readers_sound n) open_at (subst (λ (xs : List Token). Sign m.OpenParenthesis open_at xs) (sym e) s))
+    let e = opening_tail open_at list s in
+    subst (λ (xs : List Token). IfSome (ArgumentsOf open_at) (arguments (readers n) xs)) e (arguments_sound (readers n) (readers_sound n) open_at (subst (λ (xs : List Token). IsMark m.OpenParenthesis open_at xs) (sym e) s))
 
 -- what is read between an aggregation's keys and its arguments
 record NameOf (ts : List Token) (x : List ℕ × List Token) : Type 0 where
   at_word : List Token
   at_open : List Token
   word_line : ℕ
-  assigns : Sign m.Assign ts at_word
-  word : Begins (kind.Word x.0) word_line at_word at_open
-  opens : Sign m.OpenParenthesis at_open x.1
+  assigns : IsMark m.Assign ts at_word
+  word : IsToken (kind.Word x.0) word_line at_word at_open
+  opens : IsMark m.OpenParenthesis at_open x.1
 
 name_sound : (ts : List Token) → IfSome (NameOf ts) (aggregating_word ts)
 unfolding aggregating_word
@@ -87,13 +88,13 @@ name_sound ts =
     (λ word f. then_sound (SignOf m.OpenParenthesis word.1) (NameOf ts) (after_mark m.OpenParenthesis word.1) (λ list. Some (word.0, list)) (after_sound m.OpenParenthesis word.1)
     (λ list o. record { at_word = rest; at_open = word.1; word_line = f.0; assigns = a; word = f.1; opens = o })))
 
-aggregation_sound : (n line : ℕ) (name : List ℕ) (start ts : List Token) → Begins (kind.AggregationName name) line start ts → IfSome (StmtOf start) (aggregation n line name ts)
+aggregation_sound : (n line : ℕ) (name : List ℕ) (start ts : List Token) → IsToken (kind.AggregationName name) line start ts → IfSome (StmtOf start) (aggregation n line name ts)
 unfolding aggregation
 aggregation_sound n line name start ts h =
     then_sound (KeysOf ts) (StmtOf start) (keys (readers n) ts) (λ keys. aggregating_word keys.1 >>= λ function. arguments (readers n) function.1 >>= λ all. Some (Aggregation line name keys.0 function.0 all.0, all.1)) (keys_sound (readers n) (readers_sound n) ts)
     (λ keys k. then_sound (NameOf keys.1) (StmtOf start) (aggregating_word keys.1) (λ function. arguments (readers n) function.1 >>= λ all. Some (Aggregation line name keys.0 function.0 all.0, all.1)) (name_sound keys.1)
     (λ function f. then_sound (ArgumentsOf f.at_open) (StmtOf start) (arguments (readers n) function.1) (λ all. Some (Aggregation line name keys.0 function.0 all.0, all.1)) (arguments_at n f.at_open function.1 f.opens)
-    (λ all g. record { at_keys = ts; at_assign = keys.1; at_word = f.at_word; at_open = f.at_open; word_line = f.word_line; begins = h; spells_keys = k; assigns = f.assigns; word = f.word; spells_arguments = g })))
+    (λ all g. (f.word_line, (ts, h, (keys.1, k, (f.at_word, f.assigns, (f.at_open, f.word, g))))))))
 
 expression_sound : (n : ℕ) (ts : List Token) → IfSome (StmtOf ts) ((readers n).phrase 1 ts >>= λ x. Some (Expression x.0, x.1))
 expression_sound n ts = then_sound (Whole 1 ts) (StmtOf ts) ((readers n).phrase 1 ts) (λ x. Some (Expression x.0, x.1)) ((readers_sound n).phrase 1 ts (lit≤ tt) (lit≤ tt)) (λ x h. h.phrase)
@@ -124,10 +125,12 @@ slot_sound n all ts =
     (λ e. record { slot = None; spells = refl; is = sym (append-nil all) })
     (λ e. then_sound (StmtOf ts) (Slotted all ts) (stmt n ts) (λ s. Some (all ++ s.0 ∷ [], s.1)) (stmt_sound n ts) (λ s h. record { slot = Some s.0; spells = h; is = refl }))
 
--- the rest of the slots are read
+-- the rest of the slots are read, and the brace
 pub record Slots (all : List StmtTree) (ts : List Token) (x : List StmtTree × List Token) : Type 0 where
   pub slots : List (Option StmtTree)
-  pub spells : AreFurther slots ts x.1
+  pub close : List Token
+  pub spells : EachAfter m.Semicolon IsSlot slots ts close
+  pub closes : IsMark m.CloseBrace close x.1
   pub is : x.0 ≡ all ++ present slots
 
 present_more : (slot : Option StmtTree) (slots : List (Option StmtTree)) → present (slot ∷ slots) ≡ present (slot ∷ []) ++ present slots
@@ -139,22 +142,22 @@ unfolding further_stmts
 further_sound n zero all ts = tt
 further_sound n (suc turns) all ts =
     test_sound (Slots all ts) (is_at m.CloseBrace ts) (Some (all, tail ts)) (after_mark m.Semicolon ts >>= λ rest. slot n all rest >>= λ x. further_stmts n turns x.0 x.1)
-    (λ e. record { slots = []; spells = sign_there m.CloseBrace ts e; is = sym (append-nil all) })
+    (λ e. record { slots = []; close = ts; spells = refl; closes = sign_there m.CloseBrace ts e; is = sym (append-nil all) })
     (λ e. then_sound (SignOf m.Semicolon ts) (Slots all ts) (after_mark m.Semicolon ts) (λ rest. slot n all rest >>= λ x. further_stmts n turns x.0 x.1) (after_sound m.Semicolon ts)
     (λ rest s. then_sound (Slotted all rest) (Slots all ts) (slot n all rest) (λ x. further_stmts n turns x.0 x.1) (slot_sound n all rest)
     (λ x h. weaken (Slots x.0 x.1) (Slots all ts) (further_stmts n turns x.0 x.1)
-    (λ y g. record { slots = h.slot ∷ g.slots; spells = (rest, x.1, s, h.spells, g.spells); is = g.is ∙ (ap (λ (xs : List StmtTree). xs ++ present g.slots) h.is ∙ (append_assoc all (present (h.slot ∷ [])) (present g.slots) ∙ ap (λ (xs : List StmtTree). all ++ xs) (sym (present_more h.slot g.slots)))) })
+    (λ y g. record { slots = h.slot ∷ g.slots; close = g.close; spells = (rest, s, (x.1, h.spells, g.spells)); closes = g.closes; is = g.is ∙ (ap (λ (xs : List StmtTree). xs ++ present g.slots) h.is ∙ (append_assoc all (present (h.slot ∷ [])) (present g.slots) ∙ ap (λ (xs : List StmtTree). all ++ xs) (sym (present_more h.slot g.slots)))) })
     (further_sound n turns x.0 x.1))))
 
 abbrev StmtsOf : List Token → List StmtTree × List Token → Type 0
-StmtsOf ts x = AreStmts x.0 ts x.1
+StmtsOf ts x = (AreStmts x.0 ⨟ IsMark m.CloseBrace) ts x.1
 
 stmts_sound : (n : ℕ) (ts : List Token) → IfSome (StmtsOf ts) (stmts n ts)
 unfolding stmts
 stmts_sound n ts =
     then_sound (Slotted [] ts) (StmtsOf ts) (slot n [] ts) (λ x. further_stmts n n x.0 x.1) (slot_sound n [] ts)
     (λ x h. weaken (Slots x.0 x.1) (StmtsOf ts) (further_stmts n n x.0 x.1)
-    (λ y g. record { slot = h.slot; slots = g.slots; later = x.1; first = h.spells; further = g.spells; are = g.is ∙ (ap (λ (xs : List StmtTree). xs ++ present g.slots) h.is ∙ sym (present_more h.slot g.slots)) })
+    (λ y g. (g.close, (h.slot ∷ g.slots, g.is ∙ (ap (λ (xs : List StmtTree). xs ++ present g.slots) h.is ∙ sym (present_more h.slot g.slots)), (x.1, h.spells, g.spells)), g.closes))
     (further_sound n n x.0 x.1))
 
 -- ---- clauses
@@ -164,7 +167,9 @@ DescriptionOf ts x = IsDescription x.0 ts x.1
 
 run_sound : (o : Option Description) (run : List ℕ) (start stop line : ℕ) (ts : List Token) → description_of run ≡ o → IfSome (DescriptionOf (token (kind.DescriptionRun run) start stop line ∷ ts)) (with_rest ts o)
 run_sound None run start stop line ts e = tt
-run_sound (Some d) run start stop line ts e = record { run = run; line = line; begins = record { start = start; stop = stop; is = refl }; is = e }
+run_sound (Some d) run start stop line ts e =
+    let h = describes run d e in
+    record { run = run; line = line; missing = h.missing; given = h.given; begins = record { start = start; stop = stop; is = refl }; named = h.named; is = h.is; apart = h.apart; are = h.are }
 
 description_by_sound : (t : TokenKind) (start stop line : ℕ) (ts : List Token) → IfSome (DescriptionOf (token t start stop line ∷ ts)) (description_by t ts)
 description_by_sound (kind.DescriptionRun run) start stop line ts = run_sound (description_of run) run start stop line ts refl
@@ -181,7 +186,7 @@ description_sound (t ∷ ts) = description_by_sound t.kind t.start t.stop t.line
 
 pub record FurtherDescribed (all : List Description) (ts : List Token) (x : List Description × List Token) : Type 0 where
   pub others : List Description
-  pub spells : FurtherDescriptions others ts x.1
+  pub spells : EachAfter m.Comma IsDescription others ts x.1
   pub is : x.0 ≡ all ++ others
 
 further_descriptions_sound : (turns : ℕ) (all : List Description) (ts : List Token) → IfSome (FurtherDescribed all ts) (further_descriptions turns all ts)
@@ -191,19 +196,19 @@ further_descriptions_sound (suc turns) all ts =
     test_sound (FurtherDescribed all ts) (is_at m.Comma ts) (description (tail ts) >>= λ d. further_descriptions turns (all ++ d.0 ∷ []) d.1) (Some (all, ts))
     (λ e. then_sound (DescriptionOf (tail ts)) (FurtherDescribed all ts) (description (tail ts)) (λ d. further_descriptions turns (all ++ d.0 ∷ []) d.1) (description_sound (tail ts))
     (λ d h. weaken (FurtherDescribed (all ++ d.0 ∷ []) d.1) (FurtherDescribed all ts) (further_descriptions turns (all ++ d.0 ∷ []) d.1)
-    (λ x g. record { others = d.0 ∷ g.others; spells = (tail ts, d.1, sign_there m.Comma ts e, h, g.spells); is = g.is ∙ append_assoc all (d.0 ∷ []) g.others })
+    (λ x g. record { others = d.0 ∷ g.others; spells = (tail ts, sign_there m.Comma ts e, (d.1, h, g.spells)); is = g.is ∙ append_assoc all (d.0 ∷ []) g.others })
     (further_descriptions_sound turns (all ++ d.0 ∷ []) d.1)))
     (λ e. record { others = []; spells = refl; is = sym (append-nil all) })
 
 abbrev DescriptionsOf : List Token → List Description × List Token → Type 0
-DescriptionsOf ts x = AreDescriptions x.0 ts x.1
+DescriptionsOf ts x = SeparatedBy m.Comma IsDescription x.0 ts x.1
 
 descriptions_sound : (n : ℕ) (ts : List Token) → IfSome (DescriptionsOf ts) (descriptions_reader n ts)
 unfolding descriptions_reader
 descriptions_sound n ts =
     then_sound (DescriptionOf ts) (DescriptionsOf ts) (description ts) (λ d. further_descriptions n (d.0 ∷ []) d.1) (description_sound ts)
     (λ d h. weaken (FurtherDescribed (d.0 ∷ []) d.1) (DescriptionsOf ts) (further_descriptions n (d.0 ∷ []) d.1)
-    (λ x g. subst (λ (ds : List Description). AreDescriptions ds ts x.1) (sym g.is) (d.1, h, g.spells))
+    (λ x g. subst (λ (ds : List Description). SeparatedBy m.Comma IsDescription ds ts x.1) (sym g.is) (d.1, h, g.spells))
     (further_descriptions_sound n (d.0 ∷ []) d.1))
 
 abbrev PredicateOf : List Token → Option Tree × List Token → Type 0
@@ -215,14 +220,14 @@ predicate_sound n ts =
     test_sound (PredicateOf ts) (is_at m.Slash ts) ((readers n).phrase 1 (tail ts) >>= λ x. after_mark m.ClosingSlash x.1 >>= λ rest. Some (Some x.0, rest)) (Some (None, ts))
     (λ e. then_sound (Whole 1 (tail ts)) (PredicateOf ts) ((readers n).phrase 1 (tail ts)) (λ x. after_mark m.ClosingSlash x.1 >>= λ rest. Some (Some x.0, rest)) ((readers_sound n).phrase 1 (tail ts) (lit≤ tt) (lit≤ tt))
     (λ x h. then_sound (SignOf m.ClosingSlash x.1) (PredicateOf ts) (after_mark m.ClosingSlash x.1) (λ rest. Some (Some x.0, rest)) (after_sound m.ClosingSlash x.1)
-    (λ rest s. (tail ts, x.1, sign_there m.Slash ts e, h.phrase, s))))
+    (λ rest s. (tail ts, sign_there m.Slash ts e, (x.1, h.phrase, s)))))
     (λ e. refl)
 
 abbrev ClauseOf : List Token → ClauseTree × List Token → Type 0
 ClauseOf ts x = IsClause x.0 ts x.1
 
 abbrev BlockOf : List Token → List StmtTree × List Token → Type 0
-BlockOf ts x = (rest : List Token) × SignOf m.OpenBrace ts rest × StmtsOf rest x
+BlockOf ts x = IsEnclosed m.OpenBrace m.CloseBrace (AreStmts x.0) ts x.1
 
 block_sound : (n : ℕ) (ts : List Token) → IfSome (BlockOf ts) (block n ts)
 block_sound n ts =
@@ -235,7 +240,7 @@ clause_sound n ts =
     then_sound (DescriptionsOf ts) (ClauseOf ts) (descriptions_reader n ts) (λ d. predicate_reader n d.1 >>= λ p. block n p.1 >>= λ s. Some (record { descriptions = d.0; predicate = p.0; statements = s.0 }, s.1)) (descriptions_sound n ts)
     (λ d h. then_sound (PredicateOf d.1) (ClauseOf ts) (predicate_reader n d.1) (λ p. block n p.1 >>= λ s. Some (record { descriptions = d.0; predicate = p.0; statements = s.0 }, s.1)) (predicate_sound n d.1)
     (λ p g. then_sound (BlockOf p.1) (ClauseOf ts) (block n p.1) (λ s. Some (record { descriptions = d.0; predicate = p.0; statements = s.0 }, s.1)) (block_sound n p.1)
-    (λ s b. record { at_predicate = d.1; at_brace = p.1; at_stmts = b.0; descriptions = h; predicate = g; opens = b.1; stmts = b.2 })))
+    (λ s b. (d.1, h, (p.1, g, b)))))
 
 -- ---- declarations
 
@@ -244,7 +249,7 @@ TypeOf ts x = IsType x.0 ts x.1
 
 type_by_sound : (o : Option DeclaredType) (ts : List Token) → type_of_words (run ts) ≡ o → IfSome (TypeOf ts) (with_rest (after_run ts) o)
 type_by_sound None ts e = tt
-type_by_sound (Some t) ts e = record { words = run ts; is = run_joined ts; are_words = are_words ts; spells = e }
+type_by_sound (Some t) ts e = (run ts, run_joined ts, e)
 
 type_sound : (ts : List Token) → IfSome (TypeOf ts) (whole_type ts)
 unfolding whole_type
@@ -252,7 +257,9 @@ type_sound ts = type_by_sound (type_of_words (run ts)) ts refl
 
 pub record Typed (all : List DeclaredType) (ts : List Token) (x : List DeclaredType × List Token) : Type 0 where
   pub others : List DeclaredType
-  pub spells : FurtherTypes others ts x.1
+  pub close : List Token
+  pub spells : EachAfter m.Comma IsType others ts close
+  pub closes : IsMark m.CloseBracket close x.1
   pub is : x.0 ≡ all ++ others
 
 further_types_sound : (turns : ℕ) (all : List DeclaredType) (ts : List Token) → IfSome (Typed all ts) (further_types turns all ts)
@@ -262,10 +269,10 @@ further_types_sound (suc turns) all ts =
     test_sound (Typed all ts) (is_at m.Comma ts) (whole_type (tail ts) >>= λ t. further_types turns (all ++ t.0 ∷ []) t.1) (after_mark m.CloseBracket ts >>= λ rest. Some (all, rest))
     (λ e. then_sound (TypeOf (tail ts)) (Typed all ts) (whole_type (tail ts)) (λ t. further_types turns (all ++ t.0 ∷ []) t.1) (type_sound (tail ts))
     (λ t h. weaken (Typed (all ++ t.0 ∷ []) t.1) (Typed all ts) (further_types turns (all ++ t.0 ∷ []) t.1)
-    (λ x g. record { others = t.0 ∷ g.others; spells = (tail ts, t.1, sign_there m.Comma ts e, h, g.spells); is = g.is ∙ append_assoc all (t.0 ∷ []) g.others })
+    (λ x g. record { others = t.0 ∷ g.others; close = g.close; spells = (tail ts, sign_there m.Comma ts e, (t.1, h, g.spells)); closes = g.closes; is = g.is ∙ append_assoc all (t.0 ∷ []) g.others })
     (further_types_sound turns (all ++ t.0 ∷ []) t.1)))
     (λ e. then_sound (SignOf m.CloseBracket ts) (Typed all ts) (after_mark m.CloseBracket ts) (λ rest. Some (all, rest)) (after_sound m.CloseBracket ts)
-    (λ rest s. record { others = []; spells = s; is = sym (append-nil all) }))
+    (λ rest s. record { others = []; close = ts; spells = refl; closes = s; is = sym (append-nil all) }))
 
 abbrev KeyTypesOf : List Token → List DeclaredType × List Token → Type 0
 KeyTypesOf ts x = AreKeyTypes x.0 ts x.1
@@ -276,7 +283,7 @@ key_types_sound n ts =
     test_sound (KeyTypesOf ts) (is_at m.OpenBracket ts) (whole_type (tail ts) >>= λ t. further_types n (t.0 ∷ []) t.1) (Some ([], ts))
     (λ e. then_sound (TypeOf (tail ts)) (KeyTypesOf ts) (whole_type (tail ts)) (λ t. further_types n (t.0 ∷ []) t.1) (type_sound (tail ts))
     (λ t h. weaken (Typed (t.0 ∷ []) t.1) (KeyTypesOf ts) (further_types n (t.0 ∷ []) t.1)
-    (λ x g. subst (λ (all : List DeclaredType). AreKeyTypes all ts x.1) (sym g.is) (tail ts, t.1, sign_there m.OpenBracket ts e, h, g.spells))
+    (λ x g. subst (λ (all : List DeclaredType). AreKeyTypes all ts x.1) (sym g.is) (tail ts, sign_there m.OpenBracket ts e, (g.close, (t.1, h, g.spells), g.closes)))
     (further_types_sound n (t.0 ∷ []) t.1)))
     (λ e. refl)
 
@@ -300,9 +307,9 @@ apart_sound : (ts : List Token) → IfSome (Apart ts) (last_apart ts)
 apart_sound [] = tt
 apart_sound (t ∷ ts) = apart_by t ts (last_apart ts) (last_none ts) (apart_sound ts)
 
-words_apart : (words : List Token) (t : Token) → AreWords (words ++ t ∷ []) → AreWords words × (is_word t.kind ≡ true)
-words_apart [] t h = (tt, h.0)
-words_apart (w ∷ words) t h = let g = words_apart words t h.1 in ((h.0, g.0), g.1)
+last_word : (words : List Token) (t : Token) → AreWords (words ++ t ∷ []) → is_word t.kind ≡ true
+last_word [] t h = h.0
+last_word (w ∷ words) t h = last_word words t h.1
 
 word_is : (t : TokenKind) → is_word t ≡ true → t ≡ kind.Word (spelled_word t)
 word_is (kind.Word word) h = refl
@@ -317,7 +324,7 @@ pub record TypedName (ts : List Token) (x : (DeclaredType × List ℕ) × List T
   pub at_name : List Token
   pub line : ℕ
   pub spells : IsType x.0.0 ts at_name
-  pub word : Begins (kind.Word x.0.1) line at_name x.1
+  pub word : IsToken (kind.Word x.0.1) line at_name x.1
 
 some_type : (o : Option DeclaredType) (words : List Token) → type_of_words words ≡ o → IfSome (λ t. type_of_words words ≡ Some t) o
 some_type None words e = tt
@@ -325,13 +332,13 @@ some_type (Some t) words e = e
 
 named_type : (ts words : List Token) (last : Token) (t : DeclaredType) → run ts ≡ words ++ last ∷ [] → type_of_words words ≡ Some t → TypedName ts ((t, spelled_word last.kind), after_run ts)
 named_type ts words last t e h =
-    let apart = words_apart words last (subst AreWords e (are_words ts)) in
+    let word = last_word words last (subst AreWords e (are_words ts)) in
     let whole : ts ≡ words ++ (last ∷ after_run ts) = run_joined ts ∙ (ap (λ (xs : List Token). xs ++ after_run ts) e ∙ append_assoc words (last ∷ []) (after_run ts)) in
     record {
       at_name = last ∷ after_run ts;
       line = last.line;
-      spells = record { words = words; is = whole; are_words = apart.0; spells = h };
-      word = record { start = last.start; stop = last.stop; is = ap (λ (k : TokenKind). token k last.start last.stop last.line ∷ after_run ts) (word_is last.kind apart.1) };
+      spells = (words, whole, h);
+      word = record { start = last.start; stop = last.stop; is = ap (λ (k : TokenKind). token k last.start last.stop last.line ∷ after_run ts) (word_is last.kind word) };
     }
 
 typed_name_sound : (ts : List Token) → IfSome (TypedName ts) (typed_name ts)
@@ -344,22 +351,22 @@ typed_name_sound ts =
 abbrev DeclarationOf : List Token → DeclarationTree × List Token → Type 0
 DeclarationOf ts x = IsDeclaration x.0 ts x.1
 
-thread_sound : (n line : ℕ) (name : List ℕ) (start ts : List Token) → word_kind name ≡ w.Thread → Begins (kind.Word name) line start ts → IfSome (DeclarationOf start) (declaration_by w.Thread n line ts)
+thread_sound : (n line : ℕ) (name : List ℕ) (start ts : List Token) → word_kind name ≡ w.Thread → IsToken (kind.Word name) line start ts → IfSome (DeclarationOf start) (declaration_by w.Thread n line ts)
 unfolding of_thread
 thread_sound n line name start ts e h =
     then_sound (TypedName ts) (DeclarationOf start) (typed_name ts) (λ x. key_types n x.1 >>= λ k. after_mark m.Semicolon k.1 >>= λ rest. Some (OfThread line x.0.0 x.0.1 k.0, rest)) (typed_name_sound ts)
     (λ x g. then_sound (KeyTypesOf x.1) (DeclarationOf start) (key_types n x.1) (λ k. after_mark m.Semicolon k.1 >>= λ rest. Some (OfThread line x.0.0 x.0.1 k.0, rest)) (key_types_sound n x.1)
     (λ k a. then_sound (SignOf m.Semicolon k.1) (DeclarationOf start) (after_mark m.Semicolon k.1) (λ rest. Some (OfThread line x.0.0 x.0.1 k.0, rest)) (after_sound m.Semicolon k.1)
-    (λ rest s. record { first = name; at_type = ts; at_name = g.at_name; at_keys = x.1; at_end = k.1; name_line = g.line; begins = h; reserved = e; spells = g.spells; word = g.word; key_types = a; ends = s })))
+    (λ rest s. (name, g.line, (ts, (e, h), (g.at_name, g.spells, (x.1, g.word, (k.1, a, s))))))))
 
-clause_local_sound : (n line : ℕ) (name : List ℕ) (start ts : List Token) → word_kind name ≡ w.Clause → Begins (kind.Word name) line start ts → IfSome (DeclarationOf start) (declaration_by w.Clause n line ts)
+clause_local_sound : (n line : ℕ) (name : List ℕ) (start ts : List Token) → word_kind name ≡ w.Clause → IsToken (kind.Word name) line start ts → IfSome (DeclarationOf start) (declaration_by w.Clause n line ts)
 unfolding of_clause
 clause_local_sound n line name start ts e h =
     then_sound (TypedName ts) (DeclarationOf start) (typed_name ts) (λ x. after_mark m.Semicolon x.1 >>= λ rest. Some (OfClause line x.0.0 x.0.1, rest)) (typed_name_sound ts)
     (λ x g. then_sound (SignOf m.Semicolon x.1) (DeclarationOf start) (after_mark m.Semicolon x.1) (λ rest. Some (OfClause line x.0.0 x.0.1, rest)) (after_sound m.Semicolon x.1)
-    (λ rest s. record { first = name; at_type = ts; at_name = g.at_name; at_keys = x.1; at_end = x.1; name_line = g.line; begins = h; reserved = e; spells = g.spells; word = g.word; key_types = refl; ends = s }))
+    (λ rest s. (name, g.line, (ts, (e, h), (g.at_name, g.spells, (x.1, g.word, (x.1, refl, s)))))))
 
-declared_sound : (word : WordKind) (n line : ℕ) (name : List ℕ) (start ts : List Token) → word_kind name ≡ word → Begins (kind.Word name) line start ts → IfSome (DeclarationOf start) (declaration_by word n line ts)
+declared_sound : (word : WordKind) (n line : ℕ) (name : List ℕ) (start ts : List Token) → word_kind name ≡ word → IsToken (kind.Word name) line start ts → IfSome (DeclarationOf start) (declaration_by word n line ts)
 declared_sound w.Thread n line name start ts e h = thread_sound n line name start ts e h
 declared_sound w.Clause n line name start ts e h = clause_local_sound n line name start ts e h
 declared_sound w.Plain n line name start ts e h = tt

@@ -1,51 +1,31 @@
 -- How deep and how long tokens may be, and how many clauses there may be.
-use Rattle.std.specs.Prelude.{◌≡◌, ◌<◌, ◌+◌, ◌⊎◌, ℕ, Bool, true, false, List, [], ◌∷◌, ◌++◌, length}
+use Rattle.std.specs.Prelude.{◌≡◌, ◌<◌, ◌+◌, ◌⊎◌, ℕ, Bool, true, false, List, ◌++◌, length}
 use Rattle.std.specs.Prelude.{count_by, Result, Ok, Err}
 use Rattle.d_parser.specs.Vocabulary.{Mark, Token, TokenKind, ParseFault, MOST_OPEN, MOST_IN_A_ROW}
 use Rattle.d_parser.specs.Vocabulary.{MOST_CLAUSES}
 
--- what a token does to the number of open brackets, and to the row of tokens that it is in
-pub data BracketTurn : Type 0 where
-  Opens : BracketTurn
-  Closes : BracketTurn
-  Ends : BracketTurn
-  Goes : BracketTurn
+abbrev pub opens : TokenKind → Bool
+opens (TokenKind.Mark Mark.OpenParenthesis) = true
+opens (TokenKind.Mark Mark.OpenBracket) = true
+opens t = false
 
-abbrev pub bracket_turn : TokenKind → BracketTurn
-bracket_turn (TokenKind.Mark Mark.OpenParenthesis) = Opens
-bracket_turn (TokenKind.Mark Mark.OpenBracket) = Opens
-bracket_turn (TokenKind.Mark Mark.CloseParenthesis) = Closes
-bracket_turn (TokenKind.Mark Mark.CloseBracket) = Closes
-bracket_turn (TokenKind.Mark Mark.Semicolon) = Ends
-bracket_turn (TokenKind.Mark Mark.OpenBrace) = Ends
-bracket_turn (TokenKind.Mark Mark.CloseBrace) = Ends
-bracket_turn t = Goes
+abbrev pub closes : TokenKind → Bool
+closes (TokenKind.Mark Mark.CloseParenthesis) = true
+closes (TokenKind.Mark Mark.CloseBracket) = true
+closes t = false
 
-abbrev pub opens : BracketTurn → ℕ
-opens Opens = 1
-opens u = 0
+abbrev pub ends_row : TokenKind → Bool
+ends_row (TokenKind.Mark Mark.Semicolon) = true
+ends_row (TokenKind.Mark Mark.OpenBrace) = true
+ends_row (TokenKind.Mark Mark.CloseBrace) = true
+ends_row t = false
 
-abbrev pub closes : BracketTurn → ℕ
-closes Closes = 1
-closes u = 0
+abbrev pub opens_clause : TokenKind → Bool
+opens_clause (TokenKind.Mark Mark.OpenBrace) = true
+opens_clause t = false
 
-abbrev pub ends : BracketTurn → ℕ
-ends Ends = 1
-ends u = 0
-
--- how many parentheses and brackets these tokens open, and how many they close
-abbrev pub openings : List Token → ℕ
-openings [] = 0
-openings (t ∷ ts) = opens (bracket_turn t.kind) + openings ts
-
-abbrev pub closings : List Token → ℕ
-closings [] = 0
-closings (t ∷ ts) = closes (bracket_turn t.kind) + closings ts
-
--- how many of them are semicolons and braces
-abbrev pub endings : List Token → ℕ
-endings [] = 0
-endings (t ∷ ts) = ends (bracket_turn t.kind) + endings ts
+abbrev pub how_many : (TokenKind → Bool) → List Token → ℕ
+how_many is ts = count_by (λ t. is t.kind) ts
 
 -- Somewhere in the list a stretch of tokens opens over 64 more brackets than it closes, or is over
 -- 1,024 tokens long with no semicolon or brace.
@@ -55,16 +35,11 @@ pub record IsDeep (ts : List Token) : Type 0 where
   pub later : List Token
   pub is : ts ≡ before ++ stretch ++ later
   pub deep :
-      (MOST_OPEN + closings stretch < openings stretch)
-      ⊎ ((MOST_IN_A_ROW < length stretch) × (endings stretch ≡ 0))
+      (MOST_OPEN + how_many closes stretch < how_many opens stretch)
+      ⊎ ((MOST_IN_A_ROW < length stretch) × (how_many ends_row stretch ≡ 0))
 
-abbrev pub opens_clause : TokenKind → Bool
-opens_clause (TokenKind.Mark Mark.OpenBrace) = true
-opens_clause t = false
-
--- how many clauses they open
 abbrev pub clauses : List Token → ℕ
-clauses ts = count_by (λ t. opens_clause t.kind) ts
+clauses ts = how_many opens_clause ts
 
 -- TooDeep and TooManyClauses are reported only where that limit is passed
 abbrev pub OnlyLimits : {X : Type 0} → List Token → Result X ParseFault → Type 0

@@ -10,10 +10,10 @@ use crate::tree::Description;
 use d_lexer::ByteString;
 use std::alloc::Global;
 
-#[tactic(auto, unfolding(crate::specs::Script::after_colon))]
+#[tactic(auto, unfolding(crate::specs::Steps::Script::after_colon))]
 fn after_colon(bytes: &[u8]) -> Option<&[u8]>
-    ensures is { MatchOption result (spec.after_colon bytes.now ≡ None)
-        (λ r. spec.after_colon bytes.now ≡ Some r.now) }
+    ensures is { MatchOption result (steps.after_colon bytes.now ≡ None)
+        (λ r. steps.after_colon bytes.now ≡ Some r.now) }
 {
     let mut rest = bytes;
     while let [b, after @ ..] = rest {
@@ -28,9 +28,9 @@ fn after_colon(bytes: &[u8]) -> Option<&[u8]>
 /// The bytes before the first colon, and those after it if there is one.
 #[tactic(auto, using(crate::proofs::Cuts::fields))]
 fn cut(bytes: &[u8]) -> (&[u8], Option<&[u8]>)
-    ensures field { result.0.now ≡ spec.before_colon bytes.now }
-    ensures later { MatchOption result.1 (spec.after_colon bytes.now ≡ None)
-        (λ r. spec.after_colon bytes.now ≡ Some r.now) }
+    ensures field { result.0.now ≡ steps.before_colon bytes.now }
+    ensures later { MatchOption result.1 (steps.after_colon bytes.now ≡ None)
+        (λ r. steps.after_colon bytes.now ≡ Some r.now) }
 {
     match after_colon(bytes) {
         Some(rest) => (&bytes[..bytes.len() - rest.len() - 1], Some(rest)),
@@ -73,8 +73,8 @@ fn after_three_fields(
     c: &[u8],
     bytes: &[u8],
 ) -> Result<Description, ParseFault>
-    ensures { Gives (λ d. d) result (spec.description_from (spec.with_first a.now
-        (spec.with_first b.now (spec.with_first c.now (spec.fields 1 (Some bytes.now)))))) }
+    ensures { Gives (λ d. d) result (steps.description_from (steps.with_first a.now
+        (steps.with_first b.now (steps.with_first c.now (steps.fields 1 (Some bytes.now)))))) }
 {
     let (d, rest) = cut(bytes);
     match rest {
@@ -89,8 +89,8 @@ fn after_two_fields(
     b: &[u8],
     bytes: &[u8],
 ) -> Result<Description, ParseFault>
-    ensures { Gives (λ d. d) result (spec.description_from
-        (spec.with_first a.now (spec.with_first b.now (spec.fields 2 (Some bytes.now))))) }
+    ensures { Gives (λ d. d) result (steps.description_from
+        (steps.with_first a.now (steps.with_first b.now (steps.fields 2 (Some bytes.now))))) }
 {
     let (c, rest) = cut(bytes);
     match rest {
@@ -101,7 +101,7 @@ fn after_two_fields(
 
 fn after_one_field(alloc: Global, a: &[u8], bytes: &[u8]) -> Result<Description, ParseFault>
     ensures { Gives (λ d. d) result
-        (spec.description_from (spec.with_first a.now (spec.fields 3 (Some bytes.now)))) }
+        (steps.description_from (steps.with_first a.now (steps.fields 3 (Some bytes.now)))) }
 {
     let (b, rest) = cut(bytes);
     match rest {
@@ -111,7 +111,7 @@ fn after_one_field(alloc: Global, a: &[u8], bytes: &[u8]) -> Result<Description,
 }
 
 fn fields(alloc: Global, run: &[u8]) -> Result<Description, ParseFault>
-    ensures { Gives (λ d. d) result (spec.description_from (spec.fields 4 (Some run.now))) }
+    ensures { Gives (λ d. d) result (steps.description_from (steps.fields 4 (Some run.now))) }
 {
     let (a, rest) = cut(run);
     match rest {
@@ -126,7 +126,7 @@ pub(crate) fn description_of(
     run: &[u8],
     line: usize,
 ) -> Result<Description, ParseFault>
-    ensures { Gives (λ d. d) result (spec.description_of run.now) }
+    ensures { Gives (λ d. d) result (steps.description_of run.now) }
 {
     if is_number(run) {
         return Err(ParseFault::Syntax { line });

@@ -1,4 +1,4 @@
-//! The tokens of a D script, read as a tree. `docs/LANGUAGE.md` has the grammar.
+//! The tokens of a D script, read as a tree. `docs/GRAMMAR.md` has the grammar.
 #![tactic(auto)]
 
 mod build;

@@ -1,6 +1,6 @@
 //! Words: which are reserved, and which types they spell.
 
-ghost use Rattle.std.specs.Prelude.{◌≡◌, ◌≤◌, length};
+ghost use Rattle.std.specs.Prelude.{◌≡◌, ◌≤◌, ◌∷◌, length};
 ghost use Rattle.d_parser.specs.{Vocabulary.bytes_eq};
 ghost use Rattle.d_parser.specs.Words as spec;
 ghost use Rattle.d_parser.specs.Steps.Words as steps;
@@ -36,7 +36,7 @@ fn is(word: &[u8], spelled: &str) -> bool
 }
 
 fn unsigned_kind(word: &[u8]) -> WordKind
-    ensures { result ≡ spec.kind_among spec.unsigned_words word.now }
+    ensures { result ≡ spec.kind_among steps.unsigned_words word.now }
 {
     if is(word, "uint8_t") {
         WordKind::Fixed(IntegerType::Uint8)
@@ -52,7 +52,7 @@ fn unsigned_kind(word: &[u8]) -> WordKind
 }
 
 fn fixed_kind(word: &[u8]) -> WordKind
-    ensures { result ≡ spec.kind_among spec.fixed_words word.now }
+    ensures { result ≡ spec.kind_among steps.fixed_words word.now }
 {
     if is(word, "int8_t") {
         WordKind::Fixed(IntegerType::Int8)
@@ -68,7 +68,7 @@ fn fixed_kind(word: &[u8]) -> WordKind
 }
 
 fn integer_kind(word: &[u8]) -> WordKind
-    ensures { result ≡ spec.kind_among spec.integer_words word.now }
+    ensures { result ≡ spec.kind_among steps.integer_words word.now }
 {
     if is(word, "char") {
         WordKind::Char
@@ -121,7 +121,7 @@ impl WordKind {
 }
 
 fn is_word(token: &Token) -> bool
-    ensures { result ≡ spec.is_word token.now.kind }
+    ensures { result ≡ steps.is_word token.now.kind }
 {
     matches!(token.kind, TokenKind::Word(_))
 }
@@ -153,7 +153,7 @@ pub(crate) fn split_run(tokens: &[Token]) -> (&[Token], &[Token])
 }
 
 fn widths_of(first: WordKind, others: &[WordKind]) -> Option<(IntegerType, IntegerType)>
-    ensures { result ≡ spec.widths_of first others.now }
+    ensures { result ≡ spec.widths_of (first ∷ others.now) }
 {
     match (first, others) {
         (WordKind::Char, []) => Some((IntegerType::Int8, IntegerType::Uint8)),
@@ -168,7 +168,7 @@ fn widths_of(first: WordKind, others: &[WordKind]) -> Option<(IntegerType, Integ
 }
 
 fn widths_with(first: WordKind, others: &[Token]) -> Option<(IntegerType, IntegerType)>
-    ensures { result ≡ spec.widths_with first others.now }
+    ensures { result ≡ steps.widths_with first others.now }
 {
     match others {
         [] => widths_of(first, &[]),
@@ -179,7 +179,7 @@ fn widths_with(first: WordKind, others: &[Token]) -> Option<(IntegerType, Intege
 }
 
 fn signed_from(others: &[Token]) -> Option<DeclaredType>
-    ensures { result ≡ spec.type_from WordKind.Signed others.now }
+    ensures { result ≡ steps.signed_from others.now }
 {
     match others {
         [] => Some(DeclaredType::Integer(IntegerType::Int32)),
@@ -191,7 +191,7 @@ fn signed_from(others: &[Token]) -> Option<DeclaredType>
 }
 
 fn unsigned_from(others: &[Token]) -> Option<DeclaredType>
-    ensures { result ≡ spec.type_from WordKind.Unsigned others.now }
+    ensures { result ≡ steps.unsigned_from others.now }
 {
     match others {
         [] => Some(DeclaredType::Integer(IntegerType::Uint32)),
@@ -203,7 +203,7 @@ fn unsigned_from(others: &[Token]) -> Option<DeclaredType>
 }
 
 fn type_from(first: WordKind, others: &[Token]) -> Option<DeclaredType>
-    ensures { result ≡ spec.type_from first others.now }
+    ensures { result ≡ steps.type_from first others.now }
 {
     match first {
         WordKind::Signed => signed_from(others),
@@ -241,7 +241,7 @@ pub(crate) fn type_length(words: &[Token]) -> usize
 
 /// The integer type that words spell.
 pub(crate) fn integer_type(words: &[Token]) -> Option<IntegerType>
-    ensures { result ≡ spec.integer_type words.now }
+    ensures { result ≡ steps.integer_type words.now }
 {
     match type_of(words) {
         Some(DeclaredType::Integer(integer)) => Some(integer),

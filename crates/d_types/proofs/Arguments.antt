@@ -5,7 +5,7 @@ use Rattle.std.proofs.lemmas.List.{nil_from_length}
 use Rattle.std.proofs.lemmas.Bool.Decides.{nat_tests}
 use Rattle.d_types.specs.declared.typed.TypedExpr.{TypedExpr}
 use Rattle.d_types.specs.Typed.{Typed, typed_of, typeds_of, type_of}
-use Rattle.d_types.specs.Typing.{strjoin, only, strjoin_of}
+use Rattle.d_types.specs.Steps.Typing.{strjoin, only, strjoin_of}
 
 none_left : (v : Vec TypedExpr Global) → (vec_len v == 0) ≡ true → v.items ≡ []
 none_left v h =

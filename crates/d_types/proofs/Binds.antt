@@ -4,7 +4,7 @@ use Rattle.std.proofs.lemmas.Result.{err_from_is_err_and}
 use Rattle.std.specs.Prelude.{IsErrAnd, IfOk, OnOk}
 use Rattle.d_types.specs.declared.fault.TypeFault.{TypeFault}
 use Rattle.d_types.specs.declared.fault.TypeFault.TheVariants as f
-use Rattle.d_types.specs.Faults.{◌>>=◌, Fault, Fails, Gives}
+use Rattle.d_types.specs.Steps.Faults.{◌>>=◌, Fault, Fails, Gives}
 use Rattle.d_types.specs.Steps.Faults.{OnlyMemory}
 
 pub fails_bind : {A B : Type 0} (e : TypeFault) (r : Result A Fault) (go : A → Result B Fault) → Fails e r → Fails e (r >>= go)

@@ -32,13 +32,14 @@ use Rattle.d_types.specs.Constants.{type_of_constant, with_l, int_type}
 use Rattle.d_types.specs.Held.{IsWord, Slots, IsConsistent, AreConsistent}
 use Rattle.d_parser.specs.Numbers.{IsSmall, HasSmall, HaveSmall}
 use Rattle.d_types.specs.Operators.{binary_sort, assign_sort, same_type, conversion_node}
-use Rattle.d_types.specs.Rules.{Types, AllTypes, IsInteger, JoinsOperands, Chooses, Loads, Reads}
-use Rattle.d_types.specs.Rules.{Places}
-use Rattle.d_types.specs.Rules.{Targets, FitsType, Stores, Steps, Calls}
+use Rattle.d_types.proofs.WellTyped.{Types, AllTypes}
+use Rattle.d_types.specs.Rules.{IsInteger, IsOperation, IsChoice, IsLoad, IsRead}
+use Rattle.d_types.specs.Rules.{IsSlotOf}
+use Rattle.d_types.specs.Rules.{IsTargetOf, IsConverted, IsAssignment, IsStep, IsCall}
 use Rattle.d_types.specs.Targets.{new_row, settle_slot, space_of, type_at_once}
 use Rattle.d_types.specs.Typed as typed
 use Rattle.d_types.specs.Typed.{Typed, Typeds, end, more, type_of}
-use Rattle.d_types.specs.Typing.{constant}
+use Rattle.d_types.specs.Constants.{constant}
 use Rattle.d_types.specs.Variables.{Rows, type_at, set_type}
 use Rattle.d_types.proofs.Growing.{Grows, stays, grows_on, same_rows, push_grows, push_below}
 use Rattle.d_types.proofs.Growing.{set_grows, type_is_set, settled_grows, found_below}
@@ -130,7 +131,7 @@ module _ (slots : Slots) where
   is : (x z : Typed) → z ≡ x → Fine x → Fine z
   is x z e h = subst Fine (sym e) h
 
-  joins_fine : (sort : BinarySort) (x y z : Typed) → Fine x → Fine y → JoinsOperands sort x y z → Fine z
+  joins_fine : (sort : BinarySort) (x y z : Typed) → Fine x → Fine y → IsOperation sort x y z → Fine z
   joins_fine (bs.Arithmetic op) x y z g h j =
       is _ z j.4 (
         (is_converted slots j.0 (common_of j.0 j.1) x j.2, is_converted slots j.1 (common_of j.0 j.1) y j.3),
@@ -149,7 +150,7 @@ module _ (slots : Slots) where
   joins_fine (bs.Compare op) x y z g h (inr j) = is _ z j.2 (j.0, j.1, g, h)
   joins_fine (bs.Logic op) x y z g h j = is _ z j.4 ((j.0, j.2), (j.1, j.3), g, h)
 
-  chooses_fine : (x y w z : Typed) → Fine x → Fine y → Fine w → Chooses x y w z → Fine z
+  chooses_fine : (x y w z : Typed) → Fine x → Fine y → Fine w → IsChoice x y w z → Fine z
   chooses_fine x y w z f g h (inl j) =
       is _ z j.6 (
         (j.0, j.3),
@@ -161,7 +162,7 @@ module _ (slots : Slots) where
       )
   chooses_fine x y w z f g h (inr j) = is _ z j.4 ((j.0, j.1), j.2, j.3, f, g, h)
 
-  calls_fine : (name : List ℕ) (args : Typeds) (z : Typed) → AreConsistent slots args → Calls name args z → Fine z
+  calls_fine : (name : List ℕ) (args : Typeds) (z : Typed) → AreConsistent slots args → IsCall name args z → Fine z
   calls_fine name args z h (inl j) =
       let all : AreConsistent slots (more j.0 end) = subst (AreConsistent slots) j.2 h in
       is _ z j.4 (j.3, all.0)
@@ -170,16 +171,16 @@ module _ (slots : Slots) where
       is _ z j.6 (j.4, j.5, all.0, all.1.0)
 
 module _ (rows : Rows) where
-  loads_fine : (space : Space) (name : List ℕ) (keys : Typeds) (z : Typed) → AreConsistent (type_at rows) keys → Loads space name rows keys z → IsConsistent (type_at rows) z
+  loads_fine : (space : Space) (name : List ℕ) (keys : Typeds) (z : Typed) → AreConsistent (type_at rows) keys → IsLoad space name rows keys z → IsConsistent (type_at rows) z
   loads_fine space name keys z h j = is (type_at rows) _ z j.5 (j.3, h)
 
-  reads_fine : (x : Variable) (keys : Typeds) (z : Typed) → AreConsistent (type_at rows) keys → Reads rows x keys z → IsConsistent (type_at rows) z
+  reads_fine : (x : Variable) (keys : Typeds) (z : Typed) → AreConsistent (type_at rows) keys → IsRead rows x keys z → IsConsistent (type_at rows) z
   reads_fine (v.Plain line name) keys z h j = is (type_at rows) _ z j.3 tt
   reads_fine (v.Thread line name) keys z h j = loads_fine s.Thread name keys z h j
   reads_fine (v.Clause line name) keys z h j = loads_fine s.Clause name keys z h j
 
   steps_fine : (by : Step) (answer : Answer) (space : Space) (slot : ℕ) (keys : Typeds) (z : Typed) → AreConsistent (type_at rows) keys →
-      Steps by answer space slot keys rows z → IsConsistent (type_at rows) z
+      IsStep by answer space slot keys rows z → IsConsistent (type_at rows) z
   steps_fine by answer space slot keys z h j = is (type_at rows) _ z j.2 (j.1, h, (j.0, refl))
 
 -- ---- targets and assignments
@@ -189,14 +190,14 @@ abbrev Has : Rows → ℕ → Rows → Type 0
 Has rows slot after = Grows rows after × (slot < length after)
 
 places_grow : (space : Space) (name : List ℕ) (rows : Rows) (t : Option DType) (keys : Typeds) (slot : ℕ) (after : Rows) →
-    Places space name rows t keys slot after → Has rows slot after
+    IsSlotOf space name rows t keys slot after → Has rows slot after
 places_grow space name rows t keys slot after (inl p) =
     subst (Has rows slot) (sym p.3) (push_grows rows (new_row space name t keys), subst (λ n. n < length (rows ++ new_row space name t keys ∷ [])) (sym p.2) (push_below rows (new_row space name t keys)))
 places_grow space name rows t keys slot after (inr p) =
     let grown : Grows rows (settle_slot (type_at rows slot) slot t rows) = settled_grows (type_at rows slot) slot t rows refl in
     subst (Has rows slot) (sym p.2) (grown, omega (arith, grown.1, found_below space name rows slot p.0))
 
-targets_grow : (rows : Rows) (x : Variable) (t : Option DType) (keys : Typeds) (slot : ℕ) (after : Rows) → Targets rows x t keys slot after → Has rows slot after
+targets_grow : (rows : Rows) (x : Variable) (t : Option DType) (keys : Typeds) (slot : ℕ) (after : Rows) → IsTargetOf rows x t keys slot after → Has rows slot after
 targets_grow rows (v.Plain line name) t keys slot after h = absurd h
 targets_grow rows (v.Thread line name) t keys slot after h = places_grow s.Thread name rows t keys slot after h
 targets_grow rows (v.Clause line name) t keys slot after h = places_grow s.Clause name rows t keys slot after h
@@ -205,13 +206,13 @@ targets_grow rows (v.Clause line name) t keys slot after h = places_grow s.Claus
 abbrev Leaves : Rows → Typed → Rows → Type 0
 Leaves rows z after = Grows rows after × IsConsistent (type_at after) z
 
-fits_fine : (slots : Slots) (x : Typed) (t : DType) (y : Typed) → IsConsistent slots x → FitsType x t y → (type_of y ≡ t) × IsConsistent slots y
+fits_fine : (slots : Slots) (x : Typed) (t : DType) (y : Typed) → IsConsistent slots x → IsConverted x t y → (type_of y ≡ t) × IsConsistent slots y
 fits_fine slots x (Int u) y h j =
     (ap type_of j.2 ∙ is_converted slots j.0 u x j.1, is slots _ y j.2 (converted_fits slots j.0 u x j.1 h))
 fits_fine slots x Text y h j = (ap type_of j.1 ∙ j.0, is slots x y j.1 h)
 
 module _ (rows : Rows) (space : Space) (slot : ℕ) (keys : Typeds) (x : Typed) (below : slot < length rows) (good : AreConsistent (type_at rows) keys) (fine : IsConsistent (type_at rows) x) where
-  stores_fine : (sort : AssignSort) (z : Typed) (after : Rows) → Stores sort space slot keys x rows z after → Leaves rows z after
+  stores_fine : (sort : AssignSort) (z : Typed) (after : Rows) → IsAssignment sort space slot keys x rows z after → Leaves rows z after
   stores_fine sg.Set z after (inl j) =
       let grown = set_grows slot (type_of x) rows j.0 in
       subst (λ (r : Rows). Leaves rows z r) (sym j.2) (
@@ -247,7 +248,7 @@ constant_fine slots (c.Number n suffix) h = word_of_type n suffix h
 constant_fine slots (c.Text bytes) h = omega (arith, length-take longest bytes)
 
 stepped_fine : (rows mid after : Rows) (by : Step) (answer : Answer) (x : Variable) (t : Option DType) (slot : ℕ) (keys : Typeds) (z : Typed) →
-    Grows rows mid → AreConsistent (type_at mid) keys → Targets mid x t keys slot after → Steps by answer (space_of x) slot keys after z → Leaves rows z after
+    Grows rows mid → AreConsistent (type_at mid) keys → IsTargetOf mid x t keys slot after → IsStep by answer (space_of x) slot keys after z → Leaves rows z after
 stepped_fine rows mid after by answer x t slot keys z grown good aims steps =
     let g = (targets_grow mid x t keys slot after aims).0 in
     (grows_on rows mid after grown g, steps_fine after by answer (space_of x) slot keys z (all_on (type_at mid) (type_at after) g.0 keys good) steps)

@@ -17,13 +17,15 @@ use Rattle.d_types.specs.Constants.{declared_type}
 use Rattle.d_types.specs.Held.{slots_of, IsConsistent}
 use Rattle.d_parser.specs.Numbers.{HasSmall, HaveSmall, InPredicate, InStatement, InStatements}
 use Rattle.d_parser.specs.Numbers.{AreSmall}
-use Rattle.d_types.specs.Scripts.{declared_kinds, IsMeant}
-use Rattle.d_types.specs.Rules.{AllTypes}
+use Rattle.d_types.specs.Constants.{declared_kinds}
+use Rattle.d_types.specs.Scripts.{IsMeant}
+use Rattle.d_types.proofs.Checked.{meant_is_walked}
+use Rattle.d_types.proofs.WellTyped.{AllTypes}
 use Rattle.d_types.specs.Typed.{Typed, Typeds, end, more, Action, Evaluate, Trace, Print, Exit}
 use Rattle.d_types.specs.Typed.{Aggregate, Aggs, ClauseMeant, ScriptMeant}
 use Rattle.d_types.specs.Variables.{Rows, type_at, types_in}
-use Rattle.d_types.specs.WellTyped.{Evaluates, Prints, Acts, Stands, Declares, DeclaresRow, Tests}
-use Rattle.d_types.specs.WellTyped.{Does, AllDo, Probes, AllItems, IsWell}
+use Rattle.d_types.proofs.WellTyped.{Evaluates, Prints, Acts, Stands, Declares, DeclaresRow, Tests}
+use Rattle.d_types.proofs.WellTyped.{Does, AllDo, Probes, AllItems, IsWell}
 use Rattle.d_types.specs.Words.{callee_named}
 use Rattle.d_types.specs.Wholes.{EachIs, AnyIs, ActionIs, ActionsAre, ClauseIs, ClausesAre}
 use Rattle.d_types.proofs.Consistent.{types_leave}
@@ -187,4 +189,4 @@ well_is_consistent source m small h =
 
 pub script_is_consistent : (m : ScriptMeant) → ∥ IsMeant m ∥₁ → All (ClauseIs (IsConsistent (slots_of m))) m.clauses
 script_is_consistent m meant =
-    ∥∥₁_elim meant (hlevel (clause_prop (slots_of m))) (λ (h : IsMeant m). well_is_consistent h.0 m h.2 (script_sound h.0 m h.3))
+    ∥∥₁_elim meant (hlevel (clause_prop (slots_of m))) (λ (h : IsMeant m). well_is_consistent h.0 m h.2 (script_sound h.0 m (meant_is_walked h.0 m h.3)))

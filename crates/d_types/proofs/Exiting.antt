@@ -1,6 +1,6 @@
 -- Statements of typed trees and of what they mean exit alike.
 use Rattle.std.specs.List.{list_any}
-use Rattle.std.specs.Prelude.{◌≡◌, ◌||◌, List, [], ◌∷◌, Bool, Option, map}
+use Rattle.std.specs.Prelude.{◌≡◌, ◌||◌, List, [], ◌∷◌, Option, map}
 use Rattle.std.proofs.Common.{refl, ap, ◌∙◌}
 use Rattle.d_values.specs.declared.int_type.DType.{DType}
 use Rattle.d_types.specs.declared.typed.TypedAggregation.{TypedAggregation}

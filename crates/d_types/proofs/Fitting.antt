@@ -1,6 +1,6 @@
 -- What is typed fits into six registers.
 use Rattle.std.proofs.Common.{◌≡◌, ℕ, nat_le, List, [], ◌∷◌, ◌++◌, Bool, true, false, if◌then◌else◌}
-use Rattle.std.proofs.Common.{Option, Some, None, Result, Ok, refl, subst, arith}
+use Rattle.std.proofs.Common.{Option, Some, None, Result, Ok, subst, arith}
 use Rattle.std.proofs.Math.Bridge.{le_prop}
 use Rattle.std.proofs.Math.Logic.{∥∥₁_elim}
 use Rattle.std.proofs.lemmas.Bool.Decides.{nat_tests}
@@ -10,25 +10,32 @@ use Rattle.d_values.specs.declared.int_type.DType.{DType}
 use Rattle.d_values.specs.declared.int_type.DType.TheVariants.{Int, Text}
 use Rattle.d_types.specs.declared.words.Callee.{Callee}
 use Rattle.d_types.specs.declared.words.Callee.TheVariants as f
-use Rattle.d_types.specs.Faults.{◌>>=◌, Fault, Cause, refuse, unless, Undeclared, Mismatch}
-use Rattle.d_types.specs.Faults.{NoRegister}
+use Rattle.d_types.specs.Steps.Faults.{◌>>=◌, Fault, refuse, unless, Undeclared, Mismatch}
+use Rattle.d_types.specs.Steps.Faults.{NoRegister}
 use Rattle.d_types.specs.Words.{aggregating_named}
-use Rattle.d_types.specs.Typed.{Typed, Typeds, end, more, with_typed, Action, Evaluate, Trace}
+use Rattle.d_types.specs.Typed.{Typed, Typeds, end, more, Action, Evaluate, Trace}
+use Rattle.d_types.specs.Steps.Typing.{with_typed}
 use Rattle.d_types.specs.Typed.{Print, Exit}
 use Rattle.d_types.specs.Typed.{Aggregate, Aggs, ClauseMeant, ScriptMeant}
 use Rattle.d_types.specs.Needs.{need}
 use Rattle.d_types.specs.Variables.{Rows, types_in}
-use Rattle.d_types.specs.Formats.{pieces, fit}
-use Rattle.d_types.specs.Typing.{line_of, only, expr, whole}
-use Rattle.d_types.specs.Statements.{wholes, trace, exit_by, exit, print_with, not_printed}
-use Rattle.d_types.specs.Statements.{print_by, print, evaluate, call_statement, action}
-use Rattle.d_types.specs.Aggregations.{arguments_fit, first, function, find_from, place_for}
-use Rattle.d_types.specs.Aggregations.{aggregate}
-use Rattle.d_types.specs.Scripts.{declaration, test_of, predicate, statement, statements, clause}
-use Rattle.d_types.specs.Scripts.{item, items, script, IsMeant}
+use Rattle.d_types.specs.Steps.Formats.{pieces}
+use Rattle.d_types.specs.Formats.{fit}
+use Rattle.d_types.specs.Lines.{line_of}
+use Rattle.d_types.specs.Steps.Typing.{only, expr, whole}
+use Rattle.d_types.specs.Steps.Statements.{wholes, trace, exit_by, exit, print_with, not_printed}
+use Rattle.d_types.specs.Steps.Statements.{print_by, print, evaluate, call_statement, action}
+use Rattle.d_types.specs.Aggregations.{arguments_fit, first, function, find_from}
+use Rattle.d_types.specs.Steps.Aggregations.{place_for}
+use Rattle.d_types.specs.Steps.Aggregations.{aggregate}
+use Rattle.d_types.specs.Steps.Scripts.{declaration, test_of, predicate, statement, statements}
+use Rattle.d_types.specs.Steps.Scripts.{clause}
+use Rattle.d_types.specs.Steps.Scripts.{item, items, script}
+use Rattle.d_types.specs.Scripts.{IsMeant}
 use Rattle.d_types.specs.Fitting.{FitsRegisters, ScriptFits}
 use Rattle.d_types.specs.Wholes.{EachIs, AnyIs, ActionIs, ActionsAre, ClauseIs, ClausesAre}
-use Rattle.d_types.proofs.Sound.{bound}
+use Rattle.d_types.proofs.Checked.{meant_is_walked}
+use Rattle.d_types.proofs.Sound.{bound, within, is_some_of}
 
 abbrev pub AllFit : Typeds → Type 0
 AllFit = EachIs FitsRegisters
@@ -47,14 +54,6 @@ ClauseFits = ClauseIs FitsRegisters
 
 abbrev pub ClausesFit : List ClauseMeant → Type 0
 ClausesFit = ClausesAre FitsRegisters
-
-pub within : {A : Type 0} (cause : Cause) (line : ℕ) (b : Bool) (x y : A) → ◌≡◌ {A = Result A Fault} (if b then Ok x else refuse cause line) (Ok y) → (b ≡ true) × (x ≡ y)
-within cause line false x y h = cc
-within cause line true x y h = (refl, cc)
-
-pub is_some_of : {A : Type 0} (cause : Cause) (line : ℕ) (o : Option A) (x : A) → unless cause line o ≡ Ok x → o ≡ Some x
-is_some_of cause line None x h = cc
-is_some_of cause line (Some y) x h = cc
 
 pub whole_fits : (rows : Rows) (t : Tree) (x : Typed × Rows) → whole rows t ≡ Ok x → FitsRegisters x.0
 whole_fits rows t x h =
@@ -261,4 +260,4 @@ clauses_fit_prop [] = hlevel
 clauses_fit_prop (c ∷ rest) = let others = clauses_fit_prop rest in hlevel (one_fits_prop, actions_fit_prop, others)
 
 pub typed_script_fits : (m : ScriptMeant) → ∥ IsMeant m ∥₁ → ScriptFits m
-typed_script_fits m meant = ∥∥₁_elim meant (clauses_fit_prop m.clauses) (λ (h : IsMeant m). script_fits h.0 m h.3)
+typed_script_fits m meant = ∥∥₁_elim meant (clauses_fit_prop m.clauses) (λ (h : IsMeant m). script_fits h.0 m (meant_is_walked h.0 m h.3))

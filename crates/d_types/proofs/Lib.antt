@@ -7,6 +7,7 @@ pub mod Binds
 pub mod Arguments
 pub mod NewAggregations
 pub mod Lists
+pub mod WellTyped
 pub mod Complete
 pub mod Sound
 pub mod Whole
@@ -14,10 +15,7 @@ pub mod Fitting
 pub mod Neither
 pub mod Keeping
 pub mod Dividing
-pub mod Bounds
-pub mod CompleteScripts
 pub mod SoundScripts
-pub mod OneMeaning
 pub mod Nodes
 pub mod ValueTypes
 pub mod Holding
@@ -34,6 +32,9 @@ pub mod Proper
 pub mod Sizes
 pub mod Contributions
 pub mod Crossing
+pub mod Decided
+pub mod CheckedExpressions
+pub mod Checked
 mod Spelled
 mod Spelling
 pub mod Exiting

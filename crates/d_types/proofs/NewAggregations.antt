@@ -4,10 +4,10 @@ use Rattle.std.proofs.Common.{refl, arith}
 use Rattle.std.proofs.lemmas.Bool.Decides.{nat_tests}
 use Rattle.aggregations.specs.declared.function.AggFn.{AggFn}
 use Rattle.d_types.specs.declared.typed.TypedExpr.{TypedExpr}
-use Rattle.d_types.specs.Faults.{◌>>=◌, refuse, unless, Keys, LquantizeBounds}
+use Rattle.d_types.specs.Steps.Faults.{◌>>=◌, refuse, unless, Keys, LquantizeBounds}
 use Rattle.d_types.specs.Typed.{typeds_of, Aggs}
 use Rattle.d_types.specs.Needs.{count}
-use Rattle.d_types.specs.Aggregations.{place_for, new_aggregation}
+use Rattle.d_types.specs.Steps.Aggregations.{place_for, new_aggregation}
 use Rattle.d_types.proofs.Rows.{count_is}
 
 module _ (line : ℕ) (name : List ℕ) (keys : List TypedExpr) (f : Option AggFn) (aggs : Aggs) where

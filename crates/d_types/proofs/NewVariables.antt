@@ -10,8 +10,9 @@ use Rattle.d_types.specs.declared.typed.Space.{Space}
 use Rattle.d_types.specs.declared.typed.TypedExpr.{TypedExpr}
 use Rattle.d_types.specs.Typed.{typeds_of}
 use Rattle.d_types.specs.Variables.{Rows}
-use Rattle.d_types.specs.Faults.{Fault, Gives, refuse, Keys}
-use Rattle.d_types.specs.Targets.{slot_for, most_keys, new_row}
+use Rattle.d_types.specs.Steps.Faults.{Fault, Gives, refuse, Keys}
+use Rattle.d_types.specs.Steps.Targets.{slot_for}
+use Rattle.d_types.specs.Targets.{most_keys, new_row}
 use Rattle.d_types.proofs.Rows.{count_is}
 
 -- what the check of the keys returns

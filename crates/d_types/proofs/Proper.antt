@@ -32,11 +32,12 @@ use Rattle.d_types.specs.Variables as variables
 use Rattle.d_types.specs.Aggregations.{is_integer, arguments_fit, first, function, lquantize}
 use Rattle.d_types.specs.Aggregations.{buckets_between, bound, step, find_from, same, is_again}
 use Rattle.d_types.specs.Scripts.{IsMeant}
-use Rattle.d_types.specs.Rules.{Types, AllTypes}
+use Rattle.d_types.proofs.Checked.{meant_is_walked}
 use Rattle.d_types.specs.Rules as rules
-use Rattle.d_types.specs.WellTyped.{Acts, Stands, JoinsAggregation, Tests, Does, AllDo, Probes}
-use Rattle.d_types.specs.WellTyped.{AllItems}
-use Rattle.d_types.specs.WellTyped.{IsWell}
+use Rattle.d_types.proofs.WellTyped.{Acts, Stands, Tests, Does, AllDo, Probes}
+use Rattle.d_types.specs.Rules.{IsPlaceOf}
+use Rattle.d_types.proofs.WellTyped.{AllItems}
+use Rattle.d_types.proofs.WellTyped.{IsWell}
 use Rattle.d_types.specs.Proper.{IsInteger, HasArgument, Suits, IsProperAction, IsProperPredicate}
 use Rattle.d_types.specs.Proper.{IsProperClause, IsProperScript}
 use Rattle.d_types.proofs.SoundScripts.{script_sound}
@@ -266,7 +267,7 @@ stands_proper rows (tree.Assign op x keys e) a after aggs h = subst (IsProperAct
 
 -- the statement that names an aggregation first, and each later one
 joins_proper : (name : List ℕ) (ks : Typeds) (g : Aggregating) (args : Trees) (xs : Typeds) (aggs : Aggs) (place : ℕ) (known : Aggs) → Few aggs → arguments_fit g xs ≡ true →
-    JoinsAggregation name ks (function g args) aggs place known → Leaves aggs (Aggregate place ks (first xs)) known
+    IsPlaceOf name ks (function g args) aggs place known → Leaves aggs (Aggregate place ks (first xs)) known
 joins_proper name ks g args xs aggs place known few fits (inl j) =
     let new : Agg = record { name = name; keys = kinds_of_typed ks; function = j.0 } in
     let small : count ks ≤ 8 = grind (arith, nat_tests, j.2) in
@@ -378,4 +379,4 @@ script_prop : (m : ScriptMeant) → IsProp (IsProperScript m)
 script_prop m = hlevel clause_prop
 
 pub script_is_proper : (m : ScriptMeant) → ∥ IsMeant m ∥₁ → IsProperScript m
-script_is_proper m meant = ∥∥₁_elim meant (script_prop m) (λ (h : IsMeant m). well_is_proper h.0 m (script_sound h.0 m h.3))
+script_is_proper m meant = ∥∥₁_elim meant (script_prop m) (λ (h : IsMeant m). well_is_proper h.0 m (script_sound h.0 m (meant_is_walked h.0 m h.3)))

@@ -4,7 +4,8 @@ use Rattle.d_types.specs.declared.typed.TypedExpr.{TypedExpr, Row_of-TypedExpr, 
 use Rattle.d_types.specs.declared.typed.TypedExpr.{more_of-TypedExpr, items-the_row-TypedExpr}
 use Rattle.d_types.specs.declared.typed.TypedExpr.{items_hidden-the_row-TypedExpr-0}
 use Rattle.d_types.specs.declared.typed.TypedExpr.TheBlock.{hidden-the_row-TypedExpr-0}
-use Rattle.d_types.specs.Typed.{more, with_typed, typed_of, typeds_in, typeds_of}
+use Rattle.d_types.specs.Typed.{more, typed_of, typeds_in, typeds_of}
+use Rattle.d_types.specs.Steps.Typing.{with_typed}
 use Rattle.d_types.specs.Needs.{count}
 
 row_is : {m : _} (row : Row_of-TypedExpr m) → typeds_in row ≡ typeds_of (items-the_row-TypedExpr m row)

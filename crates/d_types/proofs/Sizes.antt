@@ -27,13 +27,16 @@ use Rattle.d_types.specs.Typed.{Typed, Typeds, end, more, Action, Aggs, ClauseMe
 use Rattle.d_types.specs.Variables.{Rows}
 use Rattle.d_types.specs.Operators.{same_type, conversion_node, binary_sort, assign_sort}
 use Rattle.d_types.specs.Targets.{space_of}
-use Rattle.d_types.specs.Typing.{constant}
+use Rattle.d_types.specs.Constants.{constant}
 use Rattle.d_types.specs.Aggregations.{first}
-use Rattle.d_types.specs.Scripts.{script, IsMeant}
-use Rattle.d_types.specs.Rules.{Types, AllTypes, JoinsOperands, Chooses, Reads, FitsType, Stores}
-use Rattle.d_types.specs.Rules.{Calls}
-use Rattle.d_types.specs.WellTyped.{Evaluates, Prints, Acts, Stands, Tests, Does, AllDo, Probes}
-use Rattle.d_types.specs.WellTyped.{AllItems, IsWell}
+use Rattle.d_types.specs.Steps.Scripts.{script}
+use Rattle.d_types.specs.Scripts.{IsMeant}
+use Rattle.d_types.proofs.Checked.{meant_is_walked}
+use Rattle.d_types.proofs.WellTyped.{Types, AllTypes}
+use Rattle.d_types.specs.Rules.{IsOperation, IsChoice, IsRead, IsConverted, IsAssignment}
+use Rattle.d_types.specs.Rules.{IsCall}
+use Rattle.d_types.proofs.WellTyped.{Evaluates, Prints, Acts, Stands, Tests, Does, AllDo, Probes}
+use Rattle.d_types.proofs.WellTyped.{AllItems, IsWell}
 use Rattle.d_types.specs.Sizes.{place_count, place_count_in, in_option, in_action}
 use Rattle.d_types.specs.Sizes.{description_count, statement_count}
 use Rattle.d_types.specs.Sizes.{variable_count, HasAtMost}
@@ -48,34 +51,34 @@ one_of_both false t u x = refl
 in_converted : (t u : IntType) (x : Typed) → place_count (conversion_node t u x) ≡ place_count x
 in_converted t u x = one_of_both (same_type t u) t u x
 
-in_joined : (sort : BinarySort) (x y z : Typed) → JoinsOperands sort x y z → place_count z ≡ place_count x + place_count y
+in_joined : (sort : BinarySort) (x y z : Typed) → IsOperation sort x y z → place_count z ≡ place_count x + place_count y
 in_joined (bs.Arithmetic op) x y z h = rw (h.4, in_converted _ _ x, in_converted _ _ y) refl
 in_joined (bs.Shift op) x y z h = rw (h.4, in_converted _ _ x) refl
 in_joined (bs.Compare op) x y z (inl h) = rw (h.4, in_converted _ _ x, in_converted _ _ y) refl
 in_joined (bs.Compare op) x y z (inr h) = rw (h.2) refl
 in_joined (bs.Logic op) x y z h = rw (h.4) refl
 
-in_chosen : (x y u z : Typed) → Chooses x y u z → place_count z ≡ place_count x + place_count y + place_count u
+in_chosen : (x y u z : Typed) → IsChoice x y u z → place_count z ≡ place_count x + place_count y + place_count u
 in_chosen x y u z (inl h) = rw (h.6, in_converted _ _ y, in_converted _ _ u) refl
 in_chosen x y u z (inr h) = rw (h.4) refl
 
-in_read : (rows : Rows) (x : Variable) (ks : Typeds) (z : Typed) → Reads rows x ks z → place_count z ≤ suc (place_count_in ks)
+in_read : (rows : Rows) (x : Variable) (ks : Typeds) (z : Typed) → IsRead rows x ks z → place_count z ≤ suc (place_count_in ks)
 in_read rows (v.Plain line name) ks z h = rw (h.3) (omega arith)
 in_read rows (v.Thread line name) ks z h = rw (h.5) (omega arith)
 in_read rows (v.Clause line name) ks z h = rw (h.5) (omega arith)
 
-in_fitted : (x : Typed) (t : DType) (y : Typed) → FitsType x t y → place_count y ≡ place_count x
+in_fitted : (x : Typed) (t : DType) (y : Typed) → IsConverted x t y → place_count y ≡ place_count x
 in_fitted x (Int u) y h = rw (h.2) (in_converted h.0 u x)
 in_fitted x Text y h = rw (h.1) refl
 
 in_stored : (sort : AssignSort) (space : Space) (slot : ℕ) (ks : Typeds) (x : Typed) (rows : Rows) (z : Typed) (last : Rows) →
-    Stores sort space slot ks x rows z last → place_count z ≡ suc (place_count_in ks) + place_count x
+    IsAssignment sort space slot ks x rows z last → place_count z ≡ suc (place_count_in ks) + place_count x
 in_stored sg.Set space slot ks x rows z last (inl h) = rw (h.1) refl
 in_stored sg.Set space slot ks x rows z last (inr h) = rw (h.4, in_fitted x h.0 h.1 h.3) refl
 in_stored (sg.Arithmetic op) space slot ks x rows z last h = rw (h.4, in_converted _ _ x) refl
 in_stored (sg.Shift op) space slot ks x rows z last h = rw (h.4) refl
 
-in_called : (name : List ℕ) (ks : Typeds) (z : Typed) → Calls name ks z → place_count z ≤ place_count_in ks
+in_called : (name : List ℕ) (ks : Typeds) (z : Typed) → IsCall name ks z → place_count z ≤ place_count_in ks
 in_called name ks z (inl h) = rw (h.2, h.4) (omega arith)
 in_called name ks z (inr h) = rw (h.3, h.6) (omega arith)
 
@@ -198,4 +201,4 @@ script_is_small items m small h =
     record { few_descriptions = omega (arith, all.0, small.few_descriptions); few_statements = omega (arith, all.1, small.few_statements); few_variables = omega (arith, all.2, small.few_variables) }
 
 pub typed_script_is_small : (m : ScriptMeant) → ∥ IsMeant m ∥₁ → HasAtMost 65536 m
-typed_script_is_small m meant = ∥∥₁_elim meant (hlevel le_prop) (λ (h : IsMeant m). script_is_small h.0 m h.1 h.3)
+typed_script_is_small m meant = ∥∥₁_elim meant (hlevel le_prop) (λ (h : IsMeant m). script_is_small h.0 m h.1 (meant_is_walked h.0 m h.3))

@@ -22,39 +22,54 @@ use Rattle.d_types.specs.declared.operators.AssignSort.{AssignSort}
 use Rattle.d_types.specs.declared.operators.AssignSort.TheVariants as sg
 use Rattle.d_types.specs.declared.words.Callee.{Callee}
 use Rattle.d_types.specs.declared.words.Callee.TheVariants as f
-use Rattle.d_types.specs.Faults.{◌>>=◌, Fault, Cause, refuse}
+use Rattle.d_types.specs.Steps.Faults.{◌>>=◌, Fault, Cause, refuse, unless}
 use Rattle.d_types.specs.Constants.{int_type}
 use Rattle.d_types.specs.Words.{callee_named}
 use Rattle.d_types.specs.Typed as typed
-use Rattle.d_types.specs.Typed.{Typed, Typeds, end, more, with_typed, type_of}
+use Rattle.d_types.specs.Typed.{Typed, Typeds, end, more, type_of}
+use Rattle.d_types.specs.Steps.Typing.{with_typed}
 use Rattle.d_types.specs.Variables.{Rows, find, type_at, keys_fit}
-use Rattle.d_types.specs.Operators.{binary_sort, assign_sort, conversion_node, unary, operation_by}
-use Rattle.d_types.specs.Operators.{choice, as_type}
-use Rattle.d_types.specs.Targets.{line_of_variable, settle_slot, space_of, type_at_once, plain}
-use Rattle.d_types.specs.Targets.{load, load_at, read_variable, plain_target, slot_for, target}
-use Rattle.d_types.specs.Targets.{store}
-use Rattle.d_types.specs.Targets.{store_node, assignment, step}
-use Rattle.d_types.specs.Typing.{line_of, strlen, strjoin, call, typed_call, beside, fitting}
-use Rattle.d_types.specs.Typing.{step_rest, expr, exprs}
-use Rattle.d_types.specs.Rules.{Types, AllTypes, IsInteger, HasTextType, JoinsOperands, Chooses}
-use Rattle.d_types.specs.Rules.{Loads, Reads}
-use Rattle.d_types.specs.Rules.{Places, Targets, FitsType, Stores, Steps, Calls}
+use Rattle.d_types.specs.Operators.{binary_sort, assign_sort, conversion_node}
+use Rattle.d_types.specs.Steps.Operators.{unary, operation_by}
+use Rattle.d_types.specs.Steps.Operators.{choice, as_type}
+use Rattle.d_types.specs.Lines.{line_of_variable}
+use Rattle.d_types.specs.Targets.{settle_slot, space_of, type_at_once}
+use Rattle.d_types.specs.Steps.Targets.{plain}
+use Rattle.d_types.specs.Steps.Targets.{load, load_at, read_variable, plain_target, slot_for}
+use Rattle.d_types.specs.Steps.Targets.{target}
+use Rattle.d_types.specs.Steps.Targets.{store}
+use Rattle.d_types.specs.Steps.Targets.{store_node, assignment, step}
+use Rattle.d_types.specs.Lines.{line_of}
+use Rattle.d_types.specs.Steps.Typing.{strlen, strjoin, call, typed_call, beside, fitting}
+use Rattle.d_types.specs.Steps.Typing.{step_rest, expr, exprs}
+use Rattle.d_types.proofs.WellTyped.{Types, AllTypes}
+use Rattle.d_types.specs.Rules.{IsInteger, HasTextType, IsOperation, IsChoice}
+use Rattle.d_types.specs.Rules.{IsLoad, IsRead}
+use Rattle.d_types.specs.Rules.{IsSlotOf, IsTargetOf, IsConverted, IsAssignment, IsStep, IsCall}
 use Rattle.d_types.proofs.Complete.{after, after-add, after-end}
 
 pub bound : {A B : Type 0} (r : Result A Fault) (go : A → Result B Fault) (y : B) → (r >>= go) ≡ Ok y → (x : A) × (r ≡ Ok x) × (go x ≡ Ok y)
 bound (Err e) go y h = cc
 bound (Ok x) go y h = (x, refl, h)
 
-some_is : {A : Type 0} (x y : A) → Some x ≡ Some y → x ≡ y
+pub within : {A : Type 0} (cause : Cause) (line : ℕ) (b : Bool) (x y : A) → ◌≡◌ {A = Result A Fault} (if b then Ok x else refuse cause line) (Ok y) → (b ≡ true) × (x ≡ y)
+within cause line false x y h = cc
+within cause line true x y h = (refl, cc)
+
+pub is_some_of : {A : Type 0} (cause : Cause) (line : ℕ) (o : Option A) (x : A) → unless cause line o ≡ Ok x → o ≡ Some x
+is_some_of cause line None x h = cc
+is_some_of cause line (Some y) x h = cc
+
+pub some_is : {A : Type 0} (x y : A) → Some x ≡ Some y → x ≡ y
 some_is x y e = cc
 
-fitted : (line : ℕ) (rows : Rows) (o : Option Typed) (z : Typed) (last : Rows) → fitting line (beside rows o) ≡ Ok (z, last) → (o ≡ Some z) × (rows ≡ last)
+pub fitted : (line : ℕ) (rows : Rows) (o : Option Typed) (z : Typed) (last : Rows) → fitting line (beside rows o) ≡ Ok (z, last) → (o ≡ Some z) × (rows ≡ last)
 fitted line rows None z last h = cc
 fitted line rows (Some x) z last h =
     let same : (x, rows) ≡ (z, last) = cc in
     (ap (λ (p : Typed × Rows). Some p.0) same, ap (λ (p : Typed × Rows). p.1) same)
 
-fitted_pair : (line : ℕ) (o : Option (Typed × Rows)) (z : Typed) (last : Rows) → fitting line o ≡ Ok (z, last) → o ≡ Some (z, last)
+pub fitted_pair : (line : ℕ) (o : Option (Typed × Rows)) (z : Typed) (last : Rows) → fitting line o ≡ Ok (z, last) → o ≡ Some (z, last)
 fitted_pair line None z last h = cc
 fitted_pair line (Some x) z last h = cc
 
@@ -63,17 +78,17 @@ kept rows y z last h = let f = fitted 0 rows (Some y) z last h in (some_is _ _ f
 
 -- ---- operators
 
-unary_sound : (op : UnaryOperator) (k : DType) (x z : Typed) → type_of x ≡ k → unary op k x ≡ Some z →
+pub unary_sound : (op : UnaryOperator) (k : DType) (x z : Typed) → type_of x ≡ k → unary op k x ≡ Some z →
     (t : IntType) × IsInteger x t × (z ≡ typed.Unary op (promoted_of t) (conversion_node t (promoted_of t) x))
 unary_sound op (Int t) x z p e = (t, p, sym (some_is _ _ e))
 unary_sound op Text x z p e = cc
 
-cast_sound : (to : IntType) (k : DType) (x z : Typed) → type_of x ≡ k → as_type k (Int to) x ≡ Some z →
+pub cast_sound : (to : IntType) (k : DType) (x z : Typed) → type_of x ≡ k → as_type k (Int to) x ≡ Some z →
     (t : IntType) × IsInteger x t × (z ≡ conversion_node t to x)
 cast_sound to (Int t) x z p e = (t, p, sym (some_is _ _ e))
 cast_sound to Text x z p e = cc
 
-joins_sound : (sort : BinarySort) (k l : DType) (x y z : Typed) → type_of x ≡ k → type_of y ≡ l → operation_by sort k l x y ≡ Some z → JoinsOperands sort x y z
+pub joins_sound : (sort : BinarySort) (k l : DType) (x y z : Typed) → type_of x ≡ k → type_of y ≡ l → operation_by sort k l x y ≡ Some z → IsOperation sort x y z
 joins_sound (bs.Arithmetic op) (Int t) (Int u) x y z p q e = (t, u, p, q, sym (some_is _ _ e))
 joins_sound (bs.Arithmetic op) Text l x y z p q e = cc
 joins_sound (bs.Arithmetic op) (Int t) Text x y z p q e = cc
@@ -88,7 +103,7 @@ joins_sound (bs.Logic op) (Int t) (Int u) x y z p q e = (t, u, p, q, sym (some_i
 joins_sound (bs.Logic op) Text l x y z p q e = cc
 joins_sound (bs.Logic op) (Int t) Text x y z p q e = cc
 
-chooses_sound : (k l m : DType) (x y u z : Typed) → type_of x ≡ k → type_of y ≡ l → type_of u ≡ m → choice k l m x y u ≡ Some z → Chooses x y u z
+pub chooses_sound : (k l m : DType) (x y u z : Typed) → type_of x ≡ k → type_of y ≡ l → type_of u ≡ m → choice k l m x y u ≡ Some z → IsChoice x y u z
 chooses_sound (Int c) (Int t) (Int n) x y u z p q r e = inl (c, t, n, p, q, r, sym (some_is _ _ e))
 chooses_sound (Int c) Text Text x y u z p q r e = inr (c, p, q, r, sym (some_is _ _ e))
 chooses_sound Text l m x y u z p q r e = cc
@@ -109,7 +124,7 @@ found space line rows None ks z h = cc
 found space line rows (Some slot) ks z h = (slot, refl, h)
 
 loads_sound : (space : Space) (line : ℕ) (name : List ℕ) (rows : Rows) (ks : Typeds) (z : Typed) →
-    load_at space line rows (find space name rows) ks ≡ Ok z → Loads space name rows ks z
+    load_at space line rows (find space name rows) ks ≡ Ok z → IsLoad space name rows ks z
 loads_sound space line name rows ks z h =
     let p = found space line rows _ ks z h in
     let q = loaded space line p.0 _ _ ks z p.2 in
@@ -121,7 +136,7 @@ plain_sound line None ks z h = cc
 plain_sound line (Some b) end z h = (b, refl, refl, cc)
 plain_sound line (Some b) (more x rest) z h = cc
 
-reads_sound : (rows : Rows) (x : Variable) (ks : Typeds) (z : Typed) → read_variable rows x ks ≡ Ok z → Reads rows x ks z
+pub reads_sound : (rows : Rows) (x : Variable) (ks : Typeds) (z : Typed) → read_variable rows x ks ≡ Ok z → IsRead rows x ks z
 reads_sound rows (v.Plain line name) ks z h = plain_sound line _ ks z h
 reads_sound rows (v.Thread line name) ks z h = loads_sound s.Thread line name rows ks z h
 reads_sound rows (v.Clause line name) ks z h = loads_sound s.Clause line name rows ks z h
@@ -137,7 +152,7 @@ allowed line cause false a slot m last h = cc
 allowed line cause true a slot m last h = let p = pair_is a slot m last h in (refl, p.0, p.1)
 
 places_sound_at : (space : Space) (line : ℕ) (name : List ℕ) (rows : Rows) (t : Option DType) (ks : Typeds) (o : Option ℕ) (slot : ℕ) (last : Rows) →
-    find space name rows ≡ o → slot_for space line name rows t ks o ≡ Ok (slot, last) → Places space name rows t ks slot last
+    find space name rows ≡ o → slot_for space line name rows t ks o ≡ Ok (slot, last) → IsSlotOf space name rows t ks slot last
 places_sound_at space line name rows t ks None slot last p h =
     let q = allowed line _ _ _ slot _ last h in
     inl (p, q.0, q.1, q.2)
@@ -150,8 +165,8 @@ not_plain line name None ks slot last h = cc
 not_plain line name (Some b) end slot last h = cc
 not_plain line name (Some b) (more x rest) slot last h = cc
 
-targets_sound : (rows : Rows) (x : Variable) (t : Option DType) (ks : Typeds) (slot : ℕ) (last : Rows) →
-    target rows x t ks ≡ Ok (slot, last) → Targets rows x t ks slot last
+pub targets_sound : (rows : Rows) (x : Variable) (t : Option DType) (ks : Typeds) (slot : ℕ) (last : Rows) →
+    target rows x t ks ≡ Ok (slot, last) → IsTargetOf rows x t ks slot last
 targets_sound rows (v.Plain line name) t ks slot last h = not_plain line name _ ks slot last h
 targets_sound rows (v.Thread line name) t ks slot last h = places_sound_at s.Thread line name rows t ks _ slot last refl h
 targets_sound rows (v.Clause line name) t ks slot last h = places_sound_at s.Clause line name rows t ks _ slot last refl h
@@ -161,7 +176,7 @@ two a b m n h =
     let same : (a, m) ≡ (b, n) = some_is _ _ h in
     (sym (ap (λ (p : Typed × Rows). p.0) same), sym (ap (λ (p : Typed × Rows). p.1) same))
 
-fits_sound : (x : Typed) (k t : DType) (y : Typed) → type_of x ≡ k → as_type k t x ≡ Some y → FitsType x t y
+fits_sound : (x : Typed) (k t : DType) (y : Typed) → type_of x ≡ k → as_type k t x ≡ Some y → IsConverted x t y
 fits_sound x (Int t) (Int u) y p e = (t, p, sym (some_is _ _ e))
 fits_sound x Text Text y p e = (p, sym (some_is _ _ e))
 fits_sound x (Int t) Text y p e = cc
@@ -174,14 +189,14 @@ stored_sound space slot t ks rows None z last h = cc
 stored_sound space slot t ks rows (Some y) z last h = let p = two _ z rows last h in (y, refl, p.0, p.1)
 
 set_sound : (space : Space) (o : Option DType) (slot : ℕ) (ks : Typeds) (x : Typed) (rows : Rows) (z : Typed) (last : Rows) →
-    type_at rows slot ≡ o → store space o slot ks x rows ≡ Some (z, last) → Stores sg.Set space slot ks x rows z last
+    type_at rows slot ≡ o → store space o slot ks x rows ≡ Some (z, last) → IsAssignment sg.Set space slot ks x rows z last
 set_sound space None slot ks x rows z last p h = let q = two _ z _ last h in inl (p, q.0, q.1)
 set_sound space (Some t) slot ks x rows z last p h =
     let q = stored_sound space slot t ks rows (as_type (type_of x) t x) z last h in
     inr (t, q.0, p, fits_sound x _ t q.0 refl q.1, q.2, q.3)
 
-stores_sound : (sort : AssignSort) (space : Space) (o : Option DType) (k : DType) (slot : ℕ) (ks : Typeds) (x : Typed) (rows : Rows) (z : Typed) (last : Rows) →
-    type_at rows slot ≡ o → type_of x ≡ k → assignment sort space o k slot ks x rows ≡ Some (z, last) → Stores sort space slot ks x rows z last
+pub stores_sound : (sort : AssignSort) (space : Space) (o : Option DType) (k : DType) (slot : ℕ) (ks : Typeds) (x : Typed) (rows : Rows) (z : Typed) (last : Rows) →
+    type_at rows slot ≡ o → type_of x ≡ k → assignment sort space o k slot ks x rows ≡ Some (z, last) → IsAssignment sort space slot ks x rows z last
 stores_sound sg.Set space o k slot ks x rows z last p q h = set_sound space o slot ks x rows z last p h
 stores_sound (sg.Arithmetic op) space (Some (Int t)) (Int u) slot ks x rows z last p q h = let r = two _ z rows last h in (t, u, p, q, r.0, r.1)
 stores_sound (sg.Arithmetic op) space None k slot ks x rows z last p q h = cc
@@ -192,8 +207,8 @@ stores_sound (sg.Shift op) space None k slot ks x rows z last p q h = cc
 stores_sound (sg.Shift op) space (Some Text) k slot ks x rows z last p q h = cc
 stores_sound (sg.Shift op) space (Some (Int t)) Text slot ks x rows z last p q h = cc
 
-steps_sound : (by : Step) (answer : Answer) (space : Space) (o : Option DType) (slot : ℕ) (ks : Typeds) (rows : Rows) (z : Typed) →
-    type_at rows slot ≡ o → step by answer space o slot ks ≡ Some z → Steps by answer space slot ks rows z
+pub steps_sound : (by : Step) (answer : Answer) (space : Space) (o : Option DType) (slot : ℕ) (ks : Typeds) (rows : Rows) (z : Typed) →
+    type_at rows slot ≡ o → step by answer space o slot ks ≡ Some z → IsStep by answer space slot ks rows z
 steps_sound by answer space (Some (Int t)) slot ks rows z p h = (t, p, sym (some_is _ _ h))
 steps_sound by answer space (Some Text) slot ks rows z p h = cc
 steps_sound by answer space None slot ks rows z p h = cc
@@ -209,7 +224,7 @@ strjoin_sound Text Text x y z p q e = (p, q, sym (some_is _ _ e))
 strjoin_sound (Int t) l x y z p q e = cc
 strjoin_sound Text (Int u) x y z p q e = cc
 
-call_sound : (callee : Callee) (name : List ℕ) (ks : Typeds) (z : Typed) → callee_named name ≡ Some callee → call callee ks ≡ Some z → Calls name ks z
+call_sound : (callee : Callee) (name : List ℕ) (ks : Typeds) (z : Typed) → callee_named name ≡ Some callee → call callee ks ≡ Some z → IsCall name ks z
 call_sound f.Strlen name end z p h = cc
 call_sound f.Strlen name (more x end) z p h = let q = lengths_sound _ x z refl h in inl (x, p, refl, q.0, q.1)
 call_sound f.Strlen name (more x (more y rest)) z p h = cc
@@ -221,8 +236,8 @@ call_sound f.Trace name ks z p h = cc
 call_sound f.Printf name ks z p h = cc
 call_sound f.Exit name ks z p h = cc
 
-calls_sound : (line : ℕ) (name : List ℕ) (o : Option Callee) (ks : Typeds) (rows : Rows) (z : Typed) (last : Rows) →
-    callee_named name ≡ o → typed_call line o ks rows ≡ Ok (z, last) → Calls name ks z × (rows ≡ last)
+pub calls_sound : (line : ℕ) (name : List ℕ) (o : Option Callee) (ks : Typeds) (rows : Rows) (z : Typed) (last : Rows) →
+    callee_named name ≡ o → typed_call line o ks rows ≡ Ok (z, last) → IsCall name ks z × (rows ≡ last)
 calls_sound line name None ks rows z last p h = cc
 calls_sound line name (Some callee) ks rows z last p h =
     let q = fitted line rows (call callee ks) z last h in
@@ -235,13 +250,13 @@ alone rows ts ks last r = subst (λ (l : Typeds). AllTypes rows ts l last) (sym 
 
 step_sound : (rows : Rows) (line : ℕ) (by : Step) (answer : Answer) (x : Variable) (ks : Typeds) (z : Typed) (last : Rows) →
     step_rest rows line by answer x ks ≡ Ok (z, last) →
-    (slot : ℕ) × Targets rows x (Some (Int INT64)) ks slot last × Steps by answer (space_of x) slot ks last z
+    (slot : ℕ) × IsTargetOf rows x (Some (Int INT64)) ks slot last × IsStep by answer (space_of x) slot ks last z
 step_sound rows line by answer x ks z last h =
     let q = bound (target rows x (Some (Int INT64)) ks) _ _ h in
     let r = fitted line q.0.1 (step by answer (space_of x) (type_at q.0.1 q.0.0) q.0.0 ks) z last q.2 in (
       q.0.0,
-      subst (λ (m : Rows). Targets rows x (Some (Int INT64)) ks q.0.0 m) r.1 (targets_sound rows x _ ks q.0.0 q.0.1 q.1),
-      subst (λ (m : Rows). Steps by answer (space_of x) q.0.0 ks m z) r.1 (steps_sound by answer (space_of x) _ q.0.0 ks q.0.1 z refl r.0),
+      subst (λ (m : Rows). IsTargetOf rows x (Some (Int INT64)) ks q.0.0 m) r.1 (targets_sound rows x _ ks q.0.0 q.0.1 q.1),
+      subst (λ (m : Rows). IsStep by answer (space_of x) q.0.0 ks m z) r.1 (steps_sound by answer (space_of x) _ q.0.0 ks q.0.1 z refl r.0),
     )
 
 mutual
@@ -253,7 +268,7 @@ mutual
       let f = kept p.0.1 q.0 z last q.2 in (
         p.0.0,
         subst (AllTypes rows keys p.0.0) f.1 (alone rows keys p.0.0 p.0.1 (all_sound end rows keys p.0.0 p.0.1 p.1)),
-        subst (λ (r : Rows). Reads r x p.0.0 z) f.1 (reads_sound p.0.1 x p.0.0 z (q.1 ∙ ap (λ (y : Typed). Ok y) f.0)),
+        subst (λ (r : Rows). IsRead r x p.0.0 z) f.1 (reads_sound p.0.1 x p.0.0 z (q.1 ∙ ap (λ (y : Typed). Ok y) f.0)),
       )
   sound rows (tree.Call line name args) z last h =
       let p = bound (exprs end rows args) _ _ h in

@@ -1,6 +1,6 @@
 -- What the recursion gives for a script is well typed.
 use Rattle.std.proofs.Common.{◌≡◌, ℕ, nat_le, inl, inr, List, [], ◌∷◌, ◌++◌, length, Bool, true}
-use Rattle.std.proofs.Common.{false, if◌then◌else◌, Option, Some, None, Result, Ok, Err, refl, sym}
+use Rattle.std.proofs.Common.{false, if◌then◌else◌, Option, Some, None, Result, Ok, refl, sym}
 use Rattle.std.proofs.Common.{ap, ◌∙◌, subst, append_assoc, append-nil}
 use Rattle.d_parser.specs.declared.tree.DeclaredType.{DeclaredType}
 use Rattle.d_parser.specs.Tree as tree
@@ -13,39 +13,42 @@ use Rattle.d_types.specs.declared.typed.Space.{Space}
 use Rattle.d_types.specs.declared.typed.Space.TheVariants as s
 use Rattle.d_types.specs.declared.words.Callee.{Callee}
 use Rattle.d_types.specs.declared.words.Callee.TheVariants as f
-use Rattle.d_types.specs.declared.fault.TypeFault.{TypeFault}
-use Rattle.std.proofs.Common.{IfOk}
-use Rattle.d_types.specs.Faults.{Gives, ◌>>=◌, Fault, refuse, unless, Undeclared, Mismatch, Keys}
-use Rattle.d_types.specs.Faults.{AggregationRedefined, LquantizeBounds, PrintfArguments, NoRegister}
+use Rattle.d_types.specs.Steps.Faults.{◌>>=◌, Fault, refuse, unless, Undeclared, Mismatch}
+use Rattle.d_types.specs.Steps.Faults.{Keys}
+use Rattle.d_types.specs.Steps.Faults.{AggregationRedefined, LquantizeBounds, PrintfArguments}
+use Rattle.d_types.specs.Steps.Faults.{NoRegister}
 use Rattle.d_types.specs.Words.{callee_named, aggregating_named}
-use Rattle.d_types.specs.Typed.{Typed, Typeds, end, more, with_typed, type_of, Action, Evaluate}
+use Rattle.d_types.specs.Typed.{Typed, Typeds, end, more, type_of, Action, Evaluate}
+use Rattle.d_types.specs.Steps.Typing.{with_typed}
 use Rattle.d_types.specs.Typed.{Trace}
 use Rattle.d_types.specs.Typed.{Print, Exit, Aggregate, Agg, Aggs, ClauseMeant, ScriptMeant}
 use Rattle.d_types.specs.Needs.{need, count}
 use Rattle.d_types.specs.Variables.{Rows, find, kinds_of_typed, types_in}
 use Rattle.d_types.specs.Variables as variables
-use Rattle.d_types.specs.Formats.{pieces}
+use Rattle.d_types.specs.Steps.Formats.{pieces}
 use Rattle.d_types.specs.Formats as formats
-use Rattle.d_types.specs.Typing.{line_of, only, expr, whole}
-use Rattle.d_types.specs.Statements.{wholes, trace, exit_by, exit, not_printed, text_of_constant}
-use Rattle.d_types.specs.Statements.{print_by}
-use Rattle.d_types.specs.Statements.{print, evaluate, call_statement, action}
+use Rattle.d_types.specs.Lines.{line_of}
+use Rattle.d_types.specs.Steps.Typing.{only, expr, whole}
+use Rattle.d_types.specs.Steps.Statements.{wholes, trace, exit_by, exit, not_printed}
+use Rattle.d_types.specs.Constants.{text_of_constant}
+use Rattle.d_types.specs.Steps.Statements.{print_by}
+use Rattle.d_types.specs.Steps.Statements.{print, evaluate, call_statement, action}
 use Rattle.d_types.specs.Aggregations.{arguments_fit, first, function, find_from, is_again}
-use Rattle.d_types.specs.Aggregations.{new_aggregation, place_for, aggregate}
-use Rattle.d_types.specs.Scripts.{declare, declaration, test_of, predicate, statement, statements}
-use Rattle.d_types.specs.Scripts.{clause, item, items, script}
-use Rattle.d_types.specs.Fitting.{ScriptFits}
-use Rattle.d_types.specs.Rules.{Types, AllTypes, IsInteger}
-use Rattle.d_types.specs.WellTyped.{Evaluates, Prints, Acts, Stands, JoinsAggregation, Aggregates}
-use Rattle.d_types.specs.WellTyped.{Declares}
-use Rattle.d_types.specs.WellTyped.{DeclaresRow, Tests, Does, AllDo, Probes, AllItems, IsWell}
+use Rattle.d_types.specs.Steps.Aggregations.{new_aggregation, place_for, aggregate}
+use Rattle.d_types.specs.Steps.Scripts.{declare, declaration, test_of, predicate, statement}
+use Rattle.d_types.specs.Steps.Scripts.{statements}
+use Rattle.d_types.specs.Steps.Scripts.{clause, item, items, script}
+use Rattle.d_types.proofs.WellTyped.{Types, AllTypes}
+use Rattle.d_types.specs.Rules.{IsInteger}
+use Rattle.d_types.proofs.WellTyped.{Evaluates, Prints, Acts, Stands, Aggregates}
+use Rattle.d_types.specs.Rules.{IsPlaceOf}
+use Rattle.d_types.proofs.WellTyped.{Declares}
+use Rattle.d_types.proofs.WellTyped.{DeclaresRow, Tests, Does, AllDo, Probes, AllItems, IsWell}
 use Rattle.d_types.proofs.Complete.{after, after-add, after-end}
-use Rattle.d_types.proofs.CompleteScripts.{script_complete}
-use Rattle.d_types.proofs.Sound.{bound, sound}
-use Rattle.d_types.proofs.Fitting.{within, is_some_of, script_fits}
+use Rattle.d_types.proofs.Sound.{bound, sound, within, is_some_of}
 use Rattle.d_types.proofs.Spelling.{read_is_spelled}
 
-ok_is : {A : Type 0} (x y : A) → ◌≡◌ {A = Result A Fault} (Ok x) (Ok y) → x ≡ y
+pub ok_is : {A : Type 0} (x y : A) → ◌≡◌ {A = Result A Fault} (Ok x) (Ok y) → x ≡ y
 ok_is x y h = cc
 
 whole_sound : (rows : Rows) (t : Tree) (x : Typed × Rows) → whole rows t ≡ Ok x → Types rows t x.0 x.1
@@ -69,7 +72,7 @@ all_whole rows ts k h =
     let r = wholes_sound end rows ts k h in
     subst (λ (l : Typeds). AllTypes rows ts l k.1) (sym r.2) r.1
 
-only_is : (args : Typeds) (x : Typed) → only args ≡ Some x → args ≡ more x end
+pub only_is : (args : Typeds) (x : Typed) → only args ≡ Some x → args ≡ more x end
 only_is end x h = cc
 only_is (more y end) x h = let same : y ≡ x = cc in ap (λ (z : Typed). more z end) same
 only_is (more y (more z rest)) x h = cc
@@ -89,7 +92,7 @@ trace_sound line name rows ts r h =
     subst (λ (y : Action × Rows). Acts (Some f.Trace) line name rows ts y.0 y.1) same
     (q.0, subst (λ (l : Typeds). AllTypes rows ts l p.0.1) one (all_whole rows ts p.0 p.1), refl)
 
-exit_by_sound : (line : ℕ) (t : DType) (x : Typed) (rows : Rows) (r : Action × Rows) → type_of x ≡ t → exit_by line t x rows ≡ Ok r →
+pub exit_by_sound : (line : ℕ) (t : DType) (x : Typed) (rows : Rows) (r : Action × Rows) → type_of x ≡ t → exit_by line t x rows ≡ Ok r →
     (u : IntType) × IsInteger x u × ((Exit x, rows) ≡ r)
 exit_by_sound line (Int u) x rows r p h = (u, p, ok_is _ _ h)
 exit_by_sound line Text x rows r p h = cc
@@ -142,24 +145,24 @@ stands_sound rows (tree.Assign op x keys e) r h = evaluates_sound rows (tree.Ass
 
 -- ---- aggregation statements
 
-joins_sound : (line : ℕ) (name : List ℕ) (ks : Typeds) (g : Option AggFn) (aggs : Aggs) (o : Option (ℕ × Agg)) (r : ℕ × Aggs) →
-    find_from 0 name aggs ≡ o → place_for line name ks g aggs o ≡ Ok r → JoinsAggregation name ks g aggs r.0 r.1
+pub joins_sound : (line : ℕ) (name : List ℕ) (ks : Typeds) (g : Option AggFn) (aggs : Aggs) (o : Option (ℕ × Agg)) (r : ℕ × Aggs) →
+    find_from 0 name aggs ≡ o → place_for line name ks g aggs o ≡ Ok r → IsPlaceOf name ks g aggs r.0 r.1
 joins_sound line name ks g aggs None r e h = fresh (nat_le (count ks) 8) refl h
   where
-    fresh : (b : Bool) → nat_le (count ks) 8 ≡ b → (if b then (unless LquantizeBounds line g >>= new_aggregation name ks aggs) else refuse Keys line) ≡ Ok r → JoinsAggregation name ks g aggs r.0 r.1
+    fresh : (b : Bool) → nat_le (count ks) 8 ≡ b → (if b then (unless LquantizeBounds line g >>= new_aggregation name ks aggs) else refuse Keys line) ≡ Ok r → IsPlaceOf name ks g aggs r.0 r.1
     fresh false d k = cc
     fresh true d k =
         let q = bound (unless LquantizeBounds line g) _ _ k in
         let same = ok_is _ _ q.2 in
-        subst (λ (y : ℕ × Aggs). JoinsAggregation name ks g aggs y.0 y.1) same (inl (q.0, e, d, is_some_of LquantizeBounds line g q.0 q.1, refl, refl))
+        subst (λ (y : ℕ × Aggs). IsPlaceOf name ks g aggs y.0 y.1) same (inl (q.0, e, d, is_some_of LquantizeBounds line g q.0 q.1, refl, refl))
 joins_sound line name ks g aggs (Some p) r e h = again (variables.fit p.1.keys ks) refl h
   where
     again : (b : Bool) → variables.fit p.1.keys ks ≡ b →
-        (if b then (if is_again g p.1.function then Ok (p.0, aggs) else refuse AggregationRedefined line) else refuse Keys line) ≡ Ok r → JoinsAggregation name ks g aggs r.0 r.1
+        (if b then (if is_again g p.1.function then Ok (p.0, aggs) else refuse AggregationRedefined line) else refuse Keys line) ≡ Ok r → IsPlaceOf name ks g aggs r.0 r.1
     again false d k = cc
     again true d k =
         let w = within AggregationRedefined line (is_again g p.1.function) (p.0, aggs) r k in
-        subst (λ (y : ℕ × Aggs). JoinsAggregation name ks g aggs y.0 y.1) w.1 (inr (p.1, e, d, w.0, refl))
+        subst (λ (y : ℕ × Aggs). IsPlaceOf name ks g aggs y.0 y.1) w.1 (inr (p.1, e, d, w.0, refl))
 
 joined_sound : (b : Bool) (line : ℕ) (keys args : Typeds) (place : Result (ℕ × Aggs) Fault) (rows : Rows) (r : Action × (Rows × Aggs)) →
     (if b then (place >>= λ a. Ok (Aggregate a.0 keys (first args), (rows, a.1))) else refuse Mismatch line) ≡ Ok r →
@@ -190,7 +193,7 @@ aggregates_sound line name keys word args rows aggs r h =
 
 -- ---- declarations and clauses
 
-declares_sound : (space : Space) (line : ℕ) (name : List ℕ) (t : DeclaredType) (keys : List DeclaredType) (rows : Rows) (o : Option ℕ) (last : Rows) →
+pub declares_sound : (space : Space) (line : ℕ) (name : List ℕ) (t : DeclaredType) (keys : List DeclaredType) (rows : Rows) (o : Option ℕ) (last : Rows) →
     find space name rows ≡ o → declare space line name t keys rows o ≡ Ok last → Declares space name t keys rows last
 declares_sound space line name t keys rows None last e h =
     let w = within Keys line (nat_le (length keys) 8) _ last h in
@@ -275,11 +278,3 @@ script_sound source m h =
     let a = items_sound [] [] [] source p.0 p.1 in
     let same : record { clauses = p.0.0; aggregations = p.0.1.1; slots = types_in p.0.1.0 } ≡ m = ok_is _ _ p.2 in
     subst (IsWell source) same (p.0.1.0, subst (λ (l : List ClauseMeant). AllItems [] [] source l p.0.1.0 p.0.1.1) (sym a.2) a.1, refl)
-
-pub ok_sound : {X : Type 0} (view : X → ScriptMeant) (r : Result X TypeFault) (source : List ItemTree) → Gives view r (script source) → IfOk r (λ x. IsWell source (view x) × ScriptFits (view x))
-ok_sound view (Ok x) source h = (script_sound source _ h, script_fits source _ h)
-ok_sound view (Err e) source h = tt
-
-pub ok_only : {X : Type 0} (view : X → ScriptMeant) (r : Result X TypeFault) (source : List ItemTree) (m : ScriptMeant) →
-    Gives view r (script source) → IsWell source m → ScriptFits m → Gives {Y = ScriptMeant} view r (Ok m)
-ok_only view r source m h w d = subst (Gives view r) (script_complete source m w d) h

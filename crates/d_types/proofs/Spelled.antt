@@ -16,7 +16,7 @@ use Rattle.d_types.specs.declared.format.Flags.{Flags}
 use Rattle.d_types.specs.declared.format.Place.{Place}
 use Rattle.d_types.specs.declared.format.Place.TheVariants as at
 use Rattle.d_parser.specs.Script.{is_digit}
-use Rattle.d_types.specs.Formats.{no_flags, pieces_from, pieces}
+use Rattle.d_types.specs.Steps.Formats.{no_flags, pieces_from, pieces}
 use Rattle.d_types.specs.Spelling.{IsOneOf, has_byte, AreFlags, width_text, lengths, letters}
 use Rattle.d_types.specs.Spelling.{IsConversion, SpellsPiece, SpellsFormat}
 

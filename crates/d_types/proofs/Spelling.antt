@@ -14,10 +14,10 @@ use Rattle.d_types.specs.declared.typed.Piece.TheVariants as piece
 use Rattle.d_types.specs.declared.format.Flags.{Flags}
 use Rattle.d_types.specs.declared.format.Place.{Place}
 use Rattle.d_types.specs.declared.format.Place.TheVariants as at
-use Rattle.d_types.specs.Formats.{goes, ends, letter_of, with_letter, at_letter, at_length}
+use Rattle.d_types.specs.Steps.Formats.{goes, ends, letter_of, with_letter, at_letter, at_length}
 use Rattle.d_parser.specs.Script.{is_digit}
-use Rattle.d_types.specs.Formats.{at_width, at_flags, no_flags, turn, with_piece}
-use Rattle.d_types.specs.Formats.{is_outside, pieces_at_end, option_then, pieces_from, pieces}
+use Rattle.d_types.specs.Steps.Formats.{at_width, at_flags, no_flags, turn, with_piece}
+use Rattle.d_types.specs.Steps.Formats.{is_outside, pieces_at_end, option_then, pieces_from, pieces}
 use Rattle.d_types.specs.Spelling.{IsOneOf, has_byte, AreFlags, width_text, lengths, letters}
 use Rattle.d_types.specs.Spelling.{SpellsPiece}
 use Rattle.d_types.specs.Spelling.{SpellsFormat}

@@ -6,7 +6,7 @@ use Rattle.d_types.specs.declared.variables.Entry.{Entry}
 use Rattle.d_types.specs.Typed.{Aggs, ClauseMeant}
 use Rattle.d_types.specs.Variables.{types_in}
 use Rattle.d_types.specs.Steps.Variables.{rows_of_entries}
-use Rattle.d_types.specs.Scripts.{items, script}
+use Rattle.d_types.specs.Steps.Scripts.{items, script}
 
 types_are : (table : List Entry) → map (λ e. e.holds) table ≡ types_in (rows_of_entries table)
 types_are [] = refl

@@ -1,14 +1,12 @@
--- The typed tree of an aggregation statement, or its first fault.
+-- Aggregating functions: their bounds, what they take, and when one is known.
+-- Source: Dynamic Tracing Guide, "Aggregations".
 use Rattle.std.specs.Prelude.{ℕ, ◌+◌, ◌==◌, ◌&&◌, nat_le, Bool, true, false, if◌then◌else◌, List}
-use Rattle.std.specs.Prelude.{[], ◌∷◌, ◌++◌, length, Option, Some, None, Result, Ok, ℤ, pos, neg_ℤ}
+use Rattle.std.specs.Prelude.{[], ◌∷◌, Option, Some, None, ℤ, pos, neg_ℤ}
 use Rattle.d_types.specs.Vocabulary.{bytes_eq, int_eq, option_map, Int, Text, linear_range}
-use Rattle.d_types.specs.Vocabulary.{UnaryOperator, Constant, Tree, Trees, DType, AggFn, MOST_KEYS}
-use Rattle.d_types.specs.Vocabulary.{MOST_STEP, Aggregating}
-use Rattle.d_types.specs.Faults.{Fault, ◌>>=◌, refuse, unless, Undeclared, Mismatch, Keys}
-use Rattle.d_types.specs.Faults.{AggregationRedefined, LquantizeBounds}
-use Rattle.d_types.specs.Typed.{Typed, Typeds, end, more, type_of, Action, Aggregate, Agg, Aggs}
-use Rattle.d_types.specs.Variables.{Rows, kinds_of_typed, fit}
-use Rattle.d_types.specs.{Words.aggregating_named, Needs.count, Statements.wholes}
+use Rattle.d_types.specs.Vocabulary.{UnaryOperator, Constant, Tree, Trees, DType, AggFn, MOST_STEP}
+use Rattle.d_types.specs.Vocabulary.{Aggregating}
+use Rattle.d_types.specs.Typed.{Typed, Typeds, end, more, type_of, Agg, Aggs}
+use Rattle.d_types.specs.Needs.{count}
 
 -- ---- bounds and steps, which are read from the text
 
@@ -139,31 +137,3 @@ same f g = false
 abbrev pub is_again : Option AggFn → AggFn → Bool
 is_again None g = false
 is_again (Some f) g = same f g
-
-abbrev pub new_aggregation : List ℕ → Typeds → Aggs → AggFn → Result (ℕ × Aggs) Fault
-new_aggregation name keys aggs f =
-    Ok (length aggs, aggs ++ record { name = name; keys = kinds_of_typed keys; function = f } ∷ [])
-
--- the place of an aggregation, and all of them with it: the first statement fixes its keys and its
--- function
-abbrev pub place_for : ℕ → List ℕ → Typeds → Option AggFn → Aggs → Option (ℕ × Agg)
-    → Result (ℕ × Aggs) Fault
-place_for line name keys f aggs None =
-    if nat_le (count keys) MOST_KEYS
-    then (unless LquantizeBounds line f >>= new_aggregation name keys aggs)
-    else refuse Keys line
-place_for line name keys f aggs (Some p) =
-    if fit p.1.keys keys
-    then (if is_again f p.1.function then Ok (p.0, aggs) else refuse AggregationRedefined line)
-    else refuse Keys line
-
--- keys, the function's name, arguments, and then the statement itself
-abbrev pub aggregate : ℕ → List ℕ → Trees → List ℕ → Trees → Rows → Aggs
-    → Result (Action × (Rows × Aggs)) Fault
-aggregate line name keys f args rows aggs =
-    wholes end rows keys >>= λ k. unless Undeclared line (aggregating_named f) >>= λ g.
-    wholes end k.1 args >>= λ x.
-    if arguments_fit g x.0
-    then (place_for line name k.0 (function g args) aggs (find_from 0 name aggs) >>= λ a.
-    Ok (Aggregate a.0 k.0 (first x.0), (x.1, a.1)))
-    else refuse Mismatch line

@@ -1,10 +1,11 @@
 -- What a run of a clause means: the texts, contributions, exit and variables that it makes.
+-- Source: Dynamic Tracing Guide, "Predicates" and "Actions and Subroutines".
 use Rattle.std.specs.Prelude.{ℕ, zero, suc, ◌%◌, List, [], ◌∷◌, ◌++◌, Option, Some, None, Bool}
 use Rattle.std.specs.Prelude.{true, false, if◌then◌else◌, ℤ, pos, codes}
 use Rattle.std.specs.Option.{option_or}
 use Rattle.d_types.specs.Vocabulary.{decimal, cast_signed, w64, Contribution, contribution, DType}
 use Rattle.d_types.specs.Vocabulary.{KeyPart, Value, Firing, Effect}
-use Rattle.d_types.specs.Typed.{Typed, Typeds, end, more, type_of, ActionOf, Action, Evaluate}
+use Rattle.d_types.specs.Typed.{Typed, Typeds, end, more, type_of, ActionOf, Evaluate}
 use Rattle.d_types.specs.Typed.{Trace, Print, Exit, Aggregate, ClauseMeant}
 use Rattle.d_types.specs.Expressions.{Outcome, Has, Faults, with, number_outcome, eval, keys_of}
 use Rattle.d_types.specs.{Storage.Variables, Printing.trace_line, Printing.printf_text}

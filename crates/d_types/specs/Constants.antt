@@ -1,7 +1,11 @@
 -- The types that constants have, and those that words name.
-use Rattle.std.specs.Prelude.{ℕ, nat_le, if◌then◌else◌}
+-- Source: Dynamic Tracing Guide, "Constants".
+use Rattle.std.specs.Prelude.{ℕ, nat_le, if◌then◌else◌, take, Option, Some, None, List, map}
 use Rattle.d_types.specs.Vocabulary.{Suffix, IntegerType, DeclaredType, IntType, DType, INT8, INT16}
-use Rattle.d_types.specs.Vocabulary.{INT32, INT64, UINT8, UINT16, UINT32, UINT64}
+use Rattle.d_types.specs.Vocabulary.{INT32, INT64, UINT8, UINT16, UINT32, UINT64, Constant, Tree}
+use Rattle.d_types.specs.Vocabulary.{longest, Kind}
+use Rattle.d_types.specs.Typed.{Typed}
+use Rattle.d_types.specs.Variables.{kind_of_type}
 
 -- the first of int, long and unsigned long that holds the value
 abbrev pub unsuffixed_type : ℕ → IntType
@@ -35,3 +39,15 @@ int_type IntegerType.Uint64 = UINT64
 abbrev pub declared_type : DeclaredType → DType
 declared_type (DeclaredType.Integer t) = DType.Int (int_type t)
 declared_type DeclaredType.Text = DType.Text
+
+-- a text is cut to its first bytes
+abbrev pub constant : Constant → Typed
+constant (Constant.Number v suffix) = Typed.Constant (type_of_constant v suffix) v
+constant (Constant.Text bytes) = Typed.Text (take longest bytes)
+
+abbrev pub text_of_constant : Tree → Option (List ℕ)
+text_of_constant (Tree.Known line (Constant.Text bytes)) = Some bytes
+text_of_constant t = None
+
+abbrev pub declared_kinds : List DeclaredType → List Kind
+declared_kinds all = map (λ t. kind_of_type (declared_type t)) all

@@ -1,4 +1,5 @@
 -- What an expression means: its value, or the fault, and the variables after it.
+-- Source: Dynamic Tracing Guide, "Types, Operators, and Expressions".
 use Rattle.std.specs.Prelude.{ℕ, zero, suc, List, [], ◌∷◌, length, Bool, true, false, Result, Ok}
 use Rattle.std.specs.Prelude.{Err, pos, get_or}
 use Rattle.d_types.specs.Vocabulary.{cast_unsigned, w64, UnaryOperator, Step, OutOfZero, IntType}

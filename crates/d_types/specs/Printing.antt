@@ -1,4 +1,5 @@
 -- The texts that trace and printf make of values.
+-- Source: Dynamic Tracing Guide, "Output Formatting".
 use Rattle.std.specs.Prelude.{ℕ, ◌+◌, ◌-◌, ◌%◌, ◌^◌, List, [], ◌∷◌, ◌++◌, length, replicate, Bool}
 use Rattle.std.specs.Prelude.{false, if◌then◌else◌, ℤ, pos, int_lt, unsigned_abs}
 use Rattle.std.specs.Fmt.{signed_decimal, digits}

@@ -1,4 +1,5 @@
 -- What the text of a format means.
+-- Source: Dynamic Tracing Guide, "Output Formatting".
 use Rattle.std.specs.Prelude.{◌≡◌, ℕ, zero, suc, ◌≤◌, ◌==◌, ◌||◌, ◌⊎◌, Bool, false, if◌then◌else◌}
 use Rattle.std.specs.Prelude.{List, [], ◌∷◌, ◌++◌, codes}
 use Rattle.d_types.specs.Vocabulary.{decimal, MOST_WIDTH, Letter, Conversion, Piece}

@@ -58,11 +58,6 @@ abbrev pub typeds_of : List TypedExpr → Typeds
 typeds_of [] = end
 typeds_of (a ∷ rest) = more (typed_of a) (typeds_of rest)
 
--- with one more at the end
-abbrev pub with_typed : Typeds → Typed → Typeds
-with_typed end x = more x end
-with_typed (more y rest) x = more y (with_typed rest x)
-
 -- ---- the type of a value
 
 abbrev pub type_of_built_in : BuiltIn → DType

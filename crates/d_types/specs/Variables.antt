@@ -1,4 +1,5 @@
 -- The table of variables.
+-- Source: Dynamic Tracing Guide, "Variables".
 use Rattle.std.specs.Prelude.{ℕ, zero, suc, ◌+◌, Bool, true, false, ◌&&◌, if◌then◌else◌, List, []}
 use Rattle.std.specs.Prelude.{◌∷◌, map, Option, Some, None}
 use denote.Enum.Bare.{sameb}

@@ -1,4 +1,5 @@
 -- What words name.
+-- Source: Dynamic Tracing Guide, "Built-in Variables" and "Actions and Subroutines".
 use Rattle.std.specs.Prelude.{ℕ, ◌-◌, List, [], ◌∷◌, codes, Option, Some, None, ◌&&◌}
 use Rattle.std.specs.Prelude.{if◌then◌else◌}
 use Rattle.std.specs.Char.{is_ascii_digit}

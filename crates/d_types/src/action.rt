@@ -1,11 +1,13 @@
 //! Expressions as statements, and actions.
 
 ghost use Rattle.std.specs.Prelude.{◌≡◌, option_map};
-ghost use Rattle.d_types.specs.{Faults.Gives, Words.callee_named};
+ghost use Rattle.d_types.specs.Steps.Faults.{Gives};
+ghost use Rattle.d_types.specs.Words.{callee_named};
 ghost use Rattle.d_types.specs.Steps.Variables.{rows_of_entries};
 ghost use Rattle.d_types.specs.Vocabulary.{tree_of, trees_of, Tree};
 ghost use Rattle.d_types.specs.Typed.{typeds_of, action_of, Typeds};
-ghost use Rattle.d_types.specs.Statements as spec;
+ghost use Rattle.d_types.specs.Steps.Statements as spec;
+ghost use Rattle.d_types.specs.Constants.{text_of_constant};
 
 use crate::calls::only;
 use crate::expression::whole;
@@ -117,7 +119,7 @@ fn print(
 
 /// The bytes of a text constant.
 fn text_of(e: &Expr) -> Option<&ByteString>
-    ensures { option_map (λ b. b.now) result ≡ spec.text_of_constant (tree_of e.now) }
+    ensures { option_map (λ b. b.now) result ≡ text_of_constant (tree_of e.now) }
 {
     match e {
         Expr::Constant {

@@ -2,12 +2,12 @@
 
 ghost use Rattle.std.specs.Prelude.{◌≡◌, ◌++◌, ◌∷◌, [], IfOk, OnOk, Some, None, length, option_map};
 ghost use Rattle.d_types.specs.Vocabulary.{tree_of, trees_of};
-ghost use Rattle.d_types.specs.Faults.{Gives};
-ghost use Rattle.d_types.specs.Steps.Faults.{OnlyMemory};
+ghost use Rattle.d_types.specs.Steps.Faults.{Gives, OnlyMemory};
 ghost use Rattle.d_types.specs.Typed.{typed_of, typeds_of, action_of, aggs_of, Aggs, agg_of};
 ghost use Rattle.d_types.specs.Variables.{kinds_of_typed};
 ghost use Rattle.d_types.specs.Steps.Variables.{rows_of_entries};
 ghost use Rattle.d_types.specs.Aggregations as spec;
+ghost use Rattle.d_types.specs.Steps.Aggregations as steps;
 
 use crate::action::wholes;
 use crate::fault::TypeFault;
@@ -226,7 +226,7 @@ fn known_place(
     usage: AggregationUse<'_>,
 ) -> Result<usize, TypeFault>
     ensures { (aggs : Aggs) → Gives (λ p. (p, aggs)) result
-        (spec.place_for usage.entry.line usage.entry.name.now
+        (steps.place_for usage.entry.line usage.entry.name.now
         (typeds_of usage.entry.keys.now) usage.entry.function aggs
         (Some (place, agg_of known.now))) }
 {
@@ -275,7 +275,7 @@ fn new_place(
     usage: AggregationUse<'_>,
 ) -> Result<usize, TypeFault>
     ensures { Gives (λ place. (place, aggs_of aggs.new.items)) result
-        (spec.place_for usage.entry.line usage.entry.name.now
+        (steps.place_for usage.entry.line usage.entry.name.now
         (typeds_of usage.entry.keys.now) usage.entry.function
         (aggs_of aggs.old.items) None) }
 {
@@ -297,7 +297,7 @@ fn place_for(
     usage: AggregationUse<'_>,
 ) -> Result<usize, TypeFault>
     ensures { Gives (λ place. (place, aggs_of aggs.new.items)) result
-        (spec.place_for usage.entry.line usage.entry.name.now
+        (steps.place_for usage.entry.line usage.entry.name.now
         (typeds_of usage.entry.keys.now) usage.entry.function
         (aggs_of aggs.old.items) (spec.find_from 0 usage.entry.name.now (aggs_of aggs.old.items))) }
 {
@@ -328,7 +328,7 @@ pub(crate) fn aggregate(
       action_of s,
       (rows_of_entries table.new.items, aggs_of aggs.new.items),
     )) result
-        (spec.aggregate written.entry.line written.entry.name.now (trees_of written.entry.keys.now)
+        (steps.aggregate written.entry.line written.entry.name.now (trees_of written.entry.keys.now)
         written.entry.function.now (trees_of written.entry.arguments.now)
         (rows_of_entries table.old.items) (aggs_of aggs.old.items)) }
 {

@@ -1,15 +1,15 @@
 //! Assignments to a slot. None where the types don't fit.
 
 ghost use Rattle.std.specs.Prelude.{◌≡◌, IfOk, Some, None, option_map};
-ghost use Rattle.d_types.specs.Faults.{Gives};
-ghost use Rattle.d_types.specs.Steps.Faults.{OnlyMemory};
+ghost use Rattle.d_types.specs.Steps.Faults.{Gives, OnlyMemory};
 ghost use Rattle.d_types.specs.Typed.{typed_of, typeds_of, Typed, type_of};
 ghost use Rattle.d_types.specs.{Operators.conversion_node};
 ghost use Rattle.d_types.specs.Vocabulary.{common_of, Int};
 ghost use Rattle.d_types.specs.Variables.{type_at};
 ghost use Rattle.d_types.specs.Steps.Variables.{rows_of_entries};
 ghost use Rattle.d_types.specs.Targets as spec;
-ghost use Rattle.d_types.specs.Typing.{fitting, beside};
+ghost use Rattle.d_types.specs.Steps.Targets as steps;
+ghost use Rattle.d_types.specs.Steps.Typing.{fitting, beside};
 
 use crate::constants::integer;
 use crate::fault::TypeFault;
@@ -102,7 +102,7 @@ fn store_first(
     x: TypedExpr,
 ) -> Result<Option<TypedExpr>, TypeFault>
     ensures ok { IfOk result (λ y. option_map (λ z. (typed_of z, rows_of_entries table.new)) y
-        ≡ spec.store to.space None to.slot (typeds_of to.keys.items) (typed_of x)
+        ≡ steps.store to.space None to.slot (typeds_of to.keys.items) (typed_of x)
         (rows_of_entries table.old)) }
     ensures err { OnlyMemory result }
 {
@@ -118,7 +118,7 @@ fn store(
     x: TypedExpr,
 ) -> Result<Option<TypedExpr>, TypeFault>
     ensures ok { IfOk result (λ y. option_map (λ z. (typed_of z, rows_of_entries table.new)) y
-        ≡ spec.store to.space (type_at (rows_of_entries table.old) to.slot) to.slot
+        ≡ steps.store to.space (type_at (rows_of_entries table.old) to.slot) to.slot
         (typeds_of to.keys.items) (typed_of x) (rows_of_entries table.old)) }
     ensures err { OnlyMemory result }
 {
@@ -160,7 +160,7 @@ pub(crate) fn assignment(
     x: TypedExpr,
 ) -> Result<Option<TypedExpr>, TypeFault>
     ensures ok { IfOk result (λ y. option_map (λ z. (typed_of z, rows_of_entries table.new)) y
-        ≡ spec.assignment sort to.space (type_at (rows_of_entries table.old) to.slot)
+        ≡ steps.assignment sort to.space (type_at (rows_of_entries table.old) to.slot)
         (type_of (typed_of x)) to.slot (typeds_of to.keys.items) (typed_of x)
         (rows_of_entries table.old)) }
     ensures err { OnlyMemory result }
@@ -198,7 +198,7 @@ pub(crate) fn step(
 ) -> Result<TypedExpr, TypeFault>
     ensures { Gives (λ x. (typed_of x, rows_of_entries table.now)) result
         (fitting operator.line (beside (rows_of_entries table.now)
-        (spec.step operator.by operator.answer to.space
+        (steps.step operator.by operator.answer to.space
         (type_at (rows_of_entries table.now) to.slot) to.slot (typeds_of to.keys.items)))) }
 {
     match type_at(table, to.slot) {

@@ -3,7 +3,7 @@
 ghost use Rattle.std.specs.Prelude.{◌≡◌, IfOk, option_map, Some};
 ghost use Rattle.d_types.specs.Typed.{typed_of, typeds_of, type_of, Typed};
 ghost use Rattle.d_types.specs.Steps.Faults.{OnlyMemory};
-ghost use Rattle.d_types.specs.Typing as spec;
+ghost use Rattle.d_types.specs.Steps.Typing as spec;
 
 use crate::fault::TypeFault;
 use crate::operations::{boxed, boxed_two};

@@ -1,12 +1,12 @@
 //! From scripts to typed scripts.
 
-ghost use Rattle.std.specs.Prelude.{[], map, IfOk};
-ghost use Rattle.d_types.specs.{Faults.Gives, Fitting.ScriptFits, TypedScripts.typed_script_of};
-ghost use Rattle.d_types.specs.{WellTyped.IsWell};
+ghost use Rattle.std.specs.Prelude.{[], map};
+ghost use Rattle.d_types.specs.Steps.Faults.{Gives};
+ghost use Rattle.d_types.specs.TypedScripts.{typed_script_of, IsCheckOf};
 ghost use Rattle.d_types.specs.Steps.Variables.{rows_of_entries};
 ghost use Rattle.d_types.specs.Vocabulary.{AreSmall, IsWithin, item_of, script_of};
-ghost use Rattle.d_types.specs.Typed.{ScriptMeant, meant_of, aggs_of};
-ghost use Rattle.d_types.specs.Scripts as spec;
+ghost use Rattle.d_types.specs.Typed.{meant_of, aggs_of};
+ghost use Rattle.d_types.specs.Steps.Scripts as spec;
 
 use crate::clause::clause;
 use crate::declaration::declaration;
@@ -94,14 +94,7 @@ fn typed_script(alloc: Global, script: Script) -> Result<TypedScript, TypeFault>
 pub fn check(alloc: Global, script: Script) -> Result<TypedScript, TypeFault>
     requires few { IsWithin MOST_BYTES (script_of script) }
     requires small { AreSmall (script_of script) }
-    // What is returned is what the script means by the rules.
-    ensures typed { IfOk result
-        (λ s. IsWell (script_of script) (typed_script_of s) × ScriptFits (typed_script_of s)) }
-    // Where the rules give a meaning it is returned, and no other, unless memory runs out.
-    ensures only { (m : ScriptMeant) → IsWell (script_of script) m → ScriptFits m
-        → Gives {Y = ScriptMeant} typed_script_of result (Ok m) }
-    // A fault is the first one, on its line, unless memory runs out.
-    ensures first { Gives typed_script_of result (spec.script (script_of script)) }
+    ensures { IsCheckOf (script_of script) result }
 {
     typed_script(alloc, script)
 }

@@ -1,11 +1,11 @@
 //! Clauses and their statements.
 
 ghost use Rattle.std.specs.Prelude.{[], Some, Ok};
-ghost use Rattle.d_types.specs.{Faults.Gives};
+ghost use Rattle.d_types.specs.Steps.Faults.{Gives};
 ghost use Rattle.d_types.specs.Steps.Variables.{rows_of_entries};
 ghost use Rattle.d_types.specs.Vocabulary.{tree_of, stmt_of, stmts_of, predicate_of, clause_of};
 ghost use Rattle.d_types.specs.Typed.{action_of, actions_of, typed_argument, meant_of, aggs_of};
-ghost use Rattle.d_types.specs.Scripts as spec;
+ghost use Rattle.d_types.specs.Steps.Scripts as spec;
 
 use crate::action::action;
 use crate::aggregation::{WrittenAggregation, aggregate};

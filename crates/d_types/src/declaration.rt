@@ -2,11 +2,11 @@
 
 ghost use Rattle.std.specs.Prelude.{◌≡◌, ◌++◌, ◌∷◌, [], IfOk, OnOk, Some};
 ghost use Rattle.d_types.specs.{Vocabulary.declaration_of, Constants.declared_type};
-ghost use Rattle.d_types.specs.Faults.{Gives};
-ghost use Rattle.d_types.specs.Steps.Faults.{OnlyMemory};
+ghost use Rattle.d_types.specs.Steps.Faults.{Gives, OnlyMemory};
 ghost use Rattle.d_types.specs.Variables.{find};
 ghost use Rattle.d_types.specs.Steps.Variables.{rows_of_entries};
-ghost use Rattle.d_types.specs.Scripts as spec;
+ghost use Rattle.d_types.specs.Steps.Scripts as spec;
+ghost use Rattle.d_types.specs.Constants.{declared_kinds};
 
 use crate::constants::declared_type;
 use crate::fault::TypeFault;
@@ -17,7 +17,7 @@ use d_values::Kind;
 use std::alloc::{AllocError, Global};
 
 fn declared_kinds(alloc: Global, keys: &[DeclaredType]) -> Result<Vec<Kind>, AllocError>
-    ensures { IfOk result (λ kinds. kinds.items ≡ spec.declared_kinds keys.now) }
+    ensures { IfOk result (λ kinds. kinds.items ≡ declared_kinds keys.now) }
 {
     keys.iter()
         .map(|key| kind_of(declared_type(*key)))
@@ -36,7 +36,7 @@ fn add_declared(
         ++ record {
           space = variable.entry.space;
           word = variable.entry.name.now;
-          keys = spec.declared_kinds keys.now;
+          keys = declared_kinds keys.now;
           holds = Some (declared_type declared);
         } ∷ []) }
     ensures err { OnlyMemory result }

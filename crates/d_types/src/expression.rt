@@ -3,16 +3,16 @@
 ghost use Rattle.std.specs.Prelude.{◌≡◌, IfOk, option_map};
 ghost use Rattle.d_types.specs.Steps.Variables.{rows_of_entries};
 ghost use Rattle.d_types.specs.Vocabulary.{tree_of, trees_of, Tree, Int};
-ghost use Rattle.d_types.specs.Faults.{Gives};
-ghost use Rattle.d_types.specs.Steps.Faults.{OnlyMemory};
+ghost use Rattle.d_types.specs.Steps.Faults.{Gives, OnlyMemory};
 ghost use Rattle.d_types.specs.Typed.{typed_of, typeds_of, type_of, Typeds};
 ghost use Rattle.d_types.specs.Variables.{Rows, type_at};
 ghost use Rattle.d_types.specs.{Words.callee_named};
 ghost use Rattle.d_types.specs.Constants as constants;
-ghost use Rattle.d_types.specs.Operators as operators;
+ghost use Rattle.d_types.specs.Steps.Operators as operators;
 ghost use Rattle.d_types.specs.Targets as targets;
-ghost use Rattle.d_types.specs.Typing as spec;
-ghost use Rattle.d_types.specs.Steps.Typing as steps;
+ghost use Rattle.d_types.specs.Steps.Targets as target_steps;
+ghost use Rattle.d_types.specs.Steps.Typing as spec;
+ghost use Rattle.d_types.specs.Lines.{line_of};
 
 use crate::assignments::{Assignee, StepOperator, assignment, step, type_at_once};
 use crate::calls::call;
@@ -34,7 +34,7 @@ use std::alloc::Global;
 
 /// The line of the first token.
 pub(crate) fn line_of(e: &Expr) -> usize
-    ensures { result ≡ spec.line_of (tree_of e.now) }
+    ensures { result ≡ line_of (tree_of e.now) }
 {
     match e {
         Expr::Constant { line, .. } => *line,
@@ -63,7 +63,7 @@ fn typed_or_mismatch(line: usize, typed: Option<TypedExpr>) -> Result<TypedExpr,
 
 // A text is cut to its first 255 bytes.
 fn constant_expr(alloc: Global, constant: &Constant) -> Result<TypedExpr, TypeFault>
-    ensures ok { IfOk result (λ x. typed_of x ≡ spec.constant constant.now) }
+    ensures ok { IfOk result (λ x. typed_of x ≡ constants.constant constant.now) }
     ensures err { OnlyMemory result }
 {
     match constant {
@@ -388,7 +388,7 @@ fn assign_rest(
     value: &Expr,
 ) -> Result<TypedExpr, TypeFault>
     ensures { Gives (λ x. (typed_of x, rows_of_entries table.new.items)) result
-        (steps.assign_rest (rows_of_entries table.old.items) operator to.entry.variable.now
+        (spec.assign_rest (rows_of_entries table.old.items) operator to.entry.variable.now
         (typeds_of to.entry.keys.items) (tree_of value.now)) }
 {
     let line = line_of_variable(to.variable);
@@ -406,7 +406,7 @@ fn assignee(
     to: TypedTarget<'_>,
 ) -> Result<Assignee, TypeFault>
     ensures slot { Gives (λ a. (a.slot, rows_of_entries table.new.items)) result
-        (targets.target (rows_of_entries table.old.items) to.entry.variable.now
+        (target_steps.target (rows_of_entries table.old.items) to.entry.variable.now
         (targets.type_at_once sort) (typeds_of to.entry.keys.items)) }
     ensures rest { IfOk result (λ a. (a.space ≡ targets.space_of to.entry.variable.now)
         × (a.keys ≡ to.entry.keys)) }
@@ -428,7 +428,7 @@ fn assignment_rest(
 ) -> Result<TypedExpr, TypeFault>
     ensures { Gives (λ y. (typed_of y, rows_of_entries table.new)) result
         (spec.fitting line
-        (targets.assignment sort to.space (type_at (rows_of_entries table.old) to.slot)
+        (target_steps.assignment sort to.space (type_at (rows_of_entries table.old) to.slot)
         (type_of (typed_of x)) to.slot (typeds_of to.keys.items) (typed_of x)
         (rows_of_entries table.old))) }
 {

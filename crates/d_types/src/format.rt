@@ -4,6 +4,7 @@ ghost use Rattle.std.specs.Prelude.{◌≡◌, IfOk, OnOk, option_map, []};
 ghost use Rattle.d_types.specs.{Typed.typeds_of};
 ghost use Rattle.d_types.specs.Steps.Faults.{OnlyMemory};
 ghost use Rattle.d_types.specs.Formats as spec;
+ghost use Rattle.d_types.specs.Steps.Formats as steps;
 
 use crate::fault::TypeFault;
 use crate::typed::{Conversion, Letter, Piece, TypedExpr};
@@ -50,7 +51,7 @@ pub enum Place {
 type Turn = Option<(Place, Option<Piece>)>;
 
 fn letter_of(byte: u8) -> Option<Letter>
-    ensures { result ≡ spec.letter_of byte }
+    ensures { result ≡ steps.letter_of byte }
 {
     match byte {
         b'd' | b'i' => Some(Letter::Signed),
@@ -63,7 +64,7 @@ fn letter_of(byte: u8) -> Option<Letter>
 }
 
 fn at_letter(flags: Flags, byte: u8) -> Turn
-    ensures { result ≡ spec.at_letter flags byte }
+    ensures { result ≡ steps.at_letter flags byte }
 {
     match letter_of(byte) {
         Some(letter) => {
@@ -80,7 +81,7 @@ fn at_letter(flags: Flags, byte: u8) -> Turn
 }
 
 fn at_length(flags: Flags, byte: u8) -> Turn
-    ensures { result ≡ spec.at_length flags byte }
+    ensures { result ≡ steps.at_length flags byte }
 {
     if byte == b'h' {
         Some((Place::Half(flags), None))
@@ -92,7 +93,7 @@ fn at_length(flags: Flags, byte: u8) -> Turn
 }
 
 fn at_width(flags: Flags, byte: u8) -> Turn
-    ensures { result ≡ spec.at_width flags byte }
+    ensures { result ≡ steps.at_width flags byte }
 {
     if !byte.is_ascii_digit() {
         return at_length(flags, byte);
@@ -106,7 +107,7 @@ fn at_width(flags: Flags, byte: u8) -> Turn
 }
 
 fn at_flags(flags: Flags, byte: u8) -> Turn
-    ensures { result ≡ spec.at_flags flags byte }
+    ensures { result ≡ steps.at_flags flags byte }
 {
     if byte == b'-' {
         let left = true;
@@ -120,7 +121,7 @@ fn at_flags(flags: Flags, byte: u8) -> Turn
 }
 
 fn turn(place: Place, byte: u8) -> Turn
-    ensures { result ≡ spec.turn place byte }
+    ensures { result ≡ steps.turn place byte }
 {
     match place {
         Place::Outside if byte == b'%' => Some((Place::Opened, None)),
@@ -136,13 +137,13 @@ fn turn(place: Place, byte: u8) -> Turn
 }
 
 fn is_outside(place: Place) -> bool
-    ensures { result ≡ spec.is_outside place }
+    ensures { result ≡ steps.is_outside place }
 {
     matches!(place, Place::Outside)
 }
 
 fn add(pieces: &mut Vec<Piece>, ended: Option<Piece>) -> Result<(), TypeFault>
-    ensures ok { OnOk result (pieces.new.items ≡ spec.with_piece pieces.old.items ended) }
+    ensures ok { OnOk result (pieces.new.items ≡ steps.with_piece pieces.old.items ended) }
     ensures err { OnlyMemory result }
 {
     if let Some(piece) = ended {
@@ -153,7 +154,7 @@ fn add(pieces: &mut Vec<Piece>, ended: Option<Piece>) -> Result<(), TypeFault>
 
 /// The pieces of a format. None where it has an unknown conversion.
 pub(crate) fn pieces(alloc: Global, format: &[u8]) -> Result<Option<Vec<Piece>>, TypeFault>
-    ensures ok { IfOk result (λ ps. option_map (λ v. v.items) ps ≡ spec.pieces format.now) }
+    ensures ok { IfOk result (λ ps. option_map (λ v. v.items) ps ≡ steps.pieces format.now) }
     ensures err { OnlyMemory result }
 {
     let mut done = Vec::new(alloc);

@@ -1,26 +1,22 @@
-//! Laws of typing: what the rules, the first faults and typed scripts have in common.
+//! Laws of typing: what checks, typed scripts and formats have in common.
 
-ghost use Rattle.std.specs.Prelude.{◌≡◌, ◌≤◌, ◌^◌, ◌↔◌, ℕ, List, Ok, Some, length};
-ghost use Rattle.d_types.specs.Vocabulary.{MOST_BYTES, in_all, Firing, Piece, ItemTree, Tree};
-ghost use Rattle.d_types.specs.{Clauses.run_of, Storage.Variables, Fitting.ScriptFits};
-ghost use Rattle.d_types.specs.{Formats.pieces, Proper.IsProperScript, Rules.Types};
-ghost use Rattle.d_types.specs.{Spelling.SpellsFormat, Typing.expr, Variables.Rows};
-ghost use Rattle.d_types.specs.{WellTyped.IsWell};
-ghost use Rattle.d_types.specs.Scripts.{IsMeant, script};
+ghost use Rattle.std.specs.Prelude.{◌≡◌, ◌≤◌, ◌^◌, ℕ, List, Result, Err, length};
+ghost use Rattle.d_types.specs.Vocabulary.{MOST_BYTES, in_all, Firing, Piece, ItemTree, TypeFault};
+ghost use Rattle.d_types.specs.{Checking.IsChecked, Clauses.run_of, Fitting.ScriptFits};
+ghost use Rattle.d_types.specs.{Proper.IsProperScript, Scripts.IsMeant, Spelling.SpellsFormat};
+ghost use Rattle.d_types.specs.{Storage.Variables};
 ghost use Rattle.d_types.specs.Sizes.{HasAtMost, most_runs};
-ghost use Rattle.d_types.specs.Typed.{ClauseMeant, ScriptMeant, Typed};
+ghost use Rattle.d_types.specs.Typed.{ClauseMeant, ScriptMeant};
 
-/// An expression is given a typed tree exactly where the rules give it that tree, whatever the
-/// variables before it.
-pub fn typed_by_the_rules()
-    ensures { (rows after : Rows) (t : Tree) (z : Typed)
-        → (expr rows t ≡ Ok (z, after)) ↔ Types rows t z after }
-{}
-
-/// The rules give an expression one typed tree at most, and one table of variables after it.
-pub fn one_typed_tree()
-    ensures { (rows m n : Rows) (t : Tree) (y z : Typed) → Types rows t y m → Types rows t z n
-        → (y ≡ z) × (m ≡ n) }
+/// Every script has a meaning or a first fault, and no more than one of them. That memory ran out is
+/// no fault of a script.
+pub fn one_answer()
+    ensures some { (source : List ItemTree)
+        → ∥ ((answer : Result ScriptMeant TypeFault) × IsChecked source answer) ∥₁ }
+    ensures only { (source : List ItemTree) (a b : Result ScriptMeant TypeFault)
+        → IsChecked source a → IsChecked source b
+        → a ≡ b }
+    ensures named { (source : List ItemTree) → ¬ IsChecked source (Err TypeFault.Memory) }
 {}
 
 /// Every whole expression of a typed script needs six registers at most.
@@ -48,25 +44,6 @@ pub fn contributions_are_few()
     ensures run { (f : Firing) (place : ℕ) (clause : ClauseMeant) (vars : Variables)
         → length (run_of f place clause vars).contributions ≤ length clause.statements }
     ensures firing { (m : ScriptMeant) → ∥ IsMeant m ∥₁ → in_all most_runs m.clauses ≤ 2 ^ 32 }
-{}
-
-/// A script is given a meaning exactly where the rules give it that meaning: where it is well
-/// typed, and each of its whole expressions needs six registers at most.
-pub fn scripts_by_the_rules()
-    ensures { (source : List ItemTree) (m : ScriptMeant)
-        → (script source ≡ Ok m) ↔ (IsWell source m × ScriptFits m) }
-{}
-
-/// The rules give a script one meaning at most.
-pub fn one_meaning()
-    ensures { (source : List ItemTree) (m n : ScriptMeant) → IsWell source m → IsWell source n
-        → m ≡ n }
-{}
-
-/// A format is read exactly where it is spelled by pieces, and as these pieces.
-pub fn formats_spelled()
-    ensures { (format : List ℕ) (ps : List Piece)
-        → (pieces format ≡ Some ps) ↔ SpellsFormat ps format }
 {}
 
 /// A format is spelled by one list of pieces at most.

@@ -8,6 +8,7 @@ ghost use Rattle.d_types.specs.Vocabulary.{common_of, promoted_of, Int, Text};
 ghost use Rattle.d_types.specs.{Typed.typed_of, Typed.Typed, Typed.type_of};
 ghost use Rattle.d_types.specs.Steps.Faults.{OnlyMemory};
 ghost use Rattle.d_types.specs.Operators as spec;
+ghost use Rattle.d_types.specs.Steps.Operators as steps;
 
 use crate::fault::TypeFault;
 use crate::operators::BinarySort;
@@ -79,7 +80,7 @@ pub(crate) fn as_type(
     x: TypedExpr,
 ) -> Result<Option<TypedExpr>, TypeFault>
     ensures ok { IfOk result
-        (λ y. option_map typed_of y ≡ spec.as_type (type_of (typed_of x)) to (typed_of x)) }
+        (λ y. option_map typed_of y ≡ steps.as_type (type_of (typed_of x)) to (typed_of x)) }
     ensures err { OnlyMemory result }
 {
     match (x.type_of(), to) {
@@ -101,7 +102,7 @@ pub(crate) fn unary(
     x: TypedExpr,
 ) -> Result<Option<TypedExpr>, TypeFault>
     ensures ok { IfOk result
-        (λ y. option_map typed_of y ≡ spec.unary operator (type_of (typed_of x)) (typed_of x)) }
+        (λ y. option_map typed_of y ≡ steps.unary operator (type_of (typed_of x)) (typed_of x)) }
     ensures err { OnlyMemory result }
 {
     match x.type_of() {
@@ -217,7 +218,7 @@ fn of_integers(
     y: TypedExpr,
 ) -> Result<Option<TypedExpr>, TypeFault>
     ensures ok { IfOk result (λ z. option_map typed_of z
-        ≡ spec.operation_by sort (Int types.0) (Int types.1) (typed_of x) (typed_of y)) }
+        ≡ steps.operation_by sort (Int types.0) (Int types.1) (typed_of x) (typed_of y)) }
     ensures err { OnlyMemory result }
 {
     let (t, u) = types;
@@ -243,7 +244,7 @@ fn of_texts(
     y: TypedExpr,
 ) -> Result<Option<TypedExpr>, TypeFault>
     ensures ok { IfOk result (λ z. option_map typed_of z
-        ≡ spec.operation_by sort Text Text (typed_of x) (typed_of y)) }
+        ≡ steps.operation_by sort Text Text (typed_of x) (typed_of y)) }
     ensures err { OnlyMemory result }
 {
     match sort {
@@ -264,7 +265,7 @@ pub(crate) fn binary(
     y: TypedExpr,
 ) -> Result<Option<TypedExpr>, TypeFault>
     ensures ok { IfOk result
-        (λ z. option_map typed_of z ≡ spec.operation_by sort (type_of (typed_of x))
+        (λ z. option_map typed_of z ≡ steps.operation_by sort (type_of (typed_of x))
         (type_of (typed_of y)) (typed_of x) (typed_of y)) }
     ensures err { OnlyMemory result }
 {
@@ -322,7 +323,7 @@ pub(crate) fn choice(
     y: TypedExpr,
     z: TypedExpr,
 ) -> Result<Option<TypedExpr>, TypeFault>
-    ensures ok { IfOk result (λ w. option_map typed_of w ≡ spec.choice (type_of (typed_of x))
+    ensures ok { IfOk result (λ w. option_map typed_of w ≡ steps.choice (type_of (typed_of x))
         (type_of (typed_of y)) (type_of (typed_of z)) (typed_of x) (typed_of y) (typed_of z)) }
     ensures err { OnlyMemory result }
 {

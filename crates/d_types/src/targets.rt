@@ -2,12 +2,13 @@
 
 ghost use Rattle.std.specs.Prelude.{◌≡◌, ◌++◌, ◌∷◌, [], IfOk, OnOk, Ok, Err, length};
 ghost use Rattle.std.specs.Prelude.{if◌then◌else◌};
-ghost use Rattle.d_types.specs.Faults.{Gives};
-ghost use Rattle.d_types.specs.Steps.Faults.{OnlyMemory};
+ghost use Rattle.d_types.specs.Steps.Faults.{Gives, OnlyMemory};
 ghost use Rattle.d_types.specs.Typed.{typed_of, typeds_of, Typed};
 ghost use Rattle.d_types.specs.Variables.{Rows, find, type_at};
 ghost use Rattle.d_types.specs.Steps.Variables.{rows_of_entries};
 ghost use Rattle.d_types.specs.Targets as spec;
+ghost use Rattle.d_types.specs.Steps.Targets as steps;
+ghost use Rattle.d_types.specs.Lines.{line_of_variable};
 
 use crate::fault::TypeFault;
 use crate::typed::{BuiltIn, Space, TypedExpr, Variable};
@@ -19,7 +20,7 @@ use std::alloc::Global;
 
 /// The line of a variable's first token.
 pub(crate) fn line_of_variable(variable: &d_parser::Variable) -> usize
-    ensures { result ≡ spec.line_of_variable variable.now }
+    ensures { result ≡ line_of_variable variable.now }
 {
     match variable {
         d_parser::Variable::Plain { line, .. } => *line,
@@ -57,7 +58,7 @@ fn read_of(variable: Variable, keys: Vec<TypedExpr>) -> TypedExpr
 }
 
 fn plain(line: usize, named: Option<BuiltIn>, keys: &[TypedExpr]) -> Result<TypedExpr, TypeFault>
-    ensures { Gives typed_of result (spec.plain line named (typeds_of keys.now)) }
+    ensures { Gives typed_of result (steps.plain line named (typeds_of keys.now)) }
 {
     match (named, keys) {
         (None, _) => Err(TypeFault::Undeclared { line }),
@@ -74,7 +75,7 @@ fn load_at(
     keys: Vec<TypedExpr>,
 ) -> Result<TypedExpr, TypeFault>
     ensures { Gives typed_of result
-        (spec.load_at space line (rows_of_entries table.now) found (typeds_of keys.items)) }
+        (steps.load_at space line (rows_of_entries table.now) found (typeds_of keys.items)) }
 {
     let Some(slot) = found else {
         return Err(TypeFault::Undeclared { line });
@@ -126,7 +127,7 @@ fn load(
     keys: Vec<TypedExpr>,
 ) -> Result<TypedExpr, TypeFault>
     ensures { Gives typed_of result
-        (spec.load_at variable.entry.space variable.entry.line (rows_of_entries table.now)
+        (steps.load_at variable.entry.space variable.entry.line (rows_of_entries table.now)
         (find variable.entry.space variable.entry.name.now (rows_of_entries table.now))
         (typeds_of keys.items)) }
 {
@@ -141,7 +142,7 @@ pub(crate) fn read(
     keys: Vec<TypedExpr>,
 ) -> Result<TypedExpr, TypeFault>
     ensures { Gives typed_of result
-        (spec.read_variable (rows_of_entries table.now) variable.now (typeds_of keys.items)) }
+        (steps.read_variable (rows_of_entries table.now) variable.now (typeds_of keys.items)) }
 {
     match variable {
         d_parser::Variable::Plain { line, name } => plain(*line, built_in(name.as_slice()), &keys),
@@ -170,7 +171,7 @@ fn plain_target(
     keys: &[TypedExpr],
 ) -> Result<usize, TypeFault>
     ensures { (rows : Rows) → Gives (λ slot. (slot, rows)) result
-        (spec.plain_target line name.now named (typeds_of keys.now)) }
+        (steps.plain_target line name.now named (typeds_of keys.now)) }
 {
     match (named, keys) {
         (None, _) => {
@@ -248,7 +249,7 @@ fn slot_for(
     keys: &[TypedExpr],
 ) -> Result<usize, TypeFault>
     ensures { Gives (λ slot. (slot, rows_of_entries table.new.items)) result
-        (spec.slot_for variable.entry.space variable.entry.line variable.entry.name.now
+        (steps.slot_for variable.entry.space variable.entry.line variable.entry.name.now
         (rows_of_entries table.old.items)
         holds (typeds_of keys.now)
         (find variable.entry.space variable.entry.name.now (rows_of_entries table.old.items))) }
@@ -275,7 +276,7 @@ pub(crate) fn target(
     keys: &[TypedExpr],
 ) -> Result<usize, TypeFault>
     ensures { Gives (λ slot. (slot, rows_of_entries table.new.items)) result
-        (spec.target (rows_of_entries table.old.items) variable.now holds (typeds_of keys.now)) }
+        (steps.target (rows_of_entries table.old.items) variable.now holds (typeds_of keys.now)) }
 {
     match variable {
         d_parser::Variable::Plain { line, name } => {

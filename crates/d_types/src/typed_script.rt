@@ -70,16 +70,4 @@ impl TypedScript {
     {
         self.aggregations.iter().map(|a| a.function).collect(alloc)
     }
-
-    /// The type of each variable, by its slot.
-    ///
-    /// ```text
-    /// // of a script whose only assignment is `this->x = 1`
-    /// script.slots().len(); // 1
-    /// ```
-    pub fn slots(&self) -> &[Option<DType>]
-        ensures { result.now ≡ self.now.slots.items }
-    {
-        &self.slots
-    }
 }

@@ -1,4 +1,5 @@
 -- The numbers that words stand for, and the operators on numbers.
+-- Source: Dynamic Tracing Guide, "Arithmetic Operators" and "Bitwise Operators".
 use Rattle.std.specs.Prelude.{◌≡◌, ℕ, ◌-◌, ◌^◌, ℤ, pos, neg_ℤ, ◌+ℤ◌, ◌-ℤ◌, ◌*ℤ◌, ◌≤ℤ◌, ◌<ℤ◌, Bool}
 use Rattle.std.specs.Prelude.{◌&&◌, nat_le, if◌then◌else◌, bit_and, bit_or, bit_xor, int_div}
 use Rattle.std.specs.Prelude.{int_rem, unsigned_abs}

@@ -1,4 +1,5 @@
 -- The variables that an evaluation reads and changes.
+-- Source: Dynamic Tracing Guide, "Variables".
 use Rattle.std.specs.Prelude.{ℕ, List, []}
 use Rattle.d_values.specs.Vocabulary.{KeyPart, Kind, Value, Var}
 use Rattle.d_values.specs.declared.value.Value.TheVariants.{Int, Text}

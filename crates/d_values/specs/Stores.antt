@@ -1,4 +1,5 @@
 -- What variables hold.
+-- Source: Dynamic Tracing Guide, "Thread-Local Variables" and "Clause-Local Variables".
 use Rattle.std.specs.Prelude.{◌≡◌, Bool, true, false, ◌&&◌, ◌==◌, if◌then◌else◌, List, [], ◌∷◌}
 use Rattle.std.specs.Prelude.{Option, None, Some, unwrap_or}
 use Rattle.d_values.specs.Vocabulary.{lookup, KeyPart, Kind, Value, ValueRef, Var}

@@ -1,4 +1,5 @@
 -- Texts: when they are the same, their order, and how long they are.
+-- Source: Dynamic Tracing Guide, "Strings".
 use Rattle.std.specs.Prelude.{◌≡◌, ℕ, Bool, List, ◌++◌, take, nat_eq}
 use Rattle.std.specs.Bool.{Decides}
 use Rattle.std.specs.Cmp.{IsEquivalence, IsTotalOrder}

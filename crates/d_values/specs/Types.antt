@@ -1,4 +1,5 @@
 -- The types of integers.
+-- Source: Dynamic Tracing Guide, "Data Types and Sizes".
 use Rattle.std.specs.Prelude.{ℕ, ◌+◌, ◌*◌, true, false, nat_lt, if◌then◌else◌}
 use Rattle.std.proofs.Common.{refl}
 use Rattle.d_values.specs.declared.int_type.IntType.{IntType}

@@ -1,4 +1,5 @@
 -- Integers as 64-bit words.
+-- Source: Dynamic Tracing Guide, "Type Conversions".
 use Rattle.std.specs.Prelude.{ℕ, ◌+◌, ◌-◌, ◌*◌, ◌/◌, ◌%◌, ◌^◌, Bool, true, false, ◌&&◌, ◌==◌}
 use Rattle.std.specs.Prelude.{nat_le, if◌then◌else◌, Result, Ok, Err, bit_and, bit_or, bit_xor}
 use Rattle.std.specs.Prelude.{int_div, int_rem}

@@ -41,14 +41,25 @@ impl Model for ThreadTable {
 }
 
 impl ThreadTable {
-    /// Variables of which none is set. Their maps hash by this key.
+    /// Variables of which none is set. Their maps hash by a fixed key.
     ///
     /// ```text
-    /// let table = ThreadTable::new(alloc, hash_key);
+    /// let table = ThreadTable::new(alloc);
     /// let var = Var { slot: 0, kind: Kind::Text };
     /// table.get(var, &key); // ValueRef::Text(b"")
     /// ```
-    pub fn new(alloc: Global, hash_key: HashKey) -> ThreadTable
+    pub fn new(alloc: Global) -> ThreadTable
+        ensures { result ≡ [] }
+    {
+        ThreadTable::with_hash_key(alloc, HashKey::of_seed(&[]))
+    }
+
+    /// The same in maps that hash by this key.
+    ///
+    /// ```text
+    /// let table = ThreadTable::with_hash_key(alloc, HashKey::random(&rt));
+    /// ```
+    pub fn with_hash_key(alloc: Global, hash_key: HashKey) -> ThreadTable
         ensures { result ≡ [] }
     {
         ThreadTable {
@@ -74,7 +85,7 @@ impl ThreadTable {
     /// nothing was set.
     ///
     /// ```text
-    /// let mut table = ThreadTable::new(alloc, hash_key);
+    /// let mut table = ThreadTable::new(alloc);
     /// let var = Var { slot: 0, kind: Kind::Number };
     /// table.set(var, &key, Value::Int(5))?;
     /// table.get(var, &key); // ValueRef::Int(5)

@@ -19,10 +19,10 @@ pub struct TypedObject {
 
 impl TypedObject {
     ghost use Rattle.dif_codegen.specs.{Vocabulary.variables, Correct.Gives, Meaning.value_of};
-    ghost use Rattle.dif_machine.specs.Runs.{value_result};
+    ghost use Rattle.dif_machine.specs.Runs.{RunEnds, value_result};
 
     /// Runs it for a firing, in a frame that may have served other runs, and lends what it returns.
-    /// The variables keep the writes so far, even after a fault.
+    /// The variables keep the writes so far, even after a fault or where memory was refused.
     ///
     /// ```text
     /// // of `timestamp`, where the firing's time is 1000
@@ -36,7 +36,9 @@ impl TypedObject {
         locals: &mut ClauseLocals,
         own: &mut ThreadTable,
     ) -> Result<ValueRef<'a>, MachineFault>
-        ensures { Gives (value_of firing.now self.now.object (variables locals.old own.old))
+        ensures meant { Gives (value_of firing.now self.now.object (variables locals.old own.old))
+            (value_result result) (variables locals.new own.new) }
+        ensures run { RunEnds self.now.object firing.now (variables locals.old own.old)
             (value_result result) (variables locals.new own.new) }
     {
         // That it is valid.

@@ -1,4 +1,6 @@
 -- What instructions make of integers, of texts and of the tuple.
+-- Source: Cantrill, Shapiro and Leventhal, "Dynamic Instrumentation of Production Systems" (USENIX
+-- 2004), on DIF.
 use Rattle.std.specs.Prelude.{ℕ, Bool, List, [], ◌∷◌, length, Option, Some, None, Result, Ok}
 use Rattle.d_values.specs.Operators.{holds_of}
 use Rattle.d_values.specs.Texts.{text_cmp, joined_text}

@@ -1,5 +1,7 @@
 -- Instruction by instruction: what it reads, what it names, which tuple it takes, what it changes
 -- and where it leads. All other definitions speak of a row of this table.
+-- Source: Cantrill, Shapiro and Leventhal, "Dynamic Instrumentation of Production Systems" (USENIX
+-- 2004), on DIF.
 use Rattle.std.specs.Prelude.{ℕ, nat_lt, if◌then◌else◌}
 use Rattle.dif_validate.specs.Vocabulary.{Asks, Nothing, Any, One, Two, Flow, Next, Jump, Either}
 use Rattle.dif_validate.specs.Vocabulary.{End, Function, Strlen, Strjoin, Instr, Alu, Not, Mov, Cmp}

@@ -1,4 +1,6 @@
 -- Which objects are valid, and what the validator returns.
+-- Source: Cantrill, Shapiro and Leventhal, "Dynamic Instrumentation of Production Systems" (USENIX
+-- 2004), on DIF.
 use Rattle.std.specs.Prelude.{◌≡◌, ◌≢◌, ◌<◌, ℕ, ◌-◌, Bool, true, false, List, [], length, Option}
 use Rattle.std.specs.Prelude.{Some, None, Result, Ok, Err, slice_get}
 use Rattle.dif_validate.specs.Vocabulary.{DifFault, Empty, NoReturn, Backward, OutOfCode}

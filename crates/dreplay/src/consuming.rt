@@ -12,7 +12,7 @@ use std::sync::Wait;
 use std::thread::Threads;
 
 /// Reads a bundle to its end, runs its script over its trace, writes what the script shows and
-/// flushes the writer. Nothing is written unless there is an answer.
+/// flushes the writer. Nothing is written unless there is an answer. Maps hash by a fixed key.
 ///
 /// ```text
 /// // `BEGIN { trace(1); }`, a line `---` and a trace
@@ -39,10 +39,5 @@ pub fn consume<R: Threads + Wait + Sync, F: Feed + Send, S: Sink>(
         result) }
     ensures untouched { result ≢ Err ConsumeFault.Write → IfErr result (λ e. sink.new ≡ sink.old) }
 {
-    let consumer = Consumer {
-        rt,
-        alloc,
-        layout: Report,
-    };
-    consumer.consume(feed, sink, plan)
+    Consumer::new(rt, alloc, Report).consume(feed, sink, plan)
 }

@@ -3,16 +3,31 @@
 //! the script from the file of the option `-s`.
 #![tactic(auto)]
 
+#[cfg(test)]
+mod calls;
 pub mod consuming;
+#[cfg(test)]
+mod gates;
 mod help;
+#[cfg(test)]
+mod meeting;
 pub mod replaying;
+pub mod words;
 
+pub use consumer::{
+    ConsumeFault, EngineKind, GroupPlan, Plan, Refusal, Replayed, Request as Asked, UsageFault,
+    refusal_status, refusal_text,
+};
 use consumer::{Consumer, Streams, SystemFiles};
-use help::HELP;
+pub use consuming::consume;
+use help::{AT_A_TERMINAL, HELP};
 use keyed_hash::HashKey;
+pub use replaying::{replay, replay_with};
 use report::Report;
 use std::env::args;
+use std::io::IsTerminal;
 use std::process::ExitCode;
+pub use words::read_words;
 
 fn main(rt: HostRuntime) -> ExitCode {
     let files = SystemFiles { rt: &rt };
@@ -21,8 +36,14 @@ fn main(rt: HostRuntime) -> ExitCode {
         rt: &rt,
         alloc: rt.alloc(),
         layout: Report,
+        hash_key: HashKey::random(&rt),
     };
-    let hash_key = HashKey::random(&rt);
-    let status = consumer.program(HELP, hash_key, &files, args(&rt), &mut streams);
+    let words = args(&rt);
+    let is_alone = words.as_ref().is_ok_and(|given| given.len() == 1);
+    if is_alone && rt.stdin().is_terminal() {
+        // Nothing else would tell that it waits. A line that can't be written is no loss.
+        let _ = eprintln!(rt; "{AT_A_TERMINAL}");
+    }
+    let status = consumer.program(HELP, &files, words, &mut streams);
     ExitCode::from(status)
 }

@@ -4,17 +4,18 @@ ghost use Rattle.consumer.specs.{Plans.IsInBounds, Replaying.IsReplay};
 ghost use Rattle.report.specs.{Report.IsReport};
 
 use consumer::{Consumer, Plan, Refusal, Replayed};
+use replay_core::{Gate, OpenGate};
 use report::Report;
 use std::alloc::Global;
 use std::sync::Wait;
 use std::thread::Threads;
 
 /// Runs a script over a trace, between BEGIN and END. The script is refused before the trace, and
-/// the trace before the groups; `Refusal::Memory` may come at any point.
+/// the trace before the groups; `Refusal::Memory` may come at any point. Maps hash by a fixed key;
+/// a `Consumer` has one of its own.
 ///
 /// ```text
-/// let (groups, engine) = (GroupPlan::Dealt(16), EngineKind::Dif);
-/// let plan = Plan::new(4, groups, engine);
+/// let plan = Plan { workers: 4, groups: GroupPlan::Dealt(16), engine: EngineKind::Dif };
 /// let replayed = replay(&rt, alloc, b"BEGIN { trace(1); exit(3); }", &trace, &plan)?;
 /// replayed.bytes; // `1` and a line feed
 /// replayed.status; // 3
@@ -30,10 +31,25 @@ pub fn replay<R: Threads + Wait + Sync>(
     requires { IsInBounds plan.now }
     ensures { IsReplay IsReport script.now trace.now plan.now result }
 {
-    let consumer = Consumer {
-        rt,
-        alloc,
-        layout: Report,
-    };
-    consumer.replay(script, trace, plan)
+    replay_with(rt, alloc, script, trace, plan, &OpenGate)
+}
+
+/// Does the same, and calls a gate with each group that a worker takes, before the group's first
+/// firing. The answer doesn't depend on the gate.
+///
+/// ```text
+/// replay_with(&rt, alloc, script, &trace, &plan, &OpenGate)?; // as `replay` does
+/// ```
+pub fn replay_with<R: Threads + Wait + Sync, G: Gate + Sync>(
+    rt: &R,
+    alloc: Global,
+    script: &[u8],
+    trace: &[u8],
+    plan: &Plan,
+    gate: &G,
+) -> Result<Replayed, Refusal>
+    requires { IsInBounds plan.now }
+    ensures { IsReplay IsReport script.now trace.now plan.now result }
+{
+    Consumer::new(rt, alloc, Report).replay_with(script, trace, plan, gate)
 }

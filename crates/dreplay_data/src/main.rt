@@ -6,9 +6,10 @@ mod help;
 
 use consumer::{Consumer, Streams, SystemFiles};
 use data_lines::DataLines;
-use help::HELP;
+use help::{AT_A_TERMINAL, HELP};
 use keyed_hash::HashKey;
 use std::env::args;
+use std::io::IsTerminal;
 use std::process::ExitCode;
 
 fn main(rt: HostRuntime) -> ExitCode {
@@ -18,8 +19,14 @@ fn main(rt: HostRuntime) -> ExitCode {
         rt: &rt,
         alloc: rt.alloc(),
         layout: DataLines,
+        hash_key: HashKey::random(&rt),
     };
-    let hash_key = HashKey::random(&rt);
-    let status = consumer.program(HELP, hash_key, &files, args(&rt), &mut streams);
+    let words = args(&rt);
+    let is_alone = words.as_ref().is_ok_and(|given| given.len() == 1);
+    if is_alone && rt.stdin().is_terminal() {
+        // Nothing else would tell that it waits. A line that can't be written is no loss.
+        let _ = eprintln!(rt; "{AT_A_TERMINAL}");
+    }
+    let status = consumer.program(HELP, &files, words, &mut streams);
     ExitCode::from(status)
 }

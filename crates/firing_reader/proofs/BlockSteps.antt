@@ -20,15 +20,15 @@ use Rattle.firing_reader.specs.declared.firing.Firing.{Firing}
 use Rattle.firing_reader.specs.Blocks.{AreRead, BeginsAtFeed, IsKeptAt, Taken, reads_at}
 use Rattle.firing_reader.specs.Steps.Blocks.{Begins, IsFaultOf}
 use Rattle.firing_reader.specs.Left.{left_in}
-use Rattle.firing_reader.specs.Plain.{rows_after, rows_in}
+use Rattle.firing_reader.specs.Plain.{BeginsAtEnd, IsEnd, rows_after, rows_in}
 use Rattle.firing_reader.specs.Steps.Plain.{GoesOn, Leaves, header_line}
 use Rattle.firing_reader.specs.Steps.RowEnds.{RowsEnd}
 use Rattle.firing_reader.specs.Gives.{GivesBy}
 use Rattle.firing_reader.specs.Trace.{IsTrace, rows_of, trace_in, trace_of}
 use Rattle.firing_reader.proofs.Kept.{is_trace, rows_trace}
 use Rattle.firing_reader.proofs.PlainHeader.{after_header}
-use Rattle.firing_reader.proofs.PlainRows.{all_read, ends_feed, fault_chunk, goes_both, goes_chunk, goes_feed}
-use Rattle.firing_reader.proofs.PlainRows.{goes_first, goes_reads, goes_rows, skip_feed}
+use Rattle.firing_reader.proofs.PlainRows.{all_read, ends_after_end, fault_chunk, goes_both, goes_chunk, goes_end}
+use Rattle.firing_reader.proofs.PlainRows.{goes_feed, goes_reads, goes_rows, skip_end, skip_feed}
 use Rattle.firing_reader.proofs.Rows.{trace_err, trace_ok, trace_rows}
 
 -- ---- bytes
@@ -41,16 +41,16 @@ front_dropped all n few =
     let rest : length (drop n all) ≡ left = omega (arith, length-drop n all) in
     ap (λ (k : ℕ). take k (paste all 0 (drop n all) left)) same ∙ take-paste all 0 (drop n all) left (omega arith) (omega arith) ∙ take_all left (drop n all) (omega arith)
 
--- what comes after a line feed
-pub after_is : (rest after r : List ℕ) → rest ≡ 10 ∷ after → rest ≡ take 1 rest ++ r → rest ≡ 10 ∷ r
-after_is rest after r is split = split ∙ ap (λ (l : List ℕ). take 1 l ++ r) is
+-- what comes after the end of a row
+pub after_is : (rest : List ℕ) (end : ℕ) (after r : List ℕ) → rest ≡ end ∷ after → rest ≡ take 1 rest ++ r → rest ≡ end ∷ r
+after_is rest end after r is split = split ∙ ap (λ (l : List ℕ). take 1 l ++ r) is
 
-pub chunk_is : (rest r : List ℕ) (e : ℕ) → rest ≡ 10 ∷ r → take (e + 1) rest ≡ 10 ∷ take e r
-chunk_is rest r e is = rw (is, add-one) refl
+pub chunk_is : (rest : List ℕ) (end : ℕ) (r : List ℕ) (e : ℕ) → rest ≡ end ∷ r → take (e + 1) rest ≡ end ∷ take e r
+chunk_is rest end r e is = rw (is, add-one) refl
 
 -- what is left from a place on
-pub left_from : (x rest r : List ℕ) (e at : ℕ) → Leaves x rest → rest ≡ 10 ∷ r → at ≡ (length x - length rest) + e → drop (at + 1) x ≡ drop e r
-left_from x rest r e at h is place =
+pub left_from : (x rest : List ℕ) (end : ℕ) (r : List ℕ) (e at : ℕ) → Leaves x rest → rest ≡ end ∷ r → at ≡ (length x - length rest) + e → drop (at + 1) x ≡ drop e r
+left_from x rest end r e at h is place =
     let after : h.after ≡ r = cc (h.is_rest, is) in
     let size = ap length h.is_bytes in
     let both = length-append h.front h.after in
@@ -60,31 +60,32 @@ left_from x rest r e at h is place =
 
 -- ---- rows
 
-split_at : (rest r : List ℕ) (e : ℕ) → rest ≡ 10 ∷ r → rest ≡ (10 ∷ take e r) ++ drop e r
-split_at rest r e is = is ∙ ap (λ (l : List ℕ). 10 ∷ l) (sym (take-append-drop e r))
+split_at : (rest : List ℕ) (end : ℕ) (r : List ℕ) (e : ℕ) → rest ≡ end ∷ r → rest ≡ (end ∷ take e r) ++ drop e r
+split_at rest end r e is = is ∙ ap (λ (l : List ℕ). end ∷ l) (sym (take-append-drop e r))
 
 -- rows that csv read, after those that were read before
-pub rows_read : (a : List Firing) (x : List ℕ) (b : List Firing) (rest r : List ℕ) (c : List Firing) (e : ℕ) → GoesOn a x b rest → rest ≡ 10 ∷ r → RowsEnd (take e r) → rows_in b (take (e + 1) rest) ≡ Ok c → GoesOn a x c (10 ∷ drop e r)
-rows_read a x b rest r c e g is ends read =
-    let own : rows_in b (10 ∷ take e r) ≡ Ok c = ap (rows_in b) (sym (chunk_is rest r e is)) ∙ read in
-    let chunk = goes_chunk b (10 ∷ take e r) (drop e r) c (ends_feed (take e r) ends) own in
-    let more = goes_both b ((10 ∷ take e r) ++ drop e r) c (drop e r) c (10 ∷ drop e r) chunk (goes_feed c (drop e r)) in
-    goes_both a x b rest c (10 ∷ drop e r) g (rw (split_at rest r e is) more)
+pub rows_read : (a : List Firing) (x : List ℕ) (b : List Firing) (rest : List ℕ) (end : ℕ) (r : List ℕ) (c : List Firing) (e : ℕ) → IsEnd end → GoesOn a x b rest → rest ≡ end ∷ r → RowsEnd (take e r)
+    → rows_in b (take (e + 1) rest) ≡ Ok c → GoesOn a x c (10 ∷ drop e r)
+rows_read a x b rest end r c e is_end g is ends read =
+    let own : rows_in b (end ∷ take e r) ≡ Ok c = ap (rows_in b) (sym (chunk_is rest end r e is)) ∙ read in
+    let chunk = goes_chunk b (end ∷ take e r) (drop e r) c (ends_after_end end (take e r) is_end ends) own in
+    let more = goes_both b ((end ∷ take e r) ++ drop e r) c (drop e r) c (10 ∷ drop e r) chunk (goes_feed c (drop e r)) in
+    goes_both a x b rest c (10 ∷ drop e r) g (rw (split_at rest end r e is) more)
 
 -- no row ended after those that were read before
-pub rows_none : (a : List Firing) (x : List ℕ) (b : List Firing) (rest r : List ℕ) → GoesOn a x b rest → rest ≡ 10 ∷ r → GoesOn a x b (10 ∷ drop 0 r)
-rows_none a x b rest r g is = goes_both a x b rest b (10 ∷ r) g (rw is (goes_first b (10 ∷ r)))
+pub rows_none : (a : List Firing) (x : List ℕ) (b : List Firing) (rest : List ℕ) (end : ℕ) (r : List ℕ) → IsEnd end → GoesOn a x b rest → rest ≡ end ∷ r → GoesOn a x b (10 ∷ drop 0 r)
+rows_none a x b rest end r is_end g is = goes_end a x b end 10 r is_end (inl refl) (subst (GoesOn a x b) is g)
 
-pub rows_fault : (a : List Firing) (x : List ℕ) (b : List Firing) (rest r : List ℕ) (f : TraceFault) (e : ℕ) → GoesOn a x b rest → rest ≡ 10 ∷ r → RowsEnd (take e r) → rows_in b (take (e + 1) rest) ≡ Err f
-    → (tail : List ℕ) → rows_in a (x ++ tail) ≡ Err f
-rows_fault a x b rest r f e g is ends read tail =
-    let own : rows_in b (10 ∷ take e r) ≡ Err f = ap (rows_in b) (sym (chunk_is rest r e is)) ∙ read in
-    goes_reads a x b rest g tail ∙ ap (λ (l : List ℕ). rows_in b (l ++ tail)) (split_at rest r e is) ∙ fault_chunk b (10 ∷ take e r) (drop e r) f (ends_feed (take e r) ends) own tail
+pub rows_fault : (a : List Firing) (x : List ℕ) (b : List Firing) (rest : List ℕ) (end : ℕ) (r : List ℕ) (f : TraceFault) (e : ℕ) → IsEnd end → GoesOn a x b rest → rest ≡ end ∷ r → RowsEnd (take e r)
+    → rows_in b (take (e + 1) rest) ≡ Err f → (tail : List ℕ) → rows_in a (x ++ tail) ≡ Err f
+rows_fault a x b rest end r f e is_end g is ends read tail =
+    let own : rows_in b (end ∷ take e r) ≡ Err f = ap (rows_in b) (sym (chunk_is rest end r e is)) ∙ read in
+    goes_reads a x b rest g tail ∙ ap (λ (l : List ℕ). rows_in b (l ++ tail)) (split_at rest end r e is) ∙ fault_chunk b (end ∷ take e r) (drop e r) f (ends_after_end end (take e r) is_end ends) own tail
 
-pub fault_of_rows : (a : List Firing) (x : List ℕ) (b : List Firing) (rest r : List ℕ) (f : TraceFault) (e : ℕ) → GoesOn a x b rest → rest ≡ 10 ∷ r → RowsEnd (take e r) → (f ≡ Memory) ⊎ (rows_in b (take (e + 1) rest) ≡ Err f)
-    → IsFaultOf f (λ tail. rows_in a (x ++ tail))
-fault_of_rows a x b rest r f e g is ends (inl memory) = inl memory
-fault_of_rows a x b rest r f e g is ends (inr read) = inr (rows_fault a x b rest r f e g is ends read)
+pub fault_of_rows : (a : List Firing) (x : List ℕ) (b : List Firing) (rest : List ℕ) (end : ℕ) (r : List ℕ) (f : TraceFault) (e : ℕ) → IsEnd end → GoesOn a x b rest → rest ≡ end ∷ r → RowsEnd (take e r)
+    → (f ≡ Memory) ⊎ (rows_in b (take (e + 1) rest) ≡ Err f) → IsFaultOf f (λ tail. rows_in a (x ++ tail))
+fault_of_rows a x b rest end r f e is_end g is ends (inl memory) = inl memory
+fault_of_rows a x b rest end r f e is_end g is ends (inr read) = inr (rows_fault a x b rest end r f e is_end g is ends read)
 
 -- what is read after rows that were read
 pub rows_after_more : (r : Result (Unit {0}) TraceFault) (a : List Firing) (x : List ℕ) (b : List Firing) (y : List ℕ) (c : List Firing) (z : List ℕ) → GoesOn a x b y → OnOk r (GoesOn b y c z) → OnOk r (GoesOn a x c z)
@@ -103,17 +104,19 @@ none_read : AreRead []
 unfolding rows_of
 none_read = ([], refl)
 
-pub begins_plain : (x rest after : List ℕ) (fs : List Firing) (at : ℕ) → fs ≡ [] → rest ≡ 10 ∷ after → x ≡ header_line ++ 10 ∷ after → at ≡ length x - length rest → Begins x fs (10 ∷ drop (at + 1) x)
-begins_plain x rest after fs at none is all place =
+pub begins_plain : (x rest : List ℕ) (fs : List Firing) (at : ℕ) → fs ≡ [] → BeginsAtEnd rest → x ≡ header_line ++ rest → at ≡ length x - length rest → Begins x fs (10 ∷ drop (at + 1) x)
+begins_plain x rest fs at none (end, after, is, is_end) header place =
+    let all : x ≡ header_line ++ end ∷ after = header ∙ ap (λ (l : List ℕ). header_line ++ l) is in
     let size = ap length all in
-    let both = length-append header_line (10 ∷ after) in
+    let both = length-append header_line (end ∷ after) in
     let one = ap length is in
     let next : at + 1 ≡ length header_line + 1 = omega (arith, place, size, both, one) in
-    let left : drop (at + 1) x ≡ after = ap (λ (n : ℕ). drop n x) next ∙ ap (drop (length header_line + 1)) all ∙ drop-append-add header_line (10 ∷ after) 1 in
+    let left : drop (at + 1) x ≡ after = ap (λ (n : ℕ). drop n x) next ∙ ap (drop (length header_line + 1)) all ∙ drop-append-add header_line (end ∷ after) 1 in
     rw (none, left) (record {
       feed = (after, refl);
       are_read = none_read;
-      goes_on = λ tail. after_header (x ++ tail) (after ++ tail) (ap (λ (l : List ℕ). l ++ tail) all ∙ append_assoc header_line (10 ∷ after) tail);
+      goes_on = λ tail. after_header (x ++ tail) end (after ++ tail) is_end (ap (λ (l : List ℕ). l ++ tail) all ∙ append_assoc header_line (end ∷ after) tail)
+          ∙ ap (rows_after []) (skip_end end (after ++ tail) is_end ∙ sym (skip_feed (after ++ tail)));
     })
 
 -- ---- a header that csv reads

@@ -18,12 +18,10 @@ pub mod PieceRows
 pub mod Stored
 pub mod Moved
 pub mod Shared
-pub mod Spans
 pub mod PlainArguments
 pub mod RowParts
 pub mod BlockSteps
 pub mod SharedRows
 pub mod WaitingRows
-pub mod SameUnits
 pub mod Probing
 pub mod Written

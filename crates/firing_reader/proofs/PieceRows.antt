@@ -1,29 +1,30 @@
 -- Rows that are read piece by piece.
 use Rattle.std.proofs.Common.{◌≡◌, ◌<◌, ◌+◌, ◌-◌, ℕ, zero, suc, List, [], ◌∷◌, ◌++◌, length}
-use Rattle.std.proofs.Common.{length-append, Option, Some, None, refl, sym, ap, ◌∙◌}
+use Rattle.std.proofs.Common.{length-append, Option, Some, refl, sym, ap, ◌∙◌}
 use Rattle.std.proofs.Common.{append_assoc, arith}
 use Rattle.std.specs.Prelude.{slice_get}
 use Rattle.std.specs.Option.{option_map_or}
 use Rattle.std.proofs.lemmas.List.{append-nil}
 use Rattle.csv.specs.Machine.{next_record}
-use Rattle.csv.specs.Reading.{default_config}
 use Rattle.csv.specs.declared.parser.State.TheVariants as st
 use Rattle.firing_reader.specs.declared.firing.Firing.{Firing}
 use Rattle.firing_reader.specs.Left.{left_in}
 use Rattle.firing_reader.specs.Firings.{number_of}
-use Rattle.firing_reader.specs.Plain.{ReadsRow, ReadsRows}
+use Rattle.firing_reader.specs.Plain.{IsEnd, ReadsRow, ReadsRows}
 use Rattle.firing_reader.specs.Pieces.{Rises}
 use Rattle.firing_reader.specs.Steps.Plain.{ReadsMore}
 use Rattle.firing_reader.specs.Trace.{last_number}
-use Rattle.firing_reader.proofs.Left.{left_more, left_none}
-use Rattle.firing_reader.proofs.PlainRows.{skip_feed}
+use Rattle.firing_reader.proofs.Left.{left_none}
+use Rattle.firing_reader.proofs.PlainRows.{row_taken, skip_end}
 use Rattle.firing_reader.proofs.Rows.{last_push}
 
 row_tail : (a b t : List ℕ) (f : Firing) → ReadsRow a b f → ReadsRow (a ++ t) (b ++ t) f
 row_tail a b t f h = record {
   fields = h.fields;
+  end = h.end;
   after = h.after ++ t;
   is_rest = ap (λ (l : List ℕ). l ++ t) h.is_rest;
+  ends = h.ends;
   read = λ tail. rw (append_assoc a t tail, append_assoc h.after t tail) (h.read (t ++ tail));
   firing = h.firing;
 }
@@ -61,13 +62,17 @@ more_row bytes old fs mid f rest h row rises = record {
   rises = rw (last_push fs f) (rises_join (last_number old) h.more (last_number fs) (f ∷ []) f.number h.rises (rises, refl));
 }
 
--- two pieces of bytes that share the line feed between them, read apart
-pub pieces : (a : List ℕ) (fs : List Firing) (b : List ℕ) (gs : List Firing) (c : List ℕ) → ReadsRows a fs (10 ∷ []) → ReadsRows (10 ∷ b) gs c → ReadsRows (a ++ b) (fs ++ gs) c
-pieces a fs b gs c h k = rows_join (a ++ b) fs (10 ∷ b) gs c (rows_tail a fs (10 ∷ []) b h) k
+-- two pieces of bytes that share the end of the row between them, read apart
+pub pieces : (end : ℕ) (a : List ℕ) (fs : List Firing) (b : List ℕ) (gs : List Firing) (c : List ℕ) → ReadsRows a fs (end ∷ []) → ReadsRows (end ∷ b) gs c → ReadsRows (a ++ b) (fs ++ gs) c
+pieces end a fs b gs c h k = rows_join (a ++ b) fs (end ∷ b) gs c (rows_tail a fs (end ∷ []) b h) k
 
-pub only_feed : next_record default_config st.StartRecord [] [] (10 ∷ []) ≡ None
+none_left : left_in st.StartRecord (Some []) ≡ []
 unfolding next_record
-only_feed = refl
+none_left = left_none st.StartRecord [] refl
+
+-- the end of a row alone has no record
+pub only_end : (end : ℕ) → IsEnd end → left_in st.StartRecord (Some (end ∷ [])) ≡ []
+only_end end is = skip_end end [] is ∙ none_left
 
 rises_from : (last : ℕ) (f : Firing) (fs : List Firing) (end : ℕ) → last < f.number → Rises 0 (f ∷ fs) end → Rises last (f ∷ fs) end
 unfolding Rises
@@ -101,16 +106,11 @@ follows_first fs (g ∷ gs) first is lt h =
 -- ---- records
 
 -- where rows end, records end
-pub records_join : (a : List ℕ) (fs : List Firing) (b : List ℕ) → ReadsRows a fs (10 ∷ [])
+pub records_join : (end : ℕ) → IsEnd end → (a : List ℕ) (fs : List Firing) (b : List ℕ) → ReadsRows a fs (end ∷ [])
     → left_in st.StartRecord (Some (a ++ b)) ≡ left_in st.StartRecord (Some a) ++ left_in st.StartRecord (Some b)
 unfolding ReadsRows
-records_join a [] b is = rw (is, skip_feed b, left_none st.StartRecord (10 ∷ []) only_feed) refl
-records_join a (f ∷ fs) b (mid, h, more) =
-    let left = left_in st.StartRecord in
-    let read : next_record default_config st.StartRecord [] [] a ≡ Some (h.fields, st.StartRecord, h.after) = rw (append-nil a, append-nil h.after) at (h.read []) in
-    let one = (left_more st.StartRecord a (h.fields, st.StartRecord, h.after) refl read).0 in
-    let both = (left_more st.StartRecord (a ++ b) (h.fields, st.StartRecord, h.after ++ b) refl (h.read b)).0 in
-    let mid_is : left (Some mid) ≡ left (Some h.after) = ap (λ (l : List ℕ). left_in st.StartRecord (Some l)) h.is_rest ∙ skip_feed h.after in
-    let mid_both : left (Some (mid ++ b)) ≡ left (Some (h.after ++ b)) = ap (λ (l : List ℕ). left_in st.StartRecord (Some (l ++ b))) h.is_rest ∙ skip_feed (h.after ++ b) in
-    both ∙ ap (λ (l : List (List (List ℕ))). h.fields ∷ l) (sym mid_both ∙ records_join mid fs b more ∙ ap (λ (l : List (List (List ℕ))). l ++ left_in st.StartRecord (Some b)) mid_is)
+records_join end is_end a [] b is = rw (is, skip_end end b is_end, only_end end is_end) refl
+records_join end is_end a (f ∷ fs) b (mid, h, more) =
+    let one : left_in st.StartRecord (Some a) ≡ h.fields ∷ left_in st.StartRecord (Some mid) = rw (append-nil a, append-nil mid) at (row_taken a mid [] f h) in
+    row_taken a mid b f h ∙ ap (λ (l : List (List (List ℕ))). h.fields ∷ l) (records_join end is_end mid fs b more)
     ∙ sym (ap (λ (l : List (List (List ℕ))). l ++ left_in st.StartRecord (Some b)) one)

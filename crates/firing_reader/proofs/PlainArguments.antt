@@ -2,13 +2,11 @@
 use Rattle.std.proofs.Common.{◌≡◌, ◌<◌, ◌≤◌, ◌+◌, ◌-◌, ◌*◌, ℕ, ℤ, pos, zero, suc, List, [], ◌∷◌}
 use Rattle.std.proofs.Common.{◌++◌, length, get_or, take, drop, map, All, Some, refl, sym, ap, ◌∙◌}
 use Rattle.std.proofs.Common.{arith, length-append, append_assoc, replicate}
-use Rattle.std.proofs.Math.Seq.{take-append_seam}
 use Rattle.std.proofs.lemmas.List.Elements.{All-nil}
-use Rattle.std.proofs.lemmas.List.{append_cancel_left, length-replicate, map-append}
-use Rattle.std.proofs.lemmas.List.{take-append-drop, append-nil}
+use Rattle.std.proofs.lemmas.List.{length-replicate, map-append, append-nil}
 use Rattle.firing_reader.specs.declared.stored_row.Given.{Given}
 use Rattle.firing_reader.specs.Column.{signed_of}
-use Rattle.firing_reader.specs.Plain.{Passes}
+use Rattle.firing_reader.specs.Plain.{BeginsAtEnd, Passes}
 use Rattle.firing_reader.specs.Steps.Plain.{Closes, JoinsField, ReadsArguments}
 use Rattle.firing_reader.specs.Arguments.{ten}
 use Rattle.firing_reader.specs.Stored.{count_of, first_of, given_in}
@@ -23,29 +21,23 @@ abbrev pub alike : List ℕ → ℕ → List ℕ
 alike field zero = field
 alike field (suc n) = field ++ 44 ∷ alike field n
 
-alike_close : (field : List ℕ) → All JoinsField field → (n : ℕ) (bytes rest after : List ℕ) → bytes ≡ alike field n ++ rest → rest ≡ 10 ∷ after → Closes bytes (replicate (suc n) field) rest
-alike_close field joins zero bytes rest after is feed = closes_one bytes field rest after feed (record { split = is; plain = joins })
-alike_close field joins (suc n) bytes rest after is feed =
+alike_close : (field : List ℕ) → All JoinsField field → (n : ℕ) (bytes rest : List ℕ) → bytes ≡ alike field n ++ rest → BeginsAtEnd rest → Closes bytes (replicate (suc n) field) rest
+alike_close field joins zero bytes rest is end = closes_one bytes field rest end (record { split = is; plain = joins })
+alike_close field joins (suc n) bytes rest is end =
     closes_more bytes (alike field n ++ rest) rest (field ∷ []) (replicate (suc n) field)
     (passes_one bytes field (alike field n ++ rest) (record { split = is ∙ append_assoc field (44 ∷ alike field n) rest; plain = joins }))
-    (alike_close field joins n (alike field n ++ rest) rest after refl feed)
+    (alike_close field joins n (alike field n ++ rest) rest refl end)
 
-alike_found : (field : List ℕ) → All JoinsField field → (n : ℕ) (found bytes rest : List ℕ) → found ≡ alike field n ++ 10 ∷ [] → take (length found) bytes ≡ found → bytes ≡ take (length found - 1) bytes ++ rest
-    → Closes bytes (replicate (suc n) field) rest
-alike_found field joins n found bytes rest is front split =
-    let d = drop (length found) bytes in
-    let whole : bytes ≡ alike field n ++ (10 ∷ d) = sym (take-append-drop (length found) bytes) ∙ ap (λ (l : List ℕ). l ++ d) (front ∙ is) ∙ append_assoc (alike field n) (10 ∷ []) d in
-    let size : length found - 1 ≡ length (alike field n) = omega (arith, ap length is, length-append (alike field n) (10 ∷ [])) in
-    let begin : take (length found - 1) bytes ≡ alike field n = rw size (ap (take (length (alike field n))) whole ∙ take-append_seam (alike field n) (10 ∷ d)) in
-    let rest_is : rest ≡ 10 ∷ d = append_cancel_left (alike field n) rest (10 ∷ d) (ap (λ (l : List ℕ). l ++ rest) (sym begin) ∙ sym split ∙ whole) in
-    alike_close field joins n bytes rest d (split ∙ ap (λ (l : List ℕ). l ++ rest) begin) rest_is
+alike_found : (field : List ℕ) → All JoinsField field → (n : ℕ) (found bytes rest : List ℕ) → found ≡ alike field n → take (length found) bytes ≡ found → bytes ≡ take (length found) bytes ++ rest
+    → BeginsAtEnd rest → Closes bytes (replicate (suc n) field) rest
+alike_found field joins n found bytes rest is front split end = alike_close field joins n bytes rest (split ∙ ap (λ (l : List ℕ). l ++ rest) (front ∙ is)) end
 
 -- one that is 0
 abbrev pub nought : List ℕ
 nought = 48 ∷ []
 
--- the last zeros of the line of ten, with the line feed
-zeros_at : (n : ℕ) → n < 10 → take (20 - (20 - 2 * suc n)) (drop (20 - 2 * suc n) (alike nought 9 ++ 10 ∷ [])) ≡ alike nought n ++ 10 ∷ []
+-- the last zeros of ten
+zeros_at : (n : ℕ) → n < 10 → take (19 - (20 - 2 * suc n)) (drop (20 - 2 * suc n) (alike nought 9)) ≡ alike nought n
 zeros_at zero lt = refl
 zeros_at (suc zero) lt = refl
 zeros_at (suc (suc zero)) lt = refl
@@ -58,14 +50,14 @@ zeros_at (suc (suc (suc (suc (suc (suc (suc (suc zero)))))))) lt = refl
 zeros_at (suc (suc (suc (suc (suc (suc (suc (suc (suc zero))))))))) lt = refl
 zeros_at (suc (suc (suc (suc (suc (suc (suc (suc (suc (suc n)))))))))) lt = absurd (omega arith)
 
-pub zeros_end : (count : ℕ) (found bytes rest : List ℕ) → 1 ≤ count → count ≤ 10 → found ≡ take (20 - (20 - 2 * count)) (drop (20 - 2 * count) (alike nought 9 ++ 10 ∷ []))
-    → take (length found) bytes ≡ found → bytes ≡ take (length found - 1) bytes ++ rest → Closes bytes (replicate count (48 ∷ [])) rest
-zeros_end zero found bytes rest least most is front split = absurd (omega arith)
-zeros_end (suc n) found bytes rest least most is front split =
-    alike_found nought (one_joins 0 (omega arith)) n found bytes rest (is ∙ zeros_at n (omega arith)) front split
+pub zeros_end : (count : ℕ) (found bytes rest : List ℕ) → 1 ≤ count → count ≤ 10 → found ≡ take (19 - (20 - 2 * count)) (drop (20 - 2 * count) (alike nought 9))
+    → take (length found) bytes ≡ found → bytes ≡ take (length found) bytes ++ rest → BeginsAtEnd rest → Closes bytes (replicate count (48 ∷ [])) rest
+zeros_end zero found bytes rest least most is front split end = absurd (omega arith)
+zeros_end (suc n) found bytes rest least most is front split end =
+    alike_found nought (one_joins 0 (omega arith)) n found bytes rest (is ∙ zeros_at n (omega arith)) front split end
 
--- the last empty ones of a line of ten, with the line feed
-empty_at : (n : ℕ) → n < 10 → take (10 - (10 - suc n)) (drop (10 - suc n) (alike [] 9 ++ 10 ∷ [])) ≡ alike [] n ++ 10 ∷ []
+-- the last empty ones of ten
+empty_at : (n : ℕ) → n < 10 → take (9 - (10 - suc n)) (drop (10 - suc n) (alike [] 9)) ≡ alike [] n
 empty_at zero lt = refl
 empty_at (suc zero) lt = refl
 empty_at (suc (suc zero)) lt = refl
@@ -78,10 +70,10 @@ empty_at (suc (suc (suc (suc (suc (suc (suc (suc zero)))))))) lt = refl
 empty_at (suc (suc (suc (suc (suc (suc (suc (suc (suc zero))))))))) lt = refl
 empty_at (suc (suc (suc (suc (suc (suc (suc (suc (suc (suc n)))))))))) lt = absurd (omega arith)
 
-pub empty_end : (count : ℕ) (found bytes rest : List ℕ) → 1 ≤ count → count ≤ 10 → found ≡ take (10 - (10 - count)) (drop (10 - count) (alike [] 9 ++ 10 ∷ []))
-    → take (length found) bytes ≡ found → bytes ≡ take (length found - 1) bytes ++ rest → Closes bytes (replicate count []) rest
-empty_end zero found bytes rest least most is front split = absurd (omega arith)
-empty_end (suc n) found bytes rest least most is front split = alike_found [] (All-nil JoinsField) n found bytes rest (is ∙ empty_at n (omega arith)) front split
+pub empty_end : (count : ℕ) (found bytes rest : List ℕ) → 1 ≤ count → count ≤ 10 → found ≡ take (9 - (10 - count)) (drop (10 - count) (alike [] 9))
+    → take (length found) bytes ≡ found → bytes ≡ take (length found) bytes ++ rest → BeginsAtEnd rest → Closes bytes (replicate count []) rest
+empty_end zero found bytes rest least most is front split end = absurd (omega arith)
+empty_end (suc n) found bytes rest least most is front split end = alike_found [] (All-nil JoinsField) n found bytes rest (is ∙ empty_at n (omega arith)) front split end
 
 -- ---- arguments, one after the other
 

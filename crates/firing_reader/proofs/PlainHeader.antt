@@ -1,5 +1,6 @@
 -- The header, as it is mostly written.
-use Rattle.std.proofs.Common.{◌≡◌, ℕ, List, [], ◌∷◌, ◌++◌, Some, refl, sym, ap, ◌∙◌}
+use Rattle.std.proofs.Common.{◌≡◌, ℕ, List, [], ◌∷◌, ◌++◌, Some, refl, sym, ap, ◌∙◌, inl, inr}
+use Rattle.std.proofs.lemmas.List.{append-nil}
 use Rattle.std.specs.Prelude.{codes}
 use Rattle.csv.specs.Machine.{next_record}
 use Rattle.csv.specs.Reading.{default_config, strip_bom}
@@ -7,20 +8,21 @@ use Rattle.csv.specs.declared.parser.State.TheVariants as st
 use Rattle.csv.specs.Records.{field_at}
 use Rattle.firing_reader.specs.declared.firing.Firing.{Firing}
 use Rattle.firing_reader.specs.Left.{left_in}
-use Rattle.firing_reader.specs.Plain.{rows_in}
+use Rattle.firing_reader.specs.Plain.{BeginsAtEnd, IsEnd, rows_in, state_after}
 use Rattle.firing_reader.specs.Steps.Plain.{header_line}
 use Rattle.firing_reader.specs.Trace.{rows_of, trace_in, trace_of}
 use Rattle.firing_reader.proofs.Left.{left_more}
-use Rattle.firing_reader.proofs.PlainRows.{skip_feed}
+use Rattle.firing_reader.proofs.PlainRows.{after_row}
 use Rattle.firing_reader.proofs.Rows.{rows_first}
 
 abbrev names : List (List ℕ)
 names = codes "number" ∷ codes "cpu" ∷ codes "thread" ∷ codes "pid" ∷ codes "execname" ∷ codes "time" ∷ codes "provider" ∷ codes "module" ∷ codes "function" ∷ codes "name"
     ∷ codes "arg0" ∷ codes "arg1" ∷ codes "arg2" ∷ codes "arg3" ∷ codes "arg4" ∷ codes "arg5" ∷ codes "arg6" ∷ codes "arg7" ∷ codes "arg8" ∷ codes "arg9" ∷ []
 
-header_read : (after : List ℕ) → next_record default_config st.StartRecord [] [] (header_line ++ 10 ∷ after) ≡ Some (names, st.StartRecord, after)
+header_read : (end : ℕ) (after : List ℕ) → IsEnd end → next_record default_config st.StartRecord [] [] (header_line ++ end ∷ after) ≡ Some (names, state_after end, after)
 unfolding next_record
-header_read after = refl
+header_read end after (inl feed) = rw feed refl
+header_read end after (inr back) = rw back refl
 
 no_mark : (rest : List ℕ) → strip_bom (header_line ++ rest) ≡ header_line ++ rest
 unfolding strip_bom
@@ -30,11 +32,12 @@ named : (rows : List (List (List ℕ))) → trace_in (names ∷ rows) ≡ rows_o
 unfolding trace_in field_at
 named rows = refl
 
-pub after_header : (bytes after : List ℕ) → bytes ≡ header_line ++ 10 ∷ after → trace_of bytes ≡ rows_in [] (10 ∷ after)
+pub after_header : (bytes : List ℕ) (end : ℕ) (after : List ℕ) → IsEnd end → bytes ≡ header_line ++ end ∷ after → trace_of bytes ≡ rows_in [] (end ∷ after)
 unfolding left_in
-after_header bytes after is =
-    let more = (left_more st.StartRecord (header_line ++ 10 ∷ after) (names, st.StartRecord, after) refl (header_read after)).0 in
-    rw (is, no_mark (10 ∷ after)) (ap trace_in more ∙ named (left_in st.StartRecord (Some after)) ∙ ap (rows_of 1 0) (sym (skip_feed after)) ∙ sym (rows_first (left_in st.StartRecord (Some (10 ∷ after)))))
+after_header bytes end after is_end is =
+    let more = (left_more st.StartRecord (header_line ++ end ∷ after) (names, state_after end, after) refl (header_read end after is_end)).0 in
+    let rest : left_in (state_after end) (Some after) ≡ left_in st.StartRecord (Some (end ∷ after)) = rw (append-nil after) at (after_row end (end ∷ after) after [] refl is_end) in
+    rw (is, no_mark (end ∷ after)) (ap trace_in more ∙ named (left_in (state_after end) (Some after)) ∙ ap (rows_of 1 0) rest ∙ sym (rows_first (left_in st.StartRecord (Some (end ∷ after)))))
 
-pub whole_plain : (bytes rest after : List ℕ) (fs : List Firing) → fs ≡ [] → rest ≡ 10 ∷ after → bytes ≡ header_line ++ 10 ∷ after → trace_of bytes ≡ rows_in fs rest
-whole_plain bytes rest after fs none is all = rw (none, is) (after_header bytes after all)
+pub whole_plain : (bytes rest : List ℕ) (fs : List Firing) → fs ≡ [] → BeginsAtEnd rest → bytes ≡ header_line ++ rest → trace_of bytes ≡ rows_in fs rest
+whole_plain bytes rest fs none (end, after, is, is_end) all = rw (none, is) (after_header bytes end after is_end (all ∙ ap (λ (l : List ℕ). header_line ++ l) is))

@@ -1,10 +1,10 @@
 -- What csv reads of bytes that begin with a plain field.
-use Rattle.std.proofs.Common.{◌≡◌, ◌≢◌, ◌<◌, ◌≤◌, ◌+◌, ℕ, suc, false, List, [], ◌∷◌, ◌++◌, length}
+use Rattle.std.proofs.Common.{◌≡◌, ◌≢◌, ◌<◌, ◌≤◌, ◌+◌, ◌-◌, ℕ, suc, false, List, [], ◌∷◌, ◌++◌, length}
 use Rattle.std.proofs.Common.{Some, Ok, Err, refl, sym, ap, ◌∙◌, append_assoc, arith, add-one, inl}
-use Rattle.std.proofs.Common.{inr, All}
+use Rattle.std.proofs.Common.{inr, All, drop, slice_index_or, take, take_all}
 use Rattle.std.specs.Prelude.{◌==◌}
 use Rattle.std.proofs.lemmas.Bool.Decides.{eqb_tells}
-use Rattle.std.proofs.lemmas.List.Elements.{All-head, All-tail}
+use Rattle.std.proofs.lemmas.List.Elements.{All-cons, All-head, All-nil, All-tail}
 use Rattle.std.proofs.lemmas.List.{append-nil}
 use Rattle.csv.specs.Machine.{next_record}
 use Rattle.csv.specs.Reading.{default_config, records, records_from, strip_bom}
@@ -16,11 +16,12 @@ use Rattle.firing_reader.specs.Left.{left_in}
 use Rattle.firing_reader.specs.Blocks.{AreRead}
 use Rattle.firing_reader.specs.Plain.{rows_after, rows_in}
 use Rattle.firing_reader.specs.Steps.Plain.{Closes, BeginsWith, GoesOn, JoinsField}
-use Rattle.firing_reader.specs.Plain.{Passes, ReadsRow}
+use Rattle.firing_reader.specs.Plain.{BeginsAtEnd, IsEnd, Passes, ReadsRow, state_after}
 use Rattle.firing_reader.specs.Steps.Plain.{Leaves}
 use Rattle.firing_reader.specs.Steps.RowEnds.{RowsEnd}
 use Rattle.firing_reader.specs.Trace.{last_number}
 use Rattle.firing_reader.proofs.Left.{ends_bytes, enough, left_more, shorter}
+use Rattle.firing_reader.proofs.RowEnds.{left_return}
 use Rattle.firing_reader.proofs.Rows.{after_err, after_none, after_ok, one_row, rows_first}
 
 pub is_not : (b c : ℕ) → b ≢ c → (b == c) ≡ false
@@ -49,49 +50,102 @@ pub passes_one : (bytes field rest : List ℕ) → BeginsWith bytes field (44 �
 unfolding next_record
 passes_one bytes field rest h before tail = rw (h.split, append_assoc field (44 ∷ rest) tail) (from_start before field 44 (rest ++ tail) refl h.plain ∙ refl)
 
-pub closes_one : (bytes field rest after : List ℕ) → rest ≡ 10 ∷ after → BeginsWith bytes field rest → Closes bytes (field ∷ []) rest
+-- the byte that ends a row is no quote, and ends the record of a field
+no_quote : (end : ℕ) → IsEnd end → (end == 34) ≡ false
+no_quote end (inl feed) = rw feed refl
+no_quote end (inr back) = rw back refl
+
+at_end : (end : ℕ) → IsEnd end → (fields : List (List ℕ)) (x rest : List ℕ) → next_record default_config st.InField fields x (end ∷ rest) ≡ Some (fields ++ x ∷ [], state_after end, rest)
 unfolding next_record
-closes_one bytes field rest after is h = (after, is, λ before tail. rw (h.split, is, append_assoc field (10 ∷ after) tail) (from_start before field 10 (after ++ tail) refl h.plain ∙ refl))
+at_end end (inl feed) fields x rest = rw feed refl
+at_end end (inr back) fields x rest = rw back refl
+
+pub closes_one : (bytes field rest : List ℕ) → (end : ℕ) × (after : List ℕ) × (rest ≡ end ∷ after) × IsEnd end → BeginsWith bytes field rest → Closes bytes (field ∷ []) rest
+closes_one bytes field rest (end, after, is, ends) h = record {
+  end = end;
+  after = after;
+  is_rest = is;
+  ends = ends;
+  read = λ before tail. rw (h.split, is, append_assoc field (end ∷ after) tail) (from_start before field end (after ++ tail) (no_quote end ends) h.plain ∙ at_end end ends before field (after ++ tail));
+}
 
 pub passes_more : (a b c : List ℕ) (f g : List (List ℕ)) → Passes a f b → Passes b g c → Passes a (f ++ g) c
 passes_more a b c f g p q before tail = p before tail ∙ q (before ++ f) tail ∙ ap (λ (fs : List (List ℕ)). next_record default_config st.StartField fs [] (c ++ tail)) (append_assoc before f g)
 
 pub closes_more : (a b c : List ℕ) (f g : List (List ℕ)) → Passes a f b → Closes b g c → Closes a (f ++ g) c
-closes_more a b c f g p (after, is, q) = (after, is, λ before tail. p before tail ∙ q (before ++ f) tail ∙ ap (λ (fs : List (List ℕ)). Some (fs, st.StartRecord, after ++ tail)) (append_assoc before f g))
+closes_more a b c f g p q = record {
+  end = q.end;
+  after = q.after;
+  is_rest = q.is_rest;
+  ends = q.ends;
+  read = λ before tail. p before tail ∙ q.read (before ++ f) tail ∙ ap (λ (fs : List (List ℕ)). Some (fs, state_after q.end, q.after ++ tail)) (append_assoc before f g);
+}
 
 -- fields that nothing is left of pass at the front of any bytes
 pub unit_passes : (key rest bytes : List ℕ) (fields : List (List ℕ)) → Passes key fields [] → bytes ≡ key ++ rest → Passes bytes fields rest
 unit_passes key rest bytes fields p is before tail = rw (is, append_assoc key rest tail) (p before (rest ++ tail))
 
--- a row between two records, after the line feed of the one before
-pub row_read : (bytes line rest : List ℕ) (fields : List (List ℕ)) (first : ℕ) (more : List ℕ) → bytes ≡ 10 ∷ line → line ≡ first ∷ more → JoinsField first → Closes line fields rest
-    → (after : List ℕ) × (rest ≡ 10 ∷ after) × ((tail : List ℕ) → next_record default_config st.StartRecord [] [] (bytes ++ tail) ≡ Some (fields, st.StartRecord, after ++ tail))
+-- ends of rows before a record are nothing
+ends_skipped : (ends line : List ℕ) → All IsEnd ends → next_record default_config st.StartRecord [] [] (ends ++ line) ≡ next_record default_config st.StartRecord [] [] line
 unfolding next_record
-row_read bytes line rest fields first more is starts joins (after, is_rest, read) =
-    (after, is_rest, λ tail. rw is (rw starts (record-same [] [] first (more ++ tail) (is_not first 13 joins.2) (is_not first 10 joins.3)) ∙ read [] tail))
+ends_skipped [] line all = refl
+ends_skipped (end ∷ ends) line all = by (All-head IsEnd end ends all) (ends_skipped ends line (All-tail IsEnd end ends all))
+  where
+    by : IsEnd end → next_record default_config st.StartRecord [] [] (ends ++ line) ≡ next_record default_config st.StartRecord [] [] line
+        → next_record default_config st.StartRecord [] [] ((end ∷ ends) ++ line) ≡ next_record default_config st.StartRecord [] [] line
+    by (inl feed) more = rw feed more
+    by (inr back) more = rw back more
 
--- a line feed before a record is nothing
+-- the end of a row, and what comes after it
+pub one_end : (bytes : List ℕ) → 1 ≤ length bytes → IsEnd (slice_index_or bytes 0 0) → (ends : List ℕ) × (bytes ≡ ends ++ take (length bytes - 1) (drop 1 bytes)) × All IsEnd ends
+one_end [] some is_end = absurd (omega (arith, some))
+one_end (b ∷ rest) some is_end = (b ∷ [], ap (λ (l : List ℕ). b ∷ l) (sym (take_all (length (b ∷ rest) - 1) rest (omega arith))), All-cons IsEnd b [] is_end (All-nil IsEnd))
+
+-- a row between two records, after the end of the one before
+pub row_read : (bytes ends line rest : List ℕ) (fields : List (List ℕ)) (first : ℕ) (more : List ℕ) → bytes ≡ ends ++ line → All IsEnd ends → line ≡ first ∷ more → JoinsField first
+    → (c : Closes line fields rest) → (tail : List ℕ) → next_record default_config st.StartRecord [] [] (bytes ++ tail) ≡ Some (fields, state_after c.end, c.after ++ tail)
+row_read bytes ends line rest fields first more is all starts joins c tail =
+    let own : next_record default_config st.StartRecord [] [] (line ++ tail) ≡ next_record default_config st.StartField [] [] (line ++ tail) = rw starts (record-same [] [] first (more ++ tail) (is_not first 13 joins.2) (is_not first 10 joins.3)) in
+    rw (is, append_assoc ends line tail) (ends_skipped ends (line ++ tail) all ∙ own ∙ c.read [] tail)
+
+-- the end of a row before a record is nothing
 pub skip_feed : (xs : List ℕ) → left_in st.StartRecord (Some (10 ∷ xs)) ≡ left_in st.StartRecord (Some xs)
 unfolding left_in records_from next_record
 skip_feed xs = rw add-one (enough default_config (suc (suc (length xs))) (length xs + 1) st.StartRecord xs refl (omega arith) (omega arith))
 
-pub feed_no_mark : (xs : List ℕ) → strip_bom (10 ∷ xs) ≡ 10 ∷ xs
-unfolding strip_bom
-feed_no_mark [] = refl
-feed_no_mark (a ∷ []) = refl
-feed_no_mark (a ∷ b ∷ rest) = refl
+skip_return : (xs : List ℕ) → left_in st.StartRecord (Some (13 ∷ xs)) ≡ left_in st.StartRecord (Some xs)
+unfolding left_in records_from next_record
+skip_return xs = rw add-one (enough default_config (suc (suc (length xs))) (length xs + 1) st.StartRecord xs refl (omega arith) (omega arith))
 
--- the records of bytes that begin at a line feed
-pub left_feed : (bytes : List ℕ) → (after : List ℕ) × (bytes ≡ 10 ∷ after) → records default_config (strip_bom bytes) ≡ left_in st.StartRecord (Some bytes)
+pub skip_end : (end : ℕ) (xs : List ℕ) → IsEnd end → left_in st.StartRecord (Some (end ∷ xs)) ≡ left_in st.StartRecord (Some xs)
+skip_end end xs (inl feed) = rw feed (skip_feed xs)
+skip_end end xs (inr back) = rw back (skip_return xs)
+
+end_no_mark : (end : ℕ) (xs : List ℕ) → IsEnd end → strip_bom (end ∷ xs) ≡ end ∷ xs
+unfolding strip_bom
+end_no_mark end [] h = refl
+end_no_mark end (a ∷ []) h = refl
+end_no_mark end (a ∷ b ∷ rest) (inl feed) = rw feed refl
+end_no_mark end (a ∷ b ∷ rest) (inr back) = rw back refl
+
+-- the records of bytes that begin at the end of a row
+pub left_end : (bytes : List ℕ) → BeginsAtEnd bytes → records default_config (strip_bom bytes) ≡ left_in st.StartRecord (Some bytes)
 unfolding left_in
-left_feed bytes (after, is) = rw (is, feed_no_mark after) refl
+left_end bytes (end, after, is, ends) = rw (is, end_no_mark end after ends) refl
+
+-- csv goes on after a row's end as it does from that end on
+pub after_row : (end : ℕ) (rest after tail : List ℕ) → rest ≡ end ∷ after → IsEnd end → left_in (state_after end) (Some (after ++ tail)) ≡ left_in st.StartRecord (Some (rest ++ tail))
+after_row end rest after tail is ends = by ends ∙ sym (ap (λ (l : List ℕ). left_in st.StartRecord (Some (l ++ tail))) is ∙ skip_end end (after ++ tail) ends)
+  where
+    by : IsEnd end → left_in (state_after end) (Some (after ++ tail)) ≡ left_in st.StartRecord (Some (after ++ tail))
+    by (inl feed) = rw feed refl
+    by (inr back) = rw back (left_return (after ++ tail))
 
 -- a row is the next record, and the rest comes after it
-row_taken : (bytes rest tail : List ℕ) (f : Firing) (h : ReadsRow bytes rest f) → left_in st.StartRecord (Some (bytes ++ tail)) ≡ h.fields ∷ left_in st.StartRecord (Some (rest ++ tail))
+pub row_taken : (bytes rest tail : List ℕ) (f : Firing) (h : ReadsRow bytes rest f) → left_in st.StartRecord (Some (bytes ++ tail)) ≡ h.fields ∷ left_in st.StartRecord (Some (rest ++ tail))
 row_taken bytes rest tail f h =
-    let more = (left_more st.StartRecord (bytes ++ tail) (h.fields, st.StartRecord, h.after ++ tail) refl (h.read tail)).0 in
-    let left : left_in st.StartRecord (Some (rest ++ tail)) ≡ left_in st.StartRecord (Some (h.after ++ tail)) = ap (λ (l : List ℕ). left_in st.StartRecord (Some (l ++ tail))) h.is_rest ∙ skip_feed (h.after ++ tail) in
-    more ∙ ap (λ (l : List (List (List ℕ))). h.fields ∷ l) (sym left)
+    (left_more st.StartRecord (bytes ++ tail) (h.fields, state_after h.end, h.after ++ tail) refl (h.read tail)).0
+    ∙ ap (λ (l : List (List (List ℕ))). h.fields ∷ l) (after_row h.end rest h.after tail h.is_rest h.ends)
 
 pub goes_first : (firings : List Firing) (bytes : List ℕ) → GoesOn firings bytes firings bytes
 goes_first firings bytes = record { rows = []; read = after_none firings; taken = λ tail. refl }
@@ -112,14 +166,14 @@ goes_both a x b y c z g h = record {
   taken = λ tail. g.taken tail ∙ ap (λ (l : List (List (List ℕ))). g.rows ++ l) (h.taken tail) ∙ sym (append_assoc g.rows h.rows (left_in st.StartRecord (Some (z ++ tail))));
 }
 
-pub leaves_first : (bytes : List ℕ) → (after : List ℕ) × (bytes ≡ 10 ∷ after) → Leaves bytes bytes
-leaves_first bytes (after, is) = record { first = 10; front = []; after = after; is_bytes = is; is_rest = is }
+pub leaves_first : (bytes : List ℕ) → BeginsAtEnd bytes → Leaves bytes bytes
+leaves_first bytes (end, after, is, ends) = record { first = end; front = []; end = end; after = after; is_bytes = is; is_rest = is; ends = ends }
 
 pub leaves_row : (bytes mid : List ℕ) (f : Firing) (rest : List ℕ) → Leaves bytes mid → ReadsRow mid rest f → Leaves bytes rest
 leaves_row bytes mid f rest g h =
-    let read : next_record default_config st.StartRecord [] [] mid ≡ Some (h.fields, st.StartRecord, h.after) = rw (append-nil mid, append-nil h.after) at (h.read []) in
-    let less = (shorter default_config st.StartRecord mid (h.fields, st.StartRecord, h.after) refl read).1 in
-    let (front, is) = ends_bytes default_config st.StartRecord [] [] mid (h.fields, st.StartRecord, h.after) read in
+    let read : next_record default_config st.StartRecord [] [] mid ≡ Some (h.fields, state_after h.end, h.after) = rw (append-nil mid, append-nil h.after) at (h.read []) in
+    let less = (shorter default_config st.StartRecord mid (h.fields, state_after h.end, h.after) refl read).1 in
+    let (front, is) = ends_bytes default_config st.StartRecord [] [] mid (h.fields, state_after h.end, h.after) read in
     by front is less
   where
     by : (front : List ℕ) → mid ≡ front ++ h.after → length h.after < length mid → Leaves bytes rest
@@ -129,9 +183,11 @@ leaves_row bytes mid f rest g h =
         record {
           first = g.first;
           front = g.front ++ more;
+          end = h.end;
           after = h.after;
           is_bytes = g.is_bytes ∙ ap (λ (l : List ℕ). g.first ∷ l) (ap (λ (l : List ℕ). g.front ++ l) after ∙ sym (append_assoc g.front more h.after));
           is_rest = h.is_rest;
+          ends = h.ends;
         }
 
 -- bytes where rows end, which csv reads
@@ -149,8 +205,16 @@ fault_chunk a chunk rest e ends read tail = rw (append_assoc chunk rest tail) (a
 pub goes_feed : (firings : List Firing) (bytes : List ℕ) → GoesOn firings bytes firings (10 ∷ bytes)
 goes_feed firings bytes = record { rows = []; read = after_none firings; taken = λ tail. sym (skip_feed (bytes ++ tail)) }
 
-pub ends_feed : (bytes : List ℕ) → RowsEnd bytes → RowsEnd (10 ∷ bytes)
-ends_feed bytes ends rest = skip_feed (bytes ++ rest) ∙ ends rest ∙ ap (λ (l : List (List (List ℕ))). l ++ left_in st.StartRecord (Some rest)) (sym (skip_feed bytes))
+-- any other end of a row in its place
+pub goes_end : (a : List Firing) (x : List ℕ) (b : List Firing) (end other : ℕ) (y : List ℕ) → IsEnd end → IsEnd other → GoesOn a x b (end ∷ y) → GoesOn a x b (other ∷ y)
+goes_end a x b end other y is_end is_other g = record {
+  rows = g.rows;
+  read = g.read;
+  taken = λ tail. g.taken tail ∙ ap (λ (l : List (List (List ℕ))). g.rows ++ l) (skip_end end (y ++ tail) is_end ∙ sym (skip_end other (y ++ tail) is_other));
+}
+
+pub ends_after_end : (end : ℕ) (bytes : List ℕ) → IsEnd end → RowsEnd bytes → RowsEnd (end ∷ bytes)
+ends_after_end end bytes is_end ends rest = skip_end end (bytes ++ rest) is_end ∙ ends rest ∙ ap (λ (l : List (List (List ℕ))). l ++ left_in st.StartRecord (Some rest)) (sym (skip_end end bytes is_end))
 
 pub goes_reads : (a : List Firing) (x : List ℕ) (b : List Firing) (y : List ℕ) → GoesOn a x b y → (tail : List ℕ) → rows_in a (x ++ tail) ≡ rows_in b (y ++ tail)
 goes_reads a x b y g tail = ap (rows_after a) (g.taken tail) ∙ after_ok a g.rows (left_in st.StartRecord (Some (y ++ tail))) b g.read

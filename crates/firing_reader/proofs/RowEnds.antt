@@ -76,6 +76,9 @@ cr_same (c ∷ rest) = by (c == 13) (c == 10) refl refl
 left_cr : (xs : List ℕ) → left st.AfterCr xs ≡ within st.StartRecord [] [] xs
 left_cr xs = left_within st.AfterCr xs refl ∙ ap (records_next left) (cr_same xs)
 
+pub left_return : (xs : List ℕ) → left st.AfterCr xs ≡ left st.StartRecord xs
+left_return xs = left_cr xs ∙ sym (left_within st.StartRecord xs refl)
+
 in_field_leads : (fs : List (List ℕ)) (f : List ℕ) (c : ℕ) → Leads st.InField fs f c (plain_after c)
 unfolding next_record
 in_field_leads fs f c = by (c == 44) (c == 13) (c == 10) refl refl refl

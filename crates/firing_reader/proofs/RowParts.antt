@@ -7,13 +7,13 @@ use Rattle.firing_reader.specs.declared.stored_row.Row.{Row}
 use Rattle.firing_reader.specs.declared.unit.Owner.{Owner}
 use Rattle.firing_reader.specs.declared.unit.Probe.{Probe}
 use Rattle.firing_reader.specs.Plain.{Passes, ReadsOwner, ReadsProbe}
-use Rattle.firing_reader.specs.Steps.Plain.{BeginsRow, JoinsField, ReadsArguments}
-use Rattle.firing_reader.specs.Plain.{ReadsRow, int_of, whole_of}
+use Rattle.firing_reader.specs.Steps.Plain.{BeginsRow, BeginsWith, JoinsField, ReadsArguments}
+use Rattle.firing_reader.specs.Plain.{IsEnd, ReadsRow, int_of, whole_of}
 use Rattle.firing_reader.specs.Stored.{Extends, IsGivenIn, IsRowIn, firing_in, given_in, no_owner}
 use Rattle.firing_reader.specs.Stored.{no_probe}
 use Rattle.firing_reader.specs.Arguments.{ten}
 use Rattle.firing_reader.proofs.PlainFirings.{ReadsNumbers, fields, firing_ok, owner_of, probe_of}
-use Rattle.firing_reader.proofs.PlainRows.{closes_more, row_read}
+use Rattle.firing_reader.proofs.PlainRows.{closes_more, passes_one, row_read}
 use Rattle.firing_reader.proofs.Stored.{named_at, named_in, rows_more, stored}
 
 -- the owner at a place, and the probe at one
@@ -48,28 +48,30 @@ probe_there ps p q b r there h =
       unreserved = rw is h.unreserved;
     }
 
--- a line feed, and then a number
-pub begins_row : (bytes line rest : List ℕ) (number : ℕ) → bytes ≡ 10 ∷ line → (first : ℕ) × (more : List ℕ) × (line ≡ first ∷ more) × JoinsField first
-    → (field : List ℕ) × Passes line (field ∷ []) rest × (whole_of 1 (2 ^ 62) field ≡ Some number) → BeginsRow bytes number rest
-begins_row bytes line rest number is (first, more, starts, joins) (field, passes, is_number) = record {
+-- ends of rows, and then a number
+pub begins_row : (bytes line rest : List ℕ) (number : ℕ) → (ends : List ℕ) × (bytes ≡ ends ++ line) × All IsEnd ends → (first : ℕ) × (more : List ℕ) × (line ≡ first ∷ more) × JoinsField first
+    → (field : List ℕ) × BeginsWith line field (44 ∷ rest) × (whole_of 1 (2 ^ 62) field ≡ Some number) → BeginsRow bytes number rest
+begins_row bytes line rest number (ends, is, are_ends) (first, more, starts, joins) (field, fronts, is_number) = record {
+  ends = ends;
   first = first;
   more = more;
-  is_bytes = is ∙ ap (λ it. 10 ∷ it) starts;
+  is_bytes = is ∙ ap (λ it. ends ++ it) starts;
+  are_ends = are_ends;
   joins = joins;
   field = field;
-  passes = subst (λ it. Passes it (field ∷ []) rest) starts passes;
+  passes = subst (λ it. Passes it (field ∷ []) rest) starts (passes_one line field rest fronts);
   is_number = is_number;
 }
 
 -- the parts of a row, one after the other
 pub row_parts : (bytes b1 b2 b3 b4 b5 rest : List ℕ) (os : List Owner) (ps : List Probe) (args : List ℤ) (r : Row) (o : Owner) (p : Probe)
     → BeginsRow bytes r.number b1
-    → (field : List ℕ) × Passes b1 (field ∷ []) b2 × (int_of 0 field ≡ Some r.cpu)
+    → (field : List ℕ) × BeginsWith b1 field (44 ∷ b2) × (int_of 0 field ≡ Some r.cpu)
     → slice_get os r.owner ≡ Some o → ReadsOwner b2 b3 o
-    → (field : List ℕ) × Passes b3 (field ∷ []) b4 × (whole_of 0 0xFFFF_FFFF_FFFF_FFFF field ≡ Some r.time)
+    → (field : List ℕ) × BeginsWith b3 field (44 ∷ b4) × (whole_of 0 0xFFFF_FFFF_FFFF_FFFF field ≡ Some r.time)
     → slice_get ps r.probe ≡ Some p → ReadsProbe b4 b5 p
     → ReadsArguments b5 rest (ten (given_in args r.given)) → ReadsRow bytes rest (firing_in os ps args r)
-row_parts bytes b1 b2 b3 b4 b5 rest os ps args r o p begins (x2, p2, n2) at_o reads_o (x6, p6, n6) at_p reads_p a =
+row_parts bytes b1 b2 b3 b4 b5 rest os ps args r o p begins (x2, f2, n2) at_o reads_o (x6, f6, n6) at_p reads_p a =
     let f : Firing = firing_in os ps args r in
     let own = owner_there os r.owner o b2 b3 at_o reads_o in
     let fired = probe_there ps r.probe p b4 b5 at_p reads_p in
@@ -78,17 +80,18 @@ row_parts bytes b1 b2 b3 b4 b5 rest os ps args r o p begins (x2, p2, n2) at_o re
     let names = own.x3 ∷ own.x4 ∷ own.x5 ∷ [] in
     let texts = fired.x7 ∷ fired.x8 ∷ fired.x9 ∷ fired.x10 ∷ [] in
     let q4 = closes_more b4 b5 rest texts tens fired.passes a.closes in
-    let q3 = closes_more b3 b4 rest (x6 ∷ []) (texts ++ tens) p6 q4 in
+    let q3 = closes_more b3 b4 rest (x6 ∷ []) (texts ++ tens) (passes_one b3 x6 b4 f6) q4 in
     let q2 = closes_more b2 b3 rest names (x6 ∷ (texts ++ tens)) own.passes q3 in
-    let q1 = closes_more b1 b2 rest (x2 ∷ []) (names ++ (x6 ∷ (texts ++ tens))) p2 q2 in
+    let q1 = closes_more b1 b2 rest (x2 ∷ []) (names ++ (x6 ∷ (texts ++ tens))) (passes_one b1 x2 b2 f2) q2 in
     let line = begins.first ∷ begins.more in
     let q0 = closes_more line b1 rest (begins.field ∷ []) (x2 ∷ (names ++ (x6 ∷ (texts ++ tens)))) begins.passes q1 in
-    let (after, is_rest, read) = row_read bytes line rest (begins.field ∷ x2 ∷ (names ++ (x6 ∷ (texts ++ tens)))) begins.first begins.more begins.is_bytes refl begins.joins q0 in
     record {
       fields = fields f numbers own fired a;
-      after = after;
-      is_rest = is_rest;
-      read = read;
+      end = q0.end;
+      after = q0.after;
+      is_rest = q0.is_rest;
+      ends = q0.ends;
+      read = row_read bytes begins.ends line rest (begins.field ∷ x2 ∷ (names ++ (x6 ∷ (texts ++ tens)))) begins.first begins.more begins.is_bytes begins.are_ends refl begins.joins q0;
       firing = firing_ok f numbers own fired a;
     }
 

@@ -1,95 +1,145 @@
--- What rows share, as a trace stores it.
-use Rattle.std.proofs.Common.{◌≡◌, ◌+◌, ℕ, suc, false, List, [], ◌∷◌, ◌++◌, length, get_or, take}
-use Rattle.std.proofs.Common.{drop, map, All, Option, Some, None, refl, ap, ◌∙◌, arith}
-use Rattle.std.specs.Prelude.{Contains, IfSome, codes, slice_get}
-use Rattle.std.proofs.Math.Seq.{drop-append_seam}
+-- Units that are kept with their bytes, and what they say.
+use Rattle.std.proofs.Common.{◌≡◌, ◌<◌, ◌≤◌, ◌+◌, ◌-◌, ◌∙◌, ℕ, zero, suc, true, false, List, [], ◌∷◌, ◌++◌}
+use Rattle.std.proofs.Common.{length, map, All, Option, None, Some, refl, sym, ap, subst, arith}
+use Rattle.std.proofs.Common.{length-append, Vec, Global}
+use Rattle.std.specs.Prelude.{IfSome, codes, slice_get}
+use Rattle.std.proofs.Math.Seq.{drop-append-add, drop-append_seam, take-append_seam}
 use Rattle.std.proofs.lemmas.List.{map-append, take_all}
-use Rattle.std.proofs.lemmas.List.Elements.{All-append, All-cons, All-contains, All-head, All-nil}
-use Rattle.std.proofs.lemmas.List.Elements.{All-tail}
-use Rattle.std.proofs.lemmas.Option.{get_or_from_slice_get, slice_get-map, slice_get_within}
+use Rattle.std.proofs.lemmas.List.Elements.{All-append, All-cons, All-head, All-nil, All-tail}
+use Rattle.std.proofs.lemmas.Option.{slice_get-map}
 use Rattle.firing_reader.specs.Vocabulary.{bytes_eq}
-use Rattle.firing_reader.specs.declared.keys.Known.{Known}
-use Rattle.firing_reader.specs.declared.owners.StoredOwner.{StoredOwner}
-use Rattle.firing_reader.specs.declared.probes.StoredProbe.{StoredProbe}
+use Rattle.firing_reader.specs.declared.owners.OwnerEntry.{OwnerEntry}
+use Rattle.firing_reader.specs.declared.probes.ProbeEntry.{ProbeEntry}
 use Rattle.firing_reader.specs.declared.unit.Owner.{Owner}
 use Rattle.firing_reader.specs.declared.unit.Probe.{Probe}
+use Rattle.firing_reader.specs.declared.units.Known.{Known}
 use Rattle.firing_reader.specs.Column.{text_of}
-use Rattle.firing_reader.specs.Plain.{Passes, ReadsOwner, ReadsProbe, int_of}
-use Rattle.firing_reader.specs.Stored.{Extends}
-use Rattle.firing_reader.specs.Units.{AreOwners, AreProbes, IsKnownIn, IsOwnerIn, IsOwnerKey}
-use Rattle.firing_reader.specs.Units.{IsProbeIn, IsProbeKey, known_in, owner_in, probe_in}
-use Rattle.firing_reader.proofs.PlainRows.{passes_more, unit_passes}
-use Rattle.firing_reader.proofs.Stored.{found_more, named_in, named_more, part_more, within_more}
+use Rattle.firing_reader.specs.Plain.{ReadsOwner, ReadsProbe, int_of}
+use Rattle.firing_reader.specs.Steps.Plain.{BeginsWith}
+use Rattle.firing_reader.specs.Stored.{ArePlaces, Extends}
+use Rattle.firing_reader.specs.Units.{IsProbeIn, IsTextIn, IsUnitIn, name_at, owner_in, part, probe_in}
+use Rattle.firing_reader.specs.Units.{probefunc_at, probemod_at, unit_in}
+use Rattle.firing_reader.proofs.Fields.{text_is}
+use Rattle.firing_reader.proofs.PlainRows.{passes_more, passes_one, unit_passes}
+use Rattle.firing_reader.proofs.Stored.{part_more}
 
--- ---- bytes that were met
+-- ---- units of any kind
 
-known_same : (b c : List ℕ) (k : Known) → Extends b c → IsKnownIn b k → known_in c k ≡ known_in b k
-known_same b c k e h = rw (part_more b c k.begin k.count e h) refl
-
-pub known_all : (b c : List ℕ) (ks : List Known) → Extends b c → All (IsKnownIn b) ks → map (known_in c) ks ≡ map (known_in b) ks
-known_all b c [] e all = refl
-known_all b c (k ∷ ks) e all = rw (known_same b c k e (All-head (IsKnownIn b) k ks all), known_all b c ks e (All-tail (IsKnownIn b) k ks all)) refl
-
-pub known_more : (b c : List ℕ) (ks : List Known) → Extends b c → All (IsKnownIn b) ks → All (IsKnownIn c) ks
-known_more b c ks e all = λ k d within. within_more b c _ e (all k d within)
-
--- the bytes at the end of all
-pub last_part : (b key : List ℕ) → take (length key) (drop (length b) (b ++ key)) ≡ key
+last_part : (b key : List ℕ) → part (b ++ key) (length b) (length key) ≡ key
 last_part b key = rw (drop-append_seam b key) (take_all (length key) key (omega arith))
 
--- what is known at its place
-pub known_at : (b : List ℕ) (ks : List Known) (i : ℕ) (k : Known) (key : List ℕ) → slice_get ks i ≡ Some k → take k.count (drop k.begin b) ≡ key
-    → Contains (map (known_in b) ks) (key, k.place)
-known_at b ks i k key found same =
-    let at : slice_get (map (known_in b) ks) i ≡ Some (known_in b k) = slice_get-map (known_in b) ks i ∙ rw found refl in
-    let is : known_in b k ≡ (key, k.place) = rw same refl in
-    (i, slice_get_within _ i _ at, get_or_from_slice_get _ i (known_in b k) (key, k.place) at ∙ is)
+unit_more : {E : Type 0} (I R : E → List ℕ → Type 0) (b key : List ℕ) (k : Known E) → IsUnitIn I R b k → IsUnitIn I R (b ++ key) k
+unit_more I R b key k h =
+    let size = length-append b key in
+    let same = part_more b (b ++ key) k.begin k.count (key, refl) h.inside in
+    record { inside = omega (arith, size, h.inside); is_in = rw same h.is_in; reads = rw same h.reads }
 
--- one more
-pub known_push : (b key : List ℕ) (ks : List Known) (k : Known) (old : List (List ℕ × ℕ)) → All (IsKnownIn b) ks → map (known_in b) ks ≡ old
-    → k.begin ≡ length b → k.count ≡ length key → map (known_in (b ++ key)) (ks ++ k ∷ []) ≡ old ++ (key, k.place) ∷ []
-known_push b key ks k old all is first many =
-    let one : known_in (b ++ key) k ≡ (key, k.place) = rw (first, many, last_part b key) refl in
-    map-append (known_in (b ++ key)) ks (k ∷ []) ∙ rw (known_all b (b ++ key) ks (key, refl) all, is, one) refl
+units_same : {E : Type 0} (I R : E → List ℕ → Type 0) (b key : List ℕ) (ks : List (Known E)) → All (IsUnitIn I R b) ks → map (unit_in (b ++ key)) ks ≡ map (unit_in b) ks
+units_same I R b key [] all = refl
+units_same I R b key (k ∷ ks) all = rw (part_more b (b ++ key) k.begin k.count (key, refl) (All-head (IsUnitIn I R b) k ks all).inside, units_same I R b key ks (All-tail (IsUnitIn I R b) k ks all)) refl
+
+-- one more at the end
+pub unit_push : {E : Type 0} (I R : E → List ℕ → Type 0) (b key : List ℕ) (ks : List (Known E)) (k : Known E) (old : List (List ℕ × E)) → All (IsUnitIn I R b) ks → map (unit_in b) ks ≡ old
+    → k.begin ≡ length b → k.count ≡ length key → map (unit_in (b ++ key)) (ks ++ k ∷ []) ≡ old ++ (key, k.entry) ∷ []
+unit_push I R b key ks k old all is first many =
+    let one : unit_in (b ++ key) k ≡ (key, k.entry) = rw (first, many, last_part b key) refl in
+    map-append (unit_in (b ++ key)) ks (k ∷ []) ∙ rw (units_same I R b key ks all, is, one) refl
+
+pub units_push : {E : Type 0} (I R : E → List ℕ → Type 0) (b key : List ℕ) (ks : List (Known E)) (k : Known E) → All (IsUnitIn I R b) ks → k.begin ≡ length b → k.count ≡ length key → I k.entry key
+    → (k.plain ≡ true → R k.entry key) → All (IsUnitIn I R (b ++ key)) (ks ++ k ∷ [])
+units_push I R b key ks k all first many is_in reads =
+    let P = IsUnitIn I R (b ++ key) in
+    let size = length-append b key in
+    let one : P k = record { inside = omega (arith, size, first, many); is_in = rw (first, many, last_part b key) is_in; reads = rw (first, many, last_part b key) reads } in
+    All-append P ks (k ∷ []) (λ i d within. unit_more I R b key _ (all i d within)) (All-cons P k [] one (All-nil P))
+
+-- ---- what is seen of units
+
+pub seen_extends : {X Y : Type 0} (f : X → Y) (xs ys : List X) → Extends xs ys → Extends (map f xs) (map f ys)
+seen_extends f xs ys (more, is) = (map f more, ap (map f) is ∙ map-append f xs more)
+
+pub seen_at : {X Y : Type 0} (f : X → Y) (xs : List X) (i : ℕ) (x : X) → slice_get xs i ≡ Some x → slice_get (map f xs) i ≡ Some (f x)
+seen_at f xs i x there = slice_get-map f xs i ∙ rw there refl
+
+seen_places : {X Y : Type 0} (f : X → Y) (all : List X) (places : List ℕ) (others : List X) → ArePlaces all places others → ArePlaces (map f all) places (map f others)
+seen_places f all [] [] are = refl
+seen_places f all [] (x ∷ xs) are = absurd cc
+seen_places f all (p ∷ ps) [] are = absurd cc
+seen_places f all (p ∷ ps) (x ∷ xs) are =
+    let first : slice_get all p ≡ Some x = cc in
+    let more : ArePlaces all ps xs = cc in
+    rw (seen_at f all p x first, seen_places f all ps xs more) refl
+
+pub seen_kept : {X Y : Type 0} (f : X → Y) (all : List X) (x : X) (y : Y) (found : Option ℕ) → f x ≡ y → IfSome found (λ p. slice_get all p ≡ Some x) → IfSome found (λ p. slice_get (map f all) p ≡ Some y)
+seen_kept f all x y None is there = tt
+seen_kept {X} {Y} f all x y (Some p) is there = seen_at f all p x there ∙ ap (λ (z : Y). Some z) is
+
+pub seen_places_of : {X Y : Type 0} (f : X → Y) (all others : List X) (found : Option (Vec ℕ Global)) → IfSome found (λ v. ArePlaces all v.items others)
+    → IfSome found (λ v. ArePlaces (map f all) v.items (map f others))
+seen_places_of f all others None are = tt
+seen_places_of f all others (Some v) are = seen_places f all v.items others are
+
+-- what is at a place
+pub one_there : {X : Type 0} (xs : List X) (i : ℕ) → i < length xs → (x : X) × (slice_get xs i ≡ Some x)
+one_there [] i lt = absurd (omega arith)
+one_there (x ∷ xs) zero lt = (x, refl)
+one_there (x ∷ xs) (suc i) lt = one_there xs i (omega arith)
+
+-- ---- texts in the bytes of a unit
+
+pub record IsPart (bytes : List ℕ) (begin count : ℕ) (text : List ℕ) : Type 0 where
+  pub inside : begin + count ≤ length bytes
+  pub is : part bytes begin count ≡ text
+  pub own : text_of text ≡ Some text
+
+pub part_text : (bytes : List ℕ) (begin count : ℕ) (text : List ℕ) → IsPart bytes begin count text → IsTextIn bytes begin count
+part_text bytes begin count text h = record { inside = h.inside; text = rw h.is h.own }
+
+pub part_first : (bytes text rest : List ℕ) (count : ℕ) → bytes ≡ text ++ rest → count ≡ length text → text_of text ≡ Some text → IsPart bytes 0 count text
+part_first bytes text rest count is many own =
+    let size = ap length is in
+    let both = length-append text rest in
+    record { inside = omega (arith, size, both, many); is = rw (is, many) (take-append_seam text rest); own = own }
+
+part_next : (bytes first more text : List ℕ) (c begin at count : ℕ) → bytes ≡ first ++ c ∷ more → at ≡ length first + suc begin → IsPart more begin count text → IsPart bytes at count text
+part_next bytes first more text c begin at count is place h =
+    let size = ap length is in
+    let both = length-append first (c ∷ more) in
+    record { inside = omega (arith, size, both, place, h.inside); is = rw (is, place, drop-append-add first (c ∷ more) (suc begin)) h.is; own = h.own }
+
+-- the text that a field writes is the field
+pub own_field : (field text : List ℕ) → text_of field ≡ Some text → (field ≡ text) × (text_of text ≡ Some text)
+own_field field text read =
+    let is = (text_is field text read).0 in
+    (sym is, ap text_of is ∙ read)
 
 -- ---- owners
 
-pub owner_same : (t u : List (List ℕ)) (o : StoredOwner) → Extends t u → IsOwnerIn t o → owner_in u o ≡ owner_in t o
-owner_same t u o e h = rw (found_more t u o.execname [] e h) refl
+-- the text after two numbers
+pub owner_text : (b0 b1 b2 rest x3 x4 name : List ℕ) (from count : ℕ) → b0 ≡ x3 ++ 44 ∷ b1 → b1 ≡ x4 ++ 44 ∷ b2 → b2 ≡ name ++ rest → from ≡ length b0 - length b2 → count ≡ length name
+    → text_of name ≡ Some name → IsPart b0 from count name
+owner_text b0 b1 b2 rest x3 x4 name from count is0 is1 is2 place many own =
+    let size0 = ap length is0 in
+    let both0 = length-append x3 (44 ∷ b1) in
+    let size1 = ap length is1 in
+    let both1 = length-append x4 (44 ∷ b2) in
+    let last = part_first b2 name rest count is2 many own in
+    let next = part_next b1 x4 b2 name 44 0 (length x4 + suc 0) count is1 refl last in
+    part_next b0 x3 b1 name 44 (length x4 + suc 0) from count is0 (omega (arith, size0, both0, size1, both1, place)) next
 
-pub owners_same : (t u : List (List ℕ)) (os : List StoredOwner) → Extends t u → All (IsOwnerIn t) os → map (owner_in u) os ≡ map (owner_in t) os
-owners_same t u [] e all = refl
-owners_same t u (o ∷ os) e all = rw (owner_same t u o e (All-head (IsOwnerIn t) o os all), owners_same t u os e (All-tail (IsOwnerIn t) o os all)) refl
+-- the fields of an owner, one after another
+pub owner_parsed : (key b1 b2 b3 : List ℕ) (e : OwnerEntry) (name : List ℕ) → (field : List ℕ) × BeginsWith key field (44 ∷ b1) × (int_of 1 field ≡ Some e.thread)
+    → (field : List ℕ) × BeginsWith b1 field (44 ∷ b2) × (int_of 0 field ≡ Some e.pid) → (field : List ℕ) × BeginsWith b2 field (44 ∷ b3) × (text_of field ≡ Some name)
+    → e.from ≡ length key - length b2 → e.count ≡ length name → b3 ≡ [] → IsTextIn key e.from e.count × ReadsOwner key [] (owner_in (key, e))
+owner_parsed key b1 b2 b3 e name (x3, f3, thread) (x4, f4, pid) (x5, f5, execname) place many none =
+    let (same, own) = own_field x5 name execname in
+    let split : b2 ≡ name ++ 44 ∷ b3 = rw same at f5.split in
+    let there = owner_text key b1 b2 (44 ∷ b3) x3 x4 name e.from e.count f3.split f4.split split place many own in
+    let two = passes_more key b1 b2 (x3 ∷ []) (x4 ∷ []) (passes_one key x3 b1 f3) (passes_one b1 x4 b2 f4) in
+    let all = passes_more key b2 b3 (x3 ∷ x4 ∷ []) (x5 ∷ []) two (passes_one b2 x5 b3 f5) in
+    (part_text key e.from e.count name there, record { x3 = x3; x4 = x4; x5 = x5; passes = rw none at all; is_thread = thread; is_pid = pid; is_execname = execname ∙ ap (λ t. Some t) (sym there.is) })
 
-owners_more : (t u : List (List ℕ)) (os : List StoredOwner) → Extends t u → All (IsOwnerIn t) os → All (IsOwnerIn u) os
-owners_more t u os e all = λ k d within. within_more t u _ e (all k d within)
-
-owner_key_more : (os us : List Owner) (k : List ℕ × ℕ) → Extends os us → IsOwnerKey os k → IsOwnerKey us k
-owner_key_more os us k e h = record { owner = h.owner; there = named_more os us k.1 h.owner e h.there; reads = h.reads }
-
--- owners that are kept after them change none
-pub owners_grow : (t u : List (List ℕ)) (os : List StoredOwner) (ks : List (List ℕ × ℕ)) → Extends t u → AreOwners t os ks → AreOwners u os ks
-owners_grow t u os ks e are = record {
-  texts_in = owners_more t u os e are.texts_in;
-  keys_in = rw (owners_same t u os e are.texts_in) are.keys_in;
-}
-
-pub owner_at : (t : List (List ℕ)) (os : List StoredOwner) (i : ℕ) (o : StoredOwner) → slice_get os i ≡ Some o → slice_get (map (owner_in t) os) i ≡ Some (owner_in t o)
-owner_at t os i o found = slice_get-map (owner_in t) os i ∙ rw found refl
-
--- what is stored after them, with texts that are kept after theirs
-pub owners_extend : (t u : List (List ℕ)) (os ps : List StoredOwner) → Extends t u → Extends os ps → All (IsOwnerIn t) os → Extends (map (owner_in t) os) (map (owner_in u) ps)
-owners_extend t u os ps e (more, is) all = (map (owner_in u) more, rw (is, map-append (owner_in u) os more, owners_same t u os e all) refl)
-
--- the same, where there are new ones, each of which names texts that are there
-pub owners_stored : (t u : List (List ℕ)) (os ps : List StoredOwner) (ks : List (List ℕ × ℕ)) → Extends t u → (more : List StoredOwner) → ps ≡ os ++ more → All (IsOwnerIn u) more
-    → AreOwners t os ks → AreOwners u ps ks
-owners_stored t u os ps ks e more is new are = record {
-  texts_in = rw is (All-append (IsOwnerIn u) os more (owners_more t u os e are.texts_in) new);
-  keys_in = λ k d within. owner_key_more (map (owner_in t) os) (map (owner_in u) ps) (get_or ks k d) (owners_extend t u os ps e (more, is) are.texts_in) (are.keys_in k d within);
-}
-
--- the fields of an owner that were met
+-- the fields of an owner, whatever comes after them
 pub owner_read : (key rest bytes : List ℕ) (o : Owner) → ReadsOwner key [] o → bytes ≡ key ++ rest → ReadsOwner bytes rest o
 owner_read key rest bytes o h is = record {
   x3 = h.x3;
@@ -101,119 +151,98 @@ owner_read key rest bytes o h is = record {
   is_execname = h.is_execname;
 }
 
-pub owner_met : (os : List Owner) (ks : List (List ℕ × ℕ)) (key : List ℕ) (p : ℕ) → All (IsOwnerKey os) ks → Contains ks (key, p) → (o : Owner) × (slice_get os p ≡ Some o) × ReadsOwner key [] o
-owner_met os ks key p all met =
-    let k = All-contains (IsOwnerKey os) ks (key, p) all met in
-    (k.owner, k.there, k.reads)
-
-pub owner_known : (os : List Owner) (ks : List (List ℕ × ℕ)) (key : List ℕ) (found : Option ℕ) → All (IsOwnerKey os) ks → IfSome found (λ p. Contains ks (key, p))
-    → IfSome found (λ p. (o : Owner) × (slice_get os p ≡ Some o) × ReadsOwner key [] o)
-owner_known os ks key None all met = met
-owner_known os ks key (Some p) all met = owner_met os ks key p all met
-
--- an owner whose text was looked up, at the place that was found
-pub owner_placed : (u : List (List ℕ)) (ps : List StoredOwner) (o : StoredOwner) (name : List ℕ) (found : Option ℕ) → slice_get u o.execname ≡ Some name → IfSome found (λ p. slice_get ps p ≡ Some o)
-    → IfSome found (λ p. slice_get (map (owner_in u) ps) p ≡ Some (record { thread = o.thread; pid = o.pid; execname = name }))
-owner_placed u ps o name None text there = there
-owner_placed u ps o name (Some p) text there =
-    let is : owner_in u o ≡ record { thread = o.thread; pid = o.pid; execname = name } = rw (get_or_from_slice_get u o.execname name [] text) refl in
-    owner_at u ps p o there ∙ ap (λ (x : Owner). Some x) is
-
--- one more of the bytes that were met
-pub owners_noted : (t : List (List ℕ)) (os : List StoredOwner) (ks : List (List ℕ × ℕ)) (key : List ℕ) (p : ℕ) (o : Owner) → slice_get (map (owner_in t) os) p ≡ Some o → ReadsOwner key [] o
-    → AreOwners t os ks → AreOwners t os (ks ++ (key, p) ∷ [])
-owners_noted t os ks key p o there reads are =
-    let k : IsOwnerKey (map (owner_in t) os) (key, p) = record { owner = o; there = there; reads = reads } in
-    let P = IsOwnerKey (map (owner_in t) os) in
-    record {
-      texts_in = are.texts_in;
-      keys_in = All-append P ks ((key, p) ∷ []) are.keys_in (All-cons P (key, p) [] k (All-nil P));
-    }
-
--- the fields of an owner, one after another
-pub owner_fields : (key a b c x3 x4 x5 : List ℕ) (o : Owner) → Passes key (x3 ∷ []) a → Passes a (x4 ∷ []) b → Passes b (x5 ∷ []) c → c ≡ []
-    → int_of 1 x3 ≡ Some o.thread → int_of 0 x4 ≡ Some o.pid → text_of x5 ≡ Some o.execname → ReadsOwner key [] o
-owner_fields key a b c x3 x4 x5 o p3 p4 p5 none thread pid execname =
-    let all = passes_more key b c (x3 ∷ x4 ∷ []) (x5 ∷ []) (passes_more key a b (x3 ∷ []) (x4 ∷ []) p3 p4) p5 in
-    record {
-      x3 = x3;
-      x4 = x4;
-      x5 = x5;
-      passes = rw none at all;
-      is_thread = thread;
-      is_pid = pid;
-      is_execname = execname;
-    }
-
 -- ---- probes
 
-probe_same : (t u : List (List ℕ)) (p : StoredProbe) → Extends t u → IsProbeIn t p → probe_in u p ≡ probe_in t p
-probe_same t u p e h = rw (found_more t u p.provider [] e h.provider, found_more t u p.probemod [] e h.probemod, found_more t u p.probefunc [] e h.probefunc, found_more t u p.name [] e h.name) refl
+-- the texts of a probe are those of the bytes
+pub record HasTexts (bytes : List ℕ) (e : ProbeEntry) (p : Probe) : Type 0 where
+  pub provider : IsPart bytes 0 e.provider p.provider
+  pub probemod : IsPart bytes (probemod_at e) e.probemod p.probemod
+  pub probefunc : IsPart bytes (probefunc_at e) e.probefunc p.probefunc
+  pub name : IsPart bytes (name_at e) e.name p.name
 
-probes_same : (t u : List (List ℕ)) (ps : List StoredProbe) → Extends t u → All (IsProbeIn t) ps → map (probe_in u) ps ≡ map (probe_in t) ps
-probes_same t u [] e all = refl
-probes_same t u (p ∷ ps) e all = rw (probe_same t u p e (All-head (IsProbeIn t) p ps all), probes_same t u ps e (All-tail (IsProbeIn t) p ps all)) refl
-
-probe_more : (t u : List (List ℕ)) (p : StoredProbe) → Extends t u → IsProbeIn t p → IsProbeIn u p
-probe_more t u p e h = record {
-  provider = within_more t u (suc p.provider) e h.provider;
-  probemod = within_more t u (suc p.probemod) e h.probemod;
-  probefunc = within_more t u (suc p.probefunc) e h.probefunc;
-  name = within_more t u (suc p.name) e h.name;
+pub probe_texts_in : (bytes : List ℕ) (e : ProbeEntry) (p : Probe) → HasTexts bytes e p → IsProbeIn e bytes
+probe_texts_in bytes e p h = record {
+  provider = part_text bytes 0 e.provider p.provider h.provider;
+  probemod = part_text bytes (probemod_at e) e.probemod p.probemod h.probemod;
+  probefunc = part_text bytes (probefunc_at e) e.probefunc p.probefunc h.probefunc;
+  name = part_text bytes (name_at e) e.name p.name h.name;
 }
 
-probes_more : (t u : List (List ℕ)) (ps : List StoredProbe) → Extends t u → All (IsProbeIn t) ps → All (IsProbeIn u) ps
-probes_more t u ps e all = λ k d within. probe_more t u (get_or ps k d) e (all k d within)
+pub probe_is : (bytes : List ℕ) (e : ProbeEntry) (p : Probe) → HasTexts bytes e p → probe_in (bytes, e) ≡ p
+probe_is bytes e p h = rw (h.provider.is, h.probemod.is, h.probefunc.is, h.name.is) refl
 
-probe_key_more : (ps us : List Probe) (k : List ℕ × ℕ) → Extends ps us → IsProbeKey ps k → IsProbeKey us k
-probe_key_more ps us k e h = record { probe = h.probe; there = named_more ps us k.1 h.probe e h.there; reads = h.reads }
+-- each text is as long as the entry says
+pub record AreLong (e : ProbeEntry) (p : Probe) : Type 0 where
+  pub provider : e.provider ≡ length p.provider
+  pub probemod : e.probemod ≡ length p.probemod
+  pub probefunc : e.probefunc ≡ length p.probefunc
+  pub name : e.name ≡ length p.name
 
--- texts that are kept after theirs change none
-pub probes_grow : (t u : List (List ℕ)) (ps : List StoredProbe) (ks : List (List ℕ × ℕ)) → Extends t u → AreProbes t ps ks → AreProbes u ps ks
-probes_grow t u ps ks e are = record {
-  texts_in = probes_more t u ps e are.texts_in;
-  keys_in = rw (probes_same t u ps e are.texts_in) are.keys_in;
-}
+-- and a text
+pub record AreTexts (p : Probe) : Type 0 where
+  pub provider : text_of p.provider ≡ Some p.provider
+  pub probemod : text_of p.probemod ≡ Some p.probemod
+  pub probefunc : text_of p.probefunc ≡ Some p.probefunc
+  pub name : text_of p.name ≡ Some p.name
 
-pub probe_at : (t : List (List ℕ)) (ps : List StoredProbe) (i : ℕ) (p : StoredProbe) → slice_get ps i ≡ Some p → slice_get (map (probe_in t) ps) i ≡ Some (probe_in t p)
-probe_at t ps i p found = slice_get-map (probe_in t) ps i ∙ rw found refl
+-- texts with one byte after each
+pub probe_texts : (c : ℕ) (b0 b1 b2 b3 b4 : List ℕ) (e : ProbeEntry) (p : Probe) → b0 ≡ p.provider ++ c ∷ b1 → b1 ≡ p.probemod ++ c ∷ b2 → b2 ≡ p.probefunc ++ c ∷ b3 → b3 ≡ p.name ++ c ∷ b4 → AreLong e p
+    → AreTexts p → HasTexts b0 e p
+probe_texts c b0 b1 b2 b3 b4 e p is0 is1 is2 is3 n t =
+    let m1 = part_first b1 p.probemod (c ∷ b2) e.probemod is1 n.probemod t.probemod in
+    let f2 = part_first b2 p.probefunc (c ∷ b3) e.probefunc is2 n.probefunc t.probefunc in
+    let f1 = part_next b1 p.probemod b2 p.probefunc c 0 (length p.probemod + suc 0) e.probefunc is1 refl f2 in
+    let n3 = part_first b3 p.name (c ∷ b4) e.name is3 n.name t.name in
+    let n2 = part_next b2 p.probefunc b3 p.name c 0 (length p.probefunc + suc 0) e.name is2 refl n3 in
+    let n1 = part_next b1 p.probemod b2 p.name c (length p.probefunc + suc 0) (length p.probemod + suc (length p.probefunc + suc 0)) e.name is1 refl n2 in
+    record {
+      provider = part_first b0 p.provider (c ∷ b1) e.provider is0 n.provider t.provider;
+      probemod = part_next b0 p.provider b1 p.probemod c 0 (probemod_at e) e.probemod is0 (omega (arith, n.provider)) m1;
+      probefunc = part_next b0 p.provider b1 p.probefunc c (length p.probemod + suc 0) (probefunc_at e) e.probefunc is0 (omega (arith, n.provider, n.probemod)) f1;
+      name = part_next b0 p.provider b1 p.name c (length p.probemod + suc (length p.probefunc + suc 0)) (name_at e) e.name is0 (omega (arith, n.provider, n.probemod, n.probefunc)) n1;
+    }
 
--- the texts of a probe are those at its places
-pub record HasTexts (u : List (List ℕ)) (s : StoredProbe) (p : Probe) : Type 0 where
-  pub provider : slice_get u s.provider ≡ Some p.provider
-  pub probemod : slice_get u s.probemod ≡ Some p.probemod
-  pub probefunc : slice_get u s.probefunc ≡ Some p.probefunc
-  pub name : slice_get u s.name ≡ Some p.name
+-- the bytes of a probe that csv read
+pub probe_kept : (bytes : List ℕ) (e : ProbeEntry) (p : Probe) → bytes ≡ p.provider ++ 0 ∷ (p.probemod ++ 0 ∷ (p.probefunc ++ 0 ∷ (p.name ++ 0 ∷ []))) → AreLong e p → AreTexts p → HasTexts bytes e p
+probe_kept bytes e p is long texts =
+    let last = p.name ++ 0 ∷ [] in
+    let more = p.probefunc ++ 0 ∷ last in
+    probe_texts 0 bytes (p.probemod ++ 0 ∷ more) more last [] e p is refl refl refl long texts
 
-pub probe_texts_in : (u : List (List ℕ)) (s : StoredProbe) (p : Probe) → HasTexts u s p → IsProbeIn u s
-probe_texts_in u s p h = record {
-  provider = named_in u s.provider p.provider h.provider;
-  probemod = named_in u s.probemod p.probemod h.probemod;
-  probefunc = named_in u s.probefunc p.probefunc h.probefunc;
-  name = named_in u s.name p.name h.name;
-}
+-- the fields of a probe, one after another
+pub probe_split : (key b1 b2 b3 b4 : List ℕ) (e : ProbeEntry) (p : Probe) → (field : List ℕ) × BeginsWith key field (44 ∷ b1) × (text_of field ≡ Some p.provider)
+    → (field : List ℕ) × BeginsWith b1 field (44 ∷ b2) × (text_of field ≡ Some p.probemod) → (field : List ℕ) × BeginsWith b2 field (44 ∷ b3) × (text_of field ≡ Some p.probefunc)
+    → (field : List ℕ) × BeginsWith b3 field (44 ∷ b4) × (text_of field ≡ Some p.name) → AreLong e p → HasTexts key e p
+probe_split key b1 b2 b3 b4 e p (x7, f7, provider) (x8, f8, probemod) (x9, f9, probefunc) (x10, f10, name) long =
+    let (s7, t7) = own_field x7 p.provider provider in
+    let (s8, t8) = own_field x8 p.probemod probemod in
+    let (s9, t9) = own_field x9 p.probefunc probefunc in
+    let (s10, t10) = own_field x10 p.name name in
+    probe_texts 44 key b1 b2 b3 b4 e p (rw s7 at f7.split) (rw s8 at f8.split) (rw s9 at f9.split) (rw s10 at f10.split) long (record { provider = t7; probemod = t8; probefunc = t9; name = t10 })
 
--- a probe whose texts were looked up, at the place that was found
-pub probe_placed : (u : List (List ℕ)) (ps : List StoredProbe) (s : StoredProbe) (p : Probe) (found : Option ℕ) → HasTexts u s p → IfSome found (λ i. slice_get ps i ≡ Some s)
-    → IfSome found (λ i. slice_get (map (probe_in u) ps) i ≡ Some p)
-probe_placed u ps s p None h there = there
-probe_placed u ps s p (Some i) h there =
-    let is : probe_in u s ≡ p = rw (get_or_from_slice_get u s.provider p.provider [] h.provider, get_or_from_slice_get u s.probemod p.probemod [] h.probemod, get_or_from_slice_get u s.probefunc p.probefunc [] h.probefunc, get_or_from_slice_get u s.name p.name [] h.name) refl in
-    probe_at u ps i s there ∙ ap (λ (x : Probe). Some x) is
+pub probe_parsed : (key b1 b2 b3 b4 : List ℕ) (e : ProbeEntry) (p : Probe) → (field : List ℕ) × BeginsWith key field (44 ∷ b1) × (text_of field ≡ Some p.provider)
+    → (field : List ℕ) × BeginsWith b1 field (44 ∷ b2) × (text_of field ≡ Some p.probemod) → (field : List ℕ) × BeginsWith b2 field (44 ∷ b3) × (text_of field ≡ Some p.probefunc)
+    → (field : List ℕ) × BeginsWith b3 field (44 ∷ b4) × (text_of field ≡ Some p.name) → HasTexts key e p → b4 ≡ [] → bytes_eq p.provider (codes "dtrace") ≡ false
+    → ReadsProbe key [] (probe_in (key, e))
+probe_parsed key b1 b2 b3 b4 e p (x7, f7, provider) (x8, f8, probemod) (x9, f9, probefunc) (x10, f10, name) has none free =
+    let two = passes_more key b1 b2 (x7 ∷ []) (x8 ∷ []) (passes_one key x7 b1 f7) (passes_one b1 x8 b2 f8) in
+    let three = passes_more key b2 b3 (x7 ∷ x8 ∷ []) (x9 ∷ []) two (passes_one b2 x9 b3 f9) in
+    let all = passes_more key b3 b4 (x7 ∷ x8 ∷ x9 ∷ []) (x10 ∷ []) three (passes_one b3 x10 b4 f10) in
+    let own : ReadsProbe key [] p = record {
+      x7 = x7;
+      x8 = x8;
+      x9 = x9;
+      x10 = x10;
+      passes = rw none at all;
+      is_provider = provider;
+      is_probemod = probemod;
+      is_probefunc = probefunc;
+      is_name = name;
+      unreserved = free;
+    } in
+    subst (ReadsProbe key []) (sym (probe_is key e p has)) own
 
--- what is stored after them, with texts that are kept after theirs
-pub probes_extend : (t u : List (List ℕ)) (ps qs : List StoredProbe) → Extends t u → Extends ps qs → All (IsProbeIn t) ps → Extends (map (probe_in t) ps) (map (probe_in u) qs)
-probes_extend t u ps qs e (more, is) all = (map (probe_in u) more, rw (is, map-append (probe_in u) ps more, probes_same t u ps e all) refl)
-
--- the same, where there are new ones, each of which names texts that are there
-pub probes_stored : (t u : List (List ℕ)) (ps qs : List StoredProbe) (ks : List (List ℕ × ℕ)) → Extends t u → (more : List StoredProbe) → qs ≡ ps ++ more → All (IsProbeIn u) more
-    → AreProbes t ps ks → AreProbes u qs ks
-probes_stored t u ps qs ks e more is new are = record {
-  texts_in = rw is (All-append (IsProbeIn u) ps more (probes_more t u ps e are.texts_in) new);
-  keys_in = λ k d within. probe_key_more (map (probe_in t) ps) (map (probe_in u) qs) (get_or ks k d) (probes_extend t u ps qs e (more, is) are.texts_in) (are.keys_in k d within);
-}
-
--- the fields of a probe that were met
+-- the fields of a probe, whatever comes after them
 pub probe_read : (key rest bytes : List ℕ) (p : Probe) → ReadsProbe key [] p → bytes ≡ key ++ rest → ReadsProbe bytes rest p
 probe_read key rest bytes p h is = record {
   x7 = h.x7;
@@ -227,45 +256,3 @@ probe_read key rest bytes p h is = record {
   is_name = h.is_name;
   unreserved = h.unreserved;
 }
-
-pub probe_met : (ps : List Probe) (ks : List (List ℕ × ℕ)) (key : List ℕ) (i : ℕ) → All (IsProbeKey ps) ks → Contains ks (key, i) → (p : Probe) × (slice_get ps i ≡ Some p) × ReadsProbe key [] p
-probe_met ps ks key i all met =
-    let k = All-contains (IsProbeKey ps) ks (key, i) all met in
-    (k.probe, k.there, k.reads)
-
-pub probe_known : (ps : List Probe) (ks : List (List ℕ × ℕ)) (key : List ℕ) (found : Option ℕ) → All (IsProbeKey ps) ks → IfSome found (λ i. Contains ks (key, i))
-    → IfSome found (λ i. (p : Probe) × (slice_get ps i ≡ Some p) × ReadsProbe key [] p)
-probe_known ps ks key None all met = met
-probe_known ps ks key (Some i) all met = probe_met ps ks key i all met
-
--- one more of the bytes that were met
-pub probes_noted : (t : List (List ℕ)) (ps : List StoredProbe) (ks : List (List ℕ × ℕ)) (key : List ℕ) (i : ℕ) (p : Probe) → slice_get (map (probe_in t) ps) i ≡ Some p → ReadsProbe key [] p
-    → AreProbes t ps ks → AreProbes t ps (ks ++ (key, i) ∷ [])
-probes_noted t ps ks key i p there reads are =
-    let k : IsProbeKey (map (probe_in t) ps) (key, i) = record { probe = p; there = there; reads = reads } in
-    let P = IsProbeKey (map (probe_in t) ps) in
-    record {
-      texts_in = are.texts_in;
-      keys_in = All-append P ks ((key, i) ∷ []) are.keys_in (All-cons P (key, i) [] k (All-nil P));
-    }
-
--- the fields of a probe, one after another
-pub probe_fields : (key a b c d x7 x8 x9 x10 : List ℕ) (p : Probe) → Passes key (x7 ∷ []) a → Passes a (x8 ∷ []) b → Passes b (x9 ∷ []) c → Passes c (x10 ∷ []) d → d ≡ []
-    → text_of x7 ≡ Some p.provider → text_of x8 ≡ Some p.probemod → text_of x9 ≡ Some p.probefunc → text_of x10 ≡ Some p.name → bytes_eq p.provider (codes "dtrace") ≡ false
-    → ReadsProbe key [] p
-probe_fields key a b c d x7 x8 x9 x10 p p7 p8 p9 p10 none provider probemod probefunc name free =
-    let two = passes_more key a b (x7 ∷ []) (x8 ∷ []) p7 p8 in
-    let three = passes_more key b c (x7 ∷ x8 ∷ []) (x9 ∷ []) two p9 in
-    let all = passes_more key c d (x7 ∷ x8 ∷ x9 ∷ []) (x10 ∷ []) three p10 in
-    record {
-      x7 = x7;
-      x8 = x8;
-      x9 = x9;
-      x10 = x10;
-      passes = rw none at all;
-      is_provider = provider;
-      is_probemod = probemod;
-      is_probefunc = probefunc;
-      is_name = name;
-      unreserved = free;
-    }

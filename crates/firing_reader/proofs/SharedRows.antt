@@ -1,32 +1,29 @@
 -- Plain rows that several workers read.
 use Rattle.std.proofs.Common.{◌≡◌, ◌<◌, ◌≤◌, ◌+◌, ◌-◌, ℕ, suc, List, [], ◌∷◌, ◌++◌, length}
-use Rattle.std.proofs.Common.{drop, Ok, refl, sym, ap, ◌∙◌, append_assoc, arith}
-use Rattle.std.proofs.Common.{length-append}
+use Rattle.std.proofs.Common.{drop, refl, sym, ap, ◌∙◌, append_assoc, arith}
+use Rattle.std.proofs.Common.{inl, length-append, subst}
 use Rattle.std.proofs.Math.Seq.{drop-append-add}
 use Rattle.std.proofs.lemmas.List.{append-nil, drop-append-le}
-use Rattle.csv.specs.declared.parser.State.TheVariants as st
 use Rattle.firing_reader.specs.declared.firing.Firing.{Firing}
-use Rattle.firing_reader.specs.Plain.{ReadsRows, rows_after, rows_in}
-use Rattle.firing_reader.specs.Pieces.{AreCut, IsPiece, Rises, left_after}
-use Rattle.firing_reader.specs.Steps.Plain.{GoesAfter, GoesOn, Leaves, PassesRows, ReadsMore}
+use Rattle.firing_reader.specs.Plain.{ReadsRows}
+use Rattle.firing_reader.specs.Pieces.{AreCut, IsPiece, Rises}
+use Rattle.firing_reader.specs.Steps.Plain.{GoesAfter, GoesOn, Leaves, PassesRows, ReadsMore, left_after}
 use Rattle.firing_reader.specs.Trace.{last_number}
 use Rattle.firing_reader.proofs.BlockSteps.{left_from}
-use Rattle.firing_reader.proofs.Left.{left_none}
-use Rattle.firing_reader.proofs.PieceRows.{only_feed}
-use Rattle.firing_reader.proofs.PlainRows.{goes_all, goes_both, goes_row}
-use Rattle.firing_reader.proofs.Rows.{after_none, last_push}
+use Rattle.firing_reader.proofs.PlainRows.{goes_both, goes_end, goes_row}
+use Rattle.firing_reader.proofs.Rows.{last_push}
 
 -- ---- where rows were read up to a place
 
 -- what is left of bytes begins at this place
-pub left_at : (x rest after : List ℕ) (count : ℕ) → Leaves x rest → rest ≡ 10 ∷ after → count ≡ length x - length rest → rest ≡ left_after count x
-left_at x rest after count h is place =
-    let from : drop (count + 1) x ≡ after = left_from x rest after 0 count h is (omega (arith, place)) in
-    is ∙ ap (λ (l : List ℕ). 10 ∷ l) (sym from)
+pub left_at : (x rest : List ℕ) (count : ℕ) (h : Leaves x rest) → count ≡ length x - length rest → rest ≡ h.end ∷ drop (count + 1) x
+left_at x rest count h place =
+    let from : drop (count + 1) x ≡ h.after = left_from x rest h.end h.after 0 count h h.is_rest (omega (arith, place)) in
+    h.is_rest ∙ ap (λ (l : List ℕ). h.end ∷ l) (sym from)
 
-pub left_inside : (x rest after : List ℕ) (count : ℕ) → Leaves x rest → rest ≡ 10 ∷ after → count ≡ length x - length rest → count < length x
-left_inside x rest after count h is place =
-    let some = ap length is in
+pub left_inside : (x rest : List ℕ) (count : ℕ) → Leaves x rest → count ≡ length x - length rest → count < length x
+left_inside x rest count h place =
+    let some = ap length h.is_rest in
     let all = ap length h.is_bytes in
     omega (arith, some, all, place)
 
@@ -70,11 +67,12 @@ passes_front old bytes front last new count c h =
     }
 
 -- what is left of both is what is left of the second
-last_left : (bytes front after : List ℕ) (count more : ℕ) → bytes ≡ front ++ after → count + 1 ≡ length front → left_after (count + more) bytes ≡ left_after more (10 ∷ after)
-last_left bytes front after count more is whole =
+last_left : (bytes front last : List ℕ) (count more : ℕ) → AreCut bytes front last → count + 1 ≡ length front → left_after (count + more) bytes ≡ left_after more last
+last_left bytes front last count more c whole =
     let next : count + more + 1 ≡ length front + more = omega (arith, whole) in
     let own : more + 1 ≡ suc more = omega arith in
-    ap (λ (l : List ℕ). 10 ∷ l) (ap (λ (n : ℕ). drop n bytes) next ∙ ap (drop (length front + more)) is ∙ drop-append-add front after more ∙ sym (ap (λ (n : ℕ). drop n (10 ∷ after)) own))
+    ap (λ (l : List ℕ). 10 ∷ l) (ap (λ (n : ℕ). drop n bytes) next ∙ ap (drop (length front + more)) c.is_bytes ∙ drop-append-add front c.after more
+    ∙ sym (ap (λ (n : ℕ). drop n last) own ∙ ap (drop (suc more)) c.is_last))
 
 all_dropped : (xs : List ℕ) → drop (length xs) xs ≡ []
 all_dropped [] = refl
@@ -84,6 +82,12 @@ none_left : (front after : List ℕ) (count : ℕ) → count + 1 ≡ length fron
 none_left front after count whole =
     ap (λ (n : ℕ). 10 ∷ (drop n front ++ after)) whole ∙ ap (λ (l : List ℕ). 10 ∷ (l ++ after)) (all_dropped front)
 
+-- with all of the first read, the second is left
+first_left : (old : List Firing) (bytes front last : List ℕ) (mid : List Firing) (count : ℕ) → AreCut bytes front last → PassesRows old front mid count → count + 1 ≡ length front → GoesOn old bytes mid last
+first_left old bytes front last mid count c h whole =
+    let feed : GoesOn old bytes mid (10 ∷ c.after) = rw (← none_left front c.after count whole) (cut_read old bytes front c.after mid count c.is_bytes h) in
+    rw c.is_last (goes_end old bytes mid 10 c.end c.after (inl refl) c.ends feed)
+
 -- both pieces
 pub passes_both : (old : List Firing) (bytes front last : List ℕ) (mid fs new : List Firing) (count more : ℕ) → AreCut bytes front last → PassesRows old front mid count → count + 1 ≡ length front
     → IsPiece last fs more → GoesAfter mid fs → new ≡ mid ++ fs → PassesRows old bytes new (count + more)
@@ -92,10 +96,10 @@ passes_both old bytes front last mid fs new count more c h whole p goes is =
     let both = length-append front c.after in
     let own = ap length c.is_last in
     let all = length-append mid fs in
-    let first : GoesOn old bytes mid last = rw (c.is_last, ← none_left front c.after count whole) (cut_read old bytes front c.after mid count c.is_bytes h) in
-    let read : GoesOn old bytes (mid ++ fs) (left_after more last) = goes_rows_of old bytes mid last fs (left_after more last) (last_number (mid ++ fs)) first p.rows goes.rises goes.few in
+    let first = first_left old bytes front last mid count c h whole in
+    let read = goes_rows_of old bytes mid last fs (p.end ∷ drop (more + 1) last) (last_number (mid ++ fs)) first p.rows goes.rises goes.few in
     record {
-      read = rw (is, last_left bytes front c.after count more c.is_bytes whole, ← c.is_last) read;
+      read = rw (is, last_left bytes front last count more c whole) (goes_end old bytes (mid ++ fs) p.end 10 (drop (more + 1) last) p.ends (inl refl) read);
       few = rw is (omega (arith, all, goes.few));
       inside = omega (arith, size, both, own, whole, p.inside);
     }
@@ -109,36 +113,30 @@ passes_on old bytes front last mid new count more c h whole p =
     let size = ap length c.is_bytes in
     let both = length-append front c.after in
     let own = ap length c.is_last in
-    let first : GoesOn old bytes mid last = rw (c.is_last, ← none_left front c.after count whole) (cut_read old bytes front c.after mid count c.is_bytes h) in
+    let first = first_left old bytes front last mid count c h whole in
     record {
-      read = rw (last_left bytes front c.after count more c.is_bytes whole, ← c.is_last) (goes_both old bytes mid last new (left_after more last) first p.read);
+      read = rw (last_left bytes front last count more c whole) (goes_both old bytes mid last new (left_after more last) first p.read);
       few = p.few;
       inside = omega (arith, size, both, own, whole, p.inside);
     }
 
-pub passes_alone : (old : List Firing) (bytes : List ℕ) (new : List Firing) (rest after : List ℕ) (count : ℕ) → Leaves bytes rest → rest ≡ 10 ∷ after → count ≡ length bytes - length rest → GoesOn old bytes new rest
+pub passes_alone : (old : List Firing) (bytes : List ℕ) (new : List Firing) (rest : List ℕ) (count : ℕ) → Leaves bytes rest → count ≡ length bytes - length rest → GoesOn old bytes new rest
     → length new ≤ 1_000_000 → PassesRows old bytes new count
-passes_alone old bytes new rest after count h is place g few = record {
-  read = rw (sym (left_at bytes rest after count h is place)) g;
+passes_alone old bytes new rest count h place g few = record {
+  read = goes_end old bytes new h.end 10 (drop (count + 1) bytes) h.ends (inl refl) (subst (GoesOn old bytes new) (left_at bytes rest count h place) g);
   few = few;
-  inside = left_inside bytes rest after count h is place;
+  inside = left_inside bytes rest count h place;
 }
 
 -- firings with none before them
-pub piece_alone : (old : List Firing) (bytes : List ℕ) (new : List Firing) (rest after : List ℕ) (count : ℕ) → old ≡ [] → Leaves bytes rest → rest ≡ 10 ∷ after → count ≡ length bytes - length rest → ReadsMore bytes old new rest
+pub piece_alone : (old : List Firing) (bytes : List ℕ) (new : List Firing) (rest : List ℕ) (count : ℕ) → old ≡ [] → Leaves bytes rest → count ≡ length bytes - length rest → ReadsMore bytes old new rest
     → IsPiece bytes new count
-piece_alone old bytes new rest after count none h is place more =
+piece_alone old bytes new rest count none h place more =
     let all : new ≡ more.more = rw none at more.is_new in
     record {
-      rows = rw (all, sym (left_at bytes rest after count h is place)) more.rows;
+      end = h.end;
+      ends = h.ends;
+      rows = rw all (subst (ReadsRows bytes more.more) (left_at bytes rest count h place) more.rows);
       rises = rw (← all) at (rw none at more.rises);
-      inside = left_inside bytes rest after count h is place;
+      inside = left_inside bytes rest count h place;
     }
-
--- ---- a whole trace
-
--- rows that were read to the last byte
-pub rows_whole : (bytes : List ℕ) (fs : List Firing) (count : ℕ) → PassesRows [] bytes fs count → count + 1 ≡ length bytes → rows_in [] bytes ≡ Ok fs
-rows_whole bytes fs count h whole =
-    let none : left_after count bytes ≡ 10 ∷ [] = ap (λ (n : ℕ). 10 ∷ drop n bytes) whole ∙ ap (λ (l : List ℕ). 10 ∷ l) (all_dropped bytes) in
-    goes_all [] bytes fs (left_after count bytes) h.read ∙ ap (rows_in fs) none ∙ ap (rows_after fs) (left_none st.StartRecord (10 ∷ []) only_feed) ∙ after_none fs

@@ -3,7 +3,7 @@ use Rattle.std.proofs.Common.{◌≡◌, ◌<◌, ◌≤◌, ◌+◌, ◌-◌, �
 use Rattle.std.proofs.Common.{Result, Ok, Err, refl, sym, ap, subst, ◌∙◌, arith, append_assoc}
 use Rattle.std.proofs.Common.{length-append, inl, inr}
 use Rattle.std.specs.declared.alloc.AllocError.{AllocError}
-use Rattle.std.specs.Prelude.{OnErr, OnOk, IfErr}
+use Rattle.std.specs.Prelude.{OnErr, OnOk}
 use Rattle.std.proofs.Math.Seq.{take-append_seam}
 use Rattle.std.proofs.lemmas.List.{append-nil}
 use Rattle.firing_reader.specs.declared.blocks.Stage.{Stage}
@@ -14,21 +14,22 @@ use Rattle.firing_reader.specs.Vocabulary.{Memory, TraceFault}
 use Rattle.firing_reader.specs.Blocks.{AreRead, BeginsAtFeed, IsKeptAt, reads_at}
 use Rattle.firing_reader.specs.Plain.{rows_in}
 use Rattle.firing_reader.specs.Pieces.{AreCut, ArePieces, BeginsWithPiece, IsKept, IsPiece, Waits}
-use Rattle.firing_reader.specs.Pieces.{left_after, unread}
+use Rattle.firing_reader.specs.Pieces.{unread}
 use Rattle.firing_reader.specs.Steps.Blocks.{IsFaultOf}
 use Rattle.firing_reader.specs.Steps.Pieces.{Adds, AreWaiting, Leads}
 use Rattle.firing_reader.specs.Steps.Plain.{GoesAfter, GoesOn, PassesRows}
 use Rattle.firing_reader.specs.Trace.{last_number, rows_of}
 use Rattle.firing_reader.proofs.BlockSteps.{kept_front, kept_more}
-use Rattle.firing_reader.proofs.PlainRows.{goes_both, goes_first, goes_rows}
-use Rattle.firing_reader.proofs.SharedRows.{goes_more, goes_rows_of, passes_front, passes_on}
+use Rattle.firing_reader.proofs.PlainRows.{goes_both, goes_end, goes_first, goes_rows}
+use Rattle.firing_reader.proofs.SharedRows.{goes_more, goes_rows_of, passes_on}
 
 -- ---- pieces
 
 -- a piece that goes after the firings
 pub piece_after : (old : List Firing) (bytes : List ℕ) (fs new : List Firing) (count : ℕ) → IsPiece bytes fs count → GoesAfter old fs → new ≡ old ++ fs → PassesRows old bytes new count
 piece_after old bytes fs new count p goes is = record {
-  read = rw is (goes_rows_of old bytes old bytes fs (left_after count bytes) (last_number (old ++ fs)) (goes_first old bytes) p.rows goes.rises goes.few);
+  read = rw is (goes_end old bytes (old ++ fs) p.end 10 (drop (count + 1) bytes) p.ends (inl refl)
+      (goes_rows_of old bytes old bytes fs (p.end ∷ drop (count + 1) bytes) (last_number (old ++ fs)) (goes_first old bytes) p.rows goes.rises goes.few));
   few = rw is (omega (arith, length-append old fs, goes.few));
   inside = p.inside;
 }
@@ -56,12 +57,6 @@ pieces_cut bytes front last p ps c at end piece others =
     let rest : drop p.end bytes ≡ last = sym (at ∙ ap (λ (n : ℕ). drop n bytes) place) in
     (record { cut = rw (own, rest) c; piece = rw own piece }, rw rest others)
 
-pub pieces_feed : (ps : List Piece) (bytes : List ℕ) → ArePieces ps bytes → BeginsAtFeed bytes
-pieces_feed [] bytes h = h
-pieces_feed (p ∷ ps) bytes (b, others) =
-    let (after, is) = b.cut.feed in
-    (after ++ b.cut.after, b.cut.is_bytes ∙ ap (λ (l : List ℕ). l ++ b.cut.after) is)
-
 -- ---- what waits, and what is left
 
 pub feed_leads : (w : List ℕ) → BeginsAtFeed w → Leads w
@@ -69,7 +64,7 @@ feed_leads w (after, is) left feed = subst (λ (x : List ℕ). BeginsAtFeed (unr
 
 pub waiting_leads : (ps : List Piece) (w : List ℕ) → AreWaiting ps w → Leads w
 waiting_leads ps [] h left feed = feed
-waiting_leads ps (b ∷ w) h left feed = feed_leads (b ∷ w) (pieces_feed ps (b ∷ w) h) left feed
+waiting_leads ps (b ∷ w) h left feed = feed_leads (b ∷ w) h.0 left feed
 
 -- bytes that wait, and rows that were added
 pub adds_some : (r : Result (Unit {0}) TraceFault) (old : List Firing) (w : List ℕ) (new : List Firing) (rest : List ℕ) → 1 ≤ length w → OnOk r (GoesOn old w new rest) → OnOk r (BeginsAtFeed rest) → OnOk r (Adds old w new rest)
@@ -185,7 +180,7 @@ front_kept : (s : Stage) (fs : List Firing) (ps : List Piece) (w x : List ℕ) (
 front_kept s fs ps [] x at some h = kept_front s fs x at some h.kept
 front_kept stage.Header fs ps (b ∷ w) x at some h = absurd h.waits
 front_kept (stage.Refused e) fs ps (b ∷ w) x at some h = absurd h.waits
-front_kept stage.Rows fs ps (b ∷ w) x at some h = (feed_leads (b ∷ w) (pieces_feed ps (b ∷ w) h.waits.1) (take at x) (front_feed x at some h.waits.0), h.kept.1)
+front_kept stage.Rows fs ps (b ∷ w) x at some h = (feed_leads (b ∷ w) h.waits.1.0 (take at x) (front_feed x at some h.waits.0), h.kept.1)
 
 pub keeps_front : (s : Stage) (fs : List Firing) (ps : List Piece) (w x : List ℕ) (at : ℕ) → (0 < length x → 0 < at) → IsKept s fs ps w x → IsKept s fs ps w (take at x)
 keeps_front s fs ps w x at some h = record {

@@ -4,7 +4,7 @@ use Rattle.firing_reader.specs.declared.blocks.Stage.{Stage}
 use Rattle.firing_reader.specs.declared.blocks.Stage.TheVariants.{Header, Rows, Refused}
 use Rattle.firing_reader.specs.declared.pieces.Piece.{Piece}
 use Rattle.firing_reader.specs.Vocabulary.{Firing}
-use Rattle.firing_reader.specs.Plain.{ReadsRows}
+use Rattle.firing_reader.specs.Plain.{BeginsAtEnd, IsEnd, ReadsRows}
 use Rattle.firing_reader.specs.Trace.{last_number}
 use Rattle.firing_reader.specs.Blocks.{BeginsAtFeed, IsKeptAt}
 
@@ -13,22 +13,22 @@ unfoldable pub Rises : ℕ → List Firing → ℕ → Type 0
 Rises last [] end = last ≡ end
 Rises last (f ∷ fs) end = (last < f.number) × Rises f.number fs end
 
--- what is left after `count` bytes: the next one is where a row ended
-abbrev pub left_after : ℕ → List ℕ → List ℕ
-left_after count bytes = 10 ∷ drop (count + 1) bytes
-
 -- the bytes begin with the rows of these firings, and their numbers rise; `count` bytes come before
 -- what is left
 pub record IsPiece (bytes : List ℕ) (fs : List Firing) (count : ℕ) : Type 0 where
-  pub rows : ReadsRows bytes fs (left_after count bytes)
+  pub end : ℕ
+  pub ends : IsEnd end
+  pub rows : ReadsRows bytes fs (end ∷ drop (count + 1) bytes)
   pub rises : Rises 0 fs (last_number fs)
   pub inside : count < length bytes
 
--- two pieces that share a line feed
+-- two pieces that share the end of a row
 pub record AreCut (bytes front last : List ℕ) : Type 0 where
-  pub feed : BeginsAtFeed front
+  pub first : BeginsAtEnd front
+  pub end : ℕ
   pub after : List ℕ
-  pub is_last : last ≡ 10 ∷ after
+  pub is_last : last ≡ end ∷ after
+  pub ends : IsEnd end
   pub is_bytes : bytes ≡ front ++ after
 
 -- the bytes begin with those of this piece, and it has their rows
@@ -38,7 +38,7 @@ pub record BeginsWithPiece (bytes : List ℕ) (p : Piece) : Type 0 where
 
 -- the bytes are those of the pieces, one after another, and what comes after them
 abbrev pub ArePieces : List Piece → List ℕ → Type 0
-ArePieces [] bytes = BeginsAtFeed bytes
+ArePieces [] bytes = BeginsAtEnd bytes
 ArePieces (p ∷ ps) bytes = BeginsWithPiece bytes p × ArePieces ps (drop p.end bytes)
 
 -- what isn't among the firings: bytes that wait, and those that are left, which share a line feed
@@ -50,7 +50,8 @@ unread (b ∷ bytes) left = b ∷ (bytes ++ drop 1 left)
 abbrev pub Waits : Stage → List Piece → List ℕ → List ℕ → Type 0
 Waits stage pieces [] left = Unit {0}
 Waits Header pieces (b ∷ bytes) left = ⊥
-Waits Rows pieces (b ∷ bytes) left = BeginsAtFeed left × ArePieces pieces (b ∷ bytes)
+Waits Rows pieces (b ∷ bytes) left =
+    BeginsAtFeed left × (BeginsAtFeed (b ∷ bytes) × ArePieces pieces (b ∷ bytes))
 Waits (Refused e) pieces (b ∷ bytes) left = ⊥
 
 -- what a reader keeps at each stage, with the rows that wait

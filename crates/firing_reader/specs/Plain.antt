@@ -1,8 +1,10 @@
 -- Plain rows, which are read where they lie in a trace: their fields have no quote, comma or end of
 -- a line in them.
-use Rattle.std.specs.Prelude.{◌≡◌, false, ◌<◌, ◌+◌, ◌≤◌, ℕ, List, [], ◌∷◌, ◌++◌, length, Option}
-use Rattle.std.specs.Prelude.{Some, codes, option_and_then, option_map, Result, Ok, pos, ℤ}
+-- Source: RFC 4180, with the reading of the crate `csv`.
+use Rattle.std.specs.Prelude.{◌≡◌, ◌⊎◌, false, ◌<◌, ◌+◌, ◌≤◌, ℕ, List, [], ◌∷◌, ◌++◌, length}
+use Rattle.std.specs.Prelude.{Option, Some, codes, option_and_then, option_map, Result, Ok, pos, ℤ}
 use Rattle.csv.specs.declared.parser.State.{State}
+use Rattle.csv.specs.Machine.{after_end}
 use Rattle.firing_reader.specs.declared.unit.Owner.{Owner}
 use Rattle.firing_reader.specs.declared.unit.Probe.{Probe}
 use Rattle.firing_reader.specs.Vocabulary.{bytes_eq, next_record, default_config, TraceFault}
@@ -49,13 +51,27 @@ pub record ReadsProbe (bytes rest : List ℕ) (p : Probe) : Type 0 where
   pub is_name : text_of x10 ≡ Some p.name
   pub unreserved : bytes_eq p.provider (codes "dtrace") ≡ false
 
--- after a record the bytes hold this row, whatever comes after it; the rest begins at its line feed
+-- a byte that ends a row: a line feed or a carriage return
+abbrev pub IsEnd : ℕ → Type 0
+IsEnd b = (b ≡ 10) ⊎ (b ≡ 13)
+
+-- the bytes begin where a row ends
+abbrev pub BeginsAtEnd : List ℕ → Type 0
+BeginsAtEnd bytes = (end : ℕ) × (after : List ℕ) × (bytes ≡ end ∷ after) × IsEnd end
+
+-- csv's state after the byte that ends a row
+abbrev pub state_after : ℕ → State
+state_after end = after_end default_config.terminator end
+
+-- after a record the bytes hold this row, whatever comes after it; the rest begins at its end
 pub record ReadsRow (bytes rest : List ℕ) (f : Firing) : Type 0 where
   pub fields : List (List ℕ)
+  pub end : ℕ
   pub after : List ℕ
-  pub is_rest : rest ≡ 10 ∷ after
+  pub is_rest : rest ≡ end ∷ after
+  pub ends : IsEnd end
   pub read : (tail : List ℕ) → next_record default_config State.StartRecord [] [] (bytes ++ tail)
-      ≡ Some (fields, State.StartRecord, after ++ tail)
+      ≡ Some (fields, state_after end, after ++ tail)
   pub firing : (row last : ℕ) → row ≤ MOST_ROWS → last < f.number
       → next_of row last fields ≡ Ok f
 

@@ -4,6 +4,5 @@ pub mod Blocks
 pub mod Plain
 pub mod Pieces
 pub mod Stored
-pub mod Units
 pub mod RowEnds
 pub mod Arguments

@@ -1,4 +1,5 @@
 -- Which bytes write a trace.
+-- Source: RFC 4180, with the reading of the crate `csv`.
 use Rattle.std.specs.Prelude.{◌≡◌, ◌∷◌, ℕ, List, length, true}
 use Rattle.firing_reader.specs.Vocabulary.{AllZip, Firing, default_config, records, strip_bom}
 use Rattle.firing_reader.specs.Faults.{IsRowOf}

@@ -17,7 +17,7 @@ use crate::fault::TraceFault;
 use crate::firings::Firings;
 use crate::header::{HEADER, MARK, after_header, after_mark};
 use crate::pieces::{Context, Piece, Waiting, add_pieces, no_pieces, read_pieces};
-use crate::plain::front::rest_after;
+use crate::plain::front::{is_end, rest_after};
 use crate::plain::read_plain;
 use crate::reading::{read_by_csv, read_records, read_rest, read_whole};
 use crate::row_ends::end_of_rows;
@@ -27,6 +27,9 @@ use std::alloc::{AllocError, Global};
 use std::marker::Model;
 use std::mem::swap;
 use std::thread::Threads;
+
+// How many bytes of a trace in memory are read at a time.
+const BLOCK: usize = 1 << 22;
 
 // What a reader reads next.
 #[derive(Clone, Copy)]
@@ -142,6 +145,20 @@ impl Reader {
         self.read(rt)
     }
 
+    // Takes bytes block by block.
+    fn take_all<R: Threads>(&mut self, rt: &R, bytes: &[u8]) -> Result<(), AllocError>
+        ensures { OnOk result
+            ((rest : List ℕ) → reads self.new rest ≡ reads self.old (bytes.now ++ rest)) }
+    {
+        let mut left = bytes;
+        while !left.is_empty() {
+            let (block, rest) = left.split_at(left.len().min(BLOCK));
+            self.take(rt, block)?;
+            left = rest;
+        }
+        Ok(())
+    }
+
     /// Moves the row that isn't whole to a block, after a line feed. Then one thread can add to the
     /// block while another reads the rows before it.
     ///
@@ -157,7 +174,7 @@ impl Reader {
             × ((rest : List ℕ) → reads self.new (row ++ rest) ≡ reads self.old rest)) }
         ensures refused { OnErr result (self.new ≡ self.old) }
     {
-        let at = after_last_feed(&self.left);
+        let at = after_last_end(&self.left);
         block.clear();
         block.push(b'\n')?;
         block.extend_from_slice(&self.left[at..])?;
@@ -262,6 +279,31 @@ impl Reader {
     }
 }
 
+/// Reads a trace as `read_trace` does, by all workers where its rows are plain. Where no thread can
+/// be started, one worker reads what another would have read.
+///
+/// ```text
+/// let trace = read_trace_by(&rt, alloc, hash_key, &bytes, 4)?; // that of `read_trace`
+/// ```
+pub fn read_trace_by<R: Threads>(
+    rt: &R,
+    alloc: Global,
+    hash_key: HashKey,
+    bytes: &[u8],
+    workers: u32,
+) -> Result<Trace, TraceFault>
+    ensures { Gives result (trace_of bytes.now) }
+{
+    let mut reader = Reader::new(alloc, hash_key, workers, BLOCK)?;
+    match reader.take_all(rt, bytes) {
+        Ok(()) => reader.finish(rt),
+        Err(_) => {
+            drop(reader);
+            Err(TraceFault::Memory)
+        }
+    }
+}
+
 // Room for the pieces that this many workers read, and for as many that wait. A single worker reads
 // none. Of more, one thread adds those that wait.
 fn rooms_for(
@@ -287,13 +329,14 @@ fn rooms_for(
     Ok((waiting, pieces))
 }
 
-// How many bytes there are up to the last line feed and with it; all of them where there is none.
-fn after_last_feed(bytes: &[u8]) -> usize
+// How many bytes there are up to the last one that ends a row, and with it; all of them where there
+// is none.
+fn after_last_end(bytes: &[u8]) -> usize
     ensures within { result ≤ length bytes.now }
     ensures some { 0 < length bytes.now → 0 < result }
 {
     for at in (0..bytes.len()).rev() {
-        if bytes[at] == b'\n' {
+        if is_end(bytes[at]) {
             return at + 1;
         }
     }

@@ -158,11 +158,12 @@ impl Firings {
     {
         let Some(owner) = self
             .owners
-            .keep(firing.thread, firing.pid, &firing.execname)
+            .keep(self.alloc, firing.thread, firing.pid, &firing.execname)
         else {
             return None;
         };
         let Some(probe) = self.probes.keep(
+            self.alloc,
             &firing.provider,
             &firing.probemod,
             &firing.probefunc,

@@ -2,11 +2,11 @@
 //!
 //! The first record is the header, and each record after it is one firing. `read_trace` returns the
 //! trace that the bytes write, exactly as `specs/Trace.antt` defines it, or its first fault. Rows
-//! are read where they lie in the bytes up to the first that has a quote, a carriage return or a
-//! fault; from there on `csv` reads them.
+//! are read where they lie in the bytes up to the first that has a quote or a fault; from there on
+//! `csv` reads them.
 //!
 //! ```text
-//! let trace = read_trace(rt.alloc(), hash_key, &bytes)?;
+//! let trace = read_trace(rt.alloc(), &bytes)?;
 //! for at in 0..trace.firings().len() {
 //!     let firing = trace.firings().get(at);
 //!     println!(rt; "{} on thread {}", firing.number, firing.thread)?;
@@ -16,16 +16,13 @@
 
 mod arguments;
 mod blocks;
-mod byte_strings;
 mod columns;
-mod distinct;
 mod ends;
 mod fault;
 mod firing;
 mod firing_rows;
 mod firings;
 mod header;
-mod keys;
 pub mod laws;
 mod owners;
 mod pieces;
@@ -39,11 +36,11 @@ mod row_ends;
 mod slots;
 mod stored_row;
 mod text;
-mod texts;
 mod trace;
 mod unit;
+mod units;
 
-pub use blocks::Reader;
+pub use blocks::{Reader, read_trace_by};
 pub use fault::TraceFault;
 pub use firing::{Args, Firing};
 pub use firing_rows::{FiringRows, MOST_TOGETHER};
@@ -51,5 +48,5 @@ pub use firings::Firings;
 pub use probe_places::ProbePlaces;
 pub use reading::MOST_ROWS;
 pub use text::{TEXT_LIMIT, Text};
-pub use trace::{Trace, read_trace, read_trace_by};
+pub use trace::{Trace, read_trace};
 pub use unit::Probe;

@@ -1,91 +1,98 @@
 //! Who fired, each kept once.
 
-ghost use Rattle.std.specs.Prelude.{◌≡◌, ◌<◌, [], Some, IfOk, IfSome, slice_get, length};
+ghost use Rattle.std.specs.Prelude.{◌≡◌, ◌<◌, ◌++◌, [], ℕ, List, Some, IfOk, IfSome, slice_get};
+ghost use Rattle.std.specs.Prelude.{length};
 ghost use Rattle.firing_reader.specs.{declared.unit.Owner.Owner, Plain.ReadsOwner};
 ghost use Rattle.firing_reader.specs.Stored.{ArePlaces, Extends};
 
-use crate::distinct::{Distinct, place_of};
-use crate::keys::{Keys, TOGETHER, u32_of};
 use crate::plain::field::{int, text};
 use crate::plain::unit::end_of_three;
-use crate::slots::Slots;
-use crate::text::Text;
-use crate::texts::Texts;
+use crate::text::{TEXT_LIMIT, Text};
 use crate::unit::Owner;
+use crate::units::{Entry, Units, add_bytes};
 use keyed_hash::HashKey;
 use std::alloc::{AllocError, Global};
 use std::marker::Model;
 
-// An owner as it is stored: its text by its place.
+// Two numbers of 31 bits that begin with no zero have at most this many bytes, with their commas.
+// Where they have more csv reads the row, as zeros write an owner in any number of ways.
+const LONGEST_NUMBERS: usize = 22;
+
+/// An owner beside its bytes: its numbers, where its text begins among the bytes, and how long it
+/// is. The text of an owner that csv read is the first of its bytes, and its numbers come after it.
 #[derive(Clone, Copy, PartialEq, Eq)]
-pub(crate) struct StoredOwner {
+pub(crate) struct OwnerEntry {
     thread: i32,
     pid: i32,
-    execname: u32,
+    from: u8,
+    count: u8,
 }
 
-impl Distinct for StoredOwner {
-    fn is(self, other: StoredOwner) -> bool {
+impl Entry for OwnerEntry {
+    ghost use Rattle.std.specs.Prelude.{[]};
+    ghost use Rattle.firing_reader.specs.{Plain.ReadsOwner};
+    ghost use Rattle.firing_reader.specs.Units.{IsTextIn, owner_in};
+
+    ghost is_in = { λ e bytes. IsTextIn bytes e.from e.count };
+
+    ghost reads = { λ e bytes. ReadsOwner bytes [] (owner_in (bytes, e)) };
+
+    fn is(self, other: OwnerEntry) -> bool {
         self == other
     }
 
-    fn tag(self, slots: &Slots) -> u32 {
-        let thread = u64::from(self.thread.cast_unsigned());
-        let pid = u64::from(self.pid.cast_unsigned());
-        slots.tag_of_pair(thread << 32 | pid, u64::from(self.execname))
+    fn read(key: &[u8]) -> Option<OwnerEntry> {
+        let (thread, rest) = int(key, 1)?;
+        let (pid, rest) = int(rest, 0)?;
+        let from = key.len().saturating_sub(rest.len());
+        let (execname, rest) = text(rest)?;
+        if from > LONGEST_NUMBERS || !rest.is_empty() {
+            return None;
+        }
+        Some(OwnerEntry {
+            thread,
+            pid,
+            from: from as u8,
+            count: execname.count(),
+        })
     }
 }
 
 /// The owners of firings. Contracts see the list of them.
 #[derive(Drop)]
 pub(crate) struct Owners {
-    texts: Texts,
-    stored: Vec<StoredOwner>,
-    slots: Slots,
-    keys: Keys,
+    units: Units<OwnerEntry>,
 }
 
 impl Model for Owners {
     ghost use Rattle.std.specs.Prelude.{List, map};
     ghost use Rattle.firing_reader.specs.{declared.unit.Owner.Owner};
-    ghost use Rattle.firing_reader.specs.Units.{AreOwners, owner_in};
+    ghost use Rattle.firing_reader.specs.Units.{owner_in};
 
     ghost Value = { List Owner };
 
-    ghost view = { λ o. map (owner_in o.texts) o.stored.items };
-
-    ghost invariant = { λ o. AreOwners o.texts o.stored.items o.keys };
+    ghost view = { λ o. map owner_in o.units };
 }
 
 impl Owners {
     pub(crate) fn new(alloc: Global, hash_key: HashKey) -> Result<Owners, AllocError>
         ensures { IfOk result (λ owners. owners ≡ []) }
     {
-        let texts = Texts::new(alloc, hash_key)?;
-        let slots = Slots::new(alloc, hash_key)?;
-        let keys = Keys::new(alloc, hash_key)?;
-        Ok(Owners {
-            texts,
-            stored: Vec::new(alloc),
-            slots,
-            keys,
-        })
+        let units = Units::new(alloc, hash_key)?;
+        Ok(Owners { units })
     }
 
     pub(crate) fn len(&self) -> usize
         ensures { result ≡ length self.now }
     {
-        self.stored.len()
+        self.units.len()
     }
 
     /// Forgets all of them.
     pub(crate) fn clear(&mut self)
         ensures { self.new ≡ [] }
     {
-        self.texts.clear();
-        self.stored.clear();
-        self.slots.clear();
-        self.keys.clear();
+        self.units.clear();
     }
 
     /// The owner at a place.
@@ -94,79 +101,36 @@ impl Owners {
         requires { place < length self.now }
         ensures { slice_get self.now place ≡ Some result }
     {
-        let stored = self.stored[place as usize];
+        let (bytes, _, entry) = self.units.at(place);
         Owner {
-            thread: stored.thread,
-            pid: stored.pid,
-            execname: self.texts.at(stored.execname),
+            thread: entry.thread,
+            pid: entry.pid,
+            execname: Text::within(bytes, entry.from as usize, entry.count),
         }
     }
 
     /// The place of an owner, which is added if it isn't there.
-    pub(crate) fn keep(&mut self, thread: i32, pid: i32, execname: &Text) -> Option<u32>
+    pub(crate) fn keep(
+        &mut self,
+        alloc: Global,
+        thread: i32,
+        pid: i32,
+        execname: &Text,
+    ) -> Option<u32>
         ensures grows { Extends self.old self.new }
         ensures place { IfSome result (λ p. slice_get self.new p
             ≡ Some (record { thread = thread; pid = pid; execname = execname.now })) }
     {
-        let execname = self.texts.keep(execname)?;
-        place_of(
-            &mut self.stored,
-            &mut self.slots,
-            StoredOwner {
+        let bytes = owner_bytes(alloc, thread, pid, execname)?;
+        self.units.keep(
+            &bytes,
+            OwnerEntry {
                 thread,
                 pid,
-                execname,
+                from: 0,
+                count: execname.count(),
             },
         )
-    }
-
-    // The place of an owner whose fields are new.
-    #[cold]
-    #[inline(never)]
-    fn add(&mut self, key: &[u8]) -> Option<u32>
-        ensures grows { Extends self.old self.new }
-        ensures owner { IfSome result (λ p. (owner : Owner)
-            × (slice_get self.new p ≡ Some owner) × ReadsOwner key.now [] owner) }
-    {
-        let (thread, rest) = int(key, 1)?;
-        let (pid, rest) = int(rest, 0)?;
-        let (execname, rest) = text(rest)?;
-        if !rest.is_empty() {
-            return None;
-        }
-        let place = self.keep(thread, pid, &execname)?;
-        self.keys.keep(key, place)?;
-        Some(place)
-    }
-
-    // The place of the owner whose fields these bytes are, if they were read before.
-    #[inline(always)]
-    fn known(&self, key: &[u8]) -> Option<u32>
-        ensures { IfSome result (λ p. (owner : Owner)
-            × (slice_get self.now p ≡ Some owner) × ReadsOwner key.now [] owner) }
-    {
-        self.keys.find(key)
-    }
-
-    // The same, if the bytes are those at this place of the known ones.
-    fn known_at(&self, guess: u32, key: &[u8]) -> Option<u32>
-        ensures { IfSome result (λ p. (owner : Owner)
-            × (slice_get self.now p ≡ Some owner) × ReadsOwner key.now [] owner) }
-    {
-        self.keys.place_at(guess, key)
-    }
-
-    // The same, whether they were read before or not.
-    #[inline(always)]
-    fn unit(&mut self, key: &[u8]) -> Option<u32>
-        ensures grows { Extends self.old self.new }
-        ensures owner { IfSome result (λ p. (owner : Owner)
-            × (slice_get self.new p ≡ Some owner) × ReadsOwner key.now [] owner) }
-    {
-        match self.known(key) {
-            Some(place) => Some(place),
-            None => self.add(key),
-        }
     }
 
     /// The place of the owner whose fields come first, and what comes after them.
@@ -177,33 +141,8 @@ impl Owners {
             × (slice_get self.new p.0 ≡ Some owner) × ReadsOwner bytes.now p.1.now owner) }
     {
         let (key, rest) = bytes.split_at(end_of_three(bytes));
-        let place = self.unit(key)?;
+        let place = self.units.read(key)?;
         Some((place, rest))
-    }
-
-    // Bytes that the owner at a place was read from.
-    fn bytes_at(&self, place: u32) -> Option<&[u8]>
-        ensures { IfSome result (λ key. (owner : Owner)
-            × (slice_get self.now place ≡ Some owner) × ReadsOwner key.now [] owner) }
-    {
-        self.keys.bytes_at(place)
-    }
-
-    // The place of an owner of others, who is kept where they weren't. The bytes that they were
-    // read from, if any, are looked up as a whole, first at a guess.
-    fn place_of_other(&mut self, others: &Owners, at: u32, guess: u32) -> Option<u32>
-        requires { at < length others.now }
-        ensures grows { Extends self.old self.new }
-        ensures place { IfSome result (λ p. slice_get self.new p ≡ slice_get others.now at) }
-    {
-        if let Some(key) = others.bytes_at(at) {
-            return match self.known_at(guess, key) {
-                Some(place) => Some(place),
-                None => self.unit(key),
-            };
-        }
-        let owner = others.at(at);
-        self.keep(owner.thread, owner.pid, &owner.execname)
     }
 
     /// The places of others' owners, which are added if they aren't there.
@@ -211,16 +150,18 @@ impl Owners {
         ensures grows { Extends self.old self.new }
         ensures places { IfSome result (λ places. ArePlaces self.new places.items others.now) }
     {
-        let mut places = Vec::new(alloc);
-        let mut guesses = [0; TOGETHER];
-        for place in 0..others.len() {
-            let at = u32_of(place)?;
-            if place % TOGETHER == 0 {
-                guesses = self.keys.guesses(&others.keys, at);
-            }
-            let own = self.place_of_other(others, at, guesses[place % TOGETHER])?;
-            places.push(own).ok()?;
-        }
-        Some(places)
+        self.units.places_of(alloc, &others.units)
     }
+}
+
+// The bytes of an owner that csv read: its text, and four for each of its numbers.
+fn owner_bytes(alloc: Global, thread: i32, pid: i32, execname: &Text) -> Option<Vec<u8>>
+    ensures { IfSome result
+        (λ bytes. (numbers : List ℕ) × (bytes.items ≡ execname.now ++ numbers)) }
+{
+    let mut bytes = Vec::with_capacity(alloc, TEXT_LIMIT + 8).ok()?;
+    add_bytes(&mut bytes, execname.as_bytes())?;
+    add_bytes(&mut bytes, &thread.to_le_bytes())?;
+    add_bytes(&mut bytes, &pid.to_le_bytes())?;
+    Some(bytes)
 }

@@ -1,10 +1,10 @@
 //! Reading plain rows by several workers: each reads a piece of the bytes, and two pieces share the
-//! line feed between them.
+//! end of the row between them.
 
 ghost use Rattle.std.specs.Prelude.{◌≡◌, ◌≤◌, ◌+◌, ◌++◌, [], true, IfErr, IfSome, OnOk};
-ghost use Rattle.std.specs.Prelude.{◌-◌, Ok, drop, length};
-ghost use Rattle.firing_reader.specs.Blocks.{AreRead, BeginsAtFeed};
-ghost use Rattle.firing_reader.specs.Plain.{rows_in};
+ghost use Rattle.std.specs.Prelude.{◌<◌, ◌-◌, Ok, drop, get_or, length};
+ghost use Rattle.firing_reader.specs.{Blocks.AreRead};
+ghost use Rattle.firing_reader.specs.Plain.{BeginsAtEnd, IsEnd, rows_in};
 ghost use Rattle.firing_reader.specs.Steps.Blocks.{IsFaultOf};
 ghost use Rattle.firing_reader.specs.Pieces.{AreCut, ArePieces, IsPiece, Rises};
 ghost use Rattle.firing_reader.specs.Steps.Pieces.{Adds, AreWaiting};
@@ -14,8 +14,7 @@ ghost use Rattle.firing_reader.specs.Trace.{last_number, trace_of};
 use crate::blocks::add_waiting;
 use crate::fault::TraceFault;
 use crate::firings::Firings;
-use crate::header::after_header;
-use crate::plain::front::after_feed;
+use crate::plain::front::{begins_at_end, is_end};
 use crate::plain::read_plain;
 use crate::reading::MOST_ROWS;
 use keyed_hash::HashKey;
@@ -37,7 +36,7 @@ pub(crate) struct Context<'a, R> {
 #[derive(Drop)]
 pub(crate) struct Piece {
     firings: Firings,
-    // The place of the line feed that ends its bytes, and with which the next piece begins.
+    // The place of the row's end that ends its bytes, and with which the next piece begins.
     end: usize,
     // How many of its bytes come before what is left.
     passed: usize,
@@ -82,7 +81,7 @@ fn empty(firings: &mut Firings)
 
 // Reads a piece apart from the firings before it.
 fn read_piece(piece: &mut Piece, bytes: &[u8])
-    requires { BeginsAtFeed bytes.now }
+    requires { BeginsAtEnd bytes.now }
     ensures piece { IsPiece bytes.now piece.new.firings piece.new.passed }
     ensures end { piece.new.end + 1 ≡ length bytes.now }
 {
@@ -94,7 +93,7 @@ fn read_piece(piece: &mut Piece, bytes: &[u8])
 
 // Reads a piece after the firings before it. It returns how many bytes come before what is left.
 fn read_alone(firings: &mut Firings, bytes: &[u8]) -> usize
-    requires feed { BeginsAtFeed bytes.now }
+    requires feed { BeginsAtEnd bytes.now }
     requires few { length firings.old ≤ MOST_ROWS }
     ensures { PassesRows firings.old bytes.now firings.new result }
 {
@@ -102,20 +101,20 @@ fn read_alone(firings: &mut Firings, bytes: &[u8]) -> usize
     bytes.len() - rest.len()
 }
 
-// Bytes cut in two, which share a line feed.
+// Bytes cut in two, which share the end of a row.
 #[derive(Clone, Copy)]
 struct Cut<'a> {
     front: &'a [u8],
     last: &'a [u8],
 }
 
-// Cuts bytes at the first line feed from a place on, or else at the first of all.
+// Cuts bytes at the first end of a row from a place on, or else at the first of all.
 fn cut_near(bytes: &[u8], from: usize) -> Cut<'_>
-    requires { BeginsAtFeed bytes.now }
+    requires { BeginsAtEnd bytes.now }
     ensures cut { AreCut bytes.now result.front.now result.last.now }
     ensures last { result.last.now ≡ drop (length result.front.now - 1) bytes.now }
 {
-    match cut_at_feed(bytes, from) {
+    match cut_at_end(bytes, from) {
         Some(cut) => cut,
         None => Cut {
             front: &bytes[..1],
@@ -124,16 +123,26 @@ fn cut_near(bytes: &[u8], from: usize) -> Cut<'_>
     }
 }
 
-// Cuts bytes at the first line feed from a place on.
-fn cut_at_feed(bytes: &[u8], from: usize) -> Option<Cut<'_>>
+// Whether a row ends with this byte. After the byte that ends it, others only end empty lines.
+fn ends_row(bytes: &[u8], at: usize) -> bool
+    requires { at < length bytes.now }
+    ensures { result ≡ true → IsEnd (get_or bytes.now at 0) }
+{
+    is_end(bytes[at]) && (at == 0 || !is_end(bytes[at - 1]))
+}
+
+// Cuts bytes at the first end of a row from a place on.
+fn cut_at_end(bytes: &[u8], from: usize) -> Option<Cut<'_>>
     ensures cut { IfSome result (λ cut. AreCut bytes.now cut.front.now cut.last.now) }
     ensures last { IfSome result
         (λ cut. cut.last.now ≡ drop (length cut.front.now - 1) bytes.now) }
 {
     for at in from..bytes.len() {
-        if bytes[at] == b'\n' {
+        if ends_row(bytes, at) {
             let front = &bytes[..at + 1];
-            after_feed(front)?;
+            if !begins_at_end(front) {
+                return None;
+            }
             return Some(Cut {
                 front,
                 last: &bytes[at..],
@@ -159,7 +168,7 @@ fn goes_after(first: &Firings, second: &Firings) -> bool
 // as far as they do. It returns how many bytes come before what is left, or None where memory is
 // refused.
 fn add_piece(firings: &mut Firings, piece: &Piece, bytes: &[u8]) -> Option<usize>
-    requires feed { BeginsAtFeed bytes.now }
+    requires feed { BeginsAtEnd bytes.now }
     requires few { length firings.old ≤ MOST_ROWS }
     requires piece { IsPiece bytes.now piece.now.firings piece.now.passed }
     ensures { IfSome result (PassesRows firings.old bytes.now firings.new) }
@@ -200,7 +209,7 @@ pub(crate) fn read_pieces<R: Threads>(
     firings: &mut Firings,
     waiting: &mut Waiting,
 ) -> Result<(), TraceFault>
-    requires feed { BeginsAtFeed bytes.now }
+    requires feed { BeginsAtEnd bytes.now }
     requires waiting { AreWaiting waiting.old.pieces.items waiting.old.bytes.items }
     requires are_read { AreRead firings.old }
     ensures pieces { ArePieces pieces.new bytes.now }
@@ -227,8 +236,8 @@ fn read_both<R: Threads>(
     firings: &mut Firings,
     waiting: &mut Waiting,
 ) -> Result<(), TraceFault>
-    requires front { BeginsAtFeed cut.front.now }
-    requires last { BeginsAtFeed cut.last.now }
+    requires front { BeginsAtEnd cut.front.now }
+    requires last { BeginsAtEnd cut.last.now }
     requires waiting { AreWaiting waiting.old.pieces.items waiting.old.bytes.items }
     requires are_read { AreRead firings.old }
     ensures piece { IsPiece cut.entry.front.now piece.new.firings piece.new.passed }
@@ -243,12 +252,12 @@ fn read_both<R: Threads>(
     let ((), added) = join_mut(
         context.rt,
         &mut || -> ()
-            requires { BeginsAtFeed front.now }
+            requires { BeginsAtEnd front.now }
             ensures piece { IsPiece front.entry.now piece.exit.now.firings piece.exit.now.passed }
             ensures end { piece.exit.now.end + 1 ≡ length front.entry.now }
         { read_piece(piece, front) },
         &mut || -> Result<(), TraceFault>
-            requires { BeginsAtFeed last.now × AreRead firings.now
+            requires { BeginsAtEnd last.now × AreRead firings.now
                 × AreWaiting waiting.now.pieces.items waiting.now.bytes.items }
             ensures others { ArePieces others.exit.now last.entry.now }
             ensures added { OnOk result (Adds firings.entry.now waiting.entry.now.bytes.items
@@ -258,50 +267,4 @@ fn read_both<R: Threads>(
         { read_pieces(context, others, last, firings, waiting) },
     );
     added
-}
-
-// Reads rows in pieces where there are no firings yet, and adds them. It returns how many bytes
-// come before what is left.
-fn read_first<R: Threads>(
-    context: &Context<R>,
-    pieces: &mut [Piece],
-    firings: &mut Firings,
-    bytes: &[u8],
-) -> Option<usize>
-    requires feed { BeginsAtFeed bytes.now }
-    requires none { firings.old ≡ [] }
-    ensures { IfSome result (PassesRows [] bytes.now firings.new) }
-{
-    let mut none = Waiting {
-        pieces: Vec::new(context.alloc),
-        bytes: Vec::new(context.alloc),
-    };
-    let read = read_pieces(context, pieces, bytes, firings, &mut none);
-    drop(none);
-    read.ok()?;
-    add_pieces(firings, pieces, bytes)
-}
-
-// The firings of a trace that is nothing but a header and plain rows, read by this many workers.
-pub(crate) fn read_plain_trace<R: Threads>(
-    context: &Context<R>,
-    count: u32,
-    bytes: &[u8],
-) -> Option<Firings>
-    ensures { IfSome result (λ fs. trace_of bytes.now ≡ Ok fs) }
-{
-    let rows = after_header(bytes)?;
-    let mut pieces = no_pieces(context.alloc, context.hash_key, count).ok()?;
-    let mut firings = Firings::new(context.alloc, context.hash_key).ok()?;
-    let passed = read_first(context, &mut pieces, &mut firings, rows);
-    drop(pieces);
-    let Some(passed) = passed else {
-        drop(firings);
-        return None;
-    };
-    if passed + 1 != rows.len() {
-        drop(firings);
-        return None;
-    }
-    Some(firings)
 }

@@ -1,7 +1,7 @@
-//! Plain rows, without quotes and carriage returns, read where they lie in the trace. csv reads all
-//! others.
+//! Plain rows, without quotes, read where they lie in the trace. csv reads all others.
 
-ghost use Rattle.std.specs.Prelude.{◌≡◌, ◌≤◌, ◌∷◌, ℕ, List, length};
+ghost use Rattle.std.specs.Prelude.{◌≤◌, length};
+ghost use Rattle.firing_reader.specs.{Plain.BeginsAtEnd};
 ghost use Rattle.firing_reader.specs.Steps.Plain.{GoesOn, Leaves, ReadsMore};
 
 use crate::firings::Firings;
@@ -13,13 +13,13 @@ pub(crate) mod front;
 pub(crate) mod row;
 pub(crate) mod unit;
 
-/// Reads the rows after a line feed, as long as they are plain, and returns what is left. That
-/// begins at a line feed too, so that csv drops no byte order mark from the row after it.
+/// Reads the rows after the end of a row, as long as they are plain, and returns what is left. That
+/// begins at the end of a row too, so that csv drops no byte order mark from the row after it.
 #[inline(never)]
 pub(crate) fn read_plain<'a>(firings: &mut Firings, bytes: &'a [u8]) -> &'a [u8]
     requires few { length firings.old ≤ MOST_ROWS }
-    requires feed { (after : List ℕ) × (bytes.now ≡ 10 ∷ after) }
-    ensures feed { (after : List ℕ) × (result.now ≡ 10 ∷ after) }
+    requires begins { BeginsAtEnd bytes.now }
+    ensures begins { BeginsAtEnd result.now }
     ensures left { Leaves bytes.now result.now }
     ensures read { GoesOn firings.old bytes.now firings.new result.now }
     ensures rows { ReadsMore bytes.now firings.old firings.new result.now }

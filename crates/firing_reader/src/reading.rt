@@ -1,12 +1,12 @@
 //! Reading the rows of a trace.
 
-ghost use Rattle.std.specs.Prelude.{◌≤◌, ◌≡◌, ◌≢◌, ◌⊎◌, ◌∷◌, [], ℕ, List, Ok, Err, IfOk, IfErr};
+ghost use Rattle.std.specs.Prelude.{◌≤◌, ◌≡◌, ◌≢◌, ◌⊎◌, [], Ok, Err, IfOk, IfErr};
 ghost use Rattle.std.specs.Prelude.{OnOk, MatchBool, length};
 ghost use Rattle.csv.specs.{Records.fields_of};
 ghost use Rattle.csv.specs.Reading.{records as records_of, default_config, strip_bom};
 ghost use Rattle.firing_reader.specs.{Vocabulary.Memory};
 ghost use Rattle.firing_reader.specs.Gives.{Gives, GivesBy};
-ghost use Rattle.firing_reader.specs.Plain.{rows_after, rows_in};
+ghost use Rattle.firing_reader.specs.Plain.{BeginsAtEnd, rows_after, rows_in};
 ghost use Rattle.firing_reader.specs.Trace.{next_of, trace_in, trace_of};
 
 use crate::fault::TraceFault;
@@ -68,14 +68,14 @@ fn read_rows(
     Ok(())
 }
 
-/// Reads rows by csv, after firings that were read before. They begin at the line feed before the
-/// first of them.
+/// Reads rows by csv, after firings that were read before. They begin at the end of the row before
+/// the first of them.
 pub(crate) fn read_by_csv(
     alloc: Global,
     firings: &mut Firings,
     rows: &[u8],
 ) -> Result<(), TraceFault>
-    requires feed { (after : List ℕ) × (rows.now ≡ 10 ∷ after) }
+    requires begins { BeginsAtEnd rows.now }
     requires few { length firings.old ≤ MOST_ROWS }
     ensures read { GivesBy (λ _. firings.new) result (rows_in firings.old rows.now) }
     ensures few { OnOk result (length firings.new ≤ MOST_ROWS) }
@@ -92,7 +92,7 @@ pub(crate) fn read_rest(
     firings: &mut Firings,
     bytes: &[u8],
 ) -> Result<(), TraceFault>
-    requires feed { (after : List ℕ) × (bytes.now ≡ 10 ∷ after) }
+    requires begins { BeginsAtEnd bytes.now }
     requires few { length firings.old ≤ MOST_ROWS }
     ensures { GivesBy (λ _. firings.new) result (rows_in firings.old bytes.now) }
 {

@@ -21,7 +21,7 @@ pub(crate) struct Slot {
 }
 
 impl Slot {
-    pub(crate) const EMPTY: Slot = Slot {
+    const EMPTY: Slot = Slot {
         tag: 0,
         place: NOWHERE,
     };
@@ -92,11 +92,6 @@ impl Slots {
             hash = mixed(hash, u64::from(*b));
         }
         (hash >> 32) as u32
-    }
-
-    /// The tag of two numbers.
-    pub(crate) fn tag_of_pair(&self, first: u64, second: u64) -> u32 {
-        (mixed(mixed(self.secret, first), second) >> 32) as u32
     }
 
     /// The slot that is `n` after the first for a tag.

@@ -56,12 +56,11 @@ impl HashKey {
         HashKey { initial }
     }
 
-    /// A key that nobody can guess, of eight random bytes. Where the source fails, it may be the
-    /// same in each run.
+    /// A key of eight bytes of the source. Where the source fails, it may be the same in each run.
     ///
     /// ```text
     /// let hash_key = HashKey::random(&rt);
-    /// let trace = read_trace(alloc, hash_key, &bytes)?;
+    /// let trace = read_trace_by(&rt, alloc, hash_key, &bytes, 4)?;
     /// ```
     pub fn random(source: &impl RandomSource) -> HashKey
         ensures { (seed : List ℕ) × (result ≡ key_of seed) }

@@ -13,9 +13,9 @@ use Rattle.replay_core.specs.declared.piece.Piece.{Piece}
 use Rattle.replay_core.specs.declared.collect_fault.CollectFault.{CollectFault}
 use Rattle.replay_core.specs.declared.collect_fault.CollectFault.TheVariants.{Twice, Stranger}
 use Rattle.replay_core.specs.declared.collect_fault.CollectFault.TheVariants.{Missing, Memory}
-use Rattle.replay_core.specs.Steps.PiecePlaces.{first_bad, first_bad_after, first_missing}
-use Rattle.replay_core.specs.Steps.PiecePlaces.{pieces_with_places, pieces_with_groups, IsFault}
+use Rattle.replay_core.specs.Steps.PiecePlaces.{first_missing, pieces_with_places, IsFault}
 use Rattle.replay_core.specs.Tables.{Table, AllHave, CanMerge}
+use Rattle.replay_core.specs.Collecting.{first_bad, first_bad_after, pieces_with_groups}
 use Rattle.replay_core.specs.Collecting.{tables_of, IsCollectFault}
 
 -- a bad piece is no missing one

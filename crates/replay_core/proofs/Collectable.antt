@@ -14,7 +14,7 @@ use Rattle.shard_queue.proofs.Totals.{below-once, below-times, weight_of}
 use Rattle.replay_core.specs.declared.piece.Piece.{Piece}
 use Rattle.replay_core.specs.declared.collect_fault.CollectFault.TheVariants.{Twice, Stranger}
 use Rattle.replay_core.specs.Groups.{AreGrouped, Grouping, IsAllBelow, below, of_group}
-use Rattle.replay_core.specs.Steps.PiecePlaces.{first_bad, first_bad_after}
+use Rattle.replay_core.specs.Collecting.{first_bad, first_bad_after}
 use Rattle.d_types.specs.Typed.{functions_in}
 use Rattle.replay_core.specs.Seen.{IsRoomy}
 use Rattle.replay_core.specs.Tables.{AllHave, CanMerge}

@@ -9,7 +9,8 @@ use Rattle.replay_core.specs.declared.piece.Piece.{Piece}
 use Rattle.replay_core.specs.declared.collect_fault.CollectFault.{CollectFault}
 use Rattle.replay_core.specs.declared.collect_fault.CollectFault.TheVariants.{Twice, Stranger}
 use Rattle.replay_core.specs.declared.collect_fault.CollectFault.TheVariants.{Missing, Memory}
-use Rattle.replay_core.specs.Steps.PiecePlaces.{IsFault, first_bad, first_bad_after, is_filled}
+use Rattle.replay_core.specs.Steps.PiecePlaces.{IsFault, is_filled}
+use Rattle.replay_core.specs.Collecting.{first_bad, first_bad_after}
 
 bad_congr : (n : ℕ) (had other : ℕ → Bool) → ((g : ℕ) → had g ≡ other g) → (ps : List (ℕ × Piece)) → first_bad_after had n ps ≡ first_bad_after other n ps
 bad_congr n had other same [] = refl

@@ -7,7 +7,8 @@ use Rattle.std.proofs.lemmas.List.Sorted.{IsPermutation-refl, IsPermutation-sym,
 use Rattle.std.proofs.lemmas.List.Sorted.{IsPermutation-trans, IsPermutation-middle}
 use Rattle.std.proofs.lemmas.List.Sorted.{IsPermutation-append_left}
 use Rattle.replay_core.specs.declared.piece.Piece.{Piece}
-use Rattle.replay_core.specs.Steps.PiecePlaces.{is_filled, pieces_with_places, pieces_with_groups}
+use Rattle.replay_core.specs.Steps.PiecePlaces.{is_filled, pieces_with_places}
+use Rattle.replay_core.specs.Collecting.{pieces_with_groups}
 
 standing_none : (a : ℕ) (places : List (Option Piece)) → ((k : ℕ) → get_or places k None ≡ None) → pieces_with_places a places ≡ []
 standing_none a [] none = refl

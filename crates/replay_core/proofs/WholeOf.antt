@@ -13,7 +13,7 @@ use Rattle.replay_core.specs.declared.piece.Piece.{Piece}
 use Rattle.replay_core.specs.declared.whole.Whole.{Whole}
 use Rattle.replay_core.specs.Groups.{AreGrouped, Grouping, of_group}
 use Rattle.replay_core.specs.Meaning.{contributions_of, exit_of, history, texts_of, blank_threads}
-use Rattle.replay_core.specs.Steps.PiecePlaces.{pieces_with_groups}
+use Rattle.replay_core.specs.Collecting.{pieces_with_groups}
 use Rattle.replay_core.specs.Pieces.{IsWholeOf, RunsEachOnce}
 use Rattle.d_types.specs.Typed.{functions_in}
 use Rattle.replay_core.specs.Seen.{whole_seen}

@@ -1,12 +1,12 @@
 -- What a whole has of the pieces of all groups.
-use Rattle.std.specs.Prelude.{◌≡◌, ◌≢◌, ℕ, ◌<◌, List, [], ◌∷◌, None, Some, All, Contains, map}
-use Rattle.std.specs.Prelude.{length}
+use Rattle.std.specs.Prelude.{◌≡◌, ◌≢◌, ◌==◌, ◌+◌, ◌<◌, ℕ, Bool, true, false, List, [], ◌∷◌}
+use Rattle.std.specs.Prelude.{Option, None, Some, All, Contains, if◌then◌else◌, length, map, nat_lt}
 use Rattle.replay_core.specs.Vocabulary.{IsPermutation, flat_map}
 use Rattle.replay_core.specs.declared.{piece.Piece.Piece, whole.Whole.Whole}
 use Rattle.replay_core.specs.declared.collect_fault.CollectFault.{CollectFault}
+use Rattle.replay_core.specs.declared.collect_fault.CollectFault.TheVariants.{Twice, Stranger}
 use Rattle.replay_core.specs.declared.collect_fault.CollectFault.TheVariants.{Missing, Memory}
 use Rattle.replay_core.specs.{Tables.Table}
-use Rattle.replay_core.specs.Steps.PiecePlaces.{first_bad, pieces_with_groups}
 use Rattle.replay_core.specs.{Tables.Serve, Uniting.IsSorted, Uniting.first_exit}
 
 -- the whole has the texts of these pieces, sorted by number, one table in place of theirs, the
@@ -16,6 +16,11 @@ pub record IsMadeOf (pieces : List Piece) (w : Whole) : Type 0 where
   pub table : Serve (w.table ∷ []) (map (λ p. p.table) pieces)
   pub ran : map (λ v. v.items) w.ran.items ≡ map (λ p. p.taken.items) pieces
   pub exit : w.exit ≡ first_exit (map (λ p. p.exit) pieces)
+
+-- the pieces, each with its group, counted from here
+abbrev pub pieces_with_groups : {P : Type 0} → ℕ → List P → List (ℕ × P)
+pieces_with_groups g [] = []
+pieces_with_groups g (p ∷ ps) = (g, p) ∷ pieces_with_groups (g + 1) ps
 
 -- the pieces are one of each of n groups, in any order, and the whole is made of them by group
 pub record IsCollected (n : ℕ) (pieces : List (ℕ × Piece)) (w : Whole) : Type 0 where
@@ -33,6 +38,18 @@ pub record IsFirstMissing (n g : ℕ) (pieces : List (ℕ × Piece)) : Type 0 wh
   pub below : g < n
   pub none : All (λ p. p.0 ≢ g) pieces
   pub others : (less : ℕ) → less < g → (p : Piece) × Contains pieces (less, p)
+
+-- the first piece of a group that is not below n, or that is there or before it
+abbrev pub first_bad_after : {P : Type 0} → (ℕ → Bool) → ℕ → List (ℕ × P) → Option CollectFault
+first_bad_after had n [] = None
+first_bad_after had n (p ∷ ps) = if nat_lt p.0 n
+    then (if had p.0 then Some (Twice p.0)
+    else first_bad_after (λ g. if g == p.0 then true else had g) n ps)
+    else Some (Stranger p.0)
+
+-- the first piece of a group that is not below n, or that an earlier piece is of
+abbrev pub first_bad : {P : Type 0} → ℕ → List (ℕ × P) → Option CollectFault
+first_bad n pieces = first_bad_after (λ g. false) n pieces
 
 -- why the pieces are not one of each of n groups
 abbrev pub IsCollectFault : ℕ → List (ℕ × Piece) → CollectFault → Type 0

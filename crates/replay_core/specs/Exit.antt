@@ -1,4 +1,5 @@
 -- Which firings of a trace count, and how the run ends.
+-- Source: Dynamic Tracing Guide, "Actions and Subroutines" (exit), "dtrace Provider" (BEGIN, END).
 use Rattle.std.specs.Prelude.{ℕ, ◌≤◌, nat_le, List, filter, map, Contains, Option, None, Some}
 use Rattle.std.specs.Prelude.{option_map, unwrap_or}
 use Rattle.replay_core.specs.Vocabulary.{Firing, Made, ScriptMeant, no_number, with_ends}

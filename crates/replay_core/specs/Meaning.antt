@@ -1,4 +1,5 @@
 -- What a firing means, and what a run means.
+-- Source: Dynamic Tracing Guide, "D Program Structure".
 use Rattle.std.specs.Prelude.{ℕ, suc, ℤ, List, [], ◌∷◌, ◌++◌, filter, map, Option, None, option_map}
 use Rattle.std.specs.Prelude.{if◌then◌else◌}
 use Rattle.replay_core.specs.Vocabulary.{ClauseMeant, Contribution, Firing, KeyPart, Made}

@@ -1,4 +1,5 @@
 -- Which probes a description matches.
+-- Source: Dynamic Tracing Guide, "Probe Descriptions".
 use Rattle.std.specs.Prelude.{◌≡◌, ◌⊎◌, ◌==◌, ◌&&◌, ◌||◌, ℕ, Bool, true, false, if◌then◌else◌, List}
 use Rattle.std.specs.Prelude.{[], ◌∷◌, ◌++◌}
 pub use Rattle.firing_reader.specs.Probing.{probe_of}

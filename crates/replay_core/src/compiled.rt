@@ -40,13 +40,24 @@ pub struct DifLanes<'a> {
 }
 
 impl<'a> DifLanes<'a> {
-    /// Lanes of this program. The hashes of their maps have this key.
+    /// Lanes of this program. Their maps hash by a fixed key.
     ///
     /// ```text
-    /// let lanes = DifLanes::new(hash_key, &program);
+    /// let lanes = DifLanes::new(&program);
     /// let lane = lanes.lane(alloc)?;
     /// ```
-    pub fn new(hash_key: HashKey, program: &'a Program) -> DifLanes<'a>
+    pub fn new(program: &'a Program) -> DifLanes<'a>
+        ensures { result.program.now ≡ program.now }
+    {
+        DifLanes::with_hash_key(HashKey::of_seed(&[]), program)
+    }
+
+    /// The same, whose maps hash by this key.
+    ///
+    /// ```text
+    /// let lanes = DifLanes::with_hash_key(HashKey::random(&rt), &program);
+    /// ```
+    pub fn with_hash_key(hash_key: HashKey, program: &'a Program) -> DifLanes<'a>
         ensures { result.program.now ≡ program.now }
     {
         DifLanes { hash_key, program }

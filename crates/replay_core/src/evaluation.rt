@@ -4,13 +4,11 @@ mod built_in;
 mod changes;
 mod expression;
 mod fault;
-mod lending;
 mod operators;
 mod spare;
 mod variables;
 
 pub(crate) use expression::{evaluate, evaluate_key, evaluate_word};
 pub(crate) use fault::EvalFault;
-pub(crate) use lending::{lent_leaf, set_part};
 pub use spare::Spare;
 pub(crate) use variables::{bytes_in, owned_value, word_in, word_of};

@@ -59,4 +59,4 @@ pub use tree::{TreeLane, TreeLanes, tree_lane};
 pub use until::work_until;
 pub use whole::Whole;
 pub use worker::{WorkerInput, work};
-pub use workers::{Job, Ran, run_all};
+pub use workers::run_all;

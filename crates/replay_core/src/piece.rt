@@ -37,7 +37,7 @@ impl Piece {
         ensures functions { IfOk result (λ p. functions_of p.table ≡ functions.items) }
         ensures empty { IfOk result IsEmptyPiece }
     {
-        let table = AggTable::new(alloc, hash_key, functions)?;
+        let table = AggTable::with_hash_key(alloc, hash_key, functions)?;
         Ok(Piece {
             texts: Vec::new(alloc),
             table,

@@ -2,7 +2,8 @@
 
 ghost use Rattle.std.specs.Prelude.{◌≡◌, ◌<◌, ◌^◌, map, vec_len, Some, None, IfOk, IfErr, OnOk};
 ghost use Rattle.std.specs.List.Sorted.{IsPermutation};
-ghost use Rattle.replay_core.specs.Steps.PiecePlaces.{first_bad, first_missing, pieces_with_places};
+ghost use Rattle.replay_core.specs.Steps.PiecePlaces.{first_missing, pieces_with_places};
+ghost use Rattle.replay_core.specs.Collecting.{first_bad};
 ghost use Rattle.replay_core.specs.Steps.PiecePlaces.{IsFault, IsFaultAt, IsPlaced};
 
 use crate::collect_fault::CollectFault;

@@ -6,7 +6,7 @@ ghost use Rattle.std.specs.Prelude.{Contains, IfSome, IfNone};
 use shard_queue::{ClaimBoard, ClaimSeat, GroupQueue, QueueSeat};
 use std::sync::Wait;
 
-/// Hands out the numbers below its end, each once.
+/// Hands out numbers below its end. That no two seats get one number is known once all are back.
 pub trait Source {
     type Seat;
 
@@ -28,7 +28,7 @@ pub trait Source {
     /// The least number that a seat was shown, 2^64 - 1 without any.
     ghost seen: { Self.Seat → ℕ };
 
-    /// The next number, which no seat had before, or `None` at the end.
+    /// The next number, which this seat didn't have before, or `None` at the end.
     fn take<R: Wait>(&self, rt: &R, seat: &mut Self::Seat) -> Option<u32>
         requires { is_at self.now seat.old }
         ensures seat { is_at self.now seat.new }

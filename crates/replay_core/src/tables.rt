@@ -23,7 +23,7 @@ impl Tables {
     {
         Tables {
             locals: ClauseLocals::new(alloc),
-            own: ThreadTable::new(alloc, hash_key),
+            own: ThreadTable::with_hash_key(alloc, hash_key),
         }
     }
 

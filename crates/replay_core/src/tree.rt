@@ -43,13 +43,24 @@ pub struct TreeLanes<'a> {
 }
 
 impl<'a> TreeLanes<'a> {
-    /// Lanes of this script. The hashes of their maps have this key.
+    /// Lanes of this script. Their maps hash by a fixed key.
     ///
     /// ```text
-    /// let lanes = TreeLanes::new(hash_key, &script);
+    /// let lanes = TreeLanes::new(&script);
     /// let lane = lanes.lane(alloc)?;
     /// ```
-    pub fn new(hash_key: HashKey, script: &'a TypedScript) -> TreeLanes<'a>
+    pub fn new(script: &'a TypedScript) -> TreeLanes<'a>
+        ensures { result.script.now ≡ script.now }
+    {
+        TreeLanes::with_hash_key(HashKey::of_seed(&[]), script)
+    }
+
+    /// The same, whose maps hash by this key.
+    ///
+    /// ```text
+    /// let lanes = TreeLanes::with_hash_key(HashKey::random(&rt), &script);
+    /// ```
+    pub fn with_hash_key(hash_key: HashKey, script: &'a TypedScript) -> TreeLanes<'a>
         ensures { result.script.now ≡ script.now }
     {
         TreeLanes { hash_key, script }

@@ -23,65 +23,54 @@ use std::alloc::{AllocError, Global};
 use std::sync::Wait;
 use std::thread::Threads;
 
-/// What workers share out: a trace, the groups of its threads, and the gate that they pass.
+// What workers share out: a trace, the groups of its threads, and the gate that they pass.
 #[derive(Drop)]
-pub struct Job<'a, G> {
-    pub trace: &'a Trace,
-    pub groups: &'a Groups,
-    pub gate: &'a G,
-}
-
-/// What a run by several workers gave.
-#[derive(Drop)]
-pub struct Ran {
-    /// What the run made.
-    pub whole: Whole,
-    /// The groups that each worker took.
-    pub by_worker: Vec<Vec<u32>>,
+struct Job<'a, G> {
+    trace: &'a Trace,
+    groups: &'a Groups,
+    gate: &'a G,
 }
 
 /// Runs a script over a trace by this many workers, 1 to 16, each group by one of them, and makes
-/// one whole of what they made. Where a firing exits, the run ends with the first that does, and
-/// END. Err where memory or a thread was refused.
+/// one whole of what they made; the lists are the groups that each worker took. Where a firing
+/// exits, the run ends with the first that does, and END. Err where memory or a thread was refused.
 ///
 /// ```text
-/// let lanes = DifLanes::new(hash_key, &program);
+/// let lanes = DifLanes::new(&program);
 /// let groups = Groups::deal(alloc, &trace, 2)?;
-/// let job = Job {
-///     trace: &trace,
-///     groups: &groups,
-///     gate: &OpenGate,
-/// };
-/// let ran = run_all(&rt, alloc, &lanes, &job, 4)?;
-/// ran.whole.ran.len(); // 3, with the group of BEGIN and END
-/// ran.by_worker.len(); // 4
+/// let (whole, lists) = run_all(&rt, alloc, &lanes, &trace, &groups, 4, &OpenGate)?;
+/// whole.ran.len(); // 3, with the group of BEGIN and END
+/// lists.len(); // 4
 /// ```
 pub fn run_all<R: Threads + Wait + Sync, L: Lanes + Sync, G: Gate + Sync>(
     rt: &R,
     alloc: Global,
     lanes: &L,
-    job: &Job<G>,
+    trace: &Trace,
+    groups: &Groups,
     workers: u32,
-) -> Result<Ran, AllocError>
+    gate: &G,
+) -> Result<(Whole, Vec<Vec<u32>>), AllocError>
     requires script { (m : ScriptMeant) × L.runs lanes.now m }
-    requires groups { AreOf job.now.groups.now (run_threads job.now.trace.now) }
-    requires few { (grouping job.now.groups.now).count ≤ MOST_GROUPS + 1 }
+    requires groups { AreOf groups.now (run_threads trace.now) }
+    requires few { (grouping groups.now).count ≤ MOST_GROUPS + 1 }
     requires workers { (0 < workers) × (workers ≤ MOST_WORKERS) }
     ensures whole { IfOk result (λ r. (m : ScriptMeant) → L.runs lanes.now m
-        → IsWholeOf m (firings_over m job.now.trace.now)
-        (grouping job.now.groups.now) (whole_seen r.whole)) }
+        → IsWholeOf m (firings_over m trace.now) (grouping groups.now) (whole_seen r.0)) }
     ensures once { IfOk result (λ r. (m : ScriptMeant) → L.runs lanes.now m
-        → RunsEachOnce (firings_over m job.now.trace.now) (whole_seen r.whole)) }
-    ensures workers { IfOk result (λ r. vec_len r.by_worker ≡ workers) }
-    ensures taken { IfOk result (λ r. IsAllBelow (grouping job.now.groups.now).count
-        (flat_map (λ list. list.items) r.by_worker.items)) }
+        → RunsEachOnce (firings_over m trace.now) (whole_seen r.0)) }
+    ensures workers { IfOk result (λ r. vec_len r.1 ≡ workers) }
+    ensures taken { IfOk result (λ r. IsAllBelow (grouping groups.now).count
+        (flat_map (λ list. list.items) r.1.items)) }
 {
-    let round = in_rounds(rt, alloc, lanes, job, workers)?;
-    match collect(alloc, round.pieces, job.groups.len() as u32) {
-        Ok(whole) => Ok(Ran {
-            whole,
-            by_worker: round.lists,
-        }),
+    let job = Job {
+        trace,
+        groups,
+        gate,
+    };
+    let round = in_rounds(rt, alloc, lanes, &job, workers)?;
+    match collect(alloc, round.pieces, groups.len() as u32) {
+        Ok(whole) => Ok((whole, round.lists)),
         Err(CollectFault::Memory) => Err(AllocError),
         Err(CollectFault::Twice { group: _ }) => unreachable!(),
         Err(CollectFault::Stranger { group: _ }) => unreachable!(),

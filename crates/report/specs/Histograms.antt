@@ -1,4 +1,5 @@
 -- The bytes of a histogram.
+-- Source: Dynamic Tracing Guide, "Aggregations" (quantize, lquantize).
 use Rattle.std.specs.Prelude.{ℕ, zero, suc, ◌+◌, ◌-◌, ◌*◌, ◌/◌, ◌==◌, nat_lt}
 use Rattle.std.specs.Prelude.{Bool, ◌&&◌, if◌then◌else◌, codes}
 use Rattle.std.specs.Prelude.{List, [], ◌∷◌, ◌++◌, drop, filter, replicate, sum, take}

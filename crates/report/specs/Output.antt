@@ -1,4 +1,5 @@
 -- All that a run shows.
+-- Source: Dynamic Tracing Guide, "Aggregations".
 use Rattle.std.specs.Prelude.{◌≡◌, ℕ, List, ◌++◌, Some, length, slice_get}
 use Rattle.report.specs.Vocabulary.{AggFn, Contribution, flat_map}
 use Rattle.report.specs.Layout.{Entry}

@@ -109,8 +109,9 @@ pub fn take_next<F: Feed, T: Intake>(
     Ok(false)
 }
 
-/// Adds what a feed gives to a block until it has at least `enough` bytes, and returns whether the
-/// feed has ended.
+/// Adds what a feed gives to a block until it has at least `enough` bytes and the last of them have
+/// the end of a line, and returns whether the feed has ended. So the line that isn't whole then is
+/// short, and who moves it needs no more time than the reading.
 ///
 /// ```text
 /// let mut block = Vec::new(alloc);
@@ -131,14 +132,25 @@ pub fn read_block<F: Feed>(
     ensures enough { result ≡ Ok false → enough ≤ length block.new.items }
 {
     while reading.calls_left > 0 {
+        let from = block.len();
         if take_next(block, feed, reading)? {
             return Ok(true);
         }
-        if block.len() >= enough {
+        if block.len() >= enough && ends_line(block, from) {
             return Ok(false);
         }
     }
     Err(ReadFault::Failed)
+}
+
+// Whether a line ends in the bytes from a place on.
+fn ends_line(bytes: &[u8], from: usize) -> bool {
+    for at in from..bytes.len() {
+        if bytes[at] == b'\n' || bytes[at] == b'\r' {
+            return true;
+        }
+    }
+    false
 }
 
 // Takes the first `given` bytes of a buffer.

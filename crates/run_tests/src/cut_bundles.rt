@@ -4,7 +4,6 @@ ghost use Rattle.consumer.specs.Plans.{IsInBounds};
 
 use crate::replays::reporting;
 use consumer::{ConsumeFault, EngineKind, GroupPlan, Plan, Replayed, refusal_text};
-use keyed_hash::HashKey;
 use report::Watched;
 use std::alloc::{AllocError, AllocGlobal, Global};
 use std::io::{Chain, Read};
@@ -62,7 +61,6 @@ fn plan_of(workers: u32) -> Plan
         workers: workers.clamp(1, 2),
         groups: GroupPlan::Dealt(1),
         engine: EngineKind::Tree,
-        hash_key: HashKey::of_seed(&[]),
     }
 }
 

@@ -1,6 +1,8 @@
-//! Tests of public calls: runs, bundles, streams, workers.
+//! Tests of public calls: runs, bundles, streams, the collector.
 #![tactic(auto)]
 
+#[cfg(test)]
+mod collecting;
 #[cfg(test)]
 mod cut_bundles;
 #[cfg(test)]
@@ -9,5 +11,3 @@ mod programs;
 mod replays;
 #[cfg(test)]
 mod streams;
-#[cfg(test)]
-mod workers;

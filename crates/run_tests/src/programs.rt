@@ -2,7 +2,6 @@
 
 use crate::replays::{BUNDLE, HELP, SCRIPT, SHOWN, TRACE, reporting};
 use consumer::{ScriptFiles, Streams};
-use keyed_hash::HashKey;
 use report::faulty::Faulty;
 use report::{Failed, Watched};
 use std::alloc::{AllocError, AllocGlobal, Global};
@@ -100,8 +99,7 @@ fn run_program<R: AllocGlobal + Threads + Wait + Sync>(
         output: Watched::new(Faulty::new(Vec::new(rt.alloc()), calls.output)),
         errors: Watched::new(Faulty::new(Vec::new(rt.alloc()), calls.errors)),
     };
-    let key = HashKey::of_seed(&[]);
-    let status = reporting(rt).program(HELP, key, &files, given, &mut streams);
+    let status = reporting(rt).program(HELP, &files, given, &mut streams);
     Ended {
         status,
         output: streams.output.into_inner().into_inner(),

@@ -1,29 +1,23 @@
 //! Calls that no run of the program shows: what ran in which group and by whom, groups as lists,
-//! gates, failing readers and writers, what is said of each refusal, and what words ask for.
+//! failing readers and writers, and what is said of each refusal.
 
 ghost use Rattle.std.specs.Prelude.{IfOk};
 ghost use Rattle.consumer.specs.Plans.{IsInBounds};
 
-use crate::workers::{LATENCY, TWO_THREADS};
 use consumer::{
-    ConsumeFault, Consumer, EngineKind, GroupPlan, Help, Plan, Refusal, Replayed, UsageFault,
-    read_words, refusal_status, refusal_text,
+    ConsumeFault, Consumer, EngineKind, GroupPlan, Help, Plan, Refusal, Replayed, refusal_status,
+    refusal_text,
 };
 use d_lexer::LexFault;
 use d_parser::ParseFault;
 use d_types::TypeFault;
 use firing_reader::TraceFault;
-use keyed_hash::HashKey;
-use replay_core::Gate;
 use report::faulty::Faulty;
 use report::{Report, Watched, read_to_end};
 use shard_queue::GroupFault;
 use std::alloc::{AllocError, AllocGlobal, Global};
-use std::process::Abort;
 use std::sync::Wait;
-use std::sync::atomic::{AtomicU64, Ordering};
 use std::test::Fail;
-use std::thread;
 use std::thread::Threads;
 
 pub(crate) const SCRIPT: &[u8] = b"syscall::read:entry { @[execname] = count(); }";
@@ -143,11 +137,7 @@ pub(crate) const HELP: Help = Help {
 
 // Gives answers in the layout for people.
 pub(crate) fn reporting<R: AllocGlobal>(rt: &R) -> Consumer<'_, R, Report> {
-    Consumer {
-        rt,
-        alloc: rt.alloc(),
-        layout: Report,
-    }
+    Consumer::new(rt, rt.alloc(), Report)
 }
 
 fn serial() -> Plan
@@ -157,7 +147,6 @@ fn serial() -> Plan
         workers: 1,
         groups: GroupPlan::Dealt(1),
         engine: EngineKind::Tree,
-        hash_key: HashKey::of_seed(&[]),
     }
 }
 
@@ -200,7 +189,6 @@ fn of_two_groups() -> Plan
         workers: 1,
         groups: GroupPlan::Dealt(2),
         engine: EngineKind::Dif,
-        hash_key: HashKey::of_seed(&[]),
     }
 }
 
@@ -351,7 +339,6 @@ fn plan_of_lists(alloc: Global, lists: &[&[i32]]) -> Result<Plan, AllocError>
         workers: 2,
         groups: GroupPlan::Lists(groups),
         engine: EngineKind::Dif,
-        hash_key: HashKey::of_seed(&[]),
     })
 }
 
@@ -395,123 +382,4 @@ fn threads_are_grouped_by_lists(rt: HostRuntime) -> Result<(), Fail> {
         assert!(rt; is_grouped, "{lists:?}");
     }
     Ok(())
-}
-
-// Holds one group until another has begun, or until it has looked for that too often.
-#[derive(Drop)]
-struct Holding {
-    held: u32,
-    until: u32,
-    begun: [AtomicU64; 3],
-    gave_up: AtomicU64,
-}
-
-const MOST_LOOKS: u32 = 100_000_000;
-
-impl Holding {
-    fn new(held: u32, until: u32) -> Holding {
-        Holding {
-            held,
-            until,
-            begun: [AtomicU64::new(0), AtomicU64::new(0), AtomicU64::new(0)],
-            gave_up: AtomicU64::new(0),
-        }
-    }
-
-    fn times_begun(&self, group: u32) -> u64 {
-        self.begun[group as usize % 3].load(Ordering::SeqCst)
-    }
-}
-
-impl Gate for Holding {
-    fn begun(&self, group: u32) {
-        let _ = self.begun[group as usize % 3].fetch_add(1, Ordering::SeqCst);
-        if group != self.held {
-            return;
-        }
-        for _ in 0..MOST_LOOKS {
-            if self.times_begun(self.until) > 0 {
-                return;
-            }
-            thread::yield_now();
-        }
-        self.gave_up.store(1, Ordering::SeqCst);
-    }
-}
-
-// Two groups run at the same time: the one goes on only after the other has begun.
-fn expect_held(rt: &(impl Abort + AllocGlobal + Threads + Wait + Sync), gate: &Holding) {
-    let plan = Plan {
-        workers: 2,
-        groups: GroupPlan::Dealt(2),
-        engine: EngineKind::Dif,
-        hash_key: HashKey::of_seed(&[]),
-    };
-    let answer = reporting(rt).replay_with(LATENCY, TWO_THREADS, &plan, gate);
-    assert!(rt; answer.is_ok());
-    assert_eq!(rt; gate.gave_up.load(Ordering::SeqCst), 0);
-    for group in 0..3 {
-        assert_eq!(rt; gate.times_begun(group), 1);
-    }
-}
-
-#[test]
-fn gate_holds_group_0(rt: HostRuntime) {
-    expect_held(&rt, &Holding::new(0, 1));
-}
-
-#[test]
-fn gate_holds_group_1(rt: HostRuntime) {
-    expect_held(&rt, &Holding::new(1, 0));
-}
-
-const ASKED: [(&[&str], u32, u32, EngineKind); 4] = [
-    (&[], 4, 16, EngineKind::Dif),
-    (
-        &["-w", "16", "-g", "4096", "-e", "tree"],
-        16,
-        4096,
-        EngineKind::Tree,
-    ),
-    (&["-w1", "-g1", "-edif"], 1, 1, EngineKind::Dif),
-    (&["-g", "+7"], 4, 7, EngineKind::Dif),
-];
-
-// Whether these words ask for this plan, and name no file.
-fn ask_for(alloc: Global, words: &[&str], plan: &Plan) -> bool {
-    match read_words(alloc, HELP, words) {
-        Ok(request) => request.plan == *plan && request.file.is_none(),
-        Err(_) => false,
-    }
-}
-
-#[test]
-fn words_name_a_plan(rt: HostRuntime) {
-    for (words, workers, groups, engine) in ASKED {
-        let plan = Plan {
-            workers,
-            groups: GroupPlan::Dealt(groups),
-            engine,
-            hash_key: HashKey::of_seed(&[]),
-        };
-        assert!(rt; ask_for(rt.alloc(), words, &plan), "{words:?}");
-    }
-}
-
-const MISTAKES: [&[&str]; 7] = [
-    &["-w", "0"],
-    &["-w", "17"],
-    &["-g", "0"],
-    &["-g", "4097"],
-    &["-e", "jit"],
-    &["-e", ""],
-    &["-w"],
-];
-
-#[test]
-fn words_out_of_range_are_a_mistake(rt: HostRuntime) {
-    for words in MISTAKES {
-        let request = read_words(rt.alloc(), HELP, words);
-        assert!(rt; matches!(request, Err(UsageFault::Usage(_))));
-    }
 }

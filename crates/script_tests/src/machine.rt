@@ -3,7 +3,6 @@ use d_values::{ClauseLocals, Key, Kind, Text, ThreadTable, Value, ValueRef, Var}
 use dif_machine::{Frame, MachineFault, run, run_in};
 use dif_validate::{Condition, Difo, Function, Instr, Operator, Reg, ValidDifo, validate};
 use firing_reader::{Args, Firing, Text as Recorded};
-use keyed_hash::HashKey;
 use std::alloc::{AllocError, Global};
 use std::process::Abort;
 use std::test::Fail;
@@ -135,7 +134,7 @@ fn run_over(
 // Runs the code over variables that aren't set.
 fn run_alone(alloc: Global, code: &[Instr], numbers: &[u64]) -> Result<Shown, AllocError> {
     let mut locals = ClauseLocals::new(alloc);
-    let mut own = ThreadTable::new(alloc, HashKey::of_seed(&[]));
+    let mut own = ThreadTable::new(alloc);
     run_over(alloc, code, numbers, &mut locals, &mut own)
 }
 
@@ -481,7 +480,7 @@ fn divides_after_writes(
 #[test]
 fn variables_keep_what_was_written_before_a_division_by_zero(rt: HostRuntime) -> Result<(), Fail> {
     let mut locals = ClauseLocals::new(rt.alloc());
-    let mut own = ThreadTable::new(rt.alloc(), HashKey::of_seed(&[]));
+    let mut own = ThreadTable::new(rt.alloc());
     let is_ended = divides_after_writes(rt.alloc(), &mut locals, &mut own)?;
     assert!(&rt; is_ended);
     assert!(&rt; matches!(own.get(COUNT, &Key::new(rt.alloc())), ValueRef::Int(1)));
@@ -532,7 +531,7 @@ fn run_object_in_frame(
         return Ok(Shown::Invalid);
     };
     let mut locals = ClauseLocals::new(alloc);
-    let mut own = ThreadTable::new(alloc, HashKey::of_seed(&[]));
+    let mut own = ThreadTable::new(alloc);
     ending_in_frame(alloc, run_in(valid, &firing, frame, &mut locals, &mut own))
 }
 

@@ -23,8 +23,8 @@ pub struct ClaimSeat {
 impl ClaimBoard {
     ghost use Rattle.shard_queue.specs.Boards.{IsAt, number_lowered, number_seen};
 
-    /// The next number, which no seat had before, or `None` at the end. A seat that is at the
-    /// end stays there, without a step.
+    /// The next number, which this seat didn't have before, or `None` at the end. A seat that is at
+    /// the end stays there, without a step. `close` says that no other seat had the number.
     ///
     /// ```text
     /// while let Some(group) = board.claim(&mut seat) {

@@ -26,7 +26,8 @@ pub struct QueueSeat {
 impl GroupQueue {
     ghost use Rattle.shard_queue.specs.Queues.{IsIn};
 
-    /// The next number, which no seat had before, or `None` at the end.
+    /// The next number, which this seat didn't have before, or `None` at the end. `close` says that
+    /// no other seat had the number.
     ///
     /// ```text
     /// while let Some(group) = queue.take(&rt, &mut seat) {

@@ -8,7 +8,6 @@ use crate::traces::{
 use firing_reader::{Reader, Trace, TraceFault, read_trace};
 use keyed_hash::HashKey;
 use std::alloc::{AllocError, Global};
-use std::random::RandomSource;
 use std::test::Fail;
 use std::thread::Threads;
 
@@ -60,14 +59,14 @@ fn in_blocks_beside<R: Threads>(
 type Way = (u32, usize, usize);
 
 // Whether a trace that comes in these blocks is read as all of it at once.
-fn is_same_in<R: Threads + RandomSource>(
+fn is_same_in<R: Threads>(
     rt: &R,
     alloc: Global,
     bytes: &[u8],
     blocks: &[&[u8]],
     (workers, _, least): Way,
 ) -> bool {
-    let whole = read_trace(alloc, HashKey::random(rt), bytes);
+    let whole = read_trace(alloc, bytes);
     let found = in_blocks_by(rt, alloc, workers, blocks, least);
     let beside = in_blocks_beside(rt, alloc, workers, blocks, least);
     is_same(&whole, &found) && is_same(&whole, &beside)
@@ -96,7 +95,7 @@ fn drawn_blocks<'a>(
 }
 
 // Whether a trace is read the same in one way.
-fn is_same_by<R: Threads + RandomSource>(
+fn is_same_by<R: Threads>(
     rt: &R,
     alloc: Global,
     bytes: &[u8],
@@ -107,7 +106,7 @@ fn is_same_by<R: Threads + RandomSource>(
 }
 
 // The first of these ways in which a trace is read otherwise.
-fn other_way<R: Threads + RandomSource>(
+fn other_way<R: Threads>(
     rt: &R,
     alloc: Global,
     bytes: &[u8],
@@ -123,7 +122,7 @@ fn other_way<R: Threads + RandomSource>(
 }
 
 // The same of a drawn trace.
-fn other_way_of_drawn<R: Threads + RandomSource>(
+fn other_way_of_drawn<R: Threads>(
     rt: &R,
     alloc: Global,
     seed: u64,
@@ -153,7 +152,7 @@ fn drawn_traces_read_the_same_in_blocks(rt: HostRuntime) -> Result<(), Fail> {
 }
 
 // Whether a drawn trace is read the same in blocks of drawn sizes.
-fn is_same_in_drawn_blocks<R: Threads + RandomSource>(
+fn is_same_in_drawn_blocks<R: Threads>(
     rt: &R,
     alloc: Global,
     seed: u64,
@@ -187,11 +186,7 @@ fn drawn_traces_read_the_same_in_blocks_by_several(rt: HostRuntime) -> Result<()
 }
 
 // The first place at which a trace that is cut in two is read otherwise.
-fn first_other_cut<R: Threads + RandomSource>(
-    rt: &R,
-    alloc: Global,
-    bytes: &[u8],
-) -> Option<usize> {
+fn first_other_cut<R: Threads>(rt: &R, alloc: Global, bytes: &[u8]) -> Option<usize> {
     for cut in 0..bytes.len() {
         let blocks = [&bytes[..cut], &bytes[cut..]];
         if !is_same_in(rt, alloc, bytes, &blocks, (1, 0, 1)) {
@@ -202,7 +197,7 @@ fn first_other_cut<R: Threads + RandomSource>(
 }
 
 // The same of a trace of three pieces.
-fn first_other_cut_of<R: Threads + RandomSource>(
+fn first_other_cut_of<R: Threads>(
     rt: &R,
     alloc: Global,
     [head, first, rest]: [&[u8]; 3],
@@ -252,14 +247,10 @@ fn long_row(alloc: Global, (front, byte, count, back): LongRow) -> Result<Vec<u8
 const IN_SHORT_BLOCKS: [Way; 3] = [(1, 1, 1), (1, 7, 1), (1, 64, 1)];
 
 // Whether the trace of a long row is read, and the same in blocks that are shorter than the row.
-fn is_long_row_same<R: Threads + RandomSource>(
-    rt: &R,
-    alloc: Global,
-    row: LongRow,
-) -> Result<bool, AllocError> {
+fn is_long_row_same<R: Threads>(rt: &R, alloc: Global, row: LongRow) -> Result<bool, AllocError> {
     let bytes = long_row(alloc, row)?;
     let other = other_way(rt, alloc, &bytes, &IN_SHORT_BLOCKS)?;
-    Ok(is_read(rt, alloc, &bytes) && other.is_none())
+    Ok(is_read(alloc, &bytes) && other.is_none())
 }
 
 const LONG_ROWS: [LongRow; 2] = [

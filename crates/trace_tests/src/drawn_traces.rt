@@ -180,19 +180,15 @@ pub(crate) fn drawn_trace(alloc: Global, seed: u64) -> Result<Vec<u8>, AllocErro
 }
 
 // Whether a drawn trace is read as csv alone reads it.
-fn is_drawn_as_by_csv(
-    source: &impl RandomSource,
-    alloc: Global,
-    seed: u64,
-) -> Result<bool, AllocError> {
+fn is_drawn_as_by_csv(alloc: Global, seed: u64) -> Result<bool, AllocError> {
     let bytes = drawn_trace(alloc, seed)?;
-    is_same_by_csv(source, alloc, &bytes)
+    is_same_by_csv(alloc, &bytes)
 }
 
 #[test]
 fn drawn_traces_read_as_by_csv_alone(rt: HostRuntime) -> Result<(), Fail> {
     for seed in 0..TRACES {
-        let is_same = is_drawn_as_by_csv(&rt, rt.alloc(), seed)?;
+        let is_same = is_drawn_as_by_csv(rt.alloc(), seed)?;
         assert!(rt; is_same, "trace {seed}");
     }
     Ok(())
@@ -205,7 +201,7 @@ fn is_same_by<R: Threads + Sync + RandomSource>(
     bytes: &[u8],
     workers: u32,
 ) -> bool {
-    let alone = read_trace(alloc, HashKey::random(rt), bytes);
+    let alone = read_trace(alloc, bytes);
     let parted = read_trace_by(rt, alloc, HashKey::random(rt), bytes, workers);
     is_same(&alone, &parted)
 }
@@ -245,16 +241,16 @@ fn drawn_traces_read_the_same_in_pieces(rt: HostRuntime) -> Result<(), Fail> {
 }
 
 // Whether a drawn trace has a fault.
-fn is_refused(source: &impl RandomSource, alloc: Global, seed: u64) -> Result<bool, AllocError> {
+fn is_refused(alloc: Global, seed: u64) -> Result<bool, AllocError> {
     let bytes = drawn_trace(alloc, seed)?;
-    Ok(!is_read(source, alloc, &bytes))
+    Ok(!is_read(alloc, &bytes))
 }
 
 #[test]
 fn some_drawn_traces_have_a_fault(rt: HostRuntime) -> Result<(), Fail> {
     let mut refused: u32 = 0;
     for seed in 0..TRACES {
-        let is_refused = is_refused(&rt, rt.alloc(), seed)?;
+        let is_refused = is_refused(rt.alloc(), seed)?;
         if is_refused {
             refused = refused.wrapping_add(1);
         }
@@ -294,7 +290,7 @@ fn are_varied_rows_same<R: Threads + Sync + RandomSource>(
     alloc: Global,
 ) -> Result<bool, AllocError> {
     let bytes = varied_rows(alloc)?;
-    Ok(is_read(rt, alloc, &bytes) && other_workers(rt, alloc, &bytes, 1..17).is_none())
+    Ok(is_read(alloc, &bytes) && other_workers(rt, alloc, &bytes, 1..17).is_none())
 }
 
 #[test]

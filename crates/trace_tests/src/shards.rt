@@ -1,11 +1,10 @@
-//! Groups, boards and queues, at worked rows and by real threads.
+//! Groups, boards and queues, at tables of calls and by real threads.
 
 ghost use Rattle.std.specs.Prelude.{◌≡◌, ◌<◌, ◌≤◌, All, IfOk, vec_len};
 ghost use Rattle.shard_queue.specs.Boards.{IsAt};
 ghost use Rattle.shard_queue.specs.Queues.{IsIn};
 
 use firing_reader::{Trace, TraceFault, read_trace};
-use keyed_hash::HashKey;
 use shard_queue::{ClaimBoard, ClaimSeat, GroupFault, GroupQueue, Groups, QueueSeat};
 use std::alloc::{AllocError, Global};
 use std::process::Abort;
@@ -30,7 +29,7 @@ fn rows_of(alloc: Global, threads: &[i32]) -> Result<String, AllocError> {
 // A trace in which these threads fire, in this order.
 fn trace_of(alloc: Global, threads: &[i32]) -> Result<Trace, TraceFault> {
     let text = rows_of(alloc, threads)?;
-    read_trace(alloc, HashKey::of_seed(&[]), text.as_bytes())
+    read_trace(alloc, text.as_bytes())
 }
 
 fn lists_of(alloc: Global, lists: &[&[i32]]) -> Result<Vec<Vec<i32>>, AllocError> {

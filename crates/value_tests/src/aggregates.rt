@@ -3,7 +3,6 @@ ghost use Rattle.aggregations.specs.Table.{functions_of, count_held};
 
 use aggregations::{AggFn, AggTable, LinearRange, Partial};
 use d_values::{Key, KeyPart, Text};
-use keyed_hash::HashKey;
 use std::alloc::{AllocError, Global};
 use std::test::Fail;
 
@@ -105,7 +104,7 @@ fn three_counts(alloc: Global) -> Result<AggTable, AllocError>
     ensures held { IfOk result (λ t. count_held t ≡ 0) }
 {
     let functions = vec![in alloc; AggFn::Count; 3]?;
-    AggTable::new(alloc, HashKey::of_seed(&[]), functions)
+    AggTable::new(alloc, functions)
 }
 
 // A table of three counts, with these rows.
@@ -197,7 +196,7 @@ fn table_of(alloc: Global, function: AggFn, args: &[i64]) -> Result<AggTable, Al
     ensures held { IfOk result (λ t. count_held t ≤ 8) }
 {
     let functions = vec![in alloc; function]?;
-    let mut table = AggTable::new(alloc, HashKey::of_seed(&[]), functions)?;
+    let mut table = AggTable::new(alloc, functions)?;
     let key = Key::new(alloc);
     add_all(&mut table, &key, args)?;
     Ok(table)

@@ -1,7 +1,6 @@
 //! Variables, set and read. A refused allocation leaves them as they were: a test then ends as out
 //! of memory, once it has seen that; let the first allocation fail, then the second, and so on.
 use d_values::{ClauseLocals, Key, KeyPart, Kind, Text, ThreadTable, Value, ValueRef, Var};
-use keyed_hash::HashKey;
 use std::alloc::{AllocError, Global};
 use std::test::Fail;
 
@@ -189,7 +188,7 @@ fn holds_three(table: &ThreadTable) -> bool {
 fn threads_keep_values(rt: HostRuntime) -> Result<(), Fail> {
     let long = long_key(rt.alloc(), 2)?;
     let none = Key::new(rt.alloc());
-    let mut table = ThreadTable::new(rt.alloc(), HashKey::of_seed(&[]));
+    let mut table = ThreadTable::new(rt.alloc());
     assert!(rt; read_own(&table, [&none, &long]) == [0, 0, 1000, 1000, 0, 0]);
     let wrong = first_wrong_own(rt.alloc(), &mut table, [&none, &long])?;
     assert_eq!(rt; wrong, None);
@@ -199,7 +198,7 @@ fn threads_keep_values(rt: HostRuntime) -> Result<(), Fail> {
 
 // What is read of two keys that differ in their last part, after the first is set, and after both.
 fn read_both(alloc: Global, one: &Key, two: &Key) -> Result<[[u64; 6]; 2], AllocError> {
-    let mut table = ThreadTable::new(alloc, HashKey::of_seed(&[]));
+    let mut table = ThreadTable::new(alloc);
     table.set(COUNT, one, Value::Int(1))?;
     let first = read_own(&table, [one, two]);
     table.set(COUNT, two, Value::Int(2))?;

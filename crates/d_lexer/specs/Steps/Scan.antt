@@ -10,7 +10,7 @@ use Rattle.d_lexer.specs.Bytes.{is_inside, begins_comment, escape_of, is_declari
 use Rattle.d_lexer.specs.Bytes.{quote, backslash, at_sign, star, slash, underscore, hash}
 use Rattle.d_lexer.specs.Places.{after_byte, is_first, is_hash, place_after}
 use Rattle.d_lexer.specs.Tokens.{TokensEnd, Clean, Bad}
-use Rattle.d_lexer.specs.{Steps.Numbers.number_spelled, Marks.mark_of, Faults.on_line}
+use Rattle.d_lexer.specs.{Steps.Numbers.number_spelled, Steps.Marks.mark_by, Faults.on_line}
 use Rattle.d_lexer.specs.{Steps.OptionLine.is_option}
 use Rattle.d_lexer.specs.Steps.Outcomes.{Gives as GivesBy}
 
@@ -87,15 +87,15 @@ with_length n (Some k) other = Some (k, n)
 
 -- the mark where one byte is left
 abbrev pub one_at : Place → ℕ → Option (Mark × ℕ)
-one_at p a = with_length 0 (mark_of p (a ∷ [])) None
+one_at p a = with_length 0 (mark_by p (a ∷ [])) None
 
 -- where two are
 abbrev pub two_at : Place → ℕ → ℕ → Option (Mark × ℕ)
-two_at p a b = with_length 1 (mark_of p (a ∷ b ∷ [])) (one_at p a)
+two_at p a b = with_length 1 (mark_by p (a ∷ b ∷ [])) (one_at p a)
 
 -- where three or more are
 abbrev pub three_at : Place → ℕ → ℕ → ℕ → Option (Mark × ℕ)
-three_at p a b c = with_length 2 (mark_of p (a ∷ b ∷ c ∷ [])) (two_at p a b)
+three_at p a b c = with_length 2 (mark_by p (a ∷ b ∷ c ∷ [])) (two_at p a b)
 
 -- the longest mark at the front, and its number of bytes after the first
 unfoldable pub mark_at : Place → ℕ → List ℕ → Option (Mark × ℕ)

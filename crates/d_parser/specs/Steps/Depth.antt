@@ -1,26 +1,17 @@
 -- Depth token by token: the function on lists that leads from `Limits` to the code.
-use Rattle.std.specs.Prelude.{◌-◌, nat_lt, ℕ, suc, Bool, false, ◌||◌, List, [], ◌∷◌}
+use Rattle.std.specs.Prelude.{◌-◌, nat_lt, ℕ, suc, Bool, false, ◌||◌, if◌then◌else◌, List, [], ◌∷◌}
 use Rattle.d_lexer.specs.declared.token.Token.{Token}
 use Rattle.d_lexer.specs.declared.token.TokenKind.{TokenKind}
 use Rattle.d_parser.specs.declared.fault.TheConstants.{MOST_OPEN, MOST_IN_A_ROW}
-use Rattle.d_parser.specs.Limits.{BracketTurn, Opens, Closes, Ends, bracket_turn}
+use Rattle.d_parser.specs.Limits.{opens, closes, ends_row}
 
 -- the brackets that are open after a token; one that closes nothing changes nothing
-abbrev pub open_by : BracketTurn → ℕ → ℕ
-open_by Opens before = suc before
-open_by Closes before = before - 1
-open_by u before = before
-
 abbrev pub open_after : TokenKind → ℕ → ℕ
-open_after t before = open_by (bracket_turn t) before
+open_after t before = if opens t then suc before else if closes t then before - 1 else before
 
 -- the tokens in a row up to this one
-abbrev pub row_by : BracketTurn → ℕ → ℕ
-row_by Ends before = 0
-row_by u before = suc before
-
 abbrev pub row_with : TokenKind → ℕ → ℕ
-row_with t before = row_by (bracket_turn t) before
+row_with t before = if ends_row t then 0 else suc before
 
 -- at some token more are open, or more are in a row, than may be: the same as IsDeep, where none
 -- are open before

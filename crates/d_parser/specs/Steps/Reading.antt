@@ -7,8 +7,8 @@ use Rattle.d_parser.specs.Vocabulary.{ParseFault}
 use Rattle.d_parser.specs.Tree.{Tree, Known, Read, Call, Unary, Cast, Before, After, Binary, Choice}
 use Rattle.d_parser.specs.Tree.{Assign, Trees, end, more}
 use Rattle.d_parser.specs.Steps.Tree.{add}
-use Rattle.d_parser.specs.Words.{word_kind, integer_type}
-use Rattle.d_parser.specs.Steps.Words.{begins_type, run, after_run}
+use Rattle.d_parser.specs.Words.{word_kind}
+use Rattle.d_parser.specs.Steps.Words.{begins_type, run, after_run, integer_type}
 use Rattle.d_parser.specs.Marks.{prefix_of, level_of}
 use Rattle.d_parser.specs.Steps.Marks.{follow_at, is_at, same_mark, tail}
 

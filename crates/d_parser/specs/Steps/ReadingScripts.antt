@@ -8,7 +8,7 @@ use Rattle.d_parser.specs.Tree.{OfClause, ClauseTree, ItemTree, Declared, Probin
 use Rattle.d_parser.specs.Words.{word_kind, type_of_words}
 use Rattle.d_parser.specs.Steps.Words.{run, after_run}
 use Rattle.d_parser.specs.Steps.Reading.{◌>>=◌, Reader, after_mark, readers, keys, arguments}
-use Rattle.d_parser.specs.{Script.description_of}
+use Rattle.d_parser.specs.Steps.Script.{description_of}
 use Rattle.d_parser.specs.Steps.Marks.{is_at, tail}
 
 -- ---- statements

@@ -1,7 +1,6 @@
 -- The table of variables as the rows that it stands for.
 use Rattle.std.specs.Prelude.{List, map}
 use Rattle.d_types.specs.Vocabulary.{Entry}
-use Rattle.d_types.specs.contracts.typed.Space as space
 use Rattle.d_types.specs.Variables.{Row, Rows}
 
 abbrev pub row_of_entry : Entry → Row

@@ -9,7 +9,7 @@ use Rattle.firing_reader.specs.Steps.Plain.{GoesOn}
 -- rows that were read in pieces, if there are bytes that wait
 abbrev pub AreWaiting : List Piece → List ℕ → Type 0
 AreWaiting pieces [] = Unit {0}
-AreWaiting pieces (b ∷ bytes) = ArePieces pieces (b ∷ bytes)
+AreWaiting pieces (b ∷ bytes) = BeginsAtFeed (b ∷ bytes) × ArePieces pieces (b ∷ bytes)
 
 -- with what is left after them they begin at a line feed, if what is left does
 abbrev pub Leads : List ℕ → Type 0

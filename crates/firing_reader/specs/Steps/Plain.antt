@@ -1,12 +1,13 @@
 -- Plain fields and rows as they are taken off the front of the bytes.
 use Rattle.std.specs.Prelude.{◌≡◌, ◌≢◌, ◌<◌, ◌≤◌, ℕ, List, [], ◌∷◌, ◌++◌, All, Some, codes, map, Ok}
-use Rattle.std.specs.Prelude.{ℤ, ◌+◌, ◌^◌, length}
+use Rattle.std.specs.Prelude.{ℤ, ◌+◌, ◌^◌, drop, length}
 use Rattle.csv.specs.declared.parser.State.{State}
 use Rattle.firing_reader.specs.Vocabulary.{next_record, default_config, Firing, MOST_ROWS}
-use Rattle.firing_reader.specs.{Left.left_in, Pieces.Rises, Pieces.left_after}
+use Rattle.firing_reader.specs.{Left.left_in, Pieces.Rises}
 use Rattle.firing_reader.specs.Column.{signed_of}
 use Rattle.firing_reader.specs.Trace.{last_number}
-use Rattle.firing_reader.specs.Plain.{Passes, ReadsRows, rows_after, whole_of}
+use Rattle.firing_reader.specs.Plain.{IsEnd, Passes, ReadsRows, rows_after, state_after}
+use Rattle.firing_reader.specs.Plain.{whole_of}
 
 -- a byte that only joins a field: no comma, quote, carriage return or line feed
 abbrev pub JoinsField : ℕ → Type 0
@@ -22,18 +23,24 @@ abbrev pub IsWordByte : ℕ → Type 0
 IsWordByte b = (45 ≤ b) × (b < 128)
 
 -- csv takes these fields off the bytes, whatever comes after them, and they end a record: the rest
--- begins at its line feed
-abbrev pub Closes : List ℕ → List (List ℕ) → List ℕ → Type 0
-Closes bytes fields rest = (after : List ℕ) × (rest ≡ 10 ∷ after)
-    × ((before : List (List ℕ)) (tail : List ℕ) →
-    next_record default_config State.StartField before [] (bytes ++ tail)
-    ≡ Some (before ++ fields, State.StartRecord, after ++ tail))
+-- begins at its end
+pub record Closes (bytes : List ℕ) (fields : List (List ℕ)) (rest : List ℕ) : Type 0 where
+  pub end : ℕ
+  pub after : List ℕ
+  pub is_rest : rest ≡ end ∷ after
+  pub ends : IsEnd end
+  pub read : (before : List (List ℕ)) (tail : List ℕ) →
+      next_record default_config State.StartField before [] (bytes ++ tail)
+      ≡ Some (before ++ fields, state_after end, after ++ tail)
 
--- after a record the bytes begin with a row of this number, and the rest comes after its comma
+-- after a record the bytes begin with a row of this number, maybe after empty lines, and the rest
+-- comes after its comma
 pub record BeginsRow (bytes : List ℕ) (number : ℕ) (rest : List ℕ) : Type 0 where
+  pub ends : List ℕ
   pub first : ℕ
   pub more : List ℕ
-  pub is_bytes : bytes ≡ 10 ∷ first ∷ more
+  pub is_bytes : bytes ≡ ends ++ first ∷ more
+  pub are_ends : All IsEnd ends
   pub joins : JoinsField first
   pub field : List ℕ
   pub passes : Passes (first ∷ more) (field ∷ []) rest
@@ -76,6 +83,10 @@ pub record GoesOn (old : List Firing) (bytes : List ℕ) (new : List Firing) (re
   pub taken : (tail : List ℕ) → left_in State.StartRecord (Some (bytes ++ tail))
       ≡ rows ++ left_in State.StartRecord (Some (rest ++ tail))
 
+-- what is left after `count` bytes: the next one is where a row ended, for which a line feed stands
+abbrev pub left_after : ℕ → List ℕ → List ℕ
+left_after count bytes = 10 ∷ drop (count + 1) bytes
+
 -- the rows in the first `count` bytes come after the old firings, and give the new ones
 pub record PassesRows (old : List Firing) (bytes : List ℕ) (new : List Firing) (count : ℕ)
     : Type 0 where
@@ -83,13 +94,15 @@ pub record PassesRows (old : List Firing) (bytes : List ℕ) (new : List Firing)
   pub few : length new ≤ MOST_ROWS
   pub inside : count < length bytes
 
--- the rest is a line feed, and then the last of the bytes, after at least one of them
+-- the rest is the end of a row, and then the last of the bytes, after at least one of them
 pub record Leaves (bytes rest : List ℕ) : Type 0 where
   pub first : ℕ
   pub front : List ℕ
+  pub end : ℕ
   pub after : List ℕ
   pub is_bytes : bytes ≡ first ∷ (front ++ after)
-  pub is_rest : rest ≡ 10 ∷ after
+  pub is_rest : rest ≡ end ∷ after
+  pub ends : IsEnd end
 
 -- the header, as it is mostly written
 abbrev pub header_line : List ℕ

@@ -1,8 +1,6 @@
 -- Where rows end in the bytes of a trace, as csv reads them byte by byte.
-use Rattle.std.specs.Prelude.{◌≡◌, ◌==◌, ◌||◌, ℕ, List, [], ◌∷◌, ◌++◌, Some, if◌then◌else◌}
+use Rattle.std.specs.Prelude.{◌≡◌, ◌==◌, ◌||◌, ℕ, List, ◌++◌, Some, if◌then◌else◌}
 use Rattle.csv.specs.declared.parser.State.{State}
-use Rattle.csv.specs.Reading.{records_next}
-use Rattle.firing_reader.specs.Vocabulary.{default_config, next_record}
 use Rattle.firing_reader.specs.Left.{left_in}
 use Rattle.firing_reader.specs.declared.row_ends.Place.{Place}
 use Rattle.firing_reader.specs.declared.row_ends.Place.TheVariants.{Between, Start, Field, Quoted}

@@ -8,15 +8,15 @@ ghost use Rattle.firing_reader.specs.{Arguments.ten, Column.signed_of, Plain.Pas
 ghost use Rattle.firing_reader.specs.Stored.{Extends, IsGivenIn, given_in};
 
 use super::field::{last_argument, next_argument};
-use super::front::rest_after;
+use super::front::{begins_at_end, rest_after};
 use crate::stored_row::Given;
 use keyed_hash::is_same;
 
-// Ten arguments that are 0, and the line feed after them.
-const ZEROS: &[u8] = b"0,0,0,0,0,0,0,0,0,0\n";
+// Ten arguments that are 0.
+const ZEROS: &[u8] = b"0,0,0,0,0,0,0,0,0,0";
 
 // The same for ten that are empty.
-const EMPTY: &[u8] = b",,,,,,,,,\n";
+const EMPTY: &[u8] = b",,,,,,,,,";
 
 // Whether bytes begin with these.
 #[inline(always)]
@@ -27,7 +27,7 @@ fn begins_with(bytes: &[u8], front: &[u8]) -> bool
     bytes.len() >= front.len() && is_same(&bytes[..front.len()], front)
 }
 
-// What follows `count` arguments that are all 0, from the line feed after them on.
+// What follows `count` arguments that are all 0, from the end of the row on.
 #[inline(always)]
 fn after_zeros(bytes: &[u8], count: usize) -> Option<&[u8]>
     requires most { count ≤ 10 }
@@ -38,7 +38,11 @@ fn after_zeros(bytes: &[u8], count: usize) -> Option<&[u8]>
     if !bytes.starts_with(b"0") || !begins_with(bytes, zeros) {
         return None;
     }
-    Some(rest_after(bytes, zeros.len() - 1))
+    let rest = rest_after(bytes, zeros.len());
+    if !begins_at_end(rest) {
+        return None;
+    }
+    Some(rest)
 }
 
 // The same for arguments that are all empty.
@@ -52,7 +56,11 @@ fn after_empty(bytes: &[u8], count: usize) -> Option<&[u8]>
     if !bytes.starts_with(b",") || !begins_with(bytes, empty) {
         return None;
     }
-    Some(rest_after(bytes, empty.len() - 1))
+    let rest = rest_after(bytes, empty.len());
+    if !begins_at_end(rest) {
+        return None;
+    }
+    Some(rest)
 }
 
 // What follows `count` arguments that are written alike, as `0` or not at all.
@@ -80,7 +88,7 @@ fn keep_next<'a>(all: &mut Vec<i64>, bytes: &'a [u8]) -> Option<&'a [u8]>
     Some(after)
 }
 
-// Keeps an argument that a line feed ends, and returns the bytes from the line feed on.
+// Keeps an argument that ends its row, and returns the bytes from the row's end on.
 #[inline(always)]
 fn keep_last<'a>(all: &mut Vec<i64>, bytes: &'a [u8]) -> Option<&'a [u8]>
     ensures { MatchOption result (all.new.items ≡ all.old.items)
@@ -93,7 +101,7 @@ fn keep_last<'a>(all: &mut Vec<i64>, bytes: &'a [u8]) -> Option<&'a [u8]>
 }
 
 /// Keeps the arguments that come first, but for those that end them and are all written as `0`, or
-/// all empty. It returns where they are, and what comes from the line feed on.
+/// all empty. It returns where they are, and what comes from the end of the row on.
 #[inline(always)]
 pub(crate) fn read_arguments<'a>(all: &mut Vec<i64>, bytes: &'a [u8]) -> Option<(Given, &'a [u8])>
     ensures grows { Extends all.old.items all.new.items }

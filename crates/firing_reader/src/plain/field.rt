@@ -8,7 +8,7 @@ ghost use Rattle.firing_reader.specs.Column.{signed_of, text_of};
 ghost use Rattle.firing_reader.specs.Plain.{Passes, int_of, whole_of};
 ghost use Rattle.firing_reader.specs.Steps.Plain.{BeginsWith, Closes};
 
-use super::front::{after_comma, after_feed, after_minus, front, rest_after, word_front};
+use super::front::{after_comma, after_minus, begins_at_end, front, rest_after, word_front};
 use crate::columns::{negative, positive};
 use crate::text::{TEXT_LIMIT, Text};
 use core::dec2flt::read_digits;
@@ -70,7 +70,7 @@ fn one_digit(bytes: &[u8]) -> Option<(u8, &[u8])>
 #[inline(always)]
 pub(crate) fn whole(bytes: &[u8], least: u64, most: u64) -> Option<(u64, &[u8])>
     ensures value { IfSome result (λ p. (field : List ℕ)
-        × Passes bytes.now (field ∷ []) p.1.now × (whole_of least most field ≡ Some p.0)) }
+        × BeginsWith bytes.now field (44 ∷ p.1.now) × (whole_of least most field ≡ Some p.0)) }
     ensures bound { IfSome result (λ p. p.0 ≤ most) }
 {
     let (number, count) = digits(bytes)?;
@@ -85,7 +85,7 @@ pub(crate) fn whole(bytes: &[u8], least: u64, most: u64) -> Option<(u64, &[u8])>
 #[inline(always)]
 pub(crate) fn int(bytes: &[u8], least: u64) -> Option<(i32, &[u8])>
     ensures { IfSome result (λ p. (field : List ℕ)
-        × Passes bytes.now (field ∷ []) p.1.now × (int_of least field ≡ Some p.0)) }
+        × BeginsWith bytes.now field (44 ∷ p.1.now) × (int_of least field ≡ Some p.0)) }
 {
     if least == 0
         && let Some((digit, rest)) = one_digit(bytes)
@@ -99,7 +99,7 @@ pub(crate) fn int(bytes: &[u8], least: u64) -> Option<(i32, &[u8])>
 // A text that a comma ends.
 pub(crate) fn text(bytes: &[u8]) -> Option<(Text, &[u8])>
     ensures { IfSome result (λ p. (field : List ℕ)
-        × Passes bytes.now (field ∷ []) p.1.now × (text_of field ≡ Some p.0)) }
+        × BeginsWith bytes.now field (44 ∷ p.1.now) × (text_of field ≡ Some p.0)) }
 {
     match word(bytes) {
         Some(found) => Some(found),
@@ -110,7 +110,7 @@ pub(crate) fn text(bytes: &[u8]) -> Option<(Text, &[u8])>
 // A short text in ASCII that a comma ends: no byte of it needs a further look.
 fn word(bytes: &[u8]) -> Option<(Text, &[u8])>
     ensures { IfSome result (λ p. (field : List ℕ)
-        × Passes bytes.now (field ∷ []) p.1.now × (text_of field ≡ Some p.0)) }
+        × BeginsWith bytes.now field (44 ∷ p.1.now) × (text_of field ≡ Some p.0)) }
 {
     let count = word_front(bytes);
     if count > TEXT_LIMIT {
@@ -125,7 +125,7 @@ fn word(bytes: &[u8]) -> Option<(Text, &[u8])>
 #[inline(never)]
 fn any_text(bytes: &[u8]) -> Option<(Text, &[u8])>
     ensures { IfSome result (λ p. (field : List ℕ)
-        × Passes bytes.now (field ∷ []) p.1.now × (text_of field ≡ Some p.0)) }
+        × BeginsWith bytes.now field (44 ∷ p.1.now) × (text_of field ≡ Some p.0)) }
 {
     let count = front(bytes);
     let rest = after_comma(rest_after(bytes, count))?;
@@ -205,14 +205,14 @@ fn longer_argument(bytes: &[u8]) -> Option<(i64, &[u8])>
     Some((value, after))
 }
 
-// An argument that a line feed ends. The line feed is the first byte of what comes after it.
+// An argument that ends a row. The row's end is the first byte of what comes after it.
 pub(crate) fn last_argument(bytes: &[u8]) -> Option<(i64, &[u8])>
     ensures { IfSome result (λ p. (field : List ℕ)
         × Closes bytes.now (field ∷ []) p.1.now × (signed_of field ≡ Some p.0)) }
 {
     let (value, rest) = argument(bytes)?;
-    match after_feed(rest) {
-        Some(_) => Some((value, rest)),
-        None => None,
+    if !begins_at_end(rest) {
+        return None;
     }
+    Some((value, rest))
 }

@@ -2,6 +2,7 @@
 
 ghost use Rattle.std.specs.Prelude.{◌≡◌, ◌≤◌, ◌∷◌, ◌++◌, true, false, ℕ, List, All, IfSome, length};
 ghost use Rattle.std.specs.Prelude.{take};
+ghost use Rattle.firing_reader.specs.Plain.{BeginsAtEnd, IsEnd};
 ghost use Rattle.firing_reader.specs.Steps.Plain.{IsWordByte, JoinsField};
 
 // What comes after a comma.
@@ -24,14 +25,57 @@ pub(crate) fn after_minus(bytes: &[u8]) -> Option<&[u8]>
     }
 }
 
-// What comes after a line feed.
-pub(crate) fn after_feed(bytes: &[u8]) -> Option<&[u8]>
-    ensures { IfSome result (λ rest. bytes.now ≡ 10 ∷ rest.now) }
+/// Whether a byte ends a row: a line feed or a carriage return.
+pub(crate) fn is_end(b: u8) -> bool
+    ensures { result ≡ true → IsEnd b }
+{
+    b == b'\n' || b == b'\r'
+}
+
+// Whether bytes begin at the end of a row.
+#[inline(always)]
+pub(crate) fn begins_at_end(bytes: &[u8]) -> bool
+    ensures { result ≡ true → BeginsAtEnd bytes.now }
 {
     match bytes {
-        [b'\n', rest @ ..] => Some(rest),
+        [end, ..] => is_end(*end),
+        [] => false,
+    }
+}
+
+// The row after the end of the one before, and after the empty lines between them.
+#[inline(always)]
+pub(crate) fn after_ends(bytes: &[u8]) -> Option<&[u8]>
+    ensures { IfSome result
+        (λ line. (ends : List ℕ) × (bytes.now ≡ ends ++ line.now) × All IsEnd ends) }
+{
+    match bytes {
+        [end, line @ ..] if is_end(*end) && starts_with_digit(line) => Some(line),
+        [end, ..] if is_end(*end) => Some(after_empty_lines(bytes)),
         _ => None,
     }
+}
+
+// What comes after all ends of rows at the front, as after the two bytes that end a line.
+#[inline(never)]
+fn after_empty_lines(bytes: &[u8]) -> &[u8]
+    ensures { (ends : List ℕ) × (bytes.now ≡ ends ++ result.now) × All IsEnd ends }
+{
+    let count = ends_at(bytes);
+    rest_after(bytes, count)
+}
+
+// How many bytes at the front end rows.
+fn ends_at(bytes: &[u8]) -> usize
+    ensures count { result ≤ length bytes.now }
+    ensures ends { All IsEnd (take result bytes.now) }
+{
+    for at in 0..bytes.len() {
+        if !is_end(bytes[at]) {
+            return at;
+        }
+    }
+    bytes.len()
 }
 
 // What comes after the first `count` bytes.

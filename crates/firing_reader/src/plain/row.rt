@@ -7,13 +7,13 @@ ghost use Rattle.firing_reader.specs.Stored.{Extends, IsRowIn, firing_in};
 
 use super::arguments::read_arguments;
 use super::field::{int, whole};
-use super::front::{after_feed, starts_with_digit};
+use super::front::{after_ends, starts_with_digit};
 use crate::owners::Owners;
 use crate::probes::Probes;
 use crate::stored_row::Row;
 
-// The row after a line feed, and the bytes from its own line feed on. Its number has to be above
-// `last`. Its owner and its probe are added if they aren't there.
+// The row after the end of the one before, and the bytes from its own end on. Its number has to be
+// above `last`. Its owner and its probe are added if they aren't there.
 #[inline(always)]
 pub(crate) fn row<'a>(
     owners: &mut Owners,
@@ -47,14 +47,13 @@ pub(crate) fn row<'a>(
     Some((row, rest))
 }
 
-// The number at the front of the row after a line feed, which has to be above `last`, and what
-// comes after it.
+// The number at the front of the row, which has to be above `last`, and what comes after it.
 #[inline(always)]
 fn number_above(bytes: &[u8], last: u64) -> Option<(u64, &[u8])>
     ensures begins { IfSome result (λ p. BeginsRow bytes.now p.0 p.1.now) }
     ensures rises { IfSome result (λ p. last < p.0) }
 {
-    let line = after_feed(bytes)?;
+    let line = after_ends(bytes)?;
     if !starts_with_digit(line) {
         return None;
     }

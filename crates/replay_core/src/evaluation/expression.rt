@@ -1,22 +1,18 @@
 //! The evaluator: from left to right, a function for each construct.
 
-ghost use Rattle.std.specs.Prelude.{◌≡◌, ◌<◌, length, slice_set};
+ghost use Rattle.std.specs.Prelude.{◌++◌, ◌∷◌, []};
 ghost use Rattle.d_types.specs.Expressions as spec;
 ghost use Rattle.replay_core.specs.Vocabulary.{Typed, typed_of, typeds_of};
 ghost use Rattle.replay_core.specs.Evaluation.{Meets};
 ghost use Rattle.replay_core.specs.Steps.Evaluation.{HasKey, HasText, HasValue, HasWord, PutsPart};
 
-use crate::evaluation::built_in::{built_in, built_in_word, constant_text};
-use crate::evaluation::changes::{
-    assign_variable, assign_variable_word, read_variable, read_variable_word, step_variable,
-    update_variable,
-};
+use crate::evaluation::built_in::{built_in, copied_text};
+use crate::evaluation::changes::{assign_variable, read_variable, step_variable, update_variable};
 use crate::evaluation::fault::EvalFault;
-use crate::evaluation::lending::{lent_text, put_part};
 use crate::evaluation::operators::{
     compared_texts, compared_words, exclusive_or, operation_or_fault, truth, unary, updated_word,
 };
-use crate::evaluation::variables::{bytes, word_at, word_in};
+use crate::evaluation::variables::{bytes, part_of, word_at, word_in};
 use crate::state::State;
 use d_types::{LogicOperator, Operation, TypedExpr, Variable};
 use d_values::{ComparisonOperator, IntType, Key, Text, Value, convert, join_text};
@@ -28,28 +24,39 @@ pub(crate) fn evaluate(e: &TypedExpr, state: &mut State<'_>) -> Result<Value, Ev
     ensures { HasValue (typed_of e.now) result state.old state.new }
 {
     match e {
-        TypedExpr::Text(text) => constant_text(text),
+        TypedExpr::Constant(_, word) => Ok(Value::Int(*word)),
+        TypedExpr::Text(text) => copied_text(state.alloc, text.as_bytes()),
         TypedExpr::BuiltIn(b) => built_in(state.alloc, *b, state.firing),
         TypedExpr::Read(x, keys) => {
             let key = evaluate_key(keys, state)?;
-            read_variable(*x, key, state)
+            read_variable(*x, &key, state)
         }
+        TypedExpr::Unary(op, t, a) => {
+            let x = evaluate_word(a, state)?;
+            Ok(Value::Int(unary(*op, *t, x)))
+        }
+        TypedExpr::Operate(op, a, b) => operate(*op, a, b, state),
+        TypedExpr::Compare(op, t, a, b) => compare_words(*op, *t, a, b, state),
+        TypedExpr::CompareText(op, a, b) => compare_texts(*op, a, b, state),
+        TypedExpr::Logic(LogicOperator::And, a, b) => and(a, b, state),
+        TypedExpr::Logic(LogicOperator::Or, a, b) => or(a, b, state),
+        TypedExpr::Logic(LogicOperator::Xor, a, b) => xor(a, b, state),
         TypedExpr::Choice(_, test, a, b) => choose(test, a, b, state),
-        TypedExpr::Assign(x, keys, a) => assign(*x, keys, a, state),
-        TypedExpr::Strjoin(a, b) => join(a, b, state),
-        TypedExpr::Constant(_, _)
-        | TypedExpr::Unary(_, _, _)
-        | TypedExpr::Operate(_, _, _)
-        | TypedExpr::Compare(_, _, _, _)
-        | TypedExpr::CompareText(_, _, _)
-        | TypedExpr::Logic(_, _, _)
-        | TypedExpr::Convert(_, _, _)
-        | TypedExpr::Update(_, _, _, _)
-        | TypedExpr::Step(_, _, _, _)
-        | TypedExpr::Strlen(_) => {
-            let word = evaluate_word(e, state)?;
-            Ok(Value::Int(word))
+        TypedExpr::Convert(from, to, a) => {
+            let x = evaluate_word(a, state)?;
+            Ok(Value::Int(convert(x, *from, *to)))
         }
+        TypedExpr::Assign(x, keys, a) => assign(*x, keys, a, state),
+        TypedExpr::Update(op, x, keys, a) => update(*op, *x, keys, a, state),
+        TypedExpr::Step(by, answer, x, keys) => {
+            let key = evaluate_key(keys, state)?;
+            step_variable(*by, *answer, *x, &key, state)
+        }
+        TypedExpr::Strlen(a) => {
+            let x = evaluate_text(a, state)?;
+            Ok(Value::Int(x.as_bytes().len() as u64))
+        }
+        TypedExpr::Strjoin(a, b) => join(a, b, state),
     }
 }
 
@@ -58,49 +65,13 @@ pub(crate) fn evaluate(e: &TypedExpr, state: &mut State<'_>) -> Result<Value, Ev
 pub(crate) fn evaluate_word(e: &TypedExpr, state: &mut State<'_>) -> Result<u64, EvalFault>
     ensures { HasWord (typed_of e.now) result state.old state.new }
 {
-    match e {
-        TypedExpr::Constant(_, word) => Ok(*word),
-        TypedExpr::Text(_) => Ok(0),
-        TypedExpr::BuiltIn(b) => Ok(built_in_word(*b, state.firing)),
-        TypedExpr::Read(x, keys) => {
-            let key = evaluate_key(keys, state)?;
-            read_variable_word(*x, key, state)
-        }
-        TypedExpr::Unary(op, t, a) => {
-            let x = evaluate_word(a, state)?;
-            Ok(unary(*op, *t, x))
-        }
-        TypedExpr::Operate(op, a, b) => operate(*op, a, b, state),
-        TypedExpr::Compare(op, t, a, b) => compare_words(*op, *t, a, b, state),
-        TypedExpr::CompareText(op, a, b) => compare_texts(*op, a, b, state),
-        TypedExpr::Logic(LogicOperator::And, a, b) => and(a, b, state),
-        TypedExpr::Logic(LogicOperator::Or, a, b) => or(a, b, state),
-        TypedExpr::Logic(LogicOperator::Xor, a, b) => xor(a, b, state),
-        TypedExpr::Choice(_, test, a, b) => choose_word(test, a, b, state),
-        TypedExpr::Convert(from, to, a) => {
-            let x = evaluate_word(a, state)?;
-            Ok(convert(x, *from, *to))
-        }
-        TypedExpr::Assign(x, keys, a) => assign_word(*x, keys, a, state),
-        TypedExpr::Update(op, x, keys, a) => update(*op, *x, keys, a, state),
-        TypedExpr::Step(by, answer, x, keys) => {
-            let key = evaluate_key(keys, state)?;
-            step_variable(*by, *answer, *x, key, state)
-        }
-        TypedExpr::Strlen(a) => {
-            let x = evaluate_text(a, state)?;
-            Ok(x.as_bytes().len() as u64)
-        }
-        TypedExpr::Strjoin(a, b) => {
-            let value = join(a, b, state)?;
-            Ok(word_in(&value))
-        }
-    }
+    let value = evaluate(e, state)?;
+    Ok(word_in(&value))
 }
 
 /// The text of an expression's value: empty for an integer.
 #[cycle(evaluation)]
-pub(crate) fn evaluate_text(e: &TypedExpr, state: &mut State<'_>) -> Result<Text, EvalFault>
+fn evaluate_text(e: &TypedExpr, state: &mut State<'_>) -> Result<Text, EvalFault>
     ensures { HasText (typed_of e.now) result state.old state.new }
 {
     let value = evaluate(e, state)?;
@@ -112,38 +83,23 @@ pub(crate) fn evaluate_text(e: &TypedExpr, state: &mut State<'_>) -> Result<Text
 pub(crate) fn evaluate_key(keys: &[TypedExpr], state: &mut State<'_>) -> Result<Key, EvalFault>
     ensures { HasKey (typeds_of keys.now) result state.old state.new }
 {
-    let mut key = state.spare.take(keys.len())?;
-    for (place, part) in keys.iter().enumerate() {
-        evaluate_part(part, &mut key, place, state)?;
+    let mut key = Key::new(state.alloc);
+    for e in keys {
+        push_part(e, &mut key, state)?;
     }
     Ok(key)
 }
 
-// Puts an expression's value in the place of a key's part.
+// Adds an expression's value to a key, at the right.
 #[cycle(evaluation)]
-fn evaluate_part(
-    e: &TypedExpr,
-    key: &mut Key,
-    place: usize,
-    state: &mut State<'_>,
-) -> Result<(), EvalFault>
-    requires { place < length key.old }
-    ensures length { length key.new ≡ length key.old }
-    ensures part { PutsPart (λ f vars. spec.with (spec.eval f (typed_of e.now) vars)
-        (λ x. spec.Has (slice_set key.old place (spec.part_of x))))
+fn push_part(e: &TypedExpr, key: &mut Key, state: &mut State<'_>) -> Result<(), EvalFault>
+    ensures { PutsPart (λ f vars. spec.with (spec.eval f (typed_of e.now) vars)
+        (λ x. spec.Has (key.old ++ spec.part_of x ∷ [])))
         result key.new state.old state.new }
 {
-    match lent_text(e, state.firing) {
-        Some(bytes) => {
-            key.set_name(place, bytes)?;
-            Ok(())
-        }
-        None => {
-            let value = evaluate(e, state)?;
-            put_part(key, place, value)?;
-            Ok(())
-        }
-    }
+    let value = evaluate(e, state)?;
+    key.push(part_of(value))?;
+    Ok(())
 }
 
 // An operator on two integers.
@@ -153,8 +109,8 @@ fn operate(
     a: &TypedExpr,
     b: &TypedExpr,
     state: &mut State<'_>,
-) -> Result<u64, EvalFault>
-    ensures { HasWord (Typed.Operate op (typed_of a.now) (typed_of b.now))
+) -> Result<Value, EvalFault>
+    ensures { HasValue (Typed.Operate op (typed_of a.now) (typed_of b.now))
         result state.old state.new }
 {
     let left = evaluate_word(a, state)?;
@@ -170,13 +126,13 @@ fn compare_words(
     a: &TypedExpr,
     b: &TypedExpr,
     state: &mut State<'_>,
-) -> Result<u64, EvalFault>
-    ensures { HasWord (Typed.Compare op t (typed_of a.now) (typed_of b.now))
+) -> Result<Value, EvalFault>
+    ensures { HasValue (Typed.Compare op t (typed_of a.now) (typed_of b.now))
         result state.old state.new }
 {
     let x = evaluate_word(a, state)?;
     let y = evaluate_word(b, state)?;
-    Ok(compared_words(op, t, x, y))
+    Ok(Value::Int(compared_words(op, t, x, y)))
 }
 
 // A comparison of two texts.
@@ -186,50 +142,50 @@ fn compare_texts(
     a: &TypedExpr,
     b: &TypedExpr,
     state: &mut State<'_>,
-) -> Result<u64, EvalFault>
-    ensures { HasWord (Typed.CompareText op (typed_of a.now) (typed_of b.now))
+) -> Result<Value, EvalFault>
+    ensures { HasValue (Typed.CompareText op (typed_of a.now) (typed_of b.now))
         result state.old state.new }
 {
     let x = evaluate_text(a, state)?;
     let y = evaluate_text(b, state)?;
-    Ok(compared_texts(op, x, y))
+    Ok(Value::Int(compared_texts(op, x, y)))
 }
 
 // `&&`: the second only where the first isn't 0.
 #[cycle(evaluation)]
-fn and(a: &TypedExpr, b: &TypedExpr, state: &mut State<'_>) -> Result<u64, EvalFault>
-    ensures { HasWord (Typed.Logic LogicOperator.And (typed_of a.now) (typed_of b.now))
+fn and(a: &TypedExpr, b: &TypedExpr, state: &mut State<'_>) -> Result<Value, EvalFault>
+    ensures { HasValue (Typed.Logic LogicOperator.And (typed_of a.now) (typed_of b.now))
         result state.old state.new }
 {
     if evaluate_word(a, state)? == 0 {
-        return Ok(0);
+        return Ok(Value::Int(0));
     }
     let y = evaluate_word(b, state)?;
-    Ok(truth(y != 0))
+    Ok(Value::Int(truth(y != 0)))
 }
 
 // `||`: the second only where the first is 0.
 #[cycle(evaluation)]
-fn or(a: &TypedExpr, b: &TypedExpr, state: &mut State<'_>) -> Result<u64, EvalFault>
-    ensures { HasWord (Typed.Logic LogicOperator.Or (typed_of a.now) (typed_of b.now))
+fn or(a: &TypedExpr, b: &TypedExpr, state: &mut State<'_>) -> Result<Value, EvalFault>
+    ensures { HasValue (Typed.Logic LogicOperator.Or (typed_of a.now) (typed_of b.now))
         result state.old state.new }
 {
     if evaluate_word(a, state)? != 0 {
-        return Ok(1);
+        return Ok(Value::Int(1));
     }
     let y = evaluate_word(b, state)?;
-    Ok(truth(y != 0))
+    Ok(Value::Int(truth(y != 0)))
 }
 
 // `^^`: whether just one isn't 0.
 #[cycle(evaluation)]
-fn xor(a: &TypedExpr, b: &TypedExpr, state: &mut State<'_>) -> Result<u64, EvalFault>
-    ensures { HasWord (Typed.Logic LogicOperator.Xor (typed_of a.now) (typed_of b.now))
+fn xor(a: &TypedExpr, b: &TypedExpr, state: &mut State<'_>) -> Result<Value, EvalFault>
+    ensures { HasValue (Typed.Logic LogicOperator.Xor (typed_of a.now) (typed_of b.now))
         result state.old state.new }
 {
     let x = evaluate_word(a, state)?;
     let y = evaluate_word(b, state)?;
-    Ok(exclusive_or(x, y))
+    Ok(Value::Int(exclusive_or(x, y)))
 }
 
 // The second of three where the first isn't 0, else the third.
@@ -253,27 +209,6 @@ fn choose(
     }
 }
 
-// The word of the chosen expression.
-#[cycle(evaluation)]
-fn choose_word(
-    test: &TypedExpr,
-    first: &TypedExpr,
-    second: &TypedExpr,
-    state: &mut State<'_>,
-) -> Result<u64, EvalFault>
-    ensures { Meets (λ f vars. spec.number_outcome
-        (spec.with (spec.number_outcome (spec.eval f (typed_of test.now) vars))
-        (λ x vars. spec.at_zero x (spec.eval f (typed_of second.now) vars)
-        (spec.eval f (typed_of first.now) vars))))
-        result state.old state.new }
-{
-    if evaluate_word(test, state)? == 0 {
-        evaluate_word(second, state)
-    } else {
-        evaluate_word(first, state)
-    }
-}
-
 // Gives a variable a value, which the assignment has too.
 #[cycle(evaluation)]
 fn assign(
@@ -287,23 +222,7 @@ fn assign(
 {
     let at = evaluate_key(keys, state)?;
     let value = evaluate(right, state)?;
-    assign_variable(x, at, value, state)
-}
-
-// The same, for the word of the value.
-#[cycle(evaluation)]
-fn assign_word(
-    x: Variable,
-    keys: &[TypedExpr],
-    a: &TypedExpr,
-    state: &mut State<'_>,
-) -> Result<u64, EvalFault>
-    ensures { HasWord (Typed.Assign x (typeds_of keys.now) (typed_of a.now))
-        result state.old state.new }
-{
-    let key = evaluate_key(keys, state)?;
-    let value = evaluate(a, state)?;
-    assign_variable_word(x, key, value, state)
+    assign_variable(x, &at, value, state)
 }
 
 // The variable is read before the right side is evaluated.
@@ -314,15 +233,15 @@ fn update(
     keys: &[TypedExpr],
     a: &TypedExpr,
     state: &mut State<'_>,
-) -> Result<u64, EvalFault>
-    ensures { HasWord (Typed.Update op x (typeds_of keys.now) (typed_of a.now))
+) -> Result<Value, EvalFault>
+    ensures { HasValue (Typed.Update op x (typeds_of keys.now) (typed_of a.now))
         result state.old state.new }
 {
     let key = evaluate_key(keys, state)?;
     let old = word_at(x, &key, state.tables);
     let y = evaluate_word(a, state)?;
     let made = updated_word(op, old, y);
-    update_variable(x, key, made, state)
+    update_variable(x, &key, made, state)
 }
 
 // Two texts as one, cut to 255 bytes.

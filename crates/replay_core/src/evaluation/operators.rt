@@ -12,8 +12,8 @@ use crate::evaluation::fault::EvalFault;
 use d_parser::{Step, UnaryOperator};
 use d_types::{Answer, Operation};
 use d_values::{
-    ComparisonOperator, DType, IntType, OutOfZero, Text, binary, compare, compare_text, complement,
-    convert, negate, shift,
+    ComparisonOperator, DType, IntType, OutOfZero, Text, Value, binary, compare, compare_text,
+    complement, convert, negate, shift,
 };
 
 /// 1 for true, 0 for false.
@@ -45,14 +45,13 @@ pub(crate) fn operation_word(op: Operation, a: u64, b: u64) -> Result<u64, OutOf
     }
 }
 
-/// The same, or the fault of its evaluation.
-#[inline(always)]
-pub(crate) fn operation_or_fault(op: Operation, a: u64, b: u64) -> Result<u64, EvalFault>
-    ensures { (vars : Variables) → Returns (spec.number_outcome
-        (spec.integer (spec.word_or_fault (spec.operation_of op a b) vars))) result vars }
+/// Its value, or the fault of its evaluation.
+pub(crate) fn operation_or_fault(op: Operation, a: u64, b: u64) -> Result<Value, EvalFault>
+    ensures { (vars : Variables)
+        → Returns (spec.integer (spec.word_or_fault (spec.operation_of op a b) vars)) result vars }
 {
     match operation_word(op, a, b) {
-        Ok(word) => Ok(word),
+        Ok(word) => Ok(Value::Int(word)),
         Err(_) => Err(EvalFault::DivideByZero),
     }
 }

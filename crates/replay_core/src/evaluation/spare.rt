@@ -6,6 +6,9 @@ use d_values::Key;
 use dif_machine::{Frame, key_of_zeros};
 use std::alloc::{AllocError, Global};
 
+// How many keys are kept.
+const MOST_KEYS: usize = 8;
+
 /// Keys that were used, whose room the next key of as many parts takes, and the machine's frame for
 /// all runs.
 #[derive(Drop)]
@@ -41,12 +44,10 @@ impl Spare {
         }
     }
 
-    /// Keeps a key.
-    pub fn keep(&mut self, key: Key) -> Result<(), AllocError> {
-        if key.parts().is_empty() {
-            return Ok(());
+    /// Keeps a key, unless there are enough or memory is refused.
+    pub fn keep(&mut self, key: Key) {
+        if !key.parts().is_empty() && self.keys.len() < MOST_KEYS {
+            let _ = self.keys.push(key);
         }
-        self.keys.push(key)?;
-        Ok(())
     }
 }

@@ -3,11 +3,11 @@
 ghost use Rattle.std.specs.Prelude.{◌≡◌, IfOk, OnOk};
 ghost use Rattle.d_types.specs.Storage as spec;
 ghost use Rattle.replay_core.specs.{Evaluation.variables_of};
-ghost use Rattle.replay_core.specs.Vocabulary.{kind_of, lent_value};
+ghost use Rattle.replay_core.specs.Vocabulary.{kind_of, lent_value, part_of};
 
 use crate::tables::Tables;
 use d_types::{Space, Variable, kind_of};
-use d_values::{Key, Kind, Text, Value, ValueRef, Var};
+use d_values::{Key, KeyPart, Kind, Text, Value, ValueRef, Var};
 use std::alloc::{AllocError, Global};
 
 /// The word of an integer, or 0.
@@ -47,6 +47,16 @@ pub(crate) fn bytes(alloc: Global, value: Value) -> Text
     match value {
         Value::Int(_) => Text::new(alloc),
         Value::Text(text) => text,
+    }
+}
+
+/// The part of a key that a value makes.
+pub(crate) fn part_of(value: Value) -> KeyPart
+    ensures { result ≡ part_of value }
+{
+    match value {
+        Value::Int(word) => KeyPart::Number(word.cast_signed()),
+        Value::Text(text) => KeyPart::Name(text),
     }
 }
 

@@ -50,9 +50,9 @@ pub(crate) trait Expression: Sized {
     fn evaluate_key(keys: &[Self], state: &mut State<'_>) -> Result<Key, EvalFault>
         ensures { Meets (λ f. (by f).key keys.now) result state.old state.new };
 
-    /// Puts the same key, lent, into an empty one and returns true, if each part is a constant or a
-    /// built-in variable that can be lent, and there are few. Then evaluation changes no variable.
-    /// Otherwise it returns false, and what the key holds is unspecified.
+    /// Puts the same key, lent, into an empty one and returns true, if the engine lends values, and
+    /// the parts are few, each a constant or a built-in variable. Then evaluation changes no
+    /// variable. Otherwise it returns false, and what the key holds is unspecified.
     fn lend_key<'a>(keys: &'a [Self], firing: &'a Firing<'a>, key: &mut LentKey<'a>) -> bool
         requires { key.old ≡ [] }
         ensures { IsTrue result → (vars : Variables)

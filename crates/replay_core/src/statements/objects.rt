@@ -1,13 +1,13 @@
 //! Objects, run by the machine.
 
-ghost use Rattle.std.specs.Prelude.{◌≡◌, ◌<◌, [], IfSome, IsTrue, length, slice_set};
+ghost use Rattle.std.specs.Prelude.{◌≡◌, ◌<◌, [], IfSome, IsTrue, OnErr, OnOk, length, slice_set};
 ghost use Rattle.dif_codegen.specs.Meaning as spec;
 ghost use Rattle.replay_core.specs.Vocabulary.{Has, Variables, action_code, lent_value};
 ghost use Rattle.replay_core.specs.Vocabulary.{number_outcome, part_of, value_result, with};
 ghost use Rattle.replay_core.specs.Evaluation.{Meets, Returns, variables_of};
 ghost use Rattle.replay_core.specs.Steps.Evaluation.{PutsPart};
 
-use crate::evaluation::{EvalFault, owned_value, set_part, word_of};
+use crate::evaluation::{EvalFault, owned_value, word_of};
 use crate::piece::Piece;
 use crate::state::State;
 use crate::statements::expression::{Arguments, Expression};
@@ -18,7 +18,7 @@ use d_values::{DType, Key, Value, ValueRef};
 use dif_codegen::{Action, TypedObject};
 use dif_machine::{Frame, MachineFault, lent_load};
 use firing_reader::Firing;
-use std::alloc::Global;
+use std::alloc::AllocError;
 
 // A run of an object, which lends its value.
 #[inline(always)]
@@ -87,6 +87,22 @@ fn run_for_part(
     let value = run_on_state!(object, state)?;
     set_part(key, place, value)?;
     Ok(())
+}
+
+// Puts a value that is lent in the place of a key's part.
+fn set_part(key: &mut Key, place: usize, value: ValueRef<'_>) -> Result<(), AllocError>
+    requires { place < length key.old }
+    ensures ok { OnOk result
+        (key.new ≡ slice_set key.old place (part_of (lent_value value.entry))) }
+    ensures err { OnErr result (key.new ≡ key.old) }
+{
+    match value {
+        ValueRef::Int(word) => {
+            key.set_number(place, word.cast_signed());
+            Ok(())
+        }
+        ValueRef::Text(bytes) => key.set_name(place, bytes),
+    }
 }
 
 // From left to right.

@@ -156,7 +156,7 @@ fn aggregate_evaluated<X: Expression>(
     let key = X::evaluate_key(keys, state)?;
     let number = evaluate_argument(argument, state)?;
     piece.note_contribution(place, &key, number)?;
-    state.spare.keep(key)?;
+    state.spare.keep(key);
     Ok(false)
 }
 

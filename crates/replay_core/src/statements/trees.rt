@@ -1,15 +1,14 @@
 //! Trees, walked.
 
-ghost use Rattle.std.specs.Prelude.{◌≡◌, ◌++◌, ◌∷◌, [], IsTrue};
+ghost use Rattle.std.specs.Prelude.{◌++◌, ◌∷◌, []};
 ghost use Rattle.d_types.specs.Clauses as spec;
 ghost use Rattle.d_types.specs.Typed.{type_of};
 ghost use Rattle.replay_core.specs.Evaluation.{Meets};
 ghost use Rattle.replay_core.specs.Steps.Evaluation.{PutsPart};
-ghost use Rattle.replay_core.specs.Vocabulary.{Has, Variables, eval, keys_of, typed_of};
-ghost use Rattle.replay_core.specs.Vocabulary.{typeds_of, with};
+ghost use Rattle.replay_core.specs.Vocabulary.{Has, eval, typed_of, typeds_of, with};
 ghost use Rattle.replay_core.specs.Forms.{by_expressions, statement_form};
 
-use crate::evaluation::{EvalFault, evaluate, evaluate_key, evaluate_word, lent_leaf};
+use crate::evaluation::{EvalFault, evaluate, evaluate_key, evaluate_word};
 use crate::piece::Piece;
 use crate::state::State;
 use crate::statements::expression::{Arguments, Expression};
@@ -49,24 +48,6 @@ fn push_value(
     Ok(())
 }
 
-// From left to right.
-#[inline(always)]
-fn lend_key<'a>(keys: &'a [TypedExpr], firing: &'a Firing<'a>, key: &mut LentKey<'a>) -> bool
-    requires { key.old ≡ [] }
-    ensures { IsTrue result → (vars : Variables)
-        → keys_of firing.now (typeds_of keys.now) vars ≡ Has key.new vars }
-{
-    for part in keys {
-        let Some(value) = lent_leaf(part, firing) else {
-            return false;
-        };
-        if !key.push(value) {
-            return false;
-        }
-    }
-    true
-}
-
 impl Expression for TypedExpr {
     ghost by = { by_expressions };
 
@@ -86,9 +67,12 @@ impl Expression for TypedExpr {
         evaluate_key(keys, state)
     }
 
-    #[inline(always)]
-    fn lend_key<'a>(keys: &'a [TypedExpr], firing: &'a Firing<'a>, key: &mut LentKey<'a>) -> bool {
-        lend_key(keys, firing, key)
+    fn lend_key<'a>(
+        _keys: &'a [TypedExpr],
+        _firing: &'a Firing<'a>,
+        _key: &mut LentKey<'a>,
+    ) -> bool {
+        false
     }
 
     fn evaluate_arguments(

@@ -12,12 +12,11 @@ pub returns-in_err-typed : goal.returns-in_err-typed
 returns-in_err-typed c =
     let p = err_from_is_err_and c.from_residual-in_err-typed.result c.from_residual-in_err-typed.ensures.1 in
     rw (p.1, p.2)
-    (types_refused c.args.script.now (tree.script_of c.in_ok-tree.tree) c.in_ok-tree.ensures.read c.in_err-typed.field-0.0 c.in_err-typed.ensures.first)
+    (types_refused c.args.script.now (tree.script_of c.in_ok-tree.tree) c.in_ok-tree.ensures.read c.in_err-typed.field-0.0 c.in_err-typed.ensures)
 
 pub returns : goal.returns
 returns c = record {
   items = tree.script_of c.in_ok-tree.tree;
   tree = c.in_ok-tree.ensures.read;
-  well = c.in_ok-typed.ensures.typed.0;
-  fits = c.in_ok-typed.ensures.typed.1;
+  means = c.in_ok-typed.ensures;
 }

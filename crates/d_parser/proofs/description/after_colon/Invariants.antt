@@ -1,5 +1,5 @@
 use Rattle.std.proofs.Common.{◌≡◌, length}
-use Rattle.d_parser.specs.Script as spec
+use Rattle.d_parser.specs.Steps.Script as spec
 use Rattle.d_parser.proofs.description.after_colon.Given as goal
 
 abbrev pub invariant-loop-rest : goal.invariant-loop-rest

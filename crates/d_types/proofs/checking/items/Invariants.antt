@@ -2,7 +2,7 @@ use Rattle.std.proofs.Common.{◌≡◌, [], drop, map}
 use Rattle.d_parser.specs.Tree.{item_of}
 use Rattle.d_types.specs.Typed.{meant_of, aggs_of}
 use Rattle.d_types.specs.Steps.Variables.{rows_of_entries}
-use Rattle.d_types.specs.Scripts as spec
+use Rattle.d_types.specs.Steps.Scripts as spec
 use Rattle.d_types.proofs.checking.items.Given as goal
 
 abbrev pub invariant-loop-next : goal.invariant-loop-next

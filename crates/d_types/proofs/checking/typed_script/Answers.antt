@@ -3,6 +3,7 @@ use Rattle.d_parser.specs.Tree.{script_of}
 use Rattle.d_types.specs.declared.variables.Entry.{Entry}
 use Rattle.d_types.specs.Typed.{aggs_of, meant_of, script_meant}
 use Rattle.d_types.specs.Scripts.{IsMeant}
+use Rattle.d_types.proofs.Checked.{walked_is_meant}
 use Rattle.d_types.proofs.Whole.{script_is}
 use Rattle.d_types.proofs.checking.typed_script.Goals as goal
 
@@ -14,7 +15,7 @@ from_parts-requires c =
       script_of c.args.script,
       c.requires.few,
       c.requires.small,
-      script_is (script_of c.args.script) (map meant_of c.in-Ok.clauses.items) c.items.new.table.items (aggs_of c.items.new.aggs.items) c.in_ok-slots-in-Ok.slots.items typed slots,
+      walked_is_meant (script_of c.args.script) _ (script_is (script_of c.args.script) (map meant_of c.in-Ok.clauses.items) c.items.new.table.items (aggs_of c.items.new.aggs.items) c.in_ok-slots-in-Ok.slots.items typed slots),
     ) in
     ∣ meant ∣₁
 

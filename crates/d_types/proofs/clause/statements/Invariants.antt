@@ -2,7 +2,7 @@ use Rattle.std.proofs.Common.{◌≡◌, [], drop}
 use Rattle.d_parser.specs.Tree.{stmts_of}
 use Rattle.d_types.specs.Typed.{actions_of, aggs_of}
 use Rattle.d_types.specs.Steps.Variables.{rows_of_entries}
-use Rattle.d_types.specs.Scripts as spec
+use Rattle.d_types.specs.Steps.Scripts as spec
 use Rattle.d_types.proofs.clause.statements.Given as goal
 
 abbrev pub invariant-loop-stmt : goal.invariant-loop-stmt

@@ -4,7 +4,7 @@ use Rattle.d_parser.specs.declared.tree.Expr.{size-Expr}
 use Rattle.d_parser.specs.Tree.{trees_of}
 use Rattle.d_types.specs.Typed.{typeds_of, end}
 use Rattle.d_types.specs.Steps.Variables.{rows_of_entries}
-use Rattle.d_types.specs.Typing as spec
+use Rattle.d_types.specs.Steps.Typing as spec
 use Rattle.d_types.proofs.expression.+typing.Given as goal
 
 abbrev pub invariant-exprs-loop-e : goal.invariant-exprs-loop-e

@@ -1,6 +1,6 @@
 use Rattle.std.proofs.Common.{◌≡◌, [], drop}
 use Rattle.d_types.specs.declared.format.Place.TheVariants as at
-use Rattle.d_types.specs.Formats as spec
+use Rattle.d_types.specs.Steps.Formats as spec
 use Rattle.d_types.proofs.format.pieces.Given as goal
 
 abbrev pub invariant-loop-byte : goal.invariant-loop-byte

@@ -1,6 +1,6 @@
-use Rattle.std.proofs.Common.{◌≡◌, ◌<◌, ◌≤◌, ◌+◌, ◌-◌, ◌∙◌, ◌∷◌, ℕ, List, Ok, length, take, drop}
+use Rattle.std.proofs.Common.{◌≡◌, ◌<◌, ◌≤◌, ◌+◌, ◌-◌, ◌∙◌, Ok, length, take}
 use Rattle.std.proofs.Common.{arith}
-use Rattle.std.proofs.Common.{sym, ap, inl, inr}
+use Rattle.std.proofs.Common.{sym, ap}
 use Rattle.std.proofs.lemmas.Result.{err_from_is_err_and}
 use Rattle.csv.specs.Reading.{strip_bom}
 use Rattle.firing_reader.specs.Steps.RowEnds.{RowsEnd}
@@ -10,14 +10,14 @@ use Rattle.firing_reader.proofs.blocks.read_header.Goals as goal
 
 pub returns-in-Some-clause-found : goal.returns-in-Some-clause-found
 returns-in-Some-clause-found c =
-    let (after, is, all) = c.in-Some.ensures in
+    let h = c.in-Some.ensures in
     let x = c.deref.result.now in
     let rest = c.in-Some.rest.now in
     let at = c.len.result - length rest in
     let size = ap length c.deref.ensures.value in
     let place : at ≡ length x - length rest = omega (arith, c.len.ensures, size) in
     rw (c.keep_from.ensures, ← c.deref.ensures.value)
-    (begins_plain x rest after c.args.firings.now at c.requires is all place)
+    (begins_plain x rest c.args.firings.now at c.requires h.begins h.header place)
 
 pub returns-in_err-read_records-clause-fault : goal.returns-in_err-read_records-clause-fault
 returns-in_err-read_records-clause-fault c =

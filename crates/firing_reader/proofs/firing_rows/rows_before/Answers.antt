@@ -1,6 +1,6 @@
-use Rattle.std.proofs.Common.{rules, ◌≡◌, ◌++◌, ◌∷◌, [], arith, get_or, map, take, ap, sym, ◌∙◌}
+use Rattle.std.proofs.Common.{rules, ◌++◌, ◌∷◌, [], arith, map, take, ap, sym, ◌∙◌}
 use Rattle.std.specs.Prelude.{slice_index}
-use Rattle.std.proofs.lemmas.List.{get_or_default, map-append, take_more, take_more_set}
+use Rattle.std.proofs.lemmas.List.{map-append, take_more, take_more_set}
 use Rattle.firing_reader.specs.Stored.{row_before}
 use Rattle.firing_reader.proofs.firing_rows.rows_before.Goals as goal
 

@@ -4,8 +4,7 @@ use Rattle.firing_reader.proofs.pieces.read_alone.Goals as goal
 
 pub returns : goal.returns
 returns c =
-    let (after, is) = c.read_plain-rest.ensures.feed in
     let bytes = c.args.bytes.now in
     let rest = c.read_plain-rest.result.now in
     let done = c.read_plain-rest.ensures in
-    passes_alone c.args.firings.now bytes c.read_plain-rest.new.firings rest after (length bytes - length rest) done.left is refl done.read done.few
+    passes_alone c.args.firings.now bytes c.read_plain-rest.new.firings rest (length bytes - length rest) done.left refl done.read done.few

@@ -4,14 +4,14 @@ use Rattle.firing_reader.proofs.PieceRows.{more_first, more_row}
 use Rattle.firing_reader.proofs.plain.read_plain.Goals as goal
 
 pub loop-init : goal.loop-init
-loop-init c = record { feed = c.requires.feed; left = leaves_first _ c.requires.feed; read = goes_first _ _; rows = more_first _ _; few = omega (arith, c.len-counter.ensures) }
+loop-init c = record { begins = c.requires.begins; left = leaves_first _ c.requires.begins; read = goes_first _ _; rows = more_first _ _; few = omega (arith, c.len-counter.ensures) }
 
 pub loop-preserved : goal.loop-preserved
 loop-preserved c =
     let (f, pushed, row, rises) = c.in-Some.ensures in
     let more = length-append c.loop.firings (f ∷ []) in
     record {
-      feed = (row.after, row.is_rest);
+      begins = (row.end, row.after, row.is_rest, row.ends);
       left = leaves_row c.args.bytes.now c.loop.rest.now f c.in-Some.after.now c.loop.invariant.left row;
       read = rw pushed (goes_row c.args.firings.now c.args.bytes.now c.loop.firings c.loop.rest.now f c.in-Some.after.now row rises (omega arith) c.loop.invariant.read);
       rows = rw pushed (more_row c.args.bytes.now c.args.firings.now c.loop.firings c.loop.rest.now f c.in-Some.after.now c.loop.invariant.rows row rises);

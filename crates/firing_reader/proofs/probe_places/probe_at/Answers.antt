@@ -1,4 +1,4 @@
-use Rattle.std.proofs.Common.{◌∙◌, map, pos, refl}
+use Rattle.std.proofs.Common.{◌∙◌, pos, refl}
 use Rattle.std.proofs.lemmas.Option.{slice_get-get_or, slice_get-map}
 use Rattle.firing_reader.specs.declared.stored_row.Row.{Row}
 use Rattle.firing_reader.proofs.probe_places.probe_at.Goals as goal

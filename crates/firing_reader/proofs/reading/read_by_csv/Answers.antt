@@ -1,8 +1,8 @@
 use Rattle.std.proofs.Common.{◌∙◌}
-use Rattle.firing_reader.proofs.PlainRows.{left_feed}
+use Rattle.firing_reader.proofs.PlainRows.{left_end}
 use Rattle.firing_reader.proofs.reading.read_by_csv.Goals as goal
 
 pub returns-clause-read : goal.returns-clause-read
 returns-clause-read c =
-    let same = c.new-records.ensures ∙ left_feed c.args.rows.now c.requires.feed in
+    let same = c.new-records.ensures ∙ left_end c.args.rows.now c.requires.begins in
     rw same at c.read_rows.ensures.read

@@ -1,4 +1,4 @@
-use Rattle.std.proofs.Common.{◌≡◌, ◌<◌, ◌≤◌, ◌+◌, ◌++◌, ◌∷◌, [], length, take, get_or, arith, sym}
+use Rattle.std.proofs.Common.{◌<◌, ◌+◌, length, take, get_or, arith}
 use Rattle.std.proofs.Common.{subst}
 use Rattle.std.proofs.lemmas.List.{take_more}
 use Rattle.firing_reader.specs.declared.row_ends.Place.{Place}

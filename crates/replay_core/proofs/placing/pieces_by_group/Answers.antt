@@ -2,7 +2,8 @@ use Rattle.std.proofs.Common.{◌≡◌, ◌<◌, ◌++◌, ◌∷◌, [], List,
 use Rattle.std.proofs.Common.{◌∙◌, subst, arith, rules, append-nil}
 use Rattle.std.proofs.lemmas.List.{length-set}
 use Rattle.std.specs.Vec.Iter.{into_iter_items}
-use Rattle.replay_core.specs.Steps.PiecePlaces.{first_bad_after, is_filled, pieces_with_places}
+use Rattle.replay_core.specs.Steps.PiecePlaces.{is_filled, pieces_with_places}
+use Rattle.replay_core.specs.Collecting.{first_bad_after}
 use Rattle.std.specs.List.Sorted.{IsPermutation}
 use Rattle.replay_core.proofs.SamePieces.{same_start, same_next}
 use Rattle.replay_core.proofs.PlaceSteps.{bad_next, bad_start, fault_is, none_pushed}

@@ -2,7 +2,8 @@ use Rattle.std.proofs.Common.{◌≡◌, ◌≤◌, ◌++◌, ℕ, None, get_or,
 use Rattle.std.specs.Vec.{vec_capacity}
 use Rattle.std.specs.Vec.Iter.{into_iter_items}
 use Rattle.std.specs.List.Sorted.{IsPermutation}
-use Rattle.replay_core.specs.Steps.PiecePlaces.{first_bad, first_bad_after, is_filled}
+use Rattle.replay_core.specs.Steps.PiecePlaces.{is_filled}
+use Rattle.replay_core.specs.Collecting.{first_bad, first_bad_after}
 use Rattle.replay_core.specs.Steps.PiecePlaces.{pieces_with_places}
 use Rattle.replay_core.proofs.placing.pieces_by_group.Given as goal
 

@@ -11,8 +11,8 @@ returns-in_err-take_next-clause-bytes g c =
 pub returns-then-branch-clause-bytes : goal.returns-then-branch-clause-bytes
 returns-then-branch-clause-bytes g c = vec_more _ _ _ c.args.block.now c.loop-reading.block c.take_next.new.intake _ c.loop-reading.invariant.added c.in_ok-take_next.ensures.taken
 
-pub returns-then-len-enough-clause-bytes : goal.returns-then-len-enough-clause-bytes
-returns-then-len-enough-clause-bytes g c = vec_more _ _ _ c.args.block.now c.loop-reading.block c.take_next.new.intake _ c.loop-reading.invariant.added c.in_ok-take_next.ensures.taken
+pub returns-then-ends_line-clause-bytes : goal.returns-then-ends_line-clause-bytes
+returns-then-ends_line-clause-bytes g c = vec_more _ _ _ c.args.block.now c.loop-reading.block c.take_next.new.intake _ c.loop-reading.invariant.added c.in_ok-take_next.ensures.taken
 
 pub loop-reading-preserved : goal.loop-reading-preserved
 loop-reading-preserved g c =

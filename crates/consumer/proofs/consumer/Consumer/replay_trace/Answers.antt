@@ -12,7 +12,7 @@ returns-in_err-groups g c = λ source bytes accepted reads.
 pub returns : goal.returns
 returns g c = λ source bytes accepted reads.
     let m = typed_script_of c.args.script.now in
-    let shown = rw c.in_ok-replayed.was at (c.replay_job-answer.ensures c.in_ok-groups.ensures.grouped) in
+    let shown = rw c.in_ok-replayed.was at (c.replay_groups-answer.ensures c.in_ok-groups.ensures.grouped) in
     (m, c.args.trace.now, record { accepted = accepted; reads = reads }, shown.0, shown.1)
 
 pub returns-in_err-replayed : goal.returns-in_err-replayed

@@ -1,7 +1,7 @@
-use Rattle.std.proofs.Common.{refl, rules}
+use Rattle.std.proofs.Common.{inl, refl, rules}
 use Rattle.std.specs.Prelude.{Err}
 use Rattle.consumer.proofs.LongFiles.{holds_of_file}
-use Rattle.consumer.proofs.Unread.{any_file, no_file, script_unread}
+use Rattle.consumer.proofs.Unread.{any_file, script_unread}
 use Rattle.consumer.proofs.consumer.Consumer.run_file.Goals as goal
 
 -- the file of -s was not read
@@ -18,7 +18,7 @@ returns-in-Ok-clause-run g c =
       shown = λ other. any_file c.args.request.now.file c.args.file.now _ _ c.requires.named
           (holds_of_file _ _ _ _ _ _ _ _ known (rw c.deref.ensures.value at ends.shown other));
       read = λ other. ends.read.whole other;
-      blamed = λ _. no_file c.args.request.now.file c.args.file.now _ c.requires.named;
+      blamed = λ failed. inl (ends.read.blamed failed);
       unread = search rules;
       few = ends.read.few;
     }

@@ -4,15 +4,15 @@ use Rattle.firing_reader.proofs.blocks.Reader.take_out_row.Goals as goal
 
 pub invariant_of-self : goal.invariant_of-self
 invariant_of-self c =
-    let at = c.after_last_feed-at.result in
-    let some = rw c.deref.ensures.value at c.after_last_feed-at.ensures.some in
+    let at = c.after_last_end-at.result in
+    let some = rw c.deref.ensures.value at c.after_last_end-at.ensures.some in
     let i = c.self.inside in
     rw c.truncate.ensures.items (keeps_front i.stage i.firings i.waiting.pieces.items i.waiting.bytes.items i.left.items at some c.self.invariant)
 
 pub returns-clause-row : goal.returns-clause-row
 returns-clause-row c =
-    let at = c.after_last_feed-at.result in
-    let some = rw c.deref.ensures.value at c.after_last_feed-at.ensures.some in
+    let at = c.after_last_end-at.result in
+    let some = rw c.deref.ensures.value at c.after_last_end-at.ensures.some in
     let i = c.self.inside in
     let x = i.left.items in
     let row : c.extend_from_slice.new.self.items ≡ 10 ∷ drop at x = rw (c.in_ok-extend_from_slice.ensures.items, c.in_ok-push.ensures.items, c.clear.ensures.items, c.deref-2.ensures.value)

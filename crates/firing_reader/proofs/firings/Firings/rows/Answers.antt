@@ -1,4 +1,4 @@
-use Rattle.std.proofs.Common.{rules, ◌≡◌, All, ap, ◌∙◌, length, map, subst, sym, take}
+use Rattle.std.proofs.Common.{All, ap, ◌∙◌, length, map, subst, sym, take}
 use Rattle.std.specs.Prelude.{IfSome, option_map}
 use Rattle.firing_reader.specs.Stored.{IsRowIn, firing_in, row_before}
 use Rattle.firing_reader.proofs.RowsRead.{all_before, before_mapped}

@@ -1,33 +1,29 @@
-use Rattle.std.proofs.Common.{rules, All, w32}
+use Rattle.std.proofs.Common.{rules, ◌≡◌, refl, w32}
 use Rattle.std.proofs.lemmas.Int.{to_z-of_z}
-use Rattle.firing_reader.specs.declared.owners.StoredOwner.{StoredOwner}
-use Rattle.firing_reader.specs.Units.{IsOwnerIn}
-use Rattle.firing_reader.proofs.Shared.{owner_placed, owners_extend, owners_grow, owners_stored}
-use Rattle.firing_reader.proofs.Stored.{extends_same, named_in}
+use Rattle.firing_reader.specs.declared.owners.OwnerEntry.{OwnerEntry}
+use Rattle.firing_reader.specs.declared.unit.Owner.{Owner}
+use Rattle.firing_reader.specs.Units.{owner_in}
+use Rattle.firing_reader.proofs.Shared.{part_first, part_text, seen_extends, seen_kept}
 use Rattle.firing_reader.proofs.owners.Owners.keep.Goals as goal
 
-pub invariant_of-self : goal.invariant_of-self
-invariant_of-self c = owners_grow c.self.inside.texts c.keep.new.self c.self.inside.stored.items c.self.inside.keys c.keep.ensures.grows c.self.invariant
-
-pub returns-in_err-execname-clause-grows : goal.returns-in_err-execname-clause-grows
-returns-in_err-execname-clause-grows c =
-    let os = c.self.inside.stored.items in
-    rw (← c.self.view_is) (owners_extend c.self.inside.texts c.keep.new.self os os c.keep.ensures.grows (extends_same os) c.self.invariant.texts_in)
-
-pub invariant_of-self-2 : goal.invariant_of-self-2
-invariant_of-self-2 c =
-    let u = c.keep.new.self in
-    let (more, is, all) = c.place_of.ensures.grows in
-    let new : All (IsOwnerIn u) more = λ k d within. rw (all k d within) (named_in u c.in_ok-execname.execname c.args.execname.now c.in_ok-execname.ensures.place) in
-    owners_stored c.self.inside.texts u c.self.inside.stored.items c.place_of.new.stored.items c.self.inside.keys c.keep.ensures.grows more is new c.self.invariant
+pub keep-requires : goal.keep-requires
+keep-requires c =
+    let bytes = c.in_ok-bytes.bytes.items in
+    let name = c.args.execname.now in
+    let (numbers, is) = c.in_ok-bytes.ensures in
+    rw c.deref.ensures.value (part_text bytes 0 c.count.result name (part_first bytes name numbers c.count.result is c.count.ensures.value c.count.ensures.text))
 
 pub returns-clause-grows : goal.returns-clause-grows
-returns-clause-grows c =
-    let (more, is, all) = c.place_of.ensures.grows in
-    rw (← c.self.view_is) (owners_extend c.self.inside.texts c.keep.new.self c.self.inside.stored.items c.place_of.new.stored.items c.keep.ensures.grows (more, is) c.self.invariant.texts_in)
+returns-clause-grows c = rw (← c.self.view_is) (seen_extends owner_in c.self.inside.units c.keep.new.self c.keep.ensures.grows)
 
 pub returns-clause-place : goal.returns-clause-place
 returns-clause-place c =
-    let o : StoredOwner = record { thread = c.args.thread; pid = c.args.pid; execname = c.in_ok-execname.execname } in
-    let there = rw (to_z-of_z w32 c.args.thread (search rules), to_z-of_z w32 c.args.pid (search rules)) at c.place_of.ensures.place in
-    owner_placed c.keep.new.self c.place_of.new.stored.items o c.args.execname.now c.place_of.result c.in_ok-execname.ensures.place there
+    let bytes = c.in_ok-bytes.bytes.items in
+    let name = c.args.execname.now in
+    let (numbers, is) = c.in_ok-bytes.ensures in
+    let e : OwnerEntry = record { thread = c.args.thread; pid = c.args.pid; from = 0; count = c.count.result } in
+    let o : Owner = record { thread = c.args.thread; pid = c.args.pid; execname = name } in
+    let own = part_first bytes name numbers c.count.result is c.count.ensures.value c.count.ensures.text in
+    let same : owner_in (bytes, e) ≡ o = rw own.is refl in
+    let there = rw (c.deref.ensures.value, to_z-of_z w32 c.args.thread (search rules), to_z-of_z w32 c.args.pid (search rules)) at c.keep.ensures.place in
+    seen_kept owner_in c.keep.new.self (bytes, e) o c.keep.result same there

@@ -1,4 +1,4 @@
-use Rattle.std.proofs.Common.{◌-◌, rules, arith}
+use Rattle.std.proofs.Common.{◌-◌, arith}
 use Rattle.firing_reader.proofs.PlainArguments.{none_so_far, one_so_far, value_last, alike_last}
 use Rattle.firing_reader.proofs.plain.arguments.read_arguments.Goals as goal
 

@@ -2,7 +2,6 @@ use Rattle.std.proofs.Common.{◌≡◌, ◌+◌, ◌∷◌, [], Some, pos, refl
 use Rattle.std.proofs.lemmas.Int.{to_z-of_z}
 use Rattle.firing_reader.specs.Plain.{int_of}
 use Rattle.firing_reader.proofs.PlainFields.{one_joins, one_whole}
-use Rattle.firing_reader.proofs.PlainRows.{passes_one}
 use Rattle.firing_reader.proofs.plain.field.int.Goals as goal
 
 pub returns : goal.returns
@@ -11,4 +10,4 @@ returns c =
     let d = c.in-Some.digit in
     let field = (48 + d) ∷ [] in
     let read : int_of 0 field ≡ Some (pos d) = rw (one_whole d 0x7FFF_FFFF lt (omega arith)) refl in
-    (field, passes_one c.args.bytes.now field c.in-Some.rest.now (record { split = is; plain = one_joins d lt }), rw (c.if-least-eq0.true, to_z-of_z w32 c.from.result (search rules), c.from.ensures) read)
+    (field, record { split = is; plain = one_joins d lt }, rw (c.if-least-eq0.true, to_z-of_z w32 c.from.result (search rules), c.from.ensures) read)

@@ -1,38 +1,28 @@
-use Rattle.std.proofs.Common.{All}
+use Rattle.firing_reader.specs.declared.probes.ProbeEntry.{ProbeEntry}
 use Rattle.firing_reader.specs.declared.unit.Probe.{Probe}
-use Rattle.firing_reader.specs.Units.{IsProbeIn}
-use Rattle.firing_reader.proofs.Shared.{HasTexts, probe_placed, probe_texts_in, probes_extend}
-use Rattle.firing_reader.proofs.Shared.{probes_grow, probes_stored}
-use Rattle.firing_reader.proofs.Stored.{extends_same}
+use Rattle.firing_reader.specs.Units.{probe_in}
+use Rattle.firing_reader.proofs.Shared.{AreLong, AreTexts, probe_is, probe_kept, probe_texts_in, seen_extends}
+use Rattle.firing_reader.proofs.Shared.{seen_kept}
 use Rattle.firing_reader.proofs.probes.Probes.keep.Goals as goal
 
-pub invariant_of-self : goal.invariant_of-self
-invariant_of-self c = probes_grow c.self.inside.texts c.stored_of.new.texts c.self.inside.stored.items c.self.inside.keys c.stored_of.ensures.grows c.self.invariant
-
-pub returns-in_err-stored-clause-grows : goal.returns-in_err-stored-clause-grows
-returns-in_err-stored-clause-grows c =
-    let ps = c.self.inside.stored.items in
-    rw (← c.self.view_is) (probes_extend c.self.inside.texts c.stored_of.new.texts ps ps c.stored_of.ensures.grows (extends_same ps) c.self.invariant.texts_in)
-
-pub invariant_of-self-2 : goal.invariant_of-self-2
-invariant_of-self-2 c =
-    let u = c.stored_of.new.texts in
-    let s = c.in_ok-stored.stored in
-    let n = c.in_ok-stored.ensures in
+pub keep-requires : goal.keep-requires
+keep-requires c =
+    let bytes = c.in_ok-bytes.bytes.items in
     let p : Probe = record { provider = c.args.provider.now; probemod = c.args.probemod.now; probefunc = c.args.probefunc.now; name = c.args.name.now } in
-    let h : HasTexts u s p = record { provider = n.provider; probemod = n.probemod; probefunc = n.probefunc; name = n.name } in
-    let (more, is, all) = c.place_of.ensures.grows in
-    let new : All (IsProbeIn u) more = λ k d within. rw (all k d within) (probe_texts_in u s p h) in
-    probes_stored c.self.inside.texts u c.self.inside.stored.items c.place_of.new.stored.items c.self.inside.keys c.stored_of.ensures.grows more is new c.self.invariant
+    let e : ProbeEntry = record { provider = c.count.result; probemod = c.count-2.result; probefunc = c.count-3.result; name = c.count-4.result } in
+    let long : AreLong e p = record { provider = c.count.ensures.value; probemod = c.count-2.ensures.value; probefunc = c.count-3.ensures.value; name = c.count-4.ensures.value } in
+    let texts : AreTexts p = record { provider = c.count.ensures.text; probemod = c.count-2.ensures.text; probefunc = c.count-3.ensures.text; name = c.count-4.ensures.text } in
+    rw c.deref.ensures.value (probe_texts_in bytes e p (probe_kept bytes e p c.in_ok-bytes.ensures long texts))
 
 pub returns-clause-grows : goal.returns-clause-grows
-returns-clause-grows c =
-    let (more, is, all) = c.place_of.ensures.grows in
-    rw (← c.self.view_is) (probes_extend c.self.inside.texts c.stored_of.new.texts c.self.inside.stored.items c.place_of.new.stored.items c.stored_of.ensures.grows (more, is) c.self.invariant.texts_in)
+returns-clause-grows c = rw (← c.self.view_is) (seen_extends probe_in c.self.inside.units c.keep.new.self c.keep.ensures.grows)
 
 pub returns-clause-place : goal.returns-clause-place
 returns-clause-place c =
-    let n = c.in_ok-stored.ensures in
+    let bytes = c.in_ok-bytes.bytes.items in
     let p : Probe = record { provider = c.args.provider.now; probemod = c.args.probemod.now; probefunc = c.args.probefunc.now; name = c.args.name.now } in
-    let h : HasTexts c.stored_of.new.texts c.in_ok-stored.stored p = record { provider = n.provider; probemod = n.probemod; probefunc = n.probefunc; name = n.name } in
-    probe_placed c.stored_of.new.texts c.place_of.new.stored.items c.in_ok-stored.stored p c.place_of.result h c.place_of.ensures.place
+    let e : ProbeEntry = record { provider = c.count.result; probemod = c.count-2.result; probefunc = c.count-3.result; name = c.count-4.result } in
+    let long : AreLong e p = record { provider = c.count.ensures.value; probemod = c.count-2.ensures.value; probefunc = c.count-3.ensures.value; name = c.count-4.ensures.value } in
+    let texts : AreTexts p = record { provider = c.count.ensures.text; probemod = c.count-2.ensures.text; probefunc = c.count-3.ensures.text; name = c.count-4.ensures.text } in
+    let same = probe_is bytes e p (probe_kept bytes e p c.in_ok-bytes.ensures long texts) in
+    seen_kept probe_in c.keep.new.self (bytes, e) p c.keep.result same (rw c.deref.ensures.value at c.keep.ensures.place)

@@ -1,7 +1,18 @@
-use Rattle.firing_reader.proofs.Shared.{probe_read}
+use Rattle.firing_reader.specs.Units.{probe_in}
+use Rattle.firing_reader.proofs.Shared.{probe_read, seen_at, seen_extends}
 use Rattle.firing_reader.proofs.probes.Probes.read.Goals as goal
+
+pub returns-in_err-place-clause-grows : goal.returns-in_err-place-clause-grows
+returns-in_err-place-clause-grows c = rw (← c.self.view_is) (seen_extends probe_in c.self.inside.units c.read.new.self c.read.ensures.grows)
+
+pub returns-clause-grows : goal.returns-clause-grows
+returns-clause-grows c = rw (← c.self.view_is) (seen_extends probe_in c.self.inside.units c.read.new.self c.read.ensures.grows)
 
 pub returns-clause-probe : goal.returns-clause-probe
 returns-clause-probe c =
-    let (probe, there, reads) = c.in_ok-place.ensures.probe in
-    (probe, there, probe_read c.split_at.result.0.now c.split_at.result.1.now c.args.bytes.now probe reads c.split_at.ensures.by_index.0)
+    let (e, there, reads) = c.in_ok-place.ensures.place in
+    let key = c.split_at.result.0.now in (
+      probe_in (key, e),
+      seen_at probe_in c.read.new.self c.in_ok-place.place (key, e) there,
+      probe_read key c.split_at.result.1.now c.args.bytes.now (probe_in (key, e)) reads c.split_at.ensures.by_index.0,
+    )

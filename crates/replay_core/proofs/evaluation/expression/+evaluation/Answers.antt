@@ -12,6 +12,20 @@ evaluate-assign-requires t c = let w = ap weight (assign_is _ _ _ _ _ c.in-Assig
     let right = ap (λ k. weight (typed_of k)) c.deref-in-Assign-2.ensures in
     (omega (arith, w, right), tt)
 
+pub evaluate-update-requires : goal.evaluate-update-requires
+evaluate-update-requires t c = let w = ap weight (update_is _ _ _ _ _ _ c.in-Update.is c.deref-in-Update.ensures.value) in
+    let right = ap (λ k. weight (typed_of k)) c.deref-in-Update-2.ensures in
+    (omega (arith, w, right), tt)
+
+pub evaluate-evaluate_key-requires-in-Step : goal.evaluate-evaluate_key-requires-in-Step
+evaluate-evaluate_key-requires-in-Step t c = let w = ap weight (step_is _ _ _ _ _ _ c.in-Step.is c.deref-in-Step.ensures.value) in (omega (arith, w), tt)
+
+pub evaluate_key-push_part-requires : goal.evaluate_key-push_part-requires
+evaluate_key-push_part-requires t c =
+    let light = key_is_light c.args.keys.now c.loop-e.e-index c.e-item.result (omega arith) in
+    let at = ap (λ k. weight (typed_of k)) c.e-item.is in
+    (omega (arith, light, at), tt)
+
 pub evaluate-returns-in_err-key-in-Read : goal.evaluate-returns-in_err-key-in-Read
 evaluate-returns-in_err-key-in-Read t c = rw (read_is _ _ _ _ c.in-Read.is c.deref.ensures.value) (search rules)
 
@@ -21,44 +35,11 @@ evaluate-returns-in_ok-key-in-Read t c = rw (read_is _ _ _ _ c.in-Read.is c.dere
 pub evaluate-returns-in-Assign : goal.evaluate-returns-in-Assign
 evaluate-returns-in-Assign t c = rw (assign_is _ _ _ _ _ c.in-Assign.is c.deref-in-Assign.ensures.value) (search rules)
 
-pub evaluate_key-evaluate_part-requires : goal.evaluate_key-evaluate_part-requires
-evaluate_key-evaluate_part-requires t c =
-    let light = key_is_light c.args.keys.now c.loop-place.place c.index-keys-place.result (search rules) in
-    let at = ap (λ k. weight (typed_of k)) c.index-keys-place.is in
-    let long = c.loop-place.invariant.length in
-    let inside = c.loop-place-test.true in
-    (omega (arith, light, at), search rules)
+pub evaluate-returns-in-Update : goal.evaluate-returns-in-Update
+evaluate-returns-in-Update t c = rw (update_is _ _ _ _ _ _ c.in-Update.is c.deref-in-Update.ensures.value) (search rules)
 
-pub evaluate_word-evaluate_key-requires : goal.evaluate_word-evaluate_key-requires
-evaluate_word-evaluate_key-requires t c = let w = ap weight (read_is _ _ _ _ c.in-Read.is c.deref.ensures.value) in (omega (arith, w), tt)
+pub evaluate-returns-in_err-key-in-Step : goal.evaluate-returns-in_err-key-in-Step
+evaluate-returns-in_err-key-in-Step t c = rw (step_is _ _ _ _ _ _ c.in-Step.is c.deref-in-Step.ensures.value) (search rules)
 
-pub evaluate_word-assign_word-requires : goal.evaluate_word-assign_word-requires
-evaluate_word-assign_word-requires t c = let w = ap weight (assign_is _ _ _ _ _ c.in-Assign.is c.deref-in-Assign.ensures.value) in
-    let right = ap (λ k. weight (typed_of k)) c.deref-in-Assign-2.ensures in
-    (omega (arith, w, right), tt)
-
-pub evaluate_word-update-requires : goal.evaluate_word-update-requires
-evaluate_word-update-requires t c = let w = ap weight (update_is _ _ _ _ _ _ c.in-Update.is c.deref-in-Update.ensures.value) in
-    let right = ap (λ k. weight (typed_of k)) c.deref-in-Update-2.ensures in
-    (omega (arith, w, right), tt)
-
-pub evaluate_word-evaluate_key-requires-in-Step : goal.evaluate_word-evaluate_key-requires-in-Step
-evaluate_word-evaluate_key-requires-in-Step t c = let w = ap weight (step_is _ _ _ _ _ _ c.in-Step.is c.deref-in-Step.ensures.value) in (omega (arith, w), tt)
-
-pub evaluate_word-returns-in_err-key-in-Read : goal.evaluate_word-returns-in_err-key-in-Read
-evaluate_word-returns-in_err-key-in-Read t c = rw (read_is _ _ _ _ c.in-Read.is c.deref.ensures.value) (search rules)
-
-pub evaluate_word-returns-in_ok-key-in-Read : goal.evaluate_word-returns-in_ok-key-in-Read
-evaluate_word-returns-in_ok-key-in-Read t c = rw (read_is _ _ _ _ c.in-Read.is c.deref.ensures.value) (search rules)
-
-pub evaluate_word-returns-in-Assign : goal.evaluate_word-returns-in-Assign
-evaluate_word-returns-in-Assign t c = rw (assign_is _ _ _ _ _ c.in-Assign.is c.deref-in-Assign.ensures.value) (search rules)
-
-pub evaluate_word-returns-in-Update : goal.evaluate_word-returns-in-Update
-evaluate_word-returns-in-Update t c = rw (update_is _ _ _ _ _ _ c.in-Update.is c.deref-in-Update.ensures.value) (search rules)
-
-pub evaluate_word-returns-in_err-key-in-Step : goal.evaluate_word-returns-in_err-key-in-Step
-evaluate_word-returns-in_err-key-in-Step t c = rw (step_is _ _ _ _ _ _ c.in-Step.is c.deref-in-Step.ensures.value) (search rules)
-
-pub evaluate_word-returns-in_ok-key-in-Step : goal.evaluate_word-returns-in_ok-key-in-Step
-evaluate_word-returns-in_ok-key-in-Step t c = rw (step_is _ _ _ _ _ _ c.in-Step.is c.deref-in-Step.ensures.value) (search rules)
+pub evaluate-returns-in_ok-key-in-Step : goal.evaluate-returns-in_ok-key-in-Step
+evaluate-returns-in_ok-key-in-Step t c = rw (step_is _ _ _ _ _ _ c.in-Step.is c.deref-in-Step.ensures.value) (search rules)

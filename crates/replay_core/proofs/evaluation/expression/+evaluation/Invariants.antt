@@ -1,17 +1,14 @@
-use Rattle.std.proofs.Common.{◌≡◌, ◌+◌, ◌*◌, ◌++◌, drop, take, length}
+use Rattle.std.proofs.Common.{◌≡◌, ◌+◌, ◌*◌, ◌++◌, drop}
 use Rattle.d_types.specs.Typed.{typed_of, typeds_of}
 use Rattle.d_types.specs.Expressions.{Has, with, keys_of}
 use Rattle.replay_core.specs.Evaluation.{Stays, variables_in}
 use Rattle.replay_core.proofs.Weights.{weight, weights}
 use Rattle.replay_core.proofs.evaluation.expression.+evaluation.Given as goal
 
-abbrev pub invariant-evaluate_key-loop-place : goal.invariant-evaluate_key-loop-place
-invariant-evaluate_key-loop-place l = record {
-  length : length l.key ≡ length l.keys;
-  stays : Stays l.fn.state l.state;
-  parts : with (keys_of l.state.firing.now (typeds_of (drop l.place l.keys)) (variables_in l.state)) (λ key. Has (take l.place l.key ++ key))
-      ≡ keys_of l.fn.state.firing.now (typeds_of l.keys) (variables_in l.fn.state);
-}
+abbrev pub invariant-evaluate_key-loop-e : goal.invariant-evaluate_key-loop-e
+invariant-evaluate_key-loop-e l =
+    Stays l.fn.state l.state × (with (keys_of l.state.firing.now (typeds_of (drop l.e-index l.keys)) (variables_in l.state)) (λ rest. Has (l.key ++ rest))
+    ≡ keys_of l.fn.state.firing.now (typeds_of l.keys) (variables_in l.fn.state))
 
 abbrev pub decreases-and : goal.decreases-and
 decreases-and l = 5 * (weight (typed_of l.a.now) + weight (typed_of l.b.now)) + 3
@@ -19,14 +16,8 @@ decreases-and l = 5 * (weight (typed_of l.a.now) + weight (typed_of l.b.now)) + 
 abbrev pub decreases-assign : goal.decreases-assign
 decreases-assign l = 5 * (weights (typeds_of l.keys.now) + weight (typed_of l.right.now)) + 4
 
-abbrev pub decreases-assign_word : goal.decreases-assign_word
-decreases-assign_word l = 5 * (weights (typeds_of l.keys.now) + weight (typed_of l.a.now)) + 4
-
 abbrev pub decreases-choose : goal.decreases-choose
 decreases-choose l = 5 * (weight (typed_of l.test.now) + weight (typed_of l.first.now) + weight (typed_of l.second.now)) + 3
-
-abbrev pub decreases-choose_word : goal.decreases-choose_word
-decreases-choose_word l = 5 * (weight (typed_of l.test.now) + weight (typed_of l.first.now) + weight (typed_of l.second.now)) + 3
 
 abbrev pub decreases-compare_texts : goal.decreases-compare_texts
 decreases-compare_texts l = 5 * (weight (typed_of l.a.now) + weight (typed_of l.b.now)) + 3
@@ -35,7 +26,7 @@ abbrev pub decreases-compare_words : goal.decreases-compare_words
 decreases-compare_words l = 5 * (weight (typed_of l.a.now) + weight (typed_of l.b.now)) + 3
 
 abbrev pub decreases-evaluate : goal.decreases-evaluate
-decreases-evaluate l = 5 * weight (typed_of l.e.now) + 1
+decreases-evaluate l = 5 * weight (typed_of l.e.now)
 
 abbrev pub decreases-evaluate_key : goal.decreases-evaluate_key
 decreases-evaluate_key l = 5 * weights (typeds_of l.keys.now) + 3
@@ -44,7 +35,7 @@ abbrev pub decreases-evaluate_text : goal.decreases-evaluate_text
 decreases-evaluate_text l = 5 * weight (typed_of l.e.now) + 2
 
 abbrev pub decreases-evaluate_word : goal.decreases-evaluate_word
-decreases-evaluate_word l = 5 * weight (typed_of l.e.now)
+decreases-evaluate_word l = 5 * weight (typed_of l.e.now) + 1
 
 abbrev pub decreases-join : goal.decreases-join
 decreases-join l = 5 * (weight (typed_of l.a.now) + weight (typed_of l.b.now)) + 3
@@ -61,5 +52,5 @@ decreases-update l = 5 * (weights (typeds_of l.keys.now) + weight (typed_of l.a.
 abbrev pub decreases-xor : goal.decreases-xor
 decreases-xor l = 5 * (weight (typed_of l.a.now) + weight (typed_of l.b.now)) + 3
 
-abbrev pub decreases-evaluate_part : goal.decreases-evaluate_part
-decreases-evaluate_part l = 5 * weight (typed_of l.e.now) + 2
+abbrev pub decreases-push_part : goal.decreases-push_part
+decreases-push_part l = 5 * weight (typed_of l.e.now) + 2

@@ -1,0 +1,299 @@
+-- What a script is typed as, or its first fault: parts come first, from the left to the right, then
+-- the construct itself. Each construct has a rule; where its rule gives nothing, it is refused.
+-- Source: Dynamic Tracing Guide, "Program Structure" and "Type Promotion".
+use Rattle.std.specs.Prelude.{◌≡◌, ◌≢◌, ◌≤◌, ◌⊎◌, ◌++◌, ℕ, true, List, [], ◌∷◌, length, Option}
+use Rattle.std.specs.Prelude.{Some, None, Result, Ok, Err}
+use Rattle.d_parser.specs.declared.tree.Variable.{Variable}
+use Rattle.d_types.specs.Vocabulary.{Int, Step, Tree, Trees, DType, INT64, Answer, Callee}
+use Rattle.d_types.specs.Vocabulary.{TypeFault, IntType, AggFn, Piece, Space, MOST_KEYS}
+use Rattle.d_types.specs.Vocabulary.{DeclarationTree, StmtTree, ItemTree, ClauseTree, DeclaredType}
+use Rattle.d_types.specs.Vocabulary.{REGISTERS, promoted_of}
+use Rattle.d_types.specs.Variables as variables
+use Rattle.d_types.specs.Formats as formats
+use Rattle.d_types.specs.Typed.{Typed, Typeds, end, more, Agg, Aggs, Action, ClauseMeant}
+use Rattle.d_types.specs.Typed.{ScriptMeant, Evaluate, Trace, Print, Exit, Aggregate}
+use Rattle.d_types.specs.Variables.{Rows, find, type_at, types_in}
+use Rattle.d_types.specs.Words.{built_in, callee_named, aggregating_named}
+use Rattle.d_types.specs.Targets.{space_of, type_at_once}
+use Rattle.d_types.specs.Operators.{binary_sort, assign_sort, conversion_node}
+use Rattle.d_types.specs.Lines.{line_of_variable, line_of}
+use Rattle.d_types.specs.Constants.{constant, text_of_constant, declared_kinds}
+use Rattle.d_types.specs.{Needs.count, Needs.need, Constants.int_type, Constants.declared_type}
+use Rattle.d_types.specs.{Spelling.SpellsFormat}
+use Rattle.d_types.specs.Aggregations.{arguments_fit, function, find_from, is_again, first}
+use Rattle.d_types.specs.Rules.{IsInteger, IsOperation, IsChoice, IsRead, IsTargetOf, IsAssignment}
+use Rattle.d_types.specs.Rules.{IsStep, IsCall, IsPlaceOf}
+
+-- ---- how a check ends
+
+-- the variables and the aggregations so far
+pub record Known : Type 0 where
+  pub rows : Rows
+  pub aggs : Aggs
+
+-- what it is typed as, with what is known after it; or its first fault
+abbrev pub Checked : Type 0 → Type 1
+Checked A = Known → Result (A × Known) TypeFault → Type 0
+
+-- this, without a fault
+unfoldable pub gives : {A : Type 0} → A → Checked A
+gives x known answer = answer ≡ Ok (x, known)
+
+-- this fault
+unfoldable pub refused : {A : Type 0} → TypeFault → Checked A
+refused fault known answer = answer ≡ Err fault
+
+-- what the rule gives, with what is known by it; or this fault, where it gives nothing
+unfoldable pub by_change : {A : Type 0} → (Known → A → Known → Type 0) → TypeFault → Checked A
+by_change Rule fault known (Ok r) = Rule known r.0 r.1
+by_change Rule fault known (Err f) =
+    (¬ ((x : _) × (after : Known) × Rule known x after)) × (f ≡ fault)
+
+-- by a rule that changes nothing
+abbrev pub by_known : {A : Type 0} → (Known → A → Type 0) → TypeFault → Checked A
+by_known Rule = by_change (λ known x after. Rule known x × (after ≡ known))
+
+-- by a rule that asks nothing of what is known
+abbrev pub by_rule : {A : Type 0} → (A → Type 0) → TypeFault → Checked A
+by_rule Rule = by_known (λ known. Rule)
+
+-- this has to be so
+abbrev pub needs : (Known → Type 0) → TypeFault → Checked (Unit {0})
+needs IsSo = by_known (λ known u. IsSo known)
+
+-- the one and then the other, unless the first has a fault
+infixr 20 ◌>>=◌
+unfoldable pub ◌>>=◌ : {A B : Type 0} → Checked A → (A → Checked B) → Checked B
+(m >>= next) known answer =
+    ((x : _) × (mid : Known) × m known (Ok (x, mid)) × next x mid answer)
+    ⊎ ((fault : TypeFault) × m known (Err fault) × (answer ≡ Err fault))
+
+infixr 20 ◌>>◌
+abbrev pub ◌>>◌ : {A B : Type 0} → Checked A → Checked B → Checked B
+m >> next = m >>= λ x. next
+
+-- ---- variables
+
+abbrev pub IsTyped : Space → List ℕ → Rows → Type 0
+IsTyped space name rows =
+    (slot : ℕ) × (find space name rows ≡ Some slot) × (type_at rows slot ≢ None)
+
+-- a variable whose type is known, or a built-in
+abbrev pub IsNamed : Variable → Known → Type 0
+IsNamed (Variable.Plain line name) known = built_in name ≢ None
+IsNamed (Variable.Thread line name) known = IsTyped Space.Thread name known.rows
+IsNamed (Variable.Clause line name) known = IsTyped Space.Clause name known.rows
+
+abbrev pub read : Variable → Typeds → Checked Typed
+read v keys = do
+  needs (IsNamed v) (TypeFault.Undeclared (line_of_variable v))
+  by_known (λ known. IsRead known.rows v keys) (TypeFault.Keys (line_of_variable v))
+
+-- the slot of a variable that is assigned, which has this type from here on, if any
+abbrev pub target : Variable → Option DType → Typeds → Checked ℕ
+target (Variable.Plain line name) t keys = do
+  needs (λ known. built_in name ≢ None) (TypeFault.GlobalAssignment name line)
+  needs (λ known. keys ≡ end) (TypeFault.Keys line)
+  refused (TypeFault.ReadOnly line)
+target v t keys =
+    by_change (λ known slot after. IsTargetOf known.rows v t keys slot after.rows
+    × (after.aggs ≡ known.aggs))
+    (TypeFault.Keys (line_of_variable v))
+
+-- `++` and `--`
+abbrev pub stepped : ℕ → Step → Answer → Variable → Typeds → Checked Typed
+stepped line by answer v keys = do
+  slot ← target v (Some (Int INT64)) keys
+  by_known (λ known. IsStep by answer (space_of v) slot keys known.rows) (TypeFault.Mismatch line)
+
+-- ---- expressions
+
+abbrev mutual
+  pub expression : Tree → Checked Typed
+  expression (Tree.Known line c) = gives (constant c)
+  expression (Tree.Read v keys) = do
+    ks ← expressions keys
+    read v ks
+  expression (Tree.Call line name args) = do
+    xs ← expressions args
+    needs (λ known. callee_named name ≢ None) (TypeFault.Undeclared line)
+    by_rule (IsCall name xs) (TypeFault.Mismatch line)
+  expression (Tree.Unary line op a) = do
+    x ← expression a
+    by_rule
+        (λ z. (t : IntType) × IsInteger x t
+        × (z ≡ Typed.Unary op (promoted_of t) (conversion_node t (promoted_of t) x)))
+        (TypeFault.Mismatch line)
+  expression (Tree.Cast line to a) = do
+    x ← expression a
+    by_rule (λ z. (t : IntType) × IsInteger x t × (z ≡ conversion_node t (int_type to) x))
+        (TypeFault.Mismatch line)
+  expression (Tree.Before line by v keys) = do
+    ks ← expressions keys
+    stepped line by Answer.New v ks
+  expression (Tree.After v keys by) = do
+    ks ← expressions keys
+    stepped (line_of_variable v) by Answer.Old v ks
+  expression (Tree.Binary op a b) = do
+    x ← expression a
+    y ← expression b
+    by_rule (IsOperation (binary_sort op) x y) (TypeFault.Mismatch (line_of a))
+  expression (Tree.Choice c a b) = do
+    x ← expression c
+    y ← expression a
+    w ← expression b
+    by_rule (IsChoice x y w) (TypeFault.Mismatch (line_of c))
+  expression (Tree.Assign op v keys a) = do
+    ks ← expressions keys
+    slot ← target v (type_at_once (assign_sort op)) ks
+    x ← expression a
+    by_change (λ known z after.
+        IsAssignment (assign_sort op) (space_of v) slot ks x known.rows z after.rows
+        × (after.aggs ≡ known.aggs))
+        (TypeFault.Mismatch (line_of_variable v))
+
+  pub expressions : Trees → Checked Typeds
+  expressions Trees.end = gives end
+  expressions (Trees.more a rest) = do
+    x ← expression a
+    xs ← expressions rest
+    gives (more x xs)
+
+-- an expression that is no part of another
+abbrev pub whole : Tree → Checked Typed
+whole t = do
+  x ← expression t
+  needs (λ known. need x ≤ REGISTERS) (TypeFault.NoRegister (line_of t))
+  gives x
+
+abbrev pub wholes : Trees → Checked Typeds
+wholes Trees.end = gives end
+wholes (Trees.more a rest) = do
+  x ← whole a
+  xs ← wholes rest
+  gives (more x xs)
+
+-- ---- statements
+
+abbrev pub evaluated : Tree → Checked Action
+evaluated t = do
+  x ← whole t
+  gives (Evaluate x)
+
+-- a format, which is a text constant, and an argument for each of its conversions
+abbrev pub printed : ℕ → Option (List ℕ) → Trees → Trees → Checked Action
+printed line (Some format) all rest = do
+  xs ← wholes rest
+  by_rule (λ a. (ps : List Piece) × SpellsFormat ps format × (formats.fit ps xs ≡ true)
+      × (a ≡ Print ps xs))
+      (TypeFault.PrintfArguments line)
+printed line None all rest = do
+  xs ← wholes all
+  refused (TypeFault.PrintfArguments line)
+
+-- a call that is a whole statement is an action
+abbrev pub called : Option Callee → ℕ → List ℕ → Trees → Checked Action
+called (Some Callee.Trace) line name args = do
+  xs ← wholes args
+  by_rule (λ a. (x : Typed) × (xs ≡ more x end) × (a ≡ Trace x)) (TypeFault.Mismatch line)
+called (Some Callee.Exit) line name args = do
+  xs ← wholes args
+  by_rule (λ a. (x : Typed) × (t : IntType) × (xs ≡ more x end) × IsInteger x t × (a ≡ Exit x))
+      (TypeFault.Mismatch line)
+called (Some Callee.Printf) line name Trees.end = refused (TypeFault.PrintfArguments line)
+called (Some Callee.Printf) line name (Trees.more t rest) =
+    printed line (text_of_constant t) (Trees.more t rest) rest
+called callee line name args = evaluated (Tree.Call line name args)
+
+-- a new aggregation has at most 8 keys, and a known one has keys of these kinds
+abbrev pub KeysFit : List ℕ → Typeds → Known → Type 0
+KeysFit name keys known =
+    ((find_from 0 name known.aggs ≡ None) × (count keys ≤ MOST_KEYS))
+    ⊎ ((place : ℕ) × (a : Agg) × (find_from 0 name known.aggs ≡ Some (place, a))
+    × (variables.fit a.keys keys ≡ true))
+
+-- a known aggregation has this function
+abbrev pub FunctionFits : List ℕ → Option AggFn → Known → Type 0
+FunctionFits name g known =
+    (place : ℕ) (a : Agg) → find_from 0 name known.aggs ≡ Some (place, a)
+    → is_again g a.function ≡ true
+
+abbrev pub aggregated : ℕ → List ℕ → Trees → List ℕ → Trees → Checked Action
+aggregated line name keys word args = do
+  ks ← wholes keys
+  g ← by_rule (λ g. aggregating_named word ≡ Some g) (TypeFault.Undeclared line)
+  xs ← wholes args
+  needs (λ known. arguments_fit g xs ≡ true) (TypeFault.Mismatch line)
+  needs (KeysFit name ks) (TypeFault.Keys line)
+  needs (FunctionFits name (function g args)) (TypeFault.AggregationRedefined line)
+  by_change (λ known a after. (place : ℕ)
+      × IsPlaceOf name ks (function g args) known.aggs place after.aggs
+      × (after.rows ≡ known.rows) × (a ≡ Aggregate place ks (first xs)))
+      (TypeFault.LquantizeBounds line)
+
+abbrev pub statement : StmtTree → Checked Action
+statement (StmtTree.Expression (Tree.Call line name args)) =
+    called (callee_named name) line name args
+statement (StmtTree.Expression t) = evaluated t
+statement (StmtTree.Aggregation line name keys word args) = aggregated line name keys word args
+
+abbrev pub statements : List StmtTree → Checked (List Action)
+statements [] = gives []
+statements (t ∷ rest) = do
+  a ← statement t
+  others ← statements rest
+  gives (a ∷ others)
+
+-- ---- clauses and declarations
+
+-- an integer
+abbrev pub predicate : Option Tree → Checked (Option Typed)
+predicate None = gives None
+predicate (Some t) = do
+  x ← expression t
+  needs (λ known. (u : IntType) × IsInteger x u) (TypeFault.Mismatch (line_of t))
+  needs (λ known. need x ≤ REGISTERS) (TypeFault.NoRegister (line_of t))
+  gives (Some x)
+
+abbrev pub clause : ClauseTree → Checked ClauseMeant
+clause c = do
+  p ← predicate c.predicate
+  all ← statements c.statements
+  gives (record { descriptions = c.descriptions; predicate = p; statements = all })
+
+-- a variable is declared before it is assigned, and once
+abbrev pub declared : Space → ℕ → List ℕ → DeclaredType → List DeclaredType → Checked (Unit {0})
+declared space line name t keys = do
+  needs (λ known. find space name known.rows ≡ None) (TypeFault.Mismatch line)
+  by_change (λ known u after. (length keys ≤ MOST_KEYS) × (after.aggs ≡ known.aggs)
+      × (after.rows ≡ known.rows ++ record {
+        space = space;
+        word = name;
+        keys = declared_kinds keys;
+        holds = Some (declared_type t);
+      } ∷ []))
+      (TypeFault.Keys line)
+
+abbrev pub declaration : DeclarationTree → Checked (Unit {0})
+declaration (DeclarationTree.OfThread line t name keys) = declared Space.Thread line name t keys
+declaration (DeclarationTree.OfClause line t name) = declared Space.Clause line name t []
+
+-- ---- scripts
+
+-- declarations and clauses, in the order of the text
+abbrev pub items : List ItemTree → Checked (List ClauseMeant)
+items [] = gives []
+items (ItemTree.Declared d ∷ rest) = do
+  declaration d
+  items rest
+items (ItemTree.Probing c ∷ rest) = do
+  m ← clause c
+  others ← items rest
+  gives (m ∷ others)
+
+-- what the script means, or its first fault
+abbrev pub IsChecked : List ItemTree → Result ScriptMeant TypeFault → Type 0
+IsChecked source (Ok m) =
+    (known : Known) × items source (record { rows = []; aggs = [] }) (Ok (m.clauses, known))
+    × (m.aggregations ≡ known.aggs) × (m.slots ≡ types_in known.rows)
+IsChecked source (Err fault) = items source (record { rows = []; aggs = [] }) (Err fault)

@@ -1,0 +1,6 @@
+pub mod Plain
+pub mod Lines
+pub mod Firings
+pub mod More
+pub mod Pieces
+pub mod Added

@@ -1,0 +1,102 @@
+//! The arguments of calls.
+
+use crate::bytes::cut;
+use crate::marks::Marks;
+use crate::numbers::integer;
+use crate::row::{ARGUMENTS, Arguments};
+
+// The folder in which a path begins, as strace shows it and as a number.
+const HERE: &[u8] = b"AT_FDCWD";
+
+const HERE_NUMBER: i64 = -100;
+
+/// The arguments of a call that shows numbers alone.
+pub(crate) fn numbers(shown: &[u8]) -> Option<Arguments> {
+    let mut arguments = [None; ARGUMENTS];
+    let mut is_first = true;
+    for (slot, argument) in arguments.iter_mut().zip(shown.split(|byte| *byte == b',')) {
+        if !is_first && argument.first() != Some(&b' ') {
+            return None;
+        }
+        is_first = false;
+        let argument = argument.trim_ascii();
+        *slot = if argument.is_empty() {
+            None
+        } else {
+            Some(number(argument)?)
+        };
+    }
+    Some(arguments)
+}
+
+// A number, of which strace shows one by a name.
+fn number(shown: &[u8]) -> Option<i64> {
+    if shown == b"NULL".as_slice() {
+        return Some(0);
+    }
+    integer(shown)
+}
+
+/// The arguments of a call that shows some by names, the first of them as it is shown, and what
+/// comes after the bracket.
+#[derive(Drop)]
+pub(crate) struct Named<'a> {
+    pub(crate) arguments: Arguments,
+    pub(crate) first: &'a [u8],
+    pub(crate) rest: &'a [u8],
+}
+
+/// These parts of what is shown, where it has the bracket.
+pub(crate) fn by_names<'a>(shown: &'a [u8]) -> Option<Named<'a>> {
+    let mut arguments = [None; ARGUMENTS];
+    let mut marks = Marks::new();
+    let (mut begin, mut place, mut first) = (0, 0, None);
+    for (at, byte) in shown.iter().enumerate() {
+        if !marks.ends(*byte)? {
+            continue;
+        }
+        let argument = shown.get(begin..at)?.trim_ascii();
+        begin = at + 1;
+        first = first.or(Some(argument));
+        if place < ARGUMENTS {
+            arguments[place] = named_argument(argument)?;
+            place += 1;
+        }
+        if *byte == b')' {
+            let rest = shown.get(begin..)?;
+            return Some(Named {
+                arguments,
+                first: first?,
+                rest,
+            });
+        }
+    }
+    None
+}
+
+// An argument: empty where it is no number, and None where it begins as one and isn't.
+fn named_argument(shown: &[u8]) -> Option<Option<i64>> {
+    if shown == HERE {
+        return Some(Some(HERE_NUMBER));
+    }
+    if shown == b"NULL".as_slice() {
+        return Some(Some(0));
+    }
+    match shown.first() {
+        Some(b'-' | b'0'..=b'9') => Some(Some(commented(shown)?)),
+        _ => Some(None),
+    }
+}
+
+// A number that may have a comment after it.
+fn commented(shown: &[u8]) -> Option<i64> {
+    let Some((value, comment)) = cut(shown, b' ') else {
+        return integer(shown);
+    };
+    let inner = comment.trim_ascii().strip_prefix(b"/*")?;
+    if inner.ends_with(b"*/") {
+        integer(value)
+    } else {
+        None
+    }
+}

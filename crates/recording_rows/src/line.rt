@@ -1,0 +1,117 @@
+//! Lines of strace: how they begin, and what they are of.
+
+use crate::bytes::{cut, is_visible};
+use crate::ids::Id;
+use crate::numbers::{decimal, nanoseconds};
+use crate::words::Word;
+
+// The digits of a thread's number, and of the seconds of a time.
+const MOST_THREAD: usize = 9;
+
+const MOST_SECONDS: usize = 11;
+
+// The letters of a system call's name.
+const MOST_NAME: usize = 81;
+
+/// What a line is of.
+#[derive(Clone, Copy)]
+pub(crate) enum Event<'a> {
+    /// A call that returns on its line: its name, and what is shown after the bracket.
+    Whole(Word<'a>, &'a [u8]),
+    /// A call that breaks off.
+    Begun(Word<'a>, &'a [u8]),
+    /// The rest of such a call.
+    Resumed(Word<'a>, &'a [u8]),
+    /// The end of a thread.
+    Ended,
+    /// A signal.
+    Signal,
+}
+
+/// A line: its thread, its time in nanoseconds and what it is of.
+#[derive(Clone, Copy)]
+pub(crate) struct Line<'a> {
+    pub(crate) thread: Id,
+    pub(crate) time: u64,
+    pub(crate) event: Event<'a>,
+}
+
+/// The parts of a line, without a look at what they hold: its thread, its time and its event.
+pub(crate) fn parts_of(line: &[u8]) -> Option<(&[u8], &[u8], &[u8])> {
+    let (thread, rest) = cut(line, b' ')?;
+    let spaces = rest.iter().position(|byte| *byte != b' ')?;
+    let (time, event) = cut(&rest[spaces..], b' ')?;
+    Some((thread, time, event))
+}
+
+impl<'a> Line<'a> {
+    /// This line, where it is known.
+    pub(crate) fn of(line: &'a [u8]) -> Option<Line<'a>> {
+        let (thread, time, event) = parts_of(line)?;
+        if thread.first() == Some(&b'0') {
+            return None;
+        }
+        Some(Line {
+            thread: Id::of(decimal(thread, MOST_THREAD)?)?,
+            time: nanoseconds(time, MOST_SECONDS)?,
+            event: event_of(event)?,
+        })
+    }
+}
+
+// What a line is of, by what it has after its time.
+fn event_of<'a>(shown: &'a [u8]) -> Option<Event<'a>> {
+    match shown.first()? {
+        b'<' => resumed(shown),
+        b'+' => ended(shown),
+        b'-' => signal(shown),
+        _ => called(shown),
+    }
+}
+
+fn called<'a>(shown: &'a [u8]) -> Option<Event<'a>> {
+    let (name, shown) = cut(shown, b'(')?;
+    let name = call_name(name)?;
+    let Some(begun) = shown.strip_suffix(b"<unfinished ...>") else {
+        return Some(Event::Whole(name, shown));
+    };
+    Some(Event::Begun(name, begun.strip_suffix(b" ").unwrap_or(begun)))
+}
+
+fn resumed<'a>(shown: &'a [u8]) -> Option<Event<'a>> {
+    let (name, rest) = cut(shown.strip_prefix(b"<... ")?, b' ')?;
+    Some(Event::Resumed(call_name(name)?, rest.strip_prefix(b"resumed>")?))
+}
+
+fn ended<'a>(shown: &'a [u8]) -> Option<Event<'a>> {
+    let exited = shown.strip_prefix(b"+++ exited ");
+    let how = exited.or(shown.strip_prefix(b"+++ killed "))?;
+    if how.ends_with(b"+++") && is_visible(how) {
+        Some(Event::Ended)
+    } else {
+        None
+    }
+}
+
+fn signal<'a>(shown: &'a [u8]) -> Option<Event<'a>> {
+    let signal = shown.strip_prefix(b"--- ")?;
+    if signal.ends_with(b" ---") && is_visible(signal) {
+        Some(Event::Signal)
+    } else {
+        None
+    }
+}
+
+// The name of a system call.
+fn call_name<'a>(name: &'a [u8]) -> Option<Word<'a>> {
+    if name.len() > MOST_NAME || !matches!(name.first()?, b'a'..=b'z' | b'_') {
+        return None;
+    }
+    if !name
+        .iter()
+        .all(|byte| matches!(*byte, b'a'..=b'z' | b'0'..=b'9' | b'_'))
+    {
+        return None;
+    }
+    Word::of(name)
+}
