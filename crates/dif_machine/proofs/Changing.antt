@@ -14,7 +14,8 @@ use Rattle.dif_machine.specs.Vocabulary.{Ba, Branch, Setx, Sets, Ldgs, Ldga, Ldt
 use Rattle.dif_machine.specs.Vocabulary.{Pushtr, Pushtv, Flushts, Ldtaa, Sttaa, Call, Ret, Nop}
 use Rattle.dif_machine.specs.Vocabulary.{KeyPart, Number, Name, Kind, NumberKind, TextKind, Object}
 use Rattle.dif_machine.specs.Vocabulary.{OutOfZero, Reg, at, Value, Int, Text, Variables}
-use Rattle.dif_validate.specs.Rows.{ComparesTwo, StoresVariable, row_of}
+use Rattle.dif_validate.specs.declared.row.Change.TheVariants.{ComparesTwo, StoresVariable}
+use Rattle.dif_validate.specs.Rows.{row_of}
 use Rattle.dif_machine.specs.Changes.{output_register, fills, Changes}
 use Rattle.dif_machine.specs.Frames.{Frame, at_place, with_value, with_comparison, with_tuple}
 use Rattle.dif_machine.specs.Operators.{result_of, comparison_of, text_comparison_of, holds}

@@ -10,7 +10,7 @@ use Rattle.d_values.specs.declared.value.Kind.{Kind}
 use Rattle.d_values.specs.declared.value.Kind.TheVariants.{Number, Text}
 use Rattle.d_values.specs.declared.value.Value.{Value}
 use Rattle.d_values.specs.declared.value.Value.TheVariants as va
-use Rattle.dif_validate.specs.declared.asks.Asks.TheVariants.{Any, One, Two}
+use Rattle.dif_validate.specs.declared.row.Asks.TheVariants.{Any, One, Two}
 use Rattle.dif_validate.specs.declared.register.Reg.{Reg}
 use Rattle.dif_validate.specs.declared.shape.Shape.{Shape}
 use Rattle.dif_validate.specs.Asks.{finds_other, finds_unset}

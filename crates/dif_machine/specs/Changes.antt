@@ -1,8 +1,10 @@
 -- What one instruction changes.
 use Rattle.std.specs.Prelude.{◌≡◌, ◌≢◌, ◌+◌, Bool, true, false, Option, Some, None}
 use Rattle.dif_validate.specs.Flow.{jump_target}
-use Rattle.dif_validate.specs.Rows.{Change, Puts, Copies, ComparesTwo, Pushes, Empties}
-use Rattle.dif_validate.specs.Rows.{StoresVariable, NoChange, row_of}
+use Rattle.dif_validate.specs.declared.row.Change.{Change}
+use Rattle.dif_validate.specs.declared.row.Change.TheVariants.{Puts, Copies, ComparesTwo, Pushes}
+use Rattle.dif_validate.specs.declared.row.Change.TheVariants.{Empties, StoresVariable, NoChange}
+use Rattle.dif_validate.specs.Rows.{row_of}
 use Rattle.dif_machine.specs.Vocabulary.{Instr, Reg, at, Variables}
 use Rattle.dif_machine.specs.Frames.{Frame}
 use Rattle.dif_machine.specs.Semantics.{Next, Goes, Ends, Faults, Stuck}

@@ -3,7 +3,8 @@ use Rattle.std.specs.Prelude.{Bool, true, false, not, ◌&&◌, ◌||◌, List, 
 use Rattle.dif_validate.specs.Vocabulary.{Asks, Nothing, Any, One, Two, Flow, Next, Jump, Either}
 use Rattle.dif_validate.specs.Vocabulary.{End, Function, Strlen, Strjoin, Instr, Kind, Text, Shape}
 use Rattle.dif_validate.specs.Vocabulary.{at}
-use Rattle.dif_validate.specs.Rows.{TupleNeed, AnyTuple, WithRoom, Filled, TupleOf, row_of}
+use Rattle.dif_validate.specs.Vocabulary.{TupleNeed, AnyTuple, WithRoom, Filled, TupleOf}
+use Rattle.dif_validate.specs.Rows.{row_of}
 use Rattle.dif_validate.specs.Flow.{flow}
 use Rattle.dif_validate.specs.Shapes.{is_other, is_unset, has_room}
 

@@ -1,8 +1,9 @@
 -- What is known after an instruction.
 use Rattle.std.specs.Prelude.{List, [], ◌∷◌, ◌++◌, if◌then◌else◌, Option, Some, None, true}
 use Rattle.dif_validate.specs.Vocabulary.{Instr, Kind, Reg, Shape, at, put}
-use Rattle.dif_validate.specs.Rows.{Change, Puts, Copies, ComparesTwo, Pushes, Empties}
-use Rattle.dif_validate.specs.Rows.{StoresVariable, NoChange, row_of}
+use Rattle.dif_validate.specs.Vocabulary.{Change, Puts, Copies, ComparesTwo, Pushes, Empties}
+use Rattle.dif_validate.specs.Vocabulary.{StoresVariable, NoChange}
+use Rattle.dif_validate.specs.Rows.{row_of}
 use Rattle.dif_validate.specs.Shapes.{has_room}
 
 abbrev pub with_register : Shape → Reg → Option Kind → Shape

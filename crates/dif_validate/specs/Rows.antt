@@ -7,36 +7,11 @@ use Rattle.dif_validate.specs.Vocabulary.{Asks, Nothing, Any, One, Two, Flow, Ne
 use Rattle.dif_validate.specs.Vocabulary.{End, Function, Strlen, Strjoin, Instr, Alu, Not, Mov, Cmp}
 use Rattle.dif_validate.specs.Vocabulary.{Tst, Scmp, Ba, Branch, Setx, Sets, Ldgs, Ldga, Ldts, Stts}
 use Rattle.dif_validate.specs.Vocabulary.{Ldls, Stls, Pushtr, Pushtv, Flushts, Ldtaa, Sttaa, Call}
-use Rattle.dif_validate.specs.Vocabulary.{Ret, Nop, Kind, Number, Text, Reg}
+use Rattle.dif_validate.specs.Vocabulary.{Ret, Nop, Kind, Number, Text}
 use Rattle.dif_validate.specs.Vocabulary.{Named, NoName, NumberAt, TextAt, VariableAt, ArrayAt}
-
--- which tuple it takes: any, one with room for another part, one that isn't empty, or that of a
--- function
-pub data TupleNeed : Type 0 where
-  AnyTuple : TupleNeed
-  WithRoom : TupleNeed
-  Filled : TupleNeed
-  TupleOf : (f : Function) → TupleNeed
-
--- the one thing that it changes: a register, which gets a value of this kind or another register's
--- value; the comparison; the tuple, which gets one part more or is emptied; a variable; or nothing
-pub data Change : Type 0 where
-  Puts : (kind : Kind) (d : Reg) → Change
-  Copies : (a d : Reg) → Change
-  ComparesTwo : Change
-  Pushes : (kind : Kind) → Change
-  Empties : Change
-  StoresVariable : Change
-  NoChange : Change
-
-pub record InstructionRow : Type 0 where
-  pub asks : Asks
-  pub named : Named
-  pub tuple : TupleNeed
-  pub change : Change
-  pub flow : Flow
-
--- ---- rows
+use Rattle.dif_validate.specs.Vocabulary.{TupleNeed, AnyTuple, WithRoom, Filled, TupleOf}
+use Rattle.dif_validate.specs.Vocabulary.{Change, Puts, Copies, ComparesTwo, Pushes, Empties}
+use Rattle.dif_validate.specs.Vocabulary.{StoresVariable, NoChange, InstructionRow}
 
 -- it names nothing, takes any tuple and goes on to the next instruction
 abbrev pub plain_row : Asks → Change → InstructionRow

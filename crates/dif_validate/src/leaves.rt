@@ -2,10 +2,10 @@
 
 ghost use Rattle.std.specs.Prelude.{◌≡◌};
 ghost use Rattle.dif_validate.specs.Leaves as spec;
-ghost use Rattle.dif_validate.specs.Rows as rows;
 
-use crate::instruction::{Function, Instr};
+use crate::instruction::Instr;
 use crate::register::Reg;
+use crate::row::Change;
 use crate::shape::{Shape, Tuple};
 use d_values::Kind;
 
@@ -48,55 +48,18 @@ impl Shape {
     pub(crate) fn after(self, i: Instr) -> Shape
         ensures { result ≡ spec.leaves i self }
     {
-        match i {
-            Instr::Alu(_, _, _, d) => self.with(d, Some(Kind::Number)),
-            Instr::Not(_, d) => self.with(d, Some(Kind::Number)),
-            Instr::Mov(a, d) => {
+        match i.row().change {
+            Change::Puts(kind, d) => self.with(d, Some(kind)),
+            Change::Copies(a, d) => {
                 let kind = self.kind(a);
                 self.with(d, kind)
             }
-            Instr::Cmp(_, _) => self.with_comparison(),
-            Instr::Tst(_) => self.with_comparison(),
-            Instr::Scmp(_, _) => self.with_comparison(),
-            Instr::Setx(_, d) => self.with(d, Some(Kind::Number)),
-            Instr::Sets(_, d) => self.with(d, Some(Kind::Text)),
-            Instr::Ldgs(v, d) => self.with(d, Some(kind_of_built_in(v))),
-            Instr::Ldga(_, _, d) => self.with(d, Some(Kind::Number)),
-            Instr::Ldts(x, d) => self.with(d, Some(x.kind)),
-            Instr::Ldls(x, d) => self.with(d, Some(x.kind)),
-            Instr::Pushtr(_) => self.with_one_more(Kind::Text),
-            Instr::Pushtv(_) => self.with_one_more(Kind::Number),
-            Instr::Flushts => self.with_tuple(Some(Tuple::new())),
-            Instr::Ldtaa(x, d) => self.with(d, Some(x.kind)),
-            Instr::Call(f, d) => self.with(d, Some(f.kind())),
-            Instr::Ba(_)
-            | Instr::Branch(_, _)
-            | Instr::Stts(_, _)
-            | Instr::Stls(_, _)
-            | Instr::Sttaa(_, _)
-            | Instr::Ret(_)
-            | Instr::Nop => self,
+            Change::ComparesTwo => self.with_comparison(),
+            Change::Pushes(kind) => self.with_one_more(kind),
+            Change::Empties => self.with_tuple(Some(Tuple::new())),
+            Change::StoresVariable | Change::NoChange => self,
         }
     }
-}
-
-impl Function {
-    /// The kind of its value.
-    pub(crate) fn kind(self) -> Kind
-        ensures { result ≡ rows.kind_of_function self }
-    {
-        match self {
-            Function::Strlen => Kind::Number,
-            Function::Strjoin => Kind::Text,
-        }
-    }
-}
-
-// The kind of a built-in variable.
-fn kind_of_built_in(v: u8) -> Kind
-    ensures { result ≡ rows.kind_of_built_in v }
-{
-    if v < 4 { Kind::Number } else { Kind::Text }
 }
 
 // A tuple with one more kind at its end.

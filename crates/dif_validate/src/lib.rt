@@ -11,6 +11,7 @@ mod leaves;
 mod object;
 mod pass;
 mod register;
+mod row;
 mod shape;
 mod show;
 mod valid;
@@ -23,5 +24,5 @@ pub use valid::{ValidDifo, validate};
 
 // What the validator asks and knows. No caller needs them: they are public since definitions speak
 // of them.
-pub use asks::Asks;
+pub use row::{Asks, Change, InstructionRow};
 pub use shape::{Shape, Tuple};

@@ -9,9 +9,9 @@ ghost use Rattle.dif_validate.specs.Validity.{is_closed};
 ghost use Rattle.dif_validate.specs.Steps.Validity.{Finds};
 
 use crate::fault::DifFault;
-use crate::flow::Flow;
 use crate::instruction::Instr;
 use crate::object::Difo;
+use crate::row::Flow;
 use crate::shape::Shape;
 use d_values::Kind;
 use std::alloc::{AllocError, Global};
@@ -69,7 +69,7 @@ impl Instr {
     fn kind_at_return(self, shape: &Shape) -> Option<Kind>
         ensures { result ≡ kind_at_return (Some self) (Some shape.now) }
     {
-        match self.flow() {
+        match self.row().flow {
             Flow::End(a) => shape.kind(a),
             Flow::Next | Flow::Jump(_) | Flow::Either(_) => None,
         }
