@@ -1,40 +1,71 @@
 """Which public functions of the crates nothing calls that a program's `main` reaches.
 
-It goes by names: a call of a method is taken for a call of every method with this name, and so is
-what traits call. So each function that it finds is unused, and one may be unused that it doesn't
-find.
+It goes by the text. A call of a method may be one of each method with this name, as many arguments
+and a type that the calling file can have a value of; a method is reached only where its type is
+named by what is reached. So each function that it finds is unused, and one may be unused that it
+doesn't find.
 """
 import re
+from collections import defaultdict
 from dataclasses import dataclass
+from functools import cached_property
 
-from lib.names import TOP, read, sources
+from lib.names import SELF, TOP, parameters, parts, read, sources
 
-# Texts, comments and letters, in which a word is no call.
+# Texts, comments and letters, in which a word is no call; and contracts, which call nothing.
 NOISE = re.compile(r'//[^\n]*|"(?:[^"\\]|\\.)*"|\'(?:[^\'\\]|\\.)\'', re.DOTALL)
+GHOST = re.compile(r"^ *ghost use [^;]*;|\b(?:requires|ensures)\b[^{]*\{[^\n]*", re.MULTILINE)
 HEAD = re.compile(r"^( *)(pub(?:\([^)]*\))? )?(?:const )?fn (\w+)", re.MULTILINE)
 OWNER = re.compile(r"^(?:impl\b|(?:pub(?:\([^)]*\))? )?trait )[^{;]*\{", re.MULTILINE)
 CALL = re.compile(r"(\.)?(?:\b(\w+)::)?\b(\w+)(?:::<[^>]*>)?\(")
 ALIAS = re.compile(
     r"^(?:pub(?:\([^)]*\))? )?type (\w+)(?:<[^=]*>)? = (?:\w+::)*(\w+)", re.MULTILINE
 )
+TYPE = re.compile(r"^(?:pub(?:\([^)]*\))? )?(?:enum|struct) (\w+)([^{(;]*)", re.MULTILINE)
 # A function that is passed on, without its arguments.
 PASSED = re.compile(r"[(,]\s*(?:(\w+)::)?(\w+)\s*(?=[,)])")
 TEST = re.compile(r"#\[(?:cfg\(test\)|test)\]\s*(?:pub )?(?:mod (\w+);)?")
+USE = re.compile(r"^(?:pub(?:\([^)]*\))? )?use (\w+)(?:::(\w+))?", re.MULTILINE)
+MACRO = re.compile(r"^macro_rules! (\w+) (\{.*?^\})", re.MULTILINE | re.DOTALL)
+# What is given to a parameter that is a function, and a parameter that is none.
+GIVES_FUNCTION = re.compile(r"\s*(?:(?:move )?\||[A-Z]\w*(?:::\w+)?\s*$)")
+TAKES_NUMBER = re.compile(r".*: (?:usize|[iu]\d+)$", re.DOTALL)
 
 
 @dataclass
 class Function:
-    """A function: its type or trait, its name, and what its body says."""
+    """A function: its file, its type or trait, its name, its parameters, and what it says."""
 
+    path: str
     owner: str
     name: str
+    parameters: list
     is_public: bool
     of_trait: bool
     is_law: bool
     body: str
+    words: set
+
+    @property
+    def crate(self):
+        return crate_of(self.path)
+
+    def fits(self, given):
+        """Whether a call of a method gives what it takes; None is a function that is passed on."""
+        return given is None or (
+            len(given) == len(self.parameters)
+            and not any(
+                GIVES_FUNCTION.match(one) and TAKES_NUMBER.match(parameter)
+                for one, parameter in zip(given, self.parameters)
+            )
+        )
 
     def label(self):
         return f"{self.owner}::{self.name}" if self.owner else self.name
+
+
+def crate_of(path):
+    return path.split("/")[1]
 
 
 def owner_of(head):
@@ -61,7 +92,13 @@ def functions_in(path):
         before = [owner for at, owner in owners if head[1] and at < head.start()]
         owner, of_trait = before[-1] if before else ("", False)
         is_law = path.endswith("/laws.rt") or not body.strip("{} \n")
-        yield Function(owner, head[3], head[2] == "pub ", of_trait, is_law, body)
+        given = [it for it in parameters(text, head.end()) if not SELF.match(it)]
+        called = "".join(inside for name, inside in MACRO.findall(text) if f"{name}!(" in body)
+        words = set(re.findall(r"\w+", GHOST.sub("", whole)))
+        is_public = head[2] == "pub "
+        yield Function(
+            path, owner, head[3], given, is_public, of_trait, is_law, body + called, words
+        )
 
 
 class Reaching:
@@ -74,35 +111,134 @@ class Reaching:
             for name in TEST.findall(read(f"{TOP}/{path}"))
         }
         paths = [it for it in sources() if it not in tests and "_tests/" not in it]
+        self.tests = "\n".join(read(f"{TOP}/{it}") for it in sources() if it not in paths)
+        self.texts = {path: NOISE.sub("", read(f"{TOP}/{path}")) for path in paths}
         self.all = [it for path in paths for it in functions_in(path)]
-        self.types = dict(it for path in paths for it in ALIAS.findall(read(f"{TOP}/{path}")))
-        self.named = {}
+        self.named, self.fields, self.seen = defaultdict(list), {}, {}
+        self.types = defaultdict(set)
+        for text in self.texts.values():
+            for alias, meant in ALIAS.findall(text):
+                self.types[alias].add(meant)
         for it in self.all:
-            self.named.setdefault(it.name, []).append(it)
-        self.reached = self.reach([it for it in self.all if it.name == "main" or it.of_trait])
+            self.named[it.name].append(it)
+        for text in self.texts.values():
+            for found in TYPE.finditer(text):
+                inside = parts(text, found.end(), "([{ )]}") if found.end() < len(text) else []
+                self.fields[found[1]] = set(re.findall(r"\w+", " ".join(inside or [])))
+
+    @cached_property
+    def taken(self):
+        """The crates from which each crate takes something."""
+        found = defaultdict(set)
+        for path, text in self.texts.items():
+            found[crate_of(path)] |= {crate for crate, _ in USE.findall(text)}
+        return found
+
+    def crates_of(self, path):
+        """The crates whose types a file's values can have: of what it takes, and what that does."""
+        if path not in self.seen:
+            files, crates, ahead = set(), {crate_of(path)}, [path]
+            while ahead:
+                file = ahead.pop()
+                if file in files or file not in self.texts:
+                    continue
+                files.add(file)
+                folder = f"crates/{crate_of(path)}/src"
+                for crate, module in USE.findall(self.texts[file]):
+                    if crate in ("crate", "super"):
+                        within = [f"{folder}/{module}", f"{file.rsplit('/', 1)[0]}/{module}"]
+                        ahead += [it for it in self.texts if it.startswith((*within,))]
+                    else:
+                        crates |= self.below(crate)
+            self.seen[path] = crates
+        return self.seen[path]
+
+    def below(self, crate):
+        found, ahead = set(), [crate]
+        while ahead:
+            one = ahead.pop()
+            if one not in found:
+                found.add(one)
+                ahead += self.taken.get(one, ())
+        return found
 
     def called(self, by):
         """What a function calls, and what it passes on."""
-        calls = [(dot, of, name) for dot, of, name in CALL.findall(by.body)]
-        calls += [("", of, name) for of, name in PASSED.findall(by.body)]
-        for dot, of, name in calls:
-            of = by.owner if of == "Self" else self.types.get(of, of)
-            for it in self.named.get(name, []):
-                is_method = dot and it.owner
-                is_path = of and (it.owner in ("", of) or len(of) == 1)
-                if is_method or is_path or (not dot and not of and not it.owner):
+        calls = [(*it.groups(), it.end() - 1) for it in CALL.finditer(by.body)]
+        calls += [("", of, name, None) for of, name in PASSED.findall(by.body)]
+        for dot, of, name, at in calls:
+            of = by.owner if of == "Self" else of
+            types = {of, *self.types.get(of, ())}
+            near = [it for it in self.named.get(name, []) if it.crate in self.crates_of(by.path)]
+            given = at and parts(by.body, at, "([{ )]}")
+            for it in near:
+                is_method = dot and it.owner and it.fits(given)
+                is_path = of and (not it.owner or it.owner in types or len(of) == 1)
+                if is_method or is_path or (not dot and not of and self.is_plain(by, it)):
                     yield it
 
-    def reach(self, ahead):
-        found = {}
+    def is_plain(self, by, it):
+        """Whether a function can be called by its name alone: one of this file, or taken by it."""
+        if it.owner:
+            return False
+        if it.path == by.path:
+            return True
+        takes = re.findall(rf"^use (\w+)::[^;]*\b{it.name}\b", self.texts[by.path], re.MULTILINE)
+        own = it.crate == by.crate
+        return any(crate in ("crate", "super") if own else crate == it.crate for crate in takes)
+
+    @cached_property
+    def reached(self):
+        """What is reached: `main`, what that calls, and the traits' functions of the types that
+        are named there."""
+        waiting = defaultdict(list)
+        found, live = {}, set()
+        ahead = [it for it in self.all if it.name == "main"]
+        for it in self.all:
+            if it.of_trait:
+                waiting[it.owner].append(it)
         while ahead:
             it = ahead.pop()
-            if id(it) not in found:
-                found[id(it)] = it
-                ahead += self.called(it)
+            if id(it) in found:
+                continue
+            if it.owner and it.owner not in live and it.owner in self.fields:
+                waiting[it.owner].append(it)
+                continue
+            found[id(it)] = it
+            ahead += self.called(it)
+            for name in self.living(it.words | {it.owner}, live):
+                ahead += waiting.pop(name, [])
         return found
 
+    def living(self, words, live):
+        """The types among some words, with those of their fields, that weren't known to live."""
+        new, ahead = [], list(words)
+        while ahead:
+            word = ahead.pop()
+            if word not in live:
+                live.add(word)
+                new.append(word)
+                ahead += [*self.fields.get(word, ()), *self.types.get(word, ())]
+        return new
+
     def unused(self):
-        """The public functions that nothing reaches, by name; laws compute nothing."""
-        found = (it for it in self.all if it.is_public and id(it) not in self.reached)
-        return sorted({it.label() for it in found if not it.is_law})
+        """The public functions that nothing reaches, by crate; laws compute nothing."""
+        found = defaultdict(set)
+        for it in self.all:
+            if it.is_public and id(it) not in self.reached and not it.is_law:
+                found[it.crate].add(it.label())
+        return {crate: sorted(names) for crate, names in sorted(found.items())}
+
+    def uncalled(self):
+        """Those of them that no test calls either."""
+        names = [name for found in self.unused().values() for name in found]
+        ends = (name.rsplit(":", 1)[-1] for name in names)
+        calls = (re.search(rf"\b{end}(?:::<[^>]*>)?\(", self.tests) for end in ends)
+        return [name for name, call in zip(names, calls) if not call]
+
+    def table(self):
+        """The rows of docs/PROVED.md that say so."""
+        rows = ["| Crate | Functions |", "|---|---|"]
+        for crate, names in self.unused().items():
+            rows.append(f"| `{crate}` | {', '.join(f'`{name}`' for name in names)} |")
+        return "\n".join(rows)
