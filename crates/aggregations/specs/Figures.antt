@@ -1,4 +1,5 @@
 -- What an entry shows.
+-- Source: Dynamic Tracing Guide, "Aggregations" (avg).
 use Rattle.std.specs.Prelude.{ℕ, map, ℤ, pos, ◌*ℤ◌, int_div, Option, None, Some, slice_index}
 use Rattle.std.specs.List.{enumerate_from}
 use Rattle.aggregations.specs.declared.held.Held.{Held}

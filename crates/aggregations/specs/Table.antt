@@ -1,4 +1,5 @@
 -- What a table of aggregations stands for: a list of contributions.
+-- Source: Dynamic Tracing Guide, "Aggregations".
 use Rattle.std.specs.Prelude.{◌≡◌, ◌≢◌, ℕ, Bool, ◌==◌, ◌&&◌, ℤ, Option, None, Some}
 use Rattle.std.specs.Prelude.{List, [], filter, map, slice_get, sum_by}
 use Rattle.std.specs.{List.IsDistinct, Map.keys_of, Map.values_of, Map.lookup}

@@ -1,4 +1,5 @@
 -- Comparisons by the order of their operands.
+-- Source: Dynamic Tracing Guide, "Relational Operators".
 use Rattle.std.specs.Prelude.{Bool, true, false}
 use Rattle.d_values.specs.Vocabulary.{Ordering, ComparisonOperator}
 use Rattle.d_values.specs.declared.operators.ComparisonOperator.TheVariants.{Less, LessEqual}

@@ -1,4 +1,5 @@
 -- The widths of integers.
+-- Source: Dynamic Tracing Guide, "Data Types and Sizes".
 use Rattle.std.specs.Prelude.{ℕ, Bool, ◌==◌, ◌||◌}
 
 -- how many bits an integer may have

@@ -1,4 +1,5 @@
 -- Arrays of JSON.
+-- Source: RFC 8259, section 5 (arrays).
 use Rattle.std.specs.Prelude.{ℕ, List, [], ◌∷◌, ◌++◌, codes}
 use Rattle.data_lines.specs.Vocabulary.{flat_map}
 

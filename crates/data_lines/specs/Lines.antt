@@ -1,4 +1,5 @@
 -- The lines of a run.
+-- Source: RFC 8259, section 4 (objects).
 use Rattle.std.specs.Prelude.{◌≡◌, ℕ, ◌==◌, List, [], ◌∷◌, ◌++◌, codes, count_by, if◌then◌else◌}
 use Rattle.std.specs.Prelude.{Option, None, Some, bytes_eq}
 use Rattle.data_lines.specs.Vocabulary.{AggFn, Count, Sum, Min, Max, Avg, Quantize, Lquantize}

@@ -1,4 +1,5 @@
 -- Texts as JSON values.
+-- Source: RFC 8259, section 7 (strings).
 use Rattle.std.specs.Prelude.{ℕ, ◌/◌, ◌%◌, ◌==◌, ◌||◌, nat_lt, Bool, false, if◌then◌else◌}
 use Rattle.std.specs.Prelude.{List, [], ◌∷◌, ◌++◌, codes}
 use Rattle.data_lines.specs.Vocabulary.{digit_glyph, flat_map, is_utf8}

@@ -1,4 +1,5 @@
 -- Keys and what entries hold, as JSON values. Nothing is rounded or left out.
+-- Source: RFC 8259, sections 4 to 6 (objects, arrays and numbers).
 use Rattle.std.specs.Prelude.{◌≡◌, ℕ, ◌<◌, ◌^◌, ◌++◌, [], List, All, codes, filter, length}
 use Rattle.std.specs.Prelude.{nat_lt, ℤ, pos, negsuc, slice_index, IsSomeAnd}
 use Rattle.data_lines.specs.Vocabulary.{AggFn, Count, Sum, Min, Max, Avg, Scale, Powers, Steps}

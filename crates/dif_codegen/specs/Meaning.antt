@@ -1,4 +1,6 @@
 -- What compiled clauses mean: the objects are run, and all else is as for typed trees.
+-- Source: Cantrill, Shapiro and Leventhal, "Dynamic Instrumentation of Production Systems" (USENIX
+-- 2004), on DIF.
 use Rattle.std.specs.List.{list_any}
 use Rattle.std.specs.Prelude.{◌≡◌, ℕ, zero, suc, Bool, List, [], ◌∷◌, length, map}
 use Rattle.d_types.specs.Typed.{is_exit}

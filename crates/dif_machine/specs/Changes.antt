@@ -1,4 +1,6 @@
 -- What one instruction changes.
+-- Source: Cantrill, Shapiro and Leventhal, "Dynamic Instrumentation of Production Systems" (USENIX
+-- 2004), on DIF.
 use Rattle.std.specs.Prelude.{◌≡◌, ◌≢◌, ◌+◌, Bool, true, false, Option, Some, None}
 use Rattle.dif_validate.specs.Flow.{jump_target}
 use Rattle.dif_validate.specs.declared.row.Change.{Change}

@@ -1,4 +1,6 @@
 -- What changes from step to step, but for the variables.
+-- Source: Cantrill, Shapiro and Leventhal, "Dynamic Instrumentation of Production Systems" (USENIX
+-- 2004), on DIF.
 use Rattle.std.specs.Prelude.{ℕ, ◌+◌, List, [], ◌∷◌, Option, Some, None}
 use Rattle.dif_machine.specs.Vocabulary.{Comparison, KeyPart, Reg, put, Value, Int}
 

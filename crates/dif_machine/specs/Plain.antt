@@ -1,4 +1,6 @@
 -- The operators of instructions as arithmetic on whole numbers.
+-- Source: Cantrill, Shapiro and Leventhal, "Dynamic Instrumentation of Production Systems" (USENIX
+-- 2004), on DIF.
 use Rattle.std.specs.Prelude.{ℕ, ℤ, ◌+◌, ◌-◌, ◌*◌, ◌/◌, ◌%◌, ◌^◌, ◌==◌, if◌then◌else◌, Result, Ok}
 use Rattle.std.specs.Prelude.{Err, bit_and, bit_or, bit_xor, int_div, int_rem}
 use Rattle.std.specs.Int.{int_shr}

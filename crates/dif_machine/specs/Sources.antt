@@ -1,4 +1,6 @@
 -- Where values come from: the firing and the variables.
+-- Source: Cantrill, Shapiro and Leventhal, "Dynamic Instrumentation of Production Systems" (USENIX
+-- 2004), on DIF.
 use Rattle.std.specs.Prelude.{ℕ, List, [], ◌∷◌, Option, Some, None, ℤ, slice_get}
 use Rattle.dif_machine.specs.Vocabulary.{cast_unsigned, w64, Firing, KeyPart, Value, Int, Text, Var}
 use Rattle.dif_machine.specs.Vocabulary.{Variables, as_kind}

@@ -1,4 +1,6 @@
 -- What an instruction asks of the registers, the comparison and the tuple.
+-- Source: Cantrill, Shapiro and Leventhal, "Dynamic Instrumentation of Production Systems" (USENIX
+-- 2004), on DIF.
 use Rattle.std.specs.Prelude.{Bool, true, false, not, ◌&&◌, ◌||◌, List, [], ◌∷◌}
 use Rattle.dif_validate.specs.Vocabulary.{Asks, Nothing, Any, One, Two, Flow, Next, Jump, Either}
 use Rattle.dif_validate.specs.Vocabulary.{End, Function, Strlen, Strjoin, Instr, Kind, Text, Shape}

@@ -1,4 +1,6 @@
 -- Where an instruction leads, and what is known at the places that ways lead to.
+-- Source: Cantrill, Shapiro and Leventhal, "Dynamic Instrumentation of Production Systems" (USENIX
+-- 2004), on DIF.
 use Rattle.std.specs.Prelude.{ℕ, zero, suc, ◌+◌, Bool, true, false, ◌&&◌, nat_eq, if◌then◌else◌}
 use Rattle.std.specs.Prelude.{List, Option, Some, None, slice_get}
 use Rattle.dif_validate.specs.Vocabulary.{Flow, Next, Jump, Either, End, Instr, Shape}

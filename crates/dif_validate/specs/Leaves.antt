@@ -1,4 +1,6 @@
 -- What is known after an instruction.
+-- Source: Cantrill, Shapiro and Leventhal, "Dynamic Instrumentation of Production Systems" (USENIX
+-- 2004), on DIF.
 use Rattle.std.specs.Prelude.{List, [], ◌∷◌, ◌++◌, if◌then◌else◌, Option, Some, None, true}
 use Rattle.dif_validate.specs.Vocabulary.{Instr, Kind, Reg, Shape, at, put}
 use Rattle.dif_validate.specs.Vocabulary.{Change, Puts, Copies, ComparesTwo, Pushes, Empties}

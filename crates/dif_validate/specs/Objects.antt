@@ -1,4 +1,6 @@
 -- Objects, as values.
+-- Source: Cantrill, Shapiro and Leventhal, "Dynamic Instrumentation of Production Systems" (USENIX
+-- 2004), on DIF.
 use Rattle.std.specs.Prelude.{ℕ, List}
 use Rattle.dif_validate.specs.declared.instruction.Instr.{Instr}
 use Rattle.dif_validate.specs.declared.object.Difo.{Difo}

@@ -1,4 +1,6 @@
 -- What is known before an instruction, whichever way led there.
+-- Source: Cantrill, Shapiro and Leventhal, "Dynamic Instrumentation of Production Systems" (USENIX
+-- 2004), on DIF.
 use Rattle.std.specs.Prelude.{Bool, true, false, not, ◌&&◌, if◌then◌else◌, List, [], ◌∷◌, length}
 use Rattle.std.specs.Prelude.{nat_lt, Option, Some, None}
 use Rattle.dif_validate.specs.Vocabulary.{Kind, Number, Text, Reg, R0, R1, R2, R3, R4, R5, R6, R7}

@@ -1,4 +1,5 @@
 -- Texts that a field of CSV holds as they are.
+-- Source: RFC 4180, section 2, with the reading of the crate `csv`.
 use Rattle.std.specs.Prelude.{ℕ, Bool, List, length, nat_le, ◌&&◌, ◌==◌, not}
 use Rattle.std.specs.List.{list_all}
 

@@ -1,4 +1,5 @@
 -- What is written of a recording: a trace, row by row.
+-- Source: RFC 4180, section 2, with the writing of the crate `csv`.
 use Rattle.std.specs.Prelude.{◌≡◌, ◌≤◌, ◌∷◌, ◌++◌, ℕ, List, [], Option, codes, length, map, All}
 use Rattle.std.specs.Io.KnownBytes.{Appends}
 use Rattle.csv.specs.Writing.{default_writer, row_text}

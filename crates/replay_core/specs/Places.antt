@@ -1,4 +1,5 @@
 -- Which clauses run for a probe, by their places.
+-- Source: Dynamic Tracing Guide, "Probe Descriptions".
 use Rattle.std.specs.Prelude.{ℕ, ◌+◌, List, [], ◌∷◌, ◌++◌, filter, map, flat_map, replicate}
 use Rattle.d_parser.specs.declared.tree.Description.{Description}
 use Rattle.firing_reader.specs.declared.unit.Probe.{Probe}
