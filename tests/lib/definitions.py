@@ -1,8 +1,10 @@
 """The definitions of crates/*/specs as a reader meets them: what each names, and how long it is.
 
 It goes by names, not by the prover: a definition names what its text has of the names that its file
-declares or takes by `use`, through Vocabulary files too. What the code declares isn't followed.
+declares or takes by `use`, through Vocabulary files too. What the code declares is counted, and not
+followed.
 """
+import glob
 import re
 from dataclasses import dataclass, field
 
@@ -12,6 +14,10 @@ USE = re.compile(r"^(?:pub )?use ([^{\n]*(?:\{[^}]*\})?[^\n]*)$", re.MULTILINE)
 # A name, perhaps after the name of the module that it is of; or an operator.
 WORD = re.compile(r"(?:([^\W\d][\w']*)\.)?([^\W\d][\w']*)|([^\w\s()\[\]{}.,;]+)")
 
+# What the code declares: its crate, its module and its name; that of a variant is its type's.
+DECLARED = re.compile(
+    r"Rattle\.(\w+)\.specs\.declared\.([a-z_.]+)\.(?:TheConstants\.)?([A-Z]\w*)"
+)
 # What a block of `do` stands for, without naming it.
 STEPS = ("◌>>=◌", "◌>>◌")
 
@@ -124,13 +130,26 @@ class Definitions:
 
     def find(self, module, name):
         """The definition that a module means by a name, its own or one that it takes, if any."""
+        return self.of.get(self.place_of(module, name))
+
+    def place_of(self, module, name):
+        """Where a name of a module is declared: there, or where it is taken from."""
         for _ in range(8):
-            if (module, name) in self.of:
-                return self.of[module, name]
-            if name not in self.takes.get(module, {}):
-                return None
+            if (module, name) in self.of or name not in self.takes.get(module, {}):
+                break
             module, name = self.takes[module][name]
-        return None
+        return module, name
+
+    def declared_by_code(self, found):
+        """What some definitions name of what the code declares: its crate, module and name."""
+        places = (
+            self.place_of(module_of(it.file), name)
+            for it in found
+            for pair in it.words()
+            for name in pair
+        )
+        heads = (DECLARED.match(f"{module}.{name}") for module, name in places)
+        return {head.groups() for head in heads if head}
 
     def named_by(self, it):
         """The definitions that one names, but for itself."""
@@ -150,6 +169,24 @@ class Definitions:
                 found[id(it)] = it
                 ahead += reversed(self.named_by(it))
         return list(found.values())
+
+
+def code_lines(places):
+    """How many lines the code has of what it declares in some places."""
+    return sum(map(lines_in_code, places))
+
+
+def lines_in_code(place):
+    """The lines of a type or a constant of the code, but for comments and attributes."""
+    crate, module, name = place
+    file = module.split(".")[-1]
+    for path in glob.glob(f"{TOP}/crates/{crate}/src/**/{file}.rt", recursive=True):
+        head = rf"^(?:pub(?:\(\w+\))? )?(?:enum|struct|const|type) {name}\b"
+        found = re.search(rf"(?ms){head}(?:[^;{{]*;$|.*?^\}}$)", read(path))
+        if found:
+            lines = (line.strip() for line in found[0].splitlines())
+            return sum(bool(line) and not line.startswith(("//", "#[", "ghost")) for line in lines)
+    return 0
 
 
 def count(found):
