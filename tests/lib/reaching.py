@@ -30,6 +30,8 @@ MACRO = re.compile(r"^macro_rules! (\w+) (\{.*?^\})", re.MULTILINE | re.DOTALL)
 # What is given to a parameter that is a function, and a parameter that is none.
 GIVES_FUNCTION = re.compile(r"\s*(?:(?:move )?\||[A-Z]\w*(?:::\w+)?\s*$)")
 TAKES_NUMBER = re.compile(r".*: (?:usize|[iu]\d+)$", re.DOTALL)
+# What CONTRIBUTING.md asks of a function.
+MOST_LINES, MOST_PARAMETERS = 40, 5
 
 
 @dataclass
@@ -40,6 +42,7 @@ class Function:
     owner: str
     name: str
     parameters: list
+    takes_self: bool
     is_public: bool
     of_trait: bool
     is_law: bool
@@ -62,6 +65,11 @@ class Function:
 
     def label(self):
         return f"{self.owner}::{self.name}" if self.owner else self.name
+
+    def is_large(self):
+        """Whether it has more lines, or takes more, than a function should."""
+        lines = [line for line in self.body.split("\n") if line.strip(" {}")]
+        return len(lines) > MOST_LINES or len(self.parameters) + self.takes_self > MOST_PARAMETERS
 
 
 def crate_of(path):
@@ -92,12 +100,22 @@ def functions_in(path):
         before = [owner for at, owner in owners if head[1] and at < head.start()]
         owner, of_trait = before[-1] if before else ("", False)
         is_law = path.endswith("/laws.rt") or not body.strip("{} \n")
-        given = [it for it in parameters(text, head.end()) if not SELF.match(it)]
+        all_given = parameters(text, head.end())
+        given = [it for it in all_given if not SELF.match(it)]
         called = "".join(inside for name, inside in MACRO.findall(text) if f"{name}!(" in body)
         words = set(re.findall(r"\w+", GHOST.sub("", whole)))
         is_public = head[2] == "pub "
         yield Function(
-            path, owner, head[3], given, is_public, of_trait, is_law, body + called, words
+            path,
+            owner,
+            head[3],
+            given,
+            len(given) < len(all_given),
+            is_public,
+            of_trait,
+            is_law,
+            body + called,
+            words,
         )
 
 
