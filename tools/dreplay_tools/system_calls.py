@@ -1,5 +1,16 @@
 """Names of system calls by their numbers, which raw_syscalls of perf tells alone."""
 
+# The calls from 424 on, which all of these machines number alike.
+SHARED = (
+    "pidfd_send_signal io_uring_setup io_uring_enter io_uring_register open_tree move_mount "
+    "fsopen fsconfig fsmount fspick pidfd_open clone3 close_range openat2 pidfd_getfd "
+    "faccessat2 process_madvise epoll_pwait2 mount_setattr quotactl_fd "
+    "landlock_create_ruleset landlock_add_rule landlock_restrict_self memfd_secret "
+    "process_mrelease futex_waitv set_mempolicy_home_node cachestat fchmodat2 "
+    "map_shadow_stack futex_wake futex_wait futex_requeue statmount listmount "
+    "lsm_get_self_attr lsm_set_self_attr lsm_list_modules mseal setxattrat getxattrat "
+    "listxattrat removexattrat open_tree_attr file_getattr file_setattr"
+)
 # Of each kind of machine: the first number of a stretch, and the names from it on.
 X86_64 = {
     0: "read write open close stat fstat lstat poll lseek mmap mprotect munmap brk rt_sigaction "
@@ -41,14 +52,7 @@ X86_64 = {
     "finit_module sched_setattr sched_getattr renameat2 seccomp getrandom memfd_create "
     "kexec_file_load bpf execveat userfaultfd membarrier mlock2 copy_file_range preadv2 "
     "pwritev2 pkey_mprotect pkey_alloc pkey_free statx io_pgetevents rseq uretprobe",
-    424: "pidfd_send_signal io_uring_setup io_uring_enter io_uring_register open_tree move_mount "
-    "fsopen fsconfig fsmount fspick pidfd_open clone3 close_range openat2 pidfd_getfd "
-    "faccessat2 process_madvise epoll_pwait2 mount_setattr quotactl_fd "
-    "landlock_create_ruleset landlock_add_rule landlock_restrict_self memfd_secret "
-    "process_mrelease futex_waitv set_mempolicy_home_node cachestat fchmodat2 "
-    "map_shadow_stack futex_wake futex_wait futex_requeue statmount listmount "
-    "lsm_get_self_attr lsm_set_self_attr lsm_list_modules mseal setxattrat getxattrat "
-    "listxattrat removexattrat open_tree_attr file_getattr file_setattr",
+    424: SHARED,
 }
 # aarch64, riscv64 and loongarch64
 GENERIC = {
@@ -86,14 +90,7 @@ GENERIC = {
     "sched_setattr sched_getattr renameat2 seccomp getrandom memfd_create bpf execveat "
     "userfaultfd membarrier mlock2 copy_file_range preadv2 pwritev2 pkey_mprotect pkey_alloc "
     "pkey_free statx io_pgetevents rseq kexec_file_load",
-    424: "pidfd_send_signal io_uring_setup io_uring_enter io_uring_register open_tree move_mount "
-    "fsopen fsconfig fsmount fspick pidfd_open clone3 close_range openat2 pidfd_getfd "
-    "faccessat2 process_madvise epoll_pwait2 mount_setattr quotactl_fd "
-    "landlock_create_ruleset landlock_add_rule landlock_restrict_self memfd_secret "
-    "process_mrelease futex_waitv set_mempolicy_home_node cachestat fchmodat2 "
-    "map_shadow_stack futex_wake futex_wait futex_requeue statmount listmount "
-    "lsm_get_self_attr lsm_set_self_attr lsm_list_modules mseal setxattrat getxattrat "
-    "listxattrat removexattrat open_tree_attr file_getattr file_setattr",
+    424: SHARED,
 }
 MACHINES = {"x86_64": X86_64, "aarch64": GENERIC, "riscv64": GENERIC, "loongarch64": GENERIC}
 
