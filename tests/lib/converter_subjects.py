@@ -1,61 +1,24 @@
 """The converters and the recorder as subjects of tests/fuzz_tools, and what a trace has to be."""
-import csv
-import io
 import os
 import re
 
 from lib import case_files, harness
 from lib.tool_fuzzing import Round, Subject
+from plain.interpreter import trace as reading
+from plain.interpreter.refusals import Refused
 
 LINES = 60  # of a recording that a round begins with
-HEADER = "number,cpu,thread,pid,execname,time,provider,module,function,name," + ",".join(
-    f"arg{n}" for n in range(10)
-)
 HERE_DOCUMENT = re.compile(rb"<<\s*'(\w+)'[^\n]*\n(.*?)\n\1\n", re.DOTALL)
-# The columns that hold a number, and the least and the greatest.
-RANGES = {
-    0: (1, 2**62),
-    1: (0, 2**31 - 1),
-    2: (1, 2**31 - 1),
-    3: (0, 2**31 - 1),
-    5: (0, 2**64 - 1),
-}
-TEXTS = (4, 6, 7, 8, 9)
 NOTHING_CONVERTED = 3
 
 
 def trace_fault(trace):
-    """Says what of a trace dreplay would refuse, by docs/TRACE.md, or nothing."""
+    """Says how the plain interpreter refuses a trace, or nothing."""
     try:
-        rows = list(csv.reader(io.StringIO(trace.decode("utf-8"), newline="")))
-    except (UnicodeDecodeError, csv.Error) as why:
-        return f"the trace is no CSV: {why}"
-    if not rows or ",".join(rows[0]) != HEADER:
-        return "the trace has no header"
-    before = 0
-    for place, row in enumerate(rows[1:], 1):
-        if len(row) != 20:
-            return f"row {place} has {len(row)} fields"
-        if bad := next((column for column in range(20) if not fits(column, row[column])), None):
-            return f"row {place} has {row[bad][:100]!r} in column {bad + 1}"
-        if row[6] == "dtrace" or int(row[0]) <= before:
-            return f"row {place} is out of order, or of dtrace"
-        before = int(row[0])
+        reading.read(trace)
+    except Refused as why:
+        return why.message.decode().strip()
     return ""
-
-
-def fits(column, shown):
-    """Whether a field is one that its column may hold."""
-    if column in TEXTS:
-        return len(shown.encode()) <= 255 and "\0" not in shown
-    if column in RANGES:
-        least, most = RANGES[column]
-        return bool(re.fullmatch(r"\d{1,20}", shown, re.ASCII)) and least <= int(shown) <= most
-    return (
-        shown == ""
-        or bool(re.fullmatch(r"-?\d{1,19}", shown, re.ASCII))
-        and -(2**63) <= int(shown) < 2**63
-    )
 
 
 def converter_fault(result, trial):
