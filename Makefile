@@ -10,7 +10,7 @@
 #   make check      what needs no proof, in under two minutes: layouts and documents, and cases and
 #                   examples over the program that is built; says what it left out
 #   make test       the gate: every proof from nothing, the edits that must fail, then every case
-#                   over both programs. With INSTALL=1 it installs commands that some tests need
+#                   over both builds. With INSTALL=1 it installs commands that some tests need
 #   make cases      builds dreplay, and runs the cases and the examples over it, and those of the
 #                   converter of strace's recordings
 #   make examples   builds dreplay, and runs the examples alone: each answer is compared with the
