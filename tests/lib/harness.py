@@ -215,18 +215,10 @@ def add_names(made):
     made.add_argument("names", nargs="*", metavar="NAME", help=names)
 
 
-def programs_and_names(doc):
-    """Parses a test's command line by its doc: the programs to run, and the names of cases and
-    examples."""
-    made = parser_of_programs(doc)
-    add_names(made)
-    args = made.parse_args()
-    return programs_of(args), args.names
-
-
 def all_programs_and_names(doc, tally):
-    """The same of a test that runs dreplay-data and dreplay-rows too: their programs come second
-    and third. Where any is given, only what is given is run."""
+    """Parses a test's command line by its doc: the programs to run, of dreplay, dreplay-data and
+    dreplay-rows, and the names of cases and examples. Where a program is given, only what is given
+    is run."""
     made = parser_of_all_programs(doc)
     program = "a dreplay-rows to run likewise"
     made.add_argument("--rows-program", action="append", metavar="PATH", help=program)
