@@ -207,8 +207,8 @@ TYPE = [
             " a text, or too many or too few of them."
         ),
         (
-            "The same fault is a text as predicate, an action inside an expression, and a second"
-            " declaration of a variable, or one after its assignment."
+            "A text as predicate is this fault too, and so is an action inside an expression, and a"
+            " second declaration of a variable, or one after its assignment."
         ),
         (
             '`1 + execname`, `pid == "sh"`',
