@@ -9,7 +9,7 @@ import time
 
 from . import cache
 from .ends import Failure, reason, shortened
-from .places import program
+from .programs import program
 from .recordings import Recording
 
 SKIPPED = 1  # the status of a converter that skipped lines

@@ -1,9 +1,8 @@
 """From a recording of strace to a trace in a file."""
+import collections
 import os
-from dataclasses import dataclass
 
 from . import inputs, rows_program, strace
-from .folders import merged
 from .output import Output
 from .strace import Shape
 from .strangers import NOTHING_CONVERTED, refuse_strangers
@@ -12,23 +11,23 @@ SOME_SKIPPED = 1
 LINES_TO_LOOK_AT = 1000  # the first lines, in which the shape of all is looked for
 
 
-@dataclass
-class Options:
-    """The options of dreplay-from-strace."""
-
-    name: str = "unknown"
-    only: str = None
-    since: int = None
-    rows: int = None
-    threads: str = None
-    out: str = None
-    split: int = None
-    from_zero: bool = False
-    paths: bool = False
-    ppid: bool = False
-    whole: bool = False  # a line that is cut off ends it
-    jobs: int = None  # processes that read it; as many as there are processors for a large one
-    python: bool = False  # without the program dreplay-rows
+OPTIONS = {
+    "name": "unknown",
+    "only": None,
+    "since": None,
+    "rows": None,
+    "threads": None,
+    "out": None,
+    "split": None,
+    "from_zero": False,
+    "paths": False,
+    "ppid": False,
+    "whole": False,  # a line that is cut off ends it
+    "jobs": None,  # processes that read it; as many as there are processors for a large one
+    "python": False,  # without the program dreplay-rows
+}
+# The options of dreplay-from-strace. The module dataclasses would take longer to load.
+Options = collections.namedtuple("Options", OPTIONS, defaults=OPTIONS.values())
 
 
 def shape_of(recording):
@@ -78,9 +77,16 @@ def report(conversion, output, tool):
     return SOME_SKIPPED if skipped else 0
 
 
+def of_folder(path):
+    """The recording that the files of a folder make."""
+    from .folders import merged  # which is seldom needed
+
+    return merged(path)
+
+
 def convert(path, options, tool):
     """Converts the recording PATH, and returns the exit status."""
-    recording = merged(path) if os.path.isdir(path) else inputs.opened(path)
+    recording = of_folder(path) if os.path.isdir(path) else inputs.opened(path)
     refuse_strangers(recording, "strace")
     shape, output = shape_of(recording), Output(options.out, options.split)
     try:

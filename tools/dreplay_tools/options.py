@@ -2,8 +2,6 @@
 import argparse
 import re
 
-from .system_calls import MACHINES
-
 MOST_PARTS, MOST_JOBS = 1000, 64
 
 
@@ -54,6 +52,8 @@ def calls(shown):
 
 def machine(shown):
     """A machine whose numbers of system calls are known, or none."""
+    from .system_calls import MACHINES  # which most tools don't need
+
     if shown not in (*MACHINES, "none"):
         known = ", ".join(MACHINES)
         raise argparse.ArgumentTypeError(

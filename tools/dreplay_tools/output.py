@@ -12,6 +12,7 @@ from .trace import HEADER, MOST_ROWS
 
 UMASK = os.umask(0)
 os.umask(UMASK)
+COPIED = 1 << 20  # bytes of a trace at a time
 MOST_OF_A_NAME = 50  # letters of a file's name in that of an unfinished one
 
 
@@ -85,6 +86,15 @@ def named(path):
         raise
 
 
+def end_of(file):
+    """The place of a file where it ends, if what is written there can be taken back; else none."""
+    with contextlib.suppress(OSError):
+        place, status = file.tell(), os.fstat(file.fileno())
+        if stat.S_ISREG(status.st_mode) and status.st_size == place:
+            return place
+    return None
+
+
 class Sink:
     """A trace as it is written: to a file, or to standard output."""
 
@@ -106,17 +116,19 @@ class Sink:
         """Has `write` write the whole trace, with its header, to a file. Returns whether it did;
         what it wrote otherwise is taken back.
         """
-        with contextlib.ExitStack() as closed:
-            is_own = self.replaced is not None and self.replaced.part is not None
-            file = self.file if is_own else closed.enter_context(tempfile.TemporaryFile())
+        place = end_of(self.file)
+        if place is not None:
+            self.begun = write(self.file)
+            if not self.begun:
+                self.file.seek(place)
+                self.file.truncate()
+            return self.begun
+        with tempfile.TemporaryFile() as file:
             self.begun = write(file)
-            if is_own and not self.begun:
-                file.seek(0)
-                file.truncate()
-            elif self.begun and not is_own:
+            if self.begun:
                 file.seek(0)
                 with named(self.path):
-                    shutil.copyfileobj(file, self.file)
+                    shutil.copyfileobj(file, self.file, COPIED)
         return self.begun
 
     def keep(self):

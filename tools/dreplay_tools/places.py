@@ -1,24 +1,15 @@
 """Which token of a script dreplay refuses: it is asked again about the script with one token on
 each line.
 """
-import os
 import re
-import shutil
 import subprocess
-import sys
 import tempfile
 
+from .programs import program
 from .tokens import NUMBER, value
 
 SECONDS = 10
 ESCAPES = re.compile(r'\\[^abtnvfr"\'?\\]')
-
-
-def program(name="dreplay"):
-    """The program of a name: the one beside this tool, else that of PATH; none where there is none.
-    """
-    beside = os.path.join(os.path.dirname(os.path.realpath(sys.argv[0])), name)
-    return beside if os.access(beside, os.X_OK) else shutil.which(name)
 
 
 def refused_token(refusal, line, tokens):

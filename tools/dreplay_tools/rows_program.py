@@ -1,18 +1,17 @@
 """The program dreplay-rows, which converts what dreplay-record records in a third of the time. It
 stops where it doesn't know a line, and then the recording is converted here.
 """
-import dataclasses
 import os
 import subprocess
 
-from .places import program
+from .programs import program
 
 NAME = "dreplay-rows"
 
 
 def knows(options, shape):
     """Whether the program may convert recordings of a shape under these options."""
-    asked = dataclasses.replace(options, out=None, whole=False)
+    asked = options._replace(out=None, whole=False)
     return asked == type(options)() and shape.has_threads and shape.has_dates
 
 
