@@ -1,8 +1,8 @@
 -- A trace with one more row.
 use Rattle.std.proofs.Common.{◌≤◌, ◌+◌, ◌++◌, ℕ, List, refl, sym, subst, arith}
 use Rattle.recording_rows.specs.declared.row.Row.{Row}
+use Rattle.recording_rows.specs.Steps.Blocks.{IsWritten}
 use Rattle.recording_rows.specs.Steps.Rows.{IsRow, line_of, row_fields}
-use Rattle.recording_rows.specs.Written.{IsWritten}
 use Rattle.recording_rows.proofs.Firings.{firing_of, row_firing, row_plain, row_writes}
 use Rattle.recording_rows.proofs.Lines.{line_text}
 use Rattle.recording_rows.proofs.More.{one_more}

@@ -4,3 +4,4 @@ pub mod Firings
 pub mod More
 pub mod Pieces
 pub mod Added
+pub mod Sent

@@ -1,5 +1,6 @@
 -- What csv reads of the rows that are written.
-use Rattle.std.proofs.Common.{◌≡◌, ◌<◌, ◌≤◌, ◌+◌, ℕ, zero, suc, true, cond, List, [], ◌∷◌, ◌++◌, length, refl, sym, ap, ◌∙◌, arith, length-append, map}
+use Rattle.std.proofs.Common.{◌≡◌, ◌<◌, ◌≤◌, ◌+◌, ℕ, zero, suc, true, cond, List, [], ◌∷◌, ◌++◌, length, refl, sym, ap, ◌∙◌, arith, length-append, map, subst}
+use Rattle.std.specs.Prelude.{codes}
 use Rattle.std.specs.List.{AllZip, list_all}
 use Rattle.std.proofs.lemmas.Bool.{and_parts}
 use Rattle.csv.specs.Machine.{next_record}
@@ -12,7 +13,8 @@ use Rattle.firing_reader.specs.declared.firing.Firing.{Firing}
 use Rattle.firing_reader.specs.Written.{WritesFiring, WritesTrace}
 use Rattle.recording_rows.specs.Steps.Rows.{after_commas, line_of}
 use Rattle.recording_rows.specs.Words.{is_plain_byte}
-use Rattle.recording_rows.specs.Written.{IsWritten, header, rows_text}
+use Rattle.firing_reader.specs.Trace.{IsTrace}
+use Rattle.recording_rows.specs.Steps.Blocks.{IsHeading, IsWritten, rows_text}
 use Rattle.recording_rows.proofs.Plain.{as_it_is}
 
 -- plain fields are written as they are
@@ -49,18 +51,23 @@ full_back (fields ∷ rows) [] each = absurd each
 full_back ([] ∷ rows) (f ∷ fs) each = absurd (omega (arith, each.0.columns))
 full_back ((x ∷ xs) ∷ rows) (f ∷ fs) each = ap (λ (l : List (List (List ℕ))). (x ∷ xs) ∷ l) (full_back rows fs each.1)
 
-no_mark : (rows : List (List (List ℕ))) → strip_bom (rows_text (header ∷ rows)) ≡ rows_text (header ∷ rows)
-unfolding strip_bom fields_text is_blank
+-- the fields of the header
+unfoldable pub columns : List (List ℕ)
+columns = codes "number" ∷ codes "cpu" ∷ codes "thread" ∷ codes "pid" ∷ codes "execname"
+    ∷ codes "time" ∷ codes "provider" ∷ codes "module" ∷ codes "function" ∷ codes "name"
+    ∷ codes "arg0" ∷ codes "arg1" ∷ codes "arg2" ∷ codes "arg3" ∷ codes "arg4"
+    ∷ codes "arg5" ∷ codes "arg6" ∷ codes "arg7" ∷ codes "arg8" ∷ codes "arg9" ∷ []
+
+no_mark : (rows : List (List (List ℕ))) → strip_bom (line_of columns ++ rows_text rows) ≡ rows_text (columns ∷ rows)
+unfolding strip_bom fields_text is_blank columns
 no_mark rows = refl
 
-pub writes_trace : (bytes : List ℕ) (count : ℕ) → IsWritten bytes count → (fs : List Firing) × WritesTrace bytes fs
-unfolding field_at
-writes_trace bytes count w =
-    let text = rows_text (header ∷ w.rows) in
-    let read : records default_config text ≡ header ∷ w.rows = reads_back (length text + 1) (header ∷ w.rows) (omega arith) ∙ ap (λ (l : List (List (List ℕ))). header ∷ l) (full_back w.rows w.firings w.each) in
-    let has : records default_config (strip_bom bytes) ≡ header ∷ w.rows = ap (λ (l : List ℕ). records default_config (strip_bom l)) w.text ∙ ap (records default_config) (no_mark w.rows) ∙ read in
-    (w.firings, record { header = header; rows = w.rows; has = has; named = refl; each = w.each; trace = w.trace })
+pub heads : IsHeading (line_of columns)
+unfolding field_at columns
+heads rows fs each trace =
+    let text = rows_text (columns ∷ rows) in
+    let read : records default_config text ≡ columns ∷ rows = reads_back (length text + 1) (columns ∷ rows) (omega arith) ∙ ap (λ (l : List (List (List ℕ))). columns ∷ l) (full_back rows fs each) in
+    record { header = columns; rows = rows; has = ap (records default_config) (no_mark rows) ∙ read; named = refl; each = each; trace = trace }
 
-pub header_text : rows_text (header ∷ []) ≡ line_of header
-unfolding fields_text is_blank
-header_text = refl
+pub writes_trace : (bytes : List ℕ) (count : ℕ) → IsWritten bytes count → (fs : List Firing) × WritesTrace bytes fs
+writes_trace bytes count w = (w.firings, subst (λ (l : List ℕ). WritesTrace l w.firings) (sym w.text) (w.is_heading w.rows w.firings w.each w.trace))

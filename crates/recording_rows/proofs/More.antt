@@ -8,7 +8,7 @@ use Rattle.csv.specs.Writing.{default_writer, row_text}
 use Rattle.firing_reader.specs.Firings.{IsFiring, number_of}
 use Rattle.firing_reader.specs.declared.firing.Firing.{Firing}
 use Rattle.firing_reader.specs.Written.{WritesFiring}
-use Rattle.recording_rows.specs.Written.{IsWritten, header, rows_text}
+use Rattle.recording_rows.specs.Steps.Blocks.{IsHeading, IsWritten, rows_text}
 
 text_push : (rows : List (List (List ℕ))) (row : List (List ℕ)) → rows_text (rows ++ row ∷ []) ≡ rows_text rows ++ row_text default_writer row
 text_push [] row = append-nil (row_text default_writer row)
@@ -39,9 +39,13 @@ rises_push (x ∷ y ∷ xs) count n rises below lt =
 pub one_more : (bytes : List ℕ) (count : ℕ) (fields : List (List ℕ)) (f : Firing) → IsWritten bytes count → count + 1 ≤ 1_000_000 → f.number ≡ count + 1 → WritesFiring fields f → IsFiring f
     → IsWritten (bytes ++ row_text default_writer fields) (count + 1)
 one_more bytes count fields f w few is writes firing = record {
+  heading = w.heading;
+  is_heading = w.is_heading;
   rows = w.rows ++ fields ∷ [];
   firings = w.firings ++ f ∷ [];
-  text = ap (λ (l : List ℕ). l ++ row_text default_writer fields) w.text ∙ sym (text_push (header ∷ w.rows) fields);
+  text = ap (λ (l : List ℕ). l ++ row_text default_writer fields) w.text
+      ∙ append_assoc w.heading (rows_text w.rows) (row_text default_writer fields)
+      ∙ ap (λ (l : List ℕ). w.heading ++ l) (sym (text_push w.rows fields));
   each = zip_push WritesFiring w.rows w.firings fields f w.each writes;
   trace = record {
     rises = rw (map-append number_of w.firings (f ∷ [])) (rises_push (map number_of w.firings) count f.number w.trace.rises w.below (omega (arith, is)));
@@ -52,11 +56,13 @@ one_more bytes count fields f w few is writes firing = record {
   few = omega (arith, w.few, length-append w.firings (f ∷ []));
 }
 
-pub none_yet : (bytes : List ℕ) → bytes ≡ rows_text (header ∷ []) → IsWritten bytes 0
-none_yet bytes is = record {
+pub none_yet : (bytes : List ℕ) → IsHeading bytes → IsWritten bytes 0
+none_yet bytes heads = record {
+  heading = bytes;
+  is_heading = heads;
   rows = [];
   firings = [];
-  text = is;
+  text = sym (append-nil bytes);
   each = tt;
   trace = record { rises = λ k within. absurd (omega (arith, within)); few = omega arith; firings = All-nil IsFiring };
   below = All-nil (λ m. m ≤ 0);

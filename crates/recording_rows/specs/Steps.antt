@@ -1,3 +1,4 @@
 -- What private functions alone say of their steps. No contract for callers rests on these
 -- definitions.
 pub mod Rows
+pub mod Blocks

@@ -1,6 +1,6 @@
 //! The arguments of calls.
 
-use crate::bytes::cut;
+use crate::bytes::after_spaces;
 use crate::marks::Marks;
 use crate::numbers::integer;
 use crate::row::{ARGUMENTS, Arguments};
@@ -10,31 +10,38 @@ const HERE: &[u8] = b"AT_FDCWD";
 
 const HERE_NUMBER: i64 = -100;
 
-/// The arguments of a call that shows numbers alone.
-pub(crate) fn numbers(shown: &[u8]) -> Option<Arguments> {
+// A number that strace shows by a name.
+const NULL: &[u8] = b"NULL";
+
+/// The arguments of a call that shows numbers alone, and what comes after the bracket; nothing
+/// where that is missing.
+pub(crate) fn numbers(shown: &[u8]) -> Option<(Arguments, Option<&[u8]>)> {
     let mut arguments = [None; ARGUMENTS];
-    let mut is_first = true;
-    for (slot, argument) in arguments.iter_mut().zip(shown.split(|byte| *byte == b',')) {
-        if !is_first && argument.first() != Some(&b' ') {
-            return None;
+    let mut rest = shown;
+    for slot in &mut arguments {
+        let (value, after) = number(after_spaces(rest))?;
+        *slot = value;
+        match after_spaces(after) {
+            [] => return Some((arguments, None)),
+            [b')', after @ ..] => return Some((arguments, Some(after))),
+            [b',', b' ', more @ ..] => rest = more,
+            _ => return None,
         }
-        is_first = false;
-        let argument = argument.trim_ascii();
-        *slot = if argument.is_empty() {
-            None
-        } else {
-            Some(number(argument)?)
-        };
     }
-    Some(arguments)
+    None
 }
 
-// A number, of which strace shows one by a name.
-fn number(shown: &[u8]) -> Option<i64> {
-    if shown == b"NULL".as_slice() {
-        return Some(0);
+// The argument at the front, which may be missing, and what comes after it.
+#[inline(always)]
+fn number(shown: &[u8]) -> Option<(Option<i64>, &[u8])> {
+    match shown {
+        [] | [b',' | b')', ..] => Some((None, shown)),
+        [b'N', ..] => Some((Some(0), shown.strip_prefix(NULL)?)),
+        _ => {
+            let (value, rest) = integer(shown)?;
+            Some((Some(value), rest))
+        }
     }
-    integer(shown)
 }
 
 /// The arguments of a call that shows some by names, the first of them as it is shown, and what
@@ -79,7 +86,7 @@ fn named_argument(shown: &[u8]) -> Option<Option<i64>> {
     if shown == HERE {
         return Some(Some(HERE_NUMBER));
     }
-    if shown == b"NULL".as_slice() {
+    if shown == NULL {
         return Some(Some(0));
     }
     match shown.first() {
@@ -90,12 +97,16 @@ fn named_argument(shown: &[u8]) -> Option<Option<i64>> {
 
 // A number that may have a comment after it.
 fn commented(shown: &[u8]) -> Option<i64> {
-    let Some((value, comment)) = cut(shown, b' ') else {
-        return integer(shown);
-    };
-    let inner = comment.trim_ascii().strip_prefix(b"/*")?;
+    let (value, comment) = integer(shown)?;
+    if comment.is_empty() {
+        return Some(value);
+    }
+    let inner = comment
+        .strip_prefix(b" ")?
+        .trim_ascii()
+        .strip_prefix(b"/*")?;
     if inner.ends_with(b"*/") {
-        integer(value)
+        Some(value)
     } else {
         None
     }

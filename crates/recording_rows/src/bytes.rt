@@ -1,10 +1,27 @@
 //! Bytes up to a mark and after it, and which of them can be seen.
 
+use memchr::memchr;
+
 /// The bytes before the first such byte, and those after it, where there is one.
 #[inline]
 pub(crate) fn cut(bytes: &[u8], mark: u8) -> Option<(&[u8], &[u8])> {
-    let at = bytes.iter().position(|byte| *byte == mark)?;
+    let at = memchr(mark, bytes)?;
     Some((&bytes[..at], &bytes[at + 1..]))
+}
+
+/// What comes after the spaces at the front.
+#[inline(always)]
+pub(crate) fn after_spaces(bytes: &[u8]) -> &[u8] {
+    match bytes {
+        [b' ', rest @ ..] => after_more_spaces(rest),
+        _ => bytes,
+    }
+}
+
+// The same, where there were some.
+fn after_more_spaces(bytes: &[u8]) -> &[u8] {
+    let count = bytes.iter().position(|byte| *byte != b' ');
+    &bytes[count.unwrap_or(bytes.len())..]
 }
 
 /// Whether there is nothing but spaces and what can be seen.

@@ -1,7 +1,7 @@
 //! Calls: what they returned, and what they change.
 
 use crate::arguments::{Named, by_names, numbers};
-use crate::bytes::{cut, is_visible};
+use crate::bytes::{after_spaces, cut, is_visible};
 use crate::errors::error_number;
 use crate::ids::Id;
 use crate::numbers::{integer, nanoseconds};
@@ -42,7 +42,8 @@ pub(crate) struct Call<'a> {
 
 /// Whether strace shows a call's arguments by names: it begins a thread, a process or a program.
 pub(crate) fn is_named(name: &[u8]) -> bool {
-    is_birth(name) || matches!(name, b"execve" | b"execveat" | b"clone2")
+    matches!(name.first(), Some(b'c' | b'e' | b'f' | b'v'))
+        && (is_birth(name) || matches!(name, b"execve" | b"execveat" | b"clone2"))
 }
 
 // Whether a call begins a thread or a process.
@@ -58,17 +59,15 @@ pub(crate) fn call_of<'a>(
     whole: &[u8],
 ) -> Option<(Arguments, Call<'a>)> {
     if !is_named(name.bytes) {
-        let (arguments, rest) = cut(whole, b')')?;
-        let outcome = outcome_of(rest)?;
+        let (arguments, rest) = numbers(whole)?;
+        let outcome = outcome_of(rest?)?;
         let change = Change::None;
-        return Some((
-            numbers(arguments)?,
-            Call {
-                name,
-                outcome,
-                change,
-            },
-        ));
+        let call = Call {
+            name,
+            outcome,
+            change,
+        };
+        return Some((arguments, call));
     }
     if !is_visible(whole) {
         return None;
@@ -94,14 +93,15 @@ pub(crate) fn call_of<'a>(
 
 // What is shown after the arguments: ` = RESULT ERROR (TEXT) <DURATION>`.
 fn outcome_of(shown: &[u8]) -> Option<Outcome> {
-    let shown = shown.trim_ascii_start().strip_prefix(b"= ")?;
-    let (shown, took) = without_duration(shown)?;
-    let (value, note) = cut(shown, b' ').unwrap_or((shown, b""));
-    let value = if value == b"?".as_slice() {
-        None
-    } else {
-        Some(integer(value)?)
+    let shown = after_spaces(shown).strip_prefix(b"= ")?;
+    let (value, rest) = match shown {
+        [b'?', rest @ ..] => (None, rest),
+        _ => {
+            let (number, rest) = integer(shown)?;
+            (Some(number), rest)
+        }
     };
+    let (note, took) = without_duration(rest)?;
     let Some(error) = error_of(note)? else {
         let returned = value.map(|number| (number, number));
         return Some(Outcome { returned, took });
@@ -118,17 +118,20 @@ fn without_duration(shown: &[u8]) -> Option<(&[u8], Option<u64>)> {
     let Some((before, duration)) = cut(shown, b'<') else {
         return Some((shown, None));
     };
-    let took = nanoseconds(duration.strip_suffix(b">")?, MOST_SECONDS)?;
+    let (took, rest) = nanoseconds(duration, MOST_SECONDS)?;
+    if rest != b">".as_slice() {
+        return None;
+    }
     Some((before.strip_suffix(b" ")?, Some(took)))
 }
 
-// The number of the error that a note names: ENOENT (No such file or directory). A note without an
-// error is in brackets alone.
+// The number of the error that a note names: ` ENOENT (No such file or directory)`. A note without
+// an error is in brackets alone.
 fn error_of(note: &[u8]) -> Option<Option<i64>> {
     if note.is_empty() {
         return Some(None);
     }
-    let (name, text) = cut(note, b'(')?;
+    let (name, text) = cut(note.strip_prefix(b" ")?, b'(')?;
     let (text, rest) = cut(text, b')')?;
     if text.contains(&b'(') || text.starts_with(b"errno") {
         return None;

@@ -1,6 +1,6 @@
 //! Lines of strace: how they begin, and what they are of.
 
-use crate::bytes::{cut, is_visible};
+use crate::bytes::{after_spaces, cut, is_visible};
 use crate::ids::Id;
 use crate::numbers::{decimal, nanoseconds};
 use crate::words::Word;
@@ -36,24 +36,19 @@ pub(crate) struct Line<'a> {
     pub(crate) event: Event<'a>,
 }
 
-/// The parts of a line, without a look at what they hold: its thread, its time and its event.
-pub(crate) fn parts_of(line: &[u8]) -> Option<(&[u8], &[u8], &[u8])> {
-    let (thread, rest) = cut(line, b' ')?;
-    let spaces = rest.iter().position(|byte| *byte != b' ')?;
-    let (time, event) = cut(&rest[spaces..], b' ')?;
-    Some((thread, time, event))
-}
-
 impl<'a> Line<'a> {
     /// This line, where it is known.
     pub(crate) fn of(line: &'a [u8]) -> Option<Line<'a>> {
-        let (thread, time, event) = parts_of(line)?;
-        if thread.first() == Some(&b'0') {
+        if line.first() == Some(&b'0') {
             return None;
         }
+        let (thread, rest) = decimal(line, MOST_THREAD)?;
+        let rest = after_spaces(rest.strip_prefix(b" ")?);
+        let (time, rest) = nanoseconds(rest, MOST_SECONDS)?;
+        let event = rest.strip_prefix(b" ")?;
         Some(Line {
-            thread: Id::of(decimal(thread, MOST_THREAD)?)?,
-            time: nanoseconds(time, MOST_SECONDS)?,
+            thread: Id::of(thread)?,
+            time,
             event: event_of(event)?,
         })
     }
@@ -72,9 +67,10 @@ fn event_of<'a>(shown: &'a [u8]) -> Option<Event<'a>> {
 fn called<'a>(shown: &'a [u8]) -> Option<Event<'a>> {
     let (name, shown) = cut(shown, b'(')?;
     let name = call_name(name)?;
-    let Some(begun) = shown.strip_suffix(b"<unfinished ...>") else {
+    let [begun @ .., b'.', b'>'] = shown else {
         return Some(Event::Whole(name, shown));
     };
+    let begun = begun.strip_suffix(b"<unfinished ..")?;
     Some(Event::Begun(name, begun.strip_suffix(b" ").unwrap_or(begun)))
 }
 

@@ -1,15 +1,43 @@
-//! Numbers as strace shows them.
+//! Numbers as strace shows them: each function reads those at the front, and gives what comes after
+//! them.
 
-use crate::bytes::cut;
-
-// A number of more digits isn't read, whatever they are.
-const MOST_DIGITS: usize = 40;
+use core::dec2flt::read_digits;
 
 // The digits of a fraction of a second that there can be.
 const NANOSECOND_DIGITS: usize = 9;
 
-// The value of a digit, of which letters are small.
-#[inline]
+// How many nanoseconds the last digit of a fraction of so many digits stands for.
+const SCALES: [u64; 10] = [
+    1_000_000_000,
+    100_000_000,
+    10_000_000,
+    1_000_000,
+    100_000,
+    10_000,
+    1_000,
+    100,
+    10,
+    1,
+];
+
+// The most digits of a number that fits in 64 bits whatever they are: decimal ones, and hexadecimal
+// ones.
+const MOST_DECIMAL: usize = 19;
+
+const MOST_HEXADECIMAL: usize = 16;
+
+/// The number of at least one decimal digit and at most so many.
+#[inline(always)]
+pub(crate) fn decimal(shown: &[u8], most: usize) -> Option<(u64, &[u8])> {
+    let (count, number) = read_digits(shown, 0, 0);
+    if count == 0 || count > most {
+        return None;
+    }
+    Some((number, &shown[count..]))
+}
+
+// The value of a hexadecimal digit, of which letters are small.
+#[inline(always)]
 fn digit_value(byte: u8) -> Option<u64> {
     match byte {
         b'0'..=b'9' => Some(u64::from(byte - b'0')),
@@ -18,58 +46,54 @@ fn digit_value(byte: u8) -> Option<u64> {
     }
 }
 
-// The number that digits write, where it has 64 bits.
-fn whole(digits: &[u8], radix: u64) -> Option<u64> {
-    if digits.is_empty() || digits.len() > MOST_DIGITS {
-        return None;
-    }
+// The number of hexadecimal digits.
+#[inline(always)]
+fn hexadecimal(shown: &[u8]) -> Option<(u64, &[u8])> {
     let mut number: u64 = 0;
-    for byte in digits {
-        let digit = digit_value(*byte)?;
-        if digit >= radix {
-            return None;
-        }
-        number = number.checked_mul(radix)?.checked_add(digit)?;
+    let mut count: usize = 0;
+    for byte in shown {
+        let Some(digit) = digit_value(*byte) else {
+            break;
+        };
+        number = number << 4 | digit;
+        count = count.saturating_add(1);
     }
-    Some(number)
-}
-
-/// The number of at most so many decimal digits.
-pub(crate) fn decimal(digits: &[u8], most: usize) -> Option<u64> {
-    if digits.len() > most {
+    if count == 0 || count > MOST_HEXADECIMAL {
         return None;
     }
-    whole(digits, 10)
+    Some((number, shown.get(count..)?))
 }
 
-// The size of a number: hexadecimal, octal or decimal.
-fn size(shown: &[u8]) -> Option<u64> {
+// The size of a number: hexadecimal, or decimal without a zero in front.
+#[inline(always)]
+fn size(shown: &[u8]) -> Option<(u64, &[u8])> {
     match shown {
-        [b'0', b'x', digits @ ..] => whole(digits, 16),
-        [b'0', ..] => whole(shown, 8),
-        _ => whole(shown, 10),
+        [b'0', b'x', digits @ ..] => hexadecimal(digits),
+        [b'0', b'0'..=b'9', ..] => None,
+        _ => decimal(shown, MOST_DECIMAL),
     }
 }
 
 /// An integer, as a signed one of 64 bits.
-pub(crate) fn integer(shown: &[u8]) -> Option<i64> {
+pub(crate) fn integer(shown: &[u8]) -> Option<(i64, &[u8])> {
     let [b'-', below_zero @ ..] = shown else {
-        return Some(size(shown)?.cast_signed());
+        let (size, rest) = size(shown)?;
+        return Some((size.cast_signed(), rest));
     };
-    let size = size(below_zero)?;
+    let (size, rest) = size(below_zero)?;
     if size > 1 << 63 {
         return None;
     }
-    Some(size.wrapping_neg().cast_signed())
+    Some((size.wrapping_neg().cast_signed(), rest))
 }
 
 /// Nanoseconds that are shown as seconds, of at most so many digits, and a fraction.
-pub(crate) fn nanoseconds(shown: &[u8], most: usize) -> Option<u64> {
-    let (seconds, fraction) = cut(shown, b'.')?;
-    let mut part = decimal(fraction, NANOSECOND_DIGITS)?;
-    for _ in fraction.len()..NANOSECOND_DIGITS {
-        part = part.checked_mul(10)?;
-    }
-    let whole = decimal(seconds, most)?.checked_mul(1_000_000_000)?;
-    whole.checked_add(part)
+pub(crate) fn nanoseconds(shown: &[u8], most: usize) -> Option<(u64, &[u8])> {
+    let (seconds, rest) = decimal(shown, most)?;
+    let fraction = rest.strip_prefix(b".")?;
+    let (part, rest) = decimal(fraction, NANOSECOND_DIGITS)?;
+    let scale = SCALES.get(fraction.len().checked_sub(rest.len())?)?;
+    let part = part.checked_mul(*scale)?;
+    let time = seconds.checked_mul(1_000_000_000)?.checked_add(part)?;
+    Some((time, rest))
 }

@@ -18,6 +18,8 @@ fn unknown() -> Word<'static> {
 pub(crate) struct Processes<'a> {
     processes: BTreeMap<u64, Id>,
     programs: BTreeMap<u64, Word<'a>>,
+    // The owner that was asked for last, unless something has changed since.
+    last: Option<Owner<'a>>,
     // Whether a thread came that no call began. Of a second one there is something to say.
     has_stranger: bool,
 }
@@ -28,21 +30,33 @@ impl<'a> Processes<'a> {
         Processes {
             processes: BTreeMap::new(alloc),
             programs: BTreeMap::new(alloc),
+            last: None,
             has_stranger: false,
         }
     }
 
     /// Whose rows a thread's are.
     pub(crate) fn owner(&mut self, thread: Id) -> Result<Owner<'a>, Halt> {
+        match self.last {
+            Some(owner) if owner.thread.number == thread.number => Ok(owner),
+            _ => self.other_owner(thread),
+        }
+    }
+
+    // The same of another thread than the last one's.
+    fn other_owner(&mut self, thread: Id) -> Result<Owner<'a>, Halt> {
         let process = match self.processes.get(&thread.number) {
             Some(process) => *process,
             None => self.stranger(thread)?,
         };
-        Ok(Owner {
+        let program = self.program(process);
+        let owner = Owner {
             thread,
             process,
-            program: self.program(process),
-        })
+            program,
+        };
+        self.last = Some(owner);
+        Ok(owner)
     }
 
     // Takes a thread that no call began as a process of its own, if it is the first such one.
@@ -72,19 +86,24 @@ impl<'a> Processes<'a> {
 
     /// Takes what a call's entry shows: a first program, a new process or thread.
     pub(crate) fn enter(&mut self, thread: Id, change: Change<'a>) -> Result<(), AllocError> {
-        let process = self.process(thread);
+        if matches!(change, Change::None) {
+            return Ok(());
+        }
+        self.last = None;
         match change {
             Change::None => {}
             Change::Program(program) => {
+                let process = self.process(thread);
                 if !self.programs.contains_key(&process.number) {
                     self.programs.insert(process.number, program)?;
                 }
             }
             Change::Thread(born) => {
+                let process = self.process(thread);
                 self.processes.insert(born.number, process)?;
             }
             Change::Process(born) => {
-                let program = self.program(process);
+                let program = self.program(self.process(thread));
                 self.processes.insert(born.number, born)?;
                 self.programs.insert(born.number, program)?;
             }
@@ -92,12 +111,17 @@ impl<'a> Processes<'a> {
         Ok(())
     }
 
-    /// Takes what a call's return shows: a program.
-    pub(crate) fn return_from(&mut self, thread: Id, change: Change<'a>) -> Result<(), AllocError> {
-        if let Change::Program(program) = change {
-            let process = self.process(thread);
-            self.programs.insert(process.number, program)?;
-        }
-        Ok(())
+    /// Takes what a call's return shows, a program, and gives whose the rows are then.
+    pub(crate) fn return_from(
+        &mut self,
+        owner: Owner<'a>,
+        change: Change<'a>,
+    ) -> Result<Owner<'a>, AllocError> {
+        let Change::Program(program) = change else {
+            return Ok(owner);
+        };
+        self.last = None;
+        self.programs.insert(owner.process.number, program)?;
+        Ok(Owner { program, ..owner })
     }
 }

@@ -1,6 +1,8 @@
 //! The rests of calls that break off, found before the rows are made: a row shows all arguments.
 
-use crate::line::{Event, Line, parts_of};
+use crate::bytes::cut;
+use crate::line::{Event, Line};
+use memchr::memrchr_iter;
 use std::alloc::{AllocError, Global};
 use std::collections::BTreeMap;
 
@@ -21,39 +23,67 @@ pub(crate) fn rests<'a>(
     alloc: Global,
     recording: &'a [u8],
 ) -> Result<Vec<Option<Rest<'a>>>, AllocError> {
-    let mut open: BTreeMap<u64, Rest<'a>> = BTreeMap::new(alloc);
     let mut rests = Vec::new(alloc);
+    let mut open: BTreeMap<u64, Rest<'a>> = BTreeMap::new(alloc);
+    let mut end = recording.len();
     let mut lines: usize = 0;
-    for shown in recording.rsplit(|byte| *byte == b'\n') {
+    for feed in memrchr_iter(b'\n', recording) {
+        let line = recording.get(feed.saturating_add(1)..end).unwrap_or(b"");
+        end = feed;
         lines = lines.saturating_add(1);
-        if !is_of_split_call(shown) {
-            continue;
-        }
-        let Some(line) = Line::of(shown) else {
-            continue;
-        };
-        let thread = line.thread.number;
-        match line.event {
-            Event::Resumed(name, shown) => {
-                let name = name.bytes;
-                open.insert(thread, Rest { name, shown, lines })?;
-            }
-            Event::Begun(..) => rests.push(since(lines, open.remove(&thread)))?,
-            Event::Ended => {
-                open.remove(&thread);
-            }
-            Event::Whole(..) | Event::Signal => {}
-        }
+        take(&mut rests, &mut open, line, lines)?;
     }
+    let first = recording.get(..end).unwrap_or(b"");
+    take(&mut rests, &mut open, first, lines.saturating_add(1))?;
     Ok(rests)
 }
 
-// Whether a line begins a call that breaks off, or ends it: most lines don't.
-fn is_of_split_call(line: &[u8]) -> bool {
-    let Some((_, _, event)) = parts_of(line) else {
-        return false;
-    };
-    event.starts_with(b"<") || event.starts_with(b"+") || event.ends_with(b"...>")
+// Takes a line that is so many lines before the end. Those of calls that break off count.
+#[inline(always)]
+fn take<'a>(
+    rests: &mut Vec<Option<Rest<'a>>>,
+    open: &mut BTreeMap<u64, Rest<'a>>,
+    line: &'a [u8],
+    lines: usize,
+) -> Result<(), AllocError> {
+    if !may_be_split(line) {
+        return Ok(());
+    }
+    match Line::of(line) {
+        Some(line) => take_split(rests, open, line, lines),
+        None => Ok(()),
+    }
+}
+
+// Takes a line that may be of a call that breaks off.
+fn take_split<'a>(
+    rests: &mut Vec<Option<Rest<'a>>>,
+    open: &mut BTreeMap<u64, Rest<'a>>,
+    line: Line<'a>,
+    lines: usize,
+) -> Result<(), AllocError> {
+    let thread = line.thread.number;
+    match line.event {
+        Event::Resumed(name, shown) => {
+            let name = name.bytes;
+            open.insert(thread, Rest { name, shown, lines })?;
+        }
+        Event::Begun(..) => rests.push(since(lines, open.remove(&thread)))?,
+        Event::Ended => {
+            open.remove(&thread);
+        }
+        Event::Whole(..) | Event::Signal => {}
+    }
+    Ok(())
+}
+
+// Whether a line may begin a call that breaks off, resume it or end its thread: most lines don't.
+#[inline(always)]
+fn may_be_split(line: &[u8]) -> bool {
+    match line {
+        [.., b'.', b'>'] | [.., b'+', b'+'] => true,
+        _ => cut(line, b'<').is_some_and(|(_, after)| after.starts_with(b"... ")),
+    }
 }
 
 // The rest of a call whose first line is so many lines before the end.

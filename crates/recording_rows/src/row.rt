@@ -33,3 +33,28 @@ pub(crate) struct Row<'a> {
     pub(crate) side: Side,
     pub(crate) arguments: Arguments,
 }
+
+/// The rows of a line.
+#[derive(Clone, Copy)]
+pub(crate) struct Made<'a> {
+    pub(crate) entry: Option<Row<'a>>,
+    pub(crate) back: Option<Row<'a>>,
+}
+
+impl<'a> Made<'a> {
+    /// No row.
+    pub(crate) fn nothing() -> Made<'a> {
+        Made {
+            entry: None,
+            back: None,
+        }
+    }
+
+    /// The row of an entry alone.
+    pub(crate) fn entry(row: Row<'a>) -> Made<'a> {
+        Made {
+            entry: Some(row),
+            back: None,
+        }
+    }
+}
