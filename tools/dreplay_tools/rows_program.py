@@ -1,4 +1,4 @@
-"""The program dreplay-rows, which converts what dreplay-record records in a third of the time. It
+"""The program dreplay-rows, which converts what dreplay-record records in a tenth of the time. It
 stops where it doesn't know a line, and then the recording is converted here.
 """
 import os
