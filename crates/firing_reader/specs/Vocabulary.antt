@@ -1,6 +1,6 @@
 -- The names that the definitions share: of the code's own types, and of crates below. Column
 -- defines what a text of a firing is.
-pub use Rattle.std.specs.BTreeSet.{Updates, contains}
+pub use Rattle.std.specs.BTreeSet.{contains}
 pub use Rattle.std.specs.Bool.{OnFalse}
 pub use Rattle.std.specs.List.{AllZip, flat_map}
 pub use Rattle.std.specs.List.Sorted.{IsStrictlyIncreasing, IsStrictlySortedBy}

@@ -4,6 +4,7 @@
 ghost use Rattle.std.specs.Prelude.{◌≡◌, ◌<◌, ◌≤◌, ◌++◌, ◌∷◌, [], true, false, All, Some, IfOk};
 ghost use Rattle.std.specs.Prelude.{IfSome, MatchOption, slice_get, length, map};
 ghost use Rattle.firing_reader.specs.{Vocabulary.Firing, Plain.ReadsRow, Probing.probe_of};
+ghost use Rattle.firing_reader.specs.{Firings.thread_of};
 ghost use Rattle.firing_reader.specs.{Trace.last_number as last_number_of};
 ghost use Rattle.firing_reader.specs.Stored.{ArePlaces, IsRowIn, firing_in, row_before};
 ghost use Rattle.firing_reader.specs.declared.firing_rows.TheConstants.{MOST_TOGETHER};
@@ -12,6 +13,7 @@ ghost use Rattle.firing_reader.specs.Steps.Stored.{IsMovable, moved_row as moved
 use crate::arguments::{add_arguments, keep_arguments};
 use crate::firing::{Args, Firing};
 use crate::firing_rows::{FiringRows, rows_before};
+use crate::owner_places::OwnerPlaces;
 use crate::owners::Owners;
 use crate::plain::row::row;
 use crate::probe_places::ProbePlaces;
@@ -137,6 +139,20 @@ impl Firings {
         ProbePlaces::new(&self.probes, &self.rows)
     }
 
+    /// Which owner each is of.
+    ///
+    /// ```text
+    /// trace.firings().owner_places().owner_count(); // 2, where the rows are of two owners
+    /// ```
+    pub fn owner_places(&self) -> OwnerPlaces
+        ensures { ArePlaces result.0 result.1 (map thread_of self.now) }
+    {
+        OwnerPlaces {
+            owners: &self.owners,
+            rows: &self.rows,
+        }
+    }
+
     /// The number of the last, or 0 where there are none.
     ///
     /// ```text
@@ -248,7 +264,7 @@ pub(crate) fn firing_of<'a>(
         thread,
         pid,
         execname,
-    } = owners.at(row.owner);
+    } = owners.at(row.owner as usize);
     let Probe {
         provider,
         probemod,

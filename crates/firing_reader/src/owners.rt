@@ -97,7 +97,7 @@ impl Owners {
 
     /// The owner at a place.
     #[inline(always)]
-    pub(crate) fn at(&self, place: u32) -> Owner
+    pub(crate) fn at(&self, place: usize) -> Owner
         requires { place < length self.now }
         ensures { slice_get self.now place ≡ Some result }
     {

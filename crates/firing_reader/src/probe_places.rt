@@ -5,7 +5,7 @@ ghost use Rattle.firing_reader.specs.{Probing.probe_of, declared.stored_row.Row.
 
 use crate::firing::Firing;
 use crate::probes::Probes;
-use crate::stored_row::Row;
+use crate::stored_row::{Row, row_at};
 use crate::unit::Probe;
 use std::marker::Model;
 
@@ -79,16 +79,8 @@ impl<'a> ProbePlaces<'a> {
         ensures place { slice_get self.now.places at ≡ Some result }
         ensures within { result < length self.now.probes }
     {
-        probe_at(self.rows, at)
+        row_at(self.rows, at).probe
     }
-}
-
-// The place of a row's probe.
-fn probe_at(rows: &[Row], at: usize) -> u32
-    requires { at < length rows.now }
-    ensures { slice_get (map (λ (r : Row). r.probe) rows.now) at ≡ Some result }
-{
-    rows[at].probe
 }
 
 impl<'a> Firing<'a> {

@@ -96,7 +96,7 @@ impl Probes {
         requires { place < length self.now }
         ensures { slice_get self.now place ≡ Some result }
     {
-        let (bytes, _, entry) = self.units.at(place);
+        let (bytes, _, entry) = self.units.at(place as usize);
         let probemod = entry.provider as usize + 1;
         let probefunc = probemod + entry.probemod as usize + 1;
         let name = probefunc + entry.probefunc as usize + 1;

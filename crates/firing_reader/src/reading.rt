@@ -17,7 +17,6 @@ use crate::plain::read_plain;
 use crate::records::Records;
 use crate::row::read_row;
 use csv::ByteRecord;
-use keyed_hash::HashKey;
 use std::alloc::Global;
 
 /// The most rows that a trace has.
@@ -157,21 +156,4 @@ pub(crate) fn read_whole(
         return Err(TraceFault::Header);
     }
     Ok(())
-}
-
-/// The firings that the bytes of a trace write.
-pub(crate) fn read_firings(
-    alloc: Global,
-    hash_key: HashKey,
-    bytes: &[u8],
-) -> Result<Firings, TraceFault>
-    ensures { Gives result (trace_of bytes.now) }
-{
-    let mut firings = Firings::new(alloc, hash_key)?;
-    let read = read_whole(alloc, &mut firings, bytes);
-    if let Err(fault) = read {
-        drop(firings);
-        return Err(fault);
-    }
-    Ok(firings)
 }

@@ -1,6 +1,6 @@
 //! A firing as it is stored.
 
-ghost use Rattle.std.specs.Prelude.{◌≡◌, ◌<◌, ◌≤◌, ◌+◌, ◌^◌, IfSome};
+ghost use Rattle.std.specs.Prelude.{◌≡◌, ◌<◌, ◌≤◌, ◌+◌, ◌^◌, IfSome, Some, length, slice_get};
 ghost use Rattle.firing_reader.specs.Stored.{count_of, first_of};
 ghost use Rattle.firing_reader.specs.Steps.Stored.{moved_given};
 
@@ -58,4 +58,13 @@ pub(crate) struct Row {
     pub(crate) owner: u32,
     pub(crate) probe: u32,
     pub(crate) given: Given,
+}
+
+/// The row at a place.
+#[inline(always)]
+pub(crate) fn row_at(rows: &[Row], at: usize) -> Row
+    requires { at < length rows.now }
+    ensures { slice_get rows.now at ≡ Some result }
+{
+    rows[at]
 }

@@ -1,6 +1,6 @@
 //! What rows share, each kept once with the bytes that it was read from, and found by these.
 
-ghost use Rattle.std.specs.Prelude.{◌≡◌, ◌≤◌, ◌<◌, ◌++◌, ◌∷◌, [], true, ℕ, List, IfOk, IfSome};
+ghost use Rattle.std.specs.Prelude.{◌≡◌, ◌<◌, ◌++◌, ◌∷◌, [], true, ℕ, List, IfOk, IfSome};
 ghost use Rattle.std.specs.Prelude.{MatchOption, Some, length, slice_get, vec_capacity, vec_len};
 ghost use Rattle.firing_reader.specs.Stored.{ArePlaces, Extends};
 
@@ -106,13 +106,13 @@ impl<E: Entry> Units<E> {
 
     /// The unit at a place: its bytes, whether they are plain fields, and its entry.
     #[inline(always)]
-    pub(crate) fn at(&self, place: u32) -> (&[u8], bool, E)
+    pub(crate) fn at(&self, place: usize) -> (&[u8], bool, E)
         requires { place < length self.now }
         ensures there { slice_get self.now place ≡ Some (result.0.now, result.2) }
         ensures inside { E.is_in result.2 result.0.now }
         ensures reads { result.1 ≡ true → E.reads result.2 result.0.now }
     {
-        let known = self.known[place as usize];
+        let known = self.known[place];
         let begin = known.begin as usize;
         let bytes = &self.bytes[begin..begin + known.count as usize];
         (bytes, known.plain, known.entry)
@@ -124,7 +124,8 @@ impl<E: Entry> Units<E> {
         ensures { result ≡ true → (e : E) × (slice_get self.now place ≡ Some (key.now, e))
             × (plain ≡ true → E.reads e key.now) }
     {
-        if place as usize >= self.len() {
+        let place = place as usize;
+        if place >= self.len() {
             return false;
         }
         let (bytes, is_plain, _) = self.at(place);
@@ -234,7 +235,7 @@ impl<E: Entry> Units<E> {
         ensures { result ≡ true → (bytes : List ℕ)
             × (slice_get self.now place ≡ Some (bytes, entry)) }
     {
-        let (_, _, kept) = self.at(place);
+        let (_, _, kept) = self.at(place as usize);
         kept.is(entry)
     }
 
@@ -275,13 +276,13 @@ impl<E: Entry> Units<E> {
 
     // The place of a unit of others, which is kept where it isn't found. It is looked for at a
     // guess first.
-    fn place_of_other(&mut self, others: &Units<E>, at: u32, guess: u32) -> Option<u32>
+    fn place_of_other(&mut self, others: &Units<E>, at: usize, guess: u32) -> Option<u32>
         requires { at < length others.now }
         ensures grows { Extends self.old self.new }
         ensures place { IfSome result (λ p. slice_get self.new p ≡ slice_get others.now at) }
     {
         let (key, plain, entry) = others.at(at);
-        let tag = others.known[at as usize].tag;
+        let tag = others.known[at].tag;
         let found = if self.is_at(guess, key, plain) {
             Some(guess)
         } else {
@@ -304,8 +305,7 @@ impl<E: Entry> Units<E> {
             if at % TOGETHER == 0 {
                 guesses = self.guesses(others, at);
             }
-            let other = u32::try_from(at).ok()?;
-            let place = self.place_of_other(others, other, guesses[at % TOGETHER])?;
+            let place = self.place_of_other(others, at, guesses[at % TOGETHER])?;
             places.push(place).ok()?;
         }
         Some(places)

@@ -1,9 +1,9 @@
 -- Places of threads, and their numbers.
 use Rattle.std.proofs.Common.{◌≡◌, ℕ, zero, suc, ◌+◌, ◌<◌, ◌≤◌, ◌%◌, ◌==◌, ◌||◌, Bool, true, false}
 use Rattle.std.proofs.Common.{cond, List, [], ◌∷◌, ◌++◌, Some, IsSomeAnd, map, length, drop, set}
-use Rattle.std.proofs.Common.{get_or, option_map, Vec, Global, mod-lt, refl, sym, ap, ◌∙◌, ⊎_elim}
+use Rattle.std.proofs.Common.{get_or, option_map, Option, Vec, Global, mod-lt, refl, sym, ap, ◌∙◌, ⊎_elim}
 use Rattle.std.proofs.Common.{arith, add-one, append-nil, append_assoc, eq-eqb, ne_eqb}
-use Rattle.std.specs.Prelude.{ℤ, slice_index_or, Contains, All}
+use Rattle.std.specs.Prelude.{ℤ, slice_get, slice_index_or, Contains, All}
 use Rattle.std.specs.Ordering.{int_eq}
 use Rattle.std.specs.List.{position_from, range_with_len, zip}
 use Rattle.std.specs.Map.{lookup}
@@ -12,8 +12,11 @@ use Rattle.std.proofs.lemmas.List.{drop_all, get_or-set_other, get_or_default}
 use Rattle.std.proofs.lemmas.List.Elements.{All-append}
 use Rattle.std.proofs.lemmas.List.Folds.{list_any_at}
 use Rattle.std.proofs.lemmas.Grind.{get_or-set_at}
+use Rattle.std.proofs.lemmas.Option.{get_or_from_slice_get, slice_get-map}
 use Rattle.firing_reader.specs.declared.firing.Firing.{Firing}
 use Rattle.firing_reader.specs.Firings.{thread_of}
+use Rattle.firing_reader.specs.Stored.{ArePlaces}
+use Rattle.firing_reader.proofs.Moved.{placed as at_places}
 use Rattle.shard_queue.specs.Threads.{thread_zero, run_threads, has}
 use Rattle.shard_queue.specs.Groups.{places_from}
 use Rattle.shard_queue.proofs.Lists.{all_tail, drop_next}
@@ -25,25 +28,31 @@ places_step true old new more place is = ap (λ l. l ++ more) is ∙ append_asso
 places_step false old new more place is = ap (λ l. l ++ more) is
 
 -- the first thread that is left is placed
-pub placed : (test : ℤ → Bool) (old new : List ℕ) (place : ℕ) (fs : List Firing) (i : ℕ) (f : Firing) (all : List ℕ) → i < length fs → get_or fs i f ≡ f
-    → new ≡ cond (test f.thread) (old ++ place ∷ []) old
-    → old ++ places_from test place (map thread_of (drop i fs) ++ thread_zero ∷ []) ≡ all
-    → new ++ places_from test (place + 1) (map thread_of (drop (i + 1) fs) ++ thread_zero ∷ []) ≡ all
-placed test old new place fs i f all lt item is so_far =
-    let rest = map thread_of (drop (i + 1) fs) ++ thread_zero ∷ [] in
-    let parts = drop_next fs i f lt item in
-    places_step (test f.thread) old new (places_from test (place + 1) rest) place is
-    ∙ ap (λ j. old ++ cond (test f.thread) (place ∷ places_from test j rest) (places_from test j rest)) (add-one place)
-    ∙ ap (λ (l : List Firing). old ++ places_from test place (map thread_of l ++ thread_zero ∷ [])) (sym parts)
+pub placed : (test : ℤ → Bool) (old new : List ℕ) (place : ℕ) (ts : List ℤ) (i : ℕ) (t : ℤ) (all : List ℕ) → i < length ts → get_or ts i t ≡ t
+    → new ≡ cond (test t) (old ++ place ∷ []) old
+    → old ++ places_from test place (drop i ts ++ thread_zero ∷ []) ≡ all
+    → new ++ places_from test (place + 1) (drop (i + 1) ts ++ thread_zero ∷ []) ≡ all
+placed test old new place ts i t all lt item is so_far =
+    let rest = drop (i + 1) ts ++ thread_zero ∷ [] in
+    places_step (test t) old new (places_from test (place + 1) rest) place is
+    ∙ ap (λ j. old ++ cond (test t) (place ∷ places_from test j rest) (places_from test j rest)) (add-one place)
+    ∙ ap (λ (l : List ℤ). old ++ places_from test place (l ++ thread_zero ∷ [])) (sym (drop_next ts i t lt item))
     ∙ so_far
 
 -- END is placed last
-pub placed_last : (test : ℤ → Bool) (old new : List ℕ) (place : ℕ) (fs : List Firing) (i : ℕ) (all : List ℕ) → length fs ≤ i
+pub placed_last : (test : ℤ → Bool) (old new : List ℕ) (place : ℕ) (ts : List ℤ) (i : ℕ) (all : List ℕ) → length ts ≤ i
     → new ≡ cond (test thread_zero) (old ++ place ∷ []) old
-    → old ++ places_from test place (map thread_of (drop i fs) ++ thread_zero ∷ []) ≡ all → new ≡ all
-placed_last test old new place fs i all le is so_far =
+    → old ++ places_from test place (drop i ts ++ thread_zero ∷ []) ≡ all → new ≡ all
+placed_last test old new place ts i all le is so_far =
     sym (append-nil new) ∙ places_step (test thread_zero) old new [] place is
-    ∙ ap (λ (l : List Firing). old ++ places_from test place (map thread_of l ++ thread_zero ∷ [])) (sym (drop_all i fs le)) ∙ so_far
+    ∙ ap (λ (l : List ℤ). old ++ places_from test place (l ++ thread_zero ∷ [])) (sym (drop_all i ts le)) ∙ so_far
+
+-- the group at an owner's place is that of its firing's thread
+pub group_at : (group : ℤ → Option ℕ) (threads : List ℤ) (places : List ℕ) (ts : List ℤ) (i p : ℕ) (d : Option ℕ) → ArePlaces threads places ts → (lt : i < length ts)
+    → slice_get places i ≡ Some p → get_or (map group threads) p d ≡ group (get_or ts i thread_zero)
+group_at group threads places ts i p d are lt at =
+    let there : slice_get threads p ≡ Some (get_or ts i thread_zero) = ap (slice_get threads) (sym (get_or_from_slice_get places i p 0 at)) ∙ at_places threads places ts i thread_zero are lt in
+    get_or_from_slice_get (map group threads) p _ d (slice_get-map group threads p ∙ ap (option_map group) there)
 
 -- BEGIN is placed first
 pub placed_first : (test : ℤ → Bool) (old new : List ℕ) (ts : List ℤ) → old ≡ [] → new ≡ cond (test thread_zero) (old ++ 0 ∷ []) old

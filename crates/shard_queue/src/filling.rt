@@ -1,7 +1,7 @@
 //! The places of each group's firings, noted in one pass over the trace.
 
 ghost use Rattle.std.specs.Prelude.{◌≡◌, ◌<◌, ◌≤◌, ◌+◌, ℕ, [], All, map, length, slice_index_or};
-ghost use Rattle.std.specs.Prelude.{IfOk, OnOk, vec_len};
+ghost use Rattle.std.specs.Prelude.{IfOk, IfSome, OnOk, vec_len};
 ghost use Rattle.shard_queue.specs.Vocabulary.{int_eq, lookup, zip};
 ghost use Rattle.shard_queue.specs.Groupings.{places_of, with_own_group};
 ghost use Rattle.shard_queue.specs.Groups.{AreOf, grouping, places};
@@ -9,8 +9,7 @@ ghost use Rattle.shard_queue.specs.Threads.{AreThreads, run_threads};
 
 use crate::groups::Groups;
 use crate::listing::MOST_GROUPS;
-use crate::threads::ThreadCache;
-use firing_reader::{Firings, MOST_ROWS, Trace};
+use firing_reader::{Firings, MOST_ROWS, OwnerPlaces, Trace};
 use std::alloc::{AllocError, Global};
 
 impl Groups {
@@ -49,15 +48,31 @@ impl Groups {
         ensures places { OnOk result ((g : ℕ) → places self.new g
             ≡ places_of (grouping self.old) g (run_threads firings.now)) }
     {
-        let mut cache = ThreadCache::new(*self.threads.allocator())?;
-        self.add(&mut cache, 0, 0)?;
+        let owners = firings.owner_places();
+        let groups = self.groups_of(&owners)?;
+        self.add(Some(self.own), 0)?;
         let mut place = 1;
         for at in 0..firings.len() {
-            self.add(&mut cache, firings.get(at).thread, place)?;
+            let owner = owners.place(at);
+            self.add(groups[owner], place)?;
             place += 1;
         }
-        self.add(&mut cache, 0, place)?;
+        self.add(Some(self.own), place)?;
         Ok(())
+    }
+
+    // The group of each owner's thread.
+    fn groups_of(&self, owners: &OwnerPlaces) -> Result<Vec<Option<u32>>, AllocError>
+        ensures groups { IfOk result (λ v. v.items ≡ map (grouping self.now).group owners.now.0) }
+        ensures below { IfOk result
+            (λ v. All (λ o. IfSome o (λ g. g < (grouping self.now).count)) v.items) }
+    {
+        let count = owners.owner_count();
+        let mut groups = Vec::with_capacity(*self.threads.allocator(), count)?;
+        for place in 0..count {
+            groups.push_reserved(self.group_of(owners.thread(place)));
+        }
+        Ok(groups)
     }
 }
 

@@ -6,7 +6,7 @@ ghost use Rattle.shard_queue.specs.{Groupings.is_group};
 ghost use Rattle.shard_queue.specs.Vocabulary.{IsStrictlySortedBy, IsStrictlySortedBy-prop};
 ghost use Rattle.shard_queue.specs.Vocabulary.{int_cmp};
 
-use crate::threads::{ThreadCache, cached_place_of, place_of};
+use crate::threads::place_of;
 use std::alloc::AllocError;
 
 /// Which thread is in which group, and for each group the places of its firings in the run: BEGIN
@@ -73,31 +73,14 @@ impl Groups {
         self.places[group as usize].as_slice()
     }
 
-    // The same, with a cache of the places of threads that were sought lately.
-    fn cached_group_of(&self, cache: &mut ThreadCache, thread: i32) -> Option<u32>
-        ensures group { result ≡ (grouping self.now).group thread }
-        ensures below { IfSome result (λ g. g < (grouping self.now).count) }
-    {
-        if thread == 0 {
-            return self.group_of(thread);
-        }
-        let place = cached_place_of(&self.threads, cache, thread)?;
-        Some(self.numbers[place])
-    }
-
-    // Notes the place of a firing.
-    pub(crate) fn add(
-        &mut self,
-        cache: &mut ThreadCache,
-        thread: i32,
-        place: u32,
-    ) -> Result<(), AllocError>
+    // Notes the place of a firing of a group.
+    pub(crate) fn add(&mut self, group: Option<u32>, place: u32) -> Result<(), AllocError>
+        requires { IfSome group (λ g. g < (grouping self.old).count) }
         ensures grouping { OnOk result (grouping self.new ≡ grouping self.old) }
         ensures places { OnOk result ((g : ℕ) → places self.new g
-            ≡ (if is_group g ((grouping self.old).group thread)
-            then places self.old g ++ place ∷ [] else places self.old g)) }
+            ≡ (if is_group g group then places self.old g ++ place ∷ [] else places self.old g)) }
     {
-        if let Some(group) = self.cached_group_of(cache, thread) {
+        if let Some(group) = group {
             self.places[group as usize].push(place)?;
         }
         Ok(())

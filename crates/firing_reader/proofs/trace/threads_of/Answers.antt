@@ -1,28 +1,37 @@
-use Rattle.std.proofs.Common.{refl, map, rules}
+use Rattle.std.proofs.Common.{◌≡◌, ◌<◌, ◌≤◌, rules, map, get_or, length}
 use Rattle.std.proofs.lemmas.Int.{to_z-of_z}
-use Rattle.std.proofs.lemmas.Option.{get_or_from_slice_get}
+use Rattle.std.proofs.lemmas.List.{length-map, length-set}
 use mir.Val.{SFits}
 use mir.Syntax.{w32}
 use Rattle.firing_reader.specs.Firings.{thread_of}
-use Rattle.firing_reader.proofs.Threads.{none_cached, same_members, seen_all, seen_more}
+use Rattle.firing_reader.proofs.Probing.{at_place}
+use Rattle.firing_reader.proofs.Threads.{noted_seen, same_members, seen_all, seen_more}
 use Rattle.firing_reader.proofs.trace.threads_of.Goals as goal
 
-pub loop-at-init : goal.loop-at-init
-loop-at-init c = record {
-  seen = λ q. rw c.new-seen.ensures.empty refl;
-  cached = none_cached c.new-seen.result c.new-cached.result.items c.new-cached.ensures.items;
-}
+pub note-requires-clause-noted : goal.note-requires-clause-noted
+note-requires-clause-noted c =
+    let fits : SFits w32 c.thread.result = search rules in
+    rw (to_z-of_z w32 c.thread.result fits) (λ is. c.loop-at.invariant.noted c.place-owner.result is c.thread.result c.thread.ensures)
 
 pub loop-at-preserved : goal.loop-at-preserved
 loop-at-preserved c =
-    let fits : SFits w32 c.get.result.thread = search rules in
-    let is = get_or_from_slice_get c.args.firings.now c.loop-at.at c.get.result c.get.result c.get.ensures in
+    let fits : SFits w32 c.thread.result = search rules in
+    let i = c.loop-at.invariant in
+    let ts = map thread_of c.args.firings.now in
+    let t = c.thread.result in
+    let places = c.owner_places-places.result in
+    let lt : c.loop-at.at < length ts = rw (length-map c.args.firings.now thread_of) (rw c.len-at-end.ensures at c.loop-at-test.true) in
+    let more = simp to_z-of_z at c.in_ok-note.ensures.seen in
+    let item : get_or ts c.loop-at.at t ≡ t = at_place places.0 places.1 ts c.loop-at.at c.place-owner.result t c.owner_places-places.ensures lt c.place-owner.ensures.place c.thread.ensures in
     record {
-      seen = seen_more c.loop-at.seen c.note.new.seen c.args.firings.now c.loop-at.at c.get.result (rw c.len-at-end.ensures at c.loop-at-test.true) is (simp to_z-of_z at c.in_ok-note.ensures.seen) c.loop-at.invariant.seen;
-      cached = c.in_ok-note.ensures.cached;
+      seen = seen_more c.loop-at.seen c.note.new.seen ts c.loop-at.at t lt item more i.seen;
+      sized = rw (c.in_ok-note.ensures.noted, length-set c.loop-at.noted.items c.place-owner.result _) i.sized;
+      noted = rw c.in_ok-note.ensures.noted (noted_seen c.loop-at.seen c.note.new.seen places.0 c.loop-at.noted.items c.place-owner.result t (rw i.sized c.place-owner.ensures.within) c.thread.ensures more i.noted);
     }
 
 pub returns : goal.returns
 returns c =
-    let all = seen_all c.loop-at.seen c.args.firings.now c.loop-at.at (rw c.len-at-end.ensures at c.loop-at-test.false) c.loop-at.invariant.seen in
-    λ t. same_members c.loop-at.seen.keys (map thread_of c.args.firings.now) all t
+    let ts = map thread_of c.args.firings.now in
+    let past : length ts ≤ c.loop-at.at = rw (length-map c.args.firings.now thread_of) (rw c.len-at-end.ensures at c.loop-at-test.false) in
+    let all = seen_all c.loop-at.seen ts c.loop-at.at past c.loop-at.invariant.seen in
+    λ t. same_members c.loop-at.seen.keys ts all t

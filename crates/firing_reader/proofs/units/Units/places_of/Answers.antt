@@ -14,8 +14,7 @@ loop-at-preserved g c =
     let i = c.loop-at.at in
     let within : i < length others = search rules in
     let (o, there) = one_there others i within in
-    let same : c.in_ok-other.other ≡ i = search rules in
-    let kept : slice_get c.place_of_other.new.self c.in_ok-place.place ≡ Some o = rw same at c.in_ok-place.ensures.place ∙ there in
+    let kept : slice_get c.place_of_other.new.self c.in_ok-place.place ≡ Some o = c.in_ok-place.ensures.place ∙ there in
     let one = place_more c.loop-at.self c.place_of_other.new.self c.loop-at.places.items (take i others) c.in_ok-place.place o c.place_of_other.ensures.grows c.loop-at.invariant.places kept in
     let pushed : c.push.new.self.items ≡ c.loop-at.places.items ++ c.in_ok-place.place ∷ [] = grind (arith, common_steps) in
     record {

@@ -9,6 +9,6 @@ abbrev pub invariant-loop-at : goal.invariant-loop-at
 invariant-loop-at l = record {
   place : l.place ≡ l.at + 1;
   stays : grouping l.self ≡ grouping l.fn.self;
-  places : (g : ℕ) → places l.self g ++ places_from (λ t. is_group g ((grouping l.fn.self).group t)) l.place (map thread_of (drop l.at l.fn.firings) ++ thread_zero ∷ [])
+  places : (g : ℕ) → places l.self g ++ places_from (λ t. is_group g ((grouping l.fn.self).group t)) l.place (drop l.at (map thread_of l.fn.firings) ++ thread_zero ∷ [])
       ≡ places_from (λ t. is_group g ((grouping l.fn.self).group t)) 0 (run_threads l.fn.firings);
 }

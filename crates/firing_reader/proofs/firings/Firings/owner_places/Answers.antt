@@ -1,0 +1,7 @@
+use Rattle.firing_reader.proofs.Probing.{owners_are_places}
+use Rattle.firing_reader.proofs.firings.Firings.owner_places.Goals as goal
+
+pub returns : goal.returns
+returns c =
+    let i = c.self.inside in
+    rw (c.deref.ensures.value, ← c.self.view_is) (owners_are_places i.owners i.probes i.args.items i.rows.items c.self.invariant)
