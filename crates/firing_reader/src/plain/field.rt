@@ -1,7 +1,7 @@
 //! The fields of a plain row: each value and what comes after it, or None where csv has to read the
 //! row.
 
-ghost use Rattle.std.specs.Prelude.{◌≡◌, ◌<◌, ◌≤◌, ◌+◌, ◌*◌, ◌^◌, ◌∷◌, [], ℕ, List, IfSome, Some};
+ghost use Rattle.std.specs.Prelude.{◌≡◌, ◌<◌, ◌≤◌, ◌+◌, ◌*◌, ◌∷◌, [], ℕ, List, IfSome, Some};
 ghost use Rattle.std.specs.Prelude.{take, length};
 ghost use Rattle.std.specs.Str.Parse.{AllDigits, digits_value};
 ghost use Rattle.firing_reader.specs.Column.{signed_of, text_of};
@@ -13,10 +13,7 @@ use crate::columns::{negative, positive};
 use crate::text::{TEXT_LIMIT, Text};
 use core::dec2flt::read_digits;
 
-// No number above this is read here: ten times it plus a digit still fits in 64 bits.
-const LARGE: u64 = 1_844_674_407_370_955_160;
-
-// A number of this many digits fits in 64 bits.
+// A number of this many digits fits in 64 bits. Csv reads one of more.
 const SHORT: usize = 19;
 
 // The digits at the front: the number that they write, and how many there are.
@@ -28,31 +25,9 @@ fn digits(bytes: &[u8]) -> Option<(u64, usize)>
 {
     let (count, number) = read_digits(bytes, 0, 0);
     if count > SHORT {
-        return many_digits(bytes);
+        return None;
     }
     Some((number, count))
-}
-
-// The same, whatever their number.
-#[cold]
-#[inline(never)]
-fn many_digits(bytes: &[u8]) -> Option<(u64, usize)>
-    ensures count { IfSome result (λ p. p.1 ≤ length bytes.now) }
-    ensures digits { IfSome result (λ p. AllDigits 10 (take p.1 bytes.now)) }
-    ensures value { IfSome result (λ p. p.0 ≡ digits_value 10 (take p.1 bytes.now)) }
-{
-    let mut number: u64 = 0;
-    for at in 0..bytes.len() {
-        let b = bytes[at];
-        if !b.is_ascii_digit() {
-            return Some((number, at));
-        }
-        if number > LARGE {
-            return None;
-        }
-        number = number * 10 + u64::from(b - b'0');
-    }
-    Some((number, bytes.len()))
 }
 
 // One digit that a comma ends.
@@ -178,23 +153,11 @@ pub(crate) fn next_argument(bytes: &[u8]) -> Option<(i64, &[u8])>
 {
     match one_digit(bytes) {
         Some((digit, rest)) => Some((i64::from(digit), rest)),
-        None => other_argument(bytes),
-    }
-}
-
-// The same, whatever it is.
-#[inline(always)]
-fn other_argument(bytes: &[u8]) -> Option<(i64, &[u8])>
-    ensures { IfSome result (λ p. (field : List ℕ)
-        × Passes bytes.now (field ∷ []) p.1.now × (signed_of field ≡ Some p.0)) }
-{
-    match after_comma(bytes) {
-        Some(rest) => Some((0, rest)),
         None => longer_argument(bytes),
     }
 }
 
-// An argument that isn't empty.
+// The same, whatever it is.
 #[inline(always)]
 fn longer_argument(bytes: &[u8]) -> Option<(i64, &[u8])>
     ensures { IfSome result (λ p. (field : List ℕ)
