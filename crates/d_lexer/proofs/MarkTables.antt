@@ -4,7 +4,7 @@ use Rattle.std.proofs.Common.{None, refl, ap, ◌∙◌, rules}
 use Rattle.std.proofs.lemmas.Bool.{eqb-true}
 use Rattle.std.proofs.lemmas.Slice.Eq.{bytes_eq-Decides}
 use Rattle.std.specs.List.{list_all}
-use Rattle.std.specs.Str.{bytes_eq}
+use Rattle.std.specs.{Str.bytes_eq, Map.lookup}
 use denote.Enum.Bare.{sameb, same_true}
 use Rattle.d_lexer.specs.contracts.token.Mark.{the_type}
 use Rattle.d_lexer.specs.declared.token.Mark.{Mark}
@@ -12,7 +12,7 @@ use Rattle.d_lexer.specs.declared.token.Mark.TheVariants as m
 use Rattle.d_lexer.specs.declared.place.Place.{Place}
 use Rattle.d_lexer.specs.declared.place.Place.TheVariants.{Head, Declaration, Predicate, Body}
 use Rattle.d_lexer.specs.Bytes.{entry_of}
-use Rattle.d_lexer.specs.Marks.{marks_in, mark_among, mark_of}
+use Rattle.d_lexer.specs.Marks.{marks_in, mark_of}
 use Rattle.d_lexer.specs.Steps.Marks.{singles, of_head, doubles, settings, shift_marks, arrows, mark_by}
 use Rattle.d_lexer.proofs.Base.{both_true, cond_is}
 
@@ -148,11 +148,11 @@ all_walked Declaration = refl
 all_walked Predicate = refl
 all_walked Body = refl
 
-among : (p : Place) (table : List (List ℕ × Mark)) (own : List ℕ) (k : Mark) → AreWalked p table ≡ true → mark_among table own ≡ Some k → mark_by p own ≡ Some k
+among : (p : Place) (table : List (List ℕ × Mark)) (own : List ℕ) (k : Mark) → AreWalked p table ≡ true → lookup (bytes_eq own) table ≡ Some k → mark_by p own ≡ Some k
 among p [] own k h e = absurd cc
 among p (x ∷ table) own k h e =
     let both = both_true (is_mark (mark_by p x.0) x.1) (AreWalked p table) h in
-    cond_is (λ (o : Option Mark). o ≡ Some k → mark_by p own ≡ Some k) (bytes_eq own x.0) (Some x.1) (mark_among table own)
+    cond_is (λ (o : Option Mark). o ≡ Some k → mark_by p own ≡ Some k) (bytes_eq own x.0) (Some x.1) (lookup (bytes_eq own) table)
     (λ same f. ap (λ (bytes : List ℕ). mark_by p bytes) ((bytes_eq-Decides own x.0).0 same) ∙ is_mark_true (mark_by p x.0) x.1 both.0 ∙ f)
     (λ _ f. among p table own k both.1 f)
     e

@@ -1,7 +1,8 @@
 -- Kinds of bytes.
-use Rattle.std.specs.Prelude.{ℕ, ◌==◌, nat_le, Bool, false, not, ◌&&◌, ◌||◌, if◌then◌else◌}
-use Rattle.std.specs.Prelude.{List, [], ◌∷◌, Option, Some, None, codes}
-use Rattle.std.specs.Str.{bytes_eq}
+-- Source: Dynamic Tracing Guide, "Keywords" and "Constants".
+use Rattle.std.specs.Prelude.{ℕ, ◌==◌, nat_le, Bool, false, not, ◌&&◌, ◌||◌, List, [], ◌∷◌, Option}
+use Rattle.std.specs.Prelude.{codes}
+use Rattle.std.specs.{Str.bytes_eq, Map.lookup}
 use Rattle.std.specs.Char.{is_ascii_alphabetic, is_ascii_alphanumeric}
 
 -- ---- bytes by name
@@ -71,8 +72,7 @@ begins_comment (b ∷ z) = b == slash && next_is star z
 
 -- what a table holds for a byte
 abbrev pub entry_of : {X : Type 0} → List (ℕ × X) → ℕ → Option X
-entry_of [] b = None
-entry_of (e ∷ es) b = if b == e.0 then Some e.1 else entry_of es b
+entry_of entries b = lookup (λ c. b == c) entries
 
 -- what may come after a backslash: a b f n r t v \ " ' ?
 abbrev pub escapes : List (ℕ × ℕ)

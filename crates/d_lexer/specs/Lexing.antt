@@ -1,4 +1,5 @@
 -- The tokens of a script, and why it has none.
+-- Source: Dynamic Tracing Guide, "D Program Structure".
 use Rattle.std.specs.Prelude.{◌≡◌, ℕ, ◌<◌, ◌≤◌, ◌⊎◌, Bool, true, false, List, [], ◌∷◌, length}
 use Rattle.d_lexer.specs.Vocabulary.{Token, TokenKind, Head, LexFault, Mark, MOST_BYTES}
 use Rattle.d_lexer.specs.Places.{first_position}

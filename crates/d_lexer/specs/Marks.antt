@@ -1,7 +1,7 @@
 -- How each mark is spelled, and in which places it is one.
 -- Source: Dynamic Tracing Guide, "Types, Operators, and Expressions".
-use Rattle.std.specs.Prelude.{ℕ, if◌then◌else◌, List, [], ◌∷◌, Option, Some, None, codes}
-use Rattle.std.specs.Str.{bytes_eq}
+use Rattle.std.specs.Prelude.{ℕ, List, [], ◌∷◌, Option, codes}
+use Rattle.std.specs.{Str.bytes_eq, Map.lookup}
 use Rattle.d_lexer.specs.Vocabulary.{Mark, Place, Head, Declaration, Predicate, Body}
 use Rattle.d_lexer.specs.declared.token.Mark.TheVariants as mark
 
@@ -36,11 +36,6 @@ marks_in Declaration = (codes "/", mark.Slash) ∷ marks
 marks_in Predicate = (codes "/", mark.ClosingSlash) ∷ marks
 marks_in Body = (codes "/", mark.Slash) ∷ marks
 
-abbrev pub mark_among : List (List ℕ × Mark) → List ℕ → Option Mark
-mark_among [] bytes = None
-mark_among (entry ∷ entries) bytes =
-    if bytes_eq bytes entry.0 then Some entry.1 else mark_among entries bytes
-
 -- the mark of these bytes in this place
 unfoldable pub mark_of : Place → List ℕ → Option Mark
-mark_of p bytes = mark_among (marks_in p) bytes
+mark_of p bytes = lookup (bytes_eq bytes) (marks_in p)

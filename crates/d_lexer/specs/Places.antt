@@ -1,4 +1,5 @@
 -- Where in the bytes, and in which of the four places.
+-- Source: Dynamic Tracing Guide, "D Program Structure".
 use Rattle.std.specs.Prelude.{ℕ, ◌+◌, ◌==◌, Bool, true, false, ◌&&◌, ◌||◌, if◌then◌else◌, List, []}
 use Rattle.std.specs.Prelude.{◌∷◌}
 use Rattle.d_lexer.specs.Vocabulary.{Mark, TokenKind, Place, Head, Declaration, Predicate, Body}
@@ -29,9 +30,7 @@ position_after pos (b ∷ bs) = position_after (after_byte pos b) bs
 -- the place is the head
 abbrev pub is_head : Place → Bool
 is_head Head = true
-is_head Declaration = false
-is_head Predicate = false
-is_head Body = false
+is_head p = false
 
 -- the bytes begin here with #!
 abbrev pub is_first : Position → ℕ → List ℕ → Bool
@@ -55,10 +54,4 @@ place_after_mark p k = p
 abbrev pub place_after : Place → TokenKind → Place
 place_after p (TokenKind.Mark k) = place_after_mark p k
 place_after Head (TokenKind.Word w) = Declaration
-place_after Declaration (TokenKind.Word w) = Declaration
-place_after Predicate (TokenKind.Word w) = Predicate
-place_after Body (TokenKind.Word w) = Body
-place_after p (TokenKind.DescriptionRun w) = p
-place_after p (TokenKind.AggregationName w) = p
-place_after p (TokenKind.Number n s) = p
-place_after p (TokenKind.TextConstant w) = p
+place_after p t = p

@@ -3,7 +3,7 @@
 use Rattle.std.specs.Prelude.{◌≡◌, ℕ, ◌+◌, ◌≤◌, ◌⊎◌, Bool, true, false, ◌&&◌, ◌||◌, ◌==◌, Some}
 use Rattle.std.specs.Prelude.{None, List, [], ◌∷◌, ◌++◌, length, codes}
 use Rattle.d_lexer.specs.Vocabulary.{AllByRecursion, is_ascii_digit, Mark, Token, TokenKind, Place}
-use Rattle.d_lexer.specs.Vocabulary.{Head, Declaration, Predicate, Body, Position, Flaw, LexFault}
+use Rattle.d_lexer.specs.Vocabulary.{Head, Position, Flaw, LexFault}
 use Rattle.d_lexer.specs.Bytes.{line_feed, quote, hash, star, slash, at_sign, backslash, underscore}
 use Rattle.d_lexer.specs.Bytes.{next_is, is_blank_byte, is_word_start, is_word_byte, is_run_byte}
 use Rattle.d_lexer.specs.Bytes.{is_inside, stands_for_itself, begins_comment, escape_of}
@@ -99,30 +99,21 @@ SpellsHead own rest (TokenKind.DescriptionRun w) =
     (w ≡ own) × (is_declaring own ≡ false) × IsLongestRun is_run_byte is_run_byte own rest
 SpellsHead own rest (TokenKind.Word w) =
     (w ≡ own) × (is_declaring own ≡ true) × IsLongestRun is_run_byte is_run_byte own rest
-SpellsHead own rest (TokenKind.AggregationName w) = ⊥
-SpellsHead own rest (TokenKind.Number n s) = ⊥
-SpellsHead own rest (TokenKind.TextConstant w) = ⊥
 SpellsHead own rest (TokenKind.Mark k) = IsMark Head own rest k
+SpellsHead own rest t = ⊥
 
 -- own is the longest spelling of the token at the front of own ++ rest
 abbrev pub SpellsToken : Place → (own rest : List ℕ) → TokenKind → Type 0
 SpellsToken Head own rest t = SpellsHead own rest t
-SpellsToken Declaration own rest t = SpellsInside Declaration own rest t
-SpellsToken Predicate own rest t = SpellsInside Predicate own rest t
-SpellsToken Body own rest t = SpellsInside Body own rest t
+SpellsToken p own rest t = SpellsInside p own rest t
 
 -- ---- one fault
 
--- a byte with which a word, a number, a name or a text constant begins
-abbrev pub begins_inside : ℕ → Bool
-begins_inside b = is_word_start b || is_ascii_digit b || b == at_sign || b == quote
-
--- a byte with which a run of the head begins, or another of these
+-- a byte with which a run of the head begins, or elsewhere a word, a number, a name or a text
+-- constant
 abbrev pub begins : Place → ℕ → Bool
 begins Head b = is_run_byte b
-begins Declaration b = begins_inside b
-begins Predicate b = begins_inside b
-begins Body b = begins_inside b
+begins p b = is_word_start b || is_ascii_digit b || b == at_sign || b == quote
 
 -- nothing begins with the byte at the front
 pub record IsStray (p : Place) (pos : Position) (b : ℕ) (z : List ℕ) : Type 0 where
@@ -141,8 +132,7 @@ StopsText Flaw.Unclosed rest =
     (rest ≡ []) ⊎ ((z : List ℕ) × (rest ≡ line_feed ∷ z)) ⊎ (rest ≡ backslash ∷ [])
 StopsText Flaw.Escape rest =
     (e : ℕ) × (z : List ℕ) × (rest ≡ backslash ∷ (e ∷ z)) × (escape_of e ≡ None)
-StopsText Flaw.Constant rest = ⊥
-StopsText Flaw.OptionLine rest = ⊥
+StopsText g rest = ⊥
 
 -- good bytes of a text constant, and then what is wrong
 abbrev pub BreaksText : List ℕ → Flaw → Type 0
