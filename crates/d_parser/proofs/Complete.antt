@@ -34,9 +34,9 @@ use Rattle.d_parser.specs.declared.tree.DeclaredType.TheVariants as d
 use Rattle.d_parser.specs.Words.{word_kind, word_kind_of}
 use Rattle.d_parser.specs.Steps.Words.{begins_type, is_word, run, after_run, type_from}
 use Rattle.d_parser.specs.Steps.Words.{only_integer, integer_type}
-use Rattle.d_parser.specs.Marks.{prefix_of, follow_of, level_of}
-use Rattle.d_parser.specs.Steps.Marks.{follow_at, kind_is, is_at}
-use Rattle.d_parser.specs.Steps.Marks.{same_mark, tail}
+use Rattle.d_parser.specs.Marks.{level_of, binary_mark, assign_mark, unary_mark, step_mark}
+use Rattle.d_parser.specs.Steps.Marks.{prefix_of, follow_of, follow_at, kind_is, is_at, same_mark}
+use Rattle.d_parser.specs.Steps.Marks.{tail}
 use Rattle.d_parser.specs.Grammar.{token, IsToken, IsMark, Within, IsPhrase, level, IsWord, IsMember}
 use Rattle.d_parser.specs.Grammar.{IsTarget, IsEnclosed, Spells, SpellsKeys, SpellsList, SpellsMore}
 use Rattle.d_parser.specs.Steps.Reading.{after_mark, plain_word, member, variable, typed_by}
@@ -49,7 +49,9 @@ use Rattle.d_parser.specs.Steps.Reading.{part_at_step}
 use Rattle.d_parser.specs.Steps.Reading.{part_at_mark, part_by, part, climb_by, climb_on, choice_by}
 use Rattle.d_parser.specs.Steps.Reading.{alternatives, choice, operand, whole, further_on}
 use Rattle.d_parser.proofs.Takes.{sign_one, word_one, member_takes, type_takes, takes, phrase_takes}
-use Rattle.d_parser.proofs.Takes.{keys_take, target_takes}
+use Rattle.d_parser.proofs.Takes.{target_takes}
+use Rattle.d_parser.proofs.Signs.{unary_prefix, step_prefix, step_follow, assign_follow}
+use Rattle.d_parser.proofs.Signs.{binary_follow}
 use Rattle.d_parser.proofs.Runs.{AreWords, run_is, later_is}
 use Rattle.d_parser.proofs.Types.{type_is, type_words}
 
@@ -75,45 +77,11 @@ opens_of follow = false
 
 pub level_high : (op : BinaryOperator) → 3 ≤ level_of op
 level_high b.Multiply = lit≤ tt
-level_high b.Divide = lit≤ tt
-level_high b.Remainder = lit≤ tt
-level_high b.Add = lit≤ tt
-level_high b.Subtract = lit≤ tt
-level_high b.ShiftLeft = lit≤ tt
-level_high b.ShiftRight = lit≤ tt
-level_high b.Less = lit≤ tt
-level_high b.LessEqual = lit≤ tt
-level_high b.Greater = lit≤ tt
-level_high b.GreaterEqual = lit≤ tt
-level_high b.Equal = lit≤ tt
-level_high b.NotEqual = lit≤ tt
-level_high b.BitAnd = lit≤ tt
-level_high b.BitXor = lit≤ tt
-level_high b.BitOr = lit≤ tt
-level_high b.And = lit≤ tt
-level_high b.Xor = lit≤ tt
-level_high b.Or = lit≤ tt
+level_high op = lit≤ tt
 
 pub level_below : (op : BinaryOperator) → level_of op ≤ 13
 level_below b.Multiply = lit≤ tt
-level_below b.Divide = lit≤ tt
-level_below b.Remainder = lit≤ tt
-level_below b.Add = lit≤ tt
-level_below b.Subtract = lit≤ tt
-level_below b.ShiftLeft = lit≤ tt
-level_below b.ShiftRight = lit≤ tt
-level_below b.Less = lit≤ tt
-level_below b.LessEqual = lit≤ tt
-level_below b.Greater = lit≤ tt
-level_below b.GreaterEqual = lit≤ tt
-level_below b.Equal = lit≤ tt
-level_below b.NotEqual = lit≤ tt
-level_below b.BitAnd = lit≤ tt
-level_below b.BitXor = lit≤ tt
-level_below b.BitOr = lit≤ tt
-level_below b.And = lit≤ tt
-level_below b.Xor = lit≤ tt
-level_below b.Or = lit≤ tt
+level_below op = lit≤ tt
 
 pub sign_follow : (mark : Mark) (ts rest : List Token) → IsMark mark ts rest → follow_at ts ≡ follow_of mark
 sign_follow mark ts rest h = ap follow_at h.begins.is
@@ -271,7 +239,7 @@ inside t r (suc p) zero ts rest h len e = absurd (omega arith)
 inside t r (suc p) (suc n) ts rest h len e =
     let one = sign_one m.OpenParenthesis ts h.0 h.1 in
     let two = sign_one m.CloseParenthesis h.2.0 rest h.2.2 in
-    let less = phrase_takes t 1 (takes t) h.0 h.2.0 (record { pairs = p; high = λ e. level_least t; within = h.2.1 }) in
+    let less = phrase_takes t 1 h.0 h.2.0 (record { pairs = p; high = λ e. level_least t; within = h.2.1 }) in
     let zero_reach = close_reach h.2.0 rest h.2.2 in
     part_ends n 1 ts t rest (parens_part n 1 t ts h.0 h.2.0 rest h.1 (inside t r p n h.0 h.2.0 h.2.1 (omega arith) (omega arith)) h.2.2) (omega arith) e
 
@@ -287,7 +255,7 @@ phrase_by t r (suc p) zero k ts rest high h less len e = absurd (omega arith)
 phrase_by t r (suc p) (suc n) k ts rest high h less len e = part_ends n k ts t rest (wrapped_part t r p n k ts rest h (omega arith)) (omega arith) e
 
 pub phrase_of : (t : Tree) → Reads t → (n k : ℕ) (ts rest : List Token) → IsPhrase (Spells t) (level t) k ts rest → length ts < n → reach rest < k → (readers n).phrase k ts ≡ Some (t, rest)
-phrase_of t r n k ts rest h len e = phrase_by t r h.pairs n k ts rest h.high h.within (phrase_takes t k (takes t) ts rest h) len e
+phrase_of t r n k ts rest h len e = phrase_by t r h.pairs n k ts rest h.high h.within (phrase_takes t k ts rest h) len e
 
 climbed_part : (n k : ℕ) (t : Tree) (ts rest : List Token) → length rest < n → part (readers n) k ts ≡ Some (t, rest) → Climbed n k t ts rest
 climbed_part n k t ts rest len e = record { left = n; enough = len; within = omega arith; is = operand_of n k ts t rest e }
@@ -297,7 +265,7 @@ climbs_by t r zero n k l ts rest high h less low most le len e free = r.climbs n
 climbs_by t r (suc p) n k l ts rest high h less low most le len e free = climbed_part n k t ts rest (omega arith) (wrapped_part t r p n k ts rest h len)
 
 climbs_of : (t : Tree) → Reads t → (n k l : ℕ) (ts rest : List Token) → IsPhrase (Spells t) (level t) l ts rest → 3 ≤ l → l ≤ 13 → k ≤ l → length ts ≤ n → reach rest ≤ l → (reach rest ≡ 1 → 2 ≤ k) → Climbed n k t ts rest
-climbs_of t r n k l ts rest h low most le len e free = climbs_by t r h.pairs n k l ts rest h.high h.within (phrase_takes t l (takes t) ts rest h) low most le len e free
+climbs_of t r n k l ts rest h low most le len e free = climbs_by t r h.pairs n k l ts rest h.high h.within (phrase_takes t l ts rest h) low most le len e free
 
 -- ---- from one statement to the other
 
@@ -353,8 +321,8 @@ not_open mark x h other = open_is (same_mark mark m.OpenParenthesis) mark x refl
 unary_part : (line : ℕ) (op : UnaryOperator) (a : Tree) → Reads a → IsPart (Unary line op a)
 unfolding part part_at_mark
 unary_part line op a r n k ts rest s len e free =
-    let one : length ts ≡ suc (length s.2.0) = ap length s.2.1.is in
-    rw (s.2.1.is, not_open s.0 (p.Unary op) s.1 (λ h. absurd cc), s.1) (rw (phrase_of a r n 14 s.2.0 rest s.2.2 (omega arith) (omega (arith, below_unary (follow_at rest) e))) refl)
+    let one : length ts ≡ suc (length s.0) = ap length s.1.is in
+    rw (s.1.is, not_open (unary_mark op) (p.Unary op) (unary_prefix op) (λ h. absurd cc), unary_prefix op) (rw (phrase_of a r n 14 s.0 rest s.2 (omega arith) (omega (arith, below_unary (follow_at rest) e))) refl)
 
 cast_read : (to : IntegerType) (words close rest : List Token) → AreWords words → integer_type words ≡ Some to → IsMark m.CloseParenthesis close rest → cast_type (words ++ close) ≡ Some (to, rest)
 unfolding cast_type run after_run
@@ -458,14 +426,14 @@ furthers_more : (a : Tree) (l : Trees) → Reads a → Furthers l → Furthers (
 furthers_more a l r g zero acc ts rest s len h e = absurd (omega arith)
 furthers_more a l r g (suc n) acc ts rest s len h e =
     let one = sign_one m.Comma ts s.0 s.1 in
-    let less = phrase_takes a 1 (takes a) s.0 s.2.0 s.2.1 in
+    let less = phrase_takes a 1 s.0 s.2.0 s.2.1 in
     let quiet = more_reach l s.2.0 rest s.2.2 e in
     further_goes n acc a ts s.0 s.2.0 s.1 (phrase_of a r n 1 s.0 s.2.0 s.2.1 (omega arith) (omega arith)) ∙ g n (add acc a) s.2.0 rest s.2.2 (omega arith) h e
 
 listed_read : (n : ℕ) (close : Mark) (a : Tree) (l : Trees) (ts later closing rest : List Token) → Reads a → Furthers l → IsPhrase (Spells a) (level a) 1 ts later → SpellsMore l later closing → IsMark close closing rest → same_mark close close ≡ true → same_mark close m.Comma ≡ false → follow_of close ≡ f.Other → length ts < n → closed_list (readers n) close ts ≡ Some (more a l, rest)
 unfolding closed_list
 listed_read n close a l ts later closing rest r g h hs s self comma other len =
-    let less = phrase_takes a 1 (takes a) ts later h in
+    let less = phrase_takes a 1 ts later h in
     let ends = sign_reach close closing rest f.Other s other in
     let quiet = more_reach l later closing hs ends in
     let first = phrase_of a r n 1 ts later h len (omega arith) in
@@ -522,7 +490,7 @@ arguments_read n end r list rest s len =
 arguments_read n (more a l) r list rest s len =
     let one = sign_one m.OpenParenthesis list s.0 s.1 in
     let inside = s.2.1 in
-    let less = phrase_takes a 1 (takes a) s.0 inside.0 inside.1 in
+    let less = phrase_takes a 1 s.0 inside.0 inside.1 in
     let ends = close_reach s.2.0 rest s.2.2 in
     let quiet = more_reach l inside.0 s.2.0 inside.2 ends in
     let first = phrase_of a r.parts.0 n 1 s.0 inside.0 inside.1 (omega arith) (omega arith) in
@@ -624,8 +592,8 @@ read_part x all r n k ts rest s len e free =
 after_part : (x : Variable) (all : Trees) (step : Step) → ReadsAll all → IsPart (After x all step)
 unfolding follows
 after_part x all step r n k ts rest s len e free =
-    let there = sign_follow s.0 s.2.0 rest s.2.2 ∙ s.1 in
-    named_read n k x all ts s.2.0 (target_at n x all r ts s.2.0 s.2.1 (omega arith) (ap opens_of there)) ∙ rw (there, sign_tail s.0 s.2.0 rest s.2.2) refl
+    let there = sign_follow (step_mark step) s.0 rest s.2 ∙ step_follow step in
+    named_read n k x all ts s.0 (target_at n x all r ts s.0 s.1 (omega arith) (ap opens_of there)) ∙ rw (there, sign_tail (step_mark step) s.0 rest s.2) refl
 
 stepped_read : (n line : ℕ) (step : Step) (x : Variable) (all : Trees) (ts rest : List Token) → TargetAt n x all ts rest → part_at_step (readers n) line step ts ≡ Some (Before line step x all, rest)
 unfolding part_at_step
@@ -634,8 +602,8 @@ stepped_read n line step x all ts rest h = rw h.begins.is (rw h.read refl)
 before_part : (line : ℕ) (step : Step) (x : Variable) (all : Trees) → ReadsAll all → IsPart (Before line step x all)
 unfolding part part_at_mark
 before_part line step x all r n k ts rest s len e free =
-    let one : length ts ≡ suc (length s.2.0) = ap length s.2.1.is in
-    rw (s.2.1.is, not_open s.0 (p.Step step) s.1 (λ h. absurd cc), s.1) (stepped_read n line step x all s.2.0 rest (target_at n x all r s.2.0 rest s.2.2 (omega arith) (free_follow (follow_at rest) e)))
+    let one : length ts ≡ suc (length s.0) = ap length s.1.is in
+    rw (s.1.is, not_open (step_mark step) (p.Step step) (step_prefix step) (λ h. absurd cc), step_prefix step) (stepped_read n line step x all s.0 rest (target_at n x all r s.0 rest s.2 (omega arith) (free_follow (follow_at rest) e)))
 
 call_part : (line : ℕ) (name : List ℕ) (all : Trees) → ReadsAll all → IsPart (Call line name all)
 unfolding part part_at_name
@@ -649,11 +617,11 @@ call_part line name all r n k ts rest s len e free =
 assign_part : (op : AssignOperator) (x : Variable) (all : Trees) (a : Tree) → ReadsAll all → Reads a → (n k : ℕ) (ts rest : List Token) → Spells (Assign op x all a) ts rest → k ≤ 1 → length ts ≤ n → reach rest < k → part (readers n) k ts ≡ Some (Assign op x all a, rest)
 unfolding follows
 assign_part op x all a r ra n k ts rest s le len e =
-    let there = sign_follow s.0 s.2.0 s.2.2.0 s.2.2.1 ∙ s.1 in
-    let one = sign_one s.0 s.2.0 s.2.2.0 s.2.2.1 in
-    let less = target_takes x all (SpellsKeys all) (keys_take all) ts s.2.0 s.2.1 in
-    named_read n k x all ts s.2.0 (target_at n x all r ts s.2.0 s.2.1 (omega arith) (ap opens_of there))
-    ∙ rw (there, le-leb k 1 le, sign_tail s.0 s.2.0 s.2.2.0 s.2.2.1) (rw (phrase_of a ra n 1 s.2.2.0 rest s.2.2.2 (omega arith) (omega arith)) refl)
+    let there = sign_follow (assign_mark op) s.0 s.2.0 s.2.1 ∙ assign_follow op in
+    let one = sign_one (assign_mark op) s.0 s.2.0 s.2.1 in
+    let less = target_takes x all ts s.0 s.1 in
+    named_read n k x all ts s.0 (target_at n x all r ts s.0 s.1 (omega arith) (ap opens_of there))
+    ∙ rw (there, le-leb k 1 le, sign_tail (assign_mark op) s.0 s.2.0 s.2.1) (rw (phrase_of a ra n 1 s.2.0 rest s.2.2 (omega arith) (omega arith)) refl)
 
 assign_phrases : (op : AssignOperator) (x : Variable) (all : Trees) (a : Tree) → ReadsAll all → Reads a → Phrases (Assign op x all a)
 assign_phrases op x all a r ra zero k ts rest s le len e = absurd (omega arith)
@@ -663,30 +631,30 @@ assign_phrases op x all a r ra (suc n) k ts rest s le len e =
 
 -- ---- operators
 
-climb_goes : (n k : ℕ) (mark : Mark) (op : BinaryOperator) (a b : Tree) (ts right rest : List Token) → follow_of mark ≡ f.Infix op → IsMark mark ts right → k ≤ level_of op → (readers n).phrase (suc (level_of op)) right ≡ Some (b, rest) → (readers (suc n)).climb k a ts ≡ (readers n).climb k (Binary op a b) rest
+climb_goes : (n k : ℕ) (op : BinaryOperator) (a b : Tree) (ts right rest : List Token) → IsMark (binary_mark op) ts right → k ≤ level_of op → (readers n).phrase (suc (level_of op)) right ≡ Some (b, rest) → (readers (suc n)).climb k a ts ≡ (readers n).climb k (Binary op a b) rest
 unfolding climb_on
-climb_goes n k mark op a b ts right rest o s le e = rw (sign_follow mark ts right s, o, sign_tail mark ts right s, le-leb k (level_of op) le) (rw e refl)
+climb_goes n k op a b ts right rest s le e = rw (sign_follow (binary_mark op) ts right s, binary_follow op, sign_tail (binary_mark op) ts right s, le-leb k (level_of op) le) (rw e refl)
 
-climbed_by : (left n k : ℕ) (op : BinaryOperator) (a b : Tree) (ts rest : List Token) (mark : Mark) (middle right : List Token) → Reads b → follow_of mark ≡ f.Infix op → IsMark mark middle right → IsPhrase (Spells b) (level b) (suc (level_of op)) right rest → k ≤ level_of op → reach rest ≤ level_of op → length middle < left → left ≤ n → operand (readers n) k ts ≡ (readers left).climb (max k 3) a middle → Climbed n k (Binary op a b) ts rest
-climbed_by zero n k op a b ts rest mark middle right rb o s h le e len within is = absurd (omega arith)
-climbed_by (suc left) n k op a b ts rest mark middle right rb o s h le e len within is =
-    let one = sign_one mark middle right s in
-    let less = phrase_takes b (suc (level_of op)) (takes b) right rest h in
+climbed_by : (left n k : ℕ) (op : BinaryOperator) (a b : Tree) (ts rest middle right : List Token) → Reads b → IsMark (binary_mark op) middle right → IsPhrase (Spells b) (level b) (suc (level_of op)) right rest → k ≤ level_of op → reach rest ≤ level_of op → length middle < left → left ≤ n → operand (readers n) k ts ≡ (readers left).climb (max k 3) a middle → Climbed n k (Binary op a b) ts rest
+climbed_by zero n k op a b ts rest middle right rb s h le e len within is = absurd (omega arith)
+climbed_by (suc left) n k op a b ts rest middle right rb s h le e len within is =
+    let one = sign_one (binary_mark op) middle right s in
+    let less = phrase_takes b (suc (level_of op)) right rest h in
     let high = level_high op in
     record {
       left = left;
       enough = omega arith;
       within = omega arith;
-      is = is ∙ climb_goes left (max k 3) mark op a b middle right rest o s (omega arith) (phrase_of b rb left (suc (level_of op)) right rest h (omega arith) (omega arith));
+      is = is ∙ climb_goes left (max k 3) op a b middle right rest s (omega arith) (phrase_of b rb left (suc (level_of op)) right rest h (omega arith) (omega arith));
     }
 
 binary_climbs : (op : BinaryOperator) (a b : Tree) → Reads a → Reads b → Climbs (Binary op a b)
 binary_climbs op a b ra rb n k l ts rest s low most high le len e free =
-    let there = sign_reach s.0 s.2.0 s.2.2.0 (f.Infix op) s.2.2.1 s.1 in
+    let there = sign_reach (binary_mark op) s.0 s.2.0 (f.Infix op) s.2.1 (binary_follow op) in
     let lowest = level_high op in
     let highest = level_below op in
-    let first = climbs_of a ra n k (level_of op) ts s.2.0 s.2.1 lowest highest (omega arith) len (omega arith) (λ one. absurd (omega arith)) in
-    climbed_by first.left n k op a b ts rest s.0 s.2.0 s.2.2.0 rb s.1 s.2.2.1 s.2.2.2 (omega arith) (omega arith) first.enough first.within first.is
+    let first = climbs_of a ra n k (level_of op) ts s.0 s.1 lowest highest (omega arith) len (omega arith) (λ one. absurd (omega arith)) in
+    climbed_by first.left n k op a b ts rest s.0 s.2.0 rb s.2.1 s.2.2 (omega arith) (omega arith) first.enough first.within first.is
 
 -- ---- choice
 
@@ -702,9 +670,9 @@ choice_phrases test a b rt ra rb (suc n) k ts rest s le len e =
     let v = u.2 in
     let at_question = sign_reach m.Question s.0 s.2.0 f.Question s.2.1 refl in
     let at_colon = sign_reach m.Colon u.0 v.0 f.Other v.1 refl in
-    let one = phrase_takes test 3 (takes test) ts s.0 s.1 in
+    let one = phrase_takes test 3 ts s.0 s.1 in
     let two = sign_one m.Question s.0 s.2.0 s.2.1 in
-    let three = phrase_takes a 1 (takes a) s.2.0 u.0 u.1 in
+    let three = phrase_takes a 1 s.2.0 u.0 u.1 in
     let four = sign_one m.Colon u.0 v.0 v.1 in
     let head = climbs_of test rt n k 3 ts s.0 s.1 (lit≤ tt) (lit≤ tt) (omega arith) (omega arith) (omega arith) (λ h. absurd (omega arith)) in
     let enough = head.enough in

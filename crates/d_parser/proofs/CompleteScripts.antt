@@ -18,8 +18,7 @@ use Rattle.d_parser.specs.Tree.{Tree, Trees, StmtTree, Expression, Aggregation, 
 use Rattle.d_parser.specs.Tree.{OfThread, OfClause, ClauseTree, ItemTree, Declared, Probing}
 use Rattle.d_parser.specs.Words.{word_kind}
 use Rattle.d_parser.specs.Steps.Words.{run, after_run}
-use Rattle.d_parser.specs.Marks.{prefix_of}
-use Rattle.d_parser.specs.Steps.Marks.{is_at, same_mark, tail}
+use Rattle.d_parser.specs.Steps.Marks.{prefix_of, is_at, same_mark, tail}
 use Rattle.d_parser.specs.Grammar.{token, IsToken, IsMark, IsType}
 use Rattle.d_parser.specs.Script.{EachAfter, SeparatedBy, IsStmt, IsSlot, present, AreStmts}
 use Rattle.d_parser.specs.Script.{IsDescription, IsPredicate, IsClause, AreKeyTypes, IsDeclared}
@@ -36,8 +35,8 @@ use Rattle.d_parser.specs.Steps.ReadingScripts.{whole_type, types_on, further_ty
 use Rattle.d_parser.specs.Steps.ReadingScripts.{last_apart, typed_name, of_thread, of_clause}
 use Rattle.d_parser.specs.Steps.ReadingScripts.{declaration_by, item_reader, items_reader}
 use Rattle.d_parser.specs.Steps.ReadingScripts.{script_reader}
-use Rattle.d_parser.proofs.Takes.{sign_one, word_one, type_takes, takes, phrase_takes, keys_take}
-use Rattle.d_parser.proofs.Takes.{list_takes, each_takes, between_takes}
+use Rattle.d_parser.proofs.Takes.{sign_one, word_one, type_takes, keys_take, between_takes}
+use Rattle.d_parser.proofs.Counts.{stmt_one, predicate_uses, descriptions_use, declaration_uses}
 use Rattle.d_parser.proofs.Complete.{reach, opens_of, sign_there, sign_follow, sign_tail, sign_at}
 use Rattle.d_parser.proofs.Complete.{sign_reach, after_sign, reads, reads_all, phrase_of, keys_read}
 use Rattle.d_parser.proofs.Complete.{arguments_read}
@@ -125,25 +124,9 @@ unfolding slot
 slot_read n all None ts later h s len = rw (h, s.ends, append-nil all) refl
 slot_read n all (Some t) ts later h s len = let r = stmt_read n t ts later h len s.quiet in rw r.1 (rw r.0 refl)
 
-stmt_takes : (s : StmtTree) (ts rest : List Token) → IsStmt s ts rest → length rest < length ts
-stmt_takes (Expression t) ts rest h = phrase_takes t 1 (takes t) ts rest h
-stmt_takes (Aggregation line name all function list) ts rest h =
-    let at_assign = h.1.2 in
-    let at_word = at_assign.2 in
-    let at_open = at_word.2 in
-    let inside = at_open.2 in
-    let one : length ts ≡ suc (length h.1.0) = ap length h.1.1.is in
-    let two = keys_take all h.1.0 at_assign.0 at_assign.1 in
-    let three = sign_one m.Assign at_assign.0 at_word.0 at_word.1 in
-    let four : length at_word.0 ≡ suc (length at_open.0) = ap length at_open.1.is in
-    let five = sign_one m.OpenParenthesis at_open.0 inside.0 inside.1 in
-    let six = list_takes list inside.0 inside.2.0 inside.2.1 in
-    let seven = sign_one m.CloseParenthesis inside.2.0 rest inside.2.2 in
-    omega arith
-
 slot_takes : (o : Option StmtTree) (ts rest : List Token) → IsSlot o ts rest → length rest ≤ length ts
 slot_takes None ts rest h = let e : length ts ≡ length rest = ap length h in omega arith
-slot_takes (Some s) ts rest h = let less = stmt_takes s ts rest h in omega arith
+slot_takes (Some s) ts rest h = let less = stmt_one s ts rest h in omega arith
 
 present_more : (o : Option StmtTree) (slots : List (Option StmtTree)) → present (o ∷ []) ++ present slots ≡ present (o ∷ slots)
 present_more None slots = refl
@@ -187,9 +170,6 @@ descriptions_read (d ∷ ds) (suc turns) all ts rest h e len =
     rw (sign_at m.Comma m.Comma ts h.0 h.1, sign_tail m.Comma ts h.0 h.1) (rw (description_read d h.0 h.2.0 h.2.1)
     (descriptions_read ds turns (all ++ d ∷ []) h.2.0 rest h.2.2 e (omega arith) ∙ ap (λ (xs : List Description). Some (xs, rest)) (append_assoc all (d ∷ []) ds)))
 
-description_takes : (d : Description) (ts rest : List Token) → IsDescription d ts rest → length rest ≤ length ts
-description_takes d ts rest h = let one : length ts ≡ suc (length rest) = ap length h.begins.is in omega arith
-
 all_descriptions_read : (n : ℕ) (ds : List Description) (ts rest : List Token) → SeparatedBy m.Comma IsDescription ds ts rest → is_at m.Comma rest ≡ false → length ts < n → descriptions_reader n ts ≡ Some (ds, rest)
 unfolding descriptions_reader
 all_descriptions_read n [] ts rest h e len = absurd h
@@ -200,8 +180,7 @@ all_descriptions_read n (d ∷ ds) ts rest h e len =
 descriptions_take : (ds : List Description) (ts rest : List Token) → SeparatedBy m.Comma IsDescription ds ts rest → length rest < length ts
 descriptions_take [] ts rest h = absurd h
 descriptions_take (d ∷ ds) ts rest h =
-    let one : length ts ≡ suc (length h.0) = ap length h.1.begins.is in
-    let two = each_takes m.Comma IsDescription description_takes ds h.0 rest h.2 in
+    let used = descriptions_use (d ∷ ds) ts rest h in
     omega arith
 
 predicate_read : (n : ℕ) (o : Option Tree) (ts rest more : List Token) → IsPredicate o ts rest → IsMark m.OpenBrace rest more → length ts < n → predicate_reader n ts ≡ Some (o, rest)
@@ -212,14 +191,6 @@ predicate_read n (Some t) ts rest more h s len =
     let quiet = sign_reach m.ClosingSlash h.2.0 rest f.Other h.2.2 refl in
     rw (sign_at m.Slash m.Slash ts h.0 h.1, sign_tail m.Slash ts h.0 h.1) (rw (phrase_of t (reads t) n 1 h.0 h.2.0 h.2.1 (omega arith) (omega arith)) (rw (after_sign m.ClosingSlash h.2.0 rest refl h.2.2) refl))
 
-predicate_takes : (o : Option Tree) (ts rest : List Token) → IsPredicate o ts rest → length rest ≤ length ts
-predicate_takes None ts rest h = let e : length ts ≡ length rest = ap length h in omega arith
-predicate_takes (Some t) ts rest h =
-    let one = sign_one m.Slash ts h.0 h.1 in
-    let two = phrase_takes t 1 (takes t) h.0 h.2.0 h.2.1 in
-    let three = sign_one m.ClosingSlash h.2.0 rest h.2.2 in
-    omega arith
-
 predicate_starts : (o : Option Tree) (ts rest more : List Token) → IsPredicate o ts rest → IsMark m.OpenBrace rest more → is_at m.Comma ts ≡ false
 predicate_starts None ts rest more h s = rw (h, sign_at m.OpenBrace m.Comma rest more s) refl
 predicate_starts (Some t) ts rest more h s = sign_at m.Slash m.Comma ts h.0 h.1
@@ -229,7 +200,7 @@ unfolding clause_reader
 clause_read n c ts rest h len =
     let body = h.2.2 in
     let one = descriptions_take c.descriptions ts h.0 h.1 in
-    let two = predicate_takes c.predicate h.0 h.2.0 h.2.1 in
+    let two = predicate_uses c.predicate h.0 h.2.0 h.2.1 in
     let three = sign_one m.OpenBrace h.2.0 body.0 body.1 in
     rw (all_descriptions_read n c.descriptions ts h.0 h.1 (predicate_starts c.predicate h.0 h.2.0 body.0 h.2.1 body.1) len)
     (rw (predicate_read n c.predicate h.0 h.2.0 body.0 h.2.1 body.1 (omega arith))
@@ -239,7 +210,7 @@ clause_takes : (c : ClauseTree) (ts rest : List Token) → IsClause c ts rest �
 clause_takes c ts rest h =
     let body = h.2.2 in
     let one = descriptions_take c.descriptions ts h.0 h.1 in
-    let two = predicate_takes c.predicate h.0 h.2.0 h.2.1 in
+    let two = predicate_uses c.predicate h.0 h.2.0 h.2.1 in
     let three = sign_one m.OpenBrace h.2.0 body.0 body.1 in
     let four = between_takes m.Semicolon IsSlot slot_takes body.2.1.0 body.0 body.2.0 body.2.1.2 in
     let five = sign_one m.CloseBrace body.2.0 rest body.2.2 in
@@ -316,22 +287,6 @@ declared_length which line t name all ts rest h =
     let three : length h.2.2.0 ≡ suc (length h.2.2.2.0) = ap length h.2.2.2.1.is in
     omega arith
 
-key_types_take : (all : List DeclaredType) (ts rest : List Token) → AreKeyTypes all ts rest → length rest ≤ length ts
-key_types_take [] ts rest h = let e : length ts ≡ length rest = ap length h in omega arith
-key_types_take (t ∷ all) ts rest h =
-    let one = sign_one m.OpenBracket ts h.0 h.1 in
-    let two = between_takes m.Comma IsType type_takes (t ∷ all) h.0 h.2.0 h.2.1 in
-    let three = sign_one m.CloseBracket h.2.0 rest h.2.2 in
-    omega arith
-
-declared_takes : (which : WordKind) (line : ℕ) (t : DeclaredType) (name : List ℕ) (all : List DeclaredType) (ts rest : List Token) → IsDeclared which line t name all ts rest → length rest < length ts
-declared_takes which line t name all ts rest h =
-    let keys = h.2.2.2 in
-    let one = declared_length which line t name all ts rest h in
-    let two = key_types_take all keys.0 keys.2.0 keys.2.1 in
-    let three = sign_one m.Semicolon keys.2.0 rest keys.2.2 in
-    omega arith
-
 thread_read : (n line : ℕ) (t : DeclaredType) (name : List ℕ) (all : List DeclaredType) (ts rest : List Token) (h : IsDeclared w.Thread line t name all ts rest) → length ts < n → of_thread n line h.2.0 ≡ Some (OfThread line t name all, rest)
 unfolding of_thread
 thread_read n line t name all ts rest h len =
@@ -369,8 +324,7 @@ item_read n (Declared (OfClause line t name)) ts rest h len = declared_item n li
 item_read n (Probing c) ts rest h len = first_run n c.descriptions ts h.0 h.1 ∙ rw (clause_read n c ts rest h len) refl
 
 item_takes : (n : ℕ) (i : ItemTree) (ts rest : List Token) → IsItem i ts rest → length rest < length ts
-item_takes n (Declared (OfThread line t name all)) ts rest h = declared_takes w.Thread line t name all ts rest h
-item_takes n (Declared (OfClause line t name)) ts rest h = declared_takes w.Clause line t name [] ts rest h
+item_takes n (Declared d) ts rest h = let used = declaration_uses d ts rest h in omega arith
 item_takes n (Probing c) ts rest h = clause_takes c ts rest h
 
 items_goes : (n turns : ℕ) (all : List ItemTree) (ts : List Token) (x : ItemTree × List Token) → item_reader n ts ≡ Some x → items_reader n (suc turns) all ts ≡ items_reader n turns (all ++ x.0 ∷ []) x.1

@@ -2,6 +2,7 @@ pub mod Rows
 pub mod Steps
 pub mod Runs
 pub mod Types
+pub mod Signs
 pub mod Takes
 pub mod Cuts
 pub mod Descriptions

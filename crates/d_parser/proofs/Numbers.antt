@@ -95,19 +95,18 @@ mutual
       let openings = sign_small _ h.0 h.2.0 named h.2.1 in
       let inside = list_small arguments h.2.0 h.2.2.0 openings h.2.2.1 in
       (inside.0, sign_small _ h.2.2.0 rest inside.1 h.2.2.2)
-  spells_small (Unary line op a) ts rest s h = phrase_small a 14 (spells_small a) h.2.0 rest (begins_small _ line ts h.2.0 s h.2.1).1 h.2.2
+  spells_small (Unary line op a) ts rest s h = phrase_small a 14 (spells_small a) h.0 rest (begins_small _ line ts h.0 s h.1).1 h.2
   spells_small (Cast line to a) ts rest s h =
       let openings = (begins_small _ line ts h.0 s h.1).1 in
       let typed = type_small (d.Integer to) h.0 h.2.0 openings h.2.1 in
       phrase_small a 14 (spells_small a) h.2.2.0 rest (sign_small _ h.2.0 h.2.2.0 typed h.2.2.1) h.2.2.2
-  spells_small (Before line step x keys) ts rest s h = target_small x keys (keys_small keys) h.2.0 rest (begins_small _ line ts h.2.0 s h.2.1).1 h.2.2
+  spells_small (Before line step x keys) ts rest s h = target_small x keys (keys_small keys) h.0 rest (begins_small _ line ts h.0 s h.1).1 h.2
   spells_small (After x keys step) ts rest s h =
-      let all = target_small x keys (keys_small keys) ts h.2.0 s h.2.1 in
-      (all.0, sign_small h.0 h.2.0 rest all.1 h.2.2)
+      let all = target_small x keys (keys_small keys) ts h.0 s h.1 in
+      (all.0, sign_small _ h.0 rest all.1 h.2)
   spells_small (Binary op a b) ts rest s h =
-      let joined = h.2.2 in
-      let left = phrase_small a (level_of op) (spells_small a) ts h.2.0 s h.2.1 in
-      let right = phrase_small b (suc (level_of op)) (spells_small b) joined.0 rest (sign_small h.0 h.2.0 joined.0 left.1 joined.1) joined.2 in
+      let left = phrase_small a (level_of op) (spells_small a) ts h.0 s h.1 in
+      let right = phrase_small b (suc (level_of op)) (spells_small b) h.2.0 rest (sign_small _ h.0 h.2.0 left.1 h.2.1) h.2.2 in
       ((left.0, right.0), right.1)
   spells_small (Choice test a b) ts rest s h =
       let first = h.2.2 in
@@ -117,9 +116,8 @@ mutual
       let three = phrase_small b 2 (spells_small b) second.0 rest (sign_small _ first.0 second.0 two.1 second.1) second.2 in
       ((one.0, two.0, three.0), three.1)
   spells_small (Assign op x keys a) ts rest s h =
-      let value = h.2.2 in
-      let one = target_small x keys (keys_small keys) ts h.2.0 s h.2.1 in
-      let two = phrase_small a 1 (spells_small a) value.0 rest (sign_small h.0 h.2.0 value.0 one.1 value.1) value.2 in
+      let one = target_small x keys (keys_small keys) ts h.0 s h.1 in
+      let two = phrase_small a 1 (spells_small a) h.2.0 rest (sign_small _ h.0 h.2.0 one.1 h.2.1) h.2.2 in
       ((one.0, two.0), two.1)
 
   keys_small : (l : Trees) → Keeps (HaveSmall l) (SpellsKeys l)

@@ -30,9 +30,8 @@ use Rattle.d_parser.specs.Tree.{Assign, Trees, end, more}
 use Rattle.d_parser.specs.Steps.Tree.{add}
 use Rattle.d_parser.specs.Words.{word_kind, type_of_words}
 use Rattle.d_parser.specs.Steps.Words.{run, after_run, only_integer, integer_type}
-use Rattle.d_parser.specs.Marks.{prefix_of, follow_of, level_of}
-use Rattle.d_parser.specs.Steps.Marks.{follow_kind, follow_at, is_at}
-use Rattle.d_parser.specs.Steps.Marks.{same_mark, tail}
+use Rattle.d_parser.specs.Marks.{step_mark, level_of}
+use Rattle.d_parser.specs.Steps.Marks.{prefix_of, follow_kind, follow_at, is_at, same_mark, tail}
 use Rattle.d_parser.specs.Grammar.{Part, ◌⨟◌, token, IsToken, IsMark, IsPhrase, level, IsWord}
 use Rattle.d_parser.specs.Grammar.{IsMember, IsTarget, IsType, IsEnclosed, Spells, SpellsKeys}
 use Rattle.d_parser.specs.Grammar.{SpellsList, SpellsMore}
@@ -46,6 +45,7 @@ use Rattle.d_parser.specs.Steps.Reading.{part_at_mark, part_by, part, climb_by, 
 use Rattle.d_parser.specs.Steps.Reading.{alternatives, choice, operand, whole, further_on}
 use Rattle.d_parser.proofs.Complete.{level_high, level_below, sign_there, join, join_more}
 use Rattle.d_parser.proofs.Runs.{run_joined}
+use Rattle.d_parser.proofs.Signs.{prefix_mark, prefix_mark_is, sign_of, sign_is}
 
 -- what an answer meets, if there is one
 abbrev pub IfSome : {A : Type 0} → (A → Type 0) → Option A → Type 0
@@ -92,24 +92,18 @@ joins_gap f.Bracket h = lit< tt
 joins_gap f.Parenthesis h = lit< tt
 joins_gap f.Other h = lit< tt
 
-pub record FollowSign (follow : Follow) (ts : List Token) : Type 0 where
-  pub mark : Mark
-  pub is : follow_of mark ≡ follow
-  pub sign : IsMark mark ts (tail ts)
-
-follow_kind_sound : (t : TokenKind) (follow : Follow) → follow_kind t ≡ follow → (follow ≡ f.Other → ⊥) → (mark : Mark) × (t ≡ kind.Mark mark) × (follow_of mark ≡ follow)
-follow_kind_sound (kind.Mark mark) follow h other = (mark, refl, h)
+follow_kind_sound : (t : TokenKind) (follow : Follow) → follow_kind t ≡ follow → (follow ≡ f.Other → ⊥) → t ≡ kind.Mark (sign_of follow)
+follow_kind_sound (kind.Mark mark) follow h other = ap kind.Mark (sign_is follow mark h other)
 follow_kind_sound (kind.Word name) follow h other = absurd (other (sym h))
 follow_kind_sound (kind.DescriptionRun name) follow h other = absurd (other (sym h))
 follow_kind_sound (kind.AggregationName name) follow h other = absurd (other (sym h))
 follow_kind_sound (kind.Number value suffix) follow h other = absurd (other (sym h))
 follow_kind_sound (kind.TextConstant bytes) follow h other = absurd (other (sym h))
 
-follow_sound : (follow : Follow) (ts : List Token) → follow_at ts ≡ follow → (follow ≡ f.Other → ⊥) → FollowSign follow ts
+follow_sound : (follow : Follow) (ts : List Token) → follow_at ts ≡ follow → (follow ≡ f.Other → ⊥) → IsMark (sign_of follow) ts (tail ts)
 follow_sound follow [] h other = absurd (other (sym h))
 follow_sound follow (t ∷ ts) h other =
-    let k = follow_kind_sound t.kind follow h other in
-    record { mark = k.0; is = k.2; sign = record { line = t.line; begins = record { start = t.start; stop = t.stop; is = ap (λ (x : TokenKind). token x t.start t.stop t.line ∷ ts) k.1 } } }
+    record { line = t.line; begins = record { start = t.start; stop = t.stop; is = ap (λ (x : TokenKind). token x t.start t.stop t.line ∷ ts) (follow_kind_sound t.kind follow h other) } }
 
 -- ---- phrases
 
@@ -247,21 +241,6 @@ cast_sound ts =
 
 -- ---- marks
 
-bracket_is : (mark : Mark) → follow_of mark ≡ f.Bracket → mark ≡ m.OpenBracket
-bracket_is m.OpenBracket e = refl
-bracket_is mark e = absurd cc
-
-parenthesis_is : (mark : Mark) → follow_of mark ≡ f.Parenthesis → mark ≡ m.OpenParenthesis
-parenthesis_is m.OpenParenthesis e = refl
-parenthesis_is mark e = absurd cc
-
-question_is : (mark : Mark) → follow_of mark ≡ f.Question → mark ≡ m.Question
-question_is m.Question e = refl
-question_is mark e = absurd cc
-
-mark_sign : (mark : Mark) (follow : Follow) (ts : List Token) → ((found : Mark) → follow_of found ≡ follow → found ≡ mark) → follow_at ts ≡ follow → (follow ≡ f.Other → ⊥) → IsMark mark ts (tail ts)
-mark_sign mark follow ts one e other = let s = follow_sound follow ts e other in subst (λ (k : Mark). IsMark k ts (tail ts)) (one s.mark s.is) s.sign
-
 calls_sound : (word : WordKind) (follow : Follow) → calls word follow ≡ true → (word ≡ w.Plain) × (follow ≡ f.Parenthesis)
 calls_sound w.Plain f.Parenthesis e = (refl, refl)
 calls_sound word follow e = absurd cc
@@ -306,7 +285,7 @@ module _ (down : Readers) (sound : Sound down) where
   keys_by_sound : (follow : Follow) (ts : List Token) → follow_at ts ≡ follow → IfSome (KeysOf ts) (keys_by down follow ts)
   keys_by_sound f.Bracket ts e =
       weaken (Listed m.CloseBracket (tail ts)) (KeysOf ts) (closed_list down m.CloseBracket (tail ts))
-      (λ x h. subst (λ (l : Trees). SpellsKeys l ts x.1) (sym h.is) (tail ts, mark_sign m.OpenBracket f.Bracket ts bracket_is e (λ h. absurd cc), (h.closing, (h.later, h.phrase, h.spells), h.closes)))
+      (λ x h. subst (λ (l : Trees). SpellsKeys l ts x.1) (sym h.is) (tail ts, follow_sound f.Bracket ts e (λ h. absurd cc), (h.closing, (h.later, h.phrase, h.spells), h.closes)))
       (listed_sound m.CloseBracket (tail ts))
   keys_by_sound (f.Infix op) ts e = refl
   keys_by_sound (f.Assign op) ts e = refl
@@ -347,14 +326,14 @@ module _ (down : Readers) (sound : Sound down) where
       let s = follow_sound (f.Assign op) ts e (λ h. absurd cc) in
       then_sound (Whole 1 (tail ts)) (Fits j start) (down.phrase 1 (tail ts)) (λ value. Some (Assign op x.0 x.1 value.0, value.1)) (sound.phrase 1 (tail ts) (lit≤ tt) (lit≤ tt))
       (λ value g. record {
-        phrase = bare (Assign op x.0 x.1 value.0) j start value.1 (s.mark, s.is, (ts, h, (tail ts, s.sign, g.phrase))) low;
+        phrase = bare (Assign op x.0 x.1 value.0) j start value.1 (ts, h, (tail ts, s, g.phrase)) low;
         fits = λ one. absurd (let stop = g.stops in omega arith);
       })
 
   follows_by_sound : (follow : Follow) (j : ℕ) (x : Variable × Trees) (start ts : List Token) → j ≤ 14 → TargetOf start (x, ts) → follow_at ts ≡ follow → IfSome (Fits j start) (follows_by down follow j x ts)
   follows_by_sound (f.Step step) j x start ts le h e =
       let s = follow_sound (f.Step step) ts e (λ h. absurd cc) in
-      bare_fits (After x.0 x.1 step) j start (tail ts) le (lit≤ tt) (s.mark, s.is, (ts, h, s.sign))
+      bare_fits (After x.0 x.1 step) j start (tail ts) le (lit≤ tt) (ts, h, s)
   follows_by_sound (f.Assign op) j x start ts le h e =
       elim (cases_lt 1 j) [
         | inl high ↦ rw (lt-leb j 1 high) (read_sound j x start ts le h)
@@ -373,7 +352,7 @@ module _ (down : Readers) (sound : Sound down) where
   call_sound : (j : ℕ) (name : List ℕ) (line : ℕ) (start ts : List Token) → j ≤ 14 → IsToken (kind.Word name) line start ts → begins_call name ts ≡ true → IfSome (Fits j start) (arguments down (tail ts) >>= λ all. Some (Call line name all.0, all.1))
   call_sound j name line start ts le h e =
       let both = calls_sound (word_kind name) (follow_at ts) e in
-      then_sound (ArgumentsOf ts) (Fits j start) (arguments down (tail ts)) (λ all. Some (Call line name all.0, all.1)) (arguments_sound ts (mark_sign m.OpenParenthesis f.Parenthesis ts parenthesis_is both.1 (λ h. absurd cc)))
+      then_sound (ArgumentsOf ts) (Fits j start) (arguments down (tail ts)) (λ all. Some (Call line name all.0, all.1)) (arguments_sound ts (follow_sound f.Parenthesis ts both.1 (λ h. absurd cc)))
       (λ all g. bare_fits (Call line name all.0) j start all.1 le (lit≤ tt) (ts, (both.0, h), g))
 
   named_sound : (j : ℕ) (name : List ℕ) (line : ℕ) (start ts : List Token) → j ≤ 14 → IsToken (kind.Word name) line start ts → IfSome (Fits j start) (part_at_name down j name line ts)
@@ -399,34 +378,34 @@ module _ (down : Readers) (sound : Sound down) where
       (λ inner g. then_sound (SignOf m.CloseParenthesis inner.1) (Fits j start) (after_mark m.CloseParenthesis inner.1) (λ rest. Some (inner.0, rest)) (after_sound m.CloseParenthesis inner.1)
       (λ rest s. any_fits inner.0 j start rest le (λ l high. in_parens inner.0 1 l start ts inner.1 rest (record { line = line; begins = h }) g.phrase s))))
 
-  stepped_by_sound : (t : TokenKind) (begin stop word_line : ℕ) (j line : ℕ) (step : Step) (mark : Mark) (start ts : List Token) → j ≤ 14 → prefix_of mark ≡ p.Step step → IsToken (kind.Mark mark) line start (token t begin stop word_line ∷ ts) → IfSome (Fits j start) (part_at_step_by down line step t word_line ts)
-  stepped_by_sound (kind.Word name) begin stop word_line j line step mark start ts le e h =
+  stepped_by_sound : (t : TokenKind) (begin stop word_line : ℕ) (j line : ℕ) (step : Step) (start ts : List Token) → j ≤ 14 → IsToken (kind.Mark (step_mark step)) line start (token t begin stop word_line ∷ ts) → IfSome (Fits j start) (part_at_step_by down line step t word_line ts)
+  stepped_by_sound (kind.Word name) begin stop word_line j line step start ts le h =
       then_sound (TargetOf (token (kind.Word name) begin stop word_line ∷ ts)) (Fits j start) (target down (word_kind name) name word_line ts) (λ x. Some (Before line step x.0.0 x.0.1, x.1)) (target_sound name word_line (token (kind.Word name) begin stop word_line ∷ ts) ts (record { start = begin; stop = stop; is = refl }))
-      (λ x g. bare_fits (Before line step x.0.0 x.0.1) j start x.1 le (lit≤ tt) (mark, e, (token (kind.Word name) begin stop word_line ∷ ts, h, g)))
-  stepped_by_sound (kind.DescriptionRun name) begin stop word_line j line step mark start ts le e h = tt
-  stepped_by_sound (kind.AggregationName name) begin stop word_line j line step mark start ts le e h = tt
-  stepped_by_sound (kind.Number value suffix) begin stop word_line j line step mark start ts le e h = tt
-  stepped_by_sound (kind.TextConstant bytes) begin stop word_line j line step mark start ts le e h = tt
-  stepped_by_sound (kind.Mark found) begin stop word_line j line step mark start ts le e h = tt
+      (λ x g. bare_fits (Before line step x.0.0 x.0.1) j start x.1 le (lit≤ tt) (token (kind.Word name) begin stop word_line ∷ ts, h, g))
+  stepped_by_sound (kind.DescriptionRun name) begin stop word_line j line step start ts le h = tt
+  stepped_by_sound (kind.AggregationName name) begin stop word_line j line step start ts le h = tt
+  stepped_by_sound (kind.Number value suffix) begin stop word_line j line step start ts le h = tt
+  stepped_by_sound (kind.TextConstant bytes) begin stop word_line j line step start ts le h = tt
+  stepped_by_sound (kind.Mark found) begin stop word_line j line step start ts le h = tt
 
-  stepped_sound : (j line : ℕ) (step : Step) (mark : Mark) (start ts : List Token) → j ≤ 14 → prefix_of mark ≡ p.Step step → IsToken (kind.Mark mark) line start ts → IfSome (Fits j start) (part_at_step down line step ts)
+  stepped_sound : (j line : ℕ) (step : Step) (start ts : List Token) → j ≤ 14 → IsToken (kind.Mark (step_mark step)) line start ts → IfSome (Fits j start) (part_at_step down line step ts)
   unfolding part_at_step
-  stepped_sound j line step mark start [] le e h = tt
-  stepped_sound j line step mark start (t ∷ ts) le e h = stepped_by_sound t.kind t.start t.stop t.line j line step mark start ts le e h
+  stepped_sound j line step start [] le h = tt
+  stepped_sound j line step start (t ∷ ts) le h = stepped_by_sound t.kind t.start t.stop t.line j line step start ts le h
 
-  prefixed_sound : (x : Prefix) (j line : ℕ) (mark : Mark) (start ts : List Token) → j ≤ 14 → prefix_of mark ≡ x → IsToken (kind.Mark mark) line start ts → IfSome (Fits j start) (prefixed_by down x line ts)
-  prefixed_sound (p.Unary op) j line mark start ts le e h =
+  prefixed_sound : (x : Prefix) (j line : ℕ) (mark : Mark) (start ts : List Token) → j ≤ 14 → IsToken (kind.Mark (prefix_mark x mark)) line start ts → IfSome (Fits j start) (prefixed_by down x line ts)
+  prefixed_sound (p.Unary op) j line mark start ts le h =
       then_sound (Whole 14 ts) (Fits j start) (down.phrase 14 ts) (λ a. Some (Unary line op a.0, a.1)) (sound.phrase 14 ts (lit≤ tt) (lit≤ tt))
-      (λ a g. bare_fits (Unary line op a.0) j start a.1 le (lit≤ tt) (mark, e, (ts, h, g.phrase)))
-  prefixed_sound (p.Step step) j line mark start ts le e h = stepped_sound j line step mark start ts le e h
-  prefixed_sound p.Other j line mark start ts le e h = tt
+      (λ a g. bare_fits (Unary line op a.0) j start a.1 le (lit≤ tt) (ts, h, g.phrase))
+  prefixed_sound (p.Step step) j line mark start ts le h = stepped_sound j line step start ts le h
+  prefixed_sound p.Other j line mark start ts le h = tt
 
   marked_sound : (j line : ℕ) (mark : Mark) (start ts : List Token) → j ≤ 14 → IsToken (kind.Mark mark) line start ts → IfSome (Fits j start) (part_at_mark down mark line ts)
   unfolding part_at_mark
   marked_sound j line mark start ts le h =
       test_sound (Fits j start) (same_mark mark m.OpenParenthesis) (part_in_parentheses down line ts) (prefixed_by down (prefix_of mark) line ts)
       (λ e. parens_sound j line start ts le (subst (λ (k : Mark). IsToken (kind.Mark k) line start ts) (same_true the_type (search rules) mark m.OpenParenthesis e) h))
-      (λ e. prefixed_sound (prefix_of mark) j line mark start ts le refl h)
+      (λ e. prefixed_sound (prefix_of mark) j line mark start ts le (subst (λ (k : Mark). IsToken (kind.Mark k) line start ts) (sym (prefix_mark_is mark)) h))
 
   part_by_sound : (t : TokenKind) (begin stop line : ℕ) (j : ℕ) (ts : List Token) → j ≤ 14 → IfSome (Fits j (token t begin stop line ∷ ts)) (part_by down j t line ts)
   part_by_sound (kind.Number value suffix) begin stop line j ts le = bare_fits (Known line (c.Number value suffix)) j (token (kind.Number value suffix) begin stop line ∷ ts) ts le (lit≤ tt) (record { start = begin; stop = stop; is = refl })
@@ -453,7 +432,7 @@ module _ (down : Readers) (sound : Sound down) where
       let first = subst (λ (l : ℕ). IsPhrase (Spells left) (level left) l start ts) max_is (h.fits (omega arith)) in
       then_sound (Whole (suc (level_of op)) (tail ts)) (Climbed j k start) (down.phrase (suc (level_of op)) (tail ts)) (λ right. down.climb k (Binary op left right.0) right.1) (sound.phrase (suc (level_of op)) (tail ts) (omega arith) (omega arith))
       (λ right g.
-      let spelled : Spells (Binary op left right.0) start right.1 = (s.mark, s.is, (ts, first, (tail ts, s.sign, g.phrase))) in
+      let spelled : Spells (Binary op left right.0) start right.1 = (ts, first, (tail ts, s, g.phrase)) in
       sound.climb j k (Binary op left right.0) start right.1 high le
       (record { phrase = bare (Binary op left right.0) j start right.1 spelled (omega arith); fits = λ one. bare (Binary op left right.0) (max 3 (joins right.1)) start right.1 spelled (let stop = g.stops in omega arith) }))
 
@@ -488,7 +467,7 @@ module _ (down : Readers) (sound : Sound down) where
   choice_of_sound : (k : ℕ) (test : Tree) (start ts : List Token) → k ≤ 2 → 1 ≤ k → Fits k start (test, ts) → follow_at ts ≡ f.Question
       → IfSome (Whole k start) (alternatives down (tail ts) >>= λ x. Some (Choice test x.0.0 x.0.1, x.1))
   choice_of_sound k test start ts le pos h e =
-      let s = mark_sign m.Question f.Question ts question_is e (λ h. absurd cc) in
+      let s = follow_sound f.Question ts e (λ h. absurd cc) in
       let is : joins ts ≡ 2 = ap joins_of e in
       let max_is : max 3 (joins ts) ≡ 3 = omega arith in
       let head = subst (λ (l : ℕ). IsPhrase (Spells test) (level test) l start ts) max_is (h.fits (omega arith)) in

@@ -1,6 +1,6 @@
--- What spells a tree has a token at least.
-use Rattle.std.proofs.Common.{◌≡◌, ℕ, zero, suc, ◌<◌, ◌≤◌, List, [], ◌∷◌, ◌++◌, length, ap, arith}
-use Rattle.std.proofs.Common.{length-append}
+-- What spells a tree has a token for each place of a variable, and one at least.
+use Rattle.std.proofs.Common.{◌≡◌, ℕ, zero, suc, ◌+◌, ◌<◌, ◌≤◌, max, List, [], ◌∷◌, ◌++◌, length}
+use Rattle.std.proofs.Common.{length-append, ap, arith}
 use Rattle.d_lexer.specs.declared.token.Mark.{Mark}
 use Rattle.d_lexer.specs.declared.token.Mark.TheVariants as m
 use Rattle.d_lexer.specs.declared.token.Token.{Token}
@@ -10,7 +10,8 @@ use Rattle.d_parser.specs.declared.tree.Variable.{Variable}
 use Rattle.d_parser.specs.declared.tree.Variable.TheVariants as v
 use Rattle.d_parser.specs.Tree.{Tree, Known, Read, Call, Unary, Cast, Before, After, Binary, Choice}
 use Rattle.d_parser.specs.Tree.{Assign, Trees, end, more}
-use Rattle.d_parser.specs.Marks.{level_of}
+use Rattle.d_parser.specs.Marks.{level_of, binary_mark, assign_mark, step_mark}
+use Rattle.d_parser.specs.Sizes.{places, places_in}
 use Rattle.d_parser.specs.declared.tree.DeclaredType.{DeclaredType}
 use Rattle.d_parser.specs.declared.tree.DeclaredType.TheVariants as d
 use Rattle.d_parser.specs.declared.words.WordKind.{WordKind}
@@ -28,17 +29,6 @@ sign_one mark ts rest h = begins_one (kind.Mark mark) h.line ts rest h.begins
 abbrev pub Takes : Part → Type 0
 Takes P = (ts rest : List Token) → P ts rest → length rest < length ts
 
-pub within_takes : (n : ℕ) (P : Part) → Takes P → Takes (Within n P)
-within_takes zero P f ts rest h = f ts rest h
-within_takes (suc n) P f ts rest h =
-    let one = sign_one m.OpenParenthesis ts h.0 h.1 in
-    let two = within_takes n P f h.0 h.2.0 h.2.1 in
-    let three = sign_one m.CloseParenthesis h.2.0 rest h.2.2 in
-    omega arith
-
-pub phrase_takes : (t : Tree) (k : ℕ) → Takes (Spells t) → Takes (IsPhrase (Spells t) (level t) k)
-phrase_takes t k f ts rest h = within_takes h.pairs (Spells t) f ts rest h.within
-
 pub word_one : (which : WordKind) (word : List ℕ) (line : ℕ) (ts rest : List Token) → IsWord which word line ts rest → length ts ≡ suc (length rest)
 word_one which word line ts rest h = begins_one (kind.Word word) line ts rest h.1
 
@@ -52,92 +42,131 @@ member_takes which word line ts rest h =
 abbrev pub TakesAny : Part → Type 0
 TakesAny P = (ts rest : List Token) → P ts rest → length rest ≤ length ts
 
-pub target_takes : (x : Variable) (all : Trees) (Keys : Part) → TakesAny Keys → Takes (IsTarget x all Keys)
-target_takes (v.Plain line name) all Keys f ts rest h =
-    let one = word_one w.Plain name line ts h.0 h.1 in
-    let two = f h.0 rest h.2 in
-    omega arith
-target_takes (v.Thread line name) all Keys f ts rest h =
-    let one = member_takes w.Thread name line ts h.0 h.1 in
-    let two = f h.0 rest h.2 in
-    omega arith
-target_takes (v.Clause line name) all Keys f ts rest h = member_takes w.Clause name line ts rest h.1
-
 pub type_takes : (t : DeclaredType) → TakesAny (IsType t)
 type_takes t ts rest h = let one : length ts ≡ length (h.0 ++ rest) = ap length h.1 in let two = length-append h.0 rest in omega arith
 
 pub same_length : (ts rest : List Token) → ts ≡ rest → length rest ≤ length ts
 same_length ts rest e = let l : length ts ≡ length rest = ap length e in omega arith
 
+-- ---- a token for each place of a variable, and one at least
+
+-- what is spelled so takes n tokens at least
+abbrev pub Uses : ℕ → Part → Type 0
+Uses n P = (ts rest : List Token) → P ts rest → n + length rest ≤ length ts
+
+within_uses : (k n : ℕ) (P : Part) → Uses k P → Uses k (Within n P)
+within_uses k zero P f ts rest h = f ts rest h
+within_uses k (suc n) P f ts rest h =
+    let one = sign_one m.OpenParenthesis ts h.0 h.1 in
+    let two = within_uses k n P f h.0 h.2.0 h.2.1 in
+    let three = sign_one m.CloseParenthesis h.2.0 rest h.2.2 in
+    omega arith
+
+-- the tokens that a tree has at least
+abbrev pub least : Tree → ℕ
+least t = max 1 (places t)
+
+phrase_by : (t : Tree) (k : ℕ) → Uses (least t) (Spells t) → Uses (least t) (IsPhrase (Spells t) (level t) k)
+phrase_by t k f ts rest h = within_uses (least t) h.pairs (Spells t) f ts rest h.within
+
+target_uses : (x : Variable) (all : Trees) → Uses (places_in all) (SpellsKeys all) → Uses (suc (places_in all)) (IsTarget x all (SpellsKeys all))
+target_uses (v.Plain line name) all f ts rest h =
+    let one = word_one w.Plain name line ts h.0 h.1 in
+    let two = f h.0 rest h.2 in
+    omega arith
+target_uses (v.Thread line name) all f ts rest h =
+    let one = member_takes w.Thread name line ts h.0 h.1 in
+    let two = f h.0 rest h.2 in
+    omega arith
+target_uses (v.Clause line name) all f ts rest h =
+    let one = member_takes w.Clause name line ts rest h.1 in
+    let none : places_in all ≡ 0 = ap places_in h.0 in
+    omega arith
+
 mutual
-  pub takes : (t : Tree) → Takes (Spells t)
-  takes (Known line constant) ts rest h = let one : length ts ≡ suc (length rest) = ap length h.is in omega arith
-  takes (Read x keys) ts rest h = target_takes x keys (SpellsKeys keys) (keys_take keys) ts rest h
-  takes (Call line name arguments) ts rest h =
+  uses : (t : Tree) → Uses (least t) (Spells t)
+  uses (Known line constant) ts rest h = let one : length ts ≡ suc (length rest) = ap length h.is in omega arith
+  uses (Read x keys) ts rest h = let one = target_uses x keys (keys_use keys) ts rest h in omega arith
+  uses (Call line name arguments) ts rest h =
       let one = word_one w.Plain name line ts h.0 h.1 in
       let two = sign_one m.OpenParenthesis h.0 h.2.0 h.2.1 in
-      let three = list_takes arguments h.2.0 h.2.2.0 h.2.2.1 in
+      let three = list_uses arguments h.2.0 h.2.2.0 h.2.2.1 in
       let four = sign_one m.CloseParenthesis h.2.2.0 rest h.2.2.2 in
       omega arith
-  takes (Unary line op a) ts rest h =
-      let one : length ts ≡ suc (length h.2.0) = ap length h.2.1.is in
-      let two = phrase_takes a 14 (takes a) h.2.0 rest h.2.2 in
+  uses (Unary line op a) ts rest h =
+      let one : length ts ≡ suc (length h.0) = ap length h.1.is in
+      let two = phrase_by a 14 (uses a) h.0 rest h.2 in
       omega arith
-  takes (Cast line to a) ts rest h =
+  uses (Cast line to a) ts rest h =
       let one : length ts ≡ suc (length h.0) = ap length h.1.is in
       let two = type_takes (d.Integer to) h.0 h.2.0 h.2.1 in
       let three = sign_one m.CloseParenthesis h.2.0 h.2.2.0 h.2.2.1 in
-      let four = phrase_takes a 14 (takes a) h.2.2.0 rest h.2.2.2 in
+      let four = phrase_by a 14 (uses a) h.2.2.0 rest h.2.2.2 in
       omega arith
-  takes (Before line step x keys) ts rest h =
-      let one : length ts ≡ suc (length h.2.0) = ap length h.2.1.is in
-      let two = target_takes x keys (SpellsKeys keys) (keys_take keys) h.2.0 rest h.2.2 in
+  uses (Before line step x keys) ts rest h =
+      let one : length ts ≡ suc (length h.0) = ap length h.1.is in
+      let two = target_uses x keys (keys_use keys) h.0 rest h.2 in
       omega arith
-  takes (After x keys step) ts rest h =
-      let one = target_takes x keys (SpellsKeys keys) (keys_take keys) ts h.2.0 h.2.1 in
-      let two = sign_one h.0 h.2.0 rest h.2.2 in
+  uses (After x keys step) ts rest h =
+      let one = target_uses x keys (keys_use keys) ts h.0 h.1 in
+      let two = sign_one (step_mark step) h.0 rest h.2 in
       omega arith
-  takes (Binary op a b) ts rest h =
-      let one = phrase_takes a (level_of op) (takes a) ts h.2.0 h.2.1 in
-      let two = sign_one h.0 h.2.0 h.2.2.0 h.2.2.1 in
-      let three = phrase_takes b (suc (level_of op)) (takes b) h.2.2.0 rest h.2.2.2 in
+  uses (Binary op a b) ts rest h =
+      let one = phrase_by a (level_of op) (uses a) ts h.0 h.1 in
+      let two = sign_one (binary_mark op) h.0 h.2.0 h.2.1 in
+      let three = phrase_by b (suc (level_of op)) (uses b) h.2.0 rest h.2.2 in
       omega arith
-  takes (Choice test a b) ts rest h =
-      let one = phrase_takes test 3 (takes test) ts h.0 h.1 in
+  uses (Choice test a b) ts rest h =
+      let one = phrase_by test 3 (uses test) ts h.0 h.1 in
       let two = sign_one m.Question h.0 h.2.0 h.2.1 in
-      let three = phrase_takes a 1 (takes a) h.2.0 h.2.2.0 h.2.2.1 in
+      let three = phrase_by a 1 (uses a) h.2.0 h.2.2.0 h.2.2.1 in
       let four = sign_one m.Colon h.2.2.0 h.2.2.2.0 h.2.2.2.1 in
-      let five = phrase_takes b 2 (takes b) h.2.2.2.0 rest h.2.2.2.2 in
+      let five = phrase_by b 2 (uses b) h.2.2.2.0 rest h.2.2.2.2 in
       omega arith
-  takes (Assign op x keys a) ts rest h =
-      let one = target_takes x keys (SpellsKeys keys) (keys_take keys) ts h.2.0 h.2.1 in
-      let two = sign_one h.0 h.2.0 h.2.2.0 h.2.2.1 in
-      let three = phrase_takes a 1 (takes a) h.2.2.0 rest h.2.2.2 in
+  uses (Assign op x keys a) ts rest h =
+      let one = target_uses x keys (keys_use keys) ts h.0 h.1 in
+      let two = sign_one (assign_mark op) h.0 h.2.0 h.2.1 in
+      let three = phrase_by a 1 (uses a) h.2.0 rest h.2.2 in
       omega arith
 
-  pub keys_take : (l : Trees) → TakesAny (SpellsKeys l)
-  keys_take end ts rest h = same_length ts rest h
-  keys_take (more a l) ts rest h =
+  pub keys_use : (l : Trees) → Uses (places_in l) (SpellsKeys l)
+  keys_use end ts rest h = let e = same_length ts rest h in omega arith
+  keys_use (more a l) ts rest h =
       let one = sign_one m.OpenBracket ts h.0 h.1 in
-      let two = phrase_takes a 1 (takes a) h.0 h.2.1.0 h.2.1.1 in
-      let three = more_take l h.2.1.0 h.2.0 h.2.1.2 in
+      let two = phrase_by a 1 (uses a) h.0 h.2.1.0 h.2.1.1 in
+      let three = more_uses l h.2.1.0 h.2.0 h.2.1.2 in
       let four = sign_one m.CloseBracket h.2.0 rest h.2.2 in
       omega arith
 
-  pub list_takes : (l : Trees) → TakesAny (SpellsList l)
-  list_takes end ts rest h = same_length ts rest h
-  list_takes (more a l) ts rest h =
-      let two = phrase_takes a 1 (takes a) ts h.0 h.1 in
-      let three = more_take l h.0 rest h.2 in
+  pub list_uses : (l : Trees) → Uses (places_in l) (SpellsList l)
+  list_uses end ts rest h = let e = same_length ts rest h in omega arith
+  list_uses (more a l) ts rest h =
+      let two = phrase_by a 1 (uses a) ts h.0 h.1 in
+      let three = more_uses l h.0 rest h.2 in
       omega arith
 
-  pub more_take : (l : Trees) → TakesAny (SpellsMore l)
-  more_take end ts rest h = same_length ts rest h
-  more_take (more a l) ts rest h =
+  more_uses : (l : Trees) → Uses (places_in l) (SpellsMore l)
+  more_uses end ts rest h = let e = same_length ts rest h in omega arith
+  more_uses (more a l) ts rest h =
       let one = sign_one m.Comma ts h.0 h.1 in
-      let two = phrase_takes a 1 (takes a) h.0 h.2.0 h.2.1 in
-      let three = more_take l h.2.0 rest h.2.2 in
+      let two = phrase_by a 1 (uses a) h.0 h.2.0 h.2.1 in
+      let three = more_uses l h.2.0 rest h.2.2 in
       omega arith
+
+pub phrase_uses : (t : Tree) (k : ℕ) → Uses (least t) (IsPhrase (Spells t) (level t) k)
+phrase_uses t k = phrase_by t k (uses t)
+
+pub takes : (t : Tree) → Takes (Spells t)
+takes t ts rest h = let used = uses t ts rest h in omega arith
+
+pub phrase_takes : (t : Tree) (k : ℕ) → Takes (IsPhrase (Spells t) (level t) k)
+phrase_takes t k ts rest h = let used = phrase_uses t k ts rest h in omega arith
+
+pub target_takes : (x : Variable) (all : Trees) → Takes (IsTarget x all (SpellsKeys all))
+target_takes x all ts rest h = let used = target_uses x all (keys_use all) ts rest h in omega arith
+
+pub keys_take : (l : Trees) → TakesAny (SpellsKeys l)
+keys_take l ts rest h = let used = keys_use l ts rest h in omega arith
 
 -- ---- lists
 

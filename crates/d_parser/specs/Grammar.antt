@@ -3,11 +3,11 @@
 -- Source: Dynamic Tracing Guide, "Precedence" and "Associative Arrays".
 use Rattle.std.specs.Prelude.{◌≡◌, ◌≤◌, ◌+◌, ℕ, zero, suc, List, ◌∷◌, ◌++◌, Some}
 use Rattle.d_parser.specs.Vocabulary.{Mark, Token, TokenKind, Constant, DeclaredType, Variable}
-use Rattle.d_parser.specs.Vocabulary.{WordKind, ASSIGNMENT, CONDITION, OR, UNARY, Prefix, Follow}
+use Rattle.d_parser.specs.Vocabulary.{WordKind, ASSIGNMENT, CONDITION, OR, UNARY}
 use Rattle.d_parser.specs.Tree.{Tree, Known, Read, Call, Unary, Cast, Before, After, Binary, Choice}
 use Rattle.d_parser.specs.Tree.{Assign, Trees, end, more}
 use Rattle.d_parser.specs.Words.{word_kind, type_of_words}
-use Rattle.d_parser.specs.Marks.{prefix_of, follow_of, level_of}
+use Rattle.d_parser.specs.Marks.{binary_mark, level_of, assign_mark, unary_mark, step_mark}
 
 -- what is at the front of a list, and what is left
 abbrev pub Part : Type 1
@@ -101,31 +101,30 @@ abbrev mutual
       IsWord WordKind.Plain name line
       ⨟ IsEnclosed Mark.OpenParenthesis Mark.CloseParenthesis (SpellsList arguments)
   -- unary = ( "!" | "~" | "-" | "+" ) unary
-  Spells (Unary line op a) = λ ts rest. (mark : Mark) × (prefix_of mark ≡ Prefix.Unary op)
-      × (IsToken (TokenKind.Mark mark) line ⨟ IsPhrase (Spells a) (level a) UNARY) ts rest
+  Spells (Unary line op a) =
+      IsToken (TokenKind.Mark (unary_mark op)) line ⨟ IsPhrase (Spells a) (level a) UNARY
   -- unary = "(" int-type ")" unary
   Spells (Cast line to a) =
       IsToken (TokenKind.Mark Mark.OpenParenthesis) line ⨟ IsType (DeclaredType.Integer to)
       ⨟ IsMark Mark.CloseParenthesis ⨟ IsPhrase (Spells a) (level a) UNARY
   -- unary = ( "++" | "--" ) target
-  Spells (Before line step x keys) = λ ts rest. (mark : Mark) × (prefix_of mark ≡ Prefix.Step step)
-      × (IsToken (TokenKind.Mark mark) line ⨟ IsTarget x keys (SpellsKeys keys)) ts rest
+  Spells (Before line step x keys) =
+      IsToken (TokenKind.Mark (step_mark step)) line ⨟ IsTarget x keys (SpellsKeys keys)
   -- post = target ( "++" | "--" )
-  Spells (After x keys step) = λ ts rest. (mark : Mark) × (follow_of mark ≡ Follow.Step step)
-      × (IsTarget x keys (SpellsKeys keys) ⨟ IsMark mark) ts rest
+  Spells (After x keys step) = IsTarget x keys (SpellsKeys keys) ⨟ IsMark (step_mark step)
   -- binary, at the operator's level; all operators are left-associative
-  Spells (Binary op a b) = λ ts rest. (mark : Mark) × (follow_of mark ≡ Follow.Infix op)
-      × (IsPhrase (Spells a) (level a) (level_of op) ⨟ IsMark mark
-      ⨟ IsPhrase (Spells b) (level b) (suc (level_of op))) ts rest
+  Spells (Binary op a b) =
+      IsPhrase (Spells a) (level a) (level_of op) ⨟ IsMark (binary_mark op)
+      ⨟ IsPhrase (Spells b) (level b) (suc (level_of op))
   -- cond = binary "?" expr ":" cond
   Spells (Choice test a b) =
       IsPhrase (Spells test) (level test) OR
       ⨟ IsMark Mark.Question ⨟ IsPhrase (Spells a) (level a) ASSIGNMENT
       ⨟ IsMark Mark.Colon ⨟ IsPhrase (Spells b) (level b) CONDITION
   -- expr = target assign-op expr
-  Spells (Assign op x keys a) = λ ts rest. (mark : Mark) × (follow_of mark ≡ Follow.Assign op)
-      × (IsTarget x keys (SpellsKeys keys) ⨟ IsMark mark
-      ⨟ IsPhrase (Spells a) (level a) ASSIGNMENT) ts rest
+  Spells (Assign op x keys a) =
+      IsTarget x keys (SpellsKeys keys) ⨟ IsMark (assign_mark op)
+      ⨟ IsPhrase (Spells a) (level a) ASSIGNMENT
 
   -- [ "[" exprs "]" ]
   pub SpellsKeys : Trees → Part

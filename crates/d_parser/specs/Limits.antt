@@ -1,4 +1,5 @@
 -- How deep and how long tokens may be, and how many clauses there may be.
+-- Source: docs/GRAMMAR.md, "Grammar".
 use Rattle.std.specs.Prelude.{◌≡◌, ◌<◌, ◌+◌, ◌⊎◌, ℕ, Bool, true, false, List, ◌++◌, length}
 use Rattle.std.specs.Prelude.{count_by, Result, Ok, Err}
 use Rattle.d_parser.specs.Vocabulary.{Mark, Token, TokenKind, ParseFault, MOST_OPEN, MOST_IN_A_ROW}

@@ -1,76 +1,57 @@
--- What marks do before and after an operand.
+-- The marks of operators, and how tightly those between two operands bind.
+-- Source: Dynamic Tracing Guide, "Precedence".
 use Rattle.std.specs.Prelude.{ℕ}
 use Rattle.d_parser.specs.Vocabulary.{Mark, UnaryOperator, Step, BinaryOperator, AssignOperator}
-use Rattle.d_parser.specs.Vocabulary.{Prefix, Follow, OR, XOR, AND, BIT_OR, BIT_XOR, BIT_AND}
-use Rattle.d_parser.specs.Vocabulary.{EQUALITY, RELATIONAL, SHIFT, ADDITIVE, MULTIPLICATIVE}
+use Rattle.d_parser.specs.Vocabulary.{OR, XOR, AND, BIT_OR, BIT_XOR, BIT_AND, EQUALITY, RELATIONAL}
+use Rattle.d_parser.specs.Vocabulary.{SHIFT, ADDITIVE, MULTIPLICATIVE}
 
--- what a mark before an operand does
-abbrev pub prefix_of : Mark → Prefix
-prefix_of Mark.Not = Prefix.Unary UnaryOperator.Not
-prefix_of Mark.Tilde = Prefix.Unary UnaryOperator.Complement
-prefix_of Mark.Minus = Prefix.Unary UnaryOperator.Negate
-prefix_of Mark.Plus = Prefix.Unary UnaryOperator.Keep
-prefix_of Mark.Increment = Prefix.Step Step.Increment
-prefix_of Mark.Decrement = Prefix.Step Step.Decrement
-prefix_of mark = Prefix.Other
+-- the mark of an operator between two operands, and its level
+abbrev pub mark_and_level : BinaryOperator → Mark × ℕ
+mark_and_level BinaryOperator.Multiply = (Mark.Star, MULTIPLICATIVE)
+mark_and_level BinaryOperator.Divide = (Mark.Slash, MULTIPLICATIVE)
+mark_and_level BinaryOperator.Remainder = (Mark.Percent, MULTIPLICATIVE)
+mark_and_level BinaryOperator.Add = (Mark.Plus, ADDITIVE)
+mark_and_level BinaryOperator.Subtract = (Mark.Minus, ADDITIVE)
+mark_and_level BinaryOperator.ShiftLeft = (Mark.ShiftLeft, SHIFT)
+mark_and_level BinaryOperator.ShiftRight = (Mark.ShiftRight, SHIFT)
+mark_and_level BinaryOperator.Less = (Mark.Less, RELATIONAL)
+mark_and_level BinaryOperator.LessEqual = (Mark.LessEqual, RELATIONAL)
+mark_and_level BinaryOperator.Greater = (Mark.Greater, RELATIONAL)
+mark_and_level BinaryOperator.GreaterEqual = (Mark.GreaterEqual, RELATIONAL)
+mark_and_level BinaryOperator.Equal = (Mark.Equal, EQUALITY)
+mark_and_level BinaryOperator.NotEqual = (Mark.NotEqual, EQUALITY)
+mark_and_level BinaryOperator.BitAnd = (Mark.And, BIT_AND)
+mark_and_level BinaryOperator.BitXor = (Mark.Xor, BIT_XOR)
+mark_and_level BinaryOperator.BitOr = (Mark.Or, BIT_OR)
+mark_and_level BinaryOperator.And = (Mark.AndAnd, AND)
+mark_and_level BinaryOperator.Xor = (Mark.XorXor, XOR)
+mark_and_level BinaryOperator.Or = (Mark.OrOr, OR)
 
--- what a mark after an operand does
-abbrev pub follow_of : Mark → Follow
-follow_of Mark.Star = Follow.Infix BinaryOperator.Multiply
-follow_of Mark.Slash = Follow.Infix BinaryOperator.Divide
-follow_of Mark.Percent = Follow.Infix BinaryOperator.Remainder
-follow_of Mark.Plus = Follow.Infix BinaryOperator.Add
-follow_of Mark.Minus = Follow.Infix BinaryOperator.Subtract
-follow_of Mark.ShiftLeft = Follow.Infix BinaryOperator.ShiftLeft
-follow_of Mark.ShiftRight = Follow.Infix BinaryOperator.ShiftRight
-follow_of Mark.Less = Follow.Infix BinaryOperator.Less
-follow_of Mark.LessEqual = Follow.Infix BinaryOperator.LessEqual
-follow_of Mark.Greater = Follow.Infix BinaryOperator.Greater
-follow_of Mark.GreaterEqual = Follow.Infix BinaryOperator.GreaterEqual
-follow_of Mark.Equal = Follow.Infix BinaryOperator.Equal
-follow_of Mark.NotEqual = Follow.Infix BinaryOperator.NotEqual
-follow_of Mark.And = Follow.Infix BinaryOperator.BitAnd
-follow_of Mark.Xor = Follow.Infix BinaryOperator.BitXor
-follow_of Mark.Or = Follow.Infix BinaryOperator.BitOr
-follow_of Mark.AndAnd = Follow.Infix BinaryOperator.And
-follow_of Mark.XorXor = Follow.Infix BinaryOperator.Xor
-follow_of Mark.OrOr = Follow.Infix BinaryOperator.Or
-follow_of Mark.Assign = Follow.Assign AssignOperator.Set
-follow_of Mark.AddAssign = Follow.Assign AssignOperator.Add
-follow_of Mark.SubtractAssign = Follow.Assign AssignOperator.Subtract
-follow_of Mark.MultiplyAssign = Follow.Assign AssignOperator.Multiply
-follow_of Mark.DivideAssign = Follow.Assign AssignOperator.Divide
-follow_of Mark.RemainderAssign = Follow.Assign AssignOperator.Remainder
-follow_of Mark.AndAssign = Follow.Assign AssignOperator.BitAnd
-follow_of Mark.OrAssign = Follow.Assign AssignOperator.BitOr
-follow_of Mark.XorAssign = Follow.Assign AssignOperator.BitXor
-follow_of Mark.ShiftLeftAssign = Follow.Assign AssignOperator.ShiftLeft
-follow_of Mark.ShiftRightAssign = Follow.Assign AssignOperator.ShiftRight
-follow_of Mark.Increment = Follow.Step Step.Increment
-follow_of Mark.Decrement = Follow.Step Step.Decrement
-follow_of Mark.Question = Follow.Question
-follow_of Mark.OpenBracket = Follow.Bracket
-follow_of Mark.OpenParenthesis = Follow.Parenthesis
-follow_of mark = Follow.Other
+abbrev pub binary_mark : BinaryOperator → Mark
+binary_mark op = (mark_and_level op).0
 
--- How tightly operators bind: each has a level between a condition's and a unary part's.
 abbrev pub level_of : BinaryOperator → ℕ
-level_of BinaryOperator.Or = OR
-level_of BinaryOperator.Xor = XOR
-level_of BinaryOperator.And = AND
-level_of BinaryOperator.BitOr = BIT_OR
-level_of BinaryOperator.BitXor = BIT_XOR
-level_of BinaryOperator.BitAnd = BIT_AND
-level_of BinaryOperator.Equal = EQUALITY
-level_of BinaryOperator.NotEqual = EQUALITY
-level_of BinaryOperator.Less = RELATIONAL
-level_of BinaryOperator.LessEqual = RELATIONAL
-level_of BinaryOperator.Greater = RELATIONAL
-level_of BinaryOperator.GreaterEqual = RELATIONAL
-level_of BinaryOperator.ShiftLeft = SHIFT
-level_of BinaryOperator.ShiftRight = SHIFT
-level_of BinaryOperator.Add = ADDITIVE
-level_of BinaryOperator.Subtract = ADDITIVE
-level_of BinaryOperator.Multiply = MULTIPLICATIVE
-level_of BinaryOperator.Divide = MULTIPLICATIVE
-level_of BinaryOperator.Remainder = MULTIPLICATIVE
+level_of op = (mark_and_level op).1
+
+abbrev pub assign_mark : AssignOperator → Mark
+assign_mark AssignOperator.Set = Mark.Assign
+assign_mark AssignOperator.Add = Mark.AddAssign
+assign_mark AssignOperator.Subtract = Mark.SubtractAssign
+assign_mark AssignOperator.Multiply = Mark.MultiplyAssign
+assign_mark AssignOperator.Divide = Mark.DivideAssign
+assign_mark AssignOperator.Remainder = Mark.RemainderAssign
+assign_mark AssignOperator.BitAnd = Mark.AndAssign
+assign_mark AssignOperator.BitOr = Mark.OrAssign
+assign_mark AssignOperator.BitXor = Mark.XorAssign
+assign_mark AssignOperator.ShiftLeft = Mark.ShiftLeftAssign
+assign_mark AssignOperator.ShiftRight = Mark.ShiftRightAssign
+
+abbrev pub unary_mark : UnaryOperator → Mark
+unary_mark UnaryOperator.Not = Mark.Not
+unary_mark UnaryOperator.Complement = Mark.Tilde
+unary_mark UnaryOperator.Negate = Mark.Minus
+unary_mark UnaryOperator.Keep = Mark.Plus
+
+abbrev pub step_mark : Step → Mark
+step_mark Step.Increment = Mark.Increment
+step_mark Step.Decrement = Mark.Decrement

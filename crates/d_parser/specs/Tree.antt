@@ -1,4 +1,5 @@
 -- Trees, as values.
+-- Source: Dynamic Tracing Guide, "D Program Structure" and "Types, Operators, and Expressions".
 use Rattle.std.specs.Prelude.{ℕ, List, [], ◌∷◌, map, Option, Some, None}
 use Rattle.d_parser.specs.Vocabulary.{UnaryOperator, BinaryOperator, AssignOperator, Step}
 use Rattle.d_parser.specs.Vocabulary.{IntegerType, Variable, Constant, Expr, Row_of-Expr}

@@ -72,7 +72,7 @@ pub enum Follow {
 }
 
 pub(crate) fn prefix_of(mark: Mark) -> Prefix
-    ensures { result ≡ spec.prefix_of mark }
+    ensures { result ≡ steps.prefix_of mark }
 {
     match mark {
         Mark::Not => Prefix::Unary(UnaryOperator::Not),
@@ -86,7 +86,7 @@ pub(crate) fn prefix_of(mark: Mark) -> Prefix
 }
 
 fn follow_of(mark: Mark) -> Follow
-    ensures { result ≡ spec.follow_of mark }
+    ensures { result ≡ steps.follow_of mark }
 {
     match mark {
         Mark::Star => Follow::Infix(BinaryOperator::Multiply),

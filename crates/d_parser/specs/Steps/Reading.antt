@@ -9,8 +9,8 @@ use Rattle.d_parser.specs.Tree.{Assign, Trees, end, more}
 use Rattle.d_parser.specs.Steps.Tree.{add}
 use Rattle.d_parser.specs.Words.{word_kind}
 use Rattle.d_parser.specs.Steps.Words.{begins_type, run, after_run, integer_type}
-use Rattle.d_parser.specs.Marks.{prefix_of, level_of}
-use Rattle.d_parser.specs.Steps.Marks.{follow_at, is_at, same_mark, tail}
+use Rattle.d_parser.specs.Marks.{level_of}
+use Rattle.d_parser.specs.Steps.Marks.{prefix_of, follow_at, is_at, same_mark, tail}
 
 infixl 10 ◌>>=◌
 abbrev pub ◌>>=◌ : {A B : Type 0} → Option A → (A → Option B) → Option B
