@@ -7,7 +7,8 @@ use Rattle.std.proofs.lemmas.List.{length-replicate}
 use Rattle.std.proofs.lemmas.Bool.{eqb-true, not-true}
 use Rattle.d_lexer.specs.declared.token.Token.{Token}
 use Rattle.d_parser.specs.declared.tree.Description.{Description}
-use Rattle.d_parser.specs.Script.{list_all, colon, is_field, joined, fields_of, is_digit}
+use Rattle.std.specs.List.{join_with_byte}
+use Rattle.d_parser.specs.Script.{list_all, colon, is_field, fields_of, is_ascii_digit}
 use Rattle.d_parser.specs.Script.{IsDescription}
 use Rattle.d_parser.specs.Steps.Script.{description_with, before_colon, after_colon, with_first}
 use Rattle.d_parser.specs.Steps.Script.{fields, description_from, description_of}
@@ -57,7 +58,7 @@ cut_at (b ∷ field) rest h =
 -- ---- all fields
 
 abbrev Split : List ℕ → List (List ℕ) → Type 0
-Split bytes all = (bytes ≡ joined all) × (list_all is_field all ≡ true) × (1 ≤ length all)
+Split bytes all = (bytes ≡ join_with_byte colon all) × (list_all is_field all ≡ true) × (1 ≤ length all)
 
 split_on : (bytes rest : List ℕ) (all : List (List ℕ)) → after_colon bytes ≡ Some rest → Split rest all → Split bytes (before_colon bytes ∷ all)
 split_on bytes rest [] o s = absurd (let none = s.2 in omega arith)
@@ -83,7 +84,7 @@ fields_split : (n : ℕ) (bytes : List ℕ) (all : List (List ℕ)) → fields n
 fields_split zero bytes all e = absurd cc
 fields_split (suc n) bytes all e = split_first (after_colon bytes) n bytes all refl (fields_split n) e
 
-fields_read : (n : ℕ) (field : List ℕ) (others : List (List ℕ)) → length others < n → list_all is_field (field ∷ others) ≡ true → fields n (Some (joined (field ∷ others))) ≡ Some (field ∷ others)
+fields_read : (n : ℕ) (field : List ℕ) (others : List (List ℕ)) → length others < n → list_all is_field (field ∷ others) ≡ true → fields n (Some (join_with_byte colon (field ∷ others))) ≡ Some (field ∷ others)
 fields_read zero field others l h = absurd (omega arith)
 fields_read (suc n) field [] l h =
     let p = both (is_field field) true h in
@@ -91,7 +92,7 @@ fields_read (suc n) field [] l h =
     rw (none, whole_field field none) refl
 fields_read (suc n) field (other ∷ others) l h =
     let p = both (is_field field) (list_all is_field (other ∷ others)) h in
-    let r = cut_at field (joined (other ∷ others)) p.0 in
+    let r = cut_at field (join_with_byte colon (other ∷ others)) p.0 in
     rw (r.0, r.1, fields_read n other others (omega arith) p.1) refl
 
 -- ---- descriptions
@@ -100,8 +101,8 @@ fields_read (suc n) field (other ∷ others) l h =
 pub record Describes (run : List ℕ) (d : Description) : Type 0 where
   pub missing : ℕ
   pub given : List (List ℕ)
-  pub named : list_all is_digit run ≡ false
-  pub is : run ≡ joined given
+  pub named : list_all is_ascii_digit run ≡ false
+  pub is : run ≡ join_with_byte colon given
   pub apart : list_all is_field given ≡ true
   pub are : fields_of d ≡ replicate missing [] ++ given
 
@@ -113,7 +114,7 @@ made (a ∷ (b ∷ (c ∷ []))) d e = let is : description_with [] a b c ≡ d =
 made (a ∷ (b ∷ (c ∷ (f ∷ [])))) d e = let is : description_with a b c f ≡ d = cc in (0, ap fields_of (sym is))
 made (a ∷ (b ∷ (c ∷ (f ∷ (g ∷ given))))) d e = absurd cc
 
-describes_by : (number : Bool) (r : Option (List (List ℕ))) (run : List ℕ) (d : Description) → list_all is_digit run ≡ number → fields 4 (Some run) ≡ r → cond number None (description_from r) ≡ Some d → Describes run d
+describes_by : (number : Bool) (r : Option (List (List ℕ))) (run : List ℕ) (d : Description) → list_all is_ascii_digit run ≡ number → fields 4 (Some run) ≡ r → cond number None (description_from r) ≡ Some d → Describes run d
 describes_by true r run d n f e = absurd cc
 describes_by false None run d n f e = absurd cc
 describes_by false (Some given) run d n f e =
@@ -122,7 +123,7 @@ describes_by false (Some given) run d n f e =
     record { missing = all.0; given = given; named = n; is = split.0; apart = split.1; are = all.1 }
 
 pub describes : (run : List ℕ) (d : Description) → description_of run ≡ Some d → Describes run d
-describes run d e = describes_by (list_all is_digit run) (fields 4 (Some run)) run d refl refl e
+describes run d e = describes_by (list_all is_ascii_digit run) (fields 4 (Some run)) run d refl refl e
 
 -- the description of four fields
 abbrev description_in : List (List ℕ) → Option Description
@@ -148,8 +149,8 @@ filled missing (a ∷ (b ∷ (c ∷ []))) d e l = filled_by missing 1 (a ∷ (b 
 filled missing (a ∷ (b ∷ (c ∷ (f ∷ [])))) d e l = filled_by missing 0 (a ∷ (b ∷ (c ∷ (f ∷ [])))) d e (let all = four missing (a ∷ (b ∷ (c ∷ (f ∷ [])))) d e in omega arith)
 filled missing (a ∷ (b ∷ (c ∷ (f ∷ (g ∷ given))))) d e l = absurd (let all = four missing (a ∷ (b ∷ (c ∷ (f ∷ (g ∷ given))))) d e in omega arith)
 
-described_by : (run : List ℕ) (missing : ℕ) (given : List (List ℕ)) (d : Description) → list_all is_digit run ≡ false → run ≡ joined given → list_all is_field given ≡ true → fields_of d ≡ replicate missing [] ++ given → description_of run ≡ Some d
-described_by run missing [] d n e a f = absurd (let number : list_all is_digit run ≡ true = ap (list_all is_digit) e in cc)
+described_by : (run : List ℕ) (missing : ℕ) (given : List (List ℕ)) (d : Description) → list_all is_ascii_digit run ≡ false → run ≡ join_with_byte colon given → list_all is_field given ≡ true → fields_of d ≡ replicate missing [] ++ given → description_of run ≡ Some d
+described_by run missing [] d n e a f = absurd (let number : list_all is_ascii_digit run ≡ true = ap (list_all is_ascii_digit) e in cc)
 described_by run missing (field ∷ others) d n e a f =
     let all = four missing (field ∷ others) d f in
     ap (λ (b : Bool). cond b None (description_from (fields 4 (Some run)))) n

@@ -1,14 +1,15 @@
 -- Which tokens spell a script: its declarations, and its clauses with their descriptions, predicate
 -- and statements.
 -- Source: Dynamic Tracing Guide, "D Program Structure".
-use Rattle.std.specs.Prelude.{◌≡◌, ◌==◌, ◌&&◌, not, nat_le, ℕ, Bool, true, false, List, [], ◌∷◌}
+use Rattle.std.specs.Prelude.{◌≡◌, ◌==◌, not, ℕ, Bool, true, false, List, [], ◌∷◌}
 use Rattle.std.specs.Prelude.{◌++◌, replicate, Option, Some, None}
 use Rattle.d_parser.specs.Vocabulary.{Mark, Token, TokenKind, DeclaredType, Description, WordKind}
 use Rattle.d_parser.specs.Tree.{Tree, StmtTree, Expression, Aggregation, DeclarationTree}
 use Rattle.d_parser.specs.Tree.{OfThread, OfClause, ClauseTree, ItemTree, Declared, Probing}
 use Rattle.d_parser.specs.Grammar.{Part, ◌⨟◌, Nothing, IsToken, IsMark, IsEnclosed, IsWord, IsType}
 use Rattle.d_parser.specs.Grammar.{IsExpression, SpellsKeys, SpellsList}
-pub use Rattle.std.specs.List.{list_all}
+use Rattle.std.specs.List.{join_with_byte, filter_map}
+pub use Rattle.std.specs.{List.list_all, Char.is_ascii_digit}
 
 -- ---- lists
 
@@ -40,9 +41,7 @@ IsSlot (Some s) = IsStmt s
 
 -- those that are there
 abbrev pub present : List (Option StmtTree) → List StmtTree
-present [] = []
-present (None ∷ slots) = present slots
-present (Some s ∷ slots) = s ∷ present slots
+present slots = filter_map (λ s. s) slots
 
 -- [ stmt ] { ";" [ stmt ] }
 abbrev pub AreStmts : List StmtTree → Part
@@ -59,17 +58,8 @@ colon = 58
 abbrev pub is_field : List ℕ → Bool
 is_field bytes = list_all (λ b. not (b == colon)) bytes
 
--- the fields with colons between
-abbrev pub joined : List (List ℕ) → List ℕ
-joined [] = []
-joined (field ∷ []) = field
-joined (field ∷ others) = field ++ colon ∷ joined others
-
 abbrev pub fields_of : Description → List (List ℕ)
 fields_of d = d.provider ∷ d.«module» ∷ d.function ∷ d.name ∷ []
-
-abbrev pub is_digit : ℕ → Bool
-is_digit b = nat_le 48 b && nat_le b 57
 
 -- One run, not of digits alone, that gives the last fields; those missing before them are empty.
 pub record IsDescription (d : Description) (ts rest : List Token) : Type 0 where
@@ -78,8 +68,8 @@ pub record IsDescription (d : Description) (ts rest : List Token) : Type 0 where
   pub missing : ℕ
   pub given : List (List ℕ)
   pub begins : IsToken (TokenKind.DescriptionRun run) line ts rest
-  pub named : list_all is_digit run ≡ false
-  pub is : run ≡ joined given
+  pub named : list_all is_ascii_digit run ≡ false
+  pub is : run ≡ join_with_byte colon given
   pub apart : list_all is_field given ≡ true
   pub are : fields_of d ≡ replicate missing [] ++ given
 

@@ -1,7 +1,7 @@
 -- Reserved words, and the types that words spell.
 -- Source: Dynamic Tracing Guide, "Keywords" and "Data Types and Sizes".
-use Rattle.std.specs.Prelude.{ℕ, if◌then◌else◌, List, [], ◌∷◌, map, Option, Some, None}
-use Rattle.std.specs.Prelude.{option_map, codes}
+use Rattle.std.specs.Prelude.{ℕ, List, [], ◌∷◌, map, Option, Some, None, option_map, codes}
+use Rattle.std.specs.{Map.lookup, Option.unwrap_or}
 use Rattle.d_parser.specs.Vocabulary.{bytes_eq, Token, TokenKind, WordKind, IntegerType}
 use Rattle.d_parser.specs.Vocabulary.{DeclaredType}
 use Rattle.d_parser.specs.declared.words.WordKind.TheVariants as kind
@@ -21,9 +21,7 @@ reserved_words =
     ∷ []
 
 abbrev pub kind_among : List (List ℕ × WordKind) → List ℕ → WordKind
-kind_among [] word = kind.Plain
-kind_among (entry ∷ entries) word =
-    if bytes_eq word entry.0 then entry.1 else kind_among entries word
+kind_among entries word = unwrap_or (lookup (bytes_eq word) entries) kind.Plain
 
 -- what a word stands for
 abbrev pub word_kind : List ℕ → WordKind

@@ -61,7 +61,7 @@ fn new_description(
 }
 
 fn is_number(run: &[u8]) -> bool
-    ensures { result ≡ spec.list_all spec.is_digit run.now }
+    ensures { result ≡ spec.list_all spec.is_ascii_digit run.now }
 {
     run.iter().all(|b| 48 <= *b && *b <= 57)
 }

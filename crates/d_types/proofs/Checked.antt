@@ -22,7 +22,7 @@ use Rattle.d_types.specs.declared.words.Callee.TheVariants as f
 use Rattle.d_types.specs.Aggregations.{arguments_fit, function, find_from, is_again, first}
 use Rattle.d_types.specs.Checking.{Known, by_rule, by_change, needs, ◌>>◌, evaluated, printed, called, KeysFit, FunctionFits, aggregated, IsChecked}
 use Rattle.d_types.specs.Checking as rules
-use Rattle.d_types.specs.Constants.{text_of_constant}
+use Rattle.d_parser.specs.declared.tree.Constant.TheVariants as literal
 use Rattle.d_types.specs.Formats as formats
 use Rattle.d_types.specs.Lines.{line_of}
 use Rattle.d_types.specs.Needs.{count, need}
@@ -33,7 +33,7 @@ use Rattle.d_types.specs.Steps.Faults.{◌>>=◌ as and_then}
 use Rattle.d_types.specs.Steps.Faults as cause
 use Rattle.d_types.specs.Steps.Formats.{pieces}
 use Rattle.d_types.specs.Steps.Scripts as walk
-use Rattle.d_types.specs.Steps.Statements.{wholes, trace, exit_by, exit, print_by, evaluate, call_statement, action}
+use Rattle.d_types.specs.Steps.Statements.{wholes, trace, exit_by, exit, print, evaluate, call_statement, action}
 use Rattle.d_types.specs.Steps.Typing.{only, expr}
 use Rattle.d_types.specs.Steps.Typing as typing
 use Rattle.d_types.specs.Typed.{Typed, Typeds, end, type_of, Action, Evaluate, Trace, Print, Aggregate, Agg, Aggs, ClauseMeant, ScriptMeant}
@@ -96,8 +96,8 @@ print_fails line (Some ps) xs rows g h = by (formats.fit ps xs) h
     by true h = absurd cc
     by false h = ap type_fault_of (sym (same_fault cause.PrintfArguments line g h))
 
-printed_decided : (line : ℕ) (o : Option (List ℕ)) (t : Tree) (ts : Trees) (rows : Rows) (aggs : Aggs) → Decides (printed line o (tree.more t ts) ts) (at rows aggs) (answer (with_rows aggs) (print_by o line rows t ts))
-printed_decided line (Some format) t ts rows aggs =
+printed_decided : (line : ℕ) (ts : Trees) (rows : Rows) (aggs : Aggs) → Decides (printed line ts) (at rows aggs) (answer (with_rows aggs) (print line rows ts))
+printed_decided line (tree.more (tree.Known place (literal.Text format)) ts) rows aggs =
     follows _ _ (at rows aggs) (with_rows aggs) (with_rows aggs) (wholes end rows ts) _ (wholes_decided ts rows aggs)
     (λ k e. of_known k.1 aggs (fault.PrintfArguments line) _ (print_fails line (pieces format) k.0 k.1) _
     (λ a last h.
@@ -105,14 +105,13 @@ printed_decided line (Some format) t ts rows aggs =
     let p = within cause.PrintfArguments line (formats.fit q.0 k.0) (Print q.0 k.0, k.1) (a, last) q.2 in
     ((q.0, read_is_spelled format q.0 (is_some_of cause.PrintfArguments line _ q.0 q.1), p.0, sym (ap (λ (y : Action × Rows). y.0) p.1)), sym (ap (λ (y : Action × Rows). y.1) p.1)))
     (λ a h. rw (spelled_is_read format h.0 h.1, h.2, h.3) refl))
-printed_decided line None t ts rows aggs =
-    follows _ _ (at rows aggs) (with_rows aggs) (with_rows aggs) (wholes end rows (tree.more t ts)) _ (wholes_decided (tree.more t ts) rows aggs) (λ k e. refuses _ _)
+printed_decided line ts rows aggs =
+    follows _ _ (at rows aggs) (with_rows aggs) (with_rows aggs) (wholes end rows ts) (λ x. refuse {A = Action × Rows} cause.PrintfArguments line) (wholes_decided ts rows aggs) (λ k e. refuses _ _)
 
 called_decided : (o : Option Callee) (line : ℕ) (name : List ℕ) (ts : Trees) (rows : Rows) (aggs : Aggs) → Decides (called o line name ts) (at rows aggs) (answer (with_rows aggs) (call_statement o line name rows ts))
 called_decided (Some f.Trace) line name ts rows aggs = trace_decided line ts rows aggs name
 called_decided (Some f.Exit) line name ts rows aggs = exit_decided line ts rows aggs name
-called_decided (Some f.Printf) line name tree.end rows aggs = refuses _ _
-called_decided (Some f.Printf) line name (tree.more t ts) rows aggs = printed_decided line (text_of_constant t) t ts rows aggs
+called_decided (Some f.Printf) line name ts rows aggs = printed_decided line ts rows aggs
 called_decided (Some f.Strlen) line name ts rows aggs = evaluated_decided (tree.Call line name ts) rows aggs
 called_decided (Some f.Strjoin) line name ts rows aggs = evaluated_decided (tree.Call line name ts) rows aggs
 called_decided None line name ts rows aggs = evaluated_decided (tree.Call line name ts) rows aggs

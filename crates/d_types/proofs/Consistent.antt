@@ -1,6 +1,6 @@
 -- The trees that the rules give are consistent with their table of variables.
 use Rattle.std.proofs.Common.{◌≡◌, ℕ, ◌<◌, ◌≤◌, ◌^◌, inl, inr, nat_le, List, [], ◌∷◌, ◌++◌, length}
-use Rattle.std.proofs.Common.{Bool, true, false, not, ◌&&◌, ◌==◌, if◌then◌else◌, IsTrue, Option}
+use Rattle.std.proofs.Common.{Bool, true, false, not, ◌==◌, if◌then◌else◌, IsTrue, Option}
 use Rattle.std.proofs.Common.{refl, sym, ap, ◌∙◌, subst, arith, pos}
 use Rattle.std.proofs.Math.Bool.{Bool-set}
 use Rattle.std.proofs.lemmas.Bool.Decides.{nat_tests}
@@ -28,10 +28,11 @@ use Rattle.d_types.specs.declared.operators.BinarySort.TheVariants as bs
 use Rattle.d_types.specs.declared.typed.Answer.{Answer}
 use Rattle.d_types.specs.declared.typed.Space.{Space}
 use Rattle.d_types.specs.declared.typed.Space.TheVariants as s
-use Rattle.d_types.specs.Constants.{type_of_constant, with_l, int_type}
+use Rattle.d_types.specs.Constants.{type_of_constant, int_type}
 use Rattle.d_types.specs.Held.{IsWord, Slots, IsConsistent, AreConsistent}
 use Rattle.d_parser.specs.Numbers.{IsSmall, HasSmall, HaveSmall}
 use Rattle.d_types.specs.Operators.{binary_sort, assign_sort, same_type, conversion_node}
+use Rattle.d_types.proofs.Bounds.{both_true}
 use Rattle.d_types.proofs.WellTyped.{Types, AllTypes}
 use Rattle.d_types.specs.Rules.{IsInteger, IsOperation, IsChoice, IsLoad, IsRead}
 use Rattle.d_types.specs.Rules.{IsSlotOf}
@@ -63,10 +64,6 @@ signs true true e = refl
 signs true false e = cc
 signs false true e = cc
 signs false false e = refl
-
-both_true : (a b : Bool) → a && b ≡ true → (a ≡ true) × (b ≡ true)
-both_true true b e = (refl, e)
-both_true false b e = cc
 
 pub same_type_is : (t u : IntType) → same_type t u ≡ true → t ≡ u
 same_type_is t u e =
@@ -111,12 +108,12 @@ word_of_type n suffix small = by_suffix suffix
         let low : n ≤ 2147483647 = grind (arith, nat_tests, e) in
         small_in UINT32 n (record { least = omega (arith, ints); below = omega (arith, ints) }) small
 
-    long : IsWord (with_l n) n
+    long : IsWord (type_of_constant n su.Long) n
     long = elim (nat_le n 9223372036854775807) as (λ b. nat_le n 9223372036854775807 ≡ b → IsWord (if b then INT64 else UINT64) n) [ true ↦ in_long | false ↦ λ e. in_ulong ] refl
 
     by_suffix : (suffix : Suffix) → IsWord (type_of_constant n suffix) n
     by_suffix su.Absent =
-        elim (nat_le n 2147483647) as (λ b. nat_le n 2147483647 ≡ b → IsWord (if b then INT32 else with_l n) n) [ true ↦ in_int | false ↦ λ e. long ] refl
+        elim (nat_le n 2147483647) as (λ b. nat_le n 2147483647 ≡ b → IsWord (if b then INT32 else type_of_constant n su.Long) n) [ true ↦ in_int | false ↦ λ e. long ] refl
     by_suffix su.Unsigned =
         elim (nat_le n 2147483647) as (λ b. nat_le n 2147483647 ≡ b → IsWord (if b then UINT32 else UINT64) n) [ true ↦ in_uint | false ↦ λ e. in_ulong ] refl
     by_suffix su.Long = long

@@ -8,7 +8,8 @@ use Rattle.d_types.specs.declared.typed.Variable.{Variable}
 use Rattle.d_types.specs.Typed.{Typed, Constant, Text, Fixed, Read, Unary, Operate, Compare}
 use Rattle.d_types.specs.Typed.{CompareText, Logic, Choice, Convert, Assign, Update, Count, Strlen}
 use Rattle.d_types.specs.Typed.{Strjoin, Typeds, end, more}
-use Rattle.d_types.specs.Variables.{Row, Rows, names_row, find_from, find, type_at, set_type}
+use Rattle.std.specs.List.{position_from}
+use Rattle.d_types.specs.Variables.{Row, Rows, names_row, find, type_at, set_type}
 use Rattle.d_types.specs.Targets.{settle_slot}
 use Rattle.d_types.specs.Held.{Slots, IsKnown, IsConsistent, AreConsistent}
 
@@ -70,12 +71,12 @@ settled_grows None slot None rows e = stays rows
 settled_grows None slot (Some t) rows e = set_grows slot t rows e
 settled_grows (Some u) slot t rows e = stays rows
 
-found_from : (n : ℕ) (space : Space) (name : List ℕ) (rows : Rows) (slot : ℕ) → find_from n space name rows ≡ Some slot → slot < n + length rows
+found_from : (n : ℕ) (space : Space) (name : List ℕ) (rows : Rows) (slot : ℕ) → position_from (names_row space name) n rows ≡ Some slot → slot < n + length rows
 found_from n space name [] slot h = let no : None ≡ Some slot = h in cc
 found_from n space name (r ∷ rows) slot h = here (names_row space name r) (found_from (n + 1) space name rows slot) h
   where
-    here : (b : Bool) → (find_from (n + 1) space name rows ≡ Some slot → slot < n + 1 + length rows) →
-        (if b then Some n else find_from (n + 1) space name rows) ≡ Some slot → slot < n + suc (length rows)
+    here : (b : Bool) → (position_from (names_row space name) (n + 1) rows ≡ Some slot → slot < n + 1 + length rows) →
+        (if b then Some n else position_from (names_row space name) (n + 1) rows) ≡ Some slot → slot < n + suc (length rows)
     here true later e = let same : n ≡ slot = cc in omega arith
     here false later e = omega (arith, later e)
 

@@ -30,8 +30,7 @@ use Rattle.d_types.specs.declared.typed.Space.TheVariants as sp
 use Rattle.d_types.specs.declared.typed.Variable.{Variable}
 use Rattle.d_types.specs.Typed.{Typed, Constant, Text, Fixed, Read, Unary, Operate, Compare}
 use Rattle.d_types.specs.Typed.{CompareText, Logic, Choice, Convert, Assign, Update, Count, Strlen}
-use Rattle.d_types.specs.Typed.{Strjoin, Typeds, end, more, type_of, type_of_unary}
-use Rattle.d_types.specs.Typed.{type_of_operation}
+use Rattle.d_types.specs.Typed.{Strjoin, Typeds, end, more, type_of, type_of_unary, works_in}
 use Rattle.d_types.specs.Variables.{kind_of_type}
 use Rattle.d_types.specs.Storage.{Variables, word_of, bytes_of, as_kind, var_of, value_in_space}
 use Rattle.d_types.specs.Storage.{value_of_variable}
@@ -39,7 +38,7 @@ use Rattle.d_types.specs.Storage.{set_in, set}
 use Rattle.d_types.specs.Expressions.{Outcome, Has, Faults, with, word_or_fault, integer}
 use Rattle.d_types.specs.Expressions.{number_outcome}
 use Rattle.d_types.specs.Expressions.{text_outcome, truth, bit, inverse, at_zero, part_of, unary_of}
-use Rattle.d_types.specs.Expressions.{operation_of, works_in, word_as_type, step_result, step_value}
+use Rattle.d_types.specs.Expressions.{operation_of, word_as_type, step_result, step_value}
 use Rattle.d_types.specs.Expressions.{assignment_outcome, update_outcome, step_outcome, eval}
 use Rattle.d_types.specs.Expressions.{keys_of}
 use Rattle.d_types.specs.Held.{IsWord, IsOf, HasTypedBuiltIns, Slots, IsKnown, AreTypedLocals}
@@ -160,9 +159,8 @@ module _ (slots : Slots) where
   as_integer t (Has w vars) good = good
   as_integer t (Faults vars) good = good
 
-  operation_is : (o : Operation) (x y : ℕ) (vars : Variables) → AreTyped slots vars → EndsTyped slots (IsOf (type_of_operation o)) (integer (word_or_fault (operation_of o x y) vars))
-  operation_is (op.Arithmetic o t) x y vars good = as_integer t (word_or_fault (operation_of (op.Arithmetic o t) x y) vars) (operated (op.Arithmetic o t) x y vars good)
-  operation_is (op.Shift o t) x y vars good = as_integer t (word_or_fault (operation_of (op.Shift o t) x y) vars) (operated (op.Shift o t) x y vars good)
+  operation_is : (o : Operation) (x y : ℕ) (vars : Variables) → AreTyped slots vars → EndsTyped slots (IsOf (ty.Int (works_in o))) (integer (word_or_fault (operation_of o x y) vars))
+  operation_is o x y vars good = as_integer (works_in o) (word_or_fault (operation_of o x y) vars) (operated o x y vars good)
 
   -- the word that an integer variable is given
   held_is : (t : DType) (w : ℕ) → IsSomeInteger t → IsOf t (va.Int (word_as_type t w))

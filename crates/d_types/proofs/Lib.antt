@@ -6,6 +6,7 @@ pub mod Trees
 pub mod Binds
 pub mod Arguments
 pub mod NewAggregations
+pub mod Bounds
 pub mod Lists
 pub mod WellTyped
 pub mod Complete

@@ -1,6 +1,6 @@
 -- The statements of a well-typed script are proper.
 use Rattle.std.proofs.Common.{◌≡◌, ℕ, zero, suc, ◌+◌, ◌≤◌, nat_le, inl, inr, List, [], ◌∷◌, ◌++◌}
-use Rattle.std.proofs.Common.{length, slice_get, All, Bool, true, false, ◌&&◌, if◌then◌else◌}
+use Rattle.std.proofs.Common.{length, slice_get, All, Bool, true, false, if◌then◌else◌}
 use Rattle.std.proofs.Common.{Option, Some, None, refl, sym, ap, ◌∙◌, subst, arith}
 use Rattle.std.specs.Option.{option_map}
 use Rattle.std.specs.Str.{bytes_eq}
@@ -30,8 +30,10 @@ use Rattle.d_types.specs.Needs.{count}
 use Rattle.d_types.specs.Variables.{Rows, kind_of_type, kinds_of_typed}
 use Rattle.d_types.specs.Variables as variables
 use Rattle.d_types.specs.Aggregations.{is_integer, arguments_fit, first, function, lquantize}
-use Rattle.d_types.specs.Aggregations.{buckets_between, bound, step, find_from, same, is_again}
+use Rattle.d_types.specs.Aggregations.{buckets_between, whole_number, natural, find_from, same}
+use Rattle.d_types.specs.Aggregations.{is_again}
 use Rattle.d_types.specs.Scripts.{IsMeant}
+use Rattle.d_types.proofs.Bounds.{both_true}
 use Rattle.d_types.proofs.Checked.{meant_is_walked}
 use Rattle.d_types.specs.Rules as rules
 use Rattle.d_types.proofs.WellTyped.{Acts, Stands, Tests, Does, AllDo, Probes}
@@ -75,10 +77,6 @@ abbrev counts : Aggregating → Bool
 counts ag.Count = true
 counts g = false
 
-both_true : (a b : Bool) → a && b ≡ true → (a ≡ true) × (b ≡ true)
-both_true true b e = (refl, e)
-both_true false b e = cc
-
 none_left : (n : ℕ) → nat_le (1 + n) 0 ≡ true → ⊥
 none_left n e = grind (arith, nat_tests)
 
@@ -110,8 +108,8 @@ bounded (Some lower) None s h e = cc
 bounded None upper s h e = cc
 
 linear : (args : Trees) (h : AggFn) → lquantize args ≡ Some h → is_count h ≡ false
-linear (tree.more e (tree.more lower (tree.more upper tree.end))) h d = bounded (bound lower) (bound upper) (Some 1) h d
-linear (tree.more e (tree.more lower (tree.more upper (tree.more s tree.end)))) h d = bounded (bound lower) (bound upper) (step s) h d
+linear (tree.more e (tree.more lower (tree.more upper tree.end))) h d = bounded (whole_number lower) (whole_number upper) (Some 1) h d
+linear (tree.more e (tree.more lower (tree.more upper (tree.more s tree.end)))) h d = bounded (whole_number lower) (whole_number upper) (natural s) h d
 linear (tree.more e (tree.more lower (tree.more upper (tree.more s (tree.more t rest))))) h d = cc
 linear (tree.more e (tree.more lower tree.end)) h d = cc
 linear (tree.more e tree.end) h d = cc

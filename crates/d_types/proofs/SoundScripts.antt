@@ -30,7 +30,7 @@ use Rattle.d_types.specs.Formats as formats
 use Rattle.d_types.specs.Lines.{line_of}
 use Rattle.d_types.specs.Steps.Typing.{only, expr, whole}
 use Rattle.d_types.specs.Steps.Statements.{wholes, trace, exit_by, exit, not_printed}
-use Rattle.d_types.specs.Constants.{text_of_constant}
+use Rattle.d_types.specs.Steps.Statements.{text_of_constant}
 use Rattle.d_types.specs.Steps.Statements.{print_by}
 use Rattle.d_types.specs.Steps.Statements.{print, evaluate, call_statement, action}
 use Rattle.d_types.specs.Aggregations.{arguments_fit, first, function, find_from, is_again}

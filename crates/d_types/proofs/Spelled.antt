@@ -15,7 +15,7 @@ use Rattle.d_types.specs.declared.typed.Piece.TheVariants as piece
 use Rattle.d_types.specs.declared.format.Flags.{Flags}
 use Rattle.d_types.specs.declared.format.Place.{Place}
 use Rattle.d_types.specs.declared.format.Place.TheVariants as at
-use Rattle.d_parser.specs.Script.{is_digit}
+use Rattle.d_parser.specs.Script.{is_ascii_digit}
 use Rattle.d_types.specs.Steps.Formats.{no_flags, pieces_from, pieces}
 use Rattle.d_types.specs.Spelling.{IsOneOf, has_byte, AreFlags, width_text, lengths, letters}
 use Rattle.d_types.specs.Spelling.{IsConversion, SpellsPiece, SpellsFormat}
@@ -44,7 +44,7 @@ pub not_less : (n : ℕ) (ds : List ℕ) → n ≤ value_after n ds
 not_less n [] = omega arith
 not_less n (d ∷ ds) = let more = not_less (n * 10 + (d - 48)) ds in omega (arith, more)
 
-pub digit_passes : (d : ℕ) → IsInRange 48 57 d → is_digit d ≡ true
+pub digit_passes : (d : ℕ) → IsInRange 48 57 d → is_ascii_digit d ≡ true
 digit_passes d k = rw (le-leb 48 d k.0, le-leb d 57 k.1) refl
 
 -- ---- a conversion, read from its text

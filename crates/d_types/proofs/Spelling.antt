@@ -1,5 +1,5 @@
 -- What is read as pieces is spelled by them.
-use Rattle.std.proofs.Common.{◌≡◌, ◌≢◌, ℕ, zero, suc, ◌+◌, ◌*◌, ◌-◌, ◌≤◌, ◌<◌, ◌==◌, ◌&&◌, ◌||◌}
+use Rattle.std.proofs.Common.{◌≡◌, ◌≢◌, ℕ, zero, suc, ◌+◌, ◌*◌, ◌-◌, ◌≤◌, ◌<◌, ◌==◌, ◌||◌}
 use Rattle.std.proofs.Common.{◌⊎◌, inl, inr, nat_le, List, [], ◌∷◌, ◌++◌, Bool, true, false}
 use Rattle.std.proofs.Common.{if◌then◌else◌, Option, Some, None, decimal, refl, sym, ap, ◌∙◌, subst}
 use Rattle.std.proofs.Common.{append_assoc, append-nil, arith, eqb-true, eq-eqb}
@@ -15,12 +15,13 @@ use Rattle.d_types.specs.declared.format.Flags.{Flags}
 use Rattle.d_types.specs.declared.format.Place.{Place}
 use Rattle.d_types.specs.declared.format.Place.TheVariants as at
 use Rattle.d_types.specs.Steps.Formats.{goes, ends, letter_of, with_letter, at_letter, at_length}
-use Rattle.d_parser.specs.Script.{is_digit}
+use Rattle.d_parser.specs.Script.{is_ascii_digit}
 use Rattle.d_types.specs.Steps.Formats.{at_width, at_flags, no_flags, turn, with_piece}
 use Rattle.d_types.specs.Steps.Formats.{is_outside, pieces_at_end, option_then, pieces_from, pieces}
 use Rattle.d_types.specs.Spelling.{IsOneOf, has_byte, AreFlags, width_text, lengths, letters}
 use Rattle.d_types.specs.Spelling.{SpellsPiece}
 use Rattle.d_types.specs.Spelling.{SpellsFormat}
+use Rattle.d_types.proofs.Bounds.{both_true}
 use Rattle.d_types.proofs.Spelled.{AllDecimal, value_after, numerals, not_less, argument}
 use Rattle.d_types.proofs.Spelled.{with_width}
 
@@ -30,11 +31,7 @@ either : {A : Type 0} (t : Bool) (x y z : A) → (if t then x else y) ≡ z → 
 either true x y z h = inl (refl, h)
 either false x y z h = inr (refl, h)
 
-both_true : (a b : Bool) → (a && b) ≡ true → (a ≡ true) × (b ≡ true)
-both_true true b h = (refl, h)
-both_true false b h = absurd (true≢false (sym h))
-
-digit_is : (d : ℕ) → is_digit d ≡ true → IsInRange 48 57 d
+digit_is : (d : ℕ) → is_ascii_digit d ≡ true → IsInRange 48 57 d
 digit_is d h = let two = both_true (nat_le 48 d) (nat_le d 57) h in (leb-true 48 d two.0, leb-true d 57 two.1)
 
 -- ---- what may follow at a place
@@ -164,7 +161,7 @@ length_step f b q o h =
 
 width_step : (f : Flags) (b : ℕ) (q : Place) (o : Option Piece) → f.width ≤ 255 → at_width f b ≡ Some (q, o) → Steps (WithDigits f) b q o
 width_step f b q o small h =
-    elim (either (is_digit b) _ _ _ h) [
+    elim (either (is_ascii_digit b) _ _ _ h) [
       | inl e ↦ elim (either (nat_le (f.width * 10 + (b - 48)) 255) _ _ _ e.1) [
         | inl fits ↦ goes_step (WithDigits f) b (at.Width (with_width f (f.width * 10 + (b - 48)))) q o refl (leb-true _ 255 fits.0)
             (λ p text w. (b ∷ w.0, w.1, (digit_is b e.0, w.2), w.3, w.4, ap (λ rest. b ∷ rest) w.5)) fits.1

@@ -3,63 +3,22 @@
 use Rattle.std.specs.Prelude.{ℕ, ◌+◌, ◌==◌, ◌&&◌, nat_le, Bool, true, false, if◌then◌else◌, List}
 use Rattle.std.specs.Prelude.{[], ◌∷◌, Option, Some, None, ℤ, pos, neg_ℤ}
 use Rattle.d_types.specs.Vocabulary.{bytes_eq, int_eq, option_map, Int, Text, linear_range}
-use Rattle.d_types.specs.Vocabulary.{UnaryOperator, Constant, Tree, Trees, DType, AggFn, MOST_STEP}
+use Rattle.d_types.specs.Vocabulary.{UnaryOperator, Constant, Tree, Trees, DType, AggFn}
 use Rattle.d_types.specs.Vocabulary.{Aggregating}
 use Rattle.d_types.specs.Typed.{Typed, Typeds, end, more, type_of, Agg, Aggs}
 use Rattle.d_types.specs.Needs.{count}
 
 -- ---- bounds and steps, which are read from the text
 
-abbrev pub number_in : Constant → Option ℕ
-number_in (Constant.Number v suffix) = Some v
-number_in (Constant.Text bytes) = None
-
 -- a constant's value, the type aside
-abbrev pub constant_number : Tree → Option ℕ
-constant_number (Tree.Known line c) = number_in c
-constant_number (Tree.Read x keys) = None
-constant_number (Tree.Unary line op a) = None
-constant_number (Tree.Cast line to a) = None
-constant_number (Tree.Call line name args) = None
-constant_number (Tree.Before line by x keys) = None
-constant_number (Tree.After x keys by) = None
-constant_number (Tree.Binary op a b) = None
-constant_number (Tree.Choice a b d) = None
-constant_number (Tree.Assign op x keys a) = None
+abbrev pub natural : Tree → Option ℕ
+natural (Tree.Known line (Constant.Number v suffix)) = Some v
+natural t = None
 
-abbrev pub positive : Option ℕ → Option ℤ
-positive None = None
-positive (Some v) = if nat_le v 2147483647 then Some (pos v) else None
-
-abbrev pub negative : Option ℕ → Option ℤ
-negative None = None
-negative (Some v) = if nat_le v 2147483648 then Some (neg_ℤ (pos v)) else None
-
-abbrev pub minus_bound : UnaryOperator → Tree → Option ℤ
-minus_bound UnaryOperator.Negate a = negative (constant_number a)
-minus_bound UnaryOperator.Not a = None
-minus_bound UnaryOperator.Complement a = None
-minus_bound UnaryOperator.Keep a = None
-
--- a constant from -2^31 to 2^31 - 1, perhaps with one minus
-abbrev pub bound : Tree → Option ℤ
-bound (Tree.Known line c) = positive (number_in c)
-bound (Tree.Unary line op a) = minus_bound op a
-bound (Tree.Read x keys) = None
-bound (Tree.Cast line to a) = None
-bound (Tree.Call line name args) = None
-bound (Tree.Before line by x keys) = None
-bound (Tree.After x keys by) = None
-bound (Tree.Binary op a b) = None
-bound (Tree.Choice a b d) = None
-bound (Tree.Assign op x keys a) = None
-
-abbrev pub small : Option ℕ → Option ℕ
-small None = None
-small (Some v) = if nat_le v MOST_STEP then Some v else None
-
-abbrev pub step : Tree → Option ℕ
-step t = small (constant_number t)
+-- that, perhaps with one minus
+abbrev pub whole_number : Tree → Option ℤ
+whole_number (Tree.Unary line UnaryOperator.Negate a) = option_map (λ v. neg_ℤ (pos v)) (natural a)
+whole_number t = option_map pos (natural t)
 
 abbrev pub buckets_between : Option ℤ → Option ℤ → Option ℕ → Option AggFn
 buckets_between (Some lower) (Some upper) (Some s) =
@@ -69,9 +28,9 @@ buckets_between lower upper s = None
 -- `lquantize(e, lower, upper)` has steps of 1, and `lquantize(e, lower, upper, step)` its own
 abbrev pub lquantize : Trees → Option AggFn
 lquantize (Trees.more e (Trees.more lower (Trees.more upper Trees.end))) =
-    buckets_between (bound lower) (bound upper) (Some 1)
+    buckets_between (whole_number lower) (whole_number upper) (Some 1)
 lquantize (Trees.more e (Trees.more lower (Trees.more upper (Trees.more s Trees.end)))) =
-    buckets_between (bound lower) (bound upper) (step s)
+    buckets_between (whole_number lower) (whole_number upper) (natural s)
 lquantize args = None
 
 -- a function with its bounds, where they are in range
@@ -98,11 +57,7 @@ integers (more x rest) = is_integer (type_of x) && integers rest
 abbrev pub takes_arguments : Aggregating → ℕ → Bool
 takes_arguments Aggregating.Count n = nat_le n 0
 takes_arguments Aggregating.Lquantize n = nat_le 3 n && nat_le n 4
-takes_arguments Aggregating.Sum n = nat_le 1 n && nat_le n 1
-takes_arguments Aggregating.Min n = nat_le 1 n && nat_le n 1
-takes_arguments Aggregating.Max n = nat_le 1 n && nat_le n 1
-takes_arguments Aggregating.Avg n = nat_le 1 n && nat_le n 1
-takes_arguments Aggregating.Quantize n = nat_le 1 n && nat_le n 1
+takes_arguments f n = nat_le 1 n && nat_le n 1
 
 -- integers, of the number that the function takes
 abbrev pub arguments_fit : Aggregating → Typeds → Bool

@@ -7,7 +7,7 @@ use Rattle.d_parser.specs.declared.tree.Variable.{Variable}
 use Rattle.d_types.specs.Vocabulary.{Int, Step, Tree, Trees, DType, INT64, Answer, Callee}
 use Rattle.d_types.specs.Vocabulary.{TypeFault, IntType, AggFn, Piece, Space, MOST_KEYS}
 use Rattle.d_types.specs.Vocabulary.{DeclarationTree, StmtTree, ItemTree, ClauseTree, DeclaredType}
-use Rattle.d_types.specs.Vocabulary.{REGISTERS, promoted_of}
+use Rattle.d_types.specs.Vocabulary.{REGISTERS, promoted_of, Constant}
 use Rattle.d_types.specs.Variables as variables
 use Rattle.d_types.specs.Formats as formats
 use Rattle.d_types.specs.Typed.{Typed, Typeds, end, more, Agg, Aggs, Action, ClauseMeant}
@@ -17,7 +17,7 @@ use Rattle.d_types.specs.Words.{built_in, callee_named, aggregating_named}
 use Rattle.d_types.specs.Targets.{space_of, type_at_once}
 use Rattle.d_types.specs.Operators.{binary_sort, assign_sort, conversion_node}
 use Rattle.d_types.specs.Lines.{line_of_variable, line_of}
-use Rattle.d_types.specs.Constants.{constant, text_of_constant, declared_kinds}
+use Rattle.d_types.specs.Constants.{constant, declared_kinds}
 use Rattle.d_types.specs.{Needs.count, Needs.need, Constants.int_type, Constants.declared_type}
 use Rattle.d_types.specs.{Spelling.SpellsFormat}
 use Rattle.d_types.specs.Aggregations.{arguments_fit, function, find_from, is_again, first}
@@ -181,14 +181,14 @@ evaluated t = do
   gives (Evaluate x)
 
 -- a format, which is a text constant, and an argument for each of its conversions
-abbrev pub printed : ℕ → Option (List ℕ) → Trees → Trees → Checked Action
-printed line (Some format) all rest = do
+abbrev pub printed : ℕ → Trees → Checked Action
+printed line (Trees.more (Tree.Known at (Constant.Text format)) rest) = do
   xs ← wholes rest
   by_rule (λ a. (ps : List Piece) × SpellsFormat ps format × (formats.fit ps xs ≡ true)
       × (a ≡ Print ps xs))
       (TypeFault.PrintfArguments line)
-printed line None all rest = do
-  xs ← wholes all
+printed line args = do
+  xs ← wholes args
   refused (TypeFault.PrintfArguments line)
 
 -- a call that is a whole statement is an action
@@ -200,9 +200,7 @@ called (Some Callee.Exit) line name args = do
   xs ← wholes args
   by_rule (λ a. (x : Typed) × (t : IntType) × (xs ≡ more x end) × IsInteger x t × (a ≡ Exit x))
       (TypeFault.Mismatch line)
-called (Some Callee.Printf) line name Trees.end = refused (TypeFault.PrintfArguments line)
-called (Some Callee.Printf) line name (Trees.more t rest) =
-    printed line (text_of_constant t) (Trees.more t rest) rest
+called (Some Callee.Printf) line name args = printed line args
 called callee line name args = evaluated (Tree.Call line name args)
 
 -- a new aggregation has at most 8 keys, and a known one has keys of these kinds

@@ -1,28 +1,18 @@
 -- The types that constants have, and those that words name.
 -- Source: Dynamic Tracing Guide, "Constants".
-use Rattle.std.specs.Prelude.{ℕ, nat_le, if◌then◌else◌, take, Option, Some, None, List, map}
+use Rattle.std.specs.Prelude.{ℕ, nat_le, if◌then◌else◌, take, List, map}
 use Rattle.d_types.specs.Vocabulary.{Suffix, IntegerType, DeclaredType, IntType, DType, INT8, INT16}
-use Rattle.d_types.specs.Vocabulary.{INT32, INT64, UINT8, UINT16, UINT32, UINT64, Constant, Tree}
+use Rattle.d_types.specs.Vocabulary.{INT32, INT64, UINT8, UINT16, UINT32, UINT64, Constant}
 use Rattle.d_types.specs.Vocabulary.{longest, Kind}
 use Rattle.d_types.specs.Typed.{Typed}
 use Rattle.d_types.specs.Variables.{kind_of_type}
 
--- the first of int, long and unsigned long that holds the value
-abbrev pub unsuffixed_type : ℕ → IntType
-unsuffixed_type v =
-    if nat_le v 2147483647 then INT32 else if nat_le v 9223372036854775807 then INT64 else UINT64
-
--- the unsigned form of that type
-abbrev pub with_u : ℕ → IntType
-with_u v = if nat_le v 2147483647 then UINT32 else UINT64
-
-abbrev pub with_l : ℕ → IntType
-with_l v = if nat_le v 9223372036854775807 then INT64 else UINT64
-
+-- the first of int, long and unsigned long that holds the value, or of those with the suffix
 abbrev pub type_of_constant : ℕ → Suffix → IntType
-type_of_constant v Suffix.Absent = unsuffixed_type v
-type_of_constant v Suffix.Unsigned = with_u v
-type_of_constant v Suffix.Long = with_l v
+type_of_constant v Suffix.Absent =
+    if nat_le v 2147483647 then INT32 else if nat_le v 9223372036854775807 then INT64 else UINT64
+type_of_constant v Suffix.Unsigned = if nat_le v 2147483647 then UINT32 else UINT64
+type_of_constant v Suffix.Long = if nat_le v 9223372036854775807 then INT64 else UINT64
 type_of_constant v Suffix.UnsignedLong = UINT64
 
 -- the type that a word of the script names
@@ -44,10 +34,6 @@ declared_type DeclaredType.Text = DType.Text
 abbrev pub constant : Constant → Typed
 constant (Constant.Number v suffix) = Typed.Constant (type_of_constant v suffix) v
 constant (Constant.Text bytes) = Typed.Text (take longest bytes)
-
-abbrev pub text_of_constant : Tree → Option (List ℕ)
-text_of_constant (Tree.Known line (Constant.Text bytes)) = Some bytes
-text_of_constant t = None
 
 abbrev pub declared_kinds : List DeclaredType → List Kind
 declared_kinds all = map (λ t. kind_of_type (declared_type t)) all

@@ -11,6 +11,7 @@ use Rattle.d_types.specs.Typed.{Typed, Constant, Text, Fixed, Read, Unary, Opera
 use Rattle.d_types.specs.Typed.{CompareText, Logic, Choice, Convert, Assign, Update, Count, Strlen}
 use Rattle.d_types.specs.Typed.{Strjoin, Typeds, end, more}
 use Rattle.d_types.specs.Storage.{Variables, word_of, bytes_of, value_of_variable, set}
+pub use Rattle.d_types.specs.Typed.{works_in}
 pub use Rattle.d_values.specs.Keys.{part_of}
 pub use Rattle.d_values.specs.Outcomes.{Outcome, Has, Faults, with}
 
@@ -75,11 +76,6 @@ unary_of UnaryOperator.Keep t word = word
 abbrev pub operation_of : Operation → ℕ → ℕ → Result ℕ OutOfZero
 operation_of (Operation.Arithmetic o t) x y = binary_of o t x y
 operation_of (Operation.Shift o t) x y = Ok (shift_of o t x y)
-
--- the type that an operation works in
-abbrev pub works_in : Operation → IntType
-works_in (Operation.Arithmetic o t) = t
-works_in (Operation.Shift o t) = t
 
 -- the word as one of the variable's type
 abbrev pub word_as_type : DType → ℕ → ℕ

@@ -14,7 +14,6 @@ takes_type letter (Int t) = true
 -- an argument for each conversion, of its kind
 abbrev pub fit : List Piece → Typeds → Bool
 fit [] end = true
-fit [] (more x rest) = false
 fit (Piece.Byte b ∷ ps) args = fit ps args
-fit (Piece.Argument c ∷ ps) end = false
 fit (Piece.Argument c ∷ ps) (more x rest) = takes_type c.letter (type_of x) && fit ps rest
+fit ps args = false

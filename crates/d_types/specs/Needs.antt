@@ -1,4 +1,5 @@
 -- How many registers an expression needs.
+-- Source: docs/GRAMMAR.md, "Registers".
 use Rattle.std.specs.Prelude.{ℕ, ◌+◌, max}
 use Rattle.d_types.specs.Vocabulary.{LogicOperator}
 use Rattle.d_types.specs.Typed.{Typed, Constant, Text, Fixed, Read, Unary, Operate, Compare}
@@ -15,9 +16,8 @@ need_of_two a b = max a (1 + b)
 
 -- && and || go on with nothing kept
 abbrev pub need_of_logic : LogicOperator → ℕ → ℕ → ℕ
-need_of_logic LogicOperator.And a b = max a b
 need_of_logic LogicOperator.Xor a b = need_of_two a b
-need_of_logic LogicOperator.Or a b = max a b
+need_of_logic op a b = max a b
 
 abbrev mutual
   pub need : Typed → ℕ

@@ -1,4 +1,5 @@
 -- The sorts of operators, and conversions.
+-- Source: Dynamic Tracing Guide, "Types, Operators, and Expressions" and "Type Conversions".
 use Rattle.std.specs.Prelude.{Bool, not, ◌&&◌, ◌==◌, if◌then◌else◌}
 use Rattle.d_types.specs.Vocabulary.{BinaryOperator, AssignOperator, IntType, ArithmeticOperator}
 use Rattle.d_types.specs.Vocabulary.{ShiftOperator, ComparisonOperator, LogicOperator, BinarySort}

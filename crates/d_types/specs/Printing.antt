@@ -49,21 +49,14 @@ number_in_width c n = text_in_width c c.zeros (sign_of n) (decimal (unsigned_abs
 abbrev pub digits_of : Letter → ℕ → List ℕ
 digits_of Letter.Hexadecimal n = digits 16 false n
 digits_of Letter.Octal n = digits 8 false n
-digits_of Letter.Signed n = decimal n
-digits_of Letter.Unsigned n = decimal n
-digits_of Letter.Text n = decimal n
-
-abbrev pub digits_in_width : Letter → Conversion → DType → Value → List ℕ
-digits_in_width letter c t value =
-    text_in_width c c.zeros [] (digits_of letter (low_in t (word_of value)))
+digits_of letter n = decimal n
 
 -- an argument by the conversion's letter
 abbrev pub conversion_text : Letter → Conversion → DType → Value → List ℕ
 conversion_text Letter.Signed c t value = number_in_width c (number_in t (word_of value))
 conversion_text Letter.Text c t value = text_in_width c false [] (bytes_of value)
-conversion_text Letter.Unsigned c t value = digits_in_width Letter.Unsigned c t value
-conversion_text Letter.Hexadecimal c t value = digits_in_width Letter.Hexadecimal c t value
-conversion_text Letter.Octal c t value = digits_in_width Letter.Octal c t value
+conversion_text letter c t value =
+    text_in_width c c.zeros [] (digits_of letter (low_in t (word_of value)))
 
 -- the pieces of the format, each conversion with the next argument
 abbrev pub printf_text : List Piece → List (DType × Value) → List ℕ

@@ -1,7 +1,8 @@
 -- What the text of a format means.
 -- Source: Dynamic Tracing Guide, "Output Formatting".
-use Rattle.std.specs.Prelude.{◌≡◌, ℕ, zero, suc, ◌≤◌, ◌==◌, ◌||◌, ◌⊎◌, Bool, false, if◌then◌else◌}
-use Rattle.std.specs.Prelude.{List, [], ◌∷◌, ◌++◌, codes}
+use Rattle.std.specs.Prelude.{◌≡◌, ℕ, zero, suc, ◌≤◌, ◌==◌, ◌⊎◌, Bool, if◌then◌else◌, List, []}
+use Rattle.std.specs.Prelude.{◌∷◌, ◌++◌, codes}
+use Rattle.std.specs.List.{list_any}
 use Rattle.d_types.specs.Vocabulary.{decimal, MOST_WIDTH, Letter, Conversion, Piece}
 
 abbrev pub IsOneOf : {A : Type 0} → A → List A → Type 0
@@ -9,8 +10,7 @@ IsOneOf x [] = ⊥
 IsOneOf x (y ∷ others) = (x ≡ y) ⊎ IsOneOf x others
 
 abbrev pub has_byte : ℕ → List ℕ → Bool
-has_byte b [] = false
-has_byte b (c ∷ others) = (c == b) || has_byte b others
+has_byte b bytes = list_any (λ c. c == b) bytes
 
 -- - and 0, in any order and number
 abbrev pub AreFlags : List ℕ → Type 0

@@ -1,5 +1,6 @@
 -- The variables of expressions, by their storage. Those that were never
 -- assigned have zero or the empty text.
+-- Source: Dynamic Tracing Guide, "Variables".
 use Rattle.std.specs.Prelude.{List}
 use Rattle.d_types.specs.Vocabulary.{KeyPart, Var, Value, Space, Variable}
 use Rattle.d_types.specs.Variables.{kind_of_type}

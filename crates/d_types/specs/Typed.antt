@@ -1,4 +1,5 @@
 -- Typed trees, as values.
+-- Source: Dynamic Tracing Guide, "Types, Operators, and Expressions" and "Actions and Subroutines".
 use Rattle.std.specs.List.{list_any}
 use Rattle.std.specs.Prelude.{ℕ, Bool, true, false, List, [], ◌∷◌, map, Option, Some, None}
 use Rattle.d_types.specs.Vocabulary.{UnaryOperator, Step, Description, IntType, DType}
@@ -74,13 +75,12 @@ type_of_built_in BuiltIn.Probename = DType.Text
 
 abbrev pub type_of_unary : UnaryOperator → IntType → DType
 type_of_unary UnaryOperator.Not t = DType.Int INT32
-type_of_unary UnaryOperator.Complement t = DType.Int t
-type_of_unary UnaryOperator.Negate t = DType.Int t
-type_of_unary UnaryOperator.Keep t = DType.Int t
+type_of_unary op t = DType.Int t
 
-abbrev pub type_of_operation : Operation → DType
-type_of_operation (Operation.Arithmetic o t) = DType.Int t
-type_of_operation (Operation.Shift o t) = DType.Int t
+-- the type that an operation works in
+abbrev pub works_in : Operation → IntType
+works_in (Operation.Arithmetic o t) = t
+works_in (Operation.Shift o t) = t
 
 -- the type of an expression's value
 abbrev pub type_of : Typed → DType
@@ -89,7 +89,7 @@ type_of (Text w) = DType.Text
 type_of (Fixed b) = type_of_built_in b
 type_of (Read v keys) = v.holds
 type_of (Unary o t a) = type_of_unary o t
-type_of (Operate o a b) = type_of_operation o
+type_of (Operate o a b) = DType.Int (works_in o)
 type_of (Compare o t a b) = DType.Int INT32
 type_of (CompareText o a b) = DType.Int INT32
 type_of (Logic o a b) = DType.Int INT32
@@ -138,10 +138,7 @@ pub record ScriptMeant : Type 0 where
 -- the statement is an `exit`
 abbrev pub is_exit : {E Es : Type 0} → ActionOf E Es → Bool
 is_exit (Exit x) = true
-is_exit (Evaluate x) = false
-is_exit (Trace x) = false
-is_exit (Print format arguments) = false
-is_exit (Aggregate place keys argument) = false
+is_exit action = false
 
 -- some statement of the script is an `exit`
 abbrev pub has_exit : ScriptMeant → Bool

@@ -1,7 +1,8 @@
 -- The table of variables.
 -- Source: Dynamic Tracing Guide, "Variables".
-use Rattle.std.specs.Prelude.{ℕ, zero, suc, ◌+◌, Bool, true, false, ◌&&◌, if◌then◌else◌, List, []}
-use Rattle.std.specs.Prelude.{◌∷◌, map, Option, Some, None}
+use Rattle.std.specs.Prelude.{ℕ, zero, suc, Bool, true, false, ◌&&◌, List, [], ◌∷◌, map, Option}
+use Rattle.std.specs.Prelude.{Some, None}
+use Rattle.std.specs.List.{position_from}
 use denote.Enum.Bare.{sameb}
 use Rattle.d_types.specs.Vocabulary.{bytes_eq, Kind, DType, Space}
 use Rattle.d_types.specs.contracts.typed.Space as space
@@ -26,13 +27,9 @@ kind_of_type DType.Text = Kind.Text
 abbrev pub names_row : Space → List ℕ → Row → Bool
 names_row s w r = sameb space.the_type r.space s && bytes_eq r.word w
 
--- the slot of a variable, in a table whose first slot is n
-abbrev pub find_from : ℕ → Space → List ℕ → Rows → Option ℕ
-find_from n s w [] = None
-find_from n s w (r ∷ rs) = if names_row s w r then Some n else find_from (n + 1) s w rs
-
+-- the slot of a variable
 abbrev pub find : Space → List ℕ → Rows → Option ℕ
-find s w rows = find_from 0 s w rows
+find s w rows = position_from (names_row s w) 0 rows
 
 -- its type, once it is known
 abbrev pub type_at : Rows → ℕ → Option DType
@@ -43,9 +40,8 @@ type_at (r ∷ rs) (suc n) = type_at rs n
 -- keys of these kinds
 abbrev pub fit : List Kind → Typeds → Bool
 fit [] end = true
-fit [] (more y keys) = false
-fit (x ∷ kinds) end = false
 fit (x ∷ kinds) (more y keys) = sameb kind.the_type (kind_of_type (type_of y)) x && fit kinds keys
+fit kinds keys = false
 
 abbrev pub keys_fit : Rows → ℕ → Typeds → Bool
 keys_fit [] n keys = false

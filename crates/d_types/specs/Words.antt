@@ -2,7 +2,7 @@
 -- Source: Dynamic Tracing Guide, "Built-in Variables" and "Actions and Subroutines".
 use Rattle.std.specs.Prelude.{ℕ, ◌-◌, List, [], ◌∷◌, codes, Option, Some, None, ◌&&◌}
 use Rattle.std.specs.Prelude.{if◌then◌else◌}
-use Rattle.std.specs.Char.{is_ascii_digit}
+use Rattle.std.specs.{Char.is_ascii_digit, Map.lookup, Option.option_or}
 use Rattle.d_types.specs.Vocabulary.{bytes_eq, BuiltIn, Callee, Aggregating}
 
 -- arg0 to arg9
@@ -12,43 +12,31 @@ argument (a ∷ r ∷ g ∷ digit ∷ []) =
     then Some (BuiltIn.Argument (digit - 48)) else None
 argument word = None
 
--- a part of the probe's name, or an argument
-abbrev pub of_probe : List ℕ → Option BuiltIn
-of_probe word =
-    if bytes_eq word (codes "probeprov") then Some BuiltIn.Probeprov
-    else if bytes_eq word (codes "probemod") then Some BuiltIn.Probemod
-    else if bytes_eq word (codes "probefunc") then Some BuiltIn.Probefunc
-    else if bytes_eq word (codes "probename") then Some BuiltIn.Probename
-    else argument word
+abbrev pub built_ins : List (List ℕ × BuiltIn)
+built_ins =
+    (codes "timestamp", BuiltIn.Timestamp) ∷ (codes "cpu", BuiltIn.Cpu)
+    ∷ (codes "pid", BuiltIn.Pid) ∷ (codes "tid", BuiltIn.Tid)
+    ∷ (codes "execname", BuiltIn.Execname) ∷ (codes "probeprov", BuiltIn.Probeprov)
+    ∷ (codes "probemod", BuiltIn.Probemod) ∷ (codes "probefunc", BuiltIn.Probefunc)
+    ∷ (codes "probename", BuiltIn.Probename) ∷ []
 
 -- the built-in variable
 abbrev pub built_in : List ℕ → Option BuiltIn
-built_in word =
-    if bytes_eq word (codes "timestamp") then Some BuiltIn.Timestamp
-    else if bytes_eq word (codes "cpu") then Some BuiltIn.Cpu
-    else if bytes_eq word (codes "pid") then Some BuiltIn.Pid
-    else if bytes_eq word (codes "tid") then Some BuiltIn.Tid
-    else if bytes_eq word (codes "execname") then Some BuiltIn.Execname
-    else of_probe word
+built_in word = option_or (lookup (bytes_eq word) built_ins) (argument word)
 
 -- a function or an action
 abbrev pub callee_named : List ℕ → Option Callee
 callee_named word =
-    if bytes_eq word (codes "strlen") then Some Callee.Strlen
-    else if bytes_eq word (codes "strjoin") then Some Callee.Strjoin
-    else if bytes_eq word (codes "trace") then Some Callee.Trace
-    else if bytes_eq word (codes "printf") then Some Callee.Printf
-    else if bytes_eq word (codes "exit") then Some Callee.Exit
-    else None
+    lookup (bytes_eq word)
+    ((codes "strlen", Callee.Strlen) ∷ (codes "strjoin", Callee.Strjoin)
+    ∷ (codes "trace", Callee.Trace) ∷ (codes "printf", Callee.Printf)
+    ∷ (codes "exit", Callee.Exit) ∷ [])
 
 -- an aggregating function
 abbrev pub aggregating_named : List ℕ → Option Aggregating
 aggregating_named word =
-    if bytes_eq word (codes "count") then Some Aggregating.Count
-    else if bytes_eq word (codes "sum") then Some Aggregating.Sum
-    else if bytes_eq word (codes "min") then Some Aggregating.Min
-    else if bytes_eq word (codes "max") then Some Aggregating.Max
-    else if bytes_eq word (codes "avg") then Some Aggregating.Avg
-    else if bytes_eq word (codes "quantize") then Some Aggregating.Quantize
-    else if bytes_eq word (codes "lquantize") then Some Aggregating.Lquantize
-    else None
+    lookup (bytes_eq word)
+    ((codes "count", Aggregating.Count) ∷ (codes "sum", Aggregating.Sum)
+    ∷ (codes "min", Aggregating.Min) ∷ (codes "max", Aggregating.Max)
+    ∷ (codes "avg", Aggregating.Avg) ∷ (codes "quantize", Aggregating.Quantize)
+    ∷ (codes "lquantize", Aggregating.Lquantize) ∷ [])

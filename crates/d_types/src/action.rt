@@ -7,7 +7,7 @@ ghost use Rattle.d_types.specs.Steps.Variables.{rows_of_entries};
 ghost use Rattle.d_types.specs.Vocabulary.{tree_of, trees_of, Tree};
 ghost use Rattle.d_types.specs.Typed.{typeds_of, action_of, Typeds};
 ghost use Rattle.d_types.specs.Steps.Statements as spec;
-ghost use Rattle.d_types.specs.Constants.{text_of_constant};
+ghost use Rattle.d_types.specs.Steps.Statements.{text_of_constant};
 
 use crate::calls::only;
 use crate::expression::whole;

@@ -22,7 +22,7 @@ use d_values::DType;
 use std::alloc::Global;
 
 fn number_of(e: &Expr) -> Option<u64>
-    ensures { result ≡ spec.constant_number (tree_of e.now) }
+    ensures { result ≡ spec.natural (tree_of e.now) }
 {
     match e {
         Expr::Constant {
@@ -46,7 +46,7 @@ fn number_of(e: &Expr) -> Option<u64>
 }
 
 fn positive(value: Option<u64>) -> Option<i32>
-    ensures { result ≡ spec.positive value }
+    ensures { result ≡ steps.positive value }
 {
     match value {
         Some(value) if value <= 2147483647 => Some(value as i32),
@@ -55,7 +55,7 @@ fn positive(value: Option<u64>) -> Option<i32>
 }
 
 fn negative(value: Option<u64>) -> Option<i32>
-    ensures { result ≡ spec.negative value }
+    ensures { result ≡ steps.negative value }
 {
     match value {
         Some(value) if value <= 2147483648 => Some((-(value as i64)) as i32),
@@ -65,7 +65,7 @@ fn negative(value: Option<u64>) -> Option<i32>
 
 /// A bound: a constant, perhaps with one minus.
 fn bound(e: &Expr) -> Option<i32>
-    ensures { result ≡ spec.bound (tree_of e.now) }
+    ensures { result ≡ steps.bound (tree_of e.now) }
 {
     match e {
         Expr::Unary {
@@ -90,7 +90,7 @@ fn bound(e: &Expr) -> Option<i32>
 }
 
 fn step(e: &Expr) -> Option<u16>
-    ensures { result ≡ spec.step (tree_of e.now) }
+    ensures { result ≡ steps.small (spec.natural (tree_of e.now)) }
 {
     match number_of(e) {
         Some(value) if value <= MOST_STEP as u64 => Some(value as u16),
@@ -117,7 +117,7 @@ fn buckets(lower: Option<i32>, upper: Option<i32>, step: Option<u16>) -> Option<
 }
 
 fn lquantize(args: &[Expr]) -> Option<AggFn>
-    ensures { result ≡ spec.lquantize (trees_of args.now) }
+    ensures { result ≡ steps.lquantize_by_bounds (trees_of args.now) }
 {
     match args {
         [_value, lower, upper] => buckets(bound(lower), bound(upper), Some(1)),
@@ -130,6 +130,7 @@ fn lquantize(args: &[Expr]) -> Option<AggFn>
 }
 
 /// An aggregating function with its bounds. None where they aren't in range.
+#[tactic(auto, using(crate::proofs::Bounds::lquantize_kept))]
 fn function_of(aggregating: Aggregating, args: &[Expr]) -> Option<AggFn>
     ensures { result ≡ spec.function aggregating (trees_of args.now) }
 {

@@ -1,7 +1,7 @@
 //! The types that constants have, and those that words name.
 
 ghost use Rattle.std.specs.Prelude.{◌≡◌};
-ghost use Rattle.d_types.specs.Vocabulary.{DType};
+ghost use Rattle.d_types.specs.Vocabulary.{DType, Suffix};
 ghost use Rattle.d_types.specs.Constants as spec;
 
 use d_lexer::Suffix;
@@ -14,7 +14,7 @@ const INT_MAX: u64 = 2147483647;
 const LONG_MAX: u64 = 9223372036854775807;
 
 fn unsuffixed_type(value: u64) -> IntType
-    ensures { result ≡ spec.unsuffixed_type value }
+    ensures { result ≡ spec.type_of_constant value Suffix.Absent }
 {
     if value <= INT_MAX {
         IntType::INT32

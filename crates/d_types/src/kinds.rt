@@ -1,6 +1,7 @@
 //! The types of values.
 
 ghost use Rattle.std.specs.Prelude.{◌≡◌};
+ghost use Rattle.d_types.specs.Vocabulary.{DType};
 ghost use Rattle.d_types.specs.Typed as spec;
 
 use crate::constants::integer;
@@ -33,7 +34,7 @@ fn type_of_unary(operator: UnaryOperator, t: IntType) -> DType
 }
 
 fn type_of_operation(operation: Operation) -> DType
-    ensures { result ≡ spec.type_of_operation operation }
+    ensures { result ≡ DType.Int (spec.works_in operation) }
 {
     match operation {
         Operation::Arithmetic(_, t) => DType::Int(t),

@@ -8,8 +8,8 @@ ghost use Rattle.d_types.specs.{Storage.Variables};
 ghost use Rattle.d_types.specs.Sizes.{HasAtMost, most_runs};
 ghost use Rattle.d_types.specs.Typed.{ClauseMeant, ScriptMeant};
 
-/// Every script has a meaning or a first fault, and no more than one of them. That memory ran out is
-/// no fault of a script.
+/// Every script has a meaning or a first fault, and no more than one of them. That memory ran out
+/// is no fault of a script.
 pub fn one_answer()
     ensures some { (source : List ItemTree)
         → ∥ ((answer : Result ScriptMeant TypeFault) × IsChecked source answer) ∥₁ }

@@ -1,6 +1,7 @@
 //! What words name.
 
-ghost use Rattle.std.specs.Prelude.{◌≡◌};
+ghost use Rattle.std.specs.Prelude.{◌≡◌, drop};
+ghost use Rattle.std.specs.{Map.lookup, Option.option_or};
 ghost use Rattle.d_types.specs.{Vocabulary.bytes_eq};
 ghost use Rattle.d_types.specs.Words as spec;
 
@@ -47,7 +48,8 @@ fn argument(word: &[u8]) -> Option<BuiltIn>
 
 // A part of the probe's name, or an argument.
 fn of_probe(word: &[u8]) -> Option<BuiltIn>
-    ensures { result ≡ spec.of_probe word.now }
+    ensures { result
+        ≡ option_or (lookup (bytes_eq word.now) (drop 5 spec.built_ins)) (spec.argument word.now) }
 {
     if is(word, "probeprov") {
         Some(BuiltIn::Probeprov)

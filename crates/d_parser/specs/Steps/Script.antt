@@ -1,7 +1,7 @@
 -- A description as it is read: field by field from the left.
 use Rattle.std.specs.Prelude.{◌==◌, ℕ, zero, suc, if◌then◌else◌, List, [], ◌∷◌, Option, Some, None}
 use Rattle.d_parser.specs.Vocabulary.{Description}
-use Rattle.d_parser.specs.Script.{colon, is_digit}
+use Rattle.d_parser.specs.Script.{colon, is_ascii_digit}
 pub use Rattle.std.specs.List.{list_all}
 
 abbrev pub description_with : (a b c d : List ℕ) → Description
@@ -38,4 +38,5 @@ description_from other = None
 
 -- at most four fields, and not digits alone
 abbrev pub description_of : List ℕ → Option Description
-description_of run = if list_all is_digit run then None else description_from (fields 4 (Some run))
+description_of run =
+    if list_all is_ascii_digit run then None else description_from (fields 4 (Some run))

@@ -1,7 +1,7 @@
 -- The typed tree of an aggregation statement, or its first fault, as the code finds it.
 use Rattle.std.specs.Prelude.{ℕ, nat_le, if◌then◌else◌, List, [], ◌∷◌, ◌++◌, length, Option, Some}
-use Rattle.std.specs.Prelude.{None, Result, Ok}
-use Rattle.d_types.specs.Vocabulary.{Trees, AggFn, MOST_KEYS}
+use Rattle.std.specs.Prelude.{None, Result, Ok, ℤ, pos, neg_ℤ}
+use Rattle.d_types.specs.Vocabulary.{UnaryOperator, Tree, Trees, AggFn, MOST_KEYS, MOST_STEP}
 use Rattle.d_types.specs.Steps.Faults.{Fault, ◌>>=◌, refuse, unless, Undeclared, Mismatch, Keys}
 use Rattle.d_types.specs.Steps.Faults.{AggregationRedefined, LquantizeBounds}
 use Rattle.d_types.specs.Typed.{Typeds, end, Action, Aggregate, Agg, Aggs}
@@ -9,7 +9,36 @@ use Rattle.d_types.specs.Variables.{Rows, kinds_of_typed, fit}
 use Rattle.d_types.specs.Words.{aggregating_named}
 use Rattle.d_types.specs.Needs.{count}
 use Rattle.d_types.specs.Steps.Statements.{wholes}
-use Rattle.d_types.specs.Aggregations.{function, arguments_fit, first, find_from, is_again}
+use Rattle.d_types.specs.Aggregations.{natural, buckets_between, function, arguments_fit, first}
+use Rattle.d_types.specs.Aggregations.{find_from, is_again}
+
+-- ---- bounds and steps in the code's integers
+
+abbrev pub positive : Option ℕ → Option ℤ
+positive None = None
+positive (Some v) = if nat_le v 2147483647 then Some (pos v) else None
+
+abbrev pub negative : Option ℕ → Option ℤ
+negative None = None
+negative (Some v) = if nat_le v 2147483648 then Some (neg_ℤ (pos v)) else None
+
+-- from -2^31 to 2^31 - 1
+abbrev pub bound : Tree → Option ℤ
+bound (Tree.Unary line UnaryOperator.Negate a) = negative (natural a)
+bound t = positive (natural t)
+
+abbrev pub small : Option ℕ → Option ℕ
+small None = None
+small (Some v) = if nat_le v MOST_STEP then Some v else None
+
+abbrev pub lquantize_by_bounds : Trees → Option AggFn
+lquantize_by_bounds (Trees.more e (Trees.more lower (Trees.more upper Trees.end))) =
+    buckets_between (bound lower) (bound upper) (Some 1)
+lquantize_by_bounds (Trees.more e (Trees.more lower (Trees.more upper (Trees.more s Trees.end)))) =
+    buckets_between (bound lower) (bound upper) (small (natural s))
+lquantize_by_bounds args = None
+
+-- ---- the aggregation
 
 abbrev pub new_aggregation : List ℕ → Typeds → Aggs → AggFn → Result (ℕ × Aggs) Fault
 new_aggregation name keys aggs f =

@@ -1,7 +1,7 @@
 -- The pieces of a format, read from left to right.
 use Rattle.std.specs.Prelude.{ℕ, ◌+◌, ◌*◌, ◌-◌, ◌==◌, ◌||◌, nat_le, Bool, true, false}
 use Rattle.std.specs.Prelude.{if◌then◌else◌, List, [], ◌∷◌, ◌++◌, Option, Some, None}
-use Rattle.d_parser.specs.Script.{is_digit}
+use Rattle.d_parser.specs.Script.{is_ascii_digit}
 use Rattle.d_types.specs.Vocabulary.{Letter, Piece, MOST_WIDTH, Flags, Place}
 
 -- what a byte does: where the next byte is, and the piece that it ends, if any
@@ -42,7 +42,7 @@ at_length f b =
 -- before it perhaps a width
 abbrev pub at_width : Flags → ℕ → Turn
 at_width f b =
-    if is_digit b
+    if is_ascii_digit b
     then (if nat_le (f.width * 10 + (b - 48)) MOST_WIDTH
     then goes (Place.Width (record f { width = f.width * 10 + (b - 48) }))
     else None)

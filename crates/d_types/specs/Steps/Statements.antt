@@ -1,6 +1,6 @@
 -- The typed tree of a statement, or its first fault, as the code finds it.
 use Rattle.std.specs.Prelude.{ℕ, if◌then◌else◌, List, Option, Some, None, Result, Ok}
-use Rattle.d_types.specs.Vocabulary.{Int, Text, Trees, Tree, DType, Callee}
+use Rattle.d_types.specs.Vocabulary.{Int, Text, Trees, Tree, Constant, DType, Callee}
 use Rattle.d_types.specs.Steps.Faults.{Fault, ◌>>=◌, refuse, unless, Mismatch, PrintfArguments}
 use Rattle.d_types.specs.Typed.{Typed, Typeds, end, type_of, Action, Evaluate, Trace}
 use Rattle.d_types.specs.Steps.Typing.{with_typed}
@@ -10,7 +10,6 @@ use Rattle.d_types.specs.Formats.{fit}
 use Rattle.d_types.specs.Words.{callee_named}
 use Rattle.d_types.specs.Variables.{Rows}
 use Rattle.d_types.specs.Steps.Typing.{only, whole}
-use Rattle.d_types.specs.Constants.{text_of_constant}
 
 -- expressions that are no parts of others, after those that are typed
 abbrev pub wholes : Typeds → Rows → Trees → Result (Typeds × Rows) Fault
@@ -44,6 +43,10 @@ not_printed line rows args = wholes end rows args >>= λ k. refuse PrintfArgumen
 abbrev pub print_by : Option (List ℕ) → ℕ → Rows → Tree → Trees → Result (Action × Rows) Fault
 print_by (Some format) line rows first rest = print_with line rows format rest
 print_by None line rows first rest = not_printed line rows (Trees.more first rest)
+
+abbrev pub text_of_constant : Tree → Option (List ℕ)
+text_of_constant (Tree.Known line (Constant.Text bytes)) = Some bytes
+text_of_constant t = None
 
 -- the format is a text constant, which is no value
 abbrev pub print : ℕ → Rows → Trees → Result (Action × Rows) Fault
