@@ -64,14 +64,9 @@ operate BitOr signed a b = bit_or a b
 
 -- the operator has no value at 0 on its right
 abbrev pub divides : ArithmeticOperator → Bool
-divides Multiply = false
 divides Divide = true
 divides Remainder = true
-divides Add = false
-divides Subtract = false
-divides BitAnd = false
-divides BitXor = false
-divides BitOr = false
+divides op = false
 
 abbrev pub binary_of : ArithmeticOperator → IntType → ℕ → ℕ → Result ℕ OutOfZero
 binary_of op t a b =
