@@ -18,7 +18,7 @@ pub record WholeRun : Type 0 where
 -- a whole whose table stands for these contributions
 abbrev pub run_from : Whole → List Contribution → WholeRun
 run_from whole contributions = record {
-  texts = whole.texts.items;
+  texts = whole.events.items;
   contributions = contributions;
   exit = whole.exit;
   firings = sum_by (λ group. length group.items) whole.ran.items;

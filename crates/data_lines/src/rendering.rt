@@ -34,7 +34,7 @@ pub fn render(alloc: Global, script: &TypedScript, whole: &Whole) -> Result<Vec<
         (run_from whole.now contributions) bytes.items) }
 {
     let mut out = Vec::from_slice(alloc, FIRST_LINE)?;
-    put_texts(&mut out, &whole.texts)?;
+    put_texts(&mut out, &whole.events)?;
     put_aggregations(alloc, &mut out, script.aggs(), &whole.table)?;
     put_last_line(&mut out, whole.exit, firings(&whole.ran))?;
     Ok(out)

@@ -5,7 +5,7 @@ use crate::{GroupPlan, Refusal};
 use consumer::{groups_of, read_script};
 use d_types::{TypedScript, check};
 use firing_reader::{Firing, Trace, read_trace};
-use replay_core::{ClausePlaces, Engine, Lanes, OpenGate, Piece, Selections, TreeLanes, run_all};
+use replay_core::{Engine, Lanes, OpenGate, Piece, TreeLanes, run_all};
 use std::alloc::{AllocError, Global};
 use std::sync::Wait;
 use std::sync::atomic::{AtomicU64, Ordering};
@@ -65,12 +65,12 @@ impl<'a, E: Engine> Engine for MeetingLane<'a, E> {
 
     ghost is_spent = { λ l. E.is_spent l.lane };
 
-    fn fire(&mut self, firing: &Firing, places: &ClausePlaces) -> Result<bool, AllocError> {
+    fn fire(&mut self, firing: &Firing) -> Result<bool, AllocError> {
         if !self.has_fired && firing.thread != 0 {
             self.meeting.meet();
         }
         self.has_fired = true;
-        self.lane.fire(firing, places)
+        self.lane.fire(firing)
     }
 
     fn finish(self) -> Piece {
@@ -92,14 +92,6 @@ impl<'a, L: Lanes> Lanes for MeetingLanes<'a, L> {
 
     fn exits(&self) -> bool {
         self.lanes.exits()
-    }
-
-    fn selections<'t>(
-        &self,
-        alloc: Global,
-        trace: &'t Trace,
-    ) -> Result<Selections<'t>, AllocError> {
-        self.lanes.selections(alloc, trace)
     }
 
     fn lane(&self, alloc: Global) -> Result<MeetingLane<'a, L::Lane>, AllocError> {

@@ -1,6 +1,6 @@
 -- Firings whose rows and lists of clauses are read before the first of them runs.
 use Rattle.std.specs.Prelude.{◌≡◌, ◌≤◌, ◌<◌, ◌-◌, ℕ, zero, suc, List, [], ◌∷◌, ◌++◌, Some}
-use Rattle.std.specs.Prelude.{filter, length, map, option_map, slice_get, take, drop}
+use Rattle.std.specs.Prelude.{Option, filter, length, map, option_map, slice_get, take, drop}
 use Rattle.std.proofs.Common.{arith, get_or, ap, ◌∙◌}
 use Rattle.std.specs.Borrow.{Bor}
 use Rattle.std.proofs.lemmas.List.Concat.{flat_map-append}
@@ -11,6 +11,7 @@ use Rattle.firing_reader.specs.Firings.{HasRanges, IsFiring}
 use Rattle.firing_reader.specs.Stored.{row_before}
 use Rattle.firing_reader.specs.Trace.{IsTrace}
 use Rattle.replay_core.specs.declared.span.Span.{Span}
+use Rattle.replay_core.specs.Selecting.{lent}
 use Rattle.replay_core.specs.Working.{is_in}
 use Rattle.replay_core.specs.Steps.Working.{firings_at}
 use Rattle.replay_core.specs.Vocabulary.{with_ends}
@@ -31,8 +32,8 @@ row_at trace (suc i) f is =
 
 -- ---- lists
 
-pub listed_at : (lists : List (Bor (List ℕ))) (selected : List (List ℕ)) (places : List ℕ) (i : ℕ) (d : Bor (List ℕ)) → i < length places
-    → map (λ (l : Bor (List ℕ)). Some l.now) (take (length places) lists) ≡ map (slice_get selected) places → slice_get selected (get_or places i 0) ≡ Some (get_or lists i d).now
+pub listed_at : (lists : List (Option (Bor (List ℕ)))) (selected : List (List ℕ)) (places : List ℕ) (i : ℕ) (d : Option (Bor (List ℕ))) → i < length places
+    → map lent (take (length places) lists) ≡ map (slice_get selected) places → lent (get_or lists i d) ≡ slice_get selected (get_or places i 0)
 listed_at lists selected [] i d lt are = absurd (omega arith)
 listed_at [] selected (p ∷ places) i d lt are = absurd cc
 listed_at (l ∷ lists) selected (p ∷ places) zero d lt are = cc

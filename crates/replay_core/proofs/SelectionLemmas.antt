@@ -1,9 +1,10 @@
 -- Clauses that are selected, by their places.
 use Rattle.std.specs.Prelude.{◌≡◌, ℕ, zero, suc, ◌+◌, ◌<◌, ◌≤◌, List, [], ◌∷◌, ◌++◌, All}
 use Rattle.std.specs.Prelude.{map, length, slice_get}
-use Rattle.std.specs.Prelude.{Some}
+use Rattle.std.specs.Borrow.{Bor}
+use Rattle.std.specs.Prelude.{IfSome, None, Option, Some}
 use Rattle.std.specs.List.{AllZip}
-use Rattle.std.proofs.Common.{refl, ap, ◌∙◌, subst, arith, get_or}
+use Rattle.std.proofs.Common.{refl, ap, ◌∙◌, subst, sym, arith, get_or, ⊎_elim}
 use Rattle.std.proofs.Common.{take}
 use Rattle.std.proofs.lemmas.List.{get_or-map, length-map, map-append, take_more}
 use Rattle.std.proofs.lemmas.List.Elements.{All-cons}
@@ -16,7 +17,7 @@ use Rattle.firing_reader.proofs.Moved.{place_more, placed}
 use Rattle.firing_reader.proofs.Stored.{named_at, named_in}
 use Rattle.d_types.specs.Typed.{ScriptMeant}
 use Rattle.replay_core.specs.Patterns.{probe_of}
-use Rattle.replay_core.specs.Selecting.{AreFor, list_at, selected_for, selected_in}
+use Rattle.replay_core.specs.Selecting.{AreFor, lent, list_at, selected_for, selected_in}
 
 -- ---- lists by place
 
@@ -89,14 +90,20 @@ selected_few own most [] few = λ k d lt. absurd (omega arith)
 selected_few own most (f ∷ fs) few = All-cons (λ (places : List ℕ). length places ≤ most) (own f) (map own fs) (few f) (selected_few own most fs few)
 
 module _ (m : ScriptMeant) (trace : List Firing) (selected : List (List ℕ)) (are : AreFor trace selected m) where
-  pub selected_within : (i : ℕ) (f : Firing) → slice_get (with_ends trace trace) i ≡ Some f → i < length selected
-  selected_within i f firing = rw (are, length-map) (slice_get_within (with_ends trace trace) i f firing)
+  -- the places that are lent for a firing are those of its clauses
+  pub selected_is : (i : ℕ) (f : Firing) (places : Option (Bor (List ℕ))) → slice_get (with_ends trace trace) i ≡ Some f → lent places ≡ slice_get selected i
+      → IfSome places (λ l. l.now ≡ selected_for m f)
+  selected_is i f None firing list = tt
+  selected_is i f (Some l) firing list = ⊎_elim
+      (λ none. let nothing : Some l.now ≡ slice_get [] i = list ∙ ap (λ (s : List (List ℕ)). slice_get s i) none in absurd cc)
+      (λ all.
+      let same : slice_get selected i ≡ Some (selected_for m f) = rw all (slice_get-map (selected_for m) (with_ends trace trace) i ∙ rw firing refl) in
+      let is : l.now ≡ selected_for m f = cc in
+      is) are
 
-  pub selected_is : (i : ℕ) (f : Firing) (places : List ℕ) → slice_get (with_ends trace trace) i ≡ Some f → slice_get selected i ≡ Some places → places ≡ selected_for m f
-  selected_is i f places firing list =
-      let same : slice_get selected i ≡ Some (selected_for m f) = rw are (slice_get-map (selected_for m) (with_ends trace trace) i ∙ rw firing refl) in
-      cc
-
-pub selected_short : (selected : List (List ℕ)) → All (λ places. length places ≤ 65536) selected → (i : ℕ) (places : List ℕ) → slice_get selected i ≡ Some places → length places ≤ 65536
-selected_short selected few i places list =
-    subst (λ (l : List ℕ). length l ≤ 65536) (get_or_from_slice_get selected i places places list) (few i places (slice_get_within selected i places list))
+pub selected_short : (selected : List (List ℕ)) → All (λ places. length places ≤ 65536) selected → (i : ℕ) (places : Option (Bor (List ℕ))) → lent places ≡ slice_get selected i
+    → IfSome places (λ l. length l.now ≤ 65536)
+selected_short selected few i None list = tt
+selected_short selected few i (Some l) list =
+    let there : slice_get selected i ≡ Some l.now = sym list in
+    subst (λ (l : List ℕ). length l ≤ 65536) (get_or_from_slice_get selected i l.now l.now there) (few i l.now (slice_get_within selected i l.now there))

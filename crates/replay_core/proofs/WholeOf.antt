@@ -30,7 +30,7 @@ module _ (m : ScriptMeant) (grouping : Grouping) (fs : List Firing) where
   abbrev AllPieces : ℕ → List Piece → Type 0
   AllPieces a ps = All (IsOfGroup m grouping fs) (pieces_with_groups a ps)
 
-  texts_joined : (a : ℕ) (ps : List Piece) → AllPieces a ps → flat_map (λ p. p.texts.items) ps ≡ flat_map (λ g. texts_of (group_history m grouping fs g)) (range_with_len a (length ps))
+  texts_joined : (a : ℕ) (ps : List Piece) → AllPieces a ps → flat_map (λ p. p.events.items) ps ≡ flat_map (λ g. texts_of (group_history m grouping fs g)) (range_with_len a (length ps))
   texts_joined a [] each = refl
   texts_joined a (p ∷ ps) each = ap₂ (λ xs ys. xs ++ ys) (each 0 (a, p) (omega arith)).texts (texts_joined (a + 1) ps (λ k d lt. each (suc k) d (omega arith)))
 
@@ -64,11 +64,11 @@ module _ (m : ScriptMeant) (grouping : Grouping) (fs : List Firing) where
       let unite = groups_unite m grouping fs grouped rises in
       let texts = λ (n : ℕ). flat_map (λ g. texts_of (group_history m grouping fs g)) (range_with_len 0 n) in
       let parts = λ (n : ℕ). flat_map (λ g. contributions_of (group_history m grouping fs g)) (range_with_len 0 n) in
-      let items : flat_map (λ p. p.texts.items) sorted ≡ texts grouping.count = texts_joined 0 sorted all ∙ ap texts c.count in
+      let items : flat_map (λ p. p.events.items) sorted ≡ texts grouping.count = texts_joined 0 sorted all ∙ ap texts c.count in
       let stood = c.whole.table.stand (parts (length sorted)) (tables_joined 0 sorted all) in
       let one : StandsFor w.table (parts (length sorted)) = subst (λ cs. StandsFor w.table cs) (sym (stood.2 ∙ ap (λ l. stood.0 ++ l) stood.4 ∙ append-nil stood.0)) stood.3 in
       record {
-        texts = sorted_once (texts grouping.count) w.texts.items (texts_of (history m fs blank_threads)) (subst (λ l. IsSorted l w.texts.items) items c.whole.texts) unite.texts;
+        texts = sorted_once (texts grouping.count) w.events.items (texts_of (history m fs blank_threads)) (subst (λ l. IsSorted l w.events.items) items c.whole.texts) unite.texts;
         functions = (c.whole.table.functions (functions_in m) (all_functions 0 sorted all)).0;
         table = stands_same w.table (parts grouping.count) (contributions_of (history m fs blank_threads)) unite.contributions (subst (λ n. StandsFor w.table (parts n)) c.count one);
         ran = c.whole.ran ∙ ran_joined 0 sorted all ∙ ap (λ n. map (λ g. map number_of (of_group grouping g fs)) (range_with_len 0 n)) c.count;

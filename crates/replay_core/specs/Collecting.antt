@@ -12,7 +12,7 @@ use Rattle.replay_core.specs.{Tables.Serve, Uniting.IsSorted, Uniting.first_exit
 -- the whole has the texts of these pieces, sorted by number, one table in place of theirs, the
 -- numbers of each piece, and the first exit
 pub record IsMadeOf (pieces : List Piece) (w : Whole) : Type 0 where
-  pub texts : IsSorted (flat_map (λ p. p.texts.items) pieces) w.texts.items
+  pub texts : IsSorted (flat_map (λ p. p.events.items) pieces) w.events.items
   pub table : Serve (w.table ∷ []) (map (λ p. p.table) pieces)
   pub ran : map (λ v. v.items) w.ran.items ≡ map (λ p. p.taken.items) pieces
   pub exit : w.exit ≡ first_exit (map (λ p. p.exit) pieces)

@@ -1,5 +1,7 @@
 -- Which clauses are selected for each firing of a run.
-use Rattle.std.specs.Prelude.{◌≡◌, ◌≤◌, ℕ, List, [], ◌∷◌, ◌++◌, All, get_or, length, map}
+use Rattle.std.specs.Borrow.{Bor}
+use Rattle.std.specs.Prelude.{◌≡◌, ◌≤◌, ◌⊎◌, ℕ, List, [], ◌∷◌, ◌++◌, All, Option, get_or, length, map}
+use Rattle.std.specs.Prelude.{option_map}
 use Rattle.replay_core.specs.Patterns.{probe_of}
 use Rattle.replay_core.specs.Places.{places_for}
 use Rattle.replay_core.specs.Vocabulary.{Firing, MOST_BYTES, ScriptMeant, with_ends}
@@ -8,15 +10,21 @@ use Rattle.replay_core.specs.Vocabulary.{Firing, MOST_BYTES, ScriptMeant, with_e
 abbrev pub selected_for : ScriptMeant → Firing → List ℕ
 selected_for m f = places_for (probe_of f) 0 (map (λ c. c.descriptions) m.clauses)
 
--- these are the places of the script's clauses for each firing of a run over the trace
+-- these are the places of the script's clauses for each firing of a run over the trace, or none are
+-- given
 abbrev pub AreFor : List Firing → List (List ℕ) → ScriptMeant → Type 0
-AreFor trace selected m = selected ≡ map (selected_for m) (with_ends trace trace)
+AreFor trace selected m =
+    (selected ≡ []) ⊎ (selected ≡ map (selected_for m) (with_ends trace trace))
 
 -- the places of the clauses that the script selects for each firing of a run over the trace
 pub record AreSelected (runs : ScriptMeant → Type 0) (trace : List Firing)
     (selected : List (List ℕ)) : Type 0 where
   pub few : All (λ places. length places ≤ MOST_BYTES) selected
   pub each : (m : ScriptMeant) → runs m → AreFor trace selected m
+
+-- the places that are lent, if any are
+abbrev pub lent : Option (Bor (List ℕ)) → Option (List ℕ)
+lent places = option_map (λ l. l.now) places
 
 -- ---- lists that are kept once
 

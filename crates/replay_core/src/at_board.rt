@@ -12,8 +12,8 @@ use crate::lanes::Lanes;
 use crate::piece::Piece;
 use crate::selection::Selections;
 use crate::span::Span;
-use crate::until::work_until;
-use crate::worker::{WorkerInput, work, work_on};
+use crate::until::watch_on;
+use crate::worker::{WorkerInput, work_on};
 use firing_reader::Trace;
 use shard_queue::{ClaimBoard, ClaimSeat, Groups};
 use std::alloc::{AllocError, Global};
@@ -162,9 +162,8 @@ fn at_board<R: Wait, L: Lanes, G: Gate>(
         board.entry.now) }
 {
     match span {
-        Span::All => work(rt, board, seat, input),
-        Span::UntilExit => work_until(rt, board, seat, input),
-        Span::UpTo { .. } => work_on(rt, board, seat, input, span),
+        Span::UntilExit => watch_on(rt, board, seat, input),
+        Span::All | Span::UpTo { .. } => work_on(rt, board, seat, input, span),
     }
 }
 

@@ -38,7 +38,7 @@ pub fn collect(alloc: Global, pieces: Vec<(u32, Piece)>, n: u32) -> Result<Whole
 // What the pieces hold, one after the other.
 #[derive(Drop)]
 struct Contents {
-    texts: Vec<(u64, Text)>,
+    events: Vec<(u64, Text)>,
     tables: Vec<AggTable>,
     ran: Vec<Vec<u64>>,
     exit: Option<(u64, u8)>,
@@ -51,15 +51,15 @@ fn whole_of_pieces(alloc: Global, pieces: Vec<Piece>) -> Result<Whole, AllocErro
     ensures { IfOk result (IsMadeOf pieces.items) }
 {
     let Contents {
-        texts,
+        events,
         tables,
         ran,
         exit,
     } = contents_of(alloc, pieces)?;
-    let texts = by_number(texts)?;
+    let events = by_number(events)?;
     let table = merge_all(alloc, tables)?;
     Ok(Whole {
-        texts,
+        events,
         table,
         ran,
         exit,
@@ -69,7 +69,7 @@ fn whole_of_pieces(alloc: Global, pieces: Vec<Piece>) -> Result<Whole, AllocErro
 // The contents of the pieces, and the first of their exits.
 fn contents_of(alloc: Global, pieces: Vec<Piece>) -> Result<Contents, AllocError>
     ensures texts { IfOk result
-        (λ c. c.texts.items ≡ flat_map (λ p. p.texts.items) pieces.items) }
+        (λ c. c.events.items ≡ flat_map (λ p. p.events.items) pieces.items) }
     ensures tables { IfOk result (λ c. c.tables.items ≡ map (λ p. p.table) pieces.items) }
     ensures ran { IfOk result
         (λ c. map (λ v. v.items) c.ran.items ≡ map (λ p. p.taken.items) pieces.items) }
@@ -77,19 +77,19 @@ fn contents_of(alloc: Global, pieces: Vec<Piece>) -> Result<Contents, AllocError
         (λ c. c.exit ≡ first_exit (map (λ p. p.exit) pieces.items)) }
 {
     let mut contents = Contents {
-        texts: Vec::new(alloc),
+        events: Vec::new(alloc),
         tables: Vec::new(alloc),
         ran: Vec::new(alloc),
         exit: None,
     };
     for piece in pieces {
         let Piece {
-            mut texts,
+            mut events,
             table,
             taken,
             exit,
         } = piece;
-        contents.texts.append(&mut texts)?;
+        contents.events.append(&mut events)?;
         contents.tables.push(table)?;
         contents.ran.push(taken)?;
         contents.exit = sooner(contents.exit, exit);

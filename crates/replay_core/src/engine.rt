@@ -25,9 +25,24 @@ pub trait Engine {
     /// Memory was refused to a firing.
     ghost is_spent: { Self → Bool };
 
-    /// Runs the clauses at these places for a firing, those that are selected for it, and returns
-    /// whether it exits. Once memory was refused, each later call is refused too.
-    fn fire(&mut self, firing: &Firing, places: &ClausePlaces) -> Result<bool, AllocError>
+    /// Runs the clauses that are selected for a firing, and returns whether it exits. Once memory
+    /// was refused, each later call is refused too.
+    fn fire(&mut self, firing: &Firing) -> Result<bool, AllocError>
+        requires ranges { HasRanges firing.now }
+        requires script { (m : ScriptMeant) × runs self.old m }
+        requires few { length (seen self.old).piece.taken < most_firings }
+        ensures step { (m : ScriptMeant) → runs self.old m
+            → OnOk result (Fires m firing.now (seen self.old) (seen self.new)) }
+        ensures exits { (m : ScriptMeant) → runs self.old m
+            → IfOk result (λ exits. exits
+            ≡ is_some (exit_of (history m (firing.now ∷ []) (seen self.old).threads))) }
+        ensures script { (m : ScriptMeant) → runs self.old m → runs self.new m }
+        ensures spent { IsTrue (is_spent self.old) → IsErr result
+            × ((seen self.new).piece.taken ≡ (seen self.old).piece.taken) }
+        ensures err { IsTrue (is_spent self.new) ↔ IsErr result };
+
+    /// The same for a firing whose clauses were selected before: those at these places.
+    fn fire_selected(&mut self, firing: &Firing, places: &ClausePlaces) -> Result<bool, AllocError>
         requires ranges { HasRanges firing.now }
         requires selected { (m : ScriptMeant) × runs self.old m
             × (places.now ≡ selected_for m firing.now) }
@@ -44,7 +59,10 @@ pub trait Engine {
             → places.now ≡ selected_for m firing.now → runs self.new m }
         ensures spent { IsTrue (is_spent self.old) → IsErr result
             × ((seen self.new).piece.taken ≡ (seen self.old).piece.taken) }
-        ensures err { IsTrue (is_spent self.new) ↔ IsErr result };
+        ensures err { IsTrue (is_spent self.new) ↔ IsErr result }
+    {
+        self.fire(firing)
+    }
 
     /// What the firings made.
     fn finish(self) -> Piece

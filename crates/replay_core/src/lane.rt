@@ -1,7 +1,7 @@
 //! Lanes: what all engines share.
 
 ghost use Rattle.std.specs.Prelude.{◌≡◌, ◌<◌, ◌≤◌, ◌∷◌, [], List, All, IfOk, OnOk, false, true};
-ghost use Rattle.std.specs.Prelude.{is_some, length};
+ghost use Rattle.std.specs.Prelude.{is_some, length, sum_by};
 ghost use Rattle.replay_core.specs.Vocabulary.{HasRanges, MOST_BYTES, ScriptMeant, functions_in};
 ghost use Rattle.replay_core.specs.Vocabulary.{functions_of, slots_of};
 ghost use Rattle.replay_core.specs.{Selecting.selected_for, Sizes.most_firings, Threads.threads_in};
@@ -15,6 +15,7 @@ use crate::clause_places::ClausePlaces;
 use crate::engine::Engine;
 use crate::evaluation::Spare;
 use crate::piece::Piece;
+use crate::selection::clauses_for;
 use crate::tables::Tables;
 use crate::threads::{Due, ThreadCache, run_on_thread};
 use aggregations::AggFn;
@@ -35,6 +36,7 @@ pub struct Lane<'a, C: Clause> {
     spent: bool,
     ghost named: { All (λ c. C.places c ≤ length (functions_of piece.table)) clauses.now },
     ghost few: { All (λ c. C.most c ≤ MOST_BYTES) clauses.now },
+    ghost probes: { sum_by C.probes clauses.now ≤ MOST_BYTES },
     ghost room: { spent ≡ false → IsRoomy piece },
 }
 
@@ -53,6 +55,7 @@ impl<'a, C: Clause> Lane<'a, C> {
     ) -> Result<Lane<'a, C>, AllocError>
         requires named { All (λ c. C.places c ≤ length functions.items) clauses.now }
         requires few { All (λ c. C.most c ≤ MOST_BYTES) clauses.now }
+        requires probes { sum_by C.probes clauses.now ≤ MOST_BYTES }
         ensures script { IfOk result (λ l. (m : ScriptMeant)
             → AllMean C.means (slots_of m) clauses.now m.clauses → functions.items ≡ functions_in m
             → ⟦<Lane<'a, C> as Engine>⟧.runs l m) }
@@ -133,7 +136,21 @@ impl<'a, C: Clause> Engine for Lane<'a, C> {
 
     ghost is_spent = { λ l. l.spent };
 
-    fn fire(&mut self, firing: &Firing, places: &ClausePlaces) -> Result<bool, AllocError> {
+    fn fire(&mut self, firing: &Firing) -> Result<bool, AllocError> {
+        let alloc = *self.threads.allocator();
+        let hash_key = *self.threads.hasher();
+        let Ok(places) = clauses_for(alloc, hash_key, self.clauses, firing) else {
+            self.spent = true;
+            return Err(AllocError);
+        };
+        self.fire_selected(firing, &places)
+    }
+
+    fn fire_selected(
+        &mut self,
+        firing: &Firing,
+        places: &ClausePlaces,
+    ) -> Result<bool, AllocError> {
         if self.spent {
             return Err(AllocError);
         }

@@ -58,5 +58,5 @@ pub use statements::{printf_text, trace_line};
 pub use tree::{TreeLane, TreeLanes, tree_lane};
 pub use until::work_until;
 pub use whole::Whole;
-pub use worker::{WorkerInput, work};
+pub use worker::work;
 pub use workers::run_all;

@@ -15,7 +15,7 @@ use std::alloc::{AllocError, Global};
 #[derive(Drop)]
 pub struct Piece {
     // The texts, each with its firing's number.
-    pub(crate) texts: Vec<(u64, Text)>,
+    pub(crate) events: Vec<(u64, Text)>,
     // The aggregations.
     pub(crate) table: AggTable,
     // The numbers of the firings.
@@ -39,11 +39,32 @@ impl Piece {
     {
         let table = AggTable::with_hash_key(alloc, hash_key, functions)?;
         Ok(Piece {
-            texts: Vec::new(alloc),
+            events: Vec::new(alloc),
             table,
             taken: Vec::new(alloc),
             exit: None,
         })
+    }
+
+    /// The texts, each with its firing's number.
+    pub fn events(&self) -> &[(u64, Text)]
+        ensures { result.now ≡ (piece_seen self.now).texts }
+    {
+        &self.events
+    }
+
+    /// The aggregations.
+    pub fn table(&self) -> &AggTable
+        ensures { result.now ≡ (piece_seen self.now).table }
+    {
+        &self.table
+    }
+
+    /// The numbers of the firings, in the order in which they ran.
+    pub fn taken(&self) -> &[u64]
+        ensures { result.now ≡ (piece_seen self.now).taken }
+    {
+        &self.taken
     }
 
     /// Notes a text at the firing of this number.
@@ -53,7 +74,7 @@ impl Piece {
         ensures notes { OnOk result
             (NotesEffect number (Effect.Says text) (piece_seen self.old) (piece_seen self.new)) }
     {
-        self.texts.push((number, text))?;
+        self.events.push((number, text))?;
         Ok(())
     }
 
@@ -113,12 +134,12 @@ impl Piece {
         ensures table { self.new.table ≡ self.old.table }
         ensures taken { self.new.taken.items ≡ self.old.taken.items }
         ensures exit { self.new.exit ≡ self.old.exit }
-        ensures texts { OnOk result (self.new.texts.items
-            ≡ take before self.old.texts.items ++ (number, fault_line number place) ∷ []) }
+        ensures texts { OnOk result (self.new.events.items
+            ≡ take before self.old.events.items ++ (number, fault_line number place) ∷ []) }
     {
-        self.texts.truncate(before);
+        self.events.truncate(before);
         let line = fault_line(*self.taken.allocator(), number, place)?;
-        self.texts.push((number, line))?;
+        self.events.push((number, line))?;
         Ok(())
     }
 }

@@ -1,28 +1,84 @@
 //! Which clauses run for each firing of a run: decided once for each probe, before any fires.
 
-ghost use Rattle.std.specs.Prelude.{◌≡◌, ◌<◌, ◌≤◌, All, IfOk, List, OnOk, Some, get_or};
+ghost use Rattle.std.specs.Prelude.{◌≡◌, ◌≤◌, IfOk, List, OnOk, Some, [], get_or};
 ghost use Rattle.std.specs.Prelude.{length, map, slice_get, sum_by, take};
 ghost use Rattle.replay_core.specs.Vocabulary.{AllZip, ArePlaces, ClauseMeant, Description};
-ghost use Rattle.replay_core.specs.Vocabulary.{Extends, MOST_BYTES, MOST_TOGETHER};
+ghost use Rattle.replay_core.specs.Vocabulary.{Extends, MOST_BYTES, MOST_TOGETHER, ScriptMeant};
 ghost use Rattle.replay_core.specs.Vocabulary.{Slots, slots_of, with_ends};
 ghost use Rattle.replay_core.specs.{Places.places_for};
 ghost use Rattle.replay_core.specs.Steps.Described.{IsTableOf};
-ghost use Rattle.replay_core.specs.{Patterns.probe_of, Selecting.AreSelected};
+ghost use Rattle.replay_core.specs.{Patterns.probe_of};
+ghost use Rattle.replay_core.specs.Selecting.{AreSelected, lent, selected_for};
 
 use crate::clause::Clause;
 use crate::clause_lists::ClauseLists;
 use crate::clause_places::ClausePlaces;
 use crate::description_table::DescriptionTable;
 use d_parser::Description;
-use firing_reader::{MOST_TOGETHER, Probe, ProbePlaces, Trace};
+use firing_reader::{Firing, MOST_TOGETHER, Probe, ProbePlaces, Text, Trace};
 use keyed_hash::HashKey;
 use std::alloc::{AllocError, Global};
 use std::marker::Model;
 
-/// Which clauses run for each firing of a run over a trace. Contracts see the places of the
-/// clauses, firing by firing: of BEGIN, of each row, and of END.
+/// Which clauses run for each firing of a run over a trace, if that was found before any fires.
+/// Contracts see the places of the clauses, firing by firing: of BEGIN, of each row, and of END.
+/// They see none where nothing was found.
 #[derive(Drop)]
 pub struct Selections<'a> {
+    found: Option<Found<'a>>,
+}
+
+impl<'a> Model for Selections<'a> {
+    ghost use Rattle.std.specs.Prelude.{ℕ, List, [], unwrap_or};
+
+    ghost Value = { List (List ℕ) };
+
+    ghost view = { λ s. unwrap_or s.found [] };
+}
+
+impl<'a> Selections<'a> {
+    /// None were found: a lane finds the clauses of each firing by itself.
+    pub(crate) fn none() -> Selections<'a>
+        ensures { result ≡ [] }
+    {
+        Selections { found: None }
+    }
+
+    // Those that were found.
+    fn of(found: Found<'a>) -> Selections<'a>
+        ensures { result ≡ found.entry }
+    {
+        Selections { found: Some(found) }
+    }
+
+    /// The places of the clauses that run for the firing of a run at a place, if they were found:
+    /// BEGIN has place 0, the rows follow, and END is the last.
+    pub fn at(&self, place: u32) -> Option<&ClausePlaces>
+        ensures { lent result ≡ slice_get self.now place }
+    {
+        match &self.found {
+            Some(found) => found.at(place),
+            None => None,
+        }
+    }
+
+    /// Those of the firings at these places, in their order.
+    pub(crate) fn lists(&self, places: &[u32]) -> [Option<&ClausePlaces>; MOST_TOGETHER]
+        requires { length places.now ≤ MOST_TOGETHER }
+        ensures { map lent (take (length places.now) result)
+            ≡ map (slice_get self.now) places.now }
+    {
+        let mut lists = [None; MOST_TOGETHER];
+        for (at, place) in places.iter().enumerate() {
+            lists[at] = self.at(*place);
+        }
+        lists
+    }
+}
+
+// Which clauses run for each firing of a run over a trace.
+#[derive(Drop)]
+struct Found<'a> {
     // The probe of each row.
     firings: ProbePlaces<'a>,
     lists: ClauseLists,
@@ -32,7 +88,7 @@ pub struct Selections<'a> {
     end: u32,
 }
 
-impl<'a> Model for Selections<'a> {
+impl<'a> Model for Found<'a> {
     ghost use Rattle.std.specs.Prelude.{ℕ, List, get_or, map};
     ghost use Rattle.replay_core.specs.Selecting.{selected_in};
 
@@ -42,14 +98,14 @@ impl<'a> Model for Selections<'a> {
         (map (λ p. get_or s.by_probe.items p 0) s.firings.places) s.end };
 }
 
-impl<'a> Selections<'a> {
+impl<'a> Found<'a> {
     // Those of clauses with these descriptions.
     fn new(
         alloc: Global,
         hash_key: HashKey,
         descriptions: &[&[Description]],
         trace: &'a Trace,
-    ) -> Result<Selections<'a>, AllocError>
+    ) -> Result<Found<'a>, AllocError>
         ensures { IfOk result (λ s.
             s ≡ map (λ f. places_for (probe_of f) 0 (map (λ d. d.now) descriptions.now))
             (with_ends trace.now trace.now)) }
@@ -60,7 +116,7 @@ impl<'a> Selections<'a> {
         let begin = list_for(alloc, &mut lists, &table, &trace.begin().into_probe())?;
         let end = list_for(alloc, &mut lists, &table, &trace.end().into_probe())?;
         let by_probe = lists_for(alloc, &mut lists, &table, &firings)?;
-        Ok(Selections {
+        Ok(Found {
             firings,
             lists,
             by_probe,
@@ -69,36 +125,22 @@ impl<'a> Selections<'a> {
         })
     }
 
-    /// The places of the clauses that run for the firing of a run at a place: BEGIN has place 0,
-    /// the rows follow, and END is the last.
-    pub fn at(&self, place: u32) -> &ClausePlaces
-        requires { place < length self.now }
-        ensures { slice_get self.now place ≡ Some result.now }
+    // The places of the clauses that run for the firing at a place, if there is one.
+    fn at(&self, place: u32) -> Option<&ClausePlaces>
+        ensures { lent result ≡ slice_get self.now place }
     {
         if place == 0 {
-            return self.lists.at(self.begin as usize);
+            return Some(self.lists.at(self.begin as usize));
         }
         let row = place as usize - 1;
-        if row >= self.firings.len() {
-            return self.lists.at(self.end as usize);
+        if row < self.firings.len() {
+            let list = list_of(&self.by_probe, self.firings.place(row));
+            return Some(self.lists.at(list as usize));
         }
-        let list = list_of(&self.by_probe, self.firings.place(row));
-        self.lists.at(list as usize)
-    }
-
-    /// Those of the firings at these places, in their order.
-    pub(crate) fn lists(&self, places: &[u32]) -> [&ClausePlaces; MOST_TOGETHER]
-        requires some { 0 < length self.now }
-        requires few { length places.now ≤ MOST_TOGETHER }
-        requires within { All (λ place. place < length self.now) places.now }
-        ensures { map (λ list. Some list.now) (take (length places.now) result)
-            ≡ map (slice_get self.now) places.now }
-    {
-        let mut lists = [self.at(0); MOST_TOGETHER];
-        for (at, place) in places.iter().enumerate() {
-            lists[at] = self.at(*place);
+        if row == self.firings.len() {
+            return Some(self.lists.at(self.end as usize));
         }
-        lists
+        None
     }
 }
 
@@ -124,7 +166,48 @@ pub(crate) fn select<'a, C: Clause>(
         (λ m. AllZip (λ c. C.means c (slots_of m)) clauses.now m.clauses) trace.now) }
 {
     let descriptions = descriptions(alloc, clauses)?;
-    Selections::new(alloc, hash_key, &descriptions, trace)
+    let found = Found::new(alloc, hash_key, &descriptions, trace)?;
+    Ok(Selections::of(found))
+}
+
+/// The places of those of these clauses that run for a firing.
+pub(crate) fn clauses_for<C: Clause>(
+    alloc: Global,
+    hash_key: HashKey,
+    clauses: &[C],
+    firing: &Firing,
+) -> Result<ClausePlaces, AllocError>
+    ensures places { IfOk result (λ places. (m : ScriptMeant)
+        → AllZip (λ c. C.means c (slots_of m)) clauses.now m.clauses
+        → places ≡ selected_for m firing.now) }
+    ensures few { IfOk result (λ places. length places ≤ sum_by C.probes clauses.now) }
+{
+    let descriptions = descriptions(alloc, clauses)?;
+    let table = DescriptionTable::new(alloc, hash_key, &descriptions)?;
+    let places = table.clauses(alloc, &probe_of(firing))?;
+    ClausePlaces::of(alloc, &places)
+}
+
+// The probe that fired.
+fn probe_of<'a>(firing: &'a Firing) -> Probe<'a>
+    ensures { result ≡ probe_of firing.now }
+{
+    Probe {
+        provider: text_of(&firing.provider),
+        probemod: text_of(&firing.probemod),
+        probefunc: text_of(&firing.probefunc),
+        name: text_of(&firing.name),
+    }
+}
+
+// The same text, borrowed from this one.
+fn text_of<'a>(text: &'a Text) -> Text<'a>
+    ensures { result ≡ text.now }
+{
+    match Text::from_bytes(text.as_bytes()) {
+        Some(text) => text,
+        None => unreachable!(),
+    }
 }
 
 // The descriptions of each clause.

@@ -17,9 +17,10 @@ use crate::lanes::Lanes;
 use crate::piece::Piece;
 use crate::run_firings::firing_at;
 use crate::source::Exits;
-use crate::worker::WorkerInput;
-use firing_reader::Firing;
-use std::alloc::AllocError;
+use crate::worker::{WorkerInput, fire};
+use firing_reader::{Firing, Trace};
+use shard_queue::Groups;
+use std::alloc::{AllocError, Global};
 use std::sync::Wait;
 
 /// Takes groups until it is at the end, and makes a piece of a beginning of each. A beginning ends
@@ -27,9 +28,49 @@ use std::sync::Wait;
 /// exit. Err where memory was refused.
 ///
 /// ```text
-/// let (pieces, seat) = work_until(&rt, &board, seat, &input)?;
+/// let worked = work_until(&rt, alloc, &board, seat, &lanes, &trace, &groups, &OpenGate);
+/// let (pieces, seat) = worked?;
 /// ```
 pub fn work_until<R: Wait, S: Exits, L: Lanes, G: Gate>(
+    rt: &R,
+    alloc: Global,
+    source: &S,
+    seat: S::Seat,
+    lanes: &L,
+    trace: &Trace,
+    groups: &Groups,
+    gate: &G,
+) -> Result<(Vec<(u32, Piece)>, S::Seat), AllocError>
+where
+    S::Seat: Drop,
+    requires seat { S.is_at source.now seat × (S.list seat ≡ []) }
+    requires new { S.lowered seat ≡ no_number }
+    requires end { S.end source.now ≡ (grouping groups.now).count }
+    requires script { (m : ScriptMeant) × L.runs lanes.now m }
+    requires groups { AreOf groups.now (run_threads trace.now) }
+    ensures seat { IfOk result (λ r. S.is_at source.now r.1 × (S.at_end r.1 ≡ true)) }
+    ensures groups { IfOk result (λ r. map (λ p. p.0) r.0.items ≡ S.list r.1) }
+    ensures pieces { IfOk result (λ r. AreBegun (L.runs lanes.now) (S.seen r.1)
+        (grouping groups.now) (with_ends trace.now trace.now) r.0.items) }
+    ensures least { IfOk result (λ r. S.lowered r.1 ≡ least_exit r.0.items) }
+{
+    let Ok(selections) = lanes.selections(alloc, trace) else {
+        drop(seat);
+        return Err(AllocError);
+    };
+    let input = WorkerInput {
+        alloc,
+        lanes,
+        trace,
+        selections: &selections,
+        groups,
+        gate,
+    };
+    watch_on(rt, source, seat, &input)
+}
+
+/// The same by selections that are shared.
+pub(crate) fn watch_on<R: Wait, S: Exits, L: Lanes, G: Gate>(
     rt: &R,
     source: &S,
     mut seat: S::Seat,
@@ -156,7 +197,7 @@ fn run_until<S: Exits, E: Engine, L, G>(
         if is_past_exit(source, seat, &firing) {
             return Ok(());
         }
-        if lane.fire(&firing, input.selections.at(*place))? {
+        if fire(lane, &firing, input.selections.at(*place))? {
             tell_exit(source, seat, &firing);
             return Ok(());
         }

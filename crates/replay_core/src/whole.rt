@@ -7,7 +7,7 @@ use d_values::Text;
 #[derive(Drop)]
 pub struct Whole {
     /// The texts in the order of the firings, each with its firing's number.
-    pub texts: Vec<(u64, Text)>,
+    pub events: Vec<(u64, Text)>,
     /// The aggregations.
     pub table: AggTable,
     /// For each group the numbers of its firings, in order. BEGIN and END are a group of their own,

@@ -1,10 +1,11 @@
 //! One worker.
 
 ghost use Rattle.std.specs.Prelude.{◌≡◌, ◌+◌, ◌<◌, ◌≤◌, ◌∷◌, ◌++◌, true, [], List, map, filter};
-ghost use Rattle.std.specs.Prelude.{All, IfOk, OnOk, IsFalse, length};
+ghost use Rattle.std.specs.Prelude.{All, IfOk, IfSome, OnOk, IsFalse, is_some, length};
 ghost use Rattle.replay_core.specs.Vocabulary.{AreOf, Firing, HasRanges, MOST_BYTES, ScriptMeant};
 ghost use Rattle.replay_core.specs.Vocabulary.{MOST_TOGETHER, grouping, run_threads, with_ends};
 ghost use Rattle.replay_core.specs.{Running.IsLaneOf, Seen.IsRoomy, Sizes.most_firings};
+ghost use Rattle.replay_core.specs.{Lanes.Fires, Meaning.exit_of, Meaning.history};
 ghost use Rattle.replay_core.specs.Selecting.{AreFor, AreSelected, selected_for};
 ghost use Rattle.replay_core.specs.Working.{AreOfGroups, IsOfGroup};
 ghost use Rattle.replay_core.specs.Steps.{Adding.IsAdded, Working.IsReady, Working.firings_at};
@@ -27,54 +28,59 @@ use std::sync::Wait;
 /// What each worker of a run is given: where its memory comes from, the script's lanes, the trace,
 /// which clauses run for its firings, its groups and the gate.
 #[derive(Drop)]
-pub struct WorkerInput<'a, L, G> {
-    pub alloc: Global,
-    pub lanes: &'a L,
-    pub trace: &'a Trace,
-    pub selections: &'a Selections<'a>,
-    pub groups: &'a Groups,
-    pub gate: &'a G,
+pub(crate) struct WorkerInput<'a, L, G> {
+    pub(crate) alloc: Global,
+    pub(crate) lanes: &'a L,
+    pub(crate) trace: &'a Trace,
+    pub(crate) selections: &'a Selections<'a>,
+    pub(crate) groups: &'a Groups,
+    pub(crate) gate: &'a G,
 }
 
 /// Takes groups until it is at the end, and makes a piece of each: what the script makes of
 /// BEGIN, the rows and END on the group's threads. Err where memory was refused.
 ///
 /// ```text
-/// let selections = lanes.selections(alloc, &trace)?;
-/// let input = WorkerInput {
-///     alloc,
-///     lanes: &lanes,
-///     trace: &trace,
-///     selections: &selections,
-///     groups: &groups,
-///     gate: &OpenGate,
-/// };
 /// let (board, seats) = ClaimBoard::open(alloc, groups.len() as u32, 1)?;
 /// for seat in seats {
-///     let (pieces, seat) = work(&rt, &board, seat, &input)?; // a piece of each group
+///     let worked = work(&rt, alloc, &board, seat, &lanes, &trace, &groups, &OpenGate);
+///     let (pieces, seat) = worked?; // a piece of each group
 /// }
 /// ```
 pub fn work<R: Wait, S: Source, L: Lanes, G: Gate>(
     rt: &R,
+    alloc: Global,
     source: &S,
     seat: S::Seat,
-    input: &WorkerInput<L, G>,
+    lanes: &L,
+    trace: &Trace,
+    groups: &Groups,
+    gate: &G,
 ) -> Result<(Vec<(u32, Piece)>, S::Seat), AllocError>
 where
     S::Seat: Drop,
     requires seat { S.is_at source.now seat × (S.list seat ≡ []) }
-    requires end { S.end source.now ≡ (grouping input.now.groups.now).count }
-    requires script { (m : ScriptMeant) × L.runs input.now.lanes.now m }
-    requires selected { AreSelected
-        (L.runs input.now.lanes.now) input.now.trace.now input.now.selections.now }
-    requires groups { AreOf input.now.groups.now (run_threads input.now.trace.now) }
-    ensures seat { IfOk result (λ r. S.is_at source.entry.now r.1 × (S.at_end r.1 ≡ true)) }
+    requires end { S.end source.now ≡ (grouping groups.now).count }
+    requires script { (m : ScriptMeant) × L.runs lanes.now m }
+    requires groups { AreOf groups.now (run_threads trace.now) }
+    ensures seat { IfOk result (λ r. S.is_at source.now r.1 × (S.at_end r.1 ≡ true)) }
     ensures groups { IfOk result (λ r. map (λ p. p.0) r.0.items ≡ S.list r.1) }
-    ensures pieces { IfOk result (λ r. AreOfGroups (L.runs input.entry.now.lanes.now)
-        (grouping input.entry.now.groups.now)
-        (with_ends input.entry.now.trace.now input.entry.now.trace.now) r.0.items) }
+    ensures pieces { IfOk result (λ r. AreOfGroups (L.runs lanes.now)
+        (grouping groups.now) (with_ends trace.now trace.now) r.0.items) }
 {
-    work_on(rt, source, seat, input, Span::All)
+    let Ok(selections) = lanes.selections(alloc, trace) else {
+        drop(seat);
+        return Err(AllocError);
+    };
+    let input = WorkerInput {
+        alloc,
+        lanes,
+        trace,
+        selections: &selections,
+        groups,
+        gate,
+    };
+    work_on(rt, source, seat, &input, Span::All)
 }
 
 /// Takes groups until it is at the end, and makes a piece of each, of the firings that count.
@@ -226,27 +232,56 @@ impl<'a, L: Lanes, G> WorkerInput<'a, L, G> {
 fn run_one<E: Engine>(
     lane: &mut E,
     firing: &Firing,
-    clauses: &ClausePlaces,
+    clauses: Option<&ClausePlaces>,
     span: Span,
 ) -> Result<(), AllocError>
     requires ranges { HasRanges firing.now }
     requires selected { (m : ScriptMeant) × E.runs lane.old m
-        × (clauses.now ≡ selected_for m firing.now) }
-    requires clauses { length clauses.now ≤ MOST_BYTES }
+        × IfSome clauses (λ c. c.now ≡ selected_for m firing.now) }
+    requires clauses { IfSome clauses (λ c. length c.now ≤ MOST_BYTES) }
     requires few { length (E.seen lane.old).piece.taken < most_firings }
     requires unspent { IsFalse (E.is_spent lane.old) }
     ensures script { (m : ScriptMeant) → E.runs lane.old m
-        → clauses.now ≡ selected_for m firing.now → E.runs lane.new m }
+        → IfSome clauses.entry (λ c. c.now ≡ selected_for m firing.now) → E.runs lane.new m }
     ensures unspent { OnOk result (IsFalse (E.is_spent lane.new)) }
     ensures few { OnOk result (length (E.seen lane.new).piece.taken
         ≤ length (E.seen lane.old).piece.taken + 1) }
     ensures run { OnOk result ((m : ScriptMeant) (before : List Firing) → E.runs lane.old m
-        → clauses.now ≡ selected_for m firing.now → IsLaneOf m before (E.seen lane.old)
+        → IfSome clauses.entry (λ c. c.now ≡ selected_for m firing.now)
+        → IsLaneOf m before (E.seen lane.old)
         → IsLaneOf m (before ++ filter (is_in span) (firing.now ∷ [])) (E.seen lane.new)) }
 {
     if !span.has(firing) {
         return Ok(());
     }
-    let _ = lane.fire(firing, clauses)?;
+    let _ = fire(lane, firing, clauses)?;
     Ok(())
+}
+
+/// Fires a firing, whose clauses are at these places if they were found.
+pub(crate) fn fire<E: Engine>(
+    lane: &mut E,
+    firing: &Firing,
+    clauses: Option<&ClausePlaces>,
+) -> Result<bool, AllocError>
+    requires ranges { HasRanges firing.now }
+    requires selected { (m : ScriptMeant) × E.runs lane.old m
+        × IfSome clauses (λ c. c.now ≡ selected_for m firing.now) }
+    requires clauses { IfSome clauses (λ c. length c.now ≤ MOST_BYTES) }
+    requires few { length (E.seen lane.old).piece.taken < most_firings }
+    ensures step { (m : ScriptMeant) → E.runs lane.old m
+        → IfSome clauses.entry (λ c. c.now ≡ selected_for m firing.now)
+        → OnOk result (Fires m firing.now (E.seen lane.old) (E.seen lane.new)) }
+    ensures exits { (m : ScriptMeant) → E.runs lane.old m
+        → IfSome clauses.entry (λ c. c.now ≡ selected_for m firing.now)
+        → IfOk result (λ exits. exits
+        ≡ is_some (exit_of (history m (firing.now ∷ []) (E.seen lane.old).threads))) }
+    ensures script { (m : ScriptMeant) → E.runs lane.old m
+        → IfSome clauses.entry (λ c. c.now ≡ selected_for m firing.now) → E.runs lane.new m }
+    ensures unspent { OnOk result (IsFalse (E.is_spent lane.new)) }
+{
+    match clauses {
+        Some(clauses) => lane.fire_selected(firing, clauses),
+        None => lane.fire(firing),
+    }
 }

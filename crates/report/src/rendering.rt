@@ -48,13 +48,13 @@ pub fn render<R: Threads + Sync>(
     requires { functions_of whole.now.table
         ≡ map (λ a. a.function) (typed_script_of script.now).aggregations }
     ensures { (contributions : List Contribution) → StandsFor whole.now.table contributions
-        → IfOk result (λ bytes. IsOutput (functions_of whole.now.table) whole.now.texts.items
+        → IfOk result (λ bytes. IsOutput (functions_of whole.now.table) whole.now.events.items
         contributions bytes.items) }
 {
     // The table has what the script says of them.
     let _ = script;
     let mut out = Vec::new(alloc);
-    put_texts(&mut out, &whole.texts)?;
+    put_texts(&mut out, &whole.events)?;
     put_tables(rt, alloc, &mut out, &whole.table)?;
     Ok(out)
 }

@@ -11,3 +11,5 @@ mod programs;
 mod replays;
 #[cfg(test)]
 mod streams;
+#[cfg(test)]
+mod working;

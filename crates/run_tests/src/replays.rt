@@ -42,7 +42,8 @@ pub(crate) const SHOWN: &[u8] =
 const EXITING: &[u8] = b":::hit / arg0 / { exit(arg0); } :::hit { @ = count(); } \
 dtrace:::END { printf(\"end\\n\"); }";
 
-const FOUR_HITS: &[u8] = b"number,cpu,thread,pid,execname,time,provider,module,function,name,\
+pub(crate) const FOUR_HITS: &[u8] =
+    b"number,cpu,thread,pid,execname,time,provider,module,function,name,\
 arg0,arg1,arg2,arg3,arg4,arg5,arg6,arg7,arg8,arg9\n\
 10,0,1,1,a,0,p,,f,hit,0,0,0,0,0,0,0,0,0,0\n\
 12,0,2,1,a,0,p,,f,hit,5,0,0,0,0,0,0,0,0,0\n\

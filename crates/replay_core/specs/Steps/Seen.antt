@@ -5,7 +5,7 @@ use Rattle.replay_core.specs.declared.piece.Piece.{Piece}
 
 -- a piece of no firing
 pub record IsEmptyPiece (p : Piece) : Type 0 where
-  pub texts : p.texts.items ≡ []
+  pub texts : p.events.items ≡ []
   pub table : StandsFor p.table []
   pub held : count_held p.table ≡ 0
   pub taken : p.taken.items ≡ []

@@ -32,7 +32,7 @@ fn run_statements<X: Expression, S: Statement<X>>(
         (spec.statements_by (X.by f) (map S.form statements.now) vars))
         state.old state.new piece.old piece.new) }
 {
-    let before = piece.texts.len();
+    let before = piece.events.len();
     let mut exits = false;
     for statement in statements {
         match statement.perform(state, piece) {
@@ -73,7 +73,7 @@ pub(crate) fn run_clause<X: Expression, S: Statement<X>>(
             Ok(0) => return Ok(false),
             Ok(_) => {}
             Err(EvalFault::DivideByZero) => {
-                let texts = piece.texts.len();
+                let texts = piece.events.len();
                 piece.note_fault(state.firing.number, place, texts)?;
                 return Ok(false);
             }

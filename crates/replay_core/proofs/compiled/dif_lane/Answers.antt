@@ -1,4 +1,4 @@
-use Rattle.std.specs.Prelude.{◌≡◌, ◌≤◌, All, length, map}
+use Rattle.std.specs.Prelude.{◌≡◌, ◌≤◌, All, length, map, sum_by}
 use Rattle.std.specs.List.{AllZip}
 use Rattle.std.proofs.Common.{ap, subst, sym, ◌∙◌}
 use Rattle.std.proofs.lemmas.List.{length-map}
@@ -7,7 +7,7 @@ use Rattle.d_types.specs.Held.{slots_of}
 use Rattle.dif_codegen.specs.Meaning.{IsSameClause}
 use Rattle.dif_codegen.specs.Programs.{action_code}
 use Rattle.replay_core.specs.Bounds.{places_among}
-use Rattle.replay_core.proofs.ProgramLemmas.{program_few, program_named}
+use Rattle.replay_core.proofs.ProgramLemmas.{program_few, program_few_probes, program_named}
 use Rattle.replay_core.proofs.TreeLemmas.{script_keeps}
 use Rattle.replay_core.proofs.compiled.dif_lane.Goals as goal
 
@@ -24,6 +24,11 @@ pub new-requires-clause-few : goal.new-requires-clause-few
 new-requires-clause-few c =
     let (m, compiled) = c.requires in
     subst (λ l. All (λ x. length x.actions.items ≤ 65536) l) (sym c.clauses.ensures) (program_few m compiled.typed c.args.program.now.clauses.items compiled.program.do_the_same)
+
+pub new-requires-clause-probes : goal.new-requires-clause-probes
+new-requires-clause-probes c =
+    let (m, compiled) = c.requires in
+    subst (λ l. sum_by (λ x. length x.descriptions.items) l ≤ 65536) (sym c.clauses.ensures) (program_few_probes m compiled.typed c.args.program.now.clauses.items compiled.program.do_the_same)
 
 pub returns-clause-script : goal.returns-clause-script
 returns-clause-script c =

@@ -1,6 +1,5 @@
 use Rattle.std.specs.Prelude.{◌≤◌, All, length, map, sum_by}
-use Rattle.std.proofs.Common.{arith, ap, subst, sym, ◌∙◌}
-use Rattle.std.proofs.lemmas.Result.{IfOk-weaker}
+use Rattle.std.proofs.Common.{arith, ap, inr, subst, sym, ◌∙◌}
 use Rattle.d_types.specs.Held.{slots_of}
 use Rattle.firing_reader.specs.Ends.{with_ends}
 use Rattle.replay_core.specs.Patterns.{probe_of}
@@ -17,8 +16,9 @@ returns g c =
     let ds = map (λ d. d.now) c.deref.result.now in
     let are = ap (map (λ d. d.now)) c.deref.ensures.value in
     let many = ap (λ l. sum_by length l) are ∙ all.probes in
-    IfOk-weaker c.new.result _ _ (λ chosen is. record {
+    let is = c.of.ensures ∙ c.in_ok-found.ensures in
+    record {
       few = subst (All (λ places. length places ≤ 65536)) (sym is)
           (selected_few (λ f. places_for (probe_of f) 0 ds) 65536 fs (λ f. let few = places_few (probe_of f) 0 ds in let most = c.requires in omega (arith, few, many, most)));
-      each = λ m zip. is ∙ ap (λ l. map (λ f. places_for (probe_of f) 0 l) fs) (are ∙ all.meaning (slots_of m) m.clauses zip);
-    }) c.new.ensures
+      each = λ m zip. inr (is ∙ ap (λ l. map (λ f. places_for (probe_of f) 0 l) fs) (are ∙ all.meaning (slots_of m) m.clauses zip));
+    }

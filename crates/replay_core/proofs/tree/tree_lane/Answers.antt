@@ -1,4 +1,4 @@
-use Rattle.std.specs.Prelude.{◌≡◌, ◌≤◌, All, length, map}
+use Rattle.std.specs.Prelude.{◌≡◌, ◌≤◌, All, length, map, sum_by}
 use Rattle.std.proofs.Common.{ap, subst, sym, ◌∙◌}
 use Rattle.std.proofs.lemmas.List.{length-map}
 use Rattle.std.proofs.lemmas.Result.{IfOk-weaker}
@@ -7,7 +7,7 @@ use Rattle.d_types.specs.Sizes.{statement_count}
 use Rattle.d_types.specs.Typed.{meant_of}
 use Rattle.d_types.specs.TypedScripts.{typed_script_of}
 use Rattle.replay_core.specs.Bounds.{places_in}
-use Rattle.replay_core.proofs.TreeLemmas.{all_few, all_named, functions_same, script_keeps}
+use Rattle.replay_core.proofs.TreeLemmas.{all_few, all_named, few_probes, functions_same, script_keeps}
 use Rattle.replay_core.proofs.TreeLemmas.{trees_mean}
 use Rattle.replay_core.proofs.tree.tree_lane.Goals as goal
 
@@ -23,6 +23,11 @@ pub new-requires-clause-few : goal.new-requires-clause-few
 new-requires-clause-few c =
     let s = c.args.script.now in
     subst (λ l. All (λ x. statement_count (meant_of x) ≤ 65536) l) (sym c.clauses.ensures) (all_few s.clauses.items s.aggregations.items s.slots.items s.typed)
+
+pub new-requires-clause-probes : goal.new-requires-clause-probes
+new-requires-clause-probes c =
+    let s = c.args.script.now in
+    subst (λ l. sum_by (λ x. length x.descriptions.items) l ≤ 65536) (sym c.clauses.ensures) (few_probes s.clauses.items s.aggregations.items s.slots.items s.typed)
 
 pub returns-clause-script : goal.returns-clause-script
 returns-clause-script c =

@@ -14,5 +14,5 @@ returns-clause-few g c =
 
 pub returns-clause-run : goal.returns-clause-run
 returns-clause-run g c = λ m before runs selected is.
-    counts m c.args.span before c.args.firing.now (g.E.Engine.seen c.fire.new.self) (search rules)
-    (fires_more m before c.args.firing.now (g.E.Engine.seen c.args.lane.now) (g.E.Engine.seen c.fire.new.self) is (c.in_ok-fire.ensures.step m runs selected))
+    counts m c.args.span before c.args.firing.now (g.E.Engine.seen c.fire.new.lane) (search rules)
+    (fires_more m before c.args.firing.now (g.E.Engine.seen c.args.lane.now) (g.E.Engine.seen c.fire.new.lane) is (c.in_ok-fire.ensures.step m runs selected))

@@ -9,8 +9,8 @@ use Rattle.replay_core.proofs.worker.work.Goals as goal
 
 pub returns-clause-pieces : goal.returns-clause-pieces
 returns-clause-pieces g c =
-    let input = c.args.input.now in
-    let run = with_ends input.trace.now input.trace.now in
+    let a = c.args in
+    let run = with_ends a.trace.now a.trace.now in
     IfOk-weaker c.work_on.result _ _
-    (λ r are. subst (λ (fs : List Firing). AreOfGroups (g.L.Lanes.runs input.lanes.now) (grouping input.groups.now) fs r.0.items) (all_count run) are)
+    (λ r are. subst (λ (fs : List Firing). AreOfGroups (g.L.Lanes.runs a.lanes.now) (grouping a.groups.now) fs r.0.items) (all_count run) are)
     c.work_on.ensures.pieces

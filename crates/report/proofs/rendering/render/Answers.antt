@@ -7,7 +7,7 @@ use Rattle.report.proofs.rendering.render.Goals as goal
 
 pub returns : goal.returns
 returns g c contributions stands =
-    let texts = c.args.whole.now.texts.items in
+    let texts = c.args.whole.now.events.items in
     let functions = functions_of c.args.whole.now.table in
     let bytes = c.put_tables.new.out.items in
     let first : c.put_texts.new.out.items ≡ flat_map (λ text. text.1) texts = search rules in

@@ -11,7 +11,7 @@ pub returns-clause-notes : goal.returns-clause-notes
 returns-clause-notes c =
     let fits : FitsSigned w64 c.args.argument = search rules in
     on_ok_weaker c.add.result (λ stands number vars. record {
-      texts = append_nil c.args.self.now.texts.items;
+      texts = append_nil c.args.self.now.events.items;
       functions = c.add.ensures.functions;
       table = λ before stood. subst (λ y. StandsFor c.add.new.self (before ++ contribution c.args.place c.args.key.now y ∷ []))
           (to_z-of_z w64 c.args.argument fits) (stands before stood);

@@ -25,8 +25,8 @@ returns-in-Err-DivideByZero-clause-run g c =
     ∙ ap (λ o. run_result line (where_true o rest)) faults in
     let noted = c.in_ok-note_fault-in-Err-DivideByZero.ensures in
     let same = number_stays c.args.state.now c.evaluate_word.new.state c.evaluate_word.ensures.0 in
-    let before : c.len-texts.result ≡ length c.args.piece.now.texts.items = search rules in
+    let before : c.len-texts.result ≡ length c.args.piece.now.events.items = search rules in
     subst (λ m. NotesRun f.number m (piece_seen c.args.piece.now) (piece_seen c.note_fault.new.self) after false) (sym run)
     (predicate_faults f.number line (piece_seen c.args.piece.now) (piece_seen c.note_fault.new.self) after
-    (noted.texts ∙ ap (λ n. take c.len-texts.result c.args.piece.now.texts.items ++ (n, fault_line n c.args.place) ∷ []) same
-    ∙ ap (λ n. take n c.args.piece.now.texts.items ++ (f.number, line) ∷ []) before) noted.table noted.taken noted.exit)
+    (noted.texts ∙ ap (λ n. take c.len-texts.result c.args.piece.now.events.items ++ (n, fault_line n c.args.place) ∷ []) same
+    ∙ ap (λ n. take n c.args.piece.now.events.items ++ (f.number, line) ∷ []) before) noted.table noted.taken noted.exit)

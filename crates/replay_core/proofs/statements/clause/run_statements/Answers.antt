@@ -80,14 +80,14 @@ returns-in-Err-DivideByZero-clause-run g c =
     let same = number_stays c.args.state.now c.perform.new.state stays in
     let performs = subst (λ s. Performs s.now.number (effect_by (g.X.Expression.by s.now) (form item) now) (piece_seen c.loop-statement.piece) c.perform.result (piece_seen c.perform.new.piece) (variables_in c.perform.new.state))
     c.loop-statement.invariant.stays.0 c.perform.ensures.effect.1 in
-    let before : c.len-before.result ≡ length c.args.piece.now.texts.items = search rules in
+    let before : c.len-before.result ≡ length c.args.piece.now.events.items = search rules in
     faults f.number line (statements_by by (map form all) (variables_in c.args.state.now)) left o go
     (piece_seen c.args.piece.now) (piece_seen c.loop-statement.piece) (piece_seen c.perform.new.piece) (piece_seen c.note_fault.new.self) (variables_in c.perform.new.state)
     c.loop-statement.exits c.loop-statement.invariant.so_far is
     (subst (λ r. Performs f.number o (piece_seen c.loop-statement.piece) r (piece_seen c.perform.new.piece) (variables_in c.perform.new.state))
     (c.in-Err-DivideByZero.is ∙ ap (λ e. Err e) c.in-Err-DivideByZero.field-0-is) performs)
-    (noted.texts ∙ ap (λ n. take c.len-before.result c.perform.new.piece.texts.items ++ (n, fault_line n c.args.place) ∷ []) same
-    ∙ ap (λ n. take n c.perform.new.piece.texts.items ++ (f.number, line) ∷ []) before) noted.table noted.taken noted.exit
+    (noted.texts ∙ ap (λ n. take c.len-before.result c.perform.new.piece.events.items ++ (n, fault_line n c.args.place) ∷ []) same
+    ∙ ap (λ n. take n c.perform.new.piece.events.items ++ (f.number, line) ∷ []) before) noted.table noted.taken noted.exit
 
 pub returns-clause-run : goal.returns-clause-run
 returns-clause-run g c =

@@ -20,7 +20,7 @@ run_one-requires-clause-selected g c =
     let places = c.args.places.now in
     let list = get_or c.lists-lists.result i c.index-lists-at.result in
     let listed = listed_at c.lists-lists.result s.selections.now places i c.index-lists-at.result (omega arith) c.lists-lists.ensures in
-    (some.0, c.loop-at.invariant.script some.0 some.1 some.2, selected_is some.0 s.trace.now s.selections.now some.2 (slice_index places i) c.read_at-firing.result list.now c.read_at-firing.ensures.firing listed)
+    (some.0, c.loop-at.invariant.script some.0 some.1 some.2, selected_is some.0 s.trace.now s.selections.now some.2 (slice_index places i) c.read_at-firing.result list c.read_at-firing.ensures.firing listed)
 
 pub run_one-requires-clause-clauses : goal.run_one-requires-clause-clauses
 run_one-requires-clause-clauses g c =
@@ -28,7 +28,7 @@ run_one-requires-clause-clauses g c =
     let i = c.loop-at.at in
     let places = c.args.places.now in
     let list = get_or c.lists-lists.result i c.index-lists-at.result in
-    selected_short s.selections.now c.requires.short (slice_index places i) list.now (listed_at c.lists-lists.result s.selections.now places i c.index-lists-at.result (omega arith) c.lists-lists.ensures)
+    selected_short s.selections.now c.requires.short (slice_index places i) list (listed_at c.lists-lists.result s.selections.now places i c.index-lists-at.result (omega arith) c.lists-lists.ensures)
 
 pub loop-at-preserved : goal.loop-at-preserved
 loop-at-preserved g c =
@@ -46,12 +46,12 @@ loop-at-preserved g c =
     let item : get_or places i place ≡ place = get_or_default places i place 0 (omega arith) in
     let more = kept_more c.args.span run places i place f (omega arith) item c.read_at-firing.ensures.firing in
     record {
-      script = λ m runs are. c.run_one.ensures.script m (inv.script m runs are) (selected_is m s.trace.now s.selections.now are place f list.now c.read_at-firing.ensures.firing listed);
+      script = λ m runs are. c.run_one.ensures.script m (inv.script m runs are) (selected_is m s.trace.now s.selections.now are place f list c.read_at-firing.ensures.firing listed);
       unspent = ran.unspent;
       few = let now = ran.few in let before = inv.few in omega (arith, now, before);
       run = λ m before runs are is. subst (λ (l : List Firing). IsLaneOf m l (g.E.Engine.seen c.run_one.new.lane))
           (append_assoc before counted (filter (is_in c.args.span) (f ∷ [])) ∙ ap (λ l. before ++ l) (sym more))
-          (ran.run m (before ++ counted) (inv.script m runs are) (selected_is m s.trace.now s.selections.now are place f list.now c.read_at-firing.ensures.firing listed) (inv.run m before runs are is));
+          (ran.run m (before ++ counted) (inv.script m runs are) (selected_is m s.trace.now s.selections.now are place f list c.read_at-firing.ensures.firing listed) (inv.run m before runs are is));
     }
 
 pub returns-clause-run : goal.returns-clause-run

@@ -2,7 +2,7 @@ use Rattle.std.proofs.Common.{◌≡◌, map}
 use Rattle.firing_reader.specs.Ends.{with_ends}
 use Rattle.shard_queue.specs.Groups.{grouping}
 use Rattle.replay_core.specs.Beginnings.{AreBegun, least_exit}
-use Rattle.replay_core.proofs.until.work_until.Given as goal
+use Rattle.replay_core.proofs.until.watch_on.Given as goal
 
 abbrev pub invariant-loop : goal.invariant-loop
 invariant-loop g l = record {

@@ -6,7 +6,7 @@ use Rattle.replay_core.specs.Beginnings.{IsBegunOf, least_exit, lesser_of}
 use Rattle.replay_core.specs.Seen.{IsRoomy}
 use Rattle.replay_core.proofs.WorkSteps.{groups_more}
 use Rattle.replay_core.proofs.BeginLemmas.{seen_less, least_more}
-use Rattle.replay_core.proofs.until.work_until.Goals as goal
+use Rattle.replay_core.proofs.until.watch_on.Goals as goal
 
 pub loop-preserved : goal.loop-preserved
 loop-preserved g c =

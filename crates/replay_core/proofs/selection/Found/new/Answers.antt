@@ -8,7 +8,7 @@ use Rattle.firing_reader.proofs.Stored.{named_more}
 use Rattle.replay_core.specs.Patterns.{probe_of}
 use Rattle.replay_core.specs.Places.{places_for}
 use Rattle.replay_core.proofs.SelectionLemmas.{run_listed}
-use Rattle.replay_core.proofs.selection.Selections.new.Goals as goal
+use Rattle.replay_core.proofs.selection.Found.new.Goals as goal
 
 pub returns : goal.returns
 returns c =
