@@ -50,7 +50,6 @@ LEX = [
             "`syscall::[rw]*:entry { }`",
             "two descriptions: `syscall::r*:entry, syscall::w*:entry { }`",
         ),
-        ("a zero byte in a text constant", "the text without it"),
     ),
     script(
         "Lex",
@@ -92,7 +91,6 @@ LEX = [
         LINE,
         "An option line other than `#pragma D option quiet`.",
         "Leave it out: dreplay has no other options of D.",
-        ("`#pragma D option bufsize=4k`", "no line: `quiet` is the one option that dreplay knows"),
     ),
 ]
 
@@ -142,10 +140,6 @@ PARSE = [
             "Split the expression. If the script is short, it is the trace that is so long: the"
             " line `---` before it is missing, or `-s`."
         ),
-        (
-            "65 open brackets, or a statement of 1,025 tokens",
-            "a part of it in a statement of its own: `this->t = ..; trace(this->t);`",
-        ),
     ),
     script(
         "Parse",
@@ -154,7 +148,6 @@ PARSE = [
         "",
         "More than 256 clauses.",
         "Join some, as descriptions of one clause, or run two scripts.",
-        ("257 clauses", "several descriptions in one clause, or two scripts"),
     ),
 ]
 
@@ -349,8 +342,6 @@ TRACE = [
             " before it; with `-s` there is none. The trace has to be plain CSV in UTF-8, with"
             " commas: not compressed, not UTF-16, no `;`."
         ),
-        ("a file of no bytes", "the header alone, for a trace without firings"),
-        ("`Number,CPU,..`", "the names in small letters"),
     ),
     script(
         "Trace",
@@ -387,7 +378,6 @@ TRACE = [
         ROW,
         "A number that isn't above that of the row before.",
         "Sort the rows by `number`, or number them anew.",
-        ("rows numbered 5 and 5", "5 and 6; gaps are fine"),
     ),
     script(
         "Trace",
@@ -396,7 +386,6 @@ TRACE = [
         FIELD,
         "A text of more than 255 bytes, with a zero byte, or not in UTF-8.",
         "Shorten it, or recode it: `iconv -f LATIN1 -t UTF-8`.",
-        ("a name in Latin-1", "the same in UTF-8"),
     ),
     script(
         "Trace",
@@ -405,7 +394,6 @@ TRACE = [
         ROW,
         "The provider is `dtrace`.",
         "Leave these rows out: every run has a `BEGIN` and an `END` of its own.",
-        ("a row of `dtrace:::BEGIN`", "no row"),
     ),
     script(
         "Trace",
@@ -418,7 +406,6 @@ TRACE = [
             " `dreplay-show`: no firing depends on another thread. Or record fewer calls:"
             " `dreplay-from-strace` has `--only`, `--since` and `--rows`."
         ),
-        ("1,000,001 rows", "two traces: `dreplay-from-strace --split 2 -o run.csv run.strace`"),
     ),
 ]
 
