@@ -53,33 +53,7 @@ kind_letter Text = codes "t"
 abbrev pub variable_name : Var → List ℕ
 variable_name x = kind_letter x.kind ++ decimal x.slot
 
-abbrev pub instr_name : Instr → List ℕ
-instr_name (Alu op a b d) = operator_name op
-instr_name (Not a d) = codes "not"
-instr_name (Mov a d) = codes "mov"
-instr_name (Cmp a b) = codes "cmp"
-instr_name (Tst a) = codes "tst"
-instr_name (Scmp a b) = codes "scmp"
-instr_name (Ba to) = codes "ba"
-instr_name (Branch condition to) = branch_name condition
-instr_name (Setx i d) = codes "setx"
-instr_name (Sets i d) = codes "sets"
-instr_name (Ldgs v d) = codes "ldgs"
-instr_name (Ldga v a d) = codes "ldga"
-instr_name (Ldts x d) = codes "ldts"
-instr_name (Stts x a) = codes "stts"
-instr_name (Ldls x d) = codes "ldls"
-instr_name (Stls x a) = codes "stls"
-instr_name (Pushtr a) = codes "pushtr"
-instr_name (Pushtv a) = codes "pushtv"
-instr_name Flushts = codes "flushts"
-instr_name (Ldtaa x d) = codes "ldtaa"
-instr_name (Sttaa x a) = codes "sttaa"
-instr_name (Call function d) = codes "call"
-instr_name (Ret a) = codes "ret"
-instr_name Nop = codes "nop"
-
--- an instruction's name and its one, two or three operands
+-- a name and one, two or three operands
 abbrev pub one : (name a : List ℕ) → List ℕ
 one name a = name ++ codes " " ++ a
 
@@ -89,33 +63,29 @@ two name a b = name ++ codes " " ++ a ++ codes ", " ++ b
 abbrev pub three : (name a b c : List ℕ) → List ℕ
 three name a b c = name ++ codes " " ++ a ++ codes ", " ++ b ++ codes ", " ++ c
 
--- its operands after a name
-abbrev pub with_operands : List ℕ → Instr → List ℕ
-with_operands name (Alu op a b d) =
-    three name (register_name a) (register_name b) (register_name d)
-with_operands name (Not a d) = two name (register_name a) (register_name d)
-with_operands name (Mov a d) = two name (register_name a) (register_name d)
-with_operands name (Cmp a b) = two name (register_name a) (register_name b)
-with_operands name (Tst a) = one name (register_name a)
-with_operands name (Scmp a b) = two name (register_name a) (register_name b)
-with_operands name (Ba to) = one name (decimal to)
-with_operands name (Branch condition to) = one name (decimal to)
-with_operands name (Setx i d) = two name (decimal i) (register_name d)
-with_operands name (Sets i d) = two name (decimal i) (register_name d)
-with_operands name (Ldgs v d) = two name (decimal v) (register_name d)
-with_operands name (Ldga v a d) = three name (decimal v) (register_name a) (register_name d)
-with_operands name (Ldts x d) = two name (variable_name x) (register_name d)
-with_operands name (Stts x a) = two name (variable_name x) (register_name a)
-with_operands name (Ldls x d) = two name (variable_name x) (register_name d)
-with_operands name (Stls x a) = two name (variable_name x) (register_name a)
-with_operands name (Pushtr a) = one name (register_name a)
-with_operands name (Pushtv a) = one name (register_name a)
-with_operands name Flushts = name
-with_operands name (Ldtaa x d) = two name (variable_name x) (register_name d)
-with_operands name (Sttaa x a) = two name (variable_name x) (register_name a)
-with_operands name (Call function d) = two name (function_name function) (register_name d)
-with_operands name (Ret a) = one name (register_name a)
-with_operands name Nop = name
-
 abbrev pub instr_text : Instr → List ℕ
-instr_text i = with_operands (instr_name i) i
+instr_text (Alu op a b d) =
+    three (operator_name op) (register_name a) (register_name b) (register_name d)
+instr_text (Not a d) = two (codes "not") (register_name a) (register_name d)
+instr_text (Mov a d) = two (codes "mov") (register_name a) (register_name d)
+instr_text (Cmp a b) = two (codes "cmp") (register_name a) (register_name b)
+instr_text (Tst a) = one (codes "tst") (register_name a)
+instr_text (Scmp a b) = two (codes "scmp") (register_name a) (register_name b)
+instr_text (Ba to) = one (codes "ba") (decimal to)
+instr_text (Branch condition to) = one (branch_name condition) (decimal to)
+instr_text (Setx i d) = two (codes "setx") (decimal i) (register_name d)
+instr_text (Sets i d) = two (codes "sets") (decimal i) (register_name d)
+instr_text (Ldgs v d) = two (codes "ldgs") (decimal v) (register_name d)
+instr_text (Ldga v a d) = three (codes "ldga") (decimal v) (register_name a) (register_name d)
+instr_text (Ldts x d) = two (codes "ldts") (variable_name x) (register_name d)
+instr_text (Stts x a) = two (codes "stts") (variable_name x) (register_name a)
+instr_text (Ldls x d) = two (codes "ldls") (variable_name x) (register_name d)
+instr_text (Stls x a) = two (codes "stls") (variable_name x) (register_name a)
+instr_text (Pushtr a) = one (codes "pushtr") (register_name a)
+instr_text (Pushtv a) = one (codes "pushtv") (register_name a)
+instr_text Flushts = codes "flushts"
+instr_text (Ldtaa x d) = two (codes "ldtaa") (variable_name x) (register_name d)
+instr_text (Sttaa x a) = two (codes "sttaa") (variable_name x) (register_name a)
+instr_text (Call function d) = two (codes "call") (function_name function) (register_name d)
+instr_text (Ret a) = one (codes "ret") (register_name a)
+instr_text Nop = codes "nop"

@@ -156,89 +156,35 @@ fn branch<W: fmt::Write>(f: &mut fmt::Formatter<W>, name: &str, to: usize) -> fm
     write!(f, "{name} {to}")
 }
 
-// Writes an instruction by its name, an index and two registers.
-fn argument<W: fmt::Write>(
-    f: &mut fmt::Formatter<W>,
-    name: &str,
-    v: u8,
-    a: Reg,
-    d: Reg,
-) -> fmt::Result
-    ensures { WritesOnOk W.write_str_gives f.old result
-        (spec.three name.now (decimal v) (spec.register_name a) (spec.register_name d)) f.new }
-{
-    write!(f, "{name} {v}, {a}, {d}")
-}
-
-// Writes an instruction by its name, a function and a register.
-fn call<W: fmt::Write>(
-    f: &mut fmt::Formatter<W>,
-    name: &str,
-    function: Function,
-    d: Reg,
-) -> fmt::Result
-    ensures { WritesOnOk W.write_str_gives f.old result
-        (spec.two name.now (spec.function_name function) (spec.register_name d)) f.new }
-{
-    write!(f, "{name} {function}, {d}")
-}
-
-impl Instr {
-    fn name(self) -> &'static str
-        ensures { result.now ≡ spec.instr_name self }
-    {
-        match self {
-            Instr::Alu(op, _, _, _) => op.name(),
-            Instr::Not(_, _) => "not",
-            Instr::Mov(_, _) => "mov",
-            Instr::Cmp(_, _) => "cmp",
-            Instr::Tst(_) => "tst",
-            Instr::Scmp(_, _) => "scmp",
-            Instr::Ba(_) => "ba",
-            Instr::Branch(condition, _) => condition.name(),
-            Instr::Setx(_, _) => "setx",
-            Instr::Sets(_, _) => "sets",
-            Instr::Ldgs(_, _) => "ldgs",
-            Instr::Ldga(_, _, _) => "ldga",
-            Instr::Ldts(_, _) => "ldts",
-            Instr::Stts(_, _) => "stts",
-            Instr::Ldls(_, _) => "ldls",
-            Instr::Stls(_, _) => "stls",
-            Instr::Pushtr(_) => "pushtr",
-            Instr::Pushtv(_) => "pushtv",
-            Instr::Flushts => "flushts",
-            Instr::Ldtaa(_, _) => "ldtaa",
-            Instr::Sttaa(_, _) => "sttaa",
-            Instr::Call(_, _) => "call",
-            Instr::Ret(_) => "ret",
-            Instr::Nop => "nop",
-        }
-    }
-}
-
 impl fmt::Display for Instr {
     ghost output = { λ i. Some (spec.instr_text i) };
 
     fn fmt<W: fmt::Write>(&self, f: &mut fmt::Formatter<W>) -> fmt::Result {
-        let name = self.name();
         match *self {
-            Instr::Alu(_, a, b, d) => three(f, name, a, b, d),
-            Instr::Not(a, b) | Instr::Mov(a, b) | Instr::Cmp(a, b) | Instr::Scmp(a, b) => {
-                two(f, name, a, b)
-            }
-            Instr::Tst(a) | Instr::Pushtr(a) | Instr::Pushtv(a) | Instr::Ret(a) => one(f, name, a),
-            Instr::Ba(to) | Instr::Branch(_, to) => branch(f, name, to),
-            Instr::Setx(i, d) | Instr::Sets(i, d) => indexed(f, name, i, d),
-            Instr::Ldgs(v, d) => indexed(f, name, usize::from(v), d),
-            Instr::Ldga(v, a, d) => argument(f, name, v, a, d),
-            Instr::Ldts(x, a)
-            | Instr::Stts(x, a)
-            | Instr::Ldls(x, a)
-            | Instr::Stls(x, a)
-            | Instr::Ldtaa(x, a)
-            | Instr::Sttaa(x, a) => variable(f, name, x, a),
-            Instr::Call(function, d) => call(f, name, function, d),
-            Instr::Flushts | Instr::Nop => f.write_str(name),
+            Instr::Alu(op, a, b, d) => three(f, op.name(), a, b, d),
+            Instr::Not(a, d) => two(f, "not", a, d),
+            Instr::Mov(a, d) => two(f, "mov", a, d),
+            Instr::Cmp(a, b) => two(f, "cmp", a, b),
+            Instr::Tst(a) => one(f, "tst", a),
+            Instr::Scmp(a, b) => two(f, "scmp", a, b),
+            Instr::Ba(to) => branch(f, "ba", to),
+            Instr::Branch(condition, to) => branch(f, condition.name(), to),
+            Instr::Setx(i, d) => indexed(f, "setx", i, d),
+            Instr::Sets(i, d) => indexed(f, "sets", i, d),
+            Instr::Ldgs(v, d) => indexed(f, "ldgs", usize::from(v), d),
+            Instr::Ldga(v, a, d) => write!(f, "ldga {v}, {a}, {d}"),
+            Instr::Ldts(x, d) => variable(f, "ldts", x, d),
+            Instr::Stts(x, a) => variable(f, "stts", x, a),
+            Instr::Ldls(x, d) => variable(f, "ldls", x, d),
+            Instr::Stls(x, a) => variable(f, "stls", x, a),
+            Instr::Pushtr(a) => one(f, "pushtr", a),
+            Instr::Pushtv(a) => one(f, "pushtv", a),
+            Instr::Flushts => f.write_str("flushts"),
+            Instr::Ldtaa(x, d) => variable(f, "ldtaa", x, d),
+            Instr::Sttaa(x, a) => variable(f, "sttaa", x, a),
+            Instr::Call(function, d) => write!(f, "call {function}, {d}"),
+            Instr::Ret(a) => one(f, "ret", a),
+            Instr::Nop => f.write_str("nop"),
         }
     }
 }
