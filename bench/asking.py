@@ -9,6 +9,20 @@ import sys
 HERE = os.path.dirname(os.path.abspath(__file__))
 PROGRAM = f"{HERE}/../crates/dreplay/out/dreplay"
 QUESTIONS = ["reading", "counts", "latency", "heavy", "dense"]
+# Who counts by floating point, and rounds sums past 2^53.
+ROUNDING = ["mawk", "gawk"]
+# A build of so many C files by four compilers at once, and the rows that each file comes to.
+BUILD = r"""
+set -e
+cd "$(mktemp -d)"
+for n in $(seq "$1"); do
+    printf '#include <stdio.h>\nint f%d(const char *s) { return puts(s); }\n' "$n" > "f$n.c"
+done
+printf 'int main(void) { return 0; }\n' > main.c
+printf 'O = $(patsubst %%.c,%%.o,$(wildcard *.c))\nall: $O\n\t$(CC) -o all $O\n' > Makefile
+make -s -j4
+"""
+ROWS_OF_A_FILE = 3_000
 
 
 def parser(doc):
@@ -34,6 +48,15 @@ def write_trace(path, rows, *words):
     """Writes a trace with this number of rows."""
     with open(path, "wb") as file:
         subprocess.run([f"{HERE}/generate", *words, str(rows)], stdout=file, check=True)
+
+
+def write_recorded(path, rows):
+    """Writes the trace of a build of about this many rows, and returns how many there are."""
+    build = ["sh", "-c", BUILD, "sh", str(max(1, rows // ROWS_OF_A_FILE))]
+    words = [f"{HERE}/../tools/dreplay-record", "-o", path, "--", *build]
+    subprocess.run(words, check=True, capture_output=True)
+    with open(path, "rb") as file:
+        return sum(1 for _ in file) - 1
 
 
 def write_bundle(question, trace, path):
