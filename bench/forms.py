@@ -84,7 +84,7 @@ def each(count, form):
     return "".join(form.format(number) for number in range(count))
 
 
-def described(one, clauses=256, descriptions=120):
+def describe(one, clauses=256, descriptions=120):
     """Clauses without statements, of equal descriptions."""
     return (",".join([one] * descriptions) + "{}") * clauses
 
@@ -117,7 +117,7 @@ def clauses_by_bit(clauses, bits):
     return "z{}" * (clauses - bits) + "".join(f"{bit(place)}{{}}" for place in range(bits))
 
 
-def numbered(count, bits):
+def number_probes(count, bits):
     """A trace of probes whose functions are their numbers in binary."""
     return HEADER + "".join(
         f"{number},0,1,1,a,0,p,,{number - 1:0{bits}b},z,,,,,,,,,,\n"
@@ -125,7 +125,7 @@ def numbered(count, bits):
     )
 
 
-def spelled(count):
+def spell(count):
     """A trace of one owner, whose thread and pid have other numbers of zeros before them in each
     row."""
     row = "{0},0,{1:0{2}},{1:0{3}},a,0,p,,f,hit,,,,,,,,,,\n"
@@ -224,7 +224,7 @@ TRACES = {
     "first line of commas": Form(32 << 20, SHARED, lambda size: "," * size),
     "names": Form(MILLION, 20_000, lambda size: trace_of(size, program="{0:08}")),
     "owners": Form(300_000, 20_000, lambda size: trace_of(size, thread="{0}")),
-    "spellings of an owner": Form(100_000, 20_000, spelled),
+    "spellings of an owner": Form(100_000, 20_000, spell),
     "probes": Form(300_000, 20_000, lambda size: trace_of(size, function="{0:0230}")),
 }
 # Scripts that are dear to read, and answers that are dear to write.
@@ -278,29 +278,29 @@ DESCRIPTIONS = {
     "lists": Form(
         10_000,
         20,
-        lambda size: numbered(size, 14),
+        lambda size: number_probes(size, 14),
         lambda size: descriptions_by_bit(14),
         more=lambda size: {"list of clauses": size + 2, "clause in a list": 256 * size},
     ),
     "longer lists": Form(
         100_000,
         1_000,
-        lambda size: numbered(size, 17),
+        lambda size: number_probes(size, 17),
         lambda size: clauses_by_bit(140, 17),
         more=lambda size: {"list of clauses": size + 2, "clause in a list": 131 * size},
     ),
     "matching descriptions": Form(
         10_000,
         20,
-        lambda size: numbered(size, 14),
-        lambda size: described("z"),
+        lambda size: number_probes(size, 14),
+        lambda size: describe("z"),
         more=lambda size: {"list of clauses": 3, "clause in a list": 256},
     ),
     "other descriptions": Form(
-        100_000, 15_000, lambda size: numbered(size, 17), lambda size: described("y")
+        100_000, 15_000, lambda size: number_probes(size, 17), lambda size: describe("y")
     ),
     "other patterns": Form(
-        100_000, 20, lambda size: trace_of(size, function="{0}"), lambda size: described("?")
+        100_000, 20, lambda size: trace_of(size, function="{0}"), lambda size: describe("?")
     ),
     "slow patterns": Form(
         10_000,

@@ -43,7 +43,7 @@ NUMBERED = ["setx", "sets", "ldgs", "ldga", "ba"]
 SHARES = [share for share, _ in GROUPS]
 
 
-def drawn(seed, place):
+def draw(seed, place):
     """The object at a place in the list that a seed fixes."""
     chance = random.Random(f"{seed} {place} object")
     numbers = chance.choices(NUMBERS, k=chance.choice([0, 1, 3, 5]))

@@ -92,7 +92,7 @@ def difference(program, recording):
     return ("" if quick == trace else "the traces differ"), True
 
 
-def changed(recording, draw):
+def change(recording, draw):
     """A recording with a few changes: of a piece, of a number, or of whole lines."""
     lines = recording.splitlines(keepends=True) or [b"\n"]
     begin = draw.randrange(len(lines))
@@ -123,4 +123,4 @@ def changed_line(line, draw):
 def changed_ones(recordings, seed, count):
     """So many changed recordings, which a seed fixes."""
     draw = random.Random(f"{seed} recordings")
-    return [changed(draw.choice(recordings), draw) for _ in range(count)]
+    return [change(draw.choice(recordings), draw) for _ in range(count)]

@@ -27,7 +27,7 @@ def read(path, absent=b""):
         return file.read()
 
 
-def printed(script, folder):
+def run_printer(script, folder):
     """What a script of sh prints. It has the line of columns as $HEADER."""
     environment = os.environ | {"HEADER": HEADER.decode()[:-1]}
     made = subprocess.run(
@@ -52,7 +52,7 @@ def input_of(parts):
 def case_of(name, parts):
     """Makes a case of its parts; a part NAME.sh is a script of sh that prints the part NAME."""
     prints = {
-        blocks.stem(part): printed(text, CASES)
+        blocks.stem(part): run_printer(text, CASES)
         for part, text in parts.items()
         if part.endswith(".sh")
     }
@@ -118,7 +118,7 @@ def examples():
     return [file[:-2] for file in files if file.endswith(".d")]
 
 
-def indented(text):
+def indent(text):
     """A text as a page shows it: each line that isn't empty is four spaces in."""
     return b"".join(
         b"    " + line if line.strip() else line for line in text.splitlines(keepends=True)
@@ -135,7 +135,7 @@ def example_of(name):
     if read(f"{folder}/bundle", bundle) != bundle:
         raise blocks.BadCase("bundle is not the script, a line ---, and trace.csv")
     page = read(f"{path}.md") or read(f"{folder}/README.md")
-    if not answer or indented(script) not in page or indented(answer) not in page:
+    if not answer or indent(script) not in page or indent(answer) not in page:
         raise blocks.BadCase("its page does not show the script and the answer")
     rows = read(f"{folder}/trace.csv").splitlines()
     for shown in re.findall(rb"^    (.*),\.\.$", read(f"{folder}/README.md"), re.MULTILINE):
@@ -151,7 +151,7 @@ def every_name():
     ]
 
 
-def named(words):
+def find_named(words):
     """The names that the words of a test script mean: cases, examples, and all cases of a file."""
     return [name for word in words for name in subjects().get(word, [word])] or every_name()
 
@@ -187,7 +187,7 @@ def conversion_of(name):
     return harness.Case(name, folder, read(f"{folder}/recording"), words, [[]], "", expected)
 
 
-def recorded():
+def read_recording():
     """A recording of which dreplay-rows knows all lines, and the trace that it writes."""
     return dataclasses.replace(conversion_of("recorded_by_dreplay_record"), words=[])
 

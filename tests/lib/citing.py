@@ -6,7 +6,7 @@ It goes by the text: a function is private where it is no `pub fn` and no method
 import re
 from collections import defaultdict
 
-from lib.definitions import WORD, taken
+from lib.definitions import WORD, find_taken
 from lib.names import TOP, read, sources
 
 HEAD = re.compile(r"^( *)(pub(?:\([^)]*\))? )?(?:const )?fn \w+", re.MULTILINE)
@@ -36,9 +36,9 @@ def halves(text):
     return public + text[at:], private
 
 
-def cited(definitions, source, text):
+def find_cited(definitions, source, text):
     """The definitions that a part of a source names, by what the source takes."""
-    takes = taken("\n".join(re.findall(r"(?m)^\s*ghost (use .*);$", source)))
+    takes = find_taken("\n".join(re.findall(r"(?m)^\s*ghost (use .*);$", source)))
     for of, name, sign in WORD.findall(text):
         word = name or f"◌{sign}◌"
         places = [(".".join(takes[of]), word)] if of in takes else []
@@ -56,7 +56,7 @@ class Citing:
         public, private = [], defaultdict(list)
         for path in sources():
             source = read(f"{TOP}/{path}")
-            outside, inside = [cited(definitions, source, half) for half in halves(source)]
+            outside, inside = [find_cited(definitions, source, half) for half in halves(source)]
             public += outside
             private[path.split("/")[1]] += inside
         inside = {id(it) for found in private.values() for it in definitions.reach(found)}

@@ -34,7 +34,7 @@ def lines_fault(output):
     return ""
 
 
-def interpreted(bundle, seconds):
+def interpret(bundle, seconds):
     """What the plain interpreter makes of a bundle as dreplay-data, but for the line of a syntax
     fault, or nothing where it takes longer by the processor."""
     signal.signal(signal.SIGPROF, give_up)

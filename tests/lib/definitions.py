@@ -70,7 +70,7 @@ def split(path):
         if found and line.strip() and line not in ("mutual", "abbrev mutual"):
             found[-1].lines.append(line)
         comment = ""
-    return found, taken(text)
+    return found, find_taken(text)
 
 
 def outside_modules(text):
@@ -103,7 +103,7 @@ def name_of(line, mutual):
     return re.match(r"(?:(?:record|data) )?([^\s:({]+)", head)[1]
 
 
-def taken(text):
+def find_taken(text):
     """The names that a file takes, each with the module and the name that it has there."""
     found = {}
     for use in USE.findall(text):

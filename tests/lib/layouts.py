@@ -6,7 +6,7 @@ import tempfile
 from lib import harness, toolchain
 
 
-def checked():
+def check():
     """Gives each crate's name, and what `rt fmt --check` says of it, which is nothing where it is
     laid out."""
     rtlib = toolchain.load().rtlib

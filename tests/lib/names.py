@@ -146,7 +146,7 @@ def example_calls(text):
             yield line, owner, call[4], len(given) if shown else None
 
 
-def declared():
+def find_declared():
     """The names that sources and definitions declare, and those of their files and crates."""
     found = set()
     for path in sources() + definitions():
@@ -188,14 +188,14 @@ def words_of_d():
     return {word for code in examples for word in re.findall(r"\w+", code)}
 
 
-def known():
+def find_known():
     """The names that pages may use: of the tree, of what it is built on, of its tests, and of D."""
     crates = set(re.findall(r"\w+", read(f"{TOP}/crates.txt")))
     tests = names_of_cases() | names_in_python()
-    return declared() | crates | tests | words_of_d() | OTHER_NAMES
+    return find_declared() | crates | tests | words_of_d() | OTHER_NAMES
 
 
-def squeezed(text):
+def squeeze(text):
     """A text without what its layout and its comments add to it."""
     text = re.sub(r"(?m)^\s*(?://|--).*$", "", text)
     return re.sub(r"\s+", "", text).replace(",)", ")").replace("{}", "")
@@ -203,14 +203,14 @@ def squeezed(text):
 
 def all_code():
     """The sources and the definitions, squeezed into one text."""
-    return "\n".join(squeezed(read(f"{TOP}/{path}")) for path in sources() + definitions())
+    return "\n".join(squeeze(read(f"{TOP}/{path}")) for path in sources() + definitions())
 
 
-def misquoted(block, code):
+def find_misquoted(block, code):
     """The first line of a block that quotes a source or a definition otherwise than it is there."""
     first = block.strip().split("\n")[0]
     is_quote = re.match(r"pub fn |requires |ensures |Is\w+ .*=$", first)
-    return first if is_quote and squeezed(block) not in code else ""
+    return first if is_quote and squeeze(block) not in code else ""
 
 
 def is_misplaced(path):

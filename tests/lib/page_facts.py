@@ -44,7 +44,7 @@ def section(path, heading):
     return text.partition("\n## ")[0]
 
 
-def found():
+def find_wrong():
     for look in (functions, figures, crates, libraries, grammar, times, shares):
         yield from look()
 

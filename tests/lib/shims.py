@@ -11,7 +11,7 @@ MOST = 1_000_000
 
 
 @contextlib.contextmanager
-def built(source):
+def build(source):
     """Builds tests/shims/SOURCE with gcc in a temporary folder, for as long as it is used."""
     with tempfile.TemporaryDirectory(prefix="dreplay-") as room:
         shim = f"{room}/shim.so"

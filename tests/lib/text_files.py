@@ -41,7 +41,7 @@ def wrong_in(path, text):
     return "" if text.endswith("\n") else "its last line doesn't end"
 
 
-def checked():
+def check():
     """Gives each text's path, and what is wrong with it."""
     for path in paths():
         with open(f"{harness.TOP}/{path}", encoding="utf-8", newline="") as file:

@@ -11,13 +11,13 @@ MOST_PARTS = 8
 MOST_JOINED = 255
 
 
-def signed(word):
+def to_signed(word):
     return word - WORDS if word >= WORDS // 2 else word
 
 
 def quotient(a, b):
     """The quotient of two signed integers, cut toward zero."""
-    a, b = signed(a), signed(b)
+    a, b = to_signed(a), to_signed(b)
     return abs(a) // abs(b) * (1 if (a < 0) == (b < 0) else -1)
 
 
@@ -27,12 +27,12 @@ OPERATORS = {
     "and": lambda a, b: a & b,
     "sll": lambda a, b: a << b % 64,
     "srl": lambda a, b: a >> b % 64,
-    "sra": lambda a, b: signed(a) >> b % 64,
+    "sra": lambda a, b: to_signed(a) >> b % 64,
     "sub": lambda a, b: a - b,
     "add": lambda a, b: a + b,
     "mul": lambda a, b: a * b,
     "sdiv": quotient,
-    "srem": lambda a, b: signed(a) - signed(b) * quotient(a, b),
+    "srem": lambda a, b: to_signed(a) - to_signed(b) * quotient(a, b),
     "udiv": lambda a, b: a // b,
     "urem": lambda a, b: a % b,
 }
@@ -188,7 +188,7 @@ class Run:
             self.store(it)
         elif it.name in ("pushtr", "pushtv"):
             part = self.registers[it.a]
-            self.parts += (signed(part) if it.name == "pushtv" else part,)
+            self.parts += (to_signed(part) if it.name == "pushtv" else part,)
         elif it.name == "flushts":
             self.parts = ()
         elif it.name in ("cmp", "tst", "scmp"):
@@ -237,7 +237,7 @@ class Run:
         a, b = self.registers[it.a], 0 if it.name == "tst" else self.registers[it.b]
         as_unsigned = sign(a, b)
         self.compared = (
-            as_unsigned if it.name == "scmp" else sign(signed(a), signed(b)),
+            as_unsigned if it.name == "scmp" else sign(to_signed(a), to_signed(b)),
             as_unsigned,
         )
 

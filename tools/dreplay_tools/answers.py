@@ -9,7 +9,7 @@ import operator
 import re
 from dataclasses import dataclass, field
 
-from .ends import Failure, shortened
+from .ends import Failure, shorten
 from .held import Average, Powers, Steps, figure, rank, rows_of
 from .script import FUNCTIONS, Aggregation
 
@@ -113,14 +113,14 @@ class Answer:
     firings: int = 0
 
 
-def encoded(text):
+def encode(text):
     """A text's bytes."""
     return text.encode("utf-8", "surrogateescape")
 
 
 def by_bytes(key):
     """A key in the order of dreplay: numbers as numbers, texts byte by byte."""
-    return [encoded(part) if isinstance(part, str) else part for part in key]
+    return [encode(part) if isinstance(part, str) else part for part in key]
 
 
 # -- lines
@@ -136,7 +136,7 @@ def whole(digits):
 DECODER = json.JSONDecoder(parse_int=whole)
 
 
-def parsed(line):
+def parse(line):
     """The object that a line is."""
     try:
         shown = line.decode("utf-8").strip(" \t\n\r")
@@ -155,14 +155,14 @@ def is_whole(number, ends):
 def text(value):
     """A text of a line, in which bytes that aren't UTF-8 are surrogates."""
     if isinstance(value, str):
-        return value if value.isascii() else recoded(value.encode("utf-8", "surrogatepass"))
+        return value if value.isascii() else recode(value.encode("utf-8", "surrogatepass"))
     digits = value.get("hex") if isinstance(value, dict) else None
     if not isinstance(digits, str) or not HEX.fullmatch(digits):
         raise Wrong("it has a text that is neither a string nor bytes in hexadecimal digits")
-    return recoded(bytes.fromhex(digits))
+    return recode(bytes.fromhex(digits))
 
 
-def recoded(data):
+def recode(data):
     return data.decode("utf-8", "surrogateescape")
 
 
@@ -270,14 +270,14 @@ class Reader:
     def parsed(self, line):
         """The object that a line is. Of an entry that begins as the last one, the rest is read."""
         if self.head is not None and line.startswith(self.head):
-            return self.members | parsed(b'{"key":' + line[len(self.head) :])
+            return self.members | parse(b'{"key":' + line[len(self.head) :])
         if head := HEAD.match(line):
-            self.head, self.members = head[0], parsed(head[1] + b"}")
-        return parsed(line)
+            self.head, self.members = head[0], parse(head[1] + b"}")
+        return parse(line)
 
     def begin(self, line):
         try:
-            found = parsed(line)
+            found = parse(line)
         except Wrong:
             found = {}
         if found.get("format") != FORMAT:
@@ -289,7 +289,7 @@ class Reader:
     def text(self, found):
         if not is_whole(found.get("firing"), FIRINGS):
             raise Wrong("it has no number of a firing")
-        self.texts.append(encoded(text(found.get("text"))))
+        self.texts.append(encode(text(found.get("text"))))
 
     def entry(self, found):
         key, function, value = key_of(found.get("key")), found.get("function"), found.get("value")
@@ -351,7 +351,7 @@ def read(lines, name, script=None):
         try:
             answer = reader.line(line)
         except Wrong as why:
-            raise Failure(shortened(f"{name}: line {number}: {why}", 900), OTHER_ANSWER)
+            raise Failure(shorten(f"{name}: line {number}: {why}", 900), OTHER_ANSWER)
         if answer is not None:
             yield answer
     if number == 0:

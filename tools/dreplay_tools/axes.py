@@ -4,11 +4,11 @@ out, so that a pause shows; where there are too many, neighbours are joined in e
 import re
 from dataclasses import dataclass
 
-from .held import wrapped
+from .held import wrap
 from .labels import name
 
 QUOTIENT = re.compile(r"/ *\d+ *\)?$")
-JOINED = {"count": sum, "sum": lambda values: wrapped(sum(values)), "min": min, "max": max}
+JOINED = {"count": sum, "sum": lambda values: wrap(sum(values)), "min": min, "max": max}
 GAP = "…"
 
 
@@ -43,7 +43,7 @@ def scale(keys, most):
     first, last = min(keys), max(keys)
     step = step_of(first, last, most)
     base = first // step
-    labels = [labelled(place * step, step) for place in range(base, last // step + 1)]
+    labels = [add_labels(place * step, step) for place in range(base, last // step + 1)]
     return Axis(labels, {key: key // step - base for key in keys}, 0)
 
 
@@ -57,11 +57,11 @@ def step_of(first, last, most):
         size *= 10
 
 
-def labelled(first, step):
+def add_labels(first, step):
     return name(first) if step == 1 else f"{name(first)} .. {name(first + step - 1)}"
 
 
-def kept(keys, weight, most):
+def keep(keys, weight, most):
     """At most `most` keys in their order: those that weigh most."""
     keys = list(keys)
     if len(keys) <= most:
@@ -72,9 +72,9 @@ def kept(keys, weight, most):
     return [key for place, key in enumerate(keys) if place in heaviest]
 
 
-def named(keys, weight, most):
+def axis_of_names(keys, weight, most):
     """The axis of names: those that weigh most, in their order."""
-    shown = kept(keys, weight, most)
+    shown = keep(keys, weight, most)
     labels = ["  ".join(map(name, key)) if isinstance(key, tuple) else name(key) for key in shown]
     places = {key: place for place, key in enumerate(shown)}
     return Axis(labels, places, len(keys) - len(shown))

@@ -8,7 +8,7 @@ from decimal import Decimal, InvalidOperation
 
 from .ends import Failure
 from .fields import BadEvent
-from .trace import ARGS, MOST_NUMBER, MOST_TIME, signed
+from .trace import ARGS, MOST_NUMBER, MOST_TIME, to_signed
 from .tracepoints import Event, Probe
 
 NOTHING_CONVERTED = 3
@@ -196,7 +196,7 @@ def arguments(args):
     for name, value in args.items():
         found = ARGUMENT.fullmatch(name)
         value = int(value) if isinstance(value, bool) else value
-        number = signed(value) if type(value) is int else None
+        number = to_signed(value) if type(value) is int else None
         if found:
             placed[int(found[1])] = number
         elif type(value) is int:

@@ -8,18 +8,18 @@ import subprocess
 import tempfile
 
 from . import answers, jobs
-from .ends import Failure, shortened
-from .labels import aligned
+from .ends import Failure, shorten
+from .labels import align
 from .script import Script
-from .tokens import decoded
+from .tokens import decode
 
 REACHED, TRUE = "dreplay_reached_", "dreplay_true_"
 MOST_SHOWN = 60  # letters of a clause's descriptions
 
 
-def counted(data):
+def add_counts(data):
     """The script with its counts, and its clauses."""
-    script = Script(decoded(data))
+    script = Script(decode(data))
     opens = [token.start for token in script.tokens if token.text == "{"]
     pieces, done = [], 0
     for place, clause in enumerate(script.clauses):
@@ -40,7 +40,7 @@ def lines(data, trace, program):
     """A table: each clause with its line, how many firings reached it, and of how many its
     predicate was true.
     """
-    text, clauses = counted(data)
+    text, clauses = add_counts(data)
     counts = counts_of(text, trace, program)
     columns = [["line"], ["firings"], ["true"], ["clause"]]
     for place, clause in enumerate(clauses):
@@ -53,7 +53,7 @@ def lines(data, trace, program):
         ]
         for column, cell in zip(columns, row):
             column.append(cell)
-    shown = [aligned(column, place < 3) for place, column in enumerate(columns)]
+    shown = [align(column, place < 3) for place, column in enumerate(columns)]
     return ["  ".join(row).rstrip() for row in zip(*shown)]
 
 
@@ -70,7 +70,7 @@ def counts_of(text, trace, program):
     if line:
         is_of_trace = line.startswith(jobs.REFUSED)
         why = "" if is_of_trace else "with its counts the script is refused: "
-        raise Failure(shortened(why + line), ran.returncode)
+        raise Failure(shorten(why + line), ran.returncode)
     out.seek(0)
     found = next(answers.read(out, "the counts"), None)
     tables = found.tables.values() if found else []

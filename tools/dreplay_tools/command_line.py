@@ -3,7 +3,7 @@ import argparse
 import re
 import sys
 
-from .ends import FAILED, shortened
+from .ends import FAILED, shorten
 from .version import VERSION
 
 MOST_SAID = 300
@@ -46,7 +46,7 @@ class CommandLine(argparse.ArgumentParser):
     def error(self, message):
         # Releases of Python differ in whether they quote the choices of an option.
         plain = re.sub(r"\(choose from .*\)", lambda found: found[0].replace("'", ""), message)
-        said = shortened(plain, MOST_SAID)
+        said = shorten(plain, MOST_SAID)
         self.exit(FAILED, f"{self.prog}: {said} ({self.prog} --help)\n")
 
 
@@ -58,7 +58,5 @@ def after_title(doc):
 def number(shown):
     """A number from 1 to 999999999."""
     if not shown.isascii() or not shown.isdigit() or not 0 < len(shown.lstrip("0")) < 10:
-        raise argparse.ArgumentTypeError(
-            f"{shortened(shown, 20)!r} is no number from 1 to 999999999"
-        )
+        raise argparse.ArgumentTypeError(f"{shorten(shown, 20)!r} is no number from 1 to 999999999")
     return int(shown)

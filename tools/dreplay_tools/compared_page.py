@@ -4,7 +4,7 @@ the same buckets.
 from html import escape
 
 from .comparison import count_of, table
-from .labels import SHARE, interval, name, numbered, printable
+from .labels import SHARE, interval, name, printable, show_number
 from .pictures import MOST_CHARTS, and_more
 from .webpage import MOST_ROWS, Bars, cell, count_of as counted
 
@@ -84,7 +84,7 @@ def card(change, args):
     bars = Bars([share for pair in shares for share in pair])
     for row, pair, share in zip(rows, counts, shares):
         unit = SHARE if args.value_unit == SHARE else None
-        shown = " → ".join(numbered(count, unit, total) for count, total in zip(pair, totals))
+        shown = " → ".join(show_number(count, unit, total) for count, total in zip(pair, totals))
         yield (
             f'<tr><th scope="row">{escape(interval(row, args.unit))}</th><td class="bars pair">'
             f'{two(bars, *share)}</td><td class="number">{shown}</td></tr>'

@@ -5,7 +5,7 @@ from . import percentiles
 from .answers import OTHER_ANSWER, SHARED, by_bytes
 from .ends import Failure
 from .held import figure, rank, rows_of
-from .labels import SHARE, interval, numbered
+from .labels import SHARE, interval, show_number
 from .script import Aggregation
 
 FORMS = ["table", "csv", "json", "markdown", "html"]
@@ -58,7 +58,7 @@ class Compared:
         return change.after / change.before
 
 
-def compared(before, after):
+def compare(before, after):
     """The aggregation of two tables, one of which may be none."""
     if before and after and before.kind != after.kind:
         why = f"{after.title} isn't that of the answer before, so of another script"
@@ -70,7 +70,7 @@ def compared(before, after):
     entries.sort(key=lambda entry: change_of(*entry[1:], table.buckets), reverse=True)
     return Compared(
         table.aggregation,
-        [changed(entry, table.buckets) for entry in entries],
+        [compare_values(entry, table.buckets) for entry in entries],
         tuple(sum(of.values()) if table.aggregation.function in SHARED else 0 for of in held),
     )
 
@@ -81,7 +81,7 @@ def change_of(before, after, buckets):
     return abs(ranks[1] - ranks[0])
 
 
-def changed(entry, buckets):
+def compare_values(entry, buckets):
     key, before, after = entry
     if buckets is None:
         figures = [None if held is None else figure(held, None) for held in (before, after)]
@@ -129,7 +129,7 @@ def cells(shown, change, args):
     numbers = change.before, change.after, shown.difference(change)
     shown_as = ["" if number is None else number for number in numbers]
     if unit is not None:
-        shown_as = ["" if it == "" else numbered(it, unit) for it in shown_as]
+        shown_as = ["" if it == "" else show_number(it, unit) for it in shown_as]
     return [*shown_as, ratio(shown, change, args)]
 
 

@@ -50,7 +50,7 @@ class Comparison:
         return ends[0] if ends[0] == ends[1] else None
 
 
-def parsed(shown):
+def parse(shown):
     """The comparisons of a condition: one of the lists has to be true, all of it."""
     return [[comparison(text) for text in part.split("&&")] for part in shown.split("||")]
 

@@ -4,7 +4,7 @@ import os
 
 from . import strace
 from .ahead import RUN, Ahead, count_of, is_run
-from .ends import Failure, shortened
+from .ends import Failure, shorten
 from .frequent_lines import SPECIAL, Arguments, Reader
 from .paths import path_of
 from .patterns import Names
@@ -58,12 +58,12 @@ class Losses:
         if self.first_symbol[0] is None or line < self.first_symbol[0]:
             args = strace.split(shown)[0]
             first = next((arg for arg in args if strace.argument(arg) == SYMBOL), "")
-            self.first_symbol = line, shortened(first, 40)
+            self.first_symbol = line, shorten(first, 40)
 
     def error(self, line, name):
         self.unnamed_errors += 1
         if self.unnamed_errors == 1:
-            self.first_error = f"line {line}: {shortened(name, 40)}"
+            self.first_error = f"line {line}: {shorten(name, 40)}"
 
     def birth(self, line):
         self.unknown_births += 1

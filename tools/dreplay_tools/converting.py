@@ -8,7 +8,7 @@ import tempfile
 import time
 
 from . import cache
-from .ends import Failure, reason, shortened
+from .ends import Failure, reason, shorten
 from .programs import program
 from .recordings import Recording
 
@@ -33,7 +33,7 @@ class Traces:
             self.has_skipped |= status == SKIPPED
             return trace
         if self.options:
-            raise Failure(f"{shortened(path)}: it is a trace, so no converter takes options for it")
+            raise Failure(f"{shorten(path)}: it is a trace, so no converter takes options for it")
         if recording.is_at_its_path():
             return path
         with tempfile.NamedTemporaryFile(dir=self.folder, suffix=".csv", delete=False) as copy:
@@ -68,7 +68,7 @@ class Traces:
             if status not in (0, SKIPPED):
                 for line in said:
                     print(line, file=sys.stderr)
-                raise Failure(f"{shortened(recording.name)}: {words[0]} made no trace", status)
+                raise Failure(f"{shorten(recording.name)}: {words[0]} made no trace", status)
             place.keep(part, said, status)
         return said, status, place.trace
 

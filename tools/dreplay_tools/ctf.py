@@ -5,11 +5,11 @@ import shutil
 import subprocess
 import tempfile
 
-from .ends import Failure, shortened
+from .ends import Failure, shorten
 from .fields import BadEvent
 from .ftrace import group_of
 from .perf import probe_of_fields
-from .trace import signed
+from .trace import to_signed
 from .tracepoints import Event
 
 NOTHING_CONVERTED = 3
@@ -51,8 +51,8 @@ class Lines:
             self.comms[fields.get("tid")] = self.comms.get(fields.get("ptid"))
         if found[6].startswith("perf_"):
             return []  # what perf says of the recording itself
-        thread, process, name = (taken(fields, names) for names in (THREAD, PROCESS, NAME))
-        cpu = taken(fields, ("cpu_id",))
+        thread, process, name = (take_first(fields, names) for names in (THREAD, PROCESS, NAME))
+        cpu = take_first(fields, ("cpu_id",))
         if type(thread) is not int:
             raise BadEvent(NO_THREAD)
         name = name or self.comms.get(thread) or "unknown"
@@ -79,7 +79,7 @@ def nanoseconds(found):
     return whole * 10**9 + int(fraction)
 
 
-def taken(fields, names):
+def take_first(fields, names):
     """The first field of some names, which is then none of the event's own."""
     return next((fields.pop(name) for name in names if name in fields), None)
 
@@ -113,10 +113,10 @@ def number(shown):
     """A number of 64 bits with its sign; none for all else."""
     if not NUMBER.fullmatch(shown):
         return None
-    return signed(int(shown, 16 if "x" in shown else 10))
+    return to_signed(int(shown, 16 if "x" in shown else 10))
 
 
-def printed(folder):
+def run_babeltrace(folder):
     """What babeltrace2 prints of a folder, as a file, and how many events it says were lost, for
     each gap; none where it doesn't know.
     """
@@ -133,7 +133,7 @@ def printed(folder):
     if status:
         last = next((line for line in reversed(why) if line.strip()), "no reason")
         raise Failure(
-            f"nothing was converted: babeltrace2 can't read it: {shortened(last, 300)}",
+            f"nothing was converted: babeltrace2 can't read it: {shorten(last, 300)}",
             NOTHING_CONVERTED,
         )
     out.seek(0)

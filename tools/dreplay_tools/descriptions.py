@@ -25,7 +25,7 @@ MOST_LETTERS = 100  # of a description that is translated
 OF_A_PROCESS = re.compile(r"pid(?:\d+|\$\w+)((?::[^:]*){3})")
 
 
-def translated(text):
+def translate(text):
     """The description that a trace has for one of another tool; none where that isn't known."""
     if len(text) > MOST_LETTERS:
         return None
@@ -54,5 +54,5 @@ def of_tracepoint(group, event):
 
 def advice(text):
     """What to write for a description of another tool; none where it is none."""
-    found = translated(text)
+    found = translate(text)
     return f"`{text}` is written `{found}`" if found else None

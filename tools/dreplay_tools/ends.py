@@ -28,7 +28,7 @@ class Failure(Exception):
 def reason(error):
     """An error of the system in words, with the file that it is about."""
     words = error.strerror or str(error) or type(error).__name__
-    return f"{shortened(str(error.filename), MOST_OF_A_NAME)}: {words}" if error.filename else words
+    return f"{shorten(str(error.filename), MOST_OF_A_NAME)}: {words}" if error.filename else words
 
 
 def standard_input():
@@ -45,12 +45,12 @@ def standard_input():
     return sys.stdin.buffer
 
 
-def escaped(letter):
+def escape(letter):
     """A letter that no terminal takes for a command."""
     return letter if letter.isprintable() else letter.encode("unicode_escape").decode()
 
 
-def shortened(text, most=60, shown=escaped):
+def shorten(text, most=60, shown=escape):
     """A text fit for a message: what is shown of it has `most` bytes at most, and no control
     characters.
     """
@@ -73,7 +73,7 @@ class Tool:
         """Writes a line to standard error. Where that is closed, nobody wants to read it."""
         try:
             self.erase_progress()
-            print(shortened(f"{self.name}: {what}", MOST_SAID), file=sys.stderr, flush=True)
+            print(shorten(f"{self.name}: {what}", MOST_SAID), file=sys.stderr, flush=True)
         except (OSError, ValueError, AttributeError):
             pass
 
@@ -116,7 +116,7 @@ class Tool:
             signal.signal(signal.SIGINT, signal.default_int_handler)
             for number in (signal.SIGTERM, signal.SIGHUP):
                 if signal.getsignal(number) == signal.SIG_DFL:  # nohup has one ignored
-                    signal.signal(number, signalled)
+                    signal.signal(number, end_by_signal)
             if sys.stdout is None:
                 raise Failure("standard output is closed")
             sys.stdout.reconfigure(encoding="utf-8", errors="surrogateescape")
@@ -124,7 +124,7 @@ class Tool:
             sys.stdout.flush()
             return status
         except SystemExit as end:  # argparse has said why
-            return flushed(end.code)
+            return flush(end.code)
         except KeyboardInterrupt:
             self.say("interrupted")
             return INTERRUPTED
@@ -145,11 +145,11 @@ class Tool:
             return FAILED
 
 
-def signalled(number, _):
+def end_by_signal(number, _):
     raise Signalled(number)
 
 
-def flushed(status):
+def flush(status):
     """The status of an end by argparse, whose help may not have gone out."""
     try:
         sys.stdout.flush()

@@ -3,7 +3,7 @@ import dataclasses
 import io
 import os
 
-from .ends import shortened
+from .ends import shorten
 from .fields import BadEvent
 from .trace import ARGS, MOST_NUMBER, MOST_TIME, Rows, field, text
 from .tracepoints import Lost, switches
@@ -15,7 +15,7 @@ NOTHING_CONVERTED, SOME_SKIPPED = 3, 1
 MOST_LEFT_TWICE = 0.02  # of all the times that threads leave their processor
 
 
-def counted(count, one, several):
+def count_of(count, one, several):
     return f"{count:,} {one if count == 1 else several}"
 
 
@@ -33,7 +33,7 @@ class Losses:
         return bool(self.count or self.gaps)
 
     def warning(self):
-        how_many = counted(self.count, "event was", "events were") if self.count else "events were"
+        how_many = count_of(self.count, "event was", "events were") if self.count else "events were"
         unknown = ", and more of which it isn't known how many" if self.count and self.gaps else ""
         return (
             f"{how_many} lost while it was recorded{unknown}: counts are too small, and latencies "
@@ -126,7 +126,7 @@ class Events:
         args = ["" if value is None else str(value) for value in probe.args[:ARGS]]
         args += [""] * (ARGS - len(args))
         self.rows.add(
-            f",{event.cpu},{event.thread},{process},{named(event.name)},{time},"
+            f",{event.cpu},{event.thread},{process},{name_of(event.name)},{time},"
             f"{','.join(map(cell, (probe.provider, probe.module, probe.function, probe.name)))},"
             f"{','.join(args)}"
         )
@@ -184,13 +184,13 @@ class Events:
                 "(perf record -a); some kernels leave out switches away from an idle processor"
             )
         if self.strangers:
-            rows = counted(self.strangers, "row has", "rows have")
+            rows = count_of(self.strangers, "row has", "rows have")
             yield f"{rows} no process in the recording, so the thread counts as one"
         if self.lacking:
-            events = counted(self.lacking, "event lacks", "events lack")
+            events = count_of(self.lacking, "event lacks", "events lack")
             function, why = next(iter(self.lacks.items()))
             others = f" and {len(self.lacks) - 1} more kinds" if len(self.lacks) > 1 else ""
-            yield f"{events} arguments, which reads as 0: {shortened(function)} ({why}){others}"
+            yield f"{events} arguments, which reads as 0: {shorten(function)} ({why}){others}"
         yield from self.output.warnings()
 
 
@@ -203,7 +203,7 @@ def idle(event):
     )
 
 
-def named(name):
+def name_of(name):
     """The name of a thread as a field; the tracer writes <...> for one that it has forgotten."""
     return "unknown" if name == "<...>" else cell(name)
 

@@ -8,7 +8,7 @@ from dataclasses import dataclass
 
 from . import ends, guesses, labels, places, probes, refusals
 from .script import Script
-from .tokens import MOST_BYTES, decoded, tokens
+from .tokens import MOST_BYTES, decode, tokens
 from .trace import COLUMNS
 
 NEIGHBOURS = 2  # lines shown before and after the one that is refused
@@ -25,13 +25,13 @@ class Inputs:
     missing: str = None  # the script's file, where it doesn't exist
 
 
-def escaped(letter):
+def escape(letter):
     return letter if letter == "\t" else labels.printable(letter)
 
 
-def shortened(text):
+def shorten(text):
     """A line or field fit for a terminal: its start, without control bytes."""
-    return ends.shortened(text, MOST_SHOWN, escaped)
+    return ends.shorten(text, MOST_SHOWN, escape)
 
 
 def lines(line, refusal, place, given):
@@ -73,7 +73,7 @@ def place_in_script(refusal, place, data):
         for line in with_mark(script_lines, at, number, token)
     ]
     where = (
-        [f"Where: line {token.line}, column {token.column}: {shortened(token.text)}"]
+        [f"Where: line {token.line}, column {token.column}: {shorten(token.text)}"]
         if token
         else []
     )
@@ -84,7 +84,7 @@ def refused_token(refusal, place, data):
     """The refused token, whose place among all it notes; none where that can't be told."""
     if len(data) > MOST_BYTES or guesses.of_encoding(data):
         return None
-    all_tokens = tokens(decoded(data))
+    all_tokens = tokens(decode(data))
     at = places.refused_token(refusal, place["line"], all_tokens)
     if at is None:
         return None
@@ -104,13 +104,13 @@ def near(script_lines, number):
 def with_mark(script_lines, at, number, token):
     """A line of a script, and below it a mark at the refused token."""
     text = script_lines[at - 1]
-    yield f"{'>' if at == number else ' '} {at:4} | {shortened(text)}"
+    yield f"{'>' if at == number else ' '} {at:4} | {shorten(text)}"
     if not token or at != token.line:
         return
-    before = "".join(map(escaped, text[: token.column - 1]))
+    before = "".join(map(escape, text[: token.column - 1]))
     if len(before.encode("utf-8")) < MOST_SHOWN:
         blank = "".join(c if c == "\t" else " " * labels.width(c) for c in before)
-        word = shortened(token.text.split("\n")[0])
+        word = shorten(token.text.split("\n")[0])
         yield f"       | {blank}{'^' * max(1, labels.width(word))}"
 
 
@@ -143,7 +143,7 @@ def place_in_trace(refusal, place, trace):
 
 def row_and_line(row, found):
     line, fields = found
-    return f"row {row}, line {line} | {shortened(','.join(fields))}"
+    return f"row {row}, line {line} | {shorten(','.join(fields))}"
 
 
 def guess_of_row(refusal, place, fields, before, is_last, shown):
@@ -157,7 +157,7 @@ def guess_of_row(refusal, place, fields, before, is_last, shown):
     if not 1 <= column <= min(len(COLUMNS), len(fields)):
         return []
     name, value = COLUMNS[column - 1], fields[column - 1]
-    shown.append(f"  Column {column} is {name}: '{shortened(value)}'")
+    shown.append(f"  Column {column} is {name}: '{shorten(value)}'")
     if refusal.name == "Number" and name not in guesses.RANGES:
         return ["this is another trace: that column is of texts"]
     if refusal.name == "Number":
@@ -183,14 +183,14 @@ def order_guess(before, after):
 # -- an answer
 
 
-def unmatched(given):
+def find_unmatched(given):
     """For each description of the script that matches no row a line."""
     if len(given.script) > MOST_BYTES:
         return []
     try:
         return list(
             probes.Looked(
-                Script(decoded(given.script)), probes.probes_of(io.BytesIO(given.trace))
+                Script(decode(given.script)), probes.probes_of(io.BytesIO(given.trace))
             ).lines()
         )
     except csv.Error:

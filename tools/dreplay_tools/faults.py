@@ -3,7 +3,7 @@ import re
 
 from .guesses import records
 from .script import Script
-from .tokens import MOST_BYTES, decoded
+from .tokens import MOST_BYTES, decode
 
 FAULT = re.compile(rb"error: firing (\d{1,20}) clause (\d{1,20}): divide-by-zero\r?\n?")
 CAUSE = (
@@ -38,7 +38,7 @@ class Faults:
 def places(firing, clause, given):
     """Where a fault arose: the clause's line, and the row of the firing."""
     if given.script is not None and len(given.script) <= MOST_BYTES:
-        clauses = Script(decoded(given.script)).clauses
+        clauses = Script(decode(given.script)).clauses
         if 1 <= clause <= len(clauses) and clauses[clause - 1].descriptions:
             yield f"line {clauses[clause - 1].descriptions[0].line} of the script"
     if given.trace is not None:
@@ -48,7 +48,7 @@ def places(firing, clause, given):
                 return
 
 
-def explained(line, given):
+def explain(line, given):
     """The lines that explain a line which tells a fault; none for another line."""
     found = FAULT.fullmatch(line.encode("utf-8", "replace"))
     if not found:

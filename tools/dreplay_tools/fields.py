@@ -3,7 +3,7 @@ number of times.
 """
 import re
 
-from .trace import signed
+from .trace import to_signed
 
 DIGITS = 20  # of a number of 64 bits
 NUMBER = re.compile(r"-?\d{1,20}|-?0x[0-9a-f]{1,16}", re.ASCII)
@@ -25,16 +25,16 @@ def integer(shown):
     """An integer in decimal or hexadecimal, as a signed one of 64 bits; none for all else."""
     if not NUMBER.fullmatch(shown):
         return None
-    return signed(int(shown, 16 if "x" in shown else 10))
+    return to_signed(int(shown, 16 if "x" in shown else 10))
 
 
 def hexadecimal(shown):
     """An integer in hexadecimal; older kernels write no 0x."""
     found = HEXADECIMAL.fullmatch(shown)
-    return signed(int(found[1], 16)) if found else None
+    return to_signed(int(found[1], 16)) if found else None
 
 
-def assigned(shown):
+def read_assigned(shown):
     """The fields of 'NAME=VALUE NAME=VALUE', in their order, with the values as texts."""
     found = list(ASSIGNED.finditer(shown))
     names = [name[1] for name in found]
@@ -56,7 +56,7 @@ def value_of(shown):
     return shown
 
 
-def named(shown):
+def read_named(shown):
     """The values of 'NAME: VALUE, NAME: VALUE', which are hexadecimal. A text after a value is left
     out.
     """

@@ -41,7 +41,7 @@ def time_of(found, before):
     return time, int(fraction.ljust(9, b"0"))
 
 
-def merged(folder):
+def merge(folder):
     """The recording that a folder of FILE.THREAD holds, its lines by time."""
     found = [(FILE.fullmatch(name), name) for name in sorted(os.listdir(folder))]
     files = [(int(match[1]), os.path.join(folder, name)) for match, name in found if match]

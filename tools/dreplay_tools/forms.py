@@ -10,7 +10,7 @@ from . import comparison, percentiles
 from .answers import SHARED
 from .comparison import Compared
 from .ends import Failure
-from .labels import SHARE, aligned, interval, numbered, printable
+from .labels import SHARE, align, interval, printable, show_number
 
 FORMULA = (*"=+-@", *"＝＋－＠", "\t", "\r")  # after blanks, too
 MARKUP = re.compile(r"([\\`*_\[\]<|&~])")
@@ -38,7 +38,7 @@ def table(shown, args):
     if not shown.aggregation.is_histogram:
         total = total_of(shown) if value_unit == SHARE else 0
         rows = [
-            [*keys, value if value_unit is None else numbered(value, value_unit, total)]
+            [*keys, value if value_unit is None else show_number(value, value_unit, total)]
             for keys, value in shown.entries
         ]
         return [*names, shown.aggregation.value_name], rows
@@ -47,7 +47,7 @@ def table(shown, args):
         total = sum(row.count for row in buckets)
         for row in buckets:
             ends = [row.low, row.high] if unit is None else [interval(row, unit)]
-            count = numbered(row.count, SHARE, total) if value_unit == SHARE else row.count
+            count = show_number(row.count, SHARE, total) if value_unit == SHARE else row.count
             rows.append([*keys, *("" if end is None else end for end in ends), count])
     return [*names, *(["from", "below"] if unit is None else ["value"]), "count"], rows
 
@@ -65,7 +65,7 @@ def as_table(shown, args):
         others = {cell for cell in column if type(cell) is not int}
         is_right = not texts[place] and others <= {""}
         is_right |= place == last or (place >= keys and isinstance(shown, Compared))
-        columns.append(aligned([printable(name), *cells], is_right))
+        columns.append(align([printable(name), *cells], is_right))
     lines = [("  " + "  ".join(row)).rstrip() for row in zip(*columns)]
     return [printable(shown.title), *lines]
 
@@ -74,19 +74,19 @@ def as_markdown(shown, args):
     names, rows = table(shown, args)
     ends = ["---"] * (len(names) - 1) + ["---:"]
     lines = [
-        f"**{marked(shown.title)}**",
+        f"**{escape_markdown(shown.title)}**",
         "",
-        in_bars(map(marked, names)),
+        in_bars(map(escape_markdown, names)),
         "|" + "|".join(ends) + "|",
     ]
     columns = (
-        [str(cell) if type(cell) is int else marked(cell) for cell in column]
+        [str(cell) if type(cell) is int else escape_markdown(cell) for cell in column]
         for column in zip(*rows)
     )
     return [*lines, *map(in_bars, zip(*columns))]
 
 
-def marked(text):
+def escape_markdown(text):
     """A text in which Markdown sees no markup."""
     return MARKUP.sub(r"\\\1", printable(text))
 

@@ -79,14 +79,14 @@ def report(conversion, output, tool):
 
 def of_folder(path):
     """The recording that the files of a folder make."""
-    from .folders import merged  # which is seldom needed
+    from .folders import merge  # which is seldom needed
 
-    return merged(path)
+    return merge(path)
 
 
 def convert(path, options, tool):
     """Converts the recording PATH, and returns the exit status."""
-    recording = of_folder(path) if os.path.isdir(path) else inputs.opened(path)
+    recording = of_folder(path) if os.path.isdir(path) else inputs.open_input(path)
     refuse_strangers(recording, "strace")
     shape, output = shape_of(recording), Output(options.out, options.split)
     try:

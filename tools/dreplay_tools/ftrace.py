@@ -5,10 +5,10 @@ import shutil
 import subprocess
 import tempfile
 
-from .ends import Failure, shortened
+from .ends import Failure, shorten
 from .fields import BadEvent
-from .tracepoints import Event, Lost, Probe, probe_of, returned
-from .trace import signed
+from .tracepoints import Event, Lost, Probe, give_back, probe_of
+from .trace import to_signed
 
 NOTHING_CONVERTED = 3
 TRACE_DAT = b"\x17\x08\x44tracing", b"tracing"
@@ -126,7 +126,7 @@ def as_text(file):
         said.seek(0)
         why = (said.read(4096).decode("utf-8", "replace").splitlines() or ["no reason"])[-1]
         raise Failure(
-            f"nothing was converted: trace-cmd report can't read it: {shortened(why, 300)}",
+            f"nothing was converted: trace-cmd report can't read it: {shorten(why, 300)}",
             NOTHING_CONVERTED,
         )
     out.seek(0)
@@ -223,7 +223,7 @@ def function_of(shown):
 def probe_of_text(shown, event, rest, names):
     """The probe of an event's text."""
     if found := RETURNED.match(shown):
-        return Probe("syscall", found[1], "return", returned(signed(int(found[2], 16))))
+        return Probe("syscall", found[1], "return", give_back(to_signed(int(found[2], 16))))
     if (found := ENTERED.match(shown)) and shown.endswith(")"):
         return probe_of("", f"sys_enter_{found[1]}", shown[found.end() : -1], names)
     if event:

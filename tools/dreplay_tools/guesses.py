@@ -8,7 +8,7 @@ import itertools
 import re
 
 from . import mistakes, script, strangers, tokens
-from .ends import shortened
+from .ends import shorten
 from .trace import ARGS, COLUMNS, HEADER
 
 NAMES = sorted(mistakes.BUILTINS | mistakes.CALLED)
@@ -91,7 +91,7 @@ def of_script(refusal, place, data, bundle):
         return []
     if refusal.name == "OptionLine":
         return of_option_line(data.decode("latin-1").split("\n"), place.get("line", 0))
-    return of_mistakes(refusal, place, script.Script(tokens.decoded(data)))
+    return of_mistakes(refusal, place, script.Script(tokens.decode(data)))
 
 
 def of_option_line(lines, line):
@@ -109,7 +109,7 @@ def of_trace_in_script(data, bundle):
     if bundle and near:
         return (
             "the dividing line isn't exactly three minuses: it is `"
-            + shortened(near[0].decode("latin-1").rstrip("\r"))
+            + shorten(near[0].decode("latin-1").rstrip("\r"))
             + "`"
         )
     if bundle and data.lstrip().lower().startswith(b"number,"):
@@ -204,7 +204,7 @@ def of_header(data):
 def of_columns(names):
     """How a header differs from that of a trace."""
     lacks = [name for name in COLUMNS if name not in names]
-    others = [shortened(name, 40) for name in names if name not in COLUMNS]
+    others = [shorten(name, 40) for name in names if name not in COLUMNS]
     said = ["the header lacks " + ", ".join(f"`{name}`" for name in lacks)] if lacks else []
     if others:
         said.append(
@@ -233,7 +233,7 @@ def of_number(name, shown):
     if shown != shown.strip():
         return "it has a space: take the spaces out"
     if re.fullmatch(r"[+-]?\d+\.0*", shown):
-        return f"it was written as a fraction: `{shortened(shown.split('.')[0])}` is meant"
+        return f"it was written as a fraction: `{shorten(shown.split('.')[0])}` is meant"
     if re.fullmatch(r"[+-]?\d+(\.\d+)?[eE][+-]?\d+", shown):
         return (
             "a spreadsheet has rounded it to an exponent: format the column as a whole number and"
@@ -300,12 +300,12 @@ def records(data):
     csv.field_size_limit(2**31 - 1)
     rows = csv.reader(io.StringIO(data.decode("latin-1"), newline=""))
     try:
-        yield from itertools.islice((row for row in numbered(rows) if row[1]), 1, None)
+        yield from itertools.islice((row for row in with_number(rows) if row[1]), 1, None)
     except csv.Error:
         return
 
 
-def numbered(rows):
+def with_number(rows):
     line = 1
     for row in rows:
         yield line, row

@@ -5,10 +5,10 @@ import math
 from dataclasses import dataclass
 from html import escape
 
-from .axes import JOINED, Axis, are_numbers, is_scale, named, one_sortable, scale, sortable
+from .axes import JOINED, Axis, are_numbers, axis_of_names, is_scale, one_sortable, scale, sortable
 from .ends import Failure
 from .held import Bucket
-from .labels import cut, interval, numbered
+from .labels import cut, interval, show_number
 from .pictures import and_more, picture, points, text_at
 
 MOST_COLUMNS, MOST_ROWS, MOST_BUCKETS = 60, 60, 64
@@ -96,7 +96,7 @@ def columns_of(shown, args):
             return scale(ones, MOST_COLUMNS), [(key[0], rows) for key, rows in entries]
     histograms = [(tuple(key), rows) for key, rows in entries]
     sizes = {key: sum(row.count for row in rows) for key, rows in histograms}
-    return named(list(sizes), sizes.get, MOST_COLUMNS), histograms
+    return axis_of_names(list(sizes), sizes.get, MOST_COLUMNS), histograms
 
 
 def rows_of(there, buckets):
@@ -141,7 +141,7 @@ def axis_of_part(shown, place, args):
     on_a_scale = is_scale(keys, shown.aggregation.keys[place], args)
     if on_a_scale and (shown.aggregation.function in JOINED or keys[-1] - keys[0] < most):
         return scale(keys, most)
-    return named(keys, sizes.get, most)
+    return axis_of_names(keys, sizes.get, most)
 
 
 def bounds(row):
@@ -203,11 +203,11 @@ def caption(heat):
     more = [and_more(heat.more_columns, "columns")] * bool(heat.more_columns) + [
         and_more(heat.more_rows, "rows")
     ] * bool(heat.more_rows)
-    return ", ".join([heat.axes, f"the strongest is {numbered(heat.most, None)}", *more])
+    return ", ".join([heat.axes, f"the strongest is {show_number(heat.most, None)}", *more])
 
 
 def cell(heat, column, row, left, begin):
-    said = f"{heat.columns[column]}, {heat.rows[row]}: {numbered(heat.cells[column, row], None)}"
+    said = f"{heat.columns[column]}, {heat.rows[row]}: {show_number(heat.cells[column, row], None)}"
     x, y = left + CELL * column, begin + HIGH * row
     return (
         f'<rect x="{x}" y="{y}" width="{CELL - GAP}" height="{HIGH - GAP}" class="bar" '

@@ -94,23 +94,23 @@ class Steps(NamedTuple):
         return Bucket(low, None if place == self.levels + 1 else low + self.step, count)
 
 
-def wrapped(number):
+def wrap(number):
     """A whole number as a signed one of 64 bits."""
     return (number + 2**63) % 2**64 - 2**63
 
 
-def added(function, one, other):
+def add(function, one, other):
     """What is held of all the arguments of two: a number, an Average, or counts by the places of
     their buckets.
     """
     if function == "count":
         return one + other
     if function == "sum":
-        return wrapped(one + other)
+        return wrap(one + other)
     if function in ("min", "max"):
         return min(one, other) if function == "min" else max(one, other)
     if function == "avg":
-        return Average(wrapped(one.sum + other.sum), one.count + other.count)
+        return Average(wrap(one.sum + other.sum), one.count + other.count)
     counts = dict(one)
     for place, count in other.items():
         counts[place] = counts.get(place, 0) + count

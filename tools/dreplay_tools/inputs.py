@@ -14,11 +14,11 @@ from .ends import Failure, standard_input
 GZIP, BZIP2, XZ, ZSTD = b"\x1f\x8b", b"BZh", b"\xfd7zXZ\x00", b"\x28\xb5\x2f\xfd"
 
 
-def damaged(shown):
+def fail_damaged(shown):
     return Failure(f"{shown}: its compression is damaged")
 
 
-def decompressed(file, shown):
+def decompress(file, shown):
     """A reader of what a compressed file holds, or none where it isn't compressed."""
     begins = file.peek(6)[:6]
     if begins.startswith(GZIP):
@@ -55,19 +55,19 @@ def zstd(file, shown):
     except BrokenPipeError:
         pass
     if child.wait():
-        raise damaged(shown)
+        raise fail_damaged(shown)
     spool.seek(0)
     return spool
 
 
-def opened(path):
+def open_input(path):
     """A binary file of what PATH holds, uncompressed and seekable, from its start. '-' is standard
     input.
     """
     shown = "standard input" if path == "-" else path
     file = standard_input() if path == "-" else open(path, "rb")
     try:
-        inner = decompressed(file, shown)
+        inner = decompress(file, shown)
         if inner is None and file.seekable():
             return file
         # What can be read only once is copied to a file that nobody else sees.
@@ -78,12 +78,12 @@ def opened(path):
             f"{shown}: its end is missing; gzip -dc, bzip2 -dc or xz -dc writes what is there"
         )
     except (lzma.LZMAError, zlib.error):
-        raise damaged(shown)
+        raise fail_damaged(shown)
     except IsADirectoryError:
         raise Failure(f"{shown}: Is a directory")
     except OSError as why:
         if why.errno is None:  # it isn't of the system, but of gzip or bz2
-            raise damaged(shown)
+            raise fail_damaged(shown)
         raise
     spool.seek(0)
     return spool

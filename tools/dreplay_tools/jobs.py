@@ -10,7 +10,7 @@ import signal
 import subprocess
 
 from .ends import FAILED, Failure, reason
-from .inputs import opened
+from .inputs import open_input
 from .output import Replaced
 
 PLAN = ["-w", "1", "-g", "1"]  # as many programs run as there are processors, so each is one thread
@@ -80,7 +80,7 @@ class Job:
     def run_program(self):
         out = Replaced(self.answer)
         try:
-            with opened(self.trace) as trace:
+            with open_input(self.trace) as trace:
                 os.lseek(trace.fileno(), 0, os.SEEK_SET)  # its first bytes were looked at
                 words = self.command.words
                 ran = subprocess.run(words, stdin=trace, stdout=out.file, stderr=subprocess.PIPE)
@@ -123,7 +123,7 @@ def jobs_of(traces, folder, script, program):
     return list({job.answer: job for job in jobs}.values())
 
 
-def interrupted(number, _):
+def interrupt(number, _):
     """Takes a signal for an interrupt. Further ones are ignored: the runs that have begun end, and
     leave nothing half done.
     """

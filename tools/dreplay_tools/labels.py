@@ -13,7 +13,7 @@ SCALES = {
 SHARE = "%"
 
 
-def escaped(letter):
+def escape(letter):
     """A letter that no terminal takes for a command, as D would write it: a control byte as
     `\\x1b`, a byte that is no UTF-8 too.
     """
@@ -31,7 +31,7 @@ def printable(text):
     """A text in whose place a terminal, a picture or a page shows the text, and nothing else."""
     if text.isprintable():
         return text
-    return "".join(letter if letter.isprintable() else escaped(letter) for letter in text)
+    return "".join(letter if letter.isprintable() else escape(letter) for letter in text)
 
 
 def name(key):
@@ -64,16 +64,16 @@ def width(text):
     return sum(max(letter_width()(letter), 0) for letter in text)
 
 
-def padded(text, columns, right=False):
+def pad(text, columns, right=False):
     spaces = " " * (columns - width(text))
     return spaces + text if right else text + spaces
 
 
-def aligned(texts, right=False):
+def align(texts, right=False):
     """Texts of a column, each as wide as the widest."""
     if not "".join(texts).isascii():
         columns = max(map(width, texts))
-        return [padded(text, columns, right) for text in texts]
+        return [pad(text, columns, right) for text in texts]
     columns = max(map(len, texts))
     return [text.rjust(columns) if right else text.ljust(columns) for text in texts]
 
@@ -94,14 +94,14 @@ def cut(text, most):
 # -- numbers
 
 
-def numbered(value, unit, total=0):
+def show_number(value, unit, total=0):
     """A number for a person: with a unit that fits, as a share of a total, or with separators."""
     if unit == SHARE:
         return f"{100 * value / total:.1f} %" if total else "0.0 %"
-    return scaled(value, *SCALES[unit]) if unit else f"{value:,}"
+    return scale(value, *SCALES[unit]) if unit else f"{value:,}"
 
 
-def scaled(value, base, units):
+def scale(value, base, units):
     size, place = abs(value), 0
     while size >= base and place < len(units) - 1:
         size, place = size / base, place + 1
@@ -112,11 +112,11 @@ def scaled(value, base, units):
 def interval(bucket, unit):
     """A bucket in words."""
     if bucket.low is None:
-        return f"< {numbered(bucket.high, unit)}"
+        return f"< {show_number(bucket.high, unit)}"
     if bucket.high is None:
-        return f"≥ {numbered(bucket.low, unit)}"
+        return f"≥ {show_number(bucket.low, unit)}"
     if bucket.high == bucket.low + 1:
-        return numbered(bucket.low, unit)
+        return show_number(bucket.low, unit)
     if bucket.low < 0 and bucket.high <= 0:
-        return f"{numbered(bucket.low, unit)} .. {numbered(bucket.high - 1, unit)}"
-    return f"{numbered(bucket.low, unit)} .. {numbered(bucket.high, unit)}"
+        return f"{show_number(bucket.low, unit)} .. {show_number(bucket.high - 1, unit)}"
+    return f"{show_number(bucket.low, unit)} .. {show_number(bucket.high, unit)}"

@@ -3,9 +3,9 @@
 import re
 
 from .descriptions import advice
-from .ends import shortened
+from .ends import shorten
 from .script import FUNCTIONS, TEXT_BUILTINS, group_end, parts
-from .tokens import ASSIGNING, BODY, HEAD, PREDICATE, joined
+from .tokens import ASSIGNING, BODY, HEAD, PREDICATE, join
 
 NUMBER_BUILTINS = {"timestamp", "cpu", "pid", "tid", *(f"arg{place}" for place in range(10))}
 BUILTINS = TEXT_BUILTINS | NUMBER_BUILTINS
@@ -131,7 +131,7 @@ class Near:
         return self.tokens[at].text if 0 <= at < len(self.tokens) else ""
 
     def shown(self, offset):
-        return shortened(self.text(offset))
+        return shorten(self.text(offset))
 
     def kind(self, offset):
         at = self.at + offset
@@ -184,7 +184,7 @@ def quote(near):
     )
     if closing is None or near.token.line != near.tokens[closing].line:
         return "texts are in double quotes, and there are no character constants"
-    inside = shortened(joined(near.tokens[near.at + 1 : closing]))
+    inside = shorten(join(near.tokens[near.at + 1 : closing]))
     return f'texts are in double quotes: `"{inside}"`; of one character write the byte\'s number'
 
 
@@ -250,10 +250,10 @@ def words_of_others(near):
         first = token.text.split(":")[0]
         if first in WORDS and first not in ("str", "index"):
             yield WORDS[first]
-        yield advice(described(near))
+        yield advice(find_description(near))
 
 
-def described(near):
+def find_description(near):
     """A description of another tool, which may have marks: uprobe:/bin/sh:main, pid$target:..."""
     text, end = near.text(0), near.at + 1
     if not (near.text(1) == "$" or (text.endswith(":") and near.text(1) == "/")):
@@ -295,7 +295,7 @@ def arguments(near):
     return len(parts(near.tokens[near.at + 2 : end - 1]))
 
 
-def unquoted(near):
+def unquote(near):
     if (
         near.text(-1) in ("==", "!=")
         and near.token.kind == "word"
@@ -315,7 +315,7 @@ def declarations(near):
         near = Near(near.tokens, near.at + 1)
         name = near.text(1)
     if near.kind(1) in ("word", "run") and re.fullmatch(r"\w+", name):
-        name = shortened(name)
+        name = shorten(name)
         yield (
             f"there are no global variables: declare `self {kind} {name};` or `this {kind} {name};`"
             " before the first clause"
@@ -401,7 +401,7 @@ def formats(near):
     for found in CONVERSION.finditer(near.text(0)):
         if found[1] is None:
             continue
-        shown, end = shortened(found[1]), found[1][-1:]
+        shown, end = shorten(found[1]), found[1][-1:]
         if "@" in found[1]:
             yield (
                 "`%@` is of printa: aggregations are shown at the end, and dreplay-show lays"
@@ -422,7 +422,7 @@ RULES = [
     bad_bytes,
     equals,
     aggregations,
-    unquoted,
+    unquote,
     words_of_others,
     queries,
     brackets,
@@ -456,9 +456,9 @@ def of_place(script, at):
     ):
         line = script.tokens[at - 1].line
         yield f"a semicolon may be missing after `{near.shown(-1)}` in line {line}"
-    elif near.text(0) in (";", "}", "{") and (open_one := unclosed(script.tokens, at)):
+    elif near.text(0) in (";", "}", "{") and (open_one := find_unclosed(script.tokens, at)):
         yield f"`{open_one.text}` in line {open_one.line}, column {open_one.column} isn't closed"
-    elif near.text(0) in (")", "]") and unclosed(script.tokens, at) is None:
+    elif near.text(0) in (")", "]") and find_unclosed(script.tokens, at) is None:
         yield f"nothing is open that `{near.text(0)}` could close"
 
 
@@ -507,7 +507,7 @@ def ends_statement(near, before):
     )
 
 
-def unclosed(tokens, at):
+def find_unclosed(tokens, at):
     """The last bracket that is open before a token of the same statement."""
     depth = 0
     for token in reversed(tokens[:at]):

@@ -7,8 +7,8 @@ import time
 from dataclasses import dataclass, field
 from html import escape
 
-from .inputs import opened
-from .labels import printable, scaled, SCALES
+from .inputs import open_input
+from .labels import SCALES, printable, scale
 from .trace import COLUMNS
 from .version import VERSION
 
@@ -68,7 +68,7 @@ def span(traces):
     if not times:
         return ""
     first, last = min(times), max(times)
-    lasted = scaled(last - first, *SCALES["ns"])
+    lasted = scale(last - first, *SCALES["ns"])
     if first < SINCE_1970:
         return lasted
     days = [date(moment // 10**9) for moment in (first, last)]
@@ -78,7 +78,7 @@ def span(traces):
 
 def ends(path):
     """The times of a trace's first row and its last."""
-    file = opened(path)
+    file = open_input(path)
     file.readline(MOST_OF_THE_END)
     first = file.readline(MOST_OF_THE_END)
     size = file.seek(0, os.SEEK_END)

@@ -77,7 +77,7 @@ class Replaced:
 
 
 @contextlib.contextmanager
-def named(path):
+def name_file(path):
     """Says of an error of the system which file it is about."""
     try:
         yield
@@ -109,7 +109,7 @@ class Sink:
         self.begun = True
         rows = "".join(shown)
         self.rows += rows_in(rows)
-        with named(self.path):
+        with name_file(self.path):
             self.file.write((head + rows).encode("utf-8"))
 
     def fill(self, write):
@@ -127,14 +127,14 @@ class Sink:
             self.begun = write(file)
             if self.begun:
                 file.seek(0)
-                with named(self.path):
+                with name_file(self.path):
                     shutil.copyfileobj(file, self.file, COPIED)
         return self.begun
 
     def keep(self):
         """Ends a trace that is complete."""
         self.write([])
-        with named(self.path):
+        with name_file(self.path):
             if self.replaced:
                 self.replaced.keep()
             else:

@@ -10,10 +10,10 @@ import struct
 import subprocess
 import tempfile
 
-from .ends import Failure, shortened
+from .ends import Failure, shorten
 from .fields import BadEvent, integer
-from .tracepoints import Event, Lost, Probe, placed, probe_of, raw_call, returned
-from .trace import MOST_NUMBER, signed
+from .tracepoints import Event, Lost, Probe, give_back, place_probe, probe_of, raw_call
+from .trace import MOST_NUMBER, to_signed
 
 NOTHING_CONVERTED = 3
 NUMBERS = range(MOST_NUMBER + 1)  # of threads and processes
@@ -53,7 +53,7 @@ def events_of(line, names):
     name, first, second, cpu, time, event, rest = found
     system, function = EVENT.fullmatch(event).groups() if EVENT.fullmatch(event) else ("", "")
     if not system or MODIFIERS.fullmatch(function):
-        raise BadEvent(f"it is a sample of {shortened(event[:-1])}, and no tracepoint")
+        raise BadEvent(f"it is a sample of {shorten(event[:-1])}, and no tracepoint")
     probe = probe_of(system, function, rest.strip(), names)
     thread, process = (int(first), None) if second is None else (int(second), int(first))
     if thread < 0:  # it has ended
@@ -117,7 +117,7 @@ def events_of_record(line, names, signs):
         record = json.loads(line) if len(line) <= MOST_OF_A_RECORD else None
         if "counter" in record:
             raise BadEvent(
-                f"it is a sample of {shortened(str(record['counter']))}, and no tracepoint"
+                f"it is a sample of {shorten(str(record['counter']))}, and no tracepoint"
             )
         if "end" in record:
             return []
@@ -151,7 +151,7 @@ def plain(value):
     """A field's value: a number of 64 bits or a text; none for all else."""
     if type(value) is str:
         return text_of(value)
-    return value if type(value) is int and signed(value) is not None else None
+    return value if type(value) is int and to_signed(value) is not None else None
 
 
 def with_sign(value, size):
@@ -166,27 +166,27 @@ def probe_of_fields(system, function, fields, args, names):
     number = fields.pop("__syscall_nr", fields.get("id"))
     if system == "raw_syscalls" and isinstance(number, int):
         if function == "sys_enter":
-            return raw_call(number, "entry", [bounded(value) for value in args or []], names)
-        return raw_call(number, "return", returned(bounded(fields.get("ret", 0))), names)
+            return raw_call(number, "entry", [bound(value) for value in args or []], names)
+        return raw_call(number, "return", give_back(bound(fields.get("ret", 0))), names)
     if system == "syscalls" and function.startswith("sys_enter_"):
         return Probe(
-            "syscall", function[len("sys_enter_") :], "entry", list(map(bounded, fields.values()))
+            "syscall", function[len("sys_enter_") :], "entry", list(map(bound, fields.values()))
         )
     if system == "syscalls" and function.startswith("sys_exit_"):
         return Probe(
             "syscall",
             function[len("sys_exit_") :],
             "return",
-            returned(bounded(fields.get("ret", 0))),
+            give_back(bound(fields.get("ret", 0))),
         )
     for address in ("__probe_ip", "__probe_func", "__probe_ret_ip"):
         fields.pop(address, None)
-    return placed(system, function, "", list(map(bounded, fields.values())), fields)
+    return place_probe(system, function, "", list(map(bound, fields.values())), fields)
 
 
-def bounded(value):
+def bound(value):
     """A field's value as an argument; none for a text."""
-    return signed(value) if type(value) is int else None
+    return to_signed(value) if type(value) is int else None
 
 
 def signs_of(file):
@@ -264,7 +264,7 @@ def records_or_text(file, tool):
     text, why = run_perf(file, "-F", TEXT_FIELDS, "--ns")
     if not text.peek(1):
         raise Failure(
-            f"nothing was converted: perf script tells nothing of it: {shortened(why)}",
+            f"nothing was converted: perf script tells nothing of it: {shorten(why)}",
             NOTHING_CONVERTED,
         )
     tool.say("perf's Python interpreter can't read it, so the text of perf script is taken")

@@ -6,7 +6,7 @@ from html import escape
 
 from .axes import are_numbers, on_scale
 from .forms import total_of
-from .labels import SHARE, aligned, cut, interval, name, numbered, padded, width
+from .labels import SHARE, align, cut, interval, name, pad, show_number, width
 from .percentiles import percentile
 
 MOST_BARS, MOST_BUCKETS, MOST_CHARTS = 40, 1000, 40
@@ -80,7 +80,7 @@ def histogram(shown, keys, rows, args):
         [[interval(row, args.unit)] for row in rows],
         [True],
         [row.count for row in rows],
-        [numbered(row.count, unit, total) for row in rows],
+        [show_number(row.count, unit, total) for row in rows],
         None,
         more,
         "buckets",
@@ -101,7 +101,7 @@ def bars_of(shown, args):
     right = [not is_text for is_text in shown.aggregation.texts] or [False]
     unit = None if args.value_unit == SHARE else args.value_unit
     shown_values = [
-        "" if value is None else numbered(value, args.value_unit, total) for value in values
+        "" if value is None else show_number(value, args.value_unit, total) for value in values
     ]
     values = [value or 0 for value in values]
     return Chart(
@@ -161,14 +161,14 @@ def in_terminal(chart, columns):
     scale = (room - before) / above if above else before / below if below else 0
     yield cut("  ".join(part for part in (chart.title, chart.what) if part), max(20, columns))
     for label, value, shown in zip(labels, chart.values, chart.shown):
-        place = padded(label, left, right=chart.right == [True])
-        yield f"  {place} {padded(shown, numbers, right=True)} {bar(value, scale, before)}".rstrip()
+        place = pad(label, left, right=chart.right == [True])
+        yield f"  {place} {pad(shown, numbers, right=True)} {bar(value, scale, before)}".rstrip()
     yield from (f"  {note}" for note in chart.notes)
 
 
 def in_columns(rows, right):
     """Rows of texts as lines, each text as wide as the widest in its place."""
-    columns = [aligned(column, is_right) for column, is_right in zip(zip(*rows), right)]
+    columns = [align(column, is_right) for column, is_right in zip(zip(*rows), right)]
     return ["  ".join(row).rstrip() for row in zip(*columns)]
 
 
@@ -226,7 +226,7 @@ def picture(parts, size, title, what):
 def svg(charts_to_draw, more, heading):
     """Charts below one another as a picture: a bar for each label, with its number at its end."""
     parts, y = [], 20
-    wide = max(map(needed, charts_to_draw))
+    wide = max(map(width_needed, charts_to_draw))
     if heading:
         parts.append(text_at(20, y + 8, cut(heading, 70), "title"))
         y += 36
@@ -238,12 +238,10 @@ def svg(charts_to_draw, more, heading):
         parts.append(text_at(20, y, and_more(more, "charts"), "muted"))
         y += 20
     titles = [chart.title for chart in charts_to_draw]
-    return picture(
-        parts, (wide, y), heading or titles[0], "; ".join(map(described, charts_to_draw))
-    )
+    return picture(parts, (wide, y), heading or titles[0], "; ".join(map(describe, charts_to_draw)))
 
 
-def described(chart):
+def describe(chart):
     """A chart in words, for who can't see it."""
     place = max(range(len(chart.values)), key=lambda place: chart.values[place])
     label = " ".join(chart.labels[place])
@@ -253,7 +251,7 @@ def described(chart):
     )
 
 
-def needed(chart):
+def width_needed(chart):
     """How wide a picture has to be for a chart."""
     return max(WIDTH, round(labels_of(chart)[1] + 190 + points(max(chart.shown, key=points))))
 
@@ -331,7 +329,7 @@ class Axis:
         for value in self.steps:
             x = self.x(value)
             yield line(x, begin - 4, x, end + 2, "grid")
-            yield text_at(x, end + 17, numbered(value, unit), "small", "middle")
+            yield text_at(x, end + 17, show_number(value, unit), "small", "middle")
 
 
 def steps_of(low, high):

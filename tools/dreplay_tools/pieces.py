@@ -76,7 +76,7 @@ class Pieces:
             for first in range(self.jobs):
                 files.append(self.process(first, files))
             for place in range(self.count):
-                yield marshal.loads(taken(files[place % self.jobs]))
+                yield marshal.loads(take(files[place % self.jobs]))
         finally:
             for file in files:
                 file.close()  # one that still reads ends by that
@@ -102,7 +102,7 @@ class Pieces:
             os._exit(status)
 
 
-def taken(file):
+def take(file):
     """What a process hands over of a piece."""
     length = int.from_bytes(file.read(LENGTH), "little")
     data = file.read(length)

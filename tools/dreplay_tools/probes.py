@@ -8,8 +8,8 @@ import io
 import itertools
 from collections import Counter, namedtuple
 
-from .descriptions import translated
-from .ends import shortened
+from .descriptions import translate
+from .ends import shorten
 from .patterns import matches
 from .trace import COLUMNS, TEXT_BYTES
 
@@ -116,7 +116,7 @@ class Looked:
         """For each description that matches no row a line for a person."""
         for token in self.wrong[:MOST_NAMED]:
             yield (
-                f"line {token.line}: {shortened(token.text, MOST_SHOWN)} matches no row:"
+                f"line {token.line}: {shorten(token.text, MOST_SHOWN)} matches no row:"
                 f" {self.remedy(token)}"
             )
         if len(self.wrong) > MOST_NAMED:
@@ -139,7 +139,7 @@ class Looked:
                 )
 
     def remedy(self, token):
-        wanted, meant = patterns(token.text), translated(token.text)
+        wanted, meant = patterns(token.text), translate(token.text)
         if meant:
             has = self.has(patterns(meant.split(" ")[0]))
             return f"in a trace it is {meant}" + ("" if has else ", and this one has none")
@@ -148,7 +148,7 @@ class Looked:
                 return why
         near = self.with_words(wanted) or self.nearest(wanted)
         if near:
-            return f"the nearest probe of the trace is {shown(near)}"
+            return f"the nearest probe of the trace is {show(near)}"
         return (
             "a script of `::: / tid / { @[probeprov, probemod, probefunc, probename] = count(); }`"
             " shows what there is"
@@ -162,7 +162,7 @@ class Looked:
 
     def nearest(self, wanted):
         """The probe of the trace whose names are most like those of a description."""
-        own = {shown(probe): probe for probe in self.probes[len(OWN) :][:MOST_NEAR]}
+        own = {show(probe): probe for probe in self.probes[len(OWN) :][:MOST_NEAR]}
         best, most = None, 0.6
         for probe in own.values():
             self.steps -= steps_of(wanted, probe)
@@ -194,5 +194,5 @@ def likeness(pattern, text):
     return difflib.SequenceMatcher(None, a, b).ratio()
 
 
-def shown(probe):
+def show(probe):
     return ":".join(probe)

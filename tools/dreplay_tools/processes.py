@@ -1,5 +1,5 @@
 """Which process a thread belongs to, and which program it runs."""
-from .ends import Failure, shortened
+from .ends import Failure, shorten
 from .strace import BIRTHS
 from .trace import MOST_NUMBER, field, text
 
@@ -21,9 +21,7 @@ class Processes:
             for number, line in enumerate(iter(lambda: file.readline(MOST_OF_A_LINE), b""), 1):
                 words = line.rstrip(b"\n").split(b" ", 2)
                 if len(words) < 3 or not is_number(words[0]) or not is_number(words[1]):
-                    raise Failure(
-                        f"{shortened(path)}: line {number} has no thread, process and name"
-                    )
+                    raise Failure(f"{shorten(path)}: line {number} has no thread, process and name")
                 thread, process = words[0].decode(), words[1].decode()
                 self.process_of[thread] = process
                 self.names[process] = text(words[2])

@@ -6,9 +6,9 @@ import re
 import tempfile
 
 from . import strangers
-from .ends import Failure, shortened
+from .ends import Failure, shorten
 from .folders import FILE
-from .inputs import opened
+from .inputs import open_input
 
 CONVERTERS = {
     "strace": "dreplay-from-strace",
@@ -38,7 +38,7 @@ class Recording:
         self.path = path
         self.name = "standard input" if path == "-" else path
         self.is_folder = os.path.isdir(path)
-        self.file = None if self.is_folder else seekable(opened(path))
+        self.file = None if self.is_folder else seekable(open_input(path))
         self.kind = self.kind_of_folder() if self.is_folder else self.kind_of_file()
 
     @property
@@ -56,7 +56,7 @@ class Recording:
         """The converter that makes a trace of it."""
         if self.kind not in CONVERTERS:
             why = strangers.KINDS.get(self.kind, NO_KIND)
-            raise Failure(f"{shortened(self.name)}: {why}", NO_RECORDING)
+            raise Failure(f"{shorten(self.name)}: {why}", NO_RECORDING)
         return CONVERTERS[self.kind]
 
     def kind_of_folder(self):
@@ -66,13 +66,13 @@ class Recording:
         if ctf_folders(self.path):
             return "ctf"
         why = "the folder has neither files of strace -ff, whose names end in .THREAD, nor CTF"
-        raise Failure(f"{shortened(self.name)}: {why}", NO_RECORDING)
+        raise Failure(f"{shorten(self.name)}: {why}", NO_RECORDING)
 
     def kind_of_file(self):
         begins = self.file.read(4096)
         self.file.seek(0)
         if not begins:
-            raise Failure(f"{shortened(self.name)}: it is empty", NO_RECORDING)
+            raise Failure(f"{shorten(self.name)}: it is empty", NO_RECORDING)
         kind = strangers.kind_of_start(begins)
         if kind is None and HEADER.match(begins):
             return "trace"  # that dreplay refuses, with the reason

@@ -467,23 +467,23 @@ GROUPS = [
 ]
 
 
-def shown(group, refusal):
+def line_of(group, refusal):
     """The line on standard error, with letters for the numbers of a place."""
     if refusal.number:
         return f"{group.before}{refusal.kind} {refusal.number}{refusal.place}"
     return group.before + refusal.name
 
 
-def found(line):
+def find(line):
     """The refusal that a line tells, with its place as numbers: line, row, column. None where it is
     no such line.
     """
     for group in GROUPS:
         for refusal in group.refusals:
             pattern = (
-                re.escape(shown(group, refusal).replace(refusal.place, ""))
+                re.escape(line_of(group, refusal).replace(refusal.place, ""))
                 if refusal.number
-                else re.escape(shown(group, refusal))
+                else re.escape(line_of(group, refusal))
             )
             match = re.match(
                 pattern

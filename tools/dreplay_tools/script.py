@@ -4,7 +4,7 @@ Read from its tokens.
 from dataclasses import dataclass, field
 
 from .ends import Failure
-from .tokens import ASSIGNING, MOST_BYTES, MOST_IN_A_ROW, PREDICATE, decoded, joined, tokens, value
+from .tokens import ASSIGNING, MOST_BYTES, MOST_IN_A_ROW, PREDICATE, decode, join, tokens, value
 
 TEXT_BUILTINS = {"execname", "probeprov", "probemod", "probefunc", "probename"}
 HISTOGRAMS = {"quantize", "lquantize"}
@@ -111,7 +111,7 @@ def of_bytes(data):
     """The script of some bytes."""
     if len(data) > MOST_BYTES:
         raise Failure("the script has more than 65,536 bytes, so dreplay refused it")
-    return Script(decoded(data))
+    return Script(decode(data))
 
 
 # -- lists of tokens
@@ -292,8 +292,8 @@ def aggregation_of(some, known):
     name = some[0].text[1:]
     return Aggregation(
         "" if name == "_" else name,
-        [joined(key) for key in keys],
+        [join(key) for key in keys],
         tuple(bool(is_text(key, known)) for key in keys),
         called[1],
-        [joined(arg) for arg in args],
+        [join(arg) for arg in args],
     )

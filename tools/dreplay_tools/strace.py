@@ -3,7 +3,7 @@ import os
 import re
 
 from .errors import RETURNED
-from .trace import MOST_NUMBER, signed, text
+from .trace import MOST_NUMBER, text, to_signed
 
 NAME = r"[a-z_][a-z0-9_]{0,80}"  # of a system call
 CALL = re.compile(rf"({NAME})\(")
@@ -70,7 +70,7 @@ def integer(found):
     """The integer that NUMBER found, as a signed one of 64 bits; none where it takes more."""
     sign, hexadecimal, octal, decimal = found.groups()[-4:]
     value = int(hexadecimal, 16) if hexadecimal else int(octal, 8) if octal else int(decimal)
-    return signed(-value if sign else value)
+    return to_signed(-value if sign else value)
 
 
 def argument(shown):

@@ -29,4 +29,4 @@ def merge(table, entries):
     """Adds the entries of a table to those that are there."""
     function = table.aggregation.function
     for key, value in table.held.items():
-        entries[key] = held.added(function, entries[key], value) if key in entries else value
+        entries[key] = held.add(function, entries[key], value) if key in entries else value

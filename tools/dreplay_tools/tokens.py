@@ -163,7 +163,7 @@ def tokens(script):
     return Reader(script).all()
 
 
-def decoded(data):
+def decode(data):
     """A script's bytes as text, from which they can be had back."""
     return data.decode("utf-8", "surrogateescape")
 
@@ -183,7 +183,7 @@ def value(shown):
     return number if number < 2**64 else None
 
 
-def joined(some):
+def join(some):
     """The text of tokens that follow one another, with one space for blanks and comments."""
     parts, before = [], None
     for token in some:

@@ -32,7 +32,7 @@ def field(shown):
     return shown
 
 
-def signed(value):
+def to_signed(value):
     """An integer as a signed one of 64 bits; none where it takes more."""
     if not -(2**63) <= value < 2**64:
         return None

@@ -2,8 +2,8 @@
 import re
 from dataclasses import dataclass, field
 
-from .fields import BadEvent, Unreadable, assigned, hexadecimal, integer, named
-from .trace import signed
+from .fields import BadEvent, Unreadable, hexadecimal, integer, read_assigned, read_named
+from .trace import to_signed
 
 CALL = re.compile(r"sys_(enter|exit)_(\w{1,80})", re.ASCII)
 KERNEL_ERRORS = range(-4095, 0)
@@ -68,7 +68,7 @@ class Event:
     probe: Probe
 
 
-def returned(value):
+def give_back(value):
     """The arguments of a return: -1 for a failure, and the kernel's own number, which tells the
     error.
     """
@@ -81,13 +81,13 @@ def call_of(event, rest):
     if not call:
         return None
     if call[1] == "enter":
-        args = named(rest)
+        args = read_named(rest)
         lacking = "an argument is no hexadecimal number" if None in args else ""
         return Probe("syscall", call[2], "entry", args, lacking=lacking)
     value = hexadecimal(rest.strip())
     if value is None:
         raise BadEvent("what the call returned is no hexadecimal number")
-    return Probe("syscall", call[2], "return", returned(value))
+    return Probe("syscall", call[2], "return", give_back(value))
 
 
 def raw_call_of(event, rest, names):
@@ -99,7 +99,7 @@ def raw_call_of(event, rest, names):
     if event == "sys_enter":
         args = [hexadecimal(value.strip()) for value in found[2].split(",")]
         return raw_call(number, "entry", args, names)
-    return raw_call(number, "return", returned(signed(int(found[2]))), names)
+    return raw_call(number, "return", give_back(to_signed(int(found[2]))), names)
 
 
 def raw_call(number, name, args, names):
@@ -120,12 +120,12 @@ def probe_of(system, event, rest, names):
     args = [integer(value) for value in fields.values()]
     if any(arg is None and value.isdigit() for arg, value in zip(args, fields.values())):
         lacking = "a number takes more than 64 bits"
-    probe = placed(system, event, rest, args, fields)
+    probe = place_probe(system, event, rest, args, fields)
     probe.lacking = lacking
     return probe
 
 
-def placed(system, event, rest, args, fields):
+def place_probe(system, event, rest, args, fields):
     """A probe with its names: of functions of the kernel and of programs, or a tracepoint."""
     if found := PROBE_RETURN.match(rest):
         return Probe("fbt", found[1], "return", args)
@@ -161,7 +161,7 @@ def fields_of(event, rest):
         found := WAKEUP.match(rest)
     ):
         return {"comm": found[1], "pid": found[2], "prio": found[3], "target_cpu": found[5]}
-    fields = assigned(rest)
+    fields = read_assigned(rest)
     address = PROBE_ENTRY.match(rest) or PROBE_RETURN.match(rest) or PROBE_ADDRESS.match(rest)
     if not fields and rest[address.end() if address else 0 :].strip():
         raise Unreadable("its fields aren't in the form NAME=VALUE")

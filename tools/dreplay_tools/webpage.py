@@ -7,7 +7,7 @@ from . import page_parts
 from .comparison import Compared
 from .forms import table
 from .heat import WIDEST_COLUMN, WIDEST_ROW, caption, has_heat, heat_of
-from .labels import SHARE, cut, interval, name, numbered, printable
+from .labels import SHARE, cut, interval, name, printable, show_number
 from .pictures import MOST_BUCKETS, MOST_CHARTS, and_more, largest
 
 MOST_ROWS = 20_000
@@ -259,7 +259,7 @@ def card(keys, rows, args):
         yield (
             f'<tr><th scope="row"{long}>{escape(label)}</th><td'
             f' class="bars">{bars.of(row.count)}</td><td'
-            f' class="number">{numbered(row.count, unit, total)}</td></tr>'
+            f' class="number">{show_number(row.count, unit, total)}</td></tr>'
         )
     yield "</table>" + f"<p>{and_more(more, 'buckets')}</p>" * bool(more) + "</div>"
 

@@ -14,7 +14,7 @@ NUMBERS = range(2**31)  # of threads; perf tells the -1 of one that has ended as
 events = 0
 
 
-def printed(record):
+def show(record):
     global events
     events += 1
     sys.stdout.write(json.dumps(record) + "\n")
@@ -43,11 +43,11 @@ def trace_unhandled(event_name, context, fields, sample):
     raw = sample["raw_buf"]
     if name == "raw_syscalls:sys_enter" and len(raw) >= ARGUMENTS.stop:
         record["args"] = struct.unpack("=6q", raw[ARGUMENTS])
-    printed(record)
+    show(record)
 
 
 def process_event(sample):
-    printed({"counter": sample["ev_name"]})
+    show({"counter": sample["ev_name"]})
 
 
 def trace_end():

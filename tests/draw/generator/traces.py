@@ -67,7 +67,7 @@ def draw(chance):
     drawn = rows(chance)
     if drawn and chance.random() < 0.1:
         spoil(chance, drawn)
-    return written(chance, drawn)
+    return write_trace(chance, drawn)
 
 
 def rows(chance):
@@ -84,7 +84,7 @@ def rows(chance):
     return drawn
 
 
-def written(chance, drawn):
+def write_trace(chance, drawn):
     """The bytes of a trace that has these rows."""
     lines = [HEADER, *(b",".join(fields) for fields in drawn)]
     return b"".join(line + line_end(chance) for line in lines)

@@ -33,14 +33,14 @@ def divide(bundle):
     return (bundle[: line.start()], bundle[line.end() :]) if line else (bundle, b"")
 
 
-def typed(script):
+def type_script(script):
     """The well-typed script that bytes are, or the first refusal."""
     return checker.check(grammar.parse(lexer.lex(script)))
 
 
 def replay(script, rows, render):
     """What a script shows over the bytes of a trace, and its exit status."""
-    found = typed(script)
+    found = type_script(script)
     shown = meaning.run(found, trace.read(rows))
     return render(found, shown), shown.status
 

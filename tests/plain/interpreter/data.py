@@ -2,7 +2,7 @@
 and its end (docs/DATA.md)."""
 import re
 
-from .output import ordered, total
+from .output import sort_entries, total
 
 FIRST_LINE = b'{"format":"dreplay-data","version":1}\n'
 ESCAPED = re.compile(rb'[\0-\x1f"\\\x7f]')
@@ -15,10 +15,10 @@ def text(value):
         value.decode("utf-8")
     except UnicodeDecodeError:
         return b'{"hex":"%s"}' % value.hex().encode()
-    return b'"%s"' % ESCAPED.sub(escaped, value)
+    return b'"%s"' % ESCAPED.sub(escape, value)
 
 
-def escaped(found):
+def escape(found):
     return SHORT.get(found[0]) or b"\\u00%02x" % found[0][0]
 
 
@@ -63,7 +63,7 @@ def entries(place, name, aggregation, arguments):
     return b"".join(
         b'%s"key":%s,"value":%s}\n'
         % (head, key(parts), value(aggregation, shown, arguments[parts]))
-        for shown, parts in ordered(aggregation, arguments)
+        for shown, parts in sort_entries(aggregation, arguments)
     )
 
 

@@ -67,7 +67,7 @@ def conversions(found):
     return [piece for piece in found if isinstance(piece, Conversion)]
 
 
-def written(text, arguments):
+def write_format(text, arguments):
     """What a format writes for its arguments, each a value and its type."""
     rest = iter(arguments)
     return b"".join(

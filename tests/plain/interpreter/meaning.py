@@ -124,7 +124,7 @@ def perform_trace(evaluation, call, texts, _):
 def perform_printf(evaluation, call, texts, _):
     first, *rest = call.arguments
     texts.append(
-        formats.written(
+        formats.write_format(
             first.content, [(evaluation.value(argument), argument.type) for argument in rest]
         )
     )
@@ -166,7 +166,7 @@ class Evaluation:
                 return self.binary(expression)
             case tree.Choice():
                 chosen = expression.yes if self.value(expression.condition) else expression.no
-                return converted(self.value(chosen), expression.type)
+                return convert(self.value(chosen), expression.type)
             case tree.Assignment():
                 return self.assign(expression)
             case tree.Step():
@@ -185,7 +185,7 @@ class Evaluation:
         return self.variables[place.space].get((place.name, key), b"" if place.type is TEXT else 0)
 
     def store(self, place, key, value):
-        value = converted(value, place.type)
+        value = convert(value, place.type)
         self.variables[place.space][place.name, key] = value
         return value
 
@@ -231,5 +231,5 @@ class Evaluation:
         return len(values[0]) if call.name == "strlen" else b"".join(values)[:MOST_TEXT]
 
 
-def converted(value, of_type):
+def convert(value, of_type):
     return value if of_type is TEXT else of_type.wrap(value)

@@ -112,7 +112,7 @@ def part(value):
     return b"  %-50s" % value if isinstance(value, bytes) else b" %16d" % value
 
 
-def ordered(aggregation, entries):
+def sort_entries(aggregation, entries):
     """The entries of an aggregation with their keys, ascending by rank and then by key."""
     figures = [(figure(aggregation, arguments), key) for key, arguments in entries.items()]
     return sorted(figures, key=lambda pair: (pair[0].rank, pair[1]))
@@ -120,7 +120,7 @@ def ordered(aggregation, entries):
 
 def listing(aggregation, entries):
     """The bytes of an aggregation."""
-    figures = ordered(aggregation, entries)
+    figures = sort_entries(aggregation, entries)
     return b"\n" + b"".join(b"".join(map(part, key)) + shown.written() for shown, key in figures)
 
 
