@@ -85,7 +85,7 @@ def read(text):
     }
 
 
-def escaped(part):
+def escape_part(part):
     """A part as a block shows it: lines of UTF-8 without control bytes, none of them a mark."""
     part = ESCAPE.sub(rb"\\x5cx\1", part)
     part = MARK_BEGINS.sub(lambda begins: b"\\x%02x" % begins[1][0], part)
@@ -102,7 +102,7 @@ def mark(name, part, status=b""):
     """The line that begins a part, and the part."""
     line = f"-- {name}" + (f", status {status.decode().strip()}" if status else "")
     cut = part != b"" and not part.endswith(b"\n")
-    return line.encode() + b", no line feed" * cut + b" --\n" + escaped(part) + b"\n" * cut
+    return line.encode() + b", no line feed" * cut + b" --\n" + escape_part(part) + b"\n" * cut
 
 
 def write(name, parts):

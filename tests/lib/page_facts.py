@@ -60,7 +60,7 @@ def functions():
     reaching = Reaching()
     is_so = read("docs/PROVED.md") == with_unused(reaching)
     yield "docs/PROVED.md: not used", "" if is_so else "run tests/documents --write"
-    yield "docs/PROVED.md: tests alone", ", ".join(reaching.uncalled())
+    yield "docs/PROVED.md: tests alone", ", ".join(reaching.find_uncalled())
     said = names.CODE.findall(read("docs/CODE_DECISIONS.md"))
     large = [it.label() for it in reaching.all if it.is_large() and it.label() not in said]
     yield "docs/CODE_DECISIONS.md: large functions", ", ".join(large)

@@ -180,7 +180,7 @@ class Reaching:
                 ahead += self.taken.get(one, ())
         return found
 
-    def called(self, by):
+    def calls_of(self, by):
         """What a function calls, and what it passes on."""
         calls = [(*it.groups(), it.end() - 1) for it in CALL.finditer(by.body)]
         calls += [("", of, name, None) for of, name in PASSED.findall(by.body)]
@@ -223,7 +223,7 @@ class Reaching:
                 waiting[it.owner].append(it)
                 continue
             found[id(it)] = it
-            ahead += self.called(it)
+            ahead += self.calls_of(it)
             for name in self.living(it.words | {it.owner}, live):
                 ahead += waiting.pop(name, [])
         return found
@@ -239,7 +239,7 @@ class Reaching:
                 ahead += [*self.fields.get(word, ()), *self.types.get(word, ())]
         return new
 
-    def unused(self):
+    def find_unused(self):
         """The public functions that nothing reaches, by crate; laws compute nothing."""
         found = defaultdict(set)
         for it in self.all:
@@ -247,9 +247,9 @@ class Reaching:
                 found[it.crate].add(it.label())
         return {crate: sorted(names) for crate, names in sorted(found.items())}
 
-    def uncalled(self):
+    def find_uncalled(self):
         """Those of them that no test calls either."""
-        names = [name for found in self.unused().values() for name in found]
+        names = [name for found in self.find_unused().values() for name in found]
         ends = (name.rsplit(":", 1)[-1] for name in names)
         calls = (re.search(rf"\b{end}(?:::<[^>]*>)?\(", self.tests) for end in ends)
         return [name for name, call in zip(names, calls) if not call]
@@ -257,6 +257,6 @@ class Reaching:
     def table(self):
         """The rows of docs/PROVED.md that say so."""
         rows = ["| Crate | Functions |", "|---|---|"]
-        for crate, names in self.unused().items():
+        for crate, names in self.find_unused().items():
             rows.append(f"| `{crate}` | {', '.join(f'`{name}`' for name in names)} |")
         return "\n".join(rows)

@@ -181,7 +181,7 @@ class Run:
 
     def step(self, it):
         """What an instruction changes, where the next one follows."""
-        made = self.made(it)
+        made = self.compute(it)
         if made is not None and it.d:
             self.registers[it.d] = made % WORDS if isinstance(made, int) else made
         if it.name in ("stts", "stls", "sttaa"):
@@ -194,7 +194,7 @@ class Run:
         elif it.name in ("cmp", "tst", "scmp"):
             self.compare(it)
 
-    def made(self, it):
+    def compute(self, it):
         """What an instruction writes to a register, None where it writes to none."""
         if it.name in OPERATORS:
             return OPERATORS[it.name](self.registers[it.a], self.registers[it.b])
@@ -208,9 +208,9 @@ class Run:
             return self.difo.texts[it.number]
         if it.name == "call":
             return FUNCTIONS[it.function](*self.parts)
-        return self.loaded(it)
+        return self.load(it)
 
-    def loaded(self, it):
+    def load(self, it):
         """What an instruction loads from the firing or a variable, None where it loads nothing."""
         if it.name == "ldgs":
             return self.firing[BUILT_INS[it.number]]

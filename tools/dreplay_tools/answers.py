@@ -73,7 +73,7 @@ class Table:
             return 0
         return sum(len(rows_of(value, self.buckets)) for _, value in entries)
 
-    def shown(self, entries):
+    def select(self, entries):
         """Some of the entries as they are shown."""
         total = sum(self.held.values()) if self.aggregation.function in SHARED else 0
         figures = [(key, figure(value, self.buckets)) for key, value in entries]
@@ -86,7 +86,7 @@ def all_shown(chosen):
     if rows > MOST_ROWS:
         why = f"the histograms have {rows:,} rows, more than {MOST_ROWS:,}: take fewer by --top"
         raise Failure(why)
-    return (table.shown(entries) for table, entries in chosen)
+    return (table.select(entries) for table, entries in chosen)
 
 
 @dataclass
@@ -255,7 +255,7 @@ class Reader:
         if self.answer is None:
             self.begin(line)
             return None
-        found = self.parsed(line)
+        found = self.parse(line)
         kind = found.get("kind")
         if kind == "end":
             return self.end(found)
@@ -267,7 +267,7 @@ class Reader:
             raise Wrong("it is none of the lines text, entry and end")
         return None
 
-    def parsed(self, line):
+    def parse(self, line):
         """The object that a line is. Of an entry that begins as the last one, the rest is read."""
         if self.head is not None and line.startswith(self.head):
             return self.members | parse(b'{"key":' + line[len(self.head) :])

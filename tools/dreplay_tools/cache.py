@@ -46,7 +46,7 @@ class Place:
         self.where, self.key = where, key
         self.trace, self.note = (os.path.join(where, f"{key}.{it}") for it in ("csv", "json"))
 
-    def found(self):
+    def find(self):
         """What the converter said when it made the trace, and its status; none where there is no
         trace.
         """

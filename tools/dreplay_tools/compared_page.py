@@ -4,9 +4,10 @@ the same buckets.
 from html import escape
 
 from .comparison import count_of, table
+from .ends import say_count
 from .labels import SHARE, interval, name, printable, show_number
 from .pictures import MOST_CHARTS, and_more
-from .webpage import MOST_ROWS, Bars, cell, count_of as counted
+from .webpage import MOST_ROWS, Bars, cell
 
 STYLE = """
 :root { --before: #8c959f; } @media (prefers-color-scheme: dark) { :root { --before: #6e7681; } }
@@ -26,7 +27,7 @@ def section(shown, args):
     yield f"<section>\n<h2>{escape(printable(shown.title))}</h2>"
     yield (
         f"<p><code>{escape(printable(aggregation.value_name))}</code>{by};"
-        f" {counted(len(shown.entries), 'entry', 'entries')}, the largest change first. {KEY}</p>"
+        f" {say_count(len(shown.entries), 'entry', 'entries')}, the largest change first. {KEY}</p>"
     )
     if aggregation.is_histogram:
         if args.percentiles:

@@ -4,7 +4,7 @@ import os
 
 from . import strace
 from .ahead import RUN, Ahead, count_of, is_run
-from .ends import Failure, shorten
+from .ends import Failure, say_count, shorten
 from .frequent_lines import SPECIAL, Arguments, Reader
 from .paths import path_of
 from .patterns import Names
@@ -73,7 +73,7 @@ class Losses:
     def warnings(self):
         """A line for each kind."""
         if self.symbols:
-            calls = counted(self.symbols, "call has", "calls have")
+            calls = say_count(self.symbols, "call has", "calls have")
             line, argument = self.first_symbol
             yield (
                 f"{calls} arguments that are no integers (line {line}: {argument}); these are "
@@ -81,21 +81,17 @@ class Losses:
                 "-e raw='!execve,clone,clone3'"
             )
         if self.undated:
-            returns = counted(self.undated, "return has", "returns have")
+            returns = say_count(self.undated, "return has", "returns have")
             yield f"no durations (strace -T): {returns} the time of the entry"
         if self.unnamed_errors:
-            calls = counted(self.unnamed_errors, "failed call has", "failed calls have")
+            calls = say_count(self.unnamed_errors, "failed call has", "failed calls have")
             yield f"{calls} an error without a known number ({self.first_error}): arg1 is -1"
         if self.unknown_births:
-            calls = counted(self.unknown_births, "call", "calls")
+            calls = say_count(self.unknown_births, "call", "calls")
             yield (
                 f"{calls} made a thread or a process, which raw arguments don't tell "
                 f"({self.first_birth}): it counts as a process"
             )
-
-
-def counted(count, one, several):
-    return f"{count:,} {one if count == 1 else several}"
 
 
 class Conversion:
@@ -148,7 +144,7 @@ class Conversion:
             recording, encoding="utf-8", errors="surrogateescape", newline="\n"
         )
         on_terminal = self.shape.on_terminal
-        for line in on_terminal.mended(lines) if on_terminal else lines:
+        for line in on_terminal.mend(lines) if on_terminal else lines:
             self.done += len(line)
             yield line
 
@@ -302,7 +298,7 @@ class Conversion:
 
     def birth(self, thread, call):
         """Takes what a call's entry shows of programs and processes."""
-        self.processes.entered(thread, call)
+        self.processes.enter(thread, call)
         if call.makes_unknown:
             self.losses.birth(self.line)
 
@@ -377,7 +373,7 @@ class Conversion:
         else:
             self.losses.undated += call.took is None
             time = began + (call.took or 0)
-        self.processes.returned(thread, call)
+        self.processes.leave(thread, call)
         error = call.result if call.error is None else call.error
         if isinstance(error, str):
             self.losses.error(self.line, error)
@@ -386,7 +382,7 @@ class Conversion:
 
     def arguments_of(self, name, args):
         """The columns of a call's arguments. Those that make processes show names on purpose."""
-        columns = self.arguments.joined(args)
+        columns = self.arguments.join(args)
         if SYMBOL not in columns:
             return columns
         if name in SPECIAL:

@@ -46,9 +46,9 @@ class Traces:
         words = [recording.converter, *self.options]
         if self.where is None:
             place = cache.Place(self.folder, cache.key_of(recording, words))
-            return self.converted(recording, words, place)
+            return self.convert(recording, words, place)
         place = cache.Place(self.where, cache.key_of(recording, words))
-        found = place.found()
+        found = place.find()
         if found:
             self.tool.say(f"{recording.name}: its trace was made before: {place.trace}")
             return (*found, place.trace)
@@ -56,12 +56,12 @@ class Traces:
             os.makedirs(self.where, mode=0o700, exist_ok=True)
         except OSError as why:
             self.tool.say(f"no trace is kept: {reason(why)}")
-            return self.converted(recording, words, cache.Place(self.folder, place.key))
-        made = self.converted(recording, words, place)
+            return self.convert(recording, words, cache.Place(self.folder, place.key))
+        made = self.convert(recording, words, place)
         self.tool.say(f"{recording.name}: its trace is kept: {place.trace}")
         return made
 
-    def converted(self, recording, words, place):
+    def convert(self, recording, words, place):
         """Makes the trace of a recording, and says what the converter said."""
         with place.part() as part:
             said, status = self.run(recording, words, part)

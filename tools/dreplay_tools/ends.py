@@ -25,6 +25,11 @@ class Failure(Exception):
         self.status = status
 
 
+def say_count(count, one, several):
+    """A number with the word for one, or for several, of what is counted."""
+    return f"{count:,} {one if count == 1 else several}"
+
+
 def reason(error):
     """An error of the system in words, with the file that it is about."""
     words = error.strerror or str(error) or type(error).__name__

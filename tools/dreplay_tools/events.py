@@ -3,7 +3,7 @@ import dataclasses
 import io
 import os
 
-from .ends import shorten
+from .ends import say_count, shorten
 from .fields import BadEvent
 from .trace import ARGS, MOST_NUMBER, MOST_TIME, Rows, field, text
 from .tracepoints import Lost, switches
@@ -13,10 +13,6 @@ BETWEEN_PROGRESS = 65536
 RESERVED = "dtrace"  # a provider that no row may have
 NOTHING_CONVERTED, SOME_SKIPPED = 3, 1
 MOST_LEFT_TWICE = 0.02  # of all the times that threads leave their processor
-
-
-def count_of(count, one, several):
-    return f"{count:,} {one if count == 1 else several}"
 
 
 class Losses:
@@ -33,7 +29,8 @@ class Losses:
         return bool(self.count or self.gaps)
 
     def warning(self):
-        how_many = count_of(self.count, "event was", "events were") if self.count else "events were"
+        several = "events were"
+        how_many = say_count(self.count, "event was", several) if self.count else several
         unknown = ", and more of which it isn't known how many" if self.count and self.gaps else ""
         return (
             f"{how_many} lost while it was recorded{unknown}: counts are too small, and latencies "
@@ -184,10 +181,10 @@ class Events:
                 "(perf record -a); some kernels leave out switches away from an idle processor"
             )
         if self.strangers:
-            rows = count_of(self.strangers, "row has", "rows have")
+            rows = say_count(self.strangers, "row has", "rows have")
             yield f"{rows} no process in the recording, so the thread counts as one"
         if self.lacking:
-            events = count_of(self.lacking, "event lacks", "events lack")
+            events = say_count(self.lacking, "event lacks", "events lack")
             function, why = next(iter(self.lacks.items()))
             others = f" and {len(self.lacks) - 1} more kinds" if len(self.lacks) > 1 else ""
             yield f"{events} arguments, which reads as 0: {shorten(function)} ({why}){others}"

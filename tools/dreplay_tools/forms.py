@@ -100,13 +100,13 @@ def as_csv(shown, args):
     out = io.StringIO()
     writer = csv.writer(out, lineterminator="\n")
     writer.writerows(
-        [guarded(cell, args.guard) if type(cell) is str else cell for cell in row]
+        [guard_text(cell, args.guard) if type(cell) is str else cell for cell in row]
         for row in (names, *rows)
     )
     return out.getvalue()
 
 
-def guarded(cell, guard):
+def guard_text(cell, guard):
     """A text of CSV, its control bytes escaped; asked to, with a quote before what a spreadsheet
     takes for a formula.
     """

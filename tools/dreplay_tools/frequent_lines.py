@@ -60,13 +60,13 @@ class Arguments(dict):
                 return self.careful(shown)
         if '"' in plain or "<" in plain or "/*" in plain or "{" in plain or "[" in plain:
             return self.careful(shown)
-        return self.joined(plain.split(", ")) if plain else COMMAS[0]
+        return self.join(plain.split(", ")) if plain else COMMAS[0]
 
     def careful(self, shown):
         """The same, of one that has comments or names of files in it, or isn't closed."""
-        return self.joined(strace.split(shown)[0])
+        return self.join(strace.split(shown)[0])
 
-    def joined(self, args):
+    def join(self, args):
         return ",".join([self[arg.strip()] for arg in args[:ARGS]]) + COMMAS[min(len(args), ARGS)]
 
 
@@ -136,7 +136,7 @@ class Reader:
             return None
         time = int(seconds + fraction + zeros) - self.zero
         if unfinished:
-            return self.begun(thread, name, shown, time)
+            return self.begin(thread, name, shown, time)
         values = self.returned[result, error]
         if values is None or (took and len(took_fraction) != len(fraction)):
             return None
@@ -181,7 +181,7 @@ class Reader:
             self.ended.clear()
         return line
 
-    def begun(self, thread, name, shown, time):
+    def begin(self, thread, name, shown, time):
         """A call that begins; none where its line has to be read otherwise."""
         if name is None or not 0 <= time <= MOST_TIME:
             return None

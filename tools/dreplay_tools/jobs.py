@@ -57,9 +57,9 @@ class Job:
             if state != self.state():
                 raise Failure("the trace or the program changed while it was run: run it again")
         except Failure as why:
-            self.ended(why.status, self.without_name(str(why)))
+            self.end(why.status, self.without_name(str(why)))
         except OSError as why:
-            self.ended(FAILED, self.without_name(reason(why)))
+            self.end(FAILED, self.without_name(reason(why)))
         # All else may end otherwise next time.
         if self.is_answered or self.line.startswith(REFUSED):
             note = {
@@ -85,7 +85,7 @@ class Job:
                 words = self.command.words
                 ran = subprocess.run(words, stdin=trace, stdout=out.file, stderr=subprocess.PIPE)
             line = ran.stderr.decode("utf-8", "replace").split("\n")[0]
-            self.ended(ran.returncode, line)
+            self.end(ran.returncode, line)
             if self.is_answered:
                 out.keep()
             elif os.path.exists(self.answer):
@@ -93,7 +93,7 @@ class Job:
         finally:
             out.abandon()
 
-    def ended(self, status, line):
+    def end(self, status, line):
         """Takes how the program ended. A script may end with any status; a refusal has a line."""
         self.is_answered = not line and status is not None and status >= 0
         self.status = status if status >= 0 else 128 - status

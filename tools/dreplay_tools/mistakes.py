@@ -130,7 +130,7 @@ class Near:
         at = self.at + offset
         return self.tokens[at].text if 0 <= at < len(self.tokens) else ""
 
-    def shown(self, offset):
+    def show(self, offset):
         return shorten(self.text(offset))
 
     def kind(self, offset):
@@ -219,7 +219,7 @@ def in_head(near):
 
 def dot(near):
     scope = near.text(-1)
-    return f"write `{scope}->{near.shown(1)}`" if scope in ("this", "self") else None
+    return f"write `{scope}->{near.show(1)}`" if scope in ("this", "self") else None
 
 
 OF_BYTES = {
@@ -302,7 +302,7 @@ def unquote(near):
         and near.text(1) not in ("(", "->")
     ):
         if near.text(0) not in BUILTINS | {"self", "this"}:
-            yield f'a text is in double quotes: `"{near.shown(0)}"`'
+            yield f'a text is in double quotes: `"{near.show(0)}"`'
 
 
 def declarations(near):
@@ -330,7 +330,7 @@ def globals_(near):
         return
     if word in BUILTINS | set(CALLED) | set(WORDS) | set(TYPES):
         return
-    word = near.shown(0)
+    word = near.show(0)
     if near.text(1) == "[":
         yield (
             f"there are no global arrays: `self->{word}[..]` is the thread's, and `@{word}[..]` an"
@@ -361,7 +361,7 @@ def aggregations(near):
         after = near.after_keys()
         if after in ASSIGNING - {"="} or after in ("++", "--"):
             yield (
-                f"an aggregation takes a function: `{near.shown(0)}[keys] = count();` or `="
+                f"an aggregation takes a function: `{near.show(0)}[keys] = count();` or `="
                 " sum(value);`"
             )
 
@@ -455,7 +455,7 @@ def of_place(script, at):
         and ends_statement(near, before)
     ):
         line = script.tokens[at - 1].line
-        yield f"a semicolon may be missing after `{near.shown(-1)}` in line {line}"
+        yield f"a semicolon may be missing after `{near.show(-1)}` in line {line}"
     elif near.text(0) in (";", "}", "{") and (open_one := find_unclosed(script.tokens, at)):
         yield f"`{open_one.text}` in line {open_one.line}, column {open_one.column} isn't closed"
     elif near.text(0) in (")", "]") and find_unclosed(script.tokens, at) is None:
@@ -538,12 +538,12 @@ def of_variable(script, at):
         if is_assigned(script.tokens, place, scope, name)
     ]
     if not assigned:
-        yield f"nothing assigns `{near.shown(2)}`"
+        yield f"nothing assigns `{near.show(2)}`"
         return
     is_time = any("timestamp" in right_side(script.tokens, place) for place in assigned)
     kind = "uint64_t" if is_time else "int64_t"
     kind = "string" if script.variables.get((scope, name)) else kind
-    name, line = near.shown(2), script.tokens[assigned[0]].line
+    name, line = near.show(2), script.tokens[assigned[0]].line
     yield (
         f"`{name}` is assigned in line {line}, and not before: declare"
         f" `{scope} {kind} {name}{'[..]' if keys else ''};` on top"

@@ -31,13 +31,13 @@ class Replaced:
         self.path, self.part = os.path.realpath(path), None
         in_place = not path or (os.path.exists(path) and not is_regular(path))
         try:
-            self.file = open(path if in_place else self.opened(), mode, **how)
+            self.file = open(path if in_place else self.open_file(), mode, **how)
         except OSError as why:
             self.abandon()
             why.filename = path
             raise
 
-    def opened(self):
+    def open_file(self):
         """A new file beside the one that it will replace, which no other run has."""
         folder, name = os.path.split(self.path)
         number, self.part = tempfile.mkstemp(".part", f"{name[:MOST_OF_A_NAME]}.", folder)

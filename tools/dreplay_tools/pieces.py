@@ -31,9 +31,9 @@ class Pieces:
         self.count = -(-size // self.bytes)
 
     def __iter__(self):
-        return map(self.made, range(self.count)) if self.jobs == 1 else self.side_by_side()
+        return map(self.make, range(self.count)) if self.jobs == 1 else self.side_by_side()
 
-    def made(self, place):
+    def make(self, place):
         return self.read(self.lines(place).decode("utf-8", "surrogateescape"))
 
     # -- the lines of a piece
@@ -95,7 +95,7 @@ class Pieces:
                 file.close()
             with open(writes, "wb") as out:
                 for place in range(first, self.count, self.jobs):
-                    data = marshal.dumps(self.made(place))
+                    data = marshal.dumps(self.make(place))
                     out.write(len(data).to_bytes(LENGTH, "little") + data)
             status = 0
         finally:

@@ -39,7 +39,7 @@ class Processes:
             head = self.heads[thread] = f",0,{thread},{process},{name},"
         return head
 
-    def entered(self, thread, call):
+    def enter(self, thread, call):
         """Takes what a call's entry shows: a first program, a new process or thread."""
         process = self.process_of.get(thread, thread)
         begun = call.program()
@@ -48,7 +48,7 @@ class Processes:
         if call.name in BIRTHS and 0 < (call.born or 0) <= MOST_NUMBER:
             self.birth(call, str(call.born), process)
 
-    def returned(self, thread, call):
+    def leave(self, thread, call):
         begun = call.program()
         if begun:
             self.rename(self.process_of.get(thread, thread), begun)

@@ -273,7 +273,7 @@ class Terminal:
     def __init__(self):
         self.first, self.alive = THE_THREAD, set()
 
-    def mended(self, lines):
+    def mend(self, lines):
         """The lines, of which each that strace's own word on a new thread interrupts is whole, and
         before that word.
         """
@@ -295,7 +295,7 @@ class Terminal:
         attached to.
         """
         born = set()
-        for line in self.mended(lines):
+        for line in self.mend(lines):
             attached = self.ATTACHED.match(line)
             if attached:
                 born.add(attached[1])

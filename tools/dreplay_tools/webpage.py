@@ -5,6 +5,7 @@ from html import escape
 
 from . import page_parts
 from .comparison import Compared
+from .ends import say_count
 from .forms import table
 from .heat import WIDEST_COLUMN, WIDEST_ROW, caption, has_heat, heat_of
 from .labels import SHARE, cut, interval, name, printable, show_number
@@ -151,7 +152,7 @@ def section(shown, args):
     by = f" by {escape(printable(', '.join(aggregation.keys)))}" if aggregation.keys else ""
     yield (
         f"<p><code>{escape(printable(aggregation.value_name))}</code>{by};"
-        f" {count_of(len(shown.entries), 'entry', 'entries')}</p>"
+        f" {say_count(len(shown.entries), 'entry', 'entries')}</p>"
     )
     if has_heat(shown):
         heat = heat_of(shown, args)
@@ -173,10 +174,6 @@ def section(shown, args):
     else:
         yield from data_table(shown, args, with_bars=True)
     yield "</section>"
-
-
-def count_of(number, one, many):
-    return f"{number:,} {one if number == 1 else many}"
 
 
 def data_table(shown, args, with_bars):

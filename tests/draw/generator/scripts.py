@@ -187,7 +187,7 @@ class Drawer:
         self.variables[name] = Variable(keys, kind)
         tokens = [space, *self.words_of(kind), name.split("->")[1]]
         return (
-            tokens + (self.bracketed([self.words_of(key) for key in keys]) if keys else []) + [";"]
+            tokens + (self.bracket([self.words_of(key) for key in keys]) if keys else []) + [";"]
         )
 
     def clause(self):
@@ -252,7 +252,7 @@ class Drawer:
             )
         known = self.aggregations[name]
         tokens = [name] + (
-            self.bracketed([self.value(kind, 2) for kind in known.keys]) if known.keys else []
+            self.bracket([self.value(kind, 2) for kind in known.keys]) if known.keys else []
         )
         tokens += ["=", known.function, "("]
         if known.function != "count":
@@ -261,7 +261,7 @@ class Drawer:
             tokens += [",", *known.linear.split()]
         return tokens + [")"]
 
-    def bracketed(self, parts):
+    def bracket(self, parts):
         """The parts between brackets, separated by commas."""
         tokens = ["["]
         for part in parts:
@@ -305,7 +305,7 @@ class Drawer:
                 *self.text(depth - 1),
                 ")",
             ]
-        return ["(", *self.assigned(TEXT, depth - 1), ")"]
+        return ["(", *self.assign(TEXT, depth - 1), ")"]
 
     def leaf(self, kind, built_ins, constants):
         scalars = [
@@ -351,7 +351,7 @@ class Drawer:
     def place(self, name, depth):
         keys = self.variables[name].keys
         return [name] + (
-            self.bracketed([self.value(kind, min(depth, 1)) for kind in keys]) if keys else []
+            self.bracket([self.value(kind, min(depth, 1)) for kind in keys]) if keys else []
         )
 
     def step(self, depth):
@@ -361,7 +361,7 @@ class Drawer:
 
     def change(self, depth):
         if self.likely(0.5):
-            return self.assigned(INTEGER, depth)
+            return self.assign(INTEGER, depth)
         return [*self.integer_target(depth), self.chance.choice(ASSIGNMENTS), *self.integer(depth)]
 
     def integer_target(self, depth):
@@ -378,11 +378,11 @@ class Drawer:
         """A new variable with its keys, its name, and the keys' kinds. It isn't known yet."""
         space = self.chance.choice(["self", "self", "this"])
         keys = self.kinds() if space == "self" and self.likely(0.3) else None
-        written = self.bracketed([self.value(kind, min(depth, 1)) for kind in keys]) if keys else []
+        written = self.bracket([self.value(kind, min(depth, 1)) for kind in keys]) if keys else []
         name = self.new_name(space)
         return name, [name, *written], keys
 
-    def assigned(self, kind, depth):
+    def assign(self, kind, depth):
         """An assignment by `=`. A new variable is known after it."""
         known = [name for name, known in self.variables.items() if known.kind == kind]
         if known and self.likely(0.7):
@@ -396,4 +396,4 @@ class Drawer:
     def assignment(self):
         if self.likely(0.3):
             return self.step(2)
-        return self.change(3) if self.likely(0.7) else self.assigned(TEXT, 2)
+        return self.change(3) if self.likely(0.7) else self.assign(TEXT, 2)

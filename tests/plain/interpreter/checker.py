@@ -244,7 +244,7 @@ class Checker:
         operand = self.expression(unary.operand)
         if operand is TEXT:
             refuse(MISMATCH, unary)
-        return INT if unary.operator == "!" else operand.promoted()
+        return INT if unary.operator == "!" else operand.promote()
 
     def cast(self, cast):
         if self.expression(cast.operand) is TEXT:

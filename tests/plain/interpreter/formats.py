@@ -20,16 +20,16 @@ class Conversion(NamedTuple):
     def takes_text(self):
         return self.letter == "s"
 
-    def written(self, value, of_type):
+    def write(self, value, of_type):
         """The bytes that it writes for a value of a type."""
         if self.takes_text:
-            return self.filled(b"", value)
+            return self.fill(b"", value)
         if self.letter in "di":
-            return self.filled(b"-" if value < 0 else b"", b"%d" % abs(value))
+            return self.fill(b"-" if value < 0 else b"", b"%d" % abs(value))
         unsigned = value % 2**of_type.width
-        return self.filled(b"", format(unsigned, {"u": "d"}.get(self.letter, self.letter)).encode())
+        return self.fill(b"", format(unsigned, {"u": "d"}.get(self.letter, self.letter)).encode())
 
-    def filled(self, sign, rest):
+    def fill(self, sign, rest):
         lacking = self.width - len(sign) - len(rest)
         if self.is_left:
             return sign + rest + b" " * lacking
@@ -71,6 +71,6 @@ def write_format(text, arguments):
     """What a format writes for its arguments, each a value and its type."""
     rest = iter(arguments)
     return b"".join(
-        piece.written(*next(rest)) if isinstance(piece, Conversion) else piece
+        piece.write(*next(rest)) if isinstance(piece, Conversion) else piece
         for piece in pieces(text)
     )

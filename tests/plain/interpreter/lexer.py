@@ -160,13 +160,13 @@ class Lexer:
                 self.refuse(BAD_BYTE)
             if byte == b"\\":
                 at += 1
-                says.append(self.escaped(at))
+                says.append(self.escape(at))
             else:
                 says += byte
             at += 1
         return self.token("text", bytes(says), at + 1)
 
-    def escaped(self, at):
+    def escape(self, at):
         """The byte that a backslash and the byte after it stand for."""
         if at == len(self.script):
             self.refuse(UNCLOSED)

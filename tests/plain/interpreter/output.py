@@ -78,7 +78,7 @@ class Single:
     def __init__(self, function, arguments):
         self.rank = SINGLES[function](arguments)
 
-    def written(self):
+    def write(self):
         return b" %16d\n" % self.rank
 
 
@@ -90,7 +90,7 @@ class Histogram:
         self.counts = Counter(map(buckets.bucket, arguments))
         self.rank = sum(buckets.label(bucket) * count for bucket, count in self.counts.items())
 
-    def written(self):
+    def write(self):
         first, last = max(0, min(self.counts) - 1), min(self.buckets.last(), max(self.counts) + 1)
         return b"\n" + HEADER + b"".join(map(self.row, range(first, last + 1))) + b"\n"
 
@@ -121,7 +121,7 @@ def sort_entries(aggregation, entries):
 def listing(aggregation, entries):
     """The bytes of an aggregation."""
     figures = sort_entries(aggregation, entries)
-    return b"\n" + b"".join(b"".join(map(part, key)) + shown.written() for shown, key in figures)
+    return b"\n" + b"".join(b"".join(map(part, key)) + shown.write() for shown, key in figures)
 
 
 def render(script, shown):

@@ -17,7 +17,7 @@ class IntType(NamedTuple):
         rest = number % 2**self.width
         return rest - 2**self.width if self.is_signed and rest >= 2 ** (self.width - 1) else rest
 
-    def promoted(self):
+    def promote(self):
         return INT if self.width < 32 else self
 
 
@@ -32,7 +32,7 @@ class DivideByZero(Exception):
 
 def common(a, b):
     """The type in which an operator joins operands of two types."""
-    return max(a.promoted(), b.promoted(), key=RANKS.index)
+    return max(a.promote(), b.promote(), key=RANKS.index)
 
 
 def constant_type(value, suffix):
@@ -75,7 +75,7 @@ COMPARISONS = {
 
 def result_type(operator, left, right):
     """The type of an arithmetic operator or shift between integers of two types."""
-    return left.promoted() if operator in SHIFTS else common(left, right)
+    return left.promote() if operator in SHIFTS else common(left, right)
 
 
 def operate(operator, left, left_type, right, right_type):
