@@ -4,24 +4,18 @@ use Rattle.std.specs.Prelude.{Result, Ok, Err}
 use Rattle.consumer.specs.declared.plan.Plan.{Plan}
 use Rattle.consumer.specs.declared.plan.Replayed.{Replayed}
 use Rattle.consumer.specs.declared.refusal.Refusal.{Refusal}
-use Rattle.consumer.specs.declared.refusal.Refusal.TheVariants.{Lex, Parse, Typing, Trace, Group}
-use Rattle.consumer.specs.declared.refusal.Refusal.TheVariants.{Memory}
 use Rattle.consumer.specs.Answer.{IsAnswer, without_line}
 use Rattle.consumer.specs.Replaying.{IsOfPlan, IsReplay, output_of}
 use Rattle.replay_core.specs.Layouts.{LayoutMeant, ShowsEach}
 use Rattle.consumer.proofs.Answers.{one_answer}
+use Rattle.consumer.proofs.Refusing.{refusal_or_plan}
 
 module _ (shows : LayoutMeant) (script trace : List ℕ) where
   pub shown_answers : (plan : Plan) (r : Replayed) → IsReplay shows script trace plan (Ok r) → IsAnswer shows script trace (Ok (output_of r))
-  shown_answers plan r is = (is.0, is.1, is.2, is.3)
+  shown_answers plan r is = is.answer
 
   pub refusal_answers : (plan : Plan) (e : Refusal) → IsReplay shows script trace plan (Err e) → IsAnswer shows script trace (Err e) ⊎ IsOfPlan e
-  refusal_answers plan (Lex f) is = inl is
-  refusal_answers plan (Parse f) is = inl is
-  refusal_answers plan (Typing f) is = inl is
-  refusal_answers plan (Trace f) is = inl is
-  refusal_answers plan (Group f) is = inr tt
-  refusal_answers plan Memory is = inr tt
+  refusal_answers plan e is = refusal_or_plan plan script trace e is.fault
 
 module _ (shows : LayoutMeant) (each : ShowsEach shows) (script trace : List ℕ) where
   pub shown_agree : (p q : Plan) (a b : Replayed) → IsReplay shows script trace p (Ok a) → IsReplay shows script trace q (Ok b)

@@ -23,8 +23,10 @@ use Rattle.replay_core.specs.Layouts.{LayoutMeant}
 use Rattle.consumer.specs.declared.refusal.Refusal.{Refusal}
 use Rattle.consumer.specs.declared.refusal.Refusal.TheVariants.{Lex, Parse, Typing, Trace, Group}
 use Rattle.consumer.specs.declared.refusal.Refusal.TheVariants.{Memory}
-use Rattle.consumer.specs.Answer.{IsAnswer, IsSameAnswer, IsShown, Shown}
-use Rattle.consumer.specs.Scripts.{HasTree, IsAccepted, IsMistyped, IsParseFault, IsUnread}
+use Rattle.consumer.specs.Answer.{IsAnswer, IsRefusal, IsSameAnswer, IsShown, Means, Shown}
+use Rattle.consumer.specs.Answer.{without_line}
+use Rattle.consumer.specs.Scripts.{HasTree, IsAccepted, IsMistyped, IsParseFault, IsScriptFault}
+use Rattle.consumer.specs.Scripts.{IsUnread}
 
 -- ---- one tree
 
@@ -88,7 +90,7 @@ many_alone script ts us a b many few =
     let both : 256 < clauses us = subst (λ l. 256 < clauses l) (same_tokens script ts us a b) many in
     absurd (omega arith)
 
-same_parse_fault : (script : List ℕ) (f g : ParseFault) → IsParseFault script f → IsParseFault script g → IsSameAnswer (Err (Parse f)) (Err (Parse g))
+same_parse_fault : (script : List ℕ) (f g : ParseFault) → IsParseFault script f → IsParseFault script g → without_line (Parse f) ≡ without_line (Parse g)
 same_parse_fault script parse.TooDeep parse.TooDeep a b = refl
 same_parse_fault script parse.TooDeep parse.TooManyClauses a b = absurd (deep_alone script a.0 b.0 a.1 b.1 a.2 b.2)
 same_parse_fault script parse.TooDeep (parse.Syntax line) a b = absurd (deep_alone script a.0 b.0 a.1 b.1.lexed a.2 b.1.shallow)
@@ -102,9 +104,6 @@ same_parse_fault script (parse.Syntax line) parse.TooManyClauses a b = absurd (m
 same_parse_fault script (parse.Syntax line) (parse.Syntax other) a b = refl
 same_parse_fault script (parse.Syntax line) parse.Memory a b = absurd b
 same_parse_fault script parse.Memory g a b = absurd a
-
-lex_is : (f g : LexFault) → f ≡ g → IsSameAnswer (Err (Lex f)) (Err (Lex g))
-lex_is f g e = ap Lex e
 
 -- ---- one first fault of the types
 
@@ -120,21 +119,23 @@ same_type_fault script f g a b =
     let same = types.one_answer a.items (Err f) (Err g) a.refused refused in
     cc
 
-abbrev IsScriptRefusal : Refusal → Type 0
-IsScriptRefusal (Lex f) = Unit {0}
-IsScriptRefusal (Parse f) = Unit {0}
-IsScriptRefusal (Typing f) = Unit {0}
-IsScriptRefusal e = ⊥
-
 -- an accepted script isn't refused
-accepted_not_refused : (shows : LayoutMeant) (script trace : List ℕ) (m : ScriptMeant) (e : Refusal) → IsAccepted script m → IsScriptRefusal e
-    → ¬ IsAnswer shows script trace (Err e)
-accepted_not_refused shows script trace m (Lex f) a own r = tree_not_refused script a.items (Lex f) a.tree r
-accepted_not_refused shows script trace m (Parse f) a own r = tree_not_refused script a.items (Parse f) a.tree r
-accepted_not_refused shows script trace m (Typing f) a own r = accepted_not_mistyped script m f a r
-accepted_not_refused shows script trace m (Trace f) a own r = own
-accepted_not_refused shows script trace m (Group f) a own r = own
-accepted_not_refused shows script trace m Memory a own r = own
+accepted_not_refused : (script : List ℕ) (m : ScriptMeant) (e : Refusal) → IsAccepted script m → ¬ IsScriptFault script e
+accepted_not_refused script m (Typing f) a r = accepted_not_mistyped script m f a r
+accepted_not_refused script m (Lex f) a r = tree_not_refused script a.items (Lex f) a.tree r
+accepted_not_refused script m (Parse f) a r = tree_not_refused script a.items (Parse f) a.tree r
+accepted_not_refused script m (Trace f) a r = r
+accepted_not_refused script m (Group f) a r = r
+accepted_not_refused script m Memory a r = r
+
+-- where something is refused there is no run
+pub no_run : (script trace : List ℕ) (e : Refusal) → IsRefusal script trace e → (m : ScriptMeant) (firings : List Firing) → ¬ Means script trace m firings
+no_run script trace (Trace f) r m firings is = let read = is.reads in let refused = r.1 in cc
+no_run script trace (Lex f) r m firings is = accepted_not_refused script m (Lex f) is.accepted r
+no_run script trace (Parse f) r m firings is = accepted_not_refused script m (Parse f) is.accepted r
+no_run script trace (Typing f) r m firings is = accepted_not_refused script m (Typing f) is.accepted r
+no_run script trace (Group f) r m firings is = r
+no_run script trace Memory r m firings is = r
 
 -- ---- one run
 
@@ -159,46 +160,41 @@ same_shown shows one script trace x y o p =
 
 -- ---- one answer
 
-pub one_answer : (shows : LayoutMeant) → ShowsOne shows → (script trace : List ℕ) (a b : Result Shown Refusal) → IsAnswer shows script trace a → IsAnswer shows script trace b
-    → IsSameAnswer a b
-one_answer shows one script trace (Ok x) (Ok y) o p = same_shown shows one script trace x y o p
-one_answer shows one script trace (Ok x) (Err (Lex f)) o p = absurd (accepted_not_refused shows script trace o.0 (Lex f) o.2.accepted tt p)
-one_answer shows one script trace (Ok x) (Err (Parse f)) o p = absurd (accepted_not_refused shows script trace o.0 (Parse f) o.2.accepted tt p)
-one_answer shows one script trace (Ok x) (Err (Typing f)) o p = absurd (accepted_not_refused shows script trace o.0 (Typing f) o.2.accepted tt p)
-one_answer shows one script trace (Ok x) (Err (Trace g)) o p = let read = o.2.reads in let refused = p.1 in cc
-one_answer shows one script trace (Ok x) (Err (Group g)) o p = absurd p
-one_answer shows one script trace (Ok x) (Err Memory) o p = absurd p
-one_answer shows one script trace (Err (Lex f)) (Ok y) o p = absurd (accepted_not_refused shows script trace p.0 (Lex f) p.2.accepted tt o)
-one_answer shows one script trace (Err (Lex f)) (Err (Lex g)) o p = lex_is f g (same_lex_fault script f g o p)
-one_answer shows one script trace (Err (Lex f)) (Err (Parse g)) o p = let l = lexed_in script g p in absurd (lexed_not_refused script l.0 f l.1 o)
-one_answer shows one script trace (Err (Lex f)) (Err (Typing g)) o p = absurd (tree_not_refused script p.items (Lex f) p.tree o)
-one_answer shows one script trace (Err (Lex f)) (Err (Trace g)) o p = absurd (accepted_not_refused shows script trace p.0.0 (Lex f) p.0.1 tt o)
-one_answer shows one script trace (Err (Lex f)) (Err (Group g)) o p = absurd p
-one_answer shows one script trace (Err (Lex f)) (Err Memory) o p = absurd p
-one_answer shows one script trace (Err (Parse f)) (Ok y) o p = absurd (accepted_not_refused shows script trace p.0 (Parse f) p.2.accepted tt o)
-one_answer shows one script trace (Err (Parse f)) (Err (Lex g)) o p = let l = lexed_in script f o in absurd (lexed_not_refused script l.0 g l.1 p)
-one_answer shows one script trace (Err (Parse f)) (Err (Parse g)) o p = same_parse_fault script f g o p
-one_answer shows one script trace (Err (Parse f)) (Err (Typing g)) o p = absurd (tree_not_refused script p.items (Parse f) p.tree o)
-one_answer shows one script trace (Err (Parse f)) (Err (Trace g)) o p = absurd (accepted_not_refused shows script trace p.0.0 (Parse f) p.0.1 tt o)
-one_answer shows one script trace (Err (Parse f)) (Err (Group g)) o p = absurd p
-one_answer shows one script trace (Err (Parse f)) (Err Memory) o p = absurd p
-one_answer shows one script trace (Err (Typing f)) (Ok y) o p = absurd (accepted_not_refused shows script trace p.0 (Typing f) p.2.accepted tt o)
-one_answer shows one script trace (Err (Typing f)) (Err (Lex g)) o p = absurd (tree_not_refused script o.items (Lex g) o.tree p)
-one_answer shows one script trace (Err (Typing f)) (Err (Parse g)) o p = absurd (tree_not_refused script o.items (Parse g) o.tree p)
-one_answer shows one script trace (Err (Typing f)) (Err (Typing g)) o p = ap Typing (same_type_fault script f g o p)
-one_answer shows one script trace (Err (Typing f)) (Err (Trace g)) o p = absurd (accepted_not_refused shows script trace p.0.0 (Typing f) p.0.1 tt o)
-one_answer shows one script trace (Err (Typing f)) (Err (Group g)) o p = absurd p
-one_answer shows one script trace (Err (Typing f)) (Err Memory) o p = absurd p
-one_answer shows one script trace (Err (Trace f)) (Ok y) o p = let refused = o.1 in let read = p.2.reads in cc
-one_answer shows one script trace (Err (Trace f)) (Err (Lex g)) o p = absurd (accepted_not_refused shows script trace o.0.0 (Lex g) o.0.1 tt p)
-one_answer shows one script trace (Err (Trace f)) (Err (Parse g)) o p = absurd (accepted_not_refused shows script trace o.0.0 (Parse g) o.0.1 tt p)
-one_answer shows one script trace (Err (Trace f)) (Err (Typing g)) o p = absurd (accepted_not_refused shows script trace o.0.0 (Typing g) o.0.1 tt p)
-one_answer shows one script trace (Err (Trace f)) (Err (Trace g)) o p =
+same_refusal : (script trace : List ℕ) (e f : Refusal) → IsRefusal script trace e → IsRefusal script trace f → without_line e ≡ without_line f
+same_refusal script trace (Lex f) (Lex g) o p = ap Lex (same_lex_fault script f g o p)
+same_refusal script trace (Lex f) (Parse g) o p = let l = lexed_in script g p in absurd (lexed_not_refused script l.0 f l.1 o)
+same_refusal script trace (Lex f) (Typing g) o p = absurd (tree_not_refused script p.items (Lex f) p.tree o)
+same_refusal script trace (Lex f) (Trace g) o p = absurd (accepted_not_refused script p.0.0 (Lex f) p.0.1 o)
+same_refusal script trace (Lex f) (Group g) o p = absurd p
+same_refusal script trace (Lex f) Memory o p = absurd p
+same_refusal script trace (Parse f) (Lex g) o p = let l = lexed_in script f o in absurd (lexed_not_refused script l.0 g l.1 p)
+same_refusal script trace (Parse f) (Parse g) o p = same_parse_fault script f g o p
+same_refusal script trace (Parse f) (Typing g) o p = absurd (tree_not_refused script p.items (Parse f) p.tree o)
+same_refusal script trace (Parse f) (Trace g) o p = absurd (accepted_not_refused script p.0.0 (Parse f) p.0.1 o)
+same_refusal script trace (Parse f) (Group g) o p = absurd p
+same_refusal script trace (Parse f) Memory o p = absurd p
+same_refusal script trace (Typing f) (Lex g) o p = absurd (tree_not_refused script o.items (Lex g) o.tree p)
+same_refusal script trace (Typing f) (Parse g) o p = absurd (tree_not_refused script o.items (Parse g) o.tree p)
+same_refusal script trace (Typing f) (Typing g) o p = ap Typing (same_type_fault script f g o p)
+same_refusal script trace (Typing f) (Trace g) o p = absurd (accepted_not_refused script p.0.0 (Typing f) p.0.1 o)
+same_refusal script trace (Typing f) (Group g) o p = absurd p
+same_refusal script trace (Typing f) Memory o p = absurd p
+same_refusal script trace (Trace f) (Lex g) o p = absurd (accepted_not_refused script o.0.0 (Lex g) o.0.1 p)
+same_refusal script trace (Trace f) (Parse g) o p = absurd (accepted_not_refused script o.0.0 (Parse g) o.0.1 p)
+same_refusal script trace (Trace f) (Typing g) o p = absurd (accepted_not_refused script o.0.0 (Typing g) o.0.1 p)
+same_refusal script trace (Trace f) (Trace g) o p =
     let refused = o.1 in
     let refused' = p.1 in
     let same : f ≡ g = cc in
     ap Trace same
-one_answer shows one script trace (Err (Trace f)) (Err (Group g)) o p = absurd p
-one_answer shows one script trace (Err (Trace f)) (Err Memory) o p = absurd p
-one_answer shows one script trace (Err (Group f)) b o p = absurd o
-one_answer shows one script trace (Err Memory) b o p = absurd o
+same_refusal script trace (Trace f) (Group g) o p = absurd p
+same_refusal script trace (Trace f) Memory o p = absurd p
+same_refusal script trace (Group f) e o p = absurd o
+same_refusal script trace Memory e o p = absurd o
+
+pub one_answer : (shows : LayoutMeant) → ShowsOne shows → (script trace : List ℕ) (a b : Result Shown Refusal) → IsAnswer shows script trace a → IsAnswer shows script trace b
+    → IsSameAnswer a b
+one_answer shows one script trace (Ok x) (Ok y) o p = same_shown shows one script trace x y o p
+one_answer shows one script trace (Ok x) (Err f) o p = absurd (no_run script trace f p o.0 o.1 o.2)
+one_answer shows one script trace (Err e) (Ok y) o p = absurd (no_run script trace e o p.0 p.1 p.2)
+one_answer shows one script trace (Err e) (Err f) o p = same_refusal script trace e f o p

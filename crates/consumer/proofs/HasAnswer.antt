@@ -32,23 +32,23 @@ use Rattle.consumer.specs.declared.refusal.Refusal.TheVariants.{Lex, Parse, Typi
 use Rattle.consumer.specs.Answer.{IsAnswer, Shown}
 use Rattle.consumer.specs.Scripts.{HasTokens, HasTree, IsAccepted}
 
-abbrev HasAnswer : LayoutMeant → (script trace : List ℕ) → Type 0
-HasAnswer shows script trace = (a : Result Shown Refusal) × IsAnswer shows script trace a
+abbrev HasSome : LayoutMeant → (script trace : List ℕ) → Type 0
+HasSome shows script trace = (a : Result Shown Refusal) × IsAnswer shows script trace a
 
 module _ (shows : LayoutMeant) (each : ShowsEach shows) (script trace : List ℕ) where
-  over_trace : (m : ScriptMeant) → IsAccepted script m → (r : Result (List Firing) TraceFault) → trace_of trace ≡ r → HasAnswer shows script trace
+  over_trace : (m : ScriptMeant) → IsAccepted script m → (r : Result (List Firing) TraceFault) → trace_of trace ≡ r → HasSome shows script trace
   over_trace m a (Ok fs) e =
       let out = each.some m (history_over m fs) in
       let shown : Shown = record { bytes = out.0; status = exit_status (history_over m fs) } in
       (Ok shown, (m, fs, record { accepted = a; reads = e }, record { bytes = out.1; status = refl }))
   over_trace m a (Err f) e = (Err (Trace f), ((m, a), e))
 
-  of_tree : (items : List ItemTree) → HasTree script items → (r : Result ScriptMeant TypeFault) → IsChecked items r → HasAnswer shows script trace
+  of_tree : (items : List ItemTree) → HasTree script items → (r : Result ScriptMeant TypeFault) → IsChecked items r → HasSome shows script trace
   of_tree items tree (Ok m) e =
       over_trace m (record { items = items; tree = tree; means = e }) (trace_of trace) refl
   of_tree items tree (Err fault) e = (Err (Typing fault), record { items = items; tree = tree; refused = e })
 
-  read : (tokens : List Token) → HasTokens script tokens → (r : Option (List ItemTree)) → reading.script_reader tokens ≡ r → HasAnswer shows script trace
+  read : (tokens : List Token) → HasTokens script tokens → (r : Option (List ItemTree)) → reading.script_reader tokens ≡ r → HasSome shows script trace
   read tokens has None e =
       (Err (Parse (parse.Syntax 1)), (tokens, has, λ items spelled. let is = complete.script_complete items tokens spelled in cc))
   read tokens has (Some items) e =
@@ -56,20 +56,20 @@ module _ (shows : LayoutMeant) (each : ShowsEach shows) (script trace : List ℕ
       let checked = types.has_answer items in
       of_tree items (record { tokens = tokens; has = has; spelled = spelled }) checked.0 checked.1
 
-  of_tokens : (tokens : List Token) → IsLexed script tokens → (deep : Bool) → is_deep 0 0 tokens ≡ deep → HasAnswer shows script trace
+  of_tokens : (tokens : List Token) → IsLexed script tokens → (deep : Bool) → is_deep 0 0 tokens ≡ deep → HasSome shows script trace
   of_tokens tokens lexed true e = (Err (Parse parse.TooDeep), (tokens, lexed, deep_is tokens e))
   of_tokens tokens lexed false e = ⊎_elim
       (λ (many : 256 < clauses tokens). (Err (Parse parse.TooManyClauses), (tokens, lexed, not_deep tokens e, many)))
       (λ (few : clauses tokens ≤ 256). read tokens (record { lexed = lexed; shallow = not_deep tokens e; few = few }) (reading.script_reader tokens) refl)
       (cases_lt 256 (clauses tokens))
 
-  of_bytes : length script ≤ 65536 → HasAnswer shows script trace
+  of_bytes : length script ≤ 65536 → HasSome shows script trace
   of_bytes short = ⊎_elim
       (λ (t : (ts : List Token) × AreTokens script ts). of_tokens t.0 (short, t.1) (is_deep 0 0 t.0) refl)
       (λ (f : (fault : LexFault) × IsFirstFault script fault). (Err (Lex f.0), inr (short, f.1)))
       (lexer.has_one script)
 
-  pub has_answer : HasAnswer shows script trace
+  pub has_answer : HasSome shows script trace
   has_answer = ⊎_elim
       (λ (long : 65536 < length script). (Err (Lex lex.TooLong), inl (refl, long)))
       (λ (short : length script ≤ 65536). of_bytes short)

@@ -17,9 +17,10 @@ use Rattle.consumer.specs.declared.refusal.Refusal.{Refusal}
 use Rattle.consumer.specs.declared.refusal.Refusal.TheVariants.{Lex, Parse, Typing, Trace, Group}
 use Rattle.consumer.specs.declared.refusal.Refusal.TheVariants.{Memory}
 use Rattle.consumer.specs.Consuming.{HoldsOfInput, WritesAnswer}
-use Rattle.consumer.specs.Replaying.{IsReplay}
+use Rattle.consumer.specs.Replaying.{IsRefusalUnder, IsReplay}
 use Rattle.consumer.specs.Scripts.{IsParseFault}
 use Rattle.consumer.specs.Steps.Files.{IsScriptIn}
+use Rattle.consumer.proofs.Refusing.{refused}
 
 -- ---- scripts that are too long are refused alike
 
@@ -38,15 +39,18 @@ module _ (script all : List ℕ) (long : 65536 < length script) (all_long : 6553
   parsed_alike (parse.Syntax line) p = absurd (unlexed p.0 p.1.lexed)
   parsed_alike parse.Memory p = p
 
+  reason_alike : (trace : List ℕ) (plan : Plan) (e : Refusal) → IsRefusalUnder plan script trace e → IsRefusalUnder plan all trace e
+  reason_alike trace plan (Lex fault) is = refused_alike fault is
+  reason_alike trace plan (Parse fault) is = parsed_alike fault is
+  reason_alike trace plan (Typing fault) is = let tree = is.tree in absurd (unlexed tree.tokens tree.has.lexed)
+  reason_alike trace plan (Trace fault) is = let tree = is.0.1.tree in absurd (unlexed tree.tokens tree.has.lexed)
+  reason_alike trace plan (Group fault) is = let tree = is.2.accepted.tree in absurd (unlexed tree.tokens tree.has.lexed)
+  reason_alike trace plan Memory is = tt
+
   replayed_alike : (shows : LayoutMeant) (trace : List ℕ) (plan : Plan) (answer : Result Replayed Refusal) → IsReplay shows script trace plan answer
       → IsReplay shows all trace plan answer
-  replayed_alike shows trace plan (Ok r) is = let tree = is.2.accepted.tree in absurd (unlexed tree.tokens tree.has.lexed)
-  replayed_alike shows trace plan (Err (Lex fault)) is = refused_alike fault is
-  replayed_alike shows trace plan (Err (Parse fault)) is = parsed_alike fault is
-  replayed_alike shows trace plan (Err (Typing fault)) is = let tree = is.tree in absurd (unlexed tree.tokens tree.has.lexed)
-  replayed_alike shows trace plan (Err (Trace fault)) is = let tree = is.0.1.tree in absurd (unlexed tree.tokens tree.has.lexed)
-  replayed_alike shows trace plan (Err (Group fault)) is = let tree = is.2.accepted.tree in absurd (unlexed tree.tokens tree.has.lexed)
-  replayed_alike shows trace plan (Err Memory) is = tt
+  replayed_alike shows trace plan (Ok r) is = let tree = is.answer.2.accepted.tree in absurd (unlexed tree.tokens tree.has.lexed)
+  replayed_alike shows trace plan (Err e) is = refused shows all trace plan e (reason_alike trace plan e is.fault)
 
 -- ---- what is written for a beginning that is too long is written for the file
 

@@ -68,30 +68,36 @@ not_both (Lists lists) trace g e a b =
 
 module _ (shows : LayoutMeant) (script trace : List ℕ) (plan : Plan) where
   pub ran_alike : (a b : Replayed) → IsReplay shows script trace plan (Ok a) → IsReplay shows script trace plan (Ok b) → ran_in a ≡ ran_in b
-  ran_alike a b x y =
+  ran_alike a b first second =
+      let x = first.carried in
+      let y = second.carried in
       let meaning = same_meaning script x.0 y.0 x.2.accepted y.2.accepted in
       let read = x.2.reads in
       let read' = y.2.reads in
       let firings : x.1 ≡ y.1 = cc in
-      let other : IsGroupedBy plan.groups x.1 y.4.grouping = subst (λ fs. IsGroupedBy plan.groups fs y.4.grouping) (sym firings) y.4.grouped in
-      let groups = one_grouping plan.groups x.1 x.4.grouping y.4.grouping x.4.grouped other in
-      x.4.ran ∙ ap (λ g. numbers_by_group g (firings_over x.0 x.1)) groups
-      ∙ ap (λ m. numbers_by_group y.4.grouping (firings_over m x.1)) meaning
-      ∙ ap (λ fs. numbers_by_group y.4.grouping (firings_over y.0 fs)) firings ∙ sym y.4.ran
+      let other : IsGroupedBy plan.groups x.1 y.3.grouping = subst (λ fs. IsGroupedBy plan.groups fs y.3.grouping) (sym firings) y.3.grouped in
+      let groups = one_grouping plan.groups x.1 x.3.grouping y.3.grouping x.3.grouped other in
+      x.3.ran ∙ ap (λ g. numbers_by_group g (firings_over x.0 x.1)) groups
+      ∙ ap (λ m. numbers_by_group y.3.grouping (firings_over m x.1)) meaning
+      ∙ ap (λ fs. numbers_by_group y.3.grouping (firings_over y.0 fs)) firings ∙ sym y.3.ran
 
   pub refused_alike : (e f : GroupFault) → IsReplay shows script trace plan (Err (Group e)) → IsReplay shows script trace plan (Err (Group f)) → e ≡ f
-  refused_alike e f x y =
+  refused_alike e f first second =
+      let x = first.fault in
+      let y = second.fault in
       let read = x.2.reads in
       let read' = y.2.reads in
       let firings : y.1 ≡ x.1 = cc in
       one_misgrouping plan.groups x.1 e f x.3 (subst (λ fs. IsMisgrouped plan.groups fs f) firings y.3)
 
   grouped_apart : (a : Replayed) (e : GroupFault) → IsReplay shows script trace plan (Ok a) → IsReplay shows script trace plan (Err (Group e)) → ⊥
-  grouped_apart a e x y =
+  grouped_apart a e first second =
+      let x = first.carried in
+      let y = second.fault in
       let read = x.2.reads in
       let read' = y.2.reads in
       let firings : y.1 ≡ x.1 = cc in
-      not_both plan.groups x.1 x.4.grouping e x.4.grouped (subst (λ fs. IsMisgrouped plan.groups fs e) firings y.3)
+      not_both plan.groups x.1 x.3.grouping e x.3.grouped (subst (λ fs. IsMisgrouped plan.groups fs e) firings y.3)
 
   -- where one replay answers, only memory makes another refuse
   pub memory_alone : ShowsEach shows → (a : Replayed) (e : Refusal) → IsReplay shows script trace plan (Ok a) → IsReplay shows script trace plan (Err e) → e ≡ Memory

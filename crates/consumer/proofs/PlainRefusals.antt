@@ -131,9 +131,9 @@ trace_plain bytes trace.TooMany r = refl
 trace_plain bytes trace.Memory r = absurd (never_memory bytes r)
 
 pub refusal_plain : (shows : LayoutMeant) (script bytes : List ℕ) (plan : Plan) (e : Refusal) → IsReplay shows script bytes plan (Err e) → plain_refusal e ≡ e
-refusal_plain shows script bytes plan (Lex f) is = lex_plain script f is
-refusal_plain shows script bytes plan (Parse f) is = parse_plain script f is
-refusal_plain shows script bytes plan (Typing f) is = typing_plain script f is
-refusal_plain shows script bytes plan (Trace f) is = trace_plain bytes f is.1
-refusal_plain shows script bytes plan (Group f) is = group_plain plan.groups is.1 f is.3
+refusal_plain shows script bytes plan (Lex f) is = lex_plain script f is.fault
+refusal_plain shows script bytes plan (Parse f) is = parse_plain script f is.fault
+refusal_plain shows script bytes plan (Typing f) is = typing_plain script f is.fault
+refusal_plain shows script bytes plan (Trace f) is = trace_plain bytes f is.fault.1
+refusal_plain shows script bytes plan (Group f) is = group_plain plan.groups is.fault.1 f is.fault.3
 refusal_plain shows script bytes plan Memory is = refl

@@ -74,7 +74,7 @@ data Came (shows : LayoutMeant) (script trace : List ℕ) (old new : StreamsSeen
 
 module _ (shows : LayoutMeant) (script trace : List ℕ) (plan : Plan) (n : ℕ) (dealt : plan.groups ≡ Dealt n) (old new : StreamsSeen) (status : ℕ) where
   misgrouped : (fault : GroupFault) → IsReplay shows script trace plan (Err (Group fault)) → ⊥
-  misgrouped fault is = subst (λ groups. IsMisgrouped groups is.1 fault) dealt is.3
+  misgrouped fault is = subst (λ groups. IsMisgrouped groups is.fault.1 fault) dealt is.fault.3
 
   by_refusal : (e : Refusal) → IsReplay shows script trace plan (Err e) → new.output ≡ old.output → status ≡ status_of e
       → IsReported (Err (Refused e)) old.errors new.errors → Came shows script trace old new status

@@ -18,6 +18,7 @@ use Rattle.consumer.specs.Program.{AreUnfailed, IsRunOf, StreamsSeen}
 use Rattle.consumer.specs.Vocabulary.{Request}
 use Rattle.std.specs.Prelude.{IsSome, MatchOption}
 use Rattle.std.specs.declared.string.String.{String}
+use Rattle.consumer.proofs.Refusing.{out_of_memory}
 
 -- what holds of any bytes holds of those that were to be read
 pub holds_of_any : (remaining : Option (List ℕ)) (Holds : List ℕ → Type 0) → ((bytes : List ℕ) → Holds bytes) → HoldsOfInput remaining Holds
@@ -26,18 +27,18 @@ holds_of_any (Some bytes) Holds any = record { input = bytes; read = refl; holds
 
 -- where memory ran out in reading, that is replay's answer too, and nothing goes out
 pub none_shown : {shows : LayoutMeant} (script trace : List ℕ) (plan : Plan) (seen : SinkSeen) (result : Result Replayed ConsumeFault) (fault : ReadFault) → IsErrAnd result (λ e. e ≡ fault_of_reading fault) → result ≢ Err Read → WritesAnswer shows script trace plan seen seen result
-none_shown script trace plan seen result Failed told other =
+none_shown {shows = shows} script trace plan seen result Failed told other =
     let p = err_from_is_err_and result told in
     absurd (other (p.1 ∙ ap Err p.2))
-none_shown script trace plan seen result reading.Memory told other =
+none_shown {shows = shows} script trace plan seen result reading.Memory told other =
     let p = err_from_is_err_and result told in
-    record { answer = Err Memory; is = tt; out = (refl, p.1 ∙ ap Err p.2) }
+    record { answer = Err Memory; is = out_of_memory shows script trace plan; out = (refl, p.1 ∙ ap Err p.2) }
 
 -- the same where memory ran out later
 pub memory_shown : {shows : LayoutMeant} (script trace : List ℕ) (plan : Plan) (seen : SinkSeen) (result : Result Replayed ConsumeFault) → IsErrAnd result (λ e. e ≡ Refused Memory) → WritesAnswer shows script trace plan seen seen result
-memory_shown script trace plan seen result told =
+memory_shown {shows = shows} script trace plan seen result told =
     let p = err_from_is_err_and result told in
-    record { answer = Err Memory; is = tt; out = (refl, p.1 ∙ ap Err p.2) }
+    record { answer = Err Memory; is = out_of_memory shows script trace plan; out = (refl, p.1 ∙ ap Err p.2) }
 
 -- a file is asked for, where one is named
 pub some_file : {A : Type 0} (file : Option A) (name : A) → file ≡ Some name → IsSome file
@@ -51,7 +52,7 @@ any_file file name P Q named holds = rw named holds
 pub script_unread : {shows : LayoutMeant} (request : Request) (holds : List ℕ → Option (List ℕ)) (seen : StreamsSeen) (result : Result Replayed ConsumeFault)
     (fault : ConsumeFault) (name : String Global) → request.file ≡ Some name → AreUnfailed seen → IsErrAnd result (λ e. e ≡ fault)
     → (fault ≡ Read) ⊎ (fault ≡ Refused Memory) → IsRunOf shows request holds seen seen result
-script_unread request holds seen result fault name named unfailed told (inl read) =
+script_unread {shows = shows} request holds seen result fault name named unfailed told (inl read) =
     let p = err_from_is_err_and result told in
     let failed : result ≡ Err Read = p.1 ∙ ap Err (p.2 ∙ read) in
     record {
@@ -61,12 +62,12 @@ script_unread request holds seen result fault name named unfailed told (inl read
       unread = λ _. refl;
       few = search rules;
     }
-script_unread request holds seen result fault name named unfailed told (inr memory) =
+script_unread {shows = shows} request holds seen result fault name named unfailed told (inr memory) =
     let p = err_from_is_err_and result told in
     let spent : result ≡ Err (Refused Memory) = p.1 ∙ ap Err (p.2 ∙ memory) in
     record {
       shown = λ other. any_file request.file name _ _ named (holds_of_any _ _ (λ script. holds_of_any _ _
-          (λ trace. record { answer = Err Memory; is = tt; out = (refl, spent) })));
+          (λ trace. record { answer = Err Memory; is = out_of_memory shows script trace request.plan; out = (refl, spent) })));
       read = λ other. (unfailed.input, inl spent);
       blamed = λ _. inr (some_file request.file name named, refl);
       unread = λ _. refl;

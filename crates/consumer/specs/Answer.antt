@@ -1,9 +1,9 @@
 -- The answer of a script over a trace.
 use Rattle.std.specs.Prelude.{◌≡◌, ℕ, List, Result, Ok, Err}
 use Rattle.replay_core.specs.{Exit.exit_status, Exit.history_over, Layouts.LayoutMeant}
-use Rattle.consumer.specs.Vocabulary.{Firing, trace_of, IsRefused, Syntax, ScriptMeant}
-use Rattle.consumer.specs.Vocabulary.{Refusal, Lex, Parse, Typing, Trace, Group, Memory}
-use Rattle.consumer.specs.Scripts.{IsAccepted, IsMistyped, IsParseFault}
+use Rattle.consumer.specs.Vocabulary.{Firing, trace_of, Syntax, ScriptMeant}
+use Rattle.consumer.specs.Vocabulary.{Refusal, Parse, Trace}
+use Rattle.consumer.specs.Scripts.{IsAccepted, IsScriptFault}
 
 -- the script means this, and the trace has these firings
 pub record Means (script trace : List ℕ) (m : ScriptMeant) (firings : List Firing) : Type 0 where
@@ -21,19 +21,22 @@ pub record IsShown (shows : LayoutMeant) (m : ScriptMeant) (firings : List Firin
   pub bytes : shows m (history_over m firings) shown.bytes
   pub status : shown.status ≡ exit_status (history_over m firings)
 
--- What is shown, or the first refusal: why the script has no tokens, no tree or no types, and then
--- the trace's fault. The line of a syntax fault may be any.
-abbrev pub IsAnswer : LayoutMeant → (script trace : List ℕ) → Result Shown Refusal → Type 0
-IsAnswer shows script trace (Ok shown) =
+-- the script over the trace shows this
+abbrev pub HasAnswer : LayoutMeant → (script trace : List ℕ) → Shown → Type 0
+HasAnswer shows script trace shown =
     (m : ScriptMeant) × (firings : List Firing)
     × Means script trace m firings × IsShown shows m firings shown
-IsAnswer shows script trace (Err (Lex fault)) = IsRefused script fault
-IsAnswer shows script trace (Err (Parse fault)) = IsParseFault script fault
-IsAnswer shows script trace (Err (Typing fault)) = IsMistyped script fault
-IsAnswer shows script trace (Err (Trace fault)) =
+
+-- the first reason for which there is no answer: the script's, and then the trace's
+abbrev pub IsRefusal : (script trace : List ℕ) → Refusal → Type 0
+IsRefusal script trace (Trace fault) =
     ((m : ScriptMeant) × IsAccepted script m) × (trace_of trace ≡ Err fault)
-IsAnswer shows script trace (Err (Group fault)) = ⊥
-IsAnswer shows script trace (Err Memory) = ⊥
+IsRefusal script trace e = IsScriptFault script e
+
+-- What is shown, or the first refusal. The line of a syntax fault may be any.
+abbrev pub IsAnswer : LayoutMeant → (script trace : List ℕ) → Result Shown Refusal → Type 0
+IsAnswer shows script trace (Ok shown) = HasAnswer shows script trace shown
+IsAnswer shows script trace (Err e) = IsRefusal script trace e
 
 -- the refusal without the line of Syntax, which is no part of the answer
 abbrev pub without_line : Refusal → Refusal

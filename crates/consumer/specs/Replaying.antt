@@ -1,14 +1,41 @@
 -- What replay returns, under any plan.
-use Rattle.std.specs.Prelude.{◌≡◌, ℕ, List, Result, Ok, Err, map, vec_len}
+use Rattle.std.specs.Prelude.{◌≡◌, ℕ, List, Result, Ok, Err, IfErr, IfOk, map, vec_len}
 use Rattle.replay_core.specs.{Exit.firings_over, Layouts.LayoutMeant}
 use Rattle.replay_core.specs.Groups.{IsAllBelow, SameItems, numbers_by_group}
 use Rattle.consumer.specs.Vocabulary.{flat_map, number_of, Firing, ScriptMeant, Grouping, Plan}
 use Rattle.consumer.specs.Vocabulary.{Replayed, Refusal, Group, Memory}
-use Rattle.consumer.specs.Answer.{IsAnswer, IsShown, Means, Shown}
+use Rattle.consumer.specs.Answer.{HasAnswer, IsRefusal, Means, Shown}
 use Rattle.consumer.specs.Plans.{IsGroupedBy, IsMisgrouped}
+
+-- ---- what it answers
 
 abbrev pub output_of : Replayed → Shown
 output_of r = record { bytes = r.bytes.items; status = r.status }
+
+-- a refusal in which the plan or memory has a part
+abbrev pub IsOfPlan : Refusal → Type 0
+IsOfPlan (Group fault) = Unit {0}
+IsOfPlan Memory = Unit {0}
+IsOfPlan e = ⊥
+
+-- What is returned has the answer's bytes and status. If it is a refusal there is no answer, unless
+-- the plan or memory has a part in it.
+abbrev pub IsAnswered : LayoutMeant → (script trace : List ℕ) → Result Replayed Refusal → Type 0
+IsAnswered shows script trace (Ok r) = HasAnswer shows script trace (output_of r)
+IsAnswered shows script trace (Err e) =
+    ¬ IsOfPlan e → (m : ScriptMeant) (firings : List Firing) → ¬ Means script trace m firings
+
+-- ---- why there is no answer
+
+-- the first reason for which a plan gives no answer, its own last; or memory ran out
+abbrev pub IsRefusalUnder : Plan → (script trace : List ℕ) → Refusal → Type 0
+IsRefusalUnder plan script trace (Group fault) =
+    (m : ScriptMeant) × (firings : List Firing) × Means script trace m firings
+    × IsMisgrouped plan.groups firings fault
+IsRefusalUnder plan script trace Memory = Unit {0}
+IsRefusalUnder plan script trace e = IsRefusal script trace e
+
+-- ---- who ran what
 
 -- for each group the numbers of the firings that ran
 abbrev pub ran_in : Replayed → List (List ℕ)
@@ -25,21 +52,16 @@ pub record IsCarriedOut (plan : Plan) (trace firings : List Firing) (r : Replaye
   pub ran : ran_in r ≡ numbers_by_group grouping firings
   pub once : SameItems (flat_map (λ group. group) (ran_in r)) (map number_of firings)
 
--- the answer, and how the run was carried out; the first reason for which there is none; or memory
--- ran out
-abbrev pub IsReplay : LayoutMeant → (script trace : List ℕ) → Plan → Result Replayed Refusal
-    → Type 0
-IsReplay shows script trace plan (Ok r) =
+-- how the run of what the script means over the trace was carried out
+abbrev pub IsRunUnder : Plan → (script trace : List ℕ) → Replayed → Type 0
+IsRunUnder plan script trace r =
     (m : ScriptMeant) × (firings : List Firing) × Means script trace m firings
-    × IsShown shows m firings (output_of r) × IsCarriedOut plan firings (firings_over m firings) r
-IsReplay shows script trace plan (Err (Group fault)) =
-    (m : ScriptMeant) × (firings : List Firing) × Means script trace m firings
-    × IsMisgrouped plan.groups firings fault
-IsReplay shows script trace plan (Err Memory) = Unit {0}
-IsReplay shows script trace plan (Err e) = IsAnswer shows script trace (Err e)
+    × IsCarriedOut plan firings (firings_over m firings) r
 
--- a refusal in which the plan or memory has a part
-abbrev pub IsOfPlan : Refusal → Type 0
-IsOfPlan (Group fault) = Unit {0}
-IsOfPlan Memory = Unit {0}
-IsOfPlan e = ⊥
+-- ---- all of it
+
+pub record IsReplay (shows : LayoutMeant) (script trace : List ℕ) (plan : Plan)
+    (result : Result Replayed Refusal) : Type 0 where
+  pub answer : IsAnswered shows script trace result
+  pub fault : IfErr result (IsRefusalUnder plan script trace)
+  pub carried : IfOk result (IsRunUnder plan script trace)

@@ -3,7 +3,7 @@ use Rattle.std.specs.Prelude.{◌≤◌, ◌<◌, ℕ, List, Ok, Err}
 use Rattle.d_parser.specs.{Limits.IsDeep, Limits.clauses, Script.IsScript, Tree.ItemTree}
 use Rattle.d_types.specs.Checking.{IsChecked}
 use Rattle.consumer.specs.Vocabulary.{Token, IsLexed, IsRefused, ParseFault, MOST_CLAUSES}
-use Rattle.consumer.specs.Vocabulary.{TypeFault, ScriptMeant, Refusal, Lex, Parse}
+use Rattle.consumer.specs.Vocabulary.{TypeFault, ScriptMeant, Refusal, Lex, Parse, Typing}
 
 -- these are the script's tokens, and no limit is passed
 pub record HasTokens (script : List ℕ) (tokens : List Token) : Type 0 where
@@ -42,6 +42,11 @@ pub record IsMistyped (script : List ℕ) (fault : TypeFault) : Type 0 where
   pub items : List ItemTree
   pub tree : HasTree script items
   pub refused : IsChecked items (Err fault)
+
+-- the first reason for which the script is refused
+abbrev pub IsScriptFault : List ℕ → Refusal → Type 0
+IsScriptFault script (Typing f) = IsMistyped script f
+IsScriptFault script e = IsUnread script e
 
 -- the script is well typed with six registers, and this is what it means
 pub record IsAccepted (script : List ℕ) (m : ScriptMeant) : Type 0 where

@@ -1,6 +1,7 @@
 //! The answer of a script over a trace.
 
-ghost use Rattle.std.specs.Prelude.{◌≡◌, ◌≤◌, ◌+◌, ℕ, IfOk, List, unwrap_or, option_map};
+ghost use Rattle.std.specs.Prelude.{◌≡◌, ◌≤◌, ◌+◌, ℕ, IfErr, IfOk, List, unwrap_or};
+ghost use Rattle.std.specs.Prelude.{option_map};
 ghost use Rattle.firing_reader.specs.{Gives.Gives};
 ghost use Rattle.shard_queue.specs.{Groups.AreOf, Groups.grouping, Threads.run_threads};
 ghost use Rattle.replay_core.specs.Exit.{firings_over};
@@ -8,7 +9,8 @@ ghost use Rattle.consumer.specs.{Answer.IsShown, Scripts.IsAccepted};
 ghost use Rattle.consumer.specs.Vocabulary.{Firing, Grouping, Plan, ScriptMeant, functions_in};
 ghost use Rattle.consumer.specs.Vocabulary.{MOST_GROUPS, functions_of, trace_of, typed_script_of};
 ghost use Rattle.consumer.specs.Plans.{IsGroupedBy, IsInBounds};
-ghost use Rattle.consumer.specs.Replaying.{IsCarriedOut, IsReplay, output_of};
+ghost use Rattle.consumer.specs.Replaying.{IsAnswered, IsCarriedOut, IsRefusalUnder, IsReplay};
+ghost use Rattle.consumer.specs.Replaying.{IsRunUnder, output_of};
 ghost use Rattle.consumer.specs.Steps.Replaying.{IsRunBy};
 
 use crate::consumer::Consumer;
@@ -42,7 +44,9 @@ impl<'a, R: Threads + Wait + Sync, L: Layout> Consumer<'a, R, L> {
     /// ```
     pub fn replay(&self, script: &[u8], trace: &[u8], plan: &Plan) -> Result<Replayed, Refusal>
         requires { IsInBounds plan.now }
-        ensures { IsReplay L.shows script.now trace.now plan.now result }
+        ensures answer { IsAnswered L.shows script.now trace.now result }
+        ensures fault { IfErr result (IsRefusalUnder plan.now script.now trace.now) }
+        ensures carried { IfOk result (IsRunUnder plan.now script.now trace.now) }
     {
         self.replay_with(script, trace, plan, &OpenGate)
     }
@@ -61,7 +65,9 @@ impl<'a, R: Threads + Wait + Sync, L: Layout> Consumer<'a, R, L> {
         gate: &G,
     ) -> Result<Replayed, Refusal>
         requires { IsInBounds plan.now }
-        ensures { IsReplay L.shows script.now trace.now plan.now result }
+        ensures answer { IsAnswered L.shows script.now trace.now result }
+        ensures fault { IfErr result (IsRefusalUnder plan.now script.now trace.now) }
+        ensures carried { IfOk result (IsRunUnder plan.now script.now trace.now) }
     {
         let alloc = self.alloc;
         let script = judge(alloc, script)?;

@@ -1,6 +1,8 @@
 //! The report of a script over a trace.
 
-ghost use Rattle.consumer.specs.{Plans.IsInBounds, Replaying.IsReplay};
+ghost use Rattle.std.specs.Prelude.{IfErr, IfOk};
+ghost use Rattle.consumer.specs.{Plans.IsInBounds};
+ghost use Rattle.consumer.specs.Replaying.{IsAnswered, IsRefusalUnder, IsRunUnder};
 ghost use Rattle.report.specs.{Report.IsReport};
 
 use consumer::{Consumer, Plan, Refusal, Replayed};
@@ -29,7 +31,9 @@ pub fn replay<R: Threads + Wait + Sync>(
     plan: &Plan,
 ) -> Result<Replayed, Refusal>
     requires { IsInBounds plan.now }
-    ensures { IsReplay IsReport script.now trace.now plan.now result }
+    ensures answer { IsAnswered IsReport script.now trace.now result }
+    ensures fault { IfErr result (IsRefusalUnder plan.now script.now trace.now) }
+    ensures carried { IfOk result (IsRunUnder plan.now script.now trace.now) }
 {
     replay_with(rt, alloc, script, trace, plan, &OpenGate)
 }
@@ -49,7 +53,9 @@ pub fn replay_with<R: Threads + Wait + Sync, G: Gate + Sync>(
     gate: &G,
 ) -> Result<Replayed, Refusal>
     requires { IsInBounds plan.now }
-    ensures { IsReplay IsReport script.now trace.now plan.now result }
+    ensures answer { IsAnswered IsReport script.now trace.now result }
+    ensures fault { IfErr result (IsRefusalUnder plan.now script.now trace.now) }
+    ensures carried { IfOk result (IsRunUnder plan.now script.now trace.now) }
 {
     Consumer::new(rt, alloc, Report).replay_with(script, trace, plan, gate)
 }

@@ -1,6 +1,6 @@
 use Rattle.std.proofs.Common.{subst}
 use Rattle.firing_reader.specs.Gives.{Gives}
-use Rattle.consumer.proofs.Refusing.{script_refused}
+use Rattle.consumer.proofs.Refusing.{refused, script_refused}
 use Rattle.consumer.proofs.consumer.Consumer.answer.Goals as goal
 
 pub returns-in-Ok : goal.returns-in-Ok
@@ -10,4 +10,4 @@ returns-in-Ok g c = λ script trace judged read.
 
 pub returns-in-Err : goal.returns-in-Err
 returns-in-Err g c = λ script trace judged read.
-    script_refused g.L.Layout.shows script trace c.args.plan.now c.in-Err.refusal (rw c.in-Err.is at judged)
+    refused g.L.Layout.shows script trace c.args.plan.now c.in-Err.refusal (script_refused script trace c.args.plan.now c.in-Err.refusal (rw c.in-Err.is at judged))
