@@ -13,12 +13,11 @@ use Rattle.std.proofs.lemmas.Str.{IsUtf8-from_ascii}
 use Rattle.std.proofs.lemmas.List.Elements.{All-cons, All-nil, All-get_or}
 use Rattle.std.proofs.lemmas.Option.{slice_get-get_or}
 use Rattle.firing_reader.specs.declared.firing.Firing.{Firing}
-use Rattle.firing_reader.specs.Column.{text_of}
-use Rattle.firing_reader.specs.Firings.{HasRanges, IsFiring, IsText, number_of, time_of}
-use Rattle.firing_reader.specs.Trace.{IsTrace, last_number}
+use Rattle.firing_reader.specs.Firings.{HasRanges, IsFiring, IsText, IsTrace, last_number, number_of}
+use Rattle.firing_reader.specs.Firings.{time_of}
+use Rattle.firing_reader.specs.Texts.{text_of}
 use Rattle.firing_reader.specs.Ends.{own_firing, first_time, last_time}
-use Rattle.firing_reader.proofs.FieldTexts.{some_text, empty_text}
-use Rattle.firing_reader.proofs.Fields.{text_is}
+use Rattle.firing_reader.proofs.Texts.{some_text, empty_text, text_is}
 
 ascii : (bytes : List ℕ) → list_all (λ b. nat_lt b 128) bytes ≡ true → IsAscii bytes
 ascii [] all i = omega arith

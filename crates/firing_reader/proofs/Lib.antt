@@ -1,4 +1,5 @@
 pub mod Numerals
+pub mod Texts
 pub mod FieldTexts
 pub mod Left
 pub mod RowEnds
@@ -16,6 +17,7 @@ pub mod PlainFirings
 pub mod PlainHeader
 pub mod PieceRows
 pub mod Stored
+pub mod Placed
 pub mod Moved
 pub mod Shared
 pub mod PlainArguments

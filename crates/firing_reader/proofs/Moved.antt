@@ -1,53 +1,21 @@
 -- Rows that another store takes over.
-use Rattle.std.proofs.Common.{◌≡◌, ◌<◌, ◌+◌, ◌^◌, ℕ, ℤ, zero, suc, List, [], ◌∷◌, ◌++◌, length}
-use Rattle.std.proofs.Common.{get_or, drop, map, All, Some, refl, sym, ap, ◌∙◌, arith}
+use Rattle.std.proofs.Common.{◌≡◌, ◌<◌, ◌+◌, ◌^◌, ℕ, ℤ, List, [], ◌∷◌, ◌++◌, length}
+use Rattle.std.proofs.Common.{get_or, drop, map, All, Some, refl, arith}
 use Rattle.std.proofs.Common.{length-append}
-use Rattle.std.specs.Prelude.{IfSome, MatchOption, None, Option, slice_get}
+use Rattle.std.specs.Prelude.{IfSome, MatchOption, None, Option}
 use Rattle.std.proofs.Math.Seq.{drop-append-add}
-use Rattle.std.proofs.lemmas.List.{length-map, map-append}
+use Rattle.std.proofs.lemmas.List.{map-append}
 use Rattle.std.proofs.lemmas.List.Elements.{All-head, All-tail, All-cons, All-nil, All-append}
 use Rattle.firing_reader.specs.declared.stored_row.Given.{Given}
 use Rattle.firing_reader.specs.declared.stored_row.Row.{Row}
 use Rattle.firing_reader.specs.declared.unit.Owner.{Owner}
 use Rattle.firing_reader.specs.declared.unit.Probe.{Probe}
-use Rattle.firing_reader.specs.Stored.{ArePlaces, Extends, IsRowIn, count_of, firing_in}
+use Rattle.firing_reader.specs.Stored.{ArePlaces, Extends, IsRowIn, count_of, firing_in, moved_given}
 use Rattle.firing_reader.specs.Steps.Stored.{IsMovable}
 use Rattle.firing_reader.specs.Stored.{first_of, no_owner, no_probe}
-use Rattle.firing_reader.specs.Steps.Stored.{moved_given, moved_row}
-use Rattle.firing_reader.proofs.Stored.{named_at, named_in, named_more, rows_more, seen_all}
-
--- ---- places
-
-places_more : {X : Type 0} (t u : List X) (ps : List ℕ) (ts : List X) → Extends t u → ArePlaces t ps ts → ArePlaces u ps ts
-places_more t u [] [] e is = refl
-places_more t u [] (x ∷ xs) e is = absurd cc
-places_more t u (p ∷ ps) [] e is = absurd cc
-places_more t u (p ∷ ps) (x ∷ xs) e is =
-    let first : slice_get t p ≡ Some x = cc in
-    let more : ArePlaces t ps xs = cc in
-    rw (named_more t u p x e first, places_more t u ps xs e more) refl
-
--- one place more
-pub place_more : {X : Type 0} (t u : List X) (ps : List ℕ) (ts : List X) (p : ℕ) (x : X) → Extends t u → ArePlaces t ps ts → slice_get u p ≡ Some x
-    → ArePlaces u (ps ++ p ∷ []) (ts ++ x ∷ [])
-place_more {X} t u ps ts p x e are is =
-    rw (map-append (slice_get u) ps (p ∷ []), map-append (λ (l : X). Some l) ts (x ∷ []), places_more t u ps ts e are, is) refl
-
-pub placed : {X : Type 0} (u : List X) (ps : List ℕ) (ts : List X) (i : ℕ) (d : X) → ArePlaces u ps ts → i < length ts → slice_get u (get_or ps i 0) ≡ Some (get_or ts i d)
-placed u ps [] i d are lt = absurd (omega arith)
-placed u [] (x ∷ xs) i d are lt = absurd cc
-placed u (p ∷ ps) (x ∷ xs) zero d are lt = cc
-placed u (p ∷ ps) (x ∷ xs) (suc i) d are lt =
-    let more : ArePlaces u ps xs = cc in
-    placed u ps xs i d more (omega arith)
-
-pub as_many : {X : Type 0} (u : List X) (ps : List ℕ) (ts : List X) → ArePlaces u ps ts → length ps ≡ length ts
-as_many {X} u ps ts are =
-    let some = length-map ps (slice_get u) in
-    let all = length-map ts (λ (l : X). Some l) in
-    sym some ∙ ap length are ∙ all
-
--- ---- rows
+use Rattle.firing_reader.specs.Steps.Stored.{moved_row}
+use Rattle.firing_reader.proofs.Placed.{as_many, placed}
+use Rattle.firing_reader.proofs.Stored.{named_at, named_in, rows_more, seen_all}
 
 first_moved : (g : Given) (shift : ℕ) → first_of (moved_given shift g) ≡ first_of g + shift
 first_moved g shift = omega arith

@@ -2,7 +2,7 @@
 use Rattle.std.proofs.Common.{◌≡◌, ◌<◌, ◌+◌, ◌-◌, ℕ, zero, suc, List, [], ◌∷◌, ◌++◌, length}
 use Rattle.std.proofs.Common.{length-append, Option, Some, refl, sym, ap, ◌∙◌}
 use Rattle.std.proofs.Common.{append_assoc, arith}
-use Rattle.std.specs.Prelude.{slice_get}
+use Rattle.std.specs.Prelude.{IfSome, option_map, slice_get}
 use Rattle.std.specs.Option.{option_map_or}
 use Rattle.std.proofs.lemmas.List.{append-nil}
 use Rattle.csv.specs.Machine.{next_record}
@@ -90,18 +90,12 @@ last_more fs gs g =
     let size = length-append fs (g ∷ gs) in
     ap (λ (o : Option Firing). option_map_or number_of o 0) (at_end fs (g ∷ gs) (length (fs ++ g ∷ gs) - 1) (length (g ∷ gs) - 1) (omega (arith, size)))
 
-pub follows_none : (fs gs : List Firing) → length gs ≡ 0 → Rises (last_number fs) gs (last_number (fs ++ gs))
-unfolding Rises
-follows_none fs [] none = ap last_number (sym (append-nil fs))
-follows_none fs (g ∷ gs) none = absurd (omega (arith, none))
-
--- numbers that rise from the start rise from any number below that of the first firing
-pub follows_first : (fs gs : List Firing) (first : Firing) → slice_get gs 0 ≡ Some first → last_number fs < first.number → Rises 0 gs (last_number gs)
+-- the numbers of the second go on from those of the first, if that of its first firing does
+pub follows : (fs gs : List Firing) (first : Option ℕ) → first ≡ option_map number_of (slice_get gs 0) → IfSome first (λ n. last_number fs < n) → Rises 0 gs (last_number gs)
     → Rises (last_number fs) gs (last_number (fs ++ gs))
-follows_first fs [] first is lt h = absurd cc
-follows_first fs (g ∷ gs) first is lt h =
-    let same : first ≡ g = cc in
-    rw (last_more fs gs g) (rises_from (last_number fs) g gs (last_number (g ∷ gs)) (rw same at lt) h)
+unfolding Rises
+follows fs [] first is less h = ap last_number (sym (append-nil fs))
+follows fs (g ∷ gs) first is less h = rw (last_more fs gs g) (rises_from (last_number fs) g gs (last_number (g ∷ gs)) (rw is at less) h)
 
 -- ---- records
 

@@ -6,12 +6,12 @@ use Rattle.std.proofs.lemmas.Bool.{le-ltb, lt-ltb}
 use Rattle.csv.specs.Records.{field_at}
 use Rattle.firing_reader.specs.declared.fault.TraceFault.{TraceFault}
 use Rattle.firing_reader.specs.declared.firing.Firing.{Firing}
-use Rattle.firing_reader.specs.declared.unit.Owner.{Owner}
-use Rattle.firing_reader.specs.declared.unit.Probe.{Probe}
 use Rattle.firing_reader.proofs.PlainFields.{none_read}
 use Rattle.firing_reader.specs.Column.{signed_of}
 use Rattle.firing_reader.specs.Plain.{ReadsOwner, ReadsProbe, int_of, whole_of}
 use Rattle.firing_reader.specs.Steps.Plain.{ReadsArguments}
+use Rattle.firing_reader.specs.Probing.{probe_of}
+use Rattle.firing_reader.specs.Steps.Stored.{owner_of}
 use Rattle.firing_reader.specs.Row.{◌>>=◌, or_fault, args_at, columns_at, int_at, row_of, signed_at}
 use Rattle.firing_reader.specs.Row.{text_at, whole_at}
 use Rattle.firing_reader.specs.Trace.{next_of}
@@ -33,13 +33,6 @@ next_arg o os [] e k front read next = absurd cc
 next_arg o os (a ∷ more) e k front read next =
     let is : o ≡ Some a = cc in
     then_ok (or_fault o e) k a (or_ok o a e is) ∙ next a more cc
-
--- who fired, and which probe
-abbrev pub owner_of : Firing → Owner
-owner_of f = record { thread = f.thread; pid = f.pid; execname = f.execname }
-
-abbrev pub probe_of : Firing → Probe
-probe_of f = record { provider = f.provider; probemod = f.probemod; probefunc = f.probefunc; name = f.name }
 
 -- the columns 1, 2 and 6: numbers, and the fields that write them
 pub record ReadsNumbers (f : Firing) : Type 0 where

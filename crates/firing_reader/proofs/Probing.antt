@@ -11,7 +11,7 @@ use Rattle.firing_reader.specs.declared.unit.Probe.{Probe}
 use Rattle.firing_reader.specs.Firings.{thread_of}
 use Rattle.firing_reader.specs.Probing.{probe_of}
 use Rattle.firing_reader.specs.Stored.{ArePlaces, IsRowIn, firing_in, no_owner, no_probe}
-use Rattle.firing_reader.proofs.Moved.{placed}
+use Rattle.firing_reader.proofs.Placed.{placed}
 
 -- there is a probe for each row
 pub rows_placed : (o : List Owner) (p : List Probe) (a : List ℤ) (rs : List Row) → All (IsRowIn o p a) rs → All (λ r. r.probe < length p) rs

@@ -12,7 +12,9 @@ use Rattle.firing_reader.specs.Plain.{IsEnd, ReadsRow, int_of, whole_of}
 use Rattle.firing_reader.specs.Stored.{Extends, IsGivenIn, IsRowIn, firing_in, given_in, no_owner}
 use Rattle.firing_reader.specs.Stored.{no_probe}
 use Rattle.firing_reader.specs.Arguments.{ten}
-use Rattle.firing_reader.proofs.PlainFirings.{ReadsNumbers, fields, firing_ok, owner_of, probe_of}
+use Rattle.firing_reader.specs.Probing.{probe_of}
+use Rattle.firing_reader.specs.Steps.Stored.{owner_of}
+use Rattle.firing_reader.proofs.PlainFirings.{ReadsNumbers, fields, firing_ok}
 use Rattle.firing_reader.proofs.PlainRows.{closes_more, passes_one, row_read}
 use Rattle.firing_reader.proofs.Stored.{named_at, named_in, rows_more, stored}
 

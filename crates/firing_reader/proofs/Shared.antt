@@ -1,67 +1,68 @@
 -- Units that are kept with their bytes, and what they say.
 use Rattle.std.proofs.Common.{◌≡◌, ◌<◌, ◌≤◌, ◌+◌, ◌-◌, ◌∙◌, ℕ, zero, suc, true, false, List, [], ◌∷◌, ◌++◌}
 use Rattle.std.proofs.Common.{length, map, All, Option, None, Some, refl, sym, ap, subst, arith}
-use Rattle.std.proofs.Common.{length-append, Vec, Global}
+use Rattle.std.proofs.Common.{length-append}
 use Rattle.std.specs.Prelude.{IfSome, codes, slice_get}
 use Rattle.std.proofs.Math.Seq.{drop-append-add, drop-append_seam, take-append_seam}
 use Rattle.std.proofs.lemmas.List.{map-append, take_all}
 use Rattle.std.proofs.lemmas.List.Elements.{All-append, All-cons, All-head, All-nil, All-tail}
-use Rattle.std.proofs.lemmas.Option.{slice_get-map}
 use Rattle.firing_reader.specs.Vocabulary.{bytes_eq}
-use Rattle.firing_reader.specs.declared.owners.OwnerEntry.{OwnerEntry}
-use Rattle.firing_reader.specs.declared.probes.ProbeEntry.{ProbeEntry}
+use Rattle.firing_reader.specs.declared.unit.OwnerEntry.{OwnerEntry}
+use Rattle.firing_reader.specs.declared.unit.ProbeEntry.{ProbeEntry}
 use Rattle.firing_reader.specs.declared.unit.Owner.{Owner}
 use Rattle.firing_reader.specs.declared.unit.Probe.{Probe}
 use Rattle.firing_reader.specs.declared.units.Known.{Known}
-use Rattle.firing_reader.specs.Column.{text_of}
+use Rattle.firing_reader.specs.Texts.{text_of}
 use Rattle.firing_reader.specs.Plain.{ReadsOwner, ReadsProbe, int_of}
 use Rattle.firing_reader.specs.Steps.Plain.{BeginsWith}
 use Rattle.firing_reader.specs.Stored.{ArePlaces, Extends}
+use Rattle.firing_reader.specs.UnitTable.{IsReadIn}
 use Rattle.firing_reader.specs.Units.{IsProbeIn, IsTextIn, IsUnitIn, name_at, owner_in, part, probe_in}
 use Rattle.firing_reader.specs.Units.{probefunc_at, probemod_at, unit_in}
-use Rattle.firing_reader.proofs.Fields.{text_is}
+use Rattle.firing_reader.proofs.Texts.{text_is}
 use Rattle.firing_reader.proofs.PlainRows.{passes_more, passes_one, unit_passes}
-use Rattle.firing_reader.proofs.Stored.{part_more}
+use Rattle.firing_reader.proofs.Stored.{part_more, seen_at}
 
 -- ---- units of any kind
 
 last_part : (b key : List ℕ) → part (b ++ key) (length b) (length key) ≡ key
 last_part b key = rw (drop-append_seam b key) (take_all (length key) key (omega arith))
 
-unit_more : {E : Type 0} (I R : E → List ℕ → Type 0) (b key : List ℕ) (k : Known E) → IsUnitIn I R b k → IsUnitIn I R (b ++ key) k
+unit_more : {E : Type 0} (I R : E → List ℕ → Type 0) (b key : List ℕ) (k : Known E) → IsReadIn I R b k → IsReadIn I R (b ++ key) k
 unit_more I R b key k h =
     let size = length-append b key in
-    let same = part_more b (b ++ key) k.begin k.count (key, refl) h.inside in
-    record { inside = omega (arith, size, h.inside); is_in = rw same h.is_in; reads = rw same h.reads }
+    let same = part_more b (b ++ key) k.begin k.count (key, refl) h.unit.inside in
+    record { unit = record { inside = omega (arith, size, h.unit.inside); is_in = rw same h.unit.is_in }; reads = rw same h.reads }
 
-units_same : {E : Type 0} (I R : E → List ℕ → Type 0) (b key : List ℕ) (ks : List (Known E)) → All (IsUnitIn I R b) ks → map (unit_in (b ++ key)) ks ≡ map (unit_in b) ks
+units_same : {E : Type 0} (I R : E → List ℕ → Type 0) (b key : List ℕ) (ks : List (Known E)) → All (IsReadIn I R b) ks → map (unit_in (b ++ key)) ks ≡ map (unit_in b) ks
 units_same I R b key [] all = refl
-units_same I R b key (k ∷ ks) all = rw (part_more b (b ++ key) k.begin k.count (key, refl) (All-head (IsUnitIn I R b) k ks all).inside, units_same I R b key ks (All-tail (IsUnitIn I R b) k ks all)) refl
+units_same I R b key (k ∷ ks) all = rw (part_more b (b ++ key) k.begin k.count (key, refl) (All-head (IsReadIn I R b) k ks all).unit.inside, units_same I R b key ks (All-tail (IsReadIn I R b) k ks all)) refl
 
 -- one more at the end
-pub unit_push : {E : Type 0} (I R : E → List ℕ → Type 0) (b key : List ℕ) (ks : List (Known E)) (k : Known E) (old : List (List ℕ × E)) → All (IsUnitIn I R b) ks → map (unit_in b) ks ≡ old
+pub unit_push : {E : Type 0} (I R : E → List ℕ → Type 0) (b key : List ℕ) (ks : List (Known E)) (k : Known E) (old : List (List ℕ × E)) → All (IsReadIn I R b) ks → map (unit_in b) ks ≡ old
     → k.begin ≡ length b → k.count ≡ length key → map (unit_in (b ++ key)) (ks ++ k ∷ []) ≡ old ++ (key, k.entry) ∷ []
 unit_push I R b key ks k old all is first many =
     let one : unit_in (b ++ key) k ≡ (key, k.entry) = rw (first, many, last_part b key) refl in
     map-append (unit_in (b ++ key)) ks (k ∷ []) ∙ rw (units_same I R b key ks all, is, one) refl
 
-pub units_push : {E : Type 0} (I R : E → List ℕ → Type 0) (b key : List ℕ) (ks : List (Known E)) (k : Known E) → All (IsUnitIn I R b) ks → k.begin ≡ length b → k.count ≡ length key → I k.entry key
-    → (k.plain ≡ true → R k.entry key) → All (IsUnitIn I R (b ++ key)) (ks ++ k ∷ [])
+pub units_push : {E : Type 0} (I R : E → List ℕ → Type 0) (b key : List ℕ) (ks : List (Known E)) (k : Known E) → All (IsReadIn I R b) ks → k.begin ≡ length b → k.count ≡ length key → I k.entry key
+    → (k.plain ≡ true → R k.entry key) → All (IsReadIn I R (b ++ key)) (ks ++ k ∷ [])
 units_push I R b key ks k all first many is_in reads =
-    let P = IsUnitIn I R (b ++ key) in
+    let P = IsReadIn I R (b ++ key) in
     let size = length-append b key in
-    let one : P k = record { inside = omega (arith, size, first, many); is_in = rw (first, many, last_part b key) is_in; reads = rw (first, many, last_part b key) reads } in
+    let one : P k = record { unit = record { inside = omega (arith, size, first, many); is_in = rw (first, many, last_part b key) is_in }; reads = rw (first, many, last_part b key) reads } in
     All-append P ks (k ∷ []) (λ i d within. unit_more I R b key _ (all i d within)) (All-cons P k [] one (All-nil P))
+
+-- what is there, whether it was read or not
+pub units_there : {E : Type 0} (I R : E → List ℕ → Type 0) (b : List ℕ) (ks : List (Known E)) → All (IsReadIn I R b) ks → All (IsUnitIn I b) ks
+units_there I R b ks all = λ i d within. (all i d within).unit
 
 -- ---- what is seen of units
 
 pub seen_extends : {X Y : Type 0} (f : X → Y) (xs ys : List X) → Extends xs ys → Extends (map f xs) (map f ys)
 seen_extends f xs ys (more, is) = (map f more, ap (map f) is ∙ map-append f xs more)
 
-pub seen_at : {X Y : Type 0} (f : X → Y) (xs : List X) (i : ℕ) (x : X) → slice_get xs i ≡ Some x → slice_get (map f xs) i ≡ Some (f x)
-seen_at f xs i x there = slice_get-map f xs i ∙ rw there refl
-
-seen_places : {X Y : Type 0} (f : X → Y) (all : List X) (places : List ℕ) (others : List X) → ArePlaces all places others → ArePlaces (map f all) places (map f others)
+pub seen_places : {X Y : Type 0} (f : X → Y) (all : List X) (places : List ℕ) (others : List X) → ArePlaces all places others → ArePlaces (map f all) places (map f others)
 seen_places f all [] [] are = refl
 seen_places f all [] (x ∷ xs) are = absurd cc
 seen_places f all (p ∷ ps) [] are = absurd cc
@@ -73,11 +74,6 @@ seen_places f all (p ∷ ps) (x ∷ xs) are =
 pub seen_kept : {X Y : Type 0} (f : X → Y) (all : List X) (x : X) (y : Y) (found : Option ℕ) → f x ≡ y → IfSome found (λ p. slice_get all p ≡ Some x) → IfSome found (λ p. slice_get (map f all) p ≡ Some y)
 seen_kept f all x y None is there = tt
 seen_kept {X} {Y} f all x y (Some p) is there = seen_at f all p x there ∙ ap (λ (z : Y). Some z) is
-
-pub seen_places_of : {X Y : Type 0} (f : X → Y) (all others : List X) (found : Option (Vec ℕ Global)) → IfSome found (λ v. ArePlaces all v.items others)
-    → IfSome found (λ v. ArePlaces (map f all) v.items (map f others))
-seen_places_of f all others None are = tt
-seen_places_of f all others (Some v) are = seen_places f all v.items others are
 
 -- what is at a place
 pub one_there : {X : Type 0} (xs : List X) (i : ℕ) → i < length xs → (x : X) × (slice_get xs i ≡ Some x)

@@ -7,7 +7,7 @@ use Rattle.std.proofs.Math.ListN.{get_or-append}
 use Rattle.std.proofs.Math.Seq.{drop-append_seam}
 use Rattle.std.proofs.lemmas.List.{map-append, drop-append-le, append-nil}
 use Rattle.std.proofs.lemmas.List.Elements.{All-head, All-tail}
-use Rattle.std.proofs.lemmas.Option.{slice_get_within, get_or_from_slice_get}
+use Rattle.std.proofs.lemmas.Option.{slice_get-map, slice_get_within, get_or_from_slice_get}
 use Rattle.firing_reader.specs.declared.firing.Firing.{Firing}
 use Rattle.firing_reader.specs.declared.stored_row.Row.{Row}
 use Rattle.firing_reader.specs.declared.unit.Owner.{Owner}
@@ -89,3 +89,7 @@ part_kept a b xs is = rw (is, drop-append_seam a xs) (take-all xs)
 pub ten_same : (xs ys : List ℤ) → length ys ≡ 10 → ((i : ℕ) → get_or xs i (pos 0) ≡ get_or ys i (pos 0)) → ten xs ≡ ys
 ten_same xs (a0 ∷ a1 ∷ a2 ∷ a3 ∷ a4 ∷ a5 ∷ a6 ∷ a7 ∷ a8 ∷ a9 ∷ []) is same = rw (same 0, same 1, same 2, same 3, same 4, same 5, same 6, same 7, same 8, same 9) refl
 ten_same xs _ is same = absurd (omega arith)
+
+-- what is seen of what is at a place
+pub seen_at : {X Y : Type 0} (f : X → Y) (xs : List X) (i : ℕ) (x : X) → slice_get xs i ≡ Some x → slice_get (map f xs) i ≡ Some (f x)
+seen_at f xs i x there = slice_get-map f xs i ∙ rw there refl

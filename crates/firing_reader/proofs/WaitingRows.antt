@@ -16,7 +16,7 @@ use Rattle.firing_reader.specs.Plain.{rows_in}
 use Rattle.firing_reader.specs.Pieces.{AreCut, ArePieces, BeginsWithPiece, IsKept, IsPiece, Waits}
 use Rattle.firing_reader.specs.Pieces.{unread}
 use Rattle.firing_reader.specs.Steps.Blocks.{IsFaultOf}
-use Rattle.firing_reader.specs.Steps.Pieces.{Adds, AreWaiting, Leads}
+use Rattle.firing_reader.specs.Steps.Pieces.{Adds, AreWaiting}
 use Rattle.firing_reader.specs.Steps.Plain.{GoesAfter, GoesOn, PassesRows}
 use Rattle.firing_reader.specs.Trace.{last_number, rows_of}
 use Rattle.firing_reader.proofs.BlockSteps.{kept_front, kept_more}
@@ -58,6 +58,10 @@ pieces_cut bytes front last p ps c at end piece others =
     (record { cut = rw (own, rest) c; piece = rw own piece }, rw rest others)
 
 -- ---- what waits, and what is left
+
+-- what waits begins at a line feed with what is left after it, if what is left does
+abbrev pub Leads : List ℕ → Type 0
+Leads waiting = (left : List ℕ) → BeginsAtFeed left → BeginsAtFeed (unread waiting left)
 
 pub feed_leads : (w : List ℕ) → BeginsAtFeed w → Leads w
 feed_leads w (after, is) left feed = subst (λ (x : List ℕ). BeginsAtFeed (unread x left)) (sym is) (after ++ drop 1 left, refl)
@@ -106,7 +110,7 @@ pub fault_last : (e : TraceFault) (old : List Firing) (w left : List ℕ) → Is
 fault_last e old w left h = last_fault e old (unread w left) (fault_waiting e old w left h)
 
 -- rows that one thread read, after those that were added
-pub alone_after : (r : Result (Unit {0}) TraceFault) (old : List Firing) (x : List ℕ) (mid : List Firing) (y : List ℕ) (new : List Firing) (w left : List ℕ) → GoesOn old x mid y → OnOk r (GoesOn mid y new left) → OnOk r (w ≡ [])
+pub alone_after : (r : Result (Unit {0}) TraceFault) (old : List Firing) (x : List ℕ) (mid : List Firing) (y : List ℕ) (new : List Firing) (w left : List ℕ) → GoesOn old x mid y → OnOk r (GoesOn mid y new left) → w ≡ []
     → OnOk r (GoesOn old x new (unread w left))
 alone_after (Err e) old x mid y new w left g h none = tt
 alone_after (Ok _) old x mid y new w left g h none = rw none (goes_both old x mid y new left g h)

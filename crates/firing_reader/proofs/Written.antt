@@ -23,7 +23,7 @@ use Rattle.firing_reader.specs.declared.fault.TraceFault.TheVariants.{Columns, H
 use Rattle.firing_reader.specs.Row.{◌>>=◌, columns_at, row_of, unless_reserved}
 use Rattle.firing_reader.specs.Trace.{above, is_header, next_of, rows_of, trace_in, trace_of}
 use Rattle.firing_reader.specs.Written.{WritesFiring, WritesTrace}
-use Rattle.firing_reader.proofs.FieldTexts.{some_text}
+use Rattle.firing_reader.proofs.Texts.{some_text}
 use Rattle.firing_reader.proofs.Fields.{Reads}
 use Rattle.firing_reader.proofs.Kept.{bind_ok, ok_is, one_firing_a_row, rises_after, rises_more, rows_trace}
 use Rattle.firing_reader.proofs.RowFaults.{IsGoodRow, next_read, places, value_of, written}

@@ -3,8 +3,7 @@ use Rattle.std.specs.Prelude.{ℕ, ◌+◌, ◌-◌, List, [], ◌∷◌, ◌++�
 use Rattle.std.specs.Prelude.{codes}
 use Rattle.std.specs.Option.{option_map_or}
 use Rattle.firing_reader.specs.declared.firing.Firing.{Firing}
-use Rattle.firing_reader.specs.Firings.{time_of}
-use Rattle.firing_reader.specs.Trace.{last_number}
+use Rattle.firing_reader.specs.Firings.{last_number, time_of}
 
 -- the time of the first of these firings, and of the last; 0 where there are none
 abbrev pub first_time : List Firing → ℕ

@@ -1,5 +1,6 @@
 pub mod Vocabulary
 pub mod Gives
+pub mod Texts
 pub mod Column
 pub mod Arguments
 pub mod Row
@@ -12,6 +13,7 @@ pub mod Plain
 pub mod Stored
 pub mod Probing
 pub mod Units
+pub mod UnitTable
 pub mod Blocks
 pub mod Pieces
 pub mod Written

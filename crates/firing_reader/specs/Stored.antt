@@ -1,6 +1,6 @@
 -- Firings as a trace stores them: rows of small fixed size, and apart from them what rows share and
 -- their arguments.
-use Rattle.std.specs.Prelude.{◌≡◌, ◌<◌, ◌≤◌, ◌+◌, ◌/◌, ◌%◌, ℕ, zero, suc, ℤ, pos, List, [], ◌++◌}
+use Rattle.std.specs.Prelude.{◌≡◌, ◌<◌, ◌≤◌, ◌+◌, ◌*◌, ◌/◌, ◌%◌, ℕ, zero, suc, ℤ, pos, List, [], ◌++◌}
 use Rattle.std.specs.Prelude.{Option, None, Some, length, get_or, slice_get, map, take, drop}
 use Rattle.firing_reader.specs.Arguments.{ten}
 use Rattle.firing_reader.specs.declared.firing.Firing.{Firing}
@@ -19,6 +19,10 @@ first_of g = g.packed / 16
 
 abbrev pub count_of : Given → ℕ
 count_of g = g.packed % 16
+
+-- as many arguments that begin so much later
+abbrev pub moved_given : ℕ → Given → Given
+moved_given shift g = record { packed = g.packed + 16 * shift }
 
 -- a row's own arguments
 abbrev pub given_in : List ℤ → Given → List ℤ

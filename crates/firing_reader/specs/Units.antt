@@ -1,12 +1,12 @@
 -- What rows share, as a trace stores it: units with the bytes that they were read from, and the
 -- owner or the probe of each.
-use Rattle.std.specs.Prelude.{◌≡◌, ◌≤◌, ◌+◌, ℕ, List, Some, true, length, take, drop}
-use Rattle.firing_reader.specs.declared.owners.OwnerEntry.{OwnerEntry}
-use Rattle.firing_reader.specs.declared.probes.ProbeEntry.{ProbeEntry}
+use Rattle.std.specs.Prelude.{◌≡◌, ◌≤◌, ◌+◌, ℕ, List, Some, length, take, drop}
+use Rattle.firing_reader.specs.declared.unit.OwnerEntry.{OwnerEntry}
+use Rattle.firing_reader.specs.declared.unit.ProbeEntry.{ProbeEntry}
 use Rattle.firing_reader.specs.declared.unit.Owner.{Owner}
 use Rattle.firing_reader.specs.declared.unit.Probe.{Probe}
 use Rattle.firing_reader.specs.declared.units.Known.{Known}
-use Rattle.firing_reader.specs.Column.{text_of}
+use Rattle.firing_reader.specs.Texts.{text_of}
 
 -- so many bytes from a place on
 abbrev pub part : List ℕ → ℕ → ℕ → List ℕ
@@ -17,11 +17,10 @@ abbrev pub unit_in : {E : Type 0} → List ℕ → Known E → List ℕ × E
 unit_in bytes k = (part bytes k.begin k.count, k.entry)
 
 -- its bytes are there, and its entry is theirs
-pub record IsUnitIn {E : Type 0} (In Reads : E → List ℕ → Type 0) (bytes : List ℕ) (k : Known E)
+pub record IsUnitIn {E : Type 0} (In : E → List ℕ → Type 0) (bytes : List ℕ) (k : Known E)
     : Type 0 where
   pub inside : k.begin + k.count ≤ length bytes
   pub is_in : In k.entry (part bytes k.begin k.count)
-  pub reads : k.plain ≡ true → Reads k.entry (part bytes k.begin k.count)
 
 -- there are so many bytes from this place on, and they are a text
 pub record IsTextIn (bytes : List ℕ) (begin count : ℕ) : Type 0 where

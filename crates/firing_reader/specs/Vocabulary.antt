@@ -16,4 +16,4 @@ pub use Rattle.firing_reader.specs.declared.fault.TraceFault.TheVariants.{Header
 pub use Rattle.firing_reader.specs.declared.fault.TraceFault.TheVariants.{Order, Text, Reserved}
 pub use Rattle.firing_reader.specs.declared.fault.TraceFault.TheVariants.{TooMany, Memory}
 pub use Rattle.firing_reader.specs.declared.firing.Firing.{Firing}
-pub use Rattle.firing_reader.specs.declared.reading.TheConstants.{MOST_ROWS}
+pub use Rattle.firing_reader.specs.declared.trace.TheConstants.{MOST_ROWS}

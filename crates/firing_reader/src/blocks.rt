@@ -1,7 +1,7 @@
 //! Reading a trace that comes in blocks.
 
 ghost use Rattle.std.specs.Prelude.{◌≡◌, ◌≢◌, ◌<◌, ◌≤◌, ◌+◌, ◌++◌, ◌∷◌, [], ℕ, List, OnOk, OnErr};
-ghost use Rattle.std.specs.Prelude.{IfOk, IfErr, IfSome, MatchBool, drop, length, true};
+ghost use Rattle.std.specs.Prelude.{IfOk, IfErr, MatchBool, length, true};
 ghost use Rattle.firing_reader.specs.{Vocabulary.Memory, Gives.Gives, Gives.GivesBy};
 ghost use Rattle.firing_reader.specs.Trace.{IsTrace, trace_of};
 ghost use Rattle.firing_reader.specs.Blocks.{AreRead, BeginsAtFeed};
@@ -9,19 +9,20 @@ ghost use Rattle.firing_reader.specs.Steps.Blocks.{Begins, IsFaultOf};
 ghost use Rattle.firing_reader.specs.Blocks.{reads, reads_at};
 ghost use Rattle.firing_reader.specs.Plain.{rows_in};
 ghost use Rattle.firing_reader.specs.Pieces.{IsKept, unread};
-ghost use Rattle.firing_reader.specs.Steps.Pieces.{Adds, AreWaiting, Leads};
+ghost use Rattle.firing_reader.specs.Steps.Pieces.{AreWaiting};
 ghost use Rattle.firing_reader.specs.Steps.Plain.{GoesOn};
 ghost use Rattle.firing_reader.specs.declared.blocks.Stage.TheVariants.{Refused};
 
+use crate::builder::FiringsBuilder;
 use crate::fault::TraceFault;
-use crate::firings::Firings;
 use crate::header::{HEADER, MARK, after_header, after_mark};
-use crate::pieces::{Context, Piece, Waiting, add_pieces, no_pieces, read_pieces};
-use crate::plain::front::{is_end, rest_after};
-use crate::plain::read_plain;
-use crate::reading::{read_by_csv, read_records, read_rest, read_whole};
+use crate::pieces::{Piece, no_pieces};
+use crate::plain::front::is_end;
+use crate::reading::{read_records, read_rest, read_whole};
 use crate::row_ends::end_of_rows;
 use crate::trace::Trace;
+use crate::waiting::{Context, Waiting, add_waiting, give_back, keep_waiting, read_pieces};
+use crate::whole_rows::{keep_from, read_rows};
 use keyed_hash::HashKey;
 use std::alloc::{AllocError, Global};
 use std::marker::Model;
@@ -56,7 +57,7 @@ pub struct Reader {
     alloc: Global,
     hash_key: HashKey,
     stage: Stage,
-    firings: Firings,
+    firings: FiringsBuilder,
     // Rows that several workers have read, and that come after the firings.
     waiting: Waiting,
     // For the pieces of the rows that they read next.
@@ -96,7 +97,7 @@ impl Reader {
     ) -> Result<Reader, AllocError>
         ensures { IfOk result (λ r. (rest : List ℕ) → reads r rest ≡ trace_of rest) }
     {
-        let firings = Firings::new(alloc, hash_key)?;
+        let firings = FiringsBuilder::new(alloc, hash_key)?;
         let (waiting, pieces) = match rooms_for(alloc, hash_key, workers) {
             Ok(rooms) => rooms,
             Err(refused) => {
@@ -234,7 +235,7 @@ impl Reader {
             drop(firings);
             return Err(fault);
         }
-        Ok(Trace::of(firings))
+        Ok(Trace::of(firings.finish()))
     }
 
     /// Reads the rows that are whole, once there are as many bytes as are read at a time. Where
@@ -392,7 +393,11 @@ fn refuse(
 
 // Reads the header, and if csv has to read it the whole rows after it too. Returns false if the
 // header isn't whole yet.
-fn read_header(alloc: Global, firings: &mut Firings, left: &mut Vec<u8>) -> Result<bool, TraceFault>
+fn read_header(
+    alloc: Global,
+    firings: &mut FiringsBuilder,
+    left: &mut Vec<u8>,
+) -> Result<bool, TraceFault>
     requires { firings.old ≡ [] }
     ensures found { IfOk result (λ found. MatchBool found
         (Begins left.old.items firings.new left.new.items)
@@ -419,89 +424,10 @@ fn read_header(alloc: Global, firings: &mut Firings, left: &mut Vec<u8>) -> Resu
     Ok(true)
 }
 
-// Reads the rows that are whole: plain ones where they lie, and from the first other one on by csv.
-fn read_rows(alloc: Global, firings: &mut Firings, left: &mut Vec<u8>) -> Result<(), TraceFault>
-    requires feed { BeginsAtFeed left.old.items }
-    requires are_read { AreRead firings.old }
-    ensures read { OnOk result (GoesOn firings.old left.old.items firings.new left.new.items) }
-    ensures feed { OnOk result (BeginsAtFeed left.new.items) }
-    ensures fault { IfErr result (λ e.
-        IsFaultOf e (λ tail. rows_in firings.old (left.old.items ++ tail))) }
-{
-    let rest = read_plain(firings, left);
-    let end = end_of_rows(rest_after(rest, 1));
-    if end > 0 {
-        read_by_csv(alloc, firings, &rest[..end + 1])?;
-    }
-    let at = left.len() - rest.len() + end;
-    keep_from(left, at);
-    Ok(())
-}
-
-/// Adds the rows that wait to the firings before them, and reads those that couldn't be read apart.
-pub(crate) fn add_waiting(
-    alloc: Global,
-    firings: &mut Firings,
-    waiting: &mut Waiting,
-) -> Result<(), TraceFault>
-    requires waiting { AreWaiting waiting.old.pieces.items waiting.old.bytes.items }
-    requires are_read { AreRead firings.old }
-    ensures added { OnOk result
-        (Adds firings.old waiting.old.bytes.items firings.new waiting.new.bytes.items) }
-    ensures fault { IfErr result (λ e.
-        IsFaultOf e (λ tail. rows_in firings.old (waiting.old.bytes.items ++ tail))) }
-{
-    let Waiting { pieces, bytes } = waiting;
-    if bytes.is_empty() {
-        return Ok(());
-    }
-    let Some(passed) = add_pieces(firings, pieces, bytes) else {
-        return Err(TraceFault::Memory);
-    };
-    keep_from(bytes, passed);
-    read_rows(alloc, firings, bytes)
-}
-
-// Puts the bytes that wait before those that are left.
-fn give_back(waiting: &mut Waiting, left: &mut Vec<u8>) -> Result<(), AllocError>
-    requires { BeginsAtFeed left.old.items }
-    ensures left { OnOk result (left.new.items ≡ unread waiting.old.bytes.items left.old.items) }
-    ensures none { OnOk result (waiting.new.bytes.items ≡ []) }
-{
-    if waiting.bytes.is_empty() {
-        return Ok(());
-    }
-    waiting.bytes.extend_from_slice(&left[1..])?;
-    swap(&mut waiting.bytes, left);
-    waiting.bytes.clear();
-    Ok(())
-}
-
-// Reads the rows that are whole by this thread, those that wait first.
-fn read_alone(
-    alloc: Global,
-    firings: &mut Firings,
-    waiting: &mut Waiting,
-    left: &mut Vec<u8>,
-) -> Result<(), TraceFault>
-    requires feed { BeginsAtFeed left.old.items }
-    requires leads { Leads waiting.old.bytes.items }
-    requires are_read { AreRead firings.old }
-    ensures read { OnOk result (GoesOn firings.old (unread waiting.old.bytes.items left.old.items)
-        firings.new left.new.items) }
-    ensures feed { OnOk result (BeginsAtFeed left.new.items) }
-    ensures none { OnOk result (waiting.new.bytes.items ≡ []) }
-    ensures fault { IfErr result (λ e. IsFaultOf e
-        (λ tail. rows_in firings.old (unread waiting.old.bytes.items left.old.items ++ tail))) }
-{
-    give_back(waiting, left)?;
-    read_rows(alloc, firings, left)
-}
-
 // Reads the rows that are whole by all workers. They wait, and this thread adds those that waited.
 fn read_rows_by<R: Threads>(
     context: &Context<R>,
-    firings: &mut Firings,
+    firings: &mut FiringsBuilder,
     waiting: &mut Waiting,
     pieces: &mut Vec<Piece>,
     left: &mut Vec<u8>,
@@ -517,39 +443,22 @@ fn read_rows_by<R: Threads>(
     ensures fault { IfErr result (λ e. IsFaultOf e
         (λ tail. rows_in firings.old (unread waiting.old.bytes.items left.old.items ++ tail))) }
 {
-    if pieces.is_empty() {
-        return read_alone(context.alloc, firings, waiting, left);
+    if !pieces.is_empty() {
+        read_pieces(context, pieces, left, firings, waiting)?;
+        if waiting.bytes.len() <= 1 {
+            keep_waiting(waiting, pieces, left)?;
+            return Ok(());
+        }
     }
-    read_pieces(context, pieces, left, firings, waiting)?;
-    if waiting.bytes.len() > 1 {
-        return read_alone(context.alloc, firings, waiting, left);
-    }
-    keep_waiting(waiting, pieces, left)?;
-    Ok(())
-}
-
-// Keeps the pieces of the bytes that are left as those that wait, where no others do.
-fn keep_waiting(
-    waiting: &mut Waiting,
-    pieces: &mut Vec<Piece>,
-    left: &mut Vec<u8>,
-) -> Result<(), AllocError>
-    ensures waiting { waiting.new.bytes.items ≡ left.old.items }
-    ensures pieces { waiting.new.pieces.items ≡ pieces.old.items }
-    ensures left { OnOk result (left.new.items ≡ 10 ∷ []) }
-{
-    swap(&mut waiting.bytes, left);
-    swap(&mut waiting.pieces, pieces);
-    left.clear();
-    left.push(b'\n')?;
-    Ok(())
+    give_back(waiting, left)?;
+    read_rows(context.alloc, firings, left)
 }
 
 // Reads what is whole, and returns what is to be read next.
 fn advance<R: Threads>(
     context: &Context<R>,
     stage: Stage,
-    firings: &mut Firings,
+    firings: &mut FiringsBuilder,
     waiting: &mut Waiting,
     pieces: &mut Vec<Piece>,
     left: &mut Vec<u8>,
@@ -584,7 +493,7 @@ fn advance<R: Threads>(
 // Reads all rows that are left, after the last block.
 fn read_last_rows(
     alloc: Global,
-    firings: &mut Firings,
+    firings: &mut FiringsBuilder,
     waiting: &mut Waiting,
     left: &mut Vec<u8>,
 ) -> Result<(), TraceFault>
@@ -603,7 +512,7 @@ fn read_last_rows(
 fn read_left<R: Threads>(
     context: &Context<R>,
     stage: Stage,
-    firings: &mut Firings,
+    firings: &mut FiringsBuilder,
     waiting: &mut Waiting,
     pieces: &mut Vec<Piece>,
     left: &mut Vec<u8>,
@@ -619,23 +528,4 @@ fn read_left<R: Threads>(
         Stage::Rows => read_last_rows(context.alloc, firings, waiting, left),
         Stage::Refused(fault) => Err(fault),
     }
-}
-
-// Drops the bytes before a place, and puts a line feed there, as at the end of a row.
-fn keep_from(left: &mut Vec<u8>, at: usize)
-    requires { at < length left.old.items }
-    ensures { left.new.items ≡ 10 ∷ drop (at + 1) left.old.items }
-{
-    drop_front(left, at);
-    left[0] = b'\n';
-}
-
-// Drops the first `count` bytes.
-fn drop_front(left: &mut Vec<u8>, count: usize)
-    requires { count ≤ length left.old.items }
-    ensures { left.new.items ≡ drop count left.old.items }
-{
-    let len = left.len();
-    left.copy_within(count..len, 0);
-    left.truncate(len - count);
 }

@@ -1,7 +1,7 @@
 //! BEGIN and END.
 
 ghost use Rattle.std.specs.Prelude.{◌≡◌, Some};
-ghost use Rattle.firing_reader.specs.Column.{text_of};
+ghost use Rattle.firing_reader.specs.Texts.{text_of};
 ghost use Rattle.firing_reader.specs.Ends.{own_firing, begin_of, end_of, first_time, last_time};
 
 use crate::firing::{Args, Firing};

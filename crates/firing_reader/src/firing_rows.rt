@@ -1,14 +1,14 @@
 //! Rows that are read together, before a firing is made of any.
 
 ghost use Rattle.std.specs.Prelude.{◌≡◌, ◌<◌, ◌≤◌, Some, length, map, slice_get, take};
-ghost use Rattle.firing_reader.specs.Stored.{row_before};
+ghost use Rattle.firing_reader.specs.Stored.{IsRowIn, firing_in, row_before};
+ghost use Rattle.firing_reader.specs.Units.{owner_in, probe_in};
 ghost use Rattle.firing_reader.specs.declared.firing_rows.TheConstants.{MOST_TOGETHER};
 
-use crate::firing::Firing;
-use crate::firings::firing_of;
-use crate::owners::Owners;
-use crate::probes::Probes;
+use crate::firing::{Args, Firing};
 use crate::stored_row::Row;
+use crate::unit::{Owner, OwnerEntry, Probe, ProbeEntry, owner_at, probe_at};
+use crate::units::Units;
 use std::marker::Model;
 
 /// How many rows are read together, at most.
@@ -18,8 +18,8 @@ pub const MOST_TOGETHER: usize = 16;
 /// row.
 #[derive(Drop)]
 pub struct FiringRows<'a> {
-    pub(crate) owners: &'a Owners,
-    pub(crate) probes: &'a Probes,
+    pub(crate) owners: &'a Units<OwnerEntry>,
+    pub(crate) probes: &'a Units<ProbeEntry>,
     pub(crate) args: &'a [i64],
     pub(crate) rows: [Option<Row>; MOST_TOGETHER],
     pub(crate) count: usize,
@@ -29,14 +29,16 @@ impl<'a> Model for FiringRows<'a> {
     ghost use Rattle.std.specs.Prelude.{◌≤◌, All, IfSome, List, Option, map, option_map, take};
     ghost use Rattle.firing_reader.specs.declared.firing.Firing.{Firing};
     ghost use Rattle.firing_reader.specs.Stored.{IsRowIn, firing_in};
+    ghost use Rattle.firing_reader.specs.Units.{owner_in, probe_in};
 
     ghost Value = { List (Option Firing) };
 
-    ghost view = { λ s. map (option_map (firing_in s.owners.now s.probes.now s.args.now))
+    ghost view = { λ s. map (option_map
+        (firing_in (map owner_in s.owners.now) (map probe_in s.probes.now) s.args.now))
         (take s.count s.rows) };
 
-    ghost invariant = { λ s. (s.count ≤ 16)
-        × All (λ r. IfSome r (IsRowIn s.owners.now s.probes.now s.args.now))
+    ghost invariant = { λ s. (s.count ≤ 16) × All (λ r. IfSome r
+        (IsRowIn (map owner_in s.owners.now) (map probe_in s.probes.now) s.args.now))
         (take s.count s.rows) };
 }
 
@@ -77,4 +79,44 @@ fn one_before(rows: &[Row], place: u32) -> Option<Row>
         return None;
     }
     rows.get(place as usize - 1).copied()
+}
+
+/// The firing of a row.
+#[inline(always)]
+pub(crate) fn firing_of<'a>(
+    owners: &'a Units<OwnerEntry>,
+    probes: &'a Units<ProbeEntry>,
+    args: &'a [i64],
+    row: Row,
+) -> Firing<'a>
+    requires { IsRowIn (map owner_in owners.now) (map probe_in probes.now) args.now row }
+    ensures { result
+        ≡ firing_in (map owner_in owners.now) (map probe_in probes.now) args.now row }
+{
+    let first = row.given.first();
+    let given = &args[first..first + row.given.count()];
+    let Owner {
+        thread,
+        pid,
+        execname,
+    } = owner_at(owners, row.owner as usize);
+    let Probe {
+        provider,
+        probemod,
+        probefunc,
+        name,
+    } = probe_at(probes, row.probe);
+    Firing {
+        number: row.number,
+        cpu: row.cpu,
+        thread,
+        pid,
+        execname,
+        time: row.time,
+        provider,
+        probemod,
+        probefunc,
+        name,
+        args: Args::of(given),
+    }
 }

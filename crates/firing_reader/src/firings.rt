@@ -1,36 +1,28 @@
 //! The firings of a trace, as they are stored: rows of small fixed size, each owner and each probe
 //! once, and of the arguments no zeros at the end.
 
-ghost use Rattle.std.specs.Prelude.{◌≡◌, ◌<◌, ◌≤◌, ◌++◌, ◌∷◌, [], true, false, All, Some, IfOk};
-ghost use Rattle.std.specs.Prelude.{IfSome, MatchOption, slice_get, length, map};
-ghost use Rattle.firing_reader.specs.{Vocabulary.Firing, Plain.ReadsRow, Probing.probe_of};
-ghost use Rattle.firing_reader.specs.{Firings.thread_of};
-ghost use Rattle.firing_reader.specs.{Trace.last_number as last_number_of};
+ghost use Rattle.std.specs.Prelude.{◌≡◌, ◌<◌, ◌≤◌, All, Some, length, map, slice_get};
+ghost use Rattle.firing_reader.specs.Firings.{last_number as last_number_of, thread_of};
+ghost use Rattle.firing_reader.specs.{Probing.probe_of};
 ghost use Rattle.firing_reader.specs.Stored.{ArePlaces, IsRowIn, firing_in, row_before};
+ghost use Rattle.firing_reader.specs.Units.{owner_in, probe_in};
 ghost use Rattle.firing_reader.specs.declared.firing_rows.TheConstants.{MOST_TOGETHER};
-ghost use Rattle.firing_reader.specs.Steps.Stored.{IsMovable, moved_row as moved_row_of};
 
-use crate::arguments::{add_arguments, keep_arguments};
-use crate::firing::{Args, Firing};
-use crate::firing_rows::{FiringRows, rows_before};
+use crate::firing::Firing;
+use crate::firing_rows::{FiringRows, firing_of, rows_before};
 use crate::owner_places::OwnerPlaces;
-use crate::owners::Owners;
-use crate::plain::row::row;
 use crate::probe_places::ProbePlaces;
-use crate::probes::Probes;
 use crate::stored_row::Row;
-use crate::unit::{Owner, Probe};
-use keyed_hash::HashKey;
-use std::alloc::{AllocError, Global};
+use crate::unit::{OwnerEntry, ProbeEntry};
+use crate::units::Units;
 use std::marker::Model;
 
 /// The firings of a trace. Each is made when it is asked for, and takes no memory. Contracts see
 /// the list of them.
 #[derive(Drop)]
 pub struct Firings {
-    alloc: Global,
-    owners: Owners,
-    probes: Probes,
+    owners: Units<OwnerEntry>,
+    probes: Units<ProbeEntry>,
     args: Vec<i64>,
     rows: Vec<Row>,
 }
@@ -38,49 +30,35 @@ pub struct Firings {
 impl Model for Firings {
     ghost use Rattle.firing_reader.specs.Vocabulary.{All, Firing, List, map};
     ghost use Rattle.firing_reader.specs.Stored.{IsRowIn, firing_in};
+    ghost use Rattle.firing_reader.specs.Units.{owner_in, probe_in};
 
     ghost Value = { List Firing };
 
-    ghost view = { λ s. map (firing_in s.owners s.probes s.args.items) s.rows.items };
+    ghost view = { λ s. map
+        (firing_in (map owner_in s.owners) (map probe_in s.probes) s.args.items) s.rows.items };
 
-    ghost invariant = { λ s. All (IsRowIn s.owners s.probes s.args.items) s.rows.items };
+    ghost invariant = { λ s. All
+        (IsRowIn (map owner_in s.owners) (map probe_in s.probes) s.args.items) s.rows.items };
 }
 
 impl Firings {
-    pub(crate) fn new(alloc: Global, hash_key: HashKey) -> Result<Firings, AllocError>
-        ensures { IfOk result (λ s. s ≡ []) }
+    /// The firings of rows, with the owners, the probes and the arguments that they name.
+    pub fn of(
+        owners: Units<OwnerEntry>,
+        probes: Units<ProbeEntry>,
+        args: Vec<i64>,
+        rows: Vec<Row>,
+    ) -> Firings
+        requires { All (IsRowIn (map owner_in owners) (map probe_in probes) args.items) rows.items }
+        ensures { result
+            ≡ map (firing_in (map owner_in owners) (map probe_in probes) args.items) rows.items }
     {
-        let owners = Owners::new(alloc, hash_key)?;
-        let probes = Probes::new(alloc, hash_key)?;
-        Ok(Firings {
-            alloc,
+        Firings {
             owners,
             probes,
-            args: Vec::new(alloc),
-            rows: Vec::new(alloc),
-        })
-    }
-
-    /// Forgets all firings. Owners and probes stay, as others are likely to have the same.
-    pub(crate) fn clear(&mut self)
-        ensures { self.new ≡ [] }
-    {
-        self.rows.clear();
-        self.args.clear();
-    }
-
-    /// Forgets all firings, their owners and their probes.
-    pub(crate) fn clear_all(&mut self)
-        ensures { self.new ≡ [] }
-    {
-        self.clear();
-        self.owners.clear();
-        self.probes.clear();
-    }
-
-    /// How many owners and probes are kept.
-    pub(crate) fn unit_count(&self) -> usize {
-        self.owners.len().saturating_add(self.probes.len())
+            args,
+            rows,
+        }
     }
 
     /// How many there are.
@@ -165,164 +143,5 @@ impl Firings {
             Some(row) => row.number,
             None => 0,
         }
-    }
-
-    /// Stores one more. If memory is refused, returns None and leaves the firings as they were.
-    pub(crate) fn push(&mut self, firing: &Firing) -> Option<()>
-        ensures { MatchOption result (self.new ≡ self.old)
-            (λ _. self.new ≡ self.old ++ firing.now ∷ []) }
-    {
-        let Some(owner) = self
-            .owners
-            .keep(self.alloc, firing.thread, firing.pid, &firing.execname)
-        else {
-            return None;
-        };
-        let Some(probe) = self.probes.keep(
-            self.alloc,
-            &firing.provider,
-            &firing.probemod,
-            &firing.probefunc,
-            &firing.name,
-        )
-        else {
-            return None;
-        };
-        let Some(given) = keep_arguments(&mut self.args, firing.args.stored()) else {
-            return None;
-        };
-        let row = Row {
-            number: firing.number,
-            time: firing.time,
-            cpu: firing.cpu,
-            owner,
-            probe,
-            given,
-        };
-        if push_row(&mut self.rows, row) {
-            Some(())
-        } else {
-            None
-        }
-    }
-
-    /// Reads the plain row after a line feed, whose number has to be above the last, and returns
-    /// the bytes from its own line feed on. If it returns None, the firings stay as they were.
-    #[inline(always)]
-    pub(crate) fn read_row<'a>(&mut self, bytes: &'a [u8]) -> Option<&'a [u8]>
-        ensures { MatchOption result (self.new ≡ self.old) (λ rest. (f : Firing)
-            × (self.new ≡ self.old ++ f ∷ []) × ReadsRow bytes.now rest.now f
-            × (last_number_of self.old < f.number)) }
-    {
-        let last = self.last_number();
-        let (row, rest) = row(
-            &mut self.owners,
-            &mut self.probes,
-            &mut self.args,
-            bytes,
-            last,
-        )?;
-        if push_row(&mut self.rows, row) {
-            Some(rest)
-        } else {
-            None
-        }
-    }
-
-    /// Stores others after these: each owner and each probe of theirs is looked up once, and no
-    /// firing is made. It returns None where memory is refused.
-    pub(crate) fn append(&mut self, others: &Firings) -> Option<()>
-        ensures { IfSome result (λ _. self.new ≡ self.old ++ others.now) }
-    {
-        let owner_places = self.owners.places_of(self.alloc, &others.owners)?;
-        let probe_places = self.probes.places_of(self.alloc, &others.probes)?;
-        let shift = add_arguments(&mut self.args, &others.args)?;
-        add_rows(
-            &mut self.rows,
-            &others.rows,
-            &owner_places,
-            &probe_places,
-            shift,
-        )
-    }
-}
-
-/// The firing of a row.
-#[inline(always)]
-pub(crate) fn firing_of<'a>(
-    owners: &'a Owners,
-    probes: &'a Probes,
-    args: &'a [i64],
-    row: Row,
-) -> Firing<'a>
-    requires { IsRowIn owners.now probes.now args.now row }
-    ensures { result ≡ firing_in owners.now probes.now args.now row }
-{
-    let first = row.given.first();
-    let given = &args[first..first + row.given.count()];
-    let Owner {
-        thread,
-        pid,
-        execname,
-    } = owners.at(row.owner as usize);
-    let Probe {
-        provider,
-        probemod,
-        probefunc,
-        name,
-    } = probes.at(row.probe);
-    Firing {
-        number: row.number,
-        cpu: row.cpu,
-        thread,
-        pid,
-        execname,
-        time: row.time,
-        provider,
-        probemod,
-        probefunc,
-        name,
-        args: Args::of(given),
-    }
-}
-
-// Adds a row, and returns whether there was memory for it.
-fn push_row(rows: &mut Vec<Row>, row: Row) -> bool
-    ensures pushed { result ≡ true → rows.new.items ≡ rows.old.items ++ row ∷ [] }
-    ensures refused { result ≡ false → rows.new.items ≡ rows.old.items }
-{
-    rows.push(row).is_ok()
-}
-
-// Adds rows, with the places of their owners and probes and the starts of their arguments changed
-// to those among all.
-fn add_rows(
-    rows: &mut Vec<Row>,
-    others: &[Row],
-    owners: &[u32],
-    probes: &[u32],
-    shift: u32,
-) -> Option<()>
-    requires { All (IsMovable owners.now probes.now shift) others.now }
-    ensures { MatchOption result (rows.new.items ≡ rows.old.items) (λ _. rows.new.items
-        ≡ rows.old.items ++ map (moved_row_of owners.now probes.now shift) others.now) }
-{
-    rows.reserve(others.len()).ok()?;
-    for row in others {
-        rows.push_reserved(moved_row(row, owners, probes, shift));
-    }
-    Some(())
-}
-
-// One such row.
-fn moved_row(row: &Row, owners: &[u32], probes: &[u32], shift: u32) -> Row
-    requires { IsMovable owners.now probes.now shift row.now }
-    ensures { result ≡ moved_row_of owners.now probes.now shift row.now }
-{
-    Row {
-        owner: owners[row.owner as usize],
-        probe: probes[row.probe as usize],
-        given: row.given.moved(shift),
-        ..*row
     }
 }

@@ -16,6 +16,7 @@
 
 mod arguments;
 mod blocks;
+mod builder;
 mod columns;
 mod ends;
 mod fault;
@@ -39,7 +40,10 @@ mod stored_row;
 mod text;
 mod trace;
 mod unit;
+mod unit_table;
 mod units;
+mod waiting;
+mod whole_rows;
 
 pub use blocks::{Reader, read_trace_by};
 pub use fault::TraceFault;
@@ -48,7 +52,7 @@ pub use firing_rows::{FiringRows, MOST_TOGETHER};
 pub use firings::Firings;
 pub use owner_places::OwnerPlaces;
 pub use probe_places::ProbePlaces;
-pub use reading::MOST_ROWS;
+pub use reading::read_trace;
 pub use text::{TEXT_LIMIT, Text};
-pub use trace::{Trace, read_trace};
+pub use trace::{MOST_ROWS, Trace};
 pub use unit::Probe;

@@ -2,8 +2,9 @@
 
 ghost use Rattle.std.specs.Prelude.{◌≡◌, ◌<◌, Some, length, slice_get};
 
-use crate::owners::Owners;
 use crate::stored_row::{Row, row_at};
+use crate::unit::{OwnerEntry, owner_at};
+use crate::units::Units;
 use std::marker::Model;
 
 /// The threads of firings' owners, and of each firing the place of its own owner among them. Two
@@ -16,18 +17,23 @@ use std::marker::Model;
 /// ```
 #[derive(Drop)]
 pub struct OwnerPlaces<'a> {
-    pub(crate) owners: &'a Owners,
+    pub(crate) owners: &'a Units<OwnerEntry>,
     pub(crate) rows: &'a [Row],
 }
 
 impl<'a> Model for OwnerPlaces<'a> {
     ghost use Rattle.std.specs.Prelude.{◌<◌, All, List, length, map, ℕ, ℤ};
+    ghost use Rattle.firing_reader.specs.Units.{owner_in};
 
     ghost Value = { List ℤ × List ℕ };
 
-    ghost view = { λ p. (map (λ o. o.thread) p.owners.now, map (λ r. r.owner) p.rows.now) };
+    ghost view = { λ p. (
+      map (λ o. o.thread) (map owner_in p.owners.now),
+      map (λ r. r.owner) p.rows.now,
+    ) };
 
-    ghost invariant = { λ p. All (λ r. r.owner < length p.owners.now) p.rows.now };
+    ghost invariant = { λ p.
+        All (λ r. r.owner < length (map owner_in p.owners.now)) p.rows.now };
 }
 
 impl<'a> OwnerPlaces<'a> {
@@ -43,7 +49,7 @@ impl<'a> OwnerPlaces<'a> {
         requires { place < length self.now.0 }
         ensures { slice_get self.now.0 place ≡ Some result }
     {
-        self.owners.at(place).thread
+        owner_at(self.owners, place).thread
     }
 
     /// The place of a firing's owner.

@@ -1,53 +1,31 @@
-//! Reading plain rows by several workers: each reads a piece of the bytes, and two pieces share the
+//! Plain rows that several workers read: each has a piece of the bytes, and two pieces share the
 //! end of the row between them.
 
-ghost use Rattle.std.specs.Prelude.{◌≡◌, ◌≤◌, ◌+◌, ◌++◌, [], true, IfErr, IfSome, OnOk};
-ghost use Rattle.std.specs.Prelude.{◌<◌, ◌-◌, Ok, drop, get_or, length};
-ghost use Rattle.firing_reader.specs.{Blocks.AreRead};
-ghost use Rattle.firing_reader.specs.Plain.{BeginsAtEnd, IsEnd, rows_in};
-ghost use Rattle.firing_reader.specs.Steps.Blocks.{IsFaultOf};
+ghost use Rattle.std.specs.Prelude.{◌≡◌, ◌<◌, ◌≤◌, ◌+◌, ◌-◌, [], true, IfSome, drop, get_or};
+ghost use Rattle.std.specs.Prelude.{length};
+ghost use Rattle.firing_reader.specs.{Firings.last_number};
+ghost use Rattle.firing_reader.specs.Plain.{BeginsAtEnd, IsEnd};
 ghost use Rattle.firing_reader.specs.Pieces.{AreCut, ArePieces, IsPiece, Rises};
-ghost use Rattle.firing_reader.specs.Steps.Pieces.{Adds, AreWaiting};
 ghost use Rattle.firing_reader.specs.Steps.Plain.{GoesAfter, PassesRows};
-ghost use Rattle.firing_reader.specs.Trace.{last_number, trace_of};
 
-use crate::blocks::add_waiting;
-use crate::fault::TraceFault;
-use crate::firings::Firings;
+use crate::builder::FiringsBuilder;
 use crate::plain::front::{begins_at_end, is_end};
 use crate::plain::read_plain;
-use crate::reading::MOST_ROWS;
+use crate::trace::MOST_ROWS;
 use keyed_hash::HashKey;
 use std::alloc::{AllocError, Global};
-use std::thread::{Threads, join_mut};
 
 // A piece that has more owners and probes than this forgets them before it is used again.
 const MOST_KEPT: usize = 1024;
 
-/// Where the threads and the memory of a reading come from.
-#[derive(Drop)]
-pub(crate) struct Context<'a, R> {
-    pub(crate) rt: &'a R,
-    pub(crate) alloc: Global,
-    pub(crate) hash_key: HashKey,
-}
-
 /// Rows that a worker reads apart from those before them.
 #[derive(Drop)]
 pub(crate) struct Piece {
-    firings: Firings,
+    pub(crate) firings: FiringsBuilder,
     // The place of the row's end that ends its bytes, and with which the next piece begins.
-    end: usize,
+    pub(crate) end: usize,
     // How many of its bytes come before what is left.
-    passed: usize,
-}
-
-/// Rows that were read in pieces, and aren't among the firings yet.
-#[derive(Drop)]
-pub(crate) struct Waiting {
-    pub(crate) pieces: Vec<Piece>,
-    /// Their bytes, from the line feed before them on; or none.
-    pub(crate) bytes: Vec<u8>,
+    pub(crate) passed: usize,
 }
 
 /// So many pieces without bytes.
@@ -58,7 +36,7 @@ pub(crate) fn no_pieces(
 ) -> Result<Vec<Piece>, AllocError> {
     let mut pieces = Vec::new(alloc);
     for _ in 0..count {
-        let firings = Firings::new(alloc, hash_key)?;
+        let firings = FiringsBuilder::new(alloc, hash_key)?;
         pieces.push(Piece {
             firings,
             end: 0,
@@ -69,7 +47,7 @@ pub(crate) fn no_pieces(
 }
 
 // Empties the firings of a piece, whose room is used again.
-fn empty(firings: &mut Firings)
+fn empty(firings: &mut FiringsBuilder)
     ensures { firings.new ≡ [] }
 {
     if firings.unit_count() > MOST_KEPT {
@@ -79,8 +57,8 @@ fn empty(firings: &mut Firings)
     }
 }
 
-// Reads a piece apart from the firings before it.
-fn read_piece(piece: &mut Piece, bytes: &[u8])
+/// Reads a piece apart from the firings before it.
+pub(crate) fn read_piece(piece: &mut Piece, bytes: &[u8])
     requires { BeginsAtEnd bytes.now }
     ensures piece { IsPiece bytes.now piece.new.firings piece.new.passed }
     ensures end { piece.new.end + 1 ≡ length bytes.now }
@@ -92,7 +70,7 @@ fn read_piece(piece: &mut Piece, bytes: &[u8])
 }
 
 // Reads a piece after the firings before it. It returns how many bytes come before what is left.
-fn read_alone(firings: &mut Firings, bytes: &[u8]) -> usize
+fn read_alone(firings: &mut FiringsBuilder, bytes: &[u8]) -> usize
     requires feed { BeginsAtEnd bytes.now }
     requires few { length firings.old ≤ MOST_ROWS }
     ensures { PassesRows firings.old bytes.now firings.new result }
@@ -101,15 +79,15 @@ fn read_alone(firings: &mut Firings, bytes: &[u8]) -> usize
     bytes.len() - rest.len()
 }
 
-// Bytes cut in two, which share the end of a row.
+/// Bytes cut in two, which share the end of a row.
 #[derive(Clone, Copy)]
-struct Cut<'a> {
-    front: &'a [u8],
-    last: &'a [u8],
+pub(crate) struct Cut<'a> {
+    pub(crate) front: &'a [u8],
+    pub(crate) last: &'a [u8],
 }
 
-// Cuts bytes at the first end of a row from a place on, or else at the first of all.
-fn cut_near(bytes: &[u8], from: usize) -> Cut<'_>
+/// Cuts bytes at the first end of a row from a place on, or else at the first of all.
+pub(crate) fn cut_near(bytes: &[u8], from: usize) -> Cut<'_>
     requires { BeginsAtEnd bytes.now }
     ensures cut { AreCut bytes.now result.front.now result.last.now }
     ensures last { result.last.now ≡ drop (length result.front.now - 1) bytes.now }
@@ -153,7 +131,7 @@ fn cut_at_end(bytes: &[u8], from: usize) -> Option<Cut<'_>>
 }
 
 // Whether a trace may have the second after the first.
-fn goes_after(first: &Firings, second: &Firings) -> bool
+fn goes_after(first: &FiringsBuilder, second: &FiringsBuilder) -> bool
     requires few { length first.now ≤ MOST_ROWS }
     requires rises { Rises 0 second.now (last_number second.now) }
     ensures { result ≡ true → GoesAfter first.now second.now }
@@ -161,13 +139,16 @@ fn goes_after(first: &Firings, second: &Firings) -> bool
     if second.len() > MOST_ROWS as usize - first.len() {
         return false;
     }
-    second.len() == 0 || first.last_number() < second.get(0).number
+    match second.first_number() {
+        Some(number) => first.last_number() < number,
+        None => true,
+    }
 }
 
 // Adds the rows of a piece to the firings before it. Where they don't go after these, it reads them
 // as far as they do. It returns how many bytes come before what is left, or None where memory is
 // refused.
-fn add_piece(firings: &mut Firings, piece: &Piece, bytes: &[u8]) -> Option<usize>
+fn add_piece(firings: &mut FiringsBuilder, piece: &Piece, bytes: &[u8]) -> Option<usize>
     requires feed { BeginsAtEnd bytes.now }
     requires few { length firings.old ≤ MOST_ROWS }
     requires piece { IsPiece bytes.now piece.now.firings piece.now.passed }
@@ -183,7 +164,11 @@ fn add_piece(firings: &mut Firings, piece: &Piece, bytes: &[u8]) -> Option<usize
 /// Adds the rows of pieces to the firings before them. It returns how many bytes come before what
 /// is left, or None where memory is refused.
 #[cycle(adding)]
-pub(crate) fn add_pieces(firings: &mut Firings, pieces: &[Piece], bytes: &[u8]) -> Option<usize>
+pub(crate) fn add_pieces(
+    firings: &mut FiringsBuilder,
+    pieces: &[Piece],
+    bytes: &[u8],
+) -> Option<usize>
     requires pieces { ArePieces pieces.now bytes.now }
     requires few { length firings.old ≤ MOST_ROWS }
     ensures { IfSome result (PassesRows firings.old bytes.now firings.new) }
@@ -197,74 +182,4 @@ pub(crate) fn add_pieces(firings: &mut Firings, pieces: &[Piece], bytes: &[u8]) 
     }
     let more = add_pieces(firings, others, &bytes[piece.end..])?;
     Some(piece.end + more)
-}
-
-/// Reads bytes in pieces, each by a new thread, while this one adds the rows that wait to the
-/// firings before them.
-#[cycle(reading)]
-pub(crate) fn read_pieces<R: Threads>(
-    context: &Context<R>,
-    pieces: &mut [Piece],
-    bytes: &[u8],
-    firings: &mut Firings,
-    waiting: &mut Waiting,
-) -> Result<(), TraceFault>
-    requires feed { BeginsAtEnd bytes.now }
-    requires waiting { AreWaiting waiting.old.pieces.items waiting.old.bytes.items }
-    requires are_read { AreRead firings.old }
-    ensures pieces { ArePieces pieces.new bytes.now }
-    ensures added { OnOk result
-        (Adds firings.old waiting.old.bytes.items firings.new waiting.new.bytes.items) }
-    ensures fault { IfErr result (λ e.
-        IsFaultOf e (λ tail. rows_in firings.old (waiting.old.bytes.items ++ tail))) }
-{
-    let share = bytes.len() / pieces.len().max(1);
-    let Some((piece, others)) = pieces.split_first_mut() else {
-        return add_waiting(context.alloc, firings, waiting);
-    };
-    let cut = cut_near(bytes, share.min(bytes.len().saturating_sub(1)));
-    read_both(context, piece, others, cut, firings, waiting)
-}
-
-// Reads the first piece in a new thread, while others read those after it.
-#[cycle(reading)]
-fn read_both<R: Threads>(
-    context: &Context<R>,
-    piece: &mut Piece,
-    others: &mut [Piece],
-    cut: Cut<'_>,
-    firings: &mut Firings,
-    waiting: &mut Waiting,
-) -> Result<(), TraceFault>
-    requires front { BeginsAtEnd cut.front.now }
-    requires last { BeginsAtEnd cut.last.now }
-    requires waiting { AreWaiting waiting.old.pieces.items waiting.old.bytes.items }
-    requires are_read { AreRead firings.old }
-    ensures piece { IsPiece cut.entry.front.now piece.new.firings piece.new.passed }
-    ensures end { piece.new.end + 1 ≡ length cut.entry.front.now }
-    ensures others { ArePieces others.new cut.entry.last.now }
-    ensures added { OnOk result
-        (Adds firings.old waiting.old.bytes.items firings.new waiting.new.bytes.items) }
-    ensures fault { IfErr result (λ e.
-        IsFaultOf e (λ tail. rows_in firings.old (waiting.old.bytes.items ++ tail))) }
-{
-    let Cut { front, last } = cut;
-    let ((), added) = join_mut(
-        context.rt,
-        &mut || -> ()
-            requires { BeginsAtEnd front.now }
-            ensures piece { IsPiece front.entry.now piece.exit.now.firings piece.exit.now.passed }
-            ensures end { piece.exit.now.end + 1 ≡ length front.entry.now }
-        { read_piece(piece, front) },
-        &mut || -> Result<(), TraceFault>
-            requires { BeginsAtEnd last.now × AreRead firings.now
-                × AreWaiting waiting.now.pieces.items waiting.now.bytes.items }
-            ensures others { ArePieces others.exit.now last.entry.now }
-            ensures added { OnOk result (Adds firings.entry.now waiting.entry.now.bytes.items
-                firings.exit.now waiting.exit.now.bytes.items) }
-            ensures fault { IfErr result (λ e. IsFaultOf e
-                (λ tail. rows_in firings.entry.now (waiting.entry.now.bytes.items ++ tail))) }
-        { read_pieces(context, others, last, firings, waiting) },
-    );
-    added
 }

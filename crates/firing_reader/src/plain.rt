@@ -4,8 +4,8 @@ ghost use Rattle.std.specs.Prelude.{◌≤◌, length};
 ghost use Rattle.firing_reader.specs.{Plain.BeginsAtEnd};
 ghost use Rattle.firing_reader.specs.Steps.Plain.{GoesOn, Leaves, ReadsMore};
 
-use crate::firings::Firings;
-use crate::reading::MOST_ROWS;
+use crate::builder::FiringsBuilder;
+use crate::trace::MOST_ROWS;
 
 mod arguments;
 pub(crate) mod field;
@@ -16,7 +16,7 @@ pub(crate) mod unit;
 /// Reads the rows after the end of a row, as long as they are plain, and returns what is left. That
 /// begins at the end of a row too, so that csv drops no byte order mark from the row after it.
 #[inline(never)]
-pub(crate) fn read_plain<'a>(firings: &mut Firings, bytes: &'a [u8]) -> &'a [u8]
+pub(crate) fn read_plain<'a>(firings: &mut FiringsBuilder, bytes: &'a [u8]) -> &'a [u8]
     requires few { length firings.old ≤ MOST_ROWS }
     requires begins { BeginsAtEnd bytes.now }
     ensures begins { BeginsAtEnd result.now }

@@ -1,12 +1,13 @@
 //! Which probe each firing is of.
 
 ghost use Rattle.std.specs.Prelude.{◌≡◌, ◌<◌, Some, All, length, map, slice_get};
-ghost use Rattle.firing_reader.specs.{Probing.probe_of, declared.stored_row.Row.Row};
+ghost use Rattle.firing_reader.specs.{Probing.probe_of, Units.probe_in};
+ghost use Rattle.firing_reader.specs.declared.stored_row.Row.{Row};
 
 use crate::firing::Firing;
-use crate::probes::Probes;
 use crate::stored_row::{Row, row_at};
-use crate::unit::Probe;
+use crate::unit::{Probe, ProbeEntry, probe_at};
+use crate::units::Units;
 use std::marker::Model;
 
 /// The probes of firings, and of each firing the place of its own among them. Two firings with the
@@ -21,25 +22,29 @@ use std::marker::Model;
 /// ```
 #[derive(Drop)]
 pub struct ProbePlaces<'a> {
-    probes: &'a Probes,
+    probes: &'a Units<ProbeEntry>,
     rows: &'a [Row],
 }
 
 impl<'a> Model for ProbePlaces<'a> {
     ghost use Rattle.std.specs.Prelude.{◌<◌, All, length, map};
-    ghost use Rattle.firing_reader.specs.Probing.{PlacesSeen};
+    ghost use Rattle.firing_reader.specs.{Probing.PlacesSeen, Units.probe_in};
 
     ghost Value = { PlacesSeen };
 
-    ghost view = { λ p. record { probes = p.probes.now; places = map (λ r. r.probe) p.rows.now } };
+    ghost view = { λ p. record {
+      probes = map probe_in p.probes.now;
+      places = map (λ r. r.probe) p.rows.now;
+    } };
 
-    ghost invariant = { λ p. All (λ r. r.probe < length p.probes.now) p.rows.now };
+    ghost invariant = { λ p.
+        All (λ r. r.probe < length (map probe_in p.probes.now)) p.rows.now };
 }
 
 impl<'a> ProbePlaces<'a> {
-    pub(crate) fn new(probes: &'a Probes, rows: &'a [Row]) -> ProbePlaces<'a>
-        requires { All (λ r. r.probe < length probes.now) rows.now }
-        ensures probes { result.probes ≡ probes.now }
+    pub(crate) fn new(probes: &'a Units<ProbeEntry>, rows: &'a [Row]) -> ProbePlaces<'a>
+        requires { All (λ r. r.probe < length (map probe_in probes.now)) rows.now }
+        ensures probes { result.probes ≡ map probe_in probes.now }
         ensures places { result.places ≡ map (λ (r : Row). r.probe) rows.now }
     {
         ProbePlaces { probes, rows }
@@ -64,7 +69,7 @@ impl<'a> ProbePlaces<'a> {
         requires { place < length self.now.probes }
         ensures { slice_get self.now.probes place ≡ Some result }
     {
-        self.probes.at(place)
+        probe_at(self.probes, place)
     }
 
     /// The place of a firing's probe.

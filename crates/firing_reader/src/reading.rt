@@ -9,18 +9,17 @@ ghost use Rattle.firing_reader.specs.Gives.{Gives, GivesBy};
 ghost use Rattle.firing_reader.specs.Plain.{BeginsAtEnd, rows_after, rows_in};
 ghost use Rattle.firing_reader.specs.Trace.{next_of, trace_in, trace_of};
 
+use crate::builder::FiringsBuilder;
 use crate::fault::TraceFault;
 use crate::firing::Firing;
-use crate::firings::Firings;
 use crate::header::{after_header, is_header};
 use crate::plain::read_plain;
 use crate::records::Records;
 use crate::row::read_row;
+use crate::trace::{MOST_ROWS, Trace};
 use csv::ByteRecord;
+use keyed_hash::HashKey;
 use std::alloc::Global;
-
-/// The most rows that a trace has.
-pub const MOST_ROWS: u32 = 1_000_000;
 
 // The firing of a row that follows another.
 #[tactic(auto, unfolding(crate::specs::Trace::next_of))]
@@ -44,7 +43,7 @@ fn read_next<'a>(
 fn read_rows(
     records: &mut Records,
     fields: &mut ByteRecord,
-    firings: &mut Firings,
+    firings: &mut FiringsBuilder,
 ) -> Result<(), TraceFault>
     requires few { length firings.old ≤ MOST_ROWS }
     ensures read { GivesBy (λ _. firings.new) result (rows_after firings.old records.old) }
@@ -71,7 +70,7 @@ fn read_rows(
 /// the first of them.
 pub(crate) fn read_by_csv(
     alloc: Global,
-    firings: &mut Firings,
+    firings: &mut FiringsBuilder,
     rows: &[u8],
 ) -> Result<(), TraceFault>
     requires begins { BeginsAtEnd rows.now }
@@ -88,7 +87,7 @@ pub(crate) fn read_by_csv(
 /// csv reads, and it alone decides what is faulty.
 pub(crate) fn read_rest(
     alloc: Global,
-    firings: &mut Firings,
+    firings: &mut FiringsBuilder,
     bytes: &[u8],
 ) -> Result<(), TraceFault>
     requires begins { BeginsAtEnd bytes.now }
@@ -103,7 +102,7 @@ pub(crate) fn read_rest(
 fn read_all(
     records: &mut Records,
     fields: &mut ByteRecord,
-    firings: &mut Firings,
+    firings: &mut FiringsBuilder,
 ) -> Result<bool, TraceFault>
     requires empty { firings.old ≡ [] }
     ensures read { IfOk result (λ found. MatchBool found (trace_in records.old ≡ Ok firings.new)
@@ -125,7 +124,7 @@ fn read_all(
 /// Reads the header and rows by csv. It returns false where there is no record.
 pub(crate) fn read_records(
     alloc: Global,
-    firings: &mut Firings,
+    firings: &mut FiringsBuilder,
     bytes: &[u8],
 ) -> Result<bool, TraceFault>
     requires empty { firings.old ≡ [] }
@@ -143,7 +142,7 @@ pub(crate) fn read_records(
 /// Reads the bytes of a whole trace.
 pub(crate) fn read_whole(
     alloc: Global,
-    firings: &mut Firings,
+    firings: &mut FiringsBuilder,
     bytes: &[u8],
 ) -> Result<(), TraceFault>
     requires empty { firings.old ≡ [] }
@@ -156,4 +155,26 @@ pub(crate) fn read_whole(
         return Err(TraceFault::Header);
     }
     Ok(())
+}
+
+/// Reads a trace: CSV as the crate `csv` reads it by default, with the header and at most
+/// `MOST_ROWS` rows. The answer is the trace that the bytes write, or its first fault, or
+/// `TraceFault::Memory`. Maps hash by a fixed key; `read_trace_by` is given one.
+///
+/// ```text
+/// let trace = read_trace(alloc, &bytes)?; // the header and two rows
+/// trace.firings().len(); // 2
+/// read_trace(alloc, b""); // Err(TraceFault::Header)
+/// ```
+pub fn read_trace(alloc: Global, bytes: &[u8]) -> Result<Trace, TraceFault>
+    ensures { Gives result (trace_of bytes.now) }
+{
+    let mut firings = FiringsBuilder::new(alloc, HashKey::of_seed(&[]))?;
+    match read_whole(alloc, &mut firings, bytes) {
+        Ok(()) => Ok(Trace::of(firings.finish())),
+        Err(fault) => {
+            drop(firings);
+            Err(fault)
+        }
+    }
 }

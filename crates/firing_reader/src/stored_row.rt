@@ -1,18 +1,17 @@
 //! A firing as it is stored.
 
 ghost use Rattle.std.specs.Prelude.{◌≡◌, ◌<◌, ◌≤◌, ◌+◌, ◌^◌, IfSome, Some, length, slice_get};
-ghost use Rattle.firing_reader.specs.Stored.{count_of, first_of};
-ghost use Rattle.firing_reader.specs.Steps.Stored.{moved_given};
+ghost use Rattle.firing_reader.specs.Stored.{count_of, first_of, moved_given};
 
 /// Where a row's own arguments begin among those of all, and how many they are: at most ten.
 #[derive(Clone, Copy)]
-pub(crate) struct Given {
+pub struct Given {
     packed: u32,
 }
 
 impl Given {
     /// `count` arguments from the place `first` on; none where that is 2^28 or more.
-    pub(crate) fn new(first: usize, count: u32) -> Option<Given>
+    pub fn new(first: usize, count: u32) -> Option<Given>
         requires { count ≤ 10 }
         ensures first { IfSome result (λ g. first_of g ≡ first) }
         ensures count { IfSome result (λ g. count_of g ≡ count) }
@@ -39,7 +38,7 @@ impl Given {
     }
 
     /// The same number of arguments, `shift` places later.
-    pub(crate) fn moved(self, shift: u32) -> Given
+    pub fn moved(self, shift: u32) -> Given
         requires { first_of self + shift < 2 ^ 28 }
         ensures { result ≡ moved_given shift self }
     {
@@ -51,13 +50,13 @@ impl Given {
 
 /// A firing: its owner and its probe by their places, and its arguments but for zeros at the end.
 #[derive(Clone, Copy)]
-pub(crate) struct Row {
-    pub(crate) number: u64,
-    pub(crate) time: u64,
-    pub(crate) cpu: i32,
-    pub(crate) owner: u32,
-    pub(crate) probe: u32,
-    pub(crate) given: Given,
+pub struct Row {
+    pub number: u64,
+    pub time: u64,
+    pub cpu: i32,
+    pub owner: u32,
+    pub probe: u32,
+    pub given: Given,
 }
 
 /// The row at a place.

@@ -13,7 +13,7 @@ use Rattle.firing_reader.specs.declared.unit.Probe.{Probe}
 use Rattle.firing_reader.specs.Ends.{begin_of, end_of, with_ends}
 use Rattle.firing_reader.specs.Stored.{ArePlaces, Extends}
 use Rattle.firing_reader.specs.declared.firing.Firing.{Firing}
-use Rattle.firing_reader.proofs.Moved.{place_more, placed}
+use Rattle.firing_reader.proofs.Placed.{place_more, placed}
 use Rattle.firing_reader.proofs.Stored.{named_at, named_in}
 use Rattle.d_types.specs.Typed.{ScriptMeant}
 use Rattle.replay_core.specs.Patterns.{probe_of}

@@ -16,7 +16,7 @@ use Rattle.std.proofs.lemmas.Option.{get_or_from_slice_get, slice_get-map}
 use Rattle.firing_reader.specs.declared.firing.Firing.{Firing}
 use Rattle.firing_reader.specs.Firings.{thread_of}
 use Rattle.firing_reader.specs.Stored.{ArePlaces}
-use Rattle.firing_reader.proofs.Moved.{placed as at_places}
+use Rattle.firing_reader.proofs.Placed.{placed as at_places}
 use Rattle.shard_queue.specs.Threads.{thread_zero, run_threads, has}
 use Rattle.shard_queue.specs.Groups.{places_from}
 use Rattle.shard_queue.proofs.Lists.{all_tail, drop_next}

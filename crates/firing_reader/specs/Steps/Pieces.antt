@@ -3,17 +3,13 @@ use Rattle.std.specs.Prelude.{◌≡◌, ℕ, List, [], ◌∷◌}
 use Rattle.firing_reader.specs.declared.pieces.Piece.{Piece}
 use Rattle.firing_reader.specs.Vocabulary.{Firing}
 use Rattle.firing_reader.specs.Blocks.{BeginsAtFeed}
-use Rattle.firing_reader.specs.Pieces.{ArePieces, unread}
+use Rattle.firing_reader.specs.Pieces.{ArePieces}
 use Rattle.firing_reader.specs.Steps.Plain.{GoesOn}
 
 -- rows that were read in pieces, if there are bytes that wait
 abbrev pub AreWaiting : List Piece → List ℕ → Type 0
 AreWaiting pieces [] = Unit {0}
 AreWaiting pieces (b ∷ bytes) = BeginsAtFeed (b ∷ bytes) × ArePieces pieces (b ∷ bytes)
-
--- with what is left after them they begin at a line feed, if what is left does
-abbrev pub Leads : List ℕ → Type 0
-Leads waiting = (left : List ℕ) → BeginsAtFeed left → BeginsAtFeed (unread waiting left)
 
 -- the rows that waited are among the new firings, but for what still waits
 abbrev pub Adds : List Firing → List ℕ → List Firing → List ℕ → Type 0

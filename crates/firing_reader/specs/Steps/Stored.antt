@@ -1,12 +1,13 @@
--- Rows of one piece, moved after those of another.
-use Rattle.std.specs.Prelude.{◌<◌, ◌+◌, ◌*◌, ◌^◌, ℕ, List, length, get_or}
-use Rattle.firing_reader.specs.declared.stored_row.Given.{Given}
+-- Owners of firings, and rows of one piece, moved after those of another.
+use Rattle.std.specs.Prelude.{◌<◌, ◌+◌, ◌^◌, ℕ, List, length, get_or}
+use Rattle.firing_reader.specs.declared.firing.Firing.{Firing}
 use Rattle.firing_reader.specs.declared.stored_row.Row.{Row}
-use Rattle.firing_reader.specs.Stored.{first_of}
+use Rattle.firing_reader.specs.declared.unit.Owner.{Owner}
+use Rattle.firing_reader.specs.Stored.{first_of, moved_given}
 
--- as many arguments that begin so much later
-abbrev pub moved_given : ℕ → Given → Given
-moved_given shift g = record { packed = g.packed + 16 * shift }
+-- who fired
+abbrev pub owner_of : Firing → Owner
+owner_of f = record { thread = f.thread; pid = f.pid; execname = f.execname }
 
 -- a row with the places of its owner and its probe among others, and with arguments that begin so
 -- much later

@@ -1,40 +1,44 @@
 //! One plain row.
 
-ghost use Rattle.std.specs.Prelude.{◌<◌, IfSome};
+ghost use Rattle.std.specs.Prelude.{◌<◌, IfSome, map};
 ghost use Rattle.firing_reader.specs.{Plain.ReadsRow};
 ghost use Rattle.firing_reader.specs.Steps.Plain.{BeginsRow};
 ghost use Rattle.firing_reader.specs.Stored.{Extends, IsRowIn, firing_in};
+ghost use Rattle.firing_reader.specs.Units.{owner_in, probe_in};
 
 use super::arguments::read_arguments;
 use super::field::{int, whole};
 use super::front::{after_ends, starts_with_digit};
-use crate::owners::Owners;
-use crate::probes::Probes;
+use crate::owners::read_owner;
+use crate::probes::read_probe;
 use crate::stored_row::Row;
+use crate::unit::{OwnerEntry, ProbeEntry};
+use crate::unit_table::UnitTable;
 
 // The row after the end of the one before, and the bytes from its own end on. Its number has to be
 // above `last`. Its owner and its probe are added if they aren't there.
 #[inline(always)]
 pub(crate) fn row<'a>(
-    owners: &mut Owners,
-    probes: &mut Probes,
+    owners: &mut UnitTable<OwnerEntry>,
+    probes: &mut UnitTable<ProbeEntry>,
     args: &mut Vec<i64>,
     bytes: &'a [u8],
     last: u64,
 ) -> Option<(Row, &'a [u8])>
-    ensures owners { Extends owners.old owners.new }
-    ensures probes { Extends probes.old probes.new }
+    ensures owners { Extends (map owner_in owners.old) (map owner_in owners.new) }
+    ensures probes { Extends (map probe_in probes.old) (map probe_in probes.new) }
     ensures args { Extends args.old.items args.new.items }
-    ensures inside { IfSome result (λ p. IsRowIn owners.new probes.new args.new.items p.0) }
-    ensures row { IfSome result
-        (λ p. ReadsRow bytes.now p.1.now (firing_in owners.new probes.new args.new.items p.0)) }
+    ensures inside { IfSome result (λ p. IsRowIn (map owner_in owners.new)
+        (map probe_in probes.new) args.new.items p.0) }
+    ensures row { IfSome result (λ p. ReadsRow bytes.now p.1.now
+        (firing_in (map owner_in owners.new) (map probe_in probes.new) args.new.items p.0)) }
     ensures rises { IfSome result (λ p. last < p.0.number) }
 {
     let (number, rest) = number_above(bytes, last)?;
     let (cpu, rest) = int(rest, 0)?;
-    let (owner, rest) = owners.read(rest)?;
+    let (owner, rest) = read_owner(owners, rest)?;
     let (time, rest) = whole(rest, 0, u64::MAX)?;
-    let (probe, rest) = probes.read(rest)?;
+    let (probe, rest) = read_probe(probes, rest)?;
     let (given, rest) = read_arguments(args, rest)?;
     let row = Row {
         number,

@@ -1,5 +1,5 @@
 use Rattle.firing_reader.proofs.EndRanges.{dtrace_text}
-use Rattle.firing_reader.proofs.FieldTexts.{empty_text}
+use Rattle.firing_reader.proofs.Texts.{empty_text}
 use Rattle.firing_reader.proofs.ends.own.Goals as goal
 
 pub of-requires : goal.of-requires

@@ -1,14 +1,15 @@
-use Rattle.std.proofs.Common.{◌≡◌, ◌<◌, Some, sym, ap, ◌∙◌, refl, slice_get, length}
+use Rattle.std.proofs.Common.{map, ◌≡◌, ◌<◌, Some, sym, ap, ◌∙◌, refl, slice_get, length}
 use Rattle.std.proofs.lemmas.List.{length-map}
 use Rattle.std.proofs.lemmas.Option.{slice_get-map, slice_get-get_or}
 use Rattle.firing_reader.specs.Stored.{firing_in}
+use Rattle.firing_reader.specs.Units.{owner_in, probe_in}
 use Rattle.firing_reader.proofs.firings.Firings.get.Goals as goal
 
 pub returns : goal.returns
 returns c =
     let row = c.index.result.now in
-    let owners = c.self.inside.owners in
-    let probes = c.self.inside.probes in
+    let owners = map owner_in c.self.inside.owners in
+    let probes = map probe_in c.self.inside.probes in
     let args = c.self.inside.args.items in
     let rows = c.self.inside.rows.items in
     let within : c.args.at < length rows = rw (← length-map rows (firing_in owners probes args)) (rw c.self.view_is c.requires) in

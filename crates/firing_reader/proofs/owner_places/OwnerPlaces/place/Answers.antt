@@ -1,7 +1,8 @@
-use Rattle.std.proofs.Common.{ap}
+use Rattle.std.proofs.Common.{ap, map}
 use Rattle.std.proofs.lemmas.List.{length-map}
 use Rattle.firing_reader.specs.declared.stored_row.Row.{Row}
 use Rattle.firing_reader.specs.declared.unit.Owner.{Owner}
+use Rattle.firing_reader.specs.Units.{owner_in}
 use Rattle.firing_reader.proofs.Probing.{field_at, field_below, row_there}
 use Rattle.firing_reader.proofs.owner_places.OwnerPlaces.place.Goals as goal
 
@@ -13,5 +14,5 @@ returns-clause-place c = rw (← c.self.view_is) (field_at (λ (r : Row). r.owne
 
 pub returns-clause-within : goal.returns-clause-within
 returns-clause-within c =
-    let size = length-map c.self.inside.owners.now (λ (o : Owner). o.thread) in
+    let size = length-map (map owner_in c.self.inside.owners.now) (λ (o : Owner). o.thread) in
     rw (← c.self.view_is) (rw size (field_below (λ (r : Row). r.owner) c.self.inside.rows.now _ _ c.row_at.result c.self.invariant c.row_at.ensures))

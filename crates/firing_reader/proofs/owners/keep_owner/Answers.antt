@@ -1,0 +1,29 @@
+use Rattle.std.proofs.Common.{rules, ◌≡◌, refl, w32}
+use Rattle.std.proofs.lemmas.Int.{to_z-of_z}
+use Rattle.firing_reader.specs.declared.unit.OwnerEntry.{OwnerEntry}
+use Rattle.firing_reader.specs.Steps.Stored.{owner_of}
+use Rattle.firing_reader.specs.Units.{owner_in}
+use Rattle.firing_reader.proofs.Shared.{part_first, part_text, seen_extends, seen_kept}
+use Rattle.firing_reader.proofs.owners.keep_owner.Goals as goal
+
+pub keep-requires : goal.keep-requires
+keep-requires c =
+    let bytes = c.in_ok-bytes.bytes.items in
+    let name = c.args.firing.now.execname in
+    let (numbers, is) = c.in_ok-bytes.ensures in
+    rw c.deref.ensures.value (part_text bytes 0 c.count.result name (part_first bytes name numbers c.count.result is c.count.ensures.value c.count.ensures.text))
+
+pub returns-clause-grows : goal.returns-clause-grows
+returns-clause-grows c = seen_extends owner_in c.args.owners.now c.keep.new.self c.keep.ensures.grows
+
+pub returns-clause-place : goal.returns-clause-place
+returns-clause-place c =
+    let bytes = c.in_ok-bytes.bytes.items in
+    let name = c.args.firing.now.execname in
+    let (numbers, is) = c.in_ok-bytes.ensures in
+    let e : OwnerEntry = record { thread = c.args.firing.now.thread; pid = c.args.firing.now.pid; from = 0; count = c.count.result } in
+    let o = owner_of c.args.firing.now in
+    let own = part_first bytes name numbers c.count.result is c.count.ensures.value c.count.ensures.text in
+    let same : owner_in (bytes, e) ≡ o = rw own.is refl in
+    let there = rw (c.deref.ensures.value, to_z-of_z w32 c.args.firing.now.thread (search rules), to_z-of_z w32 c.args.firing.now.pid (search rules)) at c.keep.ensures.place in
+    seen_kept owner_in c.keep.new.self (bytes, e) o c.keep.result same there

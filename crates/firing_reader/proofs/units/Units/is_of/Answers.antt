@@ -1,5 +1,0 @@
-use Rattle.std.proofs.Common.{◌∙◌, Some, ap}
-use Rattle.firing_reader.proofs.units.Units.is_of.Goals as goal
-
-pub returns : goal.returns
-returns g c = λ same. (c.at-kept.result.0.now, c.at-kept.ensures.there ∙ ap (λ e. Some (c.at-kept.result.0.now, e)) (c.is.ensures same))

@@ -1,0 +1,233 @@
+//! Firings that are being read.
+
+ghost use Rattle.std.specs.Prelude.{◌≡◌, ◌<◌, ◌≤◌, ◌++◌, ◌∷◌, [], true, false, All, IfOk, IfSome};
+ghost use Rattle.std.specs.Prelude.{MatchOption, length, map, option_map, slice_get};
+ghost use Rattle.firing_reader.specs.{Vocabulary.Firing, Plain.ReadsRow};
+ghost use Rattle.firing_reader.specs.Firings.{last_number as last_number_of, number_of};
+ghost use Rattle.firing_reader.specs.Steps.Stored.{IsMovable, moved_row as moved_row_of};
+
+use crate::arguments::{add_arguments, keep_arguments};
+use crate::firing::Firing;
+use crate::firings::Firings;
+use crate::owners::keep_owner;
+use crate::plain::row::row;
+use crate::probes::keep_probe;
+use crate::stored_row::Row;
+use crate::unit::{OwnerEntry, ProbeEntry};
+use crate::unit_table::UnitTable;
+use keyed_hash::HashKey;
+use std::alloc::{AllocError, Global};
+use std::marker::Model;
+
+/// The firings of the rows that were read. Contracts see the list of them.
+#[derive(Drop)]
+pub(crate) struct FiringsBuilder {
+    alloc: Global,
+    owners: UnitTable<OwnerEntry>,
+    probes: UnitTable<ProbeEntry>,
+    args: Vec<i64>,
+    rows: Vec<Row>,
+}
+
+impl Model for FiringsBuilder {
+    ghost use Rattle.firing_reader.specs.Vocabulary.{All, Firing, List, map};
+    ghost use Rattle.firing_reader.specs.Stored.{IsRowIn, firing_in};
+    ghost use Rattle.firing_reader.specs.Units.{owner_in, probe_in};
+
+    ghost Value = { List Firing };
+
+    ghost view = { λ s. map
+        (firing_in (map owner_in s.owners) (map probe_in s.probes) s.args.items) s.rows.items };
+
+    ghost invariant = { λ s. All
+        (IsRowIn (map owner_in s.owners) (map probe_in s.probes) s.args.items) s.rows.items };
+}
+
+impl FiringsBuilder {
+    pub(crate) fn new(alloc: Global, hash_key: HashKey) -> Result<FiringsBuilder, AllocError>
+        ensures { IfOk result (λ s. s ≡ []) }
+    {
+        let owners = UnitTable::new(alloc, hash_key)?;
+        let probes = UnitTable::new(alloc, hash_key)?;
+        Ok(FiringsBuilder {
+            alloc,
+            owners,
+            probes,
+            args: Vec::new(alloc),
+            rows: Vec::new(alloc),
+        })
+    }
+
+    /// These firings, to which none is added any more.
+    pub(crate) fn finish(self) -> Firings
+        ensures { result ≡ self }
+    {
+        let FiringsBuilder {
+            owners,
+            probes,
+            args,
+            rows,
+            ..
+        } = self;
+        Firings::of(owners.into_units(), probes.into_units(), args, rows)
+    }
+
+    /// Forgets all firings. Owners and probes stay, as others are likely to have the same.
+    pub(crate) fn clear(&mut self)
+        ensures { self.new ≡ [] }
+    {
+        self.rows.clear();
+        self.args.clear();
+    }
+
+    /// Forgets all firings, their owners and their probes.
+    pub(crate) fn clear_all(&mut self)
+        ensures { self.new ≡ [] }
+    {
+        self.clear();
+        self.owners.clear();
+        self.probes.clear();
+    }
+
+    /// How many owners and probes are kept.
+    pub(crate) fn unit_count(&self) -> usize {
+        self.owners.len().saturating_add(self.probes.len())
+    }
+
+    /// How many there are.
+    pub(crate) fn len(&self) -> usize
+        ensures { result ≡ length self.now }
+    {
+        self.rows.len()
+    }
+
+    /// The number of the first, if there is one.
+    pub(crate) fn first_number(&self) -> Option<u64>
+        ensures { result ≡ option_map number_of (slice_get self.now 0) }
+    {
+        match self.rows.first() {
+            Some(row) => Some(row.number),
+            None => None,
+        }
+    }
+
+    /// The number of the last, or 0 where there are none.
+    pub(crate) fn last_number(&self) -> u64
+        ensures { result ≡ last_number_of self.now }
+    {
+        match self.rows.last() {
+            Some(row) => row.number,
+            None => 0,
+        }
+    }
+
+    /// Stores one more. If memory is refused, returns None and leaves the firings as they were.
+    pub(crate) fn push(&mut self, firing: &Firing) -> Option<()>
+        ensures { MatchOption result (self.new ≡ self.old)
+            (λ _. self.new ≡ self.old ++ firing.now ∷ []) }
+    {
+        let Some(owner) = keep_owner(&mut self.owners, self.alloc, firing) else {
+            return None;
+        };
+        let Some(probe) = keep_probe(&mut self.probes, self.alloc, firing) else {
+            return None;
+        };
+        let Some(given) = keep_arguments(&mut self.args, firing.args.stored()) else {
+            return None;
+        };
+        let row = Row {
+            number: firing.number,
+            time: firing.time,
+            cpu: firing.cpu,
+            owner,
+            probe,
+            given,
+        };
+        if push_row(&mut self.rows, row) {
+            Some(())
+        } else {
+            None
+        }
+    }
+
+    /// Reads the plain row after a line feed, whose number has to be above the last, and returns
+    /// the bytes from its own line feed on. If it returns None, the firings stay as they were.
+    #[inline(always)]
+    pub(crate) fn read_row<'a>(&mut self, bytes: &'a [u8]) -> Option<&'a [u8]>
+        ensures { MatchOption result (self.new ≡ self.old) (λ rest. (f : Firing)
+            × (self.new ≡ self.old ++ f ∷ []) × ReadsRow bytes.now rest.now f
+            × (last_number_of self.old < f.number)) }
+    {
+        let last = self.last_number();
+        let (row, rest) = row(
+            &mut self.owners,
+            &mut self.probes,
+            &mut self.args,
+            bytes,
+            last,
+        )?;
+        if push_row(&mut self.rows, row) {
+            Some(rest)
+        } else {
+            None
+        }
+    }
+
+    /// Stores others after these: each owner and each probe of theirs is looked up once, and no
+    /// firing is made. It returns None where memory is refused.
+    pub(crate) fn append(&mut self, others: &FiringsBuilder) -> Option<()>
+        ensures { IfSome result (λ _. self.new ≡ self.old ++ others.now) }
+    {
+        let owner_places = self.owners.places_of(self.alloc, &others.owners)?;
+        let probe_places = self.probes.places_of(self.alloc, &others.probes)?;
+        let shift = add_arguments(&mut self.args, &others.args)?;
+        add_rows(
+            &mut self.rows,
+            &others.rows,
+            &owner_places,
+            &probe_places,
+            shift,
+        )
+    }
+}
+
+// Adds a row, and returns whether there was memory for it.
+fn push_row(rows: &mut Vec<Row>, row: Row) -> bool
+    ensures pushed { result ≡ true → rows.new.items ≡ rows.old.items ++ row ∷ [] }
+    ensures refused { result ≡ false → rows.new.items ≡ rows.old.items }
+{
+    rows.push(row).is_ok()
+}
+
+// Adds rows, with the places of their owners and probes and the starts of their arguments changed
+// to those among all.
+fn add_rows(
+    rows: &mut Vec<Row>,
+    others: &[Row],
+    owners: &[u32],
+    probes: &[u32],
+    shift: u32,
+) -> Option<()>
+    requires { All (IsMovable owners.now probes.now shift) others.now }
+    ensures { MatchOption result (rows.new.items ≡ rows.old.items) (λ _. rows.new.items
+        ≡ rows.old.items ++ map (moved_row_of owners.now probes.now shift) others.now) }
+{
+    rows.reserve(others.len()).ok()?;
+    for row in others {
+        rows.push_reserved(moved_row(row, owners, probes, shift));
+    }
+    Some(())
+}
+
+// One such row.
+fn moved_row(row: &Row, owners: &[u32], probes: &[u32], shift: u32) -> Row
+    requires { IsMovable owners.now probes.now shift row.now }
+    ensures { result ≡ moved_row_of owners.now probes.now shift row.now }
+{
+    Row {
+        owner: owners[row.owner as usize],
+        probe: probes[row.probe as usize],
+        given: row.given.moved(shift),
+        ..*row
+    }
+}

@@ -1,0 +1,314 @@
+//! What rows share, each kept once with the bytes that it was read from, and found by these.
+
+ghost use Rattle.std.specs.Prelude.{◌≡◌, ◌<◌, ◌++◌, ◌∷◌, [], true, ℕ, List, IfOk, IfSome};
+ghost use Rattle.std.specs.Prelude.{MatchOption, Some, length, slice_get, vec_capacity, vec_len};
+ghost use Rattle.firing_reader.specs.Stored.{ArePlaces, Extends};
+
+use crate::slots::{NEAR, NOWHERE, Slots};
+use crate::units::{Entry, Known, Units};
+use keyed_hash::{HashKey, is_same};
+use std::alloc::{AllocError, Global};
+use std::marker::Model;
+
+// How many units are looked for together, so that the processor waits for all of them at once.
+const TOGETHER: usize = 16;
+
+/// Units that are found by their bytes. Contracts see the list of their bytes and entries.
+#[derive(Drop)]
+pub(crate) struct UnitTable<E: PlainEntry> {
+    bytes: Vec<u8>,
+    known: Vec<Known<E>>,
+    slots: Slots,
+}
+
+impl<E: PlainEntry> Model for UnitTable<E> {
+    ghost use Rattle.std.specs.Prelude.{All, List, ℕ, map};
+    ghost use Rattle.firing_reader.specs.Units.{unit_in};
+    ghost use Rattle.firing_reader.specs.UnitTable.{IsReadIn};
+
+    ghost Value = { List (List ℕ × E) };
+
+    ghost view = { λ u. map (unit_in u.bytes.items) u.known.items };
+
+    ghost invariant = { λ u. All (IsReadIn E.is_in E.reads u.bytes.items) u.known.items };
+}
+
+/// An entry that plain fields write.
+pub(crate) trait PlainEntry: Entry {
+    // Plain fields write it.
+    ghost reads: { Self → List ℕ → Type 0 };
+
+    /// Whether it is this one.
+    fn is(self, other: Self) -> bool
+        ensures { result ≡ true → self ≡ other };
+
+    /// The entry that plain fields write, if they are those of one.
+    fn read(key: &[u8]) -> Option<Self>
+        ensures inside { IfSome result (λ e. Self.is_in e key.now) }
+        ensures reads { IfSome result (λ e. reads e key.now) };
+}
+
+/// Adds bytes, if there is memory for them.
+pub(crate) fn add_bytes(all: &mut Vec<u8>, bytes: &[u8]) -> Option<()>
+    ensures { MatchOption result (all.new.items ≡ all.old.items)
+        (λ _. all.new.items ≡ all.old.items ++ bytes.now) }
+{
+    all.extend_from_slice(bytes).ok()
+}
+
+// Makes room for one more, if there is memory for it.
+fn make_room<T>(all: &mut Vec<T>) -> Option<()>
+    ensures same { all.new.items ≡ all.old.items }
+    ensures room { IfSome result (λ _. vec_len all.new < vec_capacity all.new) }
+{
+    all.reserve(1).ok()
+}
+
+impl<E: PlainEntry> UnitTable<E> {
+    pub(crate) fn new(alloc: Global, hash_key: HashKey) -> Result<UnitTable<E>, AllocError>
+        ensures { IfOk result (λ units. units ≡ []) }
+    {
+        let slots = Slots::new(alloc, hash_key)?;
+        Ok(UnitTable {
+            bytes: Vec::new(alloc),
+            known: Vec::new(alloc),
+            slots,
+        })
+    }
+
+    /// How many there are.
+    pub(crate) fn len(&self) -> usize
+        ensures { result ≡ length self.now }
+    {
+        self.known.len()
+    }
+
+    /// Forgets all of them.
+    pub(crate) fn clear(&mut self)
+        ensures { self.new ≡ [] }
+    {
+        self.slots.clear();
+        self.known.clear();
+        self.bytes.clear();
+    }
+
+    /// These units, which are no longer looked for.
+    pub(crate) fn into_units(self) -> Units<E>
+        ensures { result ≡ self }
+    {
+        let UnitTable {
+            bytes,
+            known,
+            slots,
+        } = self;
+        drop(slots);
+        Units::of(bytes, known)
+    }
+
+    // The unit at a place: its bytes, whether they are plain fields, and its entry.
+    #[inline(always)]
+    fn at(&self, place: usize) -> (&[u8], bool, E)
+        requires { place < length self.now }
+        ensures there { slice_get self.now place ≡ Some (result.0.now, result.2) }
+        ensures inside { E.is_in result.2 result.0.now }
+        ensures reads { result.1 ≡ true → E.reads result.2 result.0.now }
+    {
+        let known = self.known[place];
+        let begin = known.begin as usize;
+        let bytes = &self.bytes[begin..begin + known.count as usize];
+        (bytes, known.plain, known.entry)
+    }
+
+    // Whether the unit at a place has these bytes, as plain fields or not.
+    #[inline(always)]
+    fn is_at(&self, place: u32, key: &[u8], plain: bool) -> bool
+        ensures { result ≡ true → (e : E) × (slice_get self.now place ≡ Some (key.now, e))
+            × (plain ≡ true → E.reads e key.now) }
+    {
+        let place = place as usize;
+        if place >= self.len() {
+            return false;
+        }
+        let (bytes, is_plain, _) = self.at(place);
+        is_plain == plain && is_same(bytes, key)
+    }
+
+    // The place of the unit of these bytes and this tag, where it is found.
+    #[inline(always)]
+    fn find(&self, key: &[u8], plain: bool, tag: u32) -> Option<u32>
+        ensures { IfSome result (λ p. (e : E) × (slice_get self.now p ≡ Some (key.now, e))
+            × (plain ≡ true → E.reads e key.now)) }
+    {
+        let slot = self.slots.near(tag, 0);
+        if slot.is_of(tag) && self.is_at(slot.place, key, plain) {
+            return Some(slot.place);
+        }
+        if slot.is_empty() {
+            return None;
+        }
+        self.find_near(key, plain, tag)
+    }
+
+    // The same in the slots after the first.
+    #[inline(never)]
+    fn find_near(&self, key: &[u8], plain: bool, tag: u32) -> Option<u32>
+        ensures { IfSome result (λ p. (e : E) × (slice_get self.now p ≡ Some (key.now, e))
+            × (plain ≡ true → E.reads e key.now)) }
+    {
+        for n in 1..NEAR {
+            let slot = self.slots.near(tag, n);
+            if slot.is_empty() {
+                return None;
+            }
+            if slot.is_of(tag) && self.is_at(slot.place, key, plain) {
+                return Some(slot.place);
+            }
+        }
+        None
+    }
+
+    // Keeps a unit at a new place. Where memory is refused nothing is kept.
+    fn push(&mut self, key: &[u8], plain: bool, tag: u32, entry: E) -> Option<u32>
+        requires inside { E.is_in entry key.now }
+        requires reads { plain ≡ true → E.reads entry key.now }
+        ensures { MatchOption result (self.new ≡ self.old)
+            (λ p. (self.new ≡ self.old ++ (key.now, entry) ∷ []) × (p ≡ length self.old)) }
+    {
+        let place = u32::try_from(self.len()).ok()?;
+        let begin = u32::try_from(self.bytes.len()).ok()?;
+        let count = u32::try_from(key.len()).ok()?;
+        make_room(&mut self.known)?;
+        add_bytes(&mut self.bytes, key)?;
+        self.known.push_reserved(Known {
+            tag,
+            begin,
+            count,
+            plain,
+            entry,
+        });
+        self.slots.note(tag, place);
+        Some(place)
+    }
+
+    /// The place of the unit that these plain fields write, which is kept where it isn't found.
+    #[inline(always)]
+    pub(crate) fn read(&mut self, key: &[u8]) -> Option<u32>
+        ensures grows { Extends self.old self.new }
+        ensures place { IfSome result (λ p. (e : E)
+            × (slice_get self.new p ≡ Some (key.now, e)) × E.reads e key.now) }
+    {
+        let tag = self.slots.tag(key);
+        match self.find(key, true, tag) {
+            Some(place) => Some(place),
+            None => self.add(key, tag),
+        }
+    }
+
+    // Keeps the unit that plain fields write.
+    #[cold]
+    #[inline(never)]
+    fn add(&mut self, key: &[u8], tag: u32) -> Option<u32>
+        ensures grows { Extends self.old self.new }
+        ensures place { IfSome result (λ p. (e : E)
+            × (slice_get self.new p ≡ Some (key.now, e)) × E.reads e key.now) }
+    {
+        let entry = E::read(key)?;
+        self.push(key, true, tag, entry)
+    }
+
+    /// The place of a unit that csv read, which is kept where it isn't found. Its bytes have to
+    /// tell it from others.
+    pub(crate) fn keep(&mut self, key: &[u8], entry: E) -> Option<u32>
+        requires { E.is_in entry key.now }
+        ensures grows { Extends self.old self.new }
+        ensures place { IfSome result (λ p. slice_get self.new p ≡ Some (key.now, entry)) }
+    {
+        let tag = self.slots.tag(key);
+        match self.find(key, false, tag) {
+            Some(place) if self.is_of(place, entry) => Some(place),
+            _ => self.push(key, false, tag, entry),
+        }
+    }
+
+    // Whether the unit at a place has this entry.
+    fn is_of(&self, place: u32, entry: E) -> bool
+        requires { place < length self.now }
+        ensures { result ≡ true → (bytes : List ℕ)
+            × (slice_get self.now place ≡ Some (bytes, entry)) }
+    {
+        let (_, _, kept) = self.at(place as usize);
+        kept.is(entry)
+    }
+
+    // The first slots of others at 16 places from this one on: where they may be.
+    fn first_places(&self, others: &UnitTable<E>, from: usize) -> [u32; TOGETHER] {
+        let mut places = [NOWHERE; TOGETHER];
+        for n in 0..TOGETHER {
+            if let Some(other) = others.known.get(from.wrapping_add(n)) {
+                places[n] = self.slots.near(other.tag, 0).place;
+            }
+        }
+        places
+    }
+
+    // Where others may be among these, for those at 16 places from this one on: guesses, which are
+    // checked. Each step is taken for all of them before the next.
+    fn guesses(&self, others: &UnitTable<E>, from: usize) -> [u32; TOGETHER] {
+        let mut guesses = self.first_places(others, from);
+        for n in 0..TOGETHER {
+            if !self.begins_alike(guesses[n], others, from.wrapping_add(n)) {
+                guesses[n] = NOWHERE;
+            }
+        }
+        guesses
+    }
+
+    // Whether a unit has as many bytes as one of others, and the same first.
+    fn begins_alike(&self, place: u32, others: &UnitTable<E>, at: usize) -> bool {
+        match (self.known.get(place as usize), others.known.get(at)) {
+            (Some(known), Some(other)) => {
+                known.count == other.count
+                    && self.bytes.get(known.begin as usize)
+                        == others.bytes.get(other.begin as usize)
+            }
+            _ => false,
+        }
+    }
+
+    // The place of a unit of others, which is kept where it isn't found. It is looked for at a
+    // guess first.
+    fn place_of_other(&mut self, others: &UnitTable<E>, at: usize, guess: u32) -> Option<u32>
+        requires { at < length others.now }
+        ensures grows { Extends self.old self.new }
+        ensures place { IfSome result (λ p. slice_get self.new p ≡ slice_get others.now at) }
+    {
+        let (key, plain, entry) = others.at(at);
+        let tag = others.known[at].tag;
+        let found = if self.is_at(guess, key, plain) {
+            Some(guess)
+        } else {
+            self.find(key, plain, tag)
+        };
+        match found {
+            Some(place) if self.is_of(place, entry) => Some(place),
+            _ => self.push(key, plain, tag, entry),
+        }
+    }
+
+    /// The places of others, which are kept if they aren't found.
+    pub(crate) fn places_of(&mut self, alloc: Global, others: &UnitTable<E>) -> Option<Vec<u32>>
+        ensures grows { Extends self.old self.new }
+        ensures places { IfSome result (λ places. ArePlaces self.new places.items others.now) }
+    {
+        let mut places = Vec::new(alloc);
+        let mut guesses = [NOWHERE; TOGETHER];
+        for at in 0..others.len() {
+            if at % TOGETHER == 0 {
+                guesses = self.guesses(others, at);
+            }
+            let place = self.place_of_other(others, at, guesses[at % TOGETHER])?;
+            places.push(place).ok()?;
+        }
+        Some(places)
+    }
+}

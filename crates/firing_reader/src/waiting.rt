@@ -1,0 +1,160 @@
+//! Reading bytes in pieces by several workers, while the pieces before them are added to the
+//! firings.
+
+ghost use Rattle.std.specs.Prelude.{◌≡◌, ◌+◌, ◌++◌, ◌∷◌, [], IfErr, OnOk, length};
+ghost use Rattle.firing_reader.specs.Blocks.{AreRead, BeginsAtFeed};
+ghost use Rattle.firing_reader.specs.Pieces.{ArePieces, IsPiece, unread};
+ghost use Rattle.firing_reader.specs.Plain.{BeginsAtEnd, rows_in};
+ghost use Rattle.firing_reader.specs.Steps.{Blocks.IsFaultOf};
+ghost use Rattle.firing_reader.specs.Steps.Pieces.{Adds, AreWaiting};
+
+use crate::builder::FiringsBuilder;
+use crate::fault::TraceFault;
+use crate::pieces::{Cut, Piece, add_pieces, cut_near, read_piece};
+use crate::whole_rows::{keep_from, read_rows};
+use keyed_hash::HashKey;
+use std::alloc::{AllocError, Global};
+use std::mem::swap;
+use std::thread::{Threads, join_mut};
+
+/// Where the threads and the memory of a reading come from.
+#[derive(Drop)]
+pub(crate) struct Context<'a, R> {
+    pub(crate) rt: &'a R,
+    pub(crate) alloc: Global,
+    pub(crate) hash_key: HashKey,
+}
+
+/// Rows that were read in pieces, and aren't among the firings yet.
+#[derive(Drop)]
+pub(crate) struct Waiting {
+    pub(crate) pieces: Vec<Piece>,
+    /// Their bytes, from the line feed before them on; or none.
+    pub(crate) bytes: Vec<u8>,
+}
+
+/// Adds the rows that wait to the firings before them, and reads those that couldn't be read apart.
+pub(crate) fn add_waiting(
+    alloc: Global,
+    firings: &mut FiringsBuilder,
+    waiting: &mut Waiting,
+) -> Result<(), TraceFault>
+    requires waiting { AreWaiting waiting.old.pieces.items waiting.old.bytes.items }
+    requires are_read { AreRead firings.old }
+    ensures added { OnOk result
+        (Adds firings.old waiting.old.bytes.items firings.new waiting.new.bytes.items) }
+    ensures fault { IfErr result (λ e.
+        IsFaultOf e (λ tail. rows_in firings.old (waiting.old.bytes.items ++ tail))) }
+{
+    let Waiting { pieces, bytes } = waiting;
+    if bytes.is_empty() {
+        return Ok(());
+    }
+    let Some(passed) = add_pieces(firings, pieces, bytes) else {
+        return Err(TraceFault::Memory);
+    };
+    keep_from(bytes, passed);
+    read_rows(alloc, firings, bytes)
+}
+
+/// Puts the bytes that wait before those that are left.
+pub(crate) fn give_back(waiting: &mut Waiting, left: &mut Vec<u8>) -> Result<(), AllocError>
+    requires { BeginsAtFeed left.old.items }
+    ensures left { OnOk result (left.new.items ≡ unread waiting.old.bytes.items left.old.items) }
+    ensures none { OnOk result (waiting.new.bytes.items ≡ []) }
+{
+    if waiting.bytes.is_empty() {
+        return Ok(());
+    }
+    waiting.bytes.extend_from_slice(&left[1..])?;
+    swap(&mut waiting.bytes, left);
+    waiting.bytes.clear();
+    Ok(())
+}
+
+/// Keeps the pieces of the bytes that are left as those that wait, where no others do.
+pub(crate) fn keep_waiting(
+    waiting: &mut Waiting,
+    pieces: &mut Vec<Piece>,
+    left: &mut Vec<u8>,
+) -> Result<(), AllocError>
+    ensures waiting { waiting.new.bytes.items ≡ left.old.items }
+    ensures pieces { waiting.new.pieces.items ≡ pieces.old.items }
+    ensures left { OnOk result (left.new.items ≡ 10 ∷ []) }
+{
+    swap(&mut waiting.bytes, left);
+    swap(&mut waiting.pieces, pieces);
+    left.clear();
+    left.push(b'\n')?;
+    Ok(())
+}
+
+/// Reads bytes in pieces, each by a new thread, while this one adds the rows that wait to the
+/// firings before them.
+#[cycle(reading)]
+pub(crate) fn read_pieces<R: Threads>(
+    context: &Context<R>,
+    pieces: &mut [Piece],
+    bytes: &[u8],
+    firings: &mut FiringsBuilder,
+    waiting: &mut Waiting,
+) -> Result<(), TraceFault>
+    requires feed { BeginsAtEnd bytes.now }
+    requires waiting { AreWaiting waiting.old.pieces.items waiting.old.bytes.items }
+    requires are_read { AreRead firings.old }
+    ensures pieces { ArePieces pieces.new bytes.now }
+    ensures added { OnOk result
+        (Adds firings.old waiting.old.bytes.items firings.new waiting.new.bytes.items) }
+    ensures fault { IfErr result (λ e.
+        IsFaultOf e (λ tail. rows_in firings.old (waiting.old.bytes.items ++ tail))) }
+{
+    let share = bytes.len() / pieces.len().max(1);
+    let Some((piece, others)) = pieces.split_first_mut() else {
+        return add_waiting(context.alloc, firings, waiting);
+    };
+    let cut = cut_near(bytes, share.min(bytes.len().saturating_sub(1)));
+    read_both(context, piece, others, cut, firings, waiting)
+}
+
+// Reads the first piece in a new thread, while others read those after it.
+#[cycle(reading)]
+fn read_both<R: Threads>(
+    context: &Context<R>,
+    piece: &mut Piece,
+    others: &mut [Piece],
+    cut: Cut<'_>,
+    firings: &mut FiringsBuilder,
+    waiting: &mut Waiting,
+) -> Result<(), TraceFault>
+    requires front { BeginsAtEnd cut.front.now }
+    requires last { BeginsAtEnd cut.last.now }
+    requires waiting { AreWaiting waiting.old.pieces.items waiting.old.bytes.items }
+    requires are_read { AreRead firings.old }
+    ensures piece { IsPiece cut.entry.front.now piece.new.firings piece.new.passed }
+    ensures end { piece.new.end + 1 ≡ length cut.entry.front.now }
+    ensures others { ArePieces others.new cut.entry.last.now }
+    ensures added { OnOk result
+        (Adds firings.old waiting.old.bytes.items firings.new waiting.new.bytes.items) }
+    ensures fault { IfErr result (λ e.
+        IsFaultOf e (λ tail. rows_in firings.old (waiting.old.bytes.items ++ tail))) }
+{
+    let Cut { front, last } = cut;
+    let ((), added) = join_mut(
+        context.rt,
+        &mut || -> ()
+            requires { BeginsAtEnd front.now }
+            ensures piece { IsPiece front.entry.now piece.exit.now.firings piece.exit.now.passed }
+            ensures end { piece.exit.now.end + 1 ≡ length front.entry.now }
+        { read_piece(piece, front) },
+        &mut || -> Result<(), TraceFault>
+            requires { BeginsAtEnd last.now × AreRead firings.now
+                × AreWaiting waiting.now.pieces.items waiting.now.bytes.items }
+            ensures others { ArePieces others.exit.now last.entry.now }
+            ensures added { OnOk result (Adds firings.entry.now waiting.entry.now.bytes.items
+                firings.exit.now waiting.exit.now.bytes.items) }
+            ensures fault { IfErr result (λ e. IsFaultOf e
+                (λ tail. rows_in firings.entry.now (waiting.entry.now.bytes.items ++ tail))) }
+        { read_pieces(context, others, last, firings, waiting) },
+    );
+    added
+}

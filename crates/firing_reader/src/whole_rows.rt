@@ -1,0 +1,55 @@
+//! Rows that are whole, at the front of the bytes that are left.
+
+ghost use Rattle.std.specs.Prelude.{◌≡◌, ◌<◌, ◌≤◌, ◌+◌, ◌++◌, ◌∷◌, IfErr, OnOk, drop, length};
+ghost use Rattle.firing_reader.specs.Blocks.{AreRead, BeginsAtFeed};
+ghost use Rattle.firing_reader.specs.{Plain.rows_in, Steps.Blocks.IsFaultOf, Steps.Plain.GoesOn};
+
+use crate::builder::FiringsBuilder;
+use crate::fault::TraceFault;
+use crate::plain::front::rest_after;
+use crate::plain::read_plain;
+use crate::reading::read_by_csv;
+use crate::row_ends::end_of_rows;
+use std::alloc::Global;
+
+/// Reads the rows that are whole: plain ones where they lie, and from the first other one on by csv.
+pub(crate) fn read_rows(
+    alloc: Global,
+    firings: &mut FiringsBuilder,
+    left: &mut Vec<u8>,
+) -> Result<(), TraceFault>
+    requires feed { BeginsAtFeed left.old.items }
+    requires are_read { AreRead firings.old }
+    ensures read { OnOk result (GoesOn firings.old left.old.items firings.new left.new.items) }
+    ensures feed { OnOk result (BeginsAtFeed left.new.items) }
+    ensures fault { IfErr result (λ e.
+        IsFaultOf e (λ tail. rows_in firings.old (left.old.items ++ tail))) }
+{
+    let rest = read_plain(firings, left);
+    let end = end_of_rows(rest_after(rest, 1));
+    if end > 0 {
+        read_by_csv(alloc, firings, &rest[..end + 1])?;
+    }
+    let at = left.len() - rest.len() + end;
+    keep_from(left, at);
+    Ok(())
+}
+
+/// Drops the bytes before a place, and puts a line feed there, as at the end of a row.
+pub(crate) fn keep_from(left: &mut Vec<u8>, at: usize)
+    requires { at < length left.old.items }
+    ensures { left.new.items ≡ 10 ∷ drop (at + 1) left.old.items }
+{
+    drop_front(left, at);
+    left[0] = b'\n';
+}
+
+// Drops the first `count` bytes.
+fn drop_front(left: &mut Vec<u8>, count: usize)
+    requires { count ≤ length left.old.items }
+    ensures { left.new.items ≡ drop count left.old.items }
+{
+    let len = left.len();
+    left.copy_within(count..len, 0);
+    left.truncate(len - count);
+}
