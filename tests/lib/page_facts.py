@@ -29,7 +29,7 @@ LIMITS = (
     ("docs/RELIABILITY.md", r"levels,\s(\S+) rows", "firing_reader/src/trace", "MOST_ROWS"),
     ("docs/TRACE.md", r"UTF-8 of at most (\d+) bytes", "firing_reader/src/text", "TEXT_LIMIT"),
     ("README.md", r"workers, 1 to (\d+)", "shard_queue/src/queue", "MOST_WORKERS"),
-    ("README.md", r"groups, 1 to (\d+)", "shard_queue/src/listing", "MOST_GROUPS"),
+    ("README.md", r"groups, 1 to (\d+)", "shard_queue/src/groups", "MOST_GROUPS"),
 )
 NUMBERS = "one two three four five six seven eight nine ten eleven twelve".split()
 

@@ -31,7 +31,7 @@ pub use Rattle.report.specs.declared.reading.ReadFault.TheVariants.{Failed}
 pub use Rattle.report.specs.declared.reading.TheConstants.{MOST_CALLS}
 pub use Rattle.shard_queue.specs.Groupings.{Grouping}
 pub use Rattle.shard_queue.specs.declared.fault.GroupFault.{GroupFault}
-pub use Rattle.shard_queue.specs.declared.listing.TheConstants.{MOST_GROUPS}
+pub use Rattle.shard_queue.specs.declared.groups.TheConstants.{MOST_GROUPS}
 pub use Rattle.shard_queue.specs.declared.queue.TheConstants.{MOST_WORKERS}
 pub use Rattle.consumer.specs.declared.consuming.ConsumeFault.{ConsumeFault}
 pub use Rattle.consumer.specs.declared.consuming.ConsumeFault.TheVariants.{Read, Refused, Write}

@@ -1,11 +1,12 @@
 //! A board of two atomic words: how many claims were made, and the least number that a seat
 //! lowered.
 
-ghost use Rattle.std.specs.Prelude.{◌≡◌, ◌<◌, ◌≤◌, ◌-◌, [], map, All, vec_len, vec_capacity, IfOk};
+ghost use Rattle.std.specs.Prelude.{◌≡◌, ◌<◌, ◌≤◌, ◌-◌, ◌++◌, ◌∷◌, [], true, false, min, map, All};
+ghost use Rattle.std.specs.Prelude.{vec_len, vec_capacity, Contains, IsSome, IfOk, IfSome, IfNone};
 ghost use Rattle.shard_queue.specs.{BoardRule.view, Least.nothing_lowered};
 ghost use Rattle.shard_queue.specs.Hands.{IsHandOut, hand};
 
-use crate::board_rule::{Arrives, Claims, Gathers, OneSeat};
+use crate::board_rule::{Arrives, Claims, Gathers, Looks, Lowers, OneSeat};
 use crate::claim_seat::ClaimSeat;
 use crate::knowledge::BoardView;
 use crate::queue::MOST_WORKERS;
@@ -32,7 +33,8 @@ pub struct Closed {
 
 impl ClaimBoard {
     ghost use Rattle.shard_queue.specs.Boards.{IsAt, IsNew, claim_numbers, claim_seats_at_end};
-    ghost use Rattle.shard_queue.specs.Boards.{least_lowered, least_seen};
+    ghost use Rattle.shard_queue.specs.Boards.{least_lowered, least_seen, number_lowered};
+    ghost use Rattle.shard_queue.specs.Boards.{number_seen};
 
     /// A board of the numbers below `end`, and a seat for each worker. Err where memory was
     /// refused.
@@ -115,6 +117,78 @@ impl ClaimBoard {
             end: self.end,
             at_end: false,
         }
+    }
+
+    /// The next number, which this seat didn't have before, or `None` at the end. A seat that is at
+    /// the end stays there, without a step. `close` says that no other seat had the number.
+    ///
+    /// ```text
+    /// while let Some(group) = board.claim(&mut seat) {
+    ///     // no other seat has this group
+    /// }
+    /// ```
+    pub fn claim(&self, seat: &mut ClaimSeat) -> Option<u32>
+        requires { IsAt self.now seat.old }
+        ensures seat { IsAt self.now seat.new }
+        ensures some { IfSome result (λ g. (g < self.now.end) × ¬ (Contains seat.old.taken.items g)
+            × (seat.new.taken.items ≡ seat.old.taken.items ++ g ∷ [])) }
+        ensures more { IsSome result → (seat.old.at_end ≡ false) × (seat.new.at_end ≡ false) }
+        ensures none { IfNone result
+            ((seat.new.at_end ≡ true) × (seat.new.taken.items ≡ seat.old.taken.items)) }
+        ensures again { seat.old.at_end ≡ true → seat.new ≡ seat.old }
+        ensures least { (number_lowered seat.new ≡ number_lowered seat.old)
+            × (number_seen seat.new ≡ number_seen seat.old) }
+    {
+        if seat.at_end {
+            return None;
+        }
+        let found = self.table.shared.fetch_add::<Claims>(&mut seat.seat, 0, 1);
+        if found < u64::from(seat.end) {
+            let number = found as u32;
+            seat.taken.push_reserved(number);
+            Some(number)
+        } else {
+            seat.at_end = true;
+            None
+        }
+    }
+
+    /// The least number of the board becomes the lesser of itself and this one.
+    ///
+    /// ```text
+    /// board.lower(&mut seat, 7); // the firing of number 7 exits
+    /// ```
+    pub fn lower(&self, seat: &mut ClaimSeat, number: u64)
+        requires { IsAt self.now seat.old }
+        ensures seat { IsAt self.now seat.new }
+        ensures lowered { number_lowered seat.new ≡ min (number_lowered seat.old) number }
+        ensures seen { number_seen seat.new ≡ number_seen seat.old }
+        ensures others { (seat.new.taken.items ≡ seat.old.taken.items)
+            × (seat.new.at_end ≡ seat.old.at_end) }
+    {
+        self.table
+            .shared
+            .fetch_min::<Lowers>(&mut seat.seat, 1, number);
+    }
+
+    /// The least number that some seat lowered, 2^64 - 1 without any. It is no more than what this
+    /// seat lowered or was shown.
+    ///
+    /// ```text
+    /// board.lower(&mut seat, 7);
+    /// board.least(&mut seat) // 7, or less where another seat lowered a lesser one
+    /// ```
+    pub fn least(&self, seat: &mut ClaimSeat) -> u64
+        requires { IsAt self.now seat.old }
+        ensures seat { IsAt self.now seat.new }
+        ensures own { result ≤ number_lowered seat.old }
+        ensures before { result ≤ number_seen seat.old }
+        ensures lowered { number_lowered seat.new ≡ number_lowered seat.old }
+        ensures seen { number_seen seat.new ≡ result }
+        ensures others { (seat.new.taken.items ≡ seat.old.taken.items)
+            × (seat.new.at_end ≡ seat.old.at_end) }
+    {
+        self.table.shared.load::<Looks>(&mut seat.seat, 1)
     }
 
     /// Each seat's list, and the least number. With all seats, the lists have the numbers below

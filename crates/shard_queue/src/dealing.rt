@@ -4,8 +4,7 @@ ghost use Rattle.std.specs.Prelude.{◌≡◌, ◌<◌, ◌≤◌, ◌%◌, map,
 ghost use Rattle.shard_queue.specs.{Groupings.IsDealt, Numbers.below, Threads.run_threads};
 ghost use Rattle.shard_queue.specs.Groups.{AreOf, grouping};
 
-use crate::groups::Groups;
-use crate::listing::MOST_GROUPS;
+use crate::groups::{Groups, MOST_GROUPS};
 use firing_reader::Trace;
 use std::alloc::{AllocError, Global};
 

@@ -3,7 +3,7 @@
 ghost use Rattle.std.specs.Prelude.{◌≡◌};
 ghost use Rattle.shard_queue.specs.declared.fault.GroupFault.TheVariants.{Memory};
 
-use crate::listing::MOST_GROUPS;
+use crate::groups::MOST_GROUPS;
 use std::alloc::AllocError;
 use thiserror::Error;
 

@@ -7,8 +7,7 @@ ghost use Rattle.shard_queue.specs.Groupings.{places_of, with_own_group};
 ghost use Rattle.shard_queue.specs.Groups.{AreOf, grouping, places};
 ghost use Rattle.shard_queue.specs.Threads.{AreThreads, run_threads};
 
-use crate::groups::Groups;
-use crate::listing::MOST_GROUPS;
+use crate::groups::{Groups, MOST_GROUPS};
 use firing_reader::{Firings, MOST_ROWS, OwnerPlaces, Trace};
 use std::alloc::{AllocError, Global};
 

@@ -13,13 +13,10 @@ ghost use Rattle.shard_queue.specs.Vocabulary.{Doubled, IsStrictlySortedBy, Memo
 ghost use Rattle.shard_queue.specs.Vocabulary.{int_cmp};
 
 use crate::fault::GroupFault;
-use crate::groups::Groups;
+use crate::groups::{Groups, MOST_GROUPS};
 use crate::threads::place_of;
 use firing_reader::Trace;
 use std::alloc::{AllocError, Global};
-
-/// The most groups that lists or a deal may make, beside that of thread 0.
-pub const MOST_GROUPS: u32 = 4096;
 
 impl Groups {
     /// A group for each list, of the threads in it, and after them one of thread 0. Each of the

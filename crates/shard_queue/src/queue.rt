@@ -1,14 +1,15 @@
 //! A queue of numbers, from which each seat takes. After them comes an end mark for each seat.
 
-ghost use Rattle.std.specs.Prelude.{◌≡◌, ◌<◌, ◌≤◌, ◌+◌, ◌-◌, [], None, Some, map, All, IfOk};
-ghost use Rattle.std.specs.Prelude.{IfSome, vec_len, vec_capacity};
+ghost use Rattle.std.specs.Prelude.{◌≡◌, ◌<◌, ◌≤◌, ◌+◌, ◌-◌, ◌++◌, ◌∷◌, [], true, false, None};
+ghost use Rattle.std.specs.Prelude.{Some, map, All, Contains, IsSome, IfNone, IfOk, IfSome};
+ghost use Rattle.std.specs.Prelude.{vec_len, vec_capacity};
 ghost use Rattle.shard_queue.specs.Hands.{IsHandOut, hand};
 ghost use Rattle.shard_queue.specs.QueueRule.{among, joint};
 ghost use Rattle.shard_queue.specs.Vocabulary.{IsPassOf, pass_view};
 
+use crate::groups::MOST_GROUPS;
 use crate::knowledge::QueueView;
-use crate::listing::MOST_GROUPS;
-use crate::queue_rule::{Deals, Gathers, Grows, OneSeat, Puts};
+use crate::queue_rule::{Deals, Gathers, Grows, OneSeat, Puts, Takes};
 use crate::queue_seat::QueueSeat;
 use crossbeam_queue::{Pass, RuledArrayQueue};
 use std::alloc::{AllocError, Global};
@@ -138,6 +139,39 @@ impl GroupQueue {
             end: self.end,
             workers: self.workers,
             at_end: false,
+        }
+    }
+
+    /// The next number, which this seat didn't have before, or `None` at the end. `close` says that
+    /// no other seat had the number.
+    ///
+    /// ```text
+    /// while let Some(group) = queue.take(&rt, &mut seat) {
+    ///     // no other seat has this group
+    /// }
+    /// ```
+    pub fn take<R: Wait>(&self, rt: &R, seat: &mut QueueSeat) -> Option<u32>
+        requires { IsIn self.now seat.old }
+        ensures seat { IsIn self.now seat.new }
+        ensures some { IfSome result (λ g. (g < self.now.end) × ¬ (Contains seat.old.taken.items g)
+            × (seat.new.taken.items ≡ seat.old.taken.items ++ g ∷ [])) }
+        ensures more { IsSome result → (seat.old.at_end ≡ false) × (seat.new.at_end ≡ false) }
+        ensures none { IfNone result
+            ((seat.new.at_end ≡ true) × (seat.new.taken.items ≡ seat.old.taken.items)) }
+        ensures again { seat.old.at_end ≡ true → seat.new ≡ seat.old }
+    {
+        if seat.at_end {
+            return None;
+        }
+        let Some(number) = self.queue.pop_as::<Takes, R>(rt, &mut seat.pass) else {
+            unreachable!()
+        };
+        if number < seat.end {
+            seat.taken.push_reserved(number);
+            Some(number)
+        } else {
+            seat.at_end = true;
+            None
         }
     }
 
