@@ -9,7 +9,7 @@ use Rattle.d_lexer.specs.Lexing.{IsFirstFault, IsLexed, IsRefused}
 use Rattle.d_parser.specs.declared.fault.ParseFault.{ParseFault}
 use Rattle.d_parser.specs.declared.fault.ParseFault.TheVariants as parse
 use Rattle.replay_core.specs.Layouts.{LayoutMeant}
-use Rattle.report.specs.Stream.{SinkSeen}
+use Rattle.streams.specs.Stream.{SinkSeen}
 use Rattle.consumer.specs.declared.consuming.ConsumeFault.{ConsumeFault}
 use Rattle.consumer.specs.declared.plan.Plan.{Plan}
 use Rattle.consumer.specs.declared.plan.Replayed.{Replayed}

@@ -9,7 +9,7 @@ use Rattle.clap.specs.Words.{IsAmong, fault_of, kind_of, matches_of}
 use Rattle.clap.specs.declared.error.kind.ErrorKind.{ErrorKind}
 use Rattle.d_parser.specs.declared.fault.ParseFault.TheVariants as parse
 use Rattle.replay_core.specs.Layouts.{LayoutMeant, ShowsEach}
-use Rattle.report.specs.Stream.{IsSent, SinkSeen}
+use Rattle.streams.specs.Stream.{IsSent, SinkSeen}
 use Rattle.consumer.specs.declared.words.UsageFault.TheVariants.{Help, Usage}
 use Rattle.consumer.specs.declared.words.UsageFault.TheVariants as usage
 use Rattle.consumer.specs.Answer.{without_line}

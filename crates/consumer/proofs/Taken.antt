@@ -5,9 +5,9 @@ use Rattle.std.specs.Prelude.{IfOk, IfSome, MatchResult, Option, Some, None, OnO
 use Rattle.firing_reader.specs.Blocks.{Taken}
 use Rattle.d_lexer.specs.declared.fault.LexFault.TheVariants as lex
 use Rattle.std.specs.declared.alloc.AllocError.{AllocError}
-use Rattle.report.specs.Intake.{TakesBlocks}
-use Rattle.report.specs.declared.reading.ReadFault.{ReadFault}
-use Rattle.report.specs.declared.reading.ReadFault.TheVariants as read_fault
+use Rattle.streams.specs.Intake.{TakesBlocks}
+use Rattle.streams.specs.declared.reading.ReadFault.{ReadFault}
+use Rattle.streams.specs.declared.reading.ReadFault.TheVariants as read_fault
 use Rattle.consumer.specs.Steps.Beginnings.{IsDividedAt, IsUndivided}
 use Rattle.consumer.specs.Blocks.{HasTaken, IsTakenApart, TakesTrace}
 use Rattle.consumer.specs.Bundle.{Divides}

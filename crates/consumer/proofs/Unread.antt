@@ -4,10 +4,10 @@ use Rattle.std.proofs.Common.{Result, Err, ap, inl, inr, refl, rules}
 use Rattle.std.specs.Result.{IsErrAnd}
 use Rattle.std.proofs.lemmas.Result.{err_from_is_err_and}
 use Rattle.replay_core.specs.Layouts.{LayoutMeant}
-use Rattle.report.specs.Stream.{SinkSeen}
-use Rattle.report.specs.declared.reading.ReadFault.{ReadFault}
-use Rattle.report.specs.declared.reading.ReadFault.TheVariants.{Failed}
-use Rattle.report.specs.declared.reading.ReadFault.TheVariants as reading
+use Rattle.streams.specs.Stream.{SinkSeen}
+use Rattle.streams.specs.declared.reading.ReadFault.{ReadFault}
+use Rattle.streams.specs.declared.reading.ReadFault.TheVariants.{Failed}
+use Rattle.streams.specs.declared.reading.ReadFault.TheVariants as reading
 use Rattle.consumer.specs.declared.consuming.ConsumeFault.{ConsumeFault}
 use Rattle.consumer.specs.declared.consuming.ConsumeFault.TheVariants.{Read, Refused}
 use Rattle.consumer.specs.declared.plan.Plan.{Plan}

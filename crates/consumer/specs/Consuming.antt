@@ -2,7 +2,7 @@
 use Rattle.std.specs.Prelude.{◌≡◌, ◌≢◌, ◌≤◌, ◌⊎◌, ◌+◌, ℕ, List, Option, Result, Ok, Err, IfSome}
 use Rattle.std.specs.Prelude.{IsTrue, IsFalse}
 use Rattle.replay_core.specs.Layouts.{LayoutMeant}
-use Rattle.report.specs.Stream.{FeedSeen, IsSent, SinkSeen}
+use Rattle.streams.specs.Stream.{FeedSeen, IsSent, SinkSeen}
 use Rattle.consumer.specs.Vocabulary.{MOST_CALLS, ReadFault, Failed, ConsumeFault, Read, Refused}
 use Rattle.consumer.specs.Vocabulary.{Write, Refusal, Memory, Plan, Replayed}
 use Rattle.consumer.specs.Replaying.{IsReplay}

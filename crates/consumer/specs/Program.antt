@@ -6,7 +6,7 @@ use Rattle.std.specs.Io.KnownBytes.{Appends}
 use Rattle.std.specs.declared.vec.IntoIter.{IntoIter}
 use Rattle.std.specs.declared.string.String.{String}
 use Rattle.replay_core.specs.Layouts.{LayoutMeant}
-use Rattle.report.specs.Stream.{FeedSeen, IsSent, SinkSeen}
+use Rattle.streams.specs.Stream.{FeedSeen, IsSent, SinkSeen}
 use Rattle.consumer.specs.Bundle.{Divides}
 use Rattle.consumer.specs.Consuming.{HoldsOfInput, IsCutShort, WritesAnswer}
 use Rattle.consumer.specs.Refusals.{IsReported, status_at_end}

@@ -1,6 +1,6 @@
 -- What the program says of a refusal, and how it ends.
 use Rattle.std.specs.Prelude.{◌≡◌, ℕ, List, [], ◌∷◌, ◌++◌, Result, Ok, Err, codes}
-use Rattle.report.specs.Stream.{IsSent, SinkSeen}
+use Rattle.streams.specs.Stream.{IsSent, SinkSeen}
 use Rattle.consumer.specs.Lines.{column_part, line_part, row_part, thread_part}
 use Rattle.consumer.specs.Vocabulary.{LexFault, ParseFault, TypeFault, TraceFault, GroupFault}
 use Rattle.consumer.specs.Vocabulary.{ConsumeFault, Read, Refused, Write, Replayed, Refusal, Lex}

@@ -26,9 +26,9 @@ pub use Rattle.firing_reader.specs.Firings.{number_of}
 pub use Rattle.firing_reader.specs.Trace.{trace_of}
 pub use Rattle.firing_reader.specs.declared.fault.TraceFault.{TraceFault}
 pub use Rattle.firing_reader.specs.declared.firing.Firing.{Firing}
-pub use Rattle.report.specs.declared.reading.ReadFault.{ReadFault}
-pub use Rattle.report.specs.declared.reading.ReadFault.TheVariants.{Failed}
-pub use Rattle.report.specs.declared.reading.TheConstants.{MOST_CALLS}
+pub use Rattle.streams.specs.declared.reading.ReadFault.{ReadFault}
+pub use Rattle.streams.specs.declared.reading.ReadFault.TheVariants.{Failed}
+pub use Rattle.streams.specs.declared.reading.TheConstants.{MOST_CALLS}
 pub use Rattle.shard_queue.specs.Groupings.{Grouping}
 pub use Rattle.shard_queue.specs.declared.fault.GroupFault.{GroupFault}
 pub use Rattle.shard_queue.specs.declared.groups.TheConstants.{MOST_GROUPS}

@@ -12,10 +12,10 @@ use crate::intake::{BundleIntake, TraceIntake};
 use crate::plan::{Plan, ReadingPlan, Replayed};
 use crate::refusal::Refusal;
 use replay_core::{Layout, OpenGate};
-use report::{Feed, ReadFault, Sink, send};
 use std::alloc::AllocError;
 use std::sync::Wait;
 use std::thread::Threads;
+use streams::{Feed, ReadFault, Sink, send};
 use thiserror::Error;
 
 /// Why an answer was not written.

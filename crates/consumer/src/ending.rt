@@ -1,7 +1,7 @@
 //! How the program ends: what it says on standard error, and its status.
 
 ghost use Rattle.std.specs.Prelude.{◌≡◌, ◌∷◌, ◌++◌, ◌≤◌, [], Err, IsFalse, length};
-ghost use Rattle.report.specs.Stream.{IsSent};
+ghost use Rattle.streams.specs.Stream.{IsSent};
 ghost use Rattle.consumer.specs.{Lines.reason_bytes};
 ghost use Rattle.consumer.specs.Refusals.{IsReported, consume_fault_line, status_at_end};
 
@@ -9,7 +9,7 @@ use crate::consuming::ConsumeFault;
 use crate::line::{MOST_TEXT, Place, Reason, reason_line};
 use crate::plan::Replayed;
 use crate::refusal::{refusal_reason, refusal_status};
-use report::{Sink, send};
+use streams::{Sink, send};
 
 /// Writes why there is no answer to the errors' stream, if there is none, and returns the exit
 /// status. It allocates nothing.

@@ -7,10 +7,10 @@ ghost use Rattle.consumer.specs.Vocabulary.{Memory, Read, Refused};
 
 use crate::consuming::ConsumeFault;
 use d_lexer::MOST_BYTES;
-use report::{Failed, Feed, ReadFault, Reading, Watched, read_block};
 use std::alloc::Global;
 use std::fs::File;
 use std::rt::Files;
+use streams::{Failed, Feed, ReadFault, Reading, Watched, read_block};
 
 /// Files by their names.
 pub trait ScriptFiles {

@@ -4,9 +4,9 @@ ghost use Rattle.std.specs.Prelude.{◌≡◌, ◌⊎◌, ◌+◌, ◌≤◌, �
 ghost use Rattle.std.specs.Prelude.{IsFalse, Err, MatchResult, Ok, OnOk};
 ghost use Rattle.std.specs.Io.KnownBytes.{Consumes, IsAtEnd};
 ghost use Rattle.std.specs.Thread.{IsSync};
-ghost use Rattle.report.specs.{Stream.LosesBeginning, Turns.GoesOn, Turns.IsTurn};
-ghost use Rattle.report.specs.Intake.{TakesInput, TakesSome};
-ghost use Rattle.report.specs.declared.reading.TheConstants.{MOST_CALLS};
+ghost use Rattle.streams.specs.{Stream.LosesBeginning, Turns.GoesOn, Turns.IsTurn};
+ghost use Rattle.streams.specs.Intake.{TakesInput, TakesSome};
+ghost use Rattle.streams.specs.declared.reading.TheConstants.{MOST_CALLS};
 ghost use Rattle.consumer.specs.Blocks.{IsTakenApart, HasTaken, TakesTrace};
 ghost use Rattle.consumer.specs.Judging.{IsJudged};
 ghost use Rattle.consumer.specs.Vocabulary.{Lex, reads, trace_of};
@@ -19,10 +19,10 @@ use crate::scripts::judge;
 use d_lexer::{LexFault, MOST_BYTES};
 use d_types::TypedScript;
 use firing_reader::Reader;
-use report::{Feed, Intake, ReadFault, Reading, read_block, take_next};
 use std::alloc::{AllocError, Global};
 use std::mem::replace;
 use std::thread::{Threads, join_mut};
+use streams::{Feed, Intake, ReadFault, Reading, read_block, take_next};
 
 // The most bytes of a bundle up to its dividing line and with it, where the script is within the
 // limit. A dividing line has up to four.

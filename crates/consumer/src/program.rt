@@ -5,7 +5,7 @@ ghost use Rattle.consumer.specs.{Plans.IsInBounds};
 ghost use Rattle.consumer.specs.Program.{AreUnfailed, Ends, EndsWithoutRun, IsNoRequest, IsRequest};
 ghost use Rattle.consumer.specs.Program.{IsRunOf, streams_seen};
 ghost use Rattle.consumer.specs.Steps.Program.{EndsWithRun};
-ghost use Rattle.report.specs.Watched.{watched_calls, watched_has_failed, watched_inner};
+ghost use Rattle.streams.specs.Watched.{watched_calls, watched_has_failed, watched_inner};
 
 use crate::consumer::Consumer;
 use crate::consuming::ConsumeFault;
@@ -15,12 +15,12 @@ use crate::plan::Replayed;
 use crate::refusal::Refusal;
 use crate::words::{Help, Request, UsageFault, program_words, read_words, texts_of};
 use replay_core::Layout;
-use report::{Feed, Sink, Watched, send};
 use std::alloc::Global;
 use std::env::Args;
 use std::io;
 use std::sync::Wait;
 use std::thread::Threads;
+use streams::{Feed, Sink, Watched, send};
 
 /// The program's streams.
 #[derive(Drop)]

@@ -16,5 +16,5 @@ pub use Rattle.aggregations.specs.Buckets.{buckets, label, levels_of, scale_of}
 pub use Rattle.aggregations.specs.Histograms.{Histogram}
 pub use Rattle.aggregations.specs.Table.{Contribution, StandsFor, functions_of}
 pub use Rattle.d_types.specs.Typed.{Agg, Aggs}
-pub use Rattle.report.specs.Layout.{Entry}
+pub use Rattle.report.specs.Entry.{Entry}
 pub use Rattle.report.specs.Listing.{IsListing}

@@ -7,12 +7,12 @@ use crate::{
     Asked, ConsumeFault, EngineKind, GroupPlan, Plan, Refusal, Replayed, UsageFault, consume,
     read_words, refusal_status, refusal_text, replay,
 };
-use report::Watched;
-use report::faulty::Faulty;
 use std::alloc::{AllocError, AllocGlobal, Global};
 use std::sync::Wait;
 use std::test::Fail;
 use std::thread::Threads;
+use streams::Watched;
+use streams::faulty::Faulty;
 
 pub(crate) const LATENCY: &[u8] = b":::entry { self->t = timestamp; } \
 :::return / self->t / { @[probefunc] = sum(timestamp - self->t); self->t = 0; }";

@@ -6,10 +6,11 @@ ghost use Rattle.consumer.specs.Consuming.{HoldsOfInput, IsReadToEnd, WritesAnsw
 ghost use Rattle.report.specs.{Report.IsReport};
 
 use consumer::{ConsumeFault, Consumer, Plan, Replayed};
-use report::{Feed, Report, Sink};
+use report::Report;
 use std::alloc::Global;
 use std::sync::Wait;
 use std::thread::Threads;
+use streams::{Feed, Sink};
 
 /// Reads a bundle to its end, runs its script over its trace, writes what the script shows and
 /// flushes the writer. Nothing is written unless there is an answer. Maps hash by a fixed key.

@@ -1,5 +1,4 @@
 pub mod Blocks
-pub mod Intakes
 pub mod Lines
 pub mod Listings
 pub mod Outputs

@@ -22,7 +22,7 @@ use Rattle.aggregations.specs.declared.held.Held.{Held}
 use Rattle.aggregations.specs.Figures.{figure_of}
 use Rattle.aggregations.specs.Figures.Figure.{Single}
 use Rattle.report.specs.Columns.{FitsColumn, column_width, spaces}
-use Rattle.report.specs.Layout.{Entry, number_bytes, part_bytes, value_bytes, entry_bytes}
+use Rattle.report.specs.Entry.{Entry, number_bytes, part_bytes, value_bytes, entry_bytes}
 use Rattle.report.specs.Listing.{ComesBefore, entry_cmp, IsListing, entry_rank}
 
 in_words : (x y : Entry) → entry_cmp x y ≡ Less → ComesBefore x y

@@ -26,7 +26,7 @@ use Rattle.aggregations.specs.declared.function.AggFn.{AggFn}
 use Rattle.aggregations.specs.declared.held.Held.{Held}
 use Rattle.aggregations.specs.Table.{Contribution, AreEntries}
 use Rattle.aggregations.proofs.EntryLemmas.{AreEntries-IsPermutation, entries_exist}
-use Rattle.report.specs.Layout.{Entry, entry_bytes}
+use Rattle.report.specs.Entry.{Entry, entry_bytes}
 use Rattle.report.specs.Listing.{entry_cmp, entry_rank, IsListing, listing_bytes}
 
 pub entry_cmp_total : IsTotalOrder entry_cmp

@@ -7,7 +7,7 @@ use Rattle.std.proofs.lemmas.List.{flat_map_more, length-take-le, take_all, take
 use Rattle.std.proofs.lemmas.Option.{same_Some, slice_get-get_or, slice_get_within}
 use Rattle.aggregations.specs.declared.function.AggFn.{AggFn}
 use Rattle.aggregations.specs.Table.{Contribution}
-use Rattle.report.specs.Layout.{Entry}
+use Rattle.report.specs.Entry.{Entry}
 use Rattle.report.specs.Listing.{IsListing, listing_bytes}
 use Rattle.report.specs.Steps.Listing.{AppendsListing}
 use Rattle.report.proofs.Listings.{listing_exists}

@@ -20,7 +20,7 @@ use Rattle.aggregations.specs.Table.{Contribution, AreEntries, arguments_of}
 use Rattle.aggregations.specs.declared.function.AggFn.{AggFn}
 use Rattle.aggregations.specs.declared.function.AggFn.TheVariants.{Count}
 use Rattle.aggregations.proofs.EntryLemmas.{one_entry}
-use Rattle.report.specs.Layout.{Entry}
+use Rattle.report.specs.Entry.{Entry}
 use Rattle.report.specs.Listing.{IsListing, listing_bytes}
 use Rattle.report.specs.Output.{IsOutput, Shows}
 use Rattle.report.proofs.Listings.{entry_cmp_total}

@@ -1,13 +1,8 @@
 pub mod Vocabulary
 pub mod Columns
-pub mod Faulty
 pub mod Histograms
-pub mod Intake
-pub mod Layout
+pub mod Entry
 pub mod Listing
 pub mod Output
 pub mod Report
-pub mod Stream
-pub mod Turns
-pub mod Watched
 pub mod Steps

@@ -4,7 +4,7 @@ use Rattle.report.specs.Vocabulary.{AggFn, Contribution, AreEntries, figure_of, 
 use Rattle.report.specs.Vocabulary.{IsStrictlySortedBy, Less, Ordering, int_cmp, ordering_then}
 use Rattle.report.specs.Vocabulary.{flat_map, key_cmp}
 use Rattle.report.specs.Columns.{line_feed}
-use Rattle.report.specs.Layout.{Entry, entry_bytes}
+use Rattle.report.specs.Entry.{Entry, entry_bytes}
 
 -- the number by which an entry is ordered
 abbrev pub entry_rank : Entry → ℤ

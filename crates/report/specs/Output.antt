@@ -2,7 +2,7 @@
 -- Source: Dynamic Tracing Guide, "Aggregations".
 use Rattle.std.specs.Prelude.{◌≡◌, ℕ, List, ◌++◌, Some, length, slice_get}
 use Rattle.report.specs.Vocabulary.{AggFn, Contribution, flat_map}
-use Rattle.report.specs.Layout.{Entry}
+use Rattle.report.specs.Entry.{Entry}
 use Rattle.report.specs.Listing.{IsListing, listing_bytes}
 
 -- the bytes show the aggregations with these functions that the contributions make

@@ -7,7 +7,7 @@ ghost use Rattle.report.specs.Vocabulary.{AggFn, Contribution, Held, KeyPart, Na
 ghost use Rattle.report.specs.Vocabulary.{figure_of, signed_decimal};
 ghost use Rattle.report.specs.{Output.IsOutput, Report.IsReport};
 ghost use Rattle.report.specs.Columns.{FitsColumn, column_width, spaces};
-ghost use Rattle.report.specs.Layout.{Entry, number_bytes, part_bytes, entry_bytes};
+ghost use Rattle.report.specs.Entry.{Entry, number_bytes, part_bytes, entry_bytes};
 ghost use Rattle.report.specs.Listing.{IsListing, ComesBefore};
 
 /// An aggregation has at most one listing of the same contributions.

@@ -1,7 +1,7 @@
 //! All that a run shows.
 
 ghost use Rattle.std.specs.Prelude.{◌≡◌, ◌<◌, ◌++◌, List, Some, OnOk, IfOk, map, slice_get, length};
-ghost use Rattle.report.specs.{Layout.entry_bytes};
+ghost use Rattle.report.specs.{Entry.entry_bytes};
 ghost use Rattle.report.specs.Vocabulary.{AggFn, Contribution, StandsFor, deref_pair, flat_map};
 ghost use Rattle.report.specs.Vocabulary.{functions_of};
 ghost use Rattle.report.specs.Listing.{listing_bytes};
@@ -10,7 +10,7 @@ ghost use Rattle.report.specs.Output.{IsOutput};
 ghost use Rattle.report.specs.Steps.Output.{AppendsTables};
 ghost use Rattle.d_types.specs.TypedScripts.{typed_script_of};
 
-use crate::layout::put_entry;
+use crate::entry::put_entry;
 use crate::listing::listing;
 use aggregations::{AggTable, Partial};
 use d_types::TypedScript;

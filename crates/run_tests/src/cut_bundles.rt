@@ -4,12 +4,12 @@ ghost use Rattle.consumer.specs.Plans.{IsInBounds};
 
 use crate::replays::reporting;
 use consumer::{ConsumeFault, EngineKind, GroupPlan, Plan, Replayed, refusal_text};
-use report::Watched;
 use std::alloc::{AllocError, AllocGlobal, Global};
 use std::io::{Chain, Read};
 use std::sync::Wait;
 use std::test::Fail;
 use std::thread::Threads;
+use streams::Watched;
 
 // Lines that begin as the dividing one, a carriage return before the end of that, a byte order
 // mark, and a row with quotes.

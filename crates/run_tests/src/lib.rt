@@ -10,6 +10,6 @@ mod programs;
 #[cfg(test)]
 mod replays;
 #[cfg(test)]
-mod streams;
+mod stream_calls;
 #[cfg(test)]
 mod working;

@@ -2,8 +2,6 @@
 
 use crate::replays::{BUNDLE, HELP, SCRIPT, SHOWN, TRACE, reporting};
 use consumer::{ScriptFiles, Streams};
-use report::faulty::Faulty;
-use report::{Failed, Watched};
 use std::alloc::{AllocError, AllocGlobal, Global};
 use std::env::Args;
 use std::io;
@@ -11,6 +9,8 @@ use std::io::ErrorKind;
 use std::sync::Wait;
 use std::test::Fail;
 use std::thread::Threads;
+use streams::faulty::Faulty;
+use streams::{Failed, Watched};
 
 // How many calls of each stream go well before one fails. Each call moves a byte.
 #[derive(Clone, Copy)]

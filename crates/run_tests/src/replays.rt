@@ -12,13 +12,14 @@ use d_lexer::LexFault;
 use d_parser::ParseFault;
 use d_types::TypeFault;
 use firing_reader::TraceFault;
-use report::faulty::Faulty;
-use report::{Report, Watched, read_to_end};
+use report::Report;
 use shard_queue::GroupFault;
 use std::alloc::{AllocError, AllocGlobal, Global};
 use std::sync::Wait;
 use std::test::Fail;
 use std::thread::Threads;
+use streams::faulty::Faulty;
+use streams::{Watched, read_to_end};
 
 pub(crate) const SCRIPT: &[u8] = b"syscall::read:entry { @[execname] = count(); }";
 

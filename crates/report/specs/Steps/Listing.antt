@@ -1,7 +1,7 @@
 -- The listing of an aggregation, appended to what was written before.
 use Rattle.std.specs.Prelude.{◌≡◌, ℕ, List, ◌++◌}
 use Rattle.report.specs.Vocabulary.{AggFn, Contribution}
-use Rattle.report.specs.Layout.{Entry}
+use Rattle.report.specs.Entry.{Entry}
 use Rattle.report.specs.Listing.{IsListing, listing_bytes}
 
 -- the bytes after are those before, and then a listing of the aggregation

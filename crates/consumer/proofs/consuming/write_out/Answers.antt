@@ -1,5 +1,5 @@
 use Rattle.std.proofs.Common.{refl, rules, subst}
-use Rattle.report.specs.Stream.{IsSent}
+use Rattle.streams.specs.Stream.{IsSent}
 use Rattle.consumer.proofs.consuming.write_out.Goals as goal
 
 pub returns-in-Ok-clause-out : goal.returns-in-Ok-clause-out

@@ -3,7 +3,7 @@ use Rattle.std.specs.List.{flat_map}
 use Rattle.std.specs.Map.Iter.{deref_pair}
 use Rattle.rayon.specs.Lists.{chunks_of, chunks_size, chunks_slice}
 use Rattle.rayon.proofs.ToStd.{chunks_of-concat}
-use Rattle.report.specs.Layout.{entry_bytes}
+use Rattle.report.specs.Entry.{entry_bytes}
 use Rattle.report.specs.Vocabulary.{Held, KeyPart}
 use Rattle.report.proofs.Blocks.{made_of_blocks}
 use Rattle.report.proofs.rendering.blocks.Goals as goal

@@ -1,7 +1,7 @@
 use Rattle.std.proofs.Common.{◌≡◌, ◌++◌, drop}
 use Rattle.std.specs.List.{flat_map}
 use Rattle.std.specs.Map.Iter.{deref_pair}
-use Rattle.report.specs.Layout.{entry_bytes}
+use Rattle.report.specs.Entry.{entry_bytes}
 use Rattle.report.proofs.rendering.put_each.Given as goal
 
 abbrev pub invariant-loop-entry : goal.invariant-loop-entry

@@ -2,7 +2,7 @@ use Rattle.std.proofs.Common.{◌<◌, ◌++◌, ap, ◌∙◌, rules, length}
 use Rattle.std.specs.List.{flat_map}
 use Rattle.std.specs.Map.Iter.{deref_pair}
 use Rattle.std.proofs.lemmas.Result.{on_ok_weaker}
-use Rattle.report.specs.Layout.{entry_bytes}
+use Rattle.report.specs.Entry.{entry_bytes}
 use Rattle.report.proofs.Listings.{listing_of_some}
 use Rattle.report.proofs.rendering.put_entries.Goals as goal
 

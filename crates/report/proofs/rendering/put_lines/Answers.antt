@@ -4,7 +4,7 @@ use Rattle.std.specs.Map.Iter.{deref_pair}
 use Rattle.std.specs.Slice.Iter.{chunks_rest}
 use Rattle.std.proofs.lemmas.List.{nil_from_length}
 use Rattle.std.proofs.lemmas.List.Concat.{flat_map-append}
-use Rattle.report.specs.Layout.{entry_bytes}
+use Rattle.report.specs.Entry.{entry_bytes}
 use Rattle.report.specs.Vocabulary.{Held, KeyPart}
 use Rattle.report.proofs.rendering.put_lines.Goals as goal
 

@@ -2,7 +2,7 @@ use Rattle.std.proofs.Common.{◌≡◌, ◌++◌}
 use Rattle.std.specs.List.{flat_map}
 use Rattle.std.specs.Map.Iter.{deref_pair}
 use Rattle.std.specs.Slice.Iter.{chunks_rest}
-use Rattle.report.specs.Layout.{entry_bytes}
+use Rattle.report.specs.Entry.{entry_bytes}
 use Rattle.report.proofs.rendering.put_lines.Given as goal
 
 abbrev pub invariant-loop-round : goal.invariant-loop-round

@@ -1,10 +1,10 @@
 -- The intake has taken what the feed gave, in calls that are off the most.
 use Rattle.std.proofs.Common.{◌≡◌, ◌+◌, ◌++◌, ℕ, List}
 use Rattle.std.specs.Io.KnownBytes.{Consumes}
-use Rattle.report.specs.Intake.{TakesBlocks}
-use Rattle.report.specs.Turns.{GoesOn}
+use Rattle.streams.specs.Intake.{TakesBlocks}
+use Rattle.streams.specs.Turns.{GoesOn}
 use Rattle.consumer.specs.Blocks.{HasTaken}
-use Rattle.report.specs.declared.reading.TheConstants.{MOST_CALLS}
+use Rattle.streams.specs.declared.reading.TheConstants.{MOST_CALLS}
 use Rattle.consumer.proofs.intake.BundleIntake.read_from.Given as goal
 
 abbrev pub invariant-loop-reading : goal.invariant-loop-reading

@@ -1,8 +1,8 @@
 use Rattle.std.proofs.Common.{◌≡◌, [], arith, rules}
 use Rattle.std.proofs.KnownBytes.{Consumes-nil, Consumes-trans}
-use Rattle.report.specs.Intake.{TakesBlocks}
-use Rattle.report.specs.declared.reading.TheConstants.{MOST_CALLS}
-use Rattle.report.proofs.Intakes.{takes_all, takes_more}
+use Rattle.streams.specs.Intake.{TakesBlocks}
+use Rattle.streams.specs.declared.reading.TheConstants.{MOST_CALLS}
+use Rattle.streams.proofs.Intakes.{takes_all, takes_more}
 use Rattle.consumer.proofs.intake.TraceIntake.read_from.Goals as goal
 
 pub loop-reading-init : goal.loop-reading-init

@@ -1,5 +1,5 @@
 use Rattle.std.proofs.Common.{◌≡◌, ◌∙◌, ◌++◌, ◌∷◌, [], ap, refl}
-use Rattle.report.specs.Intake.{TakesBlocks}
+use Rattle.streams.specs.Intake.{TakesBlocks}
 use Rattle.consumer.proofs.Taken.{on_ok_any, trace_beside, was_given}
 use Rattle.consumer.proofs.intake.TraceIntake.take_beside.Goals as goal
 

@@ -1,7 +1,0 @@
-use Rattle.std.proofs.Common.{◌≡◌, ◌++◌, drop}
-use Rattle.std.specs.List.{flat_map}
-use Rattle.report.specs.Layout.{part_bytes}
-use Rattle.report.proofs.layout.put_key.Given as goal
-
-abbrev pub invariant-loop-part : goal.invariant-loop-part
-invariant-loop-part l = l.out.items ++ flat_map part_bytes (drop l.part-index l.part-items) ≡ l.fn.out.items ++ flat_map part_bytes l.part-items

@@ -1,0 +1,31 @@
+-- Reading a feed turn by turn, where a turn makes some of the calls that are left.
+use Rattle.std.specs.Prelude.{◌≡◌, ◌⊎◌, ℕ, ◌+◌, ◌<◌, ◌≤◌, Bool, Result, Err, IfOk, MatchBool}
+use Rattle.std.specs.Prelude.{IsTrue, IsFalse}
+use Rattle.std.specs.Io.KnownBytes.{IsAtEnd}
+use Rattle.streams.specs.declared.reading.ReadFault.{ReadFault}
+use Rattle.streams.specs.declared.reading.ReadFault.TheVariants.{Failed, Memory}
+use Rattle.streams.specs.declared.reading.TheConstants.{MOST_CALLS}
+use Rattle.streams.specs.Stream.{FeedSeen}
+
+-- no call of the feed has failed, and if some were made, none has reported the end
+pub record GoesOn (calls_left : ℕ) (feed : FeedSeen) : Type 0 where
+  pub works : IsFalse feed.has_failed
+  pub few : calls_left ≤ MOST_CALLS
+  pub goes_on : calls_left < MOST_CALLS → IsFalse feed.has_ended
+
+-- the last call reported the end of the feed, and nothing is left
+pub record HasEnded (feed : FeedSeen) : Type 0 where
+  pub works : IsFalse feed.has_failed
+  pub ended : IsTrue feed.has_ended
+  pub nothing_left : IsAtEnd feed.remaining
+
+-- A turn makes calls, and returns whether the feed has ended. It fails where a call did, or where
+-- there is none left and the feed hasn't ended.
+pub record IsTurn (old new : FeedSeen) (calls_left calls_left' : ℕ) (result : Result Bool ReadFault)
+    : Type 0 where
+  pub counted : new.calls + calls_left' ≡ old.calls + calls_left
+  pub given : IfOk result (λ ended. MatchBool ended (HasEnded new)
+      (GoesOn calls_left' new × (calls_left' < calls_left)))
+  pub failed : result ≡ Err Failed
+      → IsTrue new.has_failed ⊎ (IsFalse new.has_ended × (calls_left' ≡ 0))
+  pub memory : result ≡ Err Memory → IsFalse new.has_failed
