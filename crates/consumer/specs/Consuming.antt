@@ -2,15 +2,10 @@
 use Rattle.std.specs.Prelude.{◌≡◌, ◌≢◌, ◌≤◌, ◌⊎◌, ◌+◌, ℕ, List, Option, Result, Ok, Err, IfSome}
 use Rattle.std.specs.Prelude.{IsTrue, IsFalse}
 use Rattle.replay_core.specs.Layouts.{LayoutMeant}
-use Rattle.streams.specs.Stream.{FeedSeen, IsSent, SinkSeen}
+use Rattle.streams.specs.{Stream.FeedSeen, Stream.IsSent, Stream.SinkSeen, Turns.IsCutShort}
 use Rattle.consumer.specs.Vocabulary.{MOST_CALLS, ReadFault, Failed, ConsumeFault, Read, Refused}
 use Rattle.consumer.specs.Vocabulary.{Write, Refusal, Memory, Plan, Replayed}
 use Rattle.consumer.specs.Replaying.{IsReplay}
-
--- the reader failed, or had not ended after the most calls
-abbrev pub IsCutShort : (old new : FeedSeen) → Type 0
-IsCutShort old new =
-    IsTrue new.has_failed ⊎ (IsFalse new.has_ended × (new.calls ≡ old.calls + MOST_CALLS))
 
 -- The reader was read to its end, or the fault says why not. It, and only it, is blamed where it
 -- failed or had not ended.

@@ -6,9 +6,9 @@ use Rattle.std.specs.Io.KnownBytes.{Appends}
 use Rattle.std.specs.declared.vec.IntoIter.{IntoIter}
 use Rattle.std.specs.declared.string.String.{String}
 use Rattle.replay_core.specs.Layouts.{LayoutMeant}
-use Rattle.streams.specs.Stream.{FeedSeen, IsSent, SinkSeen}
+use Rattle.streams.specs.{Stream.FeedSeen, Stream.IsSent, Stream.SinkSeen, Turns.IsCutShort}
 use Rattle.consumer.specs.Bundle.{Divides}
-use Rattle.consumer.specs.Consuming.{HoldsOfInput, IsCutShort, WritesAnswer}
+use Rattle.consumer.specs.Consuming.{HoldsOfInput, WritesAnswer}
 use Rattle.consumer.specs.Refusals.{IsReported, status_at_end}
 use Rattle.consumer.specs.Vocabulary.{into_iter_items, MOST_CALLS, ConsumeFault, Request}
 use Rattle.consumer.specs.Vocabulary.{Read, Refused, Write, Memory, Replayed, UsageFault}

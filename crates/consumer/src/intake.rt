@@ -1,12 +1,11 @@
 //! Takes the input of a run block by block: a bundle, or the trace of a script.
 
-ghost use Rattle.std.specs.Prelude.{◌≡◌, ◌⊎◌, ◌+◌, ◌≤◌, ◌++◌, [], ℕ, List, IfOk, IfSome, IsTrue};
-ghost use Rattle.std.specs.Prelude.{IsFalse, Err, MatchResult, Ok, OnOk};
-ghost use Rattle.std.specs.Io.KnownBytes.{Consumes, IsAtEnd};
+ghost use Rattle.std.specs.Prelude.{◌≡◌, ◌++◌, [], ℕ, List, Err, IfOk, IfSome, IsFalse};
+ghost use Rattle.std.specs.Prelude.{MatchResult, Ok, OnOk};
+ghost use Rattle.std.specs.Io.KnownBytes.{Consumes};
 ghost use Rattle.std.specs.Thread.{IsSync};
-ghost use Rattle.streams.specs.{Stream.LosesBeginning, Turns.GoesOn, Turns.IsTurn};
 ghost use Rattle.streams.specs.Intake.{TakesInput, TakesSome};
-ghost use Rattle.streams.specs.declared.reading.TheConstants.{MOST_CALLS};
+ghost use Rattle.streams.specs.Turns.{GoesOn, IsReading, IsTurn};
 ghost use Rattle.consumer.specs.Blocks.{IsTakenApart, HasTaken, TakesTrace};
 ghost use Rattle.consumer.specs.Judging.{IsJudged};
 ghost use Rattle.consumer.specs.Vocabulary.{Lex, reads, trace_of};
@@ -141,15 +140,7 @@ impl<'a, R: Threads + Sync> TraceIntake<'a, R> {
         ensures bytes { OnOk result (TakesInput (λ old block new.
             TakesTrace old.script new.script old.trace new.trace block)
             (F.seen feed.old).remaining self.old self.new) }
-        ensures nothing_left { OnOk result (IsAtEnd (F.seen feed.new).remaining) }
-        ensures ended { OnOk result
-            (IsTrue (F.seen feed.new).has_ended × IsFalse (F.seen feed.new).has_failed) }
-        ensures failed { result ≡ Err ReadFault.Failed →
-            IsTrue (F.seen feed.new).has_failed ⊎ (IsFalse (F.seen feed.new).has_ended
-            × ((F.seen feed.new).calls ≡ (F.seen feed.old).calls + MOST_CALLS)) }
-        ensures memory { result ≡ Err ReadFault.Memory → IsFalse (F.seen feed.new).has_failed }
-        ensures rest { LosesBeginning (F.seen feed.old).remaining (F.seen feed.new).remaining }
-        ensures calls { (F.seen feed.new).calls ≤ (F.seen feed.old).calls + MOST_CALLS }
+        ensures reading { IsReading (F.seen feed.old) (F.seen feed.new) result }
     {
         let mut reading = Reading::new(alloc)?;
         while reading.calls_left > 0 {
@@ -335,15 +326,7 @@ impl<'a, R: Threads + Sync> BundleIntake<'a, R> {
             → HasTaken old.first.items old.trace bytes
             → HasTaken new.first.items new.trace (bytes ++ block))
             (F.seen feed.old).remaining self.old self.new) }
-        ensures nothing_left { OnOk result (IsAtEnd (F.seen feed.new).remaining) }
-        ensures ended { OnOk result
-            (IsTrue (F.seen feed.new).has_ended × IsFalse (F.seen feed.new).has_failed) }
-        ensures failed { result ≡ Err ReadFault.Failed →
-            IsTrue (F.seen feed.new).has_failed ⊎ (IsFalse (F.seen feed.new).has_ended
-            × ((F.seen feed.new).calls ≡ (F.seen feed.old).calls + MOST_CALLS)) }
-        ensures memory { result ≡ Err ReadFault.Memory → IsFalse (F.seen feed.new).has_failed }
-        ensures rest { LosesBeginning (F.seen feed.old).remaining (F.seen feed.new).remaining }
-        ensures calls { (F.seen feed.new).calls ≤ (F.seen feed.old).calls + MOST_CALLS }
+        ensures reading { IsReading (F.seen feed.old) (F.seen feed.new) result }
     {
         let mut reading = Reading::new(alloc)?;
         while reading.calls_left > 0 {

@@ -1,5 +1,5 @@
 -- What takes blocks.
-use Rattle.std.proofs.Common.{Global, ◌≡◌, ℕ, Bool, List, [], ◌++◌, Ok, Option, IfSome, refl, sym}
+use Rattle.std.proofs.Common.{Global, ◌≡◌, ℕ, Bool, List, [], ◌++◌, Ok, Option, refl, sym}
 use Rattle.std.proofs.Common.{ap, ◌∙◌}
 use Rattle.std.proofs.Common.{subst, append_assoc, append-nil}
 use Rattle.std.proofs.KnownBytes.{Consumes-all, Consumes-trans}

@@ -1,1 +1,2 @@
 pub mod Intakes
+pub mod Readings

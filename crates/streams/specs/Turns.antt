@@ -1,11 +1,11 @@
 -- Reading a feed turn by turn, where a turn makes some of the calls that are left.
 use Rattle.std.specs.Prelude.{◌≡◌, ◌⊎◌, ℕ, ◌+◌, ◌<◌, ◌≤◌, Bool, Result, Err, IfOk, MatchBool}
-use Rattle.std.specs.Prelude.{IsTrue, IsFalse}
+use Rattle.std.specs.Prelude.{IsTrue, IsFalse, OnOk}
 use Rattle.std.specs.Io.KnownBytes.{IsAtEnd}
 use Rattle.streams.specs.declared.reading.ReadFault.{ReadFault}
 use Rattle.streams.specs.declared.reading.ReadFault.TheVariants.{Failed, Memory}
 use Rattle.streams.specs.declared.reading.TheConstants.{MOST_CALLS}
-use Rattle.streams.specs.Stream.{FeedSeen}
+use Rattle.streams.specs.Stream.{FeedSeen, LosesBeginning}
 
 -- no call of the feed has failed, and if some were made, none has reported the end
 pub record GoesOn (calls_left : ℕ) (feed : FeedSeen) : Type 0 where
@@ -29,3 +29,16 @@ pub record IsTurn (old new : FeedSeen) (calls_left calls_left' : ℕ) (result : 
   pub failed : result ≡ Err Failed
       → IsTrue new.has_failed ⊎ (IsFalse new.has_ended × (calls_left' ≡ 0))
   pub memory : result ≡ Err Memory → IsFalse new.has_failed
+
+-- the feed failed, or had not ended after the most calls
+abbrev pub IsCutShort : (old new : FeedSeen) → Type 0
+IsCutShort old new =
+    IsTrue new.has_failed ⊎ (IsFalse new.has_ended × (new.calls ≡ old.calls + MOST_CALLS))
+
+-- a reading makes no more than the most calls, and comes to the feed's end or a fault
+pub record IsReading {A : Type 0} (old new : FeedSeen) (result : Result A ReadFault) : Type 0 where
+  pub ended : OnOk result (HasEnded new)
+  pub failed : result ≡ Err Failed → IsCutShort old new
+  pub memory : result ≡ Err Memory → IsFalse new.has_failed
+  pub rest : LosesBeginning old.remaining new.remaining
+  pub few : new.calls ≤ old.calls + MOST_CALLS

@@ -1,10 +1,9 @@
 //! A reader or a writer that moves one byte a call and fails at one chosen call: for tests of what
 //! uses streams.
-ghost use Rattle.std.specs.Prelude.{◌≡◌, ◌+◌, ◌-◌, ◌^◌, ◌<◌, ◌≤◌, IfOk, IsErrAnd, IsOk};
-ghost use Rattle.std.specs.{IoError.error_kind};
+ghost use Rattle.std.specs.Prelude.{◌≡◌, ◌<◌, ◌≤◌, IfOk, IsOk};
 ghost use Rattle.std.specs.Io.{ReadsAtMost, WritesAtMost};
 ghost use Rattle.std.specs.Io.KnownBytes.{Keeps, ReadConsumes, WriteAppends};
-ghost use Rattle.streams.specs.Faulty.{faulty_inner, faulty_good_calls};
+ghost use Rattle.streams.specs.Faulty.{UsesGoodCall, faulty_good_calls, faulty_inner};
 
 use std::io;
 use std::io::{ErrorKind, Read, Write};
@@ -43,12 +42,8 @@ impl<T> Faulty<T> {
 
     // Counts a call, and interrupts it if no good one is left.
     fn begin(&mut self) -> io::Result<()>
-        ensures counted { 0 < faulty_good_calls self.old → IsOk result
-            × (faulty_good_calls self.new + 1 ≡ faulty_good_calls self.old) }
-        ensures fails { faulty_good_calls self.old ≡ 0 →
-            IsErrAnd result (λ e. error_kind e ≡ ErrorKind.Interrupted) }
-        ensures later { faulty_good_calls self.old ≡ 0 →
-            faulty_good_calls self.new ≡ 2 ^ 64 - 1 }
+        ensures call { UsesGoodCall self.old self.new result }
+        ensures goes_well { 0 < faulty_good_calls self.old → IsOk result }
         ensures inner { faulty_inner self.new ≡ faulty_inner self.old }
     {
         let Some(left) = self.good_calls.checked_sub(1) else {
@@ -68,14 +63,7 @@ impl<R: Read> Read for Faulty<R> {
         ensures bytes { ReadConsumes (R.remaining (faulty_inner self.old))
             (R.remaining (faulty_inner self.new)) result buf.new }
         ensures one { IfOk result (λ n. n ≤ 1) }
-        ensures counted { 0 < faulty_good_calls self.old →
-            faulty_good_calls self.new + 1 ≡ faulty_good_calls self.old }
-        ensures fails { faulty_good_calls self.old ≡ 0 →
-            IsErrAnd result (λ e. error_kind e ≡ ErrorKind.Interrupted) }
-        ensures untouched { faulty_good_calls self.old ≡ 0 →
-            faulty_inner self.new ≡ faulty_inner self.old }
-        ensures later { faulty_good_calls self.old ≡ 0 →
-            faulty_good_calls self.new ≡ 2 ^ 64 - 1 }
+        ensures call { UsesGoodCall self.old self.new result }
     {
         self.begin()?;
         let room = buf.len().min(1);
@@ -91,14 +79,7 @@ impl<W: Write> Write for Faulty<W> {
         ensures bytes { WriteAppends (W.contents (faulty_inner self.old))
             (W.contents (faulty_inner self.new)) result buf.now }
         ensures one { IfOk result (λ n. n ≤ 1) }
-        ensures counted { 0 < faulty_good_calls self.old →
-            faulty_good_calls self.new + 1 ≡ faulty_good_calls self.old }
-        ensures fails { faulty_good_calls self.old ≡ 0 →
-            IsErrAnd result (λ e. error_kind e ≡ ErrorKind.Interrupted) }
-        ensures untouched { faulty_good_calls self.old ≡ 0 →
-            faulty_inner self.new ≡ faulty_inner self.old }
-        ensures later { faulty_good_calls self.old ≡ 0 →
-            faulty_good_calls self.new ≡ 2 ^ 64 - 1 }
+        ensures call { UsesGoodCall self.old self.new result }
     {
         self.begin()?;
         let room = buf.len().min(1);
@@ -108,14 +89,7 @@ impl<W: Write> Write for Faulty<W> {
     fn flush(&mut self) -> io::Result<()>
         ensures bytes { Keeps (W.contents (faulty_inner self.old))
             (W.contents (faulty_inner self.new)) }
-        ensures counted { 0 < faulty_good_calls self.old →
-            faulty_good_calls self.new + 1 ≡ faulty_good_calls self.old }
-        ensures fails { faulty_good_calls self.old ≡ 0 →
-            IsErrAnd result (λ e. error_kind e ≡ ErrorKind.Interrupted) }
-        ensures untouched { faulty_good_calls self.old ≡ 0 →
-            faulty_inner self.new ≡ faulty_inner self.old }
-        ensures later { faulty_good_calls self.old ≡ 0 →
-            faulty_good_calls self.new ≡ 2 ^ 64 - 1 }
+        ensures call { UsesGoodCall self.old self.new result }
     {
         self.begin()?;
         self.inner.flush()

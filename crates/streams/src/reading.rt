@@ -1,10 +1,9 @@
 //! Reading a feed to its end.
-ghost use Rattle.std.specs.Prelude.{◌≡◌, ◌⊎◌, ◌+◌, ◌<◌, ◌++◌, ◌≤◌, ℕ, List, IfOk, IfSome, OnOk};
-ghost use Rattle.std.specs.Prelude.{IfErr, IsTrue, IsFalse, Ok, false, length, take};
-ghost use Rattle.std.specs.Io.KnownBytes.{Consumes, IsAtEnd};
-ghost use Rattle.streams.specs.Stream.{LosesBeginning};
+ghost use Rattle.std.specs.Prelude.{◌≡◌, ◌<◌, ◌++◌, ◌≤◌, ℕ, List, IfErr, IfOk, IfSome, IsFalse};
+ghost use Rattle.std.specs.Prelude.{Ok, OnOk, false, length, take};
+ghost use Rattle.std.specs.Io.KnownBytes.{Consumes};
 ghost use Rattle.streams.specs.Intake.{TakesSome};
-ghost use Rattle.streams.specs.Turns.{GoesOn, IsTurn};
+ghost use Rattle.streams.specs.Turns.{GoesOn, IsReading, IsTurn};
 
 use crate::stream::Feed;
 use std::alloc::{AllocError, Global};
@@ -172,15 +171,7 @@ fn take_given<T: Intake>(intake: &mut T, buffer: &[u8], given: usize) -> Result<
 pub fn read_to_end<F: Feed>(alloc: Global, feed: &mut F) -> Result<Vec<u8>, ReadFault>
     requires { IsFalse (F.seen feed.old).has_failed }
     ensures bytes { IfOk result (λ v. IfSome (F.seen feed.old).remaining (λ all. v.items ≡ all)) }
-    ensures nothing_left { OnOk result (IsAtEnd (F.seen feed.new).remaining) }
-    ensures ended { OnOk result
-        (IsTrue (F.seen feed.new).has_ended × IsFalse (F.seen feed.new).has_failed) }
-    ensures failed { result ≡ Err ReadFault.Failed →
-        IsTrue (F.seen feed.new).has_failed ⊎ (IsFalse (F.seen feed.new).has_ended
-        × ((F.seen feed.new).calls ≡ (F.seen feed.old).calls + MOST_CALLS)) }
-    ensures memory { result ≡ Err ReadFault.Memory → IsFalse (F.seen feed.new).has_failed }
-    ensures rest { LosesBeginning (F.seen feed.old).remaining (F.seen feed.new).remaining }
-    ensures calls { (F.seen feed.new).calls ≤ (F.seen feed.old).calls + MOST_CALLS }
+    ensures reading { IsReading (F.seen feed.old) (F.seen feed.new) result }
 {
     let mut bytes = Vec::new(alloc);
     let mut reading = Reading::new(alloc)?;

@@ -1,14 +1,11 @@
--- The bytes are what the feed gave, in calls that are off the most.
-use Rattle.std.proofs.Common.{◌≡◌, ◌+◌}
+-- The bytes are what the feed gave.
 use Rattle.std.specs.Io.KnownBytes.{Consumes}
-use Rattle.streams.specs.Turns.{GoesOn}
-use Rattle.streams.specs.declared.reading.TheConstants.{MOST_CALLS}
+use Rattle.streams.proofs.Readings.{HasMade}
 use Rattle.streams.proofs.reading.read_to_end.Given as goal
 
 abbrev pub invariant-loop-reading : goal.invariant-loop-reading
 invariant-loop-reading g l = record {
-  going : GoesOn l.reading.calls_left (g.F.Feed.seen l.feed);
-  counted : (g.F.Feed.seen l.feed).calls + l.reading.calls_left ≡ (g.F.Feed.seen l.initial.feed).calls + MOST_CALLS;
+  made : HasMade (g.F.Feed.seen l.initial.feed) (g.F.Feed.seen l.feed) l.reading.calls_left;
   given : Consumes (g.F.Feed.seen l.initial.feed).remaining (g.F.Feed.seen l.feed).remaining l.bytes.items;
 }
 
