@@ -16,7 +16,7 @@ use Rattle.consumer.specs.declared.plan.Replayed.{Replayed}
 use Rattle.consumer.specs.declared.refusal.Refusal.{Refusal}
 use Rattle.consumer.specs.declared.refusal.Refusal.TheVariants.{Lex, Parse, Typing, Trace, Group}
 use Rattle.consumer.specs.declared.refusal.Refusal.TheVariants.{Memory}
-use Rattle.consumer.specs.Consuming.{HoldsOfInput, WritesAnswer}
+use Rattle.consumer.specs.Consuming.{HoldsOfInput, WritesAnswer, WritesOver}
 use Rattle.consumer.specs.Replaying.{IsRefusalUnder, IsReplay}
 use Rattle.consumer.specs.Scripts.{IsParseFault}
 use Rattle.consumer.specs.Steps.Files.{IsScriptIn}
@@ -63,8 +63,8 @@ module _ (shows : LayoutMeant) (script trace : List ℕ) (plan : Plan) (old new 
       record { answer = w.answer; is = replayed_alike script all long all_long shows trace plan w.answer w.is; out = w.out }
 
 pub holds_of_file : (shows : LayoutMeant) (script : List ℕ) (plan : Plan) (old new : SinkSeen) (result : Result Replayed ConsumeFault) (holds remaining : Option (List ℕ))
-    → IfSome holds (λ all. IsScriptIn all script) → HoldsOfInput remaining (λ trace. WritesAnswer shows script trace plan old new result)
-    → HoldsOfInput holds (λ s. HoldsOfInput remaining (λ trace. WritesAnswer shows s trace plan old new result))
+    → IfSome holds (λ all. IsScriptIn all script) → WritesOver shows script remaining plan old new result
+    → HoldsOfInput holds (λ s. WritesOver shows s remaining plan old new result)
 holds_of_file shows script plan old new result None remaining is h = record { input = script; read = search rules; holds = h }
 holds_of_file shows script plan old new result (Some all) remaining is h =
     let written = written_for shows script h.input plan old new result all is h.holds in

@@ -14,7 +14,7 @@ use Rattle.consumer.specs.declared.words.UsageFault.TheVariants.{Help, Usage}
 use Rattle.consumer.specs.declared.words.UsageFault.TheVariants as usage
 use Rattle.consumer.specs.Answer.{without_line}
 use Rattle.consumer.specs.Bundle.{Divides}
-use Rattle.consumer.specs.Consuming.{HoldsOfInput, WritesAnswer, WritesOut}
+use Rattle.consumer.specs.Consuming.{HoldsOfInput, WritesBundle, WritesOut, WritesOver}
 use Rattle.consumer.specs.Plans.{IsMisgrouped}
 use Rattle.consumer.specs.Program.{Ends, EndsWithoutRun, IsBroken, IsNoRequest, IsRequest, IsRunOf}
 use Rattle.consumer.specs.Program.{StreamsSeen, WriteAlike, words_of, ran, without_run}
@@ -153,10 +153,8 @@ module _ (shows : LayoutMeant) (holds : List ℕ → Option (List ℕ)) (known :
     (full : old.input.remaining ≡ Some input) (status : ℕ) where
   by_file : (plan : Plan) (n : ℕ) → plan.groups ≡ Dealt n → (result : Result Replayed ConsumeFault) → status ≡ status_at_end result
       → IsReported result old.errors new.errors → (given : Option (String Global))
-      → MatchOption given (HoldsOfInput old.input.remaining (λ bundle. (script trace : List ℕ) × Divides bundle script trace
-      × WritesAnswer shows script trace plan old.output new.output result))
-      (λ file. HoldsOfInput (holds (string_bytes file)) (λ script. HoldsOfInput old.input.remaining (λ trace.
-      WritesAnswer shows script trace plan old.output new.output result)))
+      → MatchOption given (WritesBundle shows old.input.remaining plan old.output new.output result)
+      (λ file. HoldsOfInput (holds (string_bytes file)) (λ script. WritesOver shows script old.input.remaining plan old.output new.output result))
       → (script trace : List ℕ) × IsSource (option_map string_bytes given) holds input script trace × Came shows script trace old new status
   by_file plan n dealt result ends line None h =
       let whole = known_input old.input.remaining input h.input full h.read in

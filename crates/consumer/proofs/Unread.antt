@@ -1,6 +1,6 @@
 -- What is said of a reader's bytes where they were not all read.
 use Rattle.std.proofs.Common.{Global, ◌≡◌, ◌≢◌, ◌⊎◌, ◌∙◌, ℕ, List, [], Option, Some, None}
-use Rattle.std.proofs.Common.{Result, Err, ap, inl, inr, refl, rules}
+use Rattle.std.proofs.Common.{Result, Err, ap, arith, inl, inr, refl, rules, sym}
 use Rattle.std.specs.Result.{IsErrAnd}
 use Rattle.std.proofs.lemmas.Result.{err_from_is_err_and}
 use Rattle.replay_core.specs.Layouts.{LayoutMeant}
@@ -57,10 +57,8 @@ script_unread {shows = shows} request holds seen result fault name named unfaile
     let failed : result ≡ Err Read = p.1 ∙ ap Err (p.2 ∙ read) in
     record {
       shown = λ other. absurd (other failed);
-      read = λ other. absurd (other failed);
-      blamed = λ _. inr (some_file request.file name named, refl);
+      read = inr (some_file request.file name named, failed, refl);
       unread = λ _. refl;
-      few = search rules;
     }
 script_unread {shows = shows} request holds seen result fault name named unfailed told (inr memory) =
     let p = err_from_is_err_and result told in
@@ -68,8 +66,6 @@ script_unread {shows = shows} request holds seen result fault name named unfaile
     record {
       shown = λ other. any_file request.file name _ _ named (holds_of_any _ _ (λ script. holds_of_any _ _
           (λ trace. record { answer = Err Memory; is = out_of_memory shows script trace request.plan; out = (refl, spent) })));
-      read = λ other. (unfailed.input, inl spent);
-      blamed = λ _. inr (some_file request.file name named, refl);
+      read = inl (record { blamed = λ read. let never : Err (Refused Memory) ≡ Err Read = sym spent ∙ read in absurd cc; whole = λ other. (unfailed.input, inl spent); few = omega arith });
       unread = λ _. refl;
-      few = search rules;
     }

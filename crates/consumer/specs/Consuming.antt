@@ -5,7 +5,7 @@ use Rattle.replay_core.specs.Layouts.{LayoutMeant}
 use Rattle.streams.specs.{Stream.FeedSeen, Stream.IsSent, Stream.SinkSeen, Turns.IsCutShort}
 use Rattle.consumer.specs.Vocabulary.{MOST_CALLS, ReadFault, Failed, ConsumeFault, Read, Refused}
 use Rattle.consumer.specs.Vocabulary.{Write, Refusal, Memory, Plan, Replayed}
-use Rattle.consumer.specs.Replaying.{IsReplay}
+use Rattle.consumer.specs.{Bundle.Divides, Replaying.IsReplay}
 
 -- The reader was read to its end, or the fault says why not. It, and only it, is blamed where it
 -- failed or had not ended.
@@ -37,6 +37,19 @@ pub record WritesAnswer (shows : LayoutMeant) (script trace : List ℕ) (plan : 
   pub answer : Result Replayed Refusal
   pub is : IsReplay shows script trace plan answer
   pub out : WritesOut answer old new result
+
+-- what goes out is the answer of a bundle's script over its trace
+abbrev pub WritesBundle : LayoutMeant → (bundle : Option (List ℕ)) → Plan → (old new : SinkSeen)
+    → Result Replayed ConsumeFault → Type 0
+WritesBundle shows bundle plan old new result =
+    HoldsOfInput bundle (λ bytes. (script trace : List ℕ) × Divides bytes script trace
+    × WritesAnswer shows script trace plan old new result)
+
+-- what goes out is the answer of the script over a trace that is read
+abbrev pub WritesOver : LayoutMeant → (script : List ℕ) → (trace : Option (List ℕ)) → Plan
+    → (old new : SinkSeen) → Result Replayed ConsumeFault → Type 0
+WritesOver shows script trace plan old new result =
+    HoldsOfInput trace (λ bytes. WritesAnswer shows script bytes plan old new result)
 
 -- how a fault of reading is reported
 abbrev pub fault_of_reading : ReadFault → ConsumeFault

@@ -1,16 +1,15 @@
 -- How the program ends, and what went to its streams by then.
-use Rattle.std.specs.Prelude.{◌≡◌, ◌≢◌, ◌≤◌, ◌⊎◌, ◌+◌, ℕ, List, Option, Result, Err}
-use Rattle.std.specs.Prelude.{IsFalse, IsOkAnd, IsSome, IsTrue, MatchBool, MatchOption, MatchResult}
+use Rattle.std.specs.Prelude.{◌≡◌, ◌≢◌, ◌⊎◌, ℕ, List, Option, Result, Err, IsFalse, IsOkAnd, IsSome}
+use Rattle.std.specs.Prelude.{MatchBool, MatchOption, MatchResult}
 use Rattle.std.specs.Prelude.{drop, map, string_bytes}
 use Rattle.std.specs.Io.KnownBytes.{Appends}
 use Rattle.std.specs.declared.vec.IntoIter.{IntoIter}
 use Rattle.std.specs.declared.string.String.{String}
 use Rattle.replay_core.specs.Layouts.{LayoutMeant}
-use Rattle.streams.specs.{Stream.FeedSeen, Stream.IsSent, Stream.SinkSeen, Turns.IsCutShort}
-use Rattle.consumer.specs.Bundle.{Divides}
-use Rattle.consumer.specs.Consuming.{HoldsOfInput, WritesAnswer}
+use Rattle.streams.specs.Stream.{FeedSeen, IsSent, SinkSeen}
+use Rattle.consumer.specs.Consuming.{HoldsOfInput, IsReadToEnd, WritesBundle, WritesOver}
 use Rattle.consumer.specs.Refusals.{IsReported, status_at_end}
-use Rattle.consumer.specs.Vocabulary.{into_iter_items, MOST_CALLS, ConsumeFault, Request}
+use Rattle.consumer.specs.Vocabulary.{into_iter_items, ConsumeFault, Request}
 use Rattle.consumer.specs.Vocabulary.{Read, Refused, Write, Memory, Replayed, UsageFault}
 use Rattle.consumer.specs.Words.{Asks, IsFaultOf, IsMistake}
 use Rattle.consumer.specs.declared.program.Streams.{Streams}
@@ -58,21 +57,14 @@ IsNoRequest given fault = (fault ≡ usage.Memory) ⊎ MatchResult given
 pub record IsRunOf (shows : LayoutMeant) (request : Request) (holds : List ℕ → Option (List ℕ))
     (old new : StreamsSeen) (result : Result Replayed ConsumeFault) : Type 0 where
   pub shown : result ≢ Err Read → MatchOption request.file
-      (HoldsOfInput old.input.remaining (λ bundle. (script trace : List ℕ)
-      × Divides bundle script trace
-      × WritesAnswer shows script trace request.plan old.output new.output result))
+      (WritesBundle shows old.input.remaining request.plan old.output new.output result)
       (λ file. HoldsOfInput (holds (string_bytes file)) (λ script.
-      HoldsOfInput old.input.remaining (λ trace.
-      WritesAnswer shows script trace request.plan old.output new.output result)))
-  pub read : result ≢ Err Read → IsFalse new.input.has_failed
-      × ((result ≡ Err (Refused Memory)) ⊎ IsTrue new.input.has_ended)
-  -- the input is blamed where it failed or had not ended, or else the file, before any input is
-  -- read
-  pub blamed : result ≡ Err Read → IsCutShort old.input new.input
-      ⊎ (IsSome request.file × (new.input ≡ old.input))
-  -- and then nothing is written
+      WritesOver shows script old.input.remaining request.plan old.output new.output result))
+  -- the input was read; or the file could not be, and no input was
+  pub read : IsReadToEnd old.input new.input result
+      ⊎ (IsSome request.file × (result ≡ Err Read) × (new.input ≡ old.input))
+  -- where reading failed nothing is written
   pub unread : result ≡ Err Read → new.output ≡ old.output
-  pub few : new.input.calls ≤ old.input.calls + MOST_CALLS
 
 -- ---- without a run
 

@@ -1,9 +1,9 @@
 //! From the bytes in to the bytes out.
 
 ghost use Rattle.std.specs.Prelude.{◌≡◌, ◌≢◌, [], List, ℕ, Err, IfErr, IsFalse, Ok, OnOk};
-ghost use Rattle.consumer.specs.{Bundle.Divides, Plans.IsInBounds};
-ghost use Rattle.consumer.specs.Consuming.{HoldsOfInput, IsReadToEnd, WritesAnswer, WritesOut};
-ghost use Rattle.consumer.specs.Consuming.{fault_of_reading};
+ghost use Rattle.consumer.specs.{Plans.IsInBounds};
+ghost use Rattle.consumer.specs.Consuming.{IsReadToEnd, WritesAnswer, WritesBundle, WritesOut};
+ghost use Rattle.consumer.specs.Consuming.{WritesOver, fault_of_reading};
 ghost use Rattle.consumer.specs.{Judging.IsJudged, Replaying.IsReplay};
 ghost use Rattle.consumer.specs.Vocabulary.{Memory, Refused, reads, trace_of};
 
@@ -74,10 +74,8 @@ impl<'a, R: Threads + Wait + Sync, L: Layout> Consumer<'a, R, L> {
         requires sink { IsFalse (S.seen sink.old).has_failed }
         ensures read { IsReadToEnd (F.seen feed.old) (F.seen feed.new) result }
         ensures shown { result ≢ Err ConsumeFault.Read
-            → HoldsOfInput (F.seen feed.old).remaining (λ bundle.
-            (script trace : List ℕ) × Divides bundle script trace
-            × WritesAnswer L.shows script trace plan.now (S.seen sink.old) (S.seen sink.new)
-            result) }
+            → WritesBundle L.shows (F.seen feed.old).remaining plan.now
+            (S.seen sink.old) (S.seen sink.new) result }
         ensures untouched { result ≢ Err ConsumeFault.Write
             → IfErr result (λ e. sink.new ≡ sink.old) }
     {
@@ -116,9 +114,8 @@ impl<'a, R: Threads + Wait + Sync, L: Layout> Consumer<'a, R, L> {
         requires sink { IsFalse (S.seen sink.old).has_failed }
         ensures read { IsReadToEnd (F.seen feed.old) (F.seen feed.new) result }
         ensures shown { result ≢ Err ConsumeFault.Read
-            → HoldsOfInput (F.seen feed.old).remaining (λ trace.
-            WritesAnswer L.shows script.now trace plan.now (S.seen sink.old) (S.seen sink.new)
-            result) }
+            → WritesOver L.shows script.now (F.seen feed.old).remaining plan.now
+            (S.seen sink.old) (S.seen sink.new) result }
         ensures untouched { result ≢ Err ConsumeFault.Write
             → IfErr result (λ e. sink.new ≡ sink.old) }
     {

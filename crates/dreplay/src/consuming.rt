@@ -1,8 +1,8 @@
 //! From the bytes of a bundle to its report.
 
-ghost use Rattle.std.specs.Prelude.{◌≡◌, ◌≢◌, List, ℕ, Err, IfErr, IsFalse};
-ghost use Rattle.consumer.specs.{Bundle.Divides, Plans.IsInBounds};
-ghost use Rattle.consumer.specs.Consuming.{HoldsOfInput, IsReadToEnd, WritesAnswer};
+ghost use Rattle.std.specs.Prelude.{◌≡◌, ◌≢◌, Err, IfErr, IsFalse};
+ghost use Rattle.consumer.specs.{Plans.IsInBounds};
+ghost use Rattle.consumer.specs.Consuming.{IsReadToEnd, WritesBundle};
 ghost use Rattle.report.specs.{Report.IsReport};
 
 use consumer::{ConsumeFault, Consumer, Plan, Replayed};
@@ -34,10 +34,8 @@ pub fn consume<R: Threads + Wait + Sync, F: Feed + Send, S: Sink>(
     requires sink { IsFalse (S.seen sink.old).has_failed }
     ensures read { IsReadToEnd (F.seen feed.old) (F.seen feed.new) result }
     ensures shown { result ≢ Err ConsumeFault.Read
-        → HoldsOfInput (F.seen feed.old).remaining (λ bundle.
-        (script trace : List ℕ) × Divides bundle script trace
-        × WritesAnswer IsReport script trace plan.now (S.seen sink.old) (S.seen sink.new)
-        result) }
+        → WritesBundle IsReport (F.seen feed.old).remaining plan.now
+        (S.seen sink.old) (S.seen sink.new) result }
     ensures untouched { result ≢ Err ConsumeFault.Write → IfErr result (λ e. sink.new ≡ sink.old) }
 {
     Consumer::new(rt, alloc, Report).consume(feed, sink, plan)

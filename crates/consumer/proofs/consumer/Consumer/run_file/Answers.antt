@@ -17,8 +17,6 @@ returns-in-Ok-clause-run g c =
     record {
       shown = λ other. any_file c.args.request.now.file c.args.file.now _ _ c.requires.named
           (holds_of_file _ _ _ _ _ _ _ _ known (rw c.deref.ensures.value at ends.shown other));
-      read = λ other. ends.read.whole other;
-      blamed = λ failed. inl (ends.read.blamed failed);
+      read = inl ends.read;
       unread = search rules;
-      few = ends.read.few;
     }

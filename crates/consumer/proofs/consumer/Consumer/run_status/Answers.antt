@@ -8,7 +8,7 @@ returns g c =
     let r = c.run_request-answer.ensures.run in
     record {
       answer = c.run_request-answer.result;
-      run = record { shown = r.shown; read = r.read; blamed = r.blamed; unread = r.unread; few = r.few };
+      run = record { shown = r.shown; read = r.read; unread = r.unread };
       ends = c.end-status.ensures.status;
       line = subst (λ e. IsReported c.run_request-answer.result (g.E.Sink.seen e) (g.E.Sink.seen c.end-status.new.errors)) c.run_request-answer.ensures.errors c.end-status.ensures.line;
     }
