@@ -1,10 +1,10 @@
 -- One more aggregation is shown.
-use Rattle.std.proofs.Common.{◌≡◌, ◌⊎◌, inl, inr, ⊎_elim, ℕ, zero, suc, ◌+◌, ◌<◌, ◌≤◌, List, []}
+use Rattle.std.proofs.Common.{◌≡◌, ℕ, suc, ◌+◌, ◌<◌, ◌≤◌, List, []}
 use Rattle.std.proofs.Common.{◌∷◌, ◌++◌, length, get_or, take, Some, refl, sym, ap, ◌∙◌, subst}
-use Rattle.std.proofs.Common.{arith, append-nil, append_assoc, length-append}
-use Rattle.std.specs.List.{flat_map, slice_get}
+use Rattle.std.proofs.Common.{arith, append-nil, append_assoc}
+use Rattle.std.specs.List.{AllZip, enumerate_from, flat_map, slice_get}
 use Rattle.std.proofs.lemmas.List.{flat_map_more, length-take-le, take_all, take_more}
-use Rattle.std.proofs.lemmas.Option.{same_Some, slice_get-get_or, slice_get_within}
+use Rattle.std.proofs.lemmas.Option.{same_Some, slice_get-get_or}
 use Rattle.aggregations.specs.declared.function.AggFn.{AggFn}
 use Rattle.aggregations.specs.Table.{Contribution}
 use Rattle.report.specs.Entry.{Entry}
@@ -14,43 +14,31 @@ use Rattle.report.proofs.Listings.{listing_exists}
 use Rattle.report.specs.Output.{IsOutput, Shows}
 use Rattle.report.specs.Steps.Output.{AppendsTables}
 
--- an element of a list with one more is one of the list's or the new one
-push_cases : {X : Type 0} (xs : List X) (new x : X) (i : ℕ) → slice_get (xs ++ new ∷ []) i ≡ Some x → (slice_get xs i ≡ Some x) ⊎ ((i ≡ length xs) × (new ≡ x))
-push_cases [] new x zero at = inr (refl, same_Some new x at)
-push_cases [] new x (suc i) at = cc
-push_cases (y ∷ xs) new x zero at = inl at
-push_cases (y ∷ xs) new x (suc i) at = ⊎_elim inl (λ last. inr (ap suc last.0, last.1)) (push_cases xs new x i at)
-
 pub shows_none : (contributions : List Contribution) (bytes : List ℕ) → bytes ≡ [] → Shows [] contributions bytes
-shows_none contributions bytes none = record { listings = []; one_each = refl; listed = λ agg function entries at there. cc; joined = none }
+shows_none contributions bytes none = record { listings = []; listed = tt; joined = none }
+
+-- one more listing
+listed_push : (Is : ℕ × AggFn → List Entry → Type 0) (n : ℕ) (functions : List AggFn) (listings : List (List Entry)) (function : AggFn) (entries : List Entry)
+    → AllZip Is (enumerate_from n functions) listings → Is (n + length functions, function) entries
+    → AllZip Is (enumerate_from n (functions ++ function ∷ [])) (listings ++ entries ∷ [])
+listed_push Is n [] [] function entries all own = let e : n + 0 ≡ n = omega arith in (subst (λ k. Is (k, function) entries) e own, tt)
+listed_push Is n [] (l ∷ listings) function entries all own = absurd all
+listed_push Is n (f ∷ functions) [] function entries all own = absurd all
+listed_push Is n (f ∷ functions) (l ∷ listings) function entries all own =
+    let e : n + suc (length functions) ≡ n + 1 + length functions = omega arith in
+    (all.0, listed_push Is (n + 1) functions listings function entries all.1 (subst (λ k. Is (k, function) entries) e own))
 
 module _ (contributions : List Contribution) where
-  -- each listing is one of those before or the new one
-  listed_push : (functions : List AggFn) (function : AggFn) (before after : List ℕ) (shown : Shows functions contributions before)
-      (more : AppendsListing function (length functions) contributions before after) (agg : ℕ) (f : AggFn) (entries : List Entry)
-      → slice_get (functions ++ function ∷ []) agg ≡ Some f → slice_get (shown.listings ++ more.entries ∷ []) agg ≡ Some entries → IsListing f agg contributions entries
-  listed_push functions function before after shown more agg f entries at there =
-      ⊎_elim
-      (λ (a : slice_get functions agg ≡ Some f). ⊎_elim (shown.listed agg f entries a)
-      (λ last. absurd (let within = slice_get_within functions agg f a in let size = shown.one_each in let end = last.0 in omega arith)) there_cases)
-      (λ (a : (agg ≡ length functions) × (function ≡ f)). ⊎_elim
-      (λ b. absurd (let within = slice_get_within shown.listings agg entries b in let size = shown.one_each in let end = a.0 in omega arith))
-      (λ last. subst (λ n. IsListing f n contributions entries) (sym a.0)
-      (subst (λ g. IsListing g (length functions) contributions entries) a.1 (subst (IsListing function (length functions) contributions) last.1 more.listing)))
-      there_cases)
-      (push_cases functions function f agg at)
-    where
-      there_cases : (slice_get shown.listings agg ≡ Some entries) ⊎ ((agg ≡ length shown.listings) × (more.entries ≡ entries))
-      there_cases = push_cases shown.listings more.entries entries agg there
-
   pub shows_push : (functions : List AggFn) (function : AggFn) (before after : List ℕ) → Shows functions contributions before
       → AppendsListing function (length functions) contributions before after → Shows (functions ++ function ∷ []) contributions after
-  shows_push functions function before after shown more = record {
-    listings = shown.listings ++ more.entries ∷ [];
-    one_each = length-append shown.listings (more.entries ∷ []) ∙ ap (λ n. n + 1) shown.one_each ∙ sym (length-append functions (function ∷ []));
-    listed = listed_push functions function before after shown more;
-    joined = more.bytes ∙ ap (λ l. l ++ listing_bytes more.entries) shown.joined ∙ flat_map_more listing_bytes [] shown.listings more.entries;
-  }
+  shows_push functions function before after shown more =
+      let e : length functions ≡ 0 + length functions = omega arith in
+      record {
+        listings = shown.listings ++ more.entries ∷ [];
+        listed = listed_push (λ agg entries. IsListing agg.1 agg.0 contributions entries) 0 functions shown.listings function more.entries shown.listed
+            (subst (λ n. IsListing function n contributions more.entries) e more.listing);
+        joined = more.bytes ∙ ap (λ l. l ++ listing_bytes more.entries) shown.joined ∙ flat_map_more listing_bytes [] shown.listings more.entries;
+      }
 
   pub shows_more : (functions : List AggFn) (agg : ℕ) (before after : List ℕ) → agg < length functions
       → ((function : AggFn) → slice_get functions agg ≡ Some function → AppendsListing function agg contributions before after)

@@ -1,24 +1,21 @@
 -- Contributions make one listing, and one output.
-use Rattle.std.proofs.Common.{◌≡◌, ◌⊎◌, inl, inr, ⊎_elim, ℕ, zero, suc, List, [], ◌∷◌, ◌++◌, get_or}
+use Rattle.std.proofs.Common.{◌≡◌, ◌⊎◌, inl, inr, ⊎_elim, ℕ, zero, suc, ◌+◌, List, [], ◌∷◌, ◌++◌}
 use Rattle.std.proofs.Common.{Contains, Some, refl, sym, ap, ◌∙◌, subst, arith}
 use Rattle.std.specs.Cmp.{IsTotalOrder}
-use Rattle.std.specs.List.{flat_map, slice_get}
+use Rattle.std.specs.List.{AllZip, enumerate_from, flat_map}
 use Rattle.std.specs.List.Sorted.{IsStrictlySortedBy}
 use Rattle.std.specs.Map.{lookup}
 use Rattle.std.specs.Ordering.{ordering_reverse}
 use Rattle.std.specs.declared.cmp.Ordering.{Ordering}
 use Rattle.std.specs.declared.cmp.Ordering.TheVariants.{Less, Greater}
-use Rattle.std.proofs.lemmas.List.{ext_get_or}
 use Rattle.std.proofs.lemmas.List.Elements.{All-contains, All-from_recursion}
 use Rattle.std.proofs.lemmas.Map.Keys.{sorted_head, sorted_tail}
 use Rattle.std.proofs.lemmas.Map.Made.{Contains-tail}
 use Rattle.std.proofs.lemmas.Map.Views.{Contains-from_lookup, lookup-from_Contains}
-use Rattle.std.proofs.lemmas.Option.{slice_get-get_or}
 use Rattle.d_values.specs.Keys.{same_key}
 use Rattle.d_values.specs.KeyLaws.{same_key_decides, same_key_equiv}
 use Rattle.aggregations.specs.Table.{Contribution, AreEntries, arguments_of}
 use Rattle.aggregations.specs.declared.function.AggFn.{AggFn}
-use Rattle.aggregations.specs.declared.function.AggFn.TheVariants.{Count}
 use Rattle.aggregations.proofs.EntryLemmas.{one_entry}
 use Rattle.report.specs.Entry.{Entry}
 use Rattle.report.specs.Listing.{IsListing, listing_bytes}
@@ -78,23 +75,20 @@ module _ (function : AggFn) (agg : ℕ) (contributions : List Contribution) wher
 
 -- ---- one output
 
-same_listings : (functions : List AggFn) (contributions : List Contribution) (xs ys : List ℕ) (x_shown : Shows functions contributions xs) (y_shown : Shows functions contributions ys)
-    → x_shown.listings ≡ y_shown.listings
-same_listings functions contributions xs ys x_shown y_shown =
-    let x_size = x_shown.one_each in
-    let y_size = y_shown.one_each in
-    ext_get_or [] x_shown.listings y_shown.listings (x_size ∙ sym y_size) (λ agg within.
-    let function : AggFn = get_or functions agg Count in
-    let x_entries : List Entry = get_or x_shown.listings agg [] in
-    let y_entries : List Entry = get_or y_shown.listings agg [] in
-    let at : slice_get functions agg ≡ Some function = slice_get-get_or functions agg Count (omega arith) in
-    one_listing function agg contributions x_entries y_entries
-    (x_shown.listed agg function x_entries at (slice_get-get_or x_shown.listings agg [] within))
-    (y_shown.listed agg function y_entries at (slice_get-get_or y_shown.listings agg [] (omega arith))))
+same_listings : (contributions : List Contribution) (n : ℕ) (functions : List AggFn) (xs ys : List (List Entry))
+    → AllZip (λ agg entries. IsListing agg.1 agg.0 contributions entries) (enumerate_from n functions) xs
+    → AllZip (λ agg entries. IsListing agg.1 agg.0 contributions entries) (enumerate_from n functions) ys → xs ≡ ys
+same_listings contributions n [] [] [] a b = refl
+same_listings contributions n [] [] (y ∷ ys) a b = absurd b
+same_listings contributions n [] (x ∷ xs) ys a b = absurd a
+same_listings contributions n (f ∷ fs) [] ys a b = absurd a
+same_listings contributions n (f ∷ fs) (x ∷ xs) [] a b = absurd b
+same_listings contributions n (f ∷ fs) (x ∷ xs) (y ∷ ys) a b =
+    ap (λ l. l ∷ xs) (one_listing f n contributions x y a.0 b.0) ∙ ap (λ ls. y ∷ ls) (same_listings contributions (n + 1) fs xs ys a.1 b.1)
 
 same_tables : (functions : List AggFn) (contributions : List Contribution) (xs ys : List ℕ) → Shows functions contributions xs → Shows functions contributions ys → xs ≡ ys
 same_tables functions contributions xs ys x_shown y_shown =
-    x_shown.joined ∙ ap (flat_map listing_bytes) (same_listings functions contributions xs ys x_shown y_shown) ∙ sym y_shown.joined
+    x_shown.joined ∙ ap (flat_map listing_bytes) (same_listings contributions 0 functions x_shown.listings y_shown.listings x_shown.listed y_shown.listed) ∙ sym y_shown.joined
 
 pub one_output : (functions : List AggFn) (texts : List (ℕ × List ℕ)) (contributions : List Contribution) (xs ys : List ℕ)
     → IsOutput functions texts contributions xs → IsOutput functions texts contributions ys → xs ≡ ys

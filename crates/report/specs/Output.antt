@@ -1,7 +1,8 @@
 -- All that a run shows.
 -- Source: Dynamic Tracing Guide, "Aggregations".
-use Rattle.std.specs.Prelude.{◌≡◌, ℕ, List, ◌++◌, Some, length, slice_get}
-use Rattle.report.specs.Vocabulary.{AggFn, Contribution, flat_map}
+use Rattle.std.specs.Prelude.{◌≡◌, ℕ, List, ◌++◌}
+use Rattle.std.specs.List.{AllZip}
+use Rattle.report.specs.Vocabulary.{AggFn, Contribution, enumerate_from, flat_map}
 use Rattle.report.specs.Entry.{Entry}
 use Rattle.report.specs.Listing.{IsListing, listing_bytes}
 
@@ -10,10 +11,8 @@ pub record Shows (functions : List AggFn) (contributions : List Contribution)
     (bytes : List ℕ) : Type 0 where
   -- the entries of each aggregation, in order
   pub listings : List (List Entry)
-  pub one_each : length listings ≡ length functions
-  pub listed : (agg : ℕ) (function : AggFn) (entries : List Entry)
-      → slice_get functions agg ≡ Some function → slice_get listings agg ≡ Some entries
-      → IsListing function agg contributions entries
+  pub listed : AllZip (λ agg entries. IsListing agg.1 agg.0 contributions entries)
+      (enumerate_from 0 functions) listings
   -- one after the other
   pub joined : bytes ≡ flat_map listing_bytes listings
 
