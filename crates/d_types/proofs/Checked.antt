@@ -19,7 +19,11 @@ use Rattle.d_types.specs.declared.typed_script.TypedScript.{TypedScript}
 use Rattle.d_types.specs.declared.words.Aggregating.{Aggregating}
 use Rattle.d_types.specs.declared.words.Callee.{Callee}
 use Rattle.d_types.specs.declared.words.Callee.TheVariants as f
-use Rattle.d_types.specs.Aggregations.{arguments_fit, function, find_from, is_again, first}
+use Rattle.d_types.specs.Aggregations.{arguments_fit, function, find_from, first}
+use Rattle.d_types.specs.Steps.Variables.{fit}
+use Rattle.d_types.specs.Steps.Aggregations.{is_again}
+use Rattle.d_types.proofs.Tables.{kinds_are, same_kinds}
+use Rattle.d_types.proofs.NewAggregations.{again_is, is_same}
 use Rattle.d_types.specs.Checking.{Known, by_rule, by_change, needs, ◌>>◌, evaluated, printed, called, KeysFit, FunctionFits, aggregated, IsChecked}
 use Rattle.d_types.specs.Checking as rules
 use Rattle.d_parser.specs.declared.tree.Constant.TheVariants as literal
@@ -38,7 +42,6 @@ use Rattle.d_types.specs.Steps.Typing.{only, expr}
 use Rattle.d_types.specs.Steps.Typing as typing
 use Rattle.d_types.specs.Typed.{Typed, Typeds, end, type_of, Action, Evaluate, Trace, Print, Aggregate, Agg, Aggs, ClauseMeant, ScriptMeant}
 use Rattle.d_types.specs.TypedScripts.{typed_script_of, IsCheckOf}
-use Rattle.d_types.specs.Variables as variables
 use Rattle.d_types.specs.Variables.{Rows, find, types_in, kinds_of_typed}
 use Rattle.d_types.specs.Words.{callee_named, aggregating_named}
 use Rattle.d_types.proofs.CheckedExpressions.{same_fault, expression_decided, whole_decided, wholes_decided, small_enough, is_small}
@@ -133,7 +136,8 @@ action_decided (tree.Assign op x keys a) rows aggs = evaluated_decided (tree.Ass
 joins_complete : (line : ℕ) (name : List ℕ) (ks : Typeds) (g : Option AggFn) (aggs : Aggs) (place : ℕ) (known : Aggs) → IsPlaceOf name ks g aggs place known →
     place_for line name ks g aggs (find_from 0 name aggs) ≡ Ok (place, known)
 joins_complete line name ks g aggs place known (inl h) = rw (h.1, h.2, h.3, h.4, h.5) refl
-joins_complete line name ks g aggs place known (inr h) = rw (h.1, h.2, h.3, h.4) refl
+joins_complete line name ks g aggs place known (inr h) =
+    rw (h.1, same_kinds h.0.keys ks h.2, is_same g h.0.function h.3, h.4) refl
 
 few_keys : (n : ℕ) → nat_le n 8 ≡ true → n ≤ 8
 few_keys n h = grind (arith, nat_tests, h)
@@ -187,33 +191,33 @@ module _ (line : ℕ) (name : List ℕ) (ks : Typeds) (g : Option AggFn) (arg : 
         | inr p ↦ let never = sym none ∙ p.2 in absurd cc
       ])
 
-  again_decided : (p : ℕ × Agg) (b : Bool) → is_again g p.1.function ≡ b → find_from 0 name aggs ≡ Some p → variables.fit p.1.keys ks ≡ true
+  again_decided : (p : ℕ × Agg) (b : Bool) → is_again g p.1.function ≡ b → find_from 0 name aggs ≡ Some p → fit p.1.keys ks ≡ true
       → Decides (needs (FunctionFits name g) (fault.AggregationRedefined line) >> by_change Joins (fault.LquantizeBounds line)) (at rows aggs)
       (answer with_both (joining (if b then Ok (p.0, aggs) else refuse cause.AggregationRedefined line)))
   again_decided p true again here fits =
       met _ _ _ _
-      (λ place a h. let there : Some p ≡ Some (place, a) = sym here ∙ h in let same : p ≡ (place, a) = cc in subst (λ (q : ℕ × Agg). is_again g q.1.function ≡ true) same again) _
+      (λ place a h. let there : Some p ≡ Some (place, a) = sym here ∙ h in let same : p ≡ (place, a) = cc in subst (λ (q : ℕ × Agg). g ≡ Some q.1.function) same (again_is g p.1.function again)) _
       (last_decided (Ok (p.0, aggs)) (rw (here, fits, again) refl) (λ h never. absurd cc))
   again_decided p false other here fits =
-      unmet _ _ _ _ (λ h. let never = sym other ∙ h p.0 p.1 here in absurd cc)
+      unmet _ _ _ _ (λ h. let never = sym other ∙ is_same g p.1.function (h p.0 p.1 here) in absurd cc)
 
-  known_decided : (p : ℕ × Agg) (b : Bool) → variables.fit p.1.keys ks ≡ b → find_from 0 name aggs ≡ Some p
+  known_decided : (p : ℕ × Agg) (b : Bool) → fit p.1.keys ks ≡ b → find_from 0 name aggs ≡ Some p
       → Decides (needs (KeysFit name ks) (fault.Keys line) >> needs (FunctionFits name g) (fault.AggregationRedefined line) >> by_change Joins (fault.LquantizeBounds line)) (at rows aggs)
       (answer with_both (joining (if b then (if is_again g p.1.function then Ok (p.0, aggs) else refuse cause.AggregationRedefined line) else refuse cause.Keys line)))
-  known_decided p true fits here = met _ _ _ _ (inr (p.0, p.1, here, fits)) _ (again_decided p (is_again g p.1.function) refl here fits)
+  known_decided p true fits here = met _ _ _ _ (inr (p.0, p.1, here, kinds_are p.1.keys ks fits)) _ (again_decided p (is_again g p.1.function) refl here fits)
   known_decided p false fits here =
       unmet _ _ _ _ (λ h. elim h [
         | inl q ↦ let never = sym here ∙ q.0 in absurd cc
         | inr q ↦
             let there : Some p ≡ Some (q.0, q.1) = sym here ∙ q.2 in
             let same : p ≡ (q.0, q.1) = cc in
-            let never : false ≡ true = sym fits ∙ ap (λ (x : ℕ × Agg). variables.fit x.1.keys ks) same ∙ q.3 in
+            let never : false ≡ true = sym fits ∙ ap (λ (x : ℕ × Agg). fit x.1.keys ks) same ∙ same_kinds q.1.keys ks q.3 in
             absurd cc
       ])
 
   place_decided : (o : Option (ℕ × Agg)) → find_from 0 name aggs ≡ o → Places o
   place_decided None none = new_decided (nat_le (count ks) 8) refl none
-  place_decided (Some p) here = known_decided p (variables.fit p.1.keys ks) refl here
+  place_decided (Some p) here = known_decided p (fit p.1.keys ks) refl here
 
 named_fails : (line : ℕ) (o : Option Aggregating) (h : Fault) → unless cause.Undeclared line o ≡ Err h → type_fault_of h ≡ fault.Undeclared line
 named_fails line None h e = ap type_fault_of (sym (same_fault cause.Undeclared line h e))

@@ -37,7 +37,8 @@ use Rattle.d_types.specs.Steps.Typing as typing
 use Rattle.d_types.specs.Targets.{space_of, type_at_once, most_keys}
 use Rattle.d_types.specs.Typed.{Typed, Typeds, end, more, type_of, Aggs}
 use Rattle.d_types.specs.Steps.Typing.{with_typed}
-use Rattle.d_types.specs.Variables.{Rows, find, type_at, keys_fit}
+use Rattle.d_types.specs.Variables.{Rows, find, type_at}
+use Rattle.d_types.specs.Steps.Variables.{keys_fit}
 use Rattle.d_types.specs.Words.{built_in, callee_named}
 use Rattle.d_types.proofs.Complete.{after, after-add, after-end, joins_complete, chooses_complete, reads_complete, targets_complete, stores_complete, steps_complete, calls_complete}
 use Rattle.d_types.proofs.Decided.{type_fault_of, at, with_rows, answer, Decides, given, refuses, follows, met, unmet, tested, of_rows, of_known}

@@ -16,6 +16,7 @@ use Rattle.d_types.specs.Words.{callee_named}
 use Rattle.d_types.specs.Typed.{Typed, Typeds, end, more, type_of}
 use Rattle.d_types.specs.Steps.Typing.{with_typed}
 use Rattle.d_types.specs.Variables.{Rows, find, type_at}
+use Rattle.d_types.proofs.Tables.{own_keys}
 use Rattle.d_types.specs.Steps.Operators.{operation_by, choice, as_type}
 use Rattle.d_types.specs.Steps.Targets.{read_variable, load_at, target, slot_for, assignment}
 use Rattle.d_types.specs.Steps.Targets.{step}
@@ -50,7 +51,7 @@ chooses_complete x y u z (inr h) = rw (h.1, h.2, h.3, h.4) refl
 
 loads_complete : (space : Space) (line : ℕ) (name : List ℕ) (rows : Rows) (ks : Typeds) (z : Typed) → IsLoad space name rows ks z →
     load_at space line rows (find space name rows) ks ≡ Ok z
-loads_complete space line name rows ks z h = rw (h.2, h.3, h.4, h.5) refl
+loads_complete space line name rows ks z h = rw (h.2, h.3, own_keys rows h.0 ks h.4, h.5) refl
 
 pub reads_complete : (rows : Rows) (x : Variable) (ks : Typeds) (z : Typed) → IsRead rows x ks z → read_variable rows x ks ≡ Ok z
 reads_complete rows (v.Plain line name) ks z h = rw (h.1, h.2, h.3) refl
@@ -60,7 +61,7 @@ reads_complete rows (v.Clause line name) ks z h = loads_complete s.Clause line n
 places_complete : (space : Space) (line : ℕ) (name : List ℕ) (rows : Rows) (t : Option DType) (ks : Typeds) (slot : ℕ) (last : Rows) →
     IsSlotOf space name rows t ks slot last → slot_for space line name rows t ks (find space name rows) ≡ Ok (slot, last)
 places_complete space line name rows t ks slot last (inl h) = rw (h.0, h.1, h.2, h.3) refl
-places_complete space line name rows t ks slot last (inr h) = rw (h.0, h.1, h.2) refl
+places_complete space line name rows t ks slot last (inr h) = rw (h.0, own_keys rows slot ks h.1, h.2) refl
 
 pub targets_complete : (rows : Rows) (x : Variable) (t : Option DType) (ks : Typeds) (slot : ℕ) (last : Rows) →
     IsTargetOf rows x t ks slot last → target rows x t ks ≡ Ok (slot, last)

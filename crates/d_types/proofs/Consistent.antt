@@ -41,7 +41,7 @@ use Rattle.d_types.specs.Targets.{new_row, settle_slot, space_of, type_at_once}
 use Rattle.d_types.specs.Typed as typed
 use Rattle.d_types.specs.Typed.{Typed, Typeds, end, more, type_of}
 use Rattle.d_types.specs.Constants.{constant}
-use Rattle.d_types.specs.Variables.{Rows, type_at, set_type}
+use Rattle.d_types.specs.Variables.{Rows, type_at, set_type, kinds_of_typed}
 use Rattle.d_types.proofs.Growing.{Grows, stays, grows_on, same_rows, push_grows, push_below}
 use Rattle.d_types.proofs.Growing.{set_grows, type_is_set, settled_grows, found_below}
 use Rattle.d_types.proofs.Growing.{consistent_on, all_on}
@@ -189,7 +189,7 @@ Has rows slot after = Grows rows after × (slot < length after)
 places_grow : (space : Space) (name : List ℕ) (rows : Rows) (t : Option DType) (keys : Typeds) (slot : ℕ) (after : Rows) →
     IsSlotOf space name rows t keys slot after → Has rows slot after
 places_grow space name rows t keys slot after (inl p) =
-    subst (Has rows slot) (sym p.3) (push_grows rows (new_row space name t keys), subst (λ n. n < length (rows ++ new_row space name t keys ∷ [])) (sym p.2) (push_below rows (new_row space name t keys)))
+    subst (Has rows slot) (sym p.3) (push_grows rows (new_row space name t (kinds_of_typed keys)), subst (λ n. n < length (rows ++ new_row space name t (kinds_of_typed keys) ∷ [])) (sym p.2) (push_below rows (new_row space name t (kinds_of_typed keys))))
 places_grow space name rows t keys slot after (inr p) =
     let grown : Grows rows (settle_slot (type_at rows slot) slot t rows) = settled_grows (type_at rows slot) slot t rows refl in
     subst (Has rows slot) (sym p.2) (grown, omega (arith, grown.1, found_below space name rows slot p.0))

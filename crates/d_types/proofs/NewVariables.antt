@@ -13,6 +13,7 @@ use Rattle.d_types.specs.Variables.{Rows}
 use Rattle.d_types.specs.Steps.Faults.{Fault, Gives, refuse, Keys}
 use Rattle.d_types.specs.Steps.Targets.{slot_for}
 use Rattle.d_types.specs.Targets.{most_keys, new_row}
+use Rattle.d_types.specs.Variables.{kinds_of_typed}
 use Rattle.d_types.proofs.Rows.{count_is}
 
 -- what the check of the keys returns
@@ -36,5 +37,5 @@ module _ (space : Space) (line : ℕ) (name : List ℕ) (rows : Rows) (holds : O
   pub slot_refused : nat_le (length keys) (most_keys space) ≡ false → slot_for space line name rows holds (typeds_of keys) o ≡ refuse Keys line
   slot_refused h = rw (none, count_is keys, h) refl
 
-  pub slot_new : nat_le (length keys) (most_keys space) ≡ true → slot_for space line name rows holds (typeds_of keys) o ≡ Ok (length rows, rows ++ new_row space name holds (typeds_of keys) ∷ [])
+  pub slot_new : nat_le (length keys) (most_keys space) ≡ true → slot_for space line name rows holds (typeds_of keys) o ≡ Ok (length rows, rows ++ new_row space name holds (kinds_of_typed (typeds_of keys)) ∷ [])
   slot_new h = rw (none, count_is keys, h) refl

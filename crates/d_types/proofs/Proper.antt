@@ -5,17 +5,16 @@ use Rattle.std.proofs.Common.{Option, Some, None, refl, sym, ap, ◌∙◌, subs
 use Rattle.std.specs.Option.{option_map}
 use Rattle.std.specs.Str.{bytes_eq}
 use Rattle.std.proofs.Math.Bool.{Bool-set}
+use mathlib.Core.List.{is_set}
+use mathlib.Core.Sum.{⊎_set}
 use Rattle.std.proofs.Math.Bridge.{le_prop}
 use Rattle.std.proofs.Math.Logic.{∥∥₁_elim}
 use Rattle.std.proofs.lemmas.Bool.Decides.{nat_tests}
 use Rattle.std.proofs.lemmas.List.Elements.{All-nil, All-cons}
 use Rattle.std.proofs.lemmas.Option.{slice_get_within}
-use denote.Enum.Bare.{sameb}
 use Rattle.d_parser.specs.Tree as tree
 use Rattle.d_parser.specs.Tree.{Tree, Trees, StmtTree, ClauseTree, ItemTree}
-use Rattle.d_values.specs.contracts.value.Kind as kind
 use Rattle.d_values.specs.declared.value.Kind.{Kind}
-use Rattle.d_values.specs.declared.value.Kind.TheVariants as k
 use Rattle.aggregations.specs.declared.function.AggFn.{AggFn}
 use Rattle.aggregations.specs.declared.function.AggFn.TheVariants as fn
 use Rattle.aggregations.specs.LinearRanges.{linear_range}
@@ -28,10 +27,8 @@ use Rattle.d_types.specs.Typed.{Typed, Typeds, end, more, type_of, Action, Evalu
 use Rattle.d_types.specs.Typed.{Exit, Aggregate, Agg, Aggs, ClauseMeant, ScriptMeant}
 use Rattle.d_types.specs.Needs.{count}
 use Rattle.d_types.specs.Variables.{Rows, kind_of_type, kinds_of_typed}
-use Rattle.d_types.specs.Variables as variables
 use Rattle.d_types.specs.Aggregations.{is_integer, arguments_fit, first, function, lquantize}
-use Rattle.d_types.specs.Aggregations.{buckets_between, whole_number, natural, find_from, same}
-use Rattle.d_types.specs.Aggregations.{is_again}
+use Rattle.d_types.specs.Aggregations.{buckets_between, whole_number, natural, find_from}
 use Rattle.d_types.specs.Scripts.{IsMeant}
 use Rattle.d_types.proofs.Bounds.{both_true}
 use Rattle.d_types.proofs.Checked.{meant_is_walked}
@@ -127,45 +124,11 @@ counted ag.Avg args h e = some_count fn.Avg h e
 counted ag.Quantize args h e = some_count fn.Quantize h e
 counted ag.Lquantize args h e = linear args h e
 
-same_count : (g h : AggFn) → same g h ≡ true → is_count h ≡ is_count g
-same_count fn.Count fn.Count e = refl
-same_count fn.Count h e = cc
-same_count fn.Sum fn.Count e = cc
-same_count fn.Sum h e = refl
-same_count fn.Min fn.Count e = cc
-same_count fn.Min h e = refl
-same_count fn.Max fn.Count e = cc
-same_count fn.Max h e = refl
-same_count fn.Avg fn.Count e = cc
-same_count fn.Avg h e = refl
-same_count fn.Quantize fn.Count e = cc
-same_count fn.Quantize h e = refl
-same_count (fn.Lquantize r) fn.Count e = cc
-same_count (fn.Lquantize r) h e = refl
-
-again_counted : (o : Option AggFn) (h : AggFn) → is_again o h ≡ true → (g : AggFn) × (o ≡ Some g) × (is_count h ≡ is_count g)
-again_counted None h e = cc
-again_counted (Some g) h e = (g, refl, same_count g h e)
-
 -- the function of a statement takes the first of its arguments
 argument_taken : (g : Aggregating) (args : Trees) (xs : Typeds) (h : AggFn) → arguments_fit g xs ≡ true → is_count h ≡ counts g → HasArgument h (first xs)
 argument_taken g args xs h e c = taken h (first xs) (subst (λ b. Takes b (first xs)) (sym c) (first_taken g xs e))
 
 -- ---- keys
-
-same_kind : (a : Kind) → sameb kind.the_type a a ≡ true
-same_kind k.Number = refl
-same_kind k.Text = refl
-
-own_kinds : (keys : Typeds) → variables.fit (kinds_of_typed keys) keys ≡ true
-own_kinds end = refl
-own_kinds (more x rest) = rw (same_kind (kind_of_type (type_of x))) (own_kinds rest)
-
-as_many : (kinds : List Kind) (keys : Typeds) → variables.fit kinds keys ≡ true → count keys ≡ length kinds
-as_many [] end e = refl
-as_many [] (more x rest) e = cc
-as_many (a ∷ kinds) end e = cc
-as_many (a ∷ kinds) (more x rest) e = let one : count rest ≡ length kinds = as_many kinds rest (both_true (sameb kind.the_type (kind_of_type (type_of x)) a) (variables.fit kinds rest) e).1 in omega (arith, one)
 
 counted_kinds : (keys : Typeds) → length (kinds_of_typed keys) ≡ count keys
 counted_kinds end = refl
@@ -270,7 +233,7 @@ joins_proper name ks g args xs aggs place known few fits (inl j) =
     let new : Agg = record { name = name; keys = kinds_of_typed ks; function = j.0 } in
     let small : count ks ≤ 8 = grind (arith, nat_tests, j.2) in
     let short : length new.keys ≤ 8 = omega (arith, counted_kinds ks, small) in
-    let suits : Suits (Some new) ks (first xs) = (own_kinds ks, small, argument_taken g args xs j.0 fits (counted g args j.0 j.3)) in
+    let suits : Suits (Some new) ks (first xs) = (refl, small, argument_taken g args xs j.0 fits (counted g args j.0 j.3)) in
     let here : slice_get (aggs ++ new ∷ []) (length aggs) ≡ Some new = at_end aggs new in
     let last : Leaves aggs (Aggregate (length aggs) ks (first xs)) (aggs ++ new ∷ []) =
     (pushed aggs new, few_pushed aggs new few short, (slice_get_within (aggs ++ new ∷ []) (length aggs) new here, subst (λ o. Suits o ks (first xs)) (sym here) suits))
@@ -279,9 +242,8 @@ joins_proper name ks g args xs aggs place known few fits (inl j) =
 joins_proper name ks g args xs aggs place known few fits (inr j) =
     let found = found_at 0 name aggs place j.0 j.1 in
     let here : slice_get aggs place ≡ Some j.0 = subst (λ n. slice_get aggs n ≡ Some j.0) (let e = found.1 in let d : found.0 ≡ place = omega (arith, e) in d) found.2 in
-    let again = again_counted (function g args) j.0.function j.3 in
-    let small : count ks ≤ 8 = omega (arith, as_many j.0.keys ks j.2, few place j.0 here) in
-    let suits : Suits (Some j.0) ks (first xs) = (j.2, small, argument_taken g args xs j.0.function fits (again.2 ∙ counted g args again.0 again.1)) in
+    let small : count ks ≤ 8 = omega (arith, counted_kinds ks, ap length j.2, few place j.0 here) in
+    let suits : Suits (Some j.0) ks (first xs) = (j.2, small, argument_taken g args xs j.0.function fits (counted g args j.0.function j.3)) in
     let last : IsProperAction aggs (Aggregate place ks (first xs)) = (slice_get_within aggs place j.0 here, subst (λ o. Suits o ks (first xs)) (sym here) suits) in
     let all = stay aggs known j.4 few in
     (all.0, all.1, action_on aggs known all.0 (Aggregate place ks (first xs)) last)
@@ -355,9 +317,12 @@ takes_prop fn.Quantize (Some x) = hlevel Bool-set
 takes_prop (fn.Lquantize r) None = hlevel
 takes_prop (fn.Lquantize r) (Some x) = hlevel Bool-set
 
+kinds_set : IsSet (List Kind)
+kinds_set = is_set (hlevel ⊎_set)
+
 suits_prop : (o : Option Agg) (keys : Typeds) (argument : Option Typed) → IsProp (Suits o keys argument)
 suits_prop None keys argument = hlevel
-suits_prop (Some a) keys argument = hlevel (Bool-set, le_prop, takes_prop)
+suits_prop (Some a) keys argument = hlevel (kinds_set, le_prop, takes_prop)
 
 action_prop : (aggs : Aggs) (a : Action) → IsProp (IsProperAction aggs a)
 action_prop aggs (Evaluate x) = hlevel

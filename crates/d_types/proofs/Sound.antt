@@ -28,7 +28,9 @@ use Rattle.d_types.specs.Words.{callee_named}
 use Rattle.d_types.specs.Typed as typed
 use Rattle.d_types.specs.Typed.{Typed, Typeds, end, more, type_of}
 use Rattle.d_types.specs.Steps.Typing.{with_typed}
-use Rattle.d_types.specs.Variables.{Rows, find, type_at, keys_fit}
+use Rattle.d_types.specs.Variables.{Rows, find, type_at}
+use Rattle.d_types.specs.Steps.Variables.{keys_fit}
+use Rattle.d_types.proofs.Tables.{keys_are}
 use Rattle.d_types.specs.Operators.{binary_sort, assign_sort, conversion_node}
 use Rattle.d_types.specs.Steps.Operators.{unary, operation_by}
 use Rattle.d_types.specs.Steps.Operators.{choice, as_type}
@@ -128,7 +130,7 @@ loads_sound : (space : Space) (line : ℕ) (name : List ℕ) (rows : Rows) (ks :
 loads_sound space line name rows ks z h =
     let p = found space line rows _ ks z h in
     let q = loaded space line p.0 _ _ ks z p.2 in
-    (p.0, q.0, p.1, q.1, q.2, q.3)
+    (p.0, q.0, p.1, q.1, keys_are rows p.0 ks q.2, q.3)
 
 plain_sound : (line : ℕ) (o : Option BuiltIn) (ks : Typeds) (z : Typed) → plain line o ks ≡ Ok z →
     (b : BuiltIn) × (o ≡ Some b) × (ks ≡ end) × (z ≡ typed.Fixed b)
@@ -158,7 +160,7 @@ places_sound_at space line name rows t ks None slot last p h =
     inl (p, q.0, q.1, q.2)
 places_sound_at space line name rows t ks (Some n) slot last p h =
     let q = allowed line _ _ _ slot _ last h in
-    inr (p ∙ ap (λ k. Some k) (sym q.1), ap (λ k. keys_fit rows k ks) q.1 ∙ q.0, q.2 ∙ ap (λ k. settle_slot (type_at rows k) k t rows) (sym q.1))
+    inr (p ∙ ap (λ k. Some k) (sym q.1), keys_are rows slot ks (ap (λ k. keys_fit rows k ks) q.1 ∙ q.0), q.2 ∙ ap (λ k. settle_slot (type_at rows k) k t rows) (sym q.1))
 
 not_plain : (line : ℕ) (name : List ℕ) (o : Option BuiltIn) (ks : Typeds) (slot : ℕ) (last : Rows) → plain_target line name o ks ≡ Ok (slot, last) → ⊥
 not_plain line name None ks slot last h = cc

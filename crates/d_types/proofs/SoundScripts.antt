@@ -24,7 +24,6 @@ use Rattle.d_types.specs.Typed.{Trace}
 use Rattle.d_types.specs.Typed.{Print, Exit, Aggregate, Agg, Aggs, ClauseMeant, ScriptMeant}
 use Rattle.d_types.specs.Needs.{need, count}
 use Rattle.d_types.specs.Variables.{Rows, find, kinds_of_typed, types_in}
-use Rattle.d_types.specs.Variables as variables
 use Rattle.d_types.specs.Steps.Formats.{pieces}
 use Rattle.d_types.specs.Formats as formats
 use Rattle.d_types.specs.Lines.{line_of}
@@ -33,7 +32,11 @@ use Rattle.d_types.specs.Steps.Statements.{wholes, trace, exit_by, exit, not_pri
 use Rattle.d_types.specs.Steps.Statements.{text_of_constant}
 use Rattle.d_types.specs.Steps.Statements.{print_by}
 use Rattle.d_types.specs.Steps.Statements.{print, evaluate, call_statement, action}
-use Rattle.d_types.specs.Aggregations.{arguments_fit, first, function, find_from, is_again}
+use Rattle.d_types.specs.Aggregations.{arguments_fit, first, function, find_from}
+use Rattle.d_types.specs.Steps.Variables.{fit}
+use Rattle.d_types.specs.Steps.Aggregations.{is_again}
+use Rattle.d_types.proofs.Tables.{kinds_are}
+use Rattle.d_types.proofs.NewAggregations.{again_is}
 use Rattle.d_types.specs.Steps.Aggregations.{new_aggregation, place_for, aggregate}
 use Rattle.d_types.specs.Steps.Scripts.{declare, declaration, test_of, predicate, statement}
 use Rattle.d_types.specs.Steps.Scripts.{statements}
@@ -155,14 +158,14 @@ joins_sound line name ks g aggs None r e h = fresh (nat_le (count ks) 8) refl h
         let q = bound (unless LquantizeBounds line g) _ _ k in
         let same = ok_is _ _ q.2 in
         subst (λ (y : ℕ × Aggs). IsPlaceOf name ks g aggs y.0 y.1) same (inl (q.0, e, d, is_some_of LquantizeBounds line g q.0 q.1, refl, refl))
-joins_sound line name ks g aggs (Some p) r e h = again (variables.fit p.1.keys ks) refl h
+joins_sound line name ks g aggs (Some p) r e h = again (fit p.1.keys ks) refl h
   where
-    again : (b : Bool) → variables.fit p.1.keys ks ≡ b →
+    again : (b : Bool) → fit p.1.keys ks ≡ b →
         (if b then (if is_again g p.1.function then Ok (p.0, aggs) else refuse AggregationRedefined line) else refuse Keys line) ≡ Ok r → IsPlaceOf name ks g aggs r.0 r.1
     again false d k = cc
     again true d k =
         let w = within AggregationRedefined line (is_again g p.1.function) (p.0, aggs) r k in
-        subst (λ (y : ℕ × Aggs). IsPlaceOf name ks g aggs y.0 y.1) w.1 (inr (p.1, e, d, w.0, refl))
+        subst (λ (y : ℕ × Aggs). IsPlaceOf name ks g aggs y.0 y.1) w.1 (inr (p.1, e, kinds_are p.1.keys ks d, again_is g p.1.function w.0, refl))
 
 joined_sound : (b : Bool) (line : ℕ) (keys args : Typeds) (place : Result (ℕ × Aggs) Fault) (rows : Rows) (r : Action × (Rows × Aggs)) →
     (if b then (place >>= λ a. Ok (Aggregate a.0 keys (first args), (rows, a.1))) else refuse Mismatch line) ≡ Ok r →

@@ -1,8 +1,8 @@
 -- Aggregating functions: their bounds, what they take, and when one is known.
 -- Source: Dynamic Tracing Guide, "Aggregations".
-use Rattle.std.specs.Prelude.{ℕ, ◌+◌, ◌==◌, ◌&&◌, nat_le, Bool, true, false, if◌then◌else◌, List}
+use Rattle.std.specs.Prelude.{ℕ, ◌+◌, ◌&&◌, nat_le, Bool, true, false, if◌then◌else◌, List}
 use Rattle.std.specs.Prelude.{[], ◌∷◌, Option, Some, None, ℤ, pos, neg_ℤ}
-use Rattle.d_types.specs.Vocabulary.{bytes_eq, int_eq, option_map, Int, Text, linear_range}
+use Rattle.d_types.specs.Vocabulary.{bytes_eq, option_map, Int, Text, linear_range}
 use Rattle.d_types.specs.Vocabulary.{UnaryOperator, Constant, Tree, Trees, DType, AggFn}
 use Rattle.d_types.specs.Vocabulary.{Aggregating}
 use Rattle.d_types.specs.Typed.{Typed, Typeds, end, more, type_of, Agg, Aggs}
@@ -75,20 +75,3 @@ abbrev pub find_from : ℕ → List ℕ → Aggs → Option (ℕ × Agg)
 find_from n name [] = None
 find_from n name (a ∷ rest) =
     if bytes_eq a.name name then Some (n, a) else find_from (n + 1) name rest
-
--- the same function, with the same bounds and step
-abbrev pub same : AggFn → AggFn → Bool
-same AggFn.Count AggFn.Count = true
-same AggFn.Sum AggFn.Sum = true
-same AggFn.Min AggFn.Min = true
-same AggFn.Max AggFn.Max = true
-same AggFn.Avg AggFn.Avg = true
-same AggFn.Quantize AggFn.Quantize = true
-same (AggFn.Lquantize a) (AggFn.Lquantize b) =
-    int_eq a.lower b.lower && int_eq a.upper b.upper && (a.step == b.step)
-same f g = false
-
--- bounds out of range are other bounds than all known ones
-abbrev pub is_again : Option AggFn → AggFn → Bool
-is_again None g = false
-is_again (Some f) g = same f g

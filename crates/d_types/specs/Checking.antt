@@ -8,19 +8,18 @@ use Rattle.d_types.specs.Vocabulary.{Int, Step, Tree, Trees, DType, INT64, Answe
 use Rattle.d_types.specs.Vocabulary.{TypeFault, IntType, AggFn, Piece, Space, MOST_KEYS}
 use Rattle.d_types.specs.Vocabulary.{DeclarationTree, StmtTree, ItemTree, ClauseTree, DeclaredType}
 use Rattle.d_types.specs.Vocabulary.{REGISTERS, promoted_of, Constant}
-use Rattle.d_types.specs.Variables as variables
 use Rattle.d_types.specs.Formats as formats
 use Rattle.d_types.specs.Typed.{Typed, Typeds, end, more, Agg, Aggs, Action, ClauseMeant}
 use Rattle.d_types.specs.Typed.{ScriptMeant, Evaluate, Trace, Print, Exit, Aggregate}
-use Rattle.d_types.specs.Variables.{Rows, find, type_at, types_in}
+use Rattle.d_types.specs.Variables.{Rows, find, type_at, types_in, kinds_of_typed}
 use Rattle.d_types.specs.Words.{built_in, callee_named, aggregating_named}
-use Rattle.d_types.specs.Targets.{space_of, type_at_once}
+use Rattle.d_types.specs.Targets.{space_of, type_at_once, new_row}
 use Rattle.d_types.specs.Operators.{binary_sort, assign_sort, conversion_node}
 use Rattle.d_types.specs.Lines.{line_of_variable, line_of}
 use Rattle.d_types.specs.Constants.{constant, declared_kinds}
 use Rattle.d_types.specs.{Needs.count, Needs.need, Constants.int_type, Constants.declared_type}
 use Rattle.d_types.specs.{Spelling.SpellsFormat}
-use Rattle.d_types.specs.Aggregations.{arguments_fit, function, find_from, is_again, first}
+use Rattle.d_types.specs.Aggregations.{arguments_fit, function, find_from, first}
 use Rattle.d_types.specs.Rules.{IsInteger, IsOperation, IsChoice, IsRead, IsTargetOf, IsAssignment}
 use Rattle.d_types.specs.Rules.{IsStep, IsCall, IsPlaceOf}
 
@@ -208,13 +207,13 @@ abbrev pub KeysFit : List ℕ → Typeds → Known → Type 0
 KeysFit name keys known =
     ((find_from 0 name known.aggs ≡ None) × (count keys ≤ MOST_KEYS))
     ⊎ ((place : ℕ) × (a : Agg) × (find_from 0 name known.aggs ≡ Some (place, a))
-    × (variables.fit a.keys keys ≡ true))
+    × (a.keys ≡ kinds_of_typed keys))
 
 -- a known aggregation has this function
 abbrev pub FunctionFits : List ℕ → Option AggFn → Known → Type 0
 FunctionFits name g known =
     (place : ℕ) (a : Agg) → find_from 0 name known.aggs ≡ Some (place, a)
-    → is_again g a.function ≡ true
+    → g ≡ Some a.function
 
 abbrev pub aggregated : ℕ → List ℕ → Trees → List ℕ → Trees → Checked Action
 aggregated line name keys word args = do
@@ -264,12 +263,8 @@ abbrev pub declared : Space → ℕ → List ℕ → DeclaredType → List Decla
 declared space line name t keys = do
   needs (λ known. find space name known.rows ≡ None) (TypeFault.Mismatch line)
   by_change (λ known u after. (length keys ≤ MOST_KEYS) × (after.aggs ≡ known.aggs)
-      × (after.rows ≡ known.rows ++ record {
-        space = space;
-        word = name;
-        keys = declared_kinds keys;
-        holds = Some (declared_type t);
-      } ∷ []))
+      × (after.rows ≡ known.rows
+      ++ new_row space name (Some (declared_type t)) (declared_kinds keys) ∷ []))
       (TypeFault.Keys line)
 
 abbrev pub declaration : DeclarationTree → Checked (Unit {0})

@@ -2,7 +2,7 @@
 -- places and counts.
 use Rattle.std.specs.Prelude.{◌≡◌, ◌<◌, ◌≤◌, true, length, slice_get, All, Option, Some, None}
 use Rattle.d_types.specs.Vocabulary.{AggFn, MOST_KEYS}
-use Rattle.d_types.specs.Variables as variables
+use Rattle.d_types.specs.Variables.{kinds_of_typed}
 use Rattle.d_types.specs.Formats as formats
 use Rattle.d_types.specs.Typed.{Typed, Typeds, type_of, Action, Evaluate, Trace, Print, Exit}
 use Rattle.d_types.specs.Typed.{Aggregate, Agg, Aggs, ClauseMeant, ScriptMeant}
@@ -22,7 +22,7 @@ HasArgument function (Some x) = IsInteger x
 abbrev pub Suits : Option Agg → Typeds → Option Typed → Type 0
 Suits None keys argument = ⊥
 Suits (Some a) keys argument =
-    (variables.fit a.keys keys ≡ true) × (count keys ≤ MOST_KEYS)
+    (a.keys ≡ kinds_of_typed keys) × (count keys ≤ MOST_KEYS)
     × HasArgument a.function argument
 
 -- each part is of the kind that its place asks for, and an aggregation is one of the script's

@@ -7,13 +7,12 @@ use Rattle.d_types.specs.Vocabulary.{Int, Text, Step, IntType, DType, promoted_o
 use Rattle.d_types.specs.Vocabulary.{Answer, BuiltIn, Space, Operation, BinarySort, AssignSort}
 use Rattle.d_types.specs.Vocabulary.{Callee, AggFn, MOST_KEYS}
 use Rattle.d_types.specs.Typed.{Typed, Typeds, end, more, type_of, Agg, Aggs}
-use Rattle.d_types.specs.Variables.{Rows, find, type_at, keys_fit, set_type, kinds_of_typed}
+use Rattle.d_types.specs.Variables.{Rows, find, type_at, keys_at, set_type, kinds_of_typed}
 use Rattle.d_types.specs.Needs.{count}
 use Rattle.d_types.specs.Words.{built_in, callee_named}
 use Rattle.d_types.specs.Operators.{conversion_node}
 use Rattle.d_types.specs.Targets.{most_keys, new_row, settle_slot}
-use Rattle.d_types.specs.Aggregations.{find_from, is_again}
-use Rattle.d_types.specs.Variables as variables
+use Rattle.d_types.specs.Aggregations.{find_from}
 
 abbrev pub IsInteger : Typed → IntType → Type 0
 IsInteger x t = type_of x ≡ Int t
@@ -57,7 +56,7 @@ IsChoice x y w z =
 abbrev pub IsLoad : Space → List ℕ → Rows → Typeds → Typed → Type 0
 IsLoad space name rows keys z =
     (slot : ℕ) × (t : DType) × (find space name rows ≡ Some slot) × (type_at rows slot ≡ Some t)
-    × (keys_fit rows slot keys ≡ true)
+    × (keys_at rows slot ≡ Some (kinds_of_typed keys))
     × (z ≡ Typed.Read (record { space = space; slot = slot; holds = t }) keys)
 
 abbrev pub IsRead : Rows → Variable → Typeds → Typed → Type 0
@@ -73,8 +72,8 @@ abbrev pub IsSlotOf : Space → List ℕ → Rows → Option DType → Typeds �
 IsSlotOf space name rows t keys slot after =
     ((find space name rows ≡ None) × (nat_le (count keys) (most_keys space) ≡ true)
     × (slot ≡ length rows)
-    × (after ≡ rows ++ new_row space name t keys ∷ []))
-    ⊎ ((find space name rows ≡ Some slot) × (keys_fit rows slot keys ≡ true)
+    × (after ≡ rows ++ new_row space name t (kinds_of_typed keys) ∷ []))
+    ⊎ ((find space name rows ≡ Some slot) × (keys_at rows slot ≡ Some (kinds_of_typed keys))
     × (after ≡ settle_slot (type_at rows slot) slot t rows))
 
 -- only variables of threads and of clauses are assigned
@@ -134,5 +133,4 @@ IsPlaceOf name ks g aggs place after =
     × (g ≡ Some h) × (place ≡ length aggs)
     × (after ≡ aggs ++ record { name = name; keys = kinds_of_typed ks; function = h } ∷ []))
     ⊎ ((known : Agg) × (find_from 0 name aggs ≡ Some (place, known))
-    × (variables.fit known.keys ks ≡ true)
-    × (is_again g known.function ≡ true) × (after ≡ aggs))
+    × (known.keys ≡ kinds_of_typed ks) × (g ≡ Some known.function) × (after ≡ aggs))

@@ -2,9 +2,8 @@
 -- Source: Dynamic Tracing Guide, "Variables".
 use Rattle.std.specs.Prelude.{ℕ, List, Option, Some, None}
 use Rattle.d_parser.specs.declared.tree.Variable.{Variable}
-use Rattle.d_types.specs.Vocabulary.{Int, DType, INT64, Space, MOST_KEYS, AssignSort}
-use Rattle.d_types.specs.Variables.{Row, Rows, set_type, kinds_of_typed}
-use Rattle.d_types.specs.Typed.{Typeds}
+use Rattle.d_types.specs.Vocabulary.{Int, DType, INT64, Kind, Space, MOST_KEYS, AssignSort}
+use Rattle.d_types.specs.Variables.{Row, Rows, set_type}
 
 -- ---- variables that are assigned
 
@@ -17,9 +16,8 @@ abbrev pub settle_slot : Option DType → ℕ → Option DType → Rows → Rows
 settle_slot None slot (Some t) rows = set_type slot t rows
 settle_slot _ slot _ rows = rows
 
-abbrev pub new_row : Space → List ℕ → Option DType → Typeds → Row
-new_row space name t keys =
-    record { space = space; word = name; keys = kinds_of_typed keys; holds = t }
+abbrev pub new_row : Space → List ℕ → Option DType → List Kind → Row
+new_row space name t kinds = record { space = space; word = name; keys = kinds; holds = t }
 
 -- where a target is kept (a plain word never is)
 abbrev pub space_of : Variable → Space

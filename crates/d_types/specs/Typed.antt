@@ -67,11 +67,7 @@ type_of_built_in BuiltIn.Timestamp = DType.Int UINT64
 type_of_built_in BuiltIn.Cpu = DType.Int INT32
 type_of_built_in BuiltIn.Pid = DType.Int INT32
 type_of_built_in BuiltIn.Tid = DType.Int INT32
-type_of_built_in BuiltIn.Execname = DType.Text
-type_of_built_in BuiltIn.Probeprov = DType.Text
-type_of_built_in BuiltIn.Probemod = DType.Text
-type_of_built_in BuiltIn.Probefunc = DType.Text
-type_of_built_in BuiltIn.Probename = DType.Text
+type_of_built_in text = DType.Text
 
 abbrev pub type_of_unary : UnaryOperator → IntType → DType
 type_of_unary UnaryOperator.Not t = DType.Int INT32

@@ -1,12 +1,11 @@
 -- The table of variables.
 -- Source: Dynamic Tracing Guide, "Variables".
-use Rattle.std.specs.Prelude.{ℕ, zero, suc, Bool, true, false, ◌&&◌, List, [], ◌∷◌, map, Option}
-use Rattle.std.specs.Prelude.{Some, None}
+use Rattle.std.specs.Prelude.{ℕ, zero, suc, Bool, ◌&&◌, List, [], ◌∷◌, map, slice_get, Option, Some}
+use Rattle.std.specs.Prelude.{option_map, option_and_then}
 use Rattle.std.specs.List.{position_from}
 use denote.Enum.Bare.{sameb}
 use Rattle.d_types.specs.Vocabulary.{bytes_eq, Kind, DType, Space}
 use Rattle.d_types.specs.contracts.typed.Space as space
-use Rattle.d_values.specs.contracts.value.Kind as kind
 use Rattle.d_types.specs.Typed.{Typeds, end, more, type_of}
 
 -- a variable; its keys are known before its type
@@ -31,22 +30,13 @@ names_row s w r = sameb space.the_type r.space s && bytes_eq r.word w
 abbrev pub find : Space → List ℕ → Rows → Option ℕ
 find s w rows = position_from (names_row s w) 0 rows
 
+-- the kinds of its keys
+abbrev pub keys_at : Rows → ℕ → Option (List Kind)
+keys_at rows slot = option_map (λ r. r.keys) (slice_get rows slot)
+
 -- its type, once it is known
 abbrev pub type_at : Rows → ℕ → Option DType
-type_at [] n = None
-type_at (r ∷ rs) zero = r.holds
-type_at (r ∷ rs) (suc n) = type_at rs n
-
--- keys of these kinds
-abbrev pub fit : List Kind → Typeds → Bool
-fit [] end = true
-fit (x ∷ kinds) (more y keys) = sameb kind.the_type (kind_of_type (type_of y)) x && fit kinds keys
-fit kinds keys = false
-
-abbrev pub keys_fit : Rows → ℕ → Typeds → Bool
-keys_fit [] n keys = false
-keys_fit (r ∷ rs) zero keys = fit r.keys keys
-keys_fit (r ∷ rs) (suc n) keys = keys_fit rs n keys
+type_at rows slot = option_and_then (λ r. r.holds) (slice_get rows slot)
 
 -- the types of all of them
 abbrev pub types_in : Rows → List (Option DType)

@@ -183,7 +183,7 @@ fn arguments_fit(aggregating: Aggregating, args: &[TypedExpr]) -> bool
 }
 
 fn is_again(function: Option<AggFn>, known: AggFn) -> bool
-    ensures { result ≡ spec.is_again function known }
+    ensures { result ≡ steps.is_again function known }
 {
     match function {
         Some(function) => function == known,

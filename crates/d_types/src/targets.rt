@@ -4,7 +4,7 @@ ghost use Rattle.std.specs.Prelude.{◌≡◌, ◌++◌, ◌∷◌, [], IfOk, On
 ghost use Rattle.std.specs.Prelude.{if◌then◌else◌};
 ghost use Rattle.d_types.specs.Steps.Faults.{Gives, OnlyMemory};
 ghost use Rattle.d_types.specs.Typed.{typed_of, typeds_of, Typed};
-ghost use Rattle.d_types.specs.Variables.{Rows, find, type_at};
+ghost use Rattle.d_types.specs.Variables.{Rows, find, type_at, kinds_of_typed};
 ghost use Rattle.d_types.specs.Steps.Variables.{rows_of_entries};
 ghost use Rattle.d_types.specs.Targets as spec;
 ghost use Rattle.d_types.specs.Steps.Targets as steps;
@@ -213,8 +213,8 @@ fn add_entry(
 ) -> Result<usize, TypeFault>
     ensures slot { IfOk result (λ slot. slot ≡ length (rows_of_entries table.old.items)) }
     ensures added { OnOk result (rows_of_entries table.new.items ≡ rows_of_entries table.old.items
-        ++ spec.new_row variable.entry.space variable.entry.name.now holds (typeds_of keys.now)
-        ∷ []) }
+        ++ spec.new_row variable.entry.space variable.entry.name.now holds
+        (kinds_of_typed (typeds_of keys.now)) ∷ []) }
     ensures err { OnlyMemory result }
 {
     let slot = table.len();

@@ -69,7 +69,7 @@ pub(crate) fn type_at(table: &[Entry], slot: usize) -> Option<DType>
 
 /// Whether the keys are of the kinds.
 pub(crate) fn fit(kinds: &[Kind], keys: &[TypedExpr]) -> bool
-    ensures { result ≡ spec.fit kinds.now (typeds_of keys.now) }
+    ensures { result ≡ steps.fit kinds.now (typeds_of keys.now) }
 {
     match kinds {
         [] => match keys {
@@ -87,7 +87,7 @@ pub(crate) fn fit(kinds: &[Kind], keys: &[TypedExpr]) -> bool
 /// Whether a slot has keys of these kinds.
 #[tactic(auto, using(crate::proofs::Tables::keys_fit_within, crate::proofs::Tables::keys_fit_past))]
 pub(crate) fn keys_fit(table: &[Entry], slot: usize, keys: &[TypedExpr]) -> bool
-    ensures { result ≡ spec.keys_fit (rows_of_entries table.now) slot (typeds_of keys.now) }
+    ensures { result ≡ steps.keys_fit (rows_of_entries table.now) slot (typeds_of keys.now) }
 {
     slot < table.len() && fit(&table[slot].keys, keys)
 }

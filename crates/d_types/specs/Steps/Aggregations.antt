@@ -1,16 +1,17 @@
 -- The typed tree of an aggregation statement, or its first fault, as the code finds it.
-use Rattle.std.specs.Prelude.{ℕ, nat_le, if◌then◌else◌, List, [], ◌∷◌, ◌++◌, length, Option, Some}
+use Rattle.std.specs.Prelude.{ℕ, nat_le, ◌==◌, ◌&&◌, Bool, true, false, if◌then◌else◌, List, [], ◌∷◌, ◌++◌, length, Option, Some}
 use Rattle.std.specs.Prelude.{None, Result, Ok, ℤ, pos, neg_ℤ}
-use Rattle.d_types.specs.Vocabulary.{UnaryOperator, Tree, Trees, AggFn, MOST_KEYS, MOST_STEP}
+use Rattle.d_types.specs.Vocabulary.{int_eq, UnaryOperator, Tree, Trees, AggFn, MOST_KEYS, MOST_STEP}
 use Rattle.d_types.specs.Steps.Faults.{Fault, ◌>>=◌, refuse, unless, Undeclared, Mismatch, Keys}
 use Rattle.d_types.specs.Steps.Faults.{AggregationRedefined, LquantizeBounds}
 use Rattle.d_types.specs.Typed.{Typeds, end, Action, Aggregate, Agg, Aggs}
-use Rattle.d_types.specs.Variables.{Rows, kinds_of_typed, fit}
+use Rattle.d_types.specs.Variables.{Rows, kinds_of_typed}
+use Rattle.d_types.specs.Steps.Variables.{fit}
 use Rattle.d_types.specs.Words.{aggregating_named}
 use Rattle.d_types.specs.Needs.{count}
 use Rattle.d_types.specs.Steps.Statements.{wholes}
 use Rattle.d_types.specs.Aggregations.{natural, buckets_between, function, arguments_fit, first}
-use Rattle.d_types.specs.Aggregations.{find_from, is_again}
+use Rattle.d_types.specs.Aggregations.{find_from}
 
 -- ---- bounds and steps in the code's integers
 
@@ -39,6 +40,22 @@ lquantize_by_bounds (Trees.more e (Trees.more lower (Trees.more upper (Trees.mor
 lquantize_by_bounds args = None
 
 -- ---- the aggregation
+
+abbrev pub same : AggFn → AggFn → Bool
+same AggFn.Count AggFn.Count = true
+same AggFn.Sum AggFn.Sum = true
+same AggFn.Min AggFn.Min = true
+same AggFn.Max AggFn.Max = true
+same AggFn.Avg AggFn.Avg = true
+same AggFn.Quantize AggFn.Quantize = true
+same (AggFn.Lquantize a) (AggFn.Lquantize b) =
+    int_eq a.lower b.lower && int_eq a.upper b.upper && (a.step == b.step)
+same f g = false
+
+-- the function is there, and the same
+abbrev pub is_again : Option AggFn → AggFn → Bool
+is_again None g = false
+is_again (Some f) g = same f g
 
 abbrev pub new_aggregation : List ℕ → Typeds → Aggs → AggFn → Result (ℕ × Aggs) Fault
 new_aggregation name keys aggs f =

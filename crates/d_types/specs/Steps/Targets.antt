@@ -5,7 +5,8 @@ use Rattle.d_parser.specs.declared.tree.Variable.{Variable}
 use Rattle.d_types.specs.Vocabulary.{Int, Step, IntType, DType, promoted_of, common_of, Answer}
 use Rattle.d_types.specs.Vocabulary.{BuiltIn, Space, Operation, AssignSort}
 use Rattle.d_types.specs.Steps.Faults.{Fault, refuse, GlobalAssignment, Undeclared, Keys, ReadOnly}
-use Rattle.d_types.specs.Variables.{Rows, find, type_at, keys_fit, set_type}
+use Rattle.d_types.specs.Variables.{Rows, find, type_at, set_type, kinds_of_typed}
+use Rattle.d_types.specs.Steps.Variables.{keys_fit}
 use Rattle.d_types.specs.Needs.{count}
 use Rattle.d_types.specs.Words.{built_in}
 use Rattle.d_types.specs.Typed.{Typed, Typeds, end, more, type_of}
@@ -50,7 +51,7 @@ abbrev pub slot_for : Space → ℕ → List ℕ → Rows → Option DType → T
     → Result (ℕ × Rows) Fault
 slot_for space line name rows t keys None =
     if nat_le (count keys) (most_keys space)
-    then Ok (length rows, rows ++ new_row space name t keys ∷ [])
+    then Ok (length rows, rows ++ new_row space name t (kinds_of_typed keys) ∷ [])
     else refuse Keys line
 slot_for space line name rows t keys (Some slot) =
     if keys_fit rows slot keys then Ok (slot, settle_slot (type_at rows slot) slot t rows)
