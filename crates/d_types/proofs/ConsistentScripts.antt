@@ -23,7 +23,8 @@ use Rattle.d_types.proofs.Checked.{meant_is_walked}
 use Rattle.d_types.proofs.WellTyped.{AllTypes}
 use Rattle.d_types.specs.Typed.{Typed, Typeds, end, more, Action, Evaluate, Trace, Print, Exit}
 use Rattle.d_types.specs.Typed.{Aggregate, Aggs, ClauseMeant, ScriptMeant}
-use Rattle.d_types.specs.Variables.{Rows, type_at, types_in}
+use Rattle.d_types.specs.Variables.{Rows, type_at}
+use Rattle.d_types.specs.Steps.Variables.{types_in}
 use Rattle.d_types.proofs.WellTyped.{Evaluates, Prints, Acts, Stands, Declares, DeclaresRow, Tests}
 use Rattle.d_types.proofs.WellTyped.{Does, AllDo, Probes, AllItems, IsWell}
 use Rattle.d_types.specs.Words.{callee_named}

@@ -18,7 +18,8 @@ use Rattle.d_types.specs.Steps.Typing.{with_typed}
 use Rattle.d_types.specs.Typed.{Print, Exit}
 use Rattle.d_types.specs.Typed.{Aggregate, Aggs, ClauseMeant, ScriptMeant}
 use Rattle.d_types.specs.Needs.{need}
-use Rattle.d_types.specs.Variables.{Rows, types_in}
+use Rattle.d_types.specs.Variables.{Rows}
+use Rattle.d_types.specs.Steps.Variables.{types_in}
 use Rattle.d_types.specs.Steps.Formats.{pieces}
 use Rattle.d_types.specs.Formats.{fit}
 use Rattle.d_types.specs.Lines.{line_of}

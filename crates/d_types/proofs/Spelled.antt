@@ -17,8 +17,12 @@ use Rattle.d_types.specs.declared.format.Place.{Place}
 use Rattle.d_types.specs.declared.format.Place.TheVariants as at
 use Rattle.d_parser.specs.Script.{is_ascii_digit}
 use Rattle.d_types.specs.Steps.Formats.{no_flags, pieces_from, pieces}
-use Rattle.d_types.specs.Spelling.{IsOneOf, has_byte, AreFlags, width_text, lengths, letters}
+use Rattle.std.specs.{Prelude.codes, List.AllByRecursion, Char.char_set_contains}
+use Rattle.d_types.specs.Spelling.{IsOneOf, width_text, lengths, letters}
 use Rattle.d_types.specs.Spelling.{IsConversion, SpellsPiece, SpellsFormat}
+
+abbrev pub AreFlags : List ℕ → Type 0
+AreFlags flags = AllByRecursion (λ f. IsOneOf f (codes "-0")) flags
 
 -- ---- the digits of a width
 
@@ -150,17 +154,17 @@ width_then_end done f (suc n) size rest l k none small sized lettered =
 -- ---- flags
 
 abbrev pub with_flags : Flags → List ℕ → Flags
-with_flags f flags = record { left = has_byte 45 flags || f.left; zeros = has_byte 48 flags || f.zeros; width = f.width }
+with_flags f flags = record { left = char_set_contains flags 45 || f.left; zeros = char_set_contains flags 48 || f.zeros; width = f.width }
 
 flags_read : (done : List Piece) (f : Flags) (flags body rest : List ℕ) → AreFlags flags →
     pieces_from done (at.Flagged f) ((flags ++ body) ++ rest) ≡ pieces_from done (at.Flagged (with_flags f flags)) (body ++ rest)
 flags_read done f [] body rest all = refl
 flags_read done f (b ∷ flags) body rest (inl e, all) =
     rw e (flags_read done (record { left = true; zeros = f.zeros; width = f.width }) flags body rest all
-    ∙ ap (λ left. pieces_from done (at.Flagged (record { left = left; zeros = has_byte 48 flags || f.zeros; width = f.width })) (body ++ rest)) (or-true (has_byte 45 flags)))
+    ∙ ap (λ left. pieces_from done (at.Flagged (record { left = left; zeros = char_set_contains flags 48 || f.zeros; width = f.width })) (body ++ rest)) (or-true (char_set_contains flags 45)))
 flags_read done f (b ∷ flags) body rest (inr (inl e), all) =
     rw e (flags_read done (record { left = f.left; zeros = true; width = f.width }) flags body rest all
-    ∙ ap (λ zeros. pieces_from done (at.Flagged (record { left = has_byte 45 flags || f.left; zeros = zeros; width = f.width })) (body ++ rest)) (or-true (has_byte 48 flags)))
+    ∙ ap (λ zeros. pieces_from done (at.Flagged (record { left = char_set_contains flags 45 || f.left; zeros = zeros; width = f.width })) (body ++ rest)) (or-true (char_set_contains flags 48)))
 flags_read done f (b ∷ flags) body rest (inr (inr none), all) = absurd none
 
 -- the first flag follows the percent sign
@@ -171,7 +175,7 @@ first_flag_read done b bs (inr (inr none)) = absurd none
 
 -- the conversion that the flags begin
 abbrev with_both : List ℕ → ℕ → Letter → Piece
-with_both flags w k = piece.Argument (record { left = has_byte 45 flags || false; zeros = has_byte 48 flags || false; width = w; letter = k })
+with_both flags w k = piece.Argument (record { left = char_set_contains flags 45 || false; zeros = char_set_contains flags 48 || false; width = w; letter = k })
 
 opened_read : (done : List Piece) (flags size rest : List ℕ) (w l : ℕ) (k : Letter) → AreFlags flags → w ≤ 255 → IsOneOf size lengths → IsOneOf l (letters k) →
     Reads done at.Opened (flags ++ (width_text w ++ (size ++ l ∷ []))) (with_both flags w k) rest
@@ -186,7 +190,7 @@ opened_read done (b ∷ flags) size rest w l k all small sized lettered =
 
 conversion_read : (done : List Piece) (c : Conversion) (text rest : List ℕ) → IsConversion c text → Reads done at.Outside text (piece.Argument c) rest
 conversion_read done c text rest h =
-    let same : with_both h.0 c.width c.letter ≡ piece.Argument c = rw (or-false (has_byte 45 h.0), or-false (has_byte 48 h.0), ← h.4, ← h.5) refl in
+    let same : with_both h.0 c.width c.letter ≡ piece.Argument c = rw (or-false (char_set_contains h.0 45), or-false (char_set_contains h.0 48), ← h.4, ← h.5) refl in
     rw h.9 (opened_read done h.0 h.1 rest c.width h.2 c.letter h.3 h.6 h.7 h.8 ∙ ap (λ p. pieces_from (done ++ p ∷ []) at.Outside rest) same)
 
 byte_read : (done : List Piece) (b : ℕ) (rest : List ℕ) (t : Bool) → (b == 37) ≡ t → Reads done at.Outside (if t then 37 ∷ 37 ∷ [] else b ∷ []) (piece.Byte b) rest

@@ -18,11 +18,12 @@ use Rattle.d_types.specs.Steps.Formats.{goes, ends, letter_of, with_letter, at_l
 use Rattle.d_parser.specs.Script.{is_ascii_digit}
 use Rattle.d_types.specs.Steps.Formats.{at_width, at_flags, no_flags, turn, with_piece}
 use Rattle.d_types.specs.Steps.Formats.{is_outside, pieces_at_end, option_then, pieces_from, pieces}
-use Rattle.d_types.specs.Spelling.{IsOneOf, has_byte, AreFlags, width_text, lengths, letters}
+use Rattle.std.specs.Char.{char_set_contains}
+use Rattle.d_types.specs.Spelling.{IsOneOf, width_text, lengths, letters}
 use Rattle.d_types.specs.Spelling.{SpellsPiece}
 use Rattle.d_types.specs.Spelling.{SpellsFormat}
 use Rattle.d_types.proofs.Bounds.{both_true}
-use Rattle.d_types.proofs.Spelled.{AllDecimal, value_after, numerals, not_less, argument}
+use Rattle.d_types.proofs.Spelled.{AreFlags, AllDecimal, value_after, numerals, not_less, argument}
 use Rattle.d_types.proofs.Spelled.{with_width}
 
 -- ---- tests
@@ -50,7 +51,7 @@ WithDigits f p text =
 abbrev WithFlags : Flags → Piece → List ℕ → Type 0
 WithFlags f p text =
     (flags : List ℕ) × (w : ℕ) × (tail : List ℕ) × AreFlags flags × (w ≤ 255)
-    × Closes (record { left = has_byte 45 flags || f.left; zeros = has_byte 48 flags || f.zeros; width = w }) p tail × (text ≡ flags ++ (width_text w ++ tail))
+    × Closes (record { left = char_set_contains flags 45 || f.left; zeros = char_set_contains flags 48 || f.zeros; width = w }) p tail × (text ≡ flags ++ (width_text w ++ tail))
 
 -- the text that ends the piece
 abbrev Ends : Place → Piece → List ℕ → Type 0
@@ -202,7 +203,7 @@ flags_step f b q o none h =
             w.2,
             (inl refl, w.3),
             w.4,
-            subst (λ left. Closes (record { left = left; zeros = has_byte 48 w.0 || f.zeros; width = w.1 }) p w.2) (or-true (has_byte 45 w.0)) w.5,
+            subst (λ left. Closes (record { left = left; zeros = char_set_contains w.0 48 || f.zeros; width = w.1 }) p w.2) (or-true (char_set_contains w.0 45)) w.5,
             ap (λ rest. 45 ∷ rest) w.6,
           )) e.1
       | inr n ↦ elim (either (b == 48) _ _ _ n.1) [
@@ -213,7 +214,7 @@ flags_step f b q o none h =
               w.2,
               (inr (inl refl), w.3),
               w.4,
-              subst (λ zeros. Closes (record { left = has_byte 45 w.0 || f.left; zeros = zeros; width = w.1 }) p w.2) (or-true (has_byte 48 w.0)) w.5,
+              subst (λ zeros. Closes (record { left = char_set_contains w.0 45 || f.left; zeros = zeros; width = w.1 }) p w.2) (or-true (char_set_contains w.0 48)) w.5,
               ap (λ rest. 48 ∷ rest) w.6,
             )) e.1
         | inr m ↦ steps_as (WithDigits f) (WithFlags f) b q o
@@ -240,8 +241,8 @@ percent_piece p text (inr h) =
       h.5.0,
       h.5.1,
       h.3,
-      or-false (has_byte 45 h.0),
-      or-false (has_byte 48 h.0),
+      or-false (char_set_contains h.0 45),
+      or-false (char_set_contains h.0 48),
       h.4,
       h.5.3,
       h.5.4,

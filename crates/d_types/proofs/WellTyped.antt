@@ -5,7 +5,8 @@ use Rattle.d_types.specs.Vocabulary.{Callee, DeclaredType, DeclarationTree, Stmt
 use Rattle.d_types.specs.Vocabulary.{ClauseTree, Piece, MOST_KEYS, Aggregating}
 use Rattle.d_types.specs.Typed.{Typed, Typeds, end, more, Action, Evaluate, Trace, Print, Exit}
 use Rattle.d_types.specs.Typed.{Aggregate, Aggs, ClauseMeant, ScriptMeant}
-use Rattle.d_types.specs.Variables.{Rows, find, types_in}
+use Rattle.d_types.specs.Variables.{Rows, find}
+use Rattle.d_types.specs.Steps.Variables.{types_in}
 use Rattle.d_types.specs.Constants.{int_type, constant, declared_type}
 use Rattle.d_types.specs.Steps.Statements.{text_of_constant}
 use Rattle.d_types.specs.Constants.{declared_kinds}

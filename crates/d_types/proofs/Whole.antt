@@ -4,7 +4,7 @@ use Rattle.d_parser.specs.Tree.{ItemTree}
 use Rattle.d_values.specs.declared.int_type.DType.{DType}
 use Rattle.d_types.specs.declared.variables.Entry.{Entry}
 use Rattle.d_types.specs.Typed.{Aggs, ClauseMeant}
-use Rattle.d_types.specs.Variables.{types_in}
+use Rattle.d_types.specs.Steps.Variables.{types_in}
 use Rattle.d_types.specs.Steps.Variables.{rows_of_entries}
 use Rattle.d_types.specs.Steps.Scripts.{items, script}
 

@@ -2,7 +2,7 @@
 -- the construct itself. Each construct has a rule; where its rule gives nothing, it is refused.
 -- Source: Dynamic Tracing Guide, "Program Structure" and "Type Promotion".
 use Rattle.std.specs.Prelude.{◌≡◌, ◌≢◌, ◌≤◌, ◌⊎◌, ◌++◌, ℕ, true, List, [], ◌∷◌, length, Option}
-use Rattle.std.specs.Prelude.{Some, None, Result, Ok, Err}
+use Rattle.std.specs.Prelude.{map, Some, None, Result, Ok, Err}
 use Rattle.d_parser.specs.declared.tree.Variable.{Variable}
 use Rattle.d_types.specs.Vocabulary.{Int, Step, Tree, Trees, DType, INT64, Answer, Callee}
 use Rattle.d_types.specs.Vocabulary.{TypeFault, IntType, AggFn, Piece, Space, MOST_KEYS}
@@ -11,7 +11,7 @@ use Rattle.d_types.specs.Vocabulary.{REGISTERS, promoted_of, Constant}
 use Rattle.d_types.specs.Formats as formats
 use Rattle.d_types.specs.Typed.{Typed, Typeds, end, more, Agg, Aggs, Action, ClauseMeant}
 use Rattle.d_types.specs.Typed.{ScriptMeant, Evaluate, Trace, Print, Exit, Aggregate}
-use Rattle.d_types.specs.Variables.{Rows, find, type_at, types_in, kinds_of_typed}
+use Rattle.d_types.specs.Variables.{Rows, find, type_at, kinds_of_typed}
 use Rattle.d_types.specs.Words.{built_in, callee_named, aggregating_named}
 use Rattle.d_types.specs.Targets.{space_of, type_at_once, new_row}
 use Rattle.d_types.specs.Operators.{binary_sort, assign_sort, conversion_node}
@@ -288,5 +288,5 @@ items (ItemTree.Probing c ∷ rest) = do
 abbrev pub IsChecked : List ItemTree → Result ScriptMeant TypeFault → Type 0
 IsChecked source (Ok m) =
     (known : Known) × items source (record { rows = []; aggs = [] }) (Ok (m.clauses, known))
-    × (m.aggregations ≡ known.aggs) × (m.slots ≡ types_in known.rows)
+    × (m.aggregations ≡ known.aggs) × (m.slots ≡ map (λ r. r.holds) known.rows)
 IsChecked source (Err fault) = items source (record { rows = []; aggs = [] }) (Err fault)

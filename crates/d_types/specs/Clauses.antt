@@ -70,28 +70,14 @@ effect_then (Has effect vars) go =
     let rest = go vars in run_with (effect ∷ rest.effects) rest.faulted rest.variables
 effect_then (Faults vars) go = run_with [] true vars
 
--- the statements in order, up to the first that faults
-abbrev pub statements_by : {E Es : Type 0} → Evaluation E Es → List (ActionOf E Es) → Variables
-    → Ran
-statements_by by [] vars = run_with [] false vars
-statements_by by (action ∷ rest) vars = effect_then (effect_by by action vars)
-    (statements_by by rest)
-
--- the statements where the predicate isn't 0
+-- the statements where the word isn't 0
 abbrev pub where_true : Outcome ℕ → (Variables → Ran) → Ran
 where_true (Has zero vars) go = run_with [] false vars
 where_true (Has (suc n) vars) go = go vars
 where_true (Faults vars) go = run_with [] true vars
 
-abbrev pub where_predicate : {E Es : Type 0} → Evaluation E Es → Option E → (Variables → Ran)
-    → Variables
-    → Ran
-where_predicate by None go vars = go vars
-where_predicate by (Some a) go vars = where_true (number_outcome (by.value a vars)) go
+-- ---- what a run makes
 
--- ---- a run
-
--- what a run makes
 pub record Made : Type 0 where
   pub texts : List (List ℕ)
   pub contributions : List Contribution
@@ -143,11 +129,23 @@ and_then a b = record {
   variables = b.variables;
 }
 
--- a run of statements after a predicate, where this line stands for a fault
-abbrev pub run_by : {E Es : Type 0} → Evaluation E Es → List ℕ → Option E → List (ActionOf E Es)
-    → Variables → Made
-run_by by line predicate statements vars =
-    run_result line (where_predicate by predicate (statements_by by statements) vars)
+-- ---- a run
+
+module _ {E Es : Type 0} (by : Evaluation E Es) where
+  -- the statements in order, up to the first that faults
+  abbrev pub statements_by : List (ActionOf E Es) → Variables → Ran
+  statements_by [] vars = run_with [] false vars
+  statements_by (action ∷ rest) vars = effect_then (effect_by by action vars) (statements_by rest)
+
+  -- the statements where the predicate isn't 0
+  abbrev pub where_predicate : Option E → (Variables → Ran) → Variables → Ran
+  where_predicate None go vars = go vars
+  where_predicate (Some a) go vars = where_true (number_outcome (by.value a vars)) go
+
+  -- statements after a predicate, where this line stands for a fault
+  abbrev pub run_by : List ℕ → Option E → List (ActionOf E Es) → Variables → Made
+  run_by line predicate statements vars =
+      run_result line (where_predicate predicate (statements_by statements) vars)
 
 -- ---- typed trees
 

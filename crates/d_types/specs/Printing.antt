@@ -1,7 +1,7 @@
 -- The texts that trace and printf make of values.
 -- Source: Dynamic Tracing Guide, "Output Formatting".
 use Rattle.std.specs.Prelude.{ℕ, ◌+◌, ◌-◌, ◌%◌, ◌^◌, List, [], ◌∷◌, ◌++◌, length, replicate, Bool}
-use Rattle.std.specs.Prelude.{false, if◌then◌else◌, ℤ, pos, int_lt, unsigned_abs}
+use Rattle.std.specs.Prelude.{codes, false, if◌then◌else◌, ℤ, pos, int_lt, unsigned_abs}
 use Rattle.std.specs.Fmt.{signed_decimal, digits}
 use Rattle.d_types.specs.Vocabulary.{cast_signed, w64, decimal, DType, Value, Conversion, Letter}
 use Rattle.d_types.specs.Vocabulary.{Piece}
@@ -20,19 +20,17 @@ abbrev pub low_in : DType → ℕ → ℕ
 low_in (DType.Int t) word = word % 2 ^ t.width
 low_in DType.Text word = word
 
--- ---- trace: the number in decimal with its sign, or the text, and a line feed
+-- ---- trace
 
-abbrev pub value_text : DType → Value → List ℕ
-value_text t (Value.Int word) = signed_decimal (number_in t word)
-value_text t (Value.Text bytes) = bytes
-
+-- the number in decimal with its sign, or the text, and a line feed
 abbrev pub trace_line : DType → Value → List ℕ
-trace_line t value = value_text t value ++ 10 ∷ []
+trace_line t (Value.Int word) = signed_decimal (number_in t word) ++ codes "\n"
+trace_line t (Value.Text bytes) = bytes ++ codes "\n"
 
 -- ---- printf
 
 abbrev pub sign_of : ℤ → List ℕ
-sign_of n = if int_lt n (pos 0) then 45 ∷ [] else []
+sign_of n = if int_lt n (pos 0) then codes "-" else []
 
 -- in the conversion's width: put left, or right after zeros that follow the sign, or right after
 -- spaces

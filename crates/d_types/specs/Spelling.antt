@@ -1,21 +1,13 @@
 -- What the text of a format means.
 -- Source: Dynamic Tracing Guide, "Output Formatting".
-use Rattle.std.specs.Prelude.{◌≡◌, ℕ, zero, suc, ◌≤◌, ◌==◌, ◌⊎◌, Bool, if◌then◌else◌, List, []}
+use Rattle.std.specs.Prelude.{◌≡◌, ℕ, zero, suc, ◌≤◌, ◌==◌, ◌⊎◌, if◌then◌else◌, List, []}
 use Rattle.std.specs.Prelude.{◌∷◌, ◌++◌, codes}
-use Rattle.std.specs.List.{list_any}
+use Rattle.std.specs.{List.AllByRecursion, Char.char_set_contains}
 use Rattle.d_types.specs.Vocabulary.{decimal, MOST_WIDTH, Letter, Conversion, Piece}
 
 abbrev pub IsOneOf : {A : Type 0} → A → List A → Type 0
 IsOneOf x [] = ⊥
 IsOneOf x (y ∷ others) = (x ≡ y) ⊎ IsOneOf x others
-
-abbrev pub has_byte : ℕ → List ℕ → Bool
-has_byte b bytes = list_any (λ c. c == b) bytes
-
--- - and 0, in any order and number
-abbrev pub AreFlags : List ℕ → Type 0
-AreFlags [] = Unit {0}
-AreFlags (f ∷ others) = IsOneOf f (codes "-0") × AreFlags others
 
 -- in decimal, or nothing where there is no width
 abbrev pub width_text : ℕ → List ℕ
@@ -33,11 +25,13 @@ letters Letter.Hexadecimal = codes "x"
 letters Letter.Octal = codes "o"
 letters Letter.Text = codes "s"
 
--- a percent sign, flags, a width of 255 at most, a length and a letter
+-- a percent sign, the flags - and 0 in any order and number, a width of 255 at most, a length and
+-- a letter
 abbrev pub IsConversion : Conversion → List ℕ → Type 0
 IsConversion c text =
     (flags : List ℕ) × (size : List ℕ) × (l : ℕ)
-    × AreFlags flags × (c.left ≡ has_byte 45 flags) × (c.zeros ≡ has_byte 48 flags)
+    × AllByRecursion (λ f. IsOneOf f (codes "-0")) flags
+    × (c.left ≡ char_set_contains flags 45) × (c.zeros ≡ char_set_contains flags 48)
     × (c.width ≤ MOST_WIDTH) × IsOneOf size lengths × IsOneOf l (letters c.letter)
     × (text ≡ codes "%" ++ (flags ++ (width_text c.width ++ (size ++ l ∷ []))))
 

@@ -1,6 +1,6 @@
 -- The table of variables.
 -- Source: Dynamic Tracing Guide, "Variables".
-use Rattle.std.specs.Prelude.{ℕ, zero, suc, Bool, ◌&&◌, List, [], ◌∷◌, map, slice_get, Option, Some}
+use Rattle.std.specs.Prelude.{ℕ, zero, suc, Bool, ◌&&◌, List, [], ◌∷◌, slice_get, Option, Some}
 use Rattle.std.specs.Prelude.{option_map, option_and_then}
 use Rattle.std.specs.List.{position_from}
 use denote.Enum.Bare.{sameb}
@@ -37,10 +37,6 @@ keys_at rows slot = option_map (λ r. r.keys) (slice_get rows slot)
 -- its type, once it is known
 abbrev pub type_at : Rows → ℕ → Option DType
 type_at rows slot = option_and_then (λ r. r.holds) (slice_get rows slot)
-
--- the types of all of them
-abbrev pub types_in : Rows → List (Option DType)
-types_in rows = map (λ r. r.holds) rows
 
 abbrev pub set_type : ℕ → DType → Rows → Rows
 set_type n t [] = []

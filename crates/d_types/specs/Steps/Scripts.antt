@@ -5,7 +5,8 @@ use Rattle.d_types.specs.Vocabulary.{Int, Text, DeclaredType, DeclarationTree, S
 use Rattle.d_types.specs.Vocabulary.{Tree, ClauseTree, DType, REGISTERS, MOST_KEYS, Space}
 use Rattle.d_types.specs.Steps.Faults.{Fault, ◌>>=◌, refuse, Mismatch, Keys, NoRegister}
 use Rattle.d_types.specs.Typed.{Typed, type_of, Action, Aggs, ClauseMeant, ScriptMeant}
-use Rattle.d_types.specs.Variables.{Rows, find, types_in}
+use Rattle.d_types.specs.Variables.{Rows, find}
+use Rattle.d_types.specs.Steps.Variables.{types_in}
 use Rattle.d_types.specs.Constants.{declared_type, declared_kinds}
 use Rattle.d_types.specs.Needs.{need}
 use Rattle.d_types.specs.Steps.Statements.{action}

@@ -1,8 +1,8 @@
 -- The table of variables as the rows that it stands for, and whether keys fit.
-use Rattle.std.specs.Prelude.{ℕ, Bool, true, false, ◌&&◌, List, [], ◌∷◌, map}
+use Rattle.std.specs.Prelude.{ℕ, Bool, true, false, ◌&&◌, List, [], ◌∷◌, map, Option}
 use Rattle.std.specs.Option.{option_map_or}
 use denote.Enum.Bare.{sameb}
-use Rattle.d_types.specs.Vocabulary.{Entry, Kind}
+use Rattle.d_types.specs.Vocabulary.{Entry, DType, Kind}
 use Rattle.d_values.specs.contracts.value.Kind as kind
 use Rattle.d_types.specs.Typed.{Typeds, end, more, type_of}
 use Rattle.d_types.specs.Variables.{Row, Rows, kind_of_type, keys_at}
@@ -22,3 +22,7 @@ fit kinds keys = false
 -- keys of the slot's kinds
 abbrev pub keys_fit : Rows → ℕ → Typeds → Bool
 keys_fit rows slot keys = option_map_or (λ kinds. fit kinds keys) (keys_at rows slot) false
+
+-- the types of all variables
+abbrev pub types_in : Rows → List (Option DType)
+types_in rows = map (λ r. r.holds) rows
