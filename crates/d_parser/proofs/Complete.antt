@@ -14,6 +14,10 @@ use Rattle.d_lexer.specs.declared.token.TokenKind.TheVariants as kind
 use Rattle.d_parser.specs.declared.operators.UnaryOperator.{UnaryOperator}
 use Rattle.d_parser.specs.declared.operators.BinaryOperator.{BinaryOperator}
 use Rattle.d_parser.specs.declared.operators.BinaryOperator.TheVariants as b
+use Rattle.d_parser.specs.declared.operators.LogicOperator.TheVariants as lo
+use Rattle.d_values.specs.declared.operators.ArithmeticOperator.TheVariants as ar
+use Rattle.d_values.specs.declared.operators.ShiftOperator.TheVariants as sh
+use Rattle.d_values.specs.declared.operators.ComparisonOperator.TheVariants as cm
 use Rattle.d_parser.specs.declared.operators.AssignOperator.{AssignOperator}
 use Rattle.d_parser.specs.declared.operators.Step.{Step}
 use Rattle.d_parser.specs.declared.tree.IntegerType.{IntegerType}
@@ -76,11 +80,17 @@ opens_of f.Parenthesis = true
 opens_of follow = false
 
 pub level_high : (op : BinaryOperator) → 3 ≤ level_of op
-level_high b.Multiply = lit≤ tt
+level_high (b.Arithmetic ar.Multiply) = lit≤ tt
+level_high (b.Shift sh.Left) = lit≤ tt
+level_high (b.Compare cm.Less) = lit≤ tt
+level_high (b.Logic lo.And) = lit≤ tt
 level_high op = lit≤ tt
 
 pub level_below : (op : BinaryOperator) → level_of op ≤ 13
-level_below b.Multiply = lit≤ tt
+level_below (b.Arithmetic ar.Multiply) = lit≤ tt
+level_below (b.Shift sh.Left) = lit≤ tt
+level_below (b.Compare cm.Less) = lit≤ tt
+level_below (b.Logic lo.And) = lit≤ tt
 level_below op = lit≤ tt
 
 pub sign_follow : (mark : Mark) (ts rest : List Token) → IsMark mark ts rest → follow_at ts ≡ follow_of mark

@@ -6,6 +6,10 @@ use Rattle.d_parser.specs.declared.operators.AssignOperator.{AssignOperator}
 use Rattle.d_parser.specs.declared.operators.AssignOperator.TheVariants as a
 use Rattle.d_parser.specs.declared.operators.BinaryOperator.{BinaryOperator}
 use Rattle.d_parser.specs.declared.operators.BinaryOperator.TheVariants as b
+use Rattle.d_parser.specs.declared.operators.LogicOperator.TheVariants as lo
+use Rattle.d_values.specs.declared.operators.ArithmeticOperator.TheVariants as ar
+use Rattle.d_values.specs.declared.operators.ShiftOperator.TheVariants as sh
+use Rattle.d_values.specs.declared.operators.ComparisonOperator.TheVariants as cm
 use Rattle.d_parser.specs.declared.operators.Step.{Step}
 use Rattle.d_parser.specs.declared.operators.Step.TheVariants as s
 use Rattle.d_parser.specs.declared.operators.UnaryOperator.{UnaryOperator}
@@ -31,10 +35,15 @@ step_follow s.Decrement = refl
 
 pub assign_follow : (op : AssignOperator) → follow_of (assign_mark op) ≡ f.Assign op
 assign_follow a.Set = refl
+assign_follow (a.Arithmetic ar.Multiply) = refl
+assign_follow (a.Shift sh.Left) = refl
 assign_follow op = refl
 
 pub binary_follow : (op : BinaryOperator) → follow_of (binary_mark op) ≡ f.Infix op
-binary_follow b.Multiply = refl
+binary_follow (b.Arithmetic ar.Multiply) = refl
+binary_follow (b.Shift sh.Left) = refl
+binary_follow (b.Compare cm.Less) = refl
+binary_follow (b.Logic lo.And) = refl
 binary_follow op = refl
 
 -- ---- the mark of what is done; for what marks do not do, the mark that is given

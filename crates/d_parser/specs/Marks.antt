@@ -2,30 +2,36 @@
 -- Source: Dynamic Tracing Guide, "Precedence".
 use Rattle.std.specs.Prelude.{ℕ}
 use Rattle.d_parser.specs.Vocabulary.{Mark, UnaryOperator, Step, BinaryOperator, AssignOperator}
+use Rattle.d_parser.specs.declared.operators.BinaryOperator.TheVariants as binary
+use Rattle.d_parser.specs.declared.operators.AssignOperator.TheVariants as assign
+use Rattle.d_parser.specs.declared.operators.LogicOperator.TheVariants as logic
+use Rattle.d_values.specs.declared.operators.ArithmeticOperator.TheVariants as arithmetic
+use Rattle.d_values.specs.declared.operators.ShiftOperator.TheVariants as shift
+use Rattle.d_values.specs.declared.operators.ComparisonOperator.TheVariants as comparison
 use Rattle.d_parser.specs.Vocabulary.{OR, XOR, AND, BIT_OR, BIT_XOR, BIT_AND, EQUALITY, RELATIONAL}
 use Rattle.d_parser.specs.Vocabulary.{SHIFT, ADDITIVE, MULTIPLICATIVE}
 
 -- the mark of an operator between two operands, and its level
 abbrev pub mark_and_level : BinaryOperator → Mark × ℕ
-mark_and_level BinaryOperator.Multiply = (Mark.Star, MULTIPLICATIVE)
-mark_and_level BinaryOperator.Divide = (Mark.Slash, MULTIPLICATIVE)
-mark_and_level BinaryOperator.Remainder = (Mark.Percent, MULTIPLICATIVE)
-mark_and_level BinaryOperator.Add = (Mark.Plus, ADDITIVE)
-mark_and_level BinaryOperator.Subtract = (Mark.Minus, ADDITIVE)
-mark_and_level BinaryOperator.ShiftLeft = (Mark.ShiftLeft, SHIFT)
-mark_and_level BinaryOperator.ShiftRight = (Mark.ShiftRight, SHIFT)
-mark_and_level BinaryOperator.Less = (Mark.Less, RELATIONAL)
-mark_and_level BinaryOperator.LessEqual = (Mark.LessEqual, RELATIONAL)
-mark_and_level BinaryOperator.Greater = (Mark.Greater, RELATIONAL)
-mark_and_level BinaryOperator.GreaterEqual = (Mark.GreaterEqual, RELATIONAL)
-mark_and_level BinaryOperator.Equal = (Mark.Equal, EQUALITY)
-mark_and_level BinaryOperator.NotEqual = (Mark.NotEqual, EQUALITY)
-mark_and_level BinaryOperator.BitAnd = (Mark.And, BIT_AND)
-mark_and_level BinaryOperator.BitXor = (Mark.Xor, BIT_XOR)
-mark_and_level BinaryOperator.BitOr = (Mark.Or, BIT_OR)
-mark_and_level BinaryOperator.And = (Mark.AndAnd, AND)
-mark_and_level BinaryOperator.Xor = (Mark.XorXor, XOR)
-mark_and_level BinaryOperator.Or = (Mark.OrOr, OR)
+mark_and_level (binary.Arithmetic arithmetic.Multiply) = (Mark.Star, MULTIPLICATIVE)
+mark_and_level (binary.Arithmetic arithmetic.Divide) = (Mark.Slash, MULTIPLICATIVE)
+mark_and_level (binary.Arithmetic arithmetic.Remainder) = (Mark.Percent, MULTIPLICATIVE)
+mark_and_level (binary.Arithmetic arithmetic.Add) = (Mark.Plus, ADDITIVE)
+mark_and_level (binary.Arithmetic arithmetic.Subtract) = (Mark.Minus, ADDITIVE)
+mark_and_level (binary.Shift shift.Left) = (Mark.ShiftLeft, SHIFT)
+mark_and_level (binary.Shift shift.Right) = (Mark.ShiftRight, SHIFT)
+mark_and_level (binary.Compare comparison.Less) = (Mark.Less, RELATIONAL)
+mark_and_level (binary.Compare comparison.LessEqual) = (Mark.LessEqual, RELATIONAL)
+mark_and_level (binary.Compare comparison.Greater) = (Mark.Greater, RELATIONAL)
+mark_and_level (binary.Compare comparison.GreaterEqual) = (Mark.GreaterEqual, RELATIONAL)
+mark_and_level (binary.Compare comparison.Equal) = (Mark.Equal, EQUALITY)
+mark_and_level (binary.Compare comparison.NotEqual) = (Mark.NotEqual, EQUALITY)
+mark_and_level (binary.Arithmetic arithmetic.BitAnd) = (Mark.And, BIT_AND)
+mark_and_level (binary.Arithmetic arithmetic.BitXor) = (Mark.Xor, BIT_XOR)
+mark_and_level (binary.Arithmetic arithmetic.BitOr) = (Mark.Or, BIT_OR)
+mark_and_level (binary.Logic logic.And) = (Mark.AndAnd, AND)
+mark_and_level (binary.Logic logic.Xor) = (Mark.XorXor, XOR)
+mark_and_level (binary.Logic logic.Or) = (Mark.OrOr, OR)
 
 abbrev pub binary_mark : BinaryOperator → Mark
 binary_mark op = (mark_and_level op).0
@@ -34,17 +40,17 @@ abbrev pub level_of : BinaryOperator → ℕ
 level_of op = (mark_and_level op).1
 
 abbrev pub assign_mark : AssignOperator → Mark
-assign_mark AssignOperator.Set = Mark.Assign
-assign_mark AssignOperator.Add = Mark.AddAssign
-assign_mark AssignOperator.Subtract = Mark.SubtractAssign
-assign_mark AssignOperator.Multiply = Mark.MultiplyAssign
-assign_mark AssignOperator.Divide = Mark.DivideAssign
-assign_mark AssignOperator.Remainder = Mark.RemainderAssign
-assign_mark AssignOperator.BitAnd = Mark.AndAssign
-assign_mark AssignOperator.BitOr = Mark.OrAssign
-assign_mark AssignOperator.BitXor = Mark.XorAssign
-assign_mark AssignOperator.ShiftLeft = Mark.ShiftLeftAssign
-assign_mark AssignOperator.ShiftRight = Mark.ShiftRightAssign
+assign_mark assign.Set = Mark.Assign
+assign_mark (assign.Arithmetic arithmetic.Add) = Mark.AddAssign
+assign_mark (assign.Arithmetic arithmetic.Subtract) = Mark.SubtractAssign
+assign_mark (assign.Arithmetic arithmetic.Multiply) = Mark.MultiplyAssign
+assign_mark (assign.Arithmetic arithmetic.Divide) = Mark.DivideAssign
+assign_mark (assign.Arithmetic arithmetic.Remainder) = Mark.RemainderAssign
+assign_mark (assign.Arithmetic arithmetic.BitAnd) = Mark.AndAssign
+assign_mark (assign.Arithmetic arithmetic.BitOr) = Mark.OrAssign
+assign_mark (assign.Arithmetic arithmetic.BitXor) = Mark.XorAssign
+assign_mark (assign.Shift shift.Left) = Mark.ShiftLeftAssign
+assign_mark (assign.Shift shift.Right) = Mark.ShiftRightAssign
 
 abbrev pub unary_mark : UnaryOperator → Mark
 unary_mark UnaryOperator.Not = Mark.Not

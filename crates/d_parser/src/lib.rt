@@ -21,7 +21,7 @@ mod tree;
 mod words;
 
 pub use fault::{MOST_CLAUSES, MOST_IN_A_ROW, MOST_OPEN, ParseFault};
-pub use operators::{AssignOperator, BinaryOperator, Step, UnaryOperator};
+pub use operators::{AssignOperator, BinaryOperator, LogicOperator, Step, UnaryOperator};
 pub use parser::parse;
 pub use tree::{
     Clause, Constant, Declaration, DeclaredType, Description, Expr, IntegerType, Item, Script,

@@ -4,8 +4,13 @@ ghost use Rattle.std.specs.Prelude.{◌≡◌, ◌<◌};
 ghost use Rattle.d_parser.specs.Marks as spec;
 ghost use Rattle.d_parser.specs.Steps.Marks as steps;
 
-use crate::operators::{AssignOperator, BinaryOperator, Step, UnaryOperator};
+use crate::operators::{
+    AssignOperator, BinaryOperator, LogicOperator as Logic, Step, UnaryOperator,
+};
 use d_lexer::{Mark, Token, TokenKind};
+use d_values::{
+    ArithmeticOperator as Arithmetic, ComparisonOperator as Comparison, ShiftOperator as Shift,
+};
 
 /// The level of an assignment, which each expression has at least. From level to level phrases bind
 /// tighter; operators have those from `OR` up to just before `UNARY`, and smaller parts the one
@@ -89,36 +94,36 @@ fn follow_of(mark: Mark) -> Follow
     ensures { result ≡ steps.follow_of mark }
 {
     match mark {
-        Mark::Star => Follow::Infix(BinaryOperator::Multiply),
-        Mark::Slash => Follow::Infix(BinaryOperator::Divide),
-        Mark::Percent => Follow::Infix(BinaryOperator::Remainder),
-        Mark::Plus => Follow::Infix(BinaryOperator::Add),
-        Mark::Minus => Follow::Infix(BinaryOperator::Subtract),
-        Mark::ShiftLeft => Follow::Infix(BinaryOperator::ShiftLeft),
-        Mark::ShiftRight => Follow::Infix(BinaryOperator::ShiftRight),
-        Mark::Less => Follow::Infix(BinaryOperator::Less),
-        Mark::LessEqual => Follow::Infix(BinaryOperator::LessEqual),
-        Mark::Greater => Follow::Infix(BinaryOperator::Greater),
-        Mark::GreaterEqual => Follow::Infix(BinaryOperator::GreaterEqual),
-        Mark::Equal => Follow::Infix(BinaryOperator::Equal),
-        Mark::NotEqual => Follow::Infix(BinaryOperator::NotEqual),
-        Mark::And => Follow::Infix(BinaryOperator::BitAnd),
-        Mark::Xor => Follow::Infix(BinaryOperator::BitXor),
-        Mark::Or => Follow::Infix(BinaryOperator::BitOr),
-        Mark::AndAnd => Follow::Infix(BinaryOperator::And),
-        Mark::XorXor => Follow::Infix(BinaryOperator::Xor),
-        Mark::OrOr => Follow::Infix(BinaryOperator::Or),
+        Mark::Star => Follow::Infix(BinaryOperator::Arithmetic(Arithmetic::Multiply)),
+        Mark::Slash => Follow::Infix(BinaryOperator::Arithmetic(Arithmetic::Divide)),
+        Mark::Percent => Follow::Infix(BinaryOperator::Arithmetic(Arithmetic::Remainder)),
+        Mark::Plus => Follow::Infix(BinaryOperator::Arithmetic(Arithmetic::Add)),
+        Mark::Minus => Follow::Infix(BinaryOperator::Arithmetic(Arithmetic::Subtract)),
+        Mark::ShiftLeft => Follow::Infix(BinaryOperator::Shift(Shift::Left)),
+        Mark::ShiftRight => Follow::Infix(BinaryOperator::Shift(Shift::Right)),
+        Mark::Less => Follow::Infix(BinaryOperator::Compare(Comparison::Less)),
+        Mark::LessEqual => Follow::Infix(BinaryOperator::Compare(Comparison::LessEqual)),
+        Mark::Greater => Follow::Infix(BinaryOperator::Compare(Comparison::Greater)),
+        Mark::GreaterEqual => Follow::Infix(BinaryOperator::Compare(Comparison::GreaterEqual)),
+        Mark::Equal => Follow::Infix(BinaryOperator::Compare(Comparison::Equal)),
+        Mark::NotEqual => Follow::Infix(BinaryOperator::Compare(Comparison::NotEqual)),
+        Mark::And => Follow::Infix(BinaryOperator::Arithmetic(Arithmetic::BitAnd)),
+        Mark::Xor => Follow::Infix(BinaryOperator::Arithmetic(Arithmetic::BitXor)),
+        Mark::Or => Follow::Infix(BinaryOperator::Arithmetic(Arithmetic::BitOr)),
+        Mark::AndAnd => Follow::Infix(BinaryOperator::Logic(Logic::And)),
+        Mark::XorXor => Follow::Infix(BinaryOperator::Logic(Logic::Xor)),
+        Mark::OrOr => Follow::Infix(BinaryOperator::Logic(Logic::Or)),
         Mark::Assign => Follow::Assign(AssignOperator::Set),
-        Mark::AddAssign => Follow::Assign(AssignOperator::Add),
-        Mark::SubtractAssign => Follow::Assign(AssignOperator::Subtract),
-        Mark::MultiplyAssign => Follow::Assign(AssignOperator::Multiply),
-        Mark::DivideAssign => Follow::Assign(AssignOperator::Divide),
-        Mark::RemainderAssign => Follow::Assign(AssignOperator::Remainder),
-        Mark::AndAssign => Follow::Assign(AssignOperator::BitAnd),
-        Mark::OrAssign => Follow::Assign(AssignOperator::BitOr),
-        Mark::XorAssign => Follow::Assign(AssignOperator::BitXor),
-        Mark::ShiftLeftAssign => Follow::Assign(AssignOperator::ShiftLeft),
-        Mark::ShiftRightAssign => Follow::Assign(AssignOperator::ShiftRight),
+        Mark::AddAssign => Follow::Assign(AssignOperator::Arithmetic(Arithmetic::Add)),
+        Mark::SubtractAssign => Follow::Assign(AssignOperator::Arithmetic(Arithmetic::Subtract)),
+        Mark::MultiplyAssign => Follow::Assign(AssignOperator::Arithmetic(Arithmetic::Multiply)),
+        Mark::DivideAssign => Follow::Assign(AssignOperator::Arithmetic(Arithmetic::Divide)),
+        Mark::RemainderAssign => Follow::Assign(AssignOperator::Arithmetic(Arithmetic::Remainder)),
+        Mark::AndAssign => Follow::Assign(AssignOperator::Arithmetic(Arithmetic::BitAnd)),
+        Mark::OrAssign => Follow::Assign(AssignOperator::Arithmetic(Arithmetic::BitOr)),
+        Mark::XorAssign => Follow::Assign(AssignOperator::Arithmetic(Arithmetic::BitXor)),
+        Mark::ShiftLeftAssign => Follow::Assign(AssignOperator::Shift(Shift::Left)),
+        Mark::ShiftRightAssign => Follow::Assign(AssignOperator::Shift(Shift::Right)),
         Mark::Increment => Follow::Step(Step::Increment),
         Mark::Decrement => Follow::Step(Step::Decrement),
         Mark::Question => Follow::Question,
@@ -148,22 +153,24 @@ impl BinaryOperator {
         ensures small { result < UNARY }
     {
         match self {
-            BinaryOperator::Or => OR,
-            BinaryOperator::Xor => XOR,
-            BinaryOperator::And => AND,
-            BinaryOperator::BitOr => BIT_OR,
-            BinaryOperator::BitXor => BIT_XOR,
-            BinaryOperator::BitAnd => BIT_AND,
-            BinaryOperator::Equal | BinaryOperator::NotEqual => EQUALITY,
-            BinaryOperator::Less
-            | BinaryOperator::LessEqual
-            | BinaryOperator::Greater
-            | BinaryOperator::GreaterEqual => RELATIONAL,
-            BinaryOperator::ShiftLeft | BinaryOperator::ShiftRight => SHIFT,
-            BinaryOperator::Add | BinaryOperator::Subtract => ADDITIVE,
-            BinaryOperator::Multiply | BinaryOperator::Divide | BinaryOperator::Remainder => {
-                MULTIPLICATIVE
-            }
+            BinaryOperator::Logic(Logic::Or) => OR,
+            BinaryOperator::Logic(Logic::Xor) => XOR,
+            BinaryOperator::Logic(Logic::And) => AND,
+            BinaryOperator::Arithmetic(Arithmetic::BitOr) => BIT_OR,
+            BinaryOperator::Arithmetic(Arithmetic::BitXor) => BIT_XOR,
+            BinaryOperator::Arithmetic(Arithmetic::BitAnd) => BIT_AND,
+            BinaryOperator::Compare(Comparison::Equal | Comparison::NotEqual) => { EQUALITY }
+            BinaryOperator::Compare(
+                Comparison::Less
+                | Comparison::LessEqual
+                | Comparison::Greater
+                | Comparison::GreaterEqual,
+            ) => RELATIONAL,
+            BinaryOperator::Shift(Shift::Left | Shift::Right) => SHIFT,
+            BinaryOperator::Arithmetic(Arithmetic::Add | Arithmetic::Subtract) => { ADDITIVE }
+            BinaryOperator::Arithmetic(
+                Arithmetic::Multiply | Arithmetic::Divide | Arithmetic::Remainder,
+            ) => MULTIPLICATIVE,
         }
     }
 }

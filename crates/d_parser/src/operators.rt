@@ -1,5 +1,7 @@
 //! Operators.
 
+use d_values::{ArithmeticOperator, ComparisonOperator, ShiftOperator};
+
 /// An operator before its operand.
 #[derive(Clone, Copy, Debug, PartialEq, Eq)]
 pub enum UnaryOperator {
@@ -22,41 +24,9 @@ pub enum Step {
     Decrement,
 }
 
-/// An operator between two operands.
+/// `&&`, `^^` and `||` (Guide, "Logical Operators").
 #[derive(Clone, Copy, Debug, PartialEq, Eq)]
-pub enum BinaryOperator {
-    /// `*`
-    Multiply,
-    /// `/`
-    Divide,
-    /// `%`
-    Remainder,
-    /// `+`
-    Add,
-    /// `-`
-    Subtract,
-    /// `<<`
-    ShiftLeft,
-    /// `>>`
-    ShiftRight,
-    /// `<`
-    Less,
-    /// `<=`
-    LessEqual,
-    /// `>`
-    Greater,
-    /// `>=`
-    GreaterEqual,
-    /// `==`
-    Equal,
-    /// `!=`
-    NotEqual,
-    /// `&`
-    BitAnd,
-    /// `^`
-    BitXor,
-    /// `|`
-    BitOr,
+pub enum LogicOperator {
     /// `&&`
     And,
     /// `^^`
@@ -65,29 +35,19 @@ pub enum BinaryOperator {
     Or,
 }
 
+/// An operator between two operands, by what it asks of them.
+#[derive(Clone, Copy, Debug, PartialEq, Eq)]
+pub enum BinaryOperator {
+    Arithmetic(ArithmeticOperator),
+    Shift(ShiftOperator),
+    Compare(ComparisonOperator),
+    Logic(LogicOperator),
+}
+
 /// `=`, or an operator with `=` after it.
 #[derive(Clone, Copy, Debug, PartialEq, Eq)]
 pub enum AssignOperator {
-    /// `=`
     Set,
-    /// `+=`
-    Add,
-    /// `-=`
-    Subtract,
-    /// `*=`
-    Multiply,
-    /// `/=`
-    Divide,
-    /// `%=`
-    Remainder,
-    /// `&=`
-    BitAnd,
-    /// `|=`
-    BitOr,
-    /// `^=`
-    BitXor,
-    /// `<<=`
-    ShiftLeft,
-    /// `>>=`
-    ShiftRight,
+    Arithmetic(ArithmeticOperator),
+    Shift(ShiftOperator),
 }

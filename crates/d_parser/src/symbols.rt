@@ -1,15 +1,17 @@
 //! Operators and types as a script writes them.
 
 ghost use Rattle.std.specs.Prelude.{◌≡◌, Some};
+ghost use Rattle.d_parser.specs.Marks.{unary_mark, step_mark, binary_mark, assign_mark};
 ghost use Rattle.d_parser.specs.Symbols as spec;
 
-use crate::operators::{AssignOperator, BinaryOperator, Step, UnaryOperator};
+use crate::operators::{AssignOperator, BinaryOperator, LogicOperator, Step, UnaryOperator};
 use crate::tree::{DeclaredType, IntegerType};
+use d_values::{ArithmeticOperator, ComparisonOperator, ShiftOperator};
 use std::fmt;
 
 impl UnaryOperator {
     fn symbol(self) -> &'static str
-        ensures { result.now ≡ spec.unary_symbol self }
+        ensures { result.now ≡ spec.text_of (unary_mark self) }
     {
         match self {
             UnaryOperator::Not => "!",
@@ -21,7 +23,7 @@ impl UnaryOperator {
 }
 
 impl fmt::Display for UnaryOperator {
-    ghost output = { λ o. Some (spec.unary_symbol o) };
+    ghost output = { λ o. Some (spec.text_of (unary_mark o)) };
 
     fn fmt<W: fmt::Write>(&self, f: &mut fmt::Formatter<W>) -> fmt::Result {
         f.write_str(self.symbol())
@@ -29,7 +31,7 @@ impl fmt::Display for UnaryOperator {
 }
 
 impl fmt::Display for Step {
-    ghost output = { λ o. Some (spec.step_symbol o) };
+    ghost output = { λ o. Some (spec.text_of (step_mark o)) };
 
     fn fmt<W: fmt::Write>(&self, f: &mut fmt::Formatter<W>) -> fmt::Result {
         f.write_str(match self {
@@ -41,34 +43,34 @@ impl fmt::Display for Step {
 
 impl BinaryOperator {
     fn symbol(self) -> &'static str
-        ensures { result.now ≡ spec.binary_symbol self }
+        ensures { result.now ≡ spec.text_of (binary_mark self) }
     {
         match self {
-            BinaryOperator::Multiply => "*",
-            BinaryOperator::Divide => "/",
-            BinaryOperator::Remainder => "%",
-            BinaryOperator::Add => "+",
-            BinaryOperator::Subtract => "-",
-            BinaryOperator::ShiftLeft => "<<",
-            BinaryOperator::ShiftRight => ">>",
-            BinaryOperator::Less => "<",
-            BinaryOperator::LessEqual => "<=",
-            BinaryOperator::Greater => ">",
-            BinaryOperator::GreaterEqual => ">=",
-            BinaryOperator::Equal => "==",
-            BinaryOperator::NotEqual => "!=",
-            BinaryOperator::BitAnd => "&",
-            BinaryOperator::BitXor => "^",
-            BinaryOperator::BitOr => "|",
-            BinaryOperator::And => "&&",
-            BinaryOperator::Xor => "^^",
-            BinaryOperator::Or => "||",
+            BinaryOperator::Arithmetic(ArithmeticOperator::Multiply) => "*",
+            BinaryOperator::Arithmetic(ArithmeticOperator::Divide) => "/",
+            BinaryOperator::Arithmetic(ArithmeticOperator::Remainder) => "%",
+            BinaryOperator::Arithmetic(ArithmeticOperator::Add) => "+",
+            BinaryOperator::Arithmetic(ArithmeticOperator::Subtract) => "-",
+            BinaryOperator::Shift(ShiftOperator::Left) => "<<",
+            BinaryOperator::Shift(ShiftOperator::Right) => ">>",
+            BinaryOperator::Compare(ComparisonOperator::Less) => "<",
+            BinaryOperator::Compare(ComparisonOperator::LessEqual) => "<=",
+            BinaryOperator::Compare(ComparisonOperator::Greater) => ">",
+            BinaryOperator::Compare(ComparisonOperator::GreaterEqual) => ">=",
+            BinaryOperator::Compare(ComparisonOperator::Equal) => "==",
+            BinaryOperator::Compare(ComparisonOperator::NotEqual) => "!=",
+            BinaryOperator::Arithmetic(ArithmeticOperator::BitAnd) => "&",
+            BinaryOperator::Arithmetic(ArithmeticOperator::BitXor) => "^",
+            BinaryOperator::Arithmetic(ArithmeticOperator::BitOr) => "|",
+            BinaryOperator::Logic(LogicOperator::And) => "&&",
+            BinaryOperator::Logic(LogicOperator::Xor) => "^^",
+            BinaryOperator::Logic(LogicOperator::Or) => "||",
         }
     }
 }
 
 impl fmt::Display for BinaryOperator {
-    ghost output = { λ o. Some (spec.binary_symbol o) };
+    ghost output = { λ o. Some (spec.text_of (binary_mark o)) };
 
     fn fmt<W: fmt::Write>(&self, f: &mut fmt::Formatter<W>) -> fmt::Result {
         f.write_str(self.symbol())
@@ -77,26 +79,26 @@ impl fmt::Display for BinaryOperator {
 
 impl AssignOperator {
     fn symbol(self) -> &'static str
-        ensures { result.now ≡ spec.assign_symbol self }
+        ensures { result.now ≡ spec.text_of (assign_mark self) }
     {
         match self {
             AssignOperator::Set => "=",
-            AssignOperator::Add => "+=",
-            AssignOperator::Subtract => "-=",
-            AssignOperator::Multiply => "*=",
-            AssignOperator::Divide => "/=",
-            AssignOperator::Remainder => "%=",
-            AssignOperator::BitAnd => "&=",
-            AssignOperator::BitOr => "|=",
-            AssignOperator::BitXor => "^=",
-            AssignOperator::ShiftLeft => "<<=",
-            AssignOperator::ShiftRight => ">>=",
+            AssignOperator::Arithmetic(ArithmeticOperator::Add) => "+=",
+            AssignOperator::Arithmetic(ArithmeticOperator::Subtract) => "-=",
+            AssignOperator::Arithmetic(ArithmeticOperator::Multiply) => "*=",
+            AssignOperator::Arithmetic(ArithmeticOperator::Divide) => "/=",
+            AssignOperator::Arithmetic(ArithmeticOperator::Remainder) => "%=",
+            AssignOperator::Arithmetic(ArithmeticOperator::BitAnd) => "&=",
+            AssignOperator::Arithmetic(ArithmeticOperator::BitOr) => "|=",
+            AssignOperator::Arithmetic(ArithmeticOperator::BitXor) => "^=",
+            AssignOperator::Shift(ShiftOperator::Left) => "<<=",
+            AssignOperator::Shift(ShiftOperator::Right) => ">>=",
         }
     }
 }
 
 impl fmt::Display for AssignOperator {
-    ghost output = { λ o. Some (spec.assign_symbol o) };
+    ghost output = { λ o. Some (spec.text_of (assign_mark o)) };
 
     fn fmt<W: fmt::Write>(&self, f: &mut fmt::Formatter<W>) -> fmt::Result {
         f.write_str(self.symbol())

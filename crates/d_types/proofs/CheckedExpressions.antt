@@ -24,11 +24,10 @@ use Rattle.d_types.specs.Checking.{expression, expressions, whole, wholes, ◌>>
 use Rattle.d_types.specs.Constants.{int_type, constant}
 use Rattle.d_types.specs.Lines.{line_of_variable, line_of}
 use Rattle.d_types.specs.Needs.{count, need}
-use Rattle.d_types.specs.Operators.{binary_sort, assign_sort}
 use Rattle.d_types.specs.Rules.{IsOperation, IsChoice, IsRead, IsTargetOf, IsAssignment, IsStep, IsCall}
 use Rattle.d_types.specs.Steps.Faults.{Fault, Cause, refuse, ◌>>=◌ as and_then}
 use Rattle.d_types.specs.Steps.Faults as cause
-use Rattle.d_types.specs.Steps.Operators.{as_type, unary, operation_by, choice}
+use Rattle.d_types.specs.Steps.Operators.{as_type, unary, binary, choice}
 use Rattle.d_types.specs.Steps.Statements as walk
 use Rattle.d_types.specs.Steps.Targets.{plain, load, load_at, read_variable, plain_target, slot_for, assignment, step}
 use Rattle.d_types.specs.Steps.Targets as targets
@@ -213,8 +212,8 @@ mutual
   expression_decided (tree.Binary op a b) rows aggs =
       follows _ _ (at rows aggs) (with_rows aggs) (with_rows aggs) (expr rows a) _ (expression_decided a rows aggs)
       (λ x e. follows _ _ (at x.1 aggs) (with_rows aggs) (with_rows aggs) (expr x.1 b) _ (expression_decided b x.1 aggs)
-      (λ y f. fits_decided (IsOperation (binary_sort op) x.0 y.0) (line_of a) y.1 aggs (operation_by (binary_sort op) (type_of x.0) (type_of y.0) x.0 y.0)
-      (λ z h. joins_sound (binary_sort op) _ _ x.0 y.0 z refl refl h) (λ z h. joins_complete (binary_sort op) x.0 y.0 z h)))
+      (λ y f. fits_decided (IsOperation op x.0 y.0) (line_of a) y.1 aggs (binary op (type_of x.0) (type_of y.0) x.0 y.0)
+      (λ z h. joins_sound op _ _ x.0 y.0 z refl refl h) (λ z h. joins_complete op x.0 y.0 z h)))
   expression_decided (tree.Choice c a b) rows aggs =
       follows _ _ (at rows aggs) (with_rows aggs) (with_rows aggs) (expr rows c) _ (expression_decided c rows aggs)
       (λ x e. follows _ _ (at x.1 aggs) (with_rows aggs) (with_rows aggs) (expr x.1 a) _ (expression_decided a x.1 aggs)
@@ -223,11 +222,11 @@ mutual
       (λ z h. chooses_sound _ _ _ x.0 y.0 u.0 z refl refl refl h) (λ z h. chooses_complete x.0 y.0 u.0 z h))))
   expression_decided (tree.Assign op x keys a) rows aggs =
       follows _ _ (at rows aggs) (with_rows aggs) (with_rows aggs) (exprs end rows keys) _ (expressions_decided keys rows aggs)
-      (λ k e. follows _ _ (at k.1 aggs) (with_rows aggs) (with_rows aggs) (targets.target k.1 x (type_at_once (assign_sort op)) k.0) _ (target_decided k.1 aggs x (type_at_once (assign_sort op)) k.0)
+      (λ k e. follows _ _ (at k.1 aggs) (with_rows aggs) (with_rows aggs) (targets.target k.1 x (type_at_once op) k.0) _ (target_decided k.1 aggs x (type_at_once op) k.0)
       (λ q f. follows _ _ (at q.1 aggs) (with_rows aggs) (with_rows aggs) (expr q.1 a) _ (expression_decided a q.1 aggs)
-      (λ y g. of_rows y.1 aggs (fault.Mismatch (line_of_variable x)) _ (fitting_fails (line_of_variable x) _) (λ r z last. IsAssignment (assign_sort op) (space_of x) q.0 k.0 y.0 r z last)
-      (λ z last h. stores_sound (assign_sort op) (space_of x) _ _ q.0 k.0 y.0 y.1 z last refl refl (fitted_pair (line_of_variable x) _ z last h))
-      (λ z last h. rw (stores_complete (assign_sort op) (space_of x) q.0 k.0 y.0 y.1 z last h) refl))))
+      (λ y g. of_rows y.1 aggs (fault.Mismatch (line_of_variable x)) _ (fitting_fails (line_of_variable x) _) (λ r z last. IsAssignment op (space_of x) q.0 k.0 y.0 r z last)
+      (λ z last h. stores_sound op (space_of x) _ _ q.0 k.0 y.0 y.1 z last refl refl (fitted_pair (line_of_variable x) _ z last h))
+      (λ z last h. rw (stores_complete op (space_of x) q.0 k.0 y.0 y.1 z last h) refl))))
 
   pub expressions_decided : (ts : Trees) (rows : Rows) (aggs : Aggs) → Decides (expressions ts) (at rows aggs) (answer (with_rows aggs) (exprs end rows ts))
   expressions_decided tree.end rows aggs = given end (at rows aggs)

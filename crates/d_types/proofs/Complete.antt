@@ -8,16 +8,16 @@ use Rattle.d_values.specs.declared.int_type.DType.TheVariants.{Int, Text}
 use Rattle.d_types.specs.declared.typed.Answer.{Answer}
 use Rattle.d_types.specs.declared.typed.Space.{Space}
 use Rattle.d_types.specs.declared.typed.Space.TheVariants as s
-use Rattle.d_types.specs.declared.operators.BinarySort.{BinarySort}
-use Rattle.d_types.specs.declared.operators.BinarySort.TheVariants as bs
-use Rattle.d_types.specs.declared.operators.AssignSort.{AssignSort}
-use Rattle.d_types.specs.declared.operators.AssignSort.TheVariants as sg
+use Rattle.d_parser.specs.declared.operators.BinaryOperator.{BinaryOperator}
+use Rattle.d_parser.specs.declared.operators.BinaryOperator.TheVariants as bs
+use Rattle.d_parser.specs.declared.operators.AssignOperator.{AssignOperator}
+use Rattle.d_parser.specs.declared.operators.AssignOperator.TheVariants as sg
 use Rattle.d_types.specs.Words.{callee_named}
 use Rattle.d_types.specs.Typed.{Typed, Typeds, end, more, type_of}
 use Rattle.d_types.specs.Steps.Typing.{with_typed}
 use Rattle.d_types.specs.Variables.{Rows, find, type_at}
 use Rattle.d_types.proofs.Tables.{own_keys}
-use Rattle.d_types.specs.Steps.Operators.{operation_by, choice, as_type}
+use Rattle.d_types.specs.Steps.Operators.{binary, choice, as_type}
 use Rattle.d_types.specs.Steps.Targets.{read_variable, load_at, target, slot_for, assignment}
 use Rattle.d_types.specs.Steps.Targets.{step}
 use Rattle.d_types.specs.Steps.Typing.{typed_call}
@@ -38,7 +38,7 @@ pub after-end : (done : Typeds) → after done end ≡ done
 after-end end = refl
 after-end (more y rest) = ap (more y) (after-end rest)
 
-pub joins_complete : (sort : BinarySort) (x y z : Typed) → IsOperation sort x y z → operation_by sort (type_of x) (type_of y) x y ≡ Some z
+pub joins_complete : (sort : BinaryOperator) (x y z : Typed) → IsOperation sort x y z → binary sort (type_of x) (type_of y) x y ≡ Some z
 joins_complete (bs.Arithmetic op) x y z h = rw (h.2, h.3, h.4) refl
 joins_complete (bs.Shift op) x y z h = rw (h.2, h.3, h.4) refl
 joins_complete (bs.Compare op) x y z (inl h) = rw (h.2, h.3, h.4) refl
@@ -73,7 +73,7 @@ fits_complete : (x : Typed) (t : DType) (y : Typed) → IsConverted x t y → as
 fits_complete x (Int u) y h = rw (h.1, h.2) refl
 fits_complete x Text y h = rw (h.0, h.1) refl
 
-pub stores_complete : (sort : AssignSort) (space : Space) (slot : ℕ) (ks : Typeds) (x : Typed) (rows : Rows) (z : Typed) (last : Rows) →
+pub stores_complete : (sort : AssignOperator) (space : Space) (slot : ℕ) (ks : Typeds) (x : Typed) (rows : Rows) (z : Typed) (last : Rows) →
     IsAssignment sort space slot ks x rows z last → assignment sort space (type_at rows slot) (type_of x) slot ks x rows ≡ Some (z, last)
 stores_complete sg.Set space slot ks x rows z last (inl h) = rw (h.0, h.1, h.2) refl
 stores_complete sg.Set space slot ks x rows z last (inr h) = rw (h.2, fits_complete x h.0 h.1 h.3, h.4, h.5) refl

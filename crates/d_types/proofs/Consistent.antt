@@ -21,17 +21,17 @@ use Rattle.d_values.specs.Numbers.{IsNumber, bits_of}
 use Rattle.d_values.specs.Texts.{longest}
 use Rattle.d_values.specs.Types.{INT32, INT64, UINT32, UINT64, promoted_of, common_of}
 use Rattle.d_values.specs.Widths.{is_width}
-use Rattle.d_types.specs.declared.operators.AssignSort.{AssignSort}
-use Rattle.d_types.specs.declared.operators.AssignSort.TheVariants as sg
-use Rattle.d_types.specs.declared.operators.BinarySort.{BinarySort}
-use Rattle.d_types.specs.declared.operators.BinarySort.TheVariants as bs
+use Rattle.d_parser.specs.declared.operators.AssignOperator.{AssignOperator}
+use Rattle.d_parser.specs.declared.operators.AssignOperator.TheVariants as sg
+use Rattle.d_parser.specs.declared.operators.BinaryOperator.{BinaryOperator}
+use Rattle.d_parser.specs.declared.operators.BinaryOperator.TheVariants as bs
 use Rattle.d_types.specs.declared.typed.Answer.{Answer}
 use Rattle.d_types.specs.declared.typed.Space.{Space}
 use Rattle.d_types.specs.declared.typed.Space.TheVariants as s
 use Rattle.d_types.specs.Constants.{type_of_constant, int_type}
 use Rattle.d_types.specs.Held.{IsWord, Slots, IsConsistent, AreConsistent}
 use Rattle.d_parser.specs.Numbers.{IsSmall, HasSmall, HaveSmall}
-use Rattle.d_types.specs.Operators.{binary_sort, assign_sort, same_type, conversion_node}
+use Rattle.d_types.specs.Operators.{same_type, conversion_node}
 use Rattle.d_types.proofs.Bounds.{both_true}
 use Rattle.d_types.proofs.WellTyped.{Types, AllTypes}
 use Rattle.d_types.specs.Rules.{IsInteger, IsOperation, IsChoice, IsLoad, IsRead}
@@ -128,7 +128,7 @@ module _ (slots : Slots) where
   is : (x z : Typed) → z ≡ x → Fine x → Fine z
   is x z e h = subst Fine (sym e) h
 
-  joins_fine : (sort : BinarySort) (x y z : Typed) → Fine x → Fine y → IsOperation sort x y z → Fine z
+  joins_fine : (sort : BinaryOperator) (x y z : Typed) → Fine x → Fine y → IsOperation sort x y z → Fine z
   joins_fine (bs.Arithmetic op) x y z g h j =
       is _ z j.4 (
         (is_converted slots j.0 (common_of j.0 j.1) x j.2, is_converted slots j.1 (common_of j.0 j.1) y j.3),
@@ -209,7 +209,7 @@ fits_fine slots x (Int u) y h j =
 fits_fine slots x Text y h j = (ap type_of j.1 ∙ j.0, is slots x y j.1 h)
 
 module _ (rows : Rows) (space : Space) (slot : ℕ) (keys : Typeds) (x : Typed) (below : slot < length rows) (good : AreConsistent (type_at rows) keys) (fine : IsConsistent (type_at rows) x) where
-  stores_fine : (sort : AssignSort) (z : Typed) (after : Rows) → IsAssignment sort space slot keys x rows z after → Leaves rows z after
+  stores_fine : (sort : AssignOperator) (z : Typed) (after : Rows) → IsAssignment sort space slot keys x rows z after → Leaves rows z after
   stores_fine sg.Set z after (inl j) =
       let grown = set_grows slot (type_of x) rows j.0 in
       subst (λ (r : Rows). Leaves rows z r) (sym j.2) (
@@ -276,7 +276,7 @@ mutual
       let p = types_leave rows a h.0 h.2 small.0 h.3 in
       let q = types_leave h.2 b h.1 after small.1 h.4 in (
         grows_on rows h.2 after p.0 q.0,
-        joins_fine (type_at after) (binary_sort op) h.0 h.1 z (consistent_on (type_at h.2) (type_at after) q.0.0 h.0 p.1) q.1 h.5,
+        joins_fine (type_at after) op h.0 h.1 z (consistent_on (type_at h.2) (type_at after) q.0.0 h.0 p.1) q.1 h.5,
       )
   types_leave rows (tree.Choice c a b) z after small h =
       let p = types_leave rows c h.0 h.3 small.0 h.5 in
@@ -289,10 +289,10 @@ mutual
       )
   types_leave rows (tree.Assign op x keys a) z after small h =
       let k = all_leave rows keys h.0 h.3 small.0 h.6 in
-      let g = targets_grow h.3 x (type_at_once (assign_sort op)) h.0 h.2 h.4 h.7 in
+      let g = targets_grow h.3 x (type_at_once op) h.0 h.2 h.4 h.7 in
       let p = types_leave h.4 a h.1 h.5 small.1 h.8 in
       let late = grows_on h.3 h.4 h.5 g.0 p.0 in
-      let done = stores_fine h.5 (space_of x) h.2 h.0 h.1 (omega (arith, g.1, p.0.1)) (all_on (type_at h.3) (type_at h.5) late.0 h.0 k.1) p.1 (assign_sort op) z after h.9 in
+      let done = stores_fine h.5 (space_of x) h.2 h.0 h.1 (omega (arith, g.1, p.0.1)) (all_on (type_at h.3) (type_at h.5) late.0 h.0 k.1) p.1 op z after h.9 in
       (grows_on rows h.5 after (grows_on rows h.3 h.5 k.0 late) done.0, done.1)
 
   pub all_leave : (rows : Rows) (ts : Trees) (ks : Typeds) (after : Rows) → HaveSmall ts → AllTypes rows ts ks after → Grows rows after × AreConsistent (type_at after) ks

@@ -22,7 +22,7 @@ use Rattle.d_values.specs.Words.{narrow, order_of, operate}
 use Rattle.firing_reader.specs.declared.firing.Firing.{Firing}
 use Rattle.d_types.specs.declared.typed.Answer.{Answer}
 use Rattle.d_types.specs.declared.typed.Answer.TheVariants as an
-use Rattle.d_types.specs.declared.typed.LogicOperator.TheVariants as lo
+use Rattle.d_parser.specs.declared.operators.LogicOperator.TheVariants as lo
 use Rattle.d_types.specs.declared.typed.Operation.{Operation}
 use Rattle.d_types.specs.declared.typed.Operation.TheVariants as op
 use Rattle.d_types.specs.declared.typed.Space.{Space}

@@ -15,17 +15,17 @@ use Rattle.d_values.specs.declared.int_type.IntType.{IntType}
 use Rattle.d_values.specs.declared.int_type.DType.{DType}
 use Rattle.d_values.specs.declared.int_type.DType.TheVariants.{Int, Text}
 use Rattle.d_types.specs.declared.typed.Space.{Space}
-use Rattle.d_types.specs.declared.operators.BinarySort.{BinarySort}
-use Rattle.d_types.specs.declared.operators.BinarySort.TheVariants as bs
-use Rattle.d_types.specs.declared.operators.AssignSort.{AssignSort}
-use Rattle.d_types.specs.declared.operators.AssignSort.TheVariants as sg
+use Rattle.d_parser.specs.declared.operators.BinaryOperator.{BinaryOperator}
+use Rattle.d_parser.specs.declared.operators.BinaryOperator.TheVariants as bs
+use Rattle.d_parser.specs.declared.operators.AssignOperator.{AssignOperator}
+use Rattle.d_parser.specs.declared.operators.AssignOperator.TheVariants as sg
 use Rattle.d_types.specs.declared.words.Callee.{Callee}
 use Rattle.d_types.specs.declared.words.Callee.TheVariants as f
 use Rattle.d_types.specs.Words.{callee_named}
 use Rattle.d_types.specs.Typed as typed
 use Rattle.d_types.specs.Typed.{Typed, Typeds, end, more, Action, Aggs, ClauseMeant, ScriptMeant}
 use Rattle.d_types.specs.Variables.{Rows}
-use Rattle.d_types.specs.Operators.{same_type, conversion_node, binary_sort, assign_sort}
+use Rattle.d_types.specs.Operators.{same_type, conversion_node}
 use Rattle.d_types.specs.Targets.{space_of}
 use Rattle.d_types.specs.Constants.{constant}
 use Rattle.d_types.specs.Aggregations.{first}
@@ -51,7 +51,7 @@ one_of_both false t u x = refl
 in_converted : (t u : IntType) (x : Typed) → place_count (conversion_node t u x) ≡ place_count x
 in_converted t u x = one_of_both (same_type t u) t u x
 
-in_joined : (sort : BinarySort) (x y z : Typed) → IsOperation sort x y z → place_count z ≡ place_count x + place_count y
+in_joined : (sort : BinaryOperator) (x y z : Typed) → IsOperation sort x y z → place_count z ≡ place_count x + place_count y
 in_joined (bs.Arithmetic op) x y z h = rw (h.4, in_converted _ _ x, in_converted _ _ y) refl
 in_joined (bs.Shift op) x y z h = rw (h.4, in_converted _ _ x) refl
 in_joined (bs.Compare op) x y z (inl h) = rw (h.4, in_converted _ _ x, in_converted _ _ y) refl
@@ -71,7 +71,7 @@ in_fitted : (x : Typed) (t : DType) (y : Typed) → IsConverted x t y → place_
 in_fitted x (Int u) y h = rw (h.2) (in_converted h.0 u x)
 in_fitted x Text y h = rw (h.1) refl
 
-in_stored : (sort : AssignSort) (space : Space) (slot : ℕ) (ks : Typeds) (x : Typed) (rows : Rows) (z : Typed) (last : Rows) →
+in_stored : (sort : AssignOperator) (space : Space) (slot : ℕ) (ks : Typeds) (x : Typed) (rows : Rows) (z : Typed) (last : Rows) →
     IsAssignment sort space slot ks x rows z last → place_count z ≡ suc (place_count_in ks) + place_count x
 in_stored sg.Set space slot ks x rows z last (inl h) = rw (h.1) refl
 in_stored sg.Set space slot ks x rows z last (inr h) = rw (h.4, in_fitted x h.0 h.1 h.3) refl
@@ -96,11 +96,11 @@ mutual
   few rows (tree.Before line by x keys) z last h = let keyed = few_in rows keys h.0 h.2 h.3 in rw (h.5.2) (omega (arith, keyed))
   few rows (tree.After x keys by) z last h = let keyed = few_in rows keys h.0 h.2 h.3 in rw (h.5.2) (omega (arith, keyed))
   few rows (tree.Binary op a b) z last h =
-      grind (arith, few rows a h.0 h.2 h.3, few h.2 b h.1 last h.4, in_joined (binary_sort op) h.0 h.1 z h.5)
+      grind (arith, few rows a h.0 h.2 h.3, few h.2 b h.1 last h.4, in_joined op h.0 h.1 z h.5)
   few rows (tree.Choice a b e) z last h =
       grind (arith, few rows a h.0 h.3 h.5, few h.3 b h.1 h.4 h.6, few h.4 e h.2 last h.7, in_chosen h.0 h.1 h.2 z h.8)
   few rows (tree.Assign op x keys a) z last h =
-      grind (arith, few_in rows keys h.0 h.3 h.6, few h.4 a h.1 h.5 h.8, in_stored (assign_sort op) (space_of x) h.2 h.0 h.1 h.5 z last h.9)
+      grind (arith, few_in rows keys h.0 h.3 h.6, few h.4 a h.1 h.5 h.8, in_stored op (space_of x) h.2 h.0 h.1 h.5 z last h.9)
 
   few_in : (rows : Rows) (ts : Trees) (ks : Typeds) (last : Rows) → AllTypes rows ts ks last → place_count_in ks ≤ source.places_in ts
   few_in rows tree.end ks last h = rw (h.0) (omega arith)

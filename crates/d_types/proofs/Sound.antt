@@ -16,10 +16,10 @@ use Rattle.d_types.specs.declared.typed.Answer.TheVariants as w
 use Rattle.d_types.specs.declared.typed.BuiltIn.{BuiltIn}
 use Rattle.d_types.specs.declared.typed.Space.{Space}
 use Rattle.d_types.specs.declared.typed.Space.TheVariants as s
-use Rattle.d_types.specs.declared.operators.BinarySort.{BinarySort}
-use Rattle.d_types.specs.declared.operators.BinarySort.TheVariants as bs
-use Rattle.d_types.specs.declared.operators.AssignSort.{AssignSort}
-use Rattle.d_types.specs.declared.operators.AssignSort.TheVariants as sg
+use Rattle.d_parser.specs.declared.operators.BinaryOperator.{BinaryOperator}
+use Rattle.d_parser.specs.declared.operators.BinaryOperator.TheVariants as bs
+use Rattle.d_parser.specs.declared.operators.AssignOperator.{AssignOperator}
+use Rattle.d_parser.specs.declared.operators.AssignOperator.TheVariants as sg
 use Rattle.d_types.specs.declared.words.Callee.{Callee}
 use Rattle.d_types.specs.declared.words.Callee.TheVariants as f
 use Rattle.d_types.specs.Steps.Faults.{◌>>=◌, Fault, Cause, refuse, unless}
@@ -31,8 +31,8 @@ use Rattle.d_types.specs.Steps.Typing.{with_typed}
 use Rattle.d_types.specs.Variables.{Rows, find, type_at}
 use Rattle.d_types.specs.Steps.Variables.{keys_fit}
 use Rattle.d_types.proofs.Tables.{keys_are}
-use Rattle.d_types.specs.Operators.{binary_sort, assign_sort, conversion_node}
-use Rattle.d_types.specs.Steps.Operators.{unary, operation_by}
+use Rattle.d_types.specs.Operators.{conversion_node}
+use Rattle.d_types.specs.Steps.Operators.{unary, binary}
 use Rattle.d_types.specs.Steps.Operators.{choice, as_type}
 use Rattle.d_types.specs.Lines.{line_of_variable}
 use Rattle.d_types.specs.Targets.{settle_slot, space_of, type_at_once}
@@ -90,7 +90,7 @@ pub cast_sound : (to : IntType) (k : DType) (x z : Typed) → type_of x ≡ k �
 cast_sound to (Int t) x z p e = (t, p, sym (some_is _ _ e))
 cast_sound to Text x z p e = cc
 
-pub joins_sound : (sort : BinarySort) (k l : DType) (x y z : Typed) → type_of x ≡ k → type_of y ≡ l → operation_by sort k l x y ≡ Some z → IsOperation sort x y z
+pub joins_sound : (sort : BinaryOperator) (k l : DType) (x y z : Typed) → type_of x ≡ k → type_of y ≡ l → binary sort k l x y ≡ Some z → IsOperation sort x y z
 joins_sound (bs.Arithmetic op) (Int t) (Int u) x y z p q e = (t, u, p, q, sym (some_is _ _ e))
 joins_sound (bs.Arithmetic op) Text l x y z p q e = cc
 joins_sound (bs.Arithmetic op) (Int t) Text x y z p q e = cc
@@ -197,7 +197,7 @@ set_sound space (Some t) slot ks x rows z last p h =
     let q = stored_sound space slot t ks rows (as_type (type_of x) t x) z last h in
     inr (t, q.0, p, fits_sound x _ t q.0 refl q.1, q.2, q.3)
 
-pub stores_sound : (sort : AssignSort) (space : Space) (o : Option DType) (k : DType) (slot : ℕ) (ks : Typeds) (x : Typed) (rows : Rows) (z : Typed) (last : Rows) →
+pub stores_sound : (sort : AssignOperator) (space : Space) (o : Option DType) (k : DType) (slot : ℕ) (ks : Typeds) (x : Typed) (rows : Rows) (z : Typed) (last : Rows) →
     type_at rows slot ≡ o → type_of x ≡ k → assignment sort space o k slot ks x rows ≡ Some (z, last) → IsAssignment sort space slot ks x rows z last
 stores_sound sg.Set space o k slot ks x rows z last p q h = set_sound space o slot ks x rows z last p h
 stores_sound (sg.Arithmetic op) space (Some (Int t)) (Int u) slot ks x rows z last p q h = let r = two _ z rows last h in (t, u, p, q, r.0, r.1)
@@ -297,13 +297,13 @@ mutual
   sound rows (tree.Binary op a b) z last h =
       let p = bound (expr rows a) _ _ h in
       let q = bound (expr p.0.1 b) _ _ p.2 in
-      let f = fitted (line_of a) q.0.1 (operation_by (binary_sort op) (type_of p.0.0) (type_of q.0.0) p.0.0 q.0.0) z last q.2 in (
+      let f = fitted (line_of a) q.0.1 (binary op (type_of p.0.0) (type_of q.0.0) p.0.0 q.0.0) z last q.2 in (
         p.0.0,
         q.0.0,
         p.0.1,
         sound rows a p.0.0 p.0.1 p.1,
         subst (Types p.0.1 b q.0.0) f.1 (sound p.0.1 b q.0.0 q.0.1 q.1),
-        joins_sound (binary_sort op) _ _ p.0.0 q.0.0 z refl refl f.0,
+        joins_sound op _ _ p.0.0 q.0.0 z refl refl f.0,
       )
   sound rows (tree.Choice c a b) z last h =
       let p = bound (expr rows c) _ _ h in
@@ -322,7 +322,7 @@ mutual
       )
   sound rows (tree.Assign op x keys a) z last h =
       let p = bound (exprs end rows keys) _ _ h in
-      let q = bound (target p.0.1 x (type_at_once (assign_sort op)) p.0.0) _ _ p.2 in
+      let q = bound (target p.0.1 x (type_at_once op) p.0.0) _ _ p.2 in
       let r = bound (expr q.0.1 a) _ _ q.2 in (
         p.0.0,
         r.0.0,
@@ -333,8 +333,8 @@ mutual
         alone rows keys p.0.0 p.0.1 (all_sound end rows keys p.0.0 p.0.1 p.1),
         targets_sound p.0.1 x _ p.0.0 q.0.0 q.0.1 q.1,
         sound q.0.1 a r.0.0 r.0.1 r.1,
-        stores_sound (assign_sort op) (space_of x) _ _ q.0.0 p.0.0 r.0.0 r.0.1 z last refl refl
-            (fitted_pair (line_of_variable x) (assignment (assign_sort op) (space_of x) (type_at r.0.1 q.0.0) (type_of r.0.0) q.0.0 p.0.0 r.0.0 r.0.1) z last r.2),
+        stores_sound op (space_of x) _ _ q.0.0 p.0.0 r.0.0 r.0.1 z last refl refl
+            (fitted_pair (line_of_variable x) (assignment op (space_of x) (type_at r.0.1 q.0.0) (type_of r.0.0) q.0.0 p.0.0 r.0.0 r.0.1) z last r.2),
       )
 
   all_sound : (done : Typeds) (rows : Rows) (ts : Trees) (ks : Typeds) (last : Rows) → exprs done rows ts ≡ Ok (ks, last) →

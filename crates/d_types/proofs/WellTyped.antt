@@ -11,7 +11,7 @@ use Rattle.d_types.specs.Constants.{int_type, constant, declared_type}
 use Rattle.d_types.specs.Steps.Statements.{text_of_constant}
 use Rattle.d_types.specs.Constants.{declared_kinds}
 use Rattle.d_types.specs.Words.{callee_named, aggregating_named}
-use Rattle.d_types.specs.Operators.{binary_sort, assign_sort, conversion_node}
+use Rattle.d_types.specs.Operators.{conversion_node}
 use Rattle.d_types.specs.Targets.{space_of, type_at_once}
 use Rattle.d_types.specs.Spelling.{SpellsFormat}
 use Rattle.d_types.specs.Aggregations.{arguments_fit, first, function}
@@ -43,15 +43,15 @@ abbrev mutual
       × IsStep by Answer.Old (space_of v) slot ks after z
   Types rows (Tree.Binary op a b) z after =
       (x : Typed) × (y : Typed) × (mid : Rows) × Types rows a x mid × Types mid b y after
-      × IsOperation (binary_sort op) x y z
+      × IsOperation op x y z
   Types rows (Tree.Choice c a b) z after =
       (x : Typed) × (y : Typed) × (u : Typed) × (mid : Rows) × (late : Rows)
       × Types rows c x mid × Types mid a y late × Types late b u after × IsChoice x y u z
   Types rows (Tree.Assign op v keys a) z after =
       (ks : Typeds) × (x : Typed) × (slot : ℕ) × (mid : Rows) × (late : Rows) × (last : Rows)
-      × AllTypes rows keys ks mid × IsTargetOf mid v (type_at_once (assign_sort op)) ks slot late
+      × AllTypes rows keys ks mid × IsTargetOf mid v (type_at_once op) ks slot late
       × Types late a x last
-      × IsAssignment (assign_sort op) (space_of v) slot ks x last z after
+      × IsAssignment op (space_of v) slot ks x last z after
 
   pub AllTypes : Rows → Trees → Typeds → Rows → Type 0
   AllTypes rows Trees.end ks after = (ks ≡ end) × (after ≡ rows)

@@ -14,7 +14,7 @@ use Rattle.d_types.specs.Typed.{ScriptMeant, Evaluate, Trace, Print, Exit, Aggre
 use Rattle.d_types.specs.Variables.{Rows, find, type_at, kinds_of_typed}
 use Rattle.d_types.specs.Words.{built_in, callee_named, aggregating_named}
 use Rattle.d_types.specs.Targets.{space_of, type_at_once, new_row}
-use Rattle.d_types.specs.Operators.{binary_sort, assign_sort, conversion_node}
+use Rattle.d_types.specs.Operators.{conversion_node}
 use Rattle.d_types.specs.Lines.{line_of_variable, line_of}
 use Rattle.d_types.specs.Constants.{constant, declared_kinds}
 use Rattle.d_types.specs.{Needs.count, Needs.need, Constants.int_type, Constants.declared_type}
@@ -136,7 +136,7 @@ abbrev mutual
   expression (Tree.Binary op a b) = do
     x ← expression a
     y ← expression b
-    by_rule (IsOperation (binary_sort op) x y) (TypeFault.Mismatch (line_of a))
+    by_rule (IsOperation op x y) (TypeFault.Mismatch (line_of a))
   expression (Tree.Choice c a b) = do
     x ← expression c
     y ← expression a
@@ -144,10 +144,10 @@ abbrev mutual
     by_rule (IsChoice x y w) (TypeFault.Mismatch (line_of c))
   expression (Tree.Assign op v keys a) = do
     ks ← expressions keys
-    slot ← target v (type_at_once (assign_sort op)) ks
+    slot ← target v (type_at_once op) ks
     x ← expression a
     by_change (λ known z after.
-        IsAssignment (assign_sort op) (space_of v) slot ks x known.rows z after.rows
+        IsAssignment op (space_of v) slot ks x known.rows z after.rows
         × (after.aggs ≡ known.aggs))
         (TypeFault.Mismatch (line_of_variable v))
 

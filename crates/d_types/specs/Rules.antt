@@ -4,8 +4,8 @@ use Rattle.std.specs.Prelude.{◌≡◌, ℕ, nat_le, List, [], ◌∷◌, ◌++
 use Rattle.std.specs.Prelude.{None}
 use Rattle.d_parser.specs.declared.tree.Variable.{Variable}
 use Rattle.d_types.specs.Vocabulary.{Int, Text, Step, IntType, DType, promoted_of, common_of}
-use Rattle.d_types.specs.Vocabulary.{Answer, BuiltIn, Space, Operation, BinarySort, AssignSort}
-use Rattle.d_types.specs.Vocabulary.{Callee, AggFn, MOST_KEYS}
+use Rattle.d_types.specs.Vocabulary.{Answer, BuiltIn, Space, Operation, BinaryOperator}
+use Rattle.d_types.specs.Vocabulary.{AssignOperator, Callee, AggFn, MOST_KEYS}
 use Rattle.d_types.specs.Typed.{Typed, Typeds, end, more, type_of, Agg, Aggs}
 use Rattle.d_types.specs.Variables.{Rows, find, type_at, keys_at, set_type, kinds_of_typed}
 use Rattle.d_types.specs.Needs.{count}
@@ -23,22 +23,22 @@ HasTextType x = type_of x ≡ Text
 -- ---- operators
 
 -- z is the operator between x and y
-abbrev pub IsOperation : BinarySort → Typed → Typed → Typed → Type 0
-IsOperation (BinarySort.Arithmetic op) x y z =
+abbrev pub IsOperation : BinaryOperator → Typed → Typed → Typed → Type 0
+IsOperation (BinaryOperator.Arithmetic op) x y z =
     (t : IntType) × (u : IntType) × IsInteger x t × IsInteger y u
     × (z ≡ Typed.Operate (Operation.Arithmetic op (common_of t u))
     (conversion_node t (common_of t u) x)
     (conversion_node u (common_of t u) y))
-IsOperation (BinarySort.Shift op) x y z =
+IsOperation (BinaryOperator.Shift op) x y z =
     (t : IntType) × (u : IntType) × IsInteger x t × IsInteger y u
     × (z ≡ Typed.Operate (Operation.Shift op (promoted_of t))
     (conversion_node t (promoted_of t) x) y)
-IsOperation (BinarySort.Compare op) x y z =
+IsOperation (BinaryOperator.Compare op) x y z =
     ((t : IntType) × (u : IntType) × IsInteger x t × IsInteger y u
     × (z ≡ Typed.Compare op (common_of t u) (conversion_node t (common_of t u) x)
     (conversion_node u (common_of t u) y)))
     ⊎ (HasTextType x × HasTextType y × (z ≡ Typed.CompareText op x y))
-IsOperation (BinarySort.Logic op) x y z =
+IsOperation (BinaryOperator.Logic op) x y z =
     (t : IntType) × (u : IntType) × IsInteger x t × IsInteger y u × (z ≡ Typed.Logic op x y)
 
 -- z is `x ? y : w`
@@ -90,20 +90,20 @@ IsConverted x (Int u) y = (t : IntType) × IsInteger x t × (y ≡ conversion_no
 IsConverted x Text y = HasTextType x × (y ≡ x)
 
 -- z assigns x to the slot
-abbrev pub IsAssignment : AssignSort → Space → ℕ → Typeds → Typed → Rows → Typed → Rows → Type 0
-IsAssignment AssignSort.Set space slot keys x rows z after =
+abbrev pub IsAssignment : AssignOperator → Space → ℕ → Typeds → Typed → Rows → Typed → Rows → Type 0
+IsAssignment AssignOperator.Set space slot keys x rows z after =
     ((type_at rows slot ≡ None)
     × (z ≡ Typed.Assign (record { space = space; slot = slot; holds = type_of x }) keys x)
     × (after ≡ set_type slot (type_of x) rows))
     ⊎ ((t : DType) × (y : Typed) × (type_at rows slot ≡ Some t) × IsConverted x t y
     × (z ≡ Typed.Assign (record { space = space; slot = slot; holds = t }) keys y) × (after ≡ rows))
-IsAssignment (AssignSort.Arithmetic op) space slot keys x rows z after =
+IsAssignment (AssignOperator.Arithmetic op) space slot keys x rows z after =
     (t : IntType) × (u : IntType) × (type_at rows slot ≡ Some (Int t)) × IsInteger x u
     × (z ≡ Typed.Update (Operation.Arithmetic op (common_of t u))
     (record { space = space; slot = slot; holds = Int t }) keys (conversion_node u
     (common_of t u) x))
     × (after ≡ rows)
-IsAssignment (AssignSort.Shift op) space slot keys x rows z after =
+IsAssignment (AssignOperator.Shift op) space slot keys x rows z after =
     (t : IntType) × (u : IntType) × (type_at rows slot ≡ Some (Int t)) × IsInteger x u
     × (z ≡ Typed.Update (Operation.Shift op (promoted_of t))
     (record { space = space; slot = slot; holds = Int t }) keys x) × (after ≡ rows)

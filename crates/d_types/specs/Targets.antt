@@ -2,7 +2,7 @@
 -- Source: Dynamic Tracing Guide, "Variables".
 use Rattle.std.specs.Prelude.{ℕ, List, Option, Some, None}
 use Rattle.d_parser.specs.declared.tree.Variable.{Variable}
-use Rattle.d_types.specs.Vocabulary.{Int, DType, INT64, Kind, Space, MOST_KEYS, AssignSort}
+use Rattle.d_types.specs.Vocabulary.{Int, DType, INT64, Kind, Space, MOST_KEYS, AssignOperator}
 use Rattle.d_types.specs.Variables.{Row, Rows, set_type}
 
 -- ---- variables that are assigned
@@ -26,6 +26,6 @@ space_of (Variable.Plain line name) = Space.Thread
 space_of (Variable.Thread line name) = Space.Thread
 
 -- the type that an assignment gives its target at once
-abbrev pub type_at_once : AssignSort → Option DType
-type_at_once AssignSort.Set = None
+abbrev pub type_at_once : AssignOperator → Option DType
+type_at_once AssignOperator.Set = None
 type_at_once sort = Some (Int INT64)

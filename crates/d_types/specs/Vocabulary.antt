@@ -50,13 +50,11 @@ pub use Rattle.d_types.specs.declared.format.Flags.{Flags}
 pub use Rattle.d_types.specs.declared.format.Place.{Place}
 pub use Rattle.d_types.specs.declared.format.TheConstants.{MOST_WIDTH}
 pub use Rattle.d_types.specs.declared.needs.TheConstants.{REGISTERS}
-pub use Rattle.d_types.specs.declared.operators.AssignSort.{AssignSort}
-pub use Rattle.d_types.specs.declared.operators.BinarySort.{BinarySort}
 pub use Rattle.d_types.specs.declared.typed.Answer.{Answer}
 pub use Rattle.d_types.specs.declared.typed.BuiltIn.{BuiltIn}
 pub use Rattle.d_types.specs.declared.typed.Conversion.{Conversion}
 pub use Rattle.d_types.specs.declared.typed.Letter.{Letter}
-pub use Rattle.d_types.specs.declared.typed.LogicOperator.{LogicOperator}
+pub use Rattle.d_parser.specs.declared.operators.LogicOperator.{LogicOperator}
 pub use Rattle.d_types.specs.declared.typed.Operation.{Operation}
 pub use Rattle.d_types.specs.declared.typed.Piece.{Piece}
 pub use Rattle.d_types.specs.declared.typed.Space.{Space}

@@ -14,11 +14,10 @@ ghost use Rattle.d_types.specs.Steps.Typing.{fitting, beside};
 use crate::constants::integer;
 use crate::fault::TypeFault;
 use crate::operations::{as_type, boxed, convert};
-use crate::operators::AssignSort;
 use crate::targets::variable_at;
 use crate::typed::{Answer, Operation, Space, TypedExpr, Variable};
 use crate::variables::{Entry, set_type, type_at};
-use d_parser::{IntegerType, Step};
+use d_parser::{AssignOperator, IntegerType, Step};
 use d_values::{ArithmeticOperator, DType, IntType, common, promotion_of};
 use std::alloc::Global;
 
@@ -31,12 +30,14 @@ pub(crate) struct Assignee {
 }
 
 /// The type that an assignment gives its target at once.
-pub(crate) fn type_at_once(sort: AssignSort) -> Option<DType>
-    ensures { result ≡ spec.type_at_once sort }
+pub(crate) fn type_at_once(operator: AssignOperator) -> Option<DType>
+    ensures { result ≡ spec.type_at_once operator }
 {
-    match sort {
-        AssignSort::Set => None,
-        AssignSort::Arithmetic(_) | AssignSort::Shift(_) => Some(integer(IntegerType::Int64)),
+    match operator {
+        AssignOperator::Set => None,
+        AssignOperator::Arithmetic(_) | AssignOperator::Shift(_) => Some(integer(
+            IntegerType::Int64,
+        )),
     }
 }
 
@@ -155,22 +156,22 @@ fn update_in_common(
 pub(crate) fn assignment(
     alloc: Global,
     table: &mut [Entry],
-    sort: AssignSort,
+    operator: AssignOperator,
     to: Assignee,
     x: TypedExpr,
 ) -> Result<Option<TypedExpr>, TypeFault>
     ensures ok { IfOk result (λ y. option_map (λ z. (typed_of z, rows_of_entries table.new)) y
-        ≡ steps.assignment sort to.space (type_at (rows_of_entries table.old) to.slot)
+        ≡ steps.assignment operator to.space (type_at (rows_of_entries table.old) to.slot)
         (type_of (typed_of x)) to.slot (typeds_of to.keys.items) (typed_of x)
         (rows_of_entries table.old)) }
     ensures err { OnlyMemory result }
 {
-    match (sort, type_at(table, to.slot), x.type_of()) {
-        (AssignSort::Set, _, _) => store(alloc, table, to, x),
-        (AssignSort::Arithmetic(op), Some(DType::Int(t)), DType::Int(u)) => {
+    match (operator, type_at(table, to.slot), x.type_of()) {
+        (AssignOperator::Set, _, _) => store(alloc, table, to, x),
+        (AssignOperator::Arithmetic(op), Some(DType::Int(t)), DType::Int(u)) => {
             update_in_common(alloc, op, t, to, u, x)
         }
-        (AssignSort::Shift(op), Some(DType::Int(t)), DType::Int(_)) => {
+        (AssignOperator::Shift(op), Some(DType::Int(t)), DType::Int(_)) => {
             let operation = Operation::Shift(op, promotion_of(t));
             update_of(alloc, operation, DType::Int(t), to, x)
         }

@@ -20,7 +20,6 @@ use crate::constants::{int_type, integer, type_of_constant};
 use crate::fault::TypeFault;
 use crate::needs::{REGISTERS, fits};
 use crate::operations::{as_type, binary, choice, unary};
-use crate::operators::{AssignSort, assign_sort, binary_sort};
 use crate::targets::{line_of_variable, read, space_of, target};
 use crate::typed::{Answer, TypedExpr};
 use crate::variables::{Entry, type_at};
@@ -207,7 +206,7 @@ fn binary_rest(
         (spec.beside rows (operators.binary operator (type_of (typed_of x))
         (type_of (typed_of y)) (typed_of x) (typed_of y)))) }
 {
-    let typed = binary(alloc, binary_sort(operator), x, y)?;
+    let typed = binary(alloc, operator, x, y)?;
     typed_or_mismatch(line, typed)
 }
 
@@ -392,27 +391,26 @@ fn assign_rest(
         (typeds_of to.entry.keys.items) (tree_of value.now)) }
 {
     let line = line_of_variable(to.variable);
-    let sort = assign_sort(operator);
-    let assignee = assignee(alloc, table, sort, to)?;
+    let assignee = assignee(alloc, table, operator, to)?;
     let x = expr(alloc, table, value)?;
-    assignment_rest(alloc, table, line, sort, assignee, x)
+    assignment_rest(alloc, table, line, operator, assignee, x)
 }
 
 // The slot that is assigned, under its keys.
 fn assignee(
     alloc: Global,
     table: &mut Vec<Entry>,
-    sort: AssignSort,
+    operator: AssignOperator,
     to: TypedTarget<'_>,
 ) -> Result<Assignee, TypeFault>
     ensures slot { Gives (λ a. (a.slot, rows_of_entries table.new.items)) result
         (target_steps.target (rows_of_entries table.old.items) to.entry.variable.now
-        (targets.type_at_once sort) (typeds_of to.entry.keys.items)) }
+        (targets.type_at_once operator) (typeds_of to.entry.keys.items)) }
     ensures rest { IfOk result (λ a. (a.space ≡ targets.space_of to.entry.variable.now)
         × (a.keys ≡ to.entry.keys)) }
 {
     let TypedTarget { variable, keys } = to;
-    let slot = target(alloc, table, variable, type_at_once(sort), &keys)?;
+    let slot = target(alloc, table, variable, type_at_once(operator), &keys)?;
     let space = space_of(variable);
     Ok(Assignee { space, slot, keys })
 }
@@ -422,17 +420,17 @@ fn assignment_rest(
     alloc: Global,
     table: &mut [Entry],
     line: usize,
-    sort: AssignSort,
+    operator: AssignOperator,
     to: Assignee,
     x: TypedExpr,
 ) -> Result<TypedExpr, TypeFault>
     ensures { Gives (λ y. (typed_of y, rows_of_entries table.new)) result
         (spec.fitting line
-        (target_steps.assignment sort to.space (type_at (rows_of_entries table.old) to.slot)
+        (target_steps.assignment operator to.space (type_at (rows_of_entries table.old) to.slot)
         (type_of (typed_of x)) to.slot (typeds_of to.keys.items) (typed_of x)
         (rows_of_entries table.old))) }
 {
-    let typed = assignment(alloc, table, sort, to, x)?;
+    let typed = assignment(alloc, table, operator, to, x)?;
     match typed {
         Some(y) => Ok(y),
         None => Err(TypeFault::Mismatch { line }),

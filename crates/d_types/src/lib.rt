@@ -20,7 +20,6 @@ pub mod laws;
 pub mod meaning;
 mod needs;
 mod operations;
-mod operators;
 mod targets;
 mod typed;
 mod typed_script;
@@ -33,8 +32,8 @@ pub use effect::Effect;
 pub use fault::TypeFault;
 pub use needs::REGISTERS;
 pub use typed::{
-    Answer, BuiltIn, Conversion, Letter, LogicOperator, Operation, Piece, Space, TypedAggregation,
-    TypedClause, TypedExpr, TypedStmt, Variable,
+    Answer, BuiltIn, Conversion, Letter, Operation, Piece, Space, TypedAggregation, TypedClause,
+    TypedExpr, TypedStmt, Variable,
 };
 pub use typed_script::TypedScript;
 pub use variables::{MOST_KEYS, kind_of};

@@ -4,7 +4,8 @@ ghost use Rattle.std.specs.Prelude.{◌≡◌, ◌+◌, ◌&&◌, max, nat_le};
 ghost use Rattle.d_types.specs.Typed.{typed_of, typeds_of};
 ghost use Rattle.d_types.specs.Needs as spec;
 
-use crate::typed::{LogicOperator, TypedExpr};
+use crate::typed::TypedExpr;
+use d_parser::LogicOperator;
 
 /// The most registers that an expression may need.
 pub const REGISTERS: usize = 6;

@@ -11,9 +11,8 @@ ghost use Rattle.d_types.specs.Operators as spec;
 ghost use Rattle.d_types.specs.Steps.Operators as steps;
 
 use crate::fault::TypeFault;
-use crate::operators::BinarySort;
-use crate::typed::{LogicOperator, Operation, TypedExpr};
-use d_parser::UnaryOperator;
+use crate::typed::{Operation, TypedExpr};
+use d_parser::{BinaryOperator, LogicOperator, UnaryOperator};
 use d_values::{ComparisonOperator, DType, IntType, ShiftOperator, common, promotion_of};
 use std::alloc::Global;
 
@@ -212,44 +211,44 @@ fn logic(
 // What an operator makes of two integers of these types.
 fn of_integers(
     alloc: Global,
-    sort: BinarySort,
+    operator: BinaryOperator,
     types: (IntType, IntType),
     x: TypedExpr,
     y: TypedExpr,
 ) -> Result<Option<TypedExpr>, TypeFault>
     ensures ok { IfOk result (λ z. option_map typed_of z
-        ≡ steps.operation_by sort (Int types.0) (Int types.1) (typed_of x) (typed_of y)) }
+        ≡ steps.binary operator (Int types.0) (Int types.1) (typed_of x) (typed_of y)) }
     ensures err { OnlyMemory result }
 {
     let (t, u) = types;
-    match sort {
-        BinarySort::Arithmetic(op) => {
+    match operator {
+        BinaryOperator::Arithmetic(op) => {
             let (x, y) = in_common(alloc, t, u, x, y)?;
             operate(alloc, Operation::Arithmetic(op, common(t, u)), x, y)
         }
-        BinarySort::Shift(op) => shift(alloc, op, t, x, y),
-        BinarySort::Compare(op) => {
+        BinaryOperator::Shift(op) => shift(alloc, op, t, x, y),
+        BinaryOperator::Compare(op) => {
             let (x, y) = in_common(alloc, t, u, x, y)?;
             compare_integers(alloc, op, common(t, u), x, y)
         }
-        BinarySort::Logic(op) => logic(alloc, op, x, y),
+        BinaryOperator::Logic(op) => logic(alloc, op, x, y),
     }
 }
 
 // What an operator makes of two texts.
 fn of_texts(
     alloc: Global,
-    sort: BinarySort,
+    operator: BinaryOperator,
     x: TypedExpr,
     y: TypedExpr,
 ) -> Result<Option<TypedExpr>, TypeFault>
     ensures ok { IfOk result (λ z. option_map typed_of z
-        ≡ steps.operation_by sort Text Text (typed_of x) (typed_of y)) }
+        ≡ steps.binary operator Text Text (typed_of x) (typed_of y)) }
     ensures err { OnlyMemory result }
 {
-    match sort {
-        BinarySort::Compare(op) => compare_texts(alloc, op, x, y),
-        BinarySort::Arithmetic(_) | BinarySort::Shift(_) | BinarySort::Logic(_) => {
+    match operator {
+        BinaryOperator::Compare(op) => compare_texts(alloc, op, x, y),
+        BinaryOperator::Arithmetic(_) | BinaryOperator::Shift(_) | BinaryOperator::Logic(_) => {
             drop(x);
             drop(y);
             Ok(None)
@@ -260,18 +259,18 @@ fn of_texts(
 /// What an operator makes of two operands.
 pub(crate) fn binary(
     alloc: Global,
-    sort: BinarySort,
+    operator: BinaryOperator,
     x: TypedExpr,
     y: TypedExpr,
 ) -> Result<Option<TypedExpr>, TypeFault>
     ensures ok { IfOk result
-        (λ z. option_map typed_of z ≡ steps.operation_by sort (type_of (typed_of x))
+        (λ z. option_map typed_of z ≡ steps.binary operator (type_of (typed_of x))
         (type_of (typed_of y)) (typed_of x) (typed_of y)) }
     ensures err { OnlyMemory result }
 {
     match (x.type_of(), y.type_of()) {
-        (DType::Int(t), DType::Int(u)) => of_integers(alloc, sort, (t, u), x, y),
-        (DType::Text, DType::Text) => of_texts(alloc, sort, x, y),
+        (DType::Int(t), DType::Int(u)) => of_integers(alloc, operator, (t, u), x, y),
+        (DType::Text, DType::Text) => of_texts(alloc, operator, x, y),
         _ => {
             drop(x);
             drop(y);

@@ -3,7 +3,7 @@
 
 use aggregations::AggFn;
 use d_lexer::ByteString;
-use d_parser::{Description, Step, UnaryOperator};
+use d_parser::{Description, LogicOperator, Step, UnaryOperator};
 use d_values::{ArithmeticOperator, ComparisonOperator, DType, IntType, Kind, ShiftOperator, Text};
 
 /// A built-in variable (Dynamic Tracing Guide, "Built-in Variables").
@@ -58,17 +58,6 @@ pub enum Operation {
     Arithmetic(ArithmeticOperator, IntType),
     /// `<<` and `>>`, in the left operand's type.
     Shift(ShiftOperator, IntType),
-}
-
-/// An operator on two truth values. It gives 0 or 1.
-#[derive(Clone, Copy, Debug, PartialEq, Eq)]
-pub enum LogicOperator {
-    /// `&&`
-    And,
-    /// `^^`
-    Xor,
-    /// `||`
-    Or,
 }
 
 /// Which value `++` and `--` give: before a variable its new one, after it the old one.

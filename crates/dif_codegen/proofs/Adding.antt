@@ -11,7 +11,7 @@ use Rattle.std.proofs.lemmas.Option.{slice_get_read}
 use Rattle.d_types.specs.Needs.{count, need_of_keys}
 use Rattle.dif_codegen.proofs.Simulation.{count_fits}
 use Rattle.d_types.specs.Typed.{Typed, Typeds, Logic, end, more, typed_of, typeds_of}
-use Rattle.d_types.specs.declared.typed.LogicOperator.{LogicOperator}
+use Rattle.d_parser.specs.declared.operators.LogicOperator.{LogicOperator}
 use Rattle.dif_validate.specs.declared.register.Reg.{Reg}
 use Rattle.dif_validate.specs.declared.register.Reg.TheVariants.{R1}
 use Rattle.dif_codegen.specs.Steps.Code.{code_of, keys_code, pushing, element_code, fetching}

@@ -24,7 +24,7 @@ use Rattle.d_types.specs.declared.typed.Answer.{Answer}
 use Rattle.d_types.specs.declared.typed.Answer.TheVariants as an
 use Rattle.d_types.specs.declared.typed.BuiltIn.{BuiltIn}
 use Rattle.d_types.specs.declared.typed.BuiltIn.TheVariants as bi
-use Rattle.d_types.specs.declared.typed.LogicOperator.TheVariants as lo
+use Rattle.d_parser.specs.declared.operators.LogicOperator.TheVariants as lo
 use Rattle.d_types.specs.declared.typed.Operation.{Operation}
 use Rattle.d_types.specs.declared.typed.Operation.TheVariants as op
 use Rattle.d_types.specs.declared.typed.Variable.{Variable}

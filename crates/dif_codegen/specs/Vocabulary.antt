@@ -12,7 +12,7 @@ pub use Rattle.d_types.specs.Storage.{Variables, var_of}
 pub use Rattle.d_types.specs.Typed.{Typed, ClauseMeant, ScriptMeant}
 pub use Rattle.d_types.specs.declared.typed.Answer.{Answer}
 pub use Rattle.d_types.specs.declared.typed.BuiltIn.{BuiltIn}
-pub use Rattle.d_types.specs.declared.typed.LogicOperator.{LogicOperator}
+pub use Rattle.d_parser.specs.declared.operators.LogicOperator.{LogicOperator}
 pub use Rattle.d_types.specs.declared.typed.Operation.{Operation}
 pub use Rattle.d_types.specs.declared.typed.Space.{Space}
 pub use Rattle.d_values.specs.Storage.{variables}

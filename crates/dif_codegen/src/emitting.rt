@@ -19,8 +19,8 @@ use crate::draft::{
 };
 use crate::keys::{Target, after, fetch, lower, save};
 use crate::operators::register;
-use d_parser::Step;
-use d_types::{Answer, LogicOperator, Operation, TypedExpr};
+use d_parser::{LogicOperator, Step};
+use d_types::{Answer, Operation, TypedExpr};
 use d_values::IntType;
 use dif_validate::{Condition, Difo, Instr};
 use std::alloc::AllocError;

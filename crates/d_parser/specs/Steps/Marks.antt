@@ -1,9 +1,13 @@
 -- What marks do before and after an operand, and which one is at the front.
 use Rattle.std.specs.Prelude.{Bool, false, List, [], ◌∷◌}
-use denote.Enum.Bare.{sameb}
-use Rattle.d_lexer.specs.contracts.token.Mark.{the_type}
-use Rattle.d_parser.specs.Vocabulary.{Mark, Token, TokenKind, UnaryOperator, Step, BinaryOperator}
-use Rattle.d_parser.specs.Vocabulary.{AssignOperator, Prefix, Follow}
+pub use Rattle.d_parser.specs.Symbols.{same_mark}
+use Rattle.d_parser.specs.Vocabulary.{Mark, Token, TokenKind, UnaryOperator, Step, Prefix, Follow}
+use Rattle.d_parser.specs.declared.operators.BinaryOperator.TheVariants as binary
+use Rattle.d_parser.specs.declared.operators.AssignOperator.TheVariants as assign
+use Rattle.d_parser.specs.declared.operators.LogicOperator.TheVariants as logic
+use Rattle.d_values.specs.declared.operators.ArithmeticOperator.TheVariants as arithmetic
+use Rattle.d_values.specs.declared.operators.ShiftOperator.TheVariants as shift
+use Rattle.d_values.specs.declared.operators.ComparisonOperator.TheVariants as comparison
 
 -- what a mark before an operand does
 abbrev pub prefix_of : Mark → Prefix
@@ -17,36 +21,36 @@ prefix_of mark = Prefix.Other
 
 -- what a mark after an operand does
 abbrev pub follow_of : Mark → Follow
-follow_of Mark.Star = Follow.Infix BinaryOperator.Multiply
-follow_of Mark.Slash = Follow.Infix BinaryOperator.Divide
-follow_of Mark.Percent = Follow.Infix BinaryOperator.Remainder
-follow_of Mark.Plus = Follow.Infix BinaryOperator.Add
-follow_of Mark.Minus = Follow.Infix BinaryOperator.Subtract
-follow_of Mark.ShiftLeft = Follow.Infix BinaryOperator.ShiftLeft
-follow_of Mark.ShiftRight = Follow.Infix BinaryOperator.ShiftRight
-follow_of Mark.Less = Follow.Infix BinaryOperator.Less
-follow_of Mark.LessEqual = Follow.Infix BinaryOperator.LessEqual
-follow_of Mark.Greater = Follow.Infix BinaryOperator.Greater
-follow_of Mark.GreaterEqual = Follow.Infix BinaryOperator.GreaterEqual
-follow_of Mark.Equal = Follow.Infix BinaryOperator.Equal
-follow_of Mark.NotEqual = Follow.Infix BinaryOperator.NotEqual
-follow_of Mark.And = Follow.Infix BinaryOperator.BitAnd
-follow_of Mark.Xor = Follow.Infix BinaryOperator.BitXor
-follow_of Mark.Or = Follow.Infix BinaryOperator.BitOr
-follow_of Mark.AndAnd = Follow.Infix BinaryOperator.And
-follow_of Mark.XorXor = Follow.Infix BinaryOperator.Xor
-follow_of Mark.OrOr = Follow.Infix BinaryOperator.Or
-follow_of Mark.Assign = Follow.Assign AssignOperator.Set
-follow_of Mark.AddAssign = Follow.Assign AssignOperator.Add
-follow_of Mark.SubtractAssign = Follow.Assign AssignOperator.Subtract
-follow_of Mark.MultiplyAssign = Follow.Assign AssignOperator.Multiply
-follow_of Mark.DivideAssign = Follow.Assign AssignOperator.Divide
-follow_of Mark.RemainderAssign = Follow.Assign AssignOperator.Remainder
-follow_of Mark.AndAssign = Follow.Assign AssignOperator.BitAnd
-follow_of Mark.OrAssign = Follow.Assign AssignOperator.BitOr
-follow_of Mark.XorAssign = Follow.Assign AssignOperator.BitXor
-follow_of Mark.ShiftLeftAssign = Follow.Assign AssignOperator.ShiftLeft
-follow_of Mark.ShiftRightAssign = Follow.Assign AssignOperator.ShiftRight
+follow_of Mark.Star = Follow.Infix (binary.Arithmetic arithmetic.Multiply)
+follow_of Mark.Slash = Follow.Infix (binary.Arithmetic arithmetic.Divide)
+follow_of Mark.Percent = Follow.Infix (binary.Arithmetic arithmetic.Remainder)
+follow_of Mark.Plus = Follow.Infix (binary.Arithmetic arithmetic.Add)
+follow_of Mark.Minus = Follow.Infix (binary.Arithmetic arithmetic.Subtract)
+follow_of Mark.ShiftLeft = Follow.Infix (binary.Shift shift.Left)
+follow_of Mark.ShiftRight = Follow.Infix (binary.Shift shift.Right)
+follow_of Mark.Less = Follow.Infix (binary.Compare comparison.Less)
+follow_of Mark.LessEqual = Follow.Infix (binary.Compare comparison.LessEqual)
+follow_of Mark.Greater = Follow.Infix (binary.Compare comparison.Greater)
+follow_of Mark.GreaterEqual = Follow.Infix (binary.Compare comparison.GreaterEqual)
+follow_of Mark.Equal = Follow.Infix (binary.Compare comparison.Equal)
+follow_of Mark.NotEqual = Follow.Infix (binary.Compare comparison.NotEqual)
+follow_of Mark.And = Follow.Infix (binary.Arithmetic arithmetic.BitAnd)
+follow_of Mark.Xor = Follow.Infix (binary.Arithmetic arithmetic.BitXor)
+follow_of Mark.Or = Follow.Infix (binary.Arithmetic arithmetic.BitOr)
+follow_of Mark.AndAnd = Follow.Infix (binary.Logic logic.And)
+follow_of Mark.XorXor = Follow.Infix (binary.Logic logic.Xor)
+follow_of Mark.OrOr = Follow.Infix (binary.Logic logic.Or)
+follow_of Mark.Assign = Follow.Assign assign.Set
+follow_of Mark.AddAssign = Follow.Assign (assign.Arithmetic arithmetic.Add)
+follow_of Mark.SubtractAssign = Follow.Assign (assign.Arithmetic arithmetic.Subtract)
+follow_of Mark.MultiplyAssign = Follow.Assign (assign.Arithmetic arithmetic.Multiply)
+follow_of Mark.DivideAssign = Follow.Assign (assign.Arithmetic arithmetic.Divide)
+follow_of Mark.RemainderAssign = Follow.Assign (assign.Arithmetic arithmetic.Remainder)
+follow_of Mark.AndAssign = Follow.Assign (assign.Arithmetic arithmetic.BitAnd)
+follow_of Mark.OrAssign = Follow.Assign (assign.Arithmetic arithmetic.BitOr)
+follow_of Mark.XorAssign = Follow.Assign (assign.Arithmetic arithmetic.BitXor)
+follow_of Mark.ShiftLeftAssign = Follow.Assign (assign.Shift shift.Left)
+follow_of Mark.ShiftRightAssign = Follow.Assign (assign.Shift shift.Right)
 follow_of Mark.Increment = Follow.Step Step.Increment
 follow_of Mark.Decrement = Follow.Step Step.Decrement
 follow_of Mark.Question = Follow.Question
@@ -62,10 +66,6 @@ follow_kind t = Follow.Other
 abbrev pub follow_at : List Token → Follow
 follow_at [] = Follow.Other
 follow_at (t ∷ ts) = follow_kind t.kind
-
--- `==` on marks
-abbrev pub same_mark : Mark → Mark → Bool
-same_mark = sameb the_type
 
 -- the first token is the mark
 abbrev pub kind_is : Mark → TokenKind → Bool

@@ -1,7 +1,8 @@
 -- The typed tree of an aggregation statement, or its first fault, as the code finds it.
-use Rattle.std.specs.Prelude.{ℕ, nat_le, ◌==◌, ◌&&◌, Bool, true, false, if◌then◌else◌, List, [], ◌∷◌, ◌++◌, length, Option, Some}
-use Rattle.std.specs.Prelude.{None, Result, Ok, ℤ, pos, neg_ℤ}
-use Rattle.d_types.specs.Vocabulary.{int_eq, UnaryOperator, Tree, Trees, AggFn, MOST_KEYS, MOST_STEP}
+use Rattle.std.specs.Prelude.{ℕ, nat_le, ◌==◌, ◌&&◌, Bool, true, false, if◌then◌else◌, List, []}
+use Rattle.std.specs.Prelude.{◌∷◌, ◌++◌, length, Option, Some, None, Result, Ok, ℤ, pos, neg_ℤ}
+use Rattle.d_types.specs.Vocabulary.{int_eq, UnaryOperator, Tree, Trees, AggFn, MOST_KEYS}
+use Rattle.d_types.specs.Vocabulary.{MOST_STEP}
 use Rattle.d_types.specs.Steps.Faults.{Fault, ◌>>=◌, refuse, unless, Undeclared, Mismatch, Keys}
 use Rattle.d_types.specs.Steps.Faults.{AggregationRedefined, LquantizeBounds}
 use Rattle.d_types.specs.Typed.{Typeds, end, Action, Aggregate, Agg, Aggs}

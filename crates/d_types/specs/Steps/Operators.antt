@@ -1,9 +1,9 @@
 -- What operators make of typed operands, as the code does it.
 use Rattle.std.specs.Prelude.{Option, Some, None}
 use Rattle.d_types.specs.Vocabulary.{Int, Text, UnaryOperator, BinaryOperator, DType, promoted_of}
-use Rattle.d_types.specs.Vocabulary.{common_of, Operation, BinarySort}
+use Rattle.d_types.specs.Vocabulary.{common_of, Operation, BinaryOperator}
 use Rattle.d_types.specs.Typed.{Typed}
-use Rattle.d_types.specs.Operators.{binary_sort, conversion_node}
+use Rattle.d_types.specs.Operators.{conversion_node}
 
 -- a value of the first type as one of the second: integers are converted, texts stay
 abbrev pub as_type : DType → DType → Typed → Option Typed
@@ -16,24 +16,21 @@ abbrev pub unary : UnaryOperator → DType → Typed → Option Typed
 unary op (Int t) x = Some (Typed.Unary op (promoted_of t) (conversion_node t (promoted_of t) x))
 unary op Text x = None
 
-abbrev pub operation_by : BinarySort → DType → DType → Typed → Typed → Option Typed
-operation_by (BinarySort.Arithmetic op) (Int t) (Int u) x y =
+-- an operator between two operands
+abbrev pub binary : BinaryOperator → DType → DType → Typed → Typed → Option Typed
+binary (BinaryOperator.Arithmetic op) (Int t) (Int u) x y =
     Some (Typed.Operate (Operation.Arithmetic op (common_of t u))
     (conversion_node t (common_of t u) x)
     (conversion_node u (common_of t u) y))
-operation_by (BinarySort.Shift op) (Int t) (Int u) x y =
+binary (BinaryOperator.Shift op) (Int t) (Int u) x y =
     Some (Typed.Operate (Operation.Shift op (promoted_of t))
     (conversion_node t (promoted_of t) x) y)
-operation_by (BinarySort.Compare op) (Int t) (Int u) x y =
+binary (BinaryOperator.Compare op) (Int t) (Int u) x y =
     Some (Typed.Compare op (common_of t u) (conversion_node t (common_of t u) x)
     (conversion_node u (common_of t u) y))
-operation_by (BinarySort.Compare op) Text Text x y = Some (Typed.CompareText op x y)
-operation_by (BinarySort.Logic op) (Int t) (Int u) x y = Some (Typed.Logic op x y)
-operation_by _ _ _ x y = None
-
--- an operator between two operands
-abbrev pub binary : BinaryOperator → DType → DType → Typed → Typed → Option Typed
-binary op t u x y = operation_by (binary_sort op) t u x y
+binary (BinaryOperator.Compare op) Text Text x y = Some (Typed.CompareText op x y)
+binary (BinaryOperator.Logic op) (Int t) (Int u) x y = Some (Typed.Logic op x y)
+binary _ _ _ x y = None
 
 -- `x ? y : z`
 abbrev pub choice : DType → DType → DType → Typed → Typed → Typed → Option Typed

@@ -3,7 +3,7 @@ use Rattle.std.specs.Prelude.{ℕ, nat_le, Bool, true, false, if◌then◌else�
 use Rattle.std.specs.Prelude.{length, Option, Some, None, Result, Ok}
 use Rattle.d_parser.specs.declared.tree.Variable.{Variable}
 use Rattle.d_types.specs.Vocabulary.{Int, Step, IntType, DType, promoted_of, common_of, Answer}
-use Rattle.d_types.specs.Vocabulary.{BuiltIn, Space, Operation, AssignSort}
+use Rattle.d_types.specs.Vocabulary.{BuiltIn, Space, Operation, AssignOperator}
 use Rattle.d_types.specs.Steps.Faults.{Fault, refuse, GlobalAssignment, Undeclared, Keys, ReadOnly}
 use Rattle.d_types.specs.Variables.{Rows, find, type_at, set_type, kinds_of_typed}
 use Rattle.d_types.specs.Steps.Variables.{keys_fit}
@@ -82,13 +82,13 @@ update_node op space slot t keys x rows =
     Some (Typed.Update op (record { space = space; slot = slot; holds = Int t }) keys x, rows)
 
 -- an assignment to a slot of the first type of a value of the second
-abbrev pub assignment : AssignSort → Space → Option DType → DType → ℕ → Typeds → Typed → Rows
+abbrev pub assignment : AssignOperator → Space → Option DType → DType → ℕ → Typeds → Typed → Rows
     → Option (Typed × Rows)
-assignment AssignSort.Set space t k slot keys x rows = store space t slot keys x rows
-assignment (AssignSort.Arithmetic op) space (Some (Int t)) (Int u) slot keys x rows =
+assignment AssignOperator.Set space t k slot keys x rows = store space t slot keys x rows
+assignment (AssignOperator.Arithmetic op) space (Some (Int t)) (Int u) slot keys x rows =
     update_node (Operation.Arithmetic op (common_of t u)) space slot t keys
     (conversion_node u (common_of t u) x) rows
-assignment (AssignSort.Shift op) space (Some (Int t)) (Int u) slot keys x rows =
+assignment (AssignOperator.Shift op) space (Some (Int t)) (Int u) slot keys x rows =
     update_node (Operation.Shift op (promoted_of t)) space slot t keys x rows
 assignment _ space t k slot keys x rows = None
 

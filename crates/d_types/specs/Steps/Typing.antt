@@ -13,7 +13,6 @@ use Rattle.d_types.specs.Needs.{need}
 use Rattle.d_types.specs.Constants.{int_type, constant}
 use Rattle.d_types.specs.Typed.{Typed, Typeds, end, more, type_of}
 use Rattle.d_types.specs.Variables.{Rows, type_at}
-use Rattle.d_types.specs.Operators.{assign_sort}
 use Rattle.d_types.specs.Steps.Operators.{as_type, unary, binary, choice}
 
 -- with one more at the end
@@ -89,10 +88,10 @@ abbrev mutual
       fitting (line_of c)
       (beside z.1 (choice (type_of x.0) (type_of y.0) (type_of z.0) x.0 y.0 z.0))
   expr rows (Tree.Assign op v keys a) =
-      exprs end rows keys >>= λ k. target k.1 v (type_at_once (assign_sort op)) k.0 >>= λ s.
+      exprs end rows keys >>= λ k. target k.1 v (type_at_once op) k.0 >>= λ s.
       expr s.1 a >>= λ x.
       fitting (line_of_variable v)
-      (assignment (assign_sort op) (space_of v) (type_at x.1 s.0) (type_of x.0) s.0 k.0 x.0 x.1)
+      (assignment op (space_of v) (type_at x.1 s.0) (type_of x.0) s.0 k.0 x.0 x.1)
 
   -- a list, after those that are typed
   pub exprs : Typeds → Rows → Trees → Result (Typeds × Rows) Fault
@@ -107,6 +106,6 @@ whole rows t =
 abbrev pub assign_rest : Rows → AssignOperator → Variable → Typeds → Tree
     → Result (Typed × Rows) Fault
 assign_rest rows op v keys a =
-    target rows v (type_at_once (assign_sort op)) keys >>= λ s. expr s.1 a >>= λ x.
+    target rows v (type_at_once op) keys >>= λ s. expr s.1 a >>= λ x.
     fitting (line_of_variable v)
-    (assignment (assign_sort op) (space_of v) (type_at x.1 s.0) (type_of x.0) s.0 keys x.0 x.1)
+    (assignment op (space_of v) (type_at x.1 s.0) (type_of x.0) s.0 keys x.0 x.1)

@@ -14,7 +14,8 @@ use crate::evaluation::operators::{
 };
 use crate::evaluation::variables::{bytes, part_of, word_at, word_in};
 use crate::state::State;
-use d_types::{LogicOperator, Operation, TypedExpr, Variable};
+use d_parser::LogicOperator;
+use d_types::{Operation, TypedExpr, Variable};
 use d_values::{ComparisonOperator, IntType, Key, Text, Value, convert, join_text};
 
 /// The value of an expression, with the variables as it leaves them (Dynamic Tracing Guide, "Types,

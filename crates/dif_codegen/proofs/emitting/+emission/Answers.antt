@@ -4,7 +4,7 @@ use Rattle.d_types.specs.Typed.{typed_of, typeds_of}
 use Rattle.d_types.proofs.Nodes.{read_is, assign_is, update_is, step_is}
 use Rattle.dif_codegen.specs.Steps.Code.{differing, keys_code}
 use Rattle.dif_codegen.specs.Steps.Drafts.{Adds}
-use Rattle.d_types.specs.declared.typed.LogicOperator.TheVariants.{And, Or, Xor}
+use Rattle.d_parser.specs.declared.operators.LogicOperator.TheVariants.{And, Or, Xor}
 use Rattle.d_values.specs.declared.int_type.DType.TheVariants.{Text}
 use Rattle.dif_codegen.proofs.Adding.{both_adds, choice_adds, emitted_all, key_there, logic_adds}
 use Rattle.dif_codegen.proofs.Adding.{next_key, on_ok, operands_on}
