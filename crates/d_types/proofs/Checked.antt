@@ -42,7 +42,7 @@ use Rattle.d_types.specs.Steps.Typing.{only, expr}
 use Rattle.d_types.specs.Steps.Typing as typing
 use Rattle.d_types.specs.Typed.{Typed, Typeds, end, type_of, Action, Evaluate, Trace, Print, Aggregate, Agg, Aggs, ClauseMeant, ScriptMeant}
 use Rattle.d_types.specs.TypedScripts.{typed_script_of, IsCheckOf}
-use Rattle.d_types.specs.Variables.{Rows, find, kinds_of_typed}
+use Rattle.d_types.specs.Variables.{Rows, find}
 use Rattle.d_types.specs.Steps.Variables.{types_in}
 use Rattle.d_types.specs.Words.{callee_named, aggregating_named}
 use Rattle.d_types.proofs.CheckedExpressions.{same_fault, expression_decided, whole_decided, wholes_decided, small_enough, is_small}

@@ -46,7 +46,7 @@ DType-set = hlevel (⊎_set, ℕ_set, Bool-set)
 type-set : IsSet (Option DType)
 type-set = hlevel (⊎_set, DType-set)
 
-integer_prop : (t : DType) → IsProp (IsSomeInteger t)
+pub integer_prop : (t : DType) → IsProp (IsSomeInteger t)
 integer_prop t a b = same b.0 (let both : ty.Int a.0 ≡ ty.Int b.0 = sym a.1 ∙ b.1 in cc) b.1
   where
     same : (u : IntType) → a.0 ≡ u → (q : t ≡ ty.Int u) → ◌≡◌ {A = IsSomeInteger t} a (u, q)

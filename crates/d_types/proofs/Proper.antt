@@ -26,18 +26,21 @@ use Rattle.d_types.specs.Words.{callee_named}
 use Rattle.d_types.specs.Typed.{Typed, Typeds, end, more, type_of, Action, Evaluate, Trace, Print}
 use Rattle.d_types.specs.Typed.{Exit, Aggregate, Agg, Aggs, ClauseMeant, ScriptMeant}
 use Rattle.d_types.specs.Needs.{count}
-use Rattle.d_types.specs.Variables.{Rows, kind_of_type, kinds_of_typed}
+use Rattle.d_types.specs.Variables.{Rows, kinds_of_typed}
 use Rattle.d_types.specs.Aggregations.{is_integer, arguments_fit, first, function, lquantize}
 use Rattle.d_types.specs.Aggregations.{buckets_between, whole_number, natural, find_from}
 use Rattle.d_types.specs.Scripts.{IsMeant}
 use Rattle.d_types.proofs.Bounds.{both_true}
 use Rattle.d_types.proofs.Checked.{meant_is_walked}
-use Rattle.d_types.specs.Rules as rules
+use Rattle.d_types.specs.Held.{IsSomeInteger}
+use Rattle.d_types.proofs.OneConsistency.{integer_prop}
+use Rattle.d_values.specs.declared.int_type.DType.{DType}
+use Rattle.d_values.specs.declared.int_type.DType.TheVariants as ty
 use Rattle.d_types.proofs.WellTyped.{Acts, Stands, Tests, Does, AllDo, Probes}
 use Rattle.d_types.specs.Rules.{IsPlaceOf}
 use Rattle.d_types.proofs.WellTyped.{AllItems}
 use Rattle.d_types.proofs.WellTyped.{IsWell}
-use Rattle.d_types.specs.Proper.{IsInteger, HasArgument, Suits, IsProperAction, IsProperPredicate}
+use Rattle.d_types.specs.Proper.{HasArgument, Suits, IsProperAction, IsProperPredicate}
 use Rattle.d_types.specs.Proper.{IsProperClause, IsProperScript}
 use Rattle.d_types.proofs.SoundScripts.{script_sound}
 
@@ -52,7 +55,7 @@ abbrev Takes : Bool → Option Typed → Type 0
 Takes true None = Unit {0}
 Takes true (Some x) = ⊥
 Takes false None = ⊥
-Takes false (Some x) = IsInteger x
+Takes false (Some x) = IsSomeInteger (type_of x)
 
 taken : (function : AggFn) (o : Option Typed) → Takes (is_count function) o → HasArgument function o
 taken fn.Count None h = h
@@ -77,22 +80,26 @@ counts g = false
 none_left : (n : ℕ) → nat_le (1 + n) 0 ≡ true → ⊥
 none_left n e = grind (arith, nat_tests)
 
+some_integer : (t : DType) → is_integer t ≡ true → IsSomeInteger t
+some_integer (ty.Int u) e = (u, refl)
+some_integer ty.Text e = cc
+
 -- arguments that a function takes begin with an integer, or there are none
 first_taken : (g : Aggregating) (xs : Typeds) → arguments_fit g xs ≡ true → Takes (counts g) (first xs)
 first_taken ag.Count end e = tt
 first_taken ag.Count (more x rest) e = none_left (count rest) (both_true _ _ e).0
 first_taken ag.Sum end e = cc
-first_taken ag.Sum (more x rest) e = (both_true _ _ (both_true _ _ e).1).0
+first_taken ag.Sum (more x rest) e = some_integer (type_of x) (both_true _ _ (both_true _ _ e).1).0
 first_taken ag.Min end e = cc
-first_taken ag.Min (more x rest) e = (both_true _ _ (both_true _ _ e).1).0
+first_taken ag.Min (more x rest) e = some_integer (type_of x) (both_true _ _ (both_true _ _ e).1).0
 first_taken ag.Max end e = cc
-first_taken ag.Max (more x rest) e = (both_true _ _ (both_true _ _ e).1).0
+first_taken ag.Max (more x rest) e = some_integer (type_of x) (both_true _ _ (both_true _ _ e).1).0
 first_taken ag.Avg end e = cc
-first_taken ag.Avg (more x rest) e = (both_true _ _ (both_true _ _ e).1).0
+first_taken ag.Avg (more x rest) e = some_integer (type_of x) (both_true _ _ (both_true _ _ e).1).0
 first_taken ag.Quantize end e = cc
-first_taken ag.Quantize (more x rest) e = (both_true _ _ (both_true _ _ e).1).0
+first_taken ag.Quantize (more x rest) e = some_integer (type_of x) (both_true _ _ (both_true _ _ e).1).0
 first_taken ag.Lquantize end e = cc
-first_taken ag.Lquantize (more x rest) e = (both_true _ _ (both_true _ _ e).1).0
+first_taken ag.Lquantize (more x rest) e = some_integer (type_of x) (both_true _ _ (both_true _ _ e).1).0
 
 ranged : (o : Option _) (h : AggFn) → option_map fn.Lquantize o ≡ Some h → is_count h ≡ false
 ranged None h e = cc
@@ -202,12 +209,9 @@ found_at n name (x ∷ aggs) place a h = either (bytes_eq x.name name) (found_at
 abbrev Leaves : Aggs → Action → Aggs → Type 0
 Leaves aggs a known = Keeps aggs known × Few known × IsProperAction known a
 
-integer_is : (x : Typed) (t : _) → rules.IsInteger x t → IsInteger x
-integer_is x t e = ap is_integer e
-
 acts_proper : (o : Option Callee) (line : ℕ) (name : List ℕ) (rows : Rows) (ts : Trees) (a : Action) (after : Rows) (aggs : Aggs) → Acts o line name rows ts a after → IsProperAction aggs a
 acts_proper (Some f.Trace) line name rows ts a after aggs h = subst (IsProperAction aggs) (sym h.2) tt
-acts_proper (Some f.Exit) line name rows ts a after aggs h = subst (IsProperAction aggs) (sym h.4) (integer_is h.0 h.1 h.3)
+acts_proper (Some f.Exit) line name rows ts a after aggs h = subst (IsProperAction aggs) (sym h.4) (h.1, h.3)
 acts_proper (Some f.Printf) line name rows tree.end a after aggs h = absurd h
 acts_proper (Some f.Printf) line name rows (tree.more t rest) a after aggs h = subst (IsProperAction aggs) (sym h.7) h.6
 acts_proper (Some f.Strlen) line name rows ts a after aggs h = subst (IsProperAction aggs) (sym h.2) tt
@@ -276,7 +280,7 @@ all_do_proper rows aggs (t ∷ rest) all after known few h =
 
 tests_proper : (rows : Rows) (o : Option Tree) (p : Option Typed) (after : Rows) → Tests rows o p after → IsProperPredicate p
 tests_proper rows None p after h = subst IsProperPredicate (sym h.0) tt
-tests_proper rows (Some t) p after h = subst IsProperPredicate (sym h.4) (integer_is h.0 h.1 h.3)
+tests_proper rows (Some t) p after h = subst IsProperPredicate (sym h.4) (h.1, h.3)
 
 probes_proper : (rows : Rows) (aggs : Aggs) (c : ClauseTree) (m : ClauseMeant) (after : Rows) (known : Aggs) → Few aggs → Probes rows aggs c m after known →
     Keeps aggs known × Few known × IsProperClause known m
@@ -305,17 +309,17 @@ takes_prop : (function : AggFn) (o : Option Typed) → IsProp (HasArgument funct
 takes_prop fn.Count None = hlevel
 takes_prop fn.Count (Some x) = hlevel
 takes_prop fn.Sum None = hlevel
-takes_prop fn.Sum (Some x) = hlevel Bool-set
+takes_prop fn.Sum (Some x) = hlevel integer_prop
 takes_prop fn.Min None = hlevel
-takes_prop fn.Min (Some x) = hlevel Bool-set
+takes_prop fn.Min (Some x) = hlevel integer_prop
 takes_prop fn.Max None = hlevel
-takes_prop fn.Max (Some x) = hlevel Bool-set
+takes_prop fn.Max (Some x) = hlevel integer_prop
 takes_prop fn.Avg None = hlevel
-takes_prop fn.Avg (Some x) = hlevel Bool-set
+takes_prop fn.Avg (Some x) = hlevel integer_prop
 takes_prop fn.Quantize None = hlevel
-takes_prop fn.Quantize (Some x) = hlevel Bool-set
+takes_prop fn.Quantize (Some x) = hlevel integer_prop
 takes_prop (fn.Lquantize r) None = hlevel
-takes_prop (fn.Lquantize r) (Some x) = hlevel Bool-set
+takes_prop (fn.Lquantize r) (Some x) = hlevel integer_prop
 
 kinds_set : IsSet (List Kind)
 kinds_set = is_set (hlevel ⊎_set)
@@ -328,12 +332,12 @@ action_prop : (aggs : Aggs) (a : Action) → IsProp (IsProperAction aggs a)
 action_prop aggs (Evaluate x) = hlevel
 action_prop aggs (Trace x) = hlevel
 action_prop aggs (Print format args) = hlevel Bool-set
-action_prop aggs (Exit x) = hlevel Bool-set
+action_prop aggs (Exit x) = hlevel integer_prop
 action_prop aggs (Aggregate place keys argument) = hlevel (le_prop, suits_prop)
 
 predicate_prop : (p : Option Typed) → IsProp (IsProperPredicate p)
 predicate_prop None = hlevel
-predicate_prop (Some x) = hlevel Bool-set
+predicate_prop (Some x) = hlevel integer_prop
 
 clause_prop : (aggs : Aggs) (c : ClauseMeant) → IsProp (IsProperClause aggs c)
 clause_prop aggs c = hlevel (predicate_prop, action_prop)

@@ -23,7 +23,7 @@ use Rattle.d_types.specs.Steps.Typing.{with_typed}
 use Rattle.d_types.specs.Typed.{Trace}
 use Rattle.d_types.specs.Typed.{Print, Exit, Aggregate, Agg, Aggs, ClauseMeant, ScriptMeant}
 use Rattle.d_types.specs.Needs.{need, count}
-use Rattle.d_types.specs.Variables.{Rows, find, kinds_of_typed}
+use Rattle.d_types.specs.Variables.{Rows, find}
 use Rattle.d_types.specs.Steps.Variables.{types_in}
 use Rattle.d_types.specs.Steps.Formats.{pieces}
 use Rattle.d_types.specs.Formats as formats

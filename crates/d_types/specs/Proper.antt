@@ -6,17 +6,14 @@ use Rattle.d_types.specs.Variables.{kinds_of_typed}
 use Rattle.d_types.specs.Formats as formats
 use Rattle.d_types.specs.Typed.{Typed, Typeds, type_of, Action, Evaluate, Trace, Print, Exit}
 use Rattle.d_types.specs.Typed.{Aggregate, Agg, Aggs, ClauseMeant, ScriptMeant}
-use Rattle.d_types.specs.{Needs.count, Aggregations.is_integer}
-
-abbrev pub IsInteger : Typed → Type 0
-IsInteger x = is_integer (type_of x) ≡ true
+use Rattle.d_types.specs.{Needs.count, Held.IsSomeInteger}
 
 -- count() takes nothing, and each other function an integer
 abbrev pub HasArgument : AggFn → Option Typed → Type 0
 HasArgument AggFn.Count None = Unit {0}
 HasArgument AggFn.Count (Some x) = ⊥
 HasArgument function None = ⊥
-HasArgument function (Some x) = IsInteger x
+HasArgument function (Some x) = IsSomeInteger (type_of x)
 
 -- keys of the aggregation's kinds, at most 8 of them, and what its function takes
 abbrev pub Suits : Option Agg → Typeds → Option Typed → Type 0
@@ -30,13 +27,13 @@ abbrev pub IsProperAction : Aggs → Action → Type 0
 IsProperAction aggs (Evaluate x) = Unit {0}
 IsProperAction aggs (Trace x) = Unit {0}
 IsProperAction aggs (Print format args) = formats.fit format args ≡ true
-IsProperAction aggs (Exit x) = IsInteger x
+IsProperAction aggs (Exit x) = IsSomeInteger (type_of x)
 IsProperAction aggs (Aggregate place keys argument) =
     (place < length aggs) × Suits (slice_get aggs place) keys argument
 
 abbrev pub IsProperPredicate : Option Typed → Type 0
 IsProperPredicate None = Unit {0}
-IsProperPredicate (Some x) = IsInteger x
+IsProperPredicate (Some x) = IsSomeInteger (type_of x)
 
 pub record IsProperClause (aggs : Aggs) (c : ClauseMeant) : Type 0 where
   pub predicate : IsProperPredicate c.predicate
