@@ -1,9 +1,14 @@
 //! What the definitions of groups and of numbers say in other words: each law is the contract of a
 //! function that has nothing to do.
 
-ghost use Rattle.std.specs.Prelude.{◌≡◌, ◌<◌, ◌≤◌, ◌==◌, ◌↔◌, ℕ, ℤ, Some, List, All, IsSomeAnd};
-ghost use Rattle.std.specs.Prelude.{IsPermutation, map, length, count_by, flat_map, slice_get};
-ghost use Rattle.shard_queue.specs.Vocabulary.{Firing, thread_of};
+ghost use Rattle.std.specs.Prelude.{◌≡◌, ◌+◌, ◌<◌, ◌≤◌, ◌==◌, ◌++◌, ◌∷◌, ◌↔◌, ℕ, ℤ, Some, List, []};
+ghost use Rattle.std.specs.Prelude.{All, IsSomeAnd, IsPermutation, map, min, length, count_by};
+ghost use Rattle.std.specs.Prelude.{flat_map, slice_get, set};
+ghost use Rattle.shard_queue.specs.Vocabulary.{Firing, Hand, Low, get_elem?, some};
+ghost use Rattle.shard_queue.specs.Vocabulary.{thread_of};
+ghost use Rattle.shard_queue.specs.Drawing.{Draws};
+ghost use Rattle.shard_queue.specs.Hands.{hand};
+ghost use Rattle.shard_queue.specs.Least.{IsLeastLowered, low};
 ghost use Rattle.shard_queue.specs.Groupings.{Grouping, of_group, places_of};
 ghost use Rattle.shard_queue.specs.Numbers.{IsAllBelow, SameItems, below};
 
@@ -35,4 +40,17 @@ pub fn firings_at_the_places()
     ensures { (grouping : Grouping) (g : ℕ) (firings : List Firing)
         → map (slice_get firings) (places_of grouping g (map thread_of firings))
         ≡ map Some (of_group grouping g firings) }
+{}
+
+/// A board's rule doesn't hold after a store in place of its steps. Where a seat claims by a look
+/// and then a store, and another one claimed in between, the number that was found is handed out
+/// twice. Where a seat stores a number in place of lowering to it, a lesser one is lost.
+pub fn stores_are_not_kept()
+    ensures claimed { (n seats word found by : ℕ) (views : List Hand) (v : Hand)
+        → Draws n seats word views → get_elem? views by ≡ some v → found < min n word
+        → ¬ (Draws n seats (found + 1)
+        (set views by (hand v.end v.seats v.at_end (v.drawn ++ found ∷ [])))) }
+    ensures lowered { (word number by : ℕ) (views : List Low) (v : Low)
+        → IsLeastLowered word views → get_elem? views by ≡ some v → word < number
+        → ¬ (IsLeastLowered number (set views by (low (min v.lowered number) v.seen))) }
 {}
