@@ -1,6 +1,20 @@
 """The edits that earlier runs of tests/edits on this machine found refused."""
+import contextlib
 import hashlib
 import os
+
+
+def control_of(crate, edit):
+    """Returns the path of an edit's control, below the top of the crate's repository."""
+    top = os.path.dirname(os.path.dirname(crate.folder))
+    return f"{top}/tests/controls/{crate.name}/{os.path.basename(edit)}"
+
+
+def text_of(path):
+    """Returns a file's text, or '' if it isn't there."""
+    with contextlib.suppress(FileNotFoundError), open(path, encoding="utf-8") as file:
+        return file.read()
+    return ""
 
 
 class Refusals:
@@ -22,7 +36,9 @@ class Refusals:
     def names(self, crate, edits):
         """Returns the names under which it is kept that these edits of a crate were refused."""
         stands_on = self.scripts.hexdigest(), self.rt.stamp_of(crate, {})
-        return {it: self.kept.of_edit(it, stands_on) for it in edits}
+        return {
+            it: self.kept.of_edit(it, (*stands_on, text_of(control_of(crate, it)))) for it in edits
+        }
 
     def holds(self, name):
         found = self.kept.tried(name)
