@@ -83,9 +83,9 @@ struct Found<'a> {
     firings: ProbePlaces<'a>,
     lists: ClauseLists,
     // The place of each probe's list.
-    by_probe: Vec<u32>,
-    begin: u32,
-    end: u32,
+    by_probe: Vec<usize>,
+    begin: usize,
+    end: usize,
 }
 
 impl<'a> Model for Found<'a> {
@@ -130,22 +130,22 @@ impl<'a> Found<'a> {
         ensures { lent result ≡ slice_get self.now place }
     {
         if place == 0 {
-            return Some(self.lists.at(self.begin as usize));
+            return Some(self.lists.at(self.begin));
         }
         let row = place as usize - 1;
         if row < self.firings.len() {
             let list = list_of(&self.by_probe, self.firings.place(row));
-            return Some(self.lists.at(list as usize));
+            return Some(self.lists.at(list));
         }
         if row == self.firings.len() {
-            return Some(self.lists.at(self.end as usize));
+            return Some(self.lists.at(self.end));
         }
         None
     }
 }
 
 // The place of a probe's list.
-fn list_of(by_probe: &[u32], probe: u32) -> u32
+fn list_of(by_probe: &[usize], probe: u32) -> usize
     ensures { result ≡ get_or by_probe.now probe 0 }
 {
     match by_probe.get(probe as usize) {
@@ -235,7 +235,7 @@ fn lists_for(
     lists: &mut ClauseLists,
     table: &DescriptionTable,
     firings: &ProbePlaces,
-) -> Result<Vec<u32>, AllocError>
+) -> Result<Vec<usize>, AllocError>
     ensures grows { OnOk result (Extends lists.old lists.new) }
     ensures places { (ds : List (List Description)) → IsTableOf table.now ds
         → IfOk result (λ places. ArePlaces lists.new places.items
@@ -257,15 +257,11 @@ fn list_for(
     lists: &mut ClauseLists,
     table: &DescriptionTable,
     probe: &Probe,
-) -> Result<u32, AllocError>
+) -> Result<usize, AllocError>
     ensures grows { OnOk result (Extends lists.old lists.new) }
     ensures place { (ds : List (List Description)) → IsTableOf table.now ds
         → IfOk result (λ p. slice_get lists.new p ≡ Some (places_for probe.now 0 ds)) }
 {
     let clauses = table.clauses(alloc, probe)?;
-    let place = lists.keep(ClausePlaces::of(alloc, &clauses)?)?;
-    match u32::try_from(place) {
-        Ok(place) => Ok(place),
-        Err(_) => Err(AllocError),
-    }
+    lists.keep(ClausePlaces::of(alloc, &clauses)?)
 }
