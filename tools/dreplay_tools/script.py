@@ -75,7 +75,7 @@ class Script:
         self.aggregations = list(aggregations(self).values())
 
     def divide(self):
-        clause, some, in_declaration = Clause(), [], False
+        clause, some = Clause(), []
         for token in self.tokens:
             if token.kind == "run":
                 clause.descriptions.append(token)
