@@ -41,11 +41,11 @@ pub record AreUnfailed (s : StreamsSeen) : Type 0 where
 abbrev pub words_of : {A Z : Type 0} → IntoIter (String A) Z → List (List ℕ)
 words_of all = map string_bytes (drop 1 (into_iter_items all))
 
--- they ask for this
+-- the words ask for this
 abbrev pub IsRequest : {A Z E : Type 0} → Result (IntoIter (String A) Z) E → Request → Type 0
 IsRequest given request = IsOkAnd given (λ all. Asks (words_of all) request)
 
--- they ask for no run, for this reason; or one is not UTF-8, or memory ran out
+-- the words ask for no run, for this reason; or one is not UTF-8, or memory ran out
 abbrev pub IsNoRequest : {A Z E : Type 0} → Result (IntoIter (String A) Z) E → UsageFault → Type 0
 IsNoRequest given fault = (fault ≡ usage.Memory) ⊎ MatchResult given
     (λ all. IsFaultOf (words_of all) fault) (λ e. IsMistake ValueValidation fault)
@@ -106,7 +106,7 @@ pub data Ends {A Z E : Type 0} (shows : LayoutMeant) (given : Result (IntoIter (
   without_run : (fault : UsageFault) → IsNoRequest given fault → new.input ≡ old.input
       → EndsWithoutRun fault old new status → Ends shows given holds old new status
 
--- it ended since memory ran out, or reading or writing failed, and says so
+-- the run ended since memory ran out, or reading or writing failed, and says so
 pub record IsBroken (old new : StreamsSeen) (status : ℕ) : Type 0 where
   pub fault : ConsumeFault
   pub is : status_at_end (Err fault) ≡ 1

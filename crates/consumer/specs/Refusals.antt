@@ -62,7 +62,7 @@ group_parts (GroupFault.Stranger thread) = codes "3" ++ thread_part thread
 group_parts GroupFault.TooMany = codes "4"
 group_parts GroupFault.Memory = []
 
--- why there is no answer, of a plain refusal
+-- the reason that a plain refusal gives
 abbrev pub reason_of : Refusal → List ℕ
 reason_of (Lex f) = codes "script refused: Lex " ++ lex_parts f
 reason_of (Parse f) = codes "script refused: Parse " ++ parse_parts f

@@ -32,7 +32,7 @@ pub enum GroupPlan {
     /// The i-th thread, ascending, goes to group `i` modulo this number, which is from 1 to
     /// `MOST_GROUPS`.
     Dealt(u32),
-    /// These threads in each group.
+    /// The threads of each group.
     Lists(Vec<Vec<i32>>),
 }
 

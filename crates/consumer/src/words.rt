@@ -34,10 +34,10 @@ pub struct Request {
 /// Why the words ask for no run.
 #[derive(Debug, Drop, Error)]
 pub enum UsageFault {
-    /// They ask for help; this is its text.
+    /// The words ask for help; this is its text.
     #[error(transparent)]
     Help(clap::Error),
-    /// They are not understood. This says why, in clap's words.
+    /// The words are not understood. This says why, in clap's words.
     #[error(transparent)]
     Usage(clap::Error),
     /// Memory ran out.
@@ -214,7 +214,7 @@ fn option<'a>(alloc: Global, id: &'a str, letter: char, value: &'a str, help: &'
         .help(help)
 }
 
-// The same, with the value `default` if it isn't given.
+// An option that has the value `default` if it isn't given.
 fn with_default<'a>(option: Arg<'a>, default: &'a str) -> Arg<'a>
     ensures rule { rule_of result
         ≡ record (rule_of option.entry) { defaults = default.entry.now ∷ [] } }
@@ -223,7 +223,7 @@ fn with_default<'a>(option: Arg<'a>, default: &'a str) -> Arg<'a>
     option.default_value(default)
 }
 
-// The same, with a value from 1 to `most`.
+// An option that takes a value from 1 to `most`.
 fn with_numbers<'a>(option: Arg<'a>, most: u32) -> Arg<'a>
     ensures rule { rule_of result
         ≡ record (rule_of option.entry) { parser = Some (Signed (pos 1) (pos most)) } }

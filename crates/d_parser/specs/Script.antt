@@ -39,7 +39,7 @@ abbrev pub IsSlot : Option StmtTree → Part
 IsSlot None = Nothing
 IsSlot (Some s) = IsStmt s
 
--- those that are there
+-- the statements that are there
 abbrev pub present : List (Option StmtTree) → List StmtTree
 present slots = filter_map (λ s. s) slots
 

@@ -10,8 +10,8 @@ use thiserror::Error;
 /// Why a script has no tree. The limits are looked at first, and take no memory.
 #[derive(Clone, Copy, Debug, PartialEq, Eq, Error)]
 pub enum ParseFault {
-    /// This line has the first token that can't follow those before it; if the tokens end too soon,
-    /// it is the last token's line.
+    /// The line of the first token that can't follow the ones before it; if the tokens end too
+    /// soon, that of the last token.
     #[error("line {line}: not a D script")]
     Syntax { line: usize },
     /// More than 64 brackets open at once, or more than 1,024 tokens without `;`, `{` or `}`.
@@ -38,7 +38,7 @@ pub const MOST_CLAUSES: usize = 256;
 pub(crate) const AT_END: usize = 0;
 
 impl ParseFault {
-    /// The same fault, with this line where it has none yet.
+    /// Gives a fault this line where it has none yet.
     pub(crate) fn ending_on(self, line: usize) -> ParseFault
         ensures { result ≡ ending_on line self }
     {

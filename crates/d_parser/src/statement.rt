@@ -94,7 +94,7 @@ fn statement<'a>(
     }
 }
 
-/// These statements, and the one at the front if there is one.
+/// Adds the statement at the front, if there is one, to these.
 #[tactic(auto, unfolding(crate::specs::Steps::ReadingScripts::slot), using(crate::proofs::Rows::stmts_push))]
 fn slot<'a>(
     alloc: Global,

@@ -16,7 +16,7 @@ pub struct Script {
 /// A part of a script.
 #[derive(Drop)]
 pub enum Item {
-    /// Of a variable.
+    /// The declaration of a variable.
     Declaration(Declaration),
     /// What is done when a probe fires.
     Clause(Clause),
@@ -25,14 +25,14 @@ pub enum Item {
 /// `self type word [types];` or `this type word;`. A scalar has no keys.
 #[derive(Drop)]
 pub enum Declaration {
-    /// Of a thread-local variable, or an array of such with the types of its keys.
+    /// A thread-local variable, or an array of such with the types of its keys.
     Thread {
         line: usize,
         declared: DeclaredType,
         name: ByteString,
         keys: Vec<DeclaredType>,
     },
-    /// Of a clause-local variable.
+    /// A clause-local variable.
     Clause {
         line: usize,
         declared: DeclaredType,

@@ -27,7 +27,7 @@ values_of f end vars = Has [] vars
 values_of f (more a rest) vars =
     with (eval f a vars) (λ x vars. with (values_of f rest vars) (λ xs. Has ((type_of a, x) ∷ xs)))
 
--- that of typed trees
+-- the evaluation of typed trees
 abbrev pub by_trees : Firing → Evaluation Typed Typeds
 by_trees f = record { value = eval f; values = values_of f; key = keys_of f; type = type_of }
 

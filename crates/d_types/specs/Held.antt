@@ -33,7 +33,7 @@ HasTypedBuiltIns f = (b : BuiltIn) → IsOf (type_of_built_in b) (built_in_value
 abbrev pub Slots : Type 0
 Slots = ℕ → Option DType
 
--- those of a script
+-- the slots of a script
 abbrev pub slots_of : ScriptMeant → Slots
 slots_of m slot = option_and_then (λ t. t) (slice_get m.slots slot)
 

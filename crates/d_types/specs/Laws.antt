@@ -15,7 +15,7 @@ is_division (Operation.Arithmetic o t) = divides o
 is_division (Operation.Shift o t) = false
 
 abbrev mutual
-  -- it has an assignment, `++` or `--`
+  -- an expression has an assignment, `++` or `--`
   pub assigns : Typed → Bool
   assigns (Constant t word) = false
   assigns (Text bytes) = false
@@ -39,7 +39,7 @@ abbrev mutual
   assigns_in (more a rest) = assigns a || assigns_in rest
 
 abbrev mutual
-  -- it has `/`, `%`, `/=` or `%=`
+  -- an expression has `/`, `%`, `/=` or `%=`
   pub has_division : Typed → Bool
   has_division (Constant t word) = false
   has_division (Text bytes) = false

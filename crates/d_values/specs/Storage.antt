@@ -30,7 +30,7 @@ pub record Variables : Type 0 where
   pub locals : Var → Value
   pub own : Var → List KeyPart → Value
 
--- those that the tables hold
+-- the variables that the tables hold
 abbrev pub variables : Locals → Own → Variables
 variables locals own = record { locals = local_of locals; own = own_of own }
 

@@ -32,7 +32,7 @@ difference_of a b = (a + (2 ^ 64 - b)) % 2 ^ 64
 abbrev pub product_of : ℕ → ℕ → ℕ
 product_of a b = (a * b) % 2 ^ 64
 
--- cut toward zero, of signed or of unsigned numbers
+-- the quotient of signed or of unsigned words, cut toward zero
 abbrev pub quotient_of : Bool → ℕ → ℕ → ℕ
 quotient_of signed a b =
     if signed then cast_unsigned w64 (int_div (cast_signed w64 a) (cast_signed w64 b)) else a / b

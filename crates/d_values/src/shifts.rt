@@ -21,7 +21,7 @@ pub fn shift(op: ShiftOperator, t: IntType, a: u64, count: u64) -> u64
     ensures number { number_of t result
         ≡ wrap t (whole_shift_of op (number_of t a) (count % t.width)) }
 
-    // Of whatever type the count is.
+    // The count may be of any type.
     ensures counted { (c : IntType) → count % t.width ≡ modulo (number_of c count) t.width }
 {
     narrow_word(

@@ -54,7 +54,7 @@ impl ThreadTable {
         ThreadTable::with_hash_key(alloc, HashKey::of_seed(&[]))
     }
 
-    /// The same in maps that hash by this key.
+    /// Variables of which none is set, in maps that hash by this key.
     ///
     /// ```text
     /// let table = ThreadTable::with_hash_key(alloc, HashKey::random(&rt));

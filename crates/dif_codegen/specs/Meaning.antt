@@ -47,7 +47,7 @@ key_of_objects f (x ∷ rest) vars =
     with (value_of f x.object vars)
     (λ v vars. with (key_of_objects f rest vars) (λ key. Has (part_of v ∷ key)))
 
--- that of objects
+-- the evaluation of objects
 abbrev pub by_objects : Firing → Evaluation TypedObject (List TypedObject)
 by_objects f = record {
   value = λ x. value_of f x.object;

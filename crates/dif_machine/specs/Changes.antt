@@ -24,7 +24,7 @@ register_in NoChange = None
 abbrev pub output_register : Instr → Option Reg
 output_register i = register_in (row_of i).change
 
--- it changes the tuple
+-- a change is of the tuple
 abbrev pub is_of_tuple : Change → Bool
 is_of_tuple (Puts kind d) = false
 is_of_tuple (Copies a d) = false

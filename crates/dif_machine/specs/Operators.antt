@@ -55,7 +55,7 @@ holds AboveEqual known = holds_of IsGreaterEqual known.unsigned
 holds Below known = holds_of IsLess known.unsigned
 holds BelowEqual known = holds_of IsLessEqual known.unsigned
 
--- of the function's own tuple
+-- what a function makes of its own tuple
 abbrev pub call_of : Function → List KeyPart → Option Value
 call_of Strlen (Name text ∷ []) = Some (Int (length text))
 call_of Strlen parts = None

@@ -10,9 +10,9 @@ use std::cmp::Ordering;
 /// How two values compare. Two texts compare by their bytes either way.
 #[derive(Clone, Copy, Debug)]
 pub struct Comparison {
-    /// As signed integers.
+    /// The order of the two as signed integers.
     pub signed: Ordering,
-    /// As unsigned integers.
+    /// The order of the two as unsigned integers.
     pub unsigned: Ordering,
 }
 

@@ -30,7 +30,7 @@ pub fn values_are_of_the_kind()
         → Runs o f vars (Returns value after) → return_kind o ≡ Some (kind_of value) }
 {}
 
-/// It ends in one way.
+/// A run ends in one way.
 pub fn one_end()
     ensures { (o : Object) (f : Firing) (vars : Variables) (a b : End)
         → Runs o f vars a → Runs o f vars b → a ≡ b }

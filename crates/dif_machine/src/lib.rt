@@ -21,7 +21,7 @@ pub use keys::key_of_zeros;
 pub use loads::lent_load;
 pub use running::{run, run_in};
 
-// Of what a frame is made. No caller needs them: they are public since definitions speak of them.
+// The parts of a frame. No caller needs them: they are public since definitions speak of them.
 pub use comparing::Comparison;
 pub use held::{Cell, Held};
 pub use keys::LastKey;

@@ -14,7 +14,7 @@ use Rattle.dif_validate.specs.Shapes.{is_other, is_unset, has_room}
 abbrev pub asks : Instr → Asks
 asks i = (row_of i).asks
 
--- one of them is set and of another kind
+-- a register that is asked for is set and of another kind
 abbrev pub finds_other : Asks → Shape → Bool
 finds_other Nothing s = false
 finds_other (Any a) s = false
@@ -22,14 +22,14 @@ finds_other (One kind a) s = is_other kind (at s.registers a)
 finds_other (Two kind a b) s =
     is_other kind (at s.registers a) || is_other kind (at s.registers b)
 
--- one of them is unset
+-- a register that is asked for is unset
 abbrev pub finds_unset : Asks → Shape → Bool
 finds_unset Nothing s = false
 finds_unset (Any a) s = is_unset (at s.registers a)
 finds_unset (One kind a) s = is_unset (at s.registers a)
 finds_unset (Two kind a b) s = is_unset (at s.registers a) || is_unset (at s.registers b)
 
--- it branches by a comparison that is unset
+-- an instruction branches by a comparison that is unset
 abbrev pub asks_comparison : Flow → Bool
 asks_comparison Next = false
 asks_comparison (Jump to) = false
@@ -50,7 +50,7 @@ abbrev pub is_some_tuple : List Kind → Bool
 is_some_tuple [] = false
 is_some_tuple (k ∷ ks) = true
 
--- it can take the tuple
+-- an instruction can take the tuple
 abbrev pub takes_by : TupleNeed → List Kind → Bool
 takes_by AnyTuple tuple = true
 takes_by WithRoom tuple = has_room tuple

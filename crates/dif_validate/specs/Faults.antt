@@ -22,11 +22,11 @@ abbrev pub is_at_least : Option ℕ → ℕ → Bool
 is_at_least None n = false
 is_at_least (Some to) n = nat_le n to
 
--- it branches to its own place or to an earlier one
+-- an instruction branches to its own place or to an earlier one
 abbrev pub goes_back : Instr → ℕ → Bool
 goes_back i pc = is_at_most (jump_target i) pc
 
--- it branches past the last of `size` instructions
+-- an instruction branches past the last of `size` instructions
 abbrev pub goes_out : Instr → ℕ → Bool
 goes_out i size = is_at_least (jump_target i) size
 
@@ -54,7 +54,7 @@ misses_variable i = is_no_variable (row_of i).named
 
 -- ---- and with one that is reached
 
--- it returns another kind than the first `ret`
+-- a `ret` returns another kind than the first one
 abbrev pub ends_other : Flow → Option Kind → Shape → Bool
 ends_other Next kind s = false
 ends_other (Jump to) kind s = false
@@ -65,7 +65,7 @@ ends_other (End a) (Some kind) s = is_other kind (at s.registers a)
 abbrev pub returns_other : Instr → Option Kind → Shape → Bool
 returns_other i kind s = ends_other (flow i) kind s
 
--- it can't take the tuple, or ways with different ones meet
+-- an instruction can't take the tuple, or ways with different ones meet
 abbrev pub misses_tuple : Instr → Option (List Kind) → Bool
 misses_tuple i None = true
 misses_tuple i (Some tuple) = not (takes_tuple i tuple)
@@ -76,7 +76,7 @@ misses_tuple i (Some tuple) = not (takes_tuple i tuple)
 abbrev pub if_so : Bool → DifFault → Option DifFault → Option DifFault
 if_so wrong fault rest = if wrong then Some fault else rest
 
--- where this is known and an earlier `ret` returns that kind
+-- the fault of an instruction where this is known and an earlier `ret` returns that kind
 abbrev pub fault_in : Instr → ℕ → Option Kind → Shape → Option DifFault
 fault_in i pc kind s =
     if_so (finds_other (asks i) s || returns_other i kind s) (RegisterKind pc)

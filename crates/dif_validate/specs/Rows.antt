@@ -13,7 +13,7 @@ use Rattle.dif_validate.specs.Vocabulary.{TupleNeed, AnyTuple, WithRoom, Filled,
 use Rattle.dif_validate.specs.Vocabulary.{Change, Puts, Copies, ComparesTwo, Pushes, Empties}
 use Rattle.dif_validate.specs.Vocabulary.{StoresVariable, NoChange, InstructionRow}
 
--- it names nothing, takes any tuple and goes on to the next instruction
+-- the row of an instruction that names nothing, takes any tuple and goes on to the next one
 abbrev pub plain_row : Asks → Change → InstructionRow
 plain_row asks change =
     record { asks = asks; named = NoName; tuple = AnyTuple; change = change; flow = Next }

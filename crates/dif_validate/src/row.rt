@@ -45,7 +45,7 @@ pub enum TupleNeed {
     WithRoom,
     /// One that isn't empty.
     Filled,
-    /// That of a function.
+    /// The tuple of a function.
     TupleOf(Function),
 }
 
@@ -96,7 +96,7 @@ pub struct InstructionRow {
     pub flow: Flow,
 }
 
-// It names nothing, takes any tuple and goes on to the next instruction.
+// The row of an instruction that names nothing, takes any tuple and goes on to the next one.
 fn plain(asks: Asks, change: Change) -> InstructionRow
     ensures { result ≡ spec.plain_row asks change }
 {
@@ -109,7 +109,7 @@ fn plain(asks: Asks, change: Change) -> InstructionRow
     }
 }
 
-// It takes any tuple and goes on to the next instruction.
+// The row of an instruction that takes any tuple and goes on to the next one.
 fn naming(named: Named, asks: Asks, change: Change) -> InstructionRow
     ensures { result ≡ spec.naming_row named asks change }
 {
@@ -119,7 +119,7 @@ fn naming(named: Named, asks: Asks, change: Change) -> InstructionRow
     }
 }
 
-// It names nothing and goes on to the next instruction.
+// The row of an instruction that names nothing and goes on to the next one.
 fn taking(tuple: TupleNeed, asks: Asks, change: Change) -> InstructionRow
     ensures { result ≡ spec.tuple_row tuple asks change }
 {
@@ -129,7 +129,7 @@ fn taking(tuple: TupleNeed, asks: Asks, change: Change) -> InstructionRow
     }
 }
 
-// It names nothing, takes any tuple and changes nothing.
+// The row of an instruction that names nothing, takes any tuple and changes nothing.
 fn leading(asks: Asks, flow: Flow) -> InstructionRow
     ensures { result ≡ spec.leading_row asks flow }
 {

@@ -189,7 +189,7 @@ impl fmt::Display for Instr {
     }
 }
 
-// As it is written.
+// An instruction is shown as it is written.
 impl fmt::Debug for Instr {
     fn fmt<W: fmt::Write>(&self, f: &mut fmt::Formatter<W>) -> fmt::Result {
         fmt::Display::fmt(self, f)

@@ -66,8 +66,8 @@ pub struct Reader {
     left: Vec<u8>,
     // How many bytes there are at least before some are read.
     least: usize,
-    // The same, after some were read. A row that isn't whole waits for as many bytes again, so that
-    // a long one isn't scanned at each block.
+    // How many bytes there are at least before more are read. A row that isn't whole waits for as
+    // many bytes again, so that a long one isn't scanned at each block.
     enough: usize,
 }
 

@@ -28,7 +28,7 @@ pub(crate) struct Piece {
     pub(crate) passed: usize,
 }
 
-/// So many pieces without bytes.
+/// Pieces without bytes, this many.
 pub(crate) fn no_pieces(
     alloc: Global,
     hash_key: HashKey,

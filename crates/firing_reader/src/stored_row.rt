@@ -37,7 +37,7 @@ impl Given {
         (self.packed % 16) as usize
     }
 
-    /// The same number of arguments, `shift` places later.
+    /// As many arguments, `shift` places later.
     pub fn moved(self, shift: u32) -> Given
         requires { first_of self + shift < 2 ^ 28 }
         ensures { result ≡ moved_given shift self }

@@ -149,7 +149,7 @@ impl<E: PlainEntry> UnitTable<E> {
         self.find_near(key, plain, tag)
     }
 
-    // The same in the slots after the first.
+    // The place of the unit of these bytes and this tag, in the slots after the first.
     #[inline(never)]
     fn find_near(&self, key: &[u8], plain: bool, tag: u32) -> Option<u32>
         ensures { IfSome result (λ p. (e : E) × (slice_get self.now p ≡ Some (key.now, e))

@@ -18,7 +18,7 @@ pub struct Known<E> {
 
 /// What is kept of a unit beside its bytes.
 pub trait Entry: Copy {
-    // It says where its texts are in these bytes.
+    // An entry says where its texts are in these bytes.
     ghost is_in: { Self → List ℕ → Type 0 };
 }
 

@@ -53,7 +53,7 @@ pub(crate) struct Named<'a> {
     pub(crate) rest: &'a [u8],
 }
 
-/// These parts of what is shown, where it has the bracket.
+/// The parts of what is shown, where it has the bracket.
 pub(crate) fn by_names<'a>(shown: &'a [u8]) -> Option<Named<'a>> {
     let mut arguments = [None; ARGUMENTS];
     let mut marks = Marks::new();

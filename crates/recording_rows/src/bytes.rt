@@ -18,7 +18,7 @@ pub(crate) fn after_spaces(bytes: &[u8]) -> &[u8] {
     }
 }
 
-// The same, where there were some.
+// What comes after further spaces at the front.
 fn after_more_spaces(bytes: &[u8]) -> &[u8] {
     let count = bytes.iter().position(|byte| *byte != b' ');
     &bytes[count.unwrap_or(bytes.len())..]

@@ -35,7 +35,7 @@ impl From<AllocError> for ConvertFault {
 /// Why a line has no rows.
 #[derive(Clone, Copy, Debug, PartialEq, Eq)]
 pub(crate) enum Halt {
-    /// It isn't known, or the trace is full.
+    /// The line isn't known, or the trace is full.
     Unknown,
     /// Memory was refused.
     Memory,

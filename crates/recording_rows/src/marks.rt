@@ -50,7 +50,8 @@ impl Marks {
         Some(false)
     }
 
-    // The same outside of texts and comments.
+    // Whether the next byte, outside of texts and comments, ends an argument. None where it isn't
+    // known here.
     fn bracket(&mut self, byte: u8) -> Option<bool> {
         match byte {
             b'(' | b'[' | b'{' => self.open = self.open.checked_add(1)?,

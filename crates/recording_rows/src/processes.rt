@@ -43,7 +43,7 @@ impl<'a> Processes<'a> {
         }
     }
 
-    // The same of another thread than the last one's.
+    // Whose rows a thread's are, if it isn't the last one's thread.
     fn other_owner(&mut self, thread: Id) -> Result<Owner<'a>, Halt> {
         let process = match self.processes.get(&thread.number) {
             Some(process) => *process,

@@ -5,7 +5,7 @@ use Rattle.std.specs.Prelude.{option_map, unwrap_or}
 use Rattle.replay_core.specs.Vocabulary.{Firing, Made, ScriptMeant, no_number, with_ends}
 use Rattle.replay_core.specs.Meaning.{blank_threads, history, exit_of}
 
--- those up to the one that exits
+-- the firings up to the one that exits
 abbrev pub up_to : Option (ℕ × ℕ) → List Firing → List Firing
 up_to None fs = fs
 up_to (Some exit) fs = filter (λ f. nat_le f.number exit.0) fs
@@ -33,7 +33,7 @@ first_exit_number m trace =
 abbrev pub exits_of : List (Firing × Made) → List (Option (ℕ × ℕ))
 exits_of h = map (λ x. option_map (λ status. (x.0.number, status)) x.1.exit) h
 
--- one of these, and none has a lesser number
+-- an exit is one of these, and none has a lesser number
 pub record IsLeastExit (exits : List (Option (ℕ × ℕ))) (exit : ℕ × ℕ) : Type 0 where
   pub one : Contains exits (Some exit)
   pub least : (other : ℕ × ℕ) → Contains exits (Some other) → exit.0 ≤ other.0

@@ -25,7 +25,7 @@ clauses_for f place (c ∷ cs) =
     map (λ d. (place, c)) (filter (λ d. selects d (probe_of f)) c.descriptions)
     ++ clauses_for f (suc place) cs
 
--- they run one after the other
+-- clauses run one after the other
 abbrev pub in_turn : Firing → List (ℕ × ClauseMeant) → Variables → Made
 in_turn f [] vars = nothing_made vars
 in_turn f (c ∷ cs) vars =

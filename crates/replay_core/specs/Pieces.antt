@@ -15,7 +15,7 @@ pub record PieceSeen : Type 0 where
   -- the first of them that exited, and its status
   pub exit : Option (ℕ × ℕ)
 
--- the same for a whole, whose numbers are listed group by group
+-- what contracts see of a whole, whose numbers are listed group by group
 pub record WholeSeen : Type 0 where
   pub texts : List (ℕ × List ℕ)
   pub table : List Aggregation
@@ -30,7 +30,7 @@ pub record IsPieceOf (m : ScriptMeant) (fs : List Firing) (p : PieceSeen) : Type
   pub taken : p.taken ≡ map number_of fs
   pub exit : p.exit ≡ exit_of (history m fs blank_threads)
 
--- so is the whole, which has the numbers of each group's firings
+-- the whole is what the script makes of these firings, with the numbers of each group's
 pub record IsWholeOf (m : ScriptMeant) (fs : List Firing) (grouping : Grouping)
     (w : WholeSeen) : Type 0 where
   pub texts : w.texts ≡ texts_of (history m fs blank_threads)

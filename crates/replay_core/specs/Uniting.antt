@@ -18,7 +18,7 @@ results_in_group grouping g r = filter (λ x. is_group g (grouping.group x.0.thr
 
 -- ---- lists by number
 
--- those with this number, in their order
+-- the items with this number, in their order
 abbrev pub with_number : {T : Type 0} → ℕ → List (ℕ × T) → List (ℕ × T)
 with_number number items = filter (λ x. x.0 == number) items
 

@@ -52,7 +52,7 @@ impl<'a> DifLanes<'a> {
         DifLanes::with_hash_key(HashKey::of_seed(&[]), program)
     }
 
-    /// The same, whose maps hash by this key.
+    /// Lanes of this program, whose maps hash by this key.
     ///
     /// ```text
     /// let lanes = DifLanes::with_hash_key(HashKey::random(&rt), &program);

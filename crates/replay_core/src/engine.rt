@@ -41,7 +41,8 @@ pub trait Engine {
             × ((seen self.new).piece.taken ≡ (seen self.old).piece.taken) }
         ensures err { IsTrue (is_spent self.new) ↔ IsErr result };
 
-    /// The same for a firing whose clauses were selected before: those at these places.
+    /// Runs the clauses at these places, which were selected for a firing, and returns whether it
+    /// exits. Once memory was refused, each later call is refused too.
     fn fire_selected(&mut self, firing: &Firing, places: &ClausePlaces) -> Result<bool, AllocError>
         requires ranges { HasRanges firing.now }
         requires selected { (m : ScriptMeant) × runs self.old m

@@ -45,7 +45,7 @@ pub fn group_runs_as_in_the_run()
         → group_history m grouping fs g ≡ results_in_group grouping g (history m fs blank_threads) }
 {}
 
-/// Of each grouping, what the groups make is what the run makes.
+/// What the groups of a grouping make is what the run makes.
 pub fn groups_unite()
     ensures { (m : ScriptMeant) (grouping : Grouping) (fs : List Firing) → AreGrouped grouping fs
         → IsStrictlyIncreasing (map number_of fs) → Unite m grouping fs }

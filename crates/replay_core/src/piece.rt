@@ -97,7 +97,7 @@ impl Piece {
         self.table.add(place, key, argument)
     }
 
-    /// The same under the key that these values make.
+    /// Notes what an aggregation is given under the key that these values make.
     pub(crate) fn note_lent_contribution(
         &mut self,
         place: usize,

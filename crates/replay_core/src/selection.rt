@@ -44,7 +44,7 @@ impl<'a> Selections<'a> {
         Selections { found: None }
     }
 
-    // Those that were found.
+    // The selections that were found.
     fn of(found: Found<'a>) -> Selections<'a>
         ensures { result ≡ found.entry }
     {
@@ -62,7 +62,7 @@ impl<'a> Selections<'a> {
         }
     }
 
-    /// Those of the firings at these places, in their order.
+    /// The places of the clauses that run for the firings at these places, in their order.
     pub(crate) fn lists(&self, places: &[u32]) -> [Option<&ClausePlaces>; MOST_TOGETHER]
         requires { length places.now ≤ MOST_TOGETHER }
         ensures { map lent (take (length places.now) result)
@@ -99,7 +99,7 @@ impl<'a> Model for Found<'a> {
 }
 
 impl<'a> Found<'a> {
-    // Those of clauses with these descriptions.
+    // The selections for clauses with these descriptions.
     fn new(
         alloc: Global,
         hash_key: HashKey,
@@ -200,7 +200,7 @@ fn probe_of<'a>(firing: &'a Firing) -> Probe<'a>
     }
 }
 
-// The same text, borrowed from this one.
+// A text, borrowed from this one.
 fn text_of<'a>(text: &'a Text) -> Text<'a>
     ensures { result ≡ text.now }
 {

@@ -13,7 +13,7 @@ pub(crate) fn by_number<T: Drop>(mut items: Vec<(u64, T)>) -> Result<Vec<(u64, T
     Ok(items)
 }
 
-/// Those of a number, among items that are sorted by number.
+/// The items of a number, among items that are sorted by number.
 pub(crate) fn with_number<T>(sorted: &[(u64, T)], number: u64) -> &[(u64, T)]
     ensures { InOrder sorted.now → result.now ≡ with_number number sorted.now }
 {

@@ -11,8 +11,8 @@ pub(crate) enum Span {
     All,
     /// The firings up to `last`, and END, whose number is `end`.
     UpTo { last: u64, end: u64 },
-    /// Of each group those up to its first that exits, or to the first exit that another worker
-    /// found.
+    /// The firings of each group up to its first that exits, or to the first exit that another
+    /// worker found.
     UntilExit,
 }
 

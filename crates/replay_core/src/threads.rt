@@ -79,7 +79,7 @@ pub(crate) fn run_on_thread<C: Clause>(
     }
 }
 
-// The same for a thread without tables, which keeps those made for it.
+// Runs clauses on a thread without tables, which keeps the tables made for it.
 fn run_on_new_tables<C: Clause>(
     due: &Due<C>,
     threads: &mut IndexMap<i32, Tables, HashKey>,

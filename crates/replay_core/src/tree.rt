@@ -55,7 +55,7 @@ impl<'a> TreeLanes<'a> {
         TreeLanes::with_hash_key(HashKey::of_seed(&[]), script)
     }
 
-    /// The same, whose maps hash by this key.
+    /// Lanes of this script, whose maps hash by this key.
     ///
     /// ```text
     /// let lanes = TreeLanes::with_hash_key(HashKey::random(&rt), &script);

@@ -69,7 +69,7 @@ where
     watch_on(rt, source, seat, &input)
 }
 
-/// The same by selections that are shared.
+/// Runs groups as `work_until` does, by selections that are shared.
 pub(crate) fn watch_on<R: Wait, S: Exits, L: Lanes, G: Gate>(
     rt: &R,
     source: &S,

@@ -17,7 +17,7 @@ pub fn one_listing()
         → xs ≡ ys }
 {}
 
-/// The same texts and contributions have at most one output.
+/// Texts and contributions have at most one output.
 pub fn one_output()
     ensures { (functions : List AggFn) (texts : List (ℕ × List ℕ))
         (contributions : List Contribution) (xs ys : List ℕ)
@@ -37,7 +37,7 @@ pub fn each_run_has_a_report()
     ensures { ShowsEach IsReport }
 {}
 
-/// Of two entries of a listing the first has the lower rank, or the same rank and the lower key.
+/// The first of two entries of a listing has the lower rank, or the same rank and the lower key.
 pub fn listings_ascend()
     ensures { (function : AggFn) (agg : ℕ) (contributions : List Contribution)
         (entries : List Entry)

@@ -22,7 +22,7 @@ fn answer_to_tree(alloc: Global, tree: Script) -> Result<String, AllocError>
     }
 }
 
-// The same of tokens.
+// "typed" for tokens that spell a well-typed tree, else what their fault says.
 fn answer_to_tokens(alloc: Global, tokens: &[Token]) -> Result<String, AllocError>
     requires few { length tokens.now ≤ MOST_BYTES }
     requires small { HaveSmallNumbers tokens.now }
@@ -33,7 +33,7 @@ fn answer_to_tokens(alloc: Global, tokens: &[Token]) -> Result<String, AllocErro
     }
 }
 
-// The same of a script.
+// "typed" for a well-typed script, else what its fault says.
 fn answer_to(alloc: Global, script: &[u8]) -> Result<String, AllocError> {
     match lex(alloc, script) {
         Ok(tokens) => answer_to_tokens(alloc, &tokens),

@@ -15,7 +15,7 @@ number_lowered seat = seat.seat.me.0.low.lowered
 abbrev pub number_seen : ClaimSeat → ℕ
 number_seen seat = seat.seat.me.0.low.seen
 
--- it has taken nothing, lowered nothing and was shown nothing
+-- a new seat has taken nothing, lowered nothing and was shown nothing
 pub record IsNew (seat : ClaimSeat) : Type 0 where
   pub taken : seat.taken.items ≡ []
   pub at_end : seat.at_end ≡ false

@@ -35,7 +35,8 @@ pub record IsListed (lists : List (List ℤ)) (trace : List Firing) (groups : Gr
   pub faultless : thread_fault threads lists ≡ None
   pub is : groups ≡ grouping_by_lists lists
 
--- they don't, since there are too many of them, or else since a thread is wrong or missing
+-- the lists aren't groups, since there are too many of them, or else since a thread is wrong or
+-- missing
 abbrev pub IsListFault : List (List ℤ) → List Firing → GroupFault → Type 0
 IsListFault lists trace fault =
     ((MOST_GROUPS < length lists) × (fault ≡ TooMany))

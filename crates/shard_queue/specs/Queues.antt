@@ -8,7 +8,7 @@ abbrev pub IsIn : GroupQueue → QueueSeat → Type 0
 IsIn queue seat =
     IsPassOf queue.queue seat.pass × (seat.end ≡ queue.end) × (seat.workers ≡ queue.workers)
 
--- it has taken nothing
+-- the seat has taken nothing
 abbrev pub IsUnused : QueueSeat → Type 0
 IsUnused seat = (seat.taken.items ≡ []) × (seat.at_end ≡ false)
 

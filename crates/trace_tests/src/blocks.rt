@@ -121,7 +121,7 @@ fn other_way<R: Threads>(
     Ok(None)
 }
 
-// The same of a drawn trace.
+// The first of these ways in which a drawn trace is read otherwise.
 fn other_way_of_drawn<R: Threads>(
     rt: &R,
     alloc: Global,
@@ -196,7 +196,7 @@ fn first_other_cut<R: Threads>(rt: &R, alloc: Global, bytes: &[u8]) -> Option<us
     None
 }
 
-// The same of a trace of three pieces.
+// The first place at which a trace of three pieces, cut in two, is read otherwise.
 fn first_other_cut_of<R: Threads>(
     rt: &R,
     alloc: Global,

@@ -33,7 +33,7 @@ impl Chance {
         if most == 0 { 0 } else { drawn % most }
     }
 
-    // One of these.
+    // Draws one of some choices.
     fn one_of(&mut self, choices: &[&'static str]) -> &'static str {
         let at = self.below(choices.len());
         *choices.get(at).unwrap_or(&"")
@@ -221,7 +221,7 @@ fn other_workers<R: Threads + Sync + RandomSource>(
     None
 }
 
-// The same of a drawn trace, and up to 8 workers.
+// The first number of up to 8 workers by whom a drawn trace is read otherwise than by one.
 fn other_workers_of_drawn<R: Threads + Sync + RandomSource>(
     rt: &R,
     alloc: Global,
@@ -324,7 +324,8 @@ fn other_end<R: Threads + Sync + RandomSource>(
     None
 }
 
-// The same of plain rows.
+// The first length at which a trace of plain rows that ends there is read otherwise by four
+// workers.
 fn other_end_of_rows<R: Threads + Sync + RandomSource>(
     rt: &R,
     alloc: Global,

@@ -292,7 +292,7 @@ fn least_in_turn(board: &ClaimBoard, a: &mut ClaimSeat, b: &mut ClaimSeat) -> [u
     [first, board.least(a), board.least(b)]
 }
 
-// The same of the two seats of a board.
+// What the two seats of a board read, as `least_in_turn` has it.
 fn least_by_two(
     rt: &impl Abort,
     board: &ClaimBoard,

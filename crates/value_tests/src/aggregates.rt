@@ -48,7 +48,7 @@ fn are_counts(
     Ok(entries.len() == counts.len())
 }
 
-// The same of an aggregation.
+// Whether the entries of an aggregation have just these counts.
 fn has_counts(
     alloc: Global,
     table: &AggTable,

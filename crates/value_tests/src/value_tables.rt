@@ -19,7 +19,7 @@ const OTHER: Var = Var {
     kind: Kind::Number,
 };
 
-// The same value, owned.
+// A value of one's own that is the same.
 fn value_of(alloc: Global, value: ValueRef<'_>) -> Result<Value, AllocError> {
     match value {
         ValueRef::Int(n) => Ok(Value::Int(n)),

@@ -32,7 +32,7 @@ abbrev pub Answers : {X : Type 0} → (X → List Token) → Result X LexFault �
 Answers view (Ok ts) s = s ≡ (view ts, Clean)
 Answers view (Err e) s = Stops e s.1
 
--- the same with the slashes settled
+-- what the scan gives, with the slashes settled
 abbrev pub Lexed : {X : Type 0} → (X → List Token) → Result X LexFault → Scanned → Type 0
 Lexed view (Ok x) s = (settle s.0 ≡ view x) × (s.1 ≡ Clean)
 Lexed view (Err e) s = Stops e s.1

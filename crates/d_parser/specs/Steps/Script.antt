@@ -12,7 +12,7 @@ unfoldable pub before_colon : List ℕ → List ℕ
 before_colon [] = []
 before_colon (b ∷ bytes) = if b == colon then [] else b ∷ before_colon bytes
 
--- those after it, if there is one
+-- the bytes after the first colon, if there is one
 unfoldable pub after_colon : List ℕ → Option (List ℕ)
 after_colon [] = None
 after_colon (b ∷ bytes) = if b == colon then Some bytes else after_colon bytes

@@ -15,7 +15,7 @@ use keyed_hash::is_same;
 // Ten arguments that are 0.
 const ZEROS: &[u8] = b"0,0,0,0,0,0,0,0,0,0";
 
-// The same for ten that are empty.
+// Ten arguments that are empty.
 const EMPTY: &[u8] = b",,,,,,,,,";
 
 // Whether bytes begin with these.
@@ -45,7 +45,7 @@ fn after_zeros(bytes: &[u8], count: usize) -> Option<&[u8]>
     Some(rest)
 }
 
-// The same for arguments that are all empty.
+// What follows `count` arguments that are all empty.
 #[inline(always)]
 fn after_empty(bytes: &[u8], count: usize) -> Option<&[u8]>
     requires most { count ≤ 10 }

@@ -157,7 +157,7 @@ pub(crate) fn next_argument(bytes: &[u8]) -> Option<(i64, &[u8])>
     }
 }
 
-// The same, whatever it is.
+// An argument of any length that a comma ends.
 #[inline(always)]
 fn longer_argument(bytes: &[u8]) -> Option<(i64, &[u8])>
     ensures { IfSome result (λ p. (field : List ℕ)

@@ -44,7 +44,7 @@ line_of (x ∷ xs) = (x ++ after_commas xs) ++ 10 ∷ []
 abbrev pub value_of : Option ℤ → ℤ
 value_of a = unwrap_or a (pos 0)
 
--- it has 64 bits
+-- an argument has 64 bits
 abbrev pub IsArgument : Option ℤ → Type 0
 IsArgument a = FitsSigned w64 (value_of a)
 

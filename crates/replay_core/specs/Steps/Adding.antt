@@ -2,7 +2,7 @@
 use Rattle.std.specs.Prelude.{◌≡◌, ℕ, List, [], ◌∷◌, ◌++◌}
 use Rattle.replay_core.specs.declared.{piece.Piece.Piece}
 
--- it comes after those before, and this holds of it and its group
+-- a piece comes after those before, and this holds of it and its group
 pub record IsAdded (P : ℕ × Piece → Type 0) (before : List (ℕ × Piece)) (group : ℕ)
     (after : List (ℕ × Piece)) : Type 0 where
   pub piece : Piece

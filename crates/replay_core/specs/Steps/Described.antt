@@ -25,7 +25,7 @@ abbrev pub is_given : List ℕ → Bool
 is_given [] = false
 is_given (b ∷ field) = true
 
--- they give the same fields
+-- two descriptions give the same fields
 pub record GiveSame (d e : Description) : Type 0 where
   pub provider : is_given d.provider ≡ is_given e.provider
   pub probemod : is_given d.«module» ≡ is_given e.«module»
@@ -54,7 +54,7 @@ hash_of_probe key like p =
 
 -- ---- tables
 
--- they are the same kind: those with a pattern, or those that give the same fields
+-- two kinds are the same: those with a pattern, or those that give the same fields
 abbrev pub IsSameKind : Option (Bor Description) → Option (Bor Description) → Type 0
 IsSameKind None None = Unit {0}
 IsSameKind None (Some d) = ⊥
@@ -72,7 +72,7 @@ abbrev pub hash_sought : HashKey → Option (Bor Description) → Probe → ℕ
 hash_sought key None p = 0
 hash_sought key (Some like) p = hash_of_probe key like.now p
 
--- it is of the kind that it names
+-- a description is of the kind that it names
 abbrev pub HasKind : HashKey → List (Option (Bor Description)) → ℕ × Described → Type 0
 HasKind key kinds x =
     (kind : Option (Bor Description)) × (slice_get kinds x.1.kind ≡ Some kind)
@@ -98,7 +98,7 @@ pub record IsTable (t : DescriptionTable) (given : List (ℕ × Description)) : 
 abbrev pub IsTableOf : DescriptionTable → List (List Description) → Type 0
 IsTableOf t ds = IsTable t (given_from 0 ds)
 
--- those of a kind that select the probe
+-- a description is of a kind and selects the probe
 abbrev pub is_found : ℕ → Probe → ℕ × Described → Bool
 is_found kind p x = (x.1.kind == kind) && selects x.1.description.now p
 

@@ -20,7 +20,7 @@ Performs number (Faults after) old (Ok exits) new vars = ⊥
 Performs number (Faults after) old (Err EvalFault.DivideByZero) new vars =
     (vars ≡ after) × (new ≡ old)
 
--- the same for a statement in a state
+-- a statement in a state does what its meaning says
 abbrev pub IsPerformed : (Firing → Variables → Outcome Effect) → Result Bool EvalFault
     → (old new : State) → (before after : Piece) → Type 0
 IsPerformed meaning r old new before after =
@@ -34,7 +34,7 @@ pub record HasRoomAt (place : ℕ) (p : Piece) : Type 0 where
   pub known : place < length (functions_of p.table)
   pub room : count_held p.table < 2 ^ 52
 
--- it has at most one contribution more, of the same aggregations and the same firings
+-- a piece has at most one contribution more, of the same aggregations and the same firings
 pub record HasOneMore (old new : Piece) : Type 0 where
   pub held : count_held new.table ≤ count_held old.table + 1
   pub functions : functions_of new.table ≡ functions_of old.table

@@ -9,7 +9,8 @@ use Rattle.replay_core.specs.Steps.AllMade.{all_made}
 abbrev pub made_on : Firing → List ClauseMeant → List ℕ → List (ℤ × Tables) → Made
 made_on f cs places entries = all_made f cs places (at_start (threads_in entries f.thread))
 
--- what they make is noted, the thread has the new variables, and each other those that it had
+-- what the clauses make is noted, the thread has the new variables, and each other thread those
+-- that it had
 pub record RunsOn (f : Firing) (made : Made) (old new : List (ℤ × Tables)) (before after : Piece)
     (exits : Bool) : Type 0 where
   pub notes : Notes f.number made (piece_seen before) (piece_seen after)

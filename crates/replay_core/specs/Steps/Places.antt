@@ -3,7 +3,7 @@ use Rattle.std.specs.Prelude.{ℕ, nat_lt, if◌then◌else◌, List, [], ◌∷
 
 -- ---- two lists of places as one
 
--- those at the front that are below a place, and what comes after them
+-- the items at the front that are below a place, and what comes after them
 abbrev pub front_below : ℕ → List ℕ → List ℕ
 front_below place [] = []
 front_below place (p ∷ ps) = if nat_lt p place then p ∷ front_below place ps else []

@@ -4,7 +4,7 @@ use Rattle.replay_core.specs.Vocabulary.{ClaimSeat}
 use Rattle.replay_core.specs.declared.{piece.Piece.Piece}
 use Rattle.replay_core.specs.AtBoard.{Part}
 
--- it came to its end, and its pieces and its seat come after the others
+-- a worker came to its end, and its pieces and its seat come after the others
 pub record IsWorkAdded {E : Type 0} (worked : Result Part E) (pieces new : List (ℕ × Piece))
     (seats more : List ClaimSeat) : Type 0 where
   pub part : Part

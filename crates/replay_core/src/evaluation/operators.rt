@@ -72,7 +72,7 @@ pub(crate) fn compared_words(op: ComparisonOperator, t: IntType, x: u64, y: u64)
     truth(op.holds(compare(t, x, y)))
 }
 
-/// The same for two texts.
+/// 1 where the comparison of two texts holds, else 0.
 pub(crate) fn compared_texts(op: ComparisonOperator, x: Text, y: Text) -> u64
     ensures { result ≡ spec.truth (holds_of op (text_cmp x y)) }
 {

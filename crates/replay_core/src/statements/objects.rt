@@ -38,8 +38,8 @@ fn run<'a>(
     }
 }
 
-// The same in a state. As a function it would borrow the whole state for as long as the value is
-// used.
+// Runs an object in a state. As a function it would borrow the whole state for as long as the value
+// is used.
 macro_rules! run_on_state {
     ($object:ident, $state:ident) => {
         run(

@@ -117,7 +117,7 @@ pub(crate) fn aggregate<X: Expression>(
     aggregate_evaluated(place, keys, argument, state, piece)
 }
 
-// The same under a lent key.
+// An aggregation statement whose key is lent.
 #[inline(always)]
 fn aggregate_lent<X: Expression>(
     place: usize,
@@ -138,7 +138,7 @@ fn aggregate_lent<X: Expression>(
     Ok(false)
 }
 
-// The same under a key that is evaluated.
+// An aggregation statement whose key is evaluated.
 #[inline(always)]
 fn aggregate_evaluated<X: Expression>(
     place: usize,

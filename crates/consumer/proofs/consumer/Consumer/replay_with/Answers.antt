@@ -6,7 +6,7 @@ pub returns-in_err-script : goal.returns-in_err-script
 returns-in_err-script g c =
     let p = err_from_is_err_and c.from_residual.result c.from_residual.ensures.1 in
     let is = refused g.L.Layout.shows c.args.script.now c.args.trace.now c.args.plan.now c.in_err-script.field-0.0
-        (script_refused c.args.script.now c.args.trace.now c.args.plan.now c.in_err-script.field-0.0 c.in_err-script.ensures) in
+    (script_refused c.args.script.now c.args.trace.now c.args.plan.now c.in_err-script.field-0.0 c.in_err-script.ensures) in
     rw (p.1, p.2) (record { answer = is.answer; fault = is.fault; carried = is.carried })
 
 pub returns : goal.returns
