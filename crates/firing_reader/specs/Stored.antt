@@ -1,6 +1,7 @@
 -- Firings as a trace stores them: rows of small fixed size, and apart from them what rows share and
 -- their arguments.
-use Rattle.std.specs.Prelude.{◌≡◌, ◌<◌, ◌≤◌, ◌+◌, ◌*◌, ◌/◌, ◌%◌, ℕ, zero, suc, ℤ, pos, List, [], ◌++◌}
+use Rattle.std.specs.Prelude.{◌≡◌, ◌<◌, ◌≤◌, ◌+◌, ◌*◌, ◌/◌, ◌%◌, ℕ, zero, suc, ℤ, pos, List, []}
+use Rattle.std.specs.Prelude.{◌++◌}
 use Rattle.std.specs.Prelude.{Option, None, Some, length, get_or, slice_get, map, take, drop}
 use Rattle.firing_reader.specs.Arguments.{ten}
 use Rattle.firing_reader.specs.declared.firing.Firing.{Firing}

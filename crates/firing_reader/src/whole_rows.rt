@@ -12,7 +12,7 @@ use crate::reading::read_by_csv;
 use crate::row_ends::end_of_rows;
 use std::alloc::Global;
 
-/// Reads the rows that are whole: plain ones where they lie, and from the first other one on by csv.
+/// Reads the rows that are whole: plain ones where they lie, from the first other one on by csv.
 pub(crate) fn read_rows(
     alloc: Global,
     firings: &mut FiringsBuilder,
