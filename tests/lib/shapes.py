@@ -26,7 +26,7 @@ class Shape:
     names: set
 
 
-def written_proofs(crate, function):
+def read_proofs(crate, function):
     """Returns the text of the proofs that are written for a function, its closures and its cycle
     of calls."""
     top, found = f"{crate.folder}/proofs", []
@@ -90,7 +90,7 @@ def is_cited(name, text):
     return re.search(rf"(?:(?<!\bargs)\.|[{{ ,-]){re.escape(name)}(?![\w-])", text)
 
 
-def reshaped(function, old, new, text):
+def tell_new_shape(function, old, new, text):
     """Returns what tells that a function has another shape, and that its proofs, of this text, rest
     on the one that it had."""
     here = [{at: it for at, it in both.items() if function.is_at(at)} for both in (old, new)]
