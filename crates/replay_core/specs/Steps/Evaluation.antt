@@ -1,23 +1,13 @@
 -- What the functions that evaluate an expression return, unless memory ran out.
-use Rattle.std.specs.Prelude.{◌≡◌, ℕ, List, Result, Ok, Err}
-use Rattle.replay_core.specs.Vocabulary.{Faults, Firing, Has, KeyPart, Outcome, Typed, Typeds}
-use Rattle.replay_core.specs.Vocabulary.{Value, Variables, eval, keys_of, number_outcome}
-use Rattle.replay_core.specs.Vocabulary.{text_outcome}
+use Rattle.std.specs.Prelude.{◌≡◌, Result, Ok, Err}
+use Rattle.replay_core.specs.Vocabulary.{Faults, Firing, Has, Outcome, Typed, Value, Variables}
+use Rattle.replay_core.specs.Vocabulary.{eval}
 use Rattle.replay_core.specs.declared.{evaluation.fault.EvalFault.EvalFault, state.State.State}
 use Rattle.replay_core.specs.Evaluation.{variables_in, Stays, Meets}
 
--- the value, the word, the text and the key of what is evaluated
+-- the value of what is evaluated
 abbrev pub HasValue : Typed → Result Value EvalFault → (old new : State) → Type 0
 HasValue e = Meets (λ f. eval f e)
-
-abbrev pub HasWord : Typed → Result ℕ EvalFault → (old new : State) → Type 0
-HasWord e = Meets (λ f vars. number_outcome (eval f e vars))
-
-abbrev pub HasText : Typed → Result (List ℕ) EvalFault → (old new : State) → Type 0
-HasText e = Meets (λ f vars. text_outcome (eval f e vars))
-
-abbrev pub HasKey : Typeds → Result (List KeyPart) EvalFault → (old new : State) → Type 0
-HasKey keys = Meets (λ f. keys_of f keys)
 
 -- ---- what a call leaves in a place, unless memory ran out
 

@@ -1,42 +1,53 @@
-//! Operators on words and texts.
+//! Operators on values.
 
-ghost use Rattle.std.specs.Prelude.{◌≡◌};
+ghost use Rattle.std.specs.Prelude.{◌≡◌, IfOk, length};
 ghost use Rattle.d_values.specs.Operators.{holds_of};
-ghost use Rattle.d_values.specs.Texts.{text_cmp};
+ghost use Rattle.d_values.specs.Texts.{joined_text, text_cmp};
 ghost use Rattle.d_values.specs.Words.{narrow, order_of};
 ghost use Rattle.d_types.specs.Expressions as spec;
+ghost use Rattle.d_types.specs.Storage.{bytes_of, word_of};
 ghost use Rattle.replay_core.specs.Evaluation.{Returns};
 ghost use Rattle.replay_core.specs.Vocabulary.{Variables};
 
 use crate::evaluation::fault::EvalFault;
+use crate::evaluation::values::{bytes_in, word_in};
 use d_parser::{Step, UnaryOperator};
 use d_types::{Answer, Operation};
 use d_values::{
-    ComparisonOperator, DType, IntType, OutOfZero, Text, Value, binary, compare, compare_text,
-    complement, convert, negate, shift,
+    ComparisonOperator, DType, IntType, OutOfZero, Value, binary, compare, compare_text,
+    complement, convert, join_text, negate, shift,
 };
+use std::alloc::{AllocError, Global};
 
-/// 1 for true, 0 for false.
-pub(crate) fn truth(holds: bool) -> u64
-    ensures { result ≡ spec.truth holds }
+// 1 for true, 0 for false.
+fn truth(holds: bool) -> Value
+    ensures { result ≡ Value.Int (spec.truth holds) }
 {
-    u64::from(holds)
+    Value::Int(u64::from(holds))
 }
 
 /// An operator before its operand, of the type.
-pub(crate) fn unary(op: UnaryOperator, t: IntType, word: u64) -> u64
-    ensures { result ≡ spec.unary_of op t word }
+pub(crate) fn unary(op: UnaryOperator, t: IntType, x: Value) -> Value
+    ensures { result ≡ Value.Int (spec.unary_of op t (word_of x)) }
 {
+    let word = word_in(&x);
     match op {
-        UnaryOperator::Not => u64::from(word == 0),
-        UnaryOperator::Complement => complement(t, word),
-        UnaryOperator::Negate => negate(t, word),
-        UnaryOperator::Keep => word,
+        UnaryOperator::Not => truth(word == 0),
+        UnaryOperator::Complement => Value::Int(complement(t, word)),
+        UnaryOperator::Negate => Value::Int(negate(t, word)),
+        UnaryOperator::Keep => Value::Int(word),
     }
 }
 
-/// The operator's word, refused where it divides by 0.
-pub(crate) fn operation_word(op: Operation, a: u64, b: u64) -> Result<u64, OutOfZero>
+/// An integer as one of another type.
+pub(crate) fn converted(from: IntType, to: IntType, x: Value) -> Value
+    ensures { result ≡ Value.Int (narrow to (word_of x)) }
+{
+    Value::Int(convert(word_in(&x), from, to))
+}
+
+// The operator's word, refused where it divides by 0.
+fn operation_word(op: Operation, a: u64, b: u64) -> Result<u64, OutOfZero>
     ensures { result ≡ spec.operation_of op a b }
 {
     match op {
@@ -45,46 +56,68 @@ pub(crate) fn operation_word(op: Operation, a: u64, b: u64) -> Result<u64, OutOf
     }
 }
 
-/// Its value, or the fault of its evaluation.
-pub(crate) fn operation_or_fault(op: Operation, a: u64, b: u64) -> Result<Value, EvalFault>
-    ensures { (vars : Variables)
-        → Returns (spec.integer (spec.word_or_fault (spec.operation_of op a b) vars)) result vars }
+/// The value of an operator between two integers, or the fault of its evaluation.
+pub(crate) fn operate(op: Operation, x: Value, y: Value) -> Result<Value, EvalFault>
+    ensures { (vars : Variables) → Returns
+        (spec.integer (spec.word_or_fault (spec.operation_of op (word_of x) (word_of y)) vars))
+        result vars }
 {
-    match operation_word(op, a, b) {
+    match operation_word(op, word_in(&x), word_in(&y)) {
         Ok(word) => Ok(Value::Int(word)),
         Err(_) => Err(EvalFault::DivideByZero),
     }
 }
 
-/// The word of an operation on the word of a variable and another.
-#[inline(always)]
-pub(crate) fn updated_word(op: Operation, old: u64, y: u64) -> Result<u64, OutOfZero>
-    ensures { result ≡ spec.operation_of op (narrow (spec.works_in op) old) y }
+/// The word of an operation on the value of a variable and another.
+pub(crate) fn updated(op: Operation, old: Value, y: Value) -> Result<u64, OutOfZero>
+    ensures { result ≡ spec.operation_of op (narrow (spec.works_in op) (word_of old)) (word_of y) }
 {
-    operation_word(op, word_for_operation(op, old), y)
+    operation_word(op, word_for_operation(op, word_in(&old)), word_in(&y))
 }
 
-/// 1 where the comparison of two words holds, else 0.
-#[inline(always)]
-pub(crate) fn compared_words(op: ComparisonOperator, t: IntType, x: u64, y: u64) -> u64
-    ensures { result ≡ spec.truth (holds_of op (order_of t x y)) }
+/// 1 where the comparison of two integers holds, else 0.
+pub(crate) fn compare_words(op: ComparisonOperator, t: IntType, x: Value, y: Value) -> Value
+    ensures { result
+        ≡ Value.Int (spec.truth (holds_of op (order_of t (word_of x) (word_of y)))) }
 {
-    truth(op.holds(compare(t, x, y)))
+    truth(op.holds(compare(t, word_in(&x), word_in(&y))))
 }
 
 /// 1 where the comparison of two texts holds, else 0.
-pub(crate) fn compared_texts(op: ComparisonOperator, x: Text, y: Text) -> u64
-    ensures { result ≡ spec.truth (holds_of op (text_cmp x y)) }
+pub(crate) fn compare_texts(op: ComparisonOperator, x: Value, y: Value) -> Value
+    ensures { result ≡ Value.Int (spec.truth (holds_of op (text_cmp (bytes_of x) (bytes_of y)))) }
 {
-    truth(op.holds(compare_text(x.as_bytes(), y.as_bytes())))
+    truth(op.holds(compare_text(bytes_in(&x), bytes_in(&y))))
 }
 
-/// 1 where just one of the words isn't 0, else 0.
-#[inline(always)]
-pub(crate) fn exclusive_or(x: u64, y: u64) -> u64
-    ensures { result ≡ spec.at_zero x (spec.bit y) (spec.inverse y) }
+/// 1 where it isn't 0, else 0.
+pub(crate) fn bit(y: Value) -> Value
+    ensures { result ≡ Value.Int (spec.bit (word_of y)) }
 {
-    u64::from((x == 0) != (y == 0))
+    truth(word_in(&y) != 0)
+}
+
+/// 1 where just one of the two isn't 0, else 0.
+pub(crate) fn exclusive_or(x: Value, y: Value) -> Value
+    ensures { result ≡ Value.Int
+        (spec.at_zero (word_of x) (spec.bit (word_of y)) (spec.inverse (word_of y))) }
+{
+    truth((word_in(&x) == 0) != (word_in(&y) == 0))
+}
+
+/// How many bytes a text has.
+pub(crate) fn text_length(x: Value) -> Value
+    ensures { result ≡ Value.Int (length (bytes_of x)) }
+{
+    Value::Int(bytes_in(&x).len() as u64)
+}
+
+/// Two texts as one, cut to 255 bytes.
+pub(crate) fn join(alloc: Global, x: Value, y: Value) -> Result<Value, AllocError>
+    ensures { IfOk result (λ v. v ≡ Value.Text (joined_text (bytes_of x) (bytes_of y))) }
+{
+    let text = join_text(alloc, bytes_in(&x), bytes_in(&y))?;
+    Ok(Value::Text(text))
 }
 
 // The word of a variable as one of the type that the operation works in.

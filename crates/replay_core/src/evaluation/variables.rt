@@ -1,92 +1,23 @@
-//! Variables in their tables.
+//! What reads or changes a variable, once its key and the right side are evaluated.
 
-ghost use Rattle.std.specs.Prelude.{◌≡◌, IfOk, OnOk};
-ghost use Rattle.d_types.specs.Storage as spec;
-ghost use Rattle.replay_core.specs.{Evaluation.variables_of};
-ghost use Rattle.replay_core.specs.Vocabulary.{kind_of, lent_value, part_of};
+ghost use Rattle.std.specs.Prelude.{◌≡◌};
+ghost use Rattle.d_types.specs.Storage.{as_kind, value_of_variable, var_of, word_of};
+ghost use Rattle.d_types.specs.Expressions as spec;
+ghost use Rattle.replay_core.specs.Evaluation.{Meets};
+ghost use Rattle.replay_core.specs.Vocabulary.{kind_of};
 
-use crate::tables::Tables;
-use d_types::{Space, Variable, kind_of};
-use d_values::{Key, KeyPart, Kind, Text, Value, ValueRef, Var};
-use std::alloc::{AllocError, Global};
-
-/// The word of an integer, or 0.
-pub(crate) fn word_in(value: &Value) -> u64
-    ensures { result ≡ spec.word_of value.now }
-{
-    match value {
-        Value::Int(word) => *word,
-        Value::Text(_) => 0,
-    }
-}
-
-/// The word of an integer that is lent, or 0.
-pub(crate) fn word_of(value: ValueRef<'_>) -> u64
-    ensures { result ≡ spec.word_of (lent_value value.entry) }
-{
-    match value {
-        ValueRef::Int(word) => word,
-        ValueRef::Text(_) => 0,
-    }
-}
-
-/// Lends the bytes of a text, or none.
-pub(crate) fn bytes_in(value: &Value) -> &[u8]
-    ensures { result.now ≡ spec.bytes_of value.now }
-{
-    match value {
-        Value::Int(_) => &[],
-        Value::Text(text) => text.as_bytes(),
-    }
-}
-
-/// The bytes of a text, or none.
-pub(crate) fn bytes(alloc: Global, value: Value) -> Text
-    ensures { result ≡ spec.bytes_of value }
-{
-    match value {
-        Value::Int(_) => Text::new(alloc),
-        Value::Text(text) => text,
-    }
-}
-
-/// The part of a key that a value makes.
-pub(crate) fn part_of(value: Value) -> KeyPart
-    ensures { result ≡ part_of value }
-{
-    match value {
-        Value::Int(word) => KeyPart::Number(word.cast_signed()),
-        Value::Text(text) => KeyPart::Name(text),
-    }
-}
-
-// The value as one of the kind.
-fn as_kind(alloc: Global, kind: Kind, value: Value) -> Value
-    ensures value { result ≡ spec.as_kind kind value }
-    ensures kind { kind_of result ≡ kind }
-{
-    match kind {
-        Kind::Number => Value::Int(word_in(&value)),
-        Kind::Text => Value::Text(bytes(alloc, value)),
-    }
-}
-
-/// A copy of a value that is lent.
-pub(crate) fn owned_value(alloc: Global, value: ValueRef<'_>) -> Result<Value, AllocError>
-    ensures { IfOk result (λ v. v ≡ lent_value value.entry) }
-{
-    match value {
-        ValueRef::Int(word) => Ok(Value::Int(word)),
-        ValueRef::Text(bytes) => {
-            let text = Text::from_slice(alloc, bytes)?;
-            Ok(Value::Text(text))
-        }
-    }
-}
+use crate::evaluation::fault::EvalFault;
+use crate::evaluation::operators::{step_result, step_value, word_as_type};
+use crate::evaluation::values::{owned_value, word_in};
+use crate::state::State;
+use d_parser::Step;
+use d_types::{Answer, Space, Variable, kind_of};
+use d_values::{Key, Kind, OutOfZero, Text, Value, Var};
+use std::alloc::Global;
 
 // Its name in the tables.
 fn var_of(x: Variable) -> Var
-    ensures { result ≡ spec.var_of x }
+    ensures { result ≡ var_of x }
 {
     Var {
         slot: x.slot,
@@ -94,50 +25,86 @@ fn var_of(x: Variable) -> Var
     }
 }
 
-// Lends its value at the key.
-fn lend<'a>(x: Variable, key: &Key, tables: &'a Tables) -> ValueRef<'a>
-    ensures { lent_value result ≡ spec.value_of_variable (variables_of tables.now) x key.now }
+// The value as one of the kind.
+fn as_kind(alloc: Global, kind: Kind, value: Value) -> Value
+    ensures value { result ≡ as_kind kind value }
+    ensures kind { kind_of result ≡ kind }
 {
-    match x.space {
-        Space::Thread => tables.own.get(var_of(x), key),
-        Space::Clause => tables.locals.get(var_of(x)),
+    match (kind, value) {
+        (Kind::Number, value) => Value::Int(word_in(&value)),
+        (Kind::Text, Value::Int(_)) => Value::Text(Text::new(alloc)),
+        (Kind::Text, Value::Text(text)) => Value::Text(text),
     }
 }
 
-/// A copy of the variable's value at the key.
-pub(crate) fn value_at(
-    alloc: Global,
+/// A copy of a variable's value.
+pub(crate) fn read_variable(
     x: Variable,
     key: &Key,
-    tables: &Tables,
-) -> Result<Value, AllocError>
-    ensures { IfOk result (λ v. v ≡ spec.value_of_variable (variables_of tables.now) x key.now) }
+    state: &mut State<'_>,
+) -> Result<Value, EvalFault>
+    ensures { Meets (λ f vars. spec.Has (value_of_variable vars x key.now) vars)
+        result state.old state.new }
 {
-    owned_value(alloc, lend(x, key, tables))
+    let value = match x.space {
+        Space::Thread => owned_value(state.alloc, state.tables.own.get(var_of(x), key))?,
+        Space::Clause => owned_value(state.alloc, state.tables.locals.get(var_of(x)))?,
+    };
+    Ok(value)
 }
 
-/// The word of the variable's value at the key.
-pub(crate) fn word_at(x: Variable, key: &Key, tables: &Tables) -> u64
-    ensures { result ≡ spec.word_of (spec.value_of_variable (variables_of tables.now) x key.now) }
-{
-    word_of(lend(x, key, tables))
-}
-
-/// Gives the variable a value at the key.
-pub(crate) fn set(
-    alloc: Global,
+/// Gives a variable a value, and returns a copy of that value.
+pub(crate) fn assign_variable(
     x: Variable,
     key: &Key,
     value: Value,
-    tables: &mut Tables,
-) -> Result<(), AllocError>
-    ensures { OnOk result
-        (variables_of tables.new ≡ spec.set (variables_of tables.old) x key.now value) }
+    state: &mut State<'_>,
+) -> Result<Value, EvalFault>
+    ensures { Meets (λ f vars. spec.assignment_outcome x key.now value vars)
+        result state.old state.new }
 {
+    let copy = value.clone()?;
     let var = var_of(x);
-    let value = as_kind(alloc, var.kind, value);
+    let value = as_kind(state.alloc, var.kind, value);
     match x.space {
-        Space::Thread => tables.own.set(var, key, value),
-        Space::Clause => tables.locals.set(var, value),
+        Space::Thread => state.tables.own.set(var, key, value)?,
+        Space::Clause => state.tables.locals.set(var, value)?,
     }
+    Ok(copy)
+}
+
+/// Gives a variable the word that an operation made, as one of its type, and returns that word.
+pub(crate) fn update_variable(
+    x: Variable,
+    key: &Key,
+    made: Result<u64, OutOfZero>,
+    state: &mut State<'_>,
+) -> Result<Value, EvalFault>
+    ensures { Meets
+        (λ f vars. spec.with (spec.word_or_fault made vars) (spec.update_outcome x key.now))
+        result state.old state.new }
+{
+    let Ok(word) = made else {
+        return Err(EvalFault::DivideByZero);
+    };
+    assign_variable(x, key, Value::Int(word_as_type(x.holds, word)), state)
+}
+
+/// Moves a variable by one, and returns its new word or its old one.
+pub(crate) fn step_variable(
+    step: Step,
+    answer: Answer,
+    x: Variable,
+    key: &Key,
+    state: &mut State<'_>,
+) -> Result<Value, EvalFault>
+    ensures { Meets (λ f vars.
+        spec.step_outcome step answer x key.now (word_of (value_of_variable vars x key.now)) vars)
+        result state.old state.new }
+{
+    let value = read_variable(x, key, state)?;
+    let old = word_in(&value);
+    let new = word_as_type(x.holds, step_result(step, old));
+    drop(assign_variable(x, key, Value::Int(new), state)?);
+    Ok(Value::Int(step_value(answer, old, new)))
 }

@@ -2,7 +2,7 @@
 
 ghost use Rattle.std.specs.Prelude.{◌≡◌, [], IsTrue, List};
 
-use crate::evaluation::EvalFault;
+use crate::evaluation::{EvalFault, word_in};
 use crate::state::State;
 use crate::statements::lent_key::LentKey;
 use d_values::{DType, Key, Value};
@@ -44,7 +44,11 @@ pub(crate) trait Expression: Sized {
     /// The word of its value: 0 for a text.
     fn evaluate_word(&self, state: &mut State<'_>) -> Result<u64, EvalFault>
         ensures { Meets (λ f vars. number_outcome ((by f).value self.now vars))
-            result state.old state.new };
+            result state.old state.new }
+    {
+        let value = self.evaluate(state)?;
+        Ok(word_in(&value))
+    }
 
     /// The key that several make, from left to right.
     fn evaluate_key(keys: &[Self], state: &mut State<'_>) -> Result<Key, EvalFault>
@@ -53,10 +57,13 @@ pub(crate) trait Expression: Sized {
     /// Puts the same key, lent, into an empty one and returns true, if the engine lends values, and
     /// the parts are few, each a constant or a built-in variable. Then evaluation changes no
     /// variable. Otherwise it returns false, and what the key holds is unspecified.
-    fn lend_key<'a>(keys: &'a [Self], firing: &'a Firing<'a>, key: &mut LentKey<'a>) -> bool
-        requires { key.old ≡ [] }
+    fn lend_key<'a>(_keys: &'a [Self], _firing: &'a Firing<'a>, _key: &mut LentKey<'a>) -> bool
+        requires { _key.old ≡ [] }
         ensures { IsTrue result → (vars : Variables)
-            → (by firing.now).key keys.now vars ≡ Has key.new vars };
+            → (by _firing.now).key _keys.now vars ≡ Has _key.new vars }
+    {
+        false
+    }
 
     /// The values of several, from left to right.
     fn evaluate_arguments(arguments: &[Self], state: &mut State<'_>) -> Result<Arguments, EvalFault>

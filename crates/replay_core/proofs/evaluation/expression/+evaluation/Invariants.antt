@@ -10,20 +10,8 @@ invariant-evaluate_key-loop-e l =
     Stays l.fn.state l.state × (with (keys_of l.state.firing.now (typeds_of (drop l.e-index l.keys)) (variables_in l.state)) (λ rest. Has (l.key ++ rest))
     ≡ keys_of l.fn.state.firing.now (typeds_of l.keys) (variables_in l.fn.state))
 
-abbrev pub decreases-and : goal.decreases-and
-decreases-and l = 5 * (weight (typed_of l.a.now) + weight (typed_of l.b.now)) + 3
-
-abbrev pub decreases-assign : goal.decreases-assign
-decreases-assign l = 5 * (weights (typeds_of l.keys.now) + weight (typed_of l.right.now)) + 4
-
-abbrev pub decreases-choose : goal.decreases-choose
-decreases-choose l = 5 * (weight (typed_of l.test.now) + weight (typed_of l.first.now) + weight (typed_of l.second.now)) + 3
-
-abbrev pub decreases-compare_texts : goal.decreases-compare_texts
-decreases-compare_texts l = 5 * (weight (typed_of l.a.now) + weight (typed_of l.b.now)) + 3
-
-abbrev pub decreases-compare_words : goal.decreases-compare_words
-decreases-compare_words l = 5 * (weight (typed_of l.a.now) + weight (typed_of l.b.now)) + 3
+abbrev pub decreases-logic : goal.decreases-logic
+decreases-logic l = 5 * (weight (typed_of l.a.now) + weight (typed_of l.b.now)) + 3
 
 abbrev pub decreases-evaluate : goal.decreases-evaluate
 decreases-evaluate l = 5 * weight (typed_of l.e.now)
@@ -31,26 +19,5 @@ decreases-evaluate l = 5 * weight (typed_of l.e.now)
 abbrev pub decreases-evaluate_key : goal.decreases-evaluate_key
 decreases-evaluate_key l = 5 * weights (typeds_of l.keys.now) + 3
 
-abbrev pub decreases-evaluate_text : goal.decreases-evaluate_text
-decreases-evaluate_text l = 5 * weight (typed_of l.e.now) + 2
-
-abbrev pub decreases-evaluate_word : goal.decreases-evaluate_word
-decreases-evaluate_word l = 5 * weight (typed_of l.e.now) + 1
-
-abbrev pub decreases-join : goal.decreases-join
-decreases-join l = 5 * (weight (typed_of l.a.now) + weight (typed_of l.b.now)) + 3
-
-abbrev pub decreases-operate : goal.decreases-operate
-decreases-operate l = 5 * (weight (typed_of l.a.now) + weight (typed_of l.b.now)) + 3
-
-abbrev pub decreases-or : goal.decreases-or
-decreases-or l = 5 * (weight (typed_of l.a.now) + weight (typed_of l.b.now)) + 3
-
 abbrev pub decreases-update : goal.decreases-update
 decreases-update l = 5 * (weights (typeds_of l.keys.now) + weight (typed_of l.a.now)) + 4
-
-abbrev pub decreases-xor : goal.decreases-xor
-decreases-xor l = 5 * (weight (typed_of l.a.now) + weight (typed_of l.b.now)) + 3
-
-abbrev pub decreases-push_part : goal.decreases-push_part
-decreases-push_part l = 5 * weight (typed_of l.e.now) + 2
