@@ -1,4 +1,4 @@
--- The all_made that are left, and those that were taken.
+-- The clauses that are left, and those that ran.
 use Rattle.std.specs.Prelude.{◌≡◌, ℕ, zero, suc, ◌<◌, List, [], ◌∷◌, All, slice_get, Bool, true}
 use Rattle.std.specs.Prelude.{false, ◌+◌, ◌||◌, Option, None, Some, is_some, length}
 use Rattle.std.specs.Option.{option_or}
@@ -17,7 +17,7 @@ use Rattle.replay_core.specs.Scripts.{AllMean, Keeps}
 use Rattle.replay_core.specs.Steps.AllMade.{run_at, all_made}
 use Rattle.replay_core.proofs.Noting.{notes_nothing, notes_then}
 
--- with the all_made that are left a piece goes on as with all of them from the start
+-- with the clauses that are left a piece goes on as with all of them from the start
 pub record Continues (f : Firing) (cs : List ClauseMeant) (all left : List ℕ) (before now : Variables) (old new : PieceSeen) (exits : Bool) : Type 0 where
   pub notes : (end : PieceSeen) → Notes f.number (all_made f cs left now) new end → Notes f.number (all_made f cs all before) old end
   pub variables : (all_made f cs left now).variables ≡ (all_made f cs all before).variables

@@ -1,7 +1,6 @@
 //! The clauses that run for a firing.
 
-ghost use Rattle.std.specs.Prelude.{◌≡◌, ◌==◌, ◌+◌, ◌<◌, ◌≤◌, ◌^◌, ◌++◌, ◌∷◌, [], true, false};
-ghost use Rattle.std.specs.Prelude.{IfOk, OnOk, length};
+ghost use Rattle.std.specs.Prelude.{◌≡◌, ◌==◌, ◌++◌, ◌∷◌, [], true, IfOk, OnOk, length};
 
 use std::alloc::{AllocError, Global};
 use std::marker::Model;
@@ -11,18 +10,6 @@ use std::marker::Model;
 pub(crate) struct Repeat {
     pub(crate) place: u32,
     pub(crate) times: u32,
-}
-
-impl Repeat {
-    /// Whether it runs again after this many turns.
-    #[inline(always)]
-    pub(crate) fn goes_on_after(&self, turn: u32) -> bool
-        ensures more { result ≡ true → turn < self.now.times }
-        ensures last { result ≡ false → self.now.times ≤ turn }
-        ensures fits { result ≡ true → turn + 1 < 2 ^ 32 }
-    {
-        turn < self.times
-    }
 }
 
 /// The places of the clauses that run for a firing, in the order in which they run. Contracts see

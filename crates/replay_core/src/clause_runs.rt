@@ -1,7 +1,7 @@
 //! The clauses of a firing, one after the other.
 
-ghost use Rattle.std.specs.Prelude.{◌≡◌, ◌+◌, ◌*◌, ◌<◌, ◌≤◌, ◌^◌, List, All, IfOk, OnOk, is_some};
-ghost use Rattle.std.specs.Prelude.{length};
+ghost use Rattle.std.specs.Prelude.{◌≡◌, ◌+◌, ◌*◌, ◌<◌, ◌≤◌, ◌^◌, ◌∷◌, [], List, All, IfOk};
+ghost use Rattle.std.specs.Prelude.{MatchOption, OnOk, is_some, length};
 ghost use Rattle.replay_core.specs.Vocabulary.{AreTyped, ClauseMeant, HasTypedBuiltIns, Slots};
 ghost use Rattle.replay_core.specs.Vocabulary.{count_held, functions_of};
 ghost use Rattle.replay_core.specs.{Lanes.Notes, Scripts.AllMean, Seen.piece_seen};
@@ -9,11 +9,60 @@ ghost use Rattle.replay_core.specs.Steps.AllMade.{all_made};
 ghost use Rattle.replay_core.specs.Evaluation.{Stays, variables_in};
 
 use crate::clause::Clause;
-use crate::clause_places::ClausePlaces;
+use crate::clause_places::{ClausePlaces, Repeat};
 use crate::piece::Piece;
 use crate::state::State;
 use d_lexer::MOST_BYTES;
 use std::alloc::AllocError;
+use std::marker::Model;
+
+// The places whose clauses are still to run. Contracts see each as often as its clause will.
+#[derive(Drop)]
+struct PlacesLeft<'a> {
+    first: Repeat,
+    behind: &'a [Repeat],
+}
+
+impl<'a> Model for PlacesLeft<'a> {
+    ghost use Rattle.std.specs.Prelude.{◌<◌, ◌∷◌, ℕ, List, All};
+    ghost use Rattle.replay_core.specs.Places.{places_in_turn};
+
+    ghost Value = { List ℕ };
+
+    ghost view = { λ l. places_in_turn (l.first ∷ l.behind.now) };
+
+    ghost invariant = { λ l. All (λ repeat. 0 < repeat.times) l.behind.now };
+}
+
+impl<'a> PlacesLeft<'a> {
+    // All of them.
+    fn all(places: &'a ClausePlaces) -> PlacesLeft<'a>
+        ensures { result ≡ places.now }
+    {
+        PlacesLeft {
+            first: Repeat { place: 0, times: 0 },
+            behind: &places.repeats,
+        }
+    }
+
+    // Takes the first.
+    #[inline(always)]
+    fn next(&mut self) -> Option<u32>
+        ensures { MatchOption result (self.old ≡ []) (λ place. self.old ≡ place ∷ self.new) }
+    {
+        if self.first.times > 0 {
+            self.first.times -= 1;
+            return Some(self.first.place);
+        }
+        let (first, behind) = self.behind.split_first()?;
+        self.first = Repeat {
+            place: first.place,
+            times: first.times - 1,
+        };
+        self.behind = behind;
+        Some(first.place)
+    }
+}
 
 /// Runs the clauses at these places for a firing, and returns whether one exited.
 pub(crate) fn run_clauses<C: Clause>(
@@ -44,19 +93,10 @@ pub(crate) fn run_clauses<C: Clause>(
         ≤ count_held piece.old.table + MOST_BYTES * length places.now) }
 {
     let mut exits = false;
-    let mut at = 0;
-    let mut turn = 1;
-    while at < places.repeats.len() {
-        let repeat = &places.repeats[at];
-        let place = repeat.place as usize;
-        let exited = clauses[place].run(place as u64 + 1, state, piece)?;
+    let mut left = PlacesLeft::all(places);
+    while let Some(place) = left.next() {
+        let exited = clauses[place as usize].run(place as u64 + 1, state, piece)?;
         exits |= exited;
-        if repeat.goes_on_after(turn) {
-            turn += 1;
-        } else {
-            at += 1;
-            turn = 1;
-        }
     }
     Ok(exits)
 }
