@@ -1,7 +1,7 @@
 -- The variables of threads, before and after a firing.
 use Rattle.std.specs.Prelude.{◌≡◌, ℕ, zero, suc, ℤ, List, [], ◌∷◌, All, filter, map, Bool, true}
 use Rattle.std.specs.Prelude.{false, ◌==◌, if◌then◌else◌, length, Option, None, Some, IsSome}
-use Rattle.std.specs.Prelude.{option_map, slice_get}
+use Rattle.std.specs.Prelude.{◌++◌, option_map, slice_get}
 use Rattle.std.specs.Map.{lookup, lookup_key, values_of}
 use Rattle.std.specs.Ordering.{int_eq}
 use Rattle.std.proofs.Common.{refl, arith, rules, sym, ap, ◌∙◌, subst}
@@ -12,7 +12,7 @@ use Rattle.d_parser.specs.declared.tree.Description.{Description}
 use Rattle.d_values.specs.declared.key.KeyPart.{KeyPart}
 use Rattle.d_values.specs.declared.value.Value.{Value}
 use Rattle.d_values.specs.declared.variable.Var.{Var}
-use Rattle.d_values.specs.Stores.{Locals, Own}
+use Rattle.d_values.specs.Stores.{Locals, Own, own_of}
 use Rattle.d_types.specs.Clauses.{Made, nothing_made, run_of}
 use Rattle.d_types.specs.Held.{AreTyped, AreTypedOwn, HasTypedBuiltIns, Slots, slots_of}
 use Rattle.d_types.specs.Storage.{Variables, variables}
@@ -34,11 +34,6 @@ pub started : (entries : List (ℤ × Tables)) (thread : ℤ) (tables : Tables) 
     → variables locals tables.own ≡ at_start (threads_in entries thread)
 started entries thread tables locals had none =
     ap (λ l. variables l tables.own) none ∙ ap (λ o. at_start (own_in o)) (sym had)
-
-pub started_new : (entries : List (ℤ × Tables)) (thread : ℤ) (locals : Locals) (own : Own) → lookup (int_eq thread) entries ≡ None → locals ≡ [] → own ≡ []
-    → variables locals own ≡ at_start (threads_in entries thread)
-started_new entries thread locals own had none empty =
-    ap (λ l. variables l own) none ∙ ap (λ o. variables [] o) empty ∙ ap (λ o. at_start (own_in o)) (sym had)
 
 pub typed_start : (slots : Slots) (vars : Variables) (own : Var → List KeyPart → Value) → vars ≡ at_start own → AreTypedOwn slots own → AreTyped slots vars
 typed_start slots vars own is typed = subst (AreTyped slots) (sym is) (locals_unassigned slots, typed)
@@ -62,7 +57,22 @@ pub thread_written : (old new : List (ℤ × Tables)) (thread : ℤ) (tables : T
 thread_written old new thread tables made writes is t =
     ap own_in (writes t) ∙ own_chosen tables (lookup (int_eq t) old) made is (int_eq thread t) (int_eq t thread) (int_eq_equiv.symm thread t)
 
+-- a thread that is given empty tables has what it had
+pub as_before : (old new : List (ℤ × Tables)) (thread : ℤ) (tables : Tables) → lookup (int_eq thread) old ≡ None → tables.own ≡ [] → Writes old new thread tables
+    → threads_in new ≡ threads_in old
+as_before old new thread tables none empty writes = λ i t. same t i
+  where
+    same : (t : ℤ) → threads_in new t ≡ threads_in old t
+    same t = ap own_in (writes t) ∙ elim (int_eq thread t) as (λ b. int_eq thread t ≡ b → own_in (if b then Some tables else lookup (int_eq t) old) ≡ own_in (lookup (int_eq t) old)) [
+      | true ↦ λ is. ap (λ (o : Own). own_of o) empty ∙ ap own_in (sym none) ∙ ap (λ q. own_in (lookup (int_eq q) old)) ((Decides-int_eq thread t).0 is)
+      | false ↦ λ other. refl
+    ] refl
+
 -- ---- tables by their index
+
+pub at_end : {X : Type 0} (xs : List X) (x : X) → slice_get (xs ++ x ∷ []) (length xs) ≡ Some x
+at_end [] x = refl
+at_end (y ∷ xs) x = at_end xs x
 
 -- a key that is found passes the test
 key_passes : (test : ℤ → Bool) (entries : List (ℤ × Tables)) (k : ℤ) → lookup_key test entries ≡ Some k → test k ≡ true

@@ -59,57 +59,21 @@ pub(crate) fn run_on_thread<C: Clause>(
         → AllMean C.means slots due.now.clauses.now cs → HasTypedBuiltIns due.now.firing.now
         → AreTypedOwn slots (threads_in threads.old.entries due.now.firing.now.thread)
         → RunsOn due.now.firing.now
-        (made_on due.now.firing.now cs due.now.places.now threads.old.entries)
-        threads.old.entries threads.new.entries piece.old piece.new exits) }
+        (made_on due.now.firing.now cs due.now.places.now (threads_in threads.old.entries))
+        (threads_in threads.old.entries) (threads_in threads.new.entries) piece.old piece.new
+        exits) }
     ensures held { OnOk result (count_held piece.new.table
         ≤ count_held piece.old.table + MOST_BYTES * length due.now.places.now) }
 {
     if due.places.is_empty() {
         return Ok(false);
     }
-    match index_of(threads, cache, due.firing.thread) {
-        Some(index) => {
-            let Some(tables) = threads.get_index_mut(index) else {
-                unreachable!()
-            };
-            tables.forget_locals();
-            run_on_tables(due, tables, spare, piece)
-        }
-        None => run_on_new_tables(due, threads, spare, piece),
-    }
-}
-
-// Runs clauses on a thread without tables, which keeps the tables made for it.
-fn run_on_new_tables<C: Clause>(
-    due: &Due<C>,
-    threads: &mut IndexMap<i32, Tables, HashKey>,
-    spare: &mut Spare,
-    piece: &mut Piece,
-) -> Result<bool, AllocError>
-    requires there { All (λ place. place < length due.now.clauses.now) due.now.places.now }
-    requires named { All (λ c.
-        C.places c ≤ length (functions_of piece.old.table)) due.now.clauses.now }
-    requires few { All (λ c. C.most c ≤ MOST_BYTES) due.now.clauses.now }
-    requires room { count_held piece.old.table + MOST_BYTES * length due.now.places.now ≤ 2 ^ 52 }
-    requires without { get int_eq threads.old due.now.firing.now.thread ≡ None }
-    ensures functions { functions_of piece.new.table ≡ functions_of piece.old.table }
-    ensures taken { piece.new.taken.items ≡ piece.old.taken.items }
-    ensures run { IfOk result (λ exits. (slots : Slots) (cs : List ClauseMeant)
-        → AllMean C.means slots due.now.clauses.now cs → HasTypedBuiltIns due.now.firing.now
-        → AreTypedOwn slots (threads_in threads.old.entries due.now.firing.now.thread)
-        → RunsOn due.now.firing.now
-        (made_on due.now.firing.now cs due.now.places.now threads.old.entries)
-        threads.old.entries threads.new.entries piece.old piece.new exits) }
-    ensures held { OnOk result (count_held piece.new.table
-        ≤ count_held piece.old.table + MOST_BYTES * length due.now.places.now) }
-{
-    let mut tables = Tables::new(*threads.allocator(), *threads.hasher());
-    let Ok(exits) = run_on_tables(due, &mut tables, spare, piece) else {
-        drop(tables);
-        return Err(AllocError);
+    let index = index_for(threads, cache, due.firing.thread)?;
+    let Some(tables) = threads.get_index_mut(index) else {
+        unreachable!()
     };
-    drop(threads.insert(due.firing.thread, tables)?);
-    Ok(exits)
+    tables.forget_locals();
+    run_on_tables(due, tables, spare, piece)
 }
 
 // Runs the clauses that are due on these tables, and returns whether one exited.
@@ -148,6 +112,40 @@ fn run_on_tables<C: Clause>(
         spare,
     };
     run_clauses(due.clauses, due.places, &mut state, piece)
+}
+
+// The index of the thread's tables, which are made if it has none.
+#[inline(always)]
+fn index_for(
+    threads: &mut IndexMap<i32, Tables, HashKey>,
+    cache: &mut ThreadCache,
+    thread: i32,
+) -> Result<usize, AllocError>
+    ensures tables { IfOk result (λ i. IsTablesAt threads.new.entries i thread) }
+    ensures same { OnOk result
+        (threads_in threads.new.entries ≡ threads_in threads.old.entries) }
+{
+    match index_of(threads, cache, thread) {
+        Some(index) => Ok(index),
+        None => add_thread(threads, thread),
+    }
+}
+
+// Makes tables for a thread that has none, and returns their index.
+#[inline(never)]
+fn add_thread(
+    threads: &mut IndexMap<i32, Tables, HashKey>,
+    thread: i32,
+) -> Result<usize, AllocError>
+    requires { get int_eq threads.old thread ≡ None }
+    ensures tables { IfOk result (λ i. IsTablesAt threads.new.entries i thread) }
+    ensures same { OnOk result
+        (threads_in threads.new.entries ≡ threads_in threads.old.entries) }
+{
+    let index = threads.len();
+    let tables = Tables::new(*threads.allocator(), *threads.hasher());
+    drop(threads.insert(thread, tables)?);
+    Ok(index)
 }
 
 // The index of the thread's tables.
