@@ -26,8 +26,8 @@ LIMITS = (
     ("docs/LANGUAGE.md", r"there is none\) to (\d+)", "aggregations/src/linear_range", "MOST_STEP"),
     ("docs/LANGUAGE.md", r"to (\d+) steps", "aggregations/src/linear_range", "MOST_LEVELS"),
     ("docs/RELIABILITY.md", r"bounded: (\S+) bytes", "d_lexer/src/fault", "MOST_BYTES"),
-    ("docs/RELIABILITY.md", r"levels,\s(\S+) rows", "firing_reader/src/trace", "MOST_ROWS"),
-    ("docs/TRACE.md", r"UTF-8 of at most (\d+) bytes", "firing_reader/src/text", "TEXT_LIMIT"),
+    ("docs/RELIABILITY.md", r"levels,\s(\S+) rows", "firings/src/trace", "MOST_ROWS"),
+    ("docs/TRACE.md", r"UTF-8 of at most (\d+) bytes", "firings/src/text", "TEXT_LIMIT"),
     ("README.md", r"workers, 1 to (\d+)", "shard_queue/src/queue", "MOST_WORKERS"),
     ("README.md", r"groups, 1 to (\d+)", "shard_queue/src/groups", "MOST_GROUPS"),
 )

@@ -17,7 +17,7 @@ use Rattle.d_types.specs.declared.fault.TypeFault.{TypeFault}
 use Rattle.d_types.specs.Checking.{IsChecked}
 use Rattle.d_types.specs.Typed.{ScriptMeant}
 use Rattle.d_types.specs.Clauses.{Made}
-use Rattle.firing_reader.specs.declared.firing.Firing.{Firing}
+use Rattle.firings.specs.declared.firing.Firing.{Firing}
 use Rattle.d_types.proofs.Checked as types
 use Rattle.replay_core.specs.Layouts.{LayoutMeant}
 use Rattle.consumer.specs.declared.refusal.Refusal.{Refusal}

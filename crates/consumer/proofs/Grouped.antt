@@ -10,8 +10,8 @@ use Rattle.std.specs.Option.{option_or}
 use Rattle.std.specs.Ordering.{int_eq}
 use Rattle.std.proofs.lemmas.List.Elements.{All-append}
 use Rattle.std.proofs.lemmas.List.Folds.{list_any_at}
-use Rattle.firing_reader.specs.Ends.{begin_of, end_of, with_ends}
-use Rattle.firing_reader.specs.Firings.{thread_of}
+use Rattle.firings.specs.Ends.{begin_of, end_of, with_ends}
+use Rattle.firings.specs.Firings.{thread_of}
 use Rattle.replay_core.specs.Groups.{AreGrouped}
 use Rattle.shard_queue.specs.Faults.{all_of, first_wrong}
 use Rattle.shard_queue.specs.Groupings.{grouping_by_lists, list_of, with_own_group}

@@ -3,7 +3,8 @@ use Rattle.std.proofs.Common.{◌≡◌, ◌≢◌, ℕ, ◌+◌, ◌^◌, Bool,
 use Rattle.std.proofs.Common.{[], ◌∷◌, Option, Some, None, length}
 use Rattle.std.specs.Prelude.{Result, Ok, Err, codes, option_and_then}
 use Rattle.std.specs.Str.{bytes_eq}
-use Rattle.firing_reader.specs.Column.{decimal_of, field, signed_of, text_of}
+use Rattle.firing_reader.specs.Column.{decimal_of, field, signed_of}
+use Rattle.firings.specs.Texts.{text_of}
 use Rattle.firing_reader.specs.Row.{◌>>=◌, args_at, columns_at, int_at, or_fault, row_of, signed_at}
 use Rattle.firing_reader.specs.Row.{text_at, unless_reserved, whole_at, within}
 use Rattle.firing_reader.specs.Trace.{above, is_header, next_of, rows_of, trace_in, trace_of}
@@ -11,7 +12,7 @@ use Rattle.firing_reader.specs.declared.fault.TraceFault.{TraceFault}
 use Rattle.firing_reader.specs.declared.fault.TraceFault.TheVariants.{Header, Columns, Number}
 use Rattle.firing_reader.specs.declared.fault.TraceFault.TheVariants.{Order, Text, Reserved}
 use Rattle.firing_reader.specs.declared.fault.TraceFault.TheVariants.{TooMany, Memory}
-use Rattle.firing_reader.specs.declared.firing.Firing.{Firing}
+use Rattle.firings.specs.declared.firing.Firing.{Firing}
 
 -- no want of memory is what it returns
 abbrev Sound : {A : Type 0} → Result A TraceFault → Type 0

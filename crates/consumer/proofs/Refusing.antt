@@ -9,7 +9,7 @@ use Rattle.d_types.specs.declared.fault.TypeFault.TheVariants as types
 use Rattle.d_types.specs.Typed.{ScriptMeant}
 use Rattle.d_types.specs.TypedScripts.{IsCheckOf}
 use Rattle.consumer.specs.declared.plan.Plan.{Plan}
-use Rattle.firing_reader.specs.declared.firing.Firing.{Firing}
+use Rattle.firings.specs.declared.firing.Firing.{Firing}
 use Rattle.replay_core.specs.Layouts.{LayoutMeant}
 use Rattle.shard_queue.specs.declared.fault.GroupFault.{GroupFault}
 use Rattle.shard_queue.specs.declared.fault.GroupFault.TheVariants as group

@@ -22,10 +22,10 @@ pub use Rattle.d_types.specs.TypedScripts.{typed_script_of}
 pub use Rattle.d_types.specs.declared.fault.TypeFault.{TypeFault}
 pub use Rattle.d_types.specs.declared.typed_script.TypedScript.{TypedScript}
 pub use Rattle.firing_reader.specs.Blocks.{reads}
-pub use Rattle.firing_reader.specs.Firings.{number_of}
+pub use Rattle.firings.specs.Firings.{number_of}
 pub use Rattle.firing_reader.specs.Trace.{trace_of}
 pub use Rattle.firing_reader.specs.declared.fault.TraceFault.{TraceFault}
-pub use Rattle.firing_reader.specs.declared.firing.Firing.{Firing}
+pub use Rattle.firings.specs.declared.firing.Firing.{Firing}
 pub use Rattle.streams.specs.declared.reading.ReadFault.{ReadFault}
 pub use Rattle.streams.specs.declared.reading.ReadFault.TheVariants.{Failed}
 pub use Rattle.streams.specs.declared.reading.TheConstants.{MOST_CALLS}

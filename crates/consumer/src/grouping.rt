@@ -8,7 +8,7 @@ ghost use Rattle.consumer.specs.{Vocabulary.MOST_GROUPS};
 ghost use Rattle.consumer.specs.Plans.{AreInBounds, IsGroupedBy, IsMisgrouped};
 
 use crate::plan::GroupPlan;
-use firing_reader::Trace;
+use firings::Trace;
 use shard_queue::{GroupFault, Groups};
 use std::alloc::Global;
 

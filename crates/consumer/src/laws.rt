@@ -4,7 +4,7 @@
 ghost use Rattle.std.specs.Prelude.{◌≡◌, ◌∷◌, ◌⊎◌, [], ℕ, List, Option, Result, Ok, Err};
 ghost use Rattle.std.specs.Prelude.{IsSome, Some};
 ghost use Rattle.clap.specs.Words.{fault_of, matches_of};
-ghost use Rattle.firing_reader.specs.Ends.{with_ends};
+ghost use Rattle.firings.specs.Ends.{with_ends};
 ghost use Rattle.replay_core.specs.{Groups.AreGrouped, Layouts.ShowsEach};
 ghost use Rattle.consumer.specs.{Bundle.Divides, Refusals.plain_refusal};
 ghost use Rattle.consumer.specs.Vocabulary.{DisplayHelp, ErrorKind, Firing, Grouping, Plan};

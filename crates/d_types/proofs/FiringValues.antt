@@ -17,8 +17,8 @@ use Rattle.d_values.specs.Stores.{blank}
 use Rattle.d_values.specs.Types.{INT32, INT64, UINT64}
 use Rattle.d_values.specs.Words.{sign_extension, narrow}
 use Rattle.d_values.proofs.Narrowing.{extended_low}
-use Rattle.firing_reader.specs.declared.firing.Firing.{Firing}
-use Rattle.firing_reader.specs.Firings.{HasRanges, IsIntFrom}
+use Rattle.firings.specs.declared.firing.Firing.{Firing}
+use Rattle.firings.specs.Firings.{HasRanges, IsIntFrom}
 use Rattle.d_types.specs.declared.typed.BuiltIn.TheVariants as bi
 use Rattle.d_types.specs.Variables.{kind_of_type}
 use Rattle.d_types.specs.Held.{IsWord, IsOf, HasTypedBuiltIns, Slots, AreTypedLocals, AreTypedOwn}

@@ -19,7 +19,7 @@ use Rattle.d_values.specs.Texts.{text_cmp, longest, joined_text}
 use Rattle.d_values.specs.Types.{INT32, UINT64}
 use Rattle.d_values.specs.Variables.{same_var, same_var_decides}
 use Rattle.d_values.specs.Words.{narrow, order_of, operate}
-use Rattle.firing_reader.specs.declared.firing.Firing.{Firing}
+use Rattle.firings.specs.declared.firing.Firing.{Firing}
 use Rattle.d_types.specs.declared.typed.Answer.{Answer}
 use Rattle.d_types.specs.declared.typed.Answer.TheVariants as an
 use Rattle.d_parser.specs.declared.operators.LogicOperator.TheVariants as lo

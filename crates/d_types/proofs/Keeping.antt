@@ -7,7 +7,7 @@ use Rattle.d_values.specs.declared.value.Value.TheVariants as va
 use Rattle.d_values.specs.Operators.{holds_of}
 use Rattle.d_values.specs.Texts.{text_cmp, joined_text}
 use Rattle.d_values.specs.Words.{narrow, order_of}
-use Rattle.firing_reader.specs.declared.firing.Firing.{Firing}
+use Rattle.firings.specs.declared.firing.Firing.{Firing}
 use Rattle.d_parser.specs.declared.operators.LogicOperator.TheVariants as lo
 use Rattle.d_types.specs.Typed.{Typed, Constant, Text, Fixed, Read, Unary, Operate, Compare}
 use Rattle.d_types.specs.Typed.{CompareText, Logic, Choice, Convert, Assign, Update, Count, Strlen}

@@ -15,7 +15,7 @@ use Rattle.d_values.specs.Types.{INT32, type_rank, higher, common_of}
 use Rattle.d_values.specs.Words.{sign_extension, narrow, operate}
 use Rattle.d_values.proofs.Narrowing.{extended_low}
 use Rattle.d_values.proofs.Wrapping.{by_width}
-use Rattle.firing_reader.specs.declared.firing.Firing.{Firing}
+use Rattle.firings.specs.declared.firing.Firing.{Firing}
 use Rattle.d_types.specs.declared.typed.Answer.TheVariants as an
 use Rattle.d_types.specs.declared.typed.Operation.TheVariants as op
 use Rattle.d_types.specs.declared.typed.Variable.{Variable}

@@ -1,6 +1,6 @@
 -- What parts of a clause do, by typed trees.
 use Rattle.std.specs.Prelude.{List, Option, ℤ}
-use Rattle.firing_reader.specs.declared.firing.Firing.{Firing}
+use Rattle.firings.specs.declared.firing.Firing.{Firing}
 use Rattle.d_types.specs.declared.effect.Effect.{Effect}
 use Rattle.d_types.specs.Typed.{Typed, Action}
 use Rattle.d_types.specs.Storage.{Variables}

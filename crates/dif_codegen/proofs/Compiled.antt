@@ -2,7 +2,7 @@
 use Rattle.std.specs.Prelude.{◌≡◌, ◌≤◌, ℕ, ◌+◌, [], ◌∷◌, length, Some, slice_get}
 use Rattle.std.proofs.Common.{refl, sym, ap, ◌∙◌, subst, arith}
 use Rattle.d_values.specs.declared.value.Value.{Value}
-use Rattle.firing_reader.specs.declared.firing.Firing.{Firing}
+use Rattle.firings.specs.declared.firing.Firing.{Firing}
 use Rattle.d_types.specs.Expressions.{Outcome, Has, Faults, eval}
 use Rattle.d_types.specs.Held.{Slots, IsConsistent}
 use Rattle.d_types.specs.Needs.{need}

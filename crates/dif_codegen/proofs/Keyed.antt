@@ -12,7 +12,7 @@ use Rattle.d_values.specs.declared.key.KeyPart.TheVariants as ke
 use Rattle.d_values.specs.declared.value.Value.{Value}
 use Rattle.d_values.specs.declared.variable.Var.{Var}
 use Rattle.d_values.specs.declared.value.Value.TheVariants.{Int, Text}
-use Rattle.firing_reader.specs.declared.firing.Firing.{Firing}
+use Rattle.firings.specs.declared.firing.Firing.{Firing}
 use Rattle.d_types.specs.declared.typed.Space.{Space}
 use Rattle.d_types.specs.declared.typed.Space.TheVariants as sp
 use Rattle.d_types.specs.Expressions.{Outcome, Has, Faults, with, part_of}

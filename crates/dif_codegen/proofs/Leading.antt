@@ -10,7 +10,7 @@ use Rattle.d_values.specs.declared.int_type.DType.{DType}
 use Rattle.d_values.specs.declared.int_type.DType.TheVariants as ty
 use Rattle.d_values.specs.declared.value.Value.{Value}
 use Rattle.d_values.specs.declared.value.Value.TheVariants.{Int, Text}
-use Rattle.firing_reader.specs.declared.firing.Firing.{Firing}
+use Rattle.firings.specs.declared.firing.Firing.{Firing}
 use Rattle.d_types.specs.Expressions.{Outcome, Has, Faults, with, number_outcome, text_outcome}
 use Rattle.d_types.specs.Expressions.{word_or_fault}
 use Rattle.d_types.specs.Held.{IsOf, IsWord, Slots, AreTyped, EndsTyped}

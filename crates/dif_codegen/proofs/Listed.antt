@@ -7,7 +7,7 @@ use Rattle.aggregations.specs.declared.function.AggFn.{AggFn}
 use Rattle.d_types.specs.declared.typed.TypedAggregation.{TypedAggregation}
 use Rattle.d_types.specs.declared.typed.TypedClause.{TypedClause}
 use Rattle.d_types.specs.declared.typed.TypedExpr.{TypedExpr}
-use Rattle.firing_reader.specs.declared.firing.Firing.{Firing}
+use Rattle.firings.specs.declared.firing.Firing.{Firing}
 use Rattle.d_types.specs.Fitting.{FitsRegisters}
 use Rattle.d_types.specs.Held.{AreTyped, HasTypedBuiltIns, IsConsistent, Slots, slots_of}
 use Rattle.d_types.specs.Storage.{Variables}

@@ -30,7 +30,7 @@ use Rattle.d_values.specs.declared.operators.ComparisonOperator.{ComparisonOpera
 use Rattle.d_values.specs.declared.operators.ComparisonOperator.TheVariants as co
 use Rattle.d_values.specs.declared.value.Value.{Value}
 use Rattle.d_values.specs.declared.value.Value.TheVariants.{Int, Text}
-use Rattle.firing_reader.specs.declared.firing.Firing.{Firing}
+use Rattle.firings.specs.declared.firing.Firing.{Firing}
 use Rattle.d_types.specs.declared.typed.Space.{Space}
 use Rattle.d_types.specs.declared.typed.Space.TheVariants as sp
 use Rattle.d_types.specs.Held.{IsOf, IsWord}

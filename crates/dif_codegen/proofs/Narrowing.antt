@@ -10,7 +10,7 @@ use Rattle.d_values.specs.Words.{narrow, shift_of}
 use Rattle.d_values.specs.declared.int_type.IntType.{IntType}
 use Rattle.d_values.specs.declared.operators.ShiftOperator.TheVariants as sh
 use Rattle.d_values.specs.declared.value.Value.TheVariants.{Int}
-use Rattle.firing_reader.specs.declared.firing.Firing.{Firing}
+use Rattle.firings.specs.declared.firing.Firing.{Firing}
 use Rattle.d_types.specs.Expressions.{Has}
 use Rattle.d_types.specs.Storage.{Variables}
 use Rattle.dif_validate.specs.declared.instruction.Instr.TheVariants.{Alu, Setx}

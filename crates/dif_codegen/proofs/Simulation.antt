@@ -19,7 +19,7 @@ use Rattle.d_values.specs.declared.key.KeyPart.TheVariants as ke
 use Rattle.d_values.specs.declared.operators.ArithmeticOperator.{ArithmeticOperator}
 use Rattle.d_values.specs.declared.value.Value.{Value}
 use Rattle.d_values.specs.declared.value.Value.TheVariants as va
-use Rattle.firing_reader.specs.declared.firing.Firing.{Firing}
+use Rattle.firings.specs.declared.firing.Firing.{Firing}
 use Rattle.d_types.specs.declared.typed.Answer.{Answer}
 use Rattle.d_types.specs.declared.typed.Answer.TheVariants as an
 use Rattle.d_types.specs.declared.typed.BuiltIn.{BuiltIn}

@@ -48,7 +48,7 @@ pub use Rattle.dif_validate.specs.declared.instruction.Operator.TheVariants.{Sdi
 pub use Rattle.dif_validate.specs.declared.object.Difo.{Difo}
 pub use Rattle.dif_validate.specs.declared.register.Reg.{Reg}
 pub use Rattle.dif_validate.specs.declared.register.Reg.TheVariants.{R0, R1, R2, R3, R4, R5, R6, R7}
-pub use Rattle.firing_reader.specs.declared.firing.Firing.{Firing}
+pub use Rattle.firings.specs.declared.firing.Firing.{Firing}
 pub use Rattle.dif_codegen.specs.declared.program.Action.{Action}
 pub use Rattle.dif_codegen.specs.declared.program.CompiledClause.{CompiledClause}
 pub use Rattle.dif_codegen.specs.declared.program.TypedObject.{TypedObject}

@@ -6,7 +6,7 @@ use d_types::Piece;
 use d_values::{ClauseLocals, DType, ThreadTable, ValueRef};
 use dif_machine::{Frame, MachineFault, run_in};
 use dif_validate::ValidDifo;
-use firing_reader::Firing;
+use firings::Firing;
 
 /// The object of an expression.
 #[derive(Drop)]

@@ -4,7 +4,7 @@ use Rattle.std.proofs.Common.{refl, sym, ◌∙◌, subst, arith}
 use Rattle.d_values.specs.Stores.{kind_of}
 use Rattle.d_values.specs.declared.value.Value.{Value}
 use Rattle.dif_validate.specs.Returns.{return_kind}
-use Rattle.firing_reader.specs.declared.firing.Firing.{Firing}
+use Rattle.firings.specs.declared.firing.Firing.{Firing}
 use Rattle.dif_validate.specs.Objects.{Object}
 use Rattle.dif_validate.specs.Validity.{IsValid}
 use Rattle.dif_machine.specs.Frames.{Frame}

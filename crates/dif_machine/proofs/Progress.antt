@@ -15,7 +15,7 @@ use Rattle.d_values.specs.declared.value.Kind.{Kind}
 use Rattle.d_values.specs.declared.value.Kind.TheVariants.{Number, Text}
 use Rattle.d_values.specs.declared.value.Value.{Value}
 use Rattle.d_values.specs.declared.value.Value.TheVariants as va
-use Rattle.firing_reader.specs.declared.firing.Firing.{Firing}
+use Rattle.firings.specs.declared.firing.Firing.{Firing}
 use Rattle.dif_validate.specs.declared.instruction.Condition.{Condition}
 use Rattle.dif_validate.specs.declared.instruction.Function.{Function}
 use Rattle.dif_validate.specs.declared.instruction.Function.TheVariants.{Strlen, Strjoin}

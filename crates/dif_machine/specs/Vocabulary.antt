@@ -27,7 +27,7 @@ pub use Rattle.d_values.specs.declared.value.Value.{Value}
 pub use Rattle.d_values.specs.declared.value.ValueRef.{ValueRef}
 pub use Rattle.d_values.specs.declared.value.Value.TheVariants.{Int, Text}
 pub use Rattle.d_values.specs.declared.variable.Var.{Var}
-pub use Rattle.firing_reader.specs.declared.firing.Firing.{Firing}
+pub use Rattle.firings.specs.declared.firing.Firing.{Firing}
 pub use Rattle.dif_validate.specs.Objects.{Object, object_of}
 pub use Rattle.dif_validate.specs.Registers.{at, put}
 pub use Rattle.dif_validate.specs.Returns.{return_kind}

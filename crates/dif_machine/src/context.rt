@@ -1,7 +1,7 @@
 //! What a run reads and never changes.
 
 use dif_validate::Difo;
-use firing_reader::Firing;
+use firings::Firing;
 
 /// What a run reads: an object, and a firing.
 #[derive(Clone, Copy)]

@@ -8,7 +8,7 @@ ghost use Rattle.dif_machine.specs.Held.{content, held_value, part_of_cell};
 use crate::context::Context;
 use crate::sources::built_in;
 use d_values::{Text, ValueRef};
-use firing_reader::Firing;
+use firings::Firing;
 use std::alloc::{AllocError, Global};
 
 /// What a cell holds. A text of the object or of the firing stays where it is.

@@ -11,7 +11,7 @@ ghost use Rattle.dif_machine.specs.Semantics.{Goes, act};
 use crate::sources::{argument, built_in};
 use d_values::ValueRef;
 use dif_validate::{Difo, Instr, Reg};
-use firing_reader::Firing;
+use firings::Firing;
 
 /// Lends what an object returns that only loads a constant or a built-in variable. None of any
 /// other object.

@@ -18,7 +18,7 @@ use crate::sources::owned_value;
 use crate::stepping::step;
 use d_values::{ClauseLocals, Key, ThreadTable, Value, ValueRef};
 use dif_validate::{Instr, Reg, ValidDifo};
-use firing_reader::Firing;
+use firings::Firing;
 use std::alloc::Global;
 
 // Runs a valid object to its end. The register that is returned holds what the object returns. Not

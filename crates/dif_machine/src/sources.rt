@@ -6,7 +6,7 @@ ghost use Rattle.dif_machine.specs.Vocabulary.{local_of, own_of, w64};
 ghost use Rattle.dif_machine.specs.Sources as spec;
 
 use d_values::{ClauseLocals, Key, Text, ThreadTable, Value, ValueRef, Var};
-use firing_reader::Firing;
+use firings::Firing;
 use std::alloc::{AllocError, Global};
 
 // A signed integer.

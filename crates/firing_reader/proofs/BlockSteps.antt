@@ -16,7 +16,7 @@ use Rattle.std.specs.Prelude.{◌⊎◌, IfErr, OnErr, OnOk, Result}
 use Rattle.std.specs.declared.alloc.AllocError.{AllocError}
 use Rattle.firing_reader.specs.declared.fault.TraceFault.{TraceFault}
 use Rattle.firing_reader.specs.declared.fault.TraceFault.TheVariants.{Memory}
-use Rattle.firing_reader.specs.declared.firing.Firing.{Firing}
+use Rattle.firings.specs.declared.firing.Firing.{Firing}
 use Rattle.firing_reader.specs.Blocks.{AreRead, BeginsAtFeed, IsKeptAt, Taken, reads_at}
 use Rattle.firing_reader.specs.Steps.Blocks.{Begins, IsFaultOf}
 use Rattle.firing_reader.specs.Left.{left_in}
@@ -24,10 +24,12 @@ use Rattle.firing_reader.specs.Plain.{BeginsAtEnd, IsEnd, rows_after, rows_in}
 use Rattle.firing_reader.specs.Steps.Plain.{GoesOn, Leaves, header_line}
 use Rattle.firing_reader.specs.Steps.RowEnds.{RowsEnd}
 use Rattle.firing_reader.specs.Gives.{GivesBy}
-use Rattle.firing_reader.specs.Trace.{IsTrace, rows_of, trace_in, trace_of}
+use Rattle.firings.specs.Firings.{IsTrace}
+use Rattle.firing_reader.specs.Trace.{rows_of, trace_in, trace_of}
 use Rattle.firing_reader.proofs.Kept.{is_trace, rows_trace}
 use Rattle.firing_reader.proofs.PlainHeader.{after_header}
-use Rattle.firing_reader.proofs.PlainRows.{all_read, ends_after_end, fault_chunk, goes_both, goes_chunk, goes_end}
+use Rattle.firing_reader.proofs.PlainRows.{all_read, ends_after_end, fault_chunk, goes_both}
+use Rattle.firing_reader.proofs.PlainRows.{goes_chunk, goes_end}
 use Rattle.firing_reader.proofs.PlainRows.{goes_feed, goes_reads, goes_rows, skip_end, skip_feed}
 use Rattle.firing_reader.proofs.Rows.{trace_err, trace_ok, trace_rows}
 

@@ -1,23 +1,17 @@
 pub mod Numerals
-pub mod Texts
 pub mod FieldTexts
 pub mod Left
 pub mod RowEnds
 pub mod Rows
-mod RowsRead
 pub mod Fields
 pub mod RowFaults
 pub mod Kept
 pub mod FirstFault
-pub mod Threads
-pub mod EndRanges
 pub mod PlainRows
 pub mod PlainFields
 pub mod PlainFirings
 pub mod PlainHeader
 pub mod PieceRows
-pub mod Stored
-pub mod Placed
 pub mod Moved
 pub mod Shared
 pub mod PlainArguments
@@ -25,5 +19,4 @@ pub mod RowParts
 pub mod BlockSteps
 pub mod SharedRows
 pub mod WaitingRows
-pub mod Probing
 pub mod Written

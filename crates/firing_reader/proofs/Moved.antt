@@ -6,16 +6,16 @@ use Rattle.std.specs.Prelude.{IfSome, MatchOption, None, Option}
 use Rattle.std.proofs.Math.Seq.{drop-append-add}
 use Rattle.std.proofs.lemmas.List.{map-append}
 use Rattle.std.proofs.lemmas.List.Elements.{All-head, All-tail, All-cons, All-nil, All-append}
-use Rattle.firing_reader.specs.declared.stored_row.Given.{Given}
-use Rattle.firing_reader.specs.declared.stored_row.Row.{Row}
-use Rattle.firing_reader.specs.declared.unit.Owner.{Owner}
-use Rattle.firing_reader.specs.declared.unit.Probe.{Probe}
-use Rattle.firing_reader.specs.Stored.{ArePlaces, Extends, IsRowIn, count_of, firing_in, moved_given}
+use Rattle.firings.specs.declared.stored_row.Given.{Given}
+use Rattle.firings.specs.declared.stored_row.Row.{Row}
+use Rattle.firings.specs.declared.unit.Owner.{Owner}
+use Rattle.firings.specs.declared.unit.Probe.{Probe}
+use Rattle.firings.specs.Stored.{ArePlaces, Extends, IsRowIn, count_of, firing_in, moved_given}
 use Rattle.firing_reader.specs.Steps.Stored.{IsMovable}
-use Rattle.firing_reader.specs.Stored.{first_of, no_owner, no_probe}
+use Rattle.firings.specs.Stored.{first_of, no_owner, no_probe}
 use Rattle.firing_reader.specs.Steps.Stored.{moved_row}
-use Rattle.firing_reader.proofs.Placed.{as_many, placed}
-use Rattle.firing_reader.proofs.Stored.{named_at, named_in, rows_more, seen_all}
+use Rattle.firings.proofs.Placed.{as_many, placed}
+use Rattle.firings.proofs.Stored.{named_at, named_in, rows_more, seen_all}
 
 first_moved : (g : Given) (shift : ℕ) → first_of (moved_given shift g) ≡ first_of g + shift
 first_moved g shift = omega arith

@@ -7,13 +7,13 @@ use Rattle.std.specs.Option.{option_map_or}
 use Rattle.std.proofs.lemmas.List.{append-nil}
 use Rattle.csv.specs.Machine.{next_record}
 use Rattle.csv.specs.declared.parser.State.TheVariants as st
-use Rattle.firing_reader.specs.declared.firing.Firing.{Firing}
+use Rattle.firings.specs.declared.firing.Firing.{Firing}
 use Rattle.firing_reader.specs.Left.{left_in}
-use Rattle.firing_reader.specs.Firings.{number_of}
+use Rattle.firings.specs.Firings.{number_of}
 use Rattle.firing_reader.specs.Plain.{IsEnd, ReadsRow, ReadsRows}
 use Rattle.firing_reader.specs.Pieces.{Rises}
 use Rattle.firing_reader.specs.Steps.Plain.{ReadsMore}
-use Rattle.firing_reader.specs.Trace.{last_number}
+use Rattle.firings.specs.Firings.{last_number}
 use Rattle.firing_reader.proofs.Left.{left_none}
 use Rattle.firing_reader.proofs.PlainRows.{row_taken, skip_end}
 use Rattle.firing_reader.proofs.Rows.{last_push}

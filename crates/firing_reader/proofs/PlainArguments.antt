@@ -4,15 +4,15 @@ use Rattle.std.proofs.Common.{◌++◌, length, get_or, take, drop, map, All, So
 use Rattle.std.proofs.Common.{arith, length-append, append_assoc, replicate}
 use Rattle.std.proofs.lemmas.List.Elements.{All-nil}
 use Rattle.std.proofs.lemmas.List.{length-replicate, map-append, append-nil}
-use Rattle.firing_reader.specs.declared.stored_row.Given.{Given}
+use Rattle.firings.specs.declared.stored_row.Given.{Given}
 use Rattle.firing_reader.specs.Column.{signed_of}
 use Rattle.firing_reader.specs.Plain.{BeginsAtEnd, Passes}
 use Rattle.firing_reader.specs.Steps.Plain.{Closes, JoinsField, ReadsArguments}
-use Rattle.firing_reader.specs.Arguments.{ten}
-use Rattle.firing_reader.specs.Stored.{count_of, first_of, given_in}
+use Rattle.firings.specs.Arguments.{ten}
+use Rattle.firings.specs.Stored.{count_of, first_of, given_in}
 use Rattle.firing_reader.proofs.PlainFields.{one_joins, one_signed}
 use Rattle.firing_reader.proofs.PlainRows.{closes_more, closes_one, passes_more, passes_one}
-use Rattle.firing_reader.proofs.Stored.{part_kept, ten_same}
+use Rattle.firings.proofs.Stored.{part_kept, ten_same}
 
 -- ---- arguments that are all the same
 

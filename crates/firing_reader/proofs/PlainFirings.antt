@@ -5,12 +5,12 @@ use Rattle.std.specs.Prelude.{option_map}
 use Rattle.std.proofs.lemmas.Bool.{le-ltb, lt-ltb}
 use Rattle.csv.specs.Records.{field_at}
 use Rattle.firing_reader.specs.declared.fault.TraceFault.{TraceFault}
-use Rattle.firing_reader.specs.declared.firing.Firing.{Firing}
+use Rattle.firings.specs.declared.firing.Firing.{Firing}
 use Rattle.firing_reader.proofs.PlainFields.{none_read}
 use Rattle.firing_reader.specs.Column.{signed_of}
 use Rattle.firing_reader.specs.Plain.{ReadsOwner, ReadsProbe, int_of, whole_of}
 use Rattle.firing_reader.specs.Steps.Plain.{ReadsArguments}
-use Rattle.firing_reader.specs.Probing.{probe_of}
+use Rattle.firings.specs.Probing.{probe_of}
 use Rattle.firing_reader.specs.Steps.Stored.{owner_of}
 use Rattle.firing_reader.specs.Row.{◌>>=◌, or_fault, args_at, columns_at, int_at, row_of, signed_at}
 use Rattle.firing_reader.specs.Row.{text_at, whole_at}

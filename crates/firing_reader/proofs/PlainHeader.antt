@@ -6,7 +6,7 @@ use Rattle.csv.specs.Machine.{next_record}
 use Rattle.csv.specs.Reading.{default_config, strip_bom}
 use Rattle.csv.specs.declared.parser.State.TheVariants as st
 use Rattle.csv.specs.Records.{field_at}
-use Rattle.firing_reader.specs.declared.firing.Firing.{Firing}
+use Rattle.firings.specs.declared.firing.Firing.{Firing}
 use Rattle.firing_reader.specs.Left.{left_in}
 use Rattle.firing_reader.specs.Plain.{BeginsAtEnd, IsEnd, rows_in, state_after}
 use Rattle.firing_reader.specs.Steps.Plain.{header_line}

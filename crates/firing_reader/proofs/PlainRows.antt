@@ -10,7 +10,7 @@ use Rattle.csv.specs.Machine.{next_record}
 use Rattle.csv.specs.Reading.{default_config, records, records_from, strip_bom}
 use Rattle.csv.specs.declared.parser.State.TheVariants as st
 use Rattle.csv.proofs.RoundTrip.{start-same, record-same}
-use Rattle.firing_reader.specs.declared.firing.Firing.{Firing}
+use Rattle.firings.specs.declared.firing.Firing.{Firing}
 use Rattle.firing_reader.specs.declared.fault.TraceFault.{TraceFault}
 use Rattle.firing_reader.specs.Left.{left_in}
 use Rattle.firing_reader.specs.Blocks.{AreRead}
@@ -19,7 +19,7 @@ use Rattle.firing_reader.specs.Steps.Plain.{Closes, BeginsWith, GoesOn, JoinsFie
 use Rattle.firing_reader.specs.Plain.{BeginsAtEnd, IsEnd, Passes, ReadsRow, state_after}
 use Rattle.firing_reader.specs.Steps.Plain.{Leaves}
 use Rattle.firing_reader.specs.Steps.RowEnds.{RowsEnd}
-use Rattle.firing_reader.specs.Trace.{last_number}
+use Rattle.firings.specs.Firings.{last_number}
 use Rattle.firing_reader.proofs.Left.{ends_bytes, enough, left_more, shorter}
 use Rattle.firing_reader.proofs.RowEnds.{left_return}
 use Rattle.firing_reader.proofs.Rows.{after_err, after_none, after_ok, one_row, rows_first}

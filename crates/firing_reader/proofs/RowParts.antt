@@ -2,21 +2,21 @@
 use Rattle.std.proofs.Common.{◌≡◌, ◌∙◌, ◌^◌, ap, subst, ℕ, ℤ, List, [], ◌∷◌, ◌++◌, get_or, map, All, Some, refl}
 use Rattle.std.specs.Prelude.{slice_get}
 use Rattle.std.proofs.lemmas.List.Elements.{All-append, All-cons, All-nil}
-use Rattle.firing_reader.specs.declared.firing.Firing.{Firing}
-use Rattle.firing_reader.specs.declared.stored_row.Row.{Row}
-use Rattle.firing_reader.specs.declared.unit.Owner.{Owner}
-use Rattle.firing_reader.specs.declared.unit.Probe.{Probe}
+use Rattle.firings.specs.declared.firing.Firing.{Firing}
+use Rattle.firings.specs.declared.stored_row.Row.{Row}
+use Rattle.firings.specs.declared.unit.Owner.{Owner}
+use Rattle.firings.specs.declared.unit.Probe.{Probe}
 use Rattle.firing_reader.specs.Plain.{Passes, ReadsOwner, ReadsProbe}
 use Rattle.firing_reader.specs.Steps.Plain.{BeginsRow, BeginsWith, JoinsField, ReadsArguments}
 use Rattle.firing_reader.specs.Plain.{IsEnd, ReadsRow, int_of, whole_of}
-use Rattle.firing_reader.specs.Stored.{Extends, IsGivenIn, IsRowIn, firing_in, given_in, no_owner}
-use Rattle.firing_reader.specs.Stored.{no_probe}
-use Rattle.firing_reader.specs.Arguments.{ten}
-use Rattle.firing_reader.specs.Probing.{probe_of}
+use Rattle.firings.specs.Stored.{Extends, IsGivenIn, IsRowIn, firing_in, given_in, no_owner}
+use Rattle.firings.specs.Stored.{no_probe}
+use Rattle.firings.specs.Arguments.{ten}
+use Rattle.firings.specs.Probing.{probe_of}
 use Rattle.firing_reader.specs.Steps.Stored.{owner_of}
 use Rattle.firing_reader.proofs.PlainFirings.{ReadsNumbers, fields, firing_ok}
 use Rattle.firing_reader.proofs.PlainRows.{closes_more, passes_one, row_read}
-use Rattle.firing_reader.proofs.Stored.{named_at, named_in, rows_more, stored}
+use Rattle.firings.proofs.Stored.{named_at, named_in, rows_more, stored}
 
 -- the owner at a place, and the probe at one
 owner_there : (os : List Owner) (p : ℕ) (o : Owner) (b r : List ℕ) → slice_get os p ≡ Some o → ReadsOwner b r o

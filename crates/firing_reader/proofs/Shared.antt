@@ -7,21 +7,21 @@ use Rattle.std.proofs.Math.Seq.{drop-append-add, drop-append_seam, take-append_s
 use Rattle.std.proofs.lemmas.List.{map-append, take_all}
 use Rattle.std.proofs.lemmas.List.Elements.{All-append, All-cons, All-head, All-nil, All-tail}
 use Rattle.firing_reader.specs.Vocabulary.{bytes_eq}
-use Rattle.firing_reader.specs.declared.unit.OwnerEntry.{OwnerEntry}
-use Rattle.firing_reader.specs.declared.unit.ProbeEntry.{ProbeEntry}
-use Rattle.firing_reader.specs.declared.unit.Owner.{Owner}
-use Rattle.firing_reader.specs.declared.unit.Probe.{Probe}
-use Rattle.firing_reader.specs.declared.units.Known.{Known}
-use Rattle.firing_reader.specs.Texts.{text_of}
+use Rattle.firings.specs.declared.unit.OwnerEntry.{OwnerEntry}
+use Rattle.firings.specs.declared.unit.ProbeEntry.{ProbeEntry}
+use Rattle.firings.specs.declared.unit.Owner.{Owner}
+use Rattle.firings.specs.declared.unit.Probe.{Probe}
+use Rattle.firings.specs.declared.units.Known.{Known}
+use Rattle.firings.specs.Texts.{text_of}
 use Rattle.firing_reader.specs.Plain.{ReadsOwner, ReadsProbe, int_of}
 use Rattle.firing_reader.specs.Steps.Plain.{BeginsWith}
-use Rattle.firing_reader.specs.Stored.{ArePlaces, Extends}
+use Rattle.firings.specs.Stored.{ArePlaces, Extends}
 use Rattle.firing_reader.specs.UnitTable.{IsReadIn}
-use Rattle.firing_reader.specs.Units.{IsProbeIn, IsTextIn, IsUnitIn, name_at, owner_in, part, probe_in}
-use Rattle.firing_reader.specs.Units.{probefunc_at, probemod_at, unit_in}
-use Rattle.firing_reader.proofs.Texts.{text_is}
+use Rattle.firings.specs.Units.{IsProbeIn, IsTextIn, IsUnitIn, name_at, owner_in, part, probe_in}
+use Rattle.firings.specs.Units.{probefunc_at, probemod_at, unit_in}
+use Rattle.firings.proofs.Texts.{text_is}
 use Rattle.firing_reader.proofs.PlainRows.{passes_more, passes_one, unit_passes}
-use Rattle.firing_reader.proofs.Stored.{part_more, seen_at}
+use Rattle.firings.proofs.Stored.{part_more, seen_at}
 
 -- ---- units of any kind
 

@@ -4,11 +4,12 @@ use Rattle.std.proofs.Common.{drop, refl, sym, ap, ◌∙◌, append_assoc, arit
 use Rattle.std.proofs.Common.{inl, length-append, subst}
 use Rattle.std.proofs.Math.Seq.{drop-append-add}
 use Rattle.std.proofs.lemmas.List.{append-nil, drop-append-le}
-use Rattle.firing_reader.specs.declared.firing.Firing.{Firing}
+use Rattle.firings.specs.declared.firing.Firing.{Firing}
 use Rattle.firing_reader.specs.Plain.{ReadsRows}
 use Rattle.firing_reader.specs.Pieces.{AreCut, IsPiece, Rises}
-use Rattle.firing_reader.specs.Steps.Plain.{GoesAfter, GoesOn, Leaves, PassesRows, ReadsMore, left_after}
-use Rattle.firing_reader.specs.Trace.{last_number}
+use Rattle.firing_reader.specs.Steps.Plain.{GoesAfter, GoesOn, Leaves, PassesRows, ReadsMore}
+use Rattle.firing_reader.specs.Steps.Plain.{left_after}
+use Rattle.firings.specs.Firings.{last_number}
 use Rattle.firing_reader.proofs.BlockSteps.{left_from}
 use Rattle.firing_reader.proofs.PlainRows.{goes_both, goes_end, goes_row}
 use Rattle.firing_reader.proofs.Rows.{last_push}

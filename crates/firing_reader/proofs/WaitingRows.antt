@@ -8,7 +8,7 @@ use Rattle.std.proofs.Math.Seq.{take-append_seam}
 use Rattle.std.proofs.lemmas.List.{append-nil}
 use Rattle.firing_reader.specs.declared.blocks.Stage.{Stage}
 use Rattle.firing_reader.specs.declared.blocks.Stage.TheVariants as stage
-use Rattle.firing_reader.specs.declared.firing.Firing.{Firing}
+use Rattle.firings.specs.declared.firing.Firing.{Firing}
 use Rattle.firing_reader.specs.declared.pieces.Piece.{Piece}
 use Rattle.firing_reader.specs.Vocabulary.{Memory, TraceFault}
 use Rattle.firing_reader.specs.Blocks.{AreRead, BeginsAtFeed, IsKeptAt, reads_at}
@@ -18,7 +18,8 @@ use Rattle.firing_reader.specs.Pieces.{unread}
 use Rattle.firing_reader.specs.Steps.Blocks.{IsFaultOf}
 use Rattle.firing_reader.specs.Steps.Pieces.{Adds, AreWaiting}
 use Rattle.firing_reader.specs.Steps.Plain.{GoesAfter, GoesOn, PassesRows}
-use Rattle.firing_reader.specs.Trace.{last_number, rows_of}
+use Rattle.firings.specs.Firings.{last_number}
+use Rattle.firing_reader.specs.Trace.{rows_of}
 use Rattle.firing_reader.proofs.BlockSteps.{kept_front, kept_more}
 use Rattle.firing_reader.proofs.PlainRows.{goes_both, goes_end, goes_first, goes_rows}
 use Rattle.firing_reader.proofs.SharedRows.{goes_more, goes_rows_of, passes_on}

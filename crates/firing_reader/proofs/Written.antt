@@ -14,18 +14,19 @@ use Rattle.std.proofs.lemmas.List.Elements.{recursion_from_All}
 use Rattle.std.proofs.lemmas.Slice.Eq.{bytes_eq-Decides}
 use Rattle.csv.specs.Reading.{records, default_config, strip_bom}
 use Rattle.firing_reader.specs.declared.fault.TraceFault.{TraceFault}
-use Rattle.firing_reader.specs.declared.firing.Firing.{Firing}
+use Rattle.firings.specs.declared.firing.Firing.{Firing}
 use Rattle.firing_reader.specs.Column.{decimal_of, field, signed_of}
 use Rattle.firing_reader.specs.Faults.{Argument, IsRowOf, Whole, Words, column_faults}
 use Rattle.firing_reader.specs.Faults.{columns, row_faults, takes}
-use Rattle.firing_reader.specs.Firings.{IsFiring, IsText, number_of}
+use Rattle.firings.specs.Firings.{IsFiring, IsText, number_of}
 use Rattle.firing_reader.specs.declared.fault.TraceFault.TheVariants.{Columns, Header, TooMany}
 use Rattle.firing_reader.specs.Row.{◌>>=◌, columns_at, row_of, unless_reserved}
 use Rattle.firing_reader.specs.Trace.{above, is_header, next_of, rows_of, trace_in, trace_of}
 use Rattle.firing_reader.specs.Written.{WritesFiring, WritesTrace}
-use Rattle.firing_reader.proofs.Texts.{some_text}
+use Rattle.firings.proofs.Texts.{some_text}
 use Rattle.firing_reader.proofs.Fields.{Reads}
-use Rattle.firing_reader.proofs.Kept.{bind_ok, ok_is, one_firing_a_row, rises_after, rises_more, rows_trace}
+use Rattle.firing_reader.proofs.Kept.{bind_ok, ok_is, one_firing_a_row, rises_after, rises_more}
+use Rattle.firing_reader.proofs.Kept.{rows_trace}
 use Rattle.firing_reader.proofs.RowFaults.{IsGoodRow, next_read, places, value_of, written}
 use Rattle.firing_reader.proofs.Rows.{has_header}
 

@@ -3,7 +3,8 @@
 use Rattle.std.specs.Prelude.{◌≡◌, ℕ, List, [], ◌∷◌, ◌++◌, Result, Ok, Err}
 use Rattle.firing_reader.specs.declared.blocks.Stage.{Stage}
 use Rattle.firing_reader.specs.declared.blocks.Stage.TheVariants.{Header, Rows, Refused}
-use Rattle.firing_reader.specs.Vocabulary.{TraceFault, Firing}
+use Rattle.firing_reader.specs.Vocabulary.{TraceFault}
+use Rattle.firings.specs.declared.firing.Firing.{Firing}
 use Rattle.firing_reader.specs.Plain.{rows_in}
 use Rattle.firing_reader.specs.Trace.{rows_of, trace_of}
 

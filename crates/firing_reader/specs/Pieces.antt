@@ -3,9 +3,9 @@ use Rattle.std.specs.Prelude.{◌≡◌, ◌<◌, ℕ, List, [], ◌∷◌, ◌+
 use Rattle.firing_reader.specs.declared.blocks.Stage.{Stage}
 use Rattle.firing_reader.specs.declared.blocks.Stage.TheVariants.{Header, Rows, Refused}
 use Rattle.firing_reader.specs.declared.pieces.Piece.{Piece}
-use Rattle.firing_reader.specs.Vocabulary.{Firing}
+use Rattle.firings.specs.declared.firing.Firing.{Firing}
 use Rattle.firing_reader.specs.Plain.{BeginsAtEnd, IsEnd, ReadsRows}
-use Rattle.firing_reader.specs.Trace.{last_number}
+use Rattle.firings.specs.Firings.{last_number}
 use Rattle.firing_reader.specs.Blocks.{BeginsAtFeed, IsKeptAt}
 
 -- from a number the numbers of these firings rise to another

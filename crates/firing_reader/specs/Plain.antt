@@ -5,13 +5,16 @@ use Rattle.std.specs.Prelude.{◌≡◌, ◌⊎◌, false, ◌<◌, ◌+◌, ◌
 use Rattle.std.specs.Prelude.{Option, Some, codes, option_and_then, option_map, Result, Ok, pos, ℤ}
 use Rattle.csv.specs.declared.parser.State.{State}
 use Rattle.csv.specs.Machine.{after_end}
-use Rattle.firing_reader.specs.declared.unit.Owner.{Owner}
-use Rattle.firing_reader.specs.declared.unit.Probe.{Probe}
+use Rattle.firings.specs.declared.unit.Owner.{Owner}
+use Rattle.firings.specs.declared.unit.Probe.{Probe}
 use Rattle.firing_reader.specs.Vocabulary.{bytes_eq, next_record, default_config, TraceFault}
-use Rattle.firing_reader.specs.Vocabulary.{Firing, MOST_ROWS}
+use Rattle.firings.specs.declared.firing.Firing.{Firing}
+use Rattle.firings.specs.declared.trace.TheConstants.{MOST_ROWS}
 use Rattle.firing_reader.specs.{Left.left_in}
-use Rattle.firing_reader.specs.Column.{decimal_of, text_of}
-use Rattle.firing_reader.specs.Trace.{last_number, next_of, rows_of}
+use Rattle.firing_reader.specs.Column.{decimal_of}
+use Rattle.firings.specs.Texts.{text_of}
+use Rattle.firings.specs.Firings.{last_number}
+use Rattle.firing_reader.specs.Trace.{next_of, rows_of}
 use Rattle.firing_reader.specs.Row.{◌>>=◌, within}
 
 -- csv takes these fields off the bytes, whatever comes after them, and goes on where a field starts

@@ -1,7 +1,7 @@
 -- Units that are found by their bytes.
 use Rattle.std.specs.Prelude.{◌≡◌, ℕ, List, true}
-use Rattle.firing_reader.specs.declared.units.Known.{Known}
-use Rattle.firing_reader.specs.Units.{IsUnitIn, part}
+use Rattle.firings.specs.declared.units.Known.{Known}
+use Rattle.firings.specs.Units.{IsUnitIn, part}
 
 -- a unit that is there; if its bytes are plain fields, they write its entry
 pub record IsReadIn {E : Type 0} (In Reads : E → List ℕ → Type 0) (bytes : List ℕ) (k : Known E)

@@ -15,5 +15,3 @@ pub use Rattle.firing_reader.specs.declared.fault.TraceFault.{TraceFault}
 pub use Rattle.firing_reader.specs.declared.fault.TraceFault.TheVariants.{Header, Columns, Number}
 pub use Rattle.firing_reader.specs.declared.fault.TraceFault.TheVariants.{Order, Text, Reserved}
 pub use Rattle.firing_reader.specs.declared.fault.TraceFault.TheVariants.{TooMany, Memory}
-pub use Rattle.firing_reader.specs.declared.firing.Firing.{Firing}
-pub use Rattle.firing_reader.specs.declared.trace.TheConstants.{MOST_ROWS}

@@ -1,9 +1,11 @@
 -- Which bytes write a trace.
 -- Source: RFC 4180, with the reading of the crate `csv`.
 use Rattle.std.specs.Prelude.{◌≡◌, ◌∷◌, ℕ, List, length, true}
-use Rattle.firing_reader.specs.Vocabulary.{AllZip, Firing, default_config, records, strip_bom}
+use Rattle.firing_reader.specs.Vocabulary.{AllZip, default_config, records, strip_bom}
+use Rattle.firings.specs.declared.firing.Firing.{Firing}
 use Rattle.firing_reader.specs.Faults.{IsRowOf}
-use Rattle.firing_reader.specs.Trace.{IsTrace, is_header}
+use Rattle.firings.specs.Firings.{IsTrace}
+use Rattle.firing_reader.specs.Trace.{is_header}
 
 -- a row of twenty columns, of which each writes its value of the firing
 pub record WritesFiring (fields : List (List ℕ)) (f : Firing) : Type 0 where

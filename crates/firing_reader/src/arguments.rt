@@ -2,10 +2,10 @@
 
 ghost use Rattle.std.specs.Prelude.{◌≡◌, ◌<◌, ◌≤◌, ◌+◌, ◌^◌, ◌++◌, ℕ, pos, IfSome, get_or, length};
 ghost use Rattle.std.specs.Prelude.{take, drop};
-ghost use Rattle.firing_reader.specs.{Arguments.ten};
-ghost use Rattle.firing_reader.specs.Stored.{Extends, IsGivenIn, given_in};
+ghost use Rattle.firings.specs.{Arguments.ten};
+ghost use Rattle.firings.specs.Stored.{Extends, IsGivenIn, given_in};
 
-use crate::stored_row::Given;
+use firings::Given;
 
 /// Keeps the arguments up to the last that isn't 0.
 pub(crate) fn keep_arguments(all: &mut Vec<i64>, args: &[i64]) -> Option<Given>

@@ -2,19 +2,17 @@
 
 ghost use Rattle.std.specs.Prelude.{◌≡◌, ◌<◌, ◌≤◌, ◌++◌, ◌∷◌, [], true, false, All, IfOk, IfSome};
 ghost use Rattle.std.specs.Prelude.{MatchOption, length, map, option_map, slice_get};
-ghost use Rattle.firing_reader.specs.{Vocabulary.Firing, Plain.ReadsRow};
-ghost use Rattle.firing_reader.specs.Firings.{last_number as last_number_of, number_of};
+ghost use Rattle.firings.specs.{declared.firing.Firing.Firing};
+ghost use Rattle.firing_reader.specs.{Plain.ReadsRow};
+ghost use Rattle.firings.specs.Firings.{last_number as last_number_of, number_of};
 ghost use Rattle.firing_reader.specs.Steps.Stored.{IsMovable, moved_row as moved_row_of};
 
 use crate::arguments::{add_arguments, keep_arguments};
-use crate::firing::Firing;
-use crate::firings::Firings;
 use crate::owners::keep_owner;
 use crate::plain::row::row;
 use crate::probes::keep_probe;
-use crate::stored_row::Row;
-use crate::unit::{OwnerEntry, ProbeEntry};
 use crate::unit_table::UnitTable;
+use firings::{Firing, Firings, OwnerEntry, ProbeEntry, Row};
 use keyed_hash::HashKey;
 use std::alloc::{AllocError, Global};
 use std::marker::Model;
@@ -30,9 +28,10 @@ pub(crate) struct FiringsBuilder {
 }
 
 impl Model for FiringsBuilder {
-    ghost use Rattle.firing_reader.specs.Vocabulary.{All, Firing, List, map};
-    ghost use Rattle.firing_reader.specs.Stored.{IsRowIn, firing_in};
-    ghost use Rattle.firing_reader.specs.Units.{owner_in, probe_in};
+    ghost use Rattle.firing_reader.specs.Vocabulary.{All, List, map};
+    ghost use Rattle.firings.specs.declared.firing.Firing.{Firing};
+    ghost use Rattle.firings.specs.Stored.{IsRowIn, firing_in};
+    ghost use Rattle.firings.specs.Units.{owner_in, probe_in};
 
     ghost Value = { List Firing };
 

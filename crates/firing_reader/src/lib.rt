@@ -18,41 +18,26 @@ mod arguments;
 mod blocks;
 mod builder;
 mod columns;
-mod ends;
 mod fault;
-mod firing;
-mod firing_rows;
-mod firings;
 mod header;
 pub mod laws;
-mod owner_places;
 mod owners;
 mod pieces;
 mod plain;
-mod probe_places;
 mod probes;
 mod reading;
 mod records;
 mod row;
 mod row_ends;
 mod slots;
-mod stored_row;
-mod text;
-mod trace;
-mod unit;
 mod unit_table;
-mod units;
 mod waiting;
 mod whole_rows;
 
 pub use blocks::{Reader, read_trace_by};
 pub use fault::TraceFault;
-pub use firing::{Args, Firing};
-pub use firing_rows::{FiringRows, MOST_TOGETHER};
-pub use firings::Firings;
-pub use owner_places::OwnerPlaces;
-pub use probe_places::ProbePlaces;
+pub use firings::{
+    Args, Firing, FiringRows, Firings, MOST_ROWS, MOST_TOGETHER, OwnerPlaces, Probe, ProbePlaces,
+    TEXT_LIMIT, Text, Trace,
+};
 pub use reading::read_trace;
-pub use text::{TEXT_LIMIT, Text};
-pub use trace::{MOST_ROWS, Trace};
-pub use unit::Probe;

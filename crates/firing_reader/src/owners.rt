@@ -1,15 +1,15 @@
 //! Who fired, as rows say it.
 
 ghost use Rattle.std.specs.Prelude.{◌≡◌, ◌++◌, ℕ, List, Some, IfSome, map, slice_get};
-ghost use Rattle.firing_reader.specs.{declared.unit.Owner.Owner, Plain.ReadsOwner};
-ghost use Rattle.firing_reader.specs.{Steps.Stored.owner_of, Stored.Extends, Units.owner_in};
+ghost use Rattle.firings.specs.{declared.unit.Owner.Owner};
+ghost use Rattle.firing_reader.specs.{Plain.ReadsOwner};
+ghost use Rattle.firing_reader.specs.{Steps.Stored.owner_of};
+ghost use Rattle.firings.specs.{Stored.Extends, Units.owner_in};
 
-use crate::firing::Firing;
 use crate::plain::field::{int, text};
 use crate::plain::unit::end_of_three;
-use crate::text::TEXT_LIMIT;
-use crate::unit::OwnerEntry;
 use crate::unit_table::{PlainEntry, UnitTable, add_bytes};
+use firings::{Firing, OwnerEntry, TEXT_LIMIT};
 use std::alloc::Global;
 
 // Two numbers of 31 bits that begin with no zero have at most this many bytes, with their commas.
@@ -18,7 +18,8 @@ const LONGEST_NUMBERS: usize = 22;
 
 impl PlainEntry for OwnerEntry {
     ghost use Rattle.std.specs.Prelude.{[]};
-    ghost use Rattle.firing_reader.specs.{Plain.ReadsOwner, Units.owner_in};
+    ghost use Rattle.firing_reader.specs.{Plain.ReadsOwner};
+    ghost use Rattle.firings.specs.{Units.owner_in};
 
     ghost reads = { λ e bytes. ReadsOwner bytes [] (owner_in (bytes, e)) };
 

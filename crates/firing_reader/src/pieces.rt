@@ -3,7 +3,7 @@
 
 ghost use Rattle.std.specs.Prelude.{◌≡◌, ◌<◌, ◌≤◌, ◌+◌, ◌-◌, [], true, IfSome, drop, get_or};
 ghost use Rattle.std.specs.Prelude.{length};
-ghost use Rattle.firing_reader.specs.{Firings.last_number};
+ghost use Rattle.firings.specs.{Firings.last_number};
 ghost use Rattle.firing_reader.specs.Plain.{BeginsAtEnd, IsEnd};
 ghost use Rattle.firing_reader.specs.Pieces.{AreCut, ArePieces, IsPiece, Rises};
 ghost use Rattle.firing_reader.specs.Steps.Plain.{GoesAfter, PassesRows};
@@ -11,7 +11,7 @@ ghost use Rattle.firing_reader.specs.Steps.Plain.{GoesAfter, PassesRows};
 use crate::builder::FiringsBuilder;
 use crate::plain::front::{begins_at_end, is_end};
 use crate::plain::read_plain;
-use crate::trace::MOST_ROWS;
+use firings::MOST_ROWS;
 use keyed_hash::HashKey;
 use std::alloc::{AllocError, Global};
 

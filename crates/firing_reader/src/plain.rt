@@ -5,7 +5,7 @@ ghost use Rattle.firing_reader.specs.{Plain.BeginsAtEnd};
 ghost use Rattle.firing_reader.specs.Steps.Plain.{GoesOn, Leaves, ReadsMore};
 
 use crate::builder::FiringsBuilder;
-use crate::trace::MOST_ROWS;
+use firings::MOST_ROWS;
 
 mod arguments;
 pub(crate) mod field;

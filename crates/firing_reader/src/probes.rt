@@ -1,21 +1,21 @@
 //! Which probe fired, as rows say it.
 
 ghost use Rattle.std.specs.Prelude.{◌≡◌, ◌++◌, ◌∷◌, [], Some, IfSome, map, slice_get};
-ghost use Rattle.firing_reader.specs.{declared.unit.Probe.Probe, Plain.ReadsProbe};
-ghost use Rattle.firing_reader.specs.{Probing.probe_of, Stored.Extends, Units.probe_in};
+ghost use Rattle.firings.specs.{declared.unit.Probe.Probe};
+ghost use Rattle.firing_reader.specs.{Plain.ReadsProbe};
+ghost use Rattle.firings.specs.{Probing.probe_of, Stored.Extends, Units.probe_in};
 
-use crate::firing::Firing;
 use crate::plain::field::text;
 use crate::plain::unit::end_of_four;
 use crate::row::RESERVED;
-use crate::text::{TEXT_LIMIT, Text};
-use crate::unit::ProbeEntry;
 use crate::unit_table::{PlainEntry, UnitTable, add_bytes};
+use firings::{Firing, ProbeEntry, TEXT_LIMIT, Text};
 use std::alloc::Global;
 
 impl PlainEntry for ProbeEntry {
     ghost use Rattle.std.specs.Prelude.{[]};
-    ghost use Rattle.firing_reader.specs.{Plain.ReadsProbe, Units.probe_in};
+    ghost use Rattle.firing_reader.specs.{Plain.ReadsProbe};
+    ghost use Rattle.firings.specs.{Units.probe_in};
 
     ghost reads = { λ e bytes. ReadsProbe bytes [] (probe_in (bytes, e)) };
 

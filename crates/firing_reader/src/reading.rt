@@ -11,13 +11,12 @@ ghost use Rattle.firing_reader.specs.Trace.{next_of, trace_in, trace_of};
 
 use crate::builder::FiringsBuilder;
 use crate::fault::TraceFault;
-use crate::firing::Firing;
 use crate::header::{after_header, is_header};
 use crate::plain::read_plain;
 use crate::records::Records;
 use crate::row::read_row;
-use crate::trace::{MOST_ROWS, Trace};
 use csv::ByteRecord;
+use firings::{Firing, MOST_ROWS, Trace};
 use keyed_hash::HashKey;
 use std::alloc::Global;
 

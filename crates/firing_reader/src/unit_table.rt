@@ -2,10 +2,10 @@
 
 ghost use Rattle.std.specs.Prelude.{◌≡◌, ◌<◌, ◌++◌, ◌∷◌, [], true, ℕ, List, IfOk, IfSome};
 ghost use Rattle.std.specs.Prelude.{MatchOption, Some, length, slice_get, vec_capacity, vec_len};
-ghost use Rattle.firing_reader.specs.Stored.{ArePlaces, Extends};
+ghost use Rattle.firings.specs.Stored.{ArePlaces, Extends};
 
 use crate::slots::{NEAR, NOWHERE, Slots};
-use crate::units::{Entry, Known, Units};
+use firings::{Entry, Known, Units};
 use keyed_hash::{HashKey, is_same};
 use std::alloc::{AllocError, Global};
 use std::marker::Model;
@@ -23,7 +23,7 @@ pub(crate) struct UnitTable<E: PlainEntry> {
 
 impl<E: PlainEntry> Model for UnitTable<E> {
     ghost use Rattle.std.specs.Prelude.{All, List, ℕ, map};
-    ghost use Rattle.firing_reader.specs.Units.{unit_in};
+    ghost use Rattle.firings.specs.Units.{unit_in};
     ghost use Rattle.firing_reader.specs.UnitTable.{IsReadIn};
 
     ghost Value = { List (List ℕ × E) };

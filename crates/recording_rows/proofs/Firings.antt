@@ -14,8 +14,8 @@ use Rattle.std.proofs.lemmas.List.Elements.{All-head, All-tail, All-map}
 use Rattle.std.proofs.lemmas.Str.Parse.{IsNumeralModel, digit_at, numerals_by_value, tells_all_ascii_digits}
 use Rattle.csv.specs.Records.{field_at}
 use Rattle.firing_reader.specs.Column.{decimal_of, field, is_decimal, signed_of}
-use Rattle.firing_reader.specs.Firings.{IsFiring}
-use Rattle.firing_reader.specs.declared.firing.Firing.{Firing}
+use Rattle.firings.specs.Firings.{IsFiring}
+use Rattle.firings.specs.declared.firing.Firing.{Firing}
 use Rattle.firing_reader.specs.Written.{WritesFiring}
 use Rattle.recording_rows.specs.declared.row.Row.{Row}
 use Rattle.recording_rows.specs.declared.row.Side.{Side}

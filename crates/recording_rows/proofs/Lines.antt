@@ -9,11 +9,11 @@ use Rattle.csv.specs.Reading.{default_config, records, records_from, strip_bom}
 use Rattle.csv.specs.Writing.{default_writer, fields_text, is_blank, read_back, row_body, row_text}
 use Rattle.csv.specs.declared.parser.State.TheVariants as st
 use Rattle.csv.proofs.RoundTrip.{read-write}
-use Rattle.firing_reader.specs.declared.firing.Firing.{Firing}
+use Rattle.firings.specs.declared.firing.Firing.{Firing}
 use Rattle.firing_reader.specs.Written.{WritesFiring, WritesTrace}
 use Rattle.recording_rows.specs.Steps.Rows.{after_commas, line_of}
 use Rattle.recording_rows.specs.Words.{is_plain_byte}
-use Rattle.firing_reader.specs.Trace.{IsTrace}
+use Rattle.firings.specs.Firings.{IsTrace}
 use Rattle.recording_rows.specs.Steps.Blocks.{IsHeading, IsWritten, rows_text}
 use Rattle.recording_rows.proofs.Plain.{as_it_is}
 

@@ -5,8 +5,8 @@ use Rattle.std.specs.List.Sorted.{IsStrictlyIncreasing}
 use Rattle.std.proofs.lemmas.List.{append-nil, map-append}
 use Rattle.std.proofs.lemmas.List.Elements.{All-head, All-nil, All-push, All-tail}
 use Rattle.csv.specs.Writing.{default_writer, row_text}
-use Rattle.firing_reader.specs.Firings.{IsFiring, number_of}
-use Rattle.firing_reader.specs.declared.firing.Firing.{Firing}
+use Rattle.firings.specs.Firings.{IsFiring, number_of}
+use Rattle.firings.specs.declared.firing.Firing.{Firing}
 use Rattle.firing_reader.specs.Written.{WritesFiring}
 use Rattle.recording_rows.specs.Steps.Blocks.{IsHeading, IsWritten, rows_text}
 

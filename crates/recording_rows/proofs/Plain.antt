@@ -12,7 +12,7 @@ use Rattle.std.proofs.lemmas.Str.{IsUtf8-from_ascii}
 use Rattle.std.proofs.lemmas.Str.Ascii.{IsAscii-from_all}
 use Rattle.std.proofs.lemmas.Str.Parse.{digit_at}
 use Rattle.csv.specs.Writing.{default_writer, needs_byte}
-use Rattle.firing_reader.specs.Firings.{IsText}
+use Rattle.firings.specs.Firings.{IsText}
 use Rattle.recording_rows.specs.Words.{is_plain_byte, is_word}
 
 -- what a plain byte is

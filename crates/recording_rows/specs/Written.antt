@@ -1,7 +1,7 @@
 -- What is written of a recording: a trace.
 use Rattle.std.specs.Prelude.{ℕ, List, Option}
 use Rattle.std.specs.Io.KnownBytes.{Appends}
-use Rattle.firing_reader.specs.declared.firing.Firing.{Firing}
+use Rattle.firings.specs.declared.firing.Firing.{Firing}
 use Rattle.firing_reader.specs.Written.{WritesTrace}
 
 -- a writer took a trace, and nothing else

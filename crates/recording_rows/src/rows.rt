@@ -6,7 +6,7 @@ ghost use Rattle.std.specs.Io.KnownBytes.{Appends};
 use crate::fault::{ConvertFault, End};
 use crate::fields::put_row;
 use crate::row::{Made, Row};
-use firing_reader::MOST_ROWS;
+use firings::MOST_ROWS;
 use std::alloc::{AllocError, Global};
 use std::io::Write;
 

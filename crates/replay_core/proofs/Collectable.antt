@@ -8,8 +8,8 @@ use Rattle.std.proofs.lemmas.List.Sums.{sum_by-cons}
 use Rattle.std.proofs.lemmas.Bool.{cases_eq, cases_order, lt-ltb}
 use Rattle.aggregations.specs.Table.{count_held}
 use Rattle.d_types.specs.Typed.{ScriptMeant}
-use Rattle.firing_reader.specs.declared.firing.Firing.{Firing}
-use Rattle.firing_reader.specs.Firings.{number_of}
+use Rattle.firings.specs.declared.firing.Firing.{Firing}
+use Rattle.firings.specs.Firings.{number_of}
 use Rattle.shard_queue.proofs.Totals.{below-once, below-times, weight_of}
 use Rattle.replay_core.specs.declared.piece.Piece.{Piece}
 use Rattle.replay_core.specs.declared.collect_fault.CollectFault.TheVariants.{Twice, Stranger}

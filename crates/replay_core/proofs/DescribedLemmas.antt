@@ -12,9 +12,9 @@ use Rattle.std.proofs.lemmas.List.Elements.{filter-append}
 use Rattle.std.proofs.lemmas.Option.{slice_get_within}
 use Rattle.keyed_hash.specs.declared.hash_key.HashKey.{HashKey}
 use Rattle.d_parser.specs.declared.tree.Description.{Description}
-use Rattle.firing_reader.specs.declared.unit.Probe.{Probe}
-use Rattle.firing_reader.specs.Stored.{Extends}
-use Rattle.firing_reader.proofs.Stored.{named_more}
+use Rattle.firings.specs.declared.unit.Probe.{Probe}
+use Rattle.firings.specs.Stored.{Extends}
+use Rattle.firings.proofs.Stored.{named_more}
 use Rattle.replay_core.specs.declared.description_table.Described.{Described}
 use Rattle.replay_core.specs.Steps.Described.{GiveSame, HasKind, IsOfKind, IsSameKind}
 use Rattle.replay_core.specs.Steps.Described.{given_from, given_of, hash_of_description}

@@ -8,10 +8,10 @@ use Rattle.std.proofs.Common.{refl, sym, ap, ◌∙◌, subst, arith, add-one}
 use Rattle.std.proofs.lemmas.Bool.{le-leb, lt-leb}
 use Rattle.std.proofs.lemmas.List.Elements.{All-get_or}
 use Rattle.d_types.specs.Typed.{ScriptMeant}
-use Rattle.firing_reader.specs.declared.firing.Firing.{Firing}
-use Rattle.firing_reader.specs.Ends.{begin_of, end_of}
-use Rattle.firing_reader.specs.Firings.{IsFiring, number_of}
-use Rattle.firing_reader.specs.Trace.{IsTrace, last_number}
+use Rattle.firings.specs.declared.firing.Firing.{Firing}
+use Rattle.firings.specs.Ends.{begin_of, end_of}
+use Rattle.firings.specs.Firings.{IsFiring, number_of}
+use Rattle.firings.specs.Firings.{IsTrace, last_number}
 use Rattle.replay_core.specs.Exit.{firings_over, up_to}
 use Rattle.replay_core.specs.Meaning.{Threads, exit_of, history, firing_result, threads_after}
 use Rattle.replay_core.specs.Meaning.{blank_threads}

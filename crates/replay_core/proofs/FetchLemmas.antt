@@ -6,10 +6,10 @@ use Rattle.std.specs.Borrow.{Bor}
 use Rattle.std.proofs.lemmas.List.Concat.{flat_map-append}
 use Rattle.std.proofs.lemmas.List.Elements.{filter-append}
 use Rattle.std.proofs.lemmas.Option.{slice_get-get_or, slice_get-map}
-use Rattle.firing_reader.specs.declared.firing.Firing.{Firing}
-use Rattle.firing_reader.specs.Firings.{HasRanges, IsFiring}
-use Rattle.firing_reader.specs.Stored.{row_before}
-use Rattle.firing_reader.specs.Trace.{IsTrace}
+use Rattle.firings.specs.declared.firing.Firing.{Firing}
+use Rattle.firings.specs.Firings.{HasRanges, IsFiring}
+use Rattle.firings.specs.Stored.{row_before}
+use Rattle.firings.specs.Firings.{IsTrace}
 use Rattle.replay_core.specs.declared.span.Span.{Span}
 use Rattle.replay_core.specs.Selecting.{lent}
 use Rattle.replay_core.specs.Working.{is_in}

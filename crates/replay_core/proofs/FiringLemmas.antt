@@ -14,8 +14,8 @@ use Rattle.d_types.specs.Clauses.{Made, run_of}
 use Rattle.d_types.specs.Clauses.{and_then}
 use Rattle.d_types.specs.Storage.{Variables}
 use Rattle.d_types.specs.Typed.{ClauseMeant, ScriptMeant}
-use Rattle.firing_reader.specs.declared.firing.Firing.{Firing}
-use Rattle.firing_reader.specs.declared.unit.Probe.{Probe}
+use Rattle.firings.specs.declared.firing.Firing.{Firing}
+use Rattle.firings.specs.declared.unit.Probe.{Probe}
 use Rattle.replay_core.specs.Lanes.{GoesOnBy, Notes}
 use Rattle.replay_core.specs.Meaning.{Threads, clauses_for, history, in_turn}
 use Rattle.replay_core.specs.Meaning.{firing_result}

@@ -8,7 +8,7 @@ use Rattle.d_types.specs.Typed.{action_of, actions_of, typed_argument}
 use Rattle.d_types.specs.declared.typed.TypedExpr.{TypedExpr}
 use Rattle.d_types.specs.declared.typed.TypedStmt.{TypedStmt}
 use Rattle.d_types.specs.declared.typed.TypedStmt.TheVariants as s
-use Rattle.firing_reader.specs.declared.firing.Firing.{Firing}
+use Rattle.firings.specs.declared.firing.Firing.{Firing}
 use Rattle.replay_core.specs.Bounds.{place_in, places_among}
 use Rattle.replay_core.specs.Forms.{by_expressions, statement_form}
 

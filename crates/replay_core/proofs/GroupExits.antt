@@ -7,7 +7,7 @@ use Rattle.std.specs.Option.{option_or}
 use Rattle.std.specs.List.{range_with_len}
 use Rattle.std.proofs.lemmas.Bool.{cases_eq, le-ltb, lt-ltb}
 use Rattle.d_types.specs.Clauses.{Made}
-use Rattle.firing_reader.specs.declared.firing.Firing.{Firing}
+use Rattle.firings.specs.declared.firing.Firing.{Firing}
 use Rattle.replay_core.specs.Meaning.{exit_of}
 use Rattle.replay_core.specs.Uniting.{sooner, first_exit}
 use Rattle.replay_core.proofs.GroupSums.{truth, AllIn, own_group, part, passed, taken}

@@ -7,8 +7,8 @@ use Rattle.std.specs.List.Sorted.{IsStrictlyIncreasing}
 use Rattle.std.proofs.lemmas.Bool.{cases_eq}
 use Rattle.d_types.specs.Typed.{ScriptMeant}
 use Rattle.d_types.specs.Clauses.{Made}
-use Rattle.firing_reader.specs.declared.firing.Firing.{Firing}
-use Rattle.firing_reader.specs.Firings.{number_of}
+use Rattle.firings.specs.declared.firing.Firing.{Firing}
+use Rattle.firings.specs.Firings.{number_of}
 use Rattle.replay_core.specs.Groups.{Grouping, AreGrouped, is_group}
 use Rattle.replay_core.specs.Meaning.{Threads, history, texts_of, threads_after}
 use Rattle.replay_core.specs.Uniting.{with_number, AllFrom, InOrder}

@@ -6,8 +6,8 @@ use Rattle.std.specs.Option.{option_or}
 use Rattle.std.proofs.Common.{refl, sym, ap, ◌∙◌, subst, ⊎_elim, inl, inr, arith}
 use Rattle.d_types.specs.Clauses.{Made}
 use Rattle.d_types.specs.Typed.{ScriptMeant}
-use Rattle.firing_reader.specs.declared.firing.Firing.{Firing}
-use Rattle.firing_reader.specs.Firings.{number_of}
+use Rattle.firings.specs.declared.firing.Firing.{Firing}
+use Rattle.firings.specs.Firings.{number_of}
 use Rattle.replay_core.specs.Exit.{IsLeastExit, exits_of}
 use Rattle.replay_core.specs.Meaning.{Threads, exit_of, history, firing_result, threads_after}
 use Rattle.replay_core.proofs.ExitLemmas.{Rises, rises_is}

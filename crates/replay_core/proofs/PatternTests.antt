@@ -6,7 +6,7 @@ use Rattle.std.specs.Prelude.{not, IsTrue}
 use Rattle.std.specs.List.{list_all, zip}
 use Rattle.std.proofs.lemmas.Bool.Decides.{Decides-eqb}
 use Rattle.d_parser.specs.declared.tree.Description.{Description}
-use Rattle.firing_reader.specs.declared.unit.Probe.{Probe}
+use Rattle.firings.specs.declared.unit.Probe.{Probe}
 use Rattle.replay_core.specs.Patterns.{Selects, selects, Takes, Matches, MatchesField, star}
 use Rattle.replay_core.specs.Patterns.{question, is_same_or_question, passes_after}
 use Rattle.replay_core.specs.Steps.Patterns.{is_plain}

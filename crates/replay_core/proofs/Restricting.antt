@@ -6,7 +6,7 @@ use Rattle.std.specs.Ordering.{int_eq}
 use Rattle.std.proofs.lemmas.Bool.Decides.{Decides-int_eq}
 use Rattle.d_types.specs.Typed.{ScriptMeant}
 use Rattle.d_types.specs.Clauses.{Made}
-use Rattle.firing_reader.specs.declared.firing.Firing.{Firing}
+use Rattle.firings.specs.declared.firing.Firing.{Firing}
 use Rattle.replay_core.specs.Groups.{Grouping, is_group}
 use Rattle.replay_core.specs.Meaning.{Threads, history, firing_result, threads_after, blank_threads}
 use Rattle.replay_core.specs.Uniting.{group_history, results_in_group}

@@ -3,10 +3,10 @@ use Rattle.std.proofs.Common.{◌≡◌, ◌≢◌, ◌≤◌, ℕ, List, All, O
 use Rattle.std.proofs.Common.{option_map, refl, sym, ap, ◌∙◌, subst, unwrap_or}
 use Rattle.std.specs.List.Sorted.{IsStrictlyIncreasing}
 use Rattle.d_types.specs.Typed.{ScriptMeant, has_exit}
-use Rattle.firing_reader.specs.declared.firing.Firing.{Firing}
-use Rattle.firing_reader.specs.Ends.{end_of, with_ends}
-use Rattle.firing_reader.specs.Firings.{number_of}
-use Rattle.firing_reader.specs.Trace.{IsTrace}
+use Rattle.firings.specs.declared.firing.Firing.{Firing}
+use Rattle.firings.specs.Ends.{end_of, with_ends}
+use Rattle.firings.specs.Firings.{number_of}
+use Rattle.firings.specs.Firings.{IsTrace}
 use Rattle.shard_queue.specs.declared.groups.Groups.{Groups}
 use Rattle.shard_queue.specs.Groups.{AreOf, grouping}
 use Rattle.shard_queue.specs.Least.{no_number}

@@ -9,8 +9,8 @@ use Rattle.std.proofs.lemmas.List.{map-append}
 use Rattle.aggregations.specs.Table.{StandsFor, functions_of}
 use Rattle.d_types.specs.Clauses.{Made}
 use Rattle.d_types.specs.Typed.{ScriptMeant}
-use Rattle.firing_reader.specs.declared.firing.Firing.{Firing}
-use Rattle.firing_reader.specs.Firings.{number_of}
+use Rattle.firings.specs.declared.firing.Firing.{Firing}
+use Rattle.firings.specs.Firings.{number_of}
 use Rattle.replay_core.specs.Lanes.{Fires, LaneSeen}
 use Rattle.replay_core.specs.Meaning.{Threads, contributions_of, exit_of, history, firing_result}
 use Rattle.replay_core.specs.Meaning.{numbers_of, texts_of, threads_after, blank_threads}

@@ -4,8 +4,8 @@ use Rattle.std.specs.List.{flat_map, range_with_len}
 use Rattle.std.specs.List.Sorted.{IsStrictlyIncreasing}
 use Rattle.d_types.specs.Typed.{ScriptMeant}
 use Rattle.d_types.specs.Clauses.{Made}
-use Rattle.firing_reader.specs.declared.firing.Firing.{Firing}
-use Rattle.firing_reader.specs.Firings.{number_of}
+use Rattle.firings.specs.declared.firing.Firing.{Firing}
+use Rattle.firings.specs.Firings.{number_of}
 use Rattle.replay_core.specs.Groups.{Grouping, AreGrouped, over_groups}
 use Rattle.replay_core.specs.Meaning.{contributions_of, exit_of, history, numbers_of, texts_of}
 use Rattle.replay_core.specs.Meaning.{blank_threads}

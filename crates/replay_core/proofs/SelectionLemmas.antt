@@ -9,12 +9,12 @@ use Rattle.std.proofs.Common.{take}
 use Rattle.std.proofs.lemmas.List.{get_or-map, length-map, map-append, take_more}
 use Rattle.std.proofs.lemmas.List.Elements.{All-cons}
 use Rattle.std.proofs.lemmas.Option.{get_or_from_slice_get, slice_get-map, slice_get_within}
-use Rattle.firing_reader.specs.declared.unit.Probe.{Probe}
-use Rattle.firing_reader.specs.Ends.{begin_of, end_of, with_ends}
-use Rattle.firing_reader.specs.Stored.{ArePlaces, Extends}
-use Rattle.firing_reader.specs.declared.firing.Firing.{Firing}
-use Rattle.firing_reader.proofs.Placed.{place_more, placed}
-use Rattle.firing_reader.proofs.Stored.{named_at, named_in}
+use Rattle.firings.specs.declared.unit.Probe.{Probe}
+use Rattle.firings.specs.Ends.{begin_of, end_of, with_ends}
+use Rattle.firings.specs.Stored.{ArePlaces, Extends}
+use Rattle.firings.specs.declared.firing.Firing.{Firing}
+use Rattle.firings.proofs.Placed.{place_more, placed}
+use Rattle.firings.proofs.Stored.{named_at, named_in}
 use Rattle.d_types.specs.Typed.{ScriptMeant}
 use Rattle.replay_core.specs.Patterns.{probe_of}
 use Rattle.replay_core.specs.Selecting.{AreFor, lent, list_at, selected_for, selected_in}

@@ -18,7 +18,7 @@ use Rattle.d_types.specs.Held.{AreTyped, AreTypedOwn, HasTypedBuiltIns, Slots, s
 use Rattle.d_types.specs.Storage.{Variables, variables}
 use Rattle.d_types.specs.Typed.{ClauseMeant, ScriptMeant}
 use Rattle.d_types.proofs.FiringValues.{locals_unassigned}
-use Rattle.firing_reader.specs.declared.firing.Firing.{Firing}
+use Rattle.firings.specs.declared.firing.Firing.{Firing}
 use Rattle.replay_core.specs.declared.tables.Tables.{Tables}
 use Rattle.replay_core.specs.Steps.Caching.{IsTablesAt}
 use Rattle.replay_core.specs.Meaning.{Threads, at_start, clauses_for, in_turn, firing_result}

@@ -10,11 +10,11 @@ use Rattle.std.proofs.lemmas.List.{map-append}
 use Rattle.std.proofs.lemmas.List.Elements.{All-append, All-get_or}
 use Rattle.std.proofs.lemmas.Option.{slice_get-get_or}
 use Rattle.d_types.specs.Typed.{ScriptMeant}
-use Rattle.firing_reader.specs.declared.firing.Firing.{Firing}
-use Rattle.firing_reader.specs.Ends.{begin_of, end_of, with_ends}
-use Rattle.firing_reader.specs.Firings.{HasRanges, IsFiring, number_of, thread_of}
-use Rattle.firing_reader.specs.Trace.{IsTrace, last_number}
-use Rattle.firing_reader.proofs.EndRanges.{ends}
+use Rattle.firings.specs.declared.firing.Firing.{Firing}
+use Rattle.firings.specs.Ends.{begin_of, end_of, with_ends}
+use Rattle.firings.specs.Firings.{HasRanges, IsFiring, number_of, thread_of}
+use Rattle.firings.specs.Firings.{IsTrace, last_number}
+use Rattle.firings.proofs.EndRanges.{ends}
 use Rattle.shard_queue.specs.declared.groups.Groups.{Groups}
 use Rattle.shard_queue.specs.Groups.{AreOf, grouping}
 use Rattle.shard_queue.specs.Least.{no_number}

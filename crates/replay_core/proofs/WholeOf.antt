@@ -7,8 +7,8 @@ use Rattle.std.proofs.lemmas.List.Sorted.{All-permutation}
 use Rattle.aggregations.specs.Table.{StandsFor}
 use Rattle.aggregations.proofs.OrderLemmas.{stands_same}
 use Rattle.d_types.specs.Typed.{ScriptMeant}
-use Rattle.firing_reader.specs.declared.firing.Firing.{Firing}
-use Rattle.firing_reader.specs.Firings.{number_of}
+use Rattle.firings.specs.declared.firing.Firing.{Firing}
+use Rattle.firings.specs.Firings.{number_of}
 use Rattle.replay_core.specs.declared.piece.Piece.{Piece}
 use Rattle.replay_core.specs.declared.whole.Whole.{Whole}
 use Rattle.replay_core.specs.Groups.{AreGrouped, Grouping, of_group}

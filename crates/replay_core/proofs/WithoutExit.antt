@@ -13,9 +13,9 @@ use Rattle.d_types.specs.Storage.{Variables}
 use Rattle.d_types.specs.Expressions.{Outcome, Has, Faults, with, number_outcome}
 use Rattle.d_types.specs.Clauses.{Evaluation, Made, Ran, by_trees, effect_by, exit_in, effect_then}
 use Rattle.d_types.specs.Clauses.{argument_by, where_predicate, run_of, statements_by, where_true}
-use Rattle.firing_reader.specs.declared.firing.Firing.{Firing}
-use Rattle.firing_reader.specs.Ends.{begin_of, end_of, with_ends}
-use Rattle.firing_reader.specs.Trace.{IsTrace}
+use Rattle.firings.specs.declared.firing.Firing.{Firing}
+use Rattle.firings.specs.Ends.{begin_of, end_of, with_ends}
+use Rattle.firings.specs.Firings.{IsTrace}
 use Rattle.replay_core.specs.Exit.{exit_status, firings_over, history_over, up_to}
 use Rattle.replay_core.specs.Meaning.{Threads, clauses_for, exit_of, history, in_turn}
 use Rattle.replay_core.specs.Meaning.{firing_result, threads_after, blank_threads}

@@ -1,8 +1,8 @@
 -- Groups of threads, and what each has of a run.
 use Rattle.std.specs.Prelude.{ℕ, ◌<◌, List, All, IsSomeAnd, map}
 use Rattle.std.specs.List.{flat_map}
-use Rattle.firing_reader.specs.declared.firing.Firing.{Firing}
-use Rattle.firing_reader.specs.Firings.{number_of}
+use Rattle.firings.specs.declared.firing.Firing.{Firing}
+use Rattle.firings.specs.Firings.{number_of}
 pub use Rattle.shard_queue.specs.Numbers.{SameItems, IsAllBelow, below}
 pub use Rattle.shard_queue.specs.Groupings.{Grouping, is_group, of_group}
 

@@ -2,8 +2,8 @@
 -- Source: Dynamic Tracing Guide, "Probe Descriptions".
 use Rattle.std.specs.Prelude.{◌≡◌, ◌⊎◌, ◌==◌, ◌&&◌, ◌||◌, ℕ, Bool, true, false, if◌then◌else◌, List}
 use Rattle.std.specs.Prelude.{[], ◌∷◌, ◌++◌}
-pub use Rattle.firing_reader.specs.Probing.{probe_of}
-use Rattle.firing_reader.specs.declared.unit.Probe.{Probe}
+pub use Rattle.firings.specs.Probing.{probe_of}
+use Rattle.firings.specs.declared.unit.Probe.{Probe}
 use Rattle.d_parser.specs.declared.tree.Description.{Description}
 
 abbrev pub star : ℕ

@@ -2,7 +2,7 @@
 -- Source: Dynamic Tracing Guide, "Probe Descriptions".
 use Rattle.std.specs.Prelude.{ℕ, ◌+◌, List, [], ◌∷◌, ◌++◌, filter, map, flat_map, replicate}
 use Rattle.d_parser.specs.declared.tree.Description.{Description}
-use Rattle.firing_reader.specs.declared.unit.Probe.{Probe}
+use Rattle.firings.specs.declared.unit.Probe.{Probe}
 use Rattle.replay_core.specs.declared.clause_places.Repeat.{Repeat}
 use Rattle.replay_core.specs.Patterns.{selects}
 

@@ -1,7 +1,7 @@
 -- What a lane made of the firings that it was given.
 use Rattle.std.specs.Prelude.{◌≡◌, List, [], ◌∷◌}
 use Rattle.d_types.specs.Typed.{ScriptMeant}
-use Rattle.firing_reader.specs.declared.firing.Firing.{Firing}
+use Rattle.firings.specs.declared.firing.Firing.{Firing}
 use Rattle.replay_core.specs.Lanes.{LaneSeen}
 use Rattle.replay_core.specs.Meaning.{Threads, threads_after, blank_threads}
 use Rattle.replay_core.specs.Pieces.{IsPieceOf}

@@ -1,6 +1,6 @@
 -- How many firings a run has at most.
 use Rattle.std.specs.Prelude.{ℕ, ◌+◌}
-use Rattle.firing_reader.specs.declared.trace.TheConstants.{MOST_ROWS}
+use Rattle.firings.specs.declared.trace.TheConstants.{MOST_ROWS}
 
 -- BEGIN, the rows of a trace and END
 abbrev pub most_firings : ℕ

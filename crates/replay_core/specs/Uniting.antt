@@ -3,7 +3,7 @@ use Rattle.std.specs.Prelude.{◌≡◌, ℕ, ◌==◌, ◌≤◌, nat_lt, List,
 use Rattle.std.specs.Prelude.{Some, if◌then◌else◌}
 use Rattle.d_types.specs.Typed.{ScriptMeant}
 use Rattle.d_types.specs.Clauses.{Made}
-use Rattle.firing_reader.specs.declared.firing.Firing.{Firing}
+use Rattle.firings.specs.declared.firing.Firing.{Firing}
 use Rattle.replay_core.specs.Groups.{Grouping, SameItems, below, is_group, of_group, over_groups}
 use Rattle.replay_core.specs.Meaning.{blank_threads, history, texts_of, contributions_of}
 use Rattle.replay_core.specs.Meaning.{numbers_of, exit_of}

@@ -15,13 +15,13 @@ pub use Rattle.d_values.specs.declared.int_type.DType.{DType}
 pub use Rattle.d_values.specs.declared.key.KeyPart.{KeyPart}
 pub use Rattle.d_values.specs.declared.value.Value.{Value}
 pub use Rattle.d_values.specs.declared.variable.Var.{Var}
-pub use Rattle.firing_reader.specs.Ends.{begin_of, end_of, with_ends}
-pub use Rattle.firing_reader.specs.Firings.{HasRanges, number_of}
-pub use Rattle.firing_reader.specs.Stored.{ArePlaces, Extends, row_before}
-pub use Rattle.firing_reader.specs.Trace.{IsTrace}
-pub use Rattle.firing_reader.specs.declared.firing.Firing.{Firing}
+pub use Rattle.firings.specs.Ends.{begin_of, end_of, with_ends}
+pub use Rattle.firings.specs.Firings.{HasRanges, number_of}
+pub use Rattle.firings.specs.Stored.{ArePlaces, Extends, row_before}
+pub use Rattle.firings.specs.Firings.{IsTrace}
+pub use Rattle.firings.specs.declared.firing.Firing.{Firing}
 pub use Rattle.aggregations.specs.Lent.{key_of, part_of_lent}
-pub use Rattle.firing_reader.specs.declared.firing_rows.TheConstants.{MOST_TOGETHER}
+pub use Rattle.firings.specs.declared.firing_rows.TheConstants.{MOST_TOGETHER}
 pub use Rattle.aggregations.specs.Table.{Aggregation, Contribution, StandsFor, count_held}
 pub use Rattle.aggregations.specs.Table.{functions_of}
 pub use Rattle.aggregations.specs.declared.function.AggFn.{AggFn}

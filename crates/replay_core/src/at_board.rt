@@ -14,7 +14,7 @@ use crate::selection::Selections;
 use crate::span::Span;
 use crate::until::watch_on;
 use crate::worker::{WorkerInput, work_on};
-use firing_reader::Trace;
+use firings::Trace;
 use shard_queue::{ClaimBoard, ClaimSeat, Groups};
 use std::alloc::{AllocError, Global};
 use std::sync::Wait;

@@ -4,7 +4,7 @@ ghost use Rattle.std.specs.Prelude.{◌≡◌, ◌++◌, ◌∷◌, [], true, If
 ghost use Rattle.std.specs.Prelude.{filter, map, slice_get};
 ghost use Rattle.std.specs.Borrow.{Bor};
 ghost use Rattle.d_parser.specs.declared.tree.Description.{Description};
-ghost use Rattle.firing_reader.specs.Stored.{Extends};
+ghost use Rattle.firings.specs.Stored.{Extends};
 ghost use Rattle.replay_core.specs.Steps.Described.{HaveKinds, IsSameKind, IsTable, IsTableOf};
 ghost use Rattle.replay_core.specs.Steps.Described.{given_of, hash_of_description};
 ghost use Rattle.replay_core.specs.Steps.Described.{GiveSame, hash_of_probe, hash_sought, is_exact};
@@ -16,7 +16,7 @@ use crate::matching::{is_literal, is_selected};
 use crate::places::merge;
 use crate::sorting::{by_number, with_number};
 use d_parser::Description;
-use firing_reader::Probe;
+use firings::Probe;
 use keyed_hash::HashKey;
 use std::alloc::{AllocError, Global};
 use std::hash::{BuildHasher, Hasher};

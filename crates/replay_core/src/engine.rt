@@ -5,7 +5,7 @@ ghost use Rattle.std.specs.Prelude.{IsTrue, OnOk, is_some, length};
 
 use crate::clause_places::ClausePlaces;
 use crate::piece::Piece;
-use firing_reader::Firing;
+use firings::Firing;
 use std::alloc::AllocError;
 
 /// Runs firings for a script, in the order in which it is given them.

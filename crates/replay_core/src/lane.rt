@@ -19,7 +19,7 @@ use crate::selection::clauses_for;
 use crate::tables::Tables;
 use crate::threads::{Due, ThreadCache, run_on_thread};
 use aggregations::AggFn;
-use firing_reader::Firing;
+use firings::Firing;
 use indexmap::IndexMap;
 use keyed_hash::HashKey;
 use std::alloc::{AllocError, Global};

@@ -4,7 +4,7 @@ ghost use Rattle.std.specs.Prelude.{◌≡◌, IfOk, IsFalse, []};
 
 use crate::engine::Engine;
 use crate::selection::Selections;
-use firing_reader::Trace;
+use firings::Trace;
 use std::alloc::{AllocError, Global};
 
 /// Gives fresh lanes of one script.

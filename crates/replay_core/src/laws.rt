@@ -5,7 +5,7 @@ ghost use Rattle.replay_core.specs.Vocabulary.{AreOf, Description, Firing, Group
 ghost use Rattle.replay_core.specs.Vocabulary.{IsStrictlyIncreasing, IsTrace, ScriptMeant};
 ghost use Rattle.replay_core.specs.Vocabulary.{begin_of, grouping, has_exit, number_of};
 ghost use Rattle.replay_core.specs.Vocabulary.{run_threads, with_ends};
-ghost use Rattle.firing_reader.specs.declared.unit.Probe.{Probe};
+ghost use Rattle.firings.specs.declared.unit.Probe.{Probe};
 ghost use Rattle.replay_core.specs.declared.round.Round.{Round};
 ghost use Rattle.replay_core.specs.declared.span.Span.TheVariants as span;
 ghost use Rattle.replay_core.specs.AtBoard.{Gives, IsRound};

@@ -9,7 +9,7 @@ ghost use Rattle.replay_core.specs.Patterns.{selects};
 
 use d_parser::Description;
 use d_values::split_at_first;
-use firing_reader::Probe;
+use firings::Probe;
 
 /// Whether each field of the description matches the probe's.
 pub(crate) fn is_selected(description: &Description, probe: &Probe) -> bool

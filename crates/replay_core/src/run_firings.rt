@@ -4,7 +4,7 @@ ghost use Rattle.std.specs.Prelude.{◌≡◌, ◌<◌, ◌≤◌, Some, length,
 ghost use Rattle.replay_core.specs.{Sizes.most_firings, Vocabulary.HasRanges, Vocabulary.with_ends};
 ghost use Rattle.replay_core.specs.Vocabulary.{IsTrace, row_before};
 
-use firing_reader::{Firing, FiringRows, Trace};
+use firings::{Firing, FiringRows, Trace};
 
 /// The firing of a run over a trace at a place: BEGIN has place 0, the rows follow, and END is the
 /// last.

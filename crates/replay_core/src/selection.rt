@@ -15,7 +15,7 @@ use crate::clause_lists::ClauseLists;
 use crate::clause_places::ClausePlaces;
 use crate::description_table::DescriptionTable;
 use d_parser::Description;
-use firing_reader::{Firing, MOST_TOGETHER, Probe, ProbePlaces, Text, Trace};
+use firings::{Firing, MOST_TOGETHER, Probe, ProbePlaces, Text, Trace};
 use keyed_hash::HashKey;
 use std::alloc::{AllocError, Global};
 use std::marker::Model;

@@ -2,7 +2,7 @@
 
 ghost use Rattle.std.specs.Prelude.{◌≡◌};
 
-use firing_reader::Firing;
+use firings::Firing;
 
 /// Which firings of a run count.
 #[derive(Clone, Copy)]

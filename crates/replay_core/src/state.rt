@@ -2,7 +2,7 @@
 
 use crate::evaluation::Spare;
 use crate::tables::Tables;
-use firing_reader::Firing;
+use firings::Firing;
 use std::alloc::Global;
 
 /// What an evaluation sees and changes: a firing, the variables of its thread, and what is spare.

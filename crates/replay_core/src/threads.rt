@@ -20,7 +20,7 @@ use crate::piece::Piece;
 use crate::state::State;
 use crate::tables::Tables;
 use d_lexer::MOST_BYTES;
-use firing_reader::Firing;
+use firings::Firing;
 use indexmap::IndexMap;
 use keyed_hash::{DirectMapped, HashKey};
 use std::alloc::AllocError;

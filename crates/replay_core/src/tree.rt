@@ -9,7 +9,7 @@ use crate::lane::Lane;
 use crate::lanes::Lanes;
 use crate::selection::{Selections, select};
 use d_types::{TypedClause, TypedScript};
-use firing_reader::Trace;
+use firings::Trace;
 use keyed_hash::HashKey;
 use std::alloc::{AllocError, Global};
 

@@ -18,7 +18,7 @@ use crate::piece::Piece;
 use crate::run_firings::firing_at;
 use crate::source::Exits;
 use crate::worker::{WorkerInput, fire};
-use firing_reader::{Firing, Trace};
+use firings::{Firing, Trace};
 use shard_queue::Groups;
 use std::alloc::{AllocError, Global};
 use std::sync::Wait;

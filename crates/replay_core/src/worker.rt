@@ -20,7 +20,7 @@ use crate::run_firings::read_at;
 use crate::selection::Selections;
 use crate::source::Source;
 use crate::span::Span;
-use firing_reader::{Firing, MOST_TOGETHER, Trace};
+use firings::{Firing, MOST_TOGETHER, Trace};
 use shard_queue::Groups;
 use std::alloc::{AllocError, Global};
 use std::sync::Wait;

@@ -17,7 +17,7 @@ use crate::round::{Round, in_round};
 use crate::span::Span;
 use crate::whole::Whole;
 use crate::worker::WorkerInput;
-use firing_reader::Trace;
+use firings::Trace;
 use shard_queue::{Groups, MOST_GROUPS, MOST_WORKERS};
 use std::alloc::{AllocError, Global};
 use std::sync::Wait;

@@ -3,7 +3,8 @@
 use crate::replays::FOUR_HITS;
 use consumer::{Refusal, read_script};
 use d_types::{TypedScript, check};
-use firing_reader::{Trace, read_trace};
+use firing_reader::read_trace;
+use firings::Trace;
 use replay_core::{OpenGate, Piece, TreeLanes, work, work_until};
 use shard_queue::{ClaimBoard, Groups};
 use std::alloc::{AllocError, Global};

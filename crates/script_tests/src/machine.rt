@@ -2,7 +2,7 @@
 use d_values::{ClauseLocals, Key, Kind, Text, ThreadTable, Value, ValueRef, Var};
 use dif_machine::{Frame, MachineFault, run, run_in};
 use dif_validate::{Condition, Difo, Function, Instr, Operator, Reg, ValidDifo, validate};
-use firing_reader::{Args, Firing, Text as Recorded};
+use firings::{Args, Firing, Text as Recorded};
 use std::alloc::{AllocError, Global};
 use std::process::Abort;
 use std::test::Fail;

@@ -13,10 +13,10 @@ use Rattle.std.proofs.lemmas.List.Elements.{All-append}
 use Rattle.std.proofs.lemmas.List.Folds.{list_any_at}
 use Rattle.std.proofs.lemmas.Grind.{get_or-set_at}
 use Rattle.std.proofs.lemmas.Option.{get_or_from_slice_get, slice_get-map}
-use Rattle.firing_reader.specs.declared.firing.Firing.{Firing}
-use Rattle.firing_reader.specs.Firings.{thread_of}
-use Rattle.firing_reader.specs.Stored.{ArePlaces}
-use Rattle.firing_reader.proofs.Placed.{placed as at_places}
+use Rattle.firings.specs.declared.firing.Firing.{Firing}
+use Rattle.firings.specs.Firings.{thread_of}
+use Rattle.firings.specs.Stored.{ArePlaces}
+use Rattle.firings.proofs.Placed.{placed as at_places}
 use Rattle.shard_queue.specs.Threads.{thread_zero, run_threads, has}
 use Rattle.shard_queue.specs.Groups.{places_from}
 use Rattle.shard_queue.proofs.Lists.{all_tail, drop_next}

@@ -9,8 +9,8 @@ use Rattle.std.specs.Prelude.{ℤ, All}
 use Rattle.std.specs.List.{range_with_len}
 use Rattle.std.proofs.lemmas.List.Sums.{sum_by-cons, sum_by-append}
 use Rattle.std.proofs.lemmas.List.Concat.{flat_map-append}
-use Rattle.firing_reader.specs.declared.firing.Firing.{Firing}
-use Rattle.firing_reader.specs.Firings.{thread_of}
+use Rattle.firings.specs.declared.firing.Firing.{Firing}
+use Rattle.firings.specs.Firings.{thread_of}
 use Rattle.shard_queue.specs.Numbers.{below, IsAllBelow}
 use Rattle.shard_queue.specs.Groupings.{Grouping, is_group, of_group, places_from, places_of}
 use Rattle.shard_queue.proofs.Lists.{all_tail}

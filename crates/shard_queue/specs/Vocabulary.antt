@@ -8,8 +8,8 @@ pub use Rattle.std.specs.Option.{option_or}
 pub use Rattle.std.specs.Ordering.{int_cmp, int_eq}
 pub use Rattle.std.specs.declared.alloc.Global.{Global}
 pub use Rattle.crossbeam_queue.specs.Passes.{IsPassOf, Pass, view as pass_view}
-pub use Rattle.firing_reader.specs.Firings.{thread_of}
-pub use Rattle.firing_reader.specs.declared.firing.Firing.{Firing}
+pub use Rattle.firings.specs.Firings.{thread_of}
+pub use Rattle.firings.specs.declared.firing.Firing.{Firing}
 pub use Rattle.shard_queue.specs.declared.fault.GroupFault.{GroupFault}
 pub use Rattle.shard_queue.specs.declared.fault.GroupFault.TheVariants.{Missing, Doubled, Stranger}
 pub use Rattle.shard_queue.specs.declared.fault.GroupFault.TheVariants.{TooMany, Memory}

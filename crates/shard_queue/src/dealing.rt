@@ -5,7 +5,7 @@ ghost use Rattle.shard_queue.specs.{Groupings.IsDealt, Numbers.below, Threads.ru
 ghost use Rattle.shard_queue.specs.Groups.{AreOf, grouping};
 
 use crate::groups::{Groups, MOST_GROUPS};
-use firing_reader::Trace;
+use firings::Trace;
 use std::alloc::{AllocError, Global};
 
 impl Groups {

@@ -8,7 +8,7 @@ ghost use Rattle.shard_queue.specs.Groups.{AreOf, grouping, places};
 ghost use Rattle.shard_queue.specs.Threads.{AreThreads, run_threads};
 
 use crate::groups::{Groups, MOST_GROUPS};
-use firing_reader::{Firings, MOST_ROWS, OwnerPlaces, Trace};
+use firings::{Firings, MOST_ROWS, OwnerPlaces, Trace};
 use std::alloc::{AllocError, Global};
 
 impl Groups {

@@ -15,7 +15,7 @@ ghost use Rattle.shard_queue.specs.Vocabulary.{int_cmp};
 use crate::fault::GroupFault;
 use crate::groups::{Groups, MOST_GROUPS};
 use crate::threads::place_of;
-use firing_reader::Trace;
+use firings::Trace;
 use std::alloc::{AllocError, Global};
 
 impl Groups {

@@ -5,7 +5,8 @@ use crate::drawn_traces::{Chance, drawn_trace};
 use crate::traces::{
     HEADER, MIXED, OTHER_HEADER, QUOTED_HEADER, SECOND, is_read, is_same, whole_trace,
 };
-use firing_reader::{Reader, Trace, TraceFault, read_trace};
+use firing_reader::{Reader, TraceFault, read_trace};
+use firings::Trace;
 use keyed_hash::HashKey;
 use std::alloc::{AllocError, Global};
 use std::test::Fail;

@@ -4,7 +4,8 @@ ghost use Rattle.std.specs.Prelude.{◌≡◌, ◌<◌, ◌≤◌, All, IfOk, ve
 ghost use Rattle.shard_queue.specs.Boards.{IsAt};
 ghost use Rattle.shard_queue.specs.Queues.{IsIn};
 
-use firing_reader::{Trace, TraceFault, read_trace};
+use firing_reader::{TraceFault, read_trace};
+use firings::Trace;
 use shard_queue::{ClaimBoard, ClaimSeat, GroupFault, GroupQueue, Groups, QueueSeat};
 use std::alloc::{AllocError, Global};
 use std::process::Abort;

@@ -1,6 +1,7 @@
 -- The beginning of a trace whose rest comes in later blocks.
 use Rattle.std.specs.Prelude.{◌≡◌, ◌⊎◌, ℕ, List, ◌++◌, Result, Err}
-use Rattle.firing_reader.specs.Vocabulary.{TraceFault, Firing, Memory}
+use Rattle.firing_reader.specs.Vocabulary.{TraceFault, Memory}
+use Rattle.firings.specs.declared.firing.Firing.{Firing}
 use Rattle.firing_reader.specs.Plain.{rows_in}
 use Rattle.firing_reader.specs.Trace.{trace_of}
 use Rattle.firing_reader.specs.Blocks.{AreRead, BeginsAtFeed}

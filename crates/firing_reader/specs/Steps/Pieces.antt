@@ -1,7 +1,7 @@
 -- Rows that wait in pieces, and that are added to the firings before them.
 use Rattle.std.specs.Prelude.{◌≡◌, ℕ, List, [], ◌∷◌}
 use Rattle.firing_reader.specs.declared.pieces.Piece.{Piece}
-use Rattle.firing_reader.specs.Vocabulary.{Firing}
+use Rattle.firings.specs.declared.firing.Firing.{Firing}
 use Rattle.firing_reader.specs.Blocks.{BeginsAtFeed}
 use Rattle.firing_reader.specs.Pieces.{ArePieces}
 use Rattle.firing_reader.specs.Steps.Plain.{GoesOn}

@@ -2,10 +2,12 @@
 use Rattle.std.specs.Prelude.{◌≡◌, ◌≢◌, ◌<◌, ◌≤◌, ℕ, List, [], ◌∷◌, ◌++◌, All, Some, codes, map, Ok}
 use Rattle.std.specs.Prelude.{ℤ, ◌+◌, ◌^◌, drop, length}
 use Rattle.csv.specs.declared.parser.State.{State}
-use Rattle.firing_reader.specs.Vocabulary.{next_record, default_config, Firing, MOST_ROWS}
+use Rattle.firing_reader.specs.Vocabulary.{next_record, default_config}
+use Rattle.firings.specs.declared.firing.Firing.{Firing}
+use Rattle.firings.specs.declared.trace.TheConstants.{MOST_ROWS}
 use Rattle.firing_reader.specs.{Left.left_in, Pieces.Rises}
 use Rattle.firing_reader.specs.Column.{signed_of}
-use Rattle.firing_reader.specs.Trace.{last_number}
+use Rattle.firings.specs.Firings.{last_number}
 use Rattle.firing_reader.specs.Plain.{IsEnd, Passes, ReadsRows, rows_after, state_after}
 use Rattle.firing_reader.specs.Plain.{whole_of}
 

@@ -1,9 +1,9 @@
 -- Owners of firings, and rows of one piece, moved after those of another.
 use Rattle.std.specs.Prelude.{◌<◌, ◌+◌, ◌^◌, ℕ, List, length, get_or}
-use Rattle.firing_reader.specs.declared.firing.Firing.{Firing}
-use Rattle.firing_reader.specs.declared.stored_row.Row.{Row}
-use Rattle.firing_reader.specs.declared.unit.Owner.{Owner}
-use Rattle.firing_reader.specs.Stored.{first_of, moved_given}
+use Rattle.firings.specs.declared.firing.Firing.{Firing}
+use Rattle.firings.specs.declared.stored_row.Row.{Row}
+use Rattle.firings.specs.declared.unit.Owner.{Owner}
+use Rattle.firings.specs.Stored.{first_of, moved_given}
 
 -- who fired
 abbrev pub owner_of : Firing → Owner

@@ -4,12 +4,13 @@ ghost use Rattle.std.specs.Prelude.{◌≡◌, ◌≤◌, ◌∷◌, ◌++◌, [
 ghost use Rattle.std.specs.Prelude.{MatchOption, length, take};
 ghost use Rattle.firing_reader.specs.Steps.{Arguments.EndsAlike, Plain.Closes};
 ghost use Rattle.firing_reader.specs.Steps.{Plain.ReadsArguments};
-ghost use Rattle.firing_reader.specs.{Arguments.ten, Column.signed_of, Plain.Passes};
-ghost use Rattle.firing_reader.specs.Stored.{Extends, IsGivenIn, given_in};
+ghost use Rattle.firings.specs.{Arguments.ten};
+ghost use Rattle.firing_reader.specs.{Column.signed_of, Plain.Passes};
+ghost use Rattle.firings.specs.Stored.{Extends, IsGivenIn, given_in};
 
 use super::field::{last_argument, next_argument};
 use super::front::{begins_at_end, rest_after};
-use crate::stored_row::Given;
+use firings::Given;
 use keyed_hash::is_same;
 
 // Ten arguments that are 0.

@@ -4,14 +4,15 @@
 ghost use Rattle.std.specs.Prelude.{◌≡◌, ◌<◌, ◌≤◌, ◌+◌, ◌*◌, ◌∷◌, [], ℕ, List, IfSome, Some};
 ghost use Rattle.std.specs.Prelude.{take, length};
 ghost use Rattle.std.specs.Str.Parse.{AllDigits, digits_value};
-ghost use Rattle.firing_reader.specs.Column.{signed_of, text_of};
+ghost use Rattle.firing_reader.specs.Column.{signed_of};
+ghost use Rattle.firings.specs.Texts.{text_of};
 ghost use Rattle.firing_reader.specs.Plain.{Passes, int_of, whole_of};
 ghost use Rattle.firing_reader.specs.Steps.Plain.{BeginsWith, Closes};
 
 use super::front::{after_comma, after_minus, begins_at_end, front, rest_after, word_front};
 use crate::columns::{negative, positive};
-use crate::text::{TEXT_LIMIT, Text};
 use core::dec2flt::read_digits;
+use firings::{TEXT_LIMIT, Text};
 
 // A number of this many digits fits in 64 bits. Csv reads one of more.
 const SHORT: usize = 19;

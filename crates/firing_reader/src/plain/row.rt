@@ -3,17 +3,16 @@
 ghost use Rattle.std.specs.Prelude.{◌<◌, IfSome, map};
 ghost use Rattle.firing_reader.specs.{Plain.ReadsRow};
 ghost use Rattle.firing_reader.specs.Steps.Plain.{BeginsRow};
-ghost use Rattle.firing_reader.specs.Stored.{Extends, IsRowIn, firing_in};
-ghost use Rattle.firing_reader.specs.Units.{owner_in, probe_in};
+ghost use Rattle.firings.specs.Stored.{Extends, IsRowIn, firing_in};
+ghost use Rattle.firings.specs.Units.{owner_in, probe_in};
 
 use super::arguments::read_arguments;
 use super::field::{int, whole};
 use super::front::{after_ends, starts_with_digit};
 use crate::owners::read_owner;
 use crate::probes::read_probe;
-use crate::stored_row::Row;
-use crate::unit::{OwnerEntry, ProbeEntry};
 use crate::unit_table::UnitTable;
+use firings::{OwnerEntry, ProbeEntry, Row};
 
 // The row after the end of the one before, and the bytes from its own end on. Its number has to be
 // above `last`. Its owner and its probe are added if they aren't there.

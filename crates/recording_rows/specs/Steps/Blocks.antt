@@ -3,9 +3,9 @@ use Rattle.std.specs.Prelude.{◌≡◌, ◌≤◌, ◌∷◌, ◌++◌, ℕ, Li
 use Rattle.std.specs.Io.KnownBytes.{Appends}
 use Rattle.std.specs.List.{AllZip}
 use Rattle.csv.specs.Writing.{default_writer, row_text}
-use Rattle.firing_reader.specs.Firings.{number_of}
-use Rattle.firing_reader.specs.Trace.{IsTrace}
-use Rattle.firing_reader.specs.declared.firing.Firing.{Firing}
+use Rattle.firings.specs.Firings.{number_of}
+use Rattle.firings.specs.Firings.{IsTrace}
+use Rattle.firings.specs.declared.firing.Firing.{Firing}
 use Rattle.firing_reader.specs.Written.{WritesFiring, WritesTrace}
 use Rattle.recording_rows.specs.declared.rows.Rows.{Rows}
 

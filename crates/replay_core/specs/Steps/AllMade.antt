@@ -3,7 +3,7 @@ use Rattle.std.specs.Prelude.{ℕ, ◌+◌, List, [], ◌∷◌, slice_get, Opti
 use Rattle.d_types.specs.Clauses.{Made, run_of, nothing_made, and_then}
 use Rattle.d_types.specs.Storage.{Variables}
 use Rattle.d_types.specs.Typed.{ClauseMeant}
-use Rattle.firing_reader.specs.declared.firing.Firing.{Firing}
+use Rattle.firings.specs.declared.firing.Firing.{Firing}
 
 -- a run of the clause that there is at a place
 abbrev pub run_at : Firing → ℕ → Option ClauseMeant → Variables → Made

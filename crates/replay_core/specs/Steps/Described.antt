@@ -6,7 +6,7 @@ use Rattle.std.specs.List.{list_all}
 use Rattle.keyed_hash.specs.Hashing.{after_bytes, hash_of}
 use Rattle.keyed_hash.specs.declared.hash_key.HashKey.{HashKey}
 use Rattle.d_parser.specs.declared.tree.Description.{Description}
-use Rattle.firing_reader.specs.declared.unit.Probe.{Probe}
+use Rattle.firings.specs.declared.unit.Probe.{Probe}
 use Rattle.replay_core.specs.declared.description_table.Described.{Described}
 use Rattle.replay_core.specs.declared.description_table.DescriptionTable.{DescriptionTable}
 use Rattle.replay_core.specs.Patterns.{selects}

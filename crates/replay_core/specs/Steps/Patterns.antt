@@ -1,6 +1,6 @@
 -- The bytes of a pattern that stand for themselves.
 use Rattle.std.specs.Prelude.{◌==◌, ◌&&◌, ℕ, Bool, not}
-pub use Rattle.firing_reader.specs.Probing.{probe_of}
+pub use Rattle.firings.specs.Probing.{probe_of}
 use Rattle.replay_core.specs.Patterns.{star, question}
 
 -- ---- the same as tests

@@ -9,7 +9,7 @@ ghost use Rattle.replay_core.specs.Vocabulary.{Variables};
 use crate::evaluation::fault::EvalFault;
 use d_types::BuiltIn;
 use d_values::{Text, Value};
-use firing_reader::Firing;
+use firings::Firing;
 use std::alloc::Global;
 
 /// The value of a built-in variable.

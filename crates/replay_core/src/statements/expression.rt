@@ -6,7 +6,7 @@ use crate::evaluation::{EvalFault, word_in};
 use crate::state::State;
 use crate::statements::lent_key::LentKey;
 use d_values::{DType, Key, Value};
-use firing_reader::Firing;
+use firings::Firing;
 use std::marker::Model;
 
 /// Arguments of `printf`, each with its type.

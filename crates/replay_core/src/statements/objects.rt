@@ -17,7 +17,7 @@ use crate::tables::Tables;
 use d_values::{DType, Key, Value, ValueRef};
 use dif_codegen::{Action, TypedObject};
 use dif_machine::{Frame, MachineFault, lent_load};
-use firing_reader::Firing;
+use firings::Firing;
 use std::alloc::AllocError;
 
 // A run of an object, which lends its value.

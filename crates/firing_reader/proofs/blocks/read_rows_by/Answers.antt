@@ -4,7 +4,8 @@ use Rattle.firing_reader.specs.Pieces.{unread}
 use Rattle.firing_reader.specs.Steps.Plain.{GoesOn}
 use Rattle.firing_reader.proofs.BlockSteps.{fault_after}
 use Rattle.firing_reader.proofs.PlainRows.{goes_first}
-use Rattle.firing_reader.proofs.WaitingRows.{Leads, adds_goes, adds_leads, adds_read, alone_after, fault_waiting}
+use Rattle.firing_reader.proofs.WaitingRows.{Leads, adds_goes, adds_leads, adds_read, alone_after}
+use Rattle.firing_reader.proofs.WaitingRows.{fault_waiting}
 use Rattle.firing_reader.proofs.WaitingRows.{keeps_left, waiting_leads}
 use Rattle.firing_reader.proofs.blocks.read_rows_by.Goals as goal
 use Rattle.firing_reader.proofs.blocks.read_rows_by.Goals.{then-not-is_empty+in_ok-read_pieces+else-len-le1}

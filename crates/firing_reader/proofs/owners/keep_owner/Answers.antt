@@ -1,8 +1,8 @@
 use Rattle.std.proofs.Common.{rules, ◌≡◌, refl, w32}
 use Rattle.std.proofs.lemmas.Int.{to_z-of_z}
-use Rattle.firing_reader.specs.declared.unit.OwnerEntry.{OwnerEntry}
+use Rattle.firings.specs.declared.unit.OwnerEntry.{OwnerEntry}
 use Rattle.firing_reader.specs.Steps.Stored.{owner_of}
-use Rattle.firing_reader.specs.Units.{owner_in}
+use Rattle.firings.specs.Units.{owner_in}
 use Rattle.firing_reader.proofs.Shared.{part_first, part_text, seen_extends, seen_kept}
 use Rattle.firing_reader.proofs.owners.keep_owner.Goals as goal
 

@@ -1,6 +1,6 @@
-use Rattle.firing_reader.specs.Units.{owner_in}
+use Rattle.firings.specs.Units.{owner_in}
 use Rattle.firing_reader.proofs.Shared.{owner_read, seen_extends}
-use Rattle.firing_reader.proofs.Stored.{seen_at}
+use Rattle.firings.proofs.Stored.{seen_at}
 use Rattle.firing_reader.proofs.owners.read_owner.Goals as goal
 
 pub returns-in_err-place-clause-grows : goal.returns-in_err-place-clause-grows

@@ -1,7 +1,8 @@
-use Rattle.firing_reader.specs.declared.unit.ProbeEntry.{ProbeEntry}
-use Rattle.firing_reader.specs.Probing.{probe_of}
-use Rattle.firing_reader.specs.Units.{probe_in}
-use Rattle.firing_reader.proofs.Shared.{AreLong, AreTexts, probe_is, probe_kept, probe_texts_in, seen_extends}
+use Rattle.firings.specs.declared.unit.ProbeEntry.{ProbeEntry}
+use Rattle.firings.specs.Probing.{probe_of}
+use Rattle.firings.specs.Units.{probe_in}
+use Rattle.firing_reader.proofs.Shared.{AreLong, AreTexts, probe_is, probe_kept, probe_texts_in}
+use Rattle.firing_reader.proofs.Shared.{seen_extends}
 use Rattle.firing_reader.proofs.Shared.{seen_kept}
 use Rattle.firing_reader.proofs.probes.keep_probe.Goals as goal
 

@@ -2,7 +2,7 @@ use Rattle.std.proofs.Common.{arith, inr, length-append, ◌∷◌, []}
 use Rattle.std.proofs.lemmas.Result.{err_from_is_err_and}
 use Rattle.csv.specs.Records.{fields_of}
 use Rattle.firing_reader.specs.Plain.{rows_after}
-use Rattle.firing_reader.specs.Trace.{last_number}
+use Rattle.firings.specs.Firings.{last_number}
 use Rattle.firing_reader.proofs.Rows.{goes_on, stops, ends, is_full, last_push}
 use Rattle.firing_reader.proofs.reading.read_rows.Goals as goal
 

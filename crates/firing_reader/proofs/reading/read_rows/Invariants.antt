@@ -1,6 +1,7 @@
 use Rattle.std.proofs.Common.{◌≡◌, ◌+◌, length}
 use Rattle.firing_reader.specs.Plain.{rows_after, with_front}
-use Rattle.firing_reader.specs.Trace.{last_number, rows_of}
+use Rattle.firings.specs.Firings.{last_number}
+use Rattle.firing_reader.specs.Trace.{rows_of}
 use Rattle.firing_reader.proofs.reading.read_rows.Given as goal
 
 abbrev pub invariant-loop-row : goal.invariant-loop-row

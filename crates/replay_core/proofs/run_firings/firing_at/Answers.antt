@@ -1,8 +1,8 @@
 use Rattle.std.proofs.Common.{◌≡◌, ◌-◌, ◌+◌, ◌∷◌, [], ◌∙◌, Some, ap, length, slice_get, sym, subst, arith}
 use Rattle.std.proofs.lemmas.List.{length-append}
-use Rattle.firing_reader.specs.Ends.{end_of}
-use Rattle.firing_reader.specs.Firings.{HasRanges, IsFiring}
-use Rattle.firing_reader.proofs.EndRanges.{ends}
+use Rattle.firings.specs.Ends.{end_of}
+use Rattle.firings.specs.Firings.{HasRanges, IsFiring}
+use Rattle.firings.proofs.EndRanges.{ends}
 use Rattle.replay_core.proofs.TraceRuns.{at_end, at_row, run_few}
 use Rattle.replay_core.proofs.WorkSteps.{at_of}
 use Rattle.replay_core.proofs.run_firings.firing_at.Goals as goal

@@ -1,5 +1,5 @@
 use Rattle.std.proofs.Common.{◌≡◌, Some, sym, ◌∙◌}
-use Rattle.firing_reader.specs.Stored.{row_before}
+use Rattle.firings.specs.Stored.{row_before}
 use Rattle.replay_core.proofs.FetchLemmas.{row_at, row_ranges}
 use Rattle.replay_core.proofs.run_firings.read_at.Goals as goal
 

@@ -1,7 +1,7 @@
 use Rattle.std.proofs.Common.{◌≡◌, ◌+◌, Some, arith, map, subst, sym, take}
 use Rattle.std.specs.Prelude.{slice_get}
-use Rattle.firing_reader.proofs.Stored.{extends_more}
-use Rattle.firing_reader.specs.Stored.{ArePlaces}
+use Rattle.firings.proofs.Stored.{extends_more}
+use Rattle.firings.specs.Stored.{ArePlaces}
 use Rattle.replay_core.specs.Places.{places_for}
 use Rattle.replay_core.proofs.SelectionLemmas.{lists_more}
 use Rattle.replay_core.proofs.selection.lists_for.Goals as goal

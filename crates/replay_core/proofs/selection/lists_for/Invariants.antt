@@ -1,6 +1,6 @@
 use Rattle.std.proofs.Common.{◌≡◌, List, length, map, take}
 use Rattle.d_parser.specs.declared.tree.Description.{Description}
-use Rattle.firing_reader.specs.Stored.{ArePlaces, Extends}
+use Rattle.firings.specs.Stored.{ArePlaces, Extends}
 use Rattle.replay_core.specs.Steps.Described.{IsTableOf}
 use Rattle.replay_core.specs.Places.{places_for}
 use Rattle.replay_core.proofs.selection.lists_for.Given as goal

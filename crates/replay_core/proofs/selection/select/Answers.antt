@@ -1,7 +1,7 @@
 use Rattle.std.specs.Prelude.{◌≤◌, All, length, map, sum_by}
 use Rattle.std.proofs.Common.{arith, ap, inr, subst, sym, ◌∙◌}
 use Rattle.d_types.specs.Held.{slots_of}
-use Rattle.firing_reader.specs.Ends.{with_ends}
+use Rattle.firings.specs.Ends.{with_ends}
 use Rattle.replay_core.specs.Patterns.{probe_of}
 use Rattle.replay_core.specs.Places.{places_for}
 use Rattle.replay_core.proofs.FiringLemmas.{places_few}

@@ -1,6 +1,6 @@
 use Rattle.std.proofs.Common.{◌<◌, sym, ap, ◌∙◌, subst, refl, length, All, ℕ, List, arith}
-use Rattle.firing_reader.specs.declared.firing.Firing.{Firing}
-use Rattle.firing_reader.specs.Ends.{with_ends}
+use Rattle.firings.specs.declared.firing.Firing.{Firing}
+use Rattle.firings.specs.Ends.{with_ends}
 use Rattle.shard_queue.specs.Groups.{grouping}
 use Rattle.shard_queue.specs.Groupings.{places_of}
 use Rattle.replay_core.specs.Beginnings.{lesser_of}

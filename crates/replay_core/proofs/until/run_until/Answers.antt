@@ -2,9 +2,9 @@ use Rattle.std.proofs.Common.{rules, ◌≡◌, ◌+◌, ◌<◌, [], ◌∷◌,
 use Rattle.std.proofs.Common.{get_or, min, sym, ap, ◌∙◌, subst, append_assoc, List}
 use Rattle.std.specs.Prelude.{slice_index}
 use Rattle.std.proofs.lemmas.List.{get_or_default, length-map}
-use Rattle.firing_reader.specs.declared.firing.Firing.{Firing}
-use Rattle.firing_reader.specs.Ends.{with_ends}
-use Rattle.firing_reader.specs.Firings.{number_of}
+use Rattle.firings.specs.declared.firing.Firing.{Firing}
+use Rattle.firings.specs.Ends.{with_ends}
+use Rattle.firings.specs.Firings.{number_of}
 use Rattle.replay_core.specs.Beginnings.{exit_over, lesser_of}
 use Rattle.replay_core.specs.Running.{IsLaneOf}
 use Rattle.replay_core.specs.Steps.Working.{firings_at}

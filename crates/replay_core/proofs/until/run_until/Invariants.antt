@@ -1,7 +1,7 @@
 use Rattle.std.proofs.Common.{◌≡◌, ◌≤◌, None, take}
 use Rattle.std.specs.Prelude.{IsFalse}
 use Rattle.d_types.specs.Typed.{ScriptMeant}
-use Rattle.firing_reader.specs.Ends.{with_ends}
+use Rattle.firings.specs.Ends.{with_ends}
 use Rattle.replay_core.specs.Beginnings.{exit_over}
 use Rattle.replay_core.specs.Running.{IsLaneOf}
 use Rattle.replay_core.specs.Selecting.{AreFor}

@@ -1,5 +1,5 @@
 use Rattle.std.proofs.Common.{◌≤◌, sym, ap, ◌∙◌, arith}
-use Rattle.firing_reader.specs.Ends.{with_ends}
+use Rattle.firings.specs.Ends.{with_ends}
 use Rattle.shard_queue.specs.Groups.{grouping}
 use Rattle.shard_queue.proofs.Lists.{all_push}
 use Rattle.replay_core.specs.Beginnings.{IsBegunOf, least_exit, lesser_of}

@@ -1,5 +1,5 @@
 use Rattle.std.proofs.Common.{◌≡◌, map}
-use Rattle.firing_reader.specs.Ends.{with_ends}
+use Rattle.firings.specs.Ends.{with_ends}
 use Rattle.shard_queue.specs.Groups.{grouping}
 use Rattle.replay_core.specs.Beginnings.{AreBegun, least_exit}
 use Rattle.replay_core.proofs.until.watch_on.Given as goal

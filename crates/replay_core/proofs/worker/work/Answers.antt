@@ -1,7 +1,7 @@
 use Rattle.std.proofs.Common.{subst, List}
 use Rattle.std.proofs.lemmas.Result.{IfOk-weaker}
-use Rattle.firing_reader.specs.Ends.{with_ends}
-use Rattle.firing_reader.specs.declared.firing.Firing.{Firing}
+use Rattle.firings.specs.Ends.{with_ends}
+use Rattle.firings.specs.declared.firing.Firing.{Firing}
 use Rattle.shard_queue.specs.Groups.{grouping}
 use Rattle.replay_core.specs.Working.{AreOfGroups}
 use Rattle.replay_core.proofs.TraceRuns.{all_count}

@@ -1,7 +1,7 @@
 use Rattle.std.proofs.Common.{◌≡◌, ◌+◌, ap, sym, ◌∙◌}
 use Rattle.std.proofs.lemmas.Result.{IfOk-weaker}
-use Rattle.firing_reader.specs.Ends.{end_of}
-use Rattle.firing_reader.specs.Trace.{last_number}
+use Rattle.firings.specs.Ends.{end_of}
+use Rattle.firings.specs.Firings.{last_number}
 use Rattle.replay_core.proofs.Rounds.{plain_round}
 use Rattle.replay_core.proofs.workers.in_needed_rounds.Goals as goal
 

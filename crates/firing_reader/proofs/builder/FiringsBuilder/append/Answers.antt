@@ -1,5 +1,5 @@
 use Rattle.std.proofs.Common.{map, ◌≡◌, ◌<◌, ◌^◌, ◌++◌, length}
-use Rattle.firing_reader.specs.Units.{owner_in, probe_in}
+use Rattle.firings.specs.Units.{owner_in, probe_in}
 use Rattle.firing_reader.proofs.Moved.{all_movable, appended_in, appended_same}
 use Rattle.firing_reader.proofs.Shared.{seen_extends, seen_places}
 use Rattle.firing_reader.proofs.builder.FiringsBuilder.append.Goals as goal

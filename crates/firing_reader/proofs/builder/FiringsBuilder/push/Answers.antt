@@ -1,13 +1,13 @@
 use Rattle.std.proofs.Common.{map, rules, ◌∙◌, refl, w32}
 use Rattle.std.proofs.lemmas.Int.{to_z-of_z}
-use Rattle.firing_reader.specs.declared.stored_row.Row.{Row}
-use Rattle.firing_reader.specs.declared.unit.Owner.{Owner}
-use Rattle.firing_reader.specs.declared.unit.Probe.{Probe}
-use Rattle.firing_reader.specs.Probing.{probe_of}
+use Rattle.firings.specs.declared.stored_row.Row.{Row}
+use Rattle.firings.specs.declared.unit.Owner.{Owner}
+use Rattle.firings.specs.declared.unit.Probe.{Probe}
+use Rattle.firings.specs.Probing.{probe_of}
 use Rattle.firing_reader.specs.Steps.Stored.{owner_of}
-use Rattle.firing_reader.specs.Units.{owner_in, probe_in}
+use Rattle.firings.specs.Units.{owner_in, probe_in}
 use Rattle.firing_reader.proofs.RowParts.{pushed_in, row_in, row_stored}
-use Rattle.firing_reader.proofs.Stored.{extends_same, rows_more, seen_all}
+use Rattle.firings.proofs.Stored.{extends_same, rows_more, seen_all}
 use Rattle.firing_reader.proofs.builder.FiringsBuilder.push.Goals as goal
 use Rattle.firing_reader.proofs.builder.FiringsBuilder.push.Goals.{then-push_row, else-push_row}
 

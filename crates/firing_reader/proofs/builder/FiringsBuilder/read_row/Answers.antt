@@ -1,8 +1,8 @@
 use Rattle.std.proofs.Common.{map, ◌∙◌, refl}
-use Rattle.firing_reader.specs.Stored.{firing_in}
-use Rattle.firing_reader.specs.Units.{owner_in, probe_in}
+use Rattle.firings.specs.Stored.{firing_in}
+use Rattle.firings.specs.Units.{owner_in, probe_in}
 use Rattle.firing_reader.proofs.RowParts.{pushed_in}
-use Rattle.firing_reader.proofs.Stored.{rows_more, seen_all, stored}
+use Rattle.firings.proofs.Stored.{rows_more, seen_all, stored}
 use Rattle.firing_reader.proofs.builder.FiringsBuilder.read_row.Goals as goal
 use Rattle.firing_reader.proofs.builder.FiringsBuilder.read_row.Goals.{then-push_row, else-push_row}
 

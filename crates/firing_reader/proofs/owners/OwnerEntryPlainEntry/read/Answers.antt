@@ -2,7 +2,7 @@ use Rattle.std.proofs.Common.{rules, ◌≡◌, ◌∙◌, [], true, sym, w32}
 use Rattle.std.proofs.lemmas.Bool.{eqb-true}
 use Rattle.std.proofs.lemmas.Int.{to_z-of_z}
 use Rattle.std.proofs.lemmas.List.{nil_from_length}
-use Rattle.firing_reader.specs.declared.unit.OwnerEntry.{OwnerEntry}
+use Rattle.firings.specs.declared.unit.OwnerEntry.{OwnerEntry}
 use Rattle.firing_reader.proofs.Shared.{owner_parsed}
 use Rattle.firing_reader.proofs.owners.OwnerEntryPlainEntry.read.Goals as goal
 

@@ -1,7 +1,7 @@
 use Rattle.std.proofs.Common.{map, rules, w32}
 use Rattle.std.proofs.lemmas.Int.{to_z-of_z}
-use Rattle.firing_reader.specs.declared.stored_row.Row.{Row}
-use Rattle.firing_reader.specs.Units.{owner_in, probe_in}
+use Rattle.firings.specs.declared.stored_row.Row.{Row}
+use Rattle.firings.specs.Units.{owner_in, probe_in}
 use Rattle.firing_reader.proofs.RowParts.{row_in, row_parts}
 use Rattle.firing_reader.proofs.plain.row.row.Goals as goal
 

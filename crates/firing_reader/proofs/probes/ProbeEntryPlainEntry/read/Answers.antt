@@ -3,8 +3,8 @@ use Rattle.std.specs.Prelude.{codes}
 use Rattle.std.proofs.lemmas.Bool.{eqb-true}
 use Rattle.std.proofs.lemmas.List.{nil_from_length}
 use Rattle.firing_reader.specs.Vocabulary.{bytes_eq}
-use Rattle.firing_reader.specs.declared.unit.ProbeEntry.{ProbeEntry}
-use Rattle.firing_reader.specs.declared.unit.Probe.{Probe}
+use Rattle.firings.specs.declared.unit.ProbeEntry.{ProbeEntry}
+use Rattle.firings.specs.declared.unit.Probe.{Probe}
 use Rattle.firing_reader.proofs.Shared.{AreLong, probe_parsed, probe_split, probe_texts_in}
 use Rattle.firing_reader.proofs.probes.ProbeEntryPlainEntry.read.Goals as goal
 

@@ -3,9 +3,9 @@ use Rattle.std.specs.Prelude.{slice_get}
 use Rattle.std.proofs.lemmas.Grind.{common_steps}
 use Rattle.std.proofs.lemmas.List.{take_more}
 use Rattle.std.proofs.lemmas.Option.{get_or_from_slice_get}
-use Rattle.firing_reader.proofs.Placed.{place_more}
+use Rattle.firings.proofs.Placed.{place_more}
 use Rattle.firing_reader.proofs.Shared.{one_there}
-use Rattle.firing_reader.proofs.Stored.{extends_more}
+use Rattle.firings.proofs.Stored.{extends_more}
 use Rattle.firing_reader.proofs.unit_table.UnitTable.places_of.Goals as goal
 
 pub loop-at-preserved : goal.loop-at-preserved

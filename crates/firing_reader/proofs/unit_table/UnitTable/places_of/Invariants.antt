@@ -1,5 +1,5 @@
 use Rattle.std.proofs.Common.{take}
-use Rattle.firing_reader.specs.Stored.{ArePlaces, Extends}
+use Rattle.firings.specs.Stored.{ArePlaces, Extends}
 use Rattle.firing_reader.proofs.unit_table.UnitTable.places_of.Given as goal
 
 abbrev pub invariant-loop-at : goal.invariant-loop-at

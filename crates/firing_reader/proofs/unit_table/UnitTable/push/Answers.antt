@@ -1,5 +1,5 @@
 use Rattle.std.proofs.Common.{rules}
-use Rattle.firing_reader.specs.declared.units.Known.{Known}
+use Rattle.firings.specs.declared.units.Known.{Known}
 use Rattle.firing_reader.proofs.Shared.{unit_push, units_push}
 use Rattle.firing_reader.proofs.unit_table.UnitTable.push.Goals as goal
 

@@ -1,10 +1,10 @@
 use Rattle.std.proofs.Common.{◌≡◌, ◌∙◌, List, ℕ, Some, ap, map}
 use Rattle.std.specs.Prelude.{slice_get}
-use Rattle.firing_reader.specs.Ends.{begin_of, end_of}
-use Rattle.firing_reader.specs.Stored.{ArePlaces}
-use Rattle.firing_reader.specs.declared.firing.Firing.{Firing}
-use Rattle.firing_reader.specs.declared.unit.Probe.{Probe}
-use Rattle.firing_reader.proofs.Stored.{named_more}
+use Rattle.firings.specs.Ends.{begin_of, end_of}
+use Rattle.firings.specs.Stored.{ArePlaces}
+use Rattle.firings.specs.declared.firing.Firing.{Firing}
+use Rattle.firings.specs.declared.unit.Probe.{Probe}
+use Rattle.firings.proofs.Stored.{named_more}
 use Rattle.replay_core.specs.Patterns.{probe_of}
 use Rattle.replay_core.specs.Places.{places_for}
 use Rattle.replay_core.proofs.SelectionLemmas.{run_listed}

@@ -1,7 +1,7 @@
 use Rattle.std.proofs.Common.{◌<◌, arith, Bool, filter, length, refl, sym, ap, ◌∙◌, subst, All, ℕ}
 use Rattle.std.proofs.Common.{List}
 use Rattle.std.specs.Prelude.{ℤ}
-use Rattle.firing_reader.specs.Ends.{with_ends}
+use Rattle.firings.specs.Ends.{with_ends}
 use Rattle.shard_queue.specs.Groups.{grouping}
 use Rattle.shard_queue.specs.Groupings.{places_of}
 use Rattle.replay_core.specs.Groups.{is_group, of_group}

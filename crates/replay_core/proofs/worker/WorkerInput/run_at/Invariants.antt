@@ -2,7 +2,7 @@ use Rattle.std.proofs.Common.{◌≡◌, ◌++◌, List, ℕ, filter}
 use Rattle.std.specs.Prelude.{IsFalse}
 use Rattle.std.specs.Slice.Iter.{chunks_rest, chunks_size}
 use Rattle.d_types.specs.Typed.{ScriptMeant}
-use Rattle.firing_reader.specs.Ends.{with_ends}
+use Rattle.firings.specs.Ends.{with_ends}
 use Rattle.replay_core.specs.Running.{IsLaneOf}
 use Rattle.replay_core.specs.Selecting.{AreFor}
 use Rattle.replay_core.specs.Working.{is_in}

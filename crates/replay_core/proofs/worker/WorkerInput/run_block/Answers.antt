@@ -1,8 +1,8 @@
 use Rattle.std.proofs.Common.{rules, ◌≡◌, ◌++◌, ◌∷◌, [], List, arith, filter, take, get_or, sym, ap, subst, ◌∙◌, append_assoc}
 use Rattle.std.specs.Prelude.{slice_index}
 use Rattle.std.proofs.lemmas.List.{get_or_default}
-use Rattle.firing_reader.specs.declared.firing.Firing.{Firing}
-use Rattle.firing_reader.specs.Ends.{with_ends}
+use Rattle.firings.specs.declared.firing.Firing.{Firing}
+use Rattle.firings.specs.Ends.{with_ends}
 use Rattle.replay_core.specs.Running.{IsLaneOf}
 use Rattle.replay_core.specs.Working.{is_in}
 use Rattle.replay_core.specs.Steps.Working.{firings_at}

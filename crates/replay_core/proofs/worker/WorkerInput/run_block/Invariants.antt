@@ -1,8 +1,8 @@
 use Rattle.std.proofs.Common.{◌+◌, ◌≤◌, ◌++◌, List, filter, length, take}
 use Rattle.std.specs.Prelude.{IsFalse}
 use Rattle.d_types.specs.Typed.{ScriptMeant}
-use Rattle.firing_reader.specs.declared.firing.Firing.{Firing}
-use Rattle.firing_reader.specs.Ends.{with_ends}
+use Rattle.firings.specs.declared.firing.Firing.{Firing}
+use Rattle.firings.specs.Ends.{with_ends}
 use Rattle.replay_core.specs.Running.{IsLaneOf}
 use Rattle.replay_core.specs.Selecting.{AreFor}
 use Rattle.replay_core.specs.Working.{is_in}

@@ -3,7 +3,7 @@ use Rattle.std.proofs.Common.{Some, cond, map, length, get_or, vec_len}
 use Rattle.std.specs.Prelude.{IfSome, slice_get}
 use Rattle.std.proofs.lemmas.Option.{get_or_from_slice_get, slice_get_read}
 use Rattle.std.proofs.lemmas.List.{get_or_default, length-map}
-use Rattle.firing_reader.specs.Firings.{thread_of}
+use Rattle.firings.specs.Firings.{thread_of}
 use Rattle.shard_queue.specs.Threads.{thread_zero}
 use Rattle.shard_queue.specs.Groupings.{Grouping, is_group}
 use Rattle.shard_queue.specs.Groups.{grouping, places}

@@ -1,5 +1,5 @@
 use Rattle.std.proofs.Common.{◌≡◌, ◌+◌, ◌++◌, ◌∷◌, [], ℕ, map, drop}
-use Rattle.firing_reader.specs.Firings.{thread_of}
+use Rattle.firings.specs.Firings.{thread_of}
 use Rattle.shard_queue.specs.Threads.{thread_zero, run_threads}
 use Rattle.shard_queue.specs.Groupings.{is_group}
 use Rattle.shard_queue.specs.Groups.{grouping, places, places_from}

@@ -1,5 +1,5 @@
 use Rattle.std.proofs.Common.{◌≡◌, ◌∙◌, ◌<◌, All, IsSomeAnd, List, length, ap, sym, subst, arith}
-use Rattle.firing_reader.specs.declared.firing.Firing.{Firing}
+use Rattle.firings.specs.declared.firing.Firing.{Firing}
 use Rattle.shard_queue.specs.Threads.{run_threads}
 use Rattle.shard_queue.specs.Groupings.{Grouping, is_group}
 use Rattle.shard_queue.specs.Groups.{grouping, places_from}

@@ -1,9 +1,0 @@
-use Rattle.firing_reader.proofs.EndRanges.{dtrace_text}
-use Rattle.firing_reader.proofs.Texts.{empty_text}
-use Rattle.firing_reader.proofs.ends.own.Goals as goal
-
-pub of-requires : goal.of-requires
-of-requires c = dtrace_text
-
-pub of-requires-3 : goal.of-requires-3
-of-requires-3 c = empty_text

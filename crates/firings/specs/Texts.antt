@@ -1,0 +1,13 @@
+-- A text of a firing.
+use Rattle.std.specs.Prelude.{ℕ, ◌==◌, ◌&&◌, nat_le, not, List, length, Option, Some, None}
+use Rattle.std.specs.Prelude.{if◌then◌else◌}
+use Rattle.std.specs.List.{list_any}
+use Rattle.std.specs.Str.{is_utf8}
+use Rattle.firings.specs.declared.text.TheConstants.{TEXT_LIMIT}
+
+-- a text: UTF-8 of at most 255 bytes, none of them zero
+abbrev pub text_of : List ℕ → Option (List ℕ)
+text_of bytes =
+    if nat_le (length bytes) TEXT_LIMIT && not (list_any (λ b. b == 0) bytes) && is_utf8 bytes
+    then Some bytes
+    else None

@@ -1,0 +1,34 @@
+//! What a trace keeps: its firings, each a row of small fixed size, with the owners, the probes and
+//! the arguments that rows name.
+//!
+//! ```text
+//! for at in 0..trace.firings().len() {
+//!     let firing = trace.firings().get(at);
+//!     println!(rt; "{} on thread {}", firing.number, firing.thread)?;
+//! }
+//! ```
+#![tactic(auto)]
+
+mod ends;
+mod firing;
+mod firing_rows;
+mod firings;
+pub mod laws;
+mod owner_places;
+mod probe_places;
+mod stored_row;
+mod text;
+mod trace;
+mod unit;
+mod units;
+
+pub use firing::{Args, Firing};
+pub use firing_rows::{FiringRows, MOST_TOGETHER};
+pub use firings::Firings;
+pub use owner_places::OwnerPlaces;
+pub use probe_places::ProbePlaces;
+pub use stored_row::{Given, Row};
+pub use text::{TEXT_LIMIT, Text};
+pub use trace::{MOST_ROWS, Trace};
+pub use unit::{Owner, OwnerEntry, Probe, ProbeEntry};
+pub use units::{Entry, Known, Units};
