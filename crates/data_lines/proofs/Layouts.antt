@@ -5,7 +5,7 @@ use Rattle.std.specs.Prelude.{IfOk, Result, Ok, Err}
 use Rattle.std.specs.List.{flat_map}
 use Rattle.std.proofs.lemmas.List.Sums.{sum_by-append, sum_by-cons}
 use Rattle.std.proofs.lemmas.List.{length-map}
-use Rattle.replay_core.specs.declared.whole.Whole.{Whole}
+use Rattle.replay_core.specs.declared.collector.whole.Whole.{Whole}
 use Rattle.replay_core.specs.Groups.{Grouping, SameItems}
 use Rattle.replay_core.specs.Meaning.{Threads, blank_threads, contributions_of, exit_of, history, texts_of, threads_after}
 use Rattle.replay_core.specs.Pieces.{IsWholeOf, RunsEachOnce}

@@ -1,6 +1,6 @@
 -- All lines of a run.
 use Rattle.std.specs.Prelude.{◌≡◌, ℕ, List, ◌++◌, All, Option, length, map, sum_by}
-use Rattle.replay_core.specs.declared.whole.Whole.{Whole}
+use Rattle.replay_core.specs.declared.collector.whole.Whole.{Whole}
 use Rattle.data_lines.specs.Vocabulary.{Agg, Aggs, Contribution, Entry, IsListing, enumerate_from}
 use Rattle.data_lines.specs.Vocabulary.{flat_map}
 use Rattle.data_lines.specs.Lines.{entry_head, entry_line, first_line, last_line, text_line}

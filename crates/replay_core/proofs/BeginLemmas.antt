@@ -11,7 +11,7 @@ use Rattle.d_types.specs.Clauses.{Made}
 use Rattle.d_types.specs.Typed.{ScriptMeant}
 use Rattle.firings.specs.declared.firing.Firing.{Firing}
 use Rattle.shard_queue.proofs.Lists.{drop_next}
-use Rattle.replay_core.specs.declared.piece.Piece.{Piece}
+use Rattle.replay_core.specs.declared.lanes.piece.Piece.{Piece}
 use Rattle.replay_core.specs.Beginnings.{ExitsLast, IsBeginning, IsBegun, IsLeft, exit_over}
 use Rattle.replay_core.specs.Beginnings.{least_exit, lesser_of}
 use Rattle.replay_core.specs.Meaning.{Threads, exit_of, history, firing_result, blank_threads}

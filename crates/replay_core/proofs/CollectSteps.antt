@@ -9,7 +9,7 @@ use Rattle.std.proofs.lemmas.Bool.{cases_eq}
 use Rattle.aggregations.specs.declared.function.AggFn.{AggFn}
 use Rattle.aggregations.specs.Table.{functions_of, count_held}
 use Rattle.shard_queue.proofs.Lists.{all_cons}
-use Rattle.replay_core.specs.declared.piece.Piece.{Piece}
+use Rattle.replay_core.specs.declared.lanes.piece.Piece.{Piece}
 use Rattle.replay_core.specs.declared.collect_fault.CollectFault.{CollectFault}
 use Rattle.replay_core.specs.declared.collect_fault.CollectFault.TheVariants.{Twice, Stranger}
 use Rattle.replay_core.specs.declared.collect_fault.CollectFault.TheVariants.{Missing, Memory}

@@ -11,7 +11,7 @@ use Rattle.d_types.specs.Typed.{ScriptMeant}
 use Rattle.firings.specs.declared.firing.Firing.{Firing}
 use Rattle.firings.specs.Firings.{number_of}
 use Rattle.shard_queue.proofs.Totals.{below-once, below-times, weight_of}
-use Rattle.replay_core.specs.declared.piece.Piece.{Piece}
+use Rattle.replay_core.specs.declared.lanes.piece.Piece.{Piece}
 use Rattle.replay_core.specs.declared.collect_fault.CollectFault.TheVariants.{Twice, Stranger}
 use Rattle.replay_core.specs.Groups.{AreGrouped, Grouping, IsAllBelow, below, of_group}
 use Rattle.replay_core.specs.Collecting.{first_bad, first_bad_after}

@@ -10,7 +10,7 @@ use Rattle.firings.specs.declared.firing.Firing.{Firing}
 use Rattle.firings.specs.Firings.{HasRanges, IsFiring}
 use Rattle.firings.specs.Stored.{row_before}
 use Rattle.firings.specs.Firings.{IsTrace}
-use Rattle.replay_core.specs.declared.span.Span.{Span}
+use Rattle.replay_core.specs.declared.workers.span.Span.{Span}
 use Rattle.replay_core.specs.Selecting.{lent}
 use Rattle.replay_core.specs.Working.{is_in}
 use Rattle.replay_core.specs.Steps.Working.{firings_at}

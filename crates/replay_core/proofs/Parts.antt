@@ -18,10 +18,10 @@ use Rattle.shard_queue.specs.Boards.{IsAt, claim_numbers, least_lowered, least_s
 use Rattle.shard_queue.specs.Boards.{number_seen, claim_seats_at_end}
 use Rattle.shard_queue.specs.Hands.{IsHandOut}
 use Rattle.shard_queue.proofs.Lists.{all_cons}
-use Rattle.replay_core.specs.declared.piece.Piece.{Piece}
+use Rattle.replay_core.specs.declared.lanes.piece.Piece.{Piece}
 use Rattle.replay_core.specs.Groups.{IsAllBelow}
-use Rattle.replay_core.specs.declared.round.Round.{Round}
-use Rattle.replay_core.specs.declared.span.Span.{Span}
+use Rattle.replay_core.specs.declared.workers.round.Round.{Round}
+use Rattle.replay_core.specs.declared.workers.span.Span.{Span}
 use Rattle.replay_core.specs.AtBoard.{AreParts, GivesBegun, GivesPieces, IsRound}
 use Rattle.replay_core.specs.Steps.AtBoard.{AreFinished}
 use Rattle.replay_core.specs.AtBoard.{IsWork, Part}

@@ -5,7 +5,7 @@ use Rattle.std.specs.Bool.{Decides}
 use Rattle.std.specs.Prelude.{replicate}
 use Rattle.std.proofs.lemmas.Bool.Decides.{Decides-and, Decides-eqb, Decides-like}
 use Rattle.std.proofs.lemmas.List.{length-append, length-replicate, replicate_more}
-use Rattle.replay_core.specs.declared.clause_places.Repeat.{Repeat}
+use Rattle.replay_core.specs.declared.selection.clause_places.Repeat.{Repeat}
 use Rattle.replay_core.specs.Places.{places_in_turn}
 
 -- each runs at least once

@@ -12,7 +12,7 @@ use Rattle.d_types.specs.Typed.{ScriptMeant}
 use Rattle.firings.specs.declared.firing.Firing.{Firing}
 use Rattle.shard_queue.specs.Least.{no_number}
 use Rattle.shard_queue.proofs.Totals.{below-once, weight_of}
-use Rattle.replay_core.specs.declared.piece.Piece.{Piece}
+use Rattle.replay_core.specs.declared.lanes.piece.Piece.{Piece}
 use Rattle.replay_core.specs.Beginnings.{ExitsLast, IsBegun, IsBegunOf, IsLeft, exit_over}
 use Rattle.replay_core.specs.Beginnings.{least_exit, lesser_of}
 use Rattle.replay_core.specs.Groups.{AreGrouped, Grouping, IsAllBelow, is_group, of_group}

@@ -11,10 +11,10 @@ use Rattle.shard_queue.specs.declared.groups.Groups.{Groups}
 use Rattle.shard_queue.specs.Groups.{AreOf, grouping}
 use Rattle.shard_queue.specs.Least.{no_number}
 use Rattle.shard_queue.specs.Threads.{run_threads}
-use Rattle.replay_core.specs.declared.piece.Piece.{Piece}
-use Rattle.replay_core.specs.declared.round.Round.{Round}
-use Rattle.replay_core.specs.declared.span.Span.{Span}
-use Rattle.replay_core.specs.declared.span.Span.TheVariants as span
+use Rattle.replay_core.specs.declared.lanes.piece.Piece.{Piece}
+use Rattle.replay_core.specs.declared.workers.round.Round.{Round}
+use Rattle.replay_core.specs.declared.workers.span.Span.{Span}
+use Rattle.replay_core.specs.declared.workers.span.Span.TheVariants as span
 use Rattle.replay_core.specs.Beginnings.{IsBegunOf, exit_over}
 use Rattle.replay_core.specs.AtBoard.{GivesBegun, GivesPieces, IsRound}
 use Rattle.replay_core.specs.Steps.AtBoard.{IsRun}

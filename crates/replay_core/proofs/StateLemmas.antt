@@ -1,7 +1,7 @@
 -- States that stay as they are.
 use Rattle.std.specs.Prelude.{◌≡◌}
 use Rattle.std.proofs.Common.{ap, ◌∙◌}
-use Rattle.replay_core.specs.declared.state.State.{State}
+use Rattle.replay_core.specs.declared.lanes.state.State.{State}
 use Rattle.replay_core.specs.Evaluation.{Stays}
 
 pub stays_then : (old now new : State) → Stays old now → Stays now new → Stays old new

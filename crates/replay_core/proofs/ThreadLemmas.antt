@@ -19,7 +19,7 @@ use Rattle.d_types.specs.Storage.{Variables, variables}
 use Rattle.d_types.specs.Typed.{ClauseMeant, ScriptMeant}
 use Rattle.d_types.proofs.FiringValues.{locals_unassigned}
 use Rattle.firings.specs.declared.firing.Firing.{Firing}
-use Rattle.replay_core.specs.declared.tables.Tables.{Tables}
+use Rattle.replay_core.specs.declared.lanes.tables.Tables.{Tables}
 use Rattle.replay_core.specs.Steps.Caching.{IsTablesAt}
 use Rattle.replay_core.specs.Meaning.{Threads, at_start, clauses_for, in_turn, firing_result}
 use Rattle.replay_core.specs.Meaning.{threads_after}

@@ -20,12 +20,12 @@ use Rattle.shard_queue.specs.Groups.{AreOf, grouping}
 use Rattle.shard_queue.specs.Least.{no_number}
 use Rattle.shard_queue.specs.Threads.{run_threads, thread_zero}
 use Rattle.shard_queue.proofs.Lists.{all_cons}
-use Rattle.replay_core.specs.declared.span.Span.{Span}
+use Rattle.replay_core.specs.declared.workers.span.Span.{Span}
 use Rattle.replay_core.specs.Exit.{firings_over, up_to}
 use Rattle.replay_core.specs.Meaning.{exit_of, history, blank_threads}
 use Rattle.replay_core.specs.Groups.{AreGrouped, Grouping}
 use Rattle.replay_core.specs.Working.{firings_in, is_in}
-use Rattle.replay_core.specs.declared.span.Span.TheVariants as span
+use Rattle.replay_core.specs.declared.workers.span.Span.TheVariants as span
 use Rattle.replay_core.proofs.ExitLemmas.{Rises, rises_less, trace_rises}
 
 pub threads_are : (trace : List Firing) → map thread_of (with_ends trace trace) ≡ run_threads trace

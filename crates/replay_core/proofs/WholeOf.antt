@@ -9,8 +9,8 @@ use Rattle.aggregations.proofs.OrderLemmas.{stands_same}
 use Rattle.d_types.specs.Typed.{ScriptMeant}
 use Rattle.firings.specs.declared.firing.Firing.{Firing}
 use Rattle.firings.specs.Firings.{number_of}
-use Rattle.replay_core.specs.declared.piece.Piece.{Piece}
-use Rattle.replay_core.specs.declared.whole.Whole.{Whole}
+use Rattle.replay_core.specs.declared.lanes.piece.Piece.{Piece}
+use Rattle.replay_core.specs.declared.collector.whole.Whole.{Whole}
 use Rattle.replay_core.specs.Groups.{AreGrouped, Grouping, of_group}
 use Rattle.replay_core.specs.Meaning.{contributions_of, exit_of, history, texts_of, blank_threads}
 use Rattle.replay_core.specs.Collecting.{pieces_with_groups}

@@ -3,8 +3,9 @@ use Rattle.std.specs.Prelude.{◌≡◌, ◌≤◌, ℕ, true, List, map, All, V
 use Rattle.replay_core.specs.Vocabulary.{ClaimBoard, ClaimSeat, Firing, Global, Groups, IsAt}
 use Rattle.replay_core.specs.Vocabulary.{ScriptMeant, flat_map, grouping, least_lowered, least_seen}
 use Rattle.replay_core.specs.Vocabulary.{number_lowered, number_seen, with_ends}
-use Rattle.replay_core.specs.declared.{piece.Piece.Piece, round.Round.Round, span.Span.Span}
-use Rattle.replay_core.specs.declared.span.Span.TheVariants as span
+use Rattle.replay_core.specs.declared.{lanes.piece.Piece.Piece, workers.round.Round.Round}
+use Rattle.replay_core.specs.declared.{workers.span.Span.Span}
+use Rattle.replay_core.specs.declared.workers.span.Span.TheVariants as span
 use Rattle.replay_core.specs.{Groups.IsAllBelow}
 use Rattle.replay_core.specs.Beginnings.{AreBegun, least_exit}
 use Rattle.replay_core.specs.Working.{AreOfGroups, firings_in}

@@ -2,7 +2,7 @@
 use Rattle.std.specs.Prelude.{◌≡◌, ◌⊎◌, ℕ, ◌<◌, min, List, [], ◌∷◌, ◌++◌, All, Option, None, Some}
 use Rattle.std.specs.Prelude.{is_some, true}
 use Rattle.replay_core.specs.Vocabulary.{Firing, ScriptMeant, no_number}
-use Rattle.replay_core.specs.declared.piece.Piece.{Piece}
+use Rattle.replay_core.specs.declared.lanes.piece.Piece.{Piece}
 use Rattle.replay_core.specs.{Groups.Grouping, Groups.of_group, Meaning.exit_of, Meaning.history}
 use Rattle.replay_core.specs.{Meaning.blank_threads, Pieces.IsPieceOf, Seen.IsRoomy}
 use Rattle.replay_core.specs.{Seen.piece_seen}

@@ -2,7 +2,7 @@
 use Rattle.std.specs.Prelude.{◌≡◌, ◌≢◌, ◌==◌, ◌+◌, ◌<◌, ℕ, Bool, true, false, List, [], ◌∷◌}
 use Rattle.std.specs.Prelude.{Option, None, Some, All, Contains, if◌then◌else◌, length, map, nat_lt}
 use Rattle.replay_core.specs.Vocabulary.{IsPermutation, flat_map}
-use Rattle.replay_core.specs.declared.{piece.Piece.Piece, whole.Whole.Whole}
+use Rattle.replay_core.specs.declared.{lanes.piece.Piece.Piece, collector.whole.Whole.Whole}
 use Rattle.replay_core.specs.declared.collect_fault.CollectFault.{CollectFault}
 use Rattle.replay_core.specs.declared.collect_fault.CollectFault.TheVariants.{Twice, Stranger}
 use Rattle.replay_core.specs.declared.collect_fault.CollectFault.TheVariants.{Missing, Memory}

@@ -2,7 +2,7 @@
 use Rattle.std.specs.Prelude.{◌≡◌, ℕ, Bool, List, [], ◌∷◌, is_some}
 use Rattle.replay_core.specs.Vocabulary.{Effect, Firing, Made, Variables, contributions_in, exit_in}
 use Rattle.replay_core.specs.Vocabulary.{texts_in}
-use Rattle.replay_core.specs.declared.{piece.Piece.Piece, state.State.State}
+use Rattle.replay_core.specs.declared.{lanes.piece.Piece.Piece, lanes.state.State.State}
 use Rattle.replay_core.specs.{Evaluation.variables_in, Lanes.Notes, Pieces.PieceSeen}
 use Rattle.replay_core.specs.{Seen.piece_seen}
 

@@ -1,8 +1,9 @@
 -- What calls that evaluate return and leave.
 use Rattle.std.specs.Prelude.{◌≡◌, Result, Ok, Err}
 use Rattle.replay_core.specs.Vocabulary.{Faults, Firing, Has, Outcome, Variables, variables}
-use Rattle.replay_core.specs.declared.{evaluation.fault.EvalFault.EvalFault, state.State.State}
-use Rattle.replay_core.specs.declared.{tables.Tables.Tables}
+use Rattle.replay_core.specs.declared.{evaluation.fault.EvalFault.EvalFault}
+use Rattle.replay_core.specs.declared.{lanes.state.State.State}
+use Rattle.replay_core.specs.declared.{lanes.tables.Tables.Tables}
 
 -- ---- states
 

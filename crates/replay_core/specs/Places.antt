@@ -3,7 +3,7 @@
 use Rattle.std.specs.Prelude.{ℕ, ◌+◌, List, [], ◌∷◌, ◌++◌, filter, map, flat_map, replicate}
 use Rattle.d_parser.specs.declared.tree.Description.{Description}
 use Rattle.firings.specs.declared.unit.Probe.{Probe}
-use Rattle.replay_core.specs.declared.clause_places.Repeat.{Repeat}
+use Rattle.replay_core.specs.declared.selection.clause_places.Repeat.{Repeat}
 use Rattle.replay_core.specs.Patterns.{selects}
 
 -- the places from the given one on: each once for each description that selects the probe

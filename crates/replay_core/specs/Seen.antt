@@ -1,9 +1,9 @@
 -- Pieces, wholes and lanes as contracts see them.
 use Rattle.std.specs.Prelude.{◌≤◌, ◌*◌, ◌^◌, ℤ, List, length, map}
 use Rattle.aggregations.specs.Table.{count_held}
-use Rattle.replay_core.specs.declared.piece.Piece.{Piece}
-use Rattle.replay_core.specs.declared.tables.Tables.{Tables}
-use Rattle.replay_core.specs.declared.whole.Whole.{Whole}
+use Rattle.replay_core.specs.declared.lanes.piece.Piece.{Piece}
+use Rattle.replay_core.specs.declared.lanes.tables.Tables.{Tables}
+use Rattle.replay_core.specs.declared.collector.whole.Whole.{Whole}
 use Rattle.replay_core.specs.{Lanes.LaneSeen, Threads.threads_in}
 use Rattle.replay_core.specs.Pieces.{PieceSeen, WholeSeen}
 

@@ -1,7 +1,7 @@
 -- What the tables of threads hold.
 use Rattle.std.specs.Prelude.{ℤ, List, Option, None, Some}
 use Rattle.replay_core.specs.Vocabulary.{KeyPart, Value, Var, blank, int_eq, lookup, own_of}
-use Rattle.replay_core.specs.declared.tables.Tables.{Tables}
+use Rattle.replay_core.specs.declared.lanes.tables.Tables.{Tables}
 use Rattle.replay_core.specs.Meaning.{Threads}
 
 -- a thread without tables has assigned nothing

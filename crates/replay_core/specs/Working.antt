@@ -1,8 +1,8 @@
 -- What a worker makes of the groups that it takes.
 use Rattle.std.specs.Prelude.{◌==◌, ◌||◌, ℕ, nat_le, Bool, true, List, All, filter}
 use Rattle.replay_core.specs.Vocabulary.{Firing, ScriptMeant, with_ends}
-use Rattle.replay_core.specs.declared.{piece.Piece.Piece, span.Span.Span}
-use Rattle.replay_core.specs.declared.span.Span.TheVariants as span
+use Rattle.replay_core.specs.declared.{lanes.piece.Piece.Piece, workers.span.Span.Span}
+use Rattle.replay_core.specs.declared.workers.span.Span.TheVariants as span
 use Rattle.replay_core.specs.{Pieces.IsPieceOf}
 use Rattle.replay_core.specs.Groups.{Grouping, of_group}
 use Rattle.replay_core.specs.Seen.{IsRoomy, piece_seen}

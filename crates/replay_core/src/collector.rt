@@ -1,16 +1,20 @@
 //! The collector.
 
+pub(crate) mod merge;
+pub(crate) mod placing;
+pub(crate) mod whole;
+
 ghost use Rattle.std.specs.Prelude.{◌≡◌, ◌<◌, map, length, IfOk, IfErr};
 ghost use Rattle.replay_core.specs.Collecting.{IsCollected, IsCollectFault, IsMadeOf};
 ghost use Rattle.replay_core.specs.{Collecting.tables_of, Tables.CanMerge, Vocabulary.flat_map};
 ghost use Rattle.replay_core.specs.Uniting.{sooner, first_exit};
 
 use crate::collect_fault::CollectFault;
-use crate::merge::merge_all;
-use crate::piece::Piece;
-use crate::placing::{pieces_by_group, pieces_in_order};
+use crate::collector::merge::merge_all;
+use crate::collector::placing::{pieces_by_group, pieces_in_order};
+use crate::collector::whole::Whole;
+use crate::lanes::piece::Piece;
 use crate::sorting::by_number;
-use crate::whole::Whole;
 use aggregations::AggTable;
 use d_values::Text;
 use std::alloc::{AllocError, Global};

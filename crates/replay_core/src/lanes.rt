@@ -1,8 +1,20 @@
 //! Where lanes come from.
 
+pub(crate) mod clause;
+pub(crate) mod clause_runs;
+pub(crate) mod compiled;
+pub(crate) mod engine;
+pub(crate) mod lane;
+pub(crate) mod piece;
+pub(crate) mod run_firings;
+pub(crate) mod state;
+pub(crate) mod tables;
+pub(crate) mod threads;
+pub(crate) mod tree;
+
 ghost use Rattle.std.specs.Prelude.{◌≡◌, IfOk, IsFalse, []};
 
-use crate::engine::Engine;
+use crate::lanes::engine::Engine;
 use crate::selection::Selections;
 use firings::Trace;
 use std::alloc::{AllocError, Global};

@@ -6,8 +6,8 @@ ghost use Rattle.replay_core.specs.Vocabulary.{IsStrictlyIncreasing, IsTrace, Sc
 ghost use Rattle.replay_core.specs.Vocabulary.{begin_of, grouping, has_exit, number_of};
 ghost use Rattle.replay_core.specs.Vocabulary.{run_threads, with_ends};
 ghost use Rattle.firings.specs.declared.unit.Probe.{Probe};
-ghost use Rattle.replay_core.specs.declared.round.Round.{Round};
-ghost use Rattle.replay_core.specs.declared.span.Span.TheVariants as span;
+ghost use Rattle.replay_core.specs.declared.workers.round.Round.{Round};
+ghost use Rattle.replay_core.specs.declared.workers.span.Span.TheVariants as span;
 ghost use Rattle.replay_core.specs.AtBoard.{Gives, IsRound};
 ghost use Rattle.replay_core.specs.Exit.{IsLeastExit, exit_status, exits_of, first_exit_number};
 ghost use Rattle.replay_core.specs.Exit.{firings_over, history_over};

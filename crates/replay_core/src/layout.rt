@@ -2,7 +2,7 @@
 
 ghost use Rattle.std.specs.Prelude.{◌≡◌, List, IfOk};
 
-use crate::whole::Whole;
+use crate::collector::whole::Whole;
 use d_types::TypedScript;
 use std::alloc::{AllocError, Global};
 use std::thread::Threads;

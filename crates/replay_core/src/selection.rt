@@ -1,5 +1,11 @@
 //! Which clauses run for each firing of a run: decided once for each probe, before any fires.
 
+pub(crate) mod clause_lists;
+pub(crate) mod clause_places;
+pub(crate) mod descriptions;
+pub(crate) mod matching;
+pub(crate) mod places;
+
 ghost use Rattle.std.specs.Prelude.{◌≡◌, ◌≤◌, IfOk, List, OnOk, Some, [], get_or};
 ghost use Rattle.std.specs.Prelude.{length, map, slice_get, sum_by, take};
 ghost use Rattle.replay_core.specs.Vocabulary.{AllZip, ArePlaces, ClauseMeant, Description};
@@ -10,10 +16,10 @@ ghost use Rattle.replay_core.specs.Steps.Described.{IsTableOf};
 ghost use Rattle.replay_core.specs.{Patterns.probe_of};
 ghost use Rattle.replay_core.specs.Selecting.{AreSelected, lent, selected_for};
 
-use crate::clause::Clause;
-use crate::clause_lists::ClauseLists;
-use crate::clause_places::ClausePlaces;
-use crate::description_table::DescriptionTable;
+use crate::lanes::clause::Clause;
+use crate::selection::clause_lists::ClauseLists;
+use crate::selection::clause_places::ClausePlaces;
+use crate::selection::descriptions::DescriptionTable;
 use d_parser::Description;
 use firings::{Firing, MOST_TOGETHER, Probe, ProbePlaces, Text, Trace};
 use keyed_hash::HashKey;

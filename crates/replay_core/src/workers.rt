@@ -1,5 +1,13 @@
 //! A run by several workers.
 
+pub(crate) mod at_board;
+pub(crate) mod gate;
+pub(crate) mod round;
+pub(crate) mod source;
+pub(crate) mod span;
+pub(crate) mod until;
+pub(crate) mod worker;
+
 ghost use Rattle.std.specs.Prelude.{◌≡◌, ◌+◌, ◌<◌, ◌≤◌, IfOk, vec_len};
 ghost use Rattle.replay_core.specs.Vocabulary.{AreOf, IsTrace, ScriptMeant, end_of, flat_map};
 ghost use Rattle.replay_core.specs.Vocabulary.{grouping, run_threads};
@@ -11,12 +19,12 @@ ghost use Rattle.replay_core.specs.Pieces.{IsWholeOf, RunsEachOnce};
 
 use crate::collect_fault::CollectFault;
 use crate::collector::collect;
-use crate::gate::Gate;
+use crate::collector::whole::Whole;
 use crate::lanes::Lanes;
-use crate::round::{Round, in_round};
-use crate::span::Span;
-use crate::whole::Whole;
-use crate::worker::WorkerInput;
+use crate::workers::gate::Gate;
+use crate::workers::round::{Round, in_round};
+use crate::workers::span::Span;
+use crate::workers::worker::WorkerInput;
 use firings::Trace;
 use shard_queue::{Groups, MOST_GROUPS, MOST_WORKERS};
 use std::alloc::{AllocError, Global};

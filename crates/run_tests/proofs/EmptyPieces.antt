@@ -3,7 +3,7 @@ use Rattle.std.proofs.Common.{◌≡◌, ℕ, List, [], ◌∷◌, ◌++◌, sum
 use Rattle.std.proofs.lemmas.List.Sums.{sum_by-cons}
 use Rattle.aggregations.specs.Table.{count_held, functions_of}
 use Rattle.aggregations.specs.declared.function.AggFn.{AggFn}
-use Rattle.replay_core.specs.declared.piece.Piece.{Piece}
+use Rattle.replay_core.specs.declared.lanes.piece.Piece.{Piece}
 use Rattle.replay_core.specs.Collecting.{tables_of}
 use Rattle.replay_core.specs.Tables.{AllHave}
 

@@ -1,7 +1,8 @@
 -- A run by workers, before its answer is written.
 use Rattle.std.specs.Prelude.{◌≡◌, ℕ, List, Vec, vec_len}
 use Rattle.std.specs.declared.alloc.Global.{Global}
-use Rattle.replay_core.specs.{Exit.firings_over, Seen.whole_seen, declared.whole.Whole.Whole}
+use Rattle.replay_core.specs.{Exit.firings_over, Seen.whole_seen}
+use Rattle.replay_core.specs.{declared.collector.whole.Whole.Whole}
 use Rattle.replay_core.specs.Groups.{IsAllBelow}
 use Rattle.replay_core.specs.Pieces.{IsWholeOf, RunsEachOnce}
 use Rattle.consumer.specs.Vocabulary.{flat_map, Firing, ScriptMeant, Grouping}

@@ -1,7 +1,7 @@
 -- The ends of all workers, and what they make a round.
 use Rattle.std.specs.Prelude.{◌≡◌, ℕ, List, map, All, Result, Ok}
 use Rattle.replay_core.specs.Vocabulary.{ClaimSeat, Firing, Groups, ScriptMeant, flat_map, grouping}
-use Rattle.replay_core.specs.declared.{piece.Piece.Piece, round.Round.Round}
+use Rattle.replay_core.specs.declared.{lanes.piece.Piece.Piece, workers.round.Round.Round}
 use Rattle.replay_core.specs.{Exit.firings_over, Groups.IsAllBelow, Seen.IsRoomy}
 use Rattle.replay_core.specs.Working.{IsOfGroup}
 use Rattle.replay_core.specs.AtBoard.{Part}

@@ -1,7 +1,7 @@
 -- Tables of threads by their index.
 use Rattle.std.specs.Prelude.{◌≡◌, ℕ, ℤ, List, Some, slice_get}
 use Rattle.replay_core.specs.Vocabulary.{int_eq, lookup}
-use Rattle.replay_core.specs.declared.tables.Tables.{Tables}
+use Rattle.replay_core.specs.declared.lanes.tables.Tables.{Tables}
 
 -- the thread's tables are at this index, and a look-up finds them
 pub record IsTablesAt (entries : List (ℤ × Tables)) (i : ℕ) (thread : ℤ) : Type 0 where

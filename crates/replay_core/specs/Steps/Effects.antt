@@ -3,8 +3,9 @@ use Rattle.std.specs.Prelude.{◌≡◌, ◌+◌, ◌<◌, ◌≤◌, ◌^◌, �
 use Rattle.std.specs.Prelude.{length}
 use Rattle.replay_core.specs.Vocabulary.{Effect, Faults, Firing, Has, Outcome, Variables, exit_in}
 use Rattle.replay_core.specs.Vocabulary.{count_held, functions_of}
-use Rattle.replay_core.specs.declared.{evaluation.fault.EvalFault.EvalFault, piece.Piece.Piece}
-use Rattle.replay_core.specs.declared.{state.State.State}
+use Rattle.replay_core.specs.declared.{evaluation.fault.EvalFault.EvalFault}
+use Rattle.replay_core.specs.declared.{lanes.piece.Piece.Piece}
+use Rattle.replay_core.specs.declared.{lanes.state.State.State}
 use Rattle.replay_core.specs.{Evaluation.Stays, Evaluation.variables_in, Pieces.PieceSeen}
 use Rattle.replay_core.specs.{Seen.piece_seen}
 use Rattle.replay_core.specs.Effects.{NotesEffect}

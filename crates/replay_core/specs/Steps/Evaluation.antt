@@ -2,7 +2,8 @@
 use Rattle.std.specs.Prelude.{◌≡◌, Result, Ok, Err}
 use Rattle.replay_core.specs.Vocabulary.{Faults, Firing, Has, Outcome, Typed, Value, Variables}
 use Rattle.replay_core.specs.Vocabulary.{eval}
-use Rattle.replay_core.specs.declared.{evaluation.fault.EvalFault.EvalFault, state.State.State}
+use Rattle.replay_core.specs.declared.{evaluation.fault.EvalFault.EvalFault}
+use Rattle.replay_core.specs.declared.{lanes.state.State.State}
 use Rattle.replay_core.specs.Evaluation.{variables_in, Stays, Meets}
 
 -- the value of what is evaluated

@@ -1,7 +1,7 @@
 -- What clauses make and leave that run on the variables of a firing's thread.
 use Rattle.std.specs.Prelude.{◌≡◌, ℕ, ℤ, Bool, List, if◌then◌else◌, is_some}
 use Rattle.replay_core.specs.Vocabulary.{ClauseMeant, Firing, Made, int_eq}
-use Rattle.replay_core.specs.declared.{piece.Piece.Piece}
+use Rattle.replay_core.specs.declared.{lanes.piece.Piece.Piece}
 use Rattle.replay_core.specs.{Lanes.Notes, Meaning.Threads, Meaning.at_start, Seen.piece_seen}
 use Rattle.replay_core.specs.Steps.AllMade.{all_made}
 

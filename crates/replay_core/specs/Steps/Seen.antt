@@ -1,7 +1,7 @@
 -- A piece of no firing.
 use Rattle.std.specs.Prelude.{◌≡◌, [], None}
 use Rattle.aggregations.specs.Table.{StandsFor, count_held}
-use Rattle.replay_core.specs.declared.piece.Piece.{Piece}
+use Rattle.replay_core.specs.declared.lanes.piece.Piece.{Piece}
 
 -- a piece of no firing
 pub record IsEmptyPiece (p : Piece) : Type 0 where

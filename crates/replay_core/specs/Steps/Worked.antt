@@ -1,7 +1,7 @@
 -- What a worker gave back, added to what others did.
 use Rattle.std.specs.Prelude.{◌≡◌, ℕ, List, [], ◌∷◌, ◌++◌, Result, Ok}
 use Rattle.replay_core.specs.Vocabulary.{ClaimSeat}
-use Rattle.replay_core.specs.declared.{piece.Piece.Piece}
+use Rattle.replay_core.specs.declared.{lanes.piece.Piece.Piece}
 use Rattle.replay_core.specs.AtBoard.{Part}
 
 -- a worker came to its end, and its pieces and its seat come after the others

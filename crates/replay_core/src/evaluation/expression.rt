@@ -14,7 +14,7 @@ use crate::evaluation::values::{part_of, word_in};
 use crate::evaluation::variables::{
     assign_variable, read_variable, step_variable, update_variable,
 };
-use crate::state::State;
+use crate::lanes::state::State;
 use d_parser::LogicOperator;
 use d_types::{Operation, TypedExpr, Variable};
 use d_values::{Key, Value};

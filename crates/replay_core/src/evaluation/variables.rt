@@ -9,7 +9,7 @@ ghost use Rattle.replay_core.specs.Vocabulary.{kind_of};
 use crate::evaluation::fault::EvalFault;
 use crate::evaluation::operators::{step_result, step_value, word_as_type};
 use crate::evaluation::values::{owned_value, word_in};
-use crate::state::State;
+use crate::lanes::state::State;
 use d_parser::Step;
 use d_types::{Answer, Space, Variable, kind_of};
 use d_values::{Key, Kind, OutOfZero, Text, Value, Var};

@@ -6,8 +6,8 @@ ghost use Rattle.replay_core.specs.{Bounds.places_among, Effects.IsNotedRun, Eva
 ghost use Rattle.replay_core.specs.Vocabulary.{count_held, functions_of};
 
 use crate::evaluation::EvalFault;
-use crate::piece::Piece;
-use crate::state::State;
+use crate::lanes::piece::Piece;
+use crate::lanes::state::State;
 use crate::statements::expression::Expression;
 use crate::statements::statement::Statement;
 use std::alloc::AllocError;

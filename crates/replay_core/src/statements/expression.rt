@@ -3,7 +3,7 @@
 ghost use Rattle.std.specs.Prelude.{◌≡◌, [], IsTrue, List};
 
 use crate::evaluation::{EvalFault, word_in};
-use crate::state::State;
+use crate::lanes::state::State;
 use crate::statements::lent_key::LentKey;
 use d_values::{DType, Key, Value};
 use firings::Firing;

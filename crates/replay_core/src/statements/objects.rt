@@ -8,12 +8,12 @@ ghost use Rattle.replay_core.specs.Evaluation.{Meets, Returns, variables_of};
 ghost use Rattle.replay_core.specs.Steps.Evaluation.{PutsPart};
 
 use crate::evaluation::{EvalFault, owned_value, word_of};
-use crate::piece::Piece;
-use crate::state::State;
+use crate::lanes::piece::Piece;
+use crate::lanes::state::State;
+use crate::lanes::tables::Tables;
 use crate::statements::expression::{Arguments, Expression};
 use crate::statements::lent_key::LentKey;
 use crate::statements::statement::{Statement, aggregate, exit, plain, print, trace};
-use crate::tables::Tables;
 use d_values::{DType, Key, Value, ValueRef};
 use dif_codegen::{Action, TypedObject};
 use dif_machine::{Frame, MachineFault, lent_load};

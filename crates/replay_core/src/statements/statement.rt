@@ -8,8 +8,8 @@ ghost use Rattle.replay_core.specs.Vocabulary.{ActionOf, count_held, effect_by, 
 ghost use Rattle.replay_core.specs.Vocabulary.{Effect, Has, argument_by, with};
 
 use crate::evaluation::EvalFault;
-use crate::piece::Piece;
-use crate::state::State;
+use crate::lanes::piece::Piece;
+use crate::lanes::state::State;
 use crate::statements::expression::Expression;
 use crate::statements::lent_key::LentKey;
 use crate::statements::printing::{printf_text, trace_line};

@@ -6,8 +6,8 @@ ghost use Rattle.replay_core.specs.Vocabulary.{typeds_of};
 ghost use Rattle.replay_core.specs.Forms.{by_expressions, statement_form};
 
 use crate::evaluation::{EvalFault, evaluate, evaluate_key};
-use crate::piece::Piece;
-use crate::state::State;
+use crate::lanes::piece::Piece;
+use crate::lanes::state::State;
 use crate::statements::expression::{Arguments, Expression};
 use crate::statements::statement::{Statement, aggregate, exit, plain, print, trace};
 use d_types::{TypedExpr, TypedStmt};

@@ -1,7 +1,7 @@
 use Rattle.std.proofs.Common.{◌≡◌, Some, Err, length, sym, ap, ◌∙◌, subst, List, IfErr, Option}
 use Rattle.std.proofs.Common.{arith, rules}
 use Rattle.std.specs.List.Sorted.{IsPermutation}
-use Rattle.replay_core.specs.declared.piece.Piece.{Piece}
+use Rattle.replay_core.specs.declared.lanes.piece.Piece.{Piece}
 use Rattle.replay_core.specs.Steps.PiecePlaces.{pieces_with_places}
 use Rattle.replay_core.specs.Collecting.{IsCollectFault}
 use Rattle.std.proofs.lemmas.List.{length-map}

@@ -1,7 +1,7 @@
 use denote.Param.Send.{sendable}
 use Rattle.std.proofs.Crossing.{crosses}
 use Rattle.d_types.proofs.Crossing.{clause_sync}
-use Rattle.replay_core.proofs.lane.Lane.TheSendSync as lane
+use Rattle.replay_core.proofs.lanes.lane.Lane.TheSendSync as lane
 use Rattle.run_tests.proofs.working.worked.Goals as goal
 
 pub work_until-requires-send-L-Lane : goal.work_until-requires-send-L-Lane

@@ -3,7 +3,7 @@ use denote.Param.SendFields.{as_row_sync, declared_sync}
 use Rattle.std.proofs.Crossing.{crosses}
 use Rattle.d_types.proofs.Crossing.{clause_sync, script_sync}
 use Rattle.keyed_hash.specs.contracts.hash_key.HashKey as hash_key
-use Rattle.replay_core.proofs.lane.Lane.TheSendSync as lane
+use Rattle.replay_core.proofs.lanes.lane.Lane.TheSendSync as lane
 use Rattle.consumer.proofs.consumer.Consumer.run.Goals as goal
 
 hash_key_sync : IsSync hash_key.the_row

@@ -1,0 +1,38 @@
+use Rattle.std.specs.Prelude.{◌≡◌, ◌≤◌, All, length, map, sum_by}
+use Rattle.std.proofs.Common.{ap, subst, sym, ◌∙◌}
+use Rattle.std.proofs.lemmas.List.{length-map}
+use Rattle.std.proofs.lemmas.Result.{IfOk-weaker}
+use Rattle.std.specs.List.{AllZip}
+use Rattle.d_types.specs.Sizes.{statement_count}
+use Rattle.d_types.specs.Typed.{meant_of}
+use Rattle.d_types.specs.TypedScripts.{typed_script_of}
+use Rattle.replay_core.specs.Bounds.{places_in}
+use Rattle.replay_core.proofs.TreeLemmas.{all_few, all_named, few_probes, functions_same, script_keeps}
+use Rattle.replay_core.proofs.TreeLemmas.{trees_mean}
+use Rattle.replay_core.proofs.lanes.tree.tree_lane.Goals as goal
+
+pub new-requires-clause-named : goal.new-requires-clause-named
+new-requires-clause-named c =
+    let s = c.args.script.now in
+    let many : length c.in_ok-functions.functions.items ≡ length s.aggregations.items =
+    ap length c.in_ok-functions.ensures ∙ length-map s.aggregations.items (λ a. a.function) in
+    subst (λ l. All (λ x. places_in (meant_of x) ≤ length c.in_ok-functions.functions.items) l) (sym c.clauses.ensures)
+    (subst (λ n. All (λ x. places_in (meant_of x) ≤ n) s.clauses.items) (sym many) (all_named s.clauses.items s.aggregations.items s.slots.items s.typed))
+
+pub new-requires-clause-few : goal.new-requires-clause-few
+new-requires-clause-few c =
+    let s = c.args.script.now in
+    subst (λ l. All (λ x. statement_count (meant_of x) ≤ 65536) l) (sym c.clauses.ensures) (all_few s.clauses.items s.aggregations.items s.slots.items s.typed)
+
+pub new-requires-clause-probes : goal.new-requires-clause-probes
+new-requires-clause-probes c =
+    let s = c.args.script.now in
+    subst (λ l. sum_by (λ x. length x.descriptions.items) l ≤ 65536) (sym c.clauses.ensures) (few_probes s.clauses.items s.aggregations.items s.slots.items s.typed)
+
+pub returns-clause-script : goal.returns-clause-script
+returns-clause-script c =
+    let s = c.args.script.now in
+    let m = typed_script_of s in
+    let trees = subst (λ l. AllZip (λ x meant. meant ≡ meant_of x) l (map meant_of s.clauses.items)) (sym c.clauses.ensures) (trees_mean s.clauses.items) in
+    let functions = c.in_ok-functions.ensures ∙ functions_same s.clauses.items s.aggregations.items s.slots.items in
+    IfOk-weaker c.new.result _ _ (λ l made n same. rw same (made m (record { each = trees; keep = script_keeps m s.typed }) functions)) c.new.ensures.script

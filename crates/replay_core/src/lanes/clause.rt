@@ -1,0 +1,102 @@
+//! Clauses as engines run them.
+
+ghost use Rattle.std.specs.Prelude.{◌≡◌, ◌+◌, ◌≤◌, ◌^◌, ℕ, IfOk, length, map};
+ghost use Rattle.replay_core.specs.Vocabulary.{AreTyped, ClauseMeant, IsSameClause};
+ghost use Rattle.replay_core.specs.Vocabulary.{HasTypedBuiltIns};
+ghost use Rattle.replay_core.specs.Vocabulary.{Slots, action_code, count_held, functions_of};
+ghost use Rattle.replay_core.specs.Vocabulary.{meant_of, run_of, statement_count};
+ghost use Rattle.replay_core.specs.{Effects.IsNotedRun};
+ghost use Rattle.replay_core.specs.Bounds.{places_among, places_in};
+ghost use Rattle.replay_core.specs.Evaluation.{Stays, variables_in};
+
+use crate::lanes::piece::Piece;
+use crate::lanes::state::State;
+use crate::statements::run_clause;
+use d_parser::Description;
+use d_types::TypedClause;
+use dif_codegen::CompiledClause;
+use std::alloc::AllocError;
+
+/// A clause in the form in which an engine runs it.
+pub trait Clause {
+    /// What it means where variables have the types of these slots.
+    ghost means: { Self → Slots → ClauseMeant → Type 0 };
+
+    /// How many contributions a run makes at most.
+    ghost most: { Self → ℕ };
+
+    /// The places of the aggregations that it names are below this.
+    ghost places: { Self → ℕ };
+
+    /// How many descriptions it has.
+    ghost probes: { Self → ℕ };
+
+    /// The probes that it is for.
+    fn descriptions(&self) -> &[Description]
+        ensures meaning { (slots : Slots) (c : ClauseMeant) → means self.now slots c
+            → result.now ≡ c.descriptions }
+        ensures probes { length result.now ≡ probes self.now };
+
+    /// Runs it for a firing: notes in the piece what its statements do, and returns whether it
+    /// exits. At a division by 0 the run ends, and a line that names the firing and the clause's
+    /// place, from 1, takes the place of its texts.
+    fn run(&self, place: u64, state: &mut State<'_>, piece: &mut Piece) -> Result<bool, AllocError>
+        requires places { places self.now ≤ length (functions_of piece.old.table) }
+        requires room { count_held piece.old.table + most self.now ≤ 2 ^ 52 }
+        ensures functions { functions_of piece.new.table ≡ functions_of piece.old.table }
+        ensures taken { piece.new.taken.items ≡ piece.old.taken.items }
+        ensures held { count_held piece.new.table ≤ count_held piece.old.table + most self.now }
+        ensures state { Stays state.old state.new }
+        ensures run { IfOk result (λ exits.
+            (slots : Slots) (c : ClauseMeant) → means self.now slots c
+            → HasTypedBuiltIns state.old.firing.now → AreTyped slots (variables_in state.old)
+            → IsNotedRun (λ f. run_of f place c) state.old state.new piece.old piece.new exits) };
+}
+
+// The tree of a clause, walked.
+impl Clause for TypedClause {
+    ghost means = { λ c slots meant. meant ≡ meant_of c };
+
+    ghost most = { λ c. statement_count (meant_of c) };
+
+    ghost places = { λ c. places_in (meant_of c) };
+
+    ghost probes = { λ c. length c.descriptions.items };
+
+    fn descriptions(&self) -> &[Description] {
+        &self.descriptions
+    }
+
+    fn run(
+        &self,
+        place: u64,
+        state: &mut State<'_>,
+        piece: &mut Piece,
+    ) -> Result<bool, AllocError> {
+        run_clause(&self.predicate, &self.statements, place, state, piece)
+    }
+}
+
+// The objects of a compiled clause, run by the machine.
+impl Clause for CompiledClause {
+    ghost means = { λ c slots meant. IsSameClause slots c meant };
+
+    ghost most = { λ c. length c.actions.items };
+
+    ghost places = { λ c. places_among (map action_code c.actions.items) };
+
+    ghost probes = { λ c. length c.descriptions.items };
+
+    fn descriptions(&self) -> &[Description] {
+        &self.descriptions
+    }
+
+    fn run(
+        &self,
+        place: u64,
+        state: &mut State<'_>,
+        piece: &mut Piece,
+    ) -> Result<bool, AllocError> {
+        run_clause(&self.predicate, &self.actions, place, state, piece)
+    }
+}

@@ -1,0 +1,102 @@
+//! The clauses of a firing, one after the other.
+
+ghost use Rattle.std.specs.Prelude.{◌≡◌, ◌+◌, ◌*◌, ◌<◌, ◌≤◌, ◌^◌, ◌∷◌, [], List, All, IfOk};
+ghost use Rattle.std.specs.Prelude.{MatchOption, OnOk, is_some, length};
+ghost use Rattle.replay_core.specs.Vocabulary.{AreTyped, ClauseMeant, HasTypedBuiltIns, Slots};
+ghost use Rattle.replay_core.specs.Vocabulary.{count_held, functions_of};
+ghost use Rattle.replay_core.specs.{Lanes.Notes, Scripts.AllMean, Seen.piece_seen};
+ghost use Rattle.replay_core.specs.Steps.AllMade.{all_made};
+ghost use Rattle.replay_core.specs.Evaluation.{Stays, variables_in};
+
+use crate::lanes::clause::Clause;
+use crate::lanes::piece::Piece;
+use crate::lanes::state::State;
+use crate::selection::clause_places::{ClausePlaces, Repeat};
+use d_lexer::MOST_BYTES;
+use std::alloc::AllocError;
+use std::marker::Model;
+
+// The places whose clauses are still to run. Contracts see each as often as its clause will.
+#[derive(Drop)]
+struct PlacesLeft<'a> {
+    first: Repeat,
+    behind: &'a [Repeat],
+}
+
+impl<'a> Model for PlacesLeft<'a> {
+    ghost use Rattle.std.specs.Prelude.{◌<◌, ◌∷◌, ℕ, List, All};
+    ghost use Rattle.replay_core.specs.Places.{places_in_turn};
+
+    ghost Value = { List ℕ };
+
+    ghost view = { λ l. places_in_turn (l.first ∷ l.behind.now) };
+
+    ghost invariant = { λ l. All (λ repeat. 0 < repeat.times) l.behind.now };
+}
+
+impl<'a> PlacesLeft<'a> {
+    // All of them.
+    fn all(places: &'a ClausePlaces) -> PlacesLeft<'a>
+        ensures { result ≡ places.now }
+    {
+        PlacesLeft {
+            first: Repeat { place: 0, times: 0 },
+            behind: &places.repeats,
+        }
+    }
+
+    // Takes the first.
+    #[inline(always)]
+    fn next(&mut self) -> Option<u32>
+        ensures { MatchOption result (self.old ≡ []) (λ place. self.old ≡ place ∷ self.new) }
+    {
+        if self.first.times > 0 {
+            self.first.times -= 1;
+            return Some(self.first.place);
+        }
+        let (first, behind) = self.behind.split_first()?;
+        self.first = Repeat {
+            place: first.place,
+            times: first.times - 1,
+        };
+        self.behind = behind;
+        Some(first.place)
+    }
+}
+
+/// Runs the clauses at these places for a firing, and returns whether one exited.
+pub(crate) fn run_clauses<C: Clause>(
+    clauses: &[C],
+    places: &ClausePlaces,
+    state: &mut State<'_>,
+    piece: &mut Piece,
+) -> Result<bool, AllocError>
+    requires there { All (λ place. place < length clauses.now) places.now }
+    requires named { All (λ c. C.places c ≤ length (functions_of piece.old.table)) clauses.now }
+    requires few { All (λ c. C.most c ≤ MOST_BYTES) clauses.now }
+    requires room { count_held piece.old.table + MOST_BYTES * length places.now ≤ 2 ^ 52 }
+    ensures functions { functions_of piece.new.table ≡ functions_of piece.old.table }
+    ensures taken { piece.new.taken.items ≡ piece.old.taken.items }
+    ensures state { Stays state.old state.new }
+    ensures notes { OnOk result ((slots : Slots) (cs : List ClauseMeant)
+        → AllMean C.means slots clauses.now cs → HasTypedBuiltIns state.old.firing.now
+        → AreTyped slots (variables_in state.old) →
+        let made = all_made state.old.firing.now cs places.now (variables_in state.old) in
+        Notes state.old.firing.now.number made (piece_seen piece.old) (piece_seen piece.new)
+        × (variables_in state.new ≡ made.variables)) }
+    ensures exits { IfOk result (λ exits. (slots : Slots) (cs : List ClauseMeant)
+        → AllMean C.means slots clauses.now cs → HasTypedBuiltIns state.old.firing.now
+        → AreTyped slots (variables_in state.old) →
+        let made = all_made state.old.firing.now cs places.now (variables_in state.old) in
+        exits ≡ is_some made.exit) }
+    ensures held { OnOk result (count_held piece.new.table
+        ≤ count_held piece.old.table + MOST_BYTES * length places.now) }
+{
+    let mut exits = false;
+    let mut left = PlacesLeft::all(places);
+    while let Some(place) = left.next() {
+        let exited = clauses[place as usize].run(place as u64 + 1, state, piece)?;
+        exits |= exited;
+    }
+    Ok(exits)
+}

@@ -1,0 +1,72 @@
+//! What runs firings.
+
+ghost use Rattle.std.specs.Prelude.{◌≡◌, ◌<◌, ◌≤◌, ◌↔◌, Bool, [], ◌∷◌, IfOk, IsErr, IsFalse};
+ghost use Rattle.std.specs.Prelude.{IsTrue, OnOk, is_some, length};
+
+use crate::lanes::piece::Piece;
+use crate::selection::clause_places::ClausePlaces;
+use firings::Firing;
+use std::alloc::AllocError;
+
+/// Runs firings for a script, in the order in which it is given them.
+pub trait Engine {
+    ghost use Rattle.replay_core.specs.Vocabulary.{HasRanges, MOST_BYTES, ScriptMeant};
+    ghost use Rattle.replay_core.specs.{Selecting.selected_for, Sizes.most_firings};
+    ghost use Rattle.replay_core.specs.Lanes.{Fires, LaneSeen};
+    ghost use Rattle.replay_core.specs.Meaning.{exit_of, history};
+    ghost use Rattle.replay_core.specs.Seen.{IsRoomy, piece_seen};
+
+    /// What it runs means this.
+    ghost runs: { Self → ScriptMeant → Type 0 };
+
+    /// What the threads keep, and what the firings made so far.
+    ghost seen: { Self → LaneSeen };
+
+    /// Memory was refused to a firing.
+    ghost is_spent: { Self → Bool };
+
+    /// Runs the clauses that are selected for a firing, and returns whether it exits. Once memory
+    /// was refused, each later call is refused too.
+    fn fire(&mut self, firing: &Firing) -> Result<bool, AllocError>
+        requires ranges { HasRanges firing.now }
+        requires script { (m : ScriptMeant) × runs self.old m }
+        requires few { length (seen self.old).piece.taken < most_firings }
+        ensures step { (m : ScriptMeant) → runs self.old m
+            → OnOk result (Fires m firing.now (seen self.old) (seen self.new)) }
+        ensures exits { (m : ScriptMeant) → runs self.old m
+            → IfOk result (λ exits. exits
+            ≡ is_some (exit_of (history m (firing.now ∷ []) (seen self.old).threads))) }
+        ensures script { (m : ScriptMeant) → runs self.old m → runs self.new m }
+        ensures spent { IsTrue (is_spent self.old) → IsErr result
+            × ((seen self.new).piece.taken ≡ (seen self.old).piece.taken) }
+        ensures err { IsTrue (is_spent self.new) ↔ IsErr result };
+
+    /// Runs the clauses at these places, which were selected for a firing, and returns whether it
+    /// exits. Once memory was refused, each later call is refused too.
+    fn fire_selected(&mut self, firing: &Firing, places: &ClausePlaces) -> Result<bool, AllocError>
+        requires ranges { HasRanges firing.now }
+        requires selected { (m : ScriptMeant) × runs self.old m
+            × (places.now ≡ selected_for m firing.now) }
+        requires places { length places.now ≤ MOST_BYTES }
+        requires few { length (seen self.old).piece.taken < most_firings }
+        ensures step { (m : ScriptMeant) → runs self.old m
+            → places.now ≡ selected_for m firing.now
+            → OnOk result (Fires m firing.now (seen self.old) (seen self.new)) }
+        ensures exits { (m : ScriptMeant) → runs self.old m
+            → places.now ≡ selected_for m firing.now
+            → IfOk result (λ exits. exits
+            ≡ is_some (exit_of (history m (firing.now ∷ []) (seen self.old).threads))) }
+        ensures script { (m : ScriptMeant) → runs self.old m
+            → places.now ≡ selected_for m firing.now → runs self.new m }
+        ensures spent { IsTrue (is_spent self.old) → IsErr result
+            × ((seen self.new).piece.taken ≡ (seen self.old).piece.taken) }
+        ensures err { IsTrue (is_spent self.new) ↔ IsErr result }
+    {
+        self.fire(firing)
+    }
+
+    /// What the firings made.
+    fn finish(self) -> Piece
+        ensures piece { piece_seen result ≡ (seen self).piece }
+        ensures held { IsFalse (is_spent self) → IsRoomy result };
+}

@@ -1,0 +1,166 @@
+//! Lanes: what all engines share.
+
+ghost use Rattle.std.specs.Prelude.{◌≡◌, ◌<◌, ◌≤◌, ◌∷◌, [], List, All, IfOk, OnOk, false, true};
+ghost use Rattle.std.specs.Prelude.{is_some, length, sum_by};
+ghost use Rattle.replay_core.specs.Vocabulary.{HasRanges, MOST_BYTES, ScriptMeant, functions_in};
+ghost use Rattle.replay_core.specs.Vocabulary.{functions_of, slots_of};
+ghost use Rattle.replay_core.specs.{Selecting.selected_for, Sizes.most_firings, Threads.threads_in};
+ghost use Rattle.replay_core.specs.Lanes.{Fires, IsFresh};
+ghost use Rattle.replay_core.specs.Meaning.{exit_of, history};
+ghost use Rattle.replay_core.specs.Scripts.{AllMean, AreTypedThreads, RunsAs};
+ghost use Rattle.replay_core.specs.Seen.{IsRoomy, lane_seen};
+
+use crate::evaluation::Spare;
+use crate::lanes::clause::Clause;
+use crate::lanes::engine::Engine;
+use crate::lanes::piece::Piece;
+use crate::lanes::tables::Tables;
+use crate::lanes::threads::{Due, ThreadCache, run_on_thread};
+use crate::selection::clause_places::ClausePlaces;
+use crate::selection::clauses_for;
+use aggregations::AggFn;
+use firings::Firing;
+use indexmap::IndexMap;
+use keyed_hash::HashKey;
+use std::alloc::{AllocError, Global};
+
+/// Runs firings through the clauses of a script. An engine adds only how one clause is run.
+#[derive(Drop)]
+pub struct Lane<'a, C: Clause> {
+    clauses: &'a [C],
+    threads: IndexMap<i32, Tables, HashKey>,
+    cache: ThreadCache,
+    spare: Spare,
+    piece: Piece,
+    // Memory was refused to a firing.
+    spent: bool,
+    ghost named: { All (λ c. C.places c ≤ length (functions_of piece.table)) clauses.now },
+    ghost few: { All (λ c. C.most c ≤ MOST_BYTES) clauses.now },
+    ghost probes: { sum_by C.probes clauses.now ≤ MOST_BYTES },
+    ghost room: { spent ≡ false → IsRoomy piece },
+}
+
+impl<'a, C: Clause> Lane<'a, C> {
+    /// A lane that has run no firing, over clauses and the functions of the aggregations that they
+    /// name. The hashes of its maps have this key.
+    ///
+    /// ```text
+    /// let lane = Lane::new(alloc, hash_key, script.clauses(), script.functions(alloc)?)?;
+    /// ```
+    pub fn new(
+        alloc: Global,
+        hash_key: HashKey,
+        clauses: &'a [C],
+        functions: Vec<AggFn>,
+    ) -> Result<Lane<'a, C>, AllocError>
+        requires named { All (λ c. C.places c ≤ length functions.items) clauses.now }
+        requires few { All (λ c. C.most c ≤ MOST_BYTES) clauses.now }
+        requires probes { sum_by C.probes clauses.now ≤ MOST_BYTES }
+        ensures script { IfOk result (λ l. (m : ScriptMeant)
+            → AllMean C.means (slots_of m) clauses.now m.clauses → functions.items ≡ functions_in m
+            → ⟦<Lane<'a, C> as Engine>⟧.runs l m) }
+        ensures fresh { IfOk result (λ l. IsFresh (⟦<Lane<'a, C> as Engine>⟧.seen l)) }
+        ensures unspent { IfOk result (λ l. l.spent ≡ false) }
+    {
+        let piece = Piece::new(alloc, hash_key, functions)?;
+        let Ok(cache) = ThreadCache::new(alloc) else {
+            drop(piece);
+            return Err(AllocError);
+        };
+        Ok(Lane {
+            clauses,
+            threads: IndexMap::with_hasher(alloc, hash_key),
+            cache,
+            spare: Spare::new(alloc),
+            piece,
+            spent: false,
+        })
+    }
+
+    // Takes the firing's number, and runs the clauses at these places for it.
+    fn run(&mut self, firing: &Firing, places: &ClausePlaces) -> Result<bool, AllocError>
+        requires ranges { HasRanges firing.now }
+        requires selected { (m : ScriptMeant)
+            × RunsAs C.means self.old.clauses.now (functions_of self.old.piece.table) m
+            × (places.now ≡ selected_for m firing.now) }
+        requires places { length places.now ≤ MOST_BYTES }
+        requires few { length self.old.piece.taken.items < most_firings }
+        requires room { IsRoomy self.old.piece }
+        requires spent { self.old.spent ≡ true }
+        ensures spent { self.new.spent ≡ true }
+        ensures script { (m : ScriptMeant)
+            → RunsAs C.means self.old.clauses.now (functions_of self.old.piece.table) m
+            → RunsAs C.means self.new.clauses.now (functions_of self.new.piece.table) m }
+        ensures room { OnOk result (IsRoomy self.new.piece) }
+        ensures step { OnOk result ((m : ScriptMeant)
+            → RunsAs C.means self.old.clauses.now (functions_of self.old.piece.table) m
+            → places.now ≡ selected_for m firing.now
+            → AreTypedThreads (slots_of m) (threads_in self.old.threads.entries)
+            → Fires m firing.now
+            (lane_seen self.old.threads.entries self.old.piece)
+            (lane_seen self.new.threads.entries self.new.piece)) }
+        ensures typed { OnOk result ((m : ScriptMeant)
+            → RunsAs C.means self.old.clauses.now (functions_of self.old.piece.table) m
+            → places.now ≡ selected_for m firing.now
+            → AreTypedThreads (slots_of m) (threads_in self.old.threads.entries)
+            → AreTypedThreads (slots_of m) (threads_in self.new.threads.entries)) }
+        ensures exits { IfOk result (λ exits. (m : ScriptMeant)
+            → RunsAs C.means self.old.clauses.now (functions_of self.old.piece.table) m
+            → places.now ≡ selected_for m firing.now
+            → AreTypedThreads (slots_of m) (threads_in self.old.threads.entries)
+            → exits ≡ is_some
+            (exit_of (history m (firing.now ∷ []) (threads_in self.old.threads.entries)))) }
+    {
+        self.piece.taken.push(firing.number)?;
+        let due = Due {
+            clauses: self.clauses,
+            places,
+            firing,
+        };
+        run_on_thread(
+            &due,
+            &mut self.threads,
+            &mut self.cache,
+            &mut self.spare,
+            &mut self.piece,
+        )
+    }
+}
+
+impl<'a, C: Clause> Engine for Lane<'a, C> {
+    ghost runs = { λ l m.
+        RunsAs C.means l.clauses.now (functions_of l.piece.table) m
+        × (l.spent ≡ false → AreTypedThreads (slots_of m) (threads_in l.threads.entries)) };
+
+    ghost seen = { λ l. lane_seen l.threads.entries l.piece };
+
+    ghost is_spent = { λ l. l.spent };
+
+    fn fire(&mut self, firing: &Firing) -> Result<bool, AllocError> {
+        let alloc = *self.threads.allocator();
+        let hash_key = *self.threads.hasher();
+        let Ok(places) = clauses_for(alloc, hash_key, self.clauses, firing) else {
+            self.spent = true;
+            return Err(AllocError);
+        };
+        self.fire_selected(firing, &places)
+    }
+
+    fn fire_selected(
+        &mut self,
+        firing: &Firing,
+        places: &ClausePlaces,
+    ) -> Result<bool, AllocError> {
+        if self.spent {
+            return Err(AllocError);
+        }
+        self.spent = true;
+        let exits = self.run(firing, places)?;
+        self.spent = false;
+        Ok(exits)
+    }
+
+    fn finish(self) -> Piece {
+        self.piece
+    }
+}

@@ -1,0 +1,232 @@
+//! One worker that watches for exits.
+
+ghost use Rattle.std.specs.Prelude.{◌≡◌, ◌<◌, ◌≤◌, true, false, [], map, min, length, All, IfOk};
+ghost use Rattle.std.specs.Prelude.{OnOk, IsFalse};
+ghost use Rattle.replay_core.specs.Vocabulary.{AreOf, MOST_BYTES, ScriptMeant, grouping, no_number};
+ghost use Rattle.replay_core.specs.Vocabulary.{run_threads, with_ends};
+ghost use Rattle.replay_core.specs.{Running.IsLaneOf, Seen.IsRoomy};
+ghost use Rattle.replay_core.specs.Steps.{Adding.IsAdded, Working.firings_at};
+ghost use Rattle.replay_core.specs.Beginnings.{AreBegun, IsBegunOf, least_exit};
+ghost use Rattle.replay_core.specs.Steps.Beginnings.{RunsBeginning};
+ghost use Rattle.replay_core.specs.Beginnings.{lesser_of};
+ghost use Rattle.replay_core.specs.Selecting.{AreFor, AreSelected};
+
+use crate::lanes::Lanes;
+use crate::lanes::engine::Engine;
+use crate::lanes::piece::Piece;
+use crate::lanes::run_firings::firing_at;
+use crate::workers::gate::Gate;
+use crate::workers::source::Exits;
+use crate::workers::worker::{WorkerInput, fire};
+use firings::{Firing, Trace};
+use shard_queue::Groups;
+use std::alloc::{AllocError, Global};
+use std::sync::Wait;
+
+/// Takes groups until it is at the end, and makes a piece of a beginning of each. A beginning ends
+/// after a firing that exits, and before one whose number is above the least that a worker found to
+/// exit. Err where memory was refused.
+///
+/// ```text
+/// let worked = work_until(&rt, alloc, &board, seat, &lanes, &trace, &groups, &OpenGate);
+/// let (pieces, seat) = worked?;
+/// ```
+pub fn work_until<R: Wait, S: Exits, L: Lanes, G: Gate>(
+    rt: &R,
+    alloc: Global,
+    source: &S,
+    seat: S::Seat,
+    lanes: &L,
+    trace: &Trace,
+    groups: &Groups,
+    gate: &G,
+) -> Result<(Vec<(u32, Piece)>, S::Seat), AllocError>
+where
+    S::Seat: Drop,
+    requires seat { S.is_at source.now seat × (S.list seat ≡ []) }
+    requires new { S.lowered seat ≡ no_number }
+    requires end { S.end source.now ≡ (grouping groups.now).count }
+    requires script { (m : ScriptMeant) × L.runs lanes.now m }
+    requires groups { AreOf groups.now (run_threads trace.now) }
+    ensures seat { IfOk result (λ r. S.is_at source.now r.1 × (S.at_end r.1 ≡ true)) }
+    ensures groups { IfOk result (λ r. map (λ p. p.0) r.0.items ≡ S.list r.1) }
+    ensures pieces { IfOk result (λ r. AreBegun (L.runs lanes.now) (S.seen r.1)
+        (grouping groups.now) (with_ends trace.now trace.now) r.0.items) }
+    ensures least { IfOk result (λ r. S.lowered r.1 ≡ least_exit r.0.items) }
+{
+    let Ok(selections) = lanes.selections(alloc, trace) else {
+        drop(seat);
+        return Err(AllocError);
+    };
+    let input = WorkerInput {
+        alloc,
+        lanes,
+        trace,
+        selections: &selections,
+        groups,
+        gate,
+    };
+    watch_on(rt, source, seat, &input)
+}
+
+/// Runs groups as `work_until` does, by selections that are shared.
+pub(crate) fn watch_on<R: Wait, S: Exits, L: Lanes, G: Gate>(
+    rt: &R,
+    source: &S,
+    mut seat: S::Seat,
+    input: &WorkerInput<L, G>,
+) -> Result<(Vec<(u32, Piece)>, S::Seat), AllocError>
+where
+    S::Seat: Drop,
+    requires seat { S.is_at source.now seat × (S.list seat ≡ []) }
+    requires new { S.lowered seat ≡ no_number }
+    requires end { S.end source.now ≡ (grouping input.now.groups.now).count }
+    requires script { (m : ScriptMeant) × L.runs input.now.lanes.now m }
+    requires selected { AreSelected
+        (L.runs input.now.lanes.now) input.now.trace.now input.now.selections.now }
+    requires groups { AreOf input.now.groups.now (run_threads input.now.trace.now) }
+    ensures seat { IfOk result (λ r. S.is_at source.entry.now r.1 × (S.at_end r.1 ≡ true)) }
+    ensures groups { IfOk result (λ r. map (λ p. p.0) r.0.items ≡ S.list r.1) }
+    ensures pieces { IfOk result (λ r. AreBegun (L.runs input.entry.now.lanes.now) (S.seen r.1)
+        (grouping input.entry.now.groups.now)
+        (with_ends input.entry.now.trace.now input.entry.now.trace.now) r.0.items) }
+    ensures least { IfOk result (λ r. S.lowered r.1 ≡ least_exit r.0.items) }
+{
+    let mut pieces = Vec::new(input.alloc);
+    for _ in rt.forever() {
+        let Some(group) = source.take(rt, &mut seat) else {
+            return Ok((pieces, seat));
+        };
+        input.gate.begun(group);
+        let Ok(()) = push_beginning(source, &mut seat, input, &mut pieces, group) else {
+            drop(pieces);
+            drop(seat);
+            return Err(AllocError);
+        };
+    }
+    unreachable!()
+}
+
+// Makes the piece of a beginning of a group's firings, and adds it to these.
+fn push_beginning<S: Exits, L: Lanes, G>(
+    source: &S,
+    seat: &mut S::Seat,
+    input: &WorkerInput<L, G>,
+    pieces: &mut Vec<(u32, Piece)>,
+    group: u32,
+) -> Result<(), AllocError>
+    requires seat { S.is_at source.now seat.old }
+    requires group { group < (grouping input.now.groups.now).count }
+    requires script { (m : ScriptMeant) × L.runs input.now.lanes.now m }
+    requires selected { AreSelected
+        (L.runs input.now.lanes.now) input.now.trace.now input.now.selections.now }
+    requires groups { AreOf input.now.groups.now (run_threads input.now.trace.now) }
+    ensures seat { OnOk result (S.is_at source.now seat.new × (S.list seat.new ≡ S.list seat.old)) }
+    ensures seen { OnOk result (S.seen seat.new ≤ S.seen seat.old) }
+    ensures added { OnOk result (IsAdded (λ p. ((m : ScriptMeant) → L.runs input.now.lanes.now m
+        → IsBegunOf m (S.seen seat.new) (grouping input.now.groups.now)
+        (with_ends input.now.trace.now input.now.trace.now) p) × IsRoomy p.1
+        × (S.lowered seat.new ≡ lesser_of (S.lowered seat.old) p.1.exit))
+        pieces.old.items group pieces.new.items) }
+{
+    let piece = piece_until(source, seat, input, group)?;
+    pieces.push((group, piece))?;
+    Ok(())
+}
+
+// What a beginning of a group's firings makes.
+fn piece_until<S: Exits, L: Lanes, G>(
+    source: &S,
+    seat: &mut S::Seat,
+    input: &WorkerInput<L, G>,
+    group: u32,
+) -> Result<Piece, AllocError>
+    requires seat { S.is_at source.now seat.old }
+    requires group { group < (grouping input.now.groups.now).count }
+    requires script { (m : ScriptMeant) × L.runs input.now.lanes.now m }
+    requires selected { AreSelected
+        (L.runs input.now.lanes.now) input.now.trace.now input.now.selections.now }
+    requires groups { AreOf input.now.groups.now (run_threads input.now.trace.now) }
+    ensures seat { OnOk result (S.is_at source.now seat.new × (S.list seat.new ≡ S.list seat.old)) }
+    ensures seen { OnOk result (S.seen seat.new ≤ S.seen seat.old) }
+    ensures piece { IfOk result (λ p. (m : ScriptMeant) → L.runs input.now.lanes.now m
+        → IsBegunOf m (S.seen seat.new) (grouping input.now.groups.now)
+        (with_ends input.now.trace.now input.now.trace.now) (group, p)) }
+    ensures roomy { IfOk result IsRoomy }
+    ensures least { IfOk result (λ p. S.lowered seat.new ≡ lesser_of (S.lowered seat.old) p.exit) }
+{
+    let mut lane = input.lanes.lane(input.alloc)?;
+    let Ok(()) = run_until(source, seat, &mut lane, input, input.groups.places(group)) else {
+        drop(lane);
+        return Err(AllocError);
+    };
+    Ok(lane.finish())
+}
+
+// Runs a beginning of the firings at these places.
+fn run_until<S: Exits, E: Engine, L, G>(
+    source: &S,
+    seat: &mut S::Seat,
+    lane: &mut E,
+    input: &WorkerInput<L, G>,
+    places: &[u32],
+) -> Result<(), AllocError>
+    requires seat { S.is_at source.now seat.old }
+    requires script { (m : ScriptMeant) × E.runs lane.old m
+        × AreFor input.now.trace.now input.now.selections.now m }
+    requires fresh { (m : ScriptMeant) → E.runs lane.old m → IsLaneOf m [] (E.seen lane.old) }
+    requires unspent { IsFalse (E.is_spent lane.old) }
+    requires short { All (λ clauses. length clauses ≤ MOST_BYTES) input.now.selections.now }
+    requires places { All (λ place. place
+        < length (with_ends input.now.trace.now input.now.trace.now)) places.now }
+    requires few { length places.now
+        ≤ length (with_ends input.now.trace.now input.now.trace.now) }
+    ensures seat { OnOk result (S.is_at source.now seat.new × (S.list seat.new ≡ S.list seat.old)) }
+    ensures seen { OnOk result (S.seen seat.new ≤ S.seen seat.old) }
+    ensures unspent { OnOk result (IsFalse (E.is_spent lane.new)) }
+    ensures run { OnOk result ((m : ScriptMeant) → E.runs lane.old m
+        → AreFor input.now.trace.now input.now.selections.now m
+        → RunsBeginning m (S.seen seat.new) (firings_at
+        (with_ends input.now.trace.now input.now.trace.now) places.now) (E.seen lane.new)) }
+    ensures least { OnOk result ((m : ScriptMeant) → E.runs lane.old m
+        → AreFor input.now.trace.now input.now.selections.now m
+        → S.lowered seat.new ≡ lesser_of (S.lowered seat.old) (E.seen lane.new).piece.exit) }
+{
+    for place in places {
+        let firing = firing_at(input.trace, *place);
+        if is_past_exit(source, seat, &firing) {
+            return Ok(());
+        }
+        if fire(lane, &firing, input.selections.at(*place))? {
+            tell_exit(source, seat, &firing);
+            return Ok(());
+        }
+    }
+    Ok(())
+}
+
+// Whether a firing comes after one that a worker found to exit.
+#[inline(always)]
+fn is_past_exit<S: Exits>(source: &S, seat: &mut S::Seat, firing: &Firing) -> bool
+    requires { S.is_at source.now seat.old }
+    ensures past { result ≡ true → S.seen seat.new < firing.now.number }
+    ensures before { result ≡ false → firing.now.number ≤ S.seen seat.new }
+    ensures seat { S.is_at source.now seat.new }
+    ensures seen { S.seen seat.new ≤ S.seen seat.old }
+    ensures lowered { S.lowered seat.new ≡ S.lowered seat.old }
+    ensures list { S.list seat.new ≡ S.list seat.old }
+{
+    source.least(seat) < firing.number
+}
+
+// Tells the other workers that a firing exits.
+#[inline(always)]
+fn tell_exit<S: Exits>(source: &S, seat: &mut S::Seat, firing: &Firing)
+    requires { S.is_at source.now seat.old }
+    ensures seat { S.is_at source.now seat.new }
+    ensures seen { S.seen seat.new ≡ S.seen seat.old }
+    ensures lowered { S.lowered seat.new ≡ min (S.lowered seat.old) firing.now.number }
+    ensures list { S.list seat.new ≡ S.list seat.old }
+{
+    source.lower(seat, firing.number);
+}
