@@ -21,7 +21,7 @@ returns-clause-tables c =
     let writes : Writes old.entries c.insert.new.self.entries thread tables = λ q. search (rules, c.in_ok-insert.ensures.updates.0 q) in
     record {
       tables = tables;
-      entry = ap (λ l. slice_get l c.len-index.result) last ∙ ap (slice_get (old.entries ++ (thread, tables) ∷ [])) c.len-index.ensures ∙ at_end old.entries (thread, tables);
+      entry = ap (λ l. slice_get l c.len-index.result) last ∙ ap (slice_get (old.entries ++ (thread, tables) ∷ [])) c.len-index.ensures.len ∙ at_end old.entries (thread, tables);
       found = writes thread ∙ ap (λ b. if b then Some tables else lookup (int_eq thread) old.entries) (int_eq_equiv.refl thread);
     }
 
