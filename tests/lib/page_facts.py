@@ -127,7 +127,7 @@ def times():
     """The times of the README and of docs/PERFORMANCE.md are the newest of bench/RESULTS.md."""
     text = section("bench/RESULTS.md", "Five questions").partition("\nOne worker with")[0]
     rows = [re.findall(r"[\d.]+", row) for row in re.findall(r"(?m)^\| `\w+` (\|.*\|)$", text)]
-    measured = [sorted(f"{float(it):.2f}" for it in (row[0], row[2], row[4])) for row in rows]
+    measured = [sorted(f"{float(it):.2f}" for it in (row[0], row[1], row[3])) for row in rows]
     for page in ("README.md", "docs/PERFORMANCE.md"):
         said = re.findall(r"(?m)^\| (.*?) ((?:\| \d\.\d\d ){3})", read(page))
         wrong = [it for it, cells in said if sorted(re.findall(r"[\d.]+", cells)) not in measured]
