@@ -15,7 +15,7 @@ use Rattle.d_parser.specs.declared.tree.Description.{Description}
 use Rattle.firings.specs.declared.unit.Probe.{Probe}
 use Rattle.firings.specs.Stored.{Extends}
 use Rattle.firings.proofs.Stored.{named_more}
-use Rattle.replay_core.specs.declared.selection.descriptions.Described.{Described}
+use Rattle.replay_core.specs.declared.selection.table.Described.{Described}
 use Rattle.replay_core.specs.Steps.Described.{GiveSame, HasKind, IsOfKind, IsSameKind}
 use Rattle.replay_core.specs.Steps.Described.{given_from, given_of, hash_of_description}
 use Rattle.replay_core.specs.Steps.Described.{hash_of_names}

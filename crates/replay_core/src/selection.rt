@@ -2,9 +2,9 @@
 
 pub(crate) mod clause_lists;
 pub(crate) mod clause_places;
-pub(crate) mod descriptions;
 pub(crate) mod matching;
 pub(crate) mod places;
+pub(crate) mod table;
 
 ghost use Rattle.std.specs.Prelude.{◌≡◌, ◌≤◌, IfOk, List, OnOk, Some, [], get_or};
 ghost use Rattle.std.specs.Prelude.{length, map, slice_get, sum_by, take};
@@ -19,7 +19,7 @@ ghost use Rattle.replay_core.specs.Selecting.{AreSelected, lent, selected_for};
 use crate::lanes::clause::Clause;
 use crate::selection::clause_lists::ClauseLists;
 use crate::selection::clause_places::ClausePlaces;
-use crate::selection::descriptions::DescriptionTable;
+use crate::selection::table::DescriptionTable;
 use d_parser::Description;
 use firings::{Firing, MOST_TOGETHER, Probe, ProbePlaces, Text, Trace};
 use keyed_hash::HashKey;

@@ -7,8 +7,8 @@ use Rattle.keyed_hash.specs.Hashing.{after_bytes, hash_of}
 use Rattle.keyed_hash.specs.declared.hash_key.HashKey.{HashKey}
 use Rattle.d_parser.specs.declared.tree.Description.{Description}
 use Rattle.firings.specs.declared.unit.Probe.{Probe}
-use Rattle.replay_core.specs.declared.selection.descriptions.Described.{Described}
-use Rattle.replay_core.specs.declared.selection.descriptions.DescriptionTable.{DescriptionTable}
+use Rattle.replay_core.specs.declared.selection.table.Described.{Described}
+use Rattle.replay_core.specs.declared.selection.table.DescriptionTable.{DescriptionTable}
 use Rattle.replay_core.specs.Patterns.{selects}
 use Rattle.replay_core.specs.Steps.Patterns.{is_plain}
 use Rattle.replay_core.specs.Uniting.{IsSorted}

@@ -1,7 +1,7 @@
 use Rattle.std.proofs.Common.{rules}
 use Rattle.replay_core.specs.Steps.Described.{given_of}
 use Rattle.replay_core.proofs.DescribedLemmas.{given_more}
-use Rattle.replay_core.proofs.selection.descriptions.DescriptionTable.new.Goals as goal
+use Rattle.replay_core.proofs.selection.table.DescriptionTable.new.Goals as goal
 
 pub loop-clause-preserved : goal.loop-clause-preserved
 loop-clause-preserved c = record {

@@ -1,6 +1,6 @@
 use Rattle.std.proofs.Common.{◌≡◌, ◌++◌, map, take}
 use Rattle.replay_core.specs.Steps.Described.{HaveKinds, given_of}
-use Rattle.replay_core.proofs.selection.descriptions.DescriptionTable.add_all.Given as goal
+use Rattle.replay_core.proofs.selection.table.DescriptionTable.add_all.Given as goal
 
 abbrev pub invariant-loop-description : goal.invariant-loop-description
 invariant-loop-description l = record {

@@ -1,6 +1,6 @@
 use Rattle.std.proofs.Common.{◌≡◌, ◌++◌, map, drop}
 use Rattle.replay_core.specs.Steps.Described.{HaveKinds, given_from, given_of}
-use Rattle.replay_core.proofs.selection.descriptions.DescriptionTable.new.Given as goal
+use Rattle.replay_core.proofs.selection.table.DescriptionTable.new.Given as goal
 
 abbrev pub invariant-loop-clause : goal.invariant-loop-clause
 invariant-loop-clause l = record {

@@ -2,7 +2,7 @@ use Rattle.std.proofs.Common.{◌≡◌, List, filter, map}
 use Rattle.d_parser.specs.declared.tree.Description.{Description}
 use Rattle.replay_core.specs.Steps.Described.{IsTableOf}
 use Rattle.replay_core.proofs.DescribedLemmas.{so_far}
-use Rattle.replay_core.proofs.selection.descriptions.DescriptionTable.clauses.Given as goal
+use Rattle.replay_core.proofs.selection.table.DescriptionTable.clauses.Given as goal
 
 abbrev pub invariant-loop-kind : goal.invariant-loop-kind
 invariant-loop-kind l = (ds : List (List Description)) (t : IsTableOf l.self ds)

@@ -6,7 +6,7 @@ use Rattle.replay_core.specs.Steps.Places.{merge}
 use Rattle.replay_core.specs.Uniting.{InOrder, with_number}
 use Rattle.replay_core.proofs.DescribedLemmas.{all_kinds, clauses_selected, found_all}
 use Rattle.replay_core.proofs.DescribedLemmas.{given_in_order, kind_more, none_yet, places_given}
-use Rattle.replay_core.proofs.selection.descriptions.DescriptionTable.clauses.Goals as goal
+use Rattle.replay_core.proofs.selection.table.DescriptionTable.clauses.Goals as goal
 
 pub loop-kind-init : goal.loop-kind-init
 loop-kind-init c = λ ds t. c.new-clauses.ensures.items ∙ sym (ap (map (λ x. x.1.clause)) (none_yet c.args.probe.now t.all))
